@@ -1,0 +1,3 @@
+pub mod SchemaLaws
+pub mod DayLaws
+pub mod CellLaws

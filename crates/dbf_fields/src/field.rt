@@ -1,0 +1,102 @@
+//! What a field of a table is.
+
+ghost use Rattle.std.specs.Prelude.{◌≡◌, IfOk};
+ghost use Rattle.std.specs.List.{list_all};
+ghost use Rattle.dbf_fields.specs.Name.{is_name_char};
+
+use crate::bytes::Bytes;
+use std::alloc::{AllocError, Global};
+
+/// The letter of the fields of characters.
+pub const CHARACTER: u8 = b'C';
+
+/// A field as its descriptor of 32 bytes tells it. `Schema::new` judges it.
+#[derive(Debug, Drop)]
+pub struct Field {
+    /// The name: 1 to 10 bytes, a letter, then letters, digits or `_`.
+    pub name: Bytes,
+    /// The letter of the kind.
+    pub kind: u8,
+    /// How many bytes a cell of the field has: 1 to 254 for characters.
+    pub width: u8,
+    /// How many digits a number has behind its point, and 0 for other kinds.
+    pub decimals: u8,
+}
+
+// A letter, a digit or `_`.
+fn is_name_byte(byte: u8) -> bool
+    ensures value { result ≡ is_name_char byte }
+{
+    byte.is_ascii_alphanumeric() || byte == b'_'
+}
+
+fn are_name_bytes(name: &[u8]) -> bool
+    ensures value { result ≡ list_all is_name_char name.now }
+{
+    name.iter().all(|byte| is_name_byte(*byte))
+}
+
+impl Field {
+    ghost use Rattle.dbf_fields.specs.Name.{is_name};
+    ghost use Rattle.dbf_fields.specs.Field.{is_kind, has_width, has_name, folded};
+
+    // 1 to 10 letters, digits or `_`, a letter first.
+    pub(crate) fn has_good_name(&self) -> bool
+        ensures value { result ≡ is_name self.now.name }
+    {
+        let name = self.name.as_slice();
+        if name.is_empty() || name.len() > 10 {
+            return false;
+        }
+        name[0].is_ascii_alphabetic() && are_name_bytes(name)
+    }
+
+    pub(crate) fn has_known_kind(&self) -> bool
+        ensures value { result ≡ is_kind self.now.kind }
+    {
+        self.kind == CHARACTER
+    }
+
+    pub(crate) fn has_good_width(&self) -> bool
+        ensures value { result ≡ has_width self.now }
+    {
+        self.width >= 1 && self.width <= 254
+    }
+
+    // Whether one of the fields has the name, which is compared as it stands.
+    pub(crate) fn any_has_name(fields: &[Field], name: &Bytes) -> bool
+        ensures value { result ≡ has_name fields.now name.now }
+    {
+        fields.iter().any(|field| field.name == *name)
+    }
+
+    // The field as a schema keeps it: the name in capitals, and no decimals.
+    pub(crate) fn folded(&self, alloc: Global) -> Result<Field, AllocError>
+        ensures value { IfOk result (λ field. field ≡ folded self.now) }
+    {
+        let name = self
+            .name
+            .as_slice()
+            .iter()
+            .map(|byte| byte.to_ascii_uppercase())
+            .collect(alloc)?;
+        Ok(Field {
+            name: Bytes::from_vec(name),
+            kind: self.kind,
+            width: self.width,
+            decimals: 0,
+        })
+    }
+
+    /// The same field once more, or an error where memory is refused.
+    pub fn copy(&self, alloc: Global) -> Result<Field, AllocError>
+        ensures value { IfOk result (λ field. field ≡ self.now) }
+    {
+        Ok(Field {
+            name: self.name.copy(alloc)?,
+            kind: self.kind,
+            width: self.width,
+            decimals: self.decimals,
+        })
+    }
+}

@@ -1,0 +1,24 @@
+//! The fields of a dBASE III PLUS table and the cells that they describe.
+//!
+//! A `Schema` is a list of fields that a table may have: `Schema::new` accepts exactly the lists that
+//! the layout allows, and tells of every other list the first fault. `encode_cell` gives the bytes
+//! that a field's cell keeps of a value. Start reading at `schema.rt`, then `cell.rt`; what the
+//! contracts cite stands in `specs/`.
+#![tactic(auto)]
+
+mod bytes;
+mod cell;
+mod day;
+mod field;
+mod literal;
+mod schema;
+
+pub use bytes::Bytes;
+pub use cell::{CellFault, encode_cell};
+pub use day::{Day, day_of};
+pub use field::{CHARACTER, Field};
+pub use literal::Literal;
+pub use schema::{MOST_FIELDS, MOST_RECORD_BYTES, Schema, SchemaFault};
+
+#[cfg(test)]
+mod tests;

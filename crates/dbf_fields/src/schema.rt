@@ -1,0 +1,159 @@
+//! The fields of a table.
+
+ghost use Rattle.std.specs.Prelude.{◌≡◌, ◌+◌, ◌≤◌, length, None, map, IfOk, IfErr};
+
+use crate::field::Field;
+use std::alloc::{AllocError, AllocFailed, Global};
+use std::marker::Model;
+use thiserror::Error;
+
+/// The most fields that a table has.
+pub const MOST_FIELDS: usize = 128;
+
+/// The most bytes that the cells of one record have together.
+pub const MOST_RECORD_BYTES: u32 = 4000;
+
+/// Why a list of fields is no schema: the first fault, from left to right.
+#[derive(Clone, Copy, Debug, PartialEq, Eq, Error)]
+pub enum SchemaFault {
+    /// There is no field, or there are more than 128.
+    #[error("there are no fields, or more than 128")]
+    BadFieldCount,
+    /// A name is not 1 to 10 letters, digits or `_` with a letter first.
+    #[error("a field's name is bad")]
+    BadName,
+    /// An earlier field has the name, in capitals.
+    #[error("two fields have one name")]
+    DuplicateName,
+    /// The letter is of no kind that a table may have.
+    #[error("a field is of no known kind")]
+    BadKind,
+    /// The width is none that the kind may have.
+    #[error("a field's width is bad")]
+    BadWidth,
+    /// The cells of a record are over 4,000 bytes together.
+    #[error("a record is too long")]
+    RecordTooLong,
+    /// Memory was refused.
+    #[error("out of memory")]
+    NoMemory,
+}
+
+impl From<AllocError> for SchemaFault {
+    ghost use Rattle.std.specs.Prelude.{◌≡◌};
+    ghost use Rattle.dbf_fields.specs.declared.schema.SchemaFault.TheVariants.{NoMemory};
+
+    ghost from_gives = { λ _ fault. fault ≡ NoMemory };
+
+    fn from(_refused: AllocError) -> SchemaFault {
+        SchemaFault::NoMemory
+    }
+}
+
+impl<T: Drop> From<AllocFailed<T>> for SchemaFault {
+    ghost use Rattle.std.specs.Prelude.{◌≡◌};
+    ghost use Rattle.dbf_fields.specs.declared.schema.SchemaFault.TheVariants.{NoMemory};
+
+    ghost from_gives = { λ _ fault. fault ≡ NoMemory };
+
+    fn from(_refused: AllocFailed<T>) -> SchemaFault {
+        SchemaFault::NoMemory
+    }
+}
+
+/// The fields of a table, in order, which contracts see as their list. Every value of this type is a
+/// list that the layout allows, with the names in capitals.
+#[derive(Debug, Drop)]
+pub struct Schema {
+    fields: Vec<Field>,
+}
+
+impl Model for Schema {
+    ghost use Rattle.std.specs.Prelude.{List};
+    ghost use Rattle.dbf_fields.specs.declared.field.Field.{Field};
+
+    ghost Value = { List Field };
+
+    ghost use Rattle.dbf_fields.specs.Schema.{IsSchema};
+
+    ghost view = { λ s. s.fields.items };
+
+    ghost invariant = { λ s. IsSchema s.fields.items };
+}
+
+impl Schema {
+    ghost use Rattle.dbf_fields.specs.Field.{folded, widths};
+    ghost use Rattle.dbf_fields.specs.Schema.{refusal, IsRefusal, IsSchema};
+
+    /// The schema of the fields: the names in capitals and no decimals.
+    ///
+    /// The faults are tested in this order: `BadFieldCount`; then, field by field, `BadName`,
+    /// `DuplicateName`, `BadKind` (all letters but `C`, until the other kinds come), `BadWidth`; then
+    /// `RecordTooLong`. `NoMemory` may stand in place of what would have come after the growth that was
+    /// refused. The rules are those of the published DBF layout, and the limit of 4,000 bytes that of
+    /// dBASE III PLUS records.
+    pub fn new(alloc: Global, fields: &[Field]) -> Result<Schema, SchemaFault>
+        ensures accepted { IfOk result (λ _. refusal fields.now ≡ None) }
+        ensures value { IfOk result (λ schema. schema ≡ map folded fields.now) }
+        ensures refused { IfErr result (λ fault. IsRefusal fault fields.now) }
+    {
+        if fields.is_empty() || fields.len() > MOST_FIELDS {
+            return Err(SchemaFault::BadFieldCount);
+        }
+        let mut schema = Vec::new(alloc);
+        let mut widths = 0;
+        for field in fields {
+            if !field.has_good_name() {
+                return Err(SchemaFault::BadName);
+            }
+            let folded = field.folded(alloc)?;
+            if Field::any_has_name(&schema, &folded.name) {
+                return Err(SchemaFault::DuplicateName);
+            }
+            if !field.has_known_kind() {
+                return Err(SchemaFault::BadKind);
+            }
+            if !field.has_good_width() {
+                return Err(SchemaFault::BadWidth);
+            }
+            widths += u32::from(field.width);
+            schema.push(folded)?;
+        }
+        if widths > MOST_RECORD_BYTES {
+            return Err(SchemaFault::RecordTooLong);
+        }
+        Ok(Schema { fields: schema })
+    }
+
+    /// The fields in order, at least 1 and at most 128. They make a schema again.
+    pub fn fields(&self) -> &[Field]
+        ensures fields { result.now ≡ self.now }
+        ensures each { IsSchema self.now }
+        ensures few { length self.now ≤ 128 }
+    {
+        self.fields.as_slice()
+    }
+
+    /// The same schema once more, or an error where memory is refused.
+    pub fn copy(&self, alloc: Global) -> Result<Schema, AllocError>
+        ensures value { IfOk result (λ schema. schema ≡ self.now) }
+    {
+        let mut fields = Vec::new(alloc);
+        for field in &self.fields {
+            fields.push(field.copy(alloc)?)?;
+        }
+        Ok(Schema { fields })
+    }
+
+    /// The bytes of a record in the file: one for the flag, and the cells, so 2 to 4,001.
+    pub fn record_length(&self) -> usize
+        ensures value { result ≡ 1 + widths self.now }
+        ensures short { result ≤ 4001 }
+    {
+        let mut length = 1;
+        for field in &self.fields {
+            length += usize::from(field.width);
+        }
+        length
+    }
+}
