@@ -1,0 +1,54 @@
+-- What the groups of tests say, one after the other.
+use Rattle.std.proofs.Common.{◌≡◌, ℕ, ◌-◌, Bool, true, false, cond, List, [], ◌∷◌, ◌++◌, length, map, take, drop, Option, Some, None, refl, ◌∙◌, inl, inr}
+use Rattle.std.specs.Prelude.{is_none, ◌⊎◌}
+use Rattle.std.proofs.lemmas.List.{take_rest}
+use Rattle.dbf_fields.specs.Faults.{first_fault}
+use Rattle.dbf_fields.specs.Schema as schemas
+use Rattle.dbf_image.specs.declared.fault.ImageFault.{ImageFault}
+use Rattle.dbf_image.specs.declared.fault.ImageFault.TheVariants.{BadSchema, NoMemory}
+use Rattle.dbf_image.specs.DbfText.{pieces, field_of}
+use Rattle.dbf_image.specs.Reading.{field_count, fields_of, header_tests, field_tests, record_tests, refusal, IsRefusal}
+
+-- the tests of a group let the next ones decide, or one of them decides
+then_by : {F : Type 0} (b : Bool) (x y z : Option F) (f : F) → cond b x (Some f) ≡ None → (x ≡ None → y ≡ z) → cond b y (Some f) ≡ z
+then_by true x y z f e next = next e
+then_by false x y z f e next = absurd cc
+
+before_by : {F : Type 0} (b : Bool) (x y z : Option F) (f : F) → cond b x (Some f) ≡ z → (x ≡ z → y ≡ z) → cond b y (Some f) ≡ z
+before_by true x y z f e next = next e
+before_by false x y z f e next = e
+
+pub first_then : {F : Type 0} (xs ys : List (Bool × F)) → first_fault xs ≡ None → first_fault (xs ++ ys) ≡ first_fault ys
+first_then [] ys h = refl
+first_then (x ∷ xs) ys h = then_by x.0 (first_fault xs) _ _ x.1 h (first_then xs ys)
+
+pub first_before : {F : Type 0} (xs ys : List (Bool × F)) (fault : F) → first_fault xs ≡ Some fault → first_fault (xs ++ ys) ≡ Some fault
+first_before [] ys fault h = absurd cc
+first_before (x ∷ xs) ys fault h = before_by x.0 (first_fault xs) _ _ x.1 h (first_before xs ys fault)
+
+pub fields_are : (bytes : List ℕ) (count : ℕ) → Some count ≡ field_count bytes → map field_of (pieces 32 count (take (length bytes - 32) (drop 32 bytes))) ≡ fields_of bytes
+fields_are bytes count e = rw (take_rest bytes 32, ← e) refl
+
+pub fields_pass : (bytes : List ℕ) (count : ℕ) → Some count ≡ field_count bytes → is_none (schemas.refusal (fields_of bytes)) ≡ true → first_fault (field_tests bytes) ≡ None
+unfolding field_tests
+fields_pass bytes count e h = rw (h, ← e) refl
+
+pub fields_fail : (bytes : List ℕ) (count : ℕ) (fault : ImageFault) → Some count ≡ field_count bytes
+    → (fault ≡ NoMemory) ⊎ ((fault ≡ BadSchema) × (is_none (schemas.refusal (fields_of bytes)) ≡ false))
+    → (fault ≡ NoMemory) ⊎ (first_fault (field_tests bytes) ≡ Some fault)
+unfolding field_tests
+fields_fail bytes count fault e (inl h) = inl h
+fields_fail bytes count fault e (inr h) = inr (rw (h.1, h.0, ← e) refl)
+
+-- the whole refusal by its groups
+pub refused_by_header : (bytes : List ℕ) (fault : ImageFault) → first_fault (header_tests bytes) ≡ Some fault → IsRefusal fault bytes
+refused_by_header bytes fault h = inr (first_before (header_tests bytes) (field_tests bytes ++ record_tests bytes) fault h)
+
+pub refused_by_fields : (bytes : List ℕ) (fault : ImageFault) → first_fault (header_tests bytes) ≡ None → (fault ≡ NoMemory) ⊎ (first_fault (field_tests bytes) ≡ Some fault) → IsRefusal fault bytes
+refused_by_fields bytes fault a (inl h) = inl h
+refused_by_fields bytes fault a (inr h) =
+    inr (first_then (header_tests bytes) (field_tests bytes ++ record_tests bytes) a ∙ first_before (field_tests bytes) (record_tests bytes) fault h)
+
+pub decided_by_records : (bytes : List ℕ) → first_fault (header_tests bytes) ≡ None → first_fault (field_tests bytes) ≡ None → refusal bytes ≡ first_fault (record_tests bytes)
+decided_by_records bytes a b =
+    first_then (header_tests bytes) (field_tests bytes ++ record_tests bytes) a ∙ first_then (field_tests bytes) (record_tests bytes) b

@@ -1,0 +1,9 @@
+pub mod CellPlaces
+pub mod Edits
+pub mod Pieces
+pub mod Groups
+pub mod Rows
+pub mod DbfLaws
+pub mod Writing
+pub mod ReadBack
+pub mod Sinks

@@ -1,0 +1,228 @@
+-- The file that is written of a table is a file of that table.
+use Rattle.std.proofs.Common.{◌≡◌, ◌≢◌, ℕ, zero, suc, ◌+◌, ◌-◌, ◌*◌, ◌<◌, ◌≤◌, Bool, true, false, cond, eqb, leb, ◌&&◌, List, [], ◌∷◌, ◌++◌, length, map, take, drop, replicate, get_or, refl, sym, ap, ◌∙◌, inl, append_assoc, arith}
+use Rattle.std.specs.Prelude.{slice_index, flat_map}
+use Rattle.std.specs.List.{AllByRecursion, before_first, position_or_len, list_all}
+use Rattle.std.specs.Int.{is_in_range}
+use Rattle.std.specs.Char.{is_ascii_alphabetic}
+use Rattle.std.proofs.lemmas.Bool.{and_parts, leb-true, ne_eqb, true≢false}
+use Rattle.std.proofs.lemmas.List.{take_at, drop_at, get_or_at, get_or-append_right, get_or_append_left, length-append, length-replicate}
+use Rattle.std.proofs.lemmas.List.Sums.{position_or_len_is, sum_by-cons}
+use Rattle.byteorder.specs.Numbers.{little_number-reads_back}
+use Rattle.dbf_fields.specs.declared.field.Field.{Field}
+use Rattle.dbf_fields.specs.Name.{is_name_char, is_name}
+use Rattle.dbf_fields.specs.Field.{widths, folded}
+use Rattle.dbf_fields.proofs.SchemaLaws.{schema_names, schema_widths, schema_count}
+use Rattle.dbf_image.specs.Table.{Row, Table, IsRow, IsTable}
+use Rattle.dbf_image.specs.DbfText.{pieces, header_length, record_length, record_count, field_of, cells_of, row_of, IsDbf}
+use Rattle.dbf_image.specs.Image.{header_bytes, descriptor, row_bytes, image}
+
+-- ---- pieces of one size that are joined
+
+pub pieces-join : {X : Type 0} (size : ℕ) (f : X → List ℕ) (xs : List X) (rest : List ℕ) → AllByRecursion (λ x. length (f x) ≡ size) xs
+    → pieces size (length xs) (flat_map f xs ++ rest) ≡ map f xs
+pieces-join size f [] rest h = refl
+pieces-join size f (x ∷ xs) rest h =
+    rw (append_assoc (f x) (flat_map f xs) rest, take_at (f x) (flat_map f xs ++ rest) size h.0, drop_at (f x) (flat_map f xs ++ rest) size h.0, pieces-join size f xs rest h.1) refl
+
+pub length-join : {X : Type 0} (size : ℕ) (f : X → List ℕ) (xs : List X) → AllByRecursion (λ x. length (f x) ≡ size) xs → length (flat_map f xs) ≡ length xs * size
+length-join size f [] h = omega arith
+length-join size f (x ∷ xs) h = omega (arith, length-append (f x) (flat_map f xs), length-join size f xs h.1, h.0)
+
+-- ---- the descriptor of a field
+
+-- the name, and zeros up to eleven bytes
+abbrev name_part : Field → List ℕ
+name_part f = f.name ++ replicate (11 - length f.name) 0
+
+length-name_part : (f : Field) → length f.name ≤ 11 → length (name_part f) ≡ 11
+length-name_part f le = omega (arith, length-append f.name (replicate (11 - length f.name) 0), length-replicate {A = ℕ} (11 - length f.name) 0)
+
+pub length-descriptor : (f : Field) → length f.name ≤ 11 → length (descriptor f) ≡ 32
+unfolding descriptor
+length-descriptor f le =
+    omega (arith, length-append (name_part f) (f.kind ∷ (replicate 4 0 ++ (f.width ∷ f.decimals ∷ replicate 14 0))), length-name_part f le)
+
+pub record HasName (f : Field) : Type 0 where
+  pub some : 1 ≤ length f.name
+  pub short : length f.name ≤ 10
+  pub letter : is_ascii_alphabetic (slice_index f.name 0) ≡ true
+  pub letters : list_all is_name_char f.name ≡ true
+
+pub has_name_from : (f : Field) → is_name f.name ≡ true → HasName f
+has_name_from f h =
+    let a = and_parts (is_in_range 1 10 (length f.name)) (is_ascii_alphabetic (slice_index f.name 0) && list_all is_name_char f.name) h in
+    let b = and_parts (leb 1 (length f.name)) (leb (length f.name) 10) a.0 in
+    let c = and_parts (is_ascii_alphabetic (slice_index f.name 0)) (list_all is_name_char f.name) a.1 in
+    record { some = leb-true _ _ b.0; short = leb-true _ _ b.1; letter = c.0; letters = c.1 }
+
+no_zero : (c : ℕ) → is_name_char c ≡ true → eqb c 0 ≡ false
+no_zero zero h = absurd cc
+no_zero (suc c) h = ne_eqb (suc c) 0 (λ e. absurd (omega arith))
+
+no_zeros : (cs : List ℕ) → list_all is_name_char cs ≡ true → (k : ℕ) → k < length cs → eqb (get_or cs k 0) 0 ≡ false
+no_zeros [] h k lt = absurd (omega arith)
+no_zeros (c ∷ cs) h zero lt = no_zero c (and_parts (is_name_char c) (list_all is_name_char cs) h).0
+no_zeros (c ∷ cs) h (suc k) lt = no_zeros cs (and_parts (is_name_char c) (list_all is_name_char cs) h).1 k (omega arith)
+
+get_or-zeros : (n i : ℕ) → get_or {A = ℕ} (replicate n 0) i 0 ≡ 0
+get_or-zeros zero i = refl
+get_or-zeros (suc n) zero = refl
+get_or-zeros (suc n) (suc i) = get_or-zeros n i
+
+name_again : (f : Field) → HasName f → before_first (λ b. eqb b 0) (name_part f) ≡ f.name
+name_again f h =
+    let zeros : List ℕ = replicate (11 - length f.name) 0 in
+    let inside : length f.name ≤ length (name_part f) = omega (arith, length-append f.name zeros) in
+    let ended : eqb (get_or (name_part f) (length f.name) 0) 0 ≡ true =
+    rw (get_or-append_right f.name zeros (length f.name) (length f.name) 0 refl (omega arith), get_or-zeros) refl in
+    let n : position_or_len (λ b. eqb b 0) (name_part f) ≡ length f.name =
+    position_or_len_is (λ b. eqb b 0) (name_part f) (length f.name) 0 inside
+    (λ k lt. rw (get_or_append_left f.name zeros 0 k lt) (no_zeros f.name h.letters k lt))
+    (λ lt. ended) in
+    rw (n, take_at f.name zeros (length f.name) refl) refl
+
+pub field_again : (f : Field) → HasName f → field_of (descriptor f) ≡ f
+unfolding descriptor
+field_again f h =
+    let rest : List ℕ = f.kind ∷ (replicate 4 0 ++ (f.width ∷ f.decimals ∷ replicate 14 0)) in
+    let len : length (name_part f) ≡ 11 = length-name_part f (omega (arith, h.short)) in
+    let name : before_first (λ b. eqb b 0) (take 11 (name_part f ++ rest)) ≡ f.name = rw (take_at (name_part f) rest 11 len) (name_again f h) in
+    let kind : get_or (name_part f ++ rest) 11 0 ≡ f.kind = get_or-append_right (name_part f) rest 11 11 0 len (omega arith) in
+    let width : get_or (name_part f ++ rest) 16 0 ≡ f.width = get_or-append_right (name_part f) rest 11 16 0 len (omega arith) in
+    let decimals : get_or (name_part f ++ rest) 17 0 ≡ f.decimals = get_or-append_right (name_part f) rest 11 17 0 len (omega arith) in
+    rw (name, kind, width, decimals) refl
+
+-- a letter is not the byte that ends the fields
+no_letter : (c : ℕ) → is_ascii_alphabetic c ≡ true → c ≢ 13
+no_letter c letter e = absurd (true≢false (sym (rw e at letter)))
+
+letter_no_end : (cs rest : List ℕ) → 1 ≤ length cs → is_ascii_alphabetic (slice_index cs 0) ≡ true → get_or (cs ++ rest) 0 0 ≢ 13
+letter_no_end [] rest some letter e = absurd (omega arith)
+letter_no_end (c ∷ cs) rest some letter e = no_letter c letter e
+
+starts : (f : Field) (rest : List ℕ) → HasName f → get_or (descriptor f ++ rest) 0 0 ≢ 13
+unfolding descriptor
+starts f rest h =
+    let zeros : List ℕ = replicate (11 - length f.name) 0 in
+    let more : List ℕ = f.kind ∷ (replicate 4 0 ++ (f.width ∷ f.decimals ∷ replicate 14 0)) in
+    let grouped : ((f.name ++ zeros) ++ more) ++ rest ≡ f.name ++ (zeros ++ (more ++ rest)) = simp append_assoc in
+    rw grouped (letter_no_end f.name (zeros ++ (more ++ rest)) h.some h.letter)
+
+pub fields_again : (fs : List Field) → AllByRecursion HasName fs → map field_of (map descriptor fs) ≡ fs
+fields_again [] h = refl
+fields_again (f ∷ fs) h = rw (field_again f h.0, fields_again fs h.1) refl
+
+pub names_from : (fs : List Field) → AllByRecursion (λ f. is_name f.name ≡ true) fs → AllByRecursion HasName fs
+names_from [] h = tt
+names_from (f ∷ fs) h = (has_name_from f h.0, names_from fs h.1)
+
+pub descriptors_long : (fs : List Field) → AllByRecursion HasName fs → AllByRecursion (λ f. length (descriptor f) ≡ 32) fs
+descriptors_long [] h = tt
+descriptors_long (f ∷ fs) h = (length-descriptor f (omega (arith, h.0.short)), descriptors_long fs h.1)
+
+pub not_end : (fs : List Field) (rest : List ℕ) → AllByRecursion HasName fs → (i : ℕ) → i < length fs → get_or (flat_map descriptor fs ++ rest) (32 * i) 0 ≢ 13
+not_end [] rest h i lt = absurd (omega arith)
+not_end (f ∷ fs) rest h zero lt = rw (append_assoc (descriptor f) (flat_map descriptor fs) rest) (starts f (flat_map descriptor fs ++ rest) h.0)
+not_end (f ∷ fs) rest h (suc i) lt =
+    let k : 32 * suc i - 32 ≡ 32 * i = omega arith in
+    rw (append_assoc (descriptor f) (flat_map descriptor fs) rest, get_or-append_right (descriptor f) (flat_map descriptor fs ++ rest) 32 (32 * suc i) 0 (length-descriptor f (omega (arith, h.0.short))) (omega arith), k)
+    (not_end fs rest h.1 i (omega arith))
+
+-- ---- the bytes of a row
+
+pub flag_again : (b : Bool) → eqb (cond b 42 32) 42 ≡ b
+flag_again true = refl
+flag_again false = refl
+
+head_of : (a b : ℕ) (xs ys : List ℕ) → a ∷ xs ≡ b ∷ ys → a ≡ b
+head_of a b xs ys e = cc
+
+tail_of : (a b : ℕ) (xs ys : List ℕ) → a ∷ xs ≡ b ∷ ys → xs ≡ ys
+tail_of a b xs ys e = cc
+
+pub cells_again : (fields : List Field) (cells : List (List ℕ)) → map length cells ≡ map (λ f. f.width) fields → cells_of fields (flat_map (λ c. c) cells) ≡ cells
+cells_again [] [] e = refl
+cells_again [] (c ∷ cs) e = absurd cc
+cells_again (f ∷ fs) [] e = absurd cc
+cells_again (f ∷ fs) (c ∷ cs) e =
+    let len : length c ≡ f.width = head_of _ _ _ _ e in
+    rw (take_at c (flat_map (λ c. c) cs) f.width len, drop_at c (flat_map (λ c. c) cs) f.width len, cells_again fs cs (tail_of _ _ _ _ e)) refl
+
+pub length-cells : (fields : List Field) (cells : List (List ℕ)) → map length cells ≡ map (λ f. f.width) fields → length (flat_map (λ c. c) cells) ≡ widths fields
+length-cells [] [] e = refl
+length-cells [] (c ∷ cs) e = absurd cc
+length-cells (f ∷ fs) [] e = absurd cc
+length-cells (f ∷ fs) (c ∷ cs) e =
+    let len : length c ≡ f.width = head_of _ _ _ _ e in
+    let sum : widths (f ∷ fs) ≡ f.width + widths fs = sum_by-cons (λ (g : Field). g.width) f fs in
+    omega (arith, length-append c (flat_map (λ c. c) cs), length-cells fs cs (tail_of _ _ _ _ e))
+
+row_again : (fields : List Field) (row : Row) → IsRow fields row → row_of fields (row_bytes row) ≡ row
+unfolding row_bytes
+row_again fields row h = rw (flag_again row.deleted, cells_again fields row.cells h) refl
+
+length-row : (fields : List Field) (row : Row) → IsRow fields row → length (row_bytes row) ≡ 1 + widths fields
+unfolding row_bytes
+length-row fields row h = omega (arith, length-cells fields row.cells h)
+
+pub rows_again : (fields : List Field) (rows : List Row) → AllByRecursion (IsRow fields) rows → map (row_of fields) (map row_bytes rows) ≡ rows
+rows_again fields [] h = refl
+rows_again fields (r ∷ rs) h = rw (row_again fields r h.0, rows_again fields rs h.1) refl
+
+pub rows_long : (fields : List Field) (rows : List Row) → AllByRecursion (IsRow fields) rows → AllByRecursion (λ r. length (row_bytes r) ≡ 1 + widths fields) rows
+rows_long fields [] h = tt
+rows_long fields (r ∷ rs) h = (length-row fields r h.0, rows_long fields rs h.1)
+
+-- ---- the whole file
+
+pub behind : (head body more : List ℕ) (m : ℕ) → length head + length body + 1 ≡ m → drop m (head ++ (body ++ 13 ∷ more)) ≡ more
+behind head body more m len =
+    let grouped : head ++ (body ++ 13 ∷ more) ≡ (head ++ (body ++ 13 ∷ [])) ++ more =
+    sym (append_assoc head (body ++ 13 ∷ []) more ∙ ap (λ (x : List ℕ). head ++ x) (append_assoc body (13 ∷ []) more)) in
+    let long : length (head ++ (body ++ 13 ∷ [])) ≡ m = omega (arith, length-append head (body ++ 13 ∷ []), length-append body (13 ∷ [])) in
+    rw grouped (drop_at (head ++ (body ++ 13 ∷ [])) more m long)
+
+pub end_here : (head body more : List ℕ) (i : ℕ) → length head + length body ≡ i → get_or (head ++ (body ++ 13 ∷ more)) i 0 ≡ 13
+end_here head body more i len =
+    rw (← append_assoc head body (13 ∷ more)) (get_or_at (head ++ body) 13 more 0 i (omega (arith, length-append head body)))
+
+pub not_here : (head tail : List ℕ) (h i : ℕ) → length head ≡ h → get_or tail i 0 ≢ 13 → get_or (head ++ tail) (h + i) 0 ≢ 13
+not_here head tail h i len differs =
+    let k : h + i - h ≡ i = omega arith in
+    rw (get_or-append_right head tail h (h + i) 0 len (omega arith), k) differs
+
+pub is_dbf_image : (table : Table) (year month day : ℕ) → IsTable table → IsDbf (image table year month day) table
+is_dbf_image table year month day t =
+    let schema : List Field = table.schema in
+    let n : ℕ = length schema in
+    let size : ℕ = 1 + widths schema in
+    let head : List ℕ = header_bytes table year month day in
+    let body : List ℕ = flat_map descriptor schema in
+    let records : List ℕ = flat_map row_bytes table.rows in
+    let bytes : List ℕ = image table year month day in
+    let names = names_from schema (schema_names schema t.fields) in
+    let few : n ≤ 128 = schema_count schema t.fields in
+    let narrow : widths schema ≤ 4000 = schema_widths schema t.fields in
+    let count : record_count bytes ≡ length table.rows = little_number-reads_back 4 (length table.rows) [] (omega (arith, t.few)) in
+    let header : header_length bytes ≡ 32 * n + 33 = little_number-reads_back 2 (32 * n + 33) [] (omega arith) in
+    let wide : record_length bytes ≡ size = little_number-reads_back 2 size [] (omega arith) in
+    let body_long : length body ≡ n * 32 = length-join 32 descriptor schema (descriptors_long schema names) in
+    let records_long : length records ≡ length table.rows * size = length-join size row_bytes table.rows (rows_long schema table.rows t.fit) in
+    let fields : map field_of (pieces 32 n (drop 32 bytes)) ≡ schema =
+    ap (map field_of) (pieces-join 32 descriptor schema (13 ∷ (records ++ 26 ∷ [])) (descriptors_long schema names)) ∙ fields_again schema names in
+    let rest : drop (32 * n + 33) bytes ≡ records ++ 26 ∷ [] = behind head body (records ++ 26 ∷ []) (32 * n + 33) (omega arith) in
+    let cut : pieces size (length table.rows) (records ++ 26 ∷ []) ≡ map row_bytes table.rows = pieces-join size row_bytes table.rows (26 ∷ []) (rows_long schema table.rows t.fit) in
+    record {
+      long = omega (arith, length-append head (body ++ 13 ∷ (records ++ 26 ∷ [])));
+      version = inl refl;
+      field_count = n;
+      last_field = end_here head body (records ++ 26 ∷ []) (32 + 32 * n) (omega arith);
+      not_before = λ i lt. not_here head (body ++ 13 ∷ (records ++ 26 ∷ [])) 32 (32 * i) refl (not_end schema (13 ∷ (records ++ 26 ∷ [])) names i lt);
+      in_header = rw header (omega arith);
+      accepted = rw fields t.fields.accepted;
+      schema = sym (ap (map folded) fields ∙ t.fields.kept);
+      wide = wide;
+      few = rw count t.few;
+      whole = rw (header, count, wide) (omega (arith, length-append head (body ++ 13 ∷ (records ++ 26 ∷ [])), length-append body (13 ∷ (records ++ 26 ∷ [])), length-append records (26 ∷ [])));
+      rows = rw (wide, count, header, rest, cut) (sym (rows_again schema table.rows t.fit));
+    }

@@ -1,0 +1,69 @@
+-- The layout of a DBF file. Numbers stand with their lowest byte first, and places count from 0.
+use Rattle.std.specs.Prelude.{◌≡◌, ◌≢◌, ℕ, zero, suc, ◌+◌, ◌*◌, ◌<◌, ◌≤◌, ◌⊎◌, ◌==◌, List, [], ◌∷◌, length, map, take, drop, slice_index, None}
+use Rattle.std.specs.List.{before_first}
+use Rattle.byteorder.specs.Endian.{little_number}
+use Rattle.dbf_fields.specs.declared.field.Field.{Field}
+use Rattle.dbf_fields.specs.Field.{folded, widths}
+use Rattle.dbf_fields.specs.Schema as schemas
+use Rattle.dbf_image.specs.declared.fault.TheConstants.{MOST_RECORDS}
+use Rattle.dbf_image.specs.Table.{Row, Table}
+
+-- so many pieces of one size, one after the other
+abbrev pub pieces : ℕ → ℕ → List ℕ → List (List ℕ)
+pieces size zero bytes = []
+pieces size (suc n) bytes = take size bytes ∷ pieces size n (drop size bytes)
+
+-- the numbers of the header
+abbrev pub record_count : List ℕ → ℕ
+record_count bytes = little_number 4 (drop 4 bytes)
+
+abbrev pub header_length : List ℕ → ℕ
+header_length bytes = little_number 2 (drop 8 bytes)
+
+abbrev pub record_length : List ℕ → ℕ
+record_length bytes = little_number 2 (drop 10 bytes)
+
+-- a field by its descriptor of 32 bytes: the name stands before the first zero of 11 bytes
+abbrev pub field_of : List ℕ → Field
+field_of descriptor = record {
+  name = before_first (λ b. b == 0) (take 11 descriptor);
+  kind = slice_index descriptor 11;
+  width = slice_index descriptor 16;
+  decimals = slice_index descriptor 17;
+}
+
+-- the cells of a record, without separators
+abbrev pub cells_of : List Field → List ℕ → List (List ℕ)
+cells_of [] bytes = []
+cells_of (f ∷ fs) bytes = take f.width bytes ∷ cells_of fs (drop f.width bytes)
+
+-- a record: a flag and the cells. A flag other than 0x2A means kept
+abbrev pub row_of : List Field → List ℕ → Row
+row_of fields bytes = record { deleted = slice_index bytes 0 == 42; cells = cells_of fields (drop 1 bytes) }
+
+-- so many records in one run of bytes
+abbrev pub rows_of : List Field → ℕ → List ℕ → List Row
+rows_of fields count bytes = map (row_of fields) (pieces (1 + widths fields) count bytes)
+
+-- the run has the bytes of so many records and no more
+pub record IsRun (fields : List Field) (count : ℕ) (bytes : List ℕ) : Type 0 where
+  pub whole : length bytes ≡ count * (1 + widths fields)
+  pub few : count ≤ MOST_RECORDS
+
+-- the bytes are a file of the table
+pub record IsDbf (bytes : List ℕ) (table : Table) : Type 0 where
+  pub long : 32 ≤ length bytes
+  pub version : (slice_index bytes 0 ≡ 3) ⊎ (slice_index bytes 0 ≡ 131)
+  -- the first 0x0D among the bytes 32, 64, .. stands behind some descriptors and below the header's end
+  pub field_count : ℕ
+  pub last_field : slice_index bytes (32 + 32 * field_count) ≡ 13
+  pub not_before : (i : ℕ) → i < field_count → slice_index bytes (32 + 32 * i) ≢ 13
+  pub in_header : 32 + 32 * field_count < header_length bytes
+  -- they tell fields that a table may have
+  pub accepted : schemas.refusal (map field_of (pieces 32 field_count (drop 32 bytes))) ≡ None
+  pub schema : table.schema ≡ map folded (map field_of (pieces 32 field_count (drop 32 bytes)))
+  pub wide : record_length bytes ≡ 1 + widths table.schema
+  -- the records stand behind the header, each in its place
+  pub few : record_count bytes ≤ MOST_RECORDS
+  pub whole : header_length bytes + record_count bytes * record_length bytes ≤ length bytes
+  pub rows : table.rows ≡ map (row_of table.schema) (pieces (record_length bytes) (record_count bytes) (drop (header_length bytes) bytes))

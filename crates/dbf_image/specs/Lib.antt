@@ -1,0 +1,9 @@
+pub mod Table
+pub mod DbfText
+pub mod Reading
+pub mod Image
+pub mod Sink
+pub use Rattle.dbf_fields.specs.Name
+pub use Rattle.dbf_fields.specs.Faults
+pub use Rattle.dbf_fields.specs.Field
+pub use Rattle.dbf_fields.specs.Schema

@@ -1,0 +1,56 @@
+//! Why bytes are no table.
+
+use std::alloc::{AllocError, AllocFailed};
+use thiserror::Error;
+
+/// How many records a table has at most: the limit that dBASE III PLUS states for its files.
+pub const MOST_RECORDS: u32 = 1_000_000_000;
+
+/// Why bytes are no table. Where several of these apply, the answer is the first in the order of the
+/// reader's tests: those of the header, then those of the fields, then those of the records.
+#[derive(Clone, Copy, Debug, PartialEq, Eq, Error)]
+pub enum ImageFault {
+    /// The bytes end before the header, or before the last record.
+    #[error("the file is too short")]
+    Truncated,
+    /// The first byte is neither 0x03 nor 0x83.
+    #[error("the file is of no known version")]
+    BadVersion,
+    /// The header ends before the list of fields does.
+    #[error("the header's length is bad")]
+    BadHeaderLength,
+    /// The fields are none that a table may have.
+    #[error("the fields are no schema")]
+    BadSchema,
+    /// The length of a record is not one more than the widths of the fields together.
+    #[error("the records' length is bad")]
+    BadRecordLength,
+    /// There are more than [`MOST_RECORDS`] records.
+    #[error("there are too many records")]
+    TooManyRecords,
+    /// There was no memory for the table.
+    #[error("out of memory")]
+    NoMemory,
+}
+
+impl From<AllocError> for ImageFault {
+    ghost use Rattle.std.specs.Prelude.{◌≡◌};
+    ghost use Rattle.dbf_image.specs.declared.fault.ImageFault.TheVariants.{NoMemory};
+
+    ghost from_gives = { λ _ e. e ≡ NoMemory };
+
+    fn from(_e: AllocError) -> ImageFault {
+        ImageFault::NoMemory
+    }
+}
+
+impl<T: Drop> From<AllocFailed<T>> for ImageFault {
+    ghost use Rattle.std.specs.Prelude.{◌≡◌};
+    ghost use Rattle.dbf_image.specs.declared.fault.ImageFault.TheVariants.{NoMemory};
+
+    ghost from_gives = { λ _ e. e ≡ NoMemory };
+
+    fn from(_e: AllocFailed<T>) -> ImageFault {
+        ImageFault::NoMemory
+    }
+}

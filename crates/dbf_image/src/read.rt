@@ -1,0 +1,194 @@
+//! Reading a table from its bytes.
+
+ghost use Rattle.std.specs.Prelude.{◌≡◌, ◌+◌, ◌-◌, ◌*◌, ◌/◌, ◌<◌, ◌≤◌, ◌==◌, ◌||◌, ◌⊎◌, true, false, length, map, take, drop, slice_index, Some, None, is_none, IfSome, IfOk, IfErr, OnOk, MatchResult};
+ghost use Rattle.std.specs.List.{position};
+ghost use Rattle.dbf_fields.specs.Faults.{first_fault};
+ghost use Rattle.dbf_fields.specs.Field.{folded, widths};
+ghost use Rattle.dbf_fields.specs.Schema as schemas;
+ghost use Rattle.dbf_image.specs.DbfText.{pieces, field_of, IsDbf, header_length as dbf_header_length};
+ghost use Rattle.dbf_image.specs.Table.{Table};
+ghost use Rattle.dbf_image.specs.declared.fault.TheConstants.{MOST_RECORDS};
+ghost use Rattle.dbf_image.specs.Reading.{field_count, header_of, schema_of, header_tests, field_tests, record_tests, table_of, refusal, IsRefusal};
+
+use crate::fault::{ImageFault, MOST_RECORDS};
+use crate::header::Header;
+use crate::table::TableData;
+use byteorder::{ByteOrder, LittleEndian};
+use dbf_fields::{Bytes, Field, Schema, SchemaFault};
+use std::alloc::{AllocError, Global};
+
+// How many descriptors stand before the first 0x0D among the bytes 32, 64, .. below `end`.
+fn descriptor_count(bytes: &[u8], end: usize) -> Option<usize>
+    requires inside { end ≤ length bytes.now }
+    requires value { end ≡ dbf_header_length bytes.now }
+    ensures count { result ≡ field_count bytes.now }
+    ensures room { IfSome result (λ n. 32 + 32 * n < end) }
+{
+    for i in 0..end.saturating_sub(1) / 32 {
+        if bytes[32 + 32 * i] == 0x0d {
+            return Some(i);
+        }
+    }
+    None
+}
+
+// Where the first zero stands.
+fn first_zero(name: &[u8]) -> Option<usize>
+    ensures { result ≡ position (λ b. b == 0) name.now }
+{
+    name.iter().position(|byte| *byte == 0)
+}
+
+fn field_at(alloc: Global, descriptor: &[u8]) -> Result<Field, AllocError>
+    requires { 32 ≤ length descriptor.now }
+    ensures { IfOk result (λ field. field ≡ field_of descriptor.now) }
+{
+    let name = &descriptor[..11];
+    let end = first_zero(name).unwrap_or(11);
+    Ok(Field {
+        name: Bytes::from_slice(alloc, &name[..end])?,
+        kind: descriptor[11],
+        width: descriptor[16],
+        decimals: descriptor[17],
+    })
+}
+
+fn fields_at(alloc: Global, count: usize, bytes: &[u8]) -> Result<Vec<Field>, AllocError>
+    requires { 32 * count ≤ length bytes.now }
+    ensures { IfOk result (λ fields. fields.items ≡ map field_of (pieces 32 count bytes.now)) }
+{
+    let mut fields = Vec::new(alloc);
+    let mut rest = bytes;
+    for _ in 0..count {
+        let (descriptor, after) = rest.split_at(32);
+        fields.push(field_at(alloc, descriptor)?)?;
+        rest = after;
+    }
+    Ok(fields)
+}
+
+#[tactic(auto, unfolding(crate::specs::Reading::header_tests))]
+fn header_at(dbf: &[u8]) -> Result<Header, ImageFault>
+    ensures accepted { IfOk result (λ _. first_fault (header_tests dbf.now) ≡ None) }
+    ensures refused { IfErr result (λ fault. first_fault (header_tests dbf.now) ≡ Some fault) }
+    ensures value { IfOk result (λ header. header ≡ header_of dbf.now) }
+    ensures long { OnOk result (32 ≤ length dbf.now) }
+    ensures inside { IfOk result (λ header. header.header_length ≤ length dbf.now) }
+{
+    if dbf.len() < 32 {
+        return Err(ImageFault::Truncated);
+    }
+    if !has_version(dbf[0]) {
+        return Err(ImageFault::BadVersion);
+    }
+    let header = Header {
+        header_length: LittleEndian::read_u16(&dbf[8..]),
+        record_length: LittleEndian::read_u16(&dbf[10..]),
+        record_count: LittleEndian::read_u32(&dbf[4..]),
+    };
+    if usize::from(header.header_length) > dbf.len() {
+        return Err(ImageFault::Truncated);
+    }
+    Ok(header)
+}
+
+fn has_version(first: u8) -> bool
+    ensures { result ≡ (first == 3 || first == 131) }
+{
+    first == 0x03 || first == 0x83
+}
+
+// The fields of the schema, by their descriptors.
+#[tactic(auto, unfolding(crate::specs::Reading::field_tests))]
+fn schema_at(alloc: Global, dbf: &[u8], header_length: usize) -> Result<Schema, ImageFault>
+    requires long { 32 ≤ length dbf.now }
+    requires inside { header_length ≤ length dbf.now }
+    requires value { header_length ≡ dbf_header_length dbf.now }
+    ensures accepted { IfOk result (λ _. first_fault (field_tests dbf.now) ≡ None) }
+    ensures refused { IfErr result (λ fault. (fault ≡ ImageFault.NoMemory) ⊎ (first_fault (field_tests dbf.now) ≡ Some fault)) }
+    ensures value { IfOk result (λ schema. schema ≡ schema_of dbf.now) }
+{
+    let Some(count) = descriptor_count(dbf, header_length) else {
+        return Err(ImageFault::BadHeaderLength);
+    };
+    let fields = fields_at(alloc, count, &dbf[32..])?;
+    let schema = schema_of_fields(alloc, &fields)?;
+    Ok(schema)
+}
+
+// A list of fields as a schema.
+fn schema_of_fields(alloc: Global, fields: &[Field]) -> Result<Schema, ImageFault>
+    ensures accepted { IfOk result (λ _. is_none (schemas.refusal fields.now) ≡ true) }
+    ensures value { IfOk result (λ schema. schema ≡ map folded fields.now) }
+    ensures refused { IfErr result (λ fault. (fault ≡ ImageFault.NoMemory) ⊎ ((fault ≡ ImageFault.BadSchema) × (is_none (schemas.refusal fields.now) ≡ false))) }
+{
+    match Schema::new(alloc, fields) {
+        Ok(schema) => Ok(schema),
+        Err(SchemaFault::NoMemory) => Err(ImageFault::NoMemory),
+        Err(_) => Err(ImageFault::BadSchema),
+    }
+}
+
+// The tests of the records, whose length the schema gives.
+#[tactic(auto, unfolding(crate::specs::Reading::record_tests))]
+fn check_records(dbf: &[u8], header: Header, record_length: usize) -> Result<(), ImageFault>
+    requires value { header ≡ header_of dbf.now }
+    requires wide { record_length ≡ 1 + widths (schema_of dbf.now) }
+    ensures accepted { OnOk result (first_fault (record_tests dbf.now) ≡ None) }
+    ensures refused { IfErr result (λ fault. first_fault (record_tests dbf.now) ≡ Some fault) }
+    ensures wide { OnOk result (header.record_length ≡ record_length) }
+    ensures few { OnOk result (header.record_count ≤ MOST_RECORDS) }
+    ensures whole { OnOk result (header.header_length + header.record_count * header.record_length ≤ length dbf.now) }
+{
+    if usize::from(header.record_length) != record_length {
+        return Err(ImageFault::BadRecordLength);
+    }
+    if header.record_count > MOST_RECORDS {
+        return Err(ImageFault::TooManyRecords);
+    }
+    let size = u64::from(header.record_count) * u64::from(header.record_length);
+    if u64::from(header.header_length) + size > dbf.len() as u64 {
+        return Err(ImageFault::Truncated);
+    }
+    Ok(())
+}
+
+// The bytes of all records.
+fn run_at(dbf: &[u8], header: Header) -> &[u8]
+    requires { header.header_length + header.record_count * header.record_length ≤ length dbf.now }
+    ensures { result.now ≡ take (header.record_count * header.record_length) (drop header.header_length dbf.now) }
+{
+    let size = u64::from(header.record_count) * u64::from(header.record_length);
+    let (_, rest) = dbf.split_at(usize::from(header.header_length));
+    let (records, _) = rest.split_at(size as usize);
+    records
+}
+
+// The table that the bytes tell, or the first test that fails.
+fn table_at(alloc: Global, dbf: &[u8]) -> Result<TableData, ImageFault>
+    ensures accepted { IfOk result (λ _. refusal dbf.now ≡ None) }
+    ensures value { IfOk result (λ table. table ≡ table_of dbf.now) }
+    ensures refused { IfErr result (λ fault. IsRefusal fault dbf.now) }
+{
+    let header = header_at(dbf)?;
+    let start = usize::from(header.header_length);
+    let schema = schema_at(alloc, dbf, start)?;
+    let size = schema.record_length();
+    check_records(dbf, header, size)?;
+    let records = Vec::from_slice(alloc, run_at(dbf, header))?;
+    Ok(TableData::new(schema, header.record_count, records))
+}
+
+/// The table of a DBF file.
+pub fn read_table(alloc: Global, dbf: &[u8]) -> Result<TableData, ImageFault>
+    // What is read is the file's table.
+    ensures found { IfOk result (IsDbf dbf.now) }
+    // A file of a table is read, unless memory runs out.
+    ensures only { (table : Table) → IsDbf dbf.now table → MatchResult result (λ t. t ≡ table) (λ fault. fault ≡ ImageFault.NoMemory) }
+    // Which fault it is.
+    ensures refused { IfErr result (λ fault. IsRefusal fault dbf.now) }
+    // Bytes are a file of one table at most.
+    ensures one { (a b : Table) → IsDbf dbf.now a → IsDbf dbf.now b → a ≡ b }
+{
+    table_at(alloc, dbf)
+}

@@ -1,0 +1,201 @@
+//! Writing a table as the bytes of a DBF file.
+#![tactic(auto, using(crate::proofs::Sinks::sinks))]
+
+ghost use Rattle.std.specs.Prelude.{◌≡◌, ◌+◌, ◌≤◌, ◌*◌, ◌↔◌, length, flat_map, if◌then◌else◌, OnOk, OnErr};
+ghost use Rattle.dbf_fields.specs.Field.{widths};
+ghost use Rattle.dbf_fields.specs.Schema.{IsSchema};
+ghost use Rattle.dbf_image.specs.DbfText.{pieces, IsDbf};
+ghost use Rattle.dbf_image.specs.Image.{header_with, descriptor, record_bytes, image, IsOutside};
+ghost use Rattle.dbf_image.specs.Sink.{grown, IsFront, Rises};
+
+use crate::gather::{Waiting, flush, gather};
+use crate::header::{Header, header_of};
+use crate::sink::{ByteSink, SinkFault};
+use crate::table::TableData;
+use byteorder::{ByteOrder, LittleEndian};
+use dbf_fields::{Day, Field};
+use thiserror::Error;
+
+/// Why a table was not written, or not whole.
+#[derive(Clone, Copy, Debug, PartialEq, Eq, Error)]
+pub enum WriteFault {
+    /// The header tells the year less 1900 in one byte, and this year is none of 1900 to 2155.
+    #[error("the year is not one of 1900 to 2155")]
+    DateOutside,
+    /// The sink failed.
+    #[error("the sink failed")]
+    Sink,
+}
+
+// The 32 bytes before the descriptors.
+fn header_bytes(header: Header, day: Day) -> [u8; 32]
+    requires low { 1900 ≤ day.year }
+    requires high { day.year ≤ 2155 }
+    ensures value { result ≡ header_with header.record_count header.header_length header.record_length day.year day.month day.day }
+{
+    let mut bytes = [0; 32];
+    bytes[0] = 0x03;
+    bytes[1] = (day.year - 1900) as u8;
+    bytes[2] = day.month;
+    bytes[3] = day.day;
+    LittleEndian::write_u32(&mut bytes[4..], header.record_count);
+    LittleEndian::write_u16(&mut bytes[8..], header.header_length);
+    LittleEndian::write_u16(&mut bytes[10..], header.record_length);
+    bytes
+}
+
+// The 32 bytes of a field.
+#[tactic(auto, unfolding(crate::specs::Image::descriptor))]
+fn descriptor_bytes(field: &Field) -> [u8; 32]
+    requires { length field.now.name ≤ 11 }
+    ensures value { result ≡ descriptor field.now }
+{
+    let name = field.name.as_slice();
+    let mut bytes = [0; 32];
+    bytes[..name.len()].copy_from_slice(name);
+    bytes[11] = field.kind;
+    bytes[16] = field.width;
+    bytes[17] = field.decimals;
+    bytes
+}
+
+fn write_descriptors<S: ByteSink>(
+    sink: &mut S,
+    waiting: &mut Waiting,
+    fields: &[Field],
+) -> Result<(), SinkFault>
+    requires { IsSchema fields.now }
+    ensures told { OnOk result (grown (S.written sink.new) waiting.new.items ≡ grown (grown (S.written sink.old) waiting.old.items) (flat_map descriptor fields.now)) }
+    ensures fine { OnOk result (S.failures sink.new ≡ S.failures sink.old) }
+    ensures failed { OnErr result (Rises (S.failures sink.old) (S.failures sink.new)) }
+    ensures front { OnErr result (IsFront (S.written sink.new) (grown (grown (S.written sink.old) waiting.old.items) (flat_map descriptor fields.now))) }
+{
+    for field in fields {
+        gather(sink, waiting, &descriptor_bytes(field))?;
+    }
+    Ok(())
+}
+
+fn flag_of(deleted: bool) -> u8
+    ensures value { result ≡ (if deleted then 42 else 32) }
+{
+    if deleted { 0x2a } else { 0x20 }
+}
+
+// A record: a flag that is 0x20 or 0x2A, and the cells as they are.
+#[tactic(auto, using(crate::proofs::Sinks::sinks), unfolding(crate::specs::Image::record_bytes))]
+fn write_record<S: ByteSink>(
+    sink: &mut S,
+    waiting: &mut Waiting,
+    bytes: &[u8],
+) -> Result<(), SinkFault>
+    requires { 1 ≤ length bytes.now }
+    ensures told { OnOk result (grown (S.written sink.new) waiting.new.items ≡ grown (grown (S.written sink.old) waiting.old.items) (record_bytes bytes.now)) }
+    ensures fine { OnOk result (S.failures sink.new ≡ S.failures sink.old) }
+    ensures failed { OnErr result (Rises (S.failures sink.old) (S.failures sink.new)) }
+    ensures front { OnErr result (IsFront (S.written sink.new) (grown (grown (S.written sink.old) waiting.old.items) (record_bytes bytes.now))) }
+{
+    let (_, cells) = bytes.split_at(1);
+    gather(sink, waiting, &[flag_of(bytes[0] == 0x2a)])?;
+    gather(sink, waiting, cells)?;
+    Ok(())
+}
+
+fn write_records<S: ByteSink>(
+    sink: &mut S,
+    waiting: &mut Waiting,
+    header: Header,
+    bytes: &[u8],
+) -> Result<(), SinkFault>
+    requires some { 1 ≤ header.record_length }
+    requires room { header.record_count * header.record_length ≤ length bytes.now }
+    ensures told { OnOk result (grown (S.written sink.new) waiting.new.items ≡ grown (grown (S.written sink.old) waiting.old.items) (flat_map record_bytes (pieces header.record_length header.record_count bytes.now))) }
+    ensures fine { OnOk result (S.failures sink.new ≡ S.failures sink.old) }
+    ensures failed { OnErr result (Rises (S.failures sink.old) (S.failures sink.new)) }
+    ensures front { OnErr result (IsFront (S.written sink.new) (grown (grown (S.written sink.old) waiting.old.items) (flat_map record_bytes (pieces header.record_length header.record_count bytes.now)))) }
+{
+    let size = usize::from(header.record_length);
+    let mut rest = bytes;
+    for _ in 0..header.record_count {
+        let (record, after) = rest.split_at(size);
+        write_record(sink, waiting, record)?;
+        rest = after;
+    }
+    Ok(())
+}
+
+// The bytes of the file, the last of which may wait.
+fn gather_image<S: ByteSink>(
+    sink: &mut S,
+    waiting: &mut Waiting,
+    table: &TableData,
+    header: Header,
+    day: Day,
+) -> Result<(), SinkFault>
+    requires low { 1900 ≤ day.year }
+    requires high { day.year ≤ 2155 }
+    requires count { header.record_count ≡ length table.now.rows }
+    requires header { header.header_length ≡ 32 * length table.now.schema + 33 }
+    requires wide { header.record_length ≡ 1 + widths table.now.schema }
+    ensures told { OnOk result (grown (S.written sink.new) waiting.new.items ≡ grown (grown (S.written sink.old) waiting.old.items) (image table.now day.year day.month day.day)) }
+    ensures fine { OnOk result (S.failures sink.new ≡ S.failures sink.old) }
+    ensures failed { OnErr result (Rises (S.failures sink.old) (S.failures sink.new)) }
+    ensures front { OnErr result (IsFront (S.written sink.new) (grown (grown (S.written sink.old) waiting.old.items) (image table.now day.year day.month day.day))) }
+{
+    gather(sink, waiting, &header_bytes(header, day))?;
+    write_descriptors(sink, waiting, table.schema().fields())?;
+    gather(sink, waiting, &[0x0d])?;
+    write_records(sink, waiting, header, table.records())?;
+    gather(sink, waiting, &[0x1a])?;
+    Ok(())
+}
+
+// The bytes of the file, all of which the sink has then.
+fn write_image<S: ByteSink>(
+    sink: &mut S,
+    table: &TableData,
+    header: Header,
+    day: Day,
+) -> Result<(), SinkFault>
+    requires low { 1900 ≤ day.year }
+    requires high { day.year ≤ 2155 }
+    requires count { header.record_count ≡ length table.now.rows }
+    requires header { header.header_length ≡ 32 * length table.now.schema + 33 }
+    requires wide { header.record_length ≡ 1 + widths table.now.schema }
+    ensures wrote { OnOk result (S.written sink.new ≡ grown (S.written sink.old) (image table.now day.year day.month day.day)) }
+    ensures fine { OnOk result (S.failures sink.new ≡ S.failures sink.old) }
+    ensures failed { OnErr result (Rises (S.failures sink.old) (S.failures sink.new)) }
+    ensures front { OnErr result (IsFront (S.written sink.new) (grown (S.written sink.old) (image table.now day.year day.month day.day))) }
+{
+    let mut waiting = Waiting::new();
+    gather_image(sink, &mut waiting, table, header, day)?;
+    flush(sink, &mut waiting)?;
+    Ok(())
+}
+
+/// Writes the DBF file of a table into a sink, with the date of its last change, of the years 1900 to
+/// 2155: the header, a descriptor of 32 bytes for each field, 0x0D, the records, 0x1A. It takes no
+/// memory: pieces are gathered, up to 4,096 bytes, before the sink is called.
+///
+/// `DateOutside` says that the header cannot tell the year, and that nothing was written. `Sink` says
+/// that the sink failed; it has then taken a front part of the file, which may be all of it or nothing.
+pub fn write_dbf<S: ByteSink>(sink: &mut S, table: &TableData, day: Day) -> Result<(), WriteFault>
+    ensures wrote { OnOk result (S.written sink.new ≡ grown (S.written sink.old) (image table.now day.year day.month day.day)) }
+    ensures fine { OnOk result (S.failures sink.new ≡ S.failures sink.old) }
+    ensures outside { (result ≡ Err WriteFault.DateOutside) ↔ IsOutside day.year }
+    ensures unwritten { result ≡ Err WriteFault.DateOutside → sink.new ≡ sink.old }
+    ensures failed { result ≡ Err WriteFault.Sink → Rises (S.failures sink.old) (S.failures sink.new) }
+    // What a sink that failed has taken is a front part of the file.
+    ensures front { result ≡ Err WriteFault.Sink → IsFront (S.written sink.new) (grown (S.written sink.old) (image table.now day.year day.month day.day)) }
+    // What is written can be read: it is a file of this table.
+    ensures reads_back { IsDbf (image table.now day.year day.month day.day) table.now }
+{
+    let header = header_of(table);
+    if day.year < 1900 || day.year > 2155 {
+        return Err(WriteFault::DateOutside);
+    }
+    match write_image(sink, table, header, day) {
+        Ok(()) => Ok(()),
+        Err(SinkFault) => Err(WriteFault::Sink),
+    }
+}

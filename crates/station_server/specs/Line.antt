@@ -1,0 +1,20 @@
+-- An answer as a line of an answer file.
+use Rattle.std.specs.Prelude.{ℕ, true, false, List, ◌++◌, codes}
+use Rattle.std.specs.Fmt.{decimal}
+use Rattle.station_server.specs.declared.answer.Answer.{Answer}
+use Rattle.station_server.specs.declared.answer.Answer.TheVariants.{Done, Number, Truth, Text, Refused}
+use Rattle.station_server.specs.declared.answer.Refusal.{Refusal}
+use Rattle.station_server.specs.Refusals.{code_of, name_of}
+
+-- a refusal's line: its number and its name
+abbrev pub refusal_text : Refusal → List ℕ
+refusal_text refusal = codes "REFUSED " ++ (decimal (code_of refusal) ++ (codes " " ++ name_of refusal))
+
+-- the line of an answer, without the LF that ends it
+abbrev pub line_of : Answer → List ℕ
+line_of Done = codes "OK"
+line_of (Number n) = decimal n
+line_of (Truth true) = codes ".T."
+line_of (Truth false) = codes ".F."
+line_of (Text text) = text
+line_of (Refused refusal) = refusal_text refusal

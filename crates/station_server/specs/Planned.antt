@@ -1,0 +1,50 @@
+-- What a plan makes of a state.
+use Rattle.std.specs.Prelude.{◌≡◌, ℕ, ◌<◌, ◌≤◌, length, Option, Some, None}
+use Rattle.dbf_image.specs.declared.fault.TheConstants.{MOST_RECORDS}
+use Rattle.dbf_image.specs.Table.{cell_width}
+use Rattle.station_server.specs.declared.answer.Answer.{Answer}
+use Rattle.station_server.specs.declared.area.Area.{Area}
+use Rattle.station_server.specs.declared.change.Change.{Change}
+use Rattle.station_server.specs.declared.change.Change.TheVariants.{Nothing, Open, GoTo, AppendBlank, SetCell}
+use Rattle.station_server.specs.declared.change.Plan.{Plan}
+use Rattle.station_server.specs.State.{State, table_of, record_count, with_opened, with_cursor_at, with_blank, with_value}
+
+abbrev pub plan_of : Change → Answer → Plan
+plan_of change answer = record { change = change; answer = answer }
+
+-- the area with a table in it, where there is one
+abbrev pub on_area : Option Area → State → (Area → State) → State
+on_area None s act = s
+on_area (Some area) s act = act area
+
+-- the state after a change
+abbrev pub changed : State → Change → State
+changed s Nothing = s
+changed s (Open table exclusive) = with_opened s table exclusive
+changed s (GoTo number) = on_area s.area s (λ area. with_cursor_at s area number)
+changed s AppendBlank = on_area s.area s (λ area. with_blank s area)
+changed s (SetCell number field cell) = on_area s.area s (λ area. with_value s area number field cell)
+
+-- the state and the answer of a plan
+abbrev pub outcome : State → Plan → State × Answer
+outcome s plan = (changed s plan.change, plan.answer)
+
+-- a fact of the area with a table in it, and that there is one
+abbrev pub ForArea : Option Area → (Area → Type 0) → Type 0
+ForArea None fact = ⊥
+ForArea (Some area) fact = fact area
+
+-- a cell of the area's table that can be replaced by these bytes
+pub record IsPlace (s : State) (area : Area) (number field width : ℕ) : Type 0 where
+  pub counted : 1 ≤ number
+  pub inside : number ≤ record_count s area
+  pub field_is : field < length (table_of s area).schema
+  pub wide : width ≡ cell_width (table_of s area).schema field
+
+-- the change can be made of the state
+abbrev pub CanChange : State → Change → Type 0
+CanChange s Nothing = Unit {0}
+CanChange s (Open table exclusive) = table < length s.tables
+CanChange s (GoTo number) = ForArea s.area (λ area. (1 ≤ number) × (number ≤ record_count s area))
+CanChange s AppendBlank = ForArea s.area (λ area. record_count s area < MOST_RECORDS)
+CanChange s (SetCell number field cell) = ForArea s.area (λ area. IsPlace s area number field (length cell))

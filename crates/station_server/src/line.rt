@@ -1,0 +1,41 @@
+//! Answers as lines of an answer file.
+
+ghost use Rattle.std.specs.Prelude.{◌≡◌, IfOk};
+ghost use Rattle.std.specs.Fmt.{decimal};
+ghost use Rattle.station_server.specs.Line.{line_of, refusal_text};
+
+use crate::answer::{Answer, Refusal};
+use dbf_fields::Bytes;
+use std::alloc::{AllocError, Global};
+
+/// The text of an answer in an answer file, without the LF that ends its line: `OK`, a number in
+/// decimal digits, `.T.` or `.F.`, the bytes of a text, or `REFUSED` with the refusal's number and
+/// name. An error where memory is refused.
+pub fn answer_line(alloc: Global, answer: &Answer) -> Result<Bytes, AllocError>
+    ensures value { IfOk result (λ line. line ≡ line_of answer.now) }
+{
+    match answer {
+        Answer::Done => Bytes::from_slice(alloc, b"OK"),
+        Answer::Number(number) => number_line(alloc, *number),
+        Answer::Truth(true) => Bytes::from_slice(alloc, b".T."),
+        Answer::Truth(false) => Bytes::from_slice(alloc, b".F."),
+        Answer::Text(text) => text.copy(alloc),
+        Answer::Refused(refusal) => refusal_line(alloc, *refusal),
+    }
+}
+
+fn number_line(alloc: Global, number: u64) -> Result<Bytes, AllocError>
+    ensures value { IfOk result (λ line. line ≡ decimal number) }
+{
+    let text = format!(in alloc; "{number}")?;
+    Bytes::from_slice(alloc, text.as_bytes())
+}
+
+fn refusal_line(alloc: Global, refusal: Refusal) -> Result<Bytes, AllocError>
+    ensures value { IfOk result (λ line. line ≡ refusal_text refusal) }
+{
+    let code = refusal.code();
+    let name = refusal.name();
+    let text = format!(in alloc; "REFUSED {code} {name}")?;
+    Bytes::from_slice(alloc, text.as_bytes())
+}
