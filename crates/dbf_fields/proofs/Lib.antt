@@ -1,3 +1,8 @@
 pub mod SchemaLaws
 pub mod DayLaws
 pub mod CellLaws
+pub mod Digits
+pub mod WrittenDigits
+pub mod ReadBack
+pub mod DateLaws
+pub mod ShownDate

@@ -1,8 +1,8 @@
 -- A schema's fields are accepted again, and stay as they are.
-use Rattle.std.proofs.Common.{◌≡◌, ℕ, ◌≤◌, Bool, true, false, cond, leb, not, List, [], ◌∷◌, ◌++◌, length, map, Option, Some, None, refl, ◌∙◌, arith}
+use Rattle.std.proofs.Common.{◌≡◌, ℕ, ◌+◌, ◌<◌, ◌≤◌, Bool, true, false, cond, ltb, leb, eqb, not, ◌&&◌, ◌||◌, List, [], ◌∷◌, ◌++◌, length, map, get_or, Option, Some, None, refl, sym, ap, ◌∙◌, arith, inl, inr}
 use Rattle.std.specs.List.{list_all, AllByRecursion}
 use Rattle.std.specs.Char.{is_ascii_alphabetic, to_ascii_uppercase}
-use Rattle.std.proofs.lemmas.Bool.{and_parts, leb-true}
+use Rattle.std.proofs.lemmas.Bool.{cases_lt, lt-ltb, le-ltb, and_parts, leb-true}
 use Rattle.std.proofs.lemmas.Bool.Decides.{nat_tests}
 use Rattle.std.proofs.lemmas.List.{length-map, append-nil, append_assoc}
 use Rattle.std.specs.Int.{is_in_range}
@@ -43,12 +43,28 @@ pub name_upper : (cs : List ℕ) → is_name (map to_ascii_uppercase cs) ≡ is_
 name_upper [] = refl
 name_upper (c ∷ cs) = rw (length-map, letter_upper c, name_char_upper c, name_chars_upper cs) refl
 
+-- what a test chose twice
+chosen_twice : (b : Bool) (d : ℕ) → cond b (cond b d 0) 0 ≡ cond b d 0
+chosen_twice true d = refl
+chosen_twice false d = refl
+
 folded_again : (f : Field) → folded (folded f) ≡ folded f
-folded_again f = rw (upper_all_again f.name) refl
+folded_again f = rw (upper_all_again f.name, chosen_twice (eqb f.kind 78) f.decimals) refl
 
 pub fold_again : (fs : List Field) → map folded (map folded fs) ≡ map folded fs
 fold_again [] = refl
 fold_again (f ∷ fs) = rw (folded_again f, fold_again fs) refl
+
+-- the width of a number reads its decimals, and those stay
+width_by : (character number : Bool) (c : Bool) (a d w : ℕ) (other : Bool)
+    → cond character c (cond number (leb 1 a && leb a 19 && (eqb d 0 || ltb d w)) other)
+    ≡ cond character c (cond number (leb 1 a && leb a 19 && (eqb (cond number d 0) 0 || ltb (cond number d 0) w)) other)
+width_by true number c a d w other = refl
+width_by false true c a d w other = refl
+width_by false false c a d w other = refl
+
+width_folded : (f : Field) → has_width (folded f) ≡ has_width f
+width_folded f = sym (width_by (eqb f.kind 67) (eqb f.kind 78) (leb 1 f.width && leb f.width 254) f.width f.decimals f.width (cond (eqb f.kind 76) (eqb f.width 1) (eqb f.width 8)))
 
 accepted_again : (earlier fs : List Field) → first_fault (tests_from earlier fs) ≡ None → first_fault (tests_from earlier (map folded fs)) ≡ None
 accepted_again earlier [] h = h
@@ -58,9 +74,10 @@ accepted_again earlier (f ∷ fs) h =
     let c = passed (is_kind f.kind) _ _ b.1 in
     let d = passed (has_width f) _ _ c.1 in
     let name = name_upper f.name ∙ a.0 in
+    let width = width_folded f ∙ d.0 in
     let other : not (has_name earlier (folded (folded f)).name) ≡ true = rw (upper_all_again f.name) b.0 in
     let rest : first_fault (tests_from (earlier ++ folded (folded f) ∷ []) (map folded fs)) ≡ None = rw (folded_again f) (accepted_again (earlier ++ folded f ∷ []) fs d.1) in
-    passes (is_name (folded f).name) _ _ name (passes _ _ _ other (passes _ _ _ c.0 (passes _ _ _ d.0 rest)))
+    passes (is_name (folded f).name) _ _ name (passes _ _ _ other (passes _ _ _ c.0 (passes _ _ _ width rest)))
 
 -- fields that are accepted make a schema
 pub schema_from_accepted : (fs : List Field) → refusal fs ≡ None → IsSchema (map folded fs)

@@ -1,22 +1,31 @@
 -- What a field may be, by the published layout of DBF files.
-use Rattle.std.specs.Prelude.{ℕ, Bool, ◌==◌, List, map, sum_by, bytes_eq}
+use Rattle.std.specs.Prelude.{ℕ, Bool, ◌&&◌, ◌||◌, ◌==◌, nat_lt, List, map, sum_by, bytes_eq, if◌then◌else◌}
 use Rattle.std.specs.List.{list_any}
 use Rattle.std.specs.Char.{to_ascii_uppercase}
 use Rattle.std.specs.Int.{is_in_range}
 use Rattle.dbf_fields.specs.declared.field.Field.{Field}
-use Rattle.dbf_fields.specs.declared.field.TheConstants.{CHARACTER}
+use Rattle.dbf_fields.specs.declared.field.TheConstants.{CHARACTER, NUMBER, LOGICAL, DATE}
 
--- the letters of kinds that a table may have
+-- the letters of kinds that a table may have; memos come later
 abbrev pub is_kind : ℕ → Bool
-is_kind k = k == CHARACTER
+is_kind k = ((k == CHARACTER || k == NUMBER) || k == LOGICAL) || k == DATE
 
--- the widths that a field of characters may have
+-- the width is one that the kind may have, and a number has no decimals or fewer than its width
 abbrev pub has_width : Field → Bool
-has_width f = is_in_range 1 254 f.width
+has_width f =
+    if f.kind == CHARACTER then is_in_range 1 254 f.width else
+    (if f.kind == NUMBER then is_in_range 1 19 f.width && (f.decimals == 0 || nat_lt f.decimals f.width) else
+    (if f.kind == LOGICAL then f.width == 1 else
+    f.width == 8))
 
--- the field as a schema keeps it: the name in capitals, and no decimals
+-- the field as a schema keeps it: the name in capitals, and no decimals but for a number
 abbrev pub folded : Field → Field
-folded f = record { name = map to_ascii_uppercase f.name; kind = f.kind; width = f.width; decimals = 0 }
+folded f = record {
+  name = map to_ascii_uppercase f.name;
+  kind = f.kind;
+  width = f.width;
+  decimals = if f.kind == NUMBER then f.decimals else 0;
+}
 
 -- one of the fields has the name
 abbrev pub has_name : List Field → List ℕ → Bool

@@ -4,5 +4,10 @@ pub mod Field
 pub mod Schema
 pub mod Day
 pub mod Padding
+pub mod Digits
+pub mod Number
+pub mod NumberText
+pub mod Logical
+pub mod Date
 pub mod Cell
 pub use Rattle.jiff.specs.Words

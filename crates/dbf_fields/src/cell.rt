@@ -1,12 +1,16 @@
 //! The cells of a record: what a field keeps of a value.
 
-ghost use Rattle.std.specs.Prelude.{◌≡◌, ◌⊎◌, length, IfOk, IfErr};
-ghost use Rattle.dbf_fields.specs.Cell.{stored};
+ghost use Rattle.std.specs.Prelude.{◌≡◌, ◌⊎◌, length, true, IfOk, IfErr};
+ghost use Rattle.dbf_fields.specs.Field.{has_width};
+ghost use Rattle.dbf_fields.specs.Cell.{stored, IsNumberAgain, IsTruthAgain, IsDateAgain};
 ghost use Rattle.dbf_fields.specs.Padding.{padded as padded_text};
 
 use crate::bytes::Bytes;
-use crate::field::{CHARACTER, Field};
+use crate::date::date_text;
+use crate::field::{CHARACTER, DATE, Field, LOGICAL, NUMBER};
 use crate::literal::Literal;
+use crate::logical::truth_text;
+use crate::number_text::number_cell;
 use std::alloc::{AllocError, Global};
 use thiserror::Error;
 
@@ -19,7 +23,7 @@ pub enum CellFault {
     /// The value was to be a date and is none.
     #[error("the date is not one of the calendar")]
     BadDate,
-    /// The number has more digits than the field.
+    /// The number's text is wider than the field, or it has more decimals other than zero.
     #[error("the number is too wide for the field")]
     NumberTooWide,
     /// Memory was refused.
@@ -51,19 +55,48 @@ fn padded(alloc: Global, text: &[u8], width: usize) -> Result<Bytes, AllocError>
 
 /// The cell in which a field of a schema keeps a value: as many bytes as the field is wide.
 ///
-/// A text is cut to the width or filled up with blanks. The faults are tested in this order:
-/// `TypeMismatch` (a value other than a text for characters), `BadDate`, `NumberTooWide`, `NoMemory`;
-/// the two in the middle come with the kinds that can have them.
+/// - `C`: a text, cut to the width or filled up with blanks to it.
+/// - `N`: a number in decimal digits behind blanks, with exactly the field's decimals, a digit before the
+///   point, and `-` before a number below zero. Nothing is rounded.
+/// - `L`: `T` or `F`.
+/// - `D`: a date as `YYYYMMDD`, and the blank date as eight blanks.
+/// - `M`: nothing, since a memo's text stands in a file of its own; every value is a `TypeMismatch`.
+///
+/// The faults are tested in this order: `TypeMismatch` (a value that the field's kind doesn't keep),
+/// `BadDate` (the text that is no date, in a date's field), `NumberTooWide` (more decimals other than zero
+/// than the field has, or a text wider than the field), `NoMemory`. The widths and the forms of the cells are
+/// those of the published DBF layout; that nothing is rounded is this project's rule.
 pub fn encode_cell(alloc: Global, field: &Field, value: &Literal) -> Result<Bytes, CellFault>
     ensures stored { IfOk result (λ cell. stored field.now value.now ≡ Ok cell) }
     ensures wide { IfOk result (λ cell. length cell ≡ field.now.width) }
     ensures refused { IfErr result (λ fault. (fault ≡ CellFault.NoMemory) ⊎ (stored field.now value.now ≡ Err fault)) }
+    ensures number_again { IfOk result (λ cell. IsNumberAgain field.now value.now cell) }
+    ensures truth_again { has_width field.now ≡ true → IfOk result (λ cell. IsTruthAgain value.now cell) }
+    ensures date_again { has_width field.now ≡ true → IfOk result (λ cell. IsDateAgain value.now cell) }
 {
+    let width = usize::from(field.width);
     match value {
         Literal::Text(text) if field.kind == CHARACTER => {
-            let cell = padded(alloc, text.as_slice(), usize::from(field.width))?;
+            let cell = padded(alloc, text.as_slice(), width)?;
             Ok(cell)
         }
+        Literal::Number { digits, scale } if field.kind == NUMBER => {
+            let cell = number_cell(alloc, field.width, field.decimals, *digits, *scale)?;
+            Ok(cell)
+        }
+        Literal::Truth(truth) if field.kind == LOGICAL => {
+            let cell = padded(alloc, &truth_text(*truth), width)?;
+            Ok(cell)
+        }
+        Literal::Date(day) if field.kind == DATE => {
+            let cell = padded(alloc, &date_text(day), width)?;
+            Ok(cell)
+        }
+        Literal::BlankDate if field.kind == DATE => {
+            let cell = padded(alloc, b"", width)?;
+            Ok(cell)
+        }
+        Literal::BadDate if field.kind == DATE => Err(CellFault::BadDate),
         _ => Err(CellFault::TypeMismatch),
     }
 }

@@ -7,19 +7,31 @@ ghost use Rattle.dbf_fields.specs.Name.{is_name_char};
 use crate::bytes::Bytes;
 use std::alloc::{AllocError, Global};
 
-/// The letter of the fields of characters.
+/// The letter of the fields of characters, 1 to 254 bytes wide.
 pub const CHARACTER: u8 = b'C';
+
+/// The letter of the fields of numbers, 1 to 19 bytes wide, with no decimals or fewer than the width.
+pub const NUMBER: u8 = b'N';
+
+/// The letter of the fields of logical values, 1 byte wide.
+pub const LOGICAL: u8 = b'L';
+
+/// The letter of the fields of dates, 8 bytes wide.
+pub const DATE: u8 = b'D';
+
+/// The letter of the fields of memos. No table may have one until memo files are read and written.
+pub const MEMO: u8 = b'M';
 
 /// A field as its descriptor of 32 bytes tells it. `Schema::new` judges it.
 #[derive(Debug, Drop)]
 pub struct Field {
     /// The name: 1 to 10 bytes, a letter, then letters, digits or `_`.
     pub name: Bytes,
-    /// The letter of the kind.
+    /// The letter of the kind: `C`, `N`, `L` or `D`, a capital.
     pub kind: u8,
-    /// How many bytes a cell of the field has: 1 to 254 for characters.
+    /// How many bytes a cell of the field has.
     pub width: u8,
-    /// How many digits a number has behind its point, and 0 for other kinds.
+    /// How many digits a number has behind its point. A schema keeps 0 for other kinds.
     pub decimals: u8,
 }
 
@@ -54,13 +66,22 @@ impl Field {
     pub(crate) fn has_known_kind(&self) -> bool
         ensures value { result ≡ is_kind self.now.kind }
     {
-        self.kind == CHARACTER
+        matches!(self.kind, CHARACTER | NUMBER | LOGICAL | DATE)
     }
 
     pub(crate) fn has_good_width(&self) -> bool
         ensures value { result ≡ has_width self.now }
     {
-        self.width >= 1 && self.width <= 254
+        match self.kind {
+            CHARACTER => self.width >= 1 && self.width <= 254,
+            NUMBER => {
+                self.width >= 1
+                    && self.width <= 19
+                    && (self.decimals == 0 || self.decimals < self.width)
+            }
+            LOGICAL => self.width == 1,
+            _ => self.width == 8,
+        }
     }
 
     // Whether one of the fields has the name, which is compared as it stands.
@@ -70,7 +91,7 @@ impl Field {
         fields.iter().any(|field| field.name == *name)
     }
 
-    // The field as a schema keeps it: the name in capitals, and no decimals.
+    // The field as a schema keeps it: the name in capitals, and no decimals but for a number.
     pub(crate) fn folded(&self, alloc: Global) -> Result<Field, AllocError>
         ensures value { IfOk result (λ field. field ≡ folded self.now) }
     {
@@ -80,11 +101,16 @@ impl Field {
             .iter()
             .map(|byte| byte.to_ascii_uppercase())
             .collect(alloc)?;
+        let decimals = if self.kind == NUMBER {
+            self.decimals
+        } else {
+            0
+        };
         Ok(Field {
             name: Bytes::from_vec(name),
             kind: self.kind,
             width: self.width,
-            decimals: 0,
+            decimals,
         })
     }
 

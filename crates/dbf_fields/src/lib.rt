@@ -2,23 +2,33 @@
 //!
 //! A `Schema` is a list of fields that a table may have: `Schema::new` accepts exactly the lists that
 //! the layout allows, and tells of every other list the first fault. `encode_cell` gives the bytes
-//! that a field's cell keeps of a value. Start reading at `schema.rt`, then `cell.rt`; what the
-//! contracts cite stands in `specs/`.
+//! that a field's cell keeps of a value, and what it keeps reads back as that value; `read_number`,
+//! `read_truth` and `read_date` tell what any cell says. Start reading at `schema.rt`, then `cell.rt`; what
+//! the contracts cite stands in `specs/`.
 #![tactic(auto)]
 
 mod bytes;
 mod cell;
+mod date;
 mod day;
 mod field;
 mod literal;
+mod logical;
+mod number;
+mod number_text;
 mod schema;
 
 pub use bytes::Bytes;
 pub use cell::{CellFault, encode_cell};
+pub use date::{DateCell, read_date, shown_date};
 pub use day::{Day, day_of};
-pub use field::{CHARACTER, Field};
+pub use field::{CHARACTER, DATE, Field, LOGICAL, MEMO, NUMBER};
 pub use literal::Literal;
+pub use logical::read_truth;
+pub use number::read_number;
 pub use schema::{MOST_FIELDS, MOST_RECORD_BYTES, Schema, SchemaFault};
 
+#[cfg(test)]
+mod cell_tests;
 #[cfg(test)]
 mod tests;

@@ -2,14 +2,25 @@ use super::*;
 use std::alloc::{AllocError, Global};
 use std::test::Fail;
 
-// A field of characters by its name and width.
-fn characters(alloc: Global, name: &[u8], width: u8) -> Result<Field, AllocError> {
+// A field of any kind.
+pub(crate) fn field(
+    alloc: Global,
+    name: &[u8],
+    kind: u8,
+    width: u8,
+    decimals: u8,
+) -> Result<Field, AllocError> {
     Ok(Field {
         name: Bytes::from_slice(alloc, name)?,
-        kind: CHARACTER,
+        kind,
         width,
-        decimals: 0,
+        decimals,
     })
+}
+
+// A field of characters by its name and width.
+pub(crate) fn characters(alloc: Global, name: &[u8], width: u8) -> Result<Field, AllocError> {
+    field(alloc, name, CHARACTER, width, 0)
 }
 
 #[test]
@@ -33,22 +44,56 @@ fn schema_faults_come_in_order(rt: HostRuntime) -> Result<(), Fail> {
         Schema::new(alloc, &[]).err(),
         Some(SchemaFault::BadFieldCount)
     );
-    let cases: [(&[u8], u8, u8, SchemaFault); 9] = [
-        (b"", b'X', 0, SchemaFault::BadName),
-        (b"1A", b'C', 1, SchemaFault::BadName),
-        (b"A-B", b'C', 1, SchemaFault::BadName),
-        (b"ELEVENBYTES", b'C', 1, SchemaFault::BadName),
-        (b"name", b'X', 0, SchemaFault::DuplicateName),
-        (b"AGE", b'c', 0, SchemaFault::BadKind),
-        (b"AGE", b'N', 3, SchemaFault::BadKind),
-        (b"TOWN", b'C', 0, SchemaFault::BadWidth),
-        (b"TOWN", b'C', 255, SchemaFault::BadWidth),
+    let cases: [(&[u8], u8, u8, u8, SchemaFault); 20] = [
+        (b"", b'X', 0, 0, SchemaFault::BadName),
+        (b"1A", b'C', 1, 0, SchemaFault::BadName),
+        (b"A-B", b'C', 1, 0, SchemaFault::BadName),
+        (b"ELEVENBYTES", b'C', 1, 0, SchemaFault::BadName),
+        (b"name", b'X', 0, 0, SchemaFault::DuplicateName),
+        (b"AGE", b'c', 0, 0, SchemaFault::BadKind),
+        (b"AGE", b'n', 3, 0, SchemaFault::BadKind),
+        (b"AGE", b'F', 3, 0, SchemaFault::BadKind),
+        (b"TOWN", b'C', 0, 0, SchemaFault::BadWidth),
+        (b"TOWN", b'C', 255, 0, SchemaFault::BadWidth),
+        (b"AMT", b'N', 0, 0, SchemaFault::BadWidth),
+        (b"AMT", b'N', 20, 0, SchemaFault::BadWidth),
+        (b"AMT", b'N', 6, 6, SchemaFault::BadWidth),
+        (b"AMT", b'N', 1, 1, SchemaFault::BadWidth),
+        (b"PAID", b'L', 0, 0, SchemaFault::BadWidth),
+        (b"PAID", b'L', 2, 0, SchemaFault::BadWidth),
+        (b"BORN", b'D', 7, 0, SchemaFault::BadWidth),
+        (b"BORN", b'D', 9, 0, SchemaFault::BadWidth),
+        (b"BORN", b'D', 10, 0, SchemaFault::BadWidth),
+        (b"NOTE", b'M', 10, 0, SchemaFault::BadKind),
     ];
-    for (name, kind, width, fault) in cases {
-        let mut second = characters(alloc, name, width)?;
-        second.kind = kind;
+    for (name, kind, width, decimals, fault) in cases {
+        let second = field(alloc, name, kind, width, decimals)?;
         let fields = vec![in alloc; characters(alloc, b"NAME", 10)?, second]?;
         assert_eq!(rt; Schema::new(alloc, &fields).err(), Some(fault));
+    }
+    Ok(())
+}
+
+#[test]
+fn schemas_have_four_kinds(rt: HostRuntime) -> Result<(), Fail> {
+    let alloc = rt.alloc();
+    // the kind, the width and the decimals of a field, and the decimals that the schema keeps
+    let cases = [
+        (CHARACTER, 1, 0, 0),
+        (CHARACTER, 254, 9, 0),
+        (NUMBER, 1, 0, 0),
+        (NUMBER, 19, 0, 0),
+        (NUMBER, 19, 18, 18),
+        (NUMBER, 2, 1, 1),
+        (LOGICAL, 1, 7, 0),
+        (DATE, 8, 8, 0),
+    ];
+    for (kind, width, decimals, kept) in cases {
+        let fields = vec![in alloc; field(alloc, b"ONE", kind, width, decimals)?]?;
+        let schema = Schema::new(alloc, &fields)?;
+        assert_eq!(rt; schema.fields()[0].kind, kind);
+        assert_eq!(rt; schema.fields()[0].width, width);
+        assert_eq!(rt; schema.fields()[0].decimals, kept);
     }
     Ok(())
 }
@@ -88,47 +133,4 @@ fn days_of_the_calendar(rt: HostRuntime) {
     for (year, month, day, is_date) in cases {
         assert_eq!(rt; day_of(year, month, day).is_some(), is_date);
     }
-}
-
-#[test]
-fn texts_fill_their_cells(rt: HostRuntime) -> Result<(), Fail> {
-    let alloc = rt.alloc();
-    let name = characters(alloc, b"NAME", 10)?.copy(alloc)?;
-    let cases: [(&[u8], &[u8]); 4] = [
-        (b"CYD", b"CYD       "),
-        (b"", b"          "),
-        (b"0123456789", b"0123456789"),
-        (b"Ada Lovelace", b"Ada Lovela"),
-    ];
-    for (text, cell) in cases {
-        let value = Literal::Text(Bytes::from_slice(alloc, text)?).copy(alloc)?;
-        let stored = encode_cell(alloc, &name, &value)?;
-        assert_eq!(rt; stored.as_slice(), cell);
-    }
-    Ok(())
-}
-
-#[test]
-fn other_values_are_of_another_type(rt: HostRuntime) -> Result<(), Fail> {
-    let alloc = rt.alloc();
-    let name = characters(alloc, b"NAME", 10)?;
-    let day = day_of(1984, 2, 29).ok_or("a date")?;
-    let values = [
-        Literal::Number {
-            digits: 5,
-            scale: 0,
-        },
-        Literal::Truth(true),
-        Literal::Date(day),
-        Literal::BlankDate,
-        Literal::BadDate,
-    ];
-    for value in values.iter() {
-        let value = value.copy(alloc)?;
-        assert_eq!(rt;
-            encode_cell(alloc, &name, &value),
-            Err(CellFault::TypeMismatch)
-        );
-    }
-    Ok(())
 }

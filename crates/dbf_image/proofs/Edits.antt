@@ -6,7 +6,7 @@ use Rattle.std.proofs.lemmas.Slice.{drop-put_mid, take-put_mid_below}
 use borrow.Rule.Slice.PartMut.{put_mid}
 use Rattle.dbf_fields.specs.declared.field.Field.{Field}
 use Rattle.dbf_fields.specs.Field.{widths}
-use Rattle.dbf_image.specs.declared.fault.TheConstants.{MOST_RECORDS}
+use Rattle.dbf_image.specs.declared.table.TheConstants.{MOST_RECORDS}
 use Rattle.dbf_image.specs.Table.{Row, cell_width, blank_row, row_with_cell}
 use Rattle.dbf_image.specs.DbfText.{pieces, cells_of, row_of, rows_of, IsRun}
 use Rattle.dbf_image.proofs.CellPlaces.{piece_here, cell_within, place-inside}

@@ -6,7 +6,7 @@ use Rattle.dbf_fields.specs.Field.{folded, widths}
 use Rattle.dbf_fields.specs.Schema as schemas
 use Rattle.dbf_image.specs.declared.fault.ImageFault.{ImageFault}
 use Rattle.dbf_image.specs.declared.fault.ImageFault.TheVariants.{Truncated, BadVersion, BadHeaderLength, BadSchema, BadRecordLength, TooManyRecords, NoMemory}
-use Rattle.dbf_image.specs.declared.fault.TheConstants.{MOST_RECORDS}
+use Rattle.dbf_image.specs.declared.table.TheConstants.{MOST_RECORDS}
 use Rattle.dbf_image.specs.declared.header.Header.{Header}
 use Rattle.dbf_image.specs.Table.{Table}
 use Rattle.dbf_image.specs.DbfText.{pieces, record_count, header_length, record_length, field_of, row_of}

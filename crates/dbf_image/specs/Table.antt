@@ -3,7 +3,7 @@ use Rattle.std.specs.Prelude.{◌≡◌, ℕ, ◌-◌, ◌≤◌, Bool, false, L
 use Rattle.std.specs.List.{AllByRecursion}
 use Rattle.dbf_fields.specs.declared.field.Field.{Field}
 use Rattle.dbf_fields.specs.Schema.{IsSchema}
-use Rattle.dbf_image.specs.declared.fault.TheConstants.{MOST_RECORDS}
+use Rattle.dbf_image.specs.declared.table.TheConstants.{MOST_RECORDS}
 
 -- a record: whether it is marked as deleted, and its cells
 pub record Row : Type 0 where

@@ -3,9 +3,6 @@
 use std::alloc::{AllocError, AllocFailed};
 use thiserror::Error;
 
-/// How many records a table has at most: the limit that dBASE III PLUS states for its files.
-pub const MOST_RECORDS: u32 = 1_000_000_000;
-
 /// Why bytes are no table. Where several of these apply, the answer is the first in the order of the
 /// reader's tests: those of the header, then those of the fields, then those of the records.
 #[derive(Clone, Copy, Debug, PartialEq, Eq, Error)]
@@ -25,7 +22,7 @@ pub enum ImageFault {
     /// The length of a record is not one more than the widths of the fields together.
     #[error("the records' length is bad")]
     BadRecordLength,
-    /// There are more than [`MOST_RECORDS`] records.
+    /// There are more than [`MOST_RECORDS`](crate::MOST_RECORDS) records.
     #[error("there are too many records")]
     TooManyRecords,
     /// There was no memory for the table.

@@ -20,11 +20,11 @@ mod sink;
 mod table;
 mod write;
 
-pub use fault::{ImageFault, MOST_RECORDS};
+pub use fault::ImageFault;
 pub use memory::MemorySink;
 pub use read::read_table;
 pub use sink::{ByteSink, SinkFault, write_all};
-pub use table::TableData;
+pub use table::{MOST_RECORDS, TableData};
 pub use write::{WriteFault, write_dbf};
 
 #[cfg(test)]

@@ -1,4 +1,4 @@
-//! Reading a table from its bytes.
+//! Reading a table from the bytes of a DBF file.
 
 ghost use Rattle.std.specs.Prelude.{◌≡◌, ◌+◌, ◌-◌, ◌*◌, ◌/◌, ◌<◌, ◌≤◌, ◌==◌, ◌||◌, ◌⊎◌, true, false, length, map, take, drop, slice_index, Some, None, is_none, IfSome, IfOk, IfErr, OnOk, MatchResult};
 ghost use Rattle.std.specs.List.{position};
@@ -7,12 +7,12 @@ ghost use Rattle.dbf_fields.specs.Field.{folded, widths};
 ghost use Rattle.dbf_fields.specs.Schema as schemas;
 ghost use Rattle.dbf_image.specs.DbfText.{pieces, field_of, IsDbf, header_length as dbf_header_length};
 ghost use Rattle.dbf_image.specs.Table.{Table};
-ghost use Rattle.dbf_image.specs.declared.fault.TheConstants.{MOST_RECORDS};
+ghost use Rattle.dbf_image.specs.declared.table.TheConstants.{MOST_RECORDS};
 ghost use Rattle.dbf_image.specs.Reading.{field_count, header_of, schema_of, header_tests, field_tests, record_tests, table_of, refusal, IsRefusal};
 
-use crate::fault::{ImageFault, MOST_RECORDS};
+use crate::fault::ImageFault;
 use crate::header::Header;
-use crate::table::TableData;
+use crate::table::{MOST_RECORDS, TableData};
 use byteorder::{ByteOrder, LittleEndian};
 use dbf_fields::{Bytes, Field, Schema, SchemaFault};
 use std::alloc::{AllocError, Global};
@@ -39,6 +39,7 @@ fn first_zero(name: &[u8]) -> Option<usize>
     name.iter().position(|byte| *byte == 0)
 }
 
+// The field of a descriptor.
 fn field_at(alloc: Global, descriptor: &[u8]) -> Result<Field, AllocError>
     requires { 32 ≤ length descriptor.now }
     ensures { IfOk result (λ field. field ≡ field_of descriptor.now) }
@@ -53,6 +54,7 @@ fn field_at(alloc: Global, descriptor: &[u8]) -> Result<Field, AllocError>
     })
 }
 
+// The fields of so many descriptors, one after the other.
 fn fields_at(alloc: Global, count: usize, bytes: &[u8]) -> Result<Vec<Field>, AllocError>
     requires { 32 * count ≤ length bytes.now }
     ensures { IfOk result (λ fields. fields.items ≡ map field_of (pieces 32 count bytes.now)) }
@@ -67,6 +69,7 @@ fn fields_at(alloc: Global, count: usize, bytes: &[u8]) -> Result<Vec<Field>, Al
     Ok(fields)
 }
 
+// The numbers of the header, where all of it is there.
 #[tactic(auto, unfolding(crate::specs::Reading::header_tests))]
 fn header_at(dbf: &[u8]) -> Result<Header, ImageFault>
     ensures accepted { IfOk result (λ _. first_fault (header_tests dbf.now) ≡ None) }
@@ -92,6 +95,7 @@ fn header_at(dbf: &[u8]) -> Result<Header, ImageFault>
     Ok(header)
 }
 
+// Version 3, without a memo file or with one.
 fn has_version(first: u8) -> bool
     ensures { result ≡ (first == 3 || first == 131) }
 {
@@ -179,7 +183,17 @@ fn table_at(alloc: Global, dbf: &[u8]) -> Result<TableData, ImageFault>
     Ok(TableData::new(schema, header.record_count, records))
 }
 
-/// The table of a DBF file.
+/// Reads a table from the bytes of a DBF file, laid out as dBASE III PLUS publishes it. Numbers stand
+/// with their lowest byte first.
+///
+/// The header tells its own length in bytes 8 and 9, the length of a record in 10 and 11, and how many
+/// records there are in 4 to 7. From byte 32 on a descriptor of 32 bytes tells each field, up to a byte
+/// 0x0D in place of one. The records stand behind the header: a flag, and the cells without separators.
+/// Ignored are the date, the reserved bytes, what stands behind a name's first zero, what stands between
+/// that 0x0D and the header's end, and what stands behind the last record: the closing 0x1A may be
+/// missing. A flag other than 0x2A means kept, and cells are kept as they are.
+///
+/// An `Err` is the fault of the first test that fails: see [`ImageFault`].
 pub fn read_table(alloc: Global, dbf: &[u8]) -> Result<TableData, ImageFault>
     // What is read is the file's table.
     ensures found { IfOk result (IsDbf dbf.now) }

@@ -4,12 +4,15 @@ ghost use Rattle.std.specs.Prelude.{◌≡◌, ◌<◌, ◌≤◌, ◌+◌, leng
 ghost use Rattle.dbf_fields.specs.Field.{widths};
 ghost use Rattle.dbf_image.specs.Table.{IsTable, cell_width, blank_row, row_at, cell_at, empty_table, with_row, with_cell};
 ghost use Rattle.dbf_image.specs.DbfText.{row_of, rows_of, IsRun};
-ghost use Rattle.dbf_image.specs.declared.fault.TheConstants.{MOST_RECORDS};
+ghost use Rattle.dbf_image.specs.declared.table.TheConstants.{MOST_RECORDS};
 
 use crate::places::{cell_start, record_start, width_of};
 use dbf_fields::Schema;
 use std::alloc::{AllocError, Global};
 use std::marker::Model;
+
+/// How many records a table has at most: the limit that dBASE III PLUS states for its files.
+pub const MOST_RECORDS: u32 = 1_000_000_000;
 
 /// A table, which contracts see as its fields and its rows in order.
 ///
@@ -59,18 +62,19 @@ impl TableData {
         }
     }
 
-    /// The fields.
+    /// The fields, in the order of the descriptors and cells.
     pub fn schema(&self) -> &Schema
         ensures value { result.now ≡ self.now.schema }
     {
         &self.schema
     }
 
-    /// How many records there are, at most [`MOST_RECORDS`](crate::MOST_RECORDS).
+    /// How many records there are, at most [`MOST_RECORDS`].
     pub fn record_count(&self) -> u32
         ensures count { result ≡ length self.now.rows }
         ensures each { IsTable self.now }
     {
+        // This call tells contracts that the fields are those of a schema.
         let _fields = self.schema.fields();
         self.count
     }

@@ -1,5 +1,6 @@
 pub mod Refusals
 pub mod Line
+pub mod Shown
 pub mod State
 pub mod CellRefusal
 pub mod Step

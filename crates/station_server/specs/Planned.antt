@@ -1,6 +1,6 @@
 -- What a plan makes of a state.
 use Rattle.std.specs.Prelude.{◌≡◌, ℕ, ◌<◌, ◌≤◌, length, Option, Some, None}
-use Rattle.dbf_image.specs.declared.fault.TheConstants.{MOST_RECORDS}
+use Rattle.dbf_image.specs.declared.table.TheConstants.{MOST_RECORDS}
 use Rattle.dbf_image.specs.Table.{cell_width}
 use Rattle.station_server.specs.declared.answer.Answer.{Answer}
 use Rattle.station_server.specs.declared.area.Area.{Area}

@@ -5,7 +5,7 @@ use Rattle.std.specs.Int.{is_in_range}
 use Rattle.dbf_fields.specs.declared.literal.Literal.{Literal}
 use Rattle.dbf_fields.specs.declared.cell.CellFault.{CellFault}
 use Rattle.dbf_fields.specs.Cell.{stored}
-use Rattle.dbf_image.specs.declared.fault.TheConstants.{MOST_RECORDS}
+use Rattle.dbf_image.specs.declared.table.TheConstants.{MOST_RECORDS}
 use Rattle.dbf_image.specs.Table.{cell_at}
 use Rattle.station_server.specs.declared.answer.Answer.{Answer}
 use Rattle.station_server.specs.declared.answer.Answer.TheVariants.{Done, Text, Refused}
@@ -14,6 +14,7 @@ use Rattle.station_server.specs.declared.answer.Refusal.TheVariants.{NoTable, No
 use Rattle.station_server.specs.declared.command.Command.{Command}
 use Rattle.station_server.specs.declared.command.Command.TheVariants.{UseTable, Go, AppendBlank, Replace, Show, Bad}
 use Rattle.station_server.specs.CellRefusal.{refusal_of}
+use Rattle.station_server.specs.Shown.{shown}
 use Rattle.station_server.specs.State.{State, place_named, table_of, record_count, field_named, field_at, with_opened, with_cursor_at, with_blank, with_value}
 
 -- what is looked for, or a refusal where there is none
@@ -62,7 +63,7 @@ show s name =
     found s.area NoTableInUse s (λ area.
     found area.at EndOfFile s (λ number.
     found (field_named s area name) NoSuchField s (λ field.
-    (s, Text (cell_at (table_of s area) number field)))))
+    (s, Text (shown (field_at s area field) (cell_at (table_of s area) number field))))))
 
 -- the state and the answer after a command
 abbrev pub step : State → Command → State × Answer

@@ -13,10 +13,13 @@ mod change;
 mod command;
 mod entry;
 mod first_run;
+#[cfg(test)]
+mod kind_tests;
 mod line;
 mod opening;
 mod plan;
 mod sample;
+mod shown;
 mod source;
 mod state;
 #[cfg(test)]

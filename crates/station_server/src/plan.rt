@@ -11,6 +11,7 @@ use crate::answer::{Answer, Refusal};
 use crate::area::Area;
 use crate::change::{Change, Plan};
 use crate::command::Command;
+use crate::shown::shown;
 use crate::state::State;
 use dbf_fields::{Bytes, CellFault, Literal, encode_cell};
 use dbf_image::MOST_RECORDS;
@@ -116,7 +117,9 @@ fn plan_show(alloc: Global, state: &State, name: &Bytes) -> Result<Plan, AllocEr
     let Some(field) = field_of(state, area, name) else {
         return Ok(Plan::refused(Refusal::NoSuchField));
     };
-    let text = Bytes::from_slice(alloc, state.table(area).cell(number, field))?;
+    let table = state.table(area);
+    let described = &table.schema().fields()[field];
+    let text = shown(alloc, described, table.cell(number, field))?;
     Ok(Plan::told(Answer::Text(text)))
 }
 

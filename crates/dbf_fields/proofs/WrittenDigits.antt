@@ -1,0 +1,103 @@
+-- The digits of a number, written from the last one on.
+use Rattle.std.proofs.Common.{◌≡◌, ℕ, zero, suc, ◌+◌, ◌-◌, ◌*◌, ◌/◌, ◌%◌, ◌^◌, ◌<◌, ◌≤◌, Bool, true, false, leb, Some, None, eqb, ◌==◌, ◌&&◌, List, [], ◌∷◌, ◌++◌, length, take, drop, map, replicate, ℤ, refl, sym, ap, ◌∙◌, append_assoc, add-one, arith, length-append}
+use Rattle.std.proofs.Math.ListN.{set}
+use Rattle.std.proofs.Math.Nat.{div-div-eq-div-mul, pow-suc, mul_comm}
+use Rattle.std.specs.List.{list_all}
+use Rattle.std.specs.Int.Digits.{digits_of}
+use Rattle.std.specs.Int.RustNames.{unsigned_abs}
+use Rattle.std.proofs.lemmas.Int.Digits.{digits_of_step}
+use Rattle.std.proofs.lemmas.Bool.{and_right, lt-leb, le-leb}
+use Rattle.std.proofs.lemmas.List.{drop-set, drop-replicate, take-replicate, map-append, length-replicate, length-take-le}
+use Rattle.dbf_fields.specs.Digits.{last_digits, numeral}
+use Rattle.dbf_fields.specs.NumberText.{sign, point, kept, number_text, is_exact, right_justified, number_cell}
+
+-- the last digit of the rest, written before what stands
+pub digit_before : (place rest : ℕ) (last : List ℕ) → 0 < place → place ≤ length last
+    → last_digits (place - 1) (rest / 10) ++ drop (place - 1) (set last (place - 1) (48 + rest % 10)) ≡ last_digits place rest ++ drop place last
+digit_before zero rest last some le = absurd (omega arith)
+digit_before (suc p) rest last some le =
+    let e : suc p - 1 ≡ p = omega arith in
+    let more : p + 1 ≡ suc p = omega arith in
+    rw (e, drop-set last p (48 + rest % 10) (omega arith), more, append_assoc) refl
+
+pub rest_before : (place rest : ℕ) → 0 < place → rest / 10 / 10 ^ (place - 1) ≡ rest / 10 ^ place
+rest_before zero rest some = absurd (omega arith)
+rest_before (suc p) rest some =
+    let e : suc p - 1 ≡ p = omega arith in
+    let power : 10 * 10 ^ p ≡ 10 ^ suc p = mul_comm 10 (10 ^ p) ∙ sym (pow-suc 10 p) in
+    rw (e, div-div-eq-div-mul rest 10 (10 ^ p), power) refl
+
+-- nothing is written yet
+pub all_zeros : (place k n : ℕ) → place ≡ k → last_digits place n ++ drop place (replicate 255 48) ≡ last_digits k n ++ replicate (255 - k) 48
+all_zeros place k n e = rw (e, drop-replicate {X = ℕ} k 255 48) refl
+
+-- the same for a number without zeros at its front
+pub numeral_before : (start rest : ℕ) (digits : List ℕ) → 0 < rest → 0 < start → start ≤ length digits
+    → map (λ d. 48 + d) (digits_of 10 (rest / 10)) ++ drop (start - 1) (set digits (start - 1) (48 + rest % 10)) ≡ map (λ d. 48 + d) (digits_of 10 rest) ++ drop start digits
+numeral_before zero rest digits some room le = absurd (omega arith)
+numeral_before (suc p) rest digits some room le =
+    let e : suc p - 1 ≡ p = omega arith in
+    let more : p + 1 ≡ suc p = omega arith in
+    let step = digits_of_step 10 rest (omega arith) some in
+    rw (e, drop-set digits p (48 + rest % 10) (omega arith), more, step, map-append, append_assoc) refl
+
+pub small_before : (start rest : ℕ) → rest < 10 ^ start → 0 < rest → (0 < start) × (rest / 10 < 10 ^ (start - 1))
+small_before zero rest small some = absurd (omega arith)
+small_before (suc p) rest small some =
+    let e : suc p - 1 ≡ p = omega arith in
+    (omega arith, rw e (omega (arith, pow-suc 10 p)))
+
+pub length-last_digits : (k n : ℕ) → length (last_digits k n) ≡ k
+length-last_digits zero n = refl
+length-last_digits (suc k) n = omega (arith, length-append (last_digits k (n / 10)) ((48 + n % 10) ∷ []), length-last_digits k (n / 10))
+
+-- zeros behind the digits, as many as serve
+filled_take : (ds : List ℕ) (k r q : ℕ) → k ≤ length ds + r → k ≤ length ds + q → take k (ds ++ replicate r 48) ≡ take k (ds ++ replicate q 48)
+filled_take [] k r q a b = rw (take-replicate {X = ℕ} k r 48 (omega arith), take-replicate {X = ℕ} k q 48 (omega arith)) refl
+filled_take (d ∷ ds) zero r q a b = refl
+filled_take (d ∷ ds) (suc k) r q a b = ap (λ (t : List ℕ). d ∷ t) (filled_take ds k r q (omega arith) (omega arith))
+
+zeros_all : (r : ℕ) → list_all (λ b. b == 48) (replicate r 48) ≡ true
+zeros_all zero = refl
+zeros_all (suc r) = zeros_all r
+
+zeros_behind : (ds : List ℕ) (k r : ℕ) → list_all (λ b. b == 48) (drop k (ds ++ replicate r 48)) ≡ list_all (λ b. b == 48) (drop k ds)
+zeros_behind [] zero r = zeros_all r
+zeros_behind [] (suc k) r = rw (drop-replicate {X = ℕ} (suc k) r 48) (zeros_all (r - suc k))
+zeros_behind (d ∷ ds) zero r = ap (λ (t : Bool). (d == 48) && t) (zeros_behind ds zero r)
+zeros_behind (d ∷ ds) (suc k) r = zeros_behind ds k r
+
+-- the digits behind the point, as they are written
+pub kept_is : (ds : List ℕ) (scale decimals : ℕ) → length ds ≡ scale → scale ≤ 255 → decimals ≤ 255 → take decimals (ds ++ replicate (255 - scale) 48) ≡ kept decimals ds
+kept_is ds scale decimals len a b = filled_take ds decimals (255 - scale) decimals (omega arith) (omega arith)
+
+-- the digits past the decimals, as the code cuts them off
+pub exact_is : (b : Bool) (z : ℤ) (m scale decimals place : ℕ) (last cut : List ℕ) → m ≡ unsigned_abs z → last ≡ last_digits scale m ++ replicate (255 - scale) 48
+    → place ≡ decimals → cut ≡ drop place last → b ≡ list_all (λ b. b == 48) cut → is_exact z scale decimals ≡ b
+unfolding is_exact
+exact_is b z m scale decimals place last cut em el ep ec eb =
+    rw (eb, ec, ep, el, em) (sym (zeros_behind (last_digits scale (unsigned_abs z)) decimals (255 - scale)))
+
+-- the parts of the text, as the code makes them
+pub text_is : (z : ℤ) (m scale decimals place : ℕ) (last minus whole dot digits : List ℕ) → m ≡ unsigned_abs z → last ≡ last_digits scale m ++ replicate (255 - scale) 48
+    → place ≡ decimals → digits ≡ take place last → whole ≡ numeral (m / 10 ^ scale) → minus ≡ sign z → dot ≡ point decimals → scale ≤ 255 → decimals ≤ 255
+    → minus ++ (whole ++ (dot ++ digits)) ≡ number_text z scale decimals
+unfolding number_text
+text_is z m scale decimals place last minus whole dot digits em el ep ed ew es eo a b =
+    rw (es, ew, eo, ed, ep, el, em, kept_is (last_digits scale (unsigned_abs z)) scale decimals (length-last_digits scale (unsigned_abs z)) a b) refl
+
+pub length-parts : (a b c d : List ℕ) → length (a ++ (b ++ (c ++ d))) ≡ length a + length b + length c + length d
+length-parts a b c d = omega (arith, length-append a (b ++ (c ++ d)), length-append b (c ++ d), length-append c d)
+
+pub inexact : (width decimals : ℕ) (z : ℤ) (scale : ℕ) → is_exact z scale decimals ≡ false → number_cell width decimals z scale ≡ None
+unfolding number_cell
+inexact width decimals z scale e = rw e refl
+
+pub too_wide : (width decimals : ℕ) (z : ℤ) (scale : ℕ) → width < length (number_text z scale decimals) → number_cell width decimals z scale ≡ None
+unfolding number_cell
+too_wide width decimals z scale wide = rw (and_right (is_exact z scale decimals) _ (lt-leb (length (number_text z scale decimals)) width wide)) refl
+
+pub has_room : (width decimals : ℕ) (z : ℤ) (scale : ℕ) (text : List ℕ) → is_exact z scale decimals ≡ true → text ≡ number_text z scale decimals → length text ≤ width
+    → number_cell width decimals z scale ≡ Some (right_justified width text)
+unfolding number_cell
+has_room width decimals z scale text e t room = rw (t, e, le-leb _ _ (rw t at room)) refl

@@ -1,0 +1,13 @@
+use Rattle.std.proofs.Common.{◌≡◌, ◌≤◌, length}
+use Rattle.std.specs.Prelude.{reverse}
+use Rattle.dbf_fields.specs.Number.{without_leading}
+use Rattle.dbf_fields.proofs.number.trim_end.Given as goal
+
+abbrev pub invariant-loop-text : goal.invariant-loop-text
+invariant-loop-text l = record {
+  same : without_leading (reverse l.text) ≡ without_leading (reverse l.cell);
+  short : length l.text ≤ length l.cell;
+}
+
+abbrev pub decreases-loop-text : goal.decreases-loop-text
+decreases-loop-text l = length l.text

@@ -1,0 +1,16 @@
+use Rattle.std.proofs.Common.{◌≡◌, ◌≤◌, length, ◌∙◌, arith}
+use Rattle.std.proofs.lemmas.List.{length-set}
+use Rattle.dbf_fields.proofs.WrittenDigits.{numeral_before, small_before}
+use Rattle.dbf_fields.proofs.number_text.numeral_of.Goals as goal
+
+pub loop-rest-preserved : goal.loop-rest-preserved
+loop-rest-preserved c =
+    let l = c.loop-rest in
+    let some = c.loop-rest-test.true in
+    let small = small_before l.start l.rest l.invariant.small some in
+    record {
+      made = numeral_before l.start l.rest l.digits some small.0 (omega (arith, l.invariant.wide, l.invariant.within)) ∙ l.invariant.made;
+      wide = rw length-set l.invariant.wide;
+      small = small.1;
+      within = omega (arith, l.invariant.within);
+    }

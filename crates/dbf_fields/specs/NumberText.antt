@@ -1,0 +1,47 @@
+-- The text of a number in a cell.
+use Rattle.std.specs.Prelude.{◌≡◌, ℕ, ◌-◌, ◌/◌, ◌^◌, Bool, ◌&&◌, ◌==◌, nat_le, List, [], ◌∷◌, ◌++◌, length, take, drop, replicate, Option, Some, None, ℤ, pos, negsuc, ◌*ℤ◌, if◌then◌else◌}
+use Rattle.std.specs.List.{list_all}
+use Rattle.std.specs.Int.RustNames.{unsigned_abs}
+use Rattle.dbf_fields.specs.Digits.{last_digits, numeral}
+
+-- `-` before a number below zero
+abbrev pub sign : ℤ → List ℕ
+sign (pos n) = []
+sign (negsuc n) = 45 ∷ []
+
+-- a point before decimals, where there are any
+abbrev pub point : ℕ → List ℕ
+point decimals = if decimals == 0 then [] else 46 ∷ []
+
+-- so many of the digits, with zeros where there are fewer
+abbrev pub kept : ℕ → List ℕ → List ℕ
+kept decimals digits = take decimals (digits ++ replicate decimals 48)
+
+-- The text of the number whose digits are given, of which `scale` stand behind its point, with so many decimals.
+unfoldable pub number_text : ℤ → ℕ → ℕ → List ℕ
+number_text digits scale decimals =
+    sign digits
+    ++ (numeral (unsigned_abs digits / 10 ^ scale)
+    ++ (point decimals
+    ++ kept decimals (last_digits scale (unsigned_abs digits))))
+
+-- the number's digits past so many decimals are zeros
+unfoldable pub is_exact : ℤ → ℕ → ℕ → Bool
+is_exact digits scale decimals = list_all (λ b. b == 48) (drop decimals (last_digits scale (unsigned_abs digits)))
+
+-- a text behind as many blanks as fill the width
+abbrev pub right_justified : ℕ → List ℕ → List ℕ
+right_justified width text = replicate (width - length text) 32 ++ text
+
+-- the cell of a number, where one of that width and so many decimals keeps it whole
+unfoldable pub number_cell : ℕ → ℕ → ℤ → ℕ → Option (List ℕ)
+number_cell width decimals digits scale =
+    if is_exact digits scale decimals && nat_le (length (number_text digits scale decimals)) width
+    then Some (right_justified width (number_text digits scale decimals))
+    else None
+
+-- The number of a cell, which is times ten for each decimal, is the one of the digits, of which `scale` stand
+-- behind the point.
+abbrev pub IsSameNumber : Option ℤ → ℕ → ℤ → ℕ → Type 0
+IsSameNumber None decimals digits scale = ⊥
+IsSameNumber (Some number) decimals digits scale = number *ℤ pos (10 ^ scale) ≡ digits *ℤ pos (10 ^ decimals)

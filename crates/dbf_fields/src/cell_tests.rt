@@ -1,0 +1,288 @@
+use super::tests::{characters, field};
+use super::*;
+use std::alloc::{AllocError, Global};
+use std::test::Fail;
+
+#[test]
+fn texts_fill_their_cells(rt: HostRuntime) -> Result<(), Fail> {
+    let alloc = rt.alloc();
+    let name = characters(alloc, b"NAME", 10)?.copy(alloc)?;
+    let cases: [(&[u8], &[u8]); 4] = [
+        (b"CYD", b"CYD       "),
+        (b"", b"          "),
+        (b"0123456789", b"0123456789"),
+        (b"Ada Lovelace", b"Ada Lovela"),
+    ];
+    for (text, cell) in cases {
+        let value = Literal::Text(Bytes::from_slice(alloc, text)?).copy(alloc)?;
+        let stored = encode_cell(alloc, &name, &value)?;
+        assert_eq!(rt; stored.as_slice(), cell);
+    }
+    Ok(())
+}
+
+// What a field keeps of a value, as a text, or why it keeps none.
+fn cell_of(
+    alloc: Global,
+    field: &Field,
+    value: Literal,
+) -> Result<Result<Bytes, CellFault>, AllocError> {
+    let value = value.copy(alloc)?;
+    Ok(encode_cell(alloc, field, &value))
+}
+
+#[test]
+fn other_values_are_of_another_type(rt: HostRuntime) -> Result<(), Fail> {
+    let alloc = rt.alloc();
+    let day = day_of(1984, 2, 29).ok_or("a date")?;
+    let fields = [
+        characters(alloc, b"NAME", 10)?,
+        field(alloc, b"AMT", NUMBER, 6, 2)?,
+        field(alloc, b"PAID", LOGICAL, 1, 0)?,
+        field(alloc, b"BORN", DATE, 8, 0)?,
+        field(alloc, b"NOTE", MEMO, 10, 0)?,
+    ];
+    let values = [
+        (Literal::Text(Bytes::from_slice(alloc, b"T")?), CHARACTER),
+        (
+            Literal::Number {
+                digits: 5,
+                scale: 0,
+            },
+            NUMBER,
+        ),
+        (Literal::Truth(true), LOGICAL),
+        (Literal::Date(day), DATE),
+        (Literal::BlankDate, DATE),
+    ];
+    for field in &fields {
+        for (value, kind) in &values {
+            let cell = cell_of(alloc, field, value.copy(alloc)?)?;
+            if field.kind == *kind {
+                assert_eq!(rt;
+                    cell.map(|bytes| bytes.as_slice().len()),
+                    Ok(usize::from(field.width))
+                );
+            } else {
+                assert_eq!(rt; cell.err(), Some(CellFault::TypeMismatch));
+            }
+        }
+        let fault = if field.kind == DATE {
+            CellFault::BadDate
+        } else {
+            CellFault::TypeMismatch
+        };
+        assert_eq!(rt; cell_of(alloc, field, Literal::BadDate)?.err(), Some(fault));
+    }
+    Ok(())
+}
+
+#[test]
+fn number_cells(rt: HostRuntime) -> Result<(), Fail> {
+    let alloc = rt.alloc();
+    let amount = field(alloc, b"AMT", NUMBER, 6, 2)?;
+    // a number as its digits and how many of them stand behind the point, and its cell
+    let cases: [(i128, u8, &[u8]); 12] = [
+        (5, 0, b"  5.00"),
+        (-5, 1, b" -0.50"),
+        (99999, 2, b"999.99"),
+        (0, 0, b"  0.00"),
+        (0, 255, b"  0.00"),
+        (-1, 2, b" -0.01"),
+        (-9999, 2, b"-99.99"),
+        (12345, 2, b"123.45"),
+        (12340, 3, b" 12.34"),
+        (1500, 3, b"  1.50"),
+        (7, 2, b"  0.07"),
+        (100, 0, b"100.00"),
+    ];
+    for (digits, scale, cell) in cases {
+        let stored = encode_cell(alloc, &amount, &Literal::Number { digits, scale })?;
+        assert_eq!(rt; stored.as_slice(), cell);
+    }
+    let too_wide = [
+        (1000, 0),
+        (1005, 3),
+        (-10000, 2),
+        (1, 3),
+        (1, 255),
+        (99999, 0),
+        (i128::MAX, 0),
+        (i128::MIN, 0),
+        (i128::MAX, 255),
+        (i128::MIN, 39),
+    ];
+    for (digits, scale) in too_wide {
+        let value = Literal::Number { digits, scale };
+        assert_eq!(rt;
+            encode_cell(alloc, &amount, &value),
+            Err(CellFault::NumberTooWide)
+        );
+    }
+    Ok(())
+}
+
+#[test]
+fn wide_and_narrow_number_cells(rt: HostRuntime) -> Result<(), Fail> {
+    let alloc = rt.alloc();
+    // the width and the decimals of the field, a number as above, and its cell
+    let cases: [(u8, u8, i128, u8, &[u8]); 8] = [
+        (1, 0, 9, 0, b"9"),
+        (1, 0, 90, 1, b"9"),
+        (2, 0, -9, 0, b"-9"),
+        (19, 0, 9_999_999_999_999_999_999, 0, b"9999999999999999999"),
+        (19, 0, -999_999_999_999_999_999, 0, b"-999999999999999999"),
+        (19, 17, 999_999_999_999_999_999, 17, b"9.99999999999999999"),
+        (19, 17, -1, 0, b""),
+        (19, 18, 0, 0, b""),
+    ];
+    for (width, decimals, digits, scale, cell) in cases {
+        let number = field(alloc, b"X", NUMBER, width, decimals)?;
+        let stored = encode_cell(alloc, &number, &Literal::Number { digits, scale });
+        if cell.is_empty() {
+            assert_eq!(rt; stored, Err(CellFault::NumberTooWide));
+        } else {
+            assert_eq!(rt; stored?.as_slice(), cell);
+        }
+    }
+    Ok(())
+}
+
+#[test]
+fn date_cells(rt: HostRuntime) -> Result<(), Fail> {
+    let alloc = rt.alloc();
+    let born = field(alloc, b"BORN", DATE, 8, 0)?;
+    let days: [(u16, u8, u8, &[u8]); 4] = [
+        (1984, 2, 29, b"19840229"),
+        (1, 1, 1, b"00010101"),
+        (9999, 12, 31, b"99991231"),
+        (1987, 10, 5, b"19871005"),
+    ];
+    for (year, month, day, cell) in days {
+        let date = day_of(year, month, day).ok_or("a date")?;
+        assert_eq!(rt;
+            encode_cell(alloc, &born, &Literal::Date(date))?.as_slice(),
+            cell
+        );
+        assert_eq!(rt; read_date(cell), DateCell::Is(date));
+    }
+    assert_eq!(rt;
+        encode_cell(alloc, &born, &Literal::BlankDate)?.as_slice(),
+        b"        ".as_slice()
+    );
+    assert_eq!(rt;
+        encode_cell(alloc, &born, &Literal::BadDate),
+        Err(CellFault::BadDate)
+    );
+    let text = Literal::Text(Bytes::from_slice(alloc, b"19840229")?);
+    assert_eq!(rt;
+        encode_cell(alloc, &born, &text),
+        Err(CellFault::TypeMismatch)
+    );
+    Ok(())
+}
+
+#[test]
+fn truth_cells(rt: HostRuntime) -> Result<(), Fail> {
+    let alloc = rt.alloc();
+    let paid = field(alloc, b"PAID", LOGICAL, 1, 0)?;
+    assert_eq!(rt;
+        encode_cell(alloc, &paid, &Literal::Truth(true))?.as_slice(),
+        b"T".as_slice()
+    );
+    assert_eq!(rt;
+        encode_cell(alloc, &paid, &Literal::Truth(false))?.as_slice(),
+        b"F".as_slice()
+    );
+    Ok(())
+}
+
+#[test]
+fn odd_blank_and_largest_cells(rt: HostRuntime) {
+    let numbers: [(&[u8], u8, Option<i128>); 32] = [
+        (b"  5.00", 2, Some(500)),
+        (b" -0.50", 2, Some(-50)),
+        (b"+5", 0, Some(5)),
+        (b" 5 ", 0, Some(5)),
+        (b"5.", 2, Some(500)),
+        (b".5", 2, Some(50)),
+        (b"-.5", 1, Some(-5)),
+        (b"5.0", 0, Some(5)),
+        (b"5.000", 2, Some(500)),
+        (b"5.005", 2, None),
+        (b"0.1", 0, None),
+        (b".", 2, None),
+        (b"-", 2, None),
+        (b"+", 0, None),
+        (b"-.", 0, None),
+        (b"1.2.3", 2, None),
+        (b"1..2", 2, None),
+        (b"--5", 0, None),
+        (b"+-5", 0, None),
+        (b"5-", 0, None),
+        (b"- 5", 0, None),
+        (b"1 2", 0, None),
+        (b"12a", 0, None),
+        (b"1e3", 0, None),
+        (b"******", 2, None),
+        (b"", 2, Some(0)),
+        (b"      ", 2, Some(0)),
+        (b"-0", 0, Some(0)),
+        (b"000007", 0, Some(7)),
+        (b"9999999999999999999", 0, Some(9_999_999_999_999_999_999)),
+        (b"-999999999999999999", 0, Some(-999_999_999_999_999_999)),
+        (
+            b"9999999999999999999",
+            18,
+            Some(9_999_999_999_999_999_999_000_000_000_000_000_000),
+        ),
+    ];
+    for (cell, decimals, number) in numbers {
+        assert_eq!(rt; read_number(cell, decimals), number);
+    }
+    assert_eq!(rt;
+        read_number(b".123456789012345678", 18),
+        Some(123_456_789_012_345_678)
+    );
+    let truths: [(&[u8], bool); 14] = [
+        (b"T", true),
+        (b"t", true),
+        (b"Y", true),
+        (b"y", true),
+        (b"F", false),
+        (b"f", false),
+        (b"N", false),
+        (b"n", false),
+        (b"?", false),
+        (b" ", false),
+        (b"1", false),
+        (b"", false),
+        (b"T ", false),
+        (b"TT", false),
+    ];
+    for (cell, truth) in truths {
+        assert_eq!(rt; read_truth(cell), truth);
+    }
+    assert_eq!(rt; read_date(b"        "), DateCell::Blank);
+    let odd: [&[u8]; 16] = [
+        b"00000101",
+        b"19870000",
+        b"19870100",
+        b"19870132",
+        b"19870431",
+        b"19871301",
+        b"19850229",
+        b"19000229",
+        b"1987 101",
+        b"1987010 ",
+        b" 9870101",
+        b"198701",
+        b"",
+        b"       ",
+        b"         ",
+        b"19870101 ",
+    ];
+    for cell in odd {
+        assert_eq!(rt; read_date(cell), DateCell::Odd);
+    }
+}

@@ -1,0 +1,152 @@
+//! Numbers in cells, as they are read.
+
+ghost use Rattle.std.specs.Prelude.{◌≡◌, ◌+◌, ◌*◌, ◌<◌, ◌≤◌, ◌==◌, ◌^◌, ◌++◌, length, replicate, position, reverse, true, IfSome};
+ghost use Rattle.std.specs.List.{list_all};
+ghost use Rattle.std.specs.Char.{is_ascii_digit};
+ghost use Rattle.dbf_fields.specs.Digits.{digits_behind};
+ghost use Rattle.dbf_fields.specs.Number.{without_leading, trimmed, whole_part, fraction_part, magnitude, number};
+
+fn trim_start(cell: &[u8]) -> &[u8]
+    ensures value { result.now ≡ without_leading cell.now }
+    ensures short { length result.now ≤ length cell.now }
+{
+    let mut text = cell;
+    while let [b' ', rest @ ..] = text {
+        text = rest;
+    }
+    text
+}
+
+fn trim_end(cell: &[u8]) -> &[u8]
+    ensures value { result.now ≡ reverse (without_leading (reverse cell.now)) }
+    ensures short { length result.now ≤ length cell.now }
+{
+    let mut text = cell;
+    while let [rest @ .., b' '] = text {
+        text = rest;
+    }
+    text
+}
+
+#[tactic(auto, unfolding(crate::specs::Number::trimmed))]
+fn trim(cell: &[u8]) -> &[u8]
+    ensures value { result.now ≡ trimmed cell.now }
+    ensures short { length result.now ≤ length cell.now }
+{
+    trim_end(trim_start(cell))
+}
+
+pub(crate) fn are_digits(text: &[u8]) -> bool
+    ensures value { result ≡ list_all is_ascii_digit text.now }
+{
+    text.iter().all(|byte| byte.is_ascii_digit())
+}
+
+pub(crate) fn are_zeros(text: &[u8]) -> bool
+    ensures value { result ≡ list_all (λ b. b == 48) text.now }
+{
+    text.iter().all(|byte| *byte == b'0')
+}
+
+fn point_in(text: &[u8]) -> Option<usize>
+    ensures place { result ≡ position (λ b. b == 46) text.now }
+{
+    text.iter().position(|byte| *byte == b'.')
+}
+
+// The digits before and behind the point.
+fn parts(text: &[u8]) -> (&[u8], &[u8])
+    ensures whole { result.0.now ≡ whole_part text.now }
+    ensures fraction { result.1.now ≡ fraction_part text.now }
+    ensures short { length result.0.now + length result.1.now ≤ length text.now }
+{
+    match point_in(text) {
+        Some(point) => (&text[..point], &text[point + 1..]),
+        None => (text, &[]),
+    }
+}
+
+// The number with these digits behind it. `most` is how many digits it has at most.
+pub(crate) fn push_digits(number: u128, digits: &[u8], most: u32) -> u128
+    requires digits { list_all is_ascii_digit digits.now ≡ true }
+    requires small { number < 10 ^ most }
+    requires room { most + length digits.now ≤ 37 }
+    ensures value { result ≡ digits_behind number digits.now }
+    ensures small { result < 10 ^ (most + length digits.now) }
+{
+    let mut value = number;
+    for digit in digits {
+        value = value * 10 + u128::from(*digit - b'0');
+    }
+    value
+}
+
+// The number with so many zeros behind it.
+fn push_zeros(number: u128, zeros: usize, most: u32) -> u128
+    requires small { number < 10 ^ most }
+    requires room { most + zeros ≤ 37 }
+    ensures value { result ≡ digits_behind number (replicate zeros 48) }
+    ensures small { result < 10 ^ (most + zeros) }
+{
+    let mut value = number;
+    for _ in 0..zeros {
+        value *= 10;
+    }
+    value
+}
+
+// The number without its sign, in a text of so many decimals.
+#[tactic(auto, unfolding(crate::specs::Number::is_decimal, crate::specs::Number::scaled))]
+fn magnitude_of(text: &[u8], decimals: u8) -> Option<u128>
+    requires few { length text.now ≤ 19 }
+    requires decimals { decimals < 19 }
+    ensures value { result ≡ magnitude text.now decimals }
+    ensures small { IfSome result (λ n. n < 10 ^ 37) }
+{
+    let decimals = usize::from(decimals);
+    let (whole, fraction) = parts(text);
+    if !are_digits(whole) {
+        return None;
+    }
+    if !are_digits(fraction) {
+        return None;
+    }
+    if whole.len() + fraction.len() == 0 {
+        return None;
+    }
+    let kept = decimals.min(fraction.len());
+    if !are_zeros(&fraction[kept..]) {
+        return None;
+    }
+    let number = push_digits(0, whole, 0);
+    let number = push_digits(number, &fraction[..kept], whole.len() as u32);
+    Some(push_zeros(number, decimals - kept, (whole.len() + kept) as u32))
+}
+
+/// The number in a cell of a field with so many decimals, as a whole number: times ten for each decimal.
+///
+/// Blanks at both ends count for nothing, and a cell with nothing between them is zero. Else there stand
+/// an optional `+` or `-` and digits, at least one, with at most one point among or beside them; the digits
+/// behind the point past the decimals are zeros. `None` for every other cell. Takes no memory.
+#[tactic(auto, unfolding(crate::specs::Number::number))]
+pub fn read_number(cell: &[u8], decimals: u8) -> Option<i128>
+    requires few { length cell.now ≤ 19 }
+    requires decimals { decimals < 19 }
+    ensures value { result ≡ number cell.now decimals }
+{
+    match trim(cell) {
+        [] => Some(0),
+        [b'-', digits @ ..] => {
+            let n = magnitude_of(digits, decimals)?;
+            Some(-(n as i128))
+        }
+        [b'+', digits @ ..] => {
+            let n = magnitude_of(digits, decimals)?;
+            Some(n as i128)
+        }
+        digits => {
+            let n = magnitude_of(digits, decimals)?;
+            Some(n as i128)
+        }
+    }
+}
