@@ -1,5 +1,5 @@
 -- The digits of a number, written from the last one on.
-use Rattle.std.proofs.Common.{◌≡◌, ℕ, zero, suc, ◌+◌, ◌-◌, ◌*◌, ◌/◌, ◌%◌, ◌^◌, ◌<◌, ◌≤◌, Bool, true, false, leb, Some, None, eqb, ◌==◌, ◌&&◌, List, [], ◌∷◌, ◌++◌, length, take, drop, map, replicate, ℤ, refl, sym, ap, ◌∙◌, append_assoc, add-one, arith, length-append}
+use Rattle.std.proofs.Common.{◌≡◌, ℕ, zero, suc, ◌+◌, ◌-◌, ◌*◌, ◌/◌, ◌%◌, ◌^◌, ◌<◌, ◌≤◌, Bool, true, false, Some, None, ◌==◌, ◌&&◌, List, [], ◌∷◌, ◌++◌, length, take, drop, map, replicate, ℤ, refl, sym, ap, ◌∙◌, append_assoc, arith, length-append}
 use Rattle.std.proofs.Math.ListN.{set}
 use Rattle.std.proofs.Math.Nat.{div-div-eq-div-mul, pow-suc, mul_comm}
 use Rattle.std.specs.List.{list_all}
@@ -7,7 +7,7 @@ use Rattle.std.specs.Int.Digits.{digits_of}
 use Rattle.std.specs.Int.RustNames.{unsigned_abs}
 use Rattle.std.proofs.lemmas.Int.Digits.{digits_of_step}
 use Rattle.std.proofs.lemmas.Bool.{and_right, lt-leb, le-leb}
-use Rattle.std.proofs.lemmas.List.{drop-set, drop-replicate, take-replicate, map-append, length-replicate, length-take-le}
+use Rattle.std.proofs.lemmas.List.{drop-set, drop-replicate, take-replicate, map-append}
 use Rattle.dbf_fields.specs.Digits.{last_digits, numeral}
 use Rattle.dbf_fields.specs.NumberText.{sign, point, kept, number_text, is_exact, right_justified, number_cell}
 

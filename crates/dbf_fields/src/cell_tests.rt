@@ -238,6 +238,8 @@ fn odd_blank_and_largest_cells(rt: HostRuntime) {
         ),
     ];
     for (cell, decimals, number) in numbers {
+        assert!(rt; cell.len() <= 19);
+        assert!(rt; decimals < 19);
         assert_eq!(rt; read_number(cell, decimals), number);
     }
     assert_eq!(rt;

@@ -10,8 +10,8 @@
 //! read src/table.rt, src/read.rt and src/write.rt.
 #![tactic(auto)]
 
+mod buffer;
 mod fault;
-mod gather;
 mod header;
 mod memory;
 mod places;
@@ -20,6 +20,7 @@ mod sink;
 mod table;
 mod write;
 
+pub use buffer::{Waiting, flush, gather};
 pub use fault::ImageFault;
 pub use memory::MemorySink;
 pub use read::read_table;

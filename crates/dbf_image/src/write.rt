@@ -8,7 +8,7 @@ ghost use Rattle.dbf_image.specs.DbfText.{pieces, IsDbf};
 ghost use Rattle.dbf_image.specs.Image.{header_with, descriptor, record_bytes, image, IsOutside};
 ghost use Rattle.dbf_image.specs.Sink.{grown, IsFront, Rises};
 
-use crate::gather::{Waiting, flush, gather};
+use crate::buffer::{Waiting, flush, gather};
 use crate::header::{Header, header_of};
 use crate::sink::{ByteSink, SinkFault};
 use crate::table::TableData;

@@ -1,4 +1,4 @@
-use Rattle.std.proofs.Common.{◌≡◌, refl, sym}
+use Rattle.std.proofs.Common.{refl, sym}
 use Rattle.std.proofs.lemmas.Bool.{false≢true}
 use Rattle.dbf_fields.proofs.DateLaws.{not_blank, not_eight, not_digits, no_day, date_from}
 use Rattle.dbf_fields.proofs.date.read_date.Goals as goal

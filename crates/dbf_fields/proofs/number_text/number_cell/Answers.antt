@@ -1,9 +1,9 @@
-use Rattle.std.proofs.Common.{◌≡◌, ◌≤◌, ◌<◌, ◌/◌, ◌^◌, ◌++◌, Some, true, false, length, refl, sym, ap, ◌∙◌, inl, inr, arith}
+use Rattle.std.proofs.Common.{◌≡◌, ◌≤◌, ◌<◌, ◌/◌, ◌^◌, ◌++◌, Some, true, false, length, refl, sym, ap, ◌∙◌, inr, arith}
 use Rattle.std.specs.Int.{w128}
 use Rattle.std.specs.Int.RustNames.{unsigned_abs}
 use Rattle.std.proofs.lemmas.Int.{to_z-of_z}
 use Rattle.dbf_fields.specs.Digits.{numeral}
-use Rattle.dbf_fields.specs.NumberText.{sign, number_text, is_exact}
+use Rattle.dbf_fields.specs.NumberText.{sign, number_text}
 use Rattle.dbf_fields.proofs.WrittenDigits.{exact_is, text_is, length-parts, inexact, too_wide, has_room}
 use Rattle.dbf_fields.proofs.number_text.number_cell.Goals as goal
 

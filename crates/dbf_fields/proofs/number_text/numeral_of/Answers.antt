@@ -1,4 +1,4 @@
-use Rattle.std.proofs.Common.{◌≡◌, ◌≤◌, length, ◌∙◌, arith}
+use Rattle.std.proofs.Common.{◌∙◌, arith}
 use Rattle.std.proofs.lemmas.List.{length-set}
 use Rattle.dbf_fields.proofs.WrittenDigits.{numeral_before, small_before}
 use Rattle.dbf_fields.proofs.number_text.numeral_of.Goals as goal

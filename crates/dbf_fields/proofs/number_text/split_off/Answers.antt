@@ -1,5 +1,5 @@
-use Rattle.std.proofs.Common.{◌≡◌, ◌≤◌, length, refl, ap, ◌∙◌, arith}
-use Rattle.std.proofs.lemmas.List.{length-set, length-replicate}
+use Rattle.std.proofs.Common.{refl, ◌∙◌, arith}
+use Rattle.std.proofs.lemmas.List.{length-set}
 use Rattle.dbf_fields.proofs.WrittenDigits.{digit_before, rest_before, all_zeros}
 use Rattle.dbf_fields.proofs.number_text.split_off.Goals as goal
 

@@ -1,0 +1,142 @@
+-- What the rules on fields and arguments say of a part of an expression.
+use Rattle.std.proofs.Common.{◌≡◌, ℕ, ◌-◌, ◌<◌, ◌≤◌, min, Bool, true, false, cond, eqb, leb, ltb, ◌&&◌, ◌||◌, List, [], ◌∷◌, length, get_or, Option, Some, None, refl, sym, ap, ◌∙◌, arith, zero, suc}
+use Rattle.std.specs.List.{slice_get, AllByRecursion}
+use Rattle.std.proofs.lemmas.Bool.{and_parts}
+use Rattle.std.proofs.lemmas.Bool.Decides.{nat_tests}
+use Rattle.std.proofs.lemmas.Option.{slice_get-get_or}
+use Rattle.dbf_fields.specs.declared.field.Field.{Field}
+use Rattle.dbf_fields.specs.Faults.{first_fault}
+use Rattle.dbf_fields.specs.Field.{has_width}
+use Rattle.dbf_fields.specs.Schema.{IsSchema}
+use Rattle.dbf_fields.proofs.SchemaLaws.{passed, schema_wide}
+use Rattle.key_expr.specs.declared.fault.ExprFault.{ExprFault}
+use Rattle.key_expr.specs.declared.fault.ExprFault.TheVariants.{NoSuchField, NotCharacter, BadArgument, KeyTooLong}
+use Rattle.key_expr.specs.Grammar.{Expr, cell, joined, raised, slice, printed, dated}
+use Rattle.key_expr.specs.Keys.{length_given, decimals_given, width_of, key_length}
+use Rattle.key_expr.specs.Rules.{has_kind, can_print, field_tests, tests, refusal}
+use Rattle.key_expr.proofs.FaultLaws.{none_before, none_behind, kept_joined}
+use Rattle.std.specs.Int.{is_in_range}
+
+-- a field that is there
+pub field_there : (fields : List Field) (i kind : ℕ) → first_fault (field_tests fields i kind) ≡ None → i < length fields
+field_there fields i kind e =
+    let first : ltb i (length fields) ≡ true = (passed (ltb i (length fields)) _ NoSuchField e).0 in grind (arith, nat_tests, first)
+
+wide_at : (fields : List Field) (i : ℕ) (d : Field) → AllByRecursion (λ f. has_width f ≡ true) fields → i < length fields → has_width (get_or fields i d) ≡ true
+wide_at [] i d a h = absurd (omega (arith, h))
+wide_at (f ∷ fs) zero d a h = a.0
+wide_at (f ∷ fs) (suc i) d a h = let less : i < length fs = omega (arith, h) in wide_at fs i d a.1 less
+
+pub schema_wide_at : (fields : List Field) (i : ℕ) (d : Field) → IsSchema fields → i < length fields → has_width (get_or fields i d) ≡ true
+schema_wide_at fields i d s h = wide_at fields i d (schema_wide fields s) h
+
+-- the widths and decimals of numbers
+number_width : (kind width decimals : ℕ) (other : Bool) → kind ≡ 78
+    → cond (eqb kind 67) (leb 1 width && leb width 254) (cond (eqb kind 78) ((leb 1 width && leb width 19) && (eqb decimals 0 || ltb decimals width)) other) ≡ true
+    → (width ≤ 19) × (decimals < 19)
+number_width kind width decimals other e h =
+    let k = rw e at h in
+    let both = and_parts (leb 1 width && leb width 19) (eqb decimals 0 || ltb decimals width) k in
+    let ends = and_parts (leb 1 width) (leb width 19) both.0 in
+    let upper : leb width 19 ≡ true = ends.1 in
+    let lower : leb 1 width ≡ true = ends.0 in
+    let few : (eqb decimals 0 || ltb decimals width) ≡ true = both.1 in
+    (grind (arith, nat_tests, upper), grind (arith, nat_tests, upper, few))
+
+-- a STR that keeps the rules
+pub record IsPrinted (fields : List Field) (i : ℕ) (n d : Option ℕ) (f : Field) : Type 0 where
+  pub there : i < length fields
+  pub narrow : width_of fields i ≤ 19
+  pub fits : width_of fields i ≤ length_given n
+  pub few : f.decimals < 19
+  pub same : decimals_given d ≡ f.decimals
+  pub short : length_given n ≤ 100
+
+pub printed_kept : (fields : List Field) (i : ℕ) (n d : Option ℕ) (default : Field) → IsSchema fields
+    → first_fault (tests fields (printed i n d)) ≡ None → IsPrinted fields i n d (get_or fields i default)
+printed_kept fields i n d default s e =
+    let p1 = passed (ltb i (length fields)) _ NoSuchField e in
+    let p2 = passed (has_kind fields i 78) _ NotCharacter p1.1 in
+    let p3 = passed (can_print fields i (length_given n) (decimals_given d)) _ BadArgument p2.1 in
+    let first : ltb i (length fields) ≡ true = p1.0 in
+    let there : i < length fields = grind (arith, nat_tests, first) in
+    let got : slice_get fields i ≡ Some (get_or fields i default) = slice_get-get_or fields i default there in
+    let kind : eqb (get_or fields i default).kind 78 ≡ true = rw (got, has_kind) at p2.0 in
+    let number : (get_or fields i default).kind ≡ 78 = grind (arith, nat_tests, kind) in
+    let f = get_or fields i default in
+    let prints : (eqb (decimals_given d) f.decimals && (leb f.width (length_given n) && leb (length_given n) 100)) ≡ true = rw (got, can_print) at p3.0 in
+    let both = and_parts (eqb (decimals_given d) f.decimals) (leb f.width (length_given n) && leb (length_given n) 100) prints in
+    let range = and_parts (leb f.width (length_given n)) (leb (length_given n) 100) both.1 in
+    let same : eqb (decimals_given d) f.decimals ≡ true = both.0 in
+    let short : leb (length_given n) 100 ≡ true = range.1 in
+    let fits : leb f.width (length_given n) ≡ true = range.0 in
+    let holds : f.width ≤ length_given n = grind (arith, nat_tests, fits) in
+    let wide = number_width _ _ _ _ number (schema_wide_at fields i default s there) in
+    record {
+      there = there;
+      narrow = rw (got, width_of) wide.0;
+      fits = rw (got, width_of) holds;
+      few = wide.1;
+      same = grind (arith, nat_tests, same);
+      short = grind (arith, nat_tests, short);
+    }
+
+-- no width is nothing
+some_width : (character number truth : Bool) (width decimals : ℕ)
+    → cond character (leb 1 width && leb width 254) (cond number ((leb 1 width && leb width 19) && (eqb decimals 0 || ltb decimals width))
+    (cond truth (eqb width 1) (eqb width 8))) ≡ true
+    → 1 ≤ width
+some_width true n l width decimals h =
+    let least : leb 1 width ≡ true = (and_parts (leb 1 width) (leb width 254) h).0 in grind (arith, nat_tests, least)
+some_width false true l width decimals h =
+    let both : (leb 1 width && leb width 19) ≡ true = (and_parts (leb 1 width && leb width 19) (eqb decimals 0 || ltb decimals width) h).0 in
+    let least : leb 1 width ≡ true = (and_parts (leb 1 width) (leb width 19) both).0 in grind (arith, nat_tests, least)
+some_width false false true width decimals h = grind (arith, nat_tests, h)
+some_width false false false width decimals h = grind (arith, nat_tests, h)
+
+width_some : (fields : List Field) (i : ℕ) (d : Field) → IsSchema fields → i < length fields → 1 ≤ width_of fields i
+width_some fields i d s there =
+    let f = get_or fields i d in
+    let got : slice_get fields i ≡ Some f = slice_get-get_or fields i d there in
+    let least : 1 ≤ f.width = some_width (eqb f.kind 67) (eqb f.kind 78) (eqb f.kind 76) f.width f.decimals (schema_wide_at fields i d s there) in
+    rw (got, width_of) least
+
+no_field : Field
+no_field = record { name = []; kind = 0; width = 0; decimals = 0 }
+
+-- a part of a key has at least one byte
+slice_some : (long from count : ℕ) → ((leb 1 from && leb from long) && leb 1 count) ≡ true → 1 ≤ min count (long - (from - 1))
+slice_some long from count h =
+    let both = and_parts (leb 1 from && leb from long) (leb 1 count) h in
+    let ends = and_parts (leb 1 from) (leb from long) both.0 in
+    let first : leb 1 from ≡ true = ends.0 in
+    let last : leb from long ≡ true = ends.1 in
+    let some : leb 1 count ≡ true = both.1 in
+    let a : 1 ≤ from = grind (arith, nat_tests, first) in
+    let b : from ≤ long = grind (arith, nat_tests, last) in
+    let c : 1 ≤ count = grind (arith, nat_tests, some) in
+    omega (arith, a, b, c)
+
+pub key_some : (fields : List Field) (e : Expr) → IsSchema fields → first_fault (tests fields e) ≡ None → 1 ≤ key_length fields e
+key_some fields (cell i) s h = width_some fields i no_field s (field_there fields i 67 h)
+key_some fields (joined a b) s h =
+    let kept = kept_joined fields a b h in
+    let x = key_some fields a s kept.0 in omega (arith, x)
+key_some fields (raised a) s h = key_some fields a s h
+key_some fields (slice a from count) s h =
+    let last = none_behind (tests fields a) ((is_in_range 1 (key_length fields a) from && leb 1 count, BadArgument) ∷ []) h in
+    slice_some (key_length fields a) from count (passed (is_in_range 1 (key_length fields a) from && leb 1 count) None BadArgument last).0
+key_some fields (printed i n d) s h =
+    let k = printed_kept fields i n d no_field s h in
+    let w = width_some fields i no_field s k.there in omega (arith, w, k.fits)
+key_some fields (dated i) s h = omega arith
+
+-- what no refusal says
+pub refusal_tests : (fields : List Field) (e : Expr) → refusal fields e ≡ None → first_fault (tests fields e) ≡ None
+refusal_tests fields e h = none_before (tests fields e) ((leb (key_length fields e) 100, KeyTooLong) ∷ []) h
+
+pub refusal_short : (fields : List Field) (e : Expr) → refusal fields e ≡ None → key_length fields e ≤ 100
+refusal_short fields e h =
+    let last = none_behind (tests fields e) ((leb (key_length fields e) 100, KeyTooLong) ∷ []) h in
+    let short : leb (key_length fields e) 100 ≡ true = (passed (leb (key_length fields e) 100) None KeyTooLong last).0 in
+    grind (arith, nat_tests, short)

@@ -1,0 +1,84 @@
+-- The length of a key is fixed by the expression and the fields.
+use Rattle.std.proofs.Common.{◌≡◌, ℕ, ◌+◌, ◌-◌, ◌<◌, ◌≤◌, min, Bool, true, false, cond, eqb, leb, List, [], ◌∷◌, ◌++◌, length, map, take, drop, replicate, get_or, Option, Some, None, refl, sym, ap, ◌∙◌, arith, zero, suc, length-append, length-drop, length-take-le}
+use Rattle.std.specs.Prelude.{bytes_eq, ℤ}
+use Rattle.std.specs.List.{slice_get}
+use Rattle.std.specs.Char.{to_ascii_uppercase}
+use Rattle.std.proofs.lemmas.Bool.Decides.{nat_tests}
+use Rattle.std.proofs.lemmas.List.{length-take, length-map, length-replicate}
+use Rattle.std.proofs.lemmas.List.Sums.{sum_by-cons}
+use Rattle.dbf_fields.specs.declared.field.Field.{Field}
+use Rattle.dbf_fields.specs.Date.{is_date, blank_date}
+use Rattle.dbf_fields.specs.Field.{widths}
+use Rattle.dbf_fields.specs.Number.{number}
+use Rattle.dbf_fields.specs.NumberText.{number_text}
+use Rattle.key_expr.specs.Grammar.{Expr, cell, joined, raised, slice, printed, dated}
+use Rattle.key_expr.specs.Keys.{key, key_length, width_of, length_given, decimals_given}
+use Rattle.key_expr.specs.Layout.{cells_of}
+use Rattle.key_expr.specs.Printing.{fitted, printed_number, printed_date, slashed}
+use Rattle.key_expr.proofs.PrintLaws.{date_eight}
+
+fitted_if : (b : Bool) (n : ℕ) (text : List ℕ) → leb (length text) n ≡ b
+    → length (cond b (replicate (n - length text) 32 ++ text) (replicate n 42)) ≡ n
+fitted_if false n text h = length-replicate {A = ℕ} n 42
+fitted_if true n text h =
+    let within : length text ≤ n = grind (arith, nat_tests, h) in
+    let a = length-append (replicate (n - length text) 32) text in
+    let r = length-replicate {A = ℕ} (n - length text) 32 in
+    omega (arith, a, r, within)
+
+number_length : (o : Option ℤ) (n d : ℕ) → length {A = ℕ} (elim o [ None ↦ replicate n 42 | Some v ↦ fitted n (number_text v d d) ]) ≡ n
+number_length None n d = length-replicate {A = ℕ} n 42
+number_length (Some v) n d = fitted_if (leb (length (number_text v d d)) n) n (number_text v d d) refl
+
+date_length_if : (blank real : Bool) (bs : List ℕ) → (real ≡ true → length bs ≡ 8)
+    → length (cond blank (slashed (replicate 2 32) (replicate 2 32) (replicate 2 32))
+    (cond real (slashed (take 2 (drop 4 bs)) (take 2 (drop 6 bs)) (take 2 (drop 2 bs))) (slashed (replicate 2 42) (replicate 2 42) (replicate 2 42)))) ≡ 8
+date_length_if true real bs h = refl
+date_length_if false false bs h = refl
+date_length_if false true bs h =
+    let eight : length bs ≡ 8 = h refl in
+    let m = length-take 2 (drop 4 bs) in
+    let d = length-take 2 (drop 6 bs) in
+    let y = length-take 2 (drop 2 bs) in
+    let dm = length-drop 4 bs in
+    let dd = length-drop 6 bs in
+    let dy = length-drop 2 bs in
+    let a = length-append (take 2 (drop 4 bs)) (47 ∷ (take 2 (drop 6 bs) ++ (47 ∷ take 2 (drop 2 bs)))) in
+    let b = length-append (take 2 (drop 6 bs)) (47 ∷ take 2 (drop 2 bs)) in
+    omega (arith, eight, m, d, y, dm, dd, dy, a, b)
+
+date_length : (bs : List ℕ) → length (printed_date bs) ≡ 8
+unfolding printed_date
+date_length bs = date_length_if (bytes_eq bs blank_date) (is_date bs) bs (date_eight bs)
+
+-- the length of each cell
+pub cell_length : (fields : List Field) (bytes : List ℕ) (i : ℕ) → widths fields ≤ length bytes
+    → length (get_or (cells_of fields bytes) i []) ≡ width_of fields i
+cell_length [] bytes i h = refl
+cell_length (f ∷ fs) bytes zero h =
+    let e = sum_by-cons (λ (g : Field). g.width) f fs in
+    let within : f.width ≤ length bytes = omega (arith, h, e) in
+    length-take-le f.width bytes within
+cell_length (f ∷ fs) bytes (suc i) h =
+    let e = sum_by-cons (λ (g : Field). g.width) f fs in
+    let d = length-drop f.width bytes in
+    let rest : widths fs ≤ length (drop f.width bytes) = omega (arith, h, e, d) in
+    cell_length fs (drop f.width bytes) i rest
+
+-- the length of each key
+pub key_length_is : (fields : List Field) (bytes : List ℕ) (e : Expr) → widths fields ≤ length bytes
+    → length (key (cells_of fields bytes) e) ≡ key_length fields e
+key_length_is fields bytes (cell i) h = cell_length fields bytes i h
+key_length_is fields bytes (joined a b) h =
+    let x = key_length_is fields bytes a h in
+    let y = key_length_is fields bytes b h in
+    let l = length-append (key (cells_of fields bytes) a) (key (cells_of fields bytes) b) in
+    omega (arith, x, y, l)
+key_length_is fields bytes (raised a) h = length-map (key (cells_of fields bytes) a) to_ascii_uppercase ∙ key_length_is fields bytes a h
+key_length_is fields bytes (slice a from count) h =
+    let x = key_length_is fields bytes a h in
+    let t = length-take count (drop (from - 1) (key (cells_of fields bytes) a)) in
+    let d = length-drop (from - 1) (key (cells_of fields bytes) a) in
+    omega (arith, x, t, d)
+key_length_is fields bytes (printed i n d) h = number_length (number (get_or (cells_of fields bytes) i []) (decimals_given d)) (length_given n) (decimals_given d)
+key_length_is fields bytes (dated i) h = date_length (get_or (cells_of fields bytes) i [])

@@ -1,0 +1,73 @@
+-- The tokens behind one that was cut off.
+use Rattle.std.proofs.Common.{◌≡◌, ℕ, zero, suc, List, [], ◌∷◌, ◌++◌, drop, length, ◌+◌, ◌-◌, ◌≤◌, refl, ap, ◌∙◌, cond, eqb, true, false, Bool, arith, ltb, get_or, not, Option, Some, None}
+use Rattle.dbf_fields.specs.declared.field.Field.{Field}
+use Rattle.std.specs.List.{position, position_or_len}
+use Rattle.std.specs.Char.{is_ascii_alphabetic, is_ascii_digit}
+use Rattle.std.proofs.lemmas.Bool.Decides.{nat_tests}
+use Rattle.std.proofs.lemmas.List.Sums.{prefix_len-le-length}
+use Rattle.dbf_fields.specs.Name.{is_name_char}
+use Rattle.key_expr.specs.declared.token.Token.{Token}
+use Rattle.key_expr.specs.Grammar.{EndsInEnd}
+use Rattle.key_expr.specs.Tokens.{tokens_behind, token_length, kind_of, run}
+
+not_below : (b : Bool) (n : ℕ) → cond b (Some n) None ≡ None → b ≡ false
+not_below true n e = absurd cc
+not_below false n e = refl
+
+-- where nothing passes, all the list stands before
+pub position_none : {X : Type 0} (p : X → Bool) (xs : List X) → position p xs ≡ None → length xs ≡ position_or_len p xs
+position_none p xs e =
+    let none : ltb (position_or_len p xs) (length xs) ≡ false = not_below (ltb (position_or_len p xs) (length xs)) (position_or_len p xs) e in
+    let most : position_or_len p xs ≤ length xs = prefix_len-le-length (λ x. not (p x)) xs in
+    grind (arith, nat_tests, none, most)
+
+-- the bytes that belong to the token before are passed over
+pub tokens_past : (fields : List Field) (whole n : ℕ) (bs : List ℕ)
+    → tokens_behind fields whole n bs ≡ tokens_behind fields whole zero (drop n bs)
+tokens_past fields whole zero bs = refl
+tokens_past fields whole (suc n) [] = refl
+tokens_past fields whole (suc n) (b ∷ bs) = tokens_past fields whole n bs
+
+ends_behind : (t : Token) (ts : List Token) → EndsInEnd ts → EndsInEnd (t ∷ ts)
+ends_behind t [] e = absurd e
+ends_behind t (u ∷ ts) e = e
+
+ends_either : (b : Bool) (xs ys : List Token) → EndsInEnd xs → EndsInEnd ys → EndsInEnd (cond b xs ys)
+ends_either true xs ys d e = d
+ends_either false xs ys d e = e
+
+-- the last token is the end
+pub ends_in_end : (fields : List Field) (whole n : ℕ) (bs : List ℕ) → EndsInEnd (tokens_behind fields whole n bs)
+ends_in_end fields whole zero [] = refl
+ends_in_end fields whole (suc n) [] = refl
+ends_in_end fields whole (suc n) (b ∷ bs) = ends_in_end fields whole n bs
+ends_in_end fields whole zero (b ∷ bs) =
+    let t : Token = record { kind = kind_of fields (b ∷ bs); place = whole - length (b ∷ bs) } in
+    let later = tokens_behind fields whole (token_length (b ∷ bs) - 1) bs in
+    ends_either (eqb b 32) (tokens_behind fields whole zero bs) (t ∷ later) (ends_in_end fields whole zero bs)
+    (ends_behind t later (ends_in_end fields whole (token_length (b ∷ bs) - 1) bs))
+
+less_one : (n : ℕ) (b : ℕ) (bs : List ℕ) → 1 ≤ n → drop (n - 1) bs ≡ drop n (b ∷ bs)
+less_one zero b bs h = absurd (omega (arith, h))
+less_one (suc n) b bs h = let e : suc n - 1 ≡ n = omega arith in rw e refl
+
+some_bytes : (p q : Bool) (m n : ℕ) → 1 ≤ cond p (1 + m) (cond q (1 + n) 1)
+some_bytes true q m n = omega arith
+some_bytes false true m n = omega arith
+some_bytes false false m n = omega arith
+
+-- the first token, and the tokens behind its bytes
+pub tokens_next : (fields : List Field) (whole b : ℕ) (bs : List ℕ) → eqb b 32 ≡ false
+    → tokens_behind fields whole zero (b ∷ bs)
+    ≡ record { kind = kind_of fields (b ∷ bs); place = whole - length (b ∷ bs) } ∷ tokens_behind fields whole zero (drop (token_length (b ∷ bs)) (b ∷ bs))
+tokens_next fields whole b bs h =
+    let e : drop (token_length (b ∷ bs) - 1) bs ≡ drop (token_length (b ∷ bs)) (b ∷ bs) = less_one (token_length (b ∷ bs)) b bs (some_bytes (is_ascii_alphabetic b) (is_ascii_digit b) (run is_name_char bs) (run is_ascii_digit bs)) in
+    rw h (ap (λ (ts : List Token). record { kind = kind_of fields (b ∷ bs); place = whole - length (b ∷ bs) } ∷ ts)
+    (tokens_past fields whole (token_length (b ∷ bs) - 1) bs ∙ ap (λ (cs : List ℕ). tokens_behind fields whole zero cs) e))
+
+-- the same of bytes that don't begin with a blank
+pub tokens_step : (fields : List Field) (whole : ℕ) (bs : List ℕ) → 1 ≤ length bs → (get_or bs 0 0 ≡ 32 → ⊥)
+    → tokens_behind fields whole zero bs
+    ≡ record { kind = kind_of fields bs; place = whole - length bs } ∷ tokens_behind fields whole zero (drop (token_length bs) bs)
+tokens_step fields whole [] h other = absurd (omega (arith, h))
+tokens_step fields whole (b ∷ bs) h other = tokens_next fields whole b bs (grind (arith, nat_tests, other))

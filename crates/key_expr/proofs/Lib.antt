@@ -1,0 +1,15 @@
+pub mod Steps
+pub mod Fits
+pub mod Laws
+pub mod Places
+pub mod Unique
+pub mod Windows
+pub mod Lexing
+pub mod FaultLaws
+pub mod PrintLaws
+pub mod KeyLaws
+pub mod Rows
+pub mod KeptLaws
+pub mod Lengths
+pub mod Sizes
+pub mod Parsing

@@ -1,0 +1,40 @@
+-- The machine and what is wanted.
+use Rattle.std.proofs.Common.{◌≡◌, ℕ, List, [], ◌∷◌, ◌++◌, Option, Some, None, refl, sym, ◌∙◌, ap, subst, ◌≤◌, length, arith}
+use Rattle.std.specs.Prelude.{Result, IfErr}
+use Rattle.key_expr.specs.declared.token.Token.{Token}
+use Rattle.key_expr.specs.declared.token.Kind.{Kind}
+use Rattle.key_expr.specs.declared.token.Kind.TheVariants.{Plus, Open, Close, Comma, Upper, Substr, Str, Dtoc, Name, Number, End, Bad}
+use Rattle.key_expr.specs.declared.fault.ExprFault.{ExprFault}
+use Rattle.key_expr.specs.declared.fault.ExprFault.TheVariants.{ExpressionTooLong, BadSyntax, NoSuchField, NotCharacter, BadArgument, KeyTooLong, NoMemory}
+use Rattle.key_expr.specs.Grammar.{Begin}
+use Rattle.key_expr.specs.Machine.{Want, expr, more, misfit, step, IsMisfit}
+
+-- what doesn't fit is the same where both ways lead to one place
+pub misfit-along : (e : ExprFault) (s w : List Want) (ts us : List Token) → misfit s ts ≡ misfit w us → IsMisfit e w us → IsMisfit e s ts
+misfit-along (BadSyntax p) s w ts us same there = same ∙ there
+misfit-along NoMemory s w ts us same there = tt
+misfit-along ExpressionTooLong s w ts us same there = there
+misfit-along NoSuchField s w ts us same there = there
+misfit-along NotCharacter s w ts us same there = there
+misfit-along BadArgument s w ts us same there = there
+misfit-along KeyTooLong s w ts us same there = there
+
+-- past a token that fits
+pub past : (k : Kind) (s : List Want) (wanted : List Want) (ts : List Token) (t : Token) (us : List Token)
+    → ts ≡ t ∷ us → t.kind ≡ k → step s k ≡ Some wanted → misfit s ts ≡ misfit wanted us
+past k s wanted ts t us whole here fits =
+    ap (λ (l : List Token). misfit s l) whole
+    ∙ (ap (λ (o : Option (List Want)). elim o [ None ↦ Some t.place | Some w ↦ misfit w us ]) (ap (λ (x : Kind). step s x) here ∙ fits))
+
+pub begin-then : (ks ls : List Kind) (ts us vs : List Token) → Begin ks ts us → Begin ls us vs → Begin (ks ++ ls) ts vs
+begin-then [] ls ts us vs e f = subst (λ (l : List Token). Begin ls l vs) (sym e) f
+begin-then (k ∷ ks) ls [] us vs e f = absurd e
+begin-then (k ∷ ks) ls (t ∷ ts) us vs e f = (e.0, begin-then ks ls ts us vs e.1 f)
+
+pub begin-first : (k : Kind) (ts : List Token) (t : Token) (us : List Token) → ts ≡ t ∷ us → t.kind ≡ k → Begin (k ∷ []) ts us
+begin-first k ts t us whole here = rw whole (here, refl)
+
+pub begin-shorter : (ks : List Kind) (ts rest : List Token) → Begin ks ts rest → length rest ≤ length ts
+begin-shorter [] ts rest e = rw e (omega arith)
+begin-shorter (k ∷ ks) [] rest e = absurd e
+begin-shorter (k ∷ ks) (t ∷ ts) rest e = let h = begin-shorter ks ts rest e.1 in omega (arith, h)

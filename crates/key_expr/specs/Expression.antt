@@ -1,0 +1,28 @@
+-- What a parsed key expression is.
+use Rattle.std.specs.Prelude.{◌≡◌, ℕ, List, Result, Ok, Err}
+use Rattle.dbf_fields.specs.declared.field.Field.{Field}
+use Rattle.dbf_fields.specs.Schema.{IsSchema}
+use Rattle.key_expr.specs.declared.fault.ExprFault.{ExprFault}
+use Rattle.key_expr.specs.declared.fault.ExprFault.TheVariants.{NoMemory}
+use Rattle.key_expr.specs.Grammar.{Expr}
+use Rattle.key_expr.specs.Keys.{key_length}
+use Rattle.key_expr.specs.Layout.{places_from}
+use Rattle.key_expr.specs.Rules.{IsKeyText}
+
+-- the text, the fields that it was parsed for, and what it says
+pub record Expression : Type 0 where
+  pub text : List ℕ
+  pub fields : List Field
+  pub expr : Expr
+
+-- what is kept beside the text belongs to it
+pub record IsHeld (text : List ℕ) (fields : List Field) (places : List ℕ) (e : Expr) (len : ℕ) : Type 0 where
+  pub schema : IsSchema fields
+  pub read : IsKeyText fields text e
+  pub placed : places ≡ places_from 1 fields
+  pub long : len ≡ key_length fields e
+
+-- the answer is this expression, but for want of memory
+abbrev pub IsAnswer : Result Expression ExprFault → Expr → Type 0
+IsAnswer (Ok parsed) e = parsed.expr ≡ e
+IsAnswer (Err fault) e = fault ≡ NoMemory

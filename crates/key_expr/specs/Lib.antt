@@ -1,0 +1,12 @@
+pub mod Grammar
+pub mod Machine
+pub mod Seen
+pub mod KeyBytes
+pub mod Tokens
+pub mod Layout
+pub mod Printing
+pub mod Keys
+pub mod Rules
+pub mod Windows
+pub mod ExprCode
+pub mod Expression

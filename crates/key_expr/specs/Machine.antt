@@ -1,0 +1,65 @@
+-- Which token fits next: a stack of what is still wanted.
+use Rattle.std.specs.Prelude.{◌≡◌, ℕ, List, [], ◌∷◌, ◌++◌, Option, Some, None}
+use Rattle.key_expr.specs.declared.token.Token.{Token}
+use Rattle.key_expr.specs.declared.token.Kind.{Kind}
+use Rattle.key_expr.specs.declared.token.Kind.TheVariants.{Plus, Open, Close, Comma, Upper, Substr, Str, Dtoc, Name, Number, End, Bad}
+use Rattle.key_expr.specs.declared.fault.ExprFault.{ExprFault}
+use Rattle.key_expr.specs.declared.fault.ExprFault.TheVariants.{BadSyntax, NoMemory}
+
+pub data Want : Type 0 where
+  expr : Want
+  more : Want
+  name : Want
+  number : Want
+  open_ : Want
+  close : Want
+  comma : Want
+  finish : Want
+  lengths : Want
+  points : Want
+
+-- what is wanted after a token of the kind, where it fits
+abbrev pub step : List Want → Kind → Option (List Want)
+step [] k = None
+step (expr ∷ s) Open = Some (expr ∷ close ∷ more ∷ s)
+step (expr ∷ s) Upper = Some (open_ ∷ expr ∷ close ∷ more ∷ s)
+step (expr ∷ s) Substr = Some (open_ ∷ expr ∷ comma ∷ number ∷ comma ∷ number ∷ close ∷ more ∷ s)
+step (expr ∷ s) Str = Some (open_ ∷ name ∷ lengths ∷ more ∷ s)
+step (expr ∷ s) Dtoc = Some (open_ ∷ name ∷ close ∷ more ∷ s)
+step (expr ∷ s) (Name p) = Some (more ∷ s)
+step (expr ∷ s) k = None
+step (more ∷ s) Plus = Some (expr ∷ s)
+step (more ∷ s) k = step s k
+step (name ∷ s) (Name p) = Some s
+step (name ∷ s) k = None
+step (number ∷ s) (Number n) = Some s
+step (number ∷ s) k = None
+step (open_ ∷ s) Open = Some s
+step (open_ ∷ s) k = None
+step (close ∷ s) Close = Some s
+step (close ∷ s) k = None
+step (comma ∷ s) Comma = Some s
+step (comma ∷ s) k = None
+step (finish ∷ s) End = Some s
+step (finish ∷ s) k = None
+step (lengths ∷ s) Comma = Some (number ∷ points ∷ s)
+step (lengths ∷ s) Close = Some s
+step (lengths ∷ s) k = None
+step (points ∷ s) Comma = Some (number ∷ close ∷ s)
+step (points ∷ s) Close = Some s
+step (points ∷ s) k = None
+
+abbrev pub misfit_at_end : List Want → Option ℕ
+misfit_at_end [] = None
+misfit_at_end (w ∷ s) = Some 0
+
+-- the place of the first token that doesn't fit
+abbrev pub misfit : List Want → List Token → Option ℕ
+misfit s [] = misfit_at_end s
+misfit s (t ∷ ts) = elim (step s t.kind) [ None ↦ Some t.place | Some wanted ↦ misfit wanted ts ]
+
+-- a fault that is answered is the place of the first token that doesn't fit, but for want of memory
+abbrev pub IsMisfit : ExprFault → List Want → List Token → Type 0
+IsMisfit (BadSyntax place) s ts = misfit s ts ≡ Some place
+IsMisfit NoMemory s ts = Unit {0}
+IsMisfit fault s ts = ⊥

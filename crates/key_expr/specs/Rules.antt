@@ -1,0 +1,60 @@
+-- The rules on fields and arguments, and which texts are key expressions.
+use Rattle.std.specs.Prelude.{◌≡◌, ℕ, ◌≤◌, ◌<◌, Bool, true, false, ◌&&◌, ◌==◌, nat_le, nat_lt, List, [], ◌∷◌, ◌++◌, length, Option, Some, None}
+use Rattle.std.specs.List.{slice_get}
+use Rattle.std.specs.Int.{is_in_range}
+use Rattle.dbf_fields.specs.declared.field.Field.{Field}
+use Rattle.dbf_fields.specs.declared.field.TheConstants.{CHARACTER, NUMBER, DATE}
+use Rattle.dbf_fields.specs.Faults.{first_fault}
+use Rattle.key_expr.specs.declared.fault.ExprFault.{ExprFault}
+use Rattle.key_expr.specs.declared.fault.ExprFault.TheVariants.{ExpressionTooLong, BadSyntax, NoSuchField, NotCharacter, BadArgument, KeyTooLong, NoMemory}
+use Rattle.key_expr.specs.Grammar.{Expr, cell, joined, raised, slice, printed, dated, IsText, IsBadAt}
+use Rattle.key_expr.specs.Tokens.{tokens_of}
+use Rattle.key_expr.specs.Keys.{length_given, decimals_given, key_length}
+
+-- the field is of the kind
+abbrev pub has_kind : List Field → ℕ → ℕ → Bool
+has_kind fields i kind = elim (slice_get fields i) [ None ↦ false | Some f ↦ f.kind == kind ]
+
+-- the decimals are the number's, and the length is at least its width and at most 100
+abbrev pub can_print : List Field → ℕ → ℕ → ℕ → Bool
+can_print fields i width decimals = elim (slice_get fields i) [
+  | None ↦ false
+  | Some f ↦ (decimals == f.decimals) && is_in_range f.width 100 width
+]
+
+-- the tests of a field that has to be of a kind
+abbrev pub field_tests : List Field → ℕ → ℕ → List (Bool × ExprFault)
+field_tests fields i kind = (nat_lt i (length fields), NoSuchField) ∷ (has_kind fields i kind, NotCharacter) ∷ []
+
+-- the tests of an expression from left to right, a term's arguments before the term
+abbrev pub tests : List Field → Expr → List (Bool × ExprFault)
+tests fields (cell i) = field_tests fields i CHARACTER
+tests fields (joined a b) = tests fields a ++ tests fields b
+tests fields (raised a) = tests fields a
+tests fields (slice a from count) = tests fields a ++ (is_in_range 1 (key_length fields a) from && nat_le 1 count, BadArgument) ∷ []
+tests fields (printed i n d) = field_tests fields i NUMBER ++ (can_print fields i (length_given n) (decimals_given d), BadArgument) ∷ []
+tests fields (dated i) = field_tests fields i DATE
+
+-- the first rule that an expression breaks
+abbrev pub refusal : List Field → Expr → Option ExprFault
+refusal fields e = first_fault (tests fields e ++ (nat_le (key_length fields e) 100, KeyTooLong) ∷ [])
+
+-- the text is the expression, and keeps the rules
+pub record IsKeyText (fields : List Field) (text : List ℕ) (e : Expr) : Type 0 where
+  pub short : length text ≤ 488
+  pub read : IsText e (tokens_of fields text)
+  pub kept : refusal fields e ≡ None
+
+-- a text of the grammar whose expression breaks a rule, this one first
+abbrev pub Breaks : ExprFault → List Field → List ℕ → Type 0
+Breaks fault fields text = (length text ≤ 488) × ((e : Expr) × IsText e (tokens_of fields text) × (refusal fields e ≡ Some fault))
+
+-- what a fault says of the text: the first of the rules that it breaks
+abbrev pub IsFault : ExprFault → List Field → List ℕ → Type 0
+IsFault ExpressionTooLong fields text = 488 < length text
+IsFault (BadSyntax place) fields text = (length text ≤ 488) × IsBadAt place (tokens_of fields text)
+IsFault NoMemory fields text = Unit {0}
+IsFault NoSuchField fields text = Breaks NoSuchField fields text
+IsFault NotCharacter fields text = Breaks NotCharacter fields text
+IsFault BadArgument fields text = Breaks BadArgument fields text
+IsFault KeyTooLong fields text = Breaks KeyTooLong fields text

@@ -1,0 +1,23 @@
+-- Which bytes of a key are asked for, and the run of bytes in which they are looked up.
+use Rattle.std.specs.Prelude.{◌≡◌, ℕ, ◌+◌, Bool, true, false, List, length, map, take, drop}
+use Rattle.std.specs.Char.{to_ascii_uppercase}
+use Rattle.dbf_fields.specs.declared.field.Field.{Field}
+use Rattle.dbf_fields.specs.Field.{widths}
+use Rattle.dbf_fields.specs.Schema.{IsSchema}
+use Rattle.key_expr.specs.declared.evaluate.Window.{Window}
+use Rattle.key_expr.specs.Layout.{places_from}
+
+-- a byte, in capitals if so asked
+abbrev pub cased : Bool → ℕ → ℕ
+cased true b = to_ascii_uppercase b
+cased false b = b
+
+-- the bytes that are asked for
+abbrev pub seen_through : Window → List ℕ → List ℕ
+seen_through w bytes = map (cased w.raised) (take w.count (drop w.from bytes))
+
+-- a record of a schema, with the places of its cells
+pub record IsRow (fields : List Field) (places : List ℕ) (record_bytes : List ℕ) : Type 0 where
+  pub schema : IsSchema fields
+  pub placed : places ≡ places_from 1 fields
+  pub long : length record_bytes ≡ 1 + widths fields

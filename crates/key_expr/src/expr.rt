@@ -1,0 +1,180 @@
+//! Key expressions: how they are read, and the keys that they give.
+
+ghost use Rattle.std.specs.Prelude.{◌≡◌, ◌+◌, ◌≤◌, length, drop, take, IfOk, IfErr};
+ghost use Rattle.dbf_fields.specs.Field.{widths};
+ghost use Rattle.key_expr.specs.Grammar.{Expr};
+ghost use Rattle.key_expr.specs.Seen.{seen};
+ghost use Rattle.key_expr.specs.Keys.{key, key_length};
+ghost use Rattle.key_expr.specs.Layout.{cells_of, places_from};
+ghost use Rattle.key_expr.specs.Rules.{IsKeyText, IsFault};
+ghost use Rattle.key_expr.specs.Expression.{IsAnswer};
+
+use crate::check::check_all;
+use crate::evaluate::{Row, Window, put};
+use crate::fault::ExprFault;
+use crate::key::Key;
+use crate::lexer::tokens_of;
+use crate::parser::read_tokens;
+use crate::tree::Tree;
+use dbf_fields::{Field, Schema};
+use std::alloc::{AllocError, Global};
+use std::marker::Model;
+
+/// The longest text of a key expression, in bytes.
+pub const EXPRESSION_MAX: usize = 488;
+
+/// A key expression that was read for the fields of a schema, and keeps all rules.
+///
+/// Contracts see its text, the fields, and the expression that the text is.
+#[derive(Drop)]
+pub struct KeyExpr {
+    text: Vec<u8>,
+    schema: Schema,
+    places: Vec<usize>,
+    tree: Tree,
+    key_len: usize,
+}
+
+impl Model for KeyExpr {
+    ghost use Rattle.key_expr.specs.Expression.{Expression, IsHeld};
+    ghost use Rattle.key_expr.specs.Seen.{seen};
+    ghost use Rattle.key_expr.specs.ExprCode.{expr_code};
+    ghost use Rattle.std.specs.Coded.{codes};
+
+    ghost Value = { Expression };
+
+    ghost coded = { Prim.hlevel (codes, expr_code) };
+
+    ghost view = { λ e. record { text = e.text.items; fields = e.schema; expr = seen e.tree } };
+
+    ghost invariant = { λ e. IsHeld e.text.items e.schema e.places.items (seen e.tree) e.key_len };
+}
+
+// The tree of a text and the length of its keys.
+fn read_text(alloc: Global, text: &[u8], fields: &[Field]) -> Result<(Tree, usize), ExprFault>
+    ensures read { IfOk result (λ pair. IsKeyText fields.now text.now (seen pair.0)) }
+    ensures long { IfOk result (λ pair. pair.1 ≡ key_length fields.now (seen pair.0)) }
+    ensures refused { IfErr result (λ fault. IsFault fault fields.now text.now) }
+{
+    if text.len() > EXPRESSION_MAX {
+        return Err(ExprFault::ExpressionTooLong);
+    }
+    let tokens = tokens_of(alloc, fields, text)?;
+    let tree = read_tokens(alloc, &tokens)?;
+    let key_len = check_all(&tree, fields)?;
+    Ok((tree, key_len))
+}
+
+// The places of the cells in a record, behind its flag byte.
+fn places_of(alloc: Global, fields: &[Field]) -> Result<Vec<usize>, AllocError>
+    requires short { widths fields.now ≤ 4000 }
+    ensures value { IfOk result (λ places. places.items ≡ places_from 1 fields.now) }
+{
+    let mut places = Vec::new(alloc);
+    let mut place = 1;
+    for field in fields {
+        places.push(place)?;
+        place += usize::from(field.width);
+    }
+    Ok(places)
+}
+
+impl KeyExpr {
+    /// Reads a key expression for the fields of a schema.
+    ///
+    /// ```text
+    /// expr  = term { "+" term }
+    /// term  = field | "(" expr ")" | "UPPER(" expr ")"
+    ///       | "SUBSTR(" expr "," number "," number ")"
+    ///       | "STR(" field [ "," number [ "," number ] ] ")" | "DTOC(" field ")"
+    /// ```
+    ///
+    /// Case doesn't matter, and blanks may stand before and after every token. A name before a parenthesis
+    /// is a function's, else a field's, of up to 10 bytes; a number has 1 to 3 digits.
+    ///
+    /// - A field that stands alone is of characters, and gives its cell. `+` joins. `UPPER` raises the
+    ///   letters a to z.
+    /// - `SUBSTR(e, s, l)` gives the bytes s to s + l - 1 of e, counted from 1, as far as e goes; s is from 1 to
+    ///   the length of e, and l at least 1.
+    /// - `STR(f, length, decimals)` prints a number right-justified. The length is 10 and the decimals are 0
+    ///   where they are missing; the decimals are those of the field, the length is at least the field's
+    ///   width and at most 100. Where the cell can't be read or the text is too long, it prints asterisks.
+    /// - `DTOC(f)` prints a date as `MM/DD/YY`: the blank date as `  /  /  `, a cell that is no date as
+    ///   `**/**/**`.
+    ///
+    /// The faults, in order: `ExpressionTooLong` over 488 bytes; `BadSyntax`, judged for the whole text; then
+    /// term by term from left to right, a term's arguments before the term, `NoSuchField`, `NotCharacter` for
+    /// a field of the wrong kind in its place, and `BadArgument`; `KeyTooLong` for keys over 100 bytes.
+    /// `NoMemory` may stand in place of what would have come after the growth that was refused.
+    pub fn parse(alloc: Global, text: &[u8], schema: &Schema) -> Result<KeyExpr, ExprFault>
+        ensures text { IfOk result (λ e. e.text ≡ text.now) }
+        ensures fields { IfOk result (λ e. e.fields ≡ schema.now) }
+        ensures read { IfOk result (λ e. IsKeyText schema.now text.now e.expr) }
+        ensures only { (e : Expr) → IsKeyText schema.now text.now e → IsAnswer result e }
+        ensures refused { IfErr result (λ fault. IsFault fault schema.now text.now) }
+    {
+        let (tree, key_len) = read_text(alloc, text, schema.fields())?;
+        let places = places_of(alloc, schema.fields())?;
+        let text = Vec::from_slice(alloc, text)?;
+        let schema = schema.copy(alloc)?;
+        Ok(KeyExpr {
+            text,
+            schema,
+            places,
+            tree,
+            key_len,
+        })
+    }
+
+    /// The text that was read, byte for byte. Takes no memory.
+    pub fn text(&self) -> &[u8]
+        ensures text { result.now ≡ self.now.text }
+        ensures read { IsKeyText self.now.fields self.now.text self.now.expr }
+    {
+        self.text.as_slice()
+    }
+
+    /// How many bytes each key has, 1 to `KEY_MAX`. Takes no memory.
+    pub fn key_len(&self) -> usize
+        ensures value { result ≡ key_length self.now.fields self.now.expr }
+        ensures some { 1 ≤ result }
+        ensures short { result ≤ 100 }
+    {
+        self.key_len
+    }
+
+    /// The key of a record, which is lent as its run of bytes: the flag byte, then the cells in the order of
+    /// the fields. Takes no memory.
+    pub fn key_of(&self, run: &[u8]) -> Key
+        requires long { length run.now ≡ 1 + widths self.now.fields }
+        ensures key { result ≡ key (cells_of self.now.fields (drop 1 run.now)) self.now.expr }
+        ensures long { length result ≡ key_length self.now.fields self.now.expr }
+    {
+        let row = Row {
+            record: run,
+            fields: self.schema.fields(),
+            places: self.places.as_slice(),
+        };
+        let whole = Window {
+            from: 0,
+            count: self.key_len,
+            raised: false,
+        };
+        let mut out = Key::default();
+        put(&mut out, &self.tree, row, whole);
+        out
+    }
+
+    /// The same expression once more, or an error where memory is refused.
+    pub fn copy(&self, alloc: Global) -> Result<KeyExpr, AllocError>
+        ensures value { IfOk result (λ e. e ≡ self.now) }
+    {
+        Ok(KeyExpr {
+            text: Vec::from_slice(alloc, self.text.as_slice())?,
+            schema: self.schema.copy(alloc)?,
+            places: Vec::from_slice(alloc, self.places.as_slice())?,
+            tree: self.tree.copy(alloc)?,
+            key_len: self.key_len,
+        })
+    }
+}

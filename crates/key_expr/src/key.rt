@@ -1,0 +1,135 @@
+//! The bytes that a record is sorted by.
+
+ghost use Rattle.std.specs.Prelude.{◌≡◌, ◌<◌, ◌≤◌, ◌∷◌, ◌++◌, [], length};
+
+use std::cmp::Ordering;
+use std::marker::Model;
+
+/// The longest key, in bytes.
+pub const KEY_MAX: usize = 100;
+
+/// The bytes that a record is sorted by, at most `KEY_MAX`. Contracts see their list.
+///
+/// Keys are compared byte by byte; where one is the beginning of the other, the shorter is less.
+#[derive(Clone, Copy)]
+pub struct Key {
+    bytes: [u8; KEY_MAX],
+    len: usize,
+}
+
+impl Model for Key {
+    ghost use Rattle.std.specs.Prelude.{ℕ, List};
+
+    ghost Value = { List ℕ };
+
+    ghost use Rattle.key_expr.specs.KeyBytes.{bytes_of, IsPadded, padded, padded-bytes_of};
+
+    ghost view = { bytes_of };
+
+    ghost invariant = { IsPadded };
+
+    ghost inverse = { padded };
+
+    ghost inverse_ok = { padded-bytes_of };
+}
+
+impl Key {
+    /// The key of these bytes, which are at most `KEY_MAX`. Takes no memory.
+    pub fn new(bytes: &[u8]) -> Self
+        requires short { length bytes.now ≤ 100 }
+        ensures bytes { result ≡ bytes.now }
+    {
+        let mut padded = [0; KEY_MAX];
+        for (i, byte) in bytes.iter().enumerate() {
+            padded[i] = *byte;
+        }
+        Key {
+            bytes: padded,
+            len: bytes.len(),
+        }
+    }
+
+    /// Puts a byte behind the others.
+    pub(crate) fn push(&mut self, byte: u8)
+        requires room { length self.old < 100 }
+        ensures value { self.new ≡ self.old ++ byte ∷ [] }
+    {
+        self.bytes[self.len] = byte;
+        self.len += 1;
+    }
+
+    /// The bytes of the key.
+    pub fn as_bytes(&self) -> &[u8]
+        ensures bytes { result.now ≡ self.now }
+        ensures short { length self.now ≤ 100 }
+    {
+        &self.bytes[..self.len]
+    }
+}
+
+impl PartialEq for Key {
+    ghost use Rattle.std.specs.Prelude.{nat_eq};
+    ghost use Rattle.std.specs.Cmp.Lexicographic.{pointwise};
+    ghost use Rattle.std.specs.Cmp.Rules.{comparing};
+    ghost use Rattle.std.proofs.Common.{rules};
+
+    ghost eq = { pointwise nat_eq };
+
+    ghost laws = { Prim.search (comparing, rules) };
+
+    fn eq(&self, other: &Key) -> bool {
+        self.as_bytes() == other.as_bytes()
+    }
+}
+
+impl Eq for Key {
+    ghost use Rattle.std.specs.Cmp.Rules.{comparing};
+    ghost use Rattle.std.proofs.Common.{rules};
+
+    ghost laws = { Prim.search (comparing, rules) };
+}
+
+impl Ord for Key {
+    ghost use Rattle.std.specs.Cmp.Lexicographic.{slice_cmp};
+    ghost use Rattle.std.specs.Ordering.{nat_cmp};
+    ghost use Rattle.std.specs.Cmp.Rules.{comparing};
+    ghost use Rattle.std.proofs.Common.{rules};
+
+    ghost cmp = { slice_cmp nat_cmp };
+
+    ghost total = { Prim.search (comparing, rules) };
+
+    ghost matches_partial_cmp = { Prim.search (comparing, rules) };
+
+    ghost matches_eq = { Prim.search (comparing, rules) };
+
+    fn cmp(&self, other: &Key) -> Ordering {
+        self.as_bytes().cmp(&other.as_bytes())
+    }
+}
+
+impl PartialOrd for Key {
+    ghost use Rattle.std.specs.Cmp.Lexicographic.{slice_cmp};
+    ghost use Rattle.std.specs.Cmp.{partial_order_from_own_ties};
+    ghost use Rattle.std.specs.Ordering.{nat_cmp, as_partial_cmp};
+    ghost use Rattle.std.specs.Cmp.Rules.{comparing};
+    ghost use Rattle.std.proofs.Common.{rules};
+
+    ghost partial_cmp = { as_partial_cmp (slice_cmp nat_cmp) };
+
+    ghost laws = { partial_order_from_own_ties (Prim.search (comparing, rules)) (Prim.search (comparing, rules)) };
+
+    fn partial_cmp(&self, other: &Key) -> Option<Ordering> {
+        Some(self.cmp(other))
+    }
+}
+
+impl Default for Key {
+    ghost use Rattle.std.specs.Prelude.{◌≡◌, []};
+
+    ghost is_default = { λ k. k ≡ [] };
+
+    fn default() -> Key {
+        Key::new(&[])
+    }
+}

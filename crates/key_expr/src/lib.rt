@@ -1,0 +1,29 @@
+//! Key expressions of dBASE III PLUS indexes: their text, and the key that they give of a record.
+//!
+//! `KeyExpr::parse` accepts exactly the texts of the grammar that keep the rules on fields and arguments
+//! for a schema, and tells of every other text the first rule that it breaks; `KeyExpr::key_of` gives the
+//! key of a record, which is defined by cases on the expression. Start reading at `expr.rt`, then
+//! `specs/Grammar.antt`, `specs/Rules.antt` and `specs/Keys.antt`; the text becomes tokens in `lexer.rt`,
+//! those become a tree in `parser.rt`, which `check.rt` judges and `evaluate.rt` evaluates.
+#![tactic(auto)]
+
+mod check;
+mod evaluate;
+mod expr;
+mod fault;
+mod key;
+mod lexer;
+mod parser;
+mod print;
+mod text;
+mod token;
+mod tree;
+
+pub use expr::{EXPRESSION_MAX, KeyExpr};
+pub use fault::ExprFault;
+pub use key::{KEY_MAX, Key};
+pub use parser::one_reading;
+pub use token::{Kind, Token};
+
+#[cfg(test)]
+mod tests;

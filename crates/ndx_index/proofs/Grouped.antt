@@ -1,0 +1,71 @@
+-- Lists in groups.
+use Rattle.std.proofs.Common.{◌≡◌, ◌≢◌, ℕ, zero, suc, ◌+◌, ◌≤◌, List, [], ◌∷◌, ◌++◌, length, take, drop, refl, ap, ◌∙◌, inl, inr, arith, length-append, length-drop}
+use Rattle.std.specs.Prelude.{flat_map}
+use Rattle.std.specs.List.{AllByRecursion}
+use Rattle.std.proofs.lemmas.Bool.{cases_eq, ne_eqb, eq-eqb}
+use Rattle.std.proofs.lemmas.List.{take-append-drop, length-take}
+use Rattle.ndx_index.specs.Image.{groups, leaf_bite, inner_bite}
+
+abbrev pub joined : {X : Type 0} → List (List X) → List X
+joined gs = flat_map (λ g. g) gs
+
+pub groups-join : {X : Type 0} (bite : ℕ → ℕ) (fuel : ℕ) (xs : List X) → length xs ≤ fuel → ((n : ℕ) → 1 ≤ bite n) → joined (groups bite fuel xs) ≡ xs
+groups-join bite zero [] h b = refl
+groups-join bite zero (x ∷ xs) h b = absurd (omega arith)
+groups-join bite (suc f) [] h b = refl
+groups-join bite (suc f) (x ∷ xs) h b =
+    let n : ℕ = bite (length (x ∷ xs)) in
+    let some : 1 ≤ n = b (length (x ∷ xs)) in
+    let less : length (drop n (x ∷ xs)) ≤ f = omega (arith, length-drop n (x ∷ xs)) in
+    ap (λ ys. take n (x ∷ xs) ++ ys) (groups-join bite f (drop n (x ∷ xs)) less b) ∙ take-append-drop n (x ∷ xs)
+
+-- the number of elements of a group is from `low` to `high`
+pub record HasSize {X : Type 0} (from to : ℕ) (g : List X) : Type 0 where
+  pub low : from ≤ length g
+  pub high : length g ≤ to
+
+pub leaf_groups : {X : Type 0} (k fuel : ℕ) (xs : List X) → 1 ≤ k → AllByRecursion (HasSize 1 k) (groups (leaf_bite k) fuel xs)
+leaf_groups k zero xs h = tt
+leaf_groups k (suc f) [] h = tt
+leaf_groups k (suc f) (x ∷ xs) h =
+    (record { low = omega (arith, length-take k (x ∷ xs)); high = omega (arith, length-take k (x ∷ xs)) }, leaf_groups k f (drop k (x ∷ xs)) h)
+
+pub bite_some : (k : ℕ) → 1 ≤ k → (n : ℕ) → 1 ≤ inner_bite k n
+bite_some k h n = elim (cases_eq n (k + 2)) [
+  | inl e ↦ rw (eq-eqb n (k + 2) e) h
+  | inr ne ↦ rw (ne_eqb n (k + 2) ne) (omega arith)
+]
+
+pub inner_groups : {X : Type 0} (k fuel : ℕ) (xs : List X) → 2 ≤ k → length xs ≢ 1 → AllByRecursion (HasSize 2 (k + 1)) (groups (inner_bite k) fuel xs)
+inner_groups k zero xs h ne = tt
+inner_groups k (suc f) [] h ne = tt
+inner_groups k (suc f) (x ∷ xs) h ne = elim (cases_eq (length (x ∷ xs)) (k + 2)) [
+  | inl e ↦
+      let b : inner_bite k (length (x ∷ xs)) ≡ k = rw (eq-eqb (length (x ∷ xs)) (k + 2) e) refl in
+      rw b (
+        record { low = omega (arith, length-take k (x ∷ xs)); high = omega (arith, length-take k (x ∷ xs)) },
+        inner_groups k f (drop k (x ∷ xs)) h (λ one. absurd (omega (arith, length-drop k (x ∷ xs)))),
+      )
+  | inr differs ↦
+      let b : inner_bite k (length (x ∷ xs)) ≡ k + 1 = rw (ne_eqb (length (x ∷ xs)) (k + 2) differs) refl in
+      rw b (
+        record { low = omega (arith, length-take (k + 1) (x ∷ xs)); high = omega (arith, length-take (k + 1) (x ∷ xs)) },
+        inner_groups k f (drop (k + 1) (x ∷ xs)) h (λ one. absurd (omega (arith, length-drop (k + 1) (x ∷ xs)))),
+      )
+]
+
+pub count_two : {X : Type 0} (high : ℕ) (gs : List (List X)) → AllByRecursion (HasSize 2 high) gs → length gs + length gs ≤ length (joined gs)
+count_two high [] h = omega arith
+count_two high (g ∷ gs) h = omega (arith, length-append g (joined gs), count_two high gs h.1, h.0.low)
+
+pub count_one : {X : Type 0} (high : ℕ) (gs : List (List X)) → AllByRecursion (HasSize 1 high) gs → length gs ≤ length (joined gs)
+count_one high [] h = omega arith
+count_one high (g ∷ gs) h = omega (arith, length-append g (joined gs), count_one high gs h.1, h.0.low)
+
+pub all_front : {X : Type 0} (P : X → Type 0) (xs ys : List X) → AllByRecursion P (xs ++ ys) → AllByRecursion P xs × AllByRecursion P ys
+all_front P [] ys h = (tt, h)
+all_front P (x ∷ xs) ys h = let r = all_front P xs ys h.1 in ((h.0, r.0), r.1)
+
+pub all_groups : {X : Type 0} (P : X → Type 0) (gs : List (List X)) → AllByRecursion P (joined gs) → AllByRecursion (AllByRecursion P) gs
+all_groups P [] h = tt
+all_groups P (g ∷ gs) h = let r = all_front P g (joined gs) h in (r.0, all_groups P gs r.1)

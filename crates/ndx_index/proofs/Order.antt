@@ -1,0 +1,206 @@
+-- Pairs in order.
+use Rattle.std.proofs.Common.{◌≡◌, ℕ, zero, suc, ◌<◌, ◌≤◌, Bool, true, false, not, cond, List, [], ◌∷◌, length, get_or, Contains, refl, ap, sym, ◌∙◌, subst, inl, inr, ◌⊎◌, arith}
+use Rattle.std.specs.declared.cmp.Ordering.{Ordering}
+use Rattle.std.specs.declared.cmp.Ordering.TheVariants.{Less, Equal, Greater}
+use Rattle.std.specs.Cmp.{IsTotalOrder}
+use Rattle.std.specs.Cmp.Lexicographic.{slice_cmp, pointwise, texts_ties}
+use Rattle.std.specs.Prelude.{nat_eq, ◌&&◌}
+use Rattle.std.specs.Ordering.{nat_cmp, ordering_then, is_lt, is_eq, ordering_reverse}
+use Rattle.std.specs.List.{insert, remove, filter, AllByRecursion}
+use Rattle.std.specs.List.Sorted.{IsStrictlySortedBy, IsPartitionedBy}
+use Rattle.std.proofs.lemmas.Bool.{cases_eq, cases_lt, false≢true}
+use Rattle.std.proofs.lemmas.Bool.Decides.{nat_tests}
+use Rattle.std.proofs.lemmas.List.{get_or_default}
+use Rattle.std.proofs.lemmas.Cmp.{then_total, on_total, nat_list_cmp_total, nat_cmp_total, tied_itself}
+use Rattle.std.proofs.lemmas.Map.Lookups.{CmpEqualImpliesEq, exact_pairs, exact_bytes, exact_unsigned}
+use Rattle.std.proofs.lemmas.Map.Keys.{Less-from_sorted}
+use Rattle.ndx_index.specs.declared.pair.Pair.{Pair}
+use Rattle.ndx_index.specs.Order.{pair_cmp, before, same, placed, without, AreInOrder}
+use Rattle.ndx_index.proofs.Parts.{filter_all, filter_but}
+
+pub pairs_total : IsTotalOrder pair_cmp
+pairs_total = then_total (on_total (λ (p : Pair). p.key) nat_list_cmp_total) (on_total (λ (p : Pair). p.number) nat_cmp_total)
+
+-- pairs that compare alike are one
+pub exact_pair : CmpEqualImpliesEq pair_cmp
+exact_pair a b h = ap (λ (p : List ℕ × ℕ). record { key = p.0; number = p.1 }) (exact_pairs (slice_cmp nat_cmp) nat_cmp exact_bytes exact_unsigned (a.key, a.number) (b.key, b.number) h)
+
+Less-from_is_lt : (o : Ordering) → is_lt o ≡ true → o ≡ Less
+Less-from_is_lt Less h = refl
+Less-from_is_lt Equal h = absurd (false≢true h)
+Less-from_is_lt Greater h = absurd (false≢true h)
+
+Equal-from_is_eq : (o : Ordering) → is_eq o ≡ true → o ≡ Equal
+Equal-from_is_eq Equal h = refl
+Equal-from_is_eq Less h = absurd (false≢true h)
+Equal-from_is_eq Greater h = absurd (false≢true h)
+
+pub before_is : (a b : Pair) → before a b ≡ true → pair_cmp a b ≡ Less
+before_is a b h = Less-from_is_lt (pair_cmp a b) h
+
+pub before_trans : (a b c : Pair) → pair_cmp a b ≡ Less → pair_cmp b c ≡ Less → pair_cmp a c ≡ Less
+before_trans a b c = pairs_total.trans a b c
+
+pub same_is : (a b : Pair) → same a b ≡ true → a ≡ b
+same_is a b h = exact_pair a b (Equal-from_is_eq (pair_cmp a b) h)
+
+pub irreflexive : (p : Pair) → pair_cmp p p ≡ Less → ⊥
+irreflexive p h = let tie = tied_itself pairs_total p in cc
+
+pub same_itself : (a : Pair) → same a a ≡ true
+same_itself a = ap is_eq (tied_itself pairs_total a)
+
+-- of two different pairs, one stands before the other
+turned : (o r : Ordering) → r ≡ ordering_reverse o → is_lt o ≡ false → (o ≡ Equal → ⊥) → r ≡ Less
+turned Less r e h ne = absurd (false≢true (sym h))
+turned Equal r e h ne = absurd (ne refl)
+turned Greater r e h ne = e
+
+pub before_other : (q p : Pair) → before q p ≡ false → (q ≡ p → ⊥) → pair_cmp p q ≡ Less
+before_other q p h ne = turned (pair_cmp q p) (pair_cmp p q) (pairs_total.antisymm p q) h (λ e. ne (exact_pair q p e))
+
+-- a pair before another is not the same
+differs-from_less : (o : Ordering) → o ≡ Less → is_eq o ≡ false
+differs-from_less o e = ap is_eq e
+
+differs-from_greater : (o r : Ordering) → r ≡ ordering_reverse o → o ≡ Less → is_eq r ≡ false
+differs-from_greater o r e h = ap is_eq (e ∙ ap ordering_reverse h)
+
+-- a test that holds of each pair before one of which it holds
+pub parted_by : (u : Pair → Bool) → ((a b : Pair) → pair_cmp a b ≡ Less → u b ≡ true → u a ≡ true) → (ps : List Pair) → AreInOrder ps → IsPartitionedBy u ps
+parted_by u down ps sorted i j d le lt h = elim (cases_eq i j) [
+  | inl e ↦ subst (λ k. u (get_or ps k d) ≡ true) (sym e) h
+  | inr ne ↦ down (get_or ps i d) (get_or ps j d) (Less-from_sorted pair_cmp ps i j d sorted (omega arith) lt) h
+]
+
+pub parted-before : (p : Pair) (ps : List Pair) → AreInOrder ps → IsPartitionedBy (λ q. before q p) ps
+parted-before p = parted_by (λ q. before q p) (λ a b h k. ap is_lt (before_trans a b p h (before_is b p k)))
+
+-- a pair goes to its place
+pub placed_at : (p : Pair) (ps : List Pair) (i : ℕ) → ((k : ℕ) (d : Pair) → k < i → before (get_or ps k d) p ≡ true) → ((d : Pair) → i < length ps → before (get_or ps i d) p ≡ false) → i ≤ length ps → insert ps i p ≡ placed p ps
+placed_at p [] zero low here le = refl
+placed_at p [] (suc i) low here le = absurd (omega arith)
+placed_at p (q ∷ qs) zero low here le = rw (here q (omega arith))
+placed_at p (q ∷ qs) (suc i) low here le = rw (low 0 q (omega arith)) (ap (λ ys. q ∷ ys) (placed_at p qs i (λ k d h. low (suc k) d (omega arith)) (λ d h. here d (omega arith)) (omega arith)))
+
+pub all-placed : (P : Pair → Type 0) (p : Pair) (ps : List Pair) → P p → AllByRecursion P ps → AllByRecursion P (placed p ps)
+all-placed P p [] h all = (h, tt)
+all-placed P p (q ∷ qs) h all = elim (before q p) as (λ b. AllByRecursion P (cond b (q ∷ placed p qs) (p ∷ q ∷ qs))) [
+  | true ↦ (all.0, all-placed P p qs h all.1)
+  | false ↦ (h, all)
+]
+
+all_weaker : (P Q : Pair → Type 0) → ((q : Pair) → P q → Q q) → (ps : List Pair) → AllByRecursion P ps → AllByRecursion Q ps
+all_weaker P Q f [] all = tt
+all_weaker P Q f (q ∷ qs) all = (f q all.0, all_weaker P Q f qs all.1)
+
+pub contains_more : (q : Pair) (qs : List Pair) (p : Pair) → Contains qs p → Contains (q ∷ qs) p
+contains_more q qs p h = (suc h.0, omega (arith, h.1), h.2)
+
+-- a new pair keeps the order
+pub sorted_placed : (p : Pair) (ps : List Pair) → AreInOrder ps → (Contains ps p → ⊥) → AreInOrder (placed p ps)
+unfolding IsStrictlySortedBy
+sorted_placed p [] sorted absent = (tt, tt)
+sorted_placed p (q ∷ qs) sorted absent = elim (before q p) as (λ b. before q p ≡ b → AreInOrder (cond b (q ∷ placed p qs) (p ∷ q ∷ qs))) [
+  | true ↦ λ e. (all-placed (λ r. pair_cmp q r ≡ Less) p qs (before_is q p e) sorted.0, sorted_placed p qs sorted.1 (λ h. absent (contains_more q qs p h)))
+  | false ↦ λ e. let h : pair_cmp p q ≡ Less = before_other q p e (λ is. absent (zero, omega arith, is)) in
+      ((h, all_weaker (λ r. pair_cmp q r ≡ Less) (λ r. pair_cmp p r ≡ Less) (λ r k. before_trans p q r h k) qs sorted.0), sorted)
+] refl
+
+pub sorted_none : AreInOrder []
+unfolding IsStrictlySortedBy
+sorted_none = tt
+
+pub not_same : (a b : Pair) → (b ≡ a → ⊥) → not (same a b) ≡ true
+not_same a b ne = elim (same a b) as (λ t. same a b ≡ t → not t ≡ true) [
+  | true ↦ λ e. absurd (ne (sym (same_is a b e)))
+  | false ↦ λ e. refl
+] refl
+
+-- a pair that isn't there
+pub without_absent : (p : Pair) (ps : List Pair) → (Contains ps p → ⊥) → without p ps ≡ ps
+without_absent p ps absent = filter_all (λ q. not (same p q)) ps (λ k d lt. not_same p (get_or ps k d) (λ e. absent (k, lt, get_or_default ps k p d lt ∙ e)))
+
+-- the pair at place i taken out
+pub without_at : (p : Pair) (ps : List Pair) (i : ℕ) → AreInOrder ps → i < length ps → ((d : Pair) → get_or ps i d ≡ p) → without p ps ≡ remove ps i
+without_at p ps i sorted lt here = filter_but (λ q. not (same p q)) ps i lt
+    (λ d. rw here (ap not (same_itself p)))
+    (λ k d klt ne. not_same p (get_or ps k d) (λ e. elim (cases_lt k i) [
+      | inl less ↦ irreflexive p (subst (λ q. pair_cmp q p ≡ Less) e (subst (λ q. pair_cmp (get_or ps k d) q ≡ Less) (here d) (Less-from_sorted pair_cmp ps k i d sorted less lt)))
+      | inr more ↦ irreflexive p (subst (λ q. pair_cmp p q ≡ Less) e (subst (λ q. pair_cmp q (get_or ps k d) ≡ Less) (here d) (Less-from_sorted pair_cmp ps i k d sorted (omega arith) klt)))
+    ]))
+
+-- a pair that isn't at its place isn't there
+pub absent_at : (p : Pair) (ps : List Pair) (i : ℕ) → AreInOrder ps → ((k : ℕ) (d : Pair) → k < i → before (get_or ps k d) p ≡ true) → ((k : ℕ) (d : Pair) → i ≤ k → k < length ps → before (get_or ps k d) p ≡ false) → (i < length ps → get_or ps i p ≡ p → ⊥) → Contains ps p → ⊥
+absent_at p ps i sorted low high ne h = elim (cases_lt h.0 i) [
+  | inl less ↦ irreflexive p (subst (λ q. pair_cmp q p ≡ Less) h.2 (before_is (get_or ps h.0 p) p (low h.0 p less)))
+  | inr more ↦ elim (cases_eq h.0 i) [
+    | inl at ↦ ne (omega (arith, h.1)) (subst (λ k. get_or ps k p ≡ p) at h.2)
+    | inr past ↦
+        let lt : i < h.0 = omega arith in
+        let first : before (get_or ps i p) p ≡ false = high i p (omega arith) (omega (arith, h.1)) in
+        false≢true (sym first ∙ ap is_lt (subst (λ q. pair_cmp (get_or ps i p) q ≡ Less) h.2 (Less-from_sorted pair_cmp ps i h.0 p sorted lt h.1)))
+  ]
+]
+
+pub false-from_not : (b : Bool) → not b ≡ true → b ≡ false
+false-from_not true h = absurd (false≢true h)
+false-from_not false h = refl
+
+pub true-from_not : (b : Bool) → not b ≡ false → b ≡ true
+true-from_not true h = refl
+true-from_not false h = absurd (false≢true (sym h))
+
+pub parted-after : (p : Pair) (ps : List Pair) → AreInOrder ps → IsPartitionedBy (λ q. not (before p q)) ps
+parted-after p = parted_by (λ q. not (before p q)) (λ a b h k. elim (before p a) as (λ t. before p a ≡ t → not t ≡ true) [
+  | true ↦ λ e. absurd (false≢true (sym (false-from_not _ k) ∙ ap is_lt (before_trans p a b (before_is p a e) h)))
+  | false ↦ λ e. refl
+] refl)
+
+-- of two pairs in order the keys don't fall
+keys_then : (o r : Ordering) → ordering_then o r ≡ Less → (o ≡ Less) ⊎ (o ≡ Equal)
+keys_then Less r h = inl refl
+keys_then Equal r h = inr refl
+keys_then Greater r h = absurd (Greater≢Less h)
+  where
+    Greater≢Less : Greater ≡ Less → ⊥
+    Greater≢Less e = cc
+
+pub parted-key : (prefix : List ℕ) (ps : List Pair) → AreInOrder ps → IsPartitionedBy (λ q. is_lt (slice_cmp nat_cmp q.key prefix)) ps
+parted-key prefix = parted_by (λ q. is_lt (slice_cmp nat_cmp q.key prefix)) (λ a b h k.
+    let below : slice_cmp nat_cmp b.key prefix ≡ Less = Less-from_is_lt _ k in
+    ap is_lt (elim (keys_then (slice_cmp nat_cmp a.key b.key) (nat_cmp a.number b.number) h) [
+      | inl less ↦ nat_list_cmp_total.trans a.key b.key prefix less below
+      | inr tie ↦ nat_list_cmp_total.congr a.key b.key prefix tie ∙ below
+    ]))
+
+is_eq-then : (o r : Ordering) → is_eq (ordering_then o r) ≡ is_eq o && is_eq r
+is_eq-then Less r = refl
+is_eq-then Equal r = refl
+is_eq-then Greater r = refl
+
+is_eq-nat_cmp : (m n : ℕ) → nat_eq m n ≡ is_eq (nat_cmp m n)
+is_eq-nat_cmp m n = grind (arith, nat_tests)
+
+-- what `==` on pairs computes
+pub same_by_parts : (a b : Pair) → (pointwise nat_eq a.key b.key && nat_eq a.number b.number) ≡ same a b
+same_by_parts a b =
+    ap (λ t. t && nat_eq a.number b.number) (texts_ties a.key b.key)
+    ∙ ap (λ t. is_eq (slice_cmp nat_cmp a.key b.key) && t) (is_eq-nat_cmp a.number b.number)
+    ∙ sym (is_eq-then (slice_cmp nat_cmp a.key b.key) (nat_cmp a.number b.number))
+
+kept_step : (f : Pair → Bool) (q : Pair) (rest : List Pair) (d : Pair) (b : Bool) → f q ≡ b → ((k : ℕ) → k < length rest → f (get_or rest k d) ≡ true)
+    → (k : ℕ) → k < length (cond b (q ∷ rest) rest) → f (get_or (cond b (q ∷ rest) rest) k d) ≡ true
+kept_step f q rest d true e ih zero h = e
+kept_step f q rest d true e ih (suc k) h = ih k (omega arith)
+kept_step f q rest d false e ih k h = ih k h
+
+kept_pass : (f : Pair → Bool) (ps : List Pair) (d : Pair) (k : ℕ) → k < length (filter f ps) → f (get_or (filter f ps) k d) ≡ true
+kept_pass f [] d k h = absurd (omega arith)
+kept_pass f (q ∷ qs) d k h = kept_step f q (filter f qs) d (f q) refl (λ j lt. kept_pass f qs d j lt) k h
+
+-- a pair that was taken out is absent
+pub absent_without : (p : Pair) (ps : List Pair) → Contains (without p ps) p → ⊥
+absent_without p ps h =
+    let pass : not (same p (get_or (without p ps) h.0 p)) ≡ true = kept_pass (λ q. not (same p q)) ps p h.0 h.1 in
+    false≢true (sym (false-from_not _ (subst (λ q. not (same p q) ≡ true) h.2 pass)) ∙ same_itself p)

@@ -1,0 +1,5 @@
+-- The steps of a writer's loop.
+use Rattle.std.proofs.lemmas.Grind.{common_steps}
+use Rattle.dbf_image.proofs.Sinks.{grown_then, grown_nil}
+
+pub ruleset sinks = (grown_then, grown_nil, common_steps)

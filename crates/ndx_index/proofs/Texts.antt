@@ -1,0 +1,78 @@
+-- The text of a key expression.
+use Rattle.std.proofs.Common.{◌≡◌, ◌≢◌, ℕ, zero, suc, ◌<◌, ◌≤◌, List, [], ◌∷◌, ◌++◌, length, take, drop, reverse, replicate, get_or, refl, ap, sym, ◌∙◌, arith}
+use Rattle.std.specs.List.{AllByRecursion}
+use Rattle.std.proofs.lemmas.Bool.{ne_eqb, eq-eqb}
+use Rattle.std.proofs.lemmas.List.{reverse-append}
+use Rattle.ndx_index.specs.Header.{before_zero, trimmed}
+
+-- one more byte that isn't zero
+pub zero_step : (xs : List ℕ) (i d : ℕ) → i < length xs → get_or xs i d ≢ 0 → take (suc i) xs ++ before_zero (drop (suc i) xs) ≡ take i xs ++ before_zero (drop i xs)
+unfolding before_zero
+zero_step [] i d lt ne = absurd (omega arith)
+zero_step (x ∷ xs) zero d lt ne = rw (ne_eqb x 0 ne) refl
+zero_step (x ∷ xs) (suc i) d lt ne = ap (λ (ys : List ℕ). x ∷ ys) (zero_step xs i d (omega arith) ne)
+
+-- the first zero
+pub zero_stop : (xs : List ℕ) (i d : ℕ) → i < length xs → get_or xs i d ≡ 0 → take i xs ≡ take i xs ++ before_zero (drop i xs)
+unfolding before_zero
+zero_stop [] i d lt e = absurd (omega arith)
+zero_stop (x ∷ xs) zero d lt e = rw (eq-eqb x 0 e) refl
+zero_stop (x ∷ xs) (suc i) d lt e = ap (λ (ys : List ℕ). x ∷ ys) (zero_stop xs i d (omega arith) e)
+
+-- no zero
+pub zero_none : (xs : List ℕ) (i : ℕ) → length xs ≤ i → xs ≡ take i xs ++ before_zero (drop i xs)
+unfolding before_zero
+zero_none [] zero h = refl
+zero_none [] (suc i) h = refl
+zero_none (x ∷ xs) zero h = absurd (omega arith)
+zero_none (x ∷ xs) (suc i) h = ap (λ (ys : List ℕ). x ∷ ys) (zero_none xs i (omega arith))
+
+take_more : (xs : List ℕ) (n d : ℕ) → n < length xs → take (suc n) xs ≡ take n xs ++ get_or xs n d ∷ []
+take_more [] n d lt = absurd (omega arith)
+take_more (x ∷ xs) zero d lt = refl
+take_more (x ∷ xs) (suc n) d lt = ap (λ (ys : List ℕ). x ∷ ys) (take_more xs n d (omega arith))
+
+reverse_last : (xs : List ℕ) (x : ℕ) → reverse (xs ++ x ∷ []) ≡ x ∷ reverse xs
+reverse_last xs x = reverse-append xs (x ∷ [])
+
+reverse_first : (x : ℕ) (xs : List ℕ) → reverse (x ∷ xs) ≡ reverse xs ++ x ∷ []
+reverse_first x xs = reverse-append (x ∷ []) xs
+
+reverse_twice : (xs : List ℕ) → reverse (reverse xs) ≡ xs
+reverse_twice [] = refl
+reverse_twice (x ∷ xs) = ap (λ (ys : List ℕ). reverse ys) (reverse_first x xs) ∙ reverse_last (reverse xs) x ∙ ap (λ (ys : List ℕ). x ∷ ys) (reverse_twice xs)
+
+-- a blank at the end
+pub trim_step : (xs : List ℕ) (n d : ℕ) → n < length xs → get_or xs n d ≡ 32 → trimmed (take n xs) ≡ trimmed (take (suc n) xs)
+unfolding trimmed
+trim_step xs n d lt e =
+    let more : take (suc n) xs ≡ take n xs ++ get_or xs n d ∷ [] = take_more xs n d lt in
+    rw (more, reverse_last (take n xs) (get_or xs n d), eq-eqb (get_or xs n d) 32 e) refl
+
+-- no blank at the end
+pub trim_stop : (xs : List ℕ) (n d : ℕ) → n < length xs → get_or xs n d ≢ 32 → take (suc n) xs ≡ trimmed (take (suc n) xs)
+unfolding trimmed
+trim_stop xs n d lt ne =
+    let more : take (suc n) xs ≡ take n xs ++ get_or xs n d ∷ [] = take_more xs n d lt in
+    let back : reverse (get_or xs n d ∷ reverse (take n xs)) ≡ take n xs ++ get_or xs n d ∷ [] =
+    ap (λ (ys : List ℕ). reverse ys) (sym (reverse_last (take n xs) (get_or xs n d))) ∙ reverse_twice (take n xs ++ get_or xs n d ∷ []) in
+    rw (more, reverse_last (take n xs) (get_or xs n d), ne_eqb (get_or xs n d) 32 ne) (sym back)
+
+-- only blanks
+pub trim_none : (xs : List ℕ) (n : ℕ) → n ≤ 0 → take n xs ≡ trimmed (take n xs)
+unfolding trimmed
+trim_none xs zero h = refl
+trim_none xs (suc n) h = absurd (omega arith)
+
+-- ---- what is written is read
+
+pub before_zeros : (xs : List ℕ) (n : ℕ) → before_zero (xs ++ replicate n 0) ≡ before_zero xs
+unfolding before_zero
+before_zeros [] zero = refl
+before_zeros [] (suc n) = refl
+before_zeros (x ∷ xs) n = rw (before_zeros xs n) refl
+
+pub no_zero : (xs : List ℕ) → AllByRecursion (λ x. x ≢ 0) xs → before_zero xs ≡ xs
+unfolding before_zero
+no_zero [] h = refl
+no_zero (x ∷ xs) h = rw (ne_eqb x 0 h.0) (ap (λ (ys : List ℕ). x ∷ ys) (no_zero xs h.1))

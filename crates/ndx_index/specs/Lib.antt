@@ -1,0 +1,10 @@
+pub mod Index
+pub mod Order
+pub mod Pages
+pub mod NdxTree
+pub mod Walks
+pub mod Header
+pub mod Image
+pub mod Levels
+pub mod Shapes
+pub mod Reading

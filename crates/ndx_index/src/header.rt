@@ -1,0 +1,92 @@
+//! The header page of an index file.
+
+ghost use Rattle.std.specs.Prelude.{◌≡◌, ◌+◌, ◌≤◌, length, IfOk};
+ghost use Rattle.ndx_index.specs.Header.{short, header_of, before_zero, trimmed, expression};
+ghost use Rattle.ndx_index.specs.Pages.{IsLayout};
+
+use crate::fault::NdxFault;
+use crate::page::{Layout, PAGE, word};
+use byteorder::{ByteOrder, LittleEndian};
+
+/// What the header of an index file says of its pages.
+#[derive(Clone, Copy)]
+pub(crate) struct Header {
+    /// The key length and the size of a key record.
+    pub layout: Layout,
+    /// The number of the root page.
+    pub root: u32,
+}
+
+// The number in the two bytes at a place.
+#[tactic(auto, unfolding(crate::specs::Header::short))]
+fn short(bytes: &[u8], at: usize) -> u16
+    requires { at + 2 ≤ length bytes.now }
+    ensures { result ≡ short bytes.now at }
+{
+    LittleEndian::read_u16(&bytes[at..])
+}
+
+/// Reads the header, or says which rule it breaks first.
+#[tactic(auto, unfolding(crate::specs::Header::header_of))]
+pub(crate) fn read_header(bytes: &[u8]) -> Result<Header, NdxFault>
+    ensures is { result ≡ header_of bytes.now }
+    ensures long { IfOk result (λ header. 512 ≤ length bytes.now) }
+    ensures layout { IfOk result (λ header. IsLayout header.layout) }
+{
+    if bytes.len() < PAGE {
+        return Err(NdxFault::Truncated);
+    }
+    if short(bytes, 16) != 0 {
+        return Err(NdxFault::NumericIndex);
+    }
+    if bytes[23] != 0 {
+        return Err(NdxFault::UniqueIndex);
+    }
+    let key_len = short(bytes, 12) as usize;
+    if key_len == 0 || key_len > 100 {
+        return Err(NdxFault::BadKeyLength);
+    }
+    let size = short(bytes, 18) as usize;
+    if size < key_len + 8 || size > 504 {
+        return Err(NdxFault::BadRecordSize);
+    }
+    Ok(Header {
+        layout: Layout { key_len, size },
+        root: word(bytes, 0),
+    })
+}
+
+// The bytes up to the first zero.
+fn before_zero(text: &[u8]) -> &[u8]
+    ensures { result.now ≡ before_zero text.now }
+{
+    for i in 0..text.len() {
+        if text[i] == 0 {
+            return &text[..i];
+        }
+    }
+    text
+}
+
+// The text without the blanks at its end.
+fn trimmed(text: &[u8]) -> &[u8]
+    ensures { result.now ≡ trimmed text.now }
+{
+    let mut end = text.len();
+    while end > 0 {
+        if text[end - 1] != b' ' {
+            return &text[..end];
+        }
+        end -= 1;
+    }
+    &text[..end]
+}
+
+/// The text of the key expression: from byte 24 of the header page up to its first zero or the page's
+/// end, without the blanks behind it.
+pub(crate) fn expression(bytes: &[u8]) -> &[u8]
+    requires { 512 ≤ length bytes.now }
+    ensures { result.now ≡ expression bytes.now }
+{
+    trimmed(before_zero(&bytes[24..PAGE]))
+}

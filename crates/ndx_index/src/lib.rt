@@ -1,0 +1,70 @@
+//! Index files (NDX) and the order of an index.
+//!
+//! [`OrderedIndex`] keeps pairs of a key and a record number in order; contracts see the sorted list and
+//! how many inserts have room. [`read_ndx`] reads the bytes of an index file: it answers the pairs of the
+//! file's tree, its key length and its key expression exactly where the bytes are an index file, and else
+//! the first broken rule. [`write_ndx`] writes the one file that is written of an index, without taking
+//! memory, and what it writes reads back as that index.
+//!
+//! Start with specs/Order.antt (the order), specs/NdxTree.antt (the tree and its walk), specs/Header.antt
+//! (when bytes are an index file) and specs/Image.antt (the file that is written). Then src/index.rt holds
+//! the ordered index; src/read.rt, src/header.rt, src/walk.rt and src/page.rt read a file; src/write.rt,
+//! src/plan.rt, src/leaf.rt and src/inner.rt write one.
+#![tactic(auto)]
+
+ghost use Rattle.std.specs.Prelude.{◌≡◌, ◌≢◌, ◌↔◌, ℕ, List, [], ◌∷◌, Option, None, IsPermutation, IsSorted};
+ghost use Rattle.std.specs.List.{AllByRecursion};
+ghost use Rattle.ndx_index.specs.declared.pair.Pair.{Pair as PairValue};
+ghost use Rattle.ndx_index.specs.declared.page.Layout.{Layout as LayoutValue};
+ghost use Rattle.ndx_index.specs.declared.fault.NdxFault.{NdxFault as Fault};
+ghost use Rattle.ndx_index.specs.Header.{IsIndex, before_zero, trimmed};
+ghost use Rattle.ndx_index.specs.Image.{IsWritable, ndx_image};
+ghost use Rattle.ndx_index.specs.NdxTree.{IsTree, Visits};
+ghost use Rattle.ndx_index.specs.Order.{in_order, pair_cmp};
+
+mod fault;
+mod header;
+mod index;
+mod inner;
+mod leaf;
+mod page;
+mod pair;
+mod pieces;
+mod plan;
+mod read;
+mod shape;
+mod walk;
+mod write;
+
+pub use crate::fault::NdxFault;
+pub use crate::index::OrderedIndex;
+pub use crate::pair::Pair;
+pub use crate::read::{NdxFile, read_ndx};
+pub use crate::write::{NdxWriteFault, write_ndx};
+
+/// The order of pairs is their sorted permutation, and they have no other.
+pub fn one_order()
+    ensures permutation { (ps : List PairValue) → IsPermutation ps (in_order ps) }
+    ensures sorted { (ps : List PairValue) → IsSorted pair_cmp (in_order ps) }
+    ensures only { (ps qs : List PairValue) → IsPermutation ps qs → IsSorted pair_cmp qs → qs ≡ in_order ps }
+{}
+
+/// The walk that breaks no rule visits the tree, and there is one walk from each page.
+pub fn one_walk()
+    ensures tree { (s : LayoutValue) (bytes : List ℕ) (root : ℕ) (pages : List ℕ) (pairs : List PairValue)
+        → Visits s bytes [] (root ∷ []) pages pairs None ↔ IsTree s bytes root pages pairs }
+    ensures only { (s : LayoutValue) (bytes : List ℕ) (root : ℕ) (pages others : List ℕ) (pairs rest : List PairValue) (r t : Option Fault)
+        → Visits s bytes [] (root ∷ []) pages pairs r → Visits s bytes [] (root ∷ []) others rest t
+        → (pages ≡ others) × (pairs ≡ rest) × (r ≡ t) }
+{}
+
+/// The file that is written of an index reads back as that index: its pairs in their order, the length
+/// of its keys, and its key expression without the blanks at its end. Of an expression with a zero in it,
+/// which is none, what stands before the zero is read.
+pub fn reads_back()
+    ensures law { (text : List ℕ) (key_len : ℕ) (pairs : List PairValue) → IsWritable text key_len pairs → IsIndex (ndx_image text key_len pairs) (trimmed (before_zero text)) key_len pairs }
+    ensures plain { (text : List ℕ) (key_len : ℕ) (pairs : List PairValue) → IsWritable text key_len pairs → AllByRecursion (λ b. b ≢ 0) text → IsIndex (ndx_image text key_len pairs) (trimmed text) key_len pairs }
+{}
+
+#[cfg(test)]
+mod tests;

@@ -1,0 +1,55 @@
+//! Reading an index file.
+
+ghost use Rattle.std.specs.Prelude.{◌≡◌, ◌≢◌, ℕ, List, IfOk, IfErr};
+ghost use Rattle.ndx_index.specs.declared.fault.NdxFault.TheVariants.{NoMemory};
+ghost use Rattle.ndx_index.specs.declared.pair.Pair.{Pair as PairValue};
+ghost use Rattle.ndx_index.specs.Header.{IsIndex, Breaks};
+ghost use Rattle.ndx_index.specs.Reading.{IsOnly};
+
+use crate::fault::NdxFault;
+use crate::header::{expression, read_header};
+use crate::pair::Pair;
+use crate::walk::read_tree;
+use dbf_fields::Bytes;
+use std::alloc::Global;
+
+/// What an index file holds.
+#[derive(Drop)]
+pub struct NdxFile {
+    /// The text of the key expression, without blanks at its end.
+    pub expr: Bytes,
+    /// The bytes of each key, from 1 to 100.
+    pub key_len: usize,
+    /// The pairs of the leaves, in the order of the file.
+    pub pairs: Vec<Pair>,
+}
+
+fn read_file(alloc: Global, bytes: &[u8]) -> Result<NdxFile, NdxFault>
+    ensures found { IfOk result (λ file. IsIndex bytes.now file.expr file.key_len file.pairs.items) }
+    ensures refused { IfErr result (λ e. e ≢ NoMemory → Breaks bytes.now e) }
+{
+    let header = read_header(bytes)?;
+    let pairs = read_tree(alloc, bytes, header.layout, header.root)?;
+    let expr = Bytes::from_slice(alloc, expression(bytes))?;
+    Ok(NdxFile {
+        expr,
+        key_len: header.layout.key_len,
+        pairs,
+    })
+}
+
+/// Reads an index file: its key expression, the length of its keys, and the pairs of its leaves.
+///
+/// The header page is tested first, in the order of [`NdxFault`]: `Truncated`, `NumericIndex`,
+/// `UniqueIndex`, `BadKeyLength`, `BadRecordSize`. Then the pages are walked from the root, depth first
+/// and children from left to right, and each is tested for `PageOutside`, `PageTwice`, `TooManyEntries`
+/// and `MixedPage`. The fault is that of the first broken rule; `NoMemory` may come in place of any
+/// other answer. Pages that the walk does not reach, and keys and record numbers of inner pages, are
+/// never looked at.
+pub fn read_ndx(alloc: Global, bytes: &[u8]) -> Result<NdxFile, NdxFault>
+    ensures found { IfOk result (λ file. IsIndex bytes.now file.expr file.key_len file.pairs.items) }
+    ensures only { (text : List ℕ) (key_len : ℕ) (pairs : List PairValue) → IsIndex bytes.now text key_len pairs → IsOnly text key_len pairs result }
+    ensures refused { IfErr result (λ e. e ≢ NoMemory → Breaks bytes.now e) }
+{
+    read_file(alloc, bytes)
+}

@@ -1,0 +1,34 @@
+//! How the pages of an index are filled.
+
+ghost use Rattle.std.specs.Prelude.{◌≡◌, ◌≤◌};
+ghost use Rattle.ndx_index.specs.Shapes.{IsShape};
+
+use crate::page::PAGE;
+
+/// The sizes that follow from the length of an index's keys.
+#[derive(Clone, Copy)]
+pub(crate) struct Shape {
+    /// The bytes of a key.
+    pub key_len: usize,
+    /// The bytes of a key record: eight and the key, up to a multiple of four.
+    pub size: usize,
+    /// The most key records of a page.
+    pub keys: usize,
+    ghost fits: { IsShape key_len size keys },
+}
+
+impl Shape {
+    /// The shape of an index with keys of this many bytes.
+    pub(crate) fn new(key_len: usize) -> Shape
+        requires some { 1 ≤ key_len }
+        requires short { key_len ≤ 100 }
+        ensures { result.key_len ≡ key_len }
+    {
+        let size = 4 * ((key_len + 11) / 4);
+        Shape {
+            key_len,
+            size,
+            keys: (PAGE - 8) / size,
+        }
+    }
+}
