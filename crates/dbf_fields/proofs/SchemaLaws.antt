@@ -64,7 +64,7 @@ width_by false true c a d w other = refl
 width_by false false c a d w other = refl
 
 width_folded : (f : Field) → has_width (folded f) ≡ has_width f
-width_folded f = sym (width_by (eqb f.kind 67) (eqb f.kind 78) (leb 1 f.width && leb f.width 254) f.width f.decimals f.width (cond (eqb f.kind 76) (eqb f.width 1) (eqb f.width 8)))
+width_folded f = sym (width_by (eqb f.kind 67) (eqb f.kind 78) (leb 1 f.width && leb f.width 254) f.width f.decimals f.width (cond (eqb f.kind 76) (eqb f.width 1) (cond (eqb f.kind 68) (eqb f.width 8) (eqb f.width 10))))
 
 accepted_again : (earlier fs : List Field) → first_fault (tests_from earlier fs) ≡ None → first_fault (tests_from earlier (map folded fs)) ≡ None
 accepted_again earlier [] h = h

@@ -4,11 +4,11 @@ use Rattle.std.specs.List.{list_any}
 use Rattle.std.specs.Char.{to_ascii_uppercase}
 use Rattle.std.specs.Int.{is_in_range}
 use Rattle.dbf_fields.specs.declared.field.Field.{Field}
-use Rattle.dbf_fields.specs.declared.field.TheConstants.{CHARACTER, NUMBER, LOGICAL, DATE}
+use Rattle.dbf_fields.specs.declared.field.TheConstants.{CHARACTER, NUMBER, LOGICAL, DATE, MEMO}
 
--- the letters of kinds that a table may have; memos come later
+-- the letters of kinds that a table may have
 abbrev pub is_kind : ℕ → Bool
-is_kind k = ((k == CHARACTER || k == NUMBER) || k == LOGICAL) || k == DATE
+is_kind k = (((k == CHARACTER || k == NUMBER) || k == LOGICAL) || k == DATE) || k == MEMO
 
 -- the width is one that the kind may have, and a number has no decimals or fewer than its width
 abbrev pub has_width : Field → Bool
@@ -16,7 +16,8 @@ has_width f =
     if f.kind == CHARACTER then is_in_range 1 254 f.width else
     (if f.kind == NUMBER then is_in_range 1 19 f.width && (f.decimals == 0 || nat_lt f.decimals f.width) else
     (if f.kind == LOGICAL then f.width == 1 else
-    f.width == 8))
+    (if f.kind == DATE then f.width == 8 else
+    f.width == 10)))
 
 -- the field as a schema keeps it: the name in capitals, and no decimals but for a number
 abbrev pub folded : Field → Field

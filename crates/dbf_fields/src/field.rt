@@ -19,7 +19,7 @@ pub const LOGICAL: u8 = b'L';
 /// The letter of the fields of dates, 8 bytes wide.
 pub const DATE: u8 = b'D';
 
-/// The letter of the fields of memos. No table may have one until memo files are read and written.
+/// The letter of the fields of memos, 10 bytes wide: the number of a block in a file of memos.
 pub const MEMO: u8 = b'M';
 
 /// A field as its descriptor of 32 bytes tells it. `Schema::new` judges it.
@@ -27,7 +27,7 @@ pub const MEMO: u8 = b'M';
 pub struct Field {
     /// The name: 1 to 10 bytes, a letter, then letters, digits or `_`.
     pub name: Bytes,
-    /// The letter of the kind: `C`, `N`, `L` or `D`, a capital.
+    /// The letter of the kind: `C`, `N`, `L`, `D` or `M`, a capital.
     pub kind: u8,
     /// How many bytes a cell of the field has.
     pub width: u8,
@@ -66,7 +66,7 @@ impl Field {
     pub(crate) fn has_known_kind(&self) -> bool
         ensures value { result ≡ is_kind self.now.kind }
     {
-        matches!(self.kind, CHARACTER | NUMBER | LOGICAL | DATE)
+        matches!(self.kind, CHARACTER | NUMBER | LOGICAL | DATE | MEMO)
     }
 
     pub(crate) fn has_good_width(&self) -> bool
@@ -80,7 +80,8 @@ impl Field {
                     && (self.decimals == 0 || self.decimals < self.width)
             }
             LOGICAL => self.width == 1,
-            _ => self.width == 8,
+            DATE => self.width == 8,
+            _ => self.width == 10,
         }
     }
 

@@ -88,7 +88,7 @@ impl Schema {
     /// The schema of the fields: the names in capitals, and no decimals but for numbers.
     ///
     /// The faults are tested in this order: `BadFieldCount`; then, field by field, `BadName`,
-    /// `DuplicateName`, `BadKind` (any letter but the capitals `C`, `N`, `L` and `D`; `M` too, until memos come), `BadWidth`; then
+    /// `DuplicateName`, `BadKind` (any letter but the capitals `C`, `N`, `L`, `D` and `M`), `BadWidth`; then
     /// `RecordTooLong`. `NoMemory` may stand in place of what would have come after the growth that was
     /// refused. The rules are those of the published DBF layout, and the limit of 4,000 bytes that of
     /// dBASE III PLUS records.

@@ -44,7 +44,7 @@ fn schema_faults_come_in_order(rt: HostRuntime) -> Result<(), Fail> {
         Schema::new(alloc, &[]).err(),
         Some(SchemaFault::BadFieldCount)
     );
-    let cases: [(&[u8], u8, u8, u8, SchemaFault); 20] = [
+    let cases: [(&[u8], u8, u8, u8, SchemaFault); 22] = [
         (b"", b'X', 0, 0, SchemaFault::BadName),
         (b"1A", b'C', 1, 0, SchemaFault::BadName),
         (b"A-B", b'C', 1, 0, SchemaFault::BadName),
@@ -64,7 +64,9 @@ fn schema_faults_come_in_order(rt: HostRuntime) -> Result<(), Fail> {
         (b"BORN", b'D', 7, 0, SchemaFault::BadWidth),
         (b"BORN", b'D', 9, 0, SchemaFault::BadWidth),
         (b"BORN", b'D', 10, 0, SchemaFault::BadWidth),
-        (b"NOTE", b'M', 10, 0, SchemaFault::BadKind),
+        (b"NOTE", b'm', 10, 0, SchemaFault::BadKind),
+        (b"NOTE", b'M', 9, 0, SchemaFault::BadWidth),
+        (b"NOTE", b'M', 11, 0, SchemaFault::BadWidth),
     ];
     for (name, kind, width, decimals, fault) in cases {
         let second = field(alloc, name, kind, width, decimals)?;
@@ -75,7 +77,7 @@ fn schema_faults_come_in_order(rt: HostRuntime) -> Result<(), Fail> {
 }
 
 #[test]
-fn schemas_have_four_kinds(rt: HostRuntime) -> Result<(), Fail> {
+fn schemas_have_five_kinds(rt: HostRuntime) -> Result<(), Fail> {
     let alloc = rt.alloc();
     // the kind, the width and the decimals of a field, and the decimals that the schema keeps
     let cases = [
@@ -87,6 +89,7 @@ fn schemas_have_four_kinds(rt: HostRuntime) -> Result<(), Fail> {
         (NUMBER, 2, 1, 1),
         (LOGICAL, 1, 7, 0),
         (DATE, 8, 8, 0),
+        (MEMO, 10, 1, 0),
     ];
     for (kind, width, decimals, kept) in cases {
         let fields = vec![in alloc; field(alloc, b"ONE", kind, width, decimals)?]?;

@@ -1,11 +1,14 @@
--- Where records and cells stand among the bytes.
-use Rattle.std.proofs.Common.{◌≡◌, ℕ, zero, suc, ◌+◌, ◌-◌, ◌*◌, ◌<◌, ◌≤◌, eqb, List, [], ◌∷◌, length, map, take, drop, get_or, refl, sym, ap, ◌∙◌, arith}
+-- Where records, cells and memos stand.
+use Rattle.std.proofs.Common.{◌≡◌, ◌≢◌, ℕ, zero, suc, ◌+◌, ◌-◌, ◌*◌, ◌<◌, ◌≤◌, Bool, true, false, cond, eqb, List, [], ◌∷◌, length, take, drop, get_or, refl, sym, ap, ◌∙◌, arith}
+use Rattle.std.proofs.lemmas.Bool.{eq-eqb, ne_eqb}
 use Rattle.std.proofs.lemmas.List.{drop-drop, drop-take, take-take, get_or-take, get_or-drop}
 use Rattle.std.proofs.lemmas.List.Sums.{sum_by-cons}
 use Rattle.dbf_fields.specs.declared.field.Field.{Field}
 use Rattle.dbf_fields.specs.Field.{widths}
-use Rattle.dbf_image.specs.Table.{Row, cell_width}
-use Rattle.dbf_image.specs.DbfText.{pieces, cells_of, row_of, rows_of, IsRun}
+use Rattle.dbf_image.specs.Table.{Row, cell_width, kind_at}
+use Rattle.dbf_image.specs.DbfText.{pieces, IsRun}
+use Rattle.dbf_image.specs.Store.{first_memo, memo_count, cells_with, row_with, rows_with, rows_of}
+use Rattle.dbf_image.proofs.Rows.{length-pieces}
 
 -- a part of a part is a part of the whole
 pub part_of_part : (w k size : ℕ) (xs : List ℕ) → k + w ≤ size → take w (drop k (take size xs)) ≡ take w (drop k xs)
@@ -20,21 +23,68 @@ place-inside size count i now lt is =
     let wide : now ≡ ((i + 1) + (count - (i + 1))) * size = is ∙ ap (λ (n : ℕ). n * size) k in
     omega (arith, wide)
 
-pub piece_here : {X : Type 0} (f : List ℕ → X) (size n i : ℕ) (bytes : List ℕ) (d : X) → i < n → get_or (map f (pieces size n bytes)) i d ≡ f (take size (drop (i * size) bytes))
-piece_here f size zero i bytes d lt = absurd (omega arith)
-piece_here f size (suc n) zero bytes d lt =
+pub piece_here : (size n i : ℕ) (bytes d : List ℕ) → i < n → get_or (pieces size n bytes) i d ≡ take size (drop (i * size) bytes)
+piece_here size zero i bytes d lt = absurd (omega arith)
+piece_here size (suc n) zero bytes d lt =
     let k : 0 * size ≡ 0 = omega arith in
     rw k refl
-piece_here f size (suc n) (suc i) bytes d lt =
+piece_here size (suc n) (suc i) bytes d lt =
     let k : suc i * size ≡ size + i * size = omega arith in
-    rw (k, ← drop-drop (i * size) size bytes) (piece_here f size n i (drop size bytes) d (omega arith))
+    rw (k, ← drop-drop (i * size) size bytes) (piece_here size n i (drop size bytes) d (omega arith))
 
-pub cell_here : (fields : List Field) (j : ℕ) (bytes : List ℕ) → j < length fields → get_or (cells_of fields bytes) j [] ≡ take (cell_width fields j) (drop (widths (take j fields)) bytes)
-cell_here [] j bytes lt = absurd (omega arith)
-cell_here (f ∷ fs) zero bytes lt = refl
-cell_here (f ∷ fs) (suc j) bytes lt =
+row_by : (fields : List Field) (ps memos : List (List ℕ)) (i : ℕ) (d : Row) (e : List ℕ) → i < length ps
+    → get_or (rows_with fields ps memos) i d ≡ row_with fields (get_or ps i e) (drop (i * memo_count fields) memos)
+row_by fields [] memos i d e lt = absurd (omega arith)
+row_by fields (p ∷ ps) memos zero d e lt =
+    let k : 0 * memo_count fields ≡ 0 = omega arith in
+    rw k refl
+row_by fields (p ∷ ps) memos (suc i) d e lt =
+    let n : ℕ = memo_count fields in
+    let k : suc i * n ≡ n + i * n = omega arith in
+    rw (k, ← drop-drop (i * n) n memos) (row_by fields ps (drop n memos) i d e (omega arith))
+
+-- the row of a place
+pub row_here : (fields : List Field) (n i : ℕ) (bytes : List ℕ) (memos : List (List ℕ)) (d : Row) → i < n
+    → get_or (rows_of fields n bytes memos) i d ≡ row_with fields (take (1 + widths fields) (drop (i * (1 + widths fields)) bytes)) (drop (i * memo_count fields) memos)
+row_here fields n i bytes memos d lt =
+    let size : ℕ = 1 + widths fields in
+    let nothing : List ℕ = [] in
+    let long = length-pieces size n bytes in
+    row_by fields (pieces size n bytes) memos i d nothing (omega arith)
+    ∙ ap (λ (p : List ℕ). row_with fields p (drop (i * memo_count fields) memos)) (piece_here size n i bytes nothing lt)
+
+-- ---- cells
+
+cell_by : (fs : List Field) (cell rest out d : List ℕ) (memos : List (List ℕ)) (j : ℕ) (b : Bool) → ((m : List (List ℕ)) → get_or (cells_with fs rest m) j d ≡ out)
+    → get_or (cond b (first_memo memos ∷ cells_with fs rest (drop 1 memos)) (cell ∷ cells_with fs rest memos)) (suc j) d ≡ out
+cell_by fs cell rest out d memos j true ih = ih (drop 1 memos)
+cell_by fs cell rest out d memos j false ih = ih memos
+
+pub cell_here : (fields : List Field) (j : ℕ) (bytes d : List ℕ) (memos : List (List ℕ)) → j < length fields → kind_at fields j ≢ 77
+    → get_or (cells_with fields bytes memos) j d ≡ take (cell_width fields j) (drop (widths (take j fields)) bytes)
+cell_here [] j bytes d memos lt other = absurd (omega arith)
+cell_here (f ∷ fs) zero bytes d memos lt other = rw (ne_eqb f.kind 77 other) refl
+cell_here (f ∷ fs) (suc j) bytes d memos lt other =
     let sum : widths (f ∷ take j fs) ≡ f.width + widths (take j fs) = sum_by-cons (λ (g : Field). g.width) f (take j fs) in
-    rw (sum, ← drop-drop (widths (take j fs)) f.width bytes) (cell_here fs j (drop f.width bytes) (omega arith))
+    rw (sum, ← drop-drop (widths (take j fs)) f.width bytes)
+    (cell_by fs (take f.width bytes) (drop f.width bytes) _ d memos j (eqb f.kind 77) (λ m. cell_here fs j (drop f.width bytes) d m (omega arith) other))
+
+first_is : (memos : List (List ℕ)) → first_memo memos ≡ get_or memos 0 []
+first_is [] = refl
+first_is (t ∷ ts) = refl
+
+memo_by : (fs : List Field) (cell rest d : List ℕ) (memos : List (List ℕ)) (j k : ℕ) (b : Bool) → ((m : List (List ℕ)) → get_or (cells_with fs rest m) j d ≡ get_or m k [])
+    → get_or (cond b (first_memo memos ∷ cells_with fs rest (drop 1 memos)) (cell ∷ cells_with fs rest memos)) (suc j) d ≡ get_or memos (cond b (suc k) k) []
+memo_by fs cell rest d [] j k true ih = ih []
+memo_by fs cell rest d (t ∷ ts) j k true ih = ih ts
+memo_by fs cell rest d memos j k false ih = ih memos
+
+pub memo_here : (fields : List Field) (j : ℕ) (bytes d : List ℕ) (memos : List (List ℕ)) → j < length fields → kind_at fields j ≡ 77
+    → get_or (cells_with fields bytes memos) j d ≡ get_or memos (memo_count (take j fields)) []
+memo_here [] j bytes d memos lt kind = absurd (omega arith)
+memo_here (f ∷ fs) zero bytes d memos lt kind = rw (eq-eqb f.kind 77 kind) (first_is memos)
+memo_here (f ∷ fs) (suc j) bytes d memos lt kind =
+    memo_by fs (take f.width bytes) (drop f.width bytes) d memos j (memo_count (take j fs)) (eqb f.kind 77) (λ m. memo_here fs j (drop f.width bytes) d m (omega arith) kind)
 
 pub cell_within : (fields : List Field) (j : ℕ) → j < length fields → widths (take j fields) + cell_width fields j ≤ widths fields
 cell_within [] j lt = absurd (omega arith)
@@ -46,39 +96,73 @@ cell_within (f ∷ fs) (suc j) lt =
     let whole : widths (f ∷ fs) ≡ f.width + widths fs = sum_by-cons (λ (g : Field). g.width) f fs in
     omega (arith, cell_within fs j (omega arith))
 
--- the width that a field of the list tells
+within_by : (b : Bool) (k n : ℕ) → k < n → cond b (suc k) k < cond b (suc n) n
+within_by true k n lt = omega arith
+within_by false k n lt = lt
+
+pub memo_within : (fields : List Field) (j : ℕ) → j < length fields → kind_at fields j ≡ 77 → memo_count (take j fields) < memo_count fields
+memo_within [] j lt kind = absurd (omega arith)
+memo_within (f ∷ fs) zero lt kind = rw (eq-eqb f.kind 77 kind) (omega arith)
+memo_within (f ∷ fs) (suc j) lt kind = within_by (eqb f.kind 77) (memo_count (take j fs)) (memo_count fs) (memo_within fs j (omega arith) kind)
+
+le_by : (b : Bool) (k n : ℕ) → k ≤ n → cond b (suc k) k ≤ suc n
+le_by true k n le = omega arith
+le_by false k n le = omega arith
+
+pub memo_count_le : (fields : List Field) → memo_count fields ≤ length fields
+memo_count_le [] = omega arith
+memo_count_le (f ∷ fs) = le_by (eqb f.kind 77) (memo_count fs) (length fs) (memo_count_le fs)
+
+-- the width and the kind that a field of the list tells
 pub cell_width_is : (fields : List Field) (j : ℕ) (f : Field) → j < length fields → f ≡ get_or fields j f → cell_width fields j ≡ f.width
 cell_width_is [] j f lt is = absurd (omega arith)
 cell_width_is (g ∷ fs) zero f lt is = ap (λ (h : Field). h.width) (sym is)
 cell_width_is (g ∷ fs) (suc j) f lt is = cell_width_is fs j f (omega arith) is
 
--- the cell of a record and a field
-pub cell_told : (fields : List Field) (n i j : ℕ) (bytes : List ℕ) (d : Row) → i < n → j < length fields
-    → get_or (get_or (rows_of fields n bytes) i d).cells j [] ≡ take (cell_width fields j) (drop (i * (1 + widths fields) + (1 + widths (take j fields))) bytes)
-cell_told fields n i j bytes d lt inside =
+pub kind_is : (fields : List Field) (j : ℕ) (f : Field) → j < length fields → f ≡ get_or fields j f → kind_at fields j ≡ f.kind
+kind_is [] j f lt is = absurd (omega arith)
+kind_is (g ∷ fs) zero f lt is = ap (λ (h : Field). h.kind) (sym is)
+kind_is (g ∷ fs) (suc j) f lt is = kind_is fs j f (omega arith) is
+
+-- the cell of a record and a field that is no memo
+pub cell_told : (fields : List Field) (n i j : ℕ) (bytes : List ℕ) (memos : List (List ℕ)) (d : Row) → i < n → j < length fields → kind_at fields j ≢ 77
+    → get_or (get_or (rows_of fields n bytes memos) i d).cells j [] ≡ take (cell_width fields j) (drop (i * (1 + widths fields) + (1 + widths (take j fields))) bytes)
+cell_told fields n i j bytes memos d lt inside other =
     let size : ℕ = 1 + widths fields in
     let from : ℕ = widths (take j fields) in
     let piece : List ℕ = take size (drop (i * size) bytes) in
-    let row : get_or (rows_of fields n bytes) i d ≡ row_of fields piece = piece_here (row_of fields) size n i bytes d lt in
     let room = cell_within fields j inside in
-    ap (λ (r : Row). get_or r.cells j []) row
-    ∙ cell_here fields j (drop 1 piece) inside
+    ap (λ (r : Row). get_or r.cells j []) (row_here fields n i bytes memos d lt)
+    ∙ cell_here fields j (drop 1 piece) [] (drop (i * memo_count fields) memos) inside other
     ∙ ap (take (cell_width fields j)) (drop-drop from 1 piece)
     ∙ part_of_part (cell_width fields j) (1 + from) size (drop (i * size) bytes) (omega arith)
     ∙ ap (take (cell_width fields j)) (drop-drop (1 + from) (i * size) bytes)
 
--- its mark
-pub flag_told : (fields : List Field) (n i : ℕ) (bytes : List ℕ) (d : Row) → i < n
-    → (get_or (rows_of fields n bytes) i d).deleted ≡ eqb (get_or bytes (i * (1 + widths fields)) 0) 42
-flag_told fields n i bytes d lt =
+-- the memo of a record and a field
+pub memo_told : (fields : List Field) (n i j : ℕ) (bytes : List ℕ) (memos : List (List ℕ)) (d : Row) → i < n → j < length fields → kind_at fields j ≡ 77
+    → get_or (get_or (rows_of fields n bytes memos) i d).cells j [] ≡ get_or memos (i * memo_count fields + memo_count (take j fields)) []
+memo_told fields n i j bytes memos d lt inside kind =
+    let piece : List ℕ = take (1 + widths fields) (drop (i * (1 + widths fields)) bytes) in
+    ap (λ (r : Row). get_or r.cells j []) (row_here fields n i bytes memos d lt)
+    ∙ memo_here fields j (drop 1 piece) [] (drop (i * memo_count fields) memos) inside kind
+    ∙ get_or-drop (i * memo_count fields) memos (memo_count (take j fields)) []
+
+-- a record's mark
+pub flag_told : (fields : List Field) (n i : ℕ) (bytes : List ℕ) (memos : List (List ℕ)) (d : Row) → i < n
+    → (get_or (rows_of fields n bytes memos) i d).deleted ≡ eqb (get_or bytes (i * (1 + widths fields)) 0) 42
+flag_told fields n i bytes memos d lt =
     let size : ℕ = 1 + widths fields in
-    let row : get_or (rows_of fields n bytes) i d ≡ row_of fields (take size (drop (i * size) bytes)) = piece_here (row_of fields) size n i bytes d lt in
     let k : i * size + 0 ≡ i * size = omega arith in
-    ap (λ (r : Row). r.deleted) row
+    ap (λ (r : Row). r.deleted) (row_here fields n i bytes memos d lt)
     ∙ ap (λ (b : ℕ). eqb b 42) (get_or-take size (drop (i * size) bytes) 0 0 (omega arith) ∙ get_or-drop (i * size) bytes 0 0 ∙ ap (λ (m : ℕ). get_or bytes m 0) k)
 
--- a cell's bytes stand inside the run
+-- a cell's bytes stand inside the run, and a memo among the memos
 pub cell-inside : (fields : List Field) (n i j start : ℕ) (bytes : List ℕ) → IsRun fields n bytes → i < n → j < length fields
     → start ≡ i * (1 + widths fields) + (1 + widths (take j fields)) → start + cell_width fields j ≤ length bytes
 cell-inside fields n i j start bytes run lt inside is =
     omega (arith, place-inside (1 + widths fields) n i (length bytes) lt run.whole, cell_within fields j inside)
+
+pub memo-inside : (fields : List Field) (n i j place many : ℕ) → many ≡ n * memo_count fields → i < n → j < length fields → kind_at fields j ≡ 77
+    → place ≡ i * memo_count fields + memo_count (take j fields) → place < many
+memo-inside fields n i j place many is lt inside kind at =
+    omega (arith, place-inside (memo_count fields) n i many lt is, memo_within fields j inside kind)

@@ -1,6 +1,6 @@
 -- The reader's tests and the layout say the same of the bytes.
-use Rattle.std.proofs.Common.{◌≡◌, ℕ, zero, suc, ◌+◌, ◌-◌, ◌*◌, ◌/◌, ◌<◌, ◌≤◌, Bool, true, false, cond, eqb, leb, Result, Ok, Err, List, [], ◌∷◌, ◌++◌, length, map, drop, Option, Some, None, refl, sym, ap, ◌∙◌, inl, inr, arith}
-use Rattle.std.specs.Prelude.{slice_index, is_some, is_none, ◌⊎◌, IfOk, IfErr, MatchResult}
+use Rattle.std.proofs.Common.{◌≡◌, ℕ, zero, suc, ◌+◌, ◌-◌, ◌*◌, ◌/◌, ◌<◌, ◌≤◌, Bool, true, false, cond, eqb, leb, Result, Ok, Err, List, [], ◌++◌, length, map, take, drop, Option, Some, None, refl, sym, ap, ◌∙◌, inl, inr, arith}
+use Rattle.std.specs.Prelude.{slice_index, is_some, is_none, unwrap_or, not, ◌||◌, ◌⊎◌, IfOk, IfErr, MatchResult}
 use Rattle.std.proofs.lemmas.Bool.{cases_lt, eqb-true, eqb-false, eq-eqb, ne_eqb, leb-true, le-leb, or_cases, or_left, or_right, cond-true, cond-false}
 use Rattle.dbf_fields.specs.Faults.{first_fault}
 use Rattle.dbf_fields.specs.Field.{folded, widths}
@@ -8,9 +8,14 @@ use Rattle.dbf_fields.specs.Schema as schemas
 use Rattle.dbf_fields.proofs.SchemaLaws.{passed, passes}
 use Rattle.dbf_image.specs.declared.fault.ImageFault.{ImageFault}
 use Rattle.dbf_image.specs.declared.fault.ImageFault.TheVariants.{NoMemory}
-use Rattle.dbf_image.specs.Table.{Table}
-use Rattle.dbf_image.specs.DbfText.{pieces, header_length, record_length, record_count, field_of, IsDbf}
-use Rattle.dbf_image.specs.Reading.{first_from, field_count, fields_of, schema_of, has_version, header_tests, field_tests, record_tests, refusal, IsRefusal, table_of}
+use Rattle.dbf_fields.specs.declared.field.Field.{Field}
+use Rattle.dbf_image.specs.Table.{Row, Table, has_memos}
+use Rattle.dbf_image.specs.DbfText.{pieces, header_length, record_length, record_count, field_of, TellsRows, IsDbf}
+use Rattle.dbf_image.specs.Reading.{first_from, field_count, fields_of, schema_of, has_version, header_tests, field_tests, record_tests, memos_tests, records_of, row_told, refusal, IsRefusal, table_of}
+use Rattle.dbf_image.specs.Spans.{table_tests}
+use Rattle.dbf_image.proofs.Rows.{pieces_take}
+use Rattle.dbf_image.proofs.Groups.{first_parts}
+use Rattle.dbf_image.proofs.MemoTests.{rows_ok, ok_rows}
 
 -- ---- the first number that passes a test
 
@@ -56,15 +61,7 @@ first_from-is test i (suc n) k low high here before =
 
 -- ---- what passing the tests says
 
-parts_by : {F : Type 0} (b : Bool) (x y : Option F) (f : F) (P : Type 0) → cond b y (Some f) ≡ None → (y ≡ None → (x ≡ None) × P) → (cond b x (Some f) ≡ None) × P
-parts_by true x y f P e next = next e
-parts_by false x y f P e next = absurd cc
-
-pub first_parts : {F : Type 0} (xs ys : List (Bool × F)) → first_fault (xs ++ ys) ≡ None → (first_fault xs ≡ None) × (first_fault ys ≡ None)
-first_parts [] ys h = (refl, h)
-first_parts (x ∷ xs) ys h = parts_by x.0 (first_fault xs) (first_fault (xs ++ ys)) x.1 (first_fault ys ≡ None) h (first_parts xs ys)
-
-pub record Passes (bytes : List ℕ) : Type 0 where
+pub record Passes (bytes : List ℕ) (dbt : Option (List ℕ)) : Type 0 where
   pub long : 32 ≤ length bytes
   pub version : has_version bytes ≡ true
   pub inside : header_length bytes ≤ length bytes
@@ -73,18 +70,20 @@ pub record Passes (bytes : List ℕ) : Type 0 where
   pub wide : record_length bytes ≡ 1 + widths (schema_of bytes)
   pub few : record_count bytes ≤ 1000000000
   pub whole : header_length bytes + record_count bytes * record_length bytes ≤ length bytes
+  pub memos : first_fault (memos_tests bytes dbt) ≡ None
 
-pub passes_all : (bytes : List ℕ) → refusal bytes ≡ None → Passes bytes
+pub passes_all : (bytes : List ℕ) (dbt : Option (List ℕ)) → refusal bytes dbt ≡ None → Passes bytes dbt
 unfolding header_tests field_tests record_tests
-passes_all bytes h =
-    let p = first_parts (header_tests bytes) (field_tests bytes ++ record_tests bytes) h in
-    let q = first_parts (field_tests bytes) (record_tests bytes) p.1 in
+passes_all bytes dbt h =
+    let p = first_parts (header_tests bytes) (field_tests bytes ++ (record_tests bytes ++ memos_tests bytes dbt)) h in
+    let q = first_parts (field_tests bytes) (record_tests bytes ++ memos_tests bytes dbt) p.1 in
+    let r = first_parts (record_tests bytes) (memos_tests bytes dbt) q.1 in
     let a = passed (leb 32 (length bytes)) _ _ p.0 in
     let b = passed (has_version bytes) _ _ a.1 in
     let c = passed (leb (header_length bytes) (length bytes)) _ _ b.1 in
     let d = passed (is_some (field_count bytes)) _ _ q.0 in
     let e = passed (is_none (schemas.refusal (fields_of bytes))) _ _ d.1 in
-    let f = passed (eqb (record_length bytes) (1 + widths (schema_of bytes))) _ _ q.1 in
+    let f = passed (eqb (record_length bytes) (1 + widths (schema_of bytes))) _ _ r.0 in
     let g = passed (leb (record_count bytes) 1000000000) _ _ f.1 in
     let i = passed (leb (header_length bytes + record_count bytes * record_length bytes) (length bytes)) _ _ g.1 in
     record {
@@ -96,17 +95,18 @@ passes_all bytes h =
       wide = eqb-true _ _ f.0;
       few = leb-true _ _ g.0;
       whole = leb-true _ _ i.0;
+      memos = r.1;
     }
 
-pub from_passes : (bytes : List ℕ) → Passes bytes → refusal bytes ≡ None
+pub from_passes : (bytes : List ℕ) (dbt : Option (List ℕ)) → Passes bytes dbt → refusal bytes dbt ≡ None
 unfolding header_tests field_tests record_tests
-from_passes bytes p =
+from_passes bytes dbt p =
     let a = le-leb _ _ p.long in
     let c = le-leb _ _ p.inside in
     let f = eq-eqb _ _ p.wide in
     let g = le-leb _ _ p.few in
     let i = le-leb _ _ p.whole in
-    passes _ _ _ a (passes _ _ _ p.version (passes _ _ _ c (passes _ _ _ p.ended (passes _ _ _ p.accepted (passes _ _ _ f (passes _ _ _ g (passes _ _ _ i refl)))))))
+    passes _ _ _ a (passes _ _ _ p.version (passes _ _ _ c (passes _ _ _ p.ended (passes _ _ _ p.accepted (passes _ _ _ f (passes _ _ _ g (passes _ _ _ i p.memos)))))))
 
 -- ---- the layout
 
@@ -135,9 +135,52 @@ places bytes = (header_length bytes - 1) / 32
 fields_by_count : (bytes : List ℕ) (k : ℕ) → field_count bytes ≡ Some k → fields_of bytes ≡ map field_of (pieces 32 k (drop 32 bytes))
 fields_by_count bytes k e = rw e refl
 
-pub is_dbf : (bytes : List ℕ) → refusal bytes ≡ None → IsDbf bytes (table_of bytes)
-is_dbf bytes h =
-    let p = passes_all bytes h in
+-- ---- memos
+
+then_true : (a b : Bool) → (not a || b) ≡ true → a ≡ true → b ≡ true
+then_true true b h e = h
+then_true false b h e = absurd cc
+
+true_then : (a b : Bool) → (a ≡ true → b ≡ true) → (not a || b) ≡ true
+true_then true b h = h refl
+true_then false b h = refl
+
+memos_pass : (bytes : List ℕ) (dbt : Option (List ℕ)) → first_fault (memos_tests bytes dbt) ≡ None
+    → (has_memos (schema_of bytes) ≡ true → is_some dbt ≡ true) × TellsRows (unwrap_or dbt []) (schema_of bytes) (records_of bytes) (map (row_told (unwrap_or dbt []) (schema_of bytes)) (records_of bytes))
+unfolding memos_tests
+memos_pass bytes dbt h =
+    let p = passed (not (has_memos (schema_of bytes)) || is_some dbt) _ _ h in
+    (then_true (has_memos (schema_of bytes)) (is_some dbt) p.0, rows_ok (unwrap_or dbt []) (schema_of bytes) (records_of bytes) p.1)
+
+pass_memos : (bytes : List ℕ) (dbt : Option (List ℕ)) (rows : List Row) → (has_memos (schema_of bytes) ≡ true → is_some dbt ≡ true) → TellsRows (unwrap_or dbt []) (schema_of bytes) (records_of bytes) rows
+    → (first_fault (memos_tests bytes dbt) ≡ None) × (map (row_told (unwrap_or dbt []) (schema_of bytes)) (records_of bytes) ≡ rows)
+unfolding memos_tests
+pass_memos bytes dbt rows some told =
+    let r = ok_rows (unwrap_or dbt []) (schema_of bytes) (records_of bytes) rows told in
+    (passes (not (has_memos (schema_of bytes)) || is_some dbt) _ _ (true_then (has_memos (schema_of bytes)) (is_some dbt) some) r.0, r.1)
+
+-- the tests of the records that the reader found, and its rows
+pub tests_told : (bytes : List ℕ) (dbt : Option (List ℕ)) (schema : List Field) (size count start : ℕ) (records : List ℕ)
+    → schema ≡ schema_of bytes → size ≡ record_length bytes → size ≡ 1 + widths schema → count ≡ record_count bytes → start ≡ header_length bytes
+    → records ≡ take (count * size) (drop start bytes)
+    → table_tests dbt schema (pieces (1 + widths schema) count records) ≡ memos_tests bytes dbt
+unfolding table_tests memos_tests
+tests_told bytes dbt schema size count start records s z w n h r =
+    let same : pieces (1 + widths schema) count records ≡ pieces size count (drop start bytes) = rw (r, ← w) (pieces_take size count (drop start bytes)) in
+    rw same (rw (z, n, h, s) refl)
+
+pub rows_told : (bytes : List ℕ) (dbt : Option (List ℕ)) (schema : List Field) (size count start : ℕ) (records : List ℕ) (rows : List Row)
+    → schema ≡ schema_of bytes → size ≡ record_length bytes → size ≡ 1 + widths schema → count ≡ record_count bytes → start ≡ header_length bytes
+    → records ≡ take (count * size) (drop start bytes) → rows ≡ map (row_told (unwrap_or dbt []) schema) (pieces (1 + widths schema) count records)
+    → record { schema = schema; rows = rows } ≡ table_of bytes dbt
+rows_told bytes dbt schema size count start records rows s z w n h r told =
+    let same : pieces (1 + widths schema) count records ≡ pieces size count (drop start bytes) = rw (r, ← w) (pieces_take size count (drop start bytes)) in
+    rw (told, same) (rw (z, n, h, s) refl)
+
+pub is_dbf : (bytes : List ℕ) (dbt : Option (List ℕ)) → refusal bytes dbt ≡ None → IsDbf bytes dbt (table_of bytes dbt)
+is_dbf bytes dbt h =
+    let p = passes_all bytes dbt h in
+    let m = memos_pass bytes dbt p.memos in
     let k = some_is (field_count bytes) p.ended in
     let first = first_from-some (ends_fields bytes) 0 (places bytes) k.0 k.1 in
     let fields : fields_of bytes ≡ map field_of (pieces 32 k.0 (drop 32 bytes)) = fields_by_count bytes k.0 k.1 in
@@ -153,17 +196,25 @@ is_dbf bytes h =
       wide = p.wide;
       few = p.few;
       whole = p.whole;
-      rows = refl;
+      memos = m.0;
+      rows = m.1;
     }
 
-pub dbf_is : (bytes : List ℕ) (table : Table) → IsDbf bytes table → (refusal bytes ≡ None) × (table_of bytes ≡ table)
-dbf_is bytes table d =
+same_table : (bytes : List ℕ) (dbt : Option (List ℕ)) (table : Table) → schema_of bytes ≡ table.schema → map (row_told (unwrap_or dbt []) (schema_of bytes)) (records_of bytes) ≡ table.rows → table_of bytes dbt ≡ table
+same_table bytes dbt table schema rows =
+    ap (λ (rs : List Row). record { schema = schema_of bytes; rows = rs }) rows ∙ ap (λ (fs : List Field). record { schema = fs; rows = table.rows }) schema
+
+pub dbf_is : (bytes : List ℕ) (dbt : Option (List ℕ)) (table : Table) → IsDbf bytes dbt table → (refusal bytes dbt ≡ None) × (table_of bytes dbt ≡ table)
+dbf_is bytes dbt table d =
     let counted : field_count bytes ≡ Some d.field_count = first_from-is (ends_fields bytes) 0 (places bytes) d.field_count (omega arith) (omega (arith, d.in_header)) (eq-eqb _ _ d.last_field) (λ j low lt. ne_eqb _ _ (d.not_before j lt)) in
     let fields : fields_of bytes ≡ map field_of (pieces 32 d.field_count (drop 32 bytes)) = rw counted refl in
     let schema : schema_of bytes ≡ table.schema = ap (map folded) fields ∙ sym d.schema in
     let none : is_none (schemas.refusal (fields_of bytes)) ≡ true = rw (fields, d.accepted) refl in
-    let same : table_of bytes ≡ table = rw (schema, ← d.rows) refl in (
-      from_passes bytes (record {
+    let told : TellsRows (unwrap_or dbt []) (schema_of bytes) (records_of bytes) table.rows = rw schema d.rows in
+    let some : has_memos (schema_of bytes) ≡ true → is_some dbt ≡ true = λ e. d.memos (ap has_memos (sym schema) ∙ e) in
+    let m = pass_memos bytes dbt table.rows some told in
+    let same : table_of bytes dbt ≡ table = same_table bytes dbt table schema m.1 in (
+      from_passes bytes dbt (record {
         long = d.long;
         version = is_version bytes d.version;
         inside = omega (arith, d.whole);
@@ -172,6 +223,7 @@ dbf_is bytes table d =
         wide = rw schema d.wide;
         few = d.few;
         whole = d.whole;
+        memos = m.0;
       }),
       same,
     )
@@ -182,12 +234,12 @@ no_fault = None
 none_some : (f : ImageFault) → no_fault ≡ Some f → ⊥
 none_some f e = cc
 
-pub found_from : (r : Result Table ImageFault) (bytes : List ℕ) → IfOk r (λ _. refusal bytes ≡ None) → IfOk r (λ t. t ≡ table_of bytes) → IfOk r (IsDbf bytes)
-found_from (Ok t) bytes h e = rw e (is_dbf bytes h)
-found_from (Err f) bytes h e = tt
+pub found_from : (r : Result Table ImageFault) (bytes : List ℕ) (dbt : Option (List ℕ)) → IfOk r (λ _. refusal bytes dbt ≡ None) → IfOk r (λ t. t ≡ table_of bytes dbt) → IfOk r (IsDbf bytes dbt)
+found_from (Ok t) bytes dbt h e = rw e (is_dbf bytes dbt h)
+found_from (Err f) bytes dbt h e = tt
 
-pub only_from : (r : Result Table ImageFault) (bytes : List ℕ) (table : Table) → IfOk r (λ t. t ≡ table_of bytes) → IfErr r (λ f. IsRefusal f bytes) → IsDbf bytes table
+pub only_from : (r : Result Table ImageFault) (bytes : List ℕ) (dbt : Option (List ℕ)) (table : Table) → IfOk r (λ t. t ≡ table_of bytes dbt) → IfErr r (λ f. IsRefusal f bytes dbt) → IsDbf bytes dbt table
     → MatchResult r (λ t. t ≡ table) (λ f. f ≡ NoMemory)
-only_from (Ok t) bytes table e h d = e ∙ (dbf_is bytes table d).1
-only_from (Err f) bytes table e (inl h) d = h
-only_from (Err f) bytes table e (inr h) d = absurd (none_some f (sym (dbf_is bytes table d).0 ∙ h))
+only_from (Ok t) bytes dbt table e h d = e ∙ (dbf_is bytes dbt table d).1
+only_from (Err f) bytes dbt table e (inl h) d = h
+only_from (Err f) bytes dbt table e (inr h) d = absurd (none_some f (sym (dbf_is bytes dbt table d).0 ∙ h))

@@ -1,15 +1,18 @@
--- What a change of the bytes makes of the rows.
-use Rattle.std.proofs.Common.{◌≡◌, ℕ, zero, suc, ◌+◌, ◌-◌, ◌*◌, ◌<◌, ◌≤◌, false, List, [], ◌∷◌, ◌++◌, length, map, take, drop, replicate, get_or, set, refl, sym, ap, ◌∙◌, arith}
-use Rattle.std.proofs.lemmas.List.{take-append-le, drop-append-le, take_all, take_at, drop_at, drop-drop, length-take-le, length-drop, length-append, take-replicate, drop-replicate, map-append, map-set}
+-- What a change of the bytes or of the memos makes of the rows.
+use Rattle.std.proofs.Common.{◌≡◌, ◌≢◌, ℕ, zero, suc, ◌+◌, ◌-◌, ◌*◌, ◌<◌, ◌≤◌, Bool, true, false, cond, eqb, List, [], ◌∷◌, ◌++◌, length, map, take, drop, replicate, get_or, set, refl, sym, ap, ◌∙◌, arith}
+use Rattle.std.proofs.lemmas.Bool.{eq-eqb, ne_eqb}
+use Rattle.std.proofs.lemmas.List.{take-append-le, drop-append-le, take_all, take_at, drop_at, take-set-le, drop-set-lt, drop-set-add, drop-drop, length-take-le, length-drop, length-append, take-replicate, drop-replicate}
 use Rattle.std.proofs.lemmas.List.Sums.{sum_by-cons}
 use Rattle.std.proofs.lemmas.Slice.{drop-put_mid, take-put_mid_below}
 use borrow.Rule.Slice.PartMut.{put_mid}
 use Rattle.dbf_fields.specs.declared.field.Field.{Field}
 use Rattle.dbf_fields.specs.Field.{widths}
 use Rattle.dbf_image.specs.declared.table.TheConstants.{MOST_RECORDS}
-use Rattle.dbf_image.specs.Table.{Row, cell_width, blank_row, row_with_cell}
-use Rattle.dbf_image.specs.DbfText.{pieces, cells_of, row_of, rows_of, IsRun}
-use Rattle.dbf_image.proofs.CellPlaces.{piece_here, cell_within, place-inside}
+use Rattle.dbf_image.specs.Table.{Row, kind_at, cell_width, blank_cell, blank_row, row_with_cell}
+use Rattle.dbf_image.specs.DbfText.{pieces, IsRun}
+use Rattle.dbf_image.specs.Store.{first_memo, memo_count, cells_with, row_with, rows_with, rows_of}
+use Rattle.dbf_image.proofs.Rows.{length-pieces}
+use Rattle.dbf_image.proofs.CellPlaces.{piece_here, row_here, cell_within, memo_within, place-inside}
 
 -- ---- one more record
 
@@ -23,27 +26,82 @@ pieces_push size (suc n) bytes row e long =
     let there = pieces_push size n (drop size bytes) row (omega (arith, length-drop size bytes)) long in
     rw (k, take-append-le size bytes row room, drop-append-le size bytes row room, there) refl
 
-pub rows_push : (fields : List Field) (n : ℕ) (bytes row : List ℕ) → IsRun fields n bytes → length row ≡ 1 + widths fields
-    → rows_of fields (n + 1) (bytes ++ row) ≡ rows_of fields n bytes ++ row_of fields row ∷ []
-rows_push fields n bytes row run long =
-    ap (map (row_of fields)) (pieces_push (1 + widths fields) n bytes row run.whole long)
-    ∙ map-append (row_of fields) (pieces (1 + widths fields) n bytes) (row ∷ [])
+-- a record's cells take no more than its own memos
+front_by : (fs : List Field) (cell rest : List ℕ) (n : ℕ) (memos : List (List ℕ)) (b : Bool) → ((m : List (List ℕ)) → cells_with fs rest (take n m) ≡ cells_with fs rest m)
+    → cond b (first_memo (take (cond b (suc n) n) memos) ∷ cells_with fs rest (drop 1 (take (cond b (suc n) n) memos))) (cell ∷ cells_with fs rest (take (cond b (suc n) n) memos))
+    ≡ cond b (first_memo memos ∷ cells_with fs rest (drop 1 memos)) (cell ∷ cells_with fs rest memos)
+front_by fs cell rest n [] true ih = refl
+front_by fs cell rest n (t ∷ ts) true ih = ap (λ (x : List (List ℕ)). t ∷ x) (ih ts)
+front_by fs cell rest n memos false ih = ap (λ (x : List (List ℕ)). cell ∷ x) (ih memos)
+
+pub cells_front : (fields : List Field) (bytes : List ℕ) (memos : List (List ℕ)) → cells_with fields bytes (take (memo_count fields) memos) ≡ cells_with fields bytes memos
+cells_front [] bytes memos = refl
+cells_front (f ∷ fs) bytes memos = front_by fs (take f.width bytes) (drop f.width bytes) (memo_count fs) memos (eqb f.kind 77) (cells_front fs (drop f.width bytes))
+
+cells_same : (fields : List Field) (bytes : List ℕ) (memos others : List (List ℕ)) → take (memo_count fields) memos ≡ take (memo_count fields) others
+    → cells_with fields bytes memos ≡ cells_with fields bytes others
+cells_same fields bytes memos others e = sym (cells_front fields bytes memos) ∙ ap (cells_with fields bytes) e ∙ cells_front fields bytes others
+
+abbrev row_of_cells : List ℕ → List (List ℕ) → Row
+row_of_cells bytes cells = record { deleted = eqb (get_or bytes 0 0) 42; cells = cells }
+
+row_same : (fields : List Field) (bytes : List ℕ) (memos others : List (List ℕ)) → take (memo_count fields) memos ≡ take (memo_count fields) others
+    → row_with fields bytes memos ≡ row_with fields bytes others
+row_same fields bytes memos others e = ap (row_of_cells bytes) (cells_same fields (drop 1 bytes) memos others e)
+
+pub rows_append : (fields : List Field) (ps qs memos more : List (List ℕ)) → length memos ≡ length ps * memo_count fields
+    → rows_with fields (ps ++ qs) (memos ++ more) ≡ rows_with fields ps memos ++ rows_with fields qs more
+rows_append fields [] qs [] more e = refl
+rows_append fields [] qs (t ∷ ts) more e = absurd (omega arith)
+rows_append fields (p ∷ ps) qs memos more e =
+    let n : ℕ = memo_count fields in
+    let room : n ≤ length memos = omega arith in
+    let here = row_same fields p (memos ++ more) memos (take-append-le n memos more room) in
+    rw (here, drop-append-le n memos more room, rows_append fields ps qs (drop n memos) more (omega (arith, length-drop n memos))) refl
+
+-- memos without a text are no memos
+none_by : (fs : List Field) (cell rest : List ℕ) (k : ℕ) (b : Bool) → ((k : ℕ) → cells_with fs rest (replicate k []) ≡ cells_with fs rest [])
+    → cond b (first_memo (replicate k []) ∷ cells_with fs rest (drop 1 (replicate k []))) (cell ∷ cells_with fs rest (replicate k []))
+    ≡ cond b ([] ∷ cells_with fs rest []) (cell ∷ cells_with fs rest [])
+none_by fs cell rest zero b ih = refl
+none_by fs cell rest (suc k) true ih = ap (λ (x : List (List ℕ)). [] ∷ x) (ih k)
+none_by fs cell rest (suc k) false ih = ap (λ (x : List (List ℕ)). cell ∷ x) (ih (suc k))
+
+cells_none : (fields : List Field) (bytes : List ℕ) (k : ℕ) → cells_with fields bytes (replicate k []) ≡ cells_with fields bytes []
+cells_none [] bytes k = refl
+cells_none (f ∷ fs) bytes k = none_by fs (take f.width bytes) (drop f.width bytes) k (eqb f.kind 77) (cells_none fs (drop f.width bytes))
+
+pub rows_push : (fields : List Field) (n : ℕ) (bytes row : List ℕ) (memos : List (List ℕ)) → IsRun fields n bytes → length row ≡ 1 + widths fields → length memos ≡ n * memo_count fields
+    → rows_of fields (n + 1) (bytes ++ row) (memos ++ replicate (memo_count fields) []) ≡ rows_of fields n bytes memos ++ row_with fields row [] ∷ []
+rows_push fields n bytes row memos run long many =
+    let size : ℕ = 1 + widths fields in
+    let more : List (List ℕ) = replicate (memo_count fields) [] in
+    let counted : length memos ≡ length (pieces size n bytes) * memo_count fields = rw (length-pieces size n bytes) many in
+    ap (λ (ps : List (List ℕ)). rows_with fields ps (memos ++ more)) (pieces_push size n bytes row run.whole long)
+    ∙ rows_append fields (pieces size n bytes) (row ∷ []) memos more counted
+    ∙ ap (λ (cells : List (List ℕ)). rows_of fields n bytes memos ++ row_of_cells row cells ∷ []) (cells_none fields (drop 1 row) (memo_count fields))
 
 -- a record of blanks
-cells_blank : (fields : List Field) → cells_of fields (replicate (widths fields) 32) ≡ map (λ f. replicate f.width 32) fields
+blank_by : (cell blank : List ℕ) (xs ys : List (List ℕ)) (b : Bool) → cell ≡ blank → xs ≡ ys → cond b ([] ∷ xs) (cell ∷ xs) ≡ cond b [] blank ∷ ys
+blank_by cell blank xs ys true e same = ap (λ (x : List (List ℕ)). [] ∷ x) same
+blank_by cell blank xs ys false e same = rw (e, same) refl
+
+cells_blank : (fields : List Field) → cells_with fields (replicate (widths fields) 32) [] ≡ map blank_cell fields
 cells_blank [] = refl
 cells_blank (f ∷ fs) =
     let sum : widths (f ∷ fs) ≡ f.width + widths fs = sum_by-cons (λ (g : Field). g.width) f fs in
     let left : f.width + widths fs - f.width ≡ widths fs = omega arith in
-    rw (sum, take-replicate {X = ℕ} f.width (f.width + widths fs) 32 (omega arith), drop-replicate {X = ℕ} f.width (f.width + widths fs) 32, left, cells_blank fs) refl
+    let here = take-replicate {X = ℕ} f.width (f.width + widths fs) 32 (omega arith) in
+    let there = drop-replicate {X = ℕ} f.width (f.width + widths fs) 32 ∙ ap (λ (k : ℕ). replicate k 32) left in
+    rw (sum, there) (blank_by _ (replicate f.width 32) _ _ (eqb f.kind 77) here (cells_blank fs))
 
-pub row_blank : (fields : List Field) → row_of fields (replicate (1 + widths fields) 32) ≡ blank_row fields
+pub row_blank : (fields : List Field) → row_with fields (replicate (1 + widths fields) 32) [] ≡ blank_row fields
 row_blank fields =
     let k : 1 + widths fields ≡ suc (widths fields) = omega arith in
     rw k (ap (λ (cells : List (List ℕ)). record { deleted = false; cells = cells }) (cells_blank fields))
 
-pub resized : (bytes : List ℕ) (n k w : ℕ) → n ≡ length bytes + w → k ≡ w → take n bytes ++ replicate k 32 ≡ bytes ++ replicate w 32
-resized bytes n k w e same = rw (same, take_all n bytes (omega arith)) refl
+pub resized : {X : Type 0} (xs : List X) (n k w : ℕ) (x : X) → n ≡ length xs + w → k ≡ w → take n xs ++ replicate k x ≡ xs ++ replicate w x
+resized xs n k w x e same = rw (same, take_all n xs (omega arith)) refl
 
 -- ---- bytes that are written over others
 
@@ -92,22 +150,43 @@ pieces_put size (suc n) (suc i) m bytes ys lt room le =
       pieces_put size n i m (drop size bytes) ys (omega arith) (omega (arith, length-drop size bytes)) le,
     ) refl
 
+-- one of the rows has another piece
+rows_set : (fields : List Field) (ps memos : List (List ℕ)) (i : ℕ) (p : List ℕ)
+    → rows_with fields (set ps i p) memos ≡ set (rows_with fields ps memos) i (row_with fields p (drop (i * memo_count fields) memos))
+rows_set fields [] memos i p = refl
+rows_set fields (q ∷ ps) memos zero p =
+    let k : 0 * memo_count fields ≡ 0 = omega arith in
+    rw k refl
+rows_set fields (q ∷ ps) memos (suc i) p =
+    let n : ℕ = memo_count fields in
+    let k : suc i * n ≡ n + i * n = omega arith in
+    rw (k, ← drop-drop (i * n) n memos, rows_set fields ps (drop n memos) i p) refl
+
 -- one of the cells of a record
-cells_put : (fields : List Field) (j : ℕ) (bytes ys : List ℕ) → j < length fields → length ys ≡ cell_width fields j → widths fields ≤ length bytes
-    → cells_of fields (put_mid (widths (take j fields)) (length ys) bytes ys) ≡ set (cells_of fields bytes) j ys
-cells_put [] j bytes ys lt wide room = absurd (omega arith)
-cells_put (f ∷ fs) zero bytes ys lt wide room =
-    rw (wide, take_at ys (drop f.width bytes) f.width wide, drop_at ys (drop f.width bytes) f.width wide) refl
-cells_put (f ∷ fs) (suc j) bytes ys lt wide room =
+put_by : (fs : List Field) (cell rest new ys : List ℕ) (memos : List (List ℕ)) (j : ℕ) (b : Bool) → ((m : List (List ℕ)) → cells_with fs new m ≡ set (cells_with fs rest m) j ys)
+    → cond b (first_memo memos ∷ cells_with fs new (drop 1 memos)) (cell ∷ cells_with fs new memos)
+    ≡ set (cond b (first_memo memos ∷ cells_with fs rest (drop 1 memos)) (cell ∷ cells_with fs rest memos)) (suc j) ys
+put_by fs cell rest new ys memos j true ih = ap (λ (x : List (List ℕ)). first_memo memos ∷ x) (ih (drop 1 memos))
+put_by fs cell rest new ys memos j false ih = ap (λ (x : List (List ℕ)). cell ∷ x) (ih memos)
+
+cells_put : (fields : List Field) (j : ℕ) (bytes ys : List ℕ) (memos : List (List ℕ)) → j < length fields → kind_at fields j ≢ 77 → length ys ≡ cell_width fields j → widths fields ≤ length bytes
+    → cells_with fields (put_mid (widths (take j fields)) (length ys) bytes ys) memos ≡ set (cells_with fields bytes memos) j ys
+cells_put [] j bytes ys memos lt other wide room = absurd (omega arith)
+cells_put (f ∷ fs) zero bytes ys memos lt other wide room =
+    rw (ne_eqb f.kind 77 other, wide, take_at ys (drop f.width bytes) f.width wide, drop_at ys (drop f.width bytes) f.width wide) refl
+cells_put (f ∷ fs) (suc j) bytes ys memos lt other wide room =
     let front : widths (f ∷ take j fs) ≡ f.width + widths (take j fs) = sum_by-cons (λ (g : Field). g.width) f (take j fs) in
     let whole : widths (f ∷ fs) ≡ f.width + widths fs = sum_by-cons (λ (g : Field). g.width) f fs in
     let within = cell_within fs j (omega arith) in
+    let left : widths fs ≤ length (drop f.width bytes) = omega (arith, length-drop f.width bytes) in
     rw (
       front,
       take-put_mid_below (f.width + widths (take j fs)) (length ys) bytes ys f.width (omega arith) (omega arith),
       drop_put f.width (widths (take j fs)) (length ys) bytes ys (omega arith),
-      cells_put fs j (drop f.width bytes) ys (omega arith) wide (omega (arith, length-drop f.width bytes)),
-    ) refl
+    ) (
+    put_by fs (take f.width bytes) (drop f.width bytes) (put_mid (widths (take j fs)) (length ys) (drop f.width bytes) ys) ys memos j (eqb f.kind 77)
+    (λ m. cells_put fs j (drop f.width bytes) ys m (omega arith) other wide left)
+    )
 
 flag_stays : (m k : ℕ) (bytes ys : List ℕ) → 1 ≤ length bytes → get_or (put_mid (1 + m) k bytes ys) 0 0 ≡ get_or bytes 0 0
 flag_stays m k [] ys some = absurd (omega arith)
@@ -115,28 +194,89 @@ flag_stays m k (b ∷ bs) ys some =
     let e : 1 + m ≡ suc m = omega arith in
     rw e refl
 
-row_put : (fields : List Field) (j : ℕ) (bytes ys : List ℕ) → j < length fields → length ys ≡ cell_width fields j → 1 + widths fields ≤ length bytes
-    → row_of fields (put_mid (1 + widths (take j fields)) (length ys) bytes ys) ≡ row_with_cell (row_of fields bytes) j ys
-row_put fields j bytes ys lt wide room =
+row_put : (fields : List Field) (j : ℕ) (bytes ys : List ℕ) (memos : List (List ℕ)) → j < length fields → kind_at fields j ≢ 77 → length ys ≡ cell_width fields j → 1 + widths fields ≤ length bytes
+    → row_with fields (put_mid (1 + widths (take j fields)) (length ys) bytes ys) memos ≡ row_with_cell (row_with fields bytes memos) j ys
+row_put fields j bytes ys memos lt other wide room =
     let within = cell_within fields j lt in
-    let cells = cells_put fields j (drop 1 bytes) ys lt wide (omega (arith, length-drop 1 bytes)) in
+    let cells = cells_put fields j (drop 1 bytes) ys memos lt other wide (omega (arith, length-drop 1 bytes)) in
     let rest = drop_put 1 (widths (take j fields)) (length ys) bytes ys (omega arith) in
     let flag = flag_stays (widths (take j fields)) (length ys) bytes ys (omega arith) in
     rw (flag, rest, cells) refl
 
-pub rows_put : (fields : List Field) (n i j : ℕ) (bytes ys : List ℕ) (d : Row) → IsRun fields n bytes → i < n → j < length fields → length ys ≡ cell_width fields j
-    → rows_of fields n (put_mid (i * (1 + widths fields) + (1 + widths (take j fields))) (length ys) bytes ys) ≡ set (rows_of fields n bytes) i (row_with_cell (get_or (rows_of fields n bytes) i d) j ys)
-rows_put fields n i j bytes ys d run lt inside wide =
+pub rows_put : (fields : List Field) (n i j : ℕ) (bytes ys : List ℕ) (memos : List (List ℕ)) (d : Row) → IsRun fields n bytes → i < n → j < length fields → kind_at fields j ≢ 77 → length ys ≡ cell_width fields j
+    → rows_of fields n (put_mid (i * (1 + widths fields) + (1 + widths (take j fields))) (length ys) bytes ys) memos
+    ≡ set (rows_of fields n bytes memos) i (row_with_cell (get_or (rows_of fields n bytes memos) i d) j ys)
+rows_put fields n i j bytes ys memos d run lt inside other wide =
     let size : ℕ = 1 + widths fields in
     let from : ℕ = 1 + widths (take j fields) in
     let piece : List ℕ = take size (drop (i * size) bytes) in
     let within = cell_within fields j inside in
     let place = place-inside size n i (length bytes) lt run.whole in
     let long : length piece ≡ size = length-take-le size (drop (i * size) bytes) (omega (arith, length-drop (i * size) bytes)) in
-    ap (map (row_of fields)) (pieces_put size n i from bytes ys lt (omega (arith, run.whole)) (omega arith))
-    ∙ map-set (row_of fields) (pieces size n bytes) i (put_mid from (length ys) piece ys)
-    ∙ ap (set (rows_of fields n bytes) i) (
-    row_put fields j piece ys inside wide (omega arith) ∙ ap (λ (r : Row). row_with_cell r j ys) (sym (piece_here (row_of fields) size n i bytes d lt))
+    ap (λ (ps : List (List ℕ)). rows_with fields ps memos) (pieces_put size n i from bytes ys lt (omega (arith, run.whole)) (omega arith))
+    ∙ rows_set fields (pieces size n bytes) memos i (put_mid from (length ys) piece ys)
+    ∙ ap (set (rows_of fields n bytes memos) i) (
+    row_put fields j piece ys (drop (i * memo_count fields) memos) inside other wide (omega arith) ∙ ap (λ (r : Row). row_with_cell r j ys) (sym (row_here fields n i bytes memos d lt))
+    )
+
+-- ---- a memo that is replaced
+
+set_by : (fs : List Field) (cell rest text : List ℕ) (j n k : ℕ) (memos : List (List ℕ)) (b : Bool)
+    → ((m : List (List ℕ)) → n ≤ length m → cells_with fs rest (set m k text) ≡ set (cells_with fs rest m) j text) → cond b (suc n) n ≤ length memos
+    → cond b (first_memo (set memos (cond b (suc k) k) text) ∷ cells_with fs rest (drop 1 (set memos (cond b (suc k) k) text))) (cell ∷ cells_with fs rest (set memos (cond b (suc k) k) text))
+    ≡ set (cond b (first_memo memos ∷ cells_with fs rest (drop 1 memos)) (cell ∷ cells_with fs rest memos)) (suc j) text
+set_by fs cell rest text j n k [] true ih room = absurd (omega arith)
+set_by fs cell rest text j n k (t ∷ ts) true ih room = ap (λ (x : List (List ℕ)). t ∷ x) (ih ts (omega arith))
+set_by fs cell rest text j n k memos false ih room = ap (λ (x : List (List ℕ)). cell ∷ x) (ih memos room)
+
+set_first : (fs : List Field) (rest text : List ℕ) (n : ℕ) (memos : List (List ℕ)) → suc n ≤ length memos
+    → first_memo (set memos 0 text) ∷ cells_with fs rest (drop 1 (set memos 0 text)) ≡ text ∷ cells_with fs rest (drop 1 memos)
+set_first fs rest text n [] room = absurd (omega arith)
+set_first fs rest text n (t ∷ ts) room = refl
+
+cells_set : (fields : List Field) (j : ℕ) (bytes text : List ℕ) (memos : List (List ℕ)) → j < length fields → kind_at fields j ≡ 77 → memo_count fields ≤ length memos
+    → cells_with fields bytes (set memos (memo_count (take j fields)) text) ≡ set (cells_with fields bytes memos) j text
+cells_set [] j bytes text memos lt kind room = absurd (omega arith)
+cells_set (f ∷ fs) zero bytes text memos lt kind room =
+    let is : eqb f.kind 77 ≡ true = eq-eqb f.kind 77 kind in
+    rw is (set_first fs (drop f.width bytes) text (memo_count fs) memos (rw is at room))
+cells_set (f ∷ fs) (suc j) bytes text memos lt kind room =
+    set_by fs (take f.width bytes) (drop f.width bytes) text j (memo_count fs) (memo_count (take j fs)) memos (eqb f.kind 77)
+    (λ m h. cells_set fs j (drop f.width bytes) text m (omega arith) kind h) room
+
+memo_set : (fields : List Field) (ps memos : List (List ℕ)) (i m : ℕ) (text e : List ℕ) → m < memo_count fields → i < length ps
+    → rows_with fields ps (set memos (i * memo_count fields + m) text) ≡ set (rows_with fields ps memos) i (row_with fields (get_or ps i e) (set (drop (i * memo_count fields) memos) m text))
+memo_set fields [] memos i m text e lt inside = absurd (omega arith)
+memo_set fields (p ∷ ps) memos zero m text e lt inside =
+    let k : 0 * memo_count fields + m ≡ m = omega arith in
+    let z : 0 * memo_count fields ≡ 0 = omega arith in
+    rw (k, z, drop-set-lt (memo_count fields) memos m text lt) refl
+memo_set fields (p ∷ ps) memos (suc i) m text e lt inside =
+    let n : ℕ = memo_count fields in
+    let k : suc i * n + m ≡ n + (i * n + m) = omega arith in
+    let z : suc i * n ≡ n + i * n = omega arith in
+    let here = row_same fields p (set memos (n + (i * n + m)) text) memos (take-set-le n memos (n + (i * n + m)) text (omega arith)) in
+    rw (k, z, ← drop-drop (i * n) n memos, here, drop-set-add n memos (i * n + m) text, memo_set fields ps (drop n memos) i m text e lt (omega arith)) refl
+
+pub rows_memo : (fields : List Field) (n i j : ℕ) (bytes text : List ℕ) (memos : List (List ℕ)) (d : Row) → length memos ≡ n * memo_count fields → i < n → j < length fields → kind_at fields j ≡ 77
+    → rows_of fields n bytes (set memos (i * memo_count fields + memo_count (take j fields)) text)
+    ≡ set (rows_of fields n bytes memos) i (row_with_cell (get_or (rows_of fields n bytes memos) i d) j text)
+rows_memo fields n i j bytes text memos d many lt inside kind =
+    let size : ℕ = 1 + widths fields in
+    let mc : ℕ = memo_count fields in
+    let nothing : List ℕ = [] in
+    let piece : List ℕ = take size (drop (i * size) bytes) in
+    let own : List (List ℕ) = drop (i * mc) memos in
+    let m : ℕ = memo_count (take j fields) in
+    let within = memo_within fields j inside kind in
+    let place = place-inside mc n i (length memos) lt many in
+    let room : mc ≤ length own = omega (arith, length-drop (i * mc) memos) in
+    let here : i < length (pieces size n bytes) = rw (length-pieces size n bytes) lt in
+    memo_set fields (pieces size n bytes) memos i m text nothing within here
+    ∙ ap (set (rows_of fields n bytes memos) i) (
+    ap (λ (p : List ℕ). row_with fields p (set own m text)) (piece_here size n i bytes nothing lt)
+    ∙ ap (row_of_cells piece) (cells_set fields j (drop 1 piece) text own inside kind room)
+    ∙ ap (λ (r : Row). row_with_cell r j text) (sym (row_here fields n i bytes memos d lt))
     )
 
 -- a run of one more record

@@ -7,7 +7,7 @@ use Rattle.dbf_fields.specs.Schema as schemas
 use Rattle.dbf_image.specs.declared.fault.ImageFault.{ImageFault}
 use Rattle.dbf_image.specs.declared.fault.ImageFault.TheVariants.{BadSchema, NoMemory}
 use Rattle.dbf_image.specs.DbfText.{pieces, field_of}
-use Rattle.dbf_image.specs.Reading.{field_count, fields_of, header_tests, field_tests, record_tests, refusal, IsRefusal}
+use Rattle.dbf_image.specs.Reading.{field_count, fields_of, header_tests, field_tests, record_tests, memos_tests, refusal, IsRefusal}
 
 -- the tests of a group let the next ones decide, or one of them decides
 then_by : {F : Type 0} (b : Bool) (x y z : Option F) (f : F) → cond b x (Some f) ≡ None → (x ≡ None → y ≡ z) → cond b y (Some f) ≡ z
@@ -26,6 +26,15 @@ pub first_before : {F : Type 0} (xs ys : List (Bool × F)) (fault : F) → first
 first_before [] ys fault h = absurd cc
 first_before (x ∷ xs) ys fault h = before_by x.0 (first_fault xs) _ _ x.1 h (first_before xs ys fault)
 
+-- what passing all says of each part
+parts_by : {F : Type 0} (b : Bool) (x y : Option F) (f : F) (P : Type 0) → cond b y (Some f) ≡ None → (y ≡ None → (x ≡ None) × P) → (cond b x (Some f) ≡ None) × P
+parts_by true x y f P e next = next e
+parts_by false x y f P e next = absurd cc
+
+pub first_parts : {F : Type 0} (xs ys : List (Bool × F)) → first_fault (xs ++ ys) ≡ None → (first_fault xs ≡ None) × (first_fault ys ≡ None)
+first_parts [] ys h = (refl, h)
+first_parts (x ∷ xs) ys h = parts_by x.0 (first_fault xs) (first_fault (xs ++ ys)) x.1 (first_fault ys ≡ None) h (first_parts xs ys)
+
 pub fields_are : (bytes : List ℕ) (count : ℕ) → Some count ≡ field_count bytes → map field_of (pieces 32 count (take (length bytes - 32) (drop 32 bytes))) ≡ fields_of bytes
 fields_are bytes count e = rw (take_rest bytes 32, ← e) refl
 
@@ -41,14 +50,31 @@ fields_fail bytes count fault e (inl h) = inl h
 fields_fail bytes count fault e (inr h) = inr (rw (h.1, h.0, ← e) refl)
 
 -- the whole refusal by its groups
-pub refused_by_header : (bytes : List ℕ) (fault : ImageFault) → first_fault (header_tests bytes) ≡ Some fault → IsRefusal fault bytes
-refused_by_header bytes fault h = inr (first_before (header_tests bytes) (field_tests bytes ++ record_tests bytes) fault h)
+abbrev behind_fields : List ℕ → Option (List ℕ) → List (Bool × ImageFault)
+behind_fields bytes dbt = record_tests bytes ++ memos_tests bytes dbt
 
-pub refused_by_fields : (bytes : List ℕ) (fault : ImageFault) → first_fault (header_tests bytes) ≡ None → (fault ≡ NoMemory) ⊎ (first_fault (field_tests bytes) ≡ Some fault) → IsRefusal fault bytes
-refused_by_fields bytes fault a (inl h) = inl h
-refused_by_fields bytes fault a (inr h) =
-    inr (first_then (header_tests bytes) (field_tests bytes ++ record_tests bytes) a ∙ first_before (field_tests bytes) (record_tests bytes) fault h)
+pub refused_by_header : (bytes : List ℕ) (dbt : Option (List ℕ)) (fault : ImageFault) → first_fault (header_tests bytes) ≡ Some fault → IsRefusal fault bytes dbt
+refused_by_header bytes dbt fault h = inr (first_before (header_tests bytes) (field_tests bytes ++ behind_fields bytes dbt) fault h)
 
-pub decided_by_records : (bytes : List ℕ) → first_fault (header_tests bytes) ≡ None → first_fault (field_tests bytes) ≡ None → refusal bytes ≡ first_fault (record_tests bytes)
-decided_by_records bytes a b =
-    first_then (header_tests bytes) (field_tests bytes ++ record_tests bytes) a ∙ first_then (field_tests bytes) (record_tests bytes) b
+pub refused_by_fields : (bytes : List ℕ) (dbt : Option (List ℕ)) (fault : ImageFault) → first_fault (header_tests bytes) ≡ None
+    → (fault ≡ NoMemory) ⊎ (first_fault (field_tests bytes) ≡ Some fault) → IsRefusal fault bytes dbt
+refused_by_fields bytes dbt fault a (inl h) = inl h
+refused_by_fields bytes dbt fault a (inr h) =
+    inr (first_then (header_tests bytes) (field_tests bytes ++ behind_fields bytes dbt) a ∙ first_before (field_tests bytes) (behind_fields bytes dbt) fault h)
+
+decided_by_records : (bytes : List ℕ) (dbt : Option (List ℕ)) → first_fault (header_tests bytes) ≡ None → first_fault (field_tests bytes) ≡ None → refusal bytes dbt ≡ first_fault (behind_fields bytes dbt)
+decided_by_records bytes dbt a b =
+    first_then (header_tests bytes) (field_tests bytes ++ behind_fields bytes dbt) a ∙ first_then (field_tests bytes) (behind_fields bytes dbt) b
+
+pub refused_by_records : (bytes : List ℕ) (dbt : Option (List ℕ)) (fault : ImageFault) → first_fault (header_tests bytes) ≡ None → first_fault (field_tests bytes) ≡ None
+    → first_fault (record_tests bytes) ≡ Some fault → IsRefusal fault bytes dbt
+refused_by_records bytes dbt fault a b h = inr (decided_by_records bytes dbt a b ∙ first_before (record_tests bytes) (memos_tests bytes dbt) fault h)
+
+pub decided_by_memos : (bytes : List ℕ) (dbt : Option (List ℕ)) → first_fault (header_tests bytes) ≡ None → first_fault (field_tests bytes) ≡ None → first_fault (record_tests bytes) ≡ None
+    → refusal bytes dbt ≡ first_fault (memos_tests bytes dbt)
+decided_by_memos bytes dbt a b c = decided_by_records bytes dbt a b ∙ first_then (record_tests bytes) (memos_tests bytes dbt) c
+
+pub refused_by_memos : (bytes : List ℕ) (dbt : Option (List ℕ)) (fault : ImageFault) → first_fault (header_tests bytes) ≡ None → first_fault (field_tests bytes) ≡ None
+    → first_fault (record_tests bytes) ≡ None → (fault ≡ NoMemory) ⊎ (first_fault (memos_tests bytes dbt) ≡ Some fault) → IsRefusal fault bytes dbt
+refused_by_memos bytes dbt fault a b c (inl h) = inl h
+refused_by_memos bytes dbt fault a b c (inr h) = inr (decided_by_memos bytes dbt a b c ∙ h)

@@ -1,20 +1,16 @@
--- The file that is written of a table is a file of that table.
-use Rattle.std.proofs.Common.{◌≡◌, ◌≢◌, ℕ, zero, suc, ◌+◌, ◌-◌, ◌*◌, ◌<◌, ◌≤◌, Bool, true, false, cond, eqb, leb, ◌&&◌, List, [], ◌∷◌, ◌++◌, length, map, take, drop, replicate, get_or, refl, sym, ap, ◌∙◌, inl, append_assoc, arith}
+-- The parts of a file that is written are read.
+use Rattle.std.proofs.Common.{◌≡◌, ◌≢◌, ℕ, zero, suc, ◌+◌, ◌-◌, ◌*◌, ◌<◌, ◌≤◌, Bool, true, false, cond, eqb, leb, ◌&&◌, List, [], ◌∷◌, ◌++◌, length, map, take, drop, replicate, get_or, refl, sym, ap, ◌∙◌, append_assoc, arith}
 use Rattle.std.specs.Prelude.{slice_index, flat_map}
 use Rattle.std.specs.List.{AllByRecursion, before_first, position_or_len, list_all}
 use Rattle.std.specs.Int.{is_in_range}
 use Rattle.std.specs.Char.{is_ascii_alphabetic}
 use Rattle.std.proofs.lemmas.Bool.{and_parts, leb-true, ne_eqb, true≢false}
 use Rattle.std.proofs.lemmas.List.{take_at, drop_at, get_or_at, get_or-append_right, get_or_append_left, length-append, length-replicate}
-use Rattle.std.proofs.lemmas.List.Sums.{position_or_len_is, sum_by-cons}
-use Rattle.byteorder.specs.Numbers.{little_number-reads_back}
+use Rattle.std.proofs.lemmas.List.Sums.{position_or_len_is}
 use Rattle.dbf_fields.specs.declared.field.Field.{Field}
 use Rattle.dbf_fields.specs.Name.{is_name_char, is_name}
-use Rattle.dbf_fields.specs.Field.{widths, folded}
-use Rattle.dbf_fields.proofs.SchemaLaws.{schema_names, schema_widths, schema_count}
-use Rattle.dbf_image.specs.Table.{Row, Table, IsRow, IsTable}
-use Rattle.dbf_image.specs.DbfText.{pieces, header_length, record_length, record_count, field_of, cells_of, row_of, IsDbf}
-use Rattle.dbf_image.specs.Image.{header_bytes, descriptor, row_bytes, image}
+use Rattle.dbf_image.specs.DbfText.{pieces, field_of}
+use Rattle.dbf_image.specs.Image.{descriptor}
 
 -- ---- pieces of one size that are joined
 
@@ -128,50 +124,11 @@ not_end (f ∷ fs) rest h (suc i) lt =
     rw (append_assoc (descriptor f) (flat_map descriptor fs) rest, get_or-append_right (descriptor f) (flat_map descriptor fs ++ rest) 32 (32 * suc i) 0 (length-descriptor f (omega (arith, h.0.short))) (omega arith), k)
     (not_end fs rest h.1 i (omega arith))
 
--- ---- the bytes of a row
+-- ---- the flag of a record
 
 pub flag_again : (b : Bool) → eqb (cond b 42 32) 42 ≡ b
 flag_again true = refl
 flag_again false = refl
-
-head_of : (a b : ℕ) (xs ys : List ℕ) → a ∷ xs ≡ b ∷ ys → a ≡ b
-head_of a b xs ys e = cc
-
-tail_of : (a b : ℕ) (xs ys : List ℕ) → a ∷ xs ≡ b ∷ ys → xs ≡ ys
-tail_of a b xs ys e = cc
-
-pub cells_again : (fields : List Field) (cells : List (List ℕ)) → map length cells ≡ map (λ f. f.width) fields → cells_of fields (flat_map (λ c. c) cells) ≡ cells
-cells_again [] [] e = refl
-cells_again [] (c ∷ cs) e = absurd cc
-cells_again (f ∷ fs) [] e = absurd cc
-cells_again (f ∷ fs) (c ∷ cs) e =
-    let len : length c ≡ f.width = head_of _ _ _ _ e in
-    rw (take_at c (flat_map (λ c. c) cs) f.width len, drop_at c (flat_map (λ c. c) cs) f.width len, cells_again fs cs (tail_of _ _ _ _ e)) refl
-
-pub length-cells : (fields : List Field) (cells : List (List ℕ)) → map length cells ≡ map (λ f. f.width) fields → length (flat_map (λ c. c) cells) ≡ widths fields
-length-cells [] [] e = refl
-length-cells [] (c ∷ cs) e = absurd cc
-length-cells (f ∷ fs) [] e = absurd cc
-length-cells (f ∷ fs) (c ∷ cs) e =
-    let len : length c ≡ f.width = head_of _ _ _ _ e in
-    let sum : widths (f ∷ fs) ≡ f.width + widths fs = sum_by-cons (λ (g : Field). g.width) f fs in
-    omega (arith, length-append c (flat_map (λ c. c) cs), length-cells fs cs (tail_of _ _ _ _ e))
-
-row_again : (fields : List Field) (row : Row) → IsRow fields row → row_of fields (row_bytes row) ≡ row
-unfolding row_bytes
-row_again fields row h = rw (flag_again row.deleted, cells_again fields row.cells h) refl
-
-length-row : (fields : List Field) (row : Row) → IsRow fields row → length (row_bytes row) ≡ 1 + widths fields
-unfolding row_bytes
-length-row fields row h = omega (arith, length-cells fields row.cells h)
-
-pub rows_again : (fields : List Field) (rows : List Row) → AllByRecursion (IsRow fields) rows → map (row_of fields) (map row_bytes rows) ≡ rows
-rows_again fields [] h = refl
-rows_again fields (r ∷ rs) h = rw (row_again fields r h.0, rows_again fields rs h.1) refl
-
-pub rows_long : (fields : List Field) (rows : List Row) → AllByRecursion (IsRow fields) rows → AllByRecursion (λ r. length (row_bytes r) ≡ 1 + widths fields) rows
-rows_long fields [] h = tt
-rows_long fields (r ∷ rs) h = (length-row fields r h.0, rows_long fields rs h.1)
 
 -- ---- the whole file
 
@@ -190,39 +147,3 @@ pub not_here : (head tail : List ℕ) (h i : ℕ) → length head ≡ h → get_
 not_here head tail h i len differs =
     let k : h + i - h ≡ i = omega arith in
     rw (get_or-append_right head tail h (h + i) 0 len (omega arith), k) differs
-
-pub is_dbf_image : (table : Table) (year month day : ℕ) → IsTable table → IsDbf (image table year month day) table
-is_dbf_image table year month day t =
-    let schema : List Field = table.schema in
-    let n : ℕ = length schema in
-    let size : ℕ = 1 + widths schema in
-    let head : List ℕ = header_bytes table year month day in
-    let body : List ℕ = flat_map descriptor schema in
-    let records : List ℕ = flat_map row_bytes table.rows in
-    let bytes : List ℕ = image table year month day in
-    let names = names_from schema (schema_names schema t.fields) in
-    let few : n ≤ 128 = schema_count schema t.fields in
-    let narrow : widths schema ≤ 4000 = schema_widths schema t.fields in
-    let count : record_count bytes ≡ length table.rows = little_number-reads_back 4 (length table.rows) [] (omega (arith, t.few)) in
-    let header : header_length bytes ≡ 32 * n + 33 = little_number-reads_back 2 (32 * n + 33) [] (omega arith) in
-    let wide : record_length bytes ≡ size = little_number-reads_back 2 size [] (omega arith) in
-    let body_long : length body ≡ n * 32 = length-join 32 descriptor schema (descriptors_long schema names) in
-    let records_long : length records ≡ length table.rows * size = length-join size row_bytes table.rows (rows_long schema table.rows t.fit) in
-    let fields : map field_of (pieces 32 n (drop 32 bytes)) ≡ schema =
-    ap (map field_of) (pieces-join 32 descriptor schema (13 ∷ (records ++ 26 ∷ [])) (descriptors_long schema names)) ∙ fields_again schema names in
-    let rest : drop (32 * n + 33) bytes ≡ records ++ 26 ∷ [] = behind head body (records ++ 26 ∷ []) (32 * n + 33) (omega arith) in
-    let cut : pieces size (length table.rows) (records ++ 26 ∷ []) ≡ map row_bytes table.rows = pieces-join size row_bytes table.rows (26 ∷ []) (rows_long schema table.rows t.fit) in
-    record {
-      long = omega (arith, length-append head (body ++ 13 ∷ (records ++ 26 ∷ [])));
-      version = inl refl;
-      field_count = n;
-      last_field = end_here head body (records ++ 26 ∷ []) (32 + 32 * n) (omega arith);
-      not_before = λ i lt. not_here head (body ++ 13 ∷ (records ++ 26 ∷ [])) 32 (32 * i) refl (not_end schema (13 ∷ (records ++ 26 ∷ [])) names i lt);
-      in_header = rw header (omega arith);
-      accepted = rw fields t.fields.accepted;
-      schema = sym (ap (map folded) fields ∙ t.fields.kept);
-      wide = wide;
-      few = rw count t.few;
-      whole = rw (header, count, wide) (omega (arith, length-append head (body ++ 13 ∷ (records ++ 26 ∷ [])), length-append body (13 ∷ (records ++ 26 ∷ [])), length-append records (26 ∷ [])));
-      rows = rw (wide, count, header, rest, cut) (sym (rows_again schema table.rows t.fit));
-    }

@@ -1,38 +1,27 @@
--- The rows that are read have cells as wide as the fields, and are the table's.
-use Rattle.std.proofs.Common.{◌≡◌, ℕ, zero, suc, ◌+◌, ◌*◌, ◌≤◌, List, [], ◌∷◌, length, map, take, drop, refl, sym, ap, ◌∙◌, add-one, arith}
+-- The rows of a table's store: how many there are, and that they fit the fields.
+use Rattle.std.proofs.Common.{◌≡◌, ℕ, zero, suc, ◌+◌, ◌*◌, ◌≤◌, Bool, true, false, cond, eqb, List, [], ◌∷◌, length, take, drop, refl, ap, ◌∙◌, add-one, arith}
 use Rattle.std.specs.List.{AllByRecursion}
-use Rattle.std.proofs.lemmas.List.{take-append-drop, take-take, drop-take, length-take, length-drop, length-map, length-take-le}
+use Rattle.std.proofs.lemmas.Bool.{eqb-true, eqb-false}
+use Rattle.std.proofs.lemmas.List.{take-take, drop-take, length-take, length-drop, length-take-le}
 use Rattle.std.proofs.lemmas.List.Sums.{sum_by-cons}
 use Rattle.dbf_fields.specs.declared.field.Field.{Field}
 use Rattle.dbf_fields.specs.Field.{widths}
 use Rattle.dbf_fields.specs.Schema.{IsSchema}
-use Rattle.dbf_image.specs.Table.{Row, IsRow, IsTable}
-use Rattle.dbf_image.specs.DbfText.{pieces, cells_of, row_of, rows_of, IsRun, header_length, record_length, record_count}
-use Rattle.dbf_image.specs.Image.{record_bytes, row_bytes}
-use Rattle.std.specs.Prelude.{flat_map}
-use Rattle.dbf_image.specs.Reading.{schema_of, table_of}
+use Rattle.dbf_image.specs.declared.span.Span.{Span}
+use Rattle.dbf_image.specs.Table.{IsRow, AreCells, IsTable, is_memo_text}
+use Rattle.dbf_image.specs.DbfText.{pieces}
+use Rattle.dbf_image.specs.Store.{texts_of, IsSpan, first_memo, memo_count, cells_with, rows_with, rows_of, IsStore}
 
 pub length-pieces : (size n : ℕ) (bytes : List ℕ) → length (pieces size n bytes) ≡ n
 length-pieces size zero bytes = refl
 length-pieces size (suc n) bytes = ap suc (length-pieces size n (drop size bytes))
 
-pub cells_fit : (fields : List Field) (bytes : List ℕ) → widths fields ≤ length bytes → map length (cells_of fields bytes) ≡ map (λ f. f.width) fields
-cells_fit [] bytes room = refl
-cells_fit (f ∷ fs) bytes room =
-    let sum : widths (f ∷ fs) ≡ f.width + widths fs = sum_by-cons (λ (g : Field). g.width) f fs in
-    let here : length (take f.width bytes) ≡ f.width = length-take-le f.width bytes (omega arith) in
-    let there = cells_fit fs (drop f.width bytes) (omega (arith, length-drop f.width bytes)) in
-    rw (here, there) refl
+pub length-rows : (fields : List Field) (ps memos : List (List ℕ)) → length (rows_with fields ps memos) ≡ length ps
+length-rows fields [] memos = refl
+length-rows fields (p ∷ ps) memos = ap suc (length-rows fields ps (drop (memo_count fields) memos))
 
-pub rows_fit : (fields : List Field) (size n : ℕ) (bytes : List ℕ) → size ≡ 1 + widths fields → n * size ≤ length bytes
-    → AllByRecursion (IsRow fields) (map (row_of fields) (pieces size n bytes))
-rows_fit fields size zero bytes wide room = tt
-rows_fit fields size (suc n) bytes wide room =
-    let room' : (n + 1) * size ≤ length bytes = rw add-one room in
-    let left = length-drop size bytes in
-    let long = length-take size bytes in
-    let here = cells_fit fields (drop 1 (take size bytes)) (omega (arith, length-drop 1 (take size bytes))) in
-    (here, rows_fit fields size n (drop size bytes) wide (omega arith))
+pub length-rows_of : (fields : List Field) (n : ℕ) (bytes : List ℕ) (memos : List (List ℕ)) → length (rows_of fields n bytes memos) ≡ n
+length-rows_of fields n bytes memos = length-rows fields (pieces (1 + widths fields) n bytes) memos ∙ length-pieces (1 + widths fields) n bytes
 
 -- the bytes of so many records, and what stands behind them
 pub pieces_take : (size n : ℕ) (bytes : List ℕ) → pieces size n (take (n * size) bytes) ≡ pieces size n bytes
@@ -41,48 +30,55 @@ pieces_take size (suc n) bytes =
     let k : suc n * size ≡ size + n * size = omega arith in
     rw (k, take-take size (size + n * size) bytes (omega arith), drop-take size (n * size) bytes, pieces_take size n (drop size bytes)) refl
 
-pub rows_told : (bytes : List ℕ) (schema : List Field) (size count start : ℕ) (records : List ℕ)
-    → schema ≡ schema_of bytes → size ≡ record_length bytes → size ≡ 1 + widths schema → count ≡ record_count bytes → start ≡ header_length bytes
-    → records ≡ take (count * size) (drop start bytes)
-    → record { schema = schema; rows = rows_of schema count records } ≡ table_of bytes
-rows_told bytes schema size count start records s z w n h r =
-    let same : rows_of schema count records ≡ map (row_of schema) (pieces size count (drop start bytes)) =
-    rw (r, ← w) (ap (map (row_of schema)) (pieces_take size count (drop start bytes))) in
-    rw same (rw (z, n, h, s) refl)
+-- ---- rows that fit
 
--- the rows of a run are those of a table
-pub length-rows : (fields : List Field) (n : ℕ) (bytes : List ℕ) → length (rows_of fields n bytes) ≡ n
-length-rows fields n bytes = length-map (pieces (1 + widths fields) n bytes) (row_of fields) ∙ length-pieces (1 + widths fields) n bytes
+-- each of the texts is one that a memo may have
+abbrev pub AreTexts : List (List ℕ) → Type 0
+AreTexts memos = AllByRecursion (λ t. is_memo_text t ≡ true) memos
 
-pub run_table : (fields : List Field) (n : ℕ) (bytes : List ℕ) → IsSchema fields → IsRun fields n bytes → IsTable (record { schema = fields; rows = rows_of fields n bytes })
-run_table fields n bytes schema run = record {
-  fields = schema;
-  few = rw (length-rows fields n bytes) run.few;
-  fit = rows_fit fields (1 + widths fields) n bytes refl (omega (arith, run.whole));
-}
+first_text : (memos : List (List ℕ)) → AreTexts memos → is_memo_text (first_memo memos) ≡ true
+first_text [] h = refl
+first_text (t ∷ ts) h = h.0
 
--- the cells of a record are its bytes behind the flag
-pub cells-join : (fields : List Field) (bytes : List ℕ) → length bytes ≡ widths fields → flat_map (λ c. c) (cells_of fields bytes) ≡ bytes
-cells-join [] [] e = refl
-cells-join [] (b ∷ bs) e = absurd (omega arith)
-cells-join (f ∷ fs) bytes e =
+texts_drop : (n : ℕ) (memos : List (List ℕ)) → AreTexts memos → AreTexts (drop n memos)
+texts_drop zero memos h = h
+texts_drop (suc n) [] h = tt
+texts_drop (suc n) (t ∷ ts) h = texts_drop n ts h.1
+
+cells_fit_by : (f : Field) (fs : List Field) (cell rest : List ℕ) (memos : List (List ℕ)) (b : Bool) → eqb f.kind 77 ≡ b → length cell ≡ f.width → AreTexts memos
+    → ((m : List (List ℕ)) → AreTexts m → AreCells fs (cells_with fs rest m))
+    → AreCells (f ∷ fs) (cond b (first_memo memos ∷ cells_with fs rest (drop 1 memos)) (cell ∷ cells_with fs rest memos))
+cells_fit_by f fs cell rest memos true e wide texts ih =
+    ((λ kind. first_text memos texts, λ other. absurd (other (eqb-true f.kind 77 e))), ih (drop 1 memos) (texts_drop 1 memos texts))
+cells_fit_by f fs cell rest memos false e wide texts ih = ((λ kind. absurd (eqb-false f.kind 77 e kind), λ other. wide), ih memos texts)
+
+pub cells_fit : (fields : List Field) (bytes : List ℕ) (memos : List (List ℕ)) → widths fields ≤ length bytes → AreTexts memos → AreCells fields (cells_with fields bytes memos)
+cells_fit [] bytes memos room texts = tt
+cells_fit (f ∷ fs) bytes memos room texts =
     let sum : widths (f ∷ fs) ≡ f.width + widths fs = sum_by-cons (λ (g : Field). g.width) f fs in
-    rw (cells-join fs (drop f.width bytes) (omega (arith, length-drop f.width bytes))) (take-append-drop f.width bytes)
+    let here : length (take f.width bytes) ≡ f.width = length-take-le f.width bytes (omega arith) in
+    let left : widths fs ≤ length (drop f.width bytes) = omega (arith, length-drop f.width bytes) in
+    cells_fit_by f fs (take f.width bytes) (drop f.width bytes) memos (eqb f.kind 77) refl here texts (λ m h. cells_fit fs (drop f.width bytes) m left h)
 
-record_same : (fields : List Field) (bytes : List ℕ) → length bytes ≡ 1 + widths fields → record_bytes bytes ≡ row_bytes (row_of fields bytes)
-unfolding record_bytes row_bytes
-record_same fields bytes e = rw (cells-join fields (drop 1 bytes) (omega (arith, length-drop 1 bytes))) refl
-
-pub records_same : (fields : List Field) (size n : ℕ) (bytes : List ℕ) → size ≡ 1 + widths fields → n * size ≤ length bytes
-    → flat_map record_bytes (pieces size n bytes) ≡ flat_map row_bytes (map (row_of fields) (pieces size n bytes))
-records_same fields size zero bytes wide room = refl
-records_same fields size (suc n) bytes wide room =
+pub rows_fit : (fields : List Field) (size n : ℕ) (bytes : List ℕ) (memos : List (List ℕ)) → size ≡ 1 + widths fields → n * size ≤ length bytes → AreTexts memos
+    → AllByRecursion (IsRow fields) (rows_with fields (pieces size n bytes) memos)
+rows_fit fields size zero bytes memos wide room texts = tt
+rows_fit fields size (suc n) bytes memos wide room texts =
     let room' : (n + 1) * size ≤ length bytes = rw add-one room in
     let left = length-drop size bytes in
-    let long : length (take size bytes) ≡ size = length-take-le size bytes (omega arith) in
-    rw (record_same fields (take size bytes) (long ∙ wide), records_same fields size n (drop size bytes) wide (omega arith)) refl
+    let long = length-take size bytes in
+    let here = cells_fit fields (drop 1 (take size bytes)) memos (omega (arith, length-drop 1 (take size bytes))) texts in
+    (here, rows_fit fields size n (drop size bytes) (drop (memo_count fields) memos) wide (omega arith) (texts_drop (memo_count fields) memos texts))
 
-pub run_same : (fields : List Field) (rows : List Row) (size count : ℕ) (bytes : List ℕ) → rows ≡ rows_of fields (length rows) bytes → IsRun fields (length rows) bytes
-    → size ≡ 1 + widths fields → count ≡ length rows → flat_map record_bytes (pieces size count bytes) ≡ flat_map row_bytes rows
-run_same fields rows size count bytes told run wide n =
-    rw (wide, n) (records_same fields (1 + widths fields) (length rows) bytes refl (omega (arith, run.whole)) ∙ ap (flat_map row_bytes) (sym told))
+pub store_texts : (texts : List ℕ) (spans : List Span) → AllByRecursion (IsSpan texts) spans → AreTexts (texts_of texts spans)
+store_texts texts [] h = tt
+store_texts texts (s ∷ ss) h = (h.0.text, store_texts texts ss h.1)
+
+-- the rows of a store are those of a table
+pub store_table : (fields : List Field) (n : ℕ) (bytes texts : List ℕ) (spans : List Span) → IsSchema fields → IsStore fields n bytes texts spans
+    → IsTable (record { schema = fields; rows = rows_of fields n bytes (texts_of texts spans) })
+store_table fields n bytes texts spans schema store = record {
+  fields = schema;
+  few = rw (length-rows_of fields n bytes (texts_of texts spans)) store.run.few;
+  fit = rows_fit fields (1 + widths fields) n bytes (texts_of texts spans) refl (omega (arith, store.run.whole)) (store_texts texts spans store.each);
+}

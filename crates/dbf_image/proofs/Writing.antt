@@ -1,5 +1,5 @@
 -- Pieces that are written one after the other make the whole.
-use Rattle.std.proofs.Common.{◌≡◌, true, leb, ◌&&◌, All, ℕ, ◌-◌, ◌≤◌, Option, List, [], ◌∷◌, ◌++◌, length, take, replicate, append_assoc, arith, ap, sym, ◌∙◌, ◌<◌, ◌+◌, drop, set, get_or, cond, eqb}
+use Rattle.std.proofs.Common.{◌≡◌, true, leb, ◌&&◌, All, ℕ, ◌-◌, ◌≤◌, Option, List, [], ◌∷◌, ◌++◌, length, take, replicate, append_assoc, arith, ap, sym, ◌∙◌, ◌<◌, ◌+◌, drop, set, get_or}
 use Rattle.std.specs.Prelude.{slice_index, flat_map}
 use Rattle.std.specs.List.{AllByRecursion, list_all}
 use Rattle.std.specs.Char.{is_ascii_alphabetic}
@@ -12,11 +12,9 @@ use Rattle.dbf_fields.specs.Name.{is_name_char, is_name}
 use Rattle.dbf_fields.specs.Schema.{IsSchema}
 use Rattle.dbf_fields.proofs.SchemaLaws.{schema_names}
 use Rattle.dbf_fields.specs.declared.field.Field.{Field}
-use Rattle.dbf_image.specs.Image.{header_bytes, descriptor, record_bytes, row_bytes, image}
+use Rattle.dbf_image.specs.Image.{header_bytes, descriptor, rows_bytes, image}
 use Rattle.dbf_image.specs.Sink.{grown, IsFront}
 use Rattle.dbf_image.specs.Table.{Table}
-use Rattle.dbf_image.specs.DbfText.{pieces}
-use Rattle.dbf_image.proofs.Pieces.{pieces-more}
 use Rattle.dbf_image.proofs.Sinks.{grown_then, front_more}
 
 -- a descriptor, whose name, letter, width and decimals are written over zeros
@@ -36,15 +34,9 @@ descriptor_built f le =
     set-append_right front (f.kind ∷ (replicate 4 0 ++ (f.width ∷ replicate 15 0))) 11 17 f.decimals long (omega arith) in
     rw (whole, kind, width) decimals
 
--- one more of the records
-pub written_more : (f : List ℕ → List ℕ) (o : Option (List ℕ)) (size n i : ℕ) (bytes : List ℕ) → i < n
-    → grown (grown o (f (take size bytes))) (flat_map f (pieces size (n - (i + 1)) (drop size bytes))) ≡ grown o (flat_map f (pieces size (n - i) bytes))
-written_more f o size n i bytes lt =
-    grown_then o (f (take size bytes)) (flat_map f (pieces size (n - (i + 1)) (drop size bytes))) ∙ ap (grown o) (sym (pieces-more f size n i bytes lt))
-
 -- the parts of a file
 pub image_told : (o : Option (List ℕ)) (table : Table) (year month day : ℕ)
-    → grown (grown (grown (grown (grown o (header_bytes table year month day)) (flat_map descriptor table.schema)) (13 ∷ [])) (flat_map row_bytes table.rows)) (26 ∷ []) ≡ grown o (image table year month day)
+    → grown (grown (grown (grown (grown o (header_bytes table year month day)) (flat_map descriptor table.schema)) (13 ∷ [])) (flat_map (λ bytes. bytes) (rows_bytes 1 table.schema table.rows))) (26 ∷ []) ≡ grown o (image table year month day)
 image_told o table year month day = simp grown_then (ap (grown o) (simp append_assoc))
 
 names_fit : (fs : List Field) → AllByRecursion (λ f. is_name f.name ≡ true) fs → AllByRecursion (λ f. length f.name ≤ 11) fs
@@ -59,28 +51,51 @@ name_fits fs s = All-from_recursion (λ f. length f.name ≤ 11) fs (names_fit f
 
 -- ---- what a write that fails leaves is a front part of the whole
 
-pub front_of_fields : (d : Field → List ℕ) (fs : List Field) (i : ℕ) (f : Field) (o w : Option (List ℕ)) → i < length fs → f ≡ get_or fs i f
-    → IsFront w (grown (grown o (flat_map d (take i fs))) (d f)) → IsFront w (grown o (flat_map d fs))
-front_of_fields d fs i f o w lt is h =
-    let rest : List ℕ = flat_map d (drop (i + 1) fs) in
-    let here : drop i fs ≡ f ∷ drop (i + 1) fs = drop_more fs i f lt ∙ ap (λ (g : Field). g ∷ drop (i + 1) fs) (sym is) in
-    let split : flat_map d (take i fs) ++ (d f ++ rest) ≡ flat_map d fs =
-    ap (λ (gs : List Field). flat_map d (take i fs) ++ flat_map d gs) (sym here) ∙ sym (flat_map-append d (take i fs) (drop i fs)) ∙ ap (flat_map d) (take-append-drop i fs) in
-    let whole : grown (grown (grown o (flat_map d (take i fs))) (d f)) rest ≡ grown o (flat_map d fs) =
-    grown_then (grown o (flat_map d (take i fs))) (d f) rest ∙ grown_then o (flat_map d (take i fs)) (d f ++ rest) ∙ ap (grown o) split in
-    rw (← whole) (front_more w (grown (grown o (flat_map d (take i fs))) (d f)) rest h)
+pub front_of_items : {X : Type 0} (d : X → List ℕ) (xs : List X) (i : ℕ) (z : X) (o w : Option (List ℕ)) → i < length xs
+    → IsFront w (grown (grown o (flat_map d (take i xs))) (d (get_or xs i z))) → IsFront w (grown o (flat_map d xs))
+front_of_items {X} d xs i z o w lt h =
+    let x : X = get_or xs i z in
+    let rest : List ℕ = flat_map d (drop (i + 1) xs) in
+    let split : flat_map d (take i xs) ++ (d x ++ rest) ≡ flat_map d xs =
+    ap (λ (ys : List X). flat_map d (take i xs) ++ flat_map d ys) (sym (drop_more xs i z lt)) ∙ sym (flat_map-append d (take i xs) (drop i xs)) ∙ ap (flat_map d) (take-append-drop i xs) in
+    let whole : grown (grown (grown o (flat_map d (take i xs))) (d x)) rest ≡ grown o (flat_map d xs) =
+    grown_then (grown o (flat_map d (take i xs))) (d x) rest ∙ grown_then o (flat_map d (take i xs)) (d x ++ rest) ∙ ap (grown o) split in
+    rw (← whole) (front_more w (grown (grown o (flat_map d (take i xs))) (d x)) rest h)
 
-pub front_of_record : (o w : Option (List ℕ)) (flag : ℕ) (bytes : List ℕ) → flag ≡ cond (eqb (get_or bytes 0 0) 42) 42 32 → IsFront w (grown o (flag ∷ [])) → IsFront w (grown o (record_bytes bytes))
-unfolding record_bytes
-front_of_record o w flag bytes is h =
-    let whole : grown (grown o (flag ∷ [])) (drop 1 bytes) ≡ grown o (record_bytes bytes) = grown_then o (flag ∷ []) (drop 1 bytes) ∙ ap (λ (b : ℕ). grown o (b ∷ drop 1 bytes)) is in
-    rw (← whole) (front_more w (grown o (flag ∷ [])) (drop 1 bytes) h)
+pub front_of_item : {X : Type 0} (d : X → List ℕ) (xs : List X) (i : ℕ) (x : X) (o w : Option (List ℕ)) → i < length xs → x ≡ get_or xs i x
+    → IsFront w (grown (grown o (flat_map d (take i xs))) (d x)) → IsFront w (grown o (flat_map d xs))
+front_of_item d xs i x o w lt is h = front_of_items d xs i x o w lt (rw is at h)
 
-pub front_of_records : (f : List ℕ → List ℕ) (o w whole : Option (List ℕ)) (size n i : ℕ) (bytes : List ℕ) → i < n → grown o (flat_map f (pieces size (n - i) bytes)) ≡ whole
-    → IsFront w (grown o (f (take size bytes))) → IsFront w whole
-front_of_records f o w whole size n i bytes lt told h =
-    rw (← told, ← written_more f o size n i bytes lt) (front_more w (grown o (f (take size bytes))) (flat_map f (pieces size (n - (i + 1)) (drop size bytes))) h)
+-- one more part, of what was left
+pub told_more : (o whole : Option (List ℕ)) (here left all : List ℕ) → all ≡ here ++ left → grown o all ≡ whole → grown (grown o here) left ≡ whole
+told_more o whole here left all is told = grown_then o here left ∙ ap (grown o) (sym is) ∙ told
 
+-- what is written in three parts
+module _ (o w : Option (List ℕ)) (a b c whole : List ℕ) (is : (a ++ b) ++ c ≡ whole) where
+  pub three_told : grown (grown (grown o a) b) c ≡ grown o whole
+  three_told = ap (λ (p : Option (List ℕ)). grown p c) (grown_then o a b) ∙ grown_then o (a ++ b) c ∙ ap (grown o) is
+
+  pub three_1 : IsFront w (grown o a) → IsFront w (grown o whole)
+  three_1 h = rw (← three_told) (front_more _ _ _ (front_more _ _ _ h))
+
+  pub three_2 : IsFront w (grown (grown o a) b) → IsFront w (grown o whole)
+  three_2 h = rw (← three_told) (front_more _ _ _ h)
+
+  pub three_3 : IsFront w (grown (grown (grown o a) b) c) → IsFront w (grown o whole)
+  three_3 h = rw (← three_told) h
+
+-- and in two
+module _ (o w : Option (List ℕ)) (a b whole : List ℕ) (is : a ++ b ≡ whole) where
+  pub two_told : grown (grown o a) b ≡ grown o whole
+  two_told = grown_then o a b ∙ ap (grown o) is
+
+  pub two_1 : IsFront w (grown o a) → IsFront w (grown o whole)
+  two_1 h = rw (← two_told) (front_more _ _ _ h)
+
+  pub two_2 : IsFront w (grown (grown o a) b) → IsFront w (grown o whole)
+  two_2 h = rw (← two_told) h
+
+-- the parts of a file
 module _ (o w : Option (List ℕ)) (table : Table) (year month day : ℕ) where
   pub front_1 : IsFront w (grown o (header_bytes table year month day)) → IsFront w (grown o (image table year month day))
   front_1 h = rw (← image_told o table year month day) (front_more _ _ _ (front_more _ _ _ (front_more _ _ _ (front_more _ _ _ h))))
@@ -91,8 +106,8 @@ module _ (o w : Option (List ℕ)) (table : Table) (year month day : ℕ) where
   pub front_3 : IsFront w (grown (grown (grown o (header_bytes table year month day)) (flat_map descriptor table.schema)) (13 ∷ [])) → IsFront w (grown o (image table year month day))
   front_3 h = rw (← image_told o table year month day) (front_more _ _ _ (front_more _ _ _ h))
 
-  pub front_4 : IsFront w (grown (grown (grown (grown o (header_bytes table year month day)) (flat_map descriptor table.schema)) (13 ∷ [])) (flat_map row_bytes table.rows)) → IsFront w (grown o (image table year month day))
+  pub front_4 : IsFront w (grown (grown (grown (grown o (header_bytes table year month day)) (flat_map descriptor table.schema)) (13 ∷ [])) (flat_map (λ bytes. bytes) (rows_bytes 1 table.schema table.rows))) → IsFront w (grown o (image table year month day))
   front_4 h = rw (← image_told o table year month day) (front_more _ _ _ h)
 
-  pub front_5 : IsFront w (grown (grown (grown (grown (grown o (header_bytes table year month day)) (flat_map descriptor table.schema)) (13 ∷ [])) (flat_map row_bytes table.rows)) (26 ∷ [])) → IsFront w (grown o (image table year month day))
+  pub front_5 : IsFront w (grown (grown (grown (grown (grown o (header_bytes table year month day)) (flat_map descriptor table.schema)) (13 ∷ [])) (flat_map (λ bytes. bytes) (rows_bytes 1 table.schema table.rows))) (26 ∷ [])) → IsFront w (grown o (image table year month day))
   front_5 h = rw (← image_told o table year month day) h

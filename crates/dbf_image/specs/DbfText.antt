@@ -1,12 +1,13 @@
 -- The layout of a DBF file. Numbers stand with their lowest byte first, and places count from 0.
-use Rattle.std.specs.Prelude.{◌≡◌, ◌≢◌, ℕ, zero, suc, ◌+◌, ◌*◌, ◌<◌, ◌≤◌, ◌⊎◌, ◌==◌, List, [], ◌∷◌, length, map, take, drop, slice_index, None}
+use Rattle.std.specs.Prelude.{◌≡◌, ◌≢◌, ℕ, zero, suc, ◌+◌, ◌*◌, ◌<◌, ◌≤◌, ◌⊎◌, ◌==◌, true, List, [], ◌∷◌, length, map, take, drop, slice_index, Option, None, is_some, unwrap_or}
 use Rattle.std.specs.List.{before_first}
 use Rattle.byteorder.specs.Endian.{little_number}
 use Rattle.dbf_fields.specs.declared.field.Field.{Field}
 use Rattle.dbf_fields.specs.Field.{folded, widths}
 use Rattle.dbf_fields.specs.Schema as schemas
 use Rattle.dbf_image.specs.declared.table.TheConstants.{MOST_RECORDS}
-use Rattle.dbf_image.specs.Table.{Row, Table}
+use Rattle.dbf_image.specs.Table.{Row, Table, has_memos}
+use Rattle.dbf_image.specs.Memo.{TellsCells}
 
 -- so many pieces of one size, one after the other
 abbrev pub pieces : ℕ → ℕ → List ℕ → List (List ℕ)
@@ -32,26 +33,24 @@ field_of descriptor = record {
   decimals = slice_index descriptor 17;
 }
 
--- the cells of a record, without separators
-abbrev pub cells_of : List Field → List ℕ → List (List ℕ)
-cells_of [] bytes = []
-cells_of (f ∷ fs) bytes = take f.width bytes ∷ cells_of fs (drop f.width bytes)
-
 -- a record: a flag and the cells. A flag other than 0x2A means kept
-abbrev pub row_of : List Field → List ℕ → Row
-row_of fields bytes = record { deleted = slice_index bytes 0 == 42; cells = cells_of fields (drop 1 bytes) }
+abbrev pub TellsRow : List ℕ → List Field → List ℕ → Row → Type 0
+TellsRow dbt fields bytes row = (row.deleted ≡ (slice_index bytes 0 == 42)) × TellsCells dbt fields (drop 1 bytes) row.cells
 
--- so many records in one run of bytes
-abbrev pub rows_of : List Field → ℕ → List ℕ → List Row
-rows_of fields count bytes = map (row_of fields) (pieces (1 + widths fields) count bytes)
+-- one record after the other
+abbrev pub TellsRows : List ℕ → List Field → List (List ℕ) → List Row → Type 0
+TellsRows dbt fields [] [] = Unit {0}
+TellsRows dbt fields [] (r ∷ rs) = ⊥
+TellsRows dbt fields (p ∷ ps) [] = ⊥
+TellsRows dbt fields (p ∷ ps) (r ∷ rs) = TellsRow dbt fields p r × TellsRows dbt fields ps rs
 
 -- the run has the bytes of so many records and no more
 pub record IsRun (fields : List Field) (count : ℕ) (bytes : List ℕ) : Type 0 where
   pub whole : length bytes ≡ count * (1 + widths fields)
   pub few : count ≤ MOST_RECORDS
 
--- the bytes are a file of the table
-pub record IsDbf (bytes : List ℕ) (table : Table) : Type 0 where
+-- the bytes are a file of the table, with a file of its memos beside it where some field is a memo
+pub record IsDbf (bytes : List ℕ) (dbt : Option (List ℕ)) (table : Table) : Type 0 where
   pub long : 32 ≤ length bytes
   pub version : (slice_index bytes 0 ≡ 3) ⊎ (slice_index bytes 0 ≡ 131)
   -- the first 0x0D among the bytes 32, 64, .. stands behind some descriptors and below the header's end
@@ -66,4 +65,5 @@ pub record IsDbf (bytes : List ℕ) (table : Table) : Type 0 where
   -- the records stand behind the header, each in its place
   pub few : record_count bytes ≤ MOST_RECORDS
   pub whole : header_length bytes + record_count bytes * record_length bytes ≤ length bytes
-  pub rows : table.rows ≡ map (row_of table.schema) (pieces (record_length bytes) (record_count bytes) (drop (header_length bytes) bytes))
+  pub memos : has_memos table.schema ≡ true → is_some dbt ≡ true
+  pub rows : TellsRows (unwrap_or dbt []) table.schema (pieces (record_length bytes) (record_count bytes) (drop (header_length bytes) bytes)) table.rows

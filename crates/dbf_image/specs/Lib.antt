@@ -1,6 +1,10 @@
 pub mod Table
+pub mod Memo
 pub mod DbfText
+pub mod Store
 pub mod Reading
+pub mod Spans
+pub mod Blocks
 pub mod Image
 pub mod Sink
 pub use Rattle.dbf_fields.specs.Name

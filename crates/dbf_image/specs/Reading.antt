@@ -1,15 +1,17 @@
 -- The tests of a reader of DBF files in their order, and what it reads.
-use Rattle.std.specs.Prelude.{◌≡◌, ℕ, zero, suc, ◌+◌, ◌-◌, ◌*◌, ◌/◌, Bool, ◌||◌, ◌==◌, nat_le, ◌⊎◌, List, [], ◌∷◌, ◌++◌, length, map, drop, slice_index, Option, Some, None, is_some, is_none, unwrap_or, if◌then◌else◌}
+use Rattle.std.specs.Prelude.{◌≡◌, ℕ, zero, suc, ◌+◌, ◌-◌, ◌*◌, ◌/◌, Bool, not, ◌&&◌, ◌||◌, ◌==◌, nat_lt, nat_le, ◌⊎◌, List, [], ◌∷◌, ◌++◌, length, map, flat_map, take, drop, slice_index, Option, Some, None, is_some, is_none, unwrap_or, if◌then◌else◌}
 use Rattle.dbf_fields.specs.declared.field.Field.{Field}
+use Rattle.dbf_fields.specs.declared.field.TheConstants.{MEMO}
 use Rattle.dbf_fields.specs.Faults.{first_fault}
 use Rattle.dbf_fields.specs.Field.{folded, widths}
 use Rattle.dbf_fields.specs.Schema as schemas
 use Rattle.dbf_image.specs.declared.fault.ImageFault.{ImageFault}
-use Rattle.dbf_image.specs.declared.fault.ImageFault.TheVariants.{Truncated, BadVersion, BadHeaderLength, BadSchema, BadRecordLength, TooManyRecords, NoMemory}
-use Rattle.dbf_image.specs.declared.table.TheConstants.{MOST_RECORDS}
+use Rattle.dbf_image.specs.declared.fault.ImageFault.TheVariants.{Truncated, BadVersion, BadHeaderLength, BadSchema, BadRecordLength, TooManyRecords, MemoFileMissing, BadMemoNumber, MemoOutside, MemoTooLong, NoMemory}
+use Rattle.dbf_image.specs.declared.table.TheConstants.{MOST_RECORDS, MOST_MEMO_BYTES}
 use Rattle.dbf_image.specs.declared.header.Header.{Header}
-use Rattle.dbf_image.specs.Table.{Table}
-use Rattle.dbf_image.specs.DbfText.{pieces, record_count, header_length, record_length, field_of, row_of}
+use Rattle.dbf_image.specs.Table.{Row, Table, has_memos}
+use Rattle.dbf_image.specs.Memo.{memo_number, memo_at}
+use Rattle.dbf_image.specs.DbfText.{pieces, record_count, header_length, record_length, field_of}
 
 -- the first of the n numbers from i on that passes the test
 abbrev pub first_from : (ℕ → Bool) → ℕ → ℕ → Option ℕ
@@ -45,7 +47,7 @@ field_tests bytes =
     ∷ (is_none (schemas.refusal (fields_of bytes)), BadSchema)
     ∷ []
 
--- and then of the records
+-- then of the records,
 unfoldable pub record_tests : List ℕ → List (Bool × ImageFault)
 record_tests bytes =
     (record_length bytes == 1 + widths (schema_of bytes), BadRecordLength)
@@ -53,21 +55,74 @@ record_tests bytes =
     ∷ (nat_le (header_length bytes + record_count bytes * record_length bytes) (length bytes), Truncated)
     ∷ []
 
+-- the block begins in the file of memos, behind its header
+abbrev pub is_block : List ℕ → ℕ → Bool
+is_block dbt block = nat_lt 0 block && nat_lt (512 * block) (length dbt)
+
+-- the tests of a text at a block
+unfoldable pub text_tests : List ℕ → ℕ → List (Bool × ImageFault)
+text_tests dbt block =
+    (is_block dbt block, MemoOutside)
+    ∷ (nat_le (length (memo_at dbt block)) MOST_MEMO_BYTES, MemoTooLong)
+    ∷ []
+
+-- the tests of a memo's cell, and its text where they pass
+unfoldable pub memo_tests : List ℕ → List ℕ → List (Bool × ImageFault)
+memo_tests dbt cell =
+    (is_some (memo_number cell), BadMemoNumber)
+    ∷ (if unwrap_or (memo_number cell) 0 == 0 then [] else text_tests dbt (unwrap_or (memo_number cell) 0))
+
+unfoldable pub memo_text : List ℕ → List ℕ → List ℕ
+memo_text dbt cell = if unwrap_or (memo_number cell) 0 == 0 then [] else memo_at dbt (unwrap_or (memo_number cell) 0)
+
+-- the same of a cell of any field,
+unfoldable pub cell_tests : List ℕ → Field → List ℕ → List (Bool × ImageFault)
+cell_tests dbt f cell = if f.kind == MEMO then memo_tests dbt cell else []
+
+unfoldable pub cell_text : List ℕ → Field → List ℕ → List ℕ
+cell_text dbt f cell = if f.kind == MEMO then memo_text dbt cell else cell
+
+-- of all cells of a record, in the order of the fields,
+abbrev pub cells_tests : List ℕ → List Field → List ℕ → List (Bool × ImageFault)
+cells_tests dbt [] bytes = []
+cells_tests dbt (f ∷ fs) bytes = cell_tests dbt f (take f.width bytes) ++ cells_tests dbt fs (drop f.width bytes)
+
+abbrev pub cells_told : List ℕ → List Field → List ℕ → List (List ℕ)
+cells_told dbt [] bytes = []
+cells_told dbt (f ∷ fs) bytes = cell_text dbt f (take f.width bytes) ∷ cells_told dbt fs (drop f.width bytes)
+
+-- and of a record
+abbrev pub row_tests : List ℕ → List Field → List ℕ → List (Bool × ImageFault)
+row_tests dbt fields bytes = cells_tests dbt fields (drop 1 bytes)
+
+abbrev pub row_told : List ℕ → List Field → List ℕ → Row
+row_told dbt fields bytes = record { deleted = slice_index bytes 0 == 42; cells = cells_told dbt fields (drop 1 bytes) }
+
+-- the records, each in its place
+abbrev pub records_of : List ℕ → List (List ℕ)
+records_of bytes = pieces (record_length bytes) (record_count bytes) (drop (header_length bytes) bytes)
+
+-- and last of the memos, of all records in their order
+unfoldable pub memos_tests : List ℕ → Option (List ℕ) → List (Bool × ImageFault)
+memos_tests bytes dbt =
+    (not (has_memos (schema_of bytes)) || is_some dbt, MemoFileMissing)
+    ∷ flat_map (row_tests (unwrap_or dbt []) (schema_of bytes)) (records_of bytes)
+
 -- why the bytes are no table, where they are none
-abbrev pub refusal : List ℕ → Option ImageFault
-refusal bytes = first_fault (header_tests bytes ++ (field_tests bytes ++ record_tests bytes))
+abbrev pub refusal : List ℕ → Option (List ℕ) → Option ImageFault
+refusal bytes dbt = first_fault (header_tests bytes ++ (field_tests bytes ++ (record_tests bytes ++ memos_tests bytes dbt)))
 
 -- a fault that is answered is the first one, but for want of memory
-abbrev pub IsRefusal : ImageFault → List ℕ → Type 0
-IsRefusal fault bytes = (fault ≡ NoMemory) ⊎ (refusal bytes ≡ Some fault)
+abbrev pub IsRefusal : ImageFault → List ℕ → Option (List ℕ) → Type 0
+IsRefusal fault bytes dbt = (fault ≡ NoMemory) ⊎ (refusal bytes dbt ≡ Some fault)
 
 -- the numbers of the header, as the code keeps them
 abbrev pub header_of : List ℕ → Header
 header_of bytes = record { header_length = header_length bytes; record_length = record_length bytes; record_count = record_count bytes }
 
 -- the table, where no test fails
-abbrev pub table_of : List ℕ → Table
-table_of bytes = record {
+abbrev pub table_of : List ℕ → Option (List ℕ) → Table
+table_of bytes dbt = record {
   schema = schema_of bytes;
-  rows = map (row_of (schema_of bytes)) (pieces (record_length bytes) (record_count bytes) (drop (header_length bytes) bytes));
+  rows = map (row_told (unwrap_or dbt []) (schema_of bytes)) (records_of bytes);
 }

@@ -1,11 +1,12 @@
 -- What a table is, and what a change makes of it. Records count from 1, fields are places from 0.
-use Rattle.std.specs.Prelude.{◌≡◌, ℕ, ◌-◌, ◌≤◌, Bool, false, List, [], ◌∷◌, ◌++◌, length, map, replicate, slice_index, slice_index_or, slice_set}
-use Rattle.std.specs.List.{AllByRecursion}
+use Rattle.std.specs.Prelude.{◌≡◌, ◌≢◌, ℕ, ◌-◌, ◌≤◌, Bool, true, false, not, ◌&&◌, ◌==◌, nat_le, if◌then◌else◌, List, [], ◌∷◌, ◌++◌, length, map, replicate, slice_index, slice_index_or, slice_set}
+use Rattle.std.specs.List.{list_all, list_any, AllByRecursion}
 use Rattle.dbf_fields.specs.declared.field.Field.{Field}
+use Rattle.dbf_fields.specs.declared.field.TheConstants.{MEMO}
 use Rattle.dbf_fields.specs.Schema.{IsSchema}
-use Rattle.dbf_image.specs.declared.table.TheConstants.{MOST_RECORDS}
+use Rattle.dbf_image.specs.declared.table.TheConstants.{MOST_RECORDS, MOST_MEMO_BYTES}
 
--- a record: whether it is marked as deleted, and its cells
+-- a record: whether it is marked as deleted, and its cells. The cell of a memo is the memo's text
 pub record Row : Type 0 where
   pub deleted : Bool
   pub cells : List (List ℕ)
@@ -15,9 +16,27 @@ pub record Table : Type 0 where
   pub schema : List Field
   pub rows : List Row
 
--- a row has a cell for each field, as wide as the field
+-- some field is a memo
+abbrev pub has_memos : List Field → Bool
+has_memos fields = list_any (λ f. f.kind == MEMO) fields
+
+-- a text that a memo may have: short, and without the byte that ends a memo
+abbrev pub is_memo_text : List ℕ → Bool
+is_memo_text text = nat_le (length text) MOST_MEMO_BYTES && list_all (λ b. not (b == 26)) text
+
+-- a cell that a field may have: a memo's text, or as many bytes as the field is wide
+abbrev pub IsCell : Field → List ℕ → Type 0
+IsCell f cell = (f.kind ≡ MEMO → is_memo_text cell ≡ true) × (f.kind ≢ MEMO → length cell ≡ f.width)
+
+-- a cell for each field
+abbrev pub AreCells : List Field → List (List ℕ) → Type 0
+AreCells [] [] = Unit {0}
+AreCells [] (c ∷ cs) = ⊥
+AreCells (f ∷ fs) [] = ⊥
+AreCells (f ∷ fs) (c ∷ cs) = IsCell f c × AreCells fs cs
+
 abbrev pub IsRow : List Field → Row → Type 0
-IsRow fields row = map length row.cells ≡ map (λ f. f.width) fields
+IsRow fields row = AreCells fields row.cells
 
 -- what is true of every table
 pub record IsTable (table : Table) : Type 0 where
@@ -25,13 +44,21 @@ pub record IsTable (table : Table) : Type 0 where
   pub few : length table.rows ≤ MOST_RECORDS
   pub fit : AllByRecursion (IsRow table.schema) table.rows
 
+-- the letter of a field's kind
+abbrev pub kind_at : List Field → ℕ → ℕ
+kind_at fields field = slice_index (map (λ f. f.kind) fields) field
+
 -- how wide the cells of a field are
 abbrev pub cell_width : List Field → ℕ → ℕ
 cell_width fields field = slice_index (map (λ f. f.width) fields) field
 
--- a kept record of blanks
+-- a field's cell of blanks, or no memo
+abbrev pub blank_cell : Field → List ℕ
+blank_cell f = if f.kind == MEMO then [] else replicate f.width 32
+
+-- a kept record of blanks without memos
 abbrev pub blank_row : List Field → Row
-blank_row fields = record { deleted = false; cells = map (λ f. replicate f.width 32) fields }
+blank_row fields = record { deleted = false; cells = map blank_cell fields }
 
 -- the record of a number
 abbrev pub row_at : Table → ℕ → Row

@@ -4,7 +4,8 @@ use std::alloc::{AllocError, AllocFailed};
 use thiserror::Error;
 
 /// Why bytes are no table. Where several of these apply, the answer is the first in the order of the
-/// reader's tests: those of the header, then those of the fields, then those of the records.
+/// reader's tests: those of the header, then those of the fields, then those of the records, then whether
+/// the file of memos is there, and last those of the memos' cells, by record and field.
 #[derive(Clone, Copy, Debug, PartialEq, Eq, Error)]
 pub enum ImageFault {
     /// The bytes end before the header, or before the last record.
@@ -25,6 +26,18 @@ pub enum ImageFault {
     /// There are more than [`MOST_RECORDS`](crate::MOST_RECORDS) records.
     #[error("there are too many records")]
     TooManyRecords,
+    /// A field is a memo, and there is no file of memos.
+    #[error("the file of memos is missing")]
+    MemoFileMissing,
+    /// A memo's cell is neither blank nor the number of a block in digits.
+    #[error("a memo's number is bad")]
+    BadMemoNumber,
+    /// A memo's block does not begin in the file of memos, behind its header.
+    #[error("a memo is outside its file")]
+    MemoOutside,
+    /// A memo's text is over [`MOST_MEMO_BYTES`](crate::MOST_MEMO_BYTES) bytes long.
+    #[error("a memo is too long")]
+    MemoTooLong,
     /// There was no memory for the table.
     #[error("out of memory")]
     NoMemory,

@@ -4,8 +4,9 @@ ghost use Rattle.std.specs.Prelude.{◌≡◌, ◌+◌, ◌-◌, ◌*◌, ◌<�
 ghost use Rattle.dbf_fields.specs.Field.{widths};
 ghost use Rattle.dbf_fields.specs.Schema.{IsSchema};
 ghost use Rattle.dbf_image.specs.Table.{cell_width};
+ghost use Rattle.dbf_image.specs.Store.{memo_count};
 
-use dbf_fields::{Field, Schema};
+use dbf_fields::{Field, MEMO, Schema};
 
 /// The place of a record among the records. Records count from 1 for every caller of this crate, and
 /// from 0 in the bytes: here alone the one becomes the other.
@@ -56,4 +57,46 @@ pub(crate) fn width_of(schema: &Schema, field: usize) -> usize
     ensures small { result < 256 }
 {
     usize::from(schema.fields()[field].width)
+}
+
+/// How many memos a record has.
+pub(crate) fn memo_count_of(fields: &[Field]) -> usize
+    requires schema { IsSchema fields.now }
+    ensures value { result ≡ memo_count fields.now }
+    ensures small { result ≤ 128 }
+{
+    let mut count = 0;
+    for field in fields {
+        if field.kind == MEMO {
+            count += 1;
+        }
+    }
+    count
+}
+
+/// The place of a memo among the memos of all records, in the order of records and fields.
+pub(crate) fn memo_place(schema: &Schema, number: u32, field: usize) -> usize
+    requires number { 1 ≤ number }
+    requires field { field < length schema.now }
+    ensures value { result ≡ (number - 1) * memo_count schema.now + memo_count (take field schema.now) }
+    ensures small { result < 4294967297 * 128 }
+{
+    let fields = schema.fields();
+    place_of(number) * memo_count_of(fields) + memos_before(fields, field)
+}
+
+// How many of the earlier fields are memos.
+fn memos_before(fields: &[Field], field: usize) -> usize
+    requires schema { IsSchema fields.now }
+    requires field { field ≤ length fields.now }
+    ensures value { result ≡ memo_count (take field fields.now) }
+    ensures small { result ≤ 128 }
+{
+    let mut count = 0;
+    for earlier in &fields[..field] {
+        if earlier.kind == MEMO {
+            count += 1;
+        }
+    }
+    count
 }

@@ -2,6 +2,7 @@
 
 ghost use Rattle.std.specs.Prelude.{◌≡◌, ◌+◌, ◌-◌, ◌*◌, ◌/◌, ◌<◌, ◌≤◌, ◌==◌, ◌||◌, ◌⊎◌, true, false, length, map, take, drop, slice_index, Some, None, is_none, IfSome, IfOk, IfErr, OnOk, MatchResult};
 ghost use Rattle.std.specs.List.{position};
+ghost use Rattle.std.specs.Option.{option_copied};
 ghost use Rattle.dbf_fields.specs.Faults.{first_fault};
 ghost use Rattle.dbf_fields.specs.Field.{folded, widths};
 ghost use Rattle.dbf_fields.specs.Schema as schemas;
@@ -12,6 +13,7 @@ ghost use Rattle.dbf_image.specs.Reading.{field_count, header_of, schema_of, hea
 
 use crate::fault::ImageFault;
 use crate::header::Header;
+use crate::memos::memos_at;
 use crate::table::{MOST_RECORDS, TableData};
 use byteorder::{ByteOrder, LittleEndian};
 use dbf_fields::{Bytes, Field, Schema, SchemaFault};
@@ -169,22 +171,24 @@ fn run_at(dbf: &[u8], header: Header) -> &[u8]
 }
 
 // The table that the bytes tell, or the first test that fails.
-fn table_at(alloc: Global, dbf: &[u8]) -> Result<TableData, ImageFault>
-    ensures accepted { IfOk result (λ _. refusal dbf.now ≡ None) }
-    ensures value { IfOk result (λ table. table ≡ table_of dbf.now) }
-    ensures refused { IfErr result (λ fault. IsRefusal fault dbf.now) }
+fn table_at(alloc: Global, dbf: &[u8], dbt: Option<&[u8]>) -> Result<TableData, ImageFault>
+    ensures accepted { IfOk result (λ _. refusal dbf.now (option_copied dbt.entry) ≡ None) }
+    ensures value { IfOk result (λ table. table ≡ table_of dbf.now (option_copied dbt.entry)) }
+    ensures refused { IfErr result (λ fault. IsRefusal fault dbf.now (option_copied dbt.entry)) }
 {
     let header = header_at(dbf)?;
     let start = usize::from(header.header_length);
     let schema = schema_at(alloc, dbf, start)?;
     let size = schema.record_length();
     check_records(dbf, header, size)?;
-    let records = Vec::from_slice(alloc, run_at(dbf, header))?;
-    Ok(TableData::new(schema, header.record_count, records))
+    let run = run_at(dbf, header);
+    let (texts, memos) = memos_at(alloc, dbt, &schema, header.record_count, run)?;
+    let records = Vec::from_slice(alloc, run)?;
+    Ok(TableData::new(schema, header.record_count, records, texts, memos))
 }
 
-/// Reads a table from the bytes of a DBF file, laid out as dBASE III PLUS publishes it. Numbers stand
-/// with their lowest byte first.
+/// Reads a table from the bytes of a DBF file, laid out as dBASE III PLUS publishes it, and from those of
+/// the file of its memos, where some field is a memo. Numbers stand with their lowest byte first.
 ///
 /// The header tells its own length in bytes 8 and 9, the length of a record in 10 and 11, and how many
 /// records there are in 4 to 7. From byte 32 on a descriptor of 32 bytes tells each field, up to a byte
@@ -193,16 +197,21 @@ fn table_at(alloc: Global, dbf: &[u8]) -> Result<TableData, ImageFault>
 /// that 0x0D and the header's end, and what stands behind the last record: the closing 0x1A may be
 /// missing. A flag other than 0x2A means kept, and cells are kept as they are.
 ///
+/// A memo's cell has the number of a block of 512 bytes between blanks, or none or 0 for no memo. The
+/// block's text is read as [`read_memo`](crate::read_memo) reads it. The first byte may be 0x03 or 0x83
+/// with memos or without. What is read costs time and memory in proportion to the two files, also where
+/// many cells name one block.
+///
 /// An `Err` is the fault of the first test that fails: see [`ImageFault`].
-pub fn read_table(alloc: Global, dbf: &[u8]) -> Result<TableData, ImageFault>
-    // What is read is the file's table.
-    ensures found { IfOk result (IsDbf dbf.now) }
-    // A file of a table is read, unless memory runs out.
-    ensures only { (table : Table) → IsDbf dbf.now table → MatchResult result (λ t. t ≡ table) (λ fault. fault ≡ ImageFault.NoMemory) }
+pub fn read_table(alloc: Global, dbf: &[u8], dbt: Option<&[u8]>) -> Result<TableData, ImageFault>
+    // What is read is the files' table.
+    ensures found { IfOk result (IsDbf dbf.now (option_copied dbt.entry)) }
+    // Files of a table are read, unless memory runs out.
+    ensures only { (table : Table) → IsDbf dbf.now (option_copied dbt.entry) table → MatchResult result (λ t. t ≡ table) (λ fault. fault ≡ ImageFault.NoMemory) }
     // Which fault it is.
-    ensures refused { IfErr result (λ fault. IsRefusal fault dbf.now) }
-    // Bytes are a file of one table at most.
-    ensures one { (a b : Table) → IsDbf dbf.now a → IsDbf dbf.now b → a ≡ b }
+    ensures refused { IfErr result (λ fault. IsRefusal fault dbf.now (option_copied dbt.entry)) }
+    // Two files are those of one table at most.
+    ensures one { (a b : Table) → IsDbf dbf.now (option_copied dbt.entry) a → IsDbf dbf.now (option_copied dbt.entry) b → a ≡ b }
 {
-    table_at(alloc, dbf)
+    table_at(alloc, dbf, dbt)
 }

@@ -1,29 +1,53 @@
 //! A table in memory.
 
-ghost use Rattle.std.specs.Prelude.{◌≡◌, ◌<◌, ◌≤◌, ◌+◌, length, IfOk, OnOk, OnErr};
+ghost use Rattle.std.specs.Prelude.{◌≡◌, ◌≢◌, ◌<◌, ◌≤◌, ◌+◌, ◌==◌, true, not, [], length, IfOk, OnOk, OnErr};
+ghost use Rattle.std.specs.List.{list_all};
 ghost use Rattle.dbf_fields.specs.Field.{widths};
-ghost use Rattle.dbf_image.specs.Table.{IsTable, cell_width, blank_row, row_at, cell_at, empty_table, with_row, with_cell};
-ghost use Rattle.dbf_image.specs.DbfText.{row_of, rows_of, IsRun};
+ghost use Rattle.dbf_image.specs.Table.{IsTable, is_memo_text as may_be_memo, kind_at, cell_width, blank_row, row_at, cell_at, empty_table, with_row, with_cell};
+ghost use Rattle.dbf_image.specs.Store.{texts_of, row_with, rows_of, IsStore};
 ghost use Rattle.dbf_image.specs.declared.table.TheConstants.{MOST_RECORDS};
 
-use crate::places::{cell_start, record_start, width_of};
-use dbf_fields::Schema;
+use crate::places::{cell_start, memo_count_of, memo_place, record_start, width_of};
+use crate::span::{Span, no_span, text_at};
+use crate::store::Store;
+use dbf_fields::{MEMO, Schema};
 use std::alloc::{AllocError, Global};
 use std::marker::Model;
 
 /// How many records a table has at most: the limit that dBASE III PLUS states for its files.
 pub const MOST_RECORDS: u32 = 1_000_000_000;
 
+/// How many bytes a memo's text has at most.
+pub const MOST_MEMO_BYTES: usize = 65_535;
+
+/// Whether a memo may have the text: at most [`MOST_MEMO_BYTES`] bytes, and no 0x1A, which would end it.
+pub fn is_memo_text(text: &[u8]) -> bool
+    ensures value { result ≡ may_be_memo text.now }
+{
+    text.len() <= MOST_MEMO_BYTES && has_no_end(text)
+}
+
+// No byte is 0x1A.
+fn has_no_end(text: &[u8]) -> bool
+    ensures value { result ≡ list_all (λ b. not (b == 26)) text.now }
+{
+    text.iter().all(|byte| *byte != 0x1a)
+}
+
 /// A table, which contracts see as its fields and its rows in order.
 ///
 /// Its records stand in one run of bytes as in a DBF file: a flag of one byte, 0x2A where the record is
-/// marked as deleted, and then the cells without separators, each as wide as its field. Records count
-/// from 1, as RECNO() does; fields are places from 0 in the schema's list.
+/// marked as deleted, and then the cells without separators, each as wide as its field. The texts of
+/// memos stand in a second run, in which a span tells each memo's text; what the records' run has in the
+/// place of a memo's cell says nothing. Records count from 1, as RECNO() does; fields are places from 0
+/// in the schema's list.
 #[derive(Debug, Drop)]
 pub struct TableData {
     schema: Schema,
     count: u32,
     records: Vec<u8>,
+    texts: Vec<u8>,
+    memos: Vec<Span>,
 }
 
 impl Model for TableData {
@@ -31,23 +55,31 @@ impl Model for TableData {
 
     ghost Value = { Table };
 
-    ghost use Rattle.dbf_image.specs.DbfText.{rows_of, IsRun};
+    ghost use Rattle.dbf_image.specs.Store.{texts_of, rows_of, IsStore};
 
-    ghost view = { λ t. record { schema = t.schema; rows = rows_of t.schema t.count t.records.items } };
+    ghost view = { λ t. record { schema = t.schema; rows = rows_of t.schema t.count t.records.items (texts_of t.texts.items t.memos.items) } };
 
-    ghost invariant = { λ t. IsRun t.schema t.count t.records.items };
+    ghost invariant = { λ t. IsStore t.schema t.count t.records.items t.texts.items t.memos.items };
 }
 
 impl TableData {
-    /// The table of so many records that stand in a run of bytes.
-    pub(crate) fn new(schema: Schema, count: u32, records: Vec<u8>) -> TableData
-        requires { IsRun schema count records.items }
-        ensures { result ≡ record { schema = schema; rows = rows_of schema count records.items } }
+    /// The table of so many records that stand in a run of bytes, and of memos that stand in another.
+    pub(crate) fn new(
+        schema: Schema,
+        count: u32,
+        records: Vec<u8>,
+        texts: Vec<u8>,
+        memos: Vec<Span>,
+    ) -> TableData
+        requires { IsStore schema count records.items texts.items memos.items }
+        ensures { result ≡ record { schema = schema; rows = rows_of schema count records.items (texts_of texts.items memos.items) } }
     {
         TableData {
             schema,
             count,
             records,
+            texts,
+            memos,
         }
     }
 
@@ -59,6 +91,8 @@ impl TableData {
             schema,
             count: 0,
             records: Vec::new(alloc),
+            texts: Vec::new(alloc),
+            memos: Vec::new(alloc),
         }
     }
 
@@ -79,12 +113,16 @@ impl TableData {
         self.count
     }
 
-    /// The bytes of all records, one after the other.
-    pub(crate) fn records(&self) -> &[u8]
-        ensures told { self.now.rows ≡ rows_of self.now.schema (length self.now.rows) result.now }
-        ensures run { IsRun self.now.schema (length self.now.rows) result.now }
+    /// What is kept of the records and the memos.
+    pub(crate) fn store(&self) -> Store<'_>
+        ensures told { self.now.rows ≡ rows_of self.now.schema (length self.now.rows) result.records.now (texts_of result.texts.now result.memos.now) }
+        ensures kept { IsStore self.now.schema (length self.now.rows) result.records.now result.texts.now result.memos.now }
     {
-        self.records.as_slice()
+        Store {
+            records: self.records.as_slice(),
+            texts: self.texts.as_slice(),
+            memos: self.memos.as_slice(),
+        }
     }
 
     /// Whether a record is marked as deleted. Records count from 1.
@@ -94,20 +132,27 @@ impl TableData {
         ensures value { result ≡ (row_at self.now number).deleted }
     {
         let start = record_start(&self.schema, number);
-        self.records()[start] == 0x2a
+        self.store().records[start] == 0x2a
     }
 
-    /// The bytes of a record's cell, as many as its field is wide. Records count from 1, fields from 0.
+    /// A record's cell: as many bytes as its field is wide, or the memo's text. Records count from 1,
+    /// fields from 0.
     pub fn cell(&self, number: u32, field: usize) -> &[u8]
         requires number { 1 ≤ number }
         requires inside { number ≤ length self.now.rows }
         requires field { field < length self.now.schema }
         ensures value { result.now ≡ cell_at self.now number field }
-        ensures wide { length result.now ≡ cell_width self.now.schema field }
+        ensures wide { kind_at self.now.schema field ≢ MEMO → length result.now ≡ cell_width self.now.schema field }
+        ensures text { kind_at self.now.schema field ≡ MEMO → may_be_memo result.now ≡ true }
     {
+        let store = self.store();
+        if self.schema.fields()[field].kind == MEMO {
+            let place = memo_place(&self.schema, number, field);
+            return text_at(store.texts, store.memos[place]);
+        }
         let start = cell_start(&self.schema, number, field);
         let end = start + width_of(&self.schema, field);
-        &self.records()[start..end]
+        &store.records[start..end]
     }
 
     /// An equal table of its own.
@@ -117,29 +162,36 @@ impl TableData {
         ensures ok { IfOk result (λ table. table ≡ self.now) }
     {
         let records = Vec::from_slice(alloc, self.records.as_slice())?;
+        let texts = Vec::from_slice(alloc, self.texts.as_slice())?;
+        let memos = Vec::from_slice(alloc, self.memos.as_slice())?;
         Ok(TableData {
             schema: self.schema.copy(alloc)?,
             count: self.count,
             records,
+            texts,
+            memos,
         })
     }
 
     /// Adds a record behind the others: its flag and its cells, as they stand in the file. A flag other
-    /// than 0x2A means kept.
+    /// than 0x2A means kept. It has no memos, whatever stands in their cells.
     ///
     /// An `Err` says that there was no memory. It changes nothing.
     pub fn append_record(&mut self, bytes: &[u8]) -> Result<(), AllocError>
         requires room { length self.old.rows < MOST_RECORDS }
         requires whole { length bytes.now ≡ 1 + widths self.old.schema }
-        ensures ok { OnOk result (self.new ≡ with_row self.old (row_of self.old.schema bytes.now)) }
+        ensures ok { OnOk result (self.new ≡ with_row self.old (row_with self.old.schema bytes.now [])) }
         ensures err { OnErr result (self.new ≡ self.old) }
     {
+        let memos = self.memos.len() + memo_count_of(self.schema.fields());
+        self.records.reserve(bytes.len())?;
+        self.memos.resize(memos, no_span())?;
         self.records.extend_from_slice(bytes)?;
         self.count += 1;
         Ok(())
     }
 
-    /// Adds a kept record of blanks behind the others.
+    /// Adds a kept record of blanks without memos behind the others.
     ///
     /// An `Err` says that there was no memory. It changes nothing.
     pub fn append_blank(&mut self) -> Result<(), AllocError>
@@ -147,22 +199,51 @@ impl TableData {
         ensures ok { OnOk result (self.new ≡ with_row self.old (blank_row self.old.schema)) }
         ensures err { OnErr result (self.new ≡ self.old) }
     {
-        let length = self.records.len() + self.schema.record_length();
+        let size = self.schema.record_length();
+        let length = self.records.len() + size;
+        let memos = self.memos.len() + memo_count_of(self.schema.fields());
+        self.records.reserve(size)?;
+        self.memos.resize(memos, no_span())?;
         self.records.resize(length, b' ')?;
         self.count += 1;
         Ok(())
     }
 
-    /// Replaces a record's cell by as many bytes. Records count from 1, fields from 0. It takes no memory.
+    /// Replaces a record's cell by as many bytes; its field is no memo. Records count from 1, fields from
+    /// 0. It takes no memory.
     pub fn set_cell(&mut self, number: u32, field: usize, cell: &[u8])
         requires number { 1 ≤ number }
         requires inside { number ≤ length self.old.rows }
         requires field { field < length self.old.schema }
+        requires kind { kind_at self.old.schema field ≢ MEMO }
         requires wide { length cell.now ≡ cell_width self.old.schema field }
         ensures value { self.new ≡ with_cell self.old number field cell.now }
     {
         let start = cell_start(&self.schema, number, field);
         let end = start + width_of(&self.schema, field);
         self.records[start..end].copy_from_slice(cell);
+    }
+
+    /// Replaces the text of a record's memo. Records count from 1, fields from 0. The text is put behind
+    /// all texts that the table has had, so its cost is its own length.
+    ///
+    /// An `Err` says that there was no memory. It changes nothing.
+    pub fn set_memo(&mut self, number: u32, field: usize, text: &[u8]) -> Result<(), AllocError>
+        requires number { 1 ≤ number }
+        requires inside { number ≤ length self.old.rows }
+        requires field { field < length self.old.schema }
+        requires kind { kind_at self.old.schema field ≡ MEMO }
+        requires text { may_be_memo text.now ≡ true }
+        ensures ok { OnOk result (self.new ≡ with_cell self.old number field text.now) }
+        ensures err { OnErr result (self.new ≡ self.old) }
+    {
+        let place = memo_place(&self.schema, number, field);
+        let start = self.texts.len();
+        self.texts.extend_from_slice(text)?;
+        self.memos[place] = Span {
+            start,
+            length: text.len(),
+        };
+        Ok(())
     }
 }

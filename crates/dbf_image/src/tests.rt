@@ -41,7 +41,7 @@ fn written(alloc: Global, table: &TableData) -> Result<Vec<u8>, Fail> {
 
 #[test]
 fn first_image(rt: HostRuntime) -> Result<(), Fail> {
-    let table = read_table(rt.alloc(), &TWO_NAMES)?;
+    let table = read_table(rt.alloc(), &TWO_NAMES, None)?;
     assert_eq!(rt; table.record_count(), 2);
     assert_eq!(rt; table.schema().fields().len(), 1);
     assert!(rt; !table.is_deleted(1));
@@ -57,7 +57,7 @@ fn first_image(rt: HostRuntime) -> Result<(), Fail> {
 
 #[test]
 fn tolerant_header(rt: HostRuntime) -> Result<(), Fail> {
-    let table = read_table(rt.alloc(), &TOLERATED)?;
+    let table = read_table(rt.alloc(), &TOLERATED, None)?;
     assert_eq!(rt;
         written(rt.alloc(), &table)?.as_slice(),
         TWO_NAMES.as_slice()
@@ -69,7 +69,7 @@ fn tolerant_header(rt: HostRuntime) -> Result<(), Fail> {
 fn missing_record_is_truncated(rt: HostRuntime) {
     let dbf = changed(&[(4, 3)]);
     assert_eq!(rt;
-        read_table(rt.alloc(), &dbf).err(),
+        read_table(rt.alloc(), &dbf, None).err(),
         Some(ImageFault::Truncated)
     );
 }
@@ -77,10 +77,10 @@ fn missing_record_is_truncated(rt: HostRuntime) {
 #[test]
 fn cut_short_is_truncated(rt: HostRuntime) {
     for length in 0..87usize {
-        let read = read_table(rt.alloc(), &TWO_NAMES[..length]);
+        let read = read_table(rt.alloc(), &TWO_NAMES[..length], None);
         assert_eq!(rt; read.err(), Some(ImageFault::Truncated), "at {length}");
     }
-    assert!(rt; read_table(rt.alloc(), &TWO_NAMES[..87]).is_ok());
+    assert!(rt; read_table(rt.alloc(), &TWO_NAMES[..87], None).is_ok());
 }
 
 #[test]
@@ -99,7 +99,7 @@ fn bad_header_is_refused(rt: HostRuntime) {
         ),
     ];
     for (dbf, fault) in cases {
-        assert_eq!(rt; read_table(rt.alloc(), &dbf).err(), Some(fault));
+        assert_eq!(rt; read_table(rt.alloc(), &dbf, None).err(), Some(fault));
     }
 }
 
@@ -122,7 +122,7 @@ fn empty_table_is_header_and_mark(rt: HostRuntime) -> Result<(), Fail> {
 
 #[test]
 fn appended_records_stand_last(rt: HostRuntime) -> Result<(), Fail> {
-    let mut table = read_table(rt.alloc(), &TWO_NAMES)?;
+    let mut table = read_table(rt.alloc(), &TWO_NAMES, None)?;
     assert_eq!(rt; table.schema().record_length(), 11);
     assert_eq!(rt; table.record_count(), 2);
     table.append_record(b"*CYD       ")?;
@@ -136,7 +136,7 @@ fn appended_records_stand_last(rt: HostRuntime) -> Result<(), Fail> {
 
 #[test]
 fn cell_is_replaced_in_one_table(rt: HostRuntime) -> Result<(), Fail> {
-    let table = read_table(rt.alloc(), &TWO_NAMES)?;
+    let table = read_table(rt.alloc(), &TWO_NAMES, None)?;
     assert_eq!(rt; table.record_count(), 2);
     assert_eq!(rt; table.schema().fields().len(), 1);
     assert_eq!(rt; table.cell(1, 0).len(), 10);
@@ -153,7 +153,7 @@ fn cell_is_replaced_in_one_table(rt: HostRuntime) -> Result<(), Fail> {
 
 #[test]
 fn year_outside_is_refused(rt: HostRuntime) -> Result<(), Fail> {
-    let table = read_table(rt.alloc(), &TWO_NAMES)?;
+    let table = read_table(rt.alloc(), &TWO_NAMES, None)?;
     let mut sink = MemorySink::new(rt.alloc());
     for year in [1899, 2156] {
         let day = day_of(year, 1, 1).ok_or("no such day")?;
@@ -194,7 +194,7 @@ impl ByteSink for SlowSink {
 
 #[test]
 fn failing_sink_has_the_front(rt: HostRuntime) -> Result<(), Fail> {
-    let table = read_table(rt.alloc(), &TWO_NAMES)?;
+    let table = read_table(rt.alloc(), &TWO_NAMES, None)?;
     let day = day_of(1987, 3, 15).ok_or("no such day")?;
     for writes in 0..89usize {
         let mut sink = SlowSink {
@@ -238,7 +238,7 @@ impl ByteSink for CountingSink {
 
 #[test]
 fn small_pieces_are_gathered(rt: HostRuntime) -> Result<(), Fail> {
-    let mut table = read_table(rt.alloc(), &TWO_NAMES)?;
+    let mut table = read_table(rt.alloc(), &TWO_NAMES, None)?;
     // 500 records
     let mut image = Vec::from_slice(rt.alloc(), &changed(&[(4, 0xf4), (5, 0x01)]))?;
     image.truncate(87);

@@ -1,17 +1,22 @@
 //! Writing a table as the bytes of a DBF file.
 #![tactic(auto, using(crate::proofs::Sinks::sinks))]
 
-ghost use Rattle.std.specs.Prelude.{◌≡◌, ◌+◌, ◌≤◌, ◌*◌, ◌↔◌, length, flat_map, if◌then◌else◌, OnOk, OnErr};
+ghost use Rattle.std.specs.Prelude.{◌≡◌, ◌+◌, ◌≤◌, ◌*◌, ◌↔◌, ℕ, List, Option, Some, false, length, flat_map, if◌then◌else◌, OnOk, OnErr};
 ghost use Rattle.dbf_fields.specs.Field.{widths};
 ghost use Rattle.dbf_fields.specs.Schema.{IsSchema};
-ghost use Rattle.dbf_image.specs.DbfText.{pieces, IsDbf};
-ghost use Rattle.dbf_image.specs.Image.{header_with, descriptor, record_bytes, image, IsOutside};
+ghost use Rattle.dbf_image.specs.DbfText.{IsDbf};
+ghost use Rattle.dbf_image.specs.Table.{has_memos as some_memo};
+ghost use Rattle.dbf_image.specs.Blocks.{HasTooManyBlocks, next_free, memo_image};
+ghost use Rattle.dbf_image.specs.Image.{header_with, descriptor, version_of, image, IsOutside};
 ghost use Rattle.dbf_image.specs.Sink.{grown, IsFront, Rises};
 
+use crate::blocks::next_free_block;
 use crate::buffer::{Waiting, flush, gather};
 use crate::header::{Header, header_of};
+use crate::memos::has_memos;
 use crate::sink::{ByteSink, SinkFault};
 use crate::table::TableData;
+use crate::write_rows::write_records;
 use byteorder::{ByteOrder, LittleEndian};
 use dbf_fields::{Day, Field};
 use thiserror::Error;
@@ -22,19 +27,29 @@ pub enum WriteFault {
     /// The header tells the year less 1900 in one byte, and this year is none of 1900 to 2155.
     #[error("the year is not one of 1900 to 2155")]
     DateOutside,
+    /// The blocks of a file of memos are counted in 32 bits, and the table's memos take more.
+    #[error("the memos take too many blocks")]
+    TooManyBlocks,
     /// The sink failed.
     #[error("the sink failed")]
     Sink,
 }
 
+// The version: 0x83 where there is a file of memos.
+fn version_byte(fields: &[Field]) -> u8
+    ensures value { result ≡ version_of fields.now }
+{
+    if has_memos(fields) { 0x83 } else { 0x03 }
+}
+
 // The 32 bytes before the descriptors.
-fn header_bytes(header: Header, day: Day) -> [u8; 32]
+fn header_bytes(version: u8, header: Header, day: Day) -> [u8; 32]
     requires low { 1900 ≤ day.year }
     requires high { day.year ≤ 2155 }
-    ensures value { result ≡ header_with header.record_count header.header_length header.record_length day.year day.month day.day }
+    ensures value { result ≡ header_with version header.record_count header.header_length header.record_length day.year day.month day.day }
 {
     let mut bytes = [0; 32];
-    bytes[0] = 0x03;
+    bytes[0] = version;
     bytes[1] = (day.year - 1900) as u8;
     bytes[2] = day.month;
     bytes[3] = day.day;
@@ -76,54 +91,6 @@ fn write_descriptors<S: ByteSink>(
     Ok(())
 }
 
-fn flag_of(deleted: bool) -> u8
-    ensures value { result ≡ (if deleted then 42 else 32) }
-{
-    if deleted { 0x2a } else { 0x20 }
-}
-
-// A record: a flag that is 0x20 or 0x2A, and the cells as they are.
-#[tactic(auto, using(crate::proofs::Sinks::sinks), unfolding(crate::specs::Image::record_bytes))]
-fn write_record<S: ByteSink>(
-    sink: &mut S,
-    waiting: &mut Waiting,
-    bytes: &[u8],
-) -> Result<(), SinkFault>
-    requires { 1 ≤ length bytes.now }
-    ensures told { OnOk result (grown (S.written sink.new) waiting.new.items ≡ grown (grown (S.written sink.old) waiting.old.items) (record_bytes bytes.now)) }
-    ensures fine { OnOk result (S.failures sink.new ≡ S.failures sink.old) }
-    ensures failed { OnErr result (Rises (S.failures sink.old) (S.failures sink.new)) }
-    ensures front { OnErr result (IsFront (S.written sink.new) (grown (grown (S.written sink.old) waiting.old.items) (record_bytes bytes.now))) }
-{
-    let (_, cells) = bytes.split_at(1);
-    gather(sink, waiting, &[flag_of(bytes[0] == 0x2a)])?;
-    gather(sink, waiting, cells)?;
-    Ok(())
-}
-
-fn write_records<S: ByteSink>(
-    sink: &mut S,
-    waiting: &mut Waiting,
-    header: Header,
-    bytes: &[u8],
-) -> Result<(), SinkFault>
-    requires some { 1 ≤ header.record_length }
-    requires room { header.record_count * header.record_length ≤ length bytes.now }
-    ensures told { OnOk result (grown (S.written sink.new) waiting.new.items ≡ grown (grown (S.written sink.old) waiting.old.items) (flat_map record_bytes (pieces header.record_length header.record_count bytes.now))) }
-    ensures fine { OnOk result (S.failures sink.new ≡ S.failures sink.old) }
-    ensures failed { OnErr result (Rises (S.failures sink.old) (S.failures sink.new)) }
-    ensures front { OnErr result (IsFront (S.written sink.new) (grown (grown (S.written sink.old) waiting.old.items) (flat_map record_bytes (pieces header.record_length header.record_count bytes.now)))) }
-{
-    let size = usize::from(header.record_length);
-    let mut rest = bytes;
-    for _ in 0..header.record_count {
-        let (record, after) = rest.split_at(size);
-        write_record(sink, waiting, record)?;
-        rest = after;
-    }
-    Ok(())
-}
-
 // The bytes of the file, the last of which may wait.
 fn gather_image<S: ByteSink>(
     sink: &mut S,
@@ -142,10 +109,15 @@ fn gather_image<S: ByteSink>(
     ensures failed { OnErr result (Rises (S.failures sink.old) (S.failures sink.new)) }
     ensures front { OnErr result (IsFront (S.written sink.new) (grown (grown (S.written sink.old) waiting.old.items) (image table.now day.year day.month day.day))) }
 {
-    gather(sink, waiting, &header_bytes(header, day))?;
-    write_descriptors(sink, waiting, table.schema().fields())?;
+    let fields = table.schema().fields();
+    gather(
+        sink,
+        waiting,
+        &header_bytes(version_byte(fields), header, day),
+    )?;
+    write_descriptors(sink, waiting, fields)?;
     gather(sink, waiting, &[0x0d])?;
-    write_records(sink, waiting, header, table.records())?;
+    write_records(sink, waiting, fields, header, table.store())?;
     gather(sink, waiting, &[0x1a])?;
     Ok(())
 }
@@ -174,25 +146,35 @@ fn write_image<S: ByteSink>(
 }
 
 /// Writes the DBF file of a table into a sink, with the date of its last change, of the years 1900 to
-/// 2155: the header, a descriptor of 32 bytes for each field, 0x0D, the records, 0x1A. It takes no
-/// memory: pieces are gathered, up to 4,096 bytes, before the sink is called.
+/// 2155: the header, a descriptor of 32 bytes for each field, 0x0D, the records, 0x1A. A memo's cell is
+/// the number of the block at which its text stands in the file that `write_dbt` writes of the same
+/// table, or blanks. It takes no memory: pieces are gathered, up to 4,096 bytes, before the sink is
+/// called.
 ///
-/// `DateOutside` says that the header cannot tell the year, and that nothing was written. `Sink` says
-/// that the sink failed; it has then taken a front part of the file, which may be all of it or nothing.
+/// `DateOutside` says that the header cannot tell the year, and `TooManyBlocks` that the memos take more
+/// blocks than 32 bits count; nothing was written. `Sink` says that the sink failed; it has then taken a
+/// front part of the file, which may be all of it or nothing.
 pub fn write_dbf<S: ByteSink>(sink: &mut S, table: &TableData, day: Day) -> Result<(), WriteFault>
     ensures wrote { OnOk result (S.written sink.new ≡ grown (S.written sink.old) (image table.now day.year day.month day.day)) }
     ensures fine { OnOk result (S.failures sink.new ≡ S.failures sink.old) }
     ensures outside { (result ≡ Err WriteFault.DateOutside) ↔ IsOutside day.year }
-    ensures unwritten { result ≡ Err WriteFault.DateOutside → sink.new ≡ sink.old }
+    ensures blocks { (result ≡ Err WriteFault.TooManyBlocks) ↔ ((IsOutside day.year → ⊥) × HasTooManyBlocks table.now) }
+    ensures dated { result ≡ Err WriteFault.DateOutside → sink.new ≡ sink.old }
+    ensures unwritten { result ≡ Err WriteFault.TooManyBlocks → sink.new ≡ sink.old }
     ensures failed { result ≡ Err WriteFault.Sink → Rises (S.failures sink.old) (S.failures sink.new) }
     // What a sink that failed has taken is a front part of the file.
     ensures front { result ≡ Err WriteFault.Sink → IsFront (S.written sink.new) (grown (S.written sink.old) (image table.now day.year day.month day.day)) }
-    // What is written can be read: it is a file of this table.
-    ensures reads_back { IsDbf (image table.now day.year day.month day.day) table.now }
+    // What is written can be read: with the file of memos it is a file of this table,
+    ensures reads_back { next_free table.now ≤ 4294967295 → IsDbf (image table.now day.year day.month day.day) (Some (memo_image table.now)) table.now }
+    // and where no field is a memo, beside any file of memos or none.
+    ensures plain { some_memo table.now.schema ≡ false → (dbt : Option (List ℕ)) → IsDbf (image table.now day.year day.month day.day) dbt table.now }
 {
     let header = header_of(table);
     if day.year < 1900 || day.year > 2155 {
         return Err(WriteFault::DateOutside);
+    }
+    if next_free_block(table).is_none() {
+        return Err(WriteFault::TooManyBlocks);
     }
     match write_image(sink, table, header, day) {
         Ok(()) => Ok(()),

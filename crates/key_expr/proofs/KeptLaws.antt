@@ -82,23 +82,24 @@ printed_kept fields i n d default s e =
     }
 
 -- no width is nothing
-some_width : (character number truth : Bool) (width decimals : ℕ)
+some_width : (character number truth date : Bool) (width decimals : ℕ)
     → cond character (leb 1 width && leb width 254) (cond number ((leb 1 width && leb width 19) && (eqb decimals 0 || ltb decimals width))
-    (cond truth (eqb width 1) (eqb width 8))) ≡ true
+    (cond truth (eqb width 1) (cond date (eqb width 8) (eqb width 10)))) ≡ true
     → 1 ≤ width
-some_width true n l width decimals h =
+some_width true n l d width decimals h =
     let least : leb 1 width ≡ true = (and_parts (leb 1 width) (leb width 254) h).0 in grind (arith, nat_tests, least)
-some_width false true l width decimals h =
+some_width false true l d width decimals h =
     let both : (leb 1 width && leb width 19) ≡ true = (and_parts (leb 1 width && leb width 19) (eqb decimals 0 || ltb decimals width) h).0 in
     let least : leb 1 width ≡ true = (and_parts (leb 1 width) (leb width 19) both).0 in grind (arith, nat_tests, least)
-some_width false false true width decimals h = grind (arith, nat_tests, h)
-some_width false false false width decimals h = grind (arith, nat_tests, h)
+some_width false false true d width decimals h = grind (arith, nat_tests, h)
+some_width false false false true width decimals h = grind (arith, nat_tests, h)
+some_width false false false false width decimals h = grind (arith, nat_tests, h)
 
 width_some : (fields : List Field) (i : ℕ) (d : Field) → IsSchema fields → i < length fields → 1 ≤ width_of fields i
 width_some fields i d s there =
     let f = get_or fields i d in
     let got : slice_get fields i ≡ Some f = slice_get-get_or fields i d there in
-    let least : 1 ≤ f.width = some_width (eqb f.kind 67) (eqb f.kind 78) (eqb f.kind 76) f.width f.decimals (schema_wide_at fields i d s there) in
+    let least : 1 ≤ f.width = some_width (eqb f.kind 67) (eqb f.kind 78) (eqb f.kind 76) (eqb f.kind 68) f.width f.decimals (schema_wide_at fields i d s there) in
     rw (got, width_of) least
 
 no_field : Field

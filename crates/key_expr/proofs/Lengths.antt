@@ -1,20 +1,20 @@
 -- The length of a key is fixed by the expression and the fields.
 use Rattle.std.proofs.Common.{◌≡◌, ℕ, ◌+◌, ◌-◌, ◌<◌, ◌≤◌, min, Bool, true, false, cond, eqb, leb, List, [], ◌∷◌, ◌++◌, length, map, take, drop, replicate, get_or, Option, Some, None, refl, sym, ap, ◌∙◌, arith, zero, suc, length-append, length-drop, length-take-le}
-use Rattle.std.specs.Prelude.{bytes_eq, ℤ}
+use Rattle.std.specs.Prelude.{bytes_eq, codes, ℤ}
 use Rattle.std.specs.List.{slice_get}
 use Rattle.std.specs.Char.{to_ascii_uppercase}
 use Rattle.std.proofs.lemmas.Bool.Decides.{nat_tests}
 use Rattle.std.proofs.lemmas.List.{length-take, length-map, length-replicate}
 use Rattle.std.proofs.lemmas.List.Sums.{sum_by-cons}
 use Rattle.dbf_fields.specs.declared.field.Field.{Field}
-use Rattle.dbf_fields.specs.Date.{is_date, blank_date}
+use Rattle.dbf_fields.specs.Date.{is_date, blank_date, date_shown}
 use Rattle.dbf_fields.specs.Field.{widths}
 use Rattle.dbf_fields.specs.Number.{number}
 use Rattle.dbf_fields.specs.NumberText.{number_text}
 use Rattle.key_expr.specs.Grammar.{Expr, cell, joined, raised, slice, printed, dated}
 use Rattle.key_expr.specs.Keys.{key, key_length, width_of, length_given, decimals_given}
 use Rattle.key_expr.specs.Layout.{cells_of}
-use Rattle.key_expr.specs.Printing.{fitted, printed_number, printed_date, slashed}
+use Rattle.key_expr.specs.Printing.{fitted, printed_number}
 use Rattle.key_expr.proofs.PrintLaws.{date_eight}
 
 fitted_if : (b : Bool) (n : ℕ) (text : List ℕ) → leb (length text) n ≡ b
@@ -30,26 +30,23 @@ number_length : (o : Option ℤ) (n d : ℕ) → length {A = ℕ} (elim o [ None
 number_length None n d = length-replicate {A = ℕ} n 42
 number_length (Some v) n d = fitted_if (leb (length (number_text v d d)) n) n (number_text v d d) refl
 
-date_length_if : (blank real : Bool) (bs : List ℕ) → (real ≡ true → length bs ≡ 8)
-    → length (cond blank (slashed (replicate 2 32) (replicate 2 32) (replicate 2 32))
-    (cond real (slashed (take 2 (drop 4 bs)) (take 2 (drop 6 bs)) (take 2 (drop 2 bs))) (slashed (replicate 2 42) (replicate 2 42) (replicate 2 42)))) ≡ 8
-date_length_if true real bs h = refl
+date_length_if : (real blank : Bool) (bs : List ℕ) → (real ≡ true → length bs ≡ 8)
+    → length (cond real (take 2 (drop 4 bs) ++ (47 ∷ (drop 6 bs ++ (47 ∷ take 2 (drop 2 bs))))) (cond blank (codes "  /  /  ") (codes "**/**/**"))) ≡ 8
+date_length_if false true bs h = refl
 date_length_if false false bs h = refl
-date_length_if false true bs h =
+date_length_if true blank bs h =
     let eight : length bs ≡ 8 = h refl in
     let m = length-take 2 (drop 4 bs) in
-    let d = length-take 2 (drop 6 bs) in
     let y = length-take 2 (drop 2 bs) in
     let dm = length-drop 4 bs in
     let dd = length-drop 6 bs in
     let dy = length-drop 2 bs in
-    let a = length-append (take 2 (drop 4 bs)) (47 ∷ (take 2 (drop 6 bs) ++ (47 ∷ take 2 (drop 2 bs)))) in
-    let b = length-append (take 2 (drop 6 bs)) (47 ∷ take 2 (drop 2 bs)) in
-    omega (arith, eight, m, d, y, dm, dd, dy, a, b)
+    let a = length-append (take 2 (drop 4 bs)) (47 ∷ (drop 6 bs ++ (47 ∷ take 2 (drop 2 bs)))) in
+    let b = length-append (drop 6 bs) (47 ∷ take 2 (drop 2 bs)) in
+    omega (arith, eight, m, y, dm, dd, dy, a, b)
 
-date_length : (bs : List ℕ) → length (printed_date bs) ≡ 8
-unfolding printed_date
-date_length bs = date_length_if (bytes_eq bs blank_date) (is_date bs) bs (date_eight bs)
+date_length : (bs : List ℕ) → length (date_shown bs) ≡ 8
+date_length bs = date_length_if (is_date bs) (bytes_eq bs blank_date) bs (date_eight bs)
 
 -- the length of each cell
 pub cell_length : (fields : List Field) (bytes : List ℕ) (i : ℕ) → widths fields ≤ length bytes

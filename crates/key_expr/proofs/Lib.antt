@@ -13,3 +13,4 @@ pub mod KeptLaws
 pub mod Lengths
 pub mod Sizes
 pub mod Parsing
+pub mod NoZeros

@@ -3,8 +3,9 @@ use Rattle.std.specs.Prelude.{ℕ, ◌+◌, ◌-◌, List, [], ◌∷◌, ◌++�
 use Rattle.std.specs.List.{slice_get}
 use Rattle.std.specs.Char.{to_ascii_uppercase}
 use Rattle.dbf_fields.specs.declared.field.Field.{Field}
+use Rattle.dbf_fields.specs.Date.{date_shown}
 use Rattle.key_expr.specs.Grammar.{Expr, cell, joined, raised, slice, printed, dated}
-use Rattle.key_expr.specs.Printing.{printed_number, printed_date}
+use Rattle.key_expr.specs.Printing.{printed_number}
 
 -- A STR prints 10 bytes where no length is given, and no decimals where none are.
 abbrev pub length_given : Option ℕ → ℕ
@@ -20,7 +21,7 @@ key cells (joined a b) = key cells a ++ key cells b
 key cells (raised a) = map to_ascii_uppercase (key cells a)
 key cells (slice a from count) = take count (drop (from - 1) (key cells a))
 key cells (printed i n d) = printed_number (length_given n) (decimals_given d) (get_or cells i [])
-key cells (dated i) = printed_date (get_or cells i [])
+key cells (dated i) = date_shown (get_or cells i [])
 
 -- how wide the cells of a field are
 abbrev pub width_of : List Field → ℕ → ℕ

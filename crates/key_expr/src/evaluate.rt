@@ -11,9 +11,9 @@ ghost use Rattle.key_expr.specs.Windows.{cased, seen_through, IsRow};
 
 use crate::check::{length_given, length_of};
 use crate::key::Key;
-use crate::print::{printed_date, printed_number};
+use crate::print::printed_number;
 use crate::tree::Tree;
-use dbf_fields::Field;
+use dbf_fields::{Field, shown_date};
 
 /// A record's run of bytes, the fields of its table and the places of their cells in the run.
 #[derive(Clone, Copy)]
@@ -161,8 +161,8 @@ pub(crate) fn put(out: &mut Key, tree: &Tree, row: Row, window: Window)
             put_window(out, printed.as_bytes(), window);
         }
         Tree::Dated(number) => {
-            let printed = printed_date(cell(row, *number));
-            put_window(out, printed.as_bytes(), window);
+            let shown = shown_date(cell(row, *number));
+            put_window(out, &shown, window);
         }
     }
 }

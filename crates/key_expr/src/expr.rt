@@ -1,6 +1,7 @@
 //! Key expressions: how they are read, and the keys that they give.
 
-ghost use Rattle.std.specs.Prelude.{◌≡◌, ◌+◌, ◌≤◌, length, drop, take, IfOk, IfErr};
+ghost use Rattle.std.specs.Prelude.{◌≡◌, ◌≢◌, ◌+◌, ◌≤◌, length, drop, take, IfOk, IfErr};
+ghost use Rattle.std.specs.List.{AllByRecursion};
 ghost use Rattle.dbf_fields.specs.Field.{widths};
 ghost use Rattle.key_expr.specs.Grammar.{Expr};
 ghost use Rattle.key_expr.specs.Seen.{seen};
@@ -126,10 +127,13 @@ impl KeyExpr {
         })
     }
 
-    /// The text that was read, byte for byte. Takes no memory.
+    #[tactic(auto, using(crate::proofs::NoZeros::no_zero))]
+    /// The text that was read, byte for byte, at most 488 of them and none of them zero. Takes no memory.
     pub fn text(&self) -> &[u8]
         ensures text { result.now ≡ self.now.text }
         ensures read { IsKeyText self.now.fields self.now.text self.now.expr }
+        ensures short { length self.now.text ≤ 488 }
+        ensures plain { AllByRecursion (λ b. b ≢ 0) self.now.text }
     {
         self.text.as_slice()
     }

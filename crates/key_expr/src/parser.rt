@@ -289,5 +289,5 @@ pub(crate) fn read_tokens(alloc: Global, tokens: &[Token]) -> Result<Tree, ExprF
 
 /// A text is read in one way.
 pub fn one_reading()
-    ensures { (ts : List Token) (e f : Expr) → IsText e ts → IsText f ts → e ≡ f }
+    ensures one { (ts : List Token) (e f : Expr) → IsText e ts → IsText f ts → e ≡ f }
 {}

@@ -1,14 +1,14 @@
-//! What numbers and dates print in a key.
+//! What numbers print in a key.
 
 ghost use Rattle.std.specs.Prelude.{◌≡◌, ◌+◌, ◌/◌, ◌*◌, ◌^◌, ◌<◌, ◌≤◌, ◌++◌, length, replicate};
 ghost use Rattle.std.specs.Int.RustNames.{unsigned_abs};
 ghost use Rattle.dbf_fields.specs.Digits.{last_digits, numeral};
 ghost use Rattle.dbf_fields.specs.NumberText.{sign, point, number_text as text_of_number};
-ghost use Rattle.key_expr.specs.Printing.{fitted as fitted_text, printed_number as number_of_cell, slashed as with_slashes, printed_date as date_of_cell};
+ghost use Rattle.key_expr.specs.Printing.{fitted as fitted_text, printed_number as number_of_cell};
 
 use crate::key::Key;
 use crate::text::Text;
-use dbf_fields::{DateCell, read_date, read_number};
+use dbf_fields::read_number;
 
 // Puts the last digits of a number before a text, so many of them, and gives the number before them.
 #[tactic(auto, using(crate::proofs::PrintLaws::last_digits_step, crate::proofs::PrintLaws::rest_step))]
@@ -116,28 +116,4 @@ fn filled(byte: u8, count: usize) -> Key
         key.push(byte);
     }
     key
-}
-
-// Month, day and year with `/` between them.
-fn slashed(month: &[u8], day: &[u8], year: &[u8]) -> Key
-    requires month { length month.now ≡ 2 }
-    requires day { length day.now ≡ 2 }
-    requires year { length year.now ≡ 2 }
-    ensures value { result ≡ with_slashes month.now day.now year.now }
-{
-    Key::new(&[
-        month[0], month[1], b'/', day[0], day[1], b'/', year[0], year[1],
-    ])
-}
-
-/// What the date of a cell prints.
-#[tactic(auto, using(crate::proofs::PrintLaws::date_eight), unfolding(crate::specs::Printing::printed_date))]
-pub(crate) fn printed_date(cell: &[u8]) -> Key
-    ensures value { result ≡ date_of_cell cell.now }
-{
-    match read_date(cell) {
-        DateCell::Blank => slashed(b"  ", b"  ", b"  "),
-        DateCell::Is(_) => slashed(&cell[4..6], &cell[6..8], &cell[2..4]),
-        DateCell::Odd => slashed(b"**", b"**", b"**"),
-    }
 }

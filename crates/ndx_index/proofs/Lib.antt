@@ -18,3 +18,4 @@ pub mod Planning
 pub mod Rising
 pub mod OneReading
 pub mod Texts
+pub mod TableOrders

@@ -1,5 +1,6 @@
 pub mod Index
 pub mod Order
+pub mod TableOrder
 pub mod Pages
 pub mod NdxTree
 pub mod Walks

@@ -14,13 +14,16 @@
 
 ghost use Rattle.std.specs.Prelude.{◌≡◌, ◌≢◌, ◌↔◌, ℕ, List, [], ◌∷◌, Option, None, IsPermutation, IsSorted};
 ghost use Rattle.std.specs.List.{AllByRecursion};
+ghost use Rattle.dbf_image.specs.Table.{Table};
+ghost use Rattle.key_expr.specs.Grammar.{Expr};
 ghost use Rattle.ndx_index.specs.declared.pair.Pair.{Pair as PairValue};
 ghost use Rattle.ndx_index.specs.declared.page.Layout.{Layout as LayoutValue};
 ghost use Rattle.ndx_index.specs.declared.fault.NdxFault.{NdxFault as Fault};
 ghost use Rattle.ndx_index.specs.Header.{IsIndex, before_zero, trimmed};
 ghost use Rattle.ndx_index.specs.Image.{IsWritable, ndx_image};
 ghost use Rattle.ndx_index.specs.NdxTree.{IsTree, Visits};
-ghost use Rattle.ndx_index.specs.Order.{in_order, pair_cmp};
+ghost use Rattle.ndx_index.specs.Order.{in_order, pair_cmp, AreInOrder};
+ghost use Rattle.ndx_index.specs.TableOrder.{order, pairs_of};
 
 mod fault;
 mod header;
@@ -47,6 +50,8 @@ pub fn one_order()
     ensures permutation { (ps : List PairValue) → IsPermutation ps (in_order ps) }
     ensures sorted { (ps : List PairValue) → IsSorted pair_cmp (in_order ps) }
     ensures only { (ps qs : List PairValue) → IsPermutation ps qs → IsSorted pair_cmp qs → qs ≡ in_order ps }
+    // The order of a table by a key expression has each record's pair once, each before all later ones.
+    ensures table { (table : Table) (e : Expr) → AreInOrder (order table e) × IsPermutation (pairs_of table e) (order table e) }
 {}
 
 /// The walk that breaks no rule visits the tree, and there is one walk from each page.

@@ -4,8 +4,9 @@ ghost use Rattle.std.specs.Prelude.{◌≡◌, ◌≤◌, ◌<◌, length, IsTru
 ghost use Rattle.std.specs.List.{AllByRecursion};
 
 use super::*;
+use dbf_fields::{Bytes, CHARACTER, Field, Schema};
 use dbf_image::{ByteSink, MemorySink, SinkFault};
-use key_expr::Key;
+use key_expr::{Key, KeyExpr};
 use std::alloc::Global;
 use std::test::*;
 
@@ -77,26 +78,46 @@ fn are_long(pairs: &[Pair], len: usize) -> bool
     pairs.iter().all(|pair| pair.key.as_bytes().len() == len)
 }
 
+// One field NAME of characters, so wide.
+fn schema_of_name(alloc: Global, width: u8) -> Result<Schema, Fail> {
+    let name = Field {
+        name: Bytes::from_slice(alloc, b"NAME")?,
+        kind: CHARACTER,
+        width,
+        decimals: 0,
+    };
+    Ok(Schema::new(alloc, &[name])?)
+}
+
+// The field NAME between 241 parentheses on each side, and two blanks behind: 488 bytes.
+fn parenthesized(alloc: Global) -> Result<Vec<u8>, Fail> {
+    let mut text = Vec::new(alloc);
+    for _ in 0..241 {
+        text.push(b'(')?;
+    }
+    text.extend_from_slice(b"NAME")?;
+    for _ in 0..241 {
+        text.push(b')')?;
+    }
+    text.extend_from_slice(b"  ")?;
+    Ok(text)
+}
+
 fn write_into<S: ByteSink>(
     sink: &mut S,
     alloc: Global,
     index: &OrderedIndex,
-    len: usize,
-) -> Result<Result<(), NdxWriteFault>, Fail>
-    requires some { 1 ≤ len }
-    requires short { len ≤ 100 }
-{
+    len: u8,
+) -> Result<Result<(), NdxWriteFault>, Fail> {
+    let expr = KeyExpr::parse(alloc, b"NAME", &schema_of_name(alloc, len)?)?;
     let pairs = index.pairs(alloc)?;
-    if pairs.len() > 1_000_000_000 || !are_long(&pairs, len) {
+    if pairs.len() > 1_000_000_000 || !are_long(&pairs, expr.key_len()) {
         return Err("other pairs than were put in".into());
     }
-    Ok(write_ndx(sink, b"NAME", len, &pairs))
+    Ok(write_ndx(sink, &expr, &pairs))
 }
 
-fn written(alloc: Global, index: &OrderedIndex, len: usize) -> Result<Vec<u8>, Fail>
-    requires some { 1 ≤ len }
-    requires short { len ≤ 100 }
-{
+fn written(alloc: Global, index: &OrderedIndex, len: u8) -> Result<Vec<u8>, Fail> {
     let mut sink = MemorySink::new(alloc);
     write_into(&mut sink, alloc, index, len)??;
     Ok(sink.bytes)
@@ -229,12 +250,38 @@ fn expression_ends_at_zero_without_blanks(rt: HostRuntime) -> Result<(), Fail> {
         b"NAME".as_slice()
     );
     let mut sink = MemorySink::new(alloc);
-    write_ndx(&mut sink, &[b'A'; 488], 10, &[])?;
+    let text = parenthesized(alloc)?;
+    let expr = KeyExpr::parse(alloc, &text, &schema_of_name(alloc, 10)?)?;
+    write_ndx(&mut sink, &expr, &[])?;
     assert_eq!(rt; sink.bytes.len(), 1_024);
-    assert_eq!(rt;
-        read_ndx(alloc, &sink.bytes)?.expr.as_slice(),
-        [b'A'; 488].as_slice()
-    );
+    let read = read_ndx(alloc, &sink.bytes)?;
+    assert_eq!(rt; read.expr.as_slice().len(), 486);
+    assert_eq!(rt; read.expr.as_slice(), part(&text, 0, 486));
+    Ok(())
+}
+
+// The pair of a key and a record.
+fn named(key: &[u8; 3], number: u32) -> Pair {
+    Pair {
+        key: Key::new(key),
+        number,
+    }
+}
+
+#[test]
+#[tactic(auto, using(crate::proofs::TableOrders::three_apart))]
+fn from_pairs_sorts_by_key_and_record(rt: HostRuntime) -> Result<(), Fail> {
+    let alloc = rt.alloc();
+    let bob = named(b"BOB", 1);
+    let later_ada = named(b"ADA", 3);
+    let ada = named(b"ADA", 2);
+    if bob.cmp(&later_ada).is_eq() || bob.cmp(&ada).is_eq() || later_ada.cmp(&ada).is_eq() {
+        return Err("a pair comes twice".into());
+    }
+    let index = OrderedIndex::from_pairs(vec![in alloc; bob, later_ada, ada]?);
+    assert!(rt; index.first() == Some(ada));
+    assert!(rt; index.next(ada) == Some(later_ada));
+    assert!(rt; index.last() == Some(bob));
     Ok(())
 }
 

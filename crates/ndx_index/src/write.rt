@@ -4,8 +4,9 @@
 ghost use Rattle.std.specs.Prelude.{◌≡◌, ◌+◌, ◌≤◌, ◌<◌, ◌^◌, length, OnOk, OnErr};
 ghost use Rattle.std.specs.List.{AllByRecursion};
 ghost use Rattle.dbf_image.specs.Sink.{grown, Rises};
+ghost use Rattle.key_expr.specs.Keys.{key_length};
 ghost use Rattle.ndx_index.specs.declared.write.NdxWriteFault.TheVariants.{Sink};
-ghost use Rattle.ndx_index.specs.Header.{IsIndex, before_zero, trimmed};
+ghost use Rattle.ndx_index.specs.Header.{IsIndex, trimmed};
 ghost use Rattle.ndx_index.specs.Image.{header_page, ndx_image};
 ghost use Rattle.ndx_index.specs.Order.{AreInOrder};
 
@@ -16,6 +17,7 @@ use crate::pieces::{write_u16, write_u32, write_zeros};
 use crate::plan::Plan;
 use crate::shape::Shape;
 use dbf_image::{ByteSink, SinkFault, Waiting, flush, gather};
+use key_expr::KeyExpr;
 use thiserror::Error;
 
 /// Why an index was not written, or not whole.
@@ -97,30 +99,26 @@ fn write_image<S: ByteSink>(sink: &mut S, text: &[u8], plan: &Plan<'_>) -> Resul
 /// Writes the index file of these pairs into the sink: a header page, the leaves, and the inner pages
 /// level by level up to the root, each page of 512 bytes. It takes no memory.
 ///
-/// `text` is the key expression's, at most 488 bytes, and `key_len` is the length of each key, from 1 to
-/// 100 bytes. The pairs stand in order, 1,000,000,000 at most. An `Err` says that the sink failed; what
-/// it has then is a front part of the file.
+/// The pairs are those of the key expression: each key has its length. They stand in order,
+/// 1,000,000,000 at most. An `Err` says that the sink failed; what it has then is a front part of the
+/// file.
 ///
-/// What is written reads back as these pairs, this length, and the expression without the blanks at its
-/// end (and, were there a zero in it, without what stands behind the zero).
+/// What is written reads back as these pairs, this length of keys, and the expression's text without the
+/// blanks at its end.
 pub fn write_ndx<S: ByteSink>(
     sink: &mut S,
-    text: &[u8],
-    key_len: usize,
+    expr: &KeyExpr,
     pairs: &[Pair],
 ) -> Result<(), NdxWriteFault>
-    requires text { length text.now ≤ 488 }
-    requires key_some { 1 ≤ key_len }
-    requires key_short { key_len ≤ 100 }
     requires few { length pairs.now ≤ 1000000000 }
-    requires keys { AllByRecursion (λ p. length p.key ≡ key_len) pairs.now }
+    requires keys { AllByRecursion (λ p. length p.key ≡ key_length expr.now.fields expr.now.expr) pairs.now }
     requires ordered { AreInOrder pairs.now }
-    ensures wrote { OnOk result (S.written sink.new ≡ grown (S.written sink.old) (ndx_image text.now key_len pairs.now)) }
-    ensures reads_back { OnOk result (IsIndex (ndx_image text.now key_len pairs.now) (trimmed (before_zero text.now)) key_len pairs.now) }
+    ensures wrote { OnOk result (S.written sink.new ≡ grown (S.written sink.old) (ndx_image expr.now.text (key_length expr.now.fields expr.now.expr) pairs.now)) }
+    ensures reads_back { OnOk result (IsIndex (ndx_image expr.now.text (key_length expr.now.fields expr.now.expr) pairs.now) (trimmed expr.now.text) (key_length expr.now.fields expr.now.expr) pairs.now) }
     ensures fine { OnOk result (S.failures sink.new ≡ S.failures sink.old) }
     ensures failed { OnErr result (Rises (S.failures sink.old) (S.failures sink.new)) }
 {
-    let plan = Plan::new(Shape::new(key_len), pairs);
-    write_image(sink, text, &plan)?;
+    let plan = Plan::new(Shape::new(expr.key_len()), pairs);
+    write_image(sink, expr.text(), &plan)?;
     Ok(())
 }

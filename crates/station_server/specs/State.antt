@@ -60,7 +60,7 @@ abbrev pub with_blank : State → Area → State
 with_blank s area =
     with_cursor_at (with_table s area.table (with_row (table_of s area) (blank_row (table_of s area).schema))) area (record_count s area + 1)
 
--- a cell of the area's table is replaced
+-- a cell of the area's table is replaced, or the text of a memo
 abbrev pub with_value : State → Area → ℕ → ℕ → List ℕ → State
 with_value s area number field cell = with_table s area.table (with_cell (table_of s area) number field cell)
 

@@ -1,18 +1,19 @@
 -- What one command does: the state after it, and what the station is told. A refused command leaves
 -- the state as it is, and the first of several refusals is the one that is told.
-use Rattle.std.specs.Prelude.{ℕ, Bool, nat_lt, if◌then◌else◌, List, Option, Some, None, Result, Ok, Err}
+use Rattle.std.specs.Prelude.{ℕ, Bool, nat_lt, ◌==◌, if◌then◌else◌, List, Option, Some, None, Result, Ok, Err}
 use Rattle.std.specs.Int.{is_in_range}
+use Rattle.dbf_fields.specs.declared.field.TheConstants.{MEMO}
 use Rattle.dbf_fields.specs.declared.literal.Literal.{Literal}
 use Rattle.dbf_fields.specs.declared.cell.CellFault.{CellFault}
 use Rattle.dbf_fields.specs.Cell.{stored}
 use Rattle.dbf_image.specs.declared.table.TheConstants.{MOST_RECORDS}
-use Rattle.dbf_image.specs.Table.{cell_at}
+use Rattle.dbf_image.specs.Table.{cell_at, is_memo_text}
 use Rattle.station_server.specs.declared.answer.Answer.{Answer}
 use Rattle.station_server.specs.declared.answer.Answer.TheVariants.{Done, Text, Refused}
 use Rattle.station_server.specs.declared.answer.Refusal.{Refusal}
-use Rattle.station_server.specs.declared.answer.Refusal.TheVariants.{NoTable, NoTableInUse, OutOfRange, EndOfFile, TableFull, NotLocked, NoSuchField, BadCommand}
+use Rattle.station_server.specs.declared.answer.Refusal.TheVariants.{NoTable, NoTableInUse, OutOfRange, EndOfFile, TableFull, NotLocked, NoSuchField, TypeMismatch, BadText, BadCommand}
 use Rattle.station_server.specs.declared.command.Command.{Command}
-use Rattle.station_server.specs.declared.command.Command.TheVariants.{UseTable, Go, AppendBlank, Replace, Show, Bad}
+use Rattle.station_server.specs.declared.command.Command.TheVariants.{UseTable, Go, AppendBlank, Replace, Memo, Show, Bad}
 use Rattle.station_server.specs.CellRefusal.{refusal_of}
 use Rattle.station_server.specs.Shown.{shown}
 use Rattle.station_server.specs.State.{State, place_named, table_of, record_count, field_named, field_at, with_opened, with_cursor_at, with_blank, with_value}
@@ -57,6 +58,16 @@ replace s name value =
     found (field_named s area name) NoSuchField s (λ field.
     kept (stored (field_at s area field) value) s (λ cell. with_value s area number field cell)))))
 
+-- MEMO: the memo of the record at the cursor has the text. It needs what REPLACE needs
+abbrev pub memo : State → List ℕ → List ℕ → State × Answer
+memo s name text =
+    found s.area NoTableInUse s (λ area.
+    found area.at EndOfFile s (λ number.
+    granted area.exclusive NotLocked s (
+    found (field_named s area name) NoSuchField s (λ field.
+    granted ((field_at s area field).kind == MEMO) TypeMismatch s (
+    granted (is_memo_text text) BadText s (with_value s area number field text, Done))))))
+
 -- ?: the field's value in the record at the cursor
 abbrev pub show : State → List ℕ → State × Answer
 show s name =
@@ -71,5 +82,6 @@ step s (UseTable name exclusive) = use_table s name exclusive
 step s (Go number) = go s number
 step s AppendBlank = append_blank s
 step s (Replace name value) = replace s name value
+step s (Memo name text) = memo s name text
 step s (Show name) = show s name
 step s Bad = (s, Refused BadCommand)

@@ -30,6 +30,15 @@ pub enum Change {
         /// As many bytes as the field is wide.
         cell: Bytes,
     },
+    /// A memo of the area's table is replaced.
+    SetMemo {
+        /// The record, from 1.
+        number: u32,
+        /// The field's place, from 0.
+        field: usize,
+        /// The memo's text.
+        text: Bytes,
+    },
 }
 
 /// A change that a command asks for, and what the station will be told.

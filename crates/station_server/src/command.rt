@@ -26,6 +26,13 @@ pub enum Command {
         /// The value.
         value: Literal,
     },
+    /// MEMO: the memo of the record at the cursor has a text. It stands for the full-screen editor's save.
+    Memo {
+        /// The field's name.
+        field: Bytes,
+        /// The text.
+        text: Bytes,
+    },
     /// ?: the value of a field of the record at the cursor.
     Show(Bytes),
     /// A line that is no command.
@@ -47,6 +54,10 @@ impl Command {
             Command::Replace { field, value } => Ok(Command::Replace {
                 field: field.copy(alloc)?,
                 value: value.copy(alloc)?,
+            }),
+            Command::Memo { field, text } => Ok(Command::Memo {
+                field: field.copy(alloc)?,
+                text: text.copy(alloc)?,
             }),
             Command::Show(field) => Ok(Command::Show(field.copy(alloc)?)),
             Command::Bad => Ok(Command::Bad),

@@ -1,6 +1,6 @@
 //! The first path: one table, one station, a list of commands.
 
-ghost use Rattle.std.specs.Prelude.{◌≡◌, ◌≢◌, ◌<◌, [], length, map, IfOk, IfErr};
+ghost use Rattle.std.specs.Prelude.{◌≡◌, ◌≢◌, ◌<◌, None, [], length, map, IfOk, IfErr};
 ghost use Rattle.dbf_image.specs.DbfText.{IsDbf};
 ghost use Rattle.dbf_image.specs.Image.{image, IsOutside};
 ghost use Rattle.dbf_image.specs.Reading.{IsRefusal};
@@ -73,7 +73,7 @@ impl From<Stop> for FirstFault {
     }
 }
 
-/// Reads the table T of a DBF file, opens it for one station, performs the commands and writes the
+/// Reads the table T of a DBF file without a file of memos, opens it for one station, performs the commands and writes the
 /// table's file, dated.
 ///
 /// The answers are those of the commands, in order, and what is written is the file of the table as the
@@ -88,15 +88,15 @@ pub fn first_run<S: ByteSink>(
     day: Day,
     sink: &mut S,
 ) -> Result<Vec<Answer>, FirstFault>
-    ensures ran { IfOk result (λ answers. (table : Table) × (end : Table) × IsDbf dbf.now table × IsRun table commands.now answers.items end × (S.written sink.new ≡ grown (S.written sink.old) (image end day.year day.month day.day))) }
-    ensures image { (fault : ImageFault) → result ≡ Err (FirstFault.Image fault) → IsRefusal fault dbf.now }
+    ensures ran { IfOk result (λ answers. (table : Table) × (end : Table) × IsDbf dbf.now None table × IsRun table commands.now answers.items end × (S.written sink.new ≡ grown (S.written sink.old) (image end day.year day.month day.day))) }
+    ensures image { (fault : ImageFault) → result ≡ Err (FirstFault.Image fault) → IsRefusal fault dbf.now None }
     ensures open { (fault : OpenFault) → result ≡ Err (FirstFault.Open fault) → fault ≡ OpenFault.NoMemory }
     ensures stopped { result ≡ Err (FirstFault.Stopped Stop.JournalFull) → 4294967295 < length commands.now }
     ensures outside { result ≡ Err (FirstFault.Write WriteFault.DateOutside) → IsOutside day.year }
     ensures failed { result ≡ Err (FirstFault.Write WriteFault.Sink) → Rises (S.failures sink.old) (S.failures sink.new) }
     ensures unwritten { IfErr result (λ fault. fault ≢ FirstFault.Write WriteFault.Sink → sink.new ≡ sink.old) }
 {
-    let table = match read_table(alloc, dbf) {
+    let table = match read_table(alloc, dbf, None) {
         Ok(table) => table,
         Err(fault) => return Err(FirstFault::Image(fault)),
     };

@@ -16,6 +16,8 @@ mod first_run;
 #[cfg(test)]
 mod kind_tests;
 mod line;
+#[cfg(test)]
+mod memo_tests;
 mod opening;
 mod plan;
 mod sample;

@@ -3,7 +3,7 @@
 ghost use Rattle.std.specs.Prelude.{◌≡◌, ◌≢◌, ◌<◌, length, IfSome, IfOk, IsErr, ◌↔◌};
 ghost use Rattle.dbf_fields.specs.declared.cell.CellFault.TheVariants.{NoMemory};
 ghost use Rattle.station_server.specs.CellRefusal.{refusal_of as cell_refusal};
-ghost use Rattle.station_server.specs.Step.{step, use_table, go, append_blank, replace, show};
+ghost use Rattle.station_server.specs.Step.{step, use_table, go, append_blank, replace, memo, show};
 ghost use Rattle.station_server.specs.State.{table_of, field_named};
 ghost use Rattle.station_server.specs.Planned.{outcome, CanChange};
 
@@ -13,8 +13,8 @@ use crate::change::{Change, Plan};
 use crate::command::Command;
 use crate::shown::shown;
 use crate::state::State;
-use dbf_fields::{Bytes, CellFault, Literal, encode_cell};
-use dbf_image::MOST_RECORDS;
+use dbf_fields::{Bytes, CellFault, Literal, MEMO, encode_cell};
+use dbf_image::{MOST_RECORDS, is_memo_text};
 use std::alloc::{AllocError, Global};
 
 /// The plan of a command, which changes nothing yet. An error where memory is refused.
@@ -27,6 +27,7 @@ pub fn plan(alloc: Global, state: &State, command: &Command) -> Result<Plan, All
         Command::Go(number) => Ok(plan_go(state, *number)),
         Command::AppendBlank => Ok(plan_append_blank(state)),
         Command::Replace { field, value } => plan_replace(alloc, state, field, value),
+        Command::Memo { field, text } => plan_memo(alloc, state, field, text),
         Command::Show(field) => plan_show(alloc, state, field),
         Command::Bad => Ok(Plan::refused(Refusal::BadCommand)),
     }
@@ -84,7 +85,7 @@ fn plan_replace(
     let Some(number) = area.at else {
         return Ok(Plan::refused(Refusal::EndOfFile));
     };
-    if !area.exclusive {
+    if !may_write(area) {
         return Ok(Plan::refused(Refusal::NotLocked));
     }
     let Some(field) = field_of(state, area, name) else {
@@ -104,6 +105,36 @@ fn plan_replace(
     }
 }
 
+fn plan_memo(alloc: Global, state: &State, name: &Bytes, text: &Bytes) -> Result<Plan, AllocError>
+    ensures outcome { IfOk result (λ plan. outcome state.now plan ≡ memo state.now name.now text.now) }
+    ensures can { IfOk result (λ plan. CanChange state.now plan.change) }
+{
+    let Some(area) = state.area() else {
+        return Ok(Plan::refused(Refusal::NoTableInUse));
+    };
+    let Some(number) = area.at else {
+        return Ok(Plan::refused(Refusal::EndOfFile));
+    };
+    if !may_write(area) {
+        return Ok(Plan::refused(Refusal::NotLocked));
+    }
+    let Some(field) = field_of(state, area, name) else {
+        return Ok(Plan::refused(Refusal::NoSuchField));
+    };
+    if state.table(area).schema().fields()[field].kind != MEMO {
+        return Ok(Plan::refused(Refusal::TypeMismatch));
+    }
+    if !is_memo_text(text.as_slice()) {
+        return Ok(Plan::refused(Refusal::BadText));
+    }
+    let text = text.copy(alloc)?;
+    Ok(Plan::done(Change::SetMemo {
+        number,
+        field,
+        text,
+    }))
+}
+
 fn plan_show(alloc: Global, state: &State, name: &Bytes) -> Result<Plan, AllocError>
     ensures outcome { IfOk result (λ plan. outcome state.now plan ≡ show state.now name.now) }
     ensures can { IfOk result (λ plan. CanChange state.now plan.change) }
@@ -121,6 +152,14 @@ fn plan_show(alloc: Global, state: &State, name: &Bytes) -> Result<Plan, AllocEr
     let described = &table.schema().fields()[field];
     let text = shown(alloc, described, table.cell(number, field))?;
     Ok(Plan::told(Answer::Text(text)))
+}
+
+// Whether the station may write the record at the cursor. As long as there are no locks, the table has to
+// be open exclusively.
+fn may_write(area: Area) -> bool
+    ensures value { result ≡ area.exclusive }
+{
+    area.exclusive
 }
 
 // The place of the field of a name in the area's table.

@@ -7,7 +7,7 @@ use dbf_fields::{Bytes, DATE, Field, LOGICAL, read_truth, shown_date};
 use std::alloc::{AllocError, Global};
 
 /// The value of a field's cell as `?` shows it: the cell itself for characters and numbers, `.T.` or
-/// `.F.`, and a date as `MM/DD/YY`. An error where memory is refused.
+/// `.F.`, a date as `MM/DD/YY`, and the text of a memo. An error where memory is refused.
 pub fn shown(alloc: Global, field: &Field, cell: &[u8]) -> Result<Bytes, AllocError>
     ensures value { IfOk result (λ text. text ≡ shown_value field.now cell.now) }
 {

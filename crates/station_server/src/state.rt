@@ -109,6 +109,11 @@ impl State {
                 self.set_cell(number, field, cell);
                 Ok(())
             }
+            Change::SetMemo {
+                number,
+                field,
+                text,
+            } => self.set_memo(number, field, text),
         }
     }
 
@@ -167,5 +172,17 @@ impl State {
             let table = &mut self.tables[area.table];
             table.set_cell(number, field, cell.as_slice());
         }
+    }
+
+    fn set_memo(&mut self, number: u32, field: usize, text: Bytes) -> Result<(), AllocError>
+        requires can { CanChange self.old (Change.SetMemo number field text) }
+        ensures ok { OnOk result (self.new ≡ changed self.old (Change.SetMemo number field text)) }
+        ensures err { OnErr result (self.new ≡ self.old) }
+    {
+        let Some(area) = self.area else {
+            return Ok(());
+        };
+        let table = &mut self.tables[area.table];
+        table.set_memo(number, field, text.as_slice())
     }
 }

@@ -44,7 +44,7 @@ fn text(alloc: Global, bytes: &[u8]) -> Result<Answer, AllocError> {
 fn source(alloc: Global, name: &[u8]) -> Result<TableSource, Fail> {
     Ok(TableSource {
         name: Bytes::from_slice(alloc, name)?,
-        content: read_table(alloc, &sample::TABLE)?,
+        content: read_table(alloc, &sample::TABLE, None)?,
     })
 }
 
@@ -94,7 +94,10 @@ fn written_table_is_the_catalogues(rt: HostRuntime) -> Result<(), Fail> {
     let commands = sample::commands(alloc)?;
     answers_of(alloc, &mut catalogue, &commands)?;
     assert_eq!(rt; catalogue.table_count(), 1);
-    for table in [catalogue.content(alloc, 1)?, read_table(alloc, &WITH_CYD)?] {
+    for table in [
+        catalogue.content(alloc, 1)?,
+        read_table(alloc, &WITH_CYD, None)?,
+    ] {
         assert_eq!(rt; table.record_count(), 3);
         let mut sink = MemorySink::new(alloc);
         write_dbf(&mut sink, &table, day)?;

@@ -1,4 +1,6 @@
 use Rattle.ndx_index.proofs.Sorts.{in_order_from_sort, IsPermutation-in_order, IsSorted-in_order}
+use Rattle.ndx_index.proofs.TableOrders.{table_in_order}
+use Rattle.ndx_index.specs.TableOrder.{pairs_of}
 use Rattle.ndx_index.proofs.one_order.Goals as goal
 
 pub returns : goal.returns
@@ -6,4 +8,5 @@ returns c = record {
   permutation = IsPermutation-in_order;
   sorted = IsSorted-in_order;
   only = in_order_from_sort;
+  table = λ table e. (table_in_order table e, IsPermutation-in_order (pairs_of table e));
 }

@@ -1,35 +1,53 @@
-use Rattle.std.proofs.Common.{ap, ◌∙◌, inr}
+use Rattle.std.proofs.Common.{List, ℕ, ap, ◌∙◌}
+use Rattle.std.specs.Option.{option_copied}
 use Rattle.std.proofs.lemmas.Result.{err_from_is_err_and}
 use Rattle.dbf_image.specs.declared.header.Header.{Header}
-use Rattle.dbf_image.proofs.Groups.{refused_by_header, refused_by_fields, decided_by_records}
-use Rattle.dbf_image.proofs.Rows.{rows_told}
+use Rattle.dbf_image.specs.Store.{texts_of, rows_of}
+use Rattle.dbf_image.proofs.Groups.{refused_by_header, refused_by_fields, refused_by_records, refused_by_memos, decided_by_memos}
+use Rattle.dbf_image.proofs.DbfLaws.{rows_told, tests_told}
 use Rattle.dbf_image.proofs.read.table_at.Goals as goal
 
 pub returns-in_err-header-clause-refused : goal.returns-in_err-header-clause-refused
 returns-in_err-header-clause-refused c =
     let p = err_from_is_err_and c.from_residual.result c.from_residual.ensures.1 in
-    rw (p.1, p.2) (refused_by_header c.args.dbf.now _ c.in_err-header.ensures.refused)
+    rw (p.1, p.2) (refused_by_header c.args.dbf.now (option_copied c.args.dbt) _ c.in_err-header.ensures.refused)
 
 pub returns-in_err-schema-clause-refused : goal.returns-in_err-schema-clause-refused
 returns-in_err-schema-clause-refused c =
     let p = err_from_is_err_and c.from_residual-in_err-schema.result c.from_residual-in_err-schema.ensures.1 in
-    rw (p.1, p.2) (refused_by_fields c.args.dbf.now _ c.in_ok-header.ensures.accepted c.in_err-schema.ensures.refused)
+    rw (p.1, p.2) (refused_by_fields c.args.dbf.now (option_copied c.args.dbt) _ c.in_ok-header.ensures.accepted c.in_err-schema.ensures.refused)
 
 pub returns-in_err-check_records-clause-refused : goal.returns-in_err-check_records-clause-refused
 returns-in_err-check_records-clause-refused c =
     let p = err_from_is_err_and c.from_residual-in_err-check_records.result c.from_residual-in_err-check_records.ensures.1 in
-    rw (p.1, p.2) (inr (decided_by_records c.args.dbf.now c.in_ok-header.ensures.accepted c.in_ok-schema.ensures.accepted ∙ c.in_err-check_records.ensures.refused))
+    rw (p.1, p.2) (refused_by_records c.args.dbf.now (option_copied c.args.dbt) _ c.in_ok-header.ensures.accepted c.in_ok-schema.ensures.accepted c.in_err-check_records.ensures.refused)
+
+pub returns-in_err-texts-clause-refused : goal.returns-in_err-texts-clause-refused
+returns-in_err-texts-clause-refused c =
+    let told = c.in_ok-header.ensures.value in
+    let header = c.in_ok-header.header in
+    let dbt = option_copied c.args.dbt in
+    let p = err_from_is_err_and c.from_residual-in_err-texts.result c.from_residual-in_err-texts.ensures.1 in
+    let tests = tests_told c.args.dbf.now dbt c.in_ok-schema.schema header.record_length header.record_count header.header_length c.run_at-run.result.now c.in_ok-schema.ensures.value (ap (λ (h : Header). h.record_length) told)
+    (c.in_ok-check_records.ensures.wide ∙ c.record_length-size.ensures.value) (ap (λ (h : Header). h.record_count) told) (ap (λ (h : Header). h.header_length) told) c.run_at-run.ensures in
+    let refused = rw tests at c.in_err-texts.ensures.refused in
+    rw (p.1, p.2) (refused_by_memos c.args.dbf.now dbt _ c.in_ok-header.ensures.accepted c.in_ok-schema.ensures.accepted c.in_ok-check_records.ensures.accepted refused)
 
 pub returns-clause-accepted : goal.returns-clause-accepted
 returns-clause-accepted c =
-    decided_by_records c.args.dbf.now c.in_ok-header.ensures.accepted c.in_ok-schema.ensures.accepted ∙ c.in_ok-check_records.ensures.accepted
+    let told = c.in_ok-header.ensures.value in
+    let header = c.in_ok-header.header in
+    let dbt = option_copied c.args.dbt in
+    let tests = tests_told c.args.dbf.now dbt c.in_ok-schema.schema header.record_length header.record_count header.header_length c.run_at-run.result.now c.in_ok-schema.ensures.value (ap (λ (h : Header). h.record_length) told)
+    (c.in_ok-check_records.ensures.wide ∙ c.record_length-size.ensures.value) (ap (λ (h : Header). h.record_count) told) (ap (λ (h : Header). h.header_length) told) c.run_at-run.ensures in
+    decided_by_memos c.args.dbf.now dbt c.in_ok-header.ensures.accepted c.in_ok-schema.ensures.accepted c.in_ok-check_records.ensures.accepted ∙ rw tests at c.in_ok-texts.ensures.accepted
 
 pub returns-clause-value : goal.returns-clause-value
 returns-clause-value c =
     let told = c.in_ok-header.ensures.value in
     let header = c.in_ok-header.header in
-    let length_is = ap (λ (h : Header). h.record_length) told in
-    let count = ap (λ (h : Header). h.record_count) told in
-    let start = ap (λ (h : Header). h.header_length) told in
+    let dbt = option_copied c.args.dbt in
     c.new.ensures
-    ∙ rows_told c.args.dbf.now c.in_ok-schema.schema header.record_length header.record_count header.header_length _ c.in_ok-schema.ensures.value length_is (c.in_ok-check_records.ensures.wide ∙ c.record_length-size.ensures.value) count start (c.in_ok-records.ensures.items ∙ c.run_at.ensures)
+    ∙ rows_told c.args.dbf.now dbt c.in_ok-schema.schema header.record_length header.record_count header.header_length c.run_at-run.result.now _ c.in_ok-schema.ensures.value (ap (λ (h : Header). h.record_length) told)
+    (c.in_ok-check_records.ensures.wide ∙ c.record_length-size.ensures.value) (ap (λ (h : Header). h.record_count) told) (ap (λ (h : Header). h.header_length) told) c.run_at-run.ensures
+    (ap (λ (bs : List ℕ). rows_of c.in_ok-schema.schema header.record_count bs (texts_of c.in_ok-texts.texts.items c.in_ok-texts.memos.items)) c.in_ok-records.ensures.items ∙ c.in_ok-texts.ensures.value)

@@ -1,0 +1,125 @@
+-- The blocks of the memos of a table are those of its list of texts.
+use Rattle.std.proofs.Common.{◌≡◌, ℕ, suc, ◌+◌, ◌*◌, ◌≤◌, Bool, true, false, cond, eqb, List, [], ◌∷◌, ◌++◌, length, take, drop, leb, ◌<◌, Some, None, refl, sym, ap, ◌∙◌, arith}
+use Rattle.std.specs.Prelude.{flat_map, sum_by}
+use Rattle.std.proofs.lemmas.Bool.{le-leb, lt-leb}
+use Rattle.std.proofs.lemmas.List.{take-append-drop, length-drop, length-map}
+use Rattle.std.proofs.lemmas.List.Concat.{flat_map-append}
+use Rattle.std.proofs.lemmas.List.Sums.{sum_by-cons, sum_by-take-drop}
+use Rattle.std.proofs.lemmas.List.Folds.{flat_map-map}
+use Rattle.std.proofs.Math.Nat.{mul-le-mul_left}
+use Rattle.dbf_fields.specs.declared.field.Field.{Field}
+use Rattle.dbf_fields.specs.Field.{widths}
+use Rattle.dbf_fields.specs.Schema.{IsSchema}
+use Rattle.dbf_fields.proofs.SchemaLaws.{schema_count}
+use Rattle.dbf_image.specs.declared.span.Span.{Span}
+use Rattle.dbf_image.specs.Table.{Row}
+use Rattle.dbf_image.specs.DbfText.{pieces}
+use Rattle.dbf_image.specs.Store.{text_of, texts_of, memo_count, first_memo, cells_with, rows_with, rows_of}
+use Rattle.dbf_image.proofs.Rows.{length-pieces}
+use Rattle.dbf_image.specs.Blocks.{blocks_of, block_bytes, cells_blocks, cells_memos, rows_blocks, rows_memos}
+
+joined_by : (f : Field) (fs : List Field) (cell rest : List ℕ) (memos : List (List ℕ)) (b : Bool) → eqb f.kind 77 ≡ b
+    → ((m : List (List ℕ)) → memo_count fs ≤ length m → cells_memos fs (cells_with fs rest m) ≡ flat_map block_bytes (take (memo_count fs) m))
+    → cond b (suc (memo_count fs)) (memo_count fs) ≤ length memos
+    → cells_memos (f ∷ fs) (cond b (first_memo memos ∷ cells_with fs rest (drop 1 memos)) (cell ∷ cells_with fs rest memos)) ≡ flat_map block_bytes (take (cond b (suc (memo_count fs)) (memo_count fs)) memos)
+joined_by f fs cell rest [] true e ih room = absurd (omega arith)
+joined_by f fs cell rest (t ∷ ts) true e ih room = rw e (ap (λ (x : List ℕ). block_bytes t ++ x) (ih ts (omega arith)))
+joined_by f fs cell rest memos false e ih room = rw e (ih memos room)
+
+pub cells_joined : (fields : List Field) (bytes : List ℕ) (memos : List (List ℕ)) → memo_count fields ≤ length memos
+    → cells_memos fields (cells_with fields bytes memos) ≡ flat_map block_bytes (take (memo_count fields) memos)
+cells_joined [] bytes memos room = refl
+cells_joined (f ∷ fs) bytes memos room = joined_by f fs (take f.width bytes) (drop f.width bytes) memos (eqb f.kind 77) refl (cells_joined fs (drop f.width bytes)) room
+
+none_left : (memos : List (List ℕ)) → length memos ≡ 0 → [] ≡ flat_map block_bytes memos
+none_left [] e = refl
+none_left (t ∷ ts) e = absurd (omega arith)
+
+pub rows_joined : (fields : List Field) (ps memos : List (List ℕ)) → length memos ≡ length ps * memo_count fields → rows_memos fields (rows_with fields ps memos) ≡ flat_map block_bytes memos
+rows_joined fields [] memos e = none_left memos (omega arith)
+rows_joined fields (p ∷ ps) memos e =
+    let n : ℕ = memo_count fields in
+    let here = cells_joined fields (drop 1 p) memos (omega arith) in
+    let there = rows_joined fields ps (drop n memos) (omega (arith, length-drop n memos)) in
+    rw (here, there) (sym (flat_map-append block_bytes (take n memos) (drop n memos)) ∙ ap (flat_map block_bytes) (take-append-drop n memos))
+
+-- ---- how many blocks they are
+
+counted_by : (f : Field) (fs : List Field) (cell rest : List ℕ) (memos : List (List ℕ)) (b : Bool) → eqb f.kind 77 ≡ b
+    → ((m : List (List ℕ)) → memo_count fs ≤ length m → cells_blocks fs (cells_with fs rest m) ≡ sum_by blocks_of (take (memo_count fs) m))
+    → cond b (suc (memo_count fs)) (memo_count fs) ≤ length memos
+    → cells_blocks (f ∷ fs) (cond b (first_memo memos ∷ cells_with fs rest (drop 1 memos)) (cell ∷ cells_with fs rest memos)) ≡ sum_by blocks_of (take (cond b (suc (memo_count fs)) (memo_count fs)) memos)
+counted_by f fs cell rest [] true e ih room = absurd (omega arith)
+counted_by f fs cell rest (t ∷ ts) true e ih room =
+    rw e (ap (λ (n : ℕ). blocks_of t + n) (ih ts (omega arith)) ∙ sym (sum_by-cons blocks_of t (take (memo_count fs) ts)))
+counted_by f fs cell rest memos false e ih room = rw e (omega (arith, ih memos room))
+
+cells_counted : (fields : List Field) (bytes : List ℕ) (memos : List (List ℕ)) → memo_count fields ≤ length memos
+    → cells_blocks fields (cells_with fields bytes memos) ≡ sum_by blocks_of (take (memo_count fields) memos)
+cells_counted [] bytes memos room = refl
+cells_counted (f ∷ fs) bytes memos room = counted_by f fs (take f.width bytes) (drop f.width bytes) memos (eqb f.kind 77) refl (cells_counted fs (drop f.width bytes)) room
+
+no_more : (memos : List (List ℕ)) → length memos ≡ 0 → 0 ≡ sum_by blocks_of memos
+no_more [] e = refl
+no_more (t ∷ ts) e = absurd (omega arith)
+
+rows_counted : (fields : List Field) (ps memos : List (List ℕ)) → length memos ≡ length ps * memo_count fields → rows_blocks fields (rows_with fields ps memos) ≡ sum_by blocks_of memos
+rows_counted fields [] memos e = no_more memos (omega arith)
+rows_counted fields (p ∷ ps) memos e =
+    let n : ℕ = memo_count fields in
+    let here = cells_counted fields (drop 1 p) memos (omega arith) in
+    let there = rows_counted fields ps (drop n memos) (omega (arith, length-drop n memos)) in
+    rw (here, there) (sum_by-take-drop blocks_of memos n)
+
+-- ---- texts that are told by spans
+
+counted_spans : (texts : List ℕ) (spans : List Span) → sum_by blocks_of (texts_of texts spans) ≡ sum_by (λ s. blocks_of (text_of texts s)) spans
+counted_spans texts [] = refl
+counted_spans texts (s ∷ ss) =
+    let here : sum_by blocks_of (texts_of texts (s ∷ ss)) ≡ blocks_of (text_of texts s) + sum_by blocks_of (texts_of texts ss) = sum_by-cons blocks_of (text_of texts s) (texts_of texts ss) in
+    let there : sum_by (λ (x : Span). blocks_of (text_of texts x)) (s ∷ ss) ≡ blocks_of (text_of texts s) + sum_by (λ (x : Span). blocks_of (text_of texts x)) ss = sum_by-cons (λ (x : Span). blocks_of (text_of texts x)) s ss in
+    omega (arith, here, there, counted_spans texts ss)
+
+many_texts : (fields : List Field) (count : ℕ) (bytes texts : List ℕ) (spans : List Span) → length spans ≡ count * memo_count fields
+    → length (texts_of texts spans) ≡ length (pieces (1 + widths fields) count bytes) * memo_count fields
+many_texts fields count bytes texts spans many = length-map spans (text_of texts) ∙ many ∙ ap (λ (n : ℕ). n * memo_count fields) (sym (length-pieces (1 + widths fields) count bytes))
+
+pub store_blocks : (fields : List Field) (count : ℕ) (bytes texts : List ℕ) (spans : List Span) → length spans ≡ count * memo_count fields
+    → rows_blocks fields (rows_of fields count bytes (texts_of texts spans)) ≡ sum_by (λ s. blocks_of (text_of texts s)) spans
+store_blocks fields count bytes texts spans many =
+    rows_counted fields (pieces (1 + widths fields) count bytes) (texts_of texts spans) (many_texts fields count bytes texts spans many) ∙ counted_spans texts spans
+
+pub next_told : (next : ℕ) (fields : List Field) (rows : List Row) (count : ℕ) (bytes texts : List ℕ) (spans : List Span) → length spans ≡ count * memo_count fields
+    → rows ≡ rows_of fields count bytes (texts_of texts spans) → next ≡ 1 + sum_by (λ s. blocks_of (text_of texts s)) spans → next ≡ 1 + rows_blocks fields rows
+next_told next fields rows count bytes texts spans many told is = rw (told, store_blocks fields count bytes texts spans many) is
+
+pub free_some : (next free : ℕ) → next ≡ free → next ≤ 4294967295 → Some next ≡ cond (leb free 4294967295) (Some free) None
+free_some next free is le = rw (← is, le-leb next 4294967295 le) refl
+
+pub free_none : (next free : ℕ) → next ≡ free → 4294967295 < next → None ≡ cond (leb free 4294967295) (Some free) None
+free_none next free is over = rw (← is, lt-leb next 4294967295 over) refl
+
+pub store_memos : (fields : List Field) (count : ℕ) (bytes texts : List ℕ) (spans : List Span) → length spans ≡ count * memo_count fields
+    → rows_memos fields (rows_of fields count bytes (texts_of texts spans)) ≡ flat_map (λ s. block_bytes (text_of texts s)) spans
+store_memos fields count bytes texts spans many =
+    rows_joined fields (pieces (1 + widths fields) count bytes) (texts_of texts spans) (many_texts fields count bytes texts spans many) ∙ flat_map-map block_bytes (text_of texts) spans
+
+pub memos_told : (fields : List Field) (rows : List Row) (count : ℕ) (bytes texts : List ℕ) (spans : List Span) → length spans ≡ count * memo_count fields
+    → rows ≡ rows_of fields count bytes (texts_of texts spans) → flat_map (λ s. block_bytes (text_of texts s)) spans ≡ rows_memos fields rows
+memos_told fields rows count bytes texts spans many told = rw told (sym (store_memos fields count bytes texts spans many))
+
+-- ---- how many memos a table has at most
+
+few_by : (fs : List Field) (b : Bool) → memo_count fs ≤ length fs → cond b (suc (memo_count fs)) (memo_count fs) ≤ suc (length fs)
+few_by fs true h = omega arith
+few_by fs false h = omega arith
+
+few_memos : (fields : List Field) → memo_count fields ≤ length fields
+few_memos [] = omega arith
+few_memos (f ∷ fs) = few_by fs (eqb f.kind 77) (few_memos fs)
+
+pub memos_each : (fields : List Field) → IsSchema fields → memo_count fields ≤ 128
+memos_each fields schema = omega (arith, few_memos fields, schema_count fields schema)
+
+pub memos_all : (fields : List Field) (count : ℕ) → IsSchema fields → count ≤ 1000000000 → count * memo_count fields ≤ 128000000000
+memos_all fields count schema few = omega (arith, mul-le-mul_left count (memos_each fields schema))

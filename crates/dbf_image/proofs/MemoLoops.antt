@@ -1,0 +1,61 @@
+-- One more cell of a record.
+use Rattle.std.proofs.Common.{◌≡◌, ℕ, ◌+◌, ◌<◌, ◌≤◌, true, Bool, List, [], ◌∷◌, ◌++◌, length, take, drop, get_or, Some, None, refl, sym, ap, ◌∙◌, append_assoc, inl, inr, All, arith}
+use Rattle.std.specs.Prelude.{◌⊎◌}
+use Rattle.std.specs.List.{AllByRecursion}
+use Rattle.std.proofs.lemmas.Bool.{eqb-true}
+use Rattle.std.proofs.lemmas.List.{drop_more}
+use Rattle.std.proofs.lemmas.List.Sums.{sum_by-cons}
+use Rattle.std.proofs.lemmas.List.Elements.{All-from_recursion}
+use Rattle.dbf_fields.specs.declared.field.Field.{Field}
+use Rattle.dbf_fields.specs.Faults.{first_fault}
+use Rattle.dbf_fields.specs.Field.{widths, has_width}
+use Rattle.dbf_fields.specs.Schema.{IsSchema}
+use Rattle.dbf_fields.proofs.SchemaLaws.{schema_wide}
+use Rattle.dbf_image.specs.declared.fault.ImageFault.{ImageFault}
+use Rattle.dbf_image.specs.declared.fault.ImageFault.TheVariants.{NoMemory}
+use Rattle.dbf_image.specs.declared.span.Span.{Span}
+use Rattle.dbf_image.specs.Reading.{cell_tests, cells_tests}
+use Rattle.dbf_image.specs.Spans.{cell_spans, cells_spans}
+use Rattle.dbf_image.proofs.Groups.{first_then, first_before}
+
+pub tests-next : (dbt bytes : List ℕ) (fields : List Field) (i : ℕ) (f : Field) → i < length fields → f ≡ get_or fields i f
+    → first_fault (cell_tests dbt f (take f.width bytes)) ≡ None
+    → first_fault (cells_tests dbt (drop (i + 1) fields) (drop f.width bytes)) ≡ first_fault (cells_tests dbt (drop i fields) bytes)
+tests-next dbt bytes fields i f lt is none =
+    let e : drop i fields ≡ f ∷ drop (i + 1) fields = drop_more fields i f lt ∙ ap (λ (g : Field). g ∷ drop (i + 1) fields) (sym is) in
+    rw e (sym (first_then (cell_tests dbt f (take f.width bytes)) (cells_tests dbt (drop (i + 1) fields) (drop f.width bytes)) none))
+
+pub group_stop : (xs ys : List (Bool × ImageFault)) (fault : ImageFault) → (fault ≡ NoMemory) ⊎ (first_fault xs ≡ Some fault) → (fault ≡ NoMemory) ⊎ (first_fault (xs ++ ys) ≡ Some fault)
+group_stop xs ys fault (inl h) = inl h
+group_stop xs ys fault (inr h) = inr (first_before xs ys fault h)
+
+pub tests-stop : (dbt bytes : List ℕ) (fields : List Field) (i : ℕ) (f : Field) (fault : ImageFault) → i < length fields → f ≡ get_or fields i f
+    → (fault ≡ NoMemory) ⊎ (first_fault (cell_tests dbt f (take f.width bytes)) ≡ Some fault)
+    → (fault ≡ NoMemory) ⊎ (first_fault (cells_tests dbt (drop i fields) bytes) ≡ Some fault)
+tests-stop dbt bytes fields i f fault lt is h =
+    let e : drop i fields ≡ f ∷ drop (i + 1) fields = drop_more fields i f lt ∙ ap (λ (g : Field). g ∷ drop (i + 1) fields) (sym is) in
+    rw e (group_stop (cell_tests dbt f (take f.width bytes)) (cells_tests dbt (drop (i + 1) fields) (drop f.width bytes)) fault h)
+
+pub spans-next : (dbt bytes : List ℕ) (fields : List Field) (i : ℕ) (f : Field) (front : List Span) → i < length fields → f ≡ get_or fields i f
+    → (front ++ cell_spans dbt f (take f.width bytes)) ++ cells_spans dbt (drop (i + 1) fields) (drop f.width bytes) ≡ front ++ cells_spans dbt (drop i fields) bytes
+spans-next dbt bytes fields i f front lt is =
+    let e : drop i fields ≡ f ∷ drop (i + 1) fields = drop_more fields i f lt ∙ ap (λ (g : Field). g ∷ drop (i + 1) fields) (sym is) in
+    rw (e, append_assoc) refl
+
+pub room-next : (fields : List Field) (i : ℕ) (f : Field) (now later : ℕ) → i < length fields → f ≡ get_or fields i f → widths (drop i fields) ≤ now → later + f.width ≡ now
+    → widths (drop (i + 1) fields) ≤ later
+room-next fields i f now later lt is room left =
+    let e : drop i fields ≡ f ∷ drop (i + 1) fields = drop_more fields i f lt ∙ ap (λ (g : Field). g ∷ drop (i + 1) fields) (sym is) in
+    let sum : widths (drop i fields) ≡ f.width + widths (drop (i + 1) fields) = rw e (sum_by-cons (λ (g : Field). g.width) f (drop (i + 1) fields)) in
+    omega arith
+
+-- a memo's cell is ten bytes wide
+memo_wide : (f : Field) → has_width f ≡ true → f.kind ≡ 77 → f.width ≤ 10
+memo_wide f h kind = omega (arith, eqb-true f.width 10 (rw kind at h))
+
+memos_wide : (fs : List Field) → AllByRecursion (λ f. has_width f ≡ true) fs → AllByRecursion (λ f. f.kind ≡ 77 → f.width ≤ 10) fs
+memos_wide [] h = tt
+memos_wide (f ∷ fs) h = (memo_wide f h.0, memos_wide fs h.1)
+
+pub memo_fits : (fs : List Field) → IsSchema fs → All (λ f. f.kind ≡ 77 → f.width ≤ 10) fs
+memo_fits fs s = All-from_recursion (λ f. f.kind ≡ 77 → f.width ≤ 10) fs (memos_wide fs (schema_wide fs s))

@@ -1,0 +1,132 @@
+-- The block numbers that are written are read.
+use Rattle.std.proofs.Common.{◌≡◌, ◌≢◌, ℕ, zero, suc, ◌+◌, ◌-◌, ◌*◌, ◌/◌, ◌%◌, ◌^◌, ◌<◌, Bool, true, false, cond, eqb, List, [], ◌∷◌, ◌++◌, length, drop, set, Some, refl, sym, ap, ◌∙◌, append_assoc, arith}
+use Rattle.std.specs.Prelude.{reverse}
+use Rattle.std.specs.List.{list_all}
+use Rattle.std.specs.Char.{is_ascii_digit}
+use Rattle.std.proofs.lemmas.Bool.{eqb-true, eqb-false, ne_eqb, le-leb}
+use Rattle.std.proofs.lemmas.List.{length-append, reverse-append, reverse-reverse}
+use Rattle.std.proofs.lemmas.List.Folds.{list_all-append}
+use Rattle.std.proofs.lemmas.List.Sums.{fold-append}
+use Rattle.std.proofs.Math.Nat.{pow-suc}
+use Rattle.dbf_fields.specs.Digits.{digits_behind}
+use Rattle.dbf_image.specs.Memo.{without_leading, trimmed, memo_number}
+use Rattle.dbf_image.specs.Blocks.{justified, number_cell}
+
+-- a digit behind bytes stays where the blanks before them go
+leading_by : (b : ℕ) (bs : List ℕ) (d : ℕ) (t : Bool) → eqb b 32 ≡ t → without_leading (bs ++ d ∷ []) ≡ without_leading bs ++ d ∷ []
+    → cond t (without_leading (bs ++ d ∷ [])) (b ∷ (bs ++ d ∷ [])) ≡ cond t (without_leading bs) (b ∷ bs) ++ d ∷ []
+leading_by b bs d true e h = h
+leading_by b bs d false e h = refl
+
+leading_digit : (bs : List ℕ) (d : ℕ) → d ≢ 32 → without_leading (bs ++ d ∷ []) ≡ without_leading bs ++ d ∷ []
+leading_digit [] d h = rw (ne_eqb d 32 h) refl
+leading_digit (b ∷ bs) d h = leading_by b bs d (eqb b 32) refl (leading_digit bs d h)
+
+blank_by : (b : ℕ) (bs : List ℕ) (t : Bool) → cond t (without_leading bs) (b ∷ bs) ≡ [] → (without_leading bs ≡ [] → without_leading (bs ++ 32 ∷ []) ≡ [])
+    → cond t (without_leading (bs ++ 32 ∷ [])) (b ∷ (bs ++ 32 ∷ [])) ≡ []
+blank_by b bs true e next = next e
+blank_by b bs false e next = absurd cc
+
+-- one more blank behind blanks
+leading_blank : (bs : List ℕ) → without_leading bs ≡ [] → without_leading (bs ++ 32 ∷ []) ≡ []
+leading_blank [] h = refl
+leading_blank (b ∷ bs) h = blank_by b bs (eqb b 32) h (leading_blank bs)
+
+-- what is known of the digits of a number, of which none is a blank
+record AreDigits (n : ℕ) (digits : List ℕ) : Type 0 where
+  none : n ≡ 0 → digits ≡ []
+  kept : reverse (without_leading (reverse digits)) ≡ digits
+  each : list_all is_ascii_digit digits ≡ true
+  value : digits_behind 0 digits ≡ n
+
+is_digit : (n : ℕ) → n < 10 → is_ascii_digit (48 + n) ≡ true
+is_digit n lt = rw (le-leb 48 (48 + n) (omega arith), le-leb (48 + n) 57 (omega arith)) refl
+
+kept_last : (digits : List ℕ) (d : ℕ) → d ≢ 32 → reverse (without_leading (reverse (digits ++ d ∷ []))) ≡ digits ++ d ∷ []
+kept_last digits d h =
+    let e : reverse (digits ++ d ∷ []) ≡ d ∷ reverse digits = reverse-append digits (d ∷ []) in
+    let stays : without_leading (d ∷ reverse digits) ≡ d ∷ reverse digits = rw (ne_eqb d 32 h) refl in
+    ap (λ (x : List ℕ). reverse (without_leading x)) e ∙ ap reverse stays ∙ ap reverse (sym e) ∙ reverse-reverse (digits ++ d ∷ [])
+
+-- one more digit
+one_more : (n : ℕ) (digits : List ℕ) → n ≢ 0 → AreDigits (n / 10) digits → AreDigits n (digits ++ (48 + n % 10) ∷ [])
+one_more n digits some h =
+    let small : n % 10 < 10 = omega arith in
+    let split : n / 10 * 10 + n % 10 ≡ n = omega arith in
+    let digit : is_ascii_digit (48 + n % 10) ≡ true = is_digit (n % 10) small in
+    record {
+      none = λ e. absurd (some e);
+      kept = kept_last digits (48 + n % 10) (λ e. absurd (omega (arith, e)));
+      each = list_all-append is_ascii_digit digits ((48 + n % 10) ∷ []) ∙ rw (h.each, digit) refl;
+      value = fold-append (λ (m b : ℕ). m * 10 + (b - 48)) 0 digits ((48 + n % 10) ∷ []) ∙ rw h.value (omega (arith, split));
+    }
+
+digits_by : (k n : ℕ) (t : Bool) → eqb n 0 ≡ t → AreDigits (n / 10) (without_leading (justified k (n / 10)))
+    → AreDigits n (without_leading (justified k (n / 10) ++ cond t 32 (48 + n % 10) ∷ []))
+digits_by k n true e h =
+    let zero_is : n ≡ 0 = eqb-true n 0 e in
+    let nothing : without_leading (justified k (n / 10) ++ 32 ∷ []) ≡ [] = leading_blank (justified k (n / 10)) (h.none (omega arith)) in
+    rw nothing (record { none = λ _. refl; kept = refl; each = refl; value = sym zero_is })
+digits_by k n false e h =
+    rw (leading_digit (justified k (n / 10)) (48 + n % 10) (λ d. absurd (omega (arith, d)))) (one_more n (without_leading (justified k (n / 10))) (eqb-false n 0 e) h)
+
+digits_of : (k n : ℕ) → n < 10 ^ k → AreDigits n (without_leading (justified k n))
+unfolding justified
+digits_of zero n lt =
+    let none : n ≡ 0 = omega arith in
+    record { none = λ _. refl; kept = refl; each = refl; value = sym none }
+digits_of (suc k) n lt =
+    let wide : 10 ^ suc k ≡ 10 ^ k * 10 = pow-suc 10 k in
+    digits_by k n (eqb n 0) refl (digits_of k (n / 10) (omega (arith, wide)))
+
+number_by : (cell digits : List ℕ) (n : ℕ) → trimmed cell ≡ digits → list_all is_ascii_digit digits ≡ true → digits_behind 0 digits ≡ n → memo_number cell ≡ Some n
+unfolding memo_number
+number_by cell digits n e each value = rw (e, each) (ap (λ (m : ℕ). Some m) value)
+
+trimmed_is : (cell digits : List ℕ) → without_leading cell ≡ digits → reverse (without_leading (reverse digits)) ≡ digits → trimmed cell ≡ digits
+unfolding trimmed
+trimmed_is cell digits e kept = ap (λ (x : List ℕ). reverse (without_leading (reverse x))) e ∙ kept
+
+-- the number that is written is read
+pub number_in : (k n : ℕ) → n < 10 ^ k → memo_number (justified k n) ≡ Some n
+number_in k n lt =
+    let h = digits_of k n lt in
+    number_by (justified k n) (without_leading (justified k n)) n (trimmed_is (justified k n) _ refl h.kept) h.each h.value
+
+pub length-justified : (k n : ℕ) → length (justified k n) ≡ k
+unfolding justified
+length-justified zero n = refl
+length-justified (suc k) n = omega (arith, length-append (justified k (n / 10)) (cond (eqb n 0) 32 (48 + n % 10) ∷ []), length-justified k (n / 10))
+
+-- ---- the digits that are written, from the last one on
+
+drop_set : (i : ℕ) (cell : List ℕ) (d : ℕ) → i < length cell → drop i (set cell i d) ≡ d ∷ drop (i + 1) cell
+drop_set i [] d lt = absurd (omega arith)
+drop_set zero (b ∷ bs) d lt = refl
+drop_set (suc i) (b ∷ bs) d lt =
+    let k : suc i + 1 ≡ suc (i + 1) = omega arith in
+    rw k (drop_set i bs d (omega arith))
+
+pub place-next : (at i n : ℕ) (cell : List ℕ) (d : ℕ) (whole : List ℕ) → i + 1 ≡ at → i < length cell → d ≡ cond (eqb n 0) 32 (48 + n % 10)
+    → justified at n ++ drop at cell ≡ whole → justified i (n / 10) ++ drop i (set cell i d) ≡ whole
+unfolding justified
+place-next at i n cell d whole k lt is told =
+    let e : at ≡ suc i = omega arith in
+    let e' : i + 1 ≡ suc i = omega arith in
+    let before : justified (suc i) n ++ drop (suc i) cell ≡ whole = rw e at told in
+    let here : drop i (set cell i d) ≡ d ∷ drop (suc i) cell = rw e' at (drop_set i cell d lt) in
+    rw (here, is) (sym (append_assoc (justified i (n / 10)) (cond (eqb n 0) 32 (48 + n % 10) ∷ []) (drop (suc i) cell)) ∙ before)
+
+pub place-done : (at n : ℕ) (cell whole : List ℕ) → at ≡ 0 → justified at n ++ drop at cell ≡ whole → cell ≡ whole
+unfolding justified
+place-done at n cell whole e told = rw e at told
+
+pub number_none : (next : ℕ) (text : List ℕ) → length text ≡ 0 → justified 10 0 ≡ number_cell next text
+unfolding number_cell
+number_none next [] e = refl
+number_none next (t ∷ ts) e = absurd (omega arith)
+
+pub number_some : (next : ℕ) (text : List ℕ) → 0 < length text → justified 10 next ≡ number_cell next text
+unfolding number_cell
+number_some next [] some = absurd (omega arith)
+number_some next (t ∷ ts) some = refl

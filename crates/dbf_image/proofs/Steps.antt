@@ -1,0 +1,158 @@
+-- One more cell, and one more record, of those that are written from the next free block on.
+use Rattle.std.proofs.Common.{◌≡◌, ℕ, zero, suc, ◌+◌, ◌-◌, ◌*◌, ◌<◌, Bool, true, false, cond, eqb, List, [], ◌∷◌, ◌++◌, length, take, drop, get_or, refl, sym, ap, ◌∙◌, arith}
+use Rattle.std.specs.Prelude.{flat_map}
+use Rattle.std.specs.List.{AllByRecursion}
+use Rattle.std.proofs.lemmas.List.{drop_more, take-map, drop-map, take-append-drop, length-drop}
+use Rattle.std.proofs.lemmas.List.Sums.{sum_by-cons}
+use Rattle.dbf_fields.specs.declared.field.Field.{Field}
+use Rattle.dbf_fields.specs.Field.{widths}
+use Rattle.dbf_image.specs.declared.span.Span.{Span}
+use Rattle.dbf_image.specs.Table.{Row}
+use Rattle.dbf_image.specs.DbfText.{pieces}
+use Rattle.dbf_image.specs.Store.{text_of, texts_of, memo_count, first_memo, cells_with, row_with, rows_with, rows_of}
+use Rattle.dbf_image.specs.Blocks.{cell_bytes, cell_blocks, cells_bytes, cells_blocks}
+use Rattle.dbf_image.specs.Image.{row_bytes, rows_bytes}
+
+pub all_drop : {X : Type 0} (P : X → Type 0) (xs : List X) (n : ℕ) → AllByRecursion P xs → AllByRecursion P (drop n xs)
+all_drop P [] zero h = tt
+all_drop P [] (suc n) h = tt
+all_drop P (x ∷ xs) zero h = h
+all_drop P (x ∷ xs) (suc n) h = all_drop P xs n h.1
+
+-- ---- cells
+
+-- the cell of the first field
+abbrev pub first_cell : Field → List ℕ → List ℕ → List Span → List ℕ
+first_cell f bytes texts spans = cond (eqb f.kind 77) (first_memo (texts_of texts spans)) bytes
+
+count_by : (f : Field) (fs : List Field) (b : Bool) → eqb f.kind 77 ≡ b → memo_count (f ∷ fs) ≡ memo_count (f ∷ []) + memo_count fs
+count_by f fs true e = rw e (omega arith)
+count_by f fs false e = rw e (omega arith)
+
+pub count_first : (f : Field) (fs : List Field) → memo_count (f ∷ fs) ≡ memo_count (f ∷ []) + memo_count fs
+count_first f fs = count_by f fs (eqb f.kind 77) refl
+
+bytes_by : (f : Field) (fs : List Field) (rest texts : List ℕ) (spans : List Span) (next : ℕ) (b : Bool) → eqb f.kind 77 ≡ b
+    → cells_bytes next (f ∷ fs) (cells_with (f ∷ fs) rest (texts_of texts spans))
+    ≡ cell_bytes next f (first_cell f (take f.width rest) texts (take (memo_count (f ∷ [])) spans))
+    ++ cells_bytes (next + cell_blocks f (first_cell f (take f.width rest) texts (take (memo_count (f ∷ [])) spans))) fs (cells_with fs (drop f.width rest) (texts_of texts (drop (memo_count (f ∷ [])) spans)))
+bytes_by f fs rest texts [] next true e = rw e (rw e refl)
+bytes_by f fs rest texts (s ∷ ss) next true e = rw e (rw e refl)
+bytes_by f fs rest texts spans next false e = rw e (rw e refl)
+
+pub bytes_first : (f : Field) (fs : List Field) (rest texts : List ℕ) (spans : List Span) (next : ℕ)
+    → cells_bytes next (f ∷ fs) (cells_with (f ∷ fs) rest (texts_of texts spans))
+    ≡ cell_bytes next f (first_cell f (take f.width rest) texts (take (memo_count (f ∷ [])) spans))
+    ++ cells_bytes (next + cell_blocks f (first_cell f (take f.width rest) texts (take (memo_count (f ∷ [])) spans))) fs (cells_with fs (drop f.width rest) (texts_of texts (drop (memo_count (f ∷ [])) spans)))
+bytes_first f fs rest texts spans next = bytes_by f fs rest texts spans next (eqb f.kind 77) refl
+
+blocks_by : (f : Field) (fs : List Field) (rest texts : List ℕ) (spans : List Span) (b : Bool) → eqb f.kind 77 ≡ b
+    → cells_blocks (f ∷ fs) (cells_with (f ∷ fs) rest (texts_of texts spans))
+    ≡ cell_blocks f (first_cell f (take f.width rest) texts (take (memo_count (f ∷ [])) spans))
+    + cells_blocks fs (cells_with fs (drop f.width rest) (texts_of texts (drop (memo_count (f ∷ [])) spans)))
+blocks_by f fs rest texts [] true e = rw e (rw e refl)
+blocks_by f fs rest texts (s ∷ ss) true e = rw e (rw e refl)
+blocks_by f fs rest texts spans false e = rw e (rw e refl)
+
+-- what is left of the cells and of their blocks
+abbrev pub left_bytes : ℕ → List Field → List ℕ → List ℕ → List Span → List ℕ
+left_bytes next fields rest texts spans = cells_bytes next fields (cells_with fields rest (texts_of texts spans))
+
+abbrev pub left_blocks : List Field → List ℕ → List ℕ → List Span → ℕ
+left_blocks fields rest texts spans = cells_blocks fields (cells_with fields rest (texts_of texts spans))
+
+module _ (fields : List Field) (i : ℕ) (f : Field) (lt : i < length fields) (is : f ≡ get_or fields i f) where
+  here : drop i fields ≡ f ∷ drop (i + 1) fields
+  here = drop_more fields i f lt ∙ ap (λ (g : Field). g ∷ drop (i + 1) fields) (sym is)
+
+  pub widths-next : widths (drop i fields) ≡ f.width + widths (drop (i + 1) fields)
+  widths-next = rw here (sum_by-cons (λ (g : Field). g.width) f (drop (i + 1) fields))
+
+  pub count-next : memo_count (drop i fields) ≡ memo_count (f ∷ []) + memo_count (drop (i + 1) fields)
+  count-next = rw here (count_first f (drop (i + 1) fields))
+
+  pub bytes-next : (rest texts : List ℕ) (spans : List Span) (next : ℕ) (cell : List ℕ) → cell ≡ first_cell f (take f.width rest) texts (take (memo_count (f ∷ [])) spans)
+      → left_bytes next (drop i fields) rest texts spans
+      ≡ cell_bytes next f cell ++ left_bytes (next + cell_blocks f cell) (drop (i + 1) fields) (drop f.width rest) texts (drop (memo_count (f ∷ [])) spans)
+  bytes-next rest texts spans next cell c = rw (here, c) (bytes_first f (drop (i + 1) fields) rest texts spans next)
+
+  pub blocks-next : (rest texts : List ℕ) (spans : List Span) (next : ℕ) (cell : List ℕ) → cell ≡ first_cell f (take f.width rest) texts (take (memo_count (f ∷ [])) spans)
+      → next + left_blocks (drop i fields) rest texts spans
+      ≡ (next + cell_blocks f cell) + left_blocks (drop (i + 1) fields) (drop f.width rest) texts (drop (memo_count (f ∷ [])) spans)
+  blocks-next rest texts spans next cell c =
+      let step = blocks_by f (drop (i + 1) fields) rest texts spans (eqb f.kind 77) refl in
+      rw (here, c) (omega (arith, step))
+
+-- ---- cells without memos are the bytes as they are
+
+plain_by : (f : Field) (fs : List Field) (bytes : List ℕ) (memos : List (List ℕ)) (next : ℕ) (b : Bool) → eqb f.kind 77 ≡ b → memo_count (f ∷ fs) ≡ 0 → length bytes ≡ widths (f ∷ fs)
+    → ((rest : List ℕ) (n : ℕ) → memo_count fs ≡ 0 → length rest ≡ widths fs → cells_bytes n fs (cells_with fs rest memos) ≡ rest)
+    → cells_bytes next (f ∷ fs) (cells_with (f ∷ fs) bytes memos) ≡ bytes
+plain_by f fs bytes memos next true e none long ih =
+    let some : suc (memo_count fs) ≡ 0 = rw e at none in
+    absurd (omega (arith, some))
+plain_by f fs bytes memos next false e none long ih =
+    let less : memo_count fs ≡ 0 = rw e at none in
+    let sum : widths (f ∷ fs) ≡ f.width + widths fs = sum_by-cons (λ (g : Field). g.width) f fs in
+    let there = ih (drop f.width bytes) (next + 0) less (omega (arith, length-drop f.width bytes, sum)) in
+    rw e (rw e (rw there (take-append-drop f.width bytes)))
+
+pub plain_bytes : (fields : List Field) (bytes : List ℕ) (memos : List (List ℕ)) (next : ℕ) → memo_count fields ≡ 0 → length bytes ≡ widths fields
+    → cells_bytes next fields (cells_with fields bytes memos) ≡ bytes
+plain_bytes [] [] memos next none long = refl
+plain_bytes [] (b ∷ bs) memos next none long = absurd (omega arith)
+plain_bytes (f ∷ fs) bytes memos next none long = plain_by f fs bytes memos next (eqb f.kind 77) refl none long (λ rest n. plain_bytes fs rest memos n)
+
+plain_count_by : (f : Field) (fs : List Field) (bytes : List ℕ) (memos : List (List ℕ)) (b : Bool) → eqb f.kind 77 ≡ b → memo_count (f ∷ fs) ≡ 0
+    → ((rest : List ℕ) → memo_count fs ≡ 0 → cells_blocks fs (cells_with fs rest memos) ≡ 0)
+    → cells_blocks (f ∷ fs) (cells_with (f ∷ fs) bytes memos) ≡ 0
+plain_count_by f fs bytes memos true e none ih =
+    let some : suc (memo_count fs) ≡ 0 = rw e at none in
+    absurd (omega (arith, some))
+plain_count_by f fs bytes memos false e none ih =
+    let less : memo_count fs ≡ 0 = rw e at none in
+    rw e (rw e (omega (arith, ih (drop f.width bytes) less)))
+
+pub plain_blocks : (fields : List Field) (bytes : List ℕ) (memos : List (List ℕ)) → memo_count fields ≡ 0 → cells_blocks fields (cells_with fields bytes memos) ≡ 0
+plain_blocks [] bytes memos none = refl
+plain_blocks (f ∷ fs) bytes memos none = plain_count_by f fs bytes memos (eqb f.kind 77) refl none (λ rest. plain_blocks fs rest memos)
+
+-- ---- records
+
+enough_by : (f : Field) (fs : List Field) (bytes : List ℕ) (memos : List (List ℕ)) (b : Bool) → eqb f.kind 77 ≡ b
+    → ((rest : List ℕ) (m : List (List ℕ)) → cells_with fs rest (take (memo_count fs) m) ≡ cells_with fs rest m)
+    → cells_with (f ∷ fs) bytes (take (memo_count (f ∷ fs)) memos) ≡ cells_with (f ∷ fs) bytes memos
+enough_by f fs bytes [] true e ih = rw e refl
+enough_by f fs bytes (t ∷ ts) true e ih = rw e (ap (λ (x : List (List ℕ)). t ∷ x) (ih (drop f.width bytes) ts))
+enough_by f fs bytes memos false e ih = rw e (ap (λ (x : List (List ℕ)). take f.width bytes ∷ x) (ih (drop f.width bytes) memos))
+
+-- a record takes no more memos than it has
+pub cells_enough : (fields : List Field) (bytes : List ℕ) (memos : List (List ℕ)) → cells_with fields bytes (take (memo_count fields) memos) ≡ cells_with fields bytes memos
+cells_enough [] bytes memos = refl
+cells_enough (f ∷ fs) bytes memos = enough_by f fs bytes memos (eqb f.kind 77) refl (cells_enough fs)
+
+-- what is left of the records
+abbrev pub left_rows : ℕ → List Field → ℕ → ℕ → List ℕ → List ℕ → List Span → List ℕ
+left_rows next fields size n rest texts spans = flat_map (λ bytes. bytes) (rows_bytes next fields (rows_with fields (pieces size n rest) (texts_of texts spans)))
+
+pub rows-next : (fields : List Field) (size n i : ℕ) (rest texts : List ℕ) (spans : List Span) (next : ℕ) → i < n
+    → left_rows next fields size (n - i) rest texts spans
+    ≡ row_bytes next fields (row_with fields (take size rest) (texts_of texts (take (memo_count fields) spans)))
+    ++ left_rows (next + cells_blocks fields (row_with fields (take size rest) (texts_of texts (take (memo_count fields) spans))).cells) fields size (n - (i + 1)) (drop size rest) texts (drop (memo_count fields) spans)
+rows-next fields size n i rest texts spans next lt =
+    let k : n - i ≡ suc (n - (i + 1)) = omega arith in
+    let m : ℕ = memo_count fields in
+    let taken : texts_of texts (take m spans) ≡ take m (texts_of texts spans) = sym (take-map (text_of texts) m spans) in
+    let left : texts_of texts (drop m spans) ≡ drop m (texts_of texts spans) = sym (drop-map (text_of texts) m spans) in
+    rw (k, taken, left, cells_enough fields (drop 1 (take size rest)) (texts_of texts spans)) refl
+
+pub less-next : (n i m : ℕ) → i < n → (n - i) * m ≡ m + (n - (i + 1)) * m
+less-next n i m lt =
+    let k : n - i ≡ (n - (i + 1)) + 1 = omega arith in
+    rw k (omega arith)
+
+-- all records, as they are kept
+pub rows_same : (fields : List Field) (rows : List Row) (size count : ℕ) (bytes texts : List ℕ) (spans : List Span) → rows ≡ rows_of fields (length rows) bytes (texts_of texts spans)
+    → size ≡ 1 + widths fields → count ≡ length rows → left_rows 1 fields size count bytes texts spans ≡ flat_map (λ bytes. bytes) (rows_bytes 1 fields rows)
+rows_same fields rows size count bytes texts spans told wide n =
+    rw (wide, n) (ap (λ (rs : List Row). flat_map (λ (b : List ℕ). b) (rows_bytes 1 fields rs)) (sym told))

@@ -1,0 +1,78 @@
+-- The file of memos that is written of a table, and the cells that tell where in it a text stands. Texts
+-- come in order of record and field, from block 1 on.
+use Rattle.std.specs.Prelude.{ℕ, zero, suc, ◌+◌, ◌-◌, ◌*◌, ◌/◌, ◌%◌, ◌<◌, ◌==◌, List, [], ◌∷◌, ◌++◌, length, replicate, if◌then◌else◌}
+use Rattle.byteorder.specs.Endian.{little_bytes}
+use Rattle.dbf_fields.specs.declared.field.Field.{Field}
+use Rattle.dbf_fields.specs.declared.field.TheConstants.{MEMO}
+use Rattle.dbf_image.specs.Table.{Row, Table}
+
+-- a number at the right end of so many places, with blanks before it; 0 is all blanks
+unfoldable pub justified : ℕ → ℕ → List ℕ
+justified zero n = []
+justified (suc k) n = justified k (n / 10) ++ (if n == 0 then 32 else 48 + n % 10) ∷ []
+
+-- how many blocks a text takes, with the two 0x1A behind it; no text takes none
+unfoldable pub blocks_of : List ℕ → ℕ
+blocks_of [] = 0
+blocks_of (b ∷ bs) = (length (b ∷ bs) + 513) / 512
+
+-- the blocks of a text: the text, 0x1A 0x1A, and zeros to the last block's end
+unfoldable pub block_bytes : List ℕ → List ℕ
+block_bytes [] = []
+block_bytes (b ∷ bs) = (b ∷ bs) ++ (26 ∷ 26 ∷ replicate (512 * blocks_of (b ∷ bs) - (length (b ∷ bs) + 2)) 0)
+
+-- a memo's cell, whose text is to stand at the next free block
+unfoldable pub number_cell : ℕ → List ℕ → List ℕ
+number_cell next [] = justified 10 0
+number_cell next (b ∷ bs) = justified 10 next
+
+-- a cell in the file of the table, how many blocks it takes, and what stands there
+abbrev pub cell_bytes : ℕ → Field → List ℕ → List ℕ
+cell_bytes next f cell = if f.kind == MEMO then number_cell next cell else cell
+
+abbrev pub cell_blocks : Field → List ℕ → ℕ
+cell_blocks f cell = if f.kind == MEMO then blocks_of cell else 0
+
+abbrev pub cell_memo : Field → List ℕ → List ℕ
+cell_memo f cell = if f.kind == MEMO then block_bytes cell else []
+
+-- the same of all cells of a record, from the next free block on
+abbrev pub cells_bytes : ℕ → List Field → List (List ℕ) → List ℕ
+cells_bytes next [] cells = []
+cells_bytes next (f ∷ fs) [] = []
+cells_bytes next (f ∷ fs) (c ∷ cs) = cell_bytes next f c ++ cells_bytes (next + cell_blocks f c) fs cs
+
+abbrev pub cells_blocks : List Field → List (List ℕ) → ℕ
+cells_blocks [] cells = 0
+cells_blocks (f ∷ fs) [] = 0
+cells_blocks (f ∷ fs) (c ∷ cs) = cell_blocks f c + cells_blocks fs cs
+
+abbrev pub cells_memos : List Field → List (List ℕ) → List ℕ
+cells_memos [] cells = []
+cells_memos (f ∷ fs) [] = []
+cells_memos (f ∷ fs) (c ∷ cs) = cell_memo f c ++ cells_memos fs cs
+
+-- and of all records
+abbrev pub rows_blocks : List Field → List Row → ℕ
+rows_blocks fields [] = 0
+rows_blocks fields (r ∷ rs) = cells_blocks fields r.cells + rows_blocks fields rs
+
+abbrev pub rows_memos : List Field → List Row → List ℕ
+rows_memos fields [] = []
+rows_memos fields (r ∷ rs) = cells_memos fields r.cells ++ rows_memos fields rs
+
+-- the next free block of a table's memos; block 0 is the header
+abbrev pub next_free : Table → ℕ
+next_free table = 1 + rows_blocks table.schema table.rows
+
+-- the numbers of blocks end at 32 bits
+abbrev pub HasTooManyBlocks : Table → Type 0
+HasTooManyBlocks table = 4294967295 < next_free table
+
+-- the header: the next free block, and 3 at byte 16
+abbrev pub memo_header : ℕ → List ℕ
+memo_header next = little_bytes 4 next ++ (replicate 12 0 ++ (3 ∷ replicate 495 0))
+
+-- the file of a table's memos
+abbrev pub memo_image : Table → List ℕ
+memo_image table = memo_header (next_free table) ++ rows_memos table.schema table.rows

@@ -1,0 +1,47 @@
+-- The texts of memos, in a file of blocks of 512 bytes.
+use Rattle.std.specs.Prelude.{◌≡◌, ◌≢◌, ℕ, ◌*◌, ◌<◌, ◌≤◌, ◌⊎◌, ◌==◌, List, [], ◌∷◌, length, take, drop, reverse, Option, Some, None, if◌then◌else◌}
+use Rattle.std.specs.List.{list_all, before_first}
+use Rattle.std.specs.Char.{is_ascii_digit}
+use Rattle.dbf_fields.specs.declared.field.Field.{Field}
+use Rattle.dbf_fields.specs.declared.field.TheConstants.{MEMO}
+use Rattle.dbf_fields.specs.Digits.{digits_behind}
+use Rattle.dbf_image.specs.declared.table.TheConstants.{MOST_MEMO_BYTES}
+
+-- what is left behind the blanks at the front
+abbrev pub without_leading : List ℕ → List ℕ
+without_leading [] = []
+without_leading (b ∷ bs) = if b == 32 then without_leading bs else b ∷ bs
+
+-- what is left between the blanks at both ends
+unfoldable pub trimmed : List ℕ → List ℕ
+trimmed bs = reverse (without_leading (reverse (without_leading bs)))
+
+-- the block number of a memo's cell: digits between blanks and nothing else. No digits, or 0, is no memo
+unfoldable pub memo_number : List ℕ → Option ℕ
+memo_number cell = if list_all is_ascii_digit (trimmed cell) then Some (digits_behind 0 (trimmed cell)) else None
+
+-- the text from the head of a block to the first 0x1A or the end
+abbrev pub memo_at : List ℕ → ℕ → List ℕ
+memo_at dbt block = before_first (λ b. b == 26) (drop (512 * block) dbt)
+
+-- the block, which is not the header's, has the text
+pub record HasText (dbt : List ℕ) (block : ℕ) (text : List ℕ) : Type 0 where
+  pub some : 0 < block
+  pub inside : 512 * block < length dbt
+  pub short : length text ≤ MOST_MEMO_BYTES
+  pub text_is : memo_at dbt block ≡ text
+
+-- a memo's cell tells no memo, or the number of a block with the text
+abbrev pub TellsMemo : List ℕ → List ℕ → List ℕ → Type 0
+TellsMemo dbt bytes text = ((memo_number bytes ≡ Some 0) × (text ≡ [])) ⊎ ((block : ℕ) × (memo_number bytes ≡ Some block) × HasText dbt block text)
+
+-- what the bytes of a cell tell: a memo, or the cell as it is
+abbrev pub TellsCell : List ℕ → Field → List ℕ → List ℕ → Type 0
+TellsCell dbt f bytes cell = (f.kind ≡ MEMO → TellsMemo dbt bytes cell) × (f.kind ≢ MEMO → cell ≡ bytes)
+
+-- the same of all cells of a record, which stand without separators
+abbrev pub TellsCells : List ℕ → List Field → List ℕ → List (List ℕ) → Type 0
+TellsCells dbt [] bytes [] = Unit {0}
+TellsCells dbt [] bytes (c ∷ cs) = ⊥
+TellsCells dbt (f ∷ fs) bytes [] = ⊥
+TellsCells dbt (f ∷ fs) bytes (c ∷ cs) = TellsCell dbt f (take f.width bytes) c × TellsCells dbt fs (drop f.width bytes) cs

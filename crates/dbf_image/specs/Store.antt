@@ -1,0 +1,58 @@
+-- The rows of a table whose records stand in one run of bytes and its memos' texts in another.
+use Rattle.std.specs.Prelude.{◌≡◌, ℕ, suc, ◌+◌, ◌*◌, ◌≤◌, true, ◌==◌, List, [], ◌∷◌, length, map, take, drop, slice_index, if◌then◌else◌}
+use Rattle.std.specs.List.{AllByRecursion}
+use Rattle.dbf_fields.specs.declared.field.Field.{Field}
+use Rattle.dbf_fields.specs.declared.field.TheConstants.{MEMO}
+use Rattle.dbf_fields.specs.Field.{widths}
+use Rattle.dbf_image.specs.declared.span.Span.{Span}
+use Rattle.dbf_image.specs.Table.{Row, is_memo_text}
+use Rattle.dbf_image.specs.DbfText.{pieces, IsRun}
+
+-- a part of the texts
+abbrev pub text_of : List ℕ → Span → List ℕ
+text_of texts span = take span.length (drop span.start texts)
+
+abbrev pub texts_of : List ℕ → List Span → List (List ℕ)
+texts_of texts spans = map (text_of texts) spans
+
+-- the part is there, and a memo may have it
+pub record IsSpan (texts : List ℕ) (span : Span) : Type 0 where
+  pub inside : span.start + span.length ≤ length texts
+  pub text : is_memo_text (text_of texts span) ≡ true
+
+-- how many memos a record has
+abbrev pub memo_count : List Field → ℕ
+memo_count [] = 0
+memo_count (f ∷ fs) = if f.kind == MEMO then suc (memo_count fs) else memo_count fs
+
+-- the first of the memos, or no memo where there is none
+abbrev pub first_memo : List (List ℕ) → List ℕ
+first_memo [] = []
+first_memo (t ∷ ts) = t
+
+-- the cells of a record: its bytes, but for the memos, which come in the order of the fields
+abbrev pub cells_with : List Field → List ℕ → List (List ℕ) → List (List ℕ)
+cells_with [] bytes memos = []
+cells_with (f ∷ fs) bytes memos =
+    if f.kind == MEMO
+    then first_memo memos ∷ cells_with fs (drop f.width bytes) (drop 1 memos)
+    else take f.width bytes ∷ cells_with fs (drop f.width bytes) memos
+
+-- a record: a flag and the cells. A flag other than 0x2A means kept
+abbrev pub row_with : List Field → List ℕ → List (List ℕ) → Row
+row_with fields bytes memos = record { deleted = slice_index bytes 0 == 42; cells = cells_with fields (drop 1 bytes) memos }
+
+-- one record after the other, each with its memos
+abbrev pub rows_with : List Field → List (List ℕ) → List (List ℕ) → List Row
+rows_with fields [] memos = []
+rows_with fields (p ∷ ps) memos = row_with fields p memos ∷ rows_with fields ps (drop (memo_count fields) memos)
+
+-- the rows of so many records in a run of bytes
+abbrev pub rows_of : List Field → ℕ → List ℕ → List (List ℕ) → List Row
+rows_of fields count bytes memos = rows_with fields (pieces (1 + widths fields) count bytes) memos
+
+-- the runs have so many records, and a text for each memo
+pub record IsStore (fields : List Field) (count : ℕ) (bytes texts : List ℕ) (spans : List Span) : Type 0 where
+  pub run : IsRun fields count bytes
+  pub many : length spans ≡ count * memo_count fields
+  pub each : AllByRecursion (IsSpan texts) spans

@@ -1,0 +1,146 @@
+use super::*;
+use dbf_fields::{Bytes, Field, MEMO, Schema, day_of};
+use std::alloc::Global;
+use std::test::*;
+
+fn field(alloc: Global, name: &[u8], kind: u8, width: u8) -> Result<Field, Fail> {
+    Ok(Field {
+        name: Bytes::from_slice(alloc, name)?,
+        kind,
+        width,
+        decimals: 0,
+    })
+}
+
+// The table of one memo NOTE with three records, the first two of which have a text of 510 and of 511
+// bytes: with 0x1A 0x1A behind it the one fills its block, and the other takes two.
+fn notes(alloc: Global) -> Result<TableData, Fail> {
+    let note = field(alloc, b"NOTE", MEMO, 10)?;
+    let mut table = TableData::empty(alloc, Schema::new(alloc, &[note])?);
+    for _ in 0..3 {
+        if table.record_count() < MOST_RECORDS {
+            table.append_blank()?;
+        }
+    }
+    set_note(&mut table, 1, 0, &[b'a'; 510])?;
+    set_note(&mut table, 2, 0, &[b'b'; 511])?;
+    Ok(table)
+}
+
+// Adds a record.
+fn append(table: &mut TableData, record: &[u8]) -> Result<(), Fail> {
+    if table.record_count() >= MOST_RECORDS || record.len() != table.schema().record_length() {
+        return Err("no room or no record".into());
+    }
+    table.append_record(record)?;
+    Ok(())
+}
+
+// Sets a memo of a record.
+fn set_note(table: &mut TableData, number: u32, field: usize, text: &[u8]) -> Result<(), Fail> {
+    let fields = table.schema().fields();
+    if field >= fields.len() || fields[field].kind != MEMO {
+        return Err("no memo".into());
+    }
+    if number < 1 || number > table.record_count() || !is_memo_text(text) {
+        return Err("no such record or no memo's text".into());
+    }
+    table.set_memo(number, field, text)?;
+    Ok(())
+}
+
+// The file of those records, dated 1987-03-15.
+const NOTES: [u8; 99] = [
+    0x83, 0x57, 0x03, 0x0f, 0x03, 0, 0, 0, 0x41, 0, 0x0b, 0, 0, 0, 0, 0, 0, 0, 0, 0, 0, 0, 0, 0, 0,
+    0, 0, 0, 0, 0, 0, 0, 0x4e, 0x4f, 0x54, 0x45, 0, 0, 0, 0, 0, 0, 0, 0x4d, 0, 0, 0, 0, 0x0a, 0, 0,
+    0, 0, 0, 0, 0, 0, 0, 0, 0, 0, 0, 0, 0, 0x0d, 0x20, 0x20, 0x20, 0x20, 0x20, 0x20, 0x20, 0x20,
+    0x20, 0x20, 0x31, 0x20, 0x20, 0x20, 0x20, 0x20, 0x20, 0x20, 0x20, 0x20, 0x20, 0x32, 0x20, 0x20,
+    0x20, 0x20, 0x20, 0x20, 0x20, 0x20, 0x20, 0x20, 0x20, 0x1a,
+];
+
+// And the file of their memos: three blocks behind the header's.
+fn blocks(alloc: Global) -> Result<Vec<u8>, Fail> {
+    let mut dbt = Vec::from_slice(alloc, &[4, 0, 0, 0])?;
+    dbt.resize(16, 0)?;
+    dbt.push(3)?;
+    dbt.resize(512, 0)?;
+    dbt.resize(1022, b'a')?;
+    dbt.extend_from_slice(&[0x1a, 0x1a])?;
+    dbt.resize(1535, b'b')?;
+    dbt.extend_from_slice(&[0x1a, 0x1a])?;
+    dbt.resize(2048, 0)?;
+    Ok(dbt)
+}
+
+#[test]
+fn memo_cells_tell_their_blocks(rt: HostRuntime) -> Result<(), Fail> {
+    let table = notes(rt.alloc())?;
+    let day = day_of(1987, 3, 15).ok_or("no such day")?;
+    let mut sink = MemorySink::new(rt.alloc());
+    write_dbf(&mut sink, &table, day)?;
+    assert_eq!(rt; sink.bytes.as_slice(), NOTES.as_slice());
+    Ok(())
+}
+
+#[test]
+fn memos_take_whole_blocks(rt: HostRuntime) -> Result<(), Fail> {
+    let table = notes(rt.alloc())?;
+    assert_eq!(rt; next_free_block(&table), Some(4));
+    let mut sink = MemorySink::new(rt.alloc());
+    write_dbt(&mut sink, &table)?;
+    assert_eq!(rt; sink.bytes, blocks(rt.alloc())?);
+    Ok(())
+}
+
+#[test]
+fn table_without_memos_has_a_memo_header(rt: HostRuntime) -> Result<(), Fail> {
+    let name = field(rt.alloc(), b"NAME", b'C', 10)?;
+    let table = TableData::empty(rt.alloc(), Schema::new(rt.alloc(), &[name])?);
+    let mut sink = MemorySink::new(rt.alloc());
+    write_dbt(&mut sink, &table)?;
+    let mut header = Vec::from_slice(rt.alloc(), &[1, 0, 0, 0])?;
+    header.resize(16, 0)?;
+    header.push(3)?;
+    header.resize(512, 0)?;
+    assert_eq!(rt; sink.bytes, header);
+    Ok(())
+}
+
+#[test]
+fn memos_are_numbered_by_record_and_field(rt: HostRuntime) -> Result<(), Fail> {
+    let fields = [
+        field(rt.alloc(), b"NAME", b'C', 3)?,
+        field(rt.alloc(), b"NOTE", MEMO, 10)?,
+        field(rt.alloc(), b"MORE", MEMO, 10)?,
+    ];
+    let mut table = TableData::empty(rt.alloc(), Schema::new(rt.alloc(), &fields)?);
+    append(&mut table, b"*ADA                    ")?;
+    append(&mut table, b" BOB                    ")?;
+    set_note(&mut table, 2, 2, b"LAST")?;
+    set_note(&mut table, 2, 1, b"")?;
+    set_note(&mut table, 1, 2, b"SECOND")?;
+    set_note(&mut table, 1, 1, b"FIRST")?;
+    let day = day_of(1987, 3, 15).ok_or("no such day")?;
+    let mut dbf = MemorySink::new(rt.alloc());
+    write_dbf(&mut dbf, &table, day)?;
+    assert_eq!(rt;
+        dbf.bytes.get(129..),
+        Some(b"*ADA         1         2 BOB                   3\x1a".as_slice())
+    );
+    let mut dbt = MemorySink::new(rt.alloc());
+    write_dbt(&mut dbt, &table)?;
+    assert_eq!(rt; dbt.bytes.len(), 2048);
+    assert_eq!(rt;
+        dbt.bytes.get(512..520),
+        Some(b"FIRST\x1a\x1a\0".as_slice())
+    );
+    assert_eq!(rt;
+        dbt.bytes.get(1024..1033),
+        Some(b"SECOND\x1a\x1a\0".as_slice())
+    );
+    assert_eq!(rt;
+        dbt.bytes.get(1536..1543),
+        Some(b"LAST\x1a\x1a\0".as_slice())
+    );
+    Ok(())
+}

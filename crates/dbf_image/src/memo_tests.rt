@@ -1,0 +1,239 @@
+use super::*;
+use dbf_fields::{Bytes, Field, MEMO, Schema};
+use std::alloc::Global;
+use std::test::*;
+
+// One record of one field NOTE, M, whose cell is blank.
+const ONE_MEMO: [u8; 77] = [
+    0x83, 0x57, 0x03, 0x0f, 0x01, 0, 0, 0, 0x41, 0, 0x0b, 0, 0, 0, 0, 0, 0, 0, 0, 0, 0, 0, 0, 0, 0,
+    0, 0, 0, 0, 0, 0, 0, 0x4e, 0x4f, 0x54, 0x45, 0, 0, 0, 0, 0, 0, 0, 0x4d, 0, 0, 0, 0, 0x0a, 0, 0,
+    0, 0, 0, 0, 0, 0, 0, 0, 0, 0, 0, 0, 0, 0x0d, 0x20, 0x20, 0x20, 0x20, 0x20, 0x20, 0x20, 0x20,
+    0x20, 0x20, 0x20, 0x1a,
+];
+
+// The same with another cell.
+fn one_memo(cell: &[u8; 10]) -> [u8; 77] {
+    let mut dbf = ONE_MEMO;
+    dbf[66..76].copy_from_slice(cell);
+    dbf
+}
+
+// Two blocks, of which the second begins with HELLO.
+fn hello() -> [u8; 1024] {
+    let mut dbt = [0; 1024];
+    dbt[512..519].copy_from_slice(b"HELLO\x1a\x1a");
+    dbt
+}
+
+// The first so many bytes, or all.
+fn front(bytes: &[u8], length: usize) -> &[u8] {
+    if length < bytes.len() {
+        return &bytes[..length];
+    }
+    bytes
+}
+
+// Whether a table has a cell, and it is this one.
+fn has_cell(table: &TableData, number: u32, field: usize, cell: &[u8]) -> bool {
+    if number < 1 || number > table.record_count() || field >= table.schema().fields().len() {
+        return false;
+    }
+    table.cell(number, field) == cell
+}
+
+// Replaces a memo, where there is one.
+fn put_memo(table: &mut TableData, number: u32, field: usize, text: &[u8]) -> Result<(), Fail> {
+    if number < 1 || number > table.record_count() || field >= table.schema().fields().len() {
+        return Err("no such cell".into());
+    }
+    if table.schema().fields()[field].kind != MEMO || !is_memo_text(text) {
+        return Err("no such memo".into());
+    }
+    table.set_memo(number, field, text)?;
+    Ok(())
+}
+
+// Replaces a cell, where there is one.
+fn put_cell(table: &mut TableData, number: u32, field: usize, cell: &[u8]) -> Result<(), Fail> {
+    if number < 1 || number > table.record_count() || field >= table.schema().fields().len() {
+        return Err("no such cell".into());
+    }
+    if table.schema().fields()[field].kind == MEMO
+        || table.cell(number, field).len() != cell.len()
+    {
+        return Err("the cell does not fit".into());
+    }
+    table.set_cell(number, field, cell);
+    Ok(())
+}
+
+// Adds a blank record.
+fn add_blank(table: &mut TableData) -> Result<(), Fail> {
+    if table.record_count() >= MOST_RECORDS {
+        return Err("the table is full".into());
+    }
+    table.append_blank()?;
+    Ok(())
+}
+
+#[test]
+fn memo_reading(rt: HostRuntime) -> Result<(), Fail> {
+    let dbt = hello();
+    let text = read_memo(rt.alloc(), &dbt, 1)?;
+    assert_eq!(rt; text.as_slice(), b"HELLO".as_slice());
+    for block in [0, 2, 3, u64::MAX] {
+        let read = read_memo(rt.alloc(), &dbt, block);
+        assert_eq!(rt; read.err(), Some(ImageFault::MemoOutside), "at {block}");
+    }
+    Ok(())
+}
+
+#[test]
+fn cut_block_is_read_to_the_files_end(rt: HostRuntime) -> Result<(), Fail> {
+    let dbt = hello();
+    let cut = front(&dbt, 516);
+    let text = read_memo(rt.alloc(), cut, 1)?;
+    assert_eq!(rt; text.as_slice(), b"HELL".as_slice());
+    let read = read_memo(rt.alloc(), front(&dbt, 512), 1);
+    assert_eq!(rt; read.err(), Some(ImageFault::MemoOutside));
+    let table = read_table(rt.alloc(), &one_memo(b"         1"), Some(cut))?;
+    assert!(rt; has_cell(&table, 1, 0, b"HELL"));
+    Ok(())
+}
+
+#[test]
+fn cells_number_blocks(rt: HostRuntime) -> Result<(), Fail> {
+    let mut dbt = [0x1a; 4096];
+    dbt[512..517].copy_from_slice(b"HELLO");
+    dbt[3584..3589].copy_from_slice(b"SEVEN");
+    let cases = [
+        (b"          ", b"".as_slice()),
+        (b"         0", b"".as_slice()),
+        (b"0000      ", b"".as_slice()),
+        (b"         1", b"HELLO".as_slice()),
+        (b"007       ", b"SEVEN".as_slice()),
+        (b"   7      ", b"SEVEN".as_slice()),
+        (b"0000000002", b"".as_slice()),
+    ];
+    for (cell, text) in cases {
+        let table = read_table(rt.alloc(), &one_memo(cell), Some(dbt.as_slice()))?;
+        assert!(rt; has_cell(&table, 1, 0, text));
+    }
+    Ok(())
+}
+
+#[test]
+fn bad_cells_are_refused(rt: HostRuntime) {
+    let dbt = hello();
+    let cases = [
+        (b"ABC       ", ImageFault::BadMemoNumber),
+        (b"        -1", ImageFault::BadMemoNumber),
+        (b"      1  1", ImageFault::BadMemoNumber),
+        (b"9999999999", ImageFault::MemoOutside),
+        (b"         2", ImageFault::MemoOutside),
+    ];
+    for (cell, fault) in cases {
+        let read = read_table(rt.alloc(), &one_memo(cell), Some(dbt.as_slice()));
+        assert_eq!(rt; read.err(), Some(fault));
+    }
+}
+
+#[test]
+fn text_has_65535_bytes_at_most(rt: HostRuntime) -> Result<(), Fail> {
+    let dbf = one_memo(b"         1");
+    let mut dbt = Vec::new(rt.alloc());
+    dbt.resize(512 + 65_536, b'a')?;
+    let read = read_table(rt.alloc(), &dbf, Some(dbt.as_slice()));
+    assert_eq!(rt; read.err(), Some(ImageFault::MemoTooLong));
+    let read = read_memo(rt.alloc(), &dbt, 1);
+    assert_eq!(rt; read.err(), Some(ImageFault::MemoTooLong));
+    let shorter = front(&dbt, 512 + 65_535);
+    let table = read_table(rt.alloc(), &dbf, Some(shorter))?;
+    assert!(rt; has_cell(&table, 1, 0, front(&dbt, 65_535)));
+    Ok(())
+}
+
+#[test]
+fn memo_texts_are_short_and_have_no_end(rt: HostRuntime) -> Result<(), Fail> {
+    let mut text = Vec::new(rt.alloc());
+    text.resize(65_536, b'a')?;
+    assert!(rt; !is_memo_text(&text));
+    text.truncate(65_535);
+    assert!(rt; is_memo_text(&text));
+    assert!(rt; is_memo_text(b""));
+    assert!(rt; !is_memo_text(b"\x1a"));
+    Ok(())
+}
+
+#[test]
+fn missing_file_is_refused(rt: HostRuntime) -> Result<(), Fail> {
+    let read = read_table(rt.alloc(), &one_memo(b"ABC       "), None);
+    assert_eq!(rt; read.err(), Some(ImageFault::MemoFileMissing));
+    // The first byte does not say whether there are memos.
+    let mut dbf = one_memo(b"         1");
+    dbf[0] = 0x03;
+    let read = read_table(rt.alloc(), &dbf, None);
+    assert_eq!(rt; read.err(), Some(ImageFault::MemoFileMissing));
+    let table = read_table(rt.alloc(), &dbf, Some(hello().as_slice()))?;
+    assert!(rt; has_cell(&table, 1, 0, b"HELLO"));
+    Ok(())
+}
+
+// A field of a letter and a width.
+fn field(alloc: Global, name: &[u8], kind: u8, width: u8) -> Result<Field, Fail> {
+    Ok(Field {
+        name: Bytes::from_slice(alloc, name)?,
+        kind,
+        width,
+        decimals: 0,
+    })
+}
+
+// A table of the fields NAME, C, 3 wide, and NOTE, M, with one record.
+fn named(alloc: Global) -> Result<TableData, Fail> {
+    let name = field(alloc, b"NAME", b'C', 3)?;
+    let note = field(alloc, b"NOTE", b'M', 10)?;
+    let mut table = TableData::empty(alloc, Schema::new(alloc, &[name, note])?);
+    if table.schema().record_length() == 14 && table.record_count() == 0 {
+        table.append_record(b" ADA         1")?;
+    }
+    Ok(table)
+}
+
+#[test]
+fn appended_records_have_no_memos(rt: HostRuntime) -> Result<(), Fail> {
+    let mut table = named(rt.alloc())?;
+    add_blank(&mut table)?;
+    assert_eq!(rt; table.record_count(), 2);
+    assert!(rt; has_cell(&table, 1, 0, b"ADA"));
+    assert!(rt; has_cell(&table, 1, 1, b""));
+    assert!(rt; has_cell(&table, 2, 0, b"   "));
+    assert!(rt; has_cell(&table, 2, 1, b""));
+    Ok(())
+}
+
+#[test]
+fn memo_is_replaced_in_one_table(rt: HostRuntime) -> Result<(), Fail> {
+    let mut table = named(rt.alloc())?;
+    put_memo(&mut table, 1, 1, b"HELLO")?;
+    add_blank(&mut table)?;
+    let other = table.copy(rt.alloc())?;
+    put_memo(&mut table, 2, 1, b"BYE")?;
+    put_memo(&mut table, 1, 1, b"")?;
+    assert!(rt; has_cell(&table, 1, 0, b"ADA"));
+    assert!(rt; has_cell(&table, 1, 1, b""));
+    assert!(rt; has_cell(&table, 2, 1, b"BYE"));
+    assert!(rt; has_cell(&other, 1, 1, b"HELLO"));
+    assert!(rt; has_cell(&other, 2, 1, b""));
+    Ok(())
+}
+
+#[test]
+fn cell_beside_a_memo_is_replaced(rt: HostRuntime) -> Result<(), Fail> {
+    let mut table = named(rt.alloc())?;
+    put_memo(&mut table, 1, 1, b"HELLO")?;
+    put_cell(&mut table, 1, 0, b"BOB")?;
+    assert!(rt; has_cell(&table, 1, 0, b"BOB"));
+    assert!(rt; has_cell(&table, 1, 1, b"HELLO"));
+    Ok(())
+}

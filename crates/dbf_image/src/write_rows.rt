@@ -1,0 +1,211 @@
+//! Writing the records of a table.
+#![tactic(auto, using(crate::proofs::Sinks::sinks))]
+
+ghost use Rattle.std.specs.Prelude.{◌≡◌, ◌+◌, ◌≤◌, ◌*◌, ◌==◌, ◌∷◌, [], ◌++◌, length, flat_map, if◌then◌else◌, OnOk, OnErr, IfOk};
+ghost use Rattle.std.specs.List.{AllByRecursion};
+ghost use Rattle.dbf_fields.specs.Field.{widths};
+ghost use Rattle.dbf_fields.specs.Schema.{IsSchema};
+ghost use Rattle.dbf_fields.specs.declared.field.TheConstants.{MEMO as MEMO_KIND};
+ghost use Rattle.dbf_image.specs.DbfText.{pieces};
+ghost use Rattle.dbf_image.specs.Store.{texts_of, memo_count, first_memo, cells_with, row_with, rows_with, IsSpan};
+ghost use Rattle.dbf_image.specs.Blocks.{cell_bytes, cell_blocks, cells_bytes, cells_blocks};
+ghost use Rattle.dbf_image.specs.Image.{row_bytes, rows_bytes};
+ghost use Rattle.dbf_image.specs.Sink.{grown, IsFront, Rises};
+
+use crate::blocks::{block_count, memo_at, number_cell};
+use crate::buffer::{Waiting, gather};
+use crate::header::Header;
+use crate::places::memo_count_of;
+use crate::sink::{ByteSink, SinkFault};
+use crate::span::Span;
+use crate::store::Store;
+use dbf_fields::{Field, MEMO};
+
+fn flag_of(deleted: bool) -> u8
+    ensures value { result ≡ (if deleted then 42 else 32) }
+{
+    if deleted { 0x2a } else { 0x20 }
+}
+
+// How many memos a field has in a record: one or none.
+fn memos_of(field: &Field) -> usize
+    ensures value { result ≡ memo_count (field.now ∷ []) }
+    ensures small { result ≤ 1 }
+{
+    if field.kind == MEMO { 1 } else { 0 }
+}
+
+// The cell of a field: the memo's text, or the bytes as they are.
+fn cell_of<'a>(field: &Field, bytes: &'a [u8], texts: &'a [u8], memos: &[Span]) -> &'a [u8]
+    requires many { memo_count (field.now ∷ []) ≤ length memos.now }
+    requires each { AllByRecursion (IsSpan texts.now) memos.now }
+    ensures value { result.now ≡ (if field.now.kind == MEMO_KIND then first_memo (texts_of texts.now memos.now) else bytes.now) }
+    ensures short { field.now.kind ≡ MEMO_KIND → length result.now ≤ 65535 }
+{
+    if field.kind == MEMO {
+        memo_at(texts, &memos[0])
+    } else {
+        bytes
+    }
+}
+
+// How many blocks a cell takes.
+fn blocks_at(field: &Field, cell: &[u8]) -> u64
+    requires { field.now.kind ≡ MEMO_KIND → length cell.now ≤ 65535 }
+    ensures value { result ≡ cell_blocks field.now cell.now }
+    ensures small { result ≤ 129 * memo_count (field.now ∷ []) }
+{
+    if field.kind == MEMO {
+        block_count(cell)
+    } else {
+        0
+    }
+}
+
+// A cell, where the next free block is known.
+fn write_cell<S: ByteSink>(
+    sink: &mut S,
+    waiting: &mut Waiting,
+    field: &Field,
+    cell: &[u8],
+    next: u64,
+) -> Result<(), SinkFault>
+    ensures told { OnOk result (grown (S.written sink.new) waiting.new.items ≡ grown (grown (S.written sink.old) waiting.old.items) (cell_bytes next field.now cell.now)) }
+    ensures fine { OnOk result (S.failures sink.new ≡ S.failures sink.old) }
+    ensures failed { OnErr result (Rises (S.failures sink.old) (S.failures sink.new)) }
+    ensures front { OnErr result (IsFront (S.written sink.new) (grown (grown (S.written sink.old) waiting.old.items) (cell_bytes next field.now cell.now))) }
+{
+    if field.kind == MEMO {
+        gather(sink, waiting, &number_cell(next, cell))
+    } else {
+        gather(sink, waiting, cell)
+    }
+}
+
+// The cells of a record. The answer is the next free block behind its memos.
+fn write_cells<S: ByteSink>(
+    sink: &mut S,
+    waiting: &mut Waiting,
+    fields: &[Field],
+    cells: Store<'_>,
+    first: u64,
+) -> Result<u64, SinkFault>
+    requires room { widths fields.now ≤ length cells.records.now }
+    requires many { memo_count fields.now ≤ length cells.memos.now }
+    requires each { AllByRecursion (IsSpan cells.texts.now) cells.memos.now }
+    requires few { first + 129 * memo_count fields.now ≤ 18446744073709551615 }
+    ensures told { OnOk result (grown (S.written sink.new) waiting.new.items ≡ grown (grown (S.written sink.old) waiting.old.items) (cells_bytes first fields.now (cells_with fields.now cells.entry.records.now (texts_of cells.entry.texts.now cells.entry.memos.now)))) }
+    ensures next { IfOk result (λ next. next ≡ first + cells_blocks fields.now (cells_with fields.now cells.entry.records.now (texts_of cells.entry.texts.now cells.entry.memos.now))) }
+    ensures small { IfOk result (λ next. next ≤ first + 129 * memo_count fields.now) }
+    ensures fine { OnOk result (S.failures sink.new ≡ S.failures sink.old) }
+    ensures failed { OnErr result (Rises (S.failures sink.old) (S.failures sink.new)) }
+    ensures front { OnErr result (IsFront (S.written sink.new) (grown (grown (S.written sink.old) waiting.old.items) (cells_bytes first fields.now (cells_with fields.now cells.entry.records.now (texts_of cells.entry.texts.now cells.entry.memos.now))))) }
+{
+    let mut rest = cells.records;
+    let mut memos = cells.memos;
+    let mut next = first;
+    for field in fields {
+        let (bytes, after) = rest.split_at(usize::from(field.width));
+        let (mine, others) = memos.split_at(memos_of(field));
+        let cell = cell_of(field, bytes, cells.texts, mine);
+        write_cell(sink, waiting, field, cell, next)?;
+        next += blocks_at(field, cell);
+        rest = after;
+        memos = others;
+    }
+    Ok(next)
+}
+
+// The cells of a record, all at once where none is a memo's. The answer is as that of `write_cells`.
+fn write_all_cells<S: ByteSink>(
+    sink: &mut S,
+    waiting: &mut Waiting,
+    fields: &[Field],
+    cells: Store<'_>,
+    first: u64,
+) -> Result<u64, SinkFault>
+    requires whole { length cells.records.now ≡ widths fields.now }
+    requires many { memo_count fields.now ≤ length cells.memos.now }
+    requires each { AllByRecursion (IsSpan cells.texts.now) cells.memos.now }
+    requires few { first + 129 * memo_count fields.now ≤ 18446744073709551615 }
+    ensures told { OnOk result (grown (S.written sink.new) waiting.new.items ≡ grown (grown (S.written sink.old) waiting.old.items) (cells_bytes first fields.now (cells_with fields.now cells.entry.records.now (texts_of cells.entry.texts.now cells.entry.memos.now)))) }
+    ensures next { IfOk result (λ next. next ≡ first + cells_blocks fields.now (cells_with fields.now cells.entry.records.now (texts_of cells.entry.texts.now cells.entry.memos.now))) }
+    ensures small { IfOk result (λ next. next ≤ first + 129 * memo_count fields.now) }
+    ensures fine { OnOk result (S.failures sink.new ≡ S.failures sink.old) }
+    ensures failed { OnErr result (Rises (S.failures sink.old) (S.failures sink.new)) }
+    ensures front { OnErr result (IsFront (S.written sink.new) (grown (grown (S.written sink.old) waiting.old.items) (cells_bytes first fields.now (cells_with fields.now cells.entry.records.now (texts_of cells.entry.texts.now cells.entry.memos.now))))) }
+{
+    if cells.memos.is_empty() {
+        gather(sink, waiting, cells.records)?;
+        return Ok(first);
+    }
+    write_cells(sink, waiting, fields, cells, first)
+}
+
+// A record: a flag that is 0x20 or 0x2A, and the cells. The answer is the next free block behind its memos.
+fn write_record<S: ByteSink>(
+    sink: &mut S,
+    waiting: &mut Waiting,
+    fields: &[Field],
+    parts: Store<'_>,
+    first: u64,
+) -> Result<u64, SinkFault>
+    requires whole { length parts.records.now ≡ 1 + widths fields.now }
+    requires many { memo_count fields.now ≤ length parts.memos.now }
+    requires each { AllByRecursion (IsSpan parts.texts.now) parts.memos.now }
+    requires few { first + 129 * memo_count fields.now ≤ 18446744073709551615 }
+    ensures told { OnOk result (grown (S.written sink.new) waiting.new.items ≡ grown (grown (S.written sink.old) waiting.old.items) (row_bytes first fields.now (row_with fields.now parts.entry.records.now (texts_of parts.entry.texts.now parts.entry.memos.now)))) }
+    ensures next { IfOk result (λ next. next ≡ first + cells_blocks fields.now (row_with fields.now parts.entry.records.now (texts_of parts.entry.texts.now parts.entry.memos.now)).cells) }
+    ensures small { IfOk result (λ next. next ≤ first + 129 * memo_count fields.now) }
+    ensures fine { OnOk result (S.failures sink.new ≡ S.failures sink.old) }
+    ensures failed { OnErr result (Rises (S.failures sink.old) (S.failures sink.new)) }
+    ensures front { OnErr result (IsFront (S.written sink.new) (grown (grown (S.written sink.old) waiting.old.items) (row_bytes first fields.now (row_with fields.now parts.entry.records.now (texts_of parts.entry.texts.now parts.entry.memos.now))))) }
+{
+    let (_, bytes) = parts.records.split_at(1);
+    gather(sink, waiting, &[flag_of(parts.records[0] == 0x2a)])?;
+    let cells = Store {
+        records: bytes,
+        texts: parts.texts,
+        memos: parts.memos,
+    };
+    write_all_cells(sink, waiting, fields, cells, first)
+}
+
+/// All records of a table, with the cells of memos counting from block 1.
+pub(crate) fn write_records<S: ByteSink>(
+    sink: &mut S,
+    waiting: &mut Waiting,
+    fields: &[Field],
+    header: Header,
+    store: Store<'_>,
+) -> Result<(), SinkFault>
+    requires schema { IsSchema fields.now }
+    requires wide { header.record_length ≡ 1 + widths fields.now }
+    requires few { header.record_count ≤ 1000000000 }
+    requires room { header.record_count * header.record_length ≤ length store.records.now }
+    requires many { length store.memos.now ≡ header.record_count * memo_count fields.now }
+    requires each { AllByRecursion (IsSpan store.texts.now) store.memos.now }
+    ensures told { OnOk result (grown (S.written sink.new) waiting.new.items ≡ grown (grown (S.written sink.old) waiting.old.items) (flat_map (λ bytes. bytes) (rows_bytes 1 fields.now (rows_with fields.now (pieces header.record_length header.record_count store.entry.records.now) (texts_of store.entry.texts.now store.entry.memos.now))))) }
+    ensures fine { OnOk result (S.failures sink.new ≡ S.failures sink.old) }
+    ensures failed { OnErr result (Rises (S.failures sink.old) (S.failures sink.new)) }
+    ensures front { OnErr result (IsFront (S.written sink.new) (grown (grown (S.written sink.old) waiting.old.items) (flat_map (λ bytes. bytes) (rows_bytes 1 fields.now (rows_with fields.now (pieces header.record_length header.record_count store.entry.records.now) (texts_of store.entry.texts.now store.entry.memos.now)))))) }
+{
+    let size = usize::from(header.record_length);
+    let memos_each = memo_count_of(fields);
+    let mut rest = store.records;
+    let mut memos = store.memos;
+    let mut next: u64 = 1;
+    for _ in 0..header.record_count {
+        let (bytes, after) = rest.split_at(size);
+        let (mine, others) = memos.split_at(memos_each);
+        let record = Store {
+            records: bytes,
+            texts: store.texts,
+            memos: mine,
+        };
+        next = write_record(sink, waiting, fields, record, next)?;
+        rest = after;
+        memos = others;
+    }
+    Ok(())
+}
