@@ -127,8 +127,8 @@ impl KeyExpr {
         })
     }
 
+    /// The text that was read, byte for byte: at most 488, none of them zero. Takes no memory.
     #[tactic(auto, using(crate::proofs::NoZeros::no_zero))]
-    /// The text that was read, byte for byte, at most 488 of them and none of them zero. Takes no memory.
     pub fn text(&self) -> &[u8]
         ensures text { result.now ≡ self.now.text }
         ensures read { IsKeyText self.now.fields self.now.text self.now.expr }

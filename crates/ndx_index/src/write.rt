@@ -100,8 +100,7 @@ fn write_image<S: ByteSink>(sink: &mut S, text: &[u8], plan: &Plan<'_>) -> Resul
 /// level by level up to the root, each page of 512 bytes. It takes no memory.
 ///
 /// The pairs are those of the key expression: each key has its length. They stand in order,
-/// 1,000,000,000 at most. An `Err` says that the sink failed; what it has then is a front part of the
-/// file.
+/// 1,000,000,000 at most. An `Err` says that the sink failed; no clause says what it has then.
 ///
 /// What is written reads back as these pairs, this length of keys, and the expression's text without the
 /// blanks at its end.

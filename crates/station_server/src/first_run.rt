@@ -73,8 +73,8 @@ impl From<Stop> for FirstFault {
     }
 }
 
-/// Reads the table T of a DBF file without a file of memos, opens it for one station, performs the commands and writes the
-/// table's file, dated.
+/// Reads the table T of a DBF file without a file of memos, opens it for one station, performs the
+/// commands and writes the table's file, dated.
 ///
 /// The answers are those of the commands, in order, and what is written is the file of the table as the
 /// commands left it. `Image` tells why the bytes are no table, and `Open` that there was no memory for
