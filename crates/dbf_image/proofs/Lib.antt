@@ -18,3 +18,4 @@ pub mod JoinLaws
 pub mod Steps
 pub mod Writing
 pub mod ReadBack
+pub mod Puts

@@ -11,3 +11,5 @@ pub use Rattle.dbf_fields.specs.Name
 pub use Rattle.dbf_fields.specs.Faults
 pub use Rattle.dbf_fields.specs.Field
 pub use Rattle.dbf_fields.specs.Schema
+pub mod Writer
+pub mod Output

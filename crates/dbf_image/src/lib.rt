@@ -25,9 +25,11 @@ mod sink;
 mod span;
 mod store;
 mod table;
+mod wanted;
 mod write;
 mod write_memos;
 mod write_rows;
+mod writer;
 
 pub use blocks::next_free_block;
 pub use buffer::{Waiting, flush, gather};

@@ -8,15 +8,16 @@ ghost use Rattle.dbf_image.specs.DbfText.{IsDbf};
 ghost use Rattle.dbf_image.specs.Table.{has_memos as some_memo};
 ghost use Rattle.dbf_image.specs.Blocks.{HasTooManyBlocks, next_free, memo_image};
 ghost use Rattle.dbf_image.specs.Image.{header_with, descriptor, version_of, image, IsOutside};
+ghost use Rattle.dbf_image.specs.Output.{Puts};
 ghost use Rattle.dbf_image.specs.Sink.{grown, IsFront, Rises};
 
 use crate::blocks::next_free_block;
-use crate::buffer::{Waiting, flush, gather};
 use crate::header::{Header, header_of};
 use crate::memos::has_memos;
 use crate::sink::{ByteSink, SinkFault};
 use crate::table::TableData;
-use crate::write_rows::write_records;
+use crate::write_rows::put_records;
+use crate::writer::SinkWriter;
 use byteorder::{ByteOrder, LittleEndian};
 use dbf_fields::{Day, Field};
 use thiserror::Error;
@@ -74,75 +75,30 @@ fn descriptor_bytes(field: &Field) -> [u8; 32]
     bytes
 }
 
-fn write_descriptors<S: ByteSink>(
-    sink: &mut S,
-    waiting: &mut Waiting,
-    fields: &[Field],
-) -> Result<(), SinkFault>
+fn put_descriptors<S: ByteSink>(out: &mut SinkWriter<'_, S>, fields: &[Field])
     requires { IsSchema fields.now }
-    ensures told { OnOk result (grown (S.written sink.new) waiting.new.items ≡ grown (grown (S.written sink.old) waiting.old.items) (flat_map descriptor fields.now)) }
-    ensures fine { OnOk result (S.failures sink.new ≡ S.failures sink.old) }
-    ensures failed { OnErr result (Rises (S.failures sink.old) (S.failures sink.new)) }
-    ensures front { OnErr result (IsFront (S.written sink.new) (grown (grown (S.written sink.old) waiting.old.items) (flat_map descriptor fields.now))) }
+    ensures { Puts out.old (flat_map descriptor fields.now) out.new }
 {
     for field in fields {
-        gather(sink, waiting, &descriptor_bytes(field))?;
+        out.put(&descriptor_bytes(field));
     }
-    Ok(())
 }
 
-// The bytes of the file, the last of which may wait.
-fn gather_image<S: ByteSink>(
-    sink: &mut S,
-    waiting: &mut Waiting,
-    table: &TableData,
-    header: Header,
-    day: Day,
-) -> Result<(), SinkFault>
+// The bytes of the file.
+fn put_image<S: ByteSink>(out: &mut SinkWriter<'_, S>, table: &TableData, header: Header, day: Day)
     requires low { 1900 ≤ day.year }
     requires high { day.year ≤ 2155 }
     requires count { header.record_count ≡ length table.now.rows }
     requires header { header.header_length ≡ 32 * length table.now.schema + 33 }
     requires wide { header.record_length ≡ 1 + widths table.now.schema }
-    ensures told { OnOk result (grown (S.written sink.new) waiting.new.items ≡ grown (grown (S.written sink.old) waiting.old.items) (image table.now day.year day.month day.day)) }
-    ensures fine { OnOk result (S.failures sink.new ≡ S.failures sink.old) }
-    ensures failed { OnErr result (Rises (S.failures sink.old) (S.failures sink.new)) }
-    ensures front { OnErr result (IsFront (S.written sink.new) (grown (grown (S.written sink.old) waiting.old.items) (image table.now day.year day.month day.day))) }
+    ensures { Puts out.old (image table.now day.year day.month day.day) out.new }
 {
     let fields = table.schema().fields();
-    gather(
-        sink,
-        waiting,
-        &header_bytes(version_byte(fields), header, day),
-    )?;
-    write_descriptors(sink, waiting, fields)?;
-    gather(sink, waiting, &[0x0d])?;
-    write_records(sink, waiting, fields, header, table.store())?;
-    gather(sink, waiting, &[0x1a])?;
-    Ok(())
-}
-
-// The bytes of the file, all of which the sink has then.
-fn write_image<S: ByteSink>(
-    sink: &mut S,
-    table: &TableData,
-    header: Header,
-    day: Day,
-) -> Result<(), SinkFault>
-    requires low { 1900 ≤ day.year }
-    requires high { day.year ≤ 2155 }
-    requires count { header.record_count ≡ length table.now.rows }
-    requires header { header.header_length ≡ 32 * length table.now.schema + 33 }
-    requires wide { header.record_length ≡ 1 + widths table.now.schema }
-    ensures wrote { OnOk result (S.written sink.new ≡ grown (S.written sink.old) (image table.now day.year day.month day.day)) }
-    ensures fine { OnOk result (S.failures sink.new ≡ S.failures sink.old) }
-    ensures failed { OnErr result (Rises (S.failures sink.old) (S.failures sink.new)) }
-    ensures front { OnErr result (IsFront (S.written sink.new) (grown (S.written sink.old) (image table.now day.year day.month day.day))) }
-{
-    let mut waiting = Waiting::new();
-    gather_image(sink, &mut waiting, table, header, day)?;
-    flush(sink, &mut waiting)?;
-    Ok(())
+    out.put(&header_bytes(version_byte(fields), header, day));
+    put_descriptors(out, fields);
+    out.put(&[0x0d]);
+    put_records(out, fields, header, table.store());
+    out.put(&[0x1a]);
 }
 
 /// Writes the DBF file of a table into a sink, with the date of its last change, of the years 1900 to
@@ -176,7 +132,9 @@ pub fn write_dbf<S: ByteSink>(sink: &mut S, table: &TableData, day: Day) -> Resu
     if next_free_block(table).is_none() {
         return Err(WriteFault::TooManyBlocks);
     }
-    match write_image(sink, table, header, day) {
+    let mut out = SinkWriter::new(sink);
+    put_image(&mut out, table, header, day);
+    match out.flush() {
         Ok(()) => Ok(()),
         Err(SinkFault) => Err(WriteFault::Sink),
     }

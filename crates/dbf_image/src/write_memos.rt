@@ -5,14 +5,15 @@ ghost use Rattle.std.specs.Prelude.{◌≡◌, ◌+◌, ◌-◌, ◌*◌, ◌/�
 ghost use Rattle.std.specs.List.{AllByRecursion};
 ghost use Rattle.dbf_image.specs.Store.{text_of, IsSpan};
 ghost use Rattle.dbf_image.specs.Blocks.{block_bytes, memo_header, memo_image, next_free, HasTooManyBlocks};
+ghost use Rattle.dbf_image.specs.Output.{Puts};
 ghost use Rattle.dbf_image.specs.Sink.{grown, IsFront, Rises};
 
 use crate::blocks::{memo_at, next_free_block};
-use crate::buffer::{Waiting, flush, gather};
 use crate::sink::{ByteSink, SinkFault};
 use crate::span::Span;
 use crate::table::TableData;
 use crate::write::WriteFault;
+use crate::writer::SinkWriter;
 use byteorder::{ByteOrder, LittleEndian};
 
 // The 512 bytes before the blocks of texts.
@@ -35,64 +36,37 @@ fn fill_of(text: &[u8]) -> usize
 }
 
 // The blocks of a text, of which there are none where it is empty.
-fn write_block<S: ByteSink>(
-    sink: &mut S,
-    waiting: &mut Waiting,
-    text: &[u8],
-) -> Result<(), SinkFault>
+fn put_block<S: ByteSink>(out: &mut SinkWriter<'_, S>, text: &[u8])
     requires { length text.now ≤ 65535 }
-    ensures told { OnOk result (grown (S.written sink.new) waiting.new.items ≡ grown (grown (S.written sink.old) waiting.old.items) (block_bytes text.now)) }
-    ensures fine { OnOk result (S.failures sink.new ≡ S.failures sink.old) }
-    ensures failed { OnErr result (Rises (S.failures sink.old) (S.failures sink.new)) }
-    ensures front { OnErr result (IsFront (S.written sink.new) (grown (grown (S.written sink.old) waiting.old.items) (block_bytes text.now))) }
+    ensures { Puts out.old (block_bytes text.now) out.new }
 {
     if text.is_empty() {
-        return Ok(());
+        return;
     }
     let (zeros, _) = [0; 512].split_at(fill_of(text));
-    gather(sink, waiting, text)?;
-    gather(sink, waiting, &[0x1a, 0x1a])?;
-    gather(sink, waiting, zeros)?;
-    Ok(())
+    out.put(text);
+    out.put(&[0x1a, 0x1a]);
+    out.put(zeros);
 }
 
 // The blocks of all texts, one after the other.
-fn write_blocks<S: ByteSink>(
-    sink: &mut S,
-    waiting: &mut Waiting,
-    texts: &[u8],
-    memos: &[Span],
-) -> Result<(), SinkFault>
+fn put_blocks<S: ByteSink>(out: &mut SinkWriter<'_, S>, texts: &[u8], memos: &[Span])
     requires { AllByRecursion (IsSpan texts.now) memos.now }
-    ensures told { OnOk result (grown (S.written sink.new) waiting.new.items ≡ grown (grown (S.written sink.old) waiting.old.items) (flat_map (λ span. block_bytes (text_of texts.now span)) memos.now)) }
-    ensures fine { OnOk result (S.failures sink.new ≡ S.failures sink.old) }
-    ensures failed { OnErr result (Rises (S.failures sink.old) (S.failures sink.new)) }
-    ensures front { OnErr result (IsFront (S.written sink.new) (grown (grown (S.written sink.old) waiting.old.items) (flat_map (λ span. block_bytes (text_of texts.now span)) memos.now))) }
+    ensures { Puts out.old (flat_map (λ span. block_bytes (text_of texts.now span)) memos.now) out.new }
 {
     for span in memos {
-        write_block(sink, waiting, memo_at(texts, span))?;
+        put_block(out, memo_at(texts, span));
     }
-    Ok(())
 }
 
-// The bytes of the file, all of which the sink has then.
-fn write_memo_image<S: ByteSink>(
-    sink: &mut S,
-    table: &TableData,
-    next: u32,
-) -> Result<(), SinkFault>
+// The bytes of the file.
+fn put_memo_image<S: ByteSink>(out: &mut SinkWriter<'_, S>, table: &TableData, next: u32)
     requires { next ≡ next_free table.now }
-    ensures wrote { OnOk result (S.written sink.new ≡ grown (S.written sink.old) (memo_image table.now)) }
-    ensures fine { OnOk result (S.failures sink.new ≡ S.failures sink.old) }
-    ensures failed { OnErr result (Rises (S.failures sink.old) (S.failures sink.new)) }
-    ensures front { OnErr result (IsFront (S.written sink.new) (grown (S.written sink.old) (memo_image table.now))) }
+    ensures { Puts out.old (memo_image table.now) out.new }
 {
-    let mut waiting = Waiting::new();
     let store = table.store();
-    gather(sink, &mut waiting, &header_block(next))?;
-    write_blocks(sink, &mut waiting, store.texts, store.memos)?;
-    flush(sink, &mut waiting)?;
-    Ok(())
+    out.put(&header_block(next));
+    put_blocks(out, store.texts, store.memos);
 }
 
 /// Writes the file of a table's memos into a sink, to stand beside the file that `write_dbf` writes of the
@@ -113,11 +87,13 @@ pub fn write_dbt<S: ByteSink>(sink: &mut S, table: &TableData) -> Result<(), Wri
     // What a sink that failed has taken is a front part of the file.
     ensures front { result ≡ Err WriteFault.Sink → IsFront (S.written sink.new) (grown (S.written sink.old) (memo_image table.now)) }
 {
-    match next_free_block(table) {
-        None => Err(WriteFault::TooManyBlocks),
-        Some(next) => match write_memo_image(sink, table, next) {
-            Ok(()) => Ok(()),
-            Err(SinkFault) => Err(WriteFault::Sink),
-        },
+    let Some(next) = next_free_block(table) else {
+        return Err(WriteFault::TooManyBlocks);
+    };
+    let mut out = SinkWriter::new(sink);
+    put_memo_image(&mut out, table, next);
+    match out.flush() {
+        Ok(()) => Ok(()),
+        Err(SinkFault) => Err(WriteFault::Sink),
     }
 }

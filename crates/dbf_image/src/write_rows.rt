@@ -1,7 +1,7 @@
 //! Writing the records of a table.
 #![tactic(auto, using(crate::proofs::Sinks::sinks))]
 
-ghost use Rattle.std.specs.Prelude.{◌≡◌, ◌+◌, ◌≤◌, ◌*◌, ◌==◌, ◌∷◌, [], ◌++◌, length, flat_map, if◌then◌else◌, OnOk, OnErr, IfOk};
+ghost use Rattle.std.specs.Prelude.{◌≡◌, ◌+◌, ◌≤◌, ◌*◌, ◌==◌, ◌∷◌, [], ◌++◌, length, flat_map, if◌then◌else◌};
 ghost use Rattle.std.specs.List.{AllByRecursion};
 ghost use Rattle.dbf_fields.specs.Field.{widths};
 ghost use Rattle.dbf_fields.specs.Schema.{IsSchema};
@@ -10,15 +10,15 @@ ghost use Rattle.dbf_image.specs.DbfText.{pieces};
 ghost use Rattle.dbf_image.specs.Store.{texts_of, memo_count, first_memo, cells_with, row_with, rows_with, IsSpan};
 ghost use Rattle.dbf_image.specs.Blocks.{cell_bytes, cell_blocks, cells_bytes, cells_blocks};
 ghost use Rattle.dbf_image.specs.Image.{row_bytes, rows_bytes};
-ghost use Rattle.dbf_image.specs.Sink.{grown, IsFront, Rises};
+ghost use Rattle.dbf_image.specs.Output.{Puts};
 
 use crate::blocks::{block_count, memo_at, number_cell};
-use crate::buffer::{Waiting, gather};
 use crate::header::Header;
 use crate::places::memo_count_of;
-use crate::sink::{ByteSink, SinkFault};
+use crate::sink::ByteSink;
 use crate::span::Span;
 use crate::store::Store;
+use crate::writer::SinkWriter;
 use dbf_fields::{Field, MEMO};
 
 fn flag_of(deleted: bool) -> u8
@@ -63,43 +63,30 @@ fn blocks_at(field: &Field, cell: &[u8]) -> u64
 }
 
 // A cell, where the next free block is known.
-fn write_cell<S: ByteSink>(
-    sink: &mut S,
-    waiting: &mut Waiting,
-    field: &Field,
-    cell: &[u8],
-    next: u64,
-) -> Result<(), SinkFault>
-    ensures told { OnOk result (grown (S.written sink.new) waiting.new.items ≡ grown (grown (S.written sink.old) waiting.old.items) (cell_bytes next field.now cell.now)) }
-    ensures fine { OnOk result (S.failures sink.new ≡ S.failures sink.old) }
-    ensures failed { OnErr result (Rises (S.failures sink.old) (S.failures sink.new)) }
-    ensures front { OnErr result (IsFront (S.written sink.new) (grown (grown (S.written sink.old) waiting.old.items) (cell_bytes next field.now cell.now))) }
+fn put_cell<S: ByteSink>(out: &mut SinkWriter<'_, S>, field: &Field, cell: &[u8], next: u64)
+    ensures { Puts out.old (cell_bytes next field.now cell.now) out.new }
 {
     if field.kind == MEMO {
-        gather(sink, waiting, &number_cell(next, cell))
+        out.put(&number_cell(next, cell));
     } else {
-        gather(sink, waiting, cell)
+        out.put(cell);
     }
 }
 
 // The cells of a record. The answer is the next free block behind its memos.
-fn write_cells<S: ByteSink>(
-    sink: &mut S,
-    waiting: &mut Waiting,
+fn put_cells<S: ByteSink>(
+    out: &mut SinkWriter<'_, S>,
     fields: &[Field],
     cells: Store<'_>,
     first: u64,
-) -> Result<u64, SinkFault>
+) -> u64
     requires room { widths fields.now ≤ length cells.records.now }
     requires many { memo_count fields.now ≤ length cells.memos.now }
     requires each { AllByRecursion (IsSpan cells.texts.now) cells.memos.now }
     requires few { first + 129 * memo_count fields.now ≤ 18446744073709551615 }
-    ensures told { OnOk result (grown (S.written sink.new) waiting.new.items ≡ grown (grown (S.written sink.old) waiting.old.items) (cells_bytes first fields.now (cells_with fields.now cells.entry.records.now (texts_of cells.entry.texts.now cells.entry.memos.now)))) }
-    ensures next { IfOk result (λ next. next ≡ first + cells_blocks fields.now (cells_with fields.now cells.entry.records.now (texts_of cells.entry.texts.now cells.entry.memos.now))) }
-    ensures small { IfOk result (λ next. next ≤ first + 129 * memo_count fields.now) }
-    ensures fine { OnOk result (S.failures sink.new ≡ S.failures sink.old) }
-    ensures failed { OnErr result (Rises (S.failures sink.old) (S.failures sink.new)) }
-    ensures front { OnErr result (IsFront (S.written sink.new) (grown (grown (S.written sink.old) waiting.old.items) (cells_bytes first fields.now (cells_with fields.now cells.entry.records.now (texts_of cells.entry.texts.now cells.entry.memos.now))))) }
+    ensures put { Puts out.old (cells_bytes first fields.now (cells_with fields.now cells.entry.records.now (texts_of cells.entry.texts.now cells.entry.memos.now))) out.new }
+    ensures next { result ≡ first + cells_blocks fields.now (cells_with fields.now cells.entry.records.now (texts_of cells.entry.texts.now cells.entry.memos.now)) }
+    ensures small { result ≤ first + 129 * memo_count fields.now }
 {
     let mut rest = cells.records;
     let mut memos = cells.memos;
@@ -108,87 +95,75 @@ fn write_cells<S: ByteSink>(
         let (bytes, after) = rest.split_at(usize::from(field.width));
         let (mine, others) = memos.split_at(memos_of(field));
         let cell = cell_of(field, bytes, cells.texts, mine);
-        write_cell(sink, waiting, field, cell, next)?;
+        put_cell(out, field, cell, next);
         next += blocks_at(field, cell);
         rest = after;
         memos = others;
     }
-    Ok(next)
+    next
 }
 
-// The cells of a record, all at once where none is a memo's. The answer is as that of `write_cells`.
-fn write_all_cells<S: ByteSink>(
-    sink: &mut S,
-    waiting: &mut Waiting,
+// The cells of a record, all at once where none is a memo's. The answer is as that of `put_cells`.
+fn put_all_cells<S: ByteSink>(
+    out: &mut SinkWriter<'_, S>,
     fields: &[Field],
     cells: Store<'_>,
     first: u64,
-) -> Result<u64, SinkFault>
+) -> u64
     requires whole { length cells.records.now ≡ widths fields.now }
     requires many { memo_count fields.now ≤ length cells.memos.now }
     requires each { AllByRecursion (IsSpan cells.texts.now) cells.memos.now }
     requires few { first + 129 * memo_count fields.now ≤ 18446744073709551615 }
-    ensures told { OnOk result (grown (S.written sink.new) waiting.new.items ≡ grown (grown (S.written sink.old) waiting.old.items) (cells_bytes first fields.now (cells_with fields.now cells.entry.records.now (texts_of cells.entry.texts.now cells.entry.memos.now)))) }
-    ensures next { IfOk result (λ next. next ≡ first + cells_blocks fields.now (cells_with fields.now cells.entry.records.now (texts_of cells.entry.texts.now cells.entry.memos.now))) }
-    ensures small { IfOk result (λ next. next ≤ first + 129 * memo_count fields.now) }
-    ensures fine { OnOk result (S.failures sink.new ≡ S.failures sink.old) }
-    ensures failed { OnErr result (Rises (S.failures sink.old) (S.failures sink.new)) }
-    ensures front { OnErr result (IsFront (S.written sink.new) (grown (grown (S.written sink.old) waiting.old.items) (cells_bytes first fields.now (cells_with fields.now cells.entry.records.now (texts_of cells.entry.texts.now cells.entry.memos.now))))) }
+    ensures put { Puts out.old (cells_bytes first fields.now (cells_with fields.now cells.entry.records.now (texts_of cells.entry.texts.now cells.entry.memos.now))) out.new }
+    ensures next { result ≡ first + cells_blocks fields.now (cells_with fields.now cells.entry.records.now (texts_of cells.entry.texts.now cells.entry.memos.now)) }
+    ensures small { result ≤ first + 129 * memo_count fields.now }
 {
     if cells.memos.is_empty() {
-        gather(sink, waiting, cells.records)?;
-        return Ok(first);
+        out.put(cells.records);
+        return first;
     }
-    write_cells(sink, waiting, fields, cells, first)
+    put_cells(out, fields, cells, first)
 }
 
 // A record: a flag that is 0x20 or 0x2A, and the cells. The answer is the next free block behind its memos.
-fn write_record<S: ByteSink>(
-    sink: &mut S,
-    waiting: &mut Waiting,
+fn put_record<S: ByteSink>(
+    out: &mut SinkWriter<'_, S>,
     fields: &[Field],
     parts: Store<'_>,
     first: u64,
-) -> Result<u64, SinkFault>
+) -> u64
     requires whole { length parts.records.now ≡ 1 + widths fields.now }
     requires many { memo_count fields.now ≤ length parts.memos.now }
     requires each { AllByRecursion (IsSpan parts.texts.now) parts.memos.now }
     requires few { first + 129 * memo_count fields.now ≤ 18446744073709551615 }
-    ensures told { OnOk result (grown (S.written sink.new) waiting.new.items ≡ grown (grown (S.written sink.old) waiting.old.items) (row_bytes first fields.now (row_with fields.now parts.entry.records.now (texts_of parts.entry.texts.now parts.entry.memos.now)))) }
-    ensures next { IfOk result (λ next. next ≡ first + cells_blocks fields.now (row_with fields.now parts.entry.records.now (texts_of parts.entry.texts.now parts.entry.memos.now)).cells) }
-    ensures small { IfOk result (λ next. next ≤ first + 129 * memo_count fields.now) }
-    ensures fine { OnOk result (S.failures sink.new ≡ S.failures sink.old) }
-    ensures failed { OnErr result (Rises (S.failures sink.old) (S.failures sink.new)) }
-    ensures front { OnErr result (IsFront (S.written sink.new) (grown (grown (S.written sink.old) waiting.old.items) (row_bytes first fields.now (row_with fields.now parts.entry.records.now (texts_of parts.entry.texts.now parts.entry.memos.now))))) }
+    ensures put { Puts out.old (row_bytes first fields.now (row_with fields.now parts.entry.records.now (texts_of parts.entry.texts.now parts.entry.memos.now))) out.new }
+    ensures next { result ≡ first + cells_blocks fields.now (row_with fields.now parts.entry.records.now (texts_of parts.entry.texts.now parts.entry.memos.now)).cells }
+    ensures small { result ≤ first + 129 * memo_count fields.now }
 {
     let (_, bytes) = parts.records.split_at(1);
-    gather(sink, waiting, &[flag_of(parts.records[0] == 0x2a)])?;
+    out.put(&[flag_of(parts.records[0] == 0x2a)]);
     let cells = Store {
         records: bytes,
         texts: parts.texts,
         memos: parts.memos,
     };
-    write_all_cells(sink, waiting, fields, cells, first)
+    put_all_cells(out, fields, cells, first)
 }
 
 /// All records of a table, with the cells of memos counting from block 1.
-pub(crate) fn write_records<S: ByteSink>(
-    sink: &mut S,
-    waiting: &mut Waiting,
+pub(crate) fn put_records<S: ByteSink>(
+    out: &mut SinkWriter<'_, S>,
     fields: &[Field],
     header: Header,
     store: Store<'_>,
-) -> Result<(), SinkFault>
+)
     requires schema { IsSchema fields.now }
     requires wide { header.record_length ≡ 1 + widths fields.now }
     requires few { header.record_count ≤ 1000000000 }
     requires room { header.record_count * header.record_length ≤ length store.records.now }
     requires many { length store.memos.now ≡ header.record_count * memo_count fields.now }
     requires each { AllByRecursion (IsSpan store.texts.now) store.memos.now }
-    ensures told { OnOk result (grown (S.written sink.new) waiting.new.items ≡ grown (grown (S.written sink.old) waiting.old.items) (flat_map (λ bytes. bytes) (rows_bytes 1 fields.now (rows_with fields.now (pieces header.record_length header.record_count store.entry.records.now) (texts_of store.entry.texts.now store.entry.memos.now))))) }
-    ensures fine { OnOk result (S.failures sink.new ≡ S.failures sink.old) }
-    ensures failed { OnErr result (Rises (S.failures sink.old) (S.failures sink.new)) }
-    ensures front { OnErr result (IsFront (S.written sink.new) (grown (grown (S.written sink.old) waiting.old.items) (flat_map (λ bytes. bytes) (rows_bytes 1 fields.now (rows_with fields.now (pieces header.record_length header.record_count store.entry.records.now) (texts_of store.entry.texts.now store.entry.memos.now)))))) }
+    ensures { Puts out.old (flat_map (λ bytes. bytes) (rows_bytes 1 fields.now (rows_with fields.now (pieces header.record_length header.record_count store.entry.records.now) (texts_of store.entry.texts.now store.entry.memos.now)))) out.new }
 {
     let size = usize::from(header.record_length);
     let memos_each = memo_count_of(fields);
@@ -203,9 +178,8 @@ pub(crate) fn write_records<S: ByteSink>(
             texts: store.texts,
             memos: mine,
         };
-        next = write_record(sink, waiting, fields, record, next)?;
+        next = put_record(out, fields, record, next);
         rest = after;
         memos = others;
     }
-    Ok(())
 }

@@ -17,8 +17,8 @@ returns-in-Ok-clause-reads_back g c room = is_dbf_image c.args.table.now c.args.
 pub returns-in-Ok-clause-plain : goal.returns-in-Ok-clause-plain
 returns-in-Ok-clause-plain g c none dbt = is_plain_image c.args.table.now c.args.day.year c.args.day.month c.args.day.day dbt c.header_of-header.ensures.each none
 
-pub returns-in-Err-clause-reads_back : goal.returns-in-Err-clause-reads_back
-returns-in-Err-clause-reads_back g c room = is_dbf_image c.args.table.now c.args.day.year c.args.day.month c.args.day.day c.header_of-header.ensures.each room
+pub returns-clause-reads_back : goal.returns-clause-reads_back
+returns-clause-reads_back g c room = is_dbf_image c.args.table.now c.args.day.year c.args.day.month c.args.day.day c.header_of-header.ensures.each room
 
-pub returns-in-Err-clause-plain : goal.returns-in-Err-clause-plain
-returns-in-Err-clause-plain g c none dbt = is_plain_image c.args.table.now c.args.day.year c.args.day.month c.args.day.day dbt c.header_of-header.ensures.each none
+pub returns-clause-plain : goal.returns-clause-plain
+returns-clause-plain g c none dbt = is_plain_image c.args.table.now c.args.day.year c.args.day.month c.args.day.day dbt c.header_of-header.ensures.each none

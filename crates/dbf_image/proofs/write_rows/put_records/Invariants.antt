@@ -1,14 +1,13 @@
 use Rattle.std.proofs.Common.{◌≡◌, ◌+◌, ◌-◌, ◌*◌, ◌≤◌, length}
 use Rattle.std.specs.List.{AllByRecursion}
 use Rattle.dbf_image.specs.Store.{IsSpan}
-use Rattle.dbf_image.specs.Sink.{grown}
+use Rattle.dbf_image.specs.Writer.{more}
 use Rattle.dbf_image.proofs.Steps.{left_rows}
-use Rattle.dbf_image.proofs.write_rows.write_records.Given as goal
+use Rattle.dbf_image.proofs.write_rows.put_records.Given as goal
 
 -- what is written and what is left make the whole
 abbrev pub invariant-loop : goal.invariant-loop
 invariant-loop g l =
-    let written = g.S.ByteSink.written in
     let count = l.fn.header.record_count in
     let left = count - l.counter in
     let texts = l.fn.store.texts.now in
@@ -17,7 +16,6 @@ invariant-loop g l =
       many : left * l.memos_each ≤ length l.memos;
       each : AllByRecursion (IsSpan texts) l.memos;
       few : l.next + 129 * (left * l.memos_each) ≤ 1 + 129 * (count * l.memos_each);
-      told : grown (grown (written l.sink) l.waiting.items) (left_rows l.next l.fields l.size left l.rest texts l.memos)
-          ≡ grown (grown (written l.fn.sink) l.fn.waiting.items) (left_rows 1 l.fields l.size count l.fn.store.records.now texts l.fn.store.memos.now);
-      fine : g.S.ByteSink.failures l.sink ≡ g.S.ByteSink.failures l.fn.sink;
+      same : l.out.sink.ghost_name ≡ l.fn.out.sink.ghost_name;
+      told : more l.out.wanted (left_rows l.next l.fields l.size left l.rest texts l.memos) ≡ more l.fn.out.wanted (left_rows 1 l.fields l.size count l.fn.store.records.now texts l.fn.store.memos.now);
     }

@@ -1,15 +1,8 @@
 use Rattle.std.proofs.Common.{◌∙◌, sym, arith}
 use Rattle.dbf_image.specs.Store.{IsSpan}
-use Rattle.dbf_image.proofs.Sinks.{on_err}
+use Rattle.dbf_image.proofs.Puts.{more_left}
 use Rattle.dbf_image.proofs.Steps.{all_drop, widths-next, count-next, bytes-next, blocks-next}
-use Rattle.dbf_image.proofs.Writing.{told_more, two_1}
-use Rattle.dbf_image.proofs.write_rows.write_cells.Goals as goal
-
-pub returns-in_err-write_cell-clause-front : goal.returns-in_err-write_cell-clause-front
-returns-in_err-write_cell-clause-front g c =
-    let cell = rw (c.split_at.ensures.front, c.split_at-in-loop-field.ensures.front, c.memos_of.ensures.value, c.from.ensures) at c.cell_of-cell.ensures.value in
-    let step = bytes-next c.args.fields.now c.loop-field.field-index c.field-item.result c.loop-field-test.true c.field-item.is c.loop-field.rest.now c.args.cells.texts.now c.loop-field.memos.now c.loop-field.next c.cell_of-cell.result.now cell in
-    on_err _ (rw c.loop-field.invariant.told at (two_1 _ _ _ _ _ (sym step) c.in_err-write_cell.ensures.front))
+use Rattle.dbf_image.proofs.write_rows.put_cells.Goals as goal
 
 pub loop-field-preserved : goal.loop-field-preserved
 loop-field-preserved g c =
@@ -31,8 +24,8 @@ loop-field-preserved g c =
       many = omega (arith, count, c.split_at-in-loop-field.ensures.back_len, c.memos_of.ensures.value, c.loop-field.invariant.many);
       each = rw c.split_at-in-loop-field.ensures.back (all_drop (IsSpan texts) memos _ c.loop-field.invariant.each);
       few = omega (arith, count, c.blocks_at-next.ensures.small, c.loop-field.invariant.few);
-      told = rw (c.in_ok-write_cell.ensures.told, c.split_at.ensures.back, c.split_at-in-loop-field.ensures.back, c.memos_of.ensures.value, c.from.ensures, c.blocks_at-next.ensures.value)
-          (told_more _ _ _ _ _ bytes c.loop-field.invariant.told);
+      same = c.put_cell.ensures.0 ∙ c.loop-field.invariant.same;
+      told = rw (c.put_cell.ensures.1, c.split_at.ensures.back, c.split_at-in-loop-field.ensures.back, c.memos_of.ensures.value, c.from.ensures, c.blocks_at-next.ensures.value)
+          (more_left _ _ _ _ _ bytes c.loop-field.invariant.told);
       ahead = rw (c.split_at.ensures.back, c.split_at-in-loop-field.ensures.back, c.memos_of.ensures.value, c.from.ensures, c.blocks_at-next.ensures.value) (sym ahead ∙ c.loop-field.invariant.ahead);
-      fine = c.in_ok-write_cell.ensures.fine ∙ c.loop-field.invariant.fine;
     }

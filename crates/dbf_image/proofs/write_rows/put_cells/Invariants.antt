@@ -2,14 +2,13 @@ use Rattle.std.proofs.Common.{◌≡◌, ◌+◌, ◌*◌, ◌≤◌, length, dr
 use Rattle.std.specs.List.{AllByRecursion}
 use Rattle.dbf_fields.specs.Field.{widths}
 use Rattle.dbf_image.specs.Store.{memo_count, IsSpan}
-use Rattle.dbf_image.specs.Sink.{grown}
+use Rattle.dbf_image.specs.Writer.{more}
 use Rattle.dbf_image.proofs.Steps.{left_bytes, left_blocks}
-use Rattle.dbf_image.proofs.write_rows.write_cells.Given as goal
+use Rattle.dbf_image.proofs.write_rows.put_cells.Given as goal
 
 -- what is written and what is left make the whole
 abbrev pub invariant-loop-field : goal.invariant-loop-field
 invariant-loop-field g l =
-    let written = g.S.ByteSink.written in
     let later = drop l.field-index l.fields in
     let texts = l.fn.cells.texts.now in
     record {
@@ -17,8 +16,7 @@ invariant-loop-field g l =
       many : memo_count later ≤ length l.memos;
       each : AllByRecursion (IsSpan texts) l.memos;
       few : l.next + 129 * memo_count later ≤ l.fn.first + 129 * memo_count l.fields;
-      told : grown (grown (written l.sink) l.waiting.items) (left_bytes l.next later l.rest texts l.memos)
-          ≡ grown (grown (written l.fn.sink) l.fn.waiting.items) (left_bytes l.fn.first l.fields l.fn.cells.records.now texts l.fn.cells.memos.now);
+      same : l.out.sink.ghost_name ≡ l.fn.out.sink.ghost_name;
+      told : more l.out.wanted (left_bytes l.next later l.rest texts l.memos) ≡ more l.fn.out.wanted (left_bytes l.fn.first l.fields l.fn.cells.records.now texts l.fn.cells.memos.now);
       ahead : l.next + left_blocks later l.rest texts l.memos ≡ l.fn.first + left_blocks l.fields l.fn.cells.records.now texts l.fn.cells.memos.now;
-      fine : g.S.ByteSink.failures l.sink ≡ g.S.ByteSink.failures l.fn.sink;
     }

@@ -1,0 +1,59 @@
+//! What a sink is to have, for clauses alone.
+#![tactic(auto, using(crate::proofs::Sinks::sinks))]
+
+ghost use Rattle.std.specs.Prelude.{◌≡◌};
+ghost use Rattle.dbf_image.specs.Writer.{more};
+
+use crate::sink::ByteSink;
+use boxcar::tag::{Names, Tag};
+use std::marker::Model;
+use std::snapshot::Snapshot;
+
+#[derive(Drop)]
+struct Appended<'a> {
+    told: &'a Tag,
+    bytes: &'a [u8],
+}
+
+struct Bytes;
+
+impl<'a> Names<Appended<'a>> for Bytes {
+    ghost use Rattle.std.specs.Prelude.{◌++◌};
+
+    ghost numbers = { λ a. a.told.now.numbers ++ a.bytes.now };
+}
+
+/// All that a sink is to have in the end, and how often it had failed before. It takes no bytes.
+#[derive(Drop)]
+pub struct Wanted<S: ByteSink> {
+    begun: Snapshot<S>,
+    told: Tag,
+}
+
+impl<S: ByteSink> Model for Wanted<S> {
+    ghost use Rattle.dbf_image.specs.Sink.{grown};
+    ghost use Rattle.dbf_image.specs.Writer.{Wanted as What};
+
+    ghost Value = { What };
+
+    ghost view = { λ w. record { written = grown (S.written w.begun.value) w.told.numbers; failures = S.failures w.begun.value } };
+}
+
+impl<S: ByteSink> Wanted<S> {
+    pub fn of(sink: &S) -> Wanted<S>
+        ensures { result ≡ record { written = S.written sink.now; failures = S.failures sink.now } }
+    {
+        Wanted {
+            begun: Snapshot::of(sink),
+            told: Tag::empty(),
+        }
+    }
+
+    pub fn append(&mut self, bytes: &[u8])
+        ensures { self.new ≡ more self.old bytes.now }
+    {
+        let told = &self.told;
+        let told = Tag::of::<Appended<'_>, Bytes>(&Appended { told, bytes });
+        self.told = told;
+    }
+}
