@@ -37,3 +37,8 @@ zero_more n i = rw (← replicate_more {X = ℕ} i 48, fold-append) (omega arith
 
 pub below_cap : (v a : ℕ) → v < 10 ^ a → a ≤ 37 → v < 10 ^ 37
 below_cap v a small le = omega (arith, capped a le)
+
+pub below_64_bits : (v k : ℕ) → v < 10 ^ k → k ≤ 19 → v < 2 ^ 64
+below_64_bits v k small le =
+    let most : 10 ^ k ≤ 10 ^ 19 = pow-le-pow_right (omega arith) le in
+    omega (arith, most)

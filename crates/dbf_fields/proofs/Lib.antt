@@ -6,3 +6,5 @@ pub mod WrittenDigits
 pub mod ReadBack
 pub mod DateLaws
 pub mod ShownDate
+pub mod FaultLaws
+pub mod LayoutLaws

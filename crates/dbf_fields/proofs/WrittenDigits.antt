@@ -78,16 +78,13 @@ unfolding is_exact
 exact_is b z m scale decimals place last cut em el ep ec eb =
     rw (eb, ec, ep, el, em) (sym (zeros_behind (last_digits scale (unsigned_abs z)) decimals (255 - scale)))
 
--- the parts of the text, as the code makes them
-pub text_is : (z : ℤ) (m scale decimals place : ℕ) (last minus whole dot digits : List ℕ) → m ≡ unsigned_abs z → last ≡ last_digits scale m ++ replicate (255 - scale) 48
-    → place ≡ decimals → digits ≡ take place last → whole ≡ numeral (m / 10 ^ scale) → minus ≡ sign z → dot ≡ point decimals → scale ≤ 255 → decimals ≤ 255
-    → minus ++ (whole ++ (dot ++ digits)) ≡ number_text z scale decimals
+-- the text, as the code makes it
+pub text_is : (z y : ℤ) (m whole scale decimals : ℕ) (last text : List ℕ) → y ≡ z → m ≡ unsigned_abs z → last ≡ last_digits scale m ++ replicate (255 - scale) 48
+    → whole ≡ m / 10 ^ scale → text ≡ sign y ++ (numeral whole ++ (point decimals ++ take decimals last)) → scale ≤ 255 → decimals ≤ 255
+    → text ≡ number_text z scale decimals
 unfolding number_text
-text_is z m scale decimals place last minus whole dot digits em el ep ed ew es eo a b =
-    rw (es, ew, eo, ed, ep, el, em, kept_is (last_digits scale (unsigned_abs z)) scale decimals (length-last_digits scale (unsigned_abs z)) a b) refl
-
-pub length-parts : (a b c d : List ℕ) → length (a ++ (b ++ (c ++ d))) ≡ length a + length b + length c + length d
-length-parts a b c d = omega (arith, length-append a (b ++ (c ++ d)), length-append b (c ++ d), length-append c d)
+text_is z y m whole scale decimals last text ey em el ew et a b =
+    rw (et, ew, el, em, ey, kept_is (last_digits scale (unsigned_abs z)) scale decimals (length-last_digits scale (unsigned_abs z)) a b) refl
 
 pub inexact : (width decimals : ℕ) (z : ℤ) (scale : ℕ) → is_exact z scale decimals ≡ false → number_cell width decimals z scale ≡ None
 unfolding number_cell

@@ -11,3 +11,4 @@ pub mod Logical
 pub mod Date
 pub mod Cell
 pub use Rattle.jiff.specs.Words
+pub mod Layout

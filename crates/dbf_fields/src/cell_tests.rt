@@ -1,4 +1,4 @@
-use super::tests::{characters, field};
+use super::tests::characters;
 use super::*;
 use std::alloc::{AllocError, Global};
 use std::test::Fail;
@@ -37,10 +37,10 @@ fn other_values_are_of_another_type(rt: HostRuntime) -> Result<(), Fail> {
     let day = day_of(1984, 2, 29).ok_or("a date")?;
     let fields = [
         characters(alloc, b"NAME", 10)?,
-        field(alloc, b"AMT", NUMBER, 6, 2)?,
-        field(alloc, b"PAID", LOGICAL, 1, 0)?,
-        field(alloc, b"BORN", DATE, 8, 0)?,
-        field(alloc, b"NOTE", MEMO, 10, 0)?,
+        Field::new(alloc, b"AMT", NUMBER, 6, 2)?,
+        Field::new(alloc, b"PAID", LOGICAL, 1, 0)?,
+        Field::new(alloc, b"BORN", DATE, 8, 0)?,
+        Field::new(alloc, b"NOTE", MEMO, 10, 0)?,
     ];
     let values = [
         (Literal::Text(Bytes::from_slice(alloc, b"T")?), CHARACTER),
@@ -80,7 +80,7 @@ fn other_values_are_of_another_type(rt: HostRuntime) -> Result<(), Fail> {
 #[test]
 fn number_cells(rt: HostRuntime) -> Result<(), Fail> {
     let alloc = rt.alloc();
-    let amount = field(alloc, b"AMT", NUMBER, 6, 2)?;
+    let amount = Field::new(alloc, b"AMT", NUMBER, 6, 2)?;
     // a number as its digits and how many of them stand behind the point, and its cell
     let cases: [(i128, u8, &[u8]); 12] = [
         (5, 0, b"  5.00"),
@@ -137,7 +137,7 @@ fn wide_and_narrow_number_cells(rt: HostRuntime) -> Result<(), Fail> {
         (19, 18, 0, 0, b""),
     ];
     for (width, decimals, digits, scale, cell) in cases {
-        let number = field(alloc, b"X", NUMBER, width, decimals)?;
+        let number = Field::new(alloc, b"X", NUMBER, width, decimals)?;
         let stored = encode_cell(alloc, &number, &Literal::Number { digits, scale });
         if cell.is_empty() {
             assert_eq!(rt; stored, Err(CellFault::NumberTooWide));
@@ -149,9 +149,55 @@ fn wide_and_narrow_number_cells(rt: HostRuntime) -> Result<(), Fail> {
 }
 
 #[test]
+fn texts_of_numbers(rt: HostRuntime) {
+    // the digits, how many of them stand after the point, the decimals of the text, and the text
+    let cases: [(i128, u8, u8, &[u8]); 9] = [
+        (0, 0, 0, b"0"),
+        (0, 0, 2, b"0.00"),
+        (-5, 1, 2, b"-0.50"),
+        (12345, 2, 2, b"123.45"),
+        (12345, 2, 0, b"123"),
+        (-12345, 4, 1, b"-1.2"),
+        (7, 0, 0, b"7"),
+        (i128::MAX, 0, 0, b"170141183460469231731687303715884105727"),
+        (
+            i128::MIN,
+            18,
+            18,
+            b"-170141183460469231731.687303715884105728",
+        ),
+    ];
+    for (digits, scale, decimals, text) in cases {
+        assert_eq!(rt; NumberText::new(digits, scale, decimals).as_bytes(), text);
+    }
+}
+
+#[test]
+fn blanks_and_digits(rt: HostRuntime) {
+    let cases: [(&[u8], &[u8], bool); 6] = [
+        (b"  42 ", b"42", true),
+        (b"", b"", true),
+        (b"   ", b"", true),
+        (b"4 2", b"4 2", false),
+        (b" 9999999999999999999", b"9999999999999999999", true),
+        (b"-1", b"-1", false),
+    ];
+    for (bytes, text, digits) in cases {
+        assert_eq!(rt; trimmed(bytes), text);
+        assert_eq!(rt; are_digits(trimmed(bytes)), digits);
+    }
+    assert_eq!(rt; number_of_digits(b""), 0);
+    assert_eq!(rt; number_of_digits(b"0042"), 42);
+    assert_eq!(rt;
+        number_of_digits(b"9999999999999999999"),
+        9_999_999_999_999_999_999
+    );
+}
+
+#[test]
 fn date_cells(rt: HostRuntime) -> Result<(), Fail> {
     let alloc = rt.alloc();
-    let born = field(alloc, b"BORN", DATE, 8, 0)?;
+    let born = Field::new(alloc, b"BORN", DATE, 8, 0)?;
     let days: [(u16, u8, u8, &[u8]); 4] = [
         (1984, 2, 29, b"19840229"),
         (1, 1, 1, b"00010101"),
@@ -185,7 +231,7 @@ fn date_cells(rt: HostRuntime) -> Result<(), Fail> {
 #[test]
 fn truth_cells(rt: HostRuntime) -> Result<(), Fail> {
     let alloc = rt.alloc();
-    let paid = field(alloc, b"PAID", LOGICAL, 1, 0)?;
+    let paid = Field::new(alloc, b"PAID", LOGICAL, 1, 0)?;
     assert_eq!(rt;
         encode_cell(alloc, &paid, &Literal::Truth(true))?.as_slice(),
         b"T".as_slice()

@@ -8,7 +8,7 @@ ghost use Rattle.dbf_fields.specs.Digits.{digits_behind};
 ghost use Rattle.dbf_fields.specs.Date.{year_in, month_in, day_in, IsDateCell, date_text as text_of, date_shown};
 
 use crate::day::{Day, day_of};
-use crate::number::{are_digits, push_digits};
+use crate::decimal::{are_digits, number_of_digits};
 
 /// What a cell of a date says.
 #[derive(Clone, Copy, Debug, PartialEq, Eq)]
@@ -28,7 +28,7 @@ fn small_number(digits: &[u8]) -> u16
     ensures value { result ≡ digits_behind 0 digits.now }
     ensures small { result < 10 ^ length digits.now }
 {
-    push_digits(0, digits, 0) as u16
+    number_of_digits(digits) as u16
 }
 
 // The date that eight digits are, where they are one.

@@ -52,6 +52,28 @@ impl Field {
     ghost use Rattle.dbf_fields.specs.Name.{is_name};
     ghost use Rattle.dbf_fields.specs.Field.{is_kind, has_width, has_name, folded};
 
+    /// A field of a name, a letter of a kind, a width and decimals, whatever they are; an error where memory is
+    /// refused. `Schema::new` judges it.
+    pub fn new(
+        alloc: Global,
+        name: &[u8],
+        kind: u8,
+        width: u8,
+        decimals: u8,
+    ) -> Result<Field, AllocError>
+        ensures name { IfOk result (λ field. field.name ≡ name.now) }
+        ensures kind { IfOk result (λ field. field.kind ≡ kind) }
+        ensures width { IfOk result (λ field. field.width ≡ width) }
+        ensures decimals { IfOk result (λ field. field.decimals ≡ decimals) }
+    {
+        Ok(Field {
+            name: Bytes::from_slice(alloc, name)?,
+            kind,
+            width,
+            decimals,
+        })
+    }
+
     // 1 to 10 letters, digits or `_`, a letter first.
     pub(crate) fn has_good_name(&self) -> bool
         ensures value { result ≡ is_name self.now.name }

@@ -11,22 +11,27 @@ mod bytes;
 mod cell;
 mod date;
 mod day;
+mod decimal;
 mod field;
 mod literal;
 mod logical;
 mod number;
 mod number_text;
 mod schema;
+mod trim;
 
 pub use bytes::Bytes;
 pub use cell::{CellFault, encode_cell};
 pub use date::{DateCell, read_date, shown_date};
 pub use day::{Day, day_of};
+pub use decimal::{are_digits, number_of_digits};
 pub use field::{CHARACTER, DATE, Field, LOGICAL, MEMO, NUMBER};
 pub use literal::Literal;
 pub use logical::read_truth;
 pub use number::read_number;
+pub use number_text::{MAX_NUMBER_TEXT, NumberText};
 pub use schema::{MOST_FIELDS, MOST_RECORD_BYTES, Schema, SchemaFault};
+pub use trim::trimmed;
 
 #[cfg(test)]
 mod cell_tests;

@@ -1,52 +1,11 @@
 //! Numbers in cells, as they are read.
 
-ghost use Rattle.std.specs.Prelude.{◌≡◌, ◌+◌, ◌*◌, ◌<◌, ◌≤◌, ◌==◌, ◌^◌, ◌++◌, length, replicate, position, reverse, true, IfSome};
-ghost use Rattle.std.specs.List.{list_all};
-ghost use Rattle.std.specs.Char.{is_ascii_digit};
+ghost use Rattle.std.specs.Prelude.{◌≡◌, ◌+◌, ◌*◌, ◌<◌, ◌≤◌, ◌==◌, ◌^◌, ◌++◌, length, replicate, position, IfSome};
 ghost use Rattle.dbf_fields.specs.Digits.{digits_behind};
-ghost use Rattle.dbf_fields.specs.Number.{without_leading, trimmed, whole_part, fraction_part, magnitude, number};
+ghost use Rattle.dbf_fields.specs.Number.{whole_part, fraction_part, magnitude, number};
 
-fn trim_start(cell: &[u8]) -> &[u8]
-    ensures value { result.now ≡ without_leading cell.now }
-    ensures short { length result.now ≤ length cell.now }
-{
-    let mut text = cell;
-    while let [b' ', rest @ ..] = text {
-        text = rest;
-    }
-    text
-}
-
-fn trim_end(cell: &[u8]) -> &[u8]
-    ensures value { result.now ≡ reverse (without_leading (reverse cell.now)) }
-    ensures short { length result.now ≤ length cell.now }
-{
-    let mut text = cell;
-    while let [rest @ .., b' '] = text {
-        text = rest;
-    }
-    text
-}
-
-#[tactic(auto, unfolding(crate::specs::Number::trimmed))]
-fn trim(cell: &[u8]) -> &[u8]
-    ensures value { result.now ≡ trimmed cell.now }
-    ensures short { length result.now ≤ length cell.now }
-{
-    trim_end(trim_start(cell))
-}
-
-pub(crate) fn are_digits(text: &[u8]) -> bool
-    ensures value { result ≡ list_all is_ascii_digit text.now }
-{
-    text.iter().all(|byte| byte.is_ascii_digit())
-}
-
-pub(crate) fn are_zeros(text: &[u8]) -> bool
-    ensures value { result ≡ list_all (λ b. b == 48) text.now }
-{
-    text.iter().all(|byte| *byte == b'0')
-}
+use crate::decimal::{are_digits, are_zeros, push_digits};
+use crate::trim::trimmed;
 
 fn point_in(text: &[u8]) -> Option<usize>
     ensures place { result ≡ position (λ b. b == 46) text.now }
@@ -64,21 +23,6 @@ fn parts(text: &[u8]) -> (&[u8], &[u8])
         Some(point) => (&text[..point], &text[point + 1..]),
         None => (text, &[]),
     }
-}
-
-// The number with these digits behind it. `most` is how many digits it has at most.
-pub(crate) fn push_digits(number: u128, digits: &[u8], most: u32) -> u128
-    requires digits { list_all is_ascii_digit digits.now ≡ true }
-    requires small { number < 10 ^ most }
-    requires room { most + length digits.now ≤ 37 }
-    ensures value { result ≡ digits_behind number digits.now }
-    ensures small { result < 10 ^ (most + length digits.now) }
-{
-    let mut value = number;
-    for digit in digits {
-        value = value * 10 + u128::from(*digit - b'0');
-    }
-    value
 }
 
 // The number with so many zeros behind it.
@@ -134,7 +78,7 @@ pub fn read_number(cell: &[u8], decimals: u8) -> Option<i128>
     requires decimals { decimals < 19 }
     ensures value { result ≡ number cell.now decimals }
 {
-    match trim(cell) {
+    match trimmed(cell) {
         [] => Some(0),
         [b'-', digits @ ..] => {
             let n = magnitude_of(digits, decimals)?;

@@ -1,14 +1,73 @@
 //! Numbers in cells, as they are written.
 
-ghost use Rattle.std.specs.Prelude.{◌≡◌, ◌+◌, ◌-◌, ◌/◌, ◌<◌, ◌≤◌, ◌^◌, ◌++◌, length, drop, replicate, IfOk, IfErr, Ok, Err, Some, None, ◌⊎◌};
-ghost use Rattle.std.specs.Int.RustNames.{unsigned_abs};
+ghost use Rattle.std.specs.Prelude.{◌≡◌, ◌+◌, ◌-◌, ◌/◌, ◌<◌, ◌≤◌, ◌^◌, ◌++◌, [], length, take, drop, replicate, IfOk, IfErr, Some, None, ◌⊎◌};
 ghost use Rattle.dbf_fields.specs.Digits.{last_digits, numeral};
-ghost use Rattle.dbf_fields.specs.NumberText.{sign as sign_of, point as point_before, right_justified, number_cell as cell_of};
+ghost use Rattle.dbf_fields.specs.NumberText.{sign as sign_of, point as point_before, number_text as text_of, right_justified as justified, number_cell as cell_of};
 
 use crate::bytes::Bytes;
 use crate::cell::CellFault;
-use crate::number::are_zeros;
+use crate::decimal::are_zeros;
 use std::alloc::{AllocError, Global};
+use std::marker::Model;
+
+/// The most bytes of a number's text: a sign, 39 digits, a point and 255 decimals.
+pub const MAX_NUMBER_TEXT: usize = 296;
+
+/// The text of a number, which contracts see as the list of its bytes. It takes no memory.
+#[derive(Drop)]
+pub struct NumberText {
+    bytes: [u8; MAX_NUMBER_TEXT],
+    len: usize,
+}
+
+impl Model for NumberText {
+    ghost use Rattle.std.specs.Prelude.{ℕ, ◌≤◌, List, take};
+
+    ghost Value = { List ℕ };
+
+    ghost view = { λ t. take t.len t.bytes };
+
+    ghost invariant = { λ t. t.len ≤ 296 };
+}
+
+impl NumberText {
+    /// The text of the number whose digits are given, of which `scale` stand after its point, with so many
+    /// decimals: `-` before a number below zero, at least one digit before the point, a point where there are
+    /// decimals, and the digits after it. Digits past the decimals are left out, and nothing is rounded. Takes
+    /// no memory.
+    pub fn new(digits: i128, scale: u8, decimals: u8) -> NumberText
+        ensures value { result ≡ text_of digits scale decimals }
+    {
+        let (last, whole) = split_off(digits.unsigned_abs(), scale);
+        text_of_parts(digits, whole, &last, decimals)
+    }
+
+    fn empty() -> NumberText
+        ensures value { result ≡ [] }
+    {
+        NumberText {
+            bytes: [b' '; MAX_NUMBER_TEXT],
+            len: 0,
+        }
+    }
+
+    fn push(&mut self, part: &[u8])
+        requires room { length self.old + length part.now ≤ 296 }
+        ensures value { self.new ≡ self.old ++ part.now }
+    {
+        let end = self.len + part.len();
+        self.bytes[self.len..end].copy_from_slice(part);
+        self.len = end;
+    }
+
+    /// The bytes of the text.
+    pub fn as_bytes(&self) -> &[u8]
+        ensures bytes { result.now ≡ self.now }
+        ensures short { length self.now ≤ 296 }
+    {
+        &self.bytes[..self.len]
+    }
+}
 
 // The last digits of a number, so many of them with zeros behind them, and the number before them.
 fn split_off(number: u128, digits: u8) -> ([u8; 255], u128)
@@ -45,39 +104,45 @@ fn numeral_of(number: u128) -> ([u8; 39], usize)
 
 fn sign(number: i128) -> &'static [u8]
     ensures value { result.now ≡ sign_of number }
+    ensures short { length result.now ≤ 1 }
 {
     if number < 0 { b"-" } else { b"" }
 }
 
 fn point(decimals: u8) -> &'static [u8]
     ensures value { result.now ≡ point_before decimals }
+    ensures short { length result.now ≤ 1 }
 {
     if decimals == 0 { b"" } else { b"." }
 }
 
-// The parts of a number's text, joined behind as many blanks as fill the width.
-fn joined(
-    alloc: Global,
-    width: usize,
-    sign: &[u8],
-    whole: &[u8],
-    point: &[u8],
-    decimals: &[u8],
-) -> Result<Bytes, AllocError>
-    requires fits { length sign.now + length whole.now + length point.now + length decimals.now ≤ width }
-    ensures value { IfOk result (λ cell. cell ≡ right_justified width (sign.now ++ (whole.now ++ (point.now ++ decimals.now)))) }
+// The text of a number of this sign, from the number before the point and the last digits.
+fn text_of_parts(signed: i128, whole: u128, last: &[u8; 255], decimals: u8) -> NumberText
+    ensures value { result ≡ sign_of signed ++ (numeral whole ++ (point_before decimals ++ take decimals last.now)) }
 {
-    let blanks = width - sign.len() - whole.len() - point.len() - decimals.len();
+    let (kept, _) = last.split_at(usize::from(decimals));
+    let (places, start) = numeral_of(whole);
+    let (_, digits) = places.split_at(start);
+    let mut text = NumberText::empty();
+    text.push(sign(signed));
+    text.push(digits);
+    text.push(point(decimals));
+    text.push(kept);
+    text
+}
+
+// A text after as many blanks as fill the width.
+fn right_justified(alloc: Global, width: usize, text: &[u8]) -> Result<Bytes, AllocError>
+    requires fits { length text.now ≤ width }
+    ensures value { IfOk result (λ cell. cell ≡ justified width text.now) }
+{
     let mut cell = Vec::with_capacity(alloc, width)?;
-    cell.resize(blanks, b' ')?;
-    cell.extend_from_slice(sign)?;
-    cell.extend_from_slice(whole)?;
-    cell.extend_from_slice(point)?;
-    cell.extend_from_slice(decimals)?;
+    cell.resize(width - text.len(), b' ')?;
+    cell.extend_from_slice(text)?;
     Ok(Bytes::from_vec(cell))
 }
 
-// The cell of a number, of whose digits `scale` stand behind its point.
+// The cell of a number, of whose digits `scale` stand after its point.
 pub(crate) fn number_cell(
     alloc: Global,
     width: u8,
@@ -88,19 +153,15 @@ pub(crate) fn number_cell(
     ensures value { IfOk result (λ cell. cell_of width decimals digits scale ≡ Some cell) }
     ensures refused { IfErr result (λ fault. (fault ≡ CellFault.NoMemory) ⊎ ((fault ≡ CellFault.NumberTooWide) × (cell_of width decimals digits scale ≡ None))) }
 {
-    let (last, rest) = split_off(digits.unsigned_abs(), scale);
-    let (kept, cut) = last.split_at(usize::from(decimals));
+    let (last, whole) = split_off(digits.unsigned_abs(), scale);
+    let (_, cut) = last.split_at(usize::from(decimals));
     if !are_zeros(cut) {
         return Err(CellFault::NumberTooWide);
     }
-    let (places, start) = numeral_of(rest);
-    let (_, whole) = places.split_at(start);
-    let sign = sign(digits);
-    let point = point(decimals);
-    let length = sign.len() + whole.len() + point.len() + kept.len();
-    if length > usize::from(width) {
+    let text = text_of_parts(digits, whole, &last, decimals);
+    if text.as_bytes().len() > usize::from(width) {
         return Err(CellFault::NumberTooWide);
     }
-    let cell = joined(alloc, usize::from(width), sign, whole, point, kept)?;
+    let cell = right_justified(alloc, usize::from(width), text.as_bytes())?;
     Ok(cell)
 }

@@ -1,6 +1,8 @@
 //! The fields of a table.
 
-ghost use Rattle.std.specs.Prelude.{◌≡◌, ◌+◌, ◌≤◌, length, None, map, IfOk, IfErr};
+ghost use Rattle.std.specs.Prelude.{◌≡◌, ◌+◌, ◌<◌, ◌≤◌, [], length, None, map, drop, slice_index_or, IfOk, IfErr};
+ghost use Rattle.dbf_fields.specs.Field.{widths};
+ghost use Rattle.dbf_fields.specs.Layout.{cells_of, offsets_from, offset_of, width_of};
 
 use crate::field::Field;
 use std::alloc::{AllocError, AllocFailed, Global};
@@ -66,6 +68,9 @@ impl<T: Drop> From<AllocFailed<T>> for SchemaFault {
 #[derive(Debug, Drop)]
 pub struct Schema {
     fields: Vec<Field>,
+    // Where the cell of each field begins in a record.
+    offsets: Vec<u16>,
+    record_length: u16,
 }
 
 impl Model for Schema {
@@ -74,15 +79,30 @@ impl Model for Schema {
 
     ghost Value = { List Field };
 
-    ghost use Rattle.dbf_fields.specs.Schema.{IsSchema};
+    ghost use Rattle.dbf_fields.specs.Layout.{IsLaidOut};
 
     ghost view = { λ s. s.fields.items };
 
-    ghost invariant = { λ s. IsSchema s.fields.items };
+    ghost invariant = { λ s. IsLaidOut s.fields.items s.offsets.items s.record_length };
+}
+
+// The offsets of the cells in a record, whose flag byte stands first, and the record's length.
+fn layout_of(alloc: Global, fields: &[Field]) -> Result<(Vec<u16>, u16), AllocError>
+    requires short { widths fields.now ≤ 4000 }
+    ensures offsets { IfOk result (λ layout. layout.0.items ≡ offsets_from 1 fields.now) }
+    ensures end { IfOk result (λ layout. layout.1 ≡ 1 + widths fields.now) }
+{
+    let mut offsets = Vec::with_capacity(alloc, fields.len())?;
+    let mut offset = 1;
+    for field in fields {
+        offsets.push(offset)?;
+        offset += u16::from(field.width);
+    }
+    Ok((offsets, offset))
 }
 
 impl Schema {
-    ghost use Rattle.dbf_fields.specs.Field.{folded, widths};
+    ghost use Rattle.dbf_fields.specs.Field.{folded};
     ghost use Rattle.dbf_fields.specs.Schema.{refusal, IsRefusal, IsSchema};
 
     /// The schema of the fields: the names in capitals, and no decimals but for numbers.
@@ -122,7 +142,12 @@ impl Schema {
         if widths > MOST_RECORD_BYTES {
             return Err(SchemaFault::RecordTooLong);
         }
-        Ok(Schema { fields: schema })
+        let (offsets, record_length) = layout_of(alloc, &schema)?;
+        Ok(Schema {
+            fields: schema,
+            offsets,
+            record_length,
+        })
     }
 
     /// The fields in order, at least 1 and at most 128. They make a schema again.
@@ -142,18 +167,52 @@ impl Schema {
         for field in &self.fields {
             fields.push(field.copy(alloc)?)?;
         }
-        Ok(Schema { fields })
+        Ok(Schema {
+            fields,
+            offsets: Vec::from_slice(alloc, self.offsets.as_slice())?,
+            record_length: self.record_length,
+        })
     }
 
-    /// The bytes of a record in the file: one for the flag, and the cells, so 2 to 4,001.
+    /// The bytes of a record in the file: one for the flag, and the cells, so 2 to 4,001. Takes the same
+    /// time however many fields there are.
     pub fn record_length(&self) -> usize
         ensures value { result ≡ 1 + widths self.now }
         ensures short { result ≤ 4001 }
     {
-        let mut length = 1;
-        for field in &self.fields {
-            length += usize::from(field.width);
-        }
-        length
+        usize::from(self.record_length)
+    }
+
+    /// Where the cell of a field begins in a record's bytes: after the flag and the cells of the earlier
+    /// fields. Fields count from 0. Takes the same time for each.
+    pub fn offset(&self, index: usize) -> usize
+        requires inside { index < length self.now }
+        ensures value { result ≡ offset_of self.now index }
+        ensures within { result + width_of self.now index ≤ 1 + widths self.now }
+        ensures small { result ≤ 4001 }
+    {
+        usize::from(self.offsets[index])
+    }
+
+    /// How many bytes the cells of a field have. Fields count from 0.
+    pub fn width(&self, index: usize) -> usize
+        requires inside { index < length self.now }
+        ensures value { result ≡ width_of self.now index }
+        ensures small { result ≤ 255 }
+    {
+        usize::from(self.fields[index].width)
+    }
+
+    /// The cell of a field in a record's bytes, whose flag stands first. Fields count from 0. Takes the same
+    /// time for each.
+    pub fn cell_in<'a>(&self, record_bytes: &'a [u8], index: usize) -> &'a [u8]
+        requires inside { index < length self.now }
+        requires whole { length record_bytes.now ≡ 1 + widths self.now }
+        ensures value { result.now ≡ slice_index_or (cells_of self.now (drop 1 record_bytes.now)) index [] }
+        ensures wide { length result.now ≡ width_of self.now index }
+    {
+        let start = self.offset(index);
+        let end = start + self.width(index);
+        &record_bytes[start..end]
     }
 }

@@ -2,25 +2,9 @@ use super::*;
 use std::alloc::{AllocError, Global};
 use std::test::Fail;
 
-// A field of any kind.
-pub(crate) fn field(
-    alloc: Global,
-    name: &[u8],
-    kind: u8,
-    width: u8,
-    decimals: u8,
-) -> Result<Field, AllocError> {
-    Ok(Field {
-        name: Bytes::from_slice(alloc, name)?,
-        kind,
-        width,
-        decimals,
-    })
-}
-
 // A field of characters by its name and width.
 pub(crate) fn characters(alloc: Global, name: &[u8], width: u8) -> Result<Field, AllocError> {
-    field(alloc, name, CHARACTER, width, 0)
+    Field::new(alloc, name, CHARACTER, width, 0)
 }
 
 #[test]
@@ -34,6 +18,28 @@ fn schema_folds_names(rt: HostRuntime) -> Result<(), Fail> {
     let first = &schema.fields()[0];
     assert_eq!(rt; first.name.as_slice(), b"MEMBER_1".as_slice());
     assert_eq!(rt; first.decimals, 0);
+    Ok(())
+}
+
+#[test]
+fn schemas_tell_where_cells_stand(rt: HostRuntime) -> Result<(), Fail> {
+    let alloc = rt.alloc();
+    let fields = vec![in alloc;
+        characters(alloc, b"NAME", 4)?,
+        Field::new(alloc, b"AMT", NUMBER, 5, 2)?,
+        Field::new(alloc, b"PAID", LOGICAL, 1, 0)?,
+    ]?;
+    let schema = Schema::new(alloc, &fields)?.copy(alloc)?;
+    let cells: [(usize, usize, &[u8]); 3] = [(1, 4, b"Anna"), (5, 5, b" 1.50"), (10, 1, b"T")];
+    for (i, (offset, width, cell)) in cells.iter().enumerate() {
+        if i < schema.fields().len() && schema.record_length() == 11 {
+            assert_eq!(rt; schema.offset(i), *offset);
+            assert_eq!(rt; schema.width(i), *width);
+            assert_eq!(rt; schema.cell_in(b" Anna 1.50T", i), *cell);
+        }
+    }
+    assert_eq!(rt; schema.fields().len(), 3);
+    assert_eq!(rt; schema.record_length(), 11);
     Ok(())
 }
 
@@ -69,7 +75,7 @@ fn schema_faults_come_in_order(rt: HostRuntime) -> Result<(), Fail> {
         (b"NOTE", b'M', 11, 0, SchemaFault::BadWidth),
     ];
     for (name, kind, width, decimals, fault) in cases {
-        let second = field(alloc, name, kind, width, decimals)?;
+        let second = Field::new(alloc, name, kind, width, decimals)?;
         let fields = vec![in alloc; characters(alloc, b"NAME", 10)?, second]?;
         assert_eq!(rt; Schema::new(alloc, &fields).err(), Some(fault));
     }
@@ -92,7 +98,7 @@ fn schemas_have_five_kinds(rt: HostRuntime) -> Result<(), Fail> {
         (MEMO, 10, 1, 0),
     ];
     for (kind, width, decimals, kept) in cases {
-        let fields = vec![in alloc; field(alloc, b"ONE", kind, width, decimals)?]?;
+        let fields = vec![in alloc; Field::new(alloc, b"ONE", kind, width, decimals)?]?;
         let schema = Schema::new(alloc, &fields)?;
         assert_eq!(rt; schema.fields()[0].kind, kind);
         assert_eq!(rt; schema.fields()[0].width, width);

@@ -14,4 +14,8 @@ invariant_of-result c =
     let few : leb (widths c.loop-field.schema.items) 4000 ≡ true = le-leb _ _ (omega (arith, c.loop-field.invariant.wide)) in
     let left = rw (drop_all i fields past) at c.loop-field.invariant.left in
     let none : refusal fields ≡ None = sym left ∙ rw few refl in
-    rw (c.loop-field.invariant.kept, take_all i fields past) (schema_from_accepted fields none)
+    record {
+      schema = rw (c.loop-field.invariant.kept, take_all i fields past) (schema_from_accepted fields none);
+      offsets_are = rw c.deref-2.ensures.value at c.in_ok-offsets.ensures.offsets;
+      length_is = rw c.deref-2.ensures.value at c.in_ok-offsets.ensures.end;
+    }

@@ -1,6 +1,6 @@
 use Rattle.std.proofs.Common.{◌≡◌, ◌+◌, ◌<◌, ◌^◌, take}
 use Rattle.dbf_fields.specs.Digits.{digits_behind}
-use Rattle.dbf_fields.proofs.number.push_digits.Given as goal
+use Rattle.dbf_fields.proofs.decimal.push_digits.Given as goal
 
 abbrev pub invariant-loop-digit : goal.invariant-loop-digit
 invariant-loop-digit l = record {

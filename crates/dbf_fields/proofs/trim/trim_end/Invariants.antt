@@ -1,7 +1,7 @@
 use Rattle.std.proofs.Common.{◌≡◌, ◌≤◌, length}
 use Rattle.std.specs.Prelude.{reverse}
 use Rattle.dbf_fields.specs.Number.{without_leading}
-use Rattle.dbf_fields.proofs.number.trim_end.Given as goal
+use Rattle.dbf_fields.proofs.trim.trim_end.Given as goal
 
 abbrev pub invariant-loop-text : goal.invariant-loop-text
 invariant-loop-text l = record {

@@ -1,6 +1,6 @@
 use Rattle.std.proofs.Common.{◌≡◌, ◌≤◌, length}
 use Rattle.dbf_fields.specs.Number.{without_leading}
-use Rattle.dbf_fields.proofs.number.trim_start.Given as goal
+use Rattle.dbf_fields.proofs.trim.trim_start.Given as goal
 
 abbrev pub invariant-loop-text : goal.invariant-loop-text
 invariant-loop-text l = record {

@@ -1,0 +1,45 @@
+//! Decimal digits as bytes.
+
+ghost use Rattle.std.specs.Prelude.{◌≡◌, ◌+◌, ◌<◌, ◌≤◌, ◌==◌, ◌^◌, length, true};
+ghost use Rattle.std.specs.List.{list_all};
+ghost use Rattle.std.specs.Char.{is_ascii_digit};
+ghost use Rattle.dbf_fields.specs.Digits.{digits_behind};
+
+/// Whether all bytes are decimal digits. So no bytes are. Takes no memory.
+pub fn are_digits(text: &[u8]) -> bool
+    ensures value { result ≡ list_all is_ascii_digit text.now }
+{
+    text.iter().all(|byte| byte.is_ascii_digit())
+}
+
+pub(crate) fn are_zeros(text: &[u8]) -> bool
+    ensures value { result ≡ list_all (λ b. b == 48) text.now }
+{
+    text.iter().all(|byte| *byte == b'0')
+}
+
+// The number with these digits behind it. `most` is how many digits it has at most.
+pub(crate) fn push_digits(number: u128, digits: &[u8], most: u32) -> u128
+    requires digits { list_all is_ascii_digit digits.now ≡ true }
+    requires small { number < 10 ^ most }
+    requires room { most + length digits.now ≤ 37 }
+    ensures value { result ≡ digits_behind number digits.now }
+    ensures small { result < 10 ^ (most + length digits.now) }
+{
+    let mut value = number;
+    for digit in digits {
+        value = value * 10 + u128::from(*digit - b'0');
+    }
+    value
+}
+
+/// The number that decimal digits stand for, and 0 where there are none. Takes no memory.
+#[tactic(auto, using(crate::proofs::Digits::below_64_bits))]
+pub fn number_of_digits(digits: &[u8]) -> u64
+    requires digits { list_all is_ascii_digit digits.now ≡ true }
+    requires few { length digits.now ≤ 19 }
+    ensures value { result ≡ digits_behind 0 digits.now }
+    ensures small { result < 10 ^ length digits.now }
+{
+    push_digits(0, digits, 0) as u64
+}
