@@ -8,3 +8,4 @@ pub mod DateLaws
 pub mod ShownDate
 pub mod FaultLaws
 pub mod LayoutLaws
+pub mod NameLaws

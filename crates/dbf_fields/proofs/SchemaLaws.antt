@@ -1,16 +1,20 @@
 -- A schema's fields are accepted again, and stay as they are.
-use Rattle.std.proofs.Common.{◌≡◌, ℕ, ◌≤◌, Bool, true, false, cond, ltb, leb, eqb, not, ◌&&◌, ◌||◌, List, [], ◌∷◌, ◌++◌, length, map, Option, Some, None, refl, sym, ◌∙◌, arith}
+use Rattle.std.proofs.Common.{◌≡◌, ℕ, ◌+◌, ◌<◌, ◌≤◌, Bool, true, false, cond, ltb, leb, eqb, not, ◌&&◌, ◌||◌, List, [], ◌∷◌, ◌++◌, length, map, take, drop, get_or, Option, Some, None, refl, sym, ap, ◌∙◌, arith}
 use Rattle.std.specs.List.{list_all, AllByRecursion}
 use Rattle.std.specs.Char.{is_ascii_alphabetic, to_ascii_uppercase}
 use Rattle.std.proofs.lemmas.Bool.{and_parts, leb-true}
 use Rattle.std.proofs.lemmas.Bool.Decides.{nat_tests}
-use Rattle.std.proofs.lemmas.List.{length-map, append-nil, append_assoc}
+use Rattle.std.proofs.lemmas.List.{length-map, map-append, append-nil, append_assoc, take_more, drop_more, drop_all}
+use Rattle.std.proofs.lemmas.List.Sums.{sum_by-cons}
 use Rattle.std.specs.Int.{is_in_range}
 use Rattle.dbf_fields.specs.declared.field.Field.{Field}
 use Rattle.dbf_fields.specs.Name.{is_name_char, is_name}
 use Rattle.dbf_fields.specs.Faults.{first_fault}
 use Rattle.dbf_fields.specs.Field.{is_kind, has_width, has_name, folded, widths}
-use Rattle.dbf_fields.specs.Schema.{tests_from, refusal, IsSchema}
+use Rattle.dbf_fields.specs.Schema.{field_tests, tests_from, refusal, IsSchema}
+use Rattle.dbf_fields.specs.declared.schema.SchemaFault.{SchemaFault}
+use Rattle.dbf_fields.specs.declared.schema.SchemaFault.TheVariants.{RecordTooLong}
+use Rattle.dbf_fields.proofs.FaultLaws.{first_then, first_before}
 
 -- a test that let the next ones decide
 pub passed : {F : Type 0} (b : Bool) (x : Option F) (f : F) → cond b x (Some f) ≡ None → (b ≡ true) × (x ≡ None)
@@ -128,3 +132,34 @@ wide_of_accepted earlier (f ∷ fs) h =
 -- each field of a schema has a width of its kind
 pub schema_wide : (fs : List Field) → IsSchema fs → AllByRecursion (λ f. has_width f ≡ true) fs
 schema_wide fs s = wide_of_accepted [] fs (passed (is_in_range 1 128 (length fs)) _ _ s.accepted).1
+
+widths_folded : (fs : List Field) → widths (map folded fs) ≡ widths fs
+widths_folded [] = refl
+widths_folded (f ∷ fs) = omega (arith, widths_folded fs, sum_by-cons (λ (g : Field). g.width) f fs, sum_by-cons (λ (g : Field). g.width) (folded f) (map folded fs))
+
+pub accepted_widths : (fs : List Field) → refusal fs ≡ None → widths (map folded fs) ≤ 4000
+accepted_widths fs h = schema_widths (map folded fs) (schema_from_accepted fs h)
+
+-- ---- the fields, one after the other
+
+-- the tests from a field on are its own and those from the next one on
+tests_split : (fs : List Field) (i : ℕ) (f : Field) → i < length fs → get_or fs i f ≡ f
+    → tests_from (map folded (take i fs)) (drop i fs) ≡ field_tests (map folded (take i fs)) f ++ tests_from (map folded (take (i + 1) fs)) (drop (i + 1) fs)
+tests_split fs i f lt is = rw (drop_more fs i f lt, take_more fs i f lt, map-append, is) refl
+
+pub field_passes : (fs : List Field) (i : ℕ) (f : Field) (refused : Option SchemaFault) → i < length fs → get_or fs i f ≡ f
+    → first_fault (tests_from (map folded (take i fs)) (drop i fs)) ≡ refused → first_fault (field_tests (map folded (take i fs)) f) ≡ None
+    → first_fault (tests_from (map folded (take (i + 1) fs)) (drop (i + 1) fs)) ≡ refused
+field_passes fs i f refused lt is left none =
+    sym (first_then (field_tests (map folded (take i fs)) f) (tests_from (map folded (take (i + 1) fs)) (drop (i + 1) fs)) none) ∙ sym (ap (λ (ts : List (Bool × SchemaFault)). first_fault ts) (tests_split fs i f lt is)) ∙ left
+
+pub field_fails : (fs : List Field) (i : ℕ) (f : Field) (refused : Option SchemaFault) (fault : SchemaFault) → i < length fs → get_or fs i f ≡ f
+    → first_fault (tests_from (map folded (take i fs)) (drop i fs)) ≡ refused → first_fault (field_tests (map folded (take i fs)) f) ≡ Some fault
+    → refused ≡ Some fault
+field_fails fs i f refused fault lt is left some =
+    sym left ∙ ap (λ (ts : List (Bool × SchemaFault)). first_fault ts) (tests_split fs i f lt is) ∙ first_before (field_tests (map folded (take i fs)) f) (tests_from (map folded (take (i + 1) fs)) (drop (i + 1) fs)) fault some
+
+-- after the last field the widths decide
+pub widths_decide : (fs : List Field) (i : ℕ) (refused : Option SchemaFault) → length fs ≤ i → first_fault (tests_from (map folded (take i fs)) (drop i fs)) ≡ refused
+    → cond (leb (widths (take i fs)) 4000) None (Some RecordTooLong) ≡ refused
+widths_decide fs i refused past left = rw (drop_all i fs past, widths_folded (take i fs)) at left

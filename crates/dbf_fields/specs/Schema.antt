@@ -8,16 +8,19 @@ use Rattle.dbf_fields.specs.Faults.{first_fault}
 use Rattle.dbf_fields.specs.Name.{is_name}
 use Rattle.dbf_fields.specs.Field.{is_kind, has_width, has_name, folded, widths}
 
--- The tests from a field on, after the earlier fields as the schema keeps them: four of each field, and
--- after the last one that of the record.
-abbrev pub tests_from : List Field → List Field → List (Bool × SchemaFault)
-tests_from earlier [] = (nat_le (widths earlier) 4000, RecordTooLong) ∷ []
-tests_from earlier (f ∷ fs) =
+-- the tests of a field after the earlier ones as the schema keeps them
+abbrev pub field_tests : List Field → Field → List (Bool × SchemaFault)
+field_tests earlier f =
     (is_name f.name, BadName)
     ∷ (not (has_name earlier (folded f).name), DuplicateName)
     ∷ (is_kind f.kind, BadKind)
     ∷ (has_width f, BadWidth)
-    ∷ tests_from (earlier ++ folded f ∷ []) fs
+    ∷ []
+
+-- the tests from a field on, and after the last field that of the record
+abbrev pub tests_from : List Field → List Field → List (Bool × SchemaFault)
+tests_from earlier [] = (nat_le (widths earlier) 4000, RecordTooLong) ∷ []
+tests_from earlier (f ∷ fs) = field_tests earlier f ++ tests_from (earlier ++ folded f ∷ []) fs
 
 -- why the fields are no schema, where they are none
 abbrev pub refusal : List Field → Option SchemaFault

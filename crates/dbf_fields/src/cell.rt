@@ -64,12 +64,14 @@ fn padded(alloc: Global, text: &[u8], width: usize) -> Result<Bytes, AllocError>
 ///
 /// The faults are tested in this order: `TypeMismatch` (a value that the field's kind doesn't keep),
 /// `BadDate` (the text that is no date, in a date's field), `NumberTooWide` (more decimals other than zero
-/// than the field has, or a text wider than the field), `NoMemory`. The widths and the forms of the cells are
-/// those of the published DBF layout; that nothing is rounded is this project's rule.
+/// than the field has, or a text wider than the field). All of them are tested before memory is taken, so
+/// `NoMemory` comes only for a value that the field can keep. The widths and the forms of the cells are those
+/// of the published DBF layout; that nothing is rounded is this project's rule.
 pub fn encode_cell(alloc: Global, field: &Field, value: &Literal) -> Result<Bytes, CellFault>
     ensures stored { IfOk result (λ cell. stored field.now value.now ≡ Ok cell) }
     ensures wide { IfOk result (λ cell. length cell ≡ field.now.width) }
     ensures refused { IfErr result (λ fault. (fault ≡ CellFault.NoMemory) ⊎ (stored field.now value.now ≡ Err fault)) }
+    ensures early { IfErr result (λ fault. (f : CellFault) → stored field.now value.now ≡ Err f → fault ≡ f) }
     ensures number_again { IfOk result (λ cell. IsNumberAgain field.now value.now cell) }
     ensures truth_again { has_width field.now ≡ true → IfOk result (λ cell. IsTruthAgain value.now cell) }
     ensures date_again { has_width field.now ≡ true → IfOk result (λ cell. IsDateAgain value.now cell) }

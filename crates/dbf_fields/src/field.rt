@@ -1,7 +1,8 @@
 //! What a field of a table is.
 
-ghost use Rattle.std.specs.Prelude.{◌≡◌, IfOk};
-ghost use Rattle.std.specs.List.{list_all};
+ghost use Rattle.std.specs.Prelude.{◌≡◌, map, bytes_eq, IfOk};
+ghost use Rattle.std.specs.List.{list_all, list_any};
+ghost use Rattle.std.specs.Char.{to_ascii_uppercase};
 ghost use Rattle.dbf_fields.specs.Name.{is_name_char};
 
 use crate::bytes::Bytes;
@@ -50,7 +51,7 @@ fn are_name_bytes(name: &[u8]) -> bool
 
 impl Field {
     ghost use Rattle.dbf_fields.specs.Name.{is_name};
-    ghost use Rattle.dbf_fields.specs.Field.{is_kind, has_width, has_name, folded};
+    ghost use Rattle.dbf_fields.specs.Field.{is_kind, has_width, folded};
 
     /// A field of a name, a letter of a kind, a width and decimals, whatever they are; an error where memory is
     /// refused. `Schema::new` judges it.
@@ -107,11 +108,18 @@ impl Field {
         }
     }
 
-    // Whether one of the fields has the name, which is compared as it stands.
-    pub(crate) fn any_has_name(fields: &[Field], name: &Bytes) -> bool
-        ensures value { result ≡ has_name fields.now name.now }
+    // Whether the field has the name, whatever the case of the letters.
+    fn is_named(&self, name: &[u8]) -> bool
+        ensures value { result ≡ bytes_eq (folded self.now).name (map to_ascii_uppercase name.now) }
     {
-        fields.iter().any(|field| field.name == *name)
+        self.name.as_slice().eq_ignore_ascii_case(name)
+    }
+
+    // Whether one of the fields has the name, whatever the case of the letters.
+    pub(crate) fn any_has_name(fields: &[Field], name: &[u8]) -> bool
+        ensures value { result ≡ list_any (λ f. bytes_eq (folded f).name (map to_ascii_uppercase name.now)) fields.now }
+    {
+        fields.iter().any(|field| field.is_named(name))
     }
 
     // The field as a schema keeps it: the name in capitals, and no decimals but for a number.

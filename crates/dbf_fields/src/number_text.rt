@@ -1,6 +1,6 @@
 //! Numbers in cells, as they are written.
 
-ghost use Rattle.std.specs.Prelude.{◌≡◌, ◌+◌, ◌-◌, ◌/◌, ◌<◌, ◌≤◌, ◌^◌, ◌++◌, [], length, take, drop, replicate, IfOk, IfErr, Some, None, ◌⊎◌};
+ghost use Rattle.std.specs.Prelude.{◌≡◌, ◌+◌, ◌-◌, ◌/◌, ◌<◌, ◌≤◌, ◌^◌, ◌++◌, [], length, take, drop, replicate, IfOk, IfErr, IfSome, MatchOption, Some, None, ◌⊎◌};
 ghost use Rattle.dbf_fields.specs.Digits.{last_digits, numeral};
 ghost use Rattle.dbf_fields.specs.NumberText.{sign as sign_of, point as point_before, number_text as text_of, right_justified as justified, number_cell as cell_of};
 
@@ -142,6 +142,23 @@ fn right_justified(alloc: Global, width: usize, text: &[u8]) -> Result<Bytes, Al
     Ok(Bytes::from_vec(cell))
 }
 
+// The text of a number of which so many decimals keep all and that so many bytes hold, where there is one.
+fn fitting_text(width: usize, decimals: u8, digits: i128, scale: u8) -> Option<NumberText>
+    ensures value { MatchOption result (cell_of width decimals digits scale ≡ None) (λ text. cell_of width decimals digits scale ≡ Some (justified width text)) }
+    ensures fits { IfSome result (λ text. length text ≤ width) }
+{
+    let (last, whole) = split_off(digits.unsigned_abs(), scale);
+    let (_, cut) = last.split_at(usize::from(decimals));
+    if !are_zeros(cut) {
+        return None;
+    }
+    let text = text_of_parts(digits, whole, &last, decimals);
+    if text.as_bytes().len() > width {
+        return None;
+    }
+    Some(text)
+}
+
 // The cell of a number, of whose digits `scale` stand after its point.
 pub(crate) fn number_cell(
     alloc: Global,
@@ -152,16 +169,14 @@ pub(crate) fn number_cell(
 ) -> Result<Bytes, CellFault>
     ensures value { IfOk result (λ cell. cell_of width decimals digits scale ≡ Some cell) }
     ensures refused { IfErr result (λ fault. (fault ≡ CellFault.NoMemory) ⊎ ((fault ≡ CellFault.NumberTooWide) × (cell_of width decimals digits scale ≡ None))) }
+    ensures early { IfErr result (λ fault. cell_of width decimals digits scale ≡ None → fault ≡ CellFault.NumberTooWide) }
 {
-    let (last, whole) = split_off(digits.unsigned_abs(), scale);
-    let (_, cut) = last.split_at(usize::from(decimals));
-    if !are_zeros(cut) {
-        return Err(CellFault::NumberTooWide);
+    let width = usize::from(width);
+    match fitting_text(width, decimals, digits, scale) {
+        Some(text) => {
+            let cell = right_justified(alloc, width, text.as_bytes())?;
+            Ok(cell)
+        }
+        None => Err(CellFault::NumberTooWide),
     }
-    let text = text_of_parts(digits, whole, &last, decimals);
-    if text.as_bytes().len() > usize::from(width) {
-        return Err(CellFault::NumberTooWide);
-    }
-    let cell = right_justified(alloc, usize::from(width), text.as_bytes())?;
-    Ok(cell)
 }

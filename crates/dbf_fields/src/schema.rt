@@ -1,7 +1,9 @@
 //! The fields of a table.
 
-ghost use Rattle.std.specs.Prelude.{◌≡◌, ◌+◌, ◌<◌, ◌≤◌, [], length, None, map, drop, slice_index_or, IfOk, IfErr};
-ghost use Rattle.dbf_fields.specs.Field.{widths};
+ghost use Rattle.std.specs.Prelude.{◌≡◌, ◌+◌, ◌<◌, ◌≤◌, [], length, Some, None, map, drop, slice_index_or, IfOk, IfErr, OnOk};
+ghost use Rattle.dbf_fields.specs.Faults.{first_fault};
+ghost use Rattle.dbf_fields.specs.Field.{folded, has_name, widths};
+ghost use Rattle.dbf_fields.specs.Schema.{field_tests, refusal};
 ghost use Rattle.dbf_fields.specs.Layout.{cells_of, offsets_from, offset_of, width_of};
 
 use crate::field::Field;
@@ -86,6 +88,63 @@ impl Model for Schema {
     ghost invariant = { λ s. IsLaidOut s.fields.items s.offsets.items s.record_length };
 }
 
+// Whether an earlier field has the name of a field, whatever the case of the letters.
+fn is_duplicate(earlier: &[Field], field: &Field) -> bool
+    ensures value { result ≡ has_name (map folded earlier.now) (folded field.now).name }
+{
+    Field::any_has_name(earlier, field.name.as_slice())
+}
+
+// Tests a field after the earlier ones. Takes no memory.
+fn check_field(earlier: &[Field], field: &Field) -> Result<(), SchemaFault>
+    ensures accepted { OnOk result (first_fault (field_tests (map folded earlier.now) field.now) ≡ None) }
+    ensures refused { IfErr result (λ fault. first_fault (field_tests (map folded earlier.now) field.now) ≡ Some fault) }
+{
+    if !field.has_good_name() {
+        return Err(SchemaFault::BadName);
+    }
+    if is_duplicate(earlier, field) {
+        return Err(SchemaFault::DuplicateName);
+    }
+    if !field.has_known_kind() {
+        return Err(SchemaFault::BadKind);
+    }
+    if !field.has_good_width() {
+        return Err(SchemaFault::BadWidth);
+    }
+    Ok(())
+}
+
+// Tests the fields, one after the other. Takes no memory.
+fn check_fields(fields: &[Field]) -> Result<(), SchemaFault>
+    ensures accepted { OnOk result (refusal fields.now ≡ None) }
+    ensures refused { IfErr result (λ fault. refusal fields.now ≡ Some fault) }
+{
+    if fields.is_empty() || fields.len() > MOST_FIELDS {
+        return Err(SchemaFault::BadFieldCount);
+    }
+    let mut widths = 0;
+    for (i, field) in fields.iter().enumerate() {
+        check_field(&fields[..i], field)?;
+        widths += u32::from(field.width);
+    }
+    if widths > MOST_RECORD_BYTES {
+        return Err(SchemaFault::RecordTooLong);
+    }
+    Ok(())
+}
+
+// The fields as a schema keeps them.
+fn folded_fields(alloc: Global, fields: &[Field]) -> Result<Vec<Field>, AllocError>
+    ensures value { IfOk result (λ kept. kept.items ≡ map folded fields.now) }
+{
+    let mut kept = Vec::with_capacity(alloc, fields.len())?;
+    for field in fields {
+        kept.push(field.folded(alloc)?)?;
+    }
+    Ok(kept)
+}
+
 // The offsets of the cells in a record, whose flag byte stands first, and the record's length.
 fn layout_of(alloc: Global, fields: &[Field]) -> Result<(Vec<u16>, u16), AllocError>
     requires short { widths fields.now ≤ 4000 }
@@ -102,49 +161,26 @@ fn layout_of(alloc: Global, fields: &[Field]) -> Result<(Vec<u16>, u16), AllocEr
 }
 
 impl Schema {
-    ghost use Rattle.dbf_fields.specs.Field.{folded};
-    ghost use Rattle.dbf_fields.specs.Schema.{refusal, IsRefusal, IsSchema};
+    ghost use Rattle.dbf_fields.specs.Schema.{IsRefusal, IsSchema};
 
     /// The schema of the fields: the names in capitals, and no decimals but for numbers.
     ///
     /// The faults are tested in this order: `BadFieldCount`; then, field by field, `BadName`,
     /// `DuplicateName`, `BadKind` (any letter but the capitals `C`, `N`, `L`, `D` and `M`), `BadWidth`; then
-    /// `RecordTooLong`. `NoMemory` may stand in place of what would have come after the growth that was
-    /// refused. The rules are those of the published DBF layout, and the limit of 4,000 bytes that of
-    /// dBASE III PLUS records.
+    /// `RecordTooLong`. All of them are tested before memory is taken, so `NoMemory` comes only for fields
+    /// that a table may have. The rules are those of the published DBF layout, and the limit of 4,000 bytes
+    /// that of dBASE III PLUS records.
     pub fn new(alloc: Global, fields: &[Field]) -> Result<Schema, SchemaFault>
         ensures accepted { IfOk result (λ _. refusal fields.now ≡ None) }
         ensures value { IfOk result (λ schema. schema ≡ map folded fields.now) }
         ensures refused { IfErr result (λ fault. IsRefusal fault fields.now) }
+        ensures early { IfErr result (λ fault. (f : SchemaFault) → refusal fields.now ≡ Some f → fault ≡ f) }
     {
-        if fields.is_empty() || fields.len() > MOST_FIELDS {
-            return Err(SchemaFault::BadFieldCount);
-        }
-        let mut schema = Vec::new(alloc);
-        let mut widths = 0;
-        for field in fields {
-            if !field.has_good_name() {
-                return Err(SchemaFault::BadName);
-            }
-            let folded = field.folded(alloc)?;
-            if Field::any_has_name(&schema, &folded.name) {
-                return Err(SchemaFault::DuplicateName);
-            }
-            if !field.has_known_kind() {
-                return Err(SchemaFault::BadKind);
-            }
-            if !field.has_good_width() {
-                return Err(SchemaFault::BadWidth);
-            }
-            widths += u32::from(field.width);
-            schema.push(folded)?;
-        }
-        if widths > MOST_RECORD_BYTES {
-            return Err(SchemaFault::RecordTooLong);
-        }
-        let (offsets, record_length) = layout_of(alloc, &schema)?;
+        check_fields(fields)?;
+        let fields = folded_fields(alloc, fields)?;
+        let (offsets, record_length) = layout_of(alloc, &fields)?;
         Ok(Schema {
-            fields: schema,
+            fields,
             offsets,
             record_length,
         })
