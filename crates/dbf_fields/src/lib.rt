@@ -34,6 +34,4 @@ pub use schema::{MOST_FIELDS, MOST_RECORD_BYTES, Schema, SchemaFault};
 pub use trim::trimmed;
 
 #[cfg(test)]
-mod cell_tests;
-#[cfg(test)]
 mod tests;

@@ -10,8 +10,8 @@ pub returns-then-not-are_zeros-clause-value : goal.returns-then-not-are_zeros-cl
 returns-then-not-are_zeros-clause-value c =
     let z = to_z-of_z w128 c.args.digits c.ranges.digits in
     inexact c.args.width c.args.decimals c.args.digits c.args.scale
-        (exact_is false c.args.digits c.unsigned_abs.result c.args.scale c.args.decimals c.from.result c.split_off-whole.result.0 c.split_at.result.1.now
-        (c.unsigned_abs.ensures.value ∙ ap unsigned_abs z) c.split_off-whole.ensures.digits c.from.ensures c.split_at.ensures.back c.if-not-are_zeros.ensures.value)
+    (exact_is false c.args.digits c.unsigned_abs.result c.args.scale c.args.decimals c.from.result c.split_off-whole.result.0 c.split_at.result.1.now
+    (c.unsigned_abs.ensures.value ∙ ap unsigned_abs z) c.split_off-whole.ensures.digits c.from.ensures c.split_at.ensures.back c.if-not-are_zeros.ensures.value)
 
 pub returns-then-as_bytes-width-clause-value : goal.returns-then-as_bytes-width-clause-value
 returns-then-as_bytes-width-clause-value c =
