@@ -12,7 +12,7 @@ filled_from (suc width) blanks (b ∷ text) le =
     let left : suc width - suc (length (take width text)) ≡ width - length (take width text) = omega arith in
     rw left (ap (λ (t : List ℕ). b ∷ t) (filled_from width blanks text (omega arith)))
 
--- as much of the text as fits, and blanks behind it
+-- as much of the text as fits, and blanks after it
 pub filled : (width : ℕ) (text : List ℕ) → take width text ++ replicate (width - length (take width text)) 32 ≡ padded width text
 filled width text = filled_from width width text (omega arith)
 

@@ -14,7 +14,7 @@ use Rattle.dbf_fields.specs.declared.day.Day.{Day}
 use Rattle.dbf_fields.specs.declared.field.Field.{Field}
 use Rattle.dbf_fields.specs.Field.{has_width}
 use Rattle.dbf_fields.specs.Padding.{padded}
-use Rattle.dbf_fields.specs.Digits.{digits_behind, last_digits}
+use Rattle.dbf_fields.specs.Digits.{digits_after, last_digits}
 use Rattle.dbf_fields.specs.Date.{is_day, is_date, year_in, month_in, day_in, blank_date, date_text, SaysDay}
 use Rattle.dbf_fields.proofs.DayLaws.{month_days}
 use Rattle.dbf_fields.proofs.ReadBack.{last_digits_digits, number_of_last}
@@ -64,7 +64,7 @@ not_blank cell other is differs = λ (same : cell ≡ blank_date). false≢true 
 
 -- ---- a date that was written is read again
 
-two_or_four : (k n : ℕ) → n < 10 ^ k → digits_behind 0 (last_digits k n) ≡ n
+two_or_four : (k n : ℕ) → n < 10 ^ k → digits_after 0 (last_digits k n) ≡ n
 two_or_four k n small =
     let none : n / 10 ^ k ≡ 0 = div-eq_of_lt small in
     rw none at (number_of_last k n)
@@ -78,15 +78,15 @@ text_eight : (y m d : ℕ) → length (date_text y m d) ≡ 8
 unfolding date_text
 text_eight y m d = refl
 
-text_year : (y m d : ℕ) → year_in (date_text y m d) ≡ digits_behind 0 (last_digits 4 y)
+text_year : (y m d : ℕ) → year_in (date_text y m d) ≡ digits_after 0 (last_digits 4 y)
 unfolding date_text
 text_year y m d = refl
 
-text_month : (y m d : ℕ) → month_in (date_text y m d) ≡ digits_behind 0 (last_digits 2 m)
+text_month : (y m d : ℕ) → month_in (date_text y m d) ≡ digits_after 0 (last_digits 2 m)
 unfolding date_text
 text_month y m d = refl
 
-text_day : (y m d : ℕ) → day_in (date_text y m d) ≡ digits_behind 0 (last_digits 2 d)
+text_day : (y m d : ℕ) → day_in (date_text y m d) ≡ digits_after 0 (last_digits 2 d)
 unfolding date_text
 text_day y m d = refl
 

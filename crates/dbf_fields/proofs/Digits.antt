@@ -7,7 +7,7 @@ use Rattle.std.proofs.lemmas.Grind.{pow_more, fold-append}
 use Rattle.std.proofs.lemmas.List.{take_more, take-append-drop, replicate_more}
 use Rattle.std.proofs.lemmas.List.Folds.{list_all-append}
 use Rattle.std.proofs.Math.Nat.{pow-le-pow_right}
-use Rattle.dbf_fields.specs.Digits.{digits_behind}
+use Rattle.dbf_fields.specs.Digits.{digits_after}
 
 pub digit_at : (ds : List ℕ) → list_all is_ascii_digit ds ≡ true → (i : ℕ) → i < length ds → (48 ≤ get_or ds i 0) × (get_or ds i 0 ≤ 57)
 digit_at [] h i lt = absurd (omega arith)
@@ -29,10 +29,10 @@ next_small_at n a b d e small digit = rw e (next_small n a d small digit)
 pub capped : (i : ℕ) → i ≤ 37 → 10 ^ i ≤ 10 ^ 37
 capped i le = pow-le-pow_right (omega arith) le
 
-pub digit_more : (n : ℕ) (ds : List ℕ) (i : ℕ) → i < length ds → digits_behind n (take (i + 1) ds) ≡ digits_behind n (take i ds) * 10 + (get_or ds i 0 - 48)
+pub digit_more : (n : ℕ) (ds : List ℕ) (i : ℕ) → i < length ds → digits_after n (take (i + 1) ds) ≡ digits_after n (take i ds) * 10 + (get_or ds i 0 - 48)
 digit_more n ds i lt = rw (take_more ds i 0 lt, fold-append) refl
 
-pub zero_more : (n i : ℕ) → digits_behind n (replicate (i + 1) 48) ≡ digits_behind n (replicate i 48) * 10
+pub zero_more : (n i : ℕ) → digits_after n (replicate (i + 1) 48) ≡ digits_after n (replicate i 48) * 10
 zero_more n i = rw (← replicate_more {X = ℕ} i 48, fold-append) (omega arith)
 
 pub below_cap : (v a : ℕ) → v < 10 ^ a → a ≤ 37 → v < 10 ^ 37

@@ -14,7 +14,7 @@ use Rattle.std.proofs.lemmas.Int.{ints}
 use Rattle.std.proofs.lemmas.Int.Digits.{number_digits_of, all_below_base_digits_of}
 use Rattle.std.proofs.lemmas.List.{reverse-append, reverse-reverse, take_all, drop_all, append-nil, take_at, length-take-le, length-replicate, take-replicate}
 use Rattle.std.proofs.lemmas.List.Folds.{list_all-append}
-use Rattle.dbf_fields.specs.Digits.{digits_behind, last_digits, numeral}
+use Rattle.dbf_fields.specs.Digits.{digits_after, last_digits, numeral}
 use Rattle.dbf_fields.specs.Number.{without_leading, trimmed, is_decimal, scaled, magnitude, signed, number}
 use Rattle.dbf_fields.specs.NumberText.{sign, point, kept, number_text, is_exact, right_justified, number_cell, IsSameNumber}
 use Rattle.dbf_fields.proofs.Digits.{digits_take}
@@ -53,27 +53,27 @@ length-kept d ds = length-take-le d (ds ++ replicate d 48) (omega (arith, length
 
 -- ---- the number of digits that were written
 
-behind_step : (n glyph digit value : ℕ) (rest : List ℕ) → glyph - 48 ≡ digit → digits_behind (n * 10 + digit) rest ≡ value → digits_behind n (glyph ∷ rest) ≡ value
-behind_step n glyph digit value rest e h = rw e h
+digits_step : (n glyph digit value : ℕ) (rest : List ℕ) → glyph - 48 ≡ digit → digits_after (n * 10 + digit) rest ≡ value → digits_after n (glyph ∷ rest) ≡ value
+digits_step n glyph digit value rest e h = rw e h
 
-number_of_glyphs : (n : ℕ) (ds : List ℕ) → digits_behind n (map (λ d. 48 + d) ds) ≡ number_from_digits_after 10 n ds
+number_of_glyphs : (n : ℕ) (ds : List ℕ) → digits_after n (map (λ d. 48 + d) ds) ≡ number_from_digits_after 10 n ds
 number_of_glyphs n [] = refl
-number_of_glyphs n (d ∷ ds) = behind_step n (48 + d) d _ (map (λ d. 48 + d) ds) (omega arith) (number_of_glyphs (n * 10 + d) ds)
+number_of_glyphs n (d ∷ ds) = digits_step n (48 + d) d _ (map (λ d. 48 + d) ds) (omega arith) (number_of_glyphs (n * 10 + d) ds)
 
-number_of_numeral : (n : ℕ) → digits_behind 0 (numeral n) ≡ n
+number_of_numeral : (n : ℕ) → digits_after 0 (numeral n) ≡ n
 number_of_numeral n =
-    let front : digits_behind 0 (map (λ d. 48 + d) (digits_of 10 (n / 10))) ≡ n / 10 = number_of_glyphs 0 (digits_of 10 (n / 10)) ∙ number_digits_of 10 (n / 10) (omega arith) in
+    let front : digits_after 0 (map (λ d. 48 + d) (digits_of 10 (n / 10))) ≡ n / 10 = number_of_glyphs 0 (digits_of 10 (n / 10)) ∙ number_digits_of 10 (n / 10) (omega arith) in
     rw (fold-append, front) (omega arith)
 
-pub number_of_last : (k n : ℕ) → digits_behind (n / 10 ^ k) (last_digits k n) ≡ n
+pub number_of_last : (k n : ℕ) → digits_after (n / 10 ^ k) (last_digits k n) ≡ n
 number_of_last zero n = omega arith
 number_of_last (suc k) n =
     let power : 10 ^ suc k ≡ 10 * 10 ^ k = pow-suc 10 k ∙ mul_comm (10 ^ k) 10 in
-    let front : digits_behind (n / 10 ^ suc k) (last_digits k (n / 10)) ≡ n / 10 = rw (power, ← div-div-eq-div-mul n 10 (10 ^ k)) (number_of_last k (n / 10)) in
+    let front : digits_after (n / 10 ^ suc k) (last_digits k (n / 10)) ≡ n / 10 = rw (power, ← div-div-eq-div-mul n 10 (10 ^ k)) (number_of_last k (n / 10)) in
     rw (fold-append, front) (omega arith)
 
--- zeros behind a number, and more or fewer of them
-zeros_number : (n : ℕ) (ds : List ℕ) → list_all (λ b. b == 48) ds ≡ true → digits_behind n ds ≡ n * 10 ^ length ds
+-- zeros after a number, and more or fewer of them
+zeros_number : (n : ℕ) (ds : List ℕ) → list_all (λ b. b == 48) ds ≡ true → digits_after n ds ≡ n * 10 ^ length ds
 zeros_number n [] h = omega arith
 zeros_number n (d ∷ ds) h =
     let p = and_parts (eqb d 48) (list_all (λ b. b == 48) ds) h in
@@ -89,9 +89,9 @@ ten_more : (v a n b : ℕ) → v * 10 ^ a ≡ n * 10 ^ b → v * 10 ^ suc a ≡ 
 ten_more v a n b e = rw (pow-suc 10 a, pow-suc 10 b, ← mul_assoc v (10 ^ a) 10, ← mul_assoc n (10 ^ b) 10, e) refl
 
 kept_number : (n : ℕ) (ds : List ℕ) (d r : ℕ) → d ≤ length ds + r → list_all (λ b. b == 48) (drop d ds) ≡ true
-    → digits_behind n (take d (ds ++ replicate r 48)) * 10 ^ length ds ≡ digits_behind n ds * 10 ^ d
+    → digits_after n (take d (ds ++ replicate r 48)) * 10 ^ length ds ≡ digits_after n ds * 10 ^ d
 kept_number n [] d r room zeros =
-    let e : digits_behind n (replicate d 48) ≡ n * 10 ^ d = zeros_number n (replicate d 48) (zeros_are d) ∙ ap (λ (k : ℕ). n * 10 ^ k) (length-replicate {A = ℕ} d 48) in
+    let e : digits_after n (replicate d 48) ≡ n * 10 ^ d = zeros_number n (replicate d 48) (zeros_are d) ∙ ap (λ (k : ℕ). n * 10 ^ k) (length-replicate {A = ℕ} d 48) in
     rw (take-replicate {X = ℕ} d r 48 (omega arith), e) (omega arith)
 kept_number n (b ∷ ds) zero r room zeros = rw (zeros_number n (b ∷ ds) zeros) (omega arith)
 kept_number n (b ∷ ds) (suc d) r room zeros =
@@ -137,11 +137,11 @@ trimmed_cell k text h = rw (blanks_off k text, nothing_off text h, nothing_off (
 digit_no_point : (b : ℕ) → is_ascii_digit b ≡ true → eqb b 46 ≡ false
 digit_no_point b h = grind (arith, nat_tests)
 
-point_behind : (whole rest : List ℕ) → list_all is_ascii_digit whole ≡ true → position_or_len (λ b. b == 46) (whole ++ (46 ∷ rest)) ≡ length whole
-point_behind [] rest h = refl
-point_behind (b ∷ bs) rest h =
+point_after : (whole rest : List ℕ) → list_all is_ascii_digit whole ≡ true → position_or_len (λ b. b == 46) (whole ++ (46 ∷ rest)) ≡ length whole
+point_after [] rest h = refl
+point_after (b ∷ bs) rest h =
     let p = and_parts (is_ascii_digit b) (list_all is_ascii_digit bs) h in
-    rw (digit_no_point b p.0, point_behind bs rest p.1) (omega arith)
+    rw (digit_no_point b p.0, point_after bs rest p.1) (omega arith)
 
 no_point : (whole : List ℕ) → list_all is_ascii_digit whole ≡ true → position_or_len (λ b. b == 46) whole ≡ length whole
 no_point [] h = refl
@@ -157,14 +157,14 @@ past_point (b ∷ bs) rest =
 
 -- digits with a point are read as they stand
 with_point : (whole digits : List ℕ) (decimals : ℕ) → list_all is_ascii_digit whole ≡ true → list_all is_ascii_digit digits ≡ true → 0 < length whole → length digits ≡ decimals
-    → magnitude (whole ++ (46 ∷ digits)) decimals ≡ Some (digits_behind 0 (whole ++ digits))
+    → magnitude (whole ++ (46 ∷ digits)) decimals ≡ Some (digits_after 0 (whole ++ digits))
 unfolding is_decimal scaled
 with_point whole digits decimals hw hd some len =
     let before : take (length whole) (whole ++ (46 ∷ digits)) ≡ whole = take_at whole (46 ∷ digits) (length whole) refl in
     let none : decimals - length digits ≡ 0 = omega arith in
-    rw (point_behind whole digits hw, before, past_point whole digits, hw, hd, le-leb 1 (length whole + length digits) (omega arith), drop_all decimals digits (omega arith), take_all decimals digits (omega arith), none, append-nil) refl
+    rw (point_after whole digits hw, before, past_point whole digits, hw, hd, le-leb 1 (length whole + length digits) (omega arith), drop_all decimals digits (omega arith), take_all decimals digits (omega arith), none, append-nil) refl
 
-without_point : (whole : List ℕ) → list_all is_ascii_digit whole ≡ true → 0 < length whole → magnitude whole 0 ≡ Some (digits_behind 0 whole)
+without_point : (whole : List ℕ) → list_all is_ascii_digit whole ≡ true → 0 < length whole → magnitude whole 0 ≡ Some (digits_after 0 whole)
 unfolding is_decimal scaled
 without_point whole hw some =
     rw (no_point whole hw, take_all (length whole) whole (omega arith), drop_all (length whole + 1) whole (omega arith), hw, le-leb 1 (length whole + 0) (omega arith), append-nil) refl
@@ -172,9 +172,9 @@ without_point whole hw some =
 a_point : (decimals : ℕ) → point (suc decimals) ≡ 46 ∷ []
 a_point decimals = rw (ne_eqb (suc decimals) 0 (λ e. absurd (omega arith))) refl
 
--- the digits of a cell: so many of them behind the point
+-- the digits of a cell: so many of them after the point
 magnitude_of : (whole digits : List ℕ) (decimals : ℕ) → list_all is_ascii_digit whole ≡ true → list_all is_ascii_digit digits ≡ true → 0 < length whole → length digits ≡ decimals
-    → magnitude (whole ++ (point decimals ++ digits)) decimals ≡ Some (digits_behind 0 (whole ++ digits))
+    → magnitude (whole ++ (point decimals ++ digits)) decimals ≡ Some (digits_after 0 (whole ++ digits))
 magnitude_of whole [] zero hw hd some len = rw append-nil (without_point whole hw some)
 magnitude_of whole (b ∷ bs) zero hw hd some len = absurd (omega arith)
 magnitude_of whole digits (suc decimals) hw hd some len = rw (a_point decimals) (with_point whole digits (suc decimals) hw hd some len)
@@ -193,13 +193,13 @@ unsigned (b ∷ bs) rest decimals h some =
 
 -- the digits of the text, whose number is that of the value
 text_number : (m scale decimals : ℕ) → list_all (λ b. b == 48) (drop decimals (last_digits scale m)) ≡ true
-    → digits_behind 0 (numeral (m / 10 ^ scale) ++ kept decimals (last_digits scale m)) * 10 ^ scale ≡ m * 10 ^ decimals
+    → digits_after 0 (numeral (m / 10 ^ scale) ++ kept decimals (last_digits scale m)) * 10 ^ scale ≡ m * 10 ^ decimals
 text_number m scale decimals exact =
     let number = kept_number (m / 10 ^ scale) (last_digits scale m) decimals decimals (omega arith) exact in
     rw (fold-append, number_of_numeral (m / 10 ^ scale)) (rw (length-last_digits scale m, number_of_last scale m) at number)
 
 text_magnitude : (m scale decimals : ℕ)
-    → magnitude (numeral (m / 10 ^ scale) ++ (point decimals ++ kept decimals (last_digits scale m))) decimals ≡ Some (digits_behind 0 (numeral (m / 10 ^ scale) ++ kept decimals (last_digits scale m)))
+    → magnitude (numeral (m / 10 ^ scale) ++ (point decimals ++ kept decimals (last_digits scale m))) decimals ≡ Some (digits_after 0 (numeral (m / 10 ^ scale) ++ kept decimals (last_digits scale m)))
 text_magnitude m scale decimals =
     magnitude_of (numeral (m / 10 ^ scale)) (kept decimals (last_digits scale m)) decimals (numeral_digits (m / 10 ^ scale))
     (kept_digits decimals (last_digits scale m) (last_digits_digits scale m)) (numeral_some (m / 10 ^ scale)) (length-kept decimals (last_digits scale m))

@@ -12,15 +12,15 @@ use Rattle.dbf_fields.specs.Digits.{last_digits, numeral}
 use Rattle.dbf_fields.specs.NumberText.{sign, point, kept, number_text, is_exact, right_justified, number_cell}
 
 -- the last digit of the rest, written before what stands
-pub digit_before : (place rest : ℕ) (last : List ℕ) → 0 < place → place ≤ length last
-    → last_digits (place - 1) (rest / 10) ++ drop (place - 1) (set last (place - 1) (48 + rest % 10)) ≡ last_digits place rest ++ drop place last
+pub digit_before : (index rest : ℕ) (last : List ℕ) → 0 < index → index ≤ length last
+    → last_digits (index - 1) (rest / 10) ++ drop (index - 1) (set last (index - 1) (48 + rest % 10)) ≡ last_digits index rest ++ drop index last
 digit_before zero rest last some le = absurd (omega arith)
 digit_before (suc p) rest last some le =
     let e : suc p - 1 ≡ p = omega arith in
     let more : p + 1 ≡ suc p = omega arith in
     rw (e, drop-set last p (48 + rest % 10) (omega arith), more, append_assoc) refl
 
-pub rest_before : (place rest : ℕ) → 0 < place → rest / 10 / 10 ^ (place - 1) ≡ rest / 10 ^ place
+pub rest_before : (index rest : ℕ) → 0 < index → rest / 10 / 10 ^ (index - 1) ≡ rest / 10 ^ index
 rest_before zero rest some = absurd (omega arith)
 rest_before (suc p) rest some =
     let e : suc p - 1 ≡ p = omega arith in
@@ -28,8 +28,8 @@ rest_before (suc p) rest some =
     rw (e, div-div-eq-div-mul rest 10 (10 ^ p), power) refl
 
 -- nothing is written yet
-pub all_zeros : (place k n : ℕ) → place ≡ k → last_digits place n ++ drop place (replicate 255 48) ≡ last_digits k n ++ replicate (255 - k) 48
-all_zeros place k n e = rw (e, drop-replicate {X = ℕ} k 255 48) refl
+pub all_zeros : (index k n : ℕ) → index ≡ k → last_digits index n ++ drop index (replicate 255 48) ≡ last_digits k n ++ replicate (255 - k) 48
+all_zeros index k n e = rw (e, drop-replicate {X = ℕ} k 255 48) refl
 
 -- the same for a number without zeros at its front
 pub numeral_before : (start rest : ℕ) (digits : List ℕ) → 0 < rest → 0 < start → start ≤ length digits
@@ -51,7 +51,7 @@ pub length-last_digits : (k n : ℕ) → length (last_digits k n) ≡ k
 length-last_digits zero n = refl
 length-last_digits (suc k) n = omega (arith, length-append (last_digits k (n / 10)) ((48 + n % 10) ∷ []), length-last_digits k (n / 10))
 
--- zeros behind the digits, as many as serve
+-- zeros after the digits, as many as serve
 filled_take : (ds : List ℕ) (k r q : ℕ) → k ≤ length ds + r → k ≤ length ds + q → take k (ds ++ replicate r 48) ≡ take k (ds ++ replicate q 48)
 filled_take [] k r q a b = rw (take-replicate {X = ℕ} k r 48 (omega arith), take-replicate {X = ℕ} k q 48 (omega arith)) refl
 filled_take (d ∷ ds) zero r q a b = refl
@@ -61,22 +61,22 @@ zeros_all : (r : ℕ) → list_all (λ b. b == 48) (replicate r 48) ≡ true
 zeros_all zero = refl
 zeros_all (suc r) = zeros_all r
 
-zeros_behind : (ds : List ℕ) (k r : ℕ) → list_all (λ b. b == 48) (drop k (ds ++ replicate r 48)) ≡ list_all (λ b. b == 48) (drop k ds)
-zeros_behind [] zero r = zeros_all r
-zeros_behind [] (suc k) r = rw (drop-replicate {X = ℕ} (suc k) r 48) (zeros_all (r - suc k))
-zeros_behind (d ∷ ds) zero r = ap (λ (t : Bool). (d == 48) && t) (zeros_behind ds zero r)
-zeros_behind (d ∷ ds) (suc k) r = zeros_behind ds k r
+zeros_after : (ds : List ℕ) (k r : ℕ) → list_all (λ b. b == 48) (drop k (ds ++ replicate r 48)) ≡ list_all (λ b. b == 48) (drop k ds)
+zeros_after [] zero r = zeros_all r
+zeros_after [] (suc k) r = rw (drop-replicate {X = ℕ} (suc k) r 48) (zeros_all (r - suc k))
+zeros_after (d ∷ ds) zero r = ap (λ (t : Bool). (d == 48) && t) (zeros_after ds zero r)
+zeros_after (d ∷ ds) (suc k) r = zeros_after ds k r
 
--- the digits behind the point, as they are written
+-- the digits after the point, as they are written
 pub kept_is : (ds : List ℕ) (scale decimals : ℕ) → length ds ≡ scale → scale ≤ 255 → decimals ≤ 255 → take decimals (ds ++ replicate (255 - scale) 48) ≡ kept decimals ds
 kept_is ds scale decimals len a b = filled_take ds decimals (255 - scale) decimals (omega arith) (omega arith)
 
 -- the digits past the decimals, as the code cuts them off
-pub exact_is : (b : Bool) (z : ℤ) (m scale decimals place : ℕ) (last cut : List ℕ) → m ≡ unsigned_abs z → last ≡ last_digits scale m ++ replicate (255 - scale) 48
-    → place ≡ decimals → cut ≡ drop place last → b ≡ list_all (λ b. b == 48) cut → is_exact z scale decimals ≡ b
+pub exact_is : (b : Bool) (z : ℤ) (m scale decimals index : ℕ) (last cut : List ℕ) → m ≡ unsigned_abs z → last ≡ last_digits scale m ++ replicate (255 - scale) 48
+    → index ≡ decimals → cut ≡ drop index last → b ≡ list_all (λ b. b == 48) cut → is_exact z scale decimals ≡ b
 unfolding is_exact
-exact_is b z m scale decimals place last cut em el ep ec eb =
-    rw (eb, ec, ep, el, em) (sym (zeros_behind (last_digits scale (unsigned_abs z)) decimals (255 - scale)))
+exact_is b z m scale decimals index last cut em el ep ec eb =
+    rw (eb, ec, ep, el, em) (sym (zeros_after (last_digits scale (unsigned_abs z)) decimals (255 - scale)))
 
 -- the text, as the code makes it
 pub text_is : (z y : ℤ) (m whole scale decimals : ℕ) (last text : List ℕ) → y ≡ z → m ≡ unsigned_abs z → last ≡ last_digits scale m ++ replicate (255 - scale) 48

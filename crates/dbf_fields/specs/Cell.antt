@@ -1,7 +1,7 @@
 -- What a field's cell keeps of a value, and that reading the cell gives the value again.
 use Rattle.std.specs.Prelude.{◌≡◌, ℕ, ◌==◌, List, [], Option, Some, None, Result, Ok, Err, if◌then◌else◌}
 use Rattle.dbf_fields.specs.declared.field.Field.{Field}
-use Rattle.dbf_fields.specs.declared.field.TheConstants.{CHARACTER, NUMBER, LOGICAL, DATE}
+use Rattle.dbf_fields.specs.declared.format.TheConstants.{CHARACTER, NUMBER, LOGICAL, DATE}
 use Rattle.dbf_fields.specs.declared.literal.Literal.{Literal}
 use Rattle.dbf_fields.specs.declared.literal.Literal.TheVariants.{Text, Number, Truth, Date, BlankDate, BadDate as NoDate}
 use Rattle.dbf_fields.specs.declared.cell.CellFault.{CellFault}

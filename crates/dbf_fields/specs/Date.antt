@@ -7,17 +7,18 @@ use Rattle.jiff.specs.Words.{days_in_month}
 use Rattle.dbf_fields.specs.declared.day.Day.{Day}
 use Rattle.dbf_fields.specs.declared.date.DateCell.{DateCell}
 use Rattle.dbf_fields.specs.declared.date.DateCell.TheVariants.{Blank, Odd, Is}
-use Rattle.dbf_fields.specs.Digits.{digits_behind, last_digits}
+use Rattle.dbf_fields.specs.Digits.{digits_after, last_digits}
+use Rattle.dbf_fields.specs.declared.format.TheConstants.{BLANK, DATE_WIDTH, SLASH}
 
--- the numbers in the first four digits, the next two and the two behind them
+-- the numbers in the first four digits, the next two and the two after them
 abbrev pub year_in : List ℕ → ℕ
-year_in cell = digits_behind 0 (take 4 cell)
+year_in cell = digits_after 0 (take 4 cell)
 
 abbrev pub month_in : List ℕ → ℕ
-month_in cell = digits_behind 0 (take 2 (drop 4 cell))
+month_in cell = digits_after 0 (take 2 (drop 4 cell))
 
 abbrev pub day_in : List ℕ → ℕ
-day_in cell = digits_behind 0 (take 2 (drop 6 cell))
+day_in cell = digits_after 0 (take 2 (drop 6 cell))
 
 -- a date of the calendar in the years 1 to 9999
 unfoldable pub is_day : ℕ → ℕ → ℕ → Bool
@@ -25,11 +26,11 @@ is_day year month day = is_in_range 1 9999 year && (is_in_range 1 12 month && is
 
 -- eight digits that are a date of the calendar
 unfoldable pub is_date : List ℕ → Bool
-is_date cell = (length cell == 8) && (list_all is_ascii_digit cell && is_day (year_in cell) (month_in cell) (day_in cell))
+is_date cell = (length cell == DATE_WIDTH) && (list_all is_ascii_digit cell && is_day (year_in cell) (month_in cell) (day_in cell))
 
 -- eight blanks
 abbrev pub blank_date : List ℕ
-blank_date = replicate 8 32
+blank_date = replicate DATE_WIDTH BLANK
 
 -- a date as four digits of the year, two of the month and two of the day
 unfoldable pub date_text : ℕ → ℕ → ℕ → List ℕ
@@ -51,5 +52,5 @@ IsDateCell cell (Is day) = SaysDay cell day
 -- a date's cell as it is shown: MM/DD/YY, or blanks or asterisks in place of the digits
 abbrev pub date_shown : List ℕ → List ℕ
 date_shown cell =
-    if is_date cell then take 2 (drop 4 cell) ++ (47 ∷ (drop 6 cell ++ (47 ∷ take 2 (drop 2 cell))))
+    if is_date cell then take 2 (drop 4 cell) ++ (SLASH ∷ (drop 6 cell ++ (SLASH ∷ take 2 (drop 2 cell))))
     else (if bytes_eq cell blank_date then codes "  /  /  " else codes "**/**/**")

@@ -2,34 +2,35 @@
 use Rattle.std.specs.Prelude.{ℕ, ◌+◌, ◌-◌, Bool, ◌&&◌, ◌==◌, nat_le, List, [], ◌∷◌, ◌++◌, length, take, drop, reverse, replicate, Option, Some, None, option_map, ℤ, pos, neg_ℤ, if◌then◌else◌}
 use Rattle.std.specs.List.{list_all, before_first, after_first}
 use Rattle.std.specs.Char.{is_ascii_digit}
-use Rattle.dbf_fields.specs.Digits.{digits_behind}
+use Rattle.dbf_fields.specs.Digits.{digits_after}
+use Rattle.dbf_fields.specs.declared.format.TheConstants.{BLANK, ZERO_DIGIT, POINT, MINUS, PLUS}
 
--- what is left behind the blanks at the front
+-- what is left after the blanks at the front
 abbrev pub without_leading : List ℕ → List ℕ
 without_leading [] = []
-without_leading (b ∷ bs) = if b == 32 then without_leading bs else b ∷ bs
+without_leading (b ∷ bs) = if b == BLANK then without_leading bs else b ∷ bs
 
 -- what is left between the blanks at both ends
 unfoldable pub trimmed : List ℕ → List ℕ
 trimmed bs = reverse (without_leading (reverse (without_leading bs)))
 
--- what stands before the point and behind it
+-- what stands before the point and after it
 abbrev pub whole_part : List ℕ → List ℕ
-whole_part text = before_first (λ b. b == 46) text
+whole_part text = before_first (λ b. b == POINT) text
 
 abbrev pub fraction_part : List ℕ → List ℕ
-fraction_part text = after_first (λ b. b == 46) text
+fraction_part text = after_first (λ b. b == POINT) text
 
--- digits with at most one point and at least one digit, those behind the point past the decimals all zero
+-- digits with at most one point and at least one digit, those after the point past the decimals all zero
 unfoldable pub is_decimal : List ℕ → ℕ → Bool
 is_decimal text decimals =
     list_all is_ascii_digit (whole_part text) && (list_all is_ascii_digit (fraction_part text)
-    && (nat_le 1 (length (whole_part text) + length (fraction_part text)) && list_all (λ b. b == 48) (drop decimals (fraction_part text))))
+    && (nat_le 1 (length (whole_part text) + length (fraction_part text)) && list_all (λ b. b == ZERO_DIGIT) (drop decimals (fraction_part text))))
 
--- the digits before the point and so many behind it, with zeros where there are fewer
+-- the digits before the point and so many after it, with zeros where there are fewer
 unfoldable pub scaled : List ℕ → ℕ → ℕ
 scaled text decimals =
-    digits_behind 0 (whole_part text ++ (take decimals (fraction_part text) ++ replicate (decimals - length (fraction_part text)) 48))
+    digits_after 0 (whole_part text ++ (take decimals (fraction_part text) ++ replicate (decimals - length (fraction_part text)) ZERO_DIGIT))
 
 -- a number without its sign
 abbrev pub magnitude : List ℕ → ℕ → Option ℕ
@@ -39,8 +40,8 @@ magnitude text decimals = if is_decimal text decimals then Some (scaled text dec
 abbrev pub signed : List ℕ → ℕ → Option ℤ
 signed [] decimals = Some (pos 0)
 signed (b ∷ bs) decimals =
-    if b == 45 then option_map (λ n. neg_ℤ (pos n)) (magnitude bs decimals)
-    else (if b == 43 then option_map pos (magnitude bs decimals) else option_map pos (magnitude (b ∷ bs) decimals))
+    if b == MINUS then option_map (λ n. neg_ℤ (pos n)) (magnitude bs decimals)
+    else (if b == PLUS then option_map pos (magnitude bs decimals) else option_map pos (magnitude (b ∷ bs) decimals))
 
 -- the number in a cell, times ten for each decimal
 unfoldable pub number : List ℕ → ℕ → Option ℤ

@@ -3,21 +3,22 @@ use Rattle.std.specs.Prelude.{◌≡◌, ℕ, ◌-◌, ◌/◌, ◌^◌, Bool, �
 use Rattle.std.specs.List.{list_all}
 use Rattle.std.specs.Int.RustNames.{unsigned_abs}
 use Rattle.dbf_fields.specs.Digits.{last_digits, numeral}
+use Rattle.dbf_fields.specs.declared.format.TheConstants.{BLANK, ZERO_DIGIT, POINT, MINUS}
 
 -- `-` before a number below zero
 abbrev pub sign : ℤ → List ℕ
 sign (pos n) = []
-sign (negsuc n) = 45 ∷ []
+sign (negsuc n) = MINUS ∷ []
 
 -- a point before decimals, where there are any
 abbrev pub point : ℕ → List ℕ
-point decimals = if decimals == 0 then [] else 46 ∷ []
+point decimals = if decimals == 0 then [] else POINT ∷ []
 
 -- so many of the digits, with zeros where there are fewer
 abbrev pub kept : ℕ → List ℕ → List ℕ
-kept decimals digits = take decimals (digits ++ replicate decimals 48)
+kept decimals digits = take decimals (digits ++ replicate decimals ZERO_DIGIT)
 
--- The text of the number whose digits are given, of which `scale` stand behind its point, with so many decimals.
+-- The text of the number whose digits are given, of which `scale` stand after its point, with so many decimals.
 unfoldable pub number_text : ℤ → ℕ → ℕ → List ℕ
 number_text digits scale decimals =
     sign digits
@@ -27,11 +28,11 @@ number_text digits scale decimals =
 
 -- the number's digits past so many decimals are zeros
 unfoldable pub is_exact : ℤ → ℕ → ℕ → Bool
-is_exact digits scale decimals = list_all (λ b. b == 48) (drop decimals (last_digits scale (unsigned_abs digits)))
+is_exact digits scale decimals = list_all (λ b. b == ZERO_DIGIT) (drop decimals (last_digits scale (unsigned_abs digits)))
 
--- a text behind as many blanks as fill the width
+-- a text after as many blanks as fill the width
 abbrev pub right_justified : ℕ → List ℕ → List ℕ
-right_justified width text = replicate (width - length text) 32 ++ text
+right_justified width text = replicate (width - length text) BLANK ++ text
 
 -- the cell of a number, where one of that width and so many decimals keeps it whole
 unfoldable pub number_cell : ℕ → ℕ → ℤ → ℕ → Option (List ℕ)
@@ -41,7 +42,7 @@ number_cell width decimals digits scale =
     else None
 
 -- The number of a cell, which is times ten for each decimal, is the one of the digits, of which `scale` stand
--- behind the point.
+-- after the point.
 abbrev pub IsSameNumber : Option ℤ → ℕ → ℤ → ℕ → Type 0
 IsSameNumber None decimals digits scale = ⊥
 IsSameNumber (Some number) decimals digits scale = number *ℤ pos (10 ^ scale) ≡ digits *ℤ pos (10 ^ decimals)

@@ -7,6 +7,7 @@ use Rattle.dbf_fields.specs.declared.schema.SchemaFault.TheVariants.{BadFieldCou
 use Rattle.dbf_fields.specs.Faults.{first_fault}
 use Rattle.dbf_fields.specs.Name.{is_name}
 use Rattle.dbf_fields.specs.Field.{is_kind, has_width, has_name, folded, widths}
+use Rattle.dbf_fields.specs.declared.format.TheConstants.{MAX_FIELDS, MAX_RECORD_BYTES}
 
 -- the tests of a field after the earlier ones as the schema keeps them
 abbrev pub field_tests : List Field → Field → List (Bool × SchemaFault)
@@ -19,12 +20,12 @@ field_tests earlier f =
 
 -- the tests from a field on, and after the last field that of the record
 abbrev pub tests_from : List Field → List Field → List (Bool × SchemaFault)
-tests_from earlier [] = (nat_le (widths earlier) 4000, RecordTooLong) ∷ []
+tests_from earlier [] = (nat_le (widths earlier) MAX_RECORD_BYTES, RecordTooLong) ∷ []
 tests_from earlier (f ∷ fs) = field_tests earlier f ++ tests_from (earlier ++ folded f ∷ []) fs
 
 -- why the fields are no schema, where they are none
 abbrev pub refusal : List Field → Option SchemaFault
-refusal fields = first_fault ((is_in_range 1 128 (length fields), BadFieldCount) ∷ tests_from [] fields)
+refusal fields = first_fault ((is_in_range 1 MAX_FIELDS (length fields), BadFieldCount) ∷ tests_from [] fields)
 
 -- the fields of a schema: none is refused, and each is as a schema keeps it
 pub record IsSchema (fields : List Field) : Type 0 where

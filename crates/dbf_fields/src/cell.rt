@@ -7,7 +7,8 @@ ghost use Rattle.dbf_fields.specs.Padding.{padded as padded_text};
 
 use crate::bytes::Bytes;
 use crate::date::date_text;
-use crate::field::{CHARACTER, DATE, Field, LOGICAL, NUMBER};
+use crate::field::Field;
+use crate::format::{BLANK, CHARACTER, DATE, LOGICAL, NUMBER};
 use crate::literal::Literal;
 use crate::logical::truth_text;
 use crate::number_text::number_cell;
@@ -49,14 +50,14 @@ fn padded(alloc: Global, text: &[u8], width: usize) -> Result<Bytes, AllocError>
     let kept = text.len().min(width);
     let mut cell = Vec::with_capacity(alloc, width)?;
     cell.extend_from_slice(&text[..kept])?;
-    cell.resize(width, b' ')?;
+    cell.resize(width, BLANK)?;
     Ok(Bytes::from_vec(cell))
 }
 
 /// The cell in which a field of a schema keeps a value: as many bytes as the field is wide.
 ///
 /// - `C`: a text, cut to the width or filled up with blanks to it.
-/// - `N`: a number in decimal digits behind blanks, with exactly the field's decimals, a digit before the
+/// - `N`: a number in decimal digits after blanks, with exactly the field's decimals, a digit before the
 ///   point, and `-` before a number below zero. Nothing is rounded.
 /// - `L`: `T` or `F`.
 /// - `D`: a date as `YYYYMMDD`, and the blank date as eight blanks.

@@ -4,11 +4,12 @@ ghost use Rattle.std.specs.Prelude.{◌≡◌, ◌+◌, ◌<◌, ◌%◌, ◌^�
 ghost use Rattle.std.specs.List.{list_all};
 ghost use Rattle.std.specs.Char.{is_ascii_digit};
 ghost use Rattle.dbf_fields.specs.Day.{IsDay};
-ghost use Rattle.dbf_fields.specs.Digits.{digits_behind};
+ghost use Rattle.dbf_fields.specs.Digits.{digits_after};
 ghost use Rattle.dbf_fields.specs.Date.{year_in, month_in, day_in, IsDateCell, date_text as text_of, date_shown};
 
 use crate::day::{Day, day_of};
 use crate::decimal::{are_digits, number_of_digits};
+use crate::format::{SLASH, ZERO_DIGIT};
 
 /// What a cell of a date says.
 #[derive(Clone, Copy, Debug, PartialEq, Eq)]
@@ -25,7 +26,7 @@ pub enum DateCell {
 fn small_number(digits: &[u8]) -> u16
     requires digits { list_all is_ascii_digit digits.now ≡ true }
     requires few { length digits.now < 5 }
-    ensures value { result ≡ digits_behind 0 digits.now }
+    ensures value { result ≡ digits_after 0 digits.now }
     ensures small { result < 10 ^ length digits.now }
 {
     number_of_digits(digits) as u16
@@ -67,9 +68,9 @@ pub fn read_date(cell: &[u8]) -> DateCell
 }
 
 fn last_digit(number: u16) -> u8
-    ensures value { result ≡ 48 + number % 10 }
+    ensures value { result ≡ ZERO_DIGIT + number % 10 }
 {
-    b'0' + (number % 10) as u8
+    ZERO_DIGIT + (number % 10) as u8
 }
 
 // A date as `YYYYMMDD`.
@@ -99,7 +100,7 @@ pub fn shown_date(cell: &[u8]) -> [u8; 8]
 {
     match read_date(cell) {
         DateCell::Is(_) => [
-            cell[4], cell[5], b'/', cell[6], cell[7], b'/', cell[2], cell[3],
+            cell[4], cell[5], SLASH, cell[6], cell[7], SLASH, cell[2], cell[3],
         ],
         DateCell::Blank => *b"  /  /  ",
         DateCell::Odd => *b"**/**/**",

@@ -3,7 +3,9 @@
 ghost use Rattle.std.specs.Prelude.{◌≡◌, ◌+◌, ◌<◌, ◌≤◌, ◌==◌, ◌^◌, length, true};
 ghost use Rattle.std.specs.List.{list_all};
 ghost use Rattle.std.specs.Char.{is_ascii_digit};
-ghost use Rattle.dbf_fields.specs.Digits.{digits_behind};
+ghost use Rattle.dbf_fields.specs.Digits.{digits_after};
+
+use crate::format::ZERO_DIGIT;
 
 /// Whether all bytes are decimal digits. So no bytes are. Takes no memory.
 pub fn are_digits(text: &[u8]) -> bool
@@ -13,22 +15,22 @@ pub fn are_digits(text: &[u8]) -> bool
 }
 
 pub(crate) fn are_zeros(text: &[u8]) -> bool
-    ensures value { result ≡ list_all (λ b. b == 48) text.now }
+    ensures value { result ≡ list_all (λ b. b == ZERO_DIGIT) text.now }
 {
-    text.iter().all(|byte| *byte == b'0')
+    text.iter().all(|byte| *byte == ZERO_DIGIT)
 }
 
-// The number with these digits behind it. `most` is how many digits it has at most.
+// The number with these digits after it. `most` is how many digits it has at most.
 pub(crate) fn push_digits(number: u128, digits: &[u8], most: u32) -> u128
     requires digits { list_all is_ascii_digit digits.now ≡ true }
     requires small { number < 10 ^ most }
     requires room { most + length digits.now ≤ 37 }
-    ensures value { result ≡ digits_behind number digits.now }
+    ensures value { result ≡ digits_after number digits.now }
     ensures small { result < 10 ^ (most + length digits.now) }
 {
     let mut value = number;
     for digit in digits {
-        value = value * 10 + u128::from(*digit - b'0');
+        value = value * 10 + u128::from(*digit - ZERO_DIGIT);
     }
     value
 }
@@ -38,7 +40,7 @@ pub(crate) fn push_digits(number: u128, digits: &[u8], most: u32) -> u128
 pub fn number_of_digits(digits: &[u8]) -> u64
     requires digits { list_all is_ascii_digit digits.now ≡ true }
     requires few { length digits.now ≤ 19 }
-    ensures value { result ≡ digits_behind 0 digits.now }
+    ensures value { result ≡ digits_after 0 digits.now }
     ensures small { result < 10 ^ length digits.now }
 {
     push_digits(0, digits, 0) as u64

@@ -6,22 +6,11 @@ ghost use Rattle.std.specs.Char.{to_ascii_uppercase};
 ghost use Rattle.dbf_fields.specs.Name.{is_name_char};
 
 use crate::bytes::Bytes;
+use crate::format::{
+    CHARACTER, DATE, DATE_WIDTH, LOGICAL, MAX_CHARACTER_WIDTH, MAX_NUMBER_WIDTH, MEMO, MEMO_WIDTH,
+    NUMBER,
+};
 use std::alloc::{AllocError, Global};
-
-/// The letter of the fields of characters, 1 to 254 bytes wide.
-pub const CHARACTER: u8 = b'C';
-
-/// The letter of the fields of numbers, 1 to 19 bytes wide, with no decimals or fewer than the width.
-pub const NUMBER: u8 = b'N';
-
-/// The letter of the fields of logical values, 1 byte wide.
-pub const LOGICAL: u8 = b'L';
-
-/// The letter of the fields of dates, 8 bytes wide.
-pub const DATE: u8 = b'D';
-
-/// The letter of the fields of memos, 10 bytes wide: the number of a block in a file of memos.
-pub const MEMO: u8 = b'M';
 
 /// A field as its descriptor of 32 bytes tells it. `Schema::new` judges it.
 #[derive(Debug, Drop)]
@@ -32,7 +21,7 @@ pub struct Field {
     pub kind: u8,
     /// How many bytes a cell of the field has.
     pub width: u8,
-    /// How many digits a number has behind its point. A schema keeps 0 for other kinds.
+    /// How many digits a number has after its point. A schema keeps 0 for other kinds.
     pub decimals: u8,
 }
 
@@ -96,15 +85,15 @@ impl Field {
         ensures value { result ≡ has_width self.now }
     {
         match self.kind {
-            CHARACTER => self.width >= 1 && self.width <= 254,
+            CHARACTER => self.width >= 1 && self.width <= MAX_CHARACTER_WIDTH,
             NUMBER => {
                 self.width >= 1
-                    && self.width <= 19
+                    && self.width <= MAX_NUMBER_WIDTH
                     && (self.decimals == 0 || self.decimals < self.width)
             }
             LOGICAL => self.width == 1,
-            DATE => self.width == 8,
-            _ => self.width == 10,
+            DATE => self.width == DATE_WIDTH,
+            _ => self.width == MEMO_WIDTH,
         }
     }
 

@@ -13,6 +13,7 @@ mod date;
 mod day;
 mod decimal;
 mod field;
+mod format;
 mod literal;
 mod logical;
 mod number;
@@ -25,12 +26,17 @@ pub use cell::{CellFault, encode_cell};
 pub use date::{DateCell, read_date, shown_date};
 pub use day::{Day, day_of};
 pub use decimal::{are_digits, number_of_digits};
-pub use field::{CHARACTER, DATE, Field, LOGICAL, MEMO, NUMBER};
+pub use field::Field;
+pub use format::{
+    ASTERISK, BLANK, CHARACTER, DATE, DATE_WIDTH, LOGICAL, MAX_CHARACTER_WIDTH, MAX_FIELDS,
+    MAX_NUMBER_WIDTH, MAX_RECORD_BYTES, MEMO, MEMO_WIDTH, MINUS, NUMBER, PLUS, POINT, SLASH,
+    ZERO_DIGIT,
+};
 pub use literal::Literal;
 pub use logical::read_truth;
 pub use number::read_number;
 pub use number_text::{MAX_NUMBER_TEXT, NumberText};
-pub use schema::{MOST_FIELDS, MOST_RECORD_BYTES, Schema, SchemaFault};
+pub use schema::{Schema, SchemaFault};
 pub use trim::trimmed;
 
 #[cfg(test)]

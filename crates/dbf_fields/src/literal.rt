@@ -11,11 +11,11 @@ use std::alloc::{AllocError, Global};
 pub enum Literal {
     /// A text of any length.
     Text(Bytes),
-    /// A number: the whole number of all its digits, and how many of them stand behind the point.
+    /// A number: the whole number of all its digits, and how many of them stand after the point.
     Number {
         /// All digits as one whole number, with the sign.
         digits: i128,
-        /// How many of the digits stand behind the point.
+        /// How many of the digits stand after the point.
         scale: u8,
     },
     /// A logical value.

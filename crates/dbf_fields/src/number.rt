@@ -1,19 +1,20 @@
 //! Numbers in cells, as they are read.
 
 ghost use Rattle.std.specs.Prelude.{◌≡◌, ◌+◌, ◌*◌, ◌<◌, ◌≤◌, ◌==◌, ◌^◌, ◌++◌, length, replicate, position, IfSome};
-ghost use Rattle.dbf_fields.specs.Digits.{digits_behind};
+ghost use Rattle.dbf_fields.specs.Digits.{digits_after};
 ghost use Rattle.dbf_fields.specs.Number.{whole_part, fraction_part, magnitude, number};
 
 use crate::decimal::{are_digits, are_zeros, push_digits};
+use crate::format::{MINUS, PLUS, POINT, ZERO_DIGIT};
 use crate::trim::trimmed;
 
 fn point_in(text: &[u8]) -> Option<usize>
-    ensures place { result ≡ position (λ b. b == 46) text.now }
+    ensures value { result ≡ position (λ b. b == POINT) text.now }
 {
-    text.iter().position(|byte| *byte == b'.')
+    text.iter().position(|byte| *byte == POINT)
 }
 
-// The digits before and behind the point.
+// The digits before and after the point.
 fn parts(text: &[u8]) -> (&[u8], &[u8])
     ensures whole { result.0.now ≡ whole_part text.now }
     ensures fraction { result.1.now ≡ fraction_part text.now }
@@ -25,11 +26,11 @@ fn parts(text: &[u8]) -> (&[u8], &[u8])
     }
 }
 
-// The number with so many zeros behind it.
+// The number with so many zeros after it.
 fn push_zeros(number: u128, zeros: usize, most: u32) -> u128
     requires small { number < 10 ^ most }
     requires room { most + zeros ≤ 37 }
-    ensures value { result ≡ digits_behind number (replicate zeros 48) }
+    ensures value { result ≡ digits_after number (replicate zeros ZERO_DIGIT) }
     ensures small { result < 10 ^ (most + zeros) }
 {
     let mut value = number;
@@ -71,7 +72,7 @@ fn magnitude_of(text: &[u8], decimals: u8) -> Option<u128>
 ///
 /// Blanks at both ends count for nothing, and a cell with nothing between them is zero. Else there stand
 /// an optional `+` or `-` and digits, at least one, with at most one point among or beside them; the digits
-/// behind the point past the decimals are zeros. `None` for every other cell. Takes no memory.
+/// after the point past the decimals are zeros. `None` for every other cell. Takes no memory.
 #[tactic(auto, unfolding(crate::specs::Number::number))]
 pub fn read_number(cell: &[u8], decimals: u8) -> Option<i128>
     requires few { length cell.now ≤ 19 }
@@ -80,11 +81,11 @@ pub fn read_number(cell: &[u8], decimals: u8) -> Option<i128>
 {
     match trimmed(cell) {
         [] => Some(0),
-        [b'-', digits @ ..] => {
+        [MINUS, digits @ ..] => {
             let n = magnitude_of(digits, decimals)?;
             Some(-(n as i128))
         }
-        [b'+', digits @ ..] => {
+        [PLUS, digits @ ..] => {
             let n = magnitude_of(digits, decimals)?;
             Some(n as i128)
         }

@@ -7,6 +7,7 @@ ghost use Rattle.dbf_fields.specs.NumberText.{sign as sign_of, point as point_be
 use crate::bytes::Bytes;
 use crate::cell::CellFault;
 use crate::decimal::are_zeros;
+use crate::format::{BLANK, ZERO_DIGIT};
 use std::alloc::{AllocError, Global};
 use std::marker::Model;
 
@@ -46,7 +47,7 @@ impl NumberText {
         ensures value { result ≡ [] }
     {
         NumberText {
-            bytes: [b' '; MAX_NUMBER_TEXT],
+            bytes: [BLANK; MAX_NUMBER_TEXT],
             len: 0,
         }
     }
@@ -69,34 +70,34 @@ impl NumberText {
     }
 }
 
-// The last digits of a number, so many of them with zeros behind them, and the number before them.
+// The last digits of a number, so many of them with zeros after them, and the number before them.
 fn split_off(number: u128, digits: u8) -> ([u8; 255], u128)
     ensures digits { result.0 ≡ last_digits digits number ++ replicate (255 - digits) 48 }
     ensures rest { result.1 ≡ number / 10 ^ digits }
 {
-    let mut last = [b'0'; 255];
+    let mut last = [ZERO_DIGIT; 255];
     let mut rest = number;
-    let mut place = usize::from(digits);
-    while place > 0 {
-        place -= 1;
-        last[place] = b'0' + (rest % 10) as u8;
+    let mut index = usize::from(digits);
+    while index > 0 {
+        index -= 1;
+        last[index] = ZERO_DIGIT + (rest % 10) as u8;
         rest /= 10;
     }
     (last, rest)
 }
 
-// The digits of a number behind as many zeros as make 39 places, and the place of its first digit.
+// The digits of a number after as many zeros as make 39 bytes, and where its first digit stands.
 fn numeral_of(number: u128) -> ([u8; 39], usize)
     ensures start { result.1 < 39 }
     ensures digits { drop result.1 result.0 ≡ numeral number }
 {
-    let mut digits = [b'0'; 39];
+    let mut digits = [ZERO_DIGIT; 39];
     let mut start = 38;
-    digits[start] = b'0' + (number % 10) as u8;
+    digits[start] = ZERO_DIGIT + (number % 10) as u8;
     let mut rest = number / 10;
     while rest > 0 {
         start -= 1;
-        digits[start] = b'0' + (rest % 10) as u8;
+        digits[start] = ZERO_DIGIT + (rest % 10) as u8;
         rest /= 10;
     }
     (digits, start)
@@ -121,8 +122,8 @@ fn text_of_parts(signed: i128, whole: u128, last: &[u8; 255], decimals: u8) -> N
     ensures value { result ≡ sign_of signed ++ (numeral whole ++ (point_before decimals ++ take decimals last.now)) }
 {
     let (kept, _) = last.split_at(usize::from(decimals));
-    let (places, start) = numeral_of(whole);
-    let (_, digits) = places.split_at(start);
+    let (padded, start) = numeral_of(whole);
+    let (_, digits) = padded.split_at(start);
     let mut text = NumberText::empty();
     text.push(sign(signed));
     text.push(digits);
@@ -137,7 +138,7 @@ fn right_justified(alloc: Global, width: usize, text: &[u8]) -> Result<Bytes, Al
     ensures value { IfOk result (λ cell. cell ≡ justified width text.now) }
 {
     let mut cell = Vec::with_capacity(alloc, width)?;
-    cell.resize(width - text.len(), b' ')?;
+    cell.resize(width - text.len(), BLANK)?;
     cell.extend_from_slice(text)?;
     Ok(Bytes::from_vec(cell))
 }

@@ -7,15 +7,10 @@ ghost use Rattle.dbf_fields.specs.Schema.{field_tests, refusal};
 ghost use Rattle.dbf_fields.specs.Layout.{cells_of, offsets_from, offset_of, width_of};
 
 use crate::field::Field;
+use crate::format::{MAX_FIELDS, MAX_RECORD_BYTES};
 use std::alloc::{AllocError, AllocFailed, Global};
 use std::marker::Model;
 use thiserror::Error;
-
-/// The most fields that a table has.
-pub const MOST_FIELDS: usize = 128;
-
-/// The most bytes that the cells of one record have together.
-pub const MOST_RECORD_BYTES: u32 = 4000;
 
 /// Why a list of fields is no schema: the first fault, from left to right.
 #[derive(Clone, Copy, Debug, PartialEq, Eq, Error)]
@@ -120,7 +115,7 @@ fn check_fields(fields: &[Field]) -> Result<(), SchemaFault>
     ensures accepted { OnOk result (refusal fields.now ≡ None) }
     ensures refused { IfErr result (λ fault. refusal fields.now ≡ Some fault) }
 {
-    if fields.is_empty() || fields.len() > MOST_FIELDS {
+    if fields.is_empty() || fields.len() > MAX_FIELDS {
         return Err(SchemaFault::BadFieldCount);
     }
     let mut widths = 0;
@@ -128,7 +123,7 @@ fn check_fields(fields: &[Field]) -> Result<(), SchemaFault>
         check_field(&fields[..i], field)?;
         widths += u32::from(field.width);
     }
-    if widths > MOST_RECORD_BYTES {
+    if widths > MAX_RECORD_BYTES {
         return Err(SchemaFault::RecordTooLong);
     }
     Ok(())

@@ -3,12 +3,14 @@
 ghost use Rattle.std.specs.Prelude.{◌≡◌, ◌≤◌, length, reverse};
 ghost use Rattle.dbf_fields.specs.Number.{without_leading, trimmed as without_blanks};
 
+use crate::format::BLANK;
+
 fn trim_start(cell: &[u8]) -> &[u8]
     ensures value { result.now ≡ without_leading cell.now }
     ensures short { length result.now ≤ length cell.now }
 {
     let mut text = cell;
-    while let [b' ', rest @ ..] = text {
+    while let [BLANK, rest @ ..] = text {
         text = rest;
     }
     text
@@ -19,7 +21,7 @@ fn trim_end(cell: &[u8]) -> &[u8]
     ensures short { length result.now ≤ length cell.now }
 {
     let mut text = cell;
-    while let [rest @ .., b' '] = text {
+    while let [rest @ .., BLANK] = text {
         text = rest;
     }
     text

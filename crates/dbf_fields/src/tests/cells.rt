@@ -81,7 +81,7 @@ fn other_values_are_of_another_type(rt: HostRuntime) -> Result<(), Fail> {
 fn number_cells(rt: HostRuntime) -> Result<(), Fail> {
     let alloc = rt.alloc();
     let amount = Field::new(alloc, b"AMT", NUMBER, 6, 2)?;
-    // a number as its digits and how many of them stand behind the point, and its cell
+    // a number as its digits and how many of them stand after the point, and its cell
     let cases: [(i128, u8, &[u8]); 12] = [
         (5, 0, b"  5.00"),
         (-5, 1, b" -0.50"),

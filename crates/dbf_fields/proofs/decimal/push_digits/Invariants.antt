@@ -1,9 +1,9 @@
 use Rattle.std.proofs.Common.{◌≡◌, ◌+◌, ◌<◌, ◌^◌, take}
-use Rattle.dbf_fields.specs.Digits.{digits_behind}
+use Rattle.dbf_fields.specs.Digits.{digits_after}
 use Rattle.dbf_fields.proofs.decimal.push_digits.Given as goal
 
 abbrev pub invariant-loop-digit : goal.invariant-loop-digit
 invariant-loop-digit l = record {
-  told : l.value ≡ digits_behind l.number (take l.digit-index l.digits);
+  value : l.value ≡ digits_after l.number (take l.digit-index l.digits);
   small : l.value < 10 ^ (l.most + l.digit-index);
 }
