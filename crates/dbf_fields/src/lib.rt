@@ -1,10 +1,11 @@
 //! The fields of a dBASE III PLUS table and the cells that they describe.
 //!
 //! A `Schema` is a list of fields that a table may have: `Schema::new` accepts exactly the lists that
-//! the layout allows, and tells of every other list the first fault. `encode_cell` gives the bytes
-//! that a field's cell keeps of a value, and what it keeps reads back as that value; `read_number`,
-//! `read_truth` and `read_date` tell what any cell says. Start reading at `schema.rt`, then `cell.rt`; what
-//! the contracts cite stands in `specs/`.
+//! the layout allows, and tells of every other list the first fault; `Schema::cell_in` finds a field's cell
+//! in a record's bytes. `encode_cell` gives the bytes that a field's cell keeps of a value, and what it keeps
+//! reads back as that value; `read_number`, `read_truth` and `read_date` tell what any cell says. Start
+//! reading at `schema.rt`, then `cell.rt`; what the contracts cite stands in `specs/`, and the constants of
+//! the layout in `format.rt`.
 #![tactic(auto)]
 
 mod bytes;
