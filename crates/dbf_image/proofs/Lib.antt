@@ -10,6 +10,7 @@ pub mod Spans
 pub mod CellPlaces
 pub mod Rows
 pub mod Sinks
+pub mod Standing
 pub mod Numbers
 pub mod BlockLaws
 pub mod FileLaws

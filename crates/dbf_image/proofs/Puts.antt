@@ -4,7 +4,7 @@ use Rattle.dbf_image.specs.Writer.{Wanted, more}
 use Rattle.dbf_image.proofs.Sinks.{grown_then, grown_nil}
 
 abbrev with_written : Wanted → Option (List ℕ) → Wanted
-with_written w o = record { written = o; failures = w.failures }
+with_written w o = record { begun = w.begun; written = o; failures = w.failures }
 
 pub more_then : (w : Wanted) (xs ys : List ℕ) → more (more w xs) ys ≡ more w (xs ++ ys)
 more_then w xs ys = ap (with_written w) (grown_then w.written xs ys)

@@ -8,14 +8,15 @@ use crate::sink::{ByteSink, SinkFault, write_all};
 use arrayvec::ArrayVec;
 
 /// The bytes that wait for a sink, in their order: at most 4,096.
-pub type Waiting = ArrayVec<u8, 4096>;
+pub(crate) type Waiting = ArrayVec<u8, 4096>;
 
 /// Sends all that waits to the sink. An error where the sink fails, which has then a front part of it.
-pub fn flush<S: ByteSink>(sink: &mut S, waiting: &mut Waiting) -> Result<(), SinkFault>
+pub(crate) fn send<S: ByteSink>(sink: &mut S, waiting: &mut Waiting) -> Result<(), SinkFault>
     ensures wrote { OnOk result (S.written sink.new ≡ grown (S.written sink.old) waiting.old.items) }
     ensures none { OnOk result (waiting.new.items ≡ []) }
     ensures fine { OnOk result (S.failures sink.new ≡ S.failures sink.old) }
     ensures failed { OnErr result (Rises (S.failures sink.old) (S.failures sink.new)) }
+    ensures kept { IsFront (S.written sink.old) (S.written sink.new) }
     ensures front { OnErr result (IsFront (S.written sink.new) (grown (S.written sink.old) waiting.old.items)) }
 {
     write_all(sink, waiting.as_slice())?;
@@ -25,7 +26,7 @@ pub fn flush<S: ByteSink>(sink: &mut S, waiting: &mut Waiting) -> Result<(), Sin
 
 /// Lets bytes wait behind those that wait already, and sends to the sink what has no room. An error
 /// where the sink fails, which has then a front part of what it was to have.
-pub fn gather<S: ByteSink>(
+pub(crate) fn gather<S: ByteSink>(
     sink: &mut S,
     waiting: &mut Waiting,
     bytes: &[u8],
@@ -33,12 +34,13 @@ pub fn gather<S: ByteSink>(
     ensures told { OnOk result (grown (S.written sink.new) waiting.new.items ≡ grown (grown (S.written sink.old) waiting.old.items) bytes.now) }
     ensures fine { OnOk result (S.failures sink.new ≡ S.failures sink.old) }
     ensures failed { OnErr result (Rises (S.failures sink.old) (S.failures sink.new)) }
+    ensures kept { IsFront (S.written sink.old) (S.written sink.new) }
     ensures front { OnErr result (IsFront (S.written sink.new) (grown (grown (S.written sink.old) waiting.old.items) (bytes.now))) }
 {
     if waiting.try_extend_from_slice(bytes).is_ok() {
         return Ok(());
     }
-    flush(sink, waiting)?;
+    send(sink, waiting)?;
     if waiting.try_extend_from_slice(bytes).is_err() {
         write_all(sink, bytes)?;
     }

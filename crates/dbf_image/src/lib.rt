@@ -14,6 +14,7 @@
 
 mod blocks;
 mod buffer;
+mod failures;
 mod fault;
 mod header;
 mod memo;
@@ -32,7 +33,7 @@ mod write_rows;
 mod writer;
 
 pub use blocks::next_free_block;
-pub use buffer::{Waiting, flush, gather};
+pub use failures::Failures;
 pub use fault::ImageFault;
 pub use memo::read_memo;
 pub use memory::MemorySink;
@@ -41,6 +42,7 @@ pub use sink::{ByteSink, SinkFault, write_all};
 pub use table::{MOST_MEMO_BYTES, MOST_RECORDS, TableData, is_memo_text};
 pub use write::{WriteFault, write_dbf};
 pub use write_memos::write_dbt;
+pub use writer::SinkWriter;
 
 #[cfg(test)]
 mod blocks_tests;

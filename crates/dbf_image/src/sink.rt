@@ -40,6 +40,8 @@ pub fn write_all<S: ByteSink>(sink: &mut S, bytes: &[u8]) -> Result<(), SinkFaul
     ensures wrote { OnOk result (S.written sink.new ≡ grown (S.written sink.old) bytes.now) }
     ensures fine { OnOk result (S.failures sink.new ≡ S.failures sink.old) }
     ensures failed { OnErr result (Rises (S.failures sink.old) (S.failures sink.new)) }
+    // What the sink held before the call it still holds.
+    ensures kept { IsFront (S.written sink.old) (S.written sink.new) }
     // What has been written is a front part of what was to be written.
     ensures front { OnErr result (IsFront (S.written sink.new) (grown (S.written sink.old) bytes.now)) }
 {

@@ -174,17 +174,15 @@ struct SlowSink {
 }
 
 impl ByteSink for SlowSink {
-    ghost use Rattle.std.specs.Prelude.{Some, None, if◌then◌else◌, ◌==◌};
+    ghost use Rattle.std.specs.Prelude.{Some};
 
     ghost written = { λ s. Some s.taken.bytes.items };
 
-    ghost failures = { λ s. if s.taken.failures == 18446744073709551615 then None else Some s.taken.failures };
+    ghost failures = { λ s. Some s.taken.failures };
 
     fn write(&mut self, bytes: &[u8]) -> Result<usize, SinkFault> {
         if self.writes_left == 0 {
-            if self.taken.failures < u64::MAX {
-                self.taken.failures += 1;
-            }
+            self.taken.failures.count();
             return Err(SinkFault);
         }
         self.writes_left -= 1;
@@ -224,11 +222,11 @@ struct CountingSink {
 }
 
 impl ByteSink for CountingSink {
-    ghost use Rattle.std.specs.Prelude.{Some, None, if◌then◌else◌, ◌==◌};
+    ghost use Rattle.std.specs.Prelude.{Some};
 
     ghost written = { λ s. Some s.taken.bytes.items };
 
-    ghost failures = { λ s. if s.taken.failures == 18446744073709551615 then None else Some s.taken.failures };
+    ghost failures = { λ s. Some s.taken.failures };
 
     fn write(&mut self, bytes: &[u8]) -> Result<usize, SinkFault> {
         self.writes = self.writes.saturating_add(1);

@@ -23,7 +23,8 @@ impl<'a> Names<Appended<'a>> for Bytes {
     ghost numbers = { λ a. a.told.now.numbers ++ a.bytes.now };
 }
 
-/// All that a sink is to have in the end, and how often it had failed before. It takes no bytes.
+/// What a sink had at first, all that it is to have in the end, and how often it had failed before. It takes
+/// no bytes.
 #[derive(Drop)]
 pub struct Wanted<S: ByteSink> {
     begun: Snapshot<S>,
@@ -36,12 +37,12 @@ impl<S: ByteSink> Model for Wanted<S> {
 
     ghost Value = { What };
 
-    ghost view = { λ w. record { written = grown (S.written w.begun.value) w.told.numbers; failures = S.failures w.begun.value } };
+    ghost view = { λ w. record { begun = S.written w.begun.value; written = grown (S.written w.begun.value) w.told.numbers; failures = S.failures w.begun.value } };
 }
 
 impl<S: ByteSink> Wanted<S> {
     pub fn of(sink: &S) -> Wanted<S>
-        ensures { result ≡ record { written = S.written sink.now; failures = S.failures sink.now } }
+        ensures { result ≡ record { begun = S.written sink.now; written = S.written sink.now; failures = S.failures sink.now } }
     {
         Wanted {
             begun: Snapshot::of(sink),

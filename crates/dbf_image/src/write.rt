@@ -118,6 +118,8 @@ pub fn write_dbf<S: ByteSink>(sink: &mut S, table: &TableData, day: Day) -> Resu
     ensures dated { result ≡ Err WriteFault.DateOutside → sink.new ≡ sink.old }
     ensures unwritten { result ≡ Err WriteFault.TooManyBlocks → sink.new ≡ sink.old }
     ensures failed { result ≡ Err WriteFault.Sink → Rises (S.failures sink.old) (S.failures sink.new) }
+    // What the sink held before the call it still holds.
+    ensures kept { IsFront (S.written sink.old) (S.written sink.new) }
     // What a sink that failed has taken is a front part of the file.
     ensures front { result ≡ Err WriteFault.Sink → IsFront (S.written sink.new) (grown (S.written sink.old) (image table.now day.year day.month day.day)) }
     // What is written can be read: with the file of memos it is a file of this table,

@@ -84,6 +84,8 @@ pub fn write_dbt<S: ByteSink>(sink: &mut S, table: &TableData) -> Result<(), Wri
     ensures blocks { (result ≡ Err WriteFault.TooManyBlocks) ↔ HasTooManyBlocks table.now }
     ensures unwritten { result ≡ Err WriteFault.TooManyBlocks → sink.new ≡ sink.old }
     ensures failed { result ≡ Err WriteFault.Sink → Rises (S.failures sink.old) (S.failures sink.new) }
+    // What the sink held before the call it still holds.
+    ensures kept { IsFront (S.written sink.old) (S.written sink.new) }
     // What a sink that failed has taken is a front part of the file.
     ensures front { result ≡ Err WriteFault.Sink → IsFront (S.written sink.new) (grown (S.written sink.old) (memo_image table.now)) }
 {

@@ -5,15 +5,20 @@ ghost use Rattle.std.specs.Prelude.{◌≡◌, OnOk, OnErr};
 ghost use Rattle.dbf_image.specs.Sink.{IsFront, Rises};
 ghost use Rattle.dbf_image.specs.Writer.{Stands, Stands-prop};
 
-use crate::buffer::{Waiting, flush, gather};
+use crate::buffer::{Waiting, gather, send};
 use crate::sink::{ByteSink, SinkFault};
 use crate::wanted::Wanted;
 
 /// A buffered writer over a sink. Once the sink has failed it drops what comes, and `flush` tells.
+///
+/// It takes no memory: up to 4,096 bytes wait in it. Format functions put bytes, and cannot fail; what their
+/// contracts say is `Puts`. The writer of a file makes one, puts the file's bytes, and calls `flush`.
 pub struct SinkWriter<'s, S: ByteSink> {
+    /// Where the bytes go.
     pub sink: &'s mut S,
     waiting: Waiting,
     failed: bool,
+    /// What the sink is to have: for clauses alone.
     pub wanted: Wanted<S>,
     ghost stands: { Stands failed (S.written sink.now) (S.failures sink.now) waiting.items wanted } by { Stands-prop failed (S.written sink.now) (S.failures sink.now) waiting.items wanted },
 }
@@ -24,7 +29,7 @@ impl<'s, S: ByteSink> SinkWriter<'s, S> {
     /// A writer into which nothing was put.
     pub fn new(sink: &'s mut S) -> SinkWriter<'s, S>
         ensures same { result.sink.ghost_name ≡ sink.entry.ghost_name }
-        ensures wanted { result.wanted ≡ record { written = S.written sink.old; failures = S.failures sink.old } }
+        ensures wanted { result.wanted ≡ record { begun = S.written sink.old; written = S.written sink.old; failures = S.failures sink.old } }
     {
         let wanted = Wanted::of(&*sink);
         SinkWriter {
@@ -35,7 +40,7 @@ impl<'s, S: ByteSink> SinkWriter<'s, S> {
         }
     }
 
-    /// Puts bytes behind those before.
+    /// Puts bytes after those before.
     pub fn put(&mut self, bytes: &[u8])
         ensures { Puts self.old bytes.now self.new }
     {
@@ -54,12 +59,15 @@ impl<'s, S: ByteSink> SinkWriter<'s, S> {
         ensures wrote { OnOk result (S.written self.new.sink.now ≡ self.old.wanted.written) }
         ensures fine { OnOk result (S.failures self.new.sink.now ≡ self.old.wanted.failures) }
         ensures failed { OnErr result (Rises self.old.wanted.failures (S.failures self.new.sink.now)) }
+        // What the sink held when the writer was made it still holds.
+        ensures kept { IsFront self.old.wanted.begun (S.written self.new.sink.now) }
+        // What it has then is a front part of what it was to have.
         ensures front { OnErr result (IsFront (S.written self.new.sink.now) self.old.wanted.written) }
     {
         if self.failed {
             return Err(SinkFault);
         }
-        let sent = flush(self.sink, &mut self.waiting);
+        let sent = send(self.sink, &mut self.waiting);
         self.failed = sent.is_err();
         sent
     }

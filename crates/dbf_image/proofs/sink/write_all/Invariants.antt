@@ -1,5 +1,5 @@
 use Rattle.std.proofs.Common.{◌≡◌, length}
-use Rattle.dbf_image.specs.Sink.{grown}
+use Rattle.dbf_image.specs.Sink.{grown, IsFront}
 use Rattle.dbf_image.proofs.sink.write_all.Given as goal
 
 abbrev pub invariant-loop-rest : goal.invariant-loop-rest
@@ -7,6 +7,7 @@ invariant-loop-rest g l =
     let written = g.S.ByteSink.written in
     record {
       told : grown (written l.sink) l.rest ≡ grown (written l.fn.sink) l.bytes;
+      kept : IsFront (written l.fn.sink) (written l.sink);
       fine : g.S.ByteSink.failures l.sink ≡ g.S.ByteSink.failures l.fn.sink;
     }
 
