@@ -1,22 +1,25 @@
 -- Where texts end.
-use Rattle.std.proofs.Common.{◌≡◌, ℕ, suc, ◌+◌, ◌-◌, ◌<◌, ◌≤◌, Bool, true, false, cond, eqb, ltb, Some, None, List, [], ◌∷◌, length, take, drop, refl, sym, ap, ◌∙◌, arith}
+use Rattle.std.proofs.Common.{◌≡◌, ℕ, suc, ◌+◌, ◌-◌, ◌<◌, ◌≤◌, Bool, true, false, cond, eqb, ltb, Option, Some, None, List, [], ◌∷◌, length, take, drop, refl, sym, ap, ◌∙◌, arith}
 use Rattle.std.specs.Prelude.{not, unwrap_or}
-use Rattle.std.specs.List.{position, position_or_len, prefix_len, list_all}
+use Rattle.std.specs.List.{position_or_len, prefix_len, list_all}
 use Rattle.std.proofs.lemmas.Bool.{cond-true, cond-false, eq-eqb, ne_eqb, ltb-false}
 use Rattle.std.proofs.lemmas.List.{take-append-drop, drop-take, drop-drop, length-take-le, length-drop}
 use Rattle.std.proofs.lemmas.List.Folds.{prefix_len-append}
-use Rattle.std.proofs.lemmas.List.Sums.{prefix_len-le-length}
+use Rattle.std.proofs.lemmas.List.Sums.{prefix_len-le-length, position_or_len_is}
+use Rattle.memchr.specs.Find.{IsFirstByte}
 use Rattle.dbf_image.specs.Spans.{end_at}
 
 abbrev ends_text : ℕ → Bool
 ends_text b = eqb b 26
 
-by_place : (n m : ℕ) (b : Bool) → ltb n m ≡ b → n ≤ m → unwrap_or (cond b (Some n) None) m ≡ n
-by_place n m true e le = refl
-by_place n m false e le = omega (arith, ltb-false n m e)
+no_end : (b : Bool) → (b ≡ true → ⊥) → b ≡ false
+no_end true h = absurd (h refl)
+no_end false h = refl
 
-pub end_is : (xs : List ℕ) → unwrap_or (position ends_text xs) (length xs) ≡ position_or_len ends_text xs
-end_is xs = by_place (position_or_len ends_text xs) (length xs) (ltb (position_or_len ends_text xs) (length xs)) refl (prefix_len-le-length (λ b. not (ends_text b)) xs)
+-- the first end by a search
+pub end_is : (xs : List ℕ) (r : Option ℕ) → IsFirstByte ends_text xs r → position_or_len ends_text xs ≡ unwrap_or r (length xs)
+end_is xs None h = position_or_len_is ends_text xs (length xs) 0 (omega arith) (λ k lt. no_end _ (h k (omega arith) lt)) (λ lt. absurd (omega (arith, lt)))
+end_is xs (Some k) h = position_or_len_is ends_text xs k 0 (omega (arith, h.0.high)) (λ i lt. no_end _ (h.0.before i (omega arith) lt)) (λ lt. h.1)
 
 pub end_inside : (xs : List ℕ) → position_or_len ends_text xs ≤ length xs
 end_inside xs = prefix_len-le-length (λ b. not (ends_text b)) xs

@@ -1,13 +1,13 @@
 -- What the groups of tests say, one after the other.
-use Rattle.std.proofs.Common.{◌≡◌, ℕ, ◌-◌, Bool, true, false, cond, List, [], ◌∷◌, ◌++◌, length, map, take, drop, Option, Some, None, refl, ◌∙◌, inl, inr}
-use Rattle.std.specs.Prelude.{is_none, ◌⊎◌}
+use Rattle.std.proofs.Common.{◌≡◌, ℕ, ◌-◌, Bool, true, false, cond, List, [], ◌∷◌, ◌++◌, length, map, take, drop, Option, Some, None, refl, sym, ◌∙◌, inl, inr}
+use Rattle.std.specs.Prelude.{is_none, is_some, ◌⊎◌}
 use Rattle.std.proofs.lemmas.List.{take_rest}
 use Rattle.dbf_fields.specs.Faults.{first_fault}
 use Rattle.dbf_fields.specs.Schema as schemas
 use Rattle.dbf_image.specs.declared.fault.ImageFault.{ImageFault}
-use Rattle.dbf_image.specs.declared.fault.ImageFault.TheVariants.{BadSchema, NoMemory}
+use Rattle.dbf_image.specs.declared.fault.ImageFault.TheVariants.{BadHeaderLength, BadSchema, NoMemory}
 use Rattle.dbf_image.specs.DbfText.{pieces, field_of}
-use Rattle.dbf_image.specs.Reading.{field_count, fields_of, header_tests, field_tests, record_tests, memos_tests, refusal, IsRefusal}
+use Rattle.dbf_image.specs.Reading.{field_count, fields_of, header_tests, field_tests, record_tests, memos_tests, early_refusal, refusal, IsRefusal}
 
 -- the tests of a group let the next ones decide, or one of them decides
 then_by : {F : Type 0} (b : Bool) (x y z : Option F) (f : F) → cond b x (Some f) ≡ None → (x ≡ None → y ≡ z) → cond b y (Some f) ≡ z
@@ -48,6 +48,36 @@ pub fields_fail : (bytes : List ℕ) (count : ℕ) (fault : ImageFault) → Some
 unfolding field_tests
 fields_fail bytes count fault e (inl h) = inl h
 fields_fail bytes count fault e (inr h) = inr (rw (h.1, h.0, ← e) refl)
+
+-- ---- what is tested before memory is taken
+
+some_same : {F : Type 0} (x y : F) → Some x ≡ Some y → x ≡ y
+some_same x y e = cc
+
+none_some : {F : Type 0} (o : Option F) (x : F) (P : Type 0) → o ≡ None → o ≡ Some x → P
+none_some o x P none some = absurd cc
+
+early_count : (o : Option ℕ) (fault first : ImageFault) → (o ≡ None → fault ≡ BadHeaderLength) → cond (is_some o) None (Some BadHeaderLength) ≡ Some first → fault ≡ first
+early_count None fault first answers is = answers refl ∙ some_same _ _ is
+early_count (Some n) fault first answers is = absurd cc
+
+pub early_by_header : (bytes : List ℕ) (fault first : ImageFault) → first_fault (header_tests bytes) ≡ Some fault → early_refusal bytes ≡ Some first → fault ≡ first
+unfolding early_refusal
+early_by_header bytes fault first h is = some_same _ _ (sym (first_before (header_tests bytes) _ fault h) ∙ is)
+
+pub early_by_fields : (bytes : List ℕ) (fault first : ImageFault) → first_fault (header_tests bytes) ≡ None → (field_count bytes ≡ None → fault ≡ BadHeaderLength) → early_refusal bytes ≡ Some first → fault ≡ first
+unfolding early_refusal
+early_by_fields bytes fault first h answers is = early_count (field_count bytes) fault first answers (sym (first_then (header_tests bytes) ((is_some (field_count bytes), BadHeaderLength) ∷ []) h) ∙ is)
+
+count_passed : (o : Option ℕ) (rest : Option ImageFault) → cond (is_some o) rest (Some BadHeaderLength) ≡ None → cond (is_some o) None (Some BadHeaderLength) ≡ None
+count_passed None rest h = absurd cc
+count_passed (Some n) rest h = refl
+
+-- a fault behind those tests
+pub early_passed : (bytes : List ℕ) (fault first : ImageFault) → first_fault (header_tests bytes) ≡ None → first_fault (field_tests bytes) ≡ None → early_refusal bytes ≡ Some first → fault ≡ first
+unfolding early_refusal field_tests
+early_passed bytes fault first h k is =
+    none_some _ first (fault ≡ first) (first_then (header_tests bytes) ((is_some (field_count bytes), BadHeaderLength) ∷ []) h ∙ count_passed (field_count bytes) _ k) is
 
 -- the whole refusal by its groups
 abbrev behind_fields : List ℕ → Option (List ℕ) → List (Bool × ImageFault)

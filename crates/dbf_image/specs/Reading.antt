@@ -47,6 +47,11 @@ field_tests bytes =
     ∷ (is_none (schemas.refusal (fields_of bytes)), BadSchema)
     ∷ []
 
+-- Why the bytes are no table, as far as it is tested before memory is taken: by the header, and by whether
+-- the list of fields ends in it.
+unfoldable pub early_refusal : List ℕ → Option ImageFault
+early_refusal bytes = first_fault (header_tests bytes ++ ((is_some (field_count bytes), BadHeaderLength) ∷ []))
+
 -- then of the records,
 unfoldable pub record_tests : List ℕ → List (Bool × ImageFault)
 record_tests bytes =

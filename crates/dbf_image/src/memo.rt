@@ -1,18 +1,20 @@
 //! The texts of memos, in a file of blocks of 512 bytes.
 
 ghost use Rattle.std.specs.Prelude.{◌≡◌, ◌+◌, ◌*◌, ◌<◌, ◌≤◌, ◌==◌, ◌^◌, ◌⊎◌, ℕ, List, length, reverse, Some, None, true, IfSome, IfOk, IfErr, OnOk, MatchResult};
-ghost use Rattle.std.specs.List.{list_all, position, position_or_len};
+ghost use Rattle.std.specs.List.{list_all, position_or_len};
 ghost use Rattle.std.specs.Char.{is_ascii_digit};
 ghost use Rattle.dbf_fields.specs.Digits.{digits_behind};
 ghost use Rattle.dbf_fields.specs.Faults.{first_fault};
 ghost use Rattle.dbf_image.specs.Memo.{without_leading, trimmed, memo_number, memo_at, HasText};
 ghost use Rattle.dbf_image.specs.Reading.{is_block, text_tests};
+ghost use Rattle.dbf_image.specs.declared.fault.ImageFault.{ImageFault};
 ghost use Rattle.dbf_image.specs.Spans.{end_at, AreEnds, span_of};
 
 use crate::fault::ImageFault;
 use crate::span::Span;
 use crate::table::MOST_MEMO_BYTES;
 use dbf_fields::Bytes;
+use memchr::memchr;
 use std::alloc::{AllocError, Global};
 
 fn trim_start(cell: &[u8]) -> &[u8]
@@ -78,19 +80,12 @@ pub(crate) fn number_of(cell: &[u8]) -> Option<u64>
     }
 }
 
-// Where the first 0x1A stands.
-fn place_of_end(bytes: &[u8]) -> Option<usize>
-    ensures value { result ≡ position (λ b. b == 26) bytes.now }
-{
-    bytes.iter().position(|byte| *byte == 0x1a)
-}
-
-// The same, or how many bytes there are.
+// Where the first 0x1A stands, or how many bytes there are.
 fn first_end(bytes: &[u8]) -> usize
     ensures value { result ≡ position_or_len (λ b. b == 26) bytes.now }
     ensures inside { result ≤ length bytes.now }
 {
-    place_of_end(bytes).unwrap_or(bytes.len())
+    memchr(0x1a, bytes).unwrap_or(bytes.len())
 }
 
 // Whether a block begins in the file, behind the header's.
@@ -177,6 +172,7 @@ fn text_of_block(alloc: Global, dbt: &[u8], block: u64) -> Result<Bytes, ImageFa
     ensures accepted { IfOk result (λ _. first_fault (text_tests dbt.now block) ≡ None) }
     ensures value { IfOk result (λ text. text ≡ memo_at dbt.now block) }
     ensures refused { IfErr result (λ fault. (fault ≡ ImageFault.NoMemory) ⊎ (first_fault (text_tests dbt.now block) ≡ Some fault)) }
+    ensures early { IfErr result (λ fault. (first : ImageFault) → first_fault (text_tests dbt.now block) ≡ Some first → fault ≡ first) }
 {
     let text = block_text(dbt, block)?;
     let copy = Bytes::from_slice(alloc, text)?;
@@ -187,14 +183,17 @@ fn text_of_block(alloc: Global, dbt: &[u8], block: u64) -> Result<Bytes, ImageFa
 /// or to the file's end. Blocks have 512 bytes and count from 0; block 0 is the header.
 ///
 /// An `Err` is the fault of the first test that fails: `MemoOutside` where the block is the header's or
-/// does not begin in the file, then `MemoTooLong`; and `NoMemory` where there was none.
+/// does not begin in the file, then `MemoTooLong`; and `NoMemory` where no test fails
+/// and memory is refused.
 pub fn read_memo(alloc: Global, dbt: &[u8], block: u64) -> Result<Bytes, ImageFault>
     // What is read is the block's text.
     ensures found { IfOk result (HasText dbt.now block) }
-    // A block that has a text is read, unless memory runs out.
+    // A block that has a text is read, unless memory is refused.
     ensures only { (text : List ℕ) → HasText dbt.now block text → MatchResult result (λ t. t ≡ text) (λ fault. fault ≡ ImageFault.NoMemory) }
     // Which fault it is.
     ensures refused { IfErr result (λ fault. (fault ≡ ImageFault.NoMemory) ⊎ (first_fault (text_tests dbt.now block) ≡ Some fault)) }
+    // `NoMemory` is answered only where no test fails.
+    ensures early { IfErr result (λ fault. (first : ImageFault) → first_fault (text_tests dbt.now block) ≡ Some first → fault ≡ first) }
 {
     text_of_block(alloc, dbt, block)
 }

@@ -8,8 +8,9 @@ ghost use Rattle.dbf_fields.specs.Field.{folded, widths};
 ghost use Rattle.dbf_fields.specs.Schema as schemas;
 ghost use Rattle.dbf_image.specs.DbfText.{pieces, field_of, IsDbf, header_length as dbf_header_length};
 ghost use Rattle.dbf_image.specs.Table.{Table};
+ghost use Rattle.dbf_image.specs.declared.fault.ImageFault.{ImageFault};
 ghost use Rattle.dbf_image.specs.declared.table.TheConstants.{MOST_RECORDS};
-ghost use Rattle.dbf_image.specs.Reading.{field_count, header_of, schema_of, header_tests, field_tests, record_tests, table_of, refusal, IsRefusal};
+ghost use Rattle.dbf_image.specs.Reading.{field_count, header_of, schema_of, header_tests, field_tests, record_tests, early_refusal, table_of, refusal, IsRefusal};
 
 use crate::fault::ImageFault;
 use crate::header::Header;
@@ -112,6 +113,7 @@ fn schema_at(alloc: Global, dbf: &[u8], header_length: usize) -> Result<Schema, 
     requires value { header_length ≡ dbf_header_length dbf.now }
     ensures accepted { IfOk result (λ _. first_fault (field_tests dbf.now) ≡ None) }
     ensures refused { IfErr result (λ fault. (fault ≡ ImageFault.NoMemory) ⊎ (first_fault (field_tests dbf.now) ≡ Some fault)) }
+    ensures early { IfErr result (λ fault. field_count dbf.now ≡ None → fault ≡ ImageFault.BadHeaderLength) }
     ensures value { IfOk result (λ schema. schema ≡ schema_of dbf.now) }
 {
     let Some(count) = descriptor_count(dbf, header_length) else {
@@ -175,6 +177,7 @@ fn table_at(alloc: Global, dbf: &[u8], dbt: Option<&[u8]>) -> Result<TableData, 
     ensures accepted { IfOk result (λ _. refusal dbf.now (option_copied dbt.entry) ≡ None) }
     ensures value { IfOk result (λ table. table ≡ table_of dbf.now (option_copied dbt.entry)) }
     ensures refused { IfErr result (λ fault. IsRefusal fault dbf.now (option_copied dbt.entry)) }
+    ensures early { IfErr result (λ fault. (first : ImageFault) → early_refusal dbf.now ≡ Some first → fault ≡ first) }
 {
     let header = header_at(dbf)?;
     let start = usize::from(header.header_length);
@@ -206,10 +209,14 @@ fn table_at(alloc: Global, dbf: &[u8], dbt: Option<&[u8]>) -> Result<TableData, 
 pub fn read_table(alloc: Global, dbf: &[u8], dbt: Option<&[u8]>) -> Result<TableData, ImageFault>
     // What is read is the files' table.
     ensures found { IfOk result (IsDbf dbf.now (option_copied dbt.entry)) }
-    // Files of a table are read, unless memory runs out.
+    // No test fails where a table is read.
+    ensures accepted { IfOk result (λ _. refusal dbf.now (option_copied dbt.entry) ≡ None) }
+    // Files of a table are read, unless memory is refused.
     ensures only { (table : Table) → IsDbf dbf.now (option_copied dbt.entry) table → MatchResult result (λ t. t ≡ table) (λ fault. fault ≡ ImageFault.NoMemory) }
     // Which fault it is.
     ensures refused { IfErr result (λ fault. IsRefusal fault dbf.now (option_copied dbt.entry)) }
+    // What is tested before memory is taken is answered as it is, and never as `NoMemory`.
+    ensures early { IfErr result (λ fault. (first : ImageFault) → early_refusal dbf.now ≡ Some first → fault ≡ first) }
     // Two files are those of one table at most.
     ensures one { (a b : Table) → IsDbf dbf.now (option_copied dbt.entry) a → IsDbf dbf.now (option_copied dbt.entry) b → a ≡ b }
 {

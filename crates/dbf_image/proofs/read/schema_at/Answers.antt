@@ -23,5 +23,6 @@ returns c =
     record {
       accepted = fields_pass c.args.dbf.now c.in-Some.count c.in-Some.ensures.count (rw all at c.in_ok-schema.ensures.accepted);
       refused = tt;
+      early = tt;
       value = c.in_ok-schema.ensures.value ∙ ap (map folded) all;
     }

@@ -3,7 +3,7 @@ use Rattle.std.specs.Option.{option_copied}
 use Rattle.std.proofs.lemmas.Result.{err_from_is_err_and}
 use Rattle.dbf_image.specs.declared.header.Header.{Header}
 use Rattle.dbf_image.specs.Store.{texts_of, rows_of}
-use Rattle.dbf_image.proofs.Groups.{refused_by_header, refused_by_fields, refused_by_records, refused_by_memos, decided_by_memos}
+use Rattle.dbf_image.proofs.Groups.{early_by_header, early_by_fields, early_passed, refused_by_header, refused_by_fields, refused_by_records, refused_by_memos, decided_by_memos}
 use Rattle.dbf_image.proofs.DbfLaws.{rows_told, tests_told}
 use Rattle.dbf_image.proofs.read.table_at.Goals as goal
 
@@ -32,6 +32,31 @@ returns-in_err-texts-clause-refused c =
     (c.in_ok-check_records.ensures.wide ∙ c.record_length-size.ensures.value) (ap (λ (h : Header). h.record_count) told) (ap (λ (h : Header). h.header_length) told) c.run_at-run.ensures in
     let refused = rw tests at c.in_err-texts.ensures.refused in
     rw (p.1, p.2) (refused_by_memos c.args.dbf.now dbt _ c.in_ok-header.ensures.accepted c.in_ok-schema.ensures.accepted c.in_ok-check_records.ensures.accepted refused)
+
+pub returns-in_err-header-clause-early : goal.returns-in_err-header-clause-early
+returns-in_err-header-clause-early c =
+    let p = err_from_is_err_and c.from_residual.result c.from_residual.ensures.1 in
+    rw (p.1, p.2) (λ first. early_by_header c.args.dbf.now _ first c.in_err-header.ensures.refused)
+
+pub returns-in_err-schema-clause-early : goal.returns-in_err-schema-clause-early
+returns-in_err-schema-clause-early c =
+    let p = err_from_is_err_and c.from_residual-in_err-schema.result c.from_residual-in_err-schema.ensures.1 in
+    rw (p.1, p.2) (λ first. early_by_fields c.args.dbf.now _ first c.in_ok-header.ensures.accepted c.in_err-schema.ensures.early)
+
+pub returns-in_err-check_records-clause-early : goal.returns-in_err-check_records-clause-early
+returns-in_err-check_records-clause-early c =
+    let p = err_from_is_err_and c.from_residual-in_err-check_records.result c.from_residual-in_err-check_records.ensures.1 in
+    rw (p.1, p.2) (λ first. early_passed c.args.dbf.now _ first c.in_ok-header.ensures.accepted c.in_ok-schema.ensures.accepted)
+
+pub returns-in_err-texts-clause-early : goal.returns-in_err-texts-clause-early
+returns-in_err-texts-clause-early c =
+    let p = err_from_is_err_and c.from_residual-in_err-texts.result c.from_residual-in_err-texts.ensures.1 in
+    rw (p.1, p.2) (λ first. early_passed c.args.dbf.now _ first c.in_ok-header.ensures.accepted c.in_ok-schema.ensures.accepted)
+
+pub returns-in_err-records-clause-early : goal.returns-in_err-records-clause-early
+returns-in_err-records-clause-early c =
+    let p = err_from_is_err_and c.from_residual-in_err-records.result c.from_residual-in_err-records.ensures.1 in
+    rw (p.1, p.2) (λ first. early_passed c.args.dbf.now _ first c.in_ok-header.ensures.accepted c.in_ok-schema.ensures.accepted)
 
 pub returns-clause-accepted : goal.returns-clause-accepted
 returns-clause-accepted c =
