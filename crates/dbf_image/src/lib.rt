@@ -45,8 +45,4 @@ pub use write_memos::write_dbt;
 pub use writer::SinkWriter;
 
 #[cfg(test)]
-mod blocks_tests;
-#[cfg(test)]
-mod memo_tests;
-#[cfg(test)]
 mod tests;

@@ -1,29 +1,20 @@
+//! Blocks of memos that are written.
+
 use super::*;
-use dbf_fields::{Bytes, Field, MEMO, Schema, day_of};
+use dbf_fields::{Field, MEMO, Schema, day_of};
 use std::alloc::Global;
 use std::test::*;
 
-fn field(alloc: Global, name: &[u8], kind: u8, width: u8) -> Result<Field, Fail> {
-    Ok(Field {
-        name: Bytes::from_slice(alloc, name)?,
-        kind,
-        width,
-        decimals: 0,
-    })
-}
-
 // The table of one memo NOTE with three records, the first two of which have a text of 510 and of 511
-// bytes: with 0x1A 0x1A behind it the one fills its block, and the other takes two.
-fn notes(alloc: Global) -> Result<TableData, Fail> {
-    let note = field(alloc, b"NOTE", MEMO, 10)?;
+// bytes: with 0x1A 0x1A after it the one fills its block, and the other takes two.
+pub(super) fn notes(alloc: Global) -> Result<TableData, Fail> {
+    let note = Field::new(alloc, b"NOTE", MEMO, 10, 0)?;
     let mut table = TableData::empty(alloc, Schema::new(alloc, &[note])?);
     for _ in 0..3 {
-        if table.record_count() < MOST_RECORDS {
-            table.append_blank()?;
-        }
+        add_blank(&mut table)?;
     }
-    set_note(&mut table, 1, 0, &[b'a'; 510])?;
-    set_note(&mut table, 2, 0, &[b'b'; 511])?;
+    put_memo(&mut table, 1, 0, &[b'a'; 510])?;
+    put_memo(&mut table, 2, 0, &[b'b'; 511])?;
     Ok(table)
 }
 
@@ -36,21 +27,8 @@ fn append(table: &mut TableData, record: &[u8]) -> Result<(), Fail> {
     Ok(())
 }
 
-// Sets a memo of a record.
-fn set_note(table: &mut TableData, number: u32, field: usize, text: &[u8]) -> Result<(), Fail> {
-    let fields = table.schema().fields();
-    if field >= fields.len() || fields[field].kind != MEMO {
-        return Err("no memo".into());
-    }
-    if number < 1 || number > table.record_count() || !is_memo_text(text) {
-        return Err("no such record or no memo's text".into());
-    }
-    table.set_memo(number, field, text)?;
-    Ok(())
-}
-
 // The file of those records, dated 1987-03-15.
-const NOTES: [u8; 99] = [
+pub(super) const NOTES: [u8; 99] = [
     0x83, 0x57, 0x03, 0x0f, 0x03, 0, 0, 0, 0x41, 0, 0x0b, 0, 0, 0, 0, 0, 0, 0, 0, 0, 0, 0, 0, 0, 0,
     0, 0, 0, 0, 0, 0, 0, 0x4e, 0x4f, 0x54, 0x45, 0, 0, 0, 0, 0, 0, 0, 0x4d, 0, 0, 0, 0, 0x0a, 0, 0,
     0, 0, 0, 0, 0, 0, 0, 0, 0, 0, 0, 0, 0, 0x0d, 0x20, 0x20, 0x20, 0x20, 0x20, 0x20, 0x20, 0x20,
@@ -58,8 +36,8 @@ const NOTES: [u8; 99] = [
     0x20, 0x20, 0x20, 0x20, 0x20, 0x20, 0x20, 0x20, 0x20, 0x1a,
 ];
 
-// And the file of their memos: three blocks behind the header's.
-fn blocks(alloc: Global) -> Result<Vec<u8>, Fail> {
+// And the file of their memos: three blocks after the header's.
+pub(super) fn blocks(alloc: Global) -> Result<Vec<u8>, Fail> {
     let mut dbt = Vec::from_slice(alloc, &[4, 0, 0, 0])?;
     dbt.resize(16, 0)?;
     dbt.push(3)?;
@@ -94,8 +72,7 @@ fn memos_take_whole_blocks(rt: HostRuntime) -> Result<(), Fail> {
 
 #[test]
 fn table_without_memos_has_a_memo_header(rt: HostRuntime) -> Result<(), Fail> {
-    let name = field(rt.alloc(), b"NAME", b'C', 10)?;
-    let table = TableData::empty(rt.alloc(), Schema::new(rt.alloc(), &[name])?);
+    let table = TableData::empty(rt.alloc(), one_name(rt.alloc())?);
     let mut sink = MemorySink::new(rt.alloc());
     write_dbt(&mut sink, &table)?;
     let mut header = Vec::from_slice(rt.alloc(), &[1, 0, 0, 0])?;
@@ -109,17 +86,17 @@ fn table_without_memos_has_a_memo_header(rt: HostRuntime) -> Result<(), Fail> {
 #[test]
 fn memos_are_numbered_by_record_and_field(rt: HostRuntime) -> Result<(), Fail> {
     let fields = [
-        field(rt.alloc(), b"NAME", b'C', 3)?,
-        field(rt.alloc(), b"NOTE", MEMO, 10)?,
-        field(rt.alloc(), b"MORE", MEMO, 10)?,
+        Field::new(rt.alloc(), b"NAME", b'C', 3, 0)?,
+        Field::new(rt.alloc(), b"NOTE", MEMO, 10, 0)?,
+        Field::new(rt.alloc(), b"MORE", MEMO, 10, 0)?,
     ];
     let mut table = TableData::empty(rt.alloc(), Schema::new(rt.alloc(), &fields)?);
     append(&mut table, b"*ADA                    ")?;
     append(&mut table, b" BOB                    ")?;
-    set_note(&mut table, 2, 2, b"LAST")?;
-    set_note(&mut table, 2, 1, b"")?;
-    set_note(&mut table, 1, 2, b"SECOND")?;
-    set_note(&mut table, 1, 1, b"FIRST")?;
+    put_memo(&mut table, 2, 2, b"LAST")?;
+    put_memo(&mut table, 2, 1, b"")?;
+    put_memo(&mut table, 1, 2, b"SECOND")?;
+    put_memo(&mut table, 1, 1, b"FIRST")?;
     let day = day_of(1987, 3, 15).ok_or("no such day")?;
     let mut dbf = MemorySink::new(rt.alloc());
     write_dbf(&mut dbf, &table, day)?;

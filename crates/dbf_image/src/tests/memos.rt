@@ -1,57 +1,8 @@
+//! Memos in a table, and their files.
+
 use super::*;
-use dbf_fields::{Bytes, Field, MEMO, Schema};
-use std::alloc::Global;
+use dbf_fields::{Field, MEMO, Schema};
 use std::test::*;
-
-// One record of one field NOTE, M, whose cell is blank.
-const ONE_MEMO: [u8; 77] = [
-    0x83, 0x57, 0x03, 0x0f, 0x01, 0, 0, 0, 0x41, 0, 0x0b, 0, 0, 0, 0, 0, 0, 0, 0, 0, 0, 0, 0, 0, 0,
-    0, 0, 0, 0, 0, 0, 0, 0x4e, 0x4f, 0x54, 0x45, 0, 0, 0, 0, 0, 0, 0, 0x4d, 0, 0, 0, 0, 0x0a, 0, 0,
-    0, 0, 0, 0, 0, 0, 0, 0, 0, 0, 0, 0, 0, 0x0d, 0x20, 0x20, 0x20, 0x20, 0x20, 0x20, 0x20, 0x20,
-    0x20, 0x20, 0x20, 0x1a,
-];
-
-// The same with another cell.
-fn one_memo(cell: &[u8; 10]) -> [u8; 77] {
-    let mut dbf = ONE_MEMO;
-    dbf[66..76].copy_from_slice(cell);
-    dbf
-}
-
-// Two blocks, of which the second begins with HELLO.
-fn hello() -> [u8; 1024] {
-    let mut dbt = [0; 1024];
-    dbt[512..519].copy_from_slice(b"HELLO\x1a\x1a");
-    dbt
-}
-
-// The first so many bytes, or all.
-fn front(bytes: &[u8], length: usize) -> &[u8] {
-    if length < bytes.len() {
-        return &bytes[..length];
-    }
-    bytes
-}
-
-// Whether a table has a cell, and it is this one.
-fn has_cell(table: &TableData, number: u32, field: usize, cell: &[u8]) -> bool {
-    if number < 1 || number > table.record_count() || field >= table.schema().fields().len() {
-        return false;
-    }
-    table.cell(number, field) == cell
-}
-
-// Replaces a memo, where there is one.
-fn put_memo(table: &mut TableData, number: u32, field: usize, text: &[u8]) -> Result<(), Fail> {
-    if number < 1 || number > table.record_count() || field >= table.schema().fields().len() {
-        return Err("no such cell".into());
-    }
-    if table.schema().fields()[field].kind != MEMO || !is_memo_text(text) {
-        return Err("no such memo".into());
-    }
-    table.set_memo(number, field, text)?;
-    Ok(())
-}
 
 // Replaces a cell, where there is one.
 fn put_cell(table: &mut TableData, number: u32, field: usize, cell: &[u8]) -> Result<(), Fail> {
@@ -67,13 +18,15 @@ fn put_cell(table: &mut TableData, number: u32, field: usize, cell: &[u8]) -> Re
     Ok(())
 }
 
-// Adds a blank record.
-fn add_blank(table: &mut TableData) -> Result<(), Fail> {
-    if table.record_count() >= MOST_RECORDS {
-        return Err("the table is full".into());
+// A table of the fields NAME, C, 3 wide, and NOTE, M, with one record.
+fn named(alloc: Global) -> Result<TableData, Fail> {
+    let name = Field::new(alloc, b"NAME", b'C', 3, 0)?;
+    let note = Field::new(alloc, b"NOTE", MEMO, 10, 0)?;
+    let mut table = TableData::empty(alloc, Schema::new(alloc, &[name, note])?);
+    if table.schema().record_length() == 14 && table.record_count() == 0 {
+        table.append_record(b" ADA         1")?;
     }
-    table.append_blank()?;
-    Ok(())
+    Ok(table)
 }
 
 #[test]
@@ -177,27 +130,6 @@ fn missing_file_is_refused(rt: HostRuntime) -> Result<(), Fail> {
     let table = read_table(rt.alloc(), &dbf, Some(hello().as_slice()))?;
     assert!(rt; has_cell(&table, 1, 0, b"HELLO"));
     Ok(())
-}
-
-// A field of a letter and a width.
-fn field(alloc: Global, name: &[u8], kind: u8, width: u8) -> Result<Field, Fail> {
-    Ok(Field {
-        name: Bytes::from_slice(alloc, name)?,
-        kind,
-        width,
-        decimals: 0,
-    })
-}
-
-// A table of the fields NAME, C, 3 wide, and NOTE, M, with one record.
-fn named(alloc: Global) -> Result<TableData, Fail> {
-    let name = field(alloc, b"NAME", b'C', 3)?;
-    let note = field(alloc, b"NOTE", b'M', 10)?;
-    let mut table = TableData::empty(alloc, Schema::new(alloc, &[name, note])?);
-    if table.schema().record_length() == 14 && table.record_count() == 0 {
-        table.append_record(b" ADA         1")?;
-    }
-    Ok(table)
 }
 
 #[test]

@@ -1,0 +1,77 @@
+//! Reading table files.
+
+use super::*;
+use std::test::*;
+
+// The same table by another program: a longer header, bytes after the name, and no 0x1A at the end.
+const TOLERATED: [u8; 88] = [
+    0x03, 0x57, 0x03, 0x0f, 0x02, 0, 0, 0, 0x42, 0, 0x0b, 0, 0, 0, 0, 0, 0, 0, 0, 0, 0, 0, 0, 0, 0,
+    0, 0, 0, 0, 0, 0, 0, 0x4e, 0x41, 0x4d, 0x45, 0, 0x58, 0x58, 0x58, 0x58, 0x58, 0x58, 0x43, 0, 0,
+    0, 0, 0x0a, 0, 0, 0, 0, 0, 0, 0, 0, 0, 0, 0, 0, 0, 0, 0, 0x0d, 0, 0x20, 0x41, 0x44, 0x41, 0x20,
+    0x20, 0x20, 0x20, 0x20, 0x20, 0x20, 0x20, 0x42, 0x4f, 0x42, 0x20, 0x20, 0x20, 0x20, 0x20, 0x20,
+    0x20,
+];
+
+#[test]
+fn first_image(rt: HostRuntime) -> Result<(), Fail> {
+    let table = read_table(rt.alloc(), &TWO_NAMES, None)?;
+    assert_eq!(rt; table.record_count(), 2);
+    assert_eq!(rt; table.schema().fields().len(), 1);
+    assert!(rt; !table.is_deleted(1));
+    assert!(rt; !table.is_deleted(2));
+    assert_eq!(rt; table.cell(1, 0), b"ADA       ".as_slice());
+    assert_eq!(rt; table.cell(2, 0), b"BOB       ".as_slice());
+    assert_eq!(rt;
+        written(rt.alloc(), &table)?.as_slice(),
+        TWO_NAMES.as_slice()
+    );
+    Ok(())
+}
+
+#[test]
+fn tolerant_header(rt: HostRuntime) -> Result<(), Fail> {
+    let table = read_table(rt.alloc(), &TOLERATED, None)?;
+    assert_eq!(rt;
+        written(rt.alloc(), &table)?.as_slice(),
+        TWO_NAMES.as_slice()
+    );
+    Ok(())
+}
+
+#[test]
+fn missing_record_is_truncated(rt: HostRuntime) {
+    let dbf = changed(&[(4, 3)]);
+    assert_eq!(rt;
+        read_table(rt.alloc(), &dbf, None).err(),
+        Some(ImageFault::Truncated)
+    );
+}
+
+#[test]
+fn cut_short_is_truncated(rt: HostRuntime) {
+    for length in 0..87usize {
+        let read = read_table(rt.alloc(), &TWO_NAMES[..length], None);
+        assert_eq!(rt; read.err(), Some(ImageFault::Truncated), "at {length}");
+    }
+    assert!(rt; read_table(rt.alloc(), &TWO_NAMES[..87], None).is_ok());
+}
+
+#[test]
+fn bad_header_is_refused(rt: HostRuntime) {
+    let cases = [
+        (changed(&[(0, 0x30)]), ImageFault::BadVersion),
+        (changed(&[(8, 64)]), ImageFault::BadHeaderLength),
+        (changed(&[(8, 40)]), ImageFault::BadHeaderLength),
+        (changed(&[(8, 33), (32, 0x0d)]), ImageFault::BadSchema),
+        (changed(&[(48, 0)]), ImageFault::BadSchema),
+        (changed(&[(10, 12)]), ImageFault::BadRecordLength),
+        // 1,000,000,001 records
+        (
+            changed(&[(4, 0x01), (5, 0xca), (6, 0x9a), (7, 0x3b)]),
+            ImageFault::TooManyRecords,
+        ),
+    ];
+    for (dbf, fault) in cases {
+        assert_eq!(rt; read_table(rt.alloc(), &dbf, None).err(), Some(fault));
+    }
+}

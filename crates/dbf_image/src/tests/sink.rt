@@ -1,0 +1,108 @@
+//! A sink for tests, and what a sink has that failed.
+
+use super::blocks::{NOTES, blocks, notes};
+use super::*;
+use dbf_fields::day_of;
+use std::alloc::Global;
+use std::test::*;
+
+// Takes so many bytes a write at most, counts its writes, and fails once so many are done.
+#[derive(Drop)]
+pub(super) struct TestSink {
+    pub(super) taken: MemorySink,
+    pub(super) writes: u64,
+    most: usize,
+    fails_after: u64,
+}
+
+impl TestSink {
+    pub(super) fn new(alloc: Global, most: usize, fails_after: u64) -> TestSink {
+        TestSink {
+            taken: MemorySink::new(alloc),
+            writes: 0,
+            most,
+            fails_after,
+        }
+    }
+}
+
+impl ByteSink for TestSink {
+    ghost use Rattle.std.specs.Prelude.{Some};
+
+    ghost written = { λ s. Some s.taken.bytes.items };
+
+    ghost failures = { λ s. Some s.taken.failures };
+
+    fn write(&mut self, bytes: &[u8]) -> Result<usize, SinkFault> {
+        if self.writes >= self.fails_after {
+            self.taken.failures.count();
+            return Err(SinkFault);
+        }
+        self.writes += 1;
+        self.taken
+            .write(&bytes[..bytes.len().min(self.most.max(1))])
+    }
+}
+
+#[test]
+fn failing_sink_has_the_front(rt: HostRuntime) -> Result<(), Fail> {
+    let table = read_table(rt.alloc(), &TWO_NAMES, None)?;
+    let day = day_of(1987, 3, 15).ok_or("no such day")?;
+    for writes in 0..89usize {
+        let mut sink = TestSink::new(rt.alloc(), 1, writes as u64);
+        let expected = if writes < 88 {
+            Err(WriteFault::Sink)
+        } else {
+            Ok(())
+        };
+        assert_eq!(rt;
+            write_dbf(&mut sink, &table, day),
+            expected,
+            "after {writes}"
+        );
+        assert_eq!(rt; sink.taken.bytes.as_slice(), &TWO_NAMES[..writes]);
+    }
+    Ok(())
+}
+
+// What both files of `notes` are, in a sink that takes them one after the other until it fails.
+#[test]
+fn failing_sink_keeps_the_file_before(rt: HostRuntime) -> Result<(), Fail> {
+    let table = notes(rt.alloc())?;
+    let day = day_of(1987, 3, 15).ok_or("no such day")?;
+    let mut both = Vec::from_slice(rt.alloc(), &NOTES)?;
+    both.extend_from_slice(blocks(rt.alloc())?.as_slice())?;
+    for (writes, dbf, dbt) in [
+        (0, Err(WriteFault::Sink), Err(WriteFault::Sink)),
+        (98, Err(WriteFault::Sink), Err(WriteFault::Sink)),
+        (99, Ok(()), Err(WriteFault::Sink)),
+        (100, Ok(()), Err(WriteFault::Sink)),
+        (2_146, Ok(()), Err(WriteFault::Sink)),
+        (2_147, Ok(()), Ok(())),
+    ] {
+        let mut sink = TestSink::new(rt.alloc(), 1, writes);
+        assert_eq!(rt; write_dbf(&mut sink, &table, day), dbf, "after {writes}");
+        assert_eq!(rt; write_dbt(&mut sink, &table), dbt, "after {writes}");
+        assert_eq!(rt; sink.taken.bytes.as_slice(), front(&both, writes as usize));
+    }
+    Ok(())
+}
+
+#[test]
+fn small_chunks_are_gathered(rt: HostRuntime) -> Result<(), Fail> {
+    let mut table = read_table(rt.alloc(), &TWO_NAMES, None)?;
+    // 500 records
+    let mut image = Vec::from_slice(rt.alloc(), &changed(&[(4, 0xf4), (5, 0x01)]))?;
+    image.truncate(87);
+    for _ in 0..498 {
+        add_blank(&mut table)?;
+        image.extend_from_slice(b"           ")?;
+    }
+    image.push(0x1a)?;
+    let day = day_of(1987, 3, 15).ok_or("no such day")?;
+    let mut sink = TestSink::new(rt.alloc(), usize::MAX, u64::MAX);
+    write_dbf(&mut sink, &table, day)?;
+    assert_eq!(rt; sink.writes, 2);
+    assert_eq!(rt; sink.taken.bytes, image);
+    Ok(())
+}
