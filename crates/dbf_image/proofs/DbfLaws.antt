@@ -14,7 +14,7 @@ use Rattle.dbf_image.specs.DbfText.{pieces, header_length, record_length, record
 use Rattle.dbf_image.specs.Reading.{first_from, field_count, fields_of, schema_of, has_version, header_tests, field_tests, record_tests, memos_tests, records_of, row_told, refusal, IsRefusal, table_of}
 use Rattle.dbf_image.specs.Spans.{table_tests}
 use Rattle.dbf_image.proofs.Rows.{pieces_take}
-use Rattle.dbf_image.proofs.Groups.{first_parts}
+use Rattle.dbf_fields.proofs.FaultLaws.{first_parts}
 use Rattle.dbf_image.proofs.MemoTests.{rows_ok, ok_rows}
 
 -- ---- the first number that passes a test

@@ -3,37 +3,12 @@ use Rattle.std.proofs.Common.{◌≡◌, ℕ, ◌-◌, Bool, true, false, cond, 
 use Rattle.std.specs.Prelude.{is_none, is_some, ◌⊎◌}
 use Rattle.std.proofs.lemmas.List.{take_rest}
 use Rattle.dbf_fields.specs.Faults.{first_fault}
+use Rattle.dbf_fields.proofs.FaultLaws.{first_then, first_before}
 use Rattle.dbf_fields.specs.Schema as schemas
 use Rattle.dbf_image.specs.declared.fault.ImageFault.{ImageFault}
 use Rattle.dbf_image.specs.declared.fault.ImageFault.TheVariants.{BadHeaderLength, BadSchema, NoMemory}
 use Rattle.dbf_image.specs.DbfText.{pieces, field_of}
 use Rattle.dbf_image.specs.Reading.{field_count, fields_of, header_tests, field_tests, record_tests, memos_tests, early_refusal, refusal, IsRefusal}
-
--- the tests of a group let the next ones decide, or one of them decides
-then_by : {F : Type 0} (b : Bool) (x y z : Option F) (f : F) → cond b x (Some f) ≡ None → (x ≡ None → y ≡ z) → cond b y (Some f) ≡ z
-then_by true x y z f e next = next e
-then_by false x y z f e next = absurd cc
-
-before_by : {F : Type 0} (b : Bool) (x y z : Option F) (f : F) → cond b x (Some f) ≡ z → (x ≡ z → y ≡ z) → cond b y (Some f) ≡ z
-before_by true x y z f e next = next e
-before_by false x y z f e next = e
-
-pub first_then : {F : Type 0} (xs ys : List (Bool × F)) → first_fault xs ≡ None → first_fault (xs ++ ys) ≡ first_fault ys
-first_then [] ys h = refl
-first_then (x ∷ xs) ys h = then_by x.0 (first_fault xs) _ _ x.1 h (first_then xs ys)
-
-pub first_before : {F : Type 0} (xs ys : List (Bool × F)) (fault : F) → first_fault xs ≡ Some fault → first_fault (xs ++ ys) ≡ Some fault
-first_before [] ys fault h = absurd cc
-first_before (x ∷ xs) ys fault h = before_by x.0 (first_fault xs) _ _ x.1 h (first_before xs ys fault)
-
--- what passing all says of each part
-parts_by : {F : Type 0} (b : Bool) (x y : Option F) (f : F) (P : Type 0) → cond b y (Some f) ≡ None → (y ≡ None → (x ≡ None) × P) → (cond b x (Some f) ≡ None) × P
-parts_by true x y f P e next = next e
-parts_by false x y f P e next = absurd cc
-
-pub first_parts : {F : Type 0} (xs ys : List (Bool × F)) → first_fault (xs ++ ys) ≡ None → (first_fault xs ≡ None) × (first_fault ys ≡ None)
-first_parts [] ys h = (refl, h)
-first_parts (x ∷ xs) ys h = parts_by x.0 (first_fault xs) (first_fault (xs ++ ys)) x.1 (first_fault ys ≡ None) h (first_parts xs ys)
 
 pub fields_are : (bytes : List ℕ) (count : ℕ) → Some count ≡ field_count bytes → map field_of (pieces 32 count (take (length bytes - 32) (drop 32 bytes))) ≡ fields_of bytes
 fields_are bytes count e = rw (take_rest bytes 32, ← e) refl

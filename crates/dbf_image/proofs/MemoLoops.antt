@@ -16,7 +16,7 @@ use Rattle.dbf_image.specs.declared.fault.ImageFault.TheVariants.{NoMemory}
 use Rattle.dbf_image.specs.declared.span.Span.{Span}
 use Rattle.dbf_image.specs.Reading.{cell_tests, cells_tests}
 use Rattle.dbf_image.specs.Spans.{cell_spans, cells_spans}
-use Rattle.dbf_image.proofs.Groups.{first_then, first_before}
+use Rattle.dbf_fields.proofs.FaultLaws.{first_then, first_before}
 
 pub tests-next : (dbt bytes : List ℕ) (fields : List Field) (i : ℕ) (f : Field) → i < length fields → f ≡ get_or fields i f
     → first_fault (cell_tests dbt f (take f.width bytes)) ≡ None

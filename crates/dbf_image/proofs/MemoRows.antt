@@ -19,7 +19,7 @@ use Rattle.dbf_image.specs.Spans.{span_of, no_span, memo_span, cell_spans, cells
 use Rattle.dbf_image.proofs.Rows.{length-pieces}
 use Rattle.dbf_image.proofs.Spans.{all_append, no_span_fits}
 use Rattle.dbf_image.proofs.Ends.{end_inside, prefix_all}
-use Rattle.dbf_image.proofs.Groups.{first_parts}
+use Rattle.dbf_fields.proofs.FaultLaws.{first_parts}
 use Rattle.dbf_image.proofs.MemoTests.{both, text_ok}
 
 -- ---- what stands there

@@ -11,7 +11,7 @@ use Rattle.dbf_image.specs.Table.{Row}
 use Rattle.dbf_image.specs.Memo.{memo_number, memo_at, HasText, TellsMemo, TellsCell, TellsCells}
 use Rattle.dbf_image.specs.DbfText.{TellsRows}
 use Rattle.dbf_image.specs.Reading.{is_block, text_tests, memo_tests, memo_text, cell_tests, cell_text, cells_tests, cells_told, row_tests, row_told}
-use Rattle.dbf_image.proofs.Groups.{first_then, first_parts}
+use Rattle.dbf_fields.proofs.FaultLaws.{first_then, first_parts}
 
 -- ---- a text
 

@@ -9,7 +9,8 @@ use Rattle.std.proofs.lemmas.List.Folds.{list_all-append}
 use Rattle.std.proofs.lemmas.List.Sums.{fold-append}
 use Rattle.std.proofs.Math.Nat.{pow-suc}
 use Rattle.dbf_fields.specs.Digits.{digits_behind}
-use Rattle.dbf_image.specs.Memo.{without_leading, trimmed, memo_number}
+use Rattle.dbf_fields.specs.Number.{without_leading, trimmed}
+use Rattle.dbf_image.specs.Memo.{memo_number}
 use Rattle.dbf_image.specs.Blocks.{justified, number_cell}
 
 -- a digit behind bytes stays where the blanks before them go

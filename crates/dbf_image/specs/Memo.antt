@@ -5,16 +5,8 @@ use Rattle.std.specs.Char.{is_ascii_digit}
 use Rattle.dbf_fields.specs.declared.field.Field.{Field}
 use Rattle.dbf_fields.specs.declared.field.TheConstants.{MEMO}
 use Rattle.dbf_fields.specs.Digits.{digits_behind}
+use Rattle.dbf_fields.specs.Number.{trimmed}
 use Rattle.dbf_image.specs.declared.table.TheConstants.{MOST_MEMO_BYTES}
-
--- what is left behind the blanks at the front
-abbrev pub without_leading : List ℕ → List ℕ
-without_leading [] = []
-without_leading (b ∷ bs) = if b == 32 then without_leading bs else b ∷ bs
-
--- what is left between the blanks at both ends
-unfoldable pub trimmed : List ℕ → List ℕ
-trimmed bs = reverse (without_leading (reverse (without_leading bs)))
 
 -- the block number of a memo's cell: digits between blanks and nothing else. No digits, or 0, is no memo
 unfoldable pub memo_number : List ℕ → Option ℕ

@@ -2,10 +2,8 @@
 
 ghost use Rattle.std.specs.Prelude.{◌≡◌, ◌+◌, ◌*◌, ◌<◌, ◌≤◌, ◌==◌, ◌^◌, ◌⊎◌, ℕ, List, length, reverse, Some, None, true, IfSome, IfOk, IfErr, OnOk, MatchResult};
 ghost use Rattle.std.specs.List.{list_all, position_or_len};
-ghost use Rattle.std.specs.Char.{is_ascii_digit};
-ghost use Rattle.dbf_fields.specs.Digits.{digits_behind};
 ghost use Rattle.dbf_fields.specs.Faults.{first_fault};
-ghost use Rattle.dbf_image.specs.Memo.{without_leading, trimmed, memo_number, memo_at, HasText};
+ghost use Rattle.dbf_image.specs.Memo.{memo_number, memo_at, HasText};
 ghost use Rattle.dbf_image.specs.Reading.{is_block, text_tests};
 ghost use Rattle.dbf_image.specs.declared.fault.ImageFault.{ImageFault};
 ghost use Rattle.dbf_image.specs.Spans.{end_at, AreEnds, span_of};
@@ -13,58 +11,9 @@ ghost use Rattle.dbf_image.specs.Spans.{end_at, AreEnds, span_of};
 use crate::fault::ImageFault;
 use crate::span::Span;
 use crate::table::MOST_MEMO_BYTES;
-use dbf_fields::Bytes;
+use dbf_fields::{Bytes, are_digits, number_of_digits, trimmed};
 use memchr::memchr;
 use std::alloc::{AllocError, Global};
-
-fn trim_start(cell: &[u8]) -> &[u8]
-    ensures value { result.now ≡ without_leading cell.now }
-    ensures short { length result.now ≤ length cell.now }
-{
-    let mut text = cell;
-    while let [b' ', rest @ ..] = text {
-        text = rest;
-    }
-    text
-}
-
-fn trim_end(cell: &[u8]) -> &[u8]
-    ensures value { result.now ≡ reverse (without_leading (reverse cell.now)) }
-    ensures short { length result.now ≤ length cell.now }
-{
-    let mut text = cell;
-    while let [rest @ .., b' '] = text {
-        text = rest;
-    }
-    text
-}
-
-#[tactic(auto, unfolding(crate::specs::Memo::trimmed))]
-fn trim(cell: &[u8]) -> &[u8]
-    ensures value { result.now ≡ trimmed cell.now }
-    ensures short { length result.now ≤ length cell.now }
-{
-    trim_end(trim_start(cell))
-}
-
-fn are_digits(text: &[u8]) -> bool
-    ensures value { result ≡ list_all is_ascii_digit text.now }
-{
-    text.iter().all(|byte| byte.is_ascii_digit())
-}
-
-fn number_of_digits(digits: &[u8]) -> u64
-    requires few { length digits.now ≤ 10 }
-    requires digits { list_all is_ascii_digit digits.now ≡ true }
-    ensures value { result ≡ digits_behind 0 digits.now }
-    ensures small { result < 10 ^ 10 }
-{
-    let mut number = 0;
-    for digit in digits {
-        number = number * 10 + u64::from(*digit - b'0');
-    }
-    number
-}
 
 /// The number of a block in a memo's cell: 0 is no memo, and `None` a cell that has no number.
 #[tactic(auto, unfolding(crate::specs::Memo::memo_number))]
@@ -72,7 +21,7 @@ pub(crate) fn number_of(cell: &[u8]) -> Option<u64>
     requires { length cell.now ≤ 10 }
     ensures value { result ≡ memo_number cell.now }
 {
-    let text = trim(cell);
+    let text = trimmed(cell);
     if are_digits(text) {
         Some(number_of_digits(text))
     } else {

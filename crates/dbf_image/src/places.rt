@@ -2,8 +2,6 @@
 
 ghost use Rattle.std.specs.Prelude.{◌≡◌, ◌+◌, ◌-◌, ◌*◌, ◌<◌, ◌≤◌, length, take};
 ghost use Rattle.dbf_fields.specs.Field.{widths};
-ghost use Rattle.dbf_fields.specs.Schema.{IsSchema};
-ghost use Rattle.dbf_image.specs.Table.{cell_width};
 ghost use Rattle.dbf_image.specs.Store.{memo_count};
 
 use dbf_fields::{Field, MEMO, Schema};
@@ -26,20 +24,6 @@ pub(crate) fn record_start(schema: &Schema, number: u32) -> usize
     place_of(number) * schema.record_length()
 }
 
-/// Where a field's cell begins in its record: behind the flag and the cells of the earlier fields.
-fn cell_offset(fields: &[Field], field: usize) -> usize
-    requires schema { IsSchema fields.now }
-    requires field { field ≤ length fields.now }
-    ensures value { result ≡ 1 + widths (take field fields.now) }
-    ensures small { result ≤ 4001 }
-{
-    let mut offset = 1;
-    for earlier in &fields[..field] {
-        offset += usize::from(earlier.width);
-    }
-    offset
-}
-
 /// Where the cell of a record and a field begins.
 pub(crate) fn cell_start(schema: &Schema, number: u32, field: usize) -> usize
     requires number { 1 ≤ number }
@@ -47,21 +31,12 @@ pub(crate) fn cell_start(schema: &Schema, number: u32, field: usize) -> usize
     ensures value { result ≡ (number - 1) * (1 + widths schema.now) + (1 + widths (take field schema.now)) }
     ensures small { result < 4294967297 * 4001 }
 {
-    record_start(schema, number) + cell_offset(schema.fields(), field)
-}
-
-/// How wide the cells of a field are.
-pub(crate) fn width_of(schema: &Schema, field: usize) -> usize
-    requires { field < length schema.now }
-    ensures value { result ≡ cell_width schema.now field }
-    ensures small { result < 256 }
-{
-    usize::from(schema.fields()[field].width)
+    record_start(schema, number) + schema.offset(field)
 }
 
 /// How many memos a record has.
 pub(crate) fn memo_count_of(fields: &[Field]) -> usize
-    requires schema { IsSchema fields.now }
+    requires { length fields.now ≤ 128 }
     ensures value { result ≡ memo_count fields.now }
     ensures small { result ≤ 128 }
 {
@@ -82,21 +57,5 @@ pub(crate) fn memo_place(schema: &Schema, number: u32, field: usize) -> usize
     ensures small { result < 4294967297 * 128 }
 {
     let fields = schema.fields();
-    place_of(number) * memo_count_of(fields) + memos_before(fields, field)
-}
-
-// How many of the earlier fields are memos.
-fn memos_before(fields: &[Field], field: usize) -> usize
-    requires schema { IsSchema fields.now }
-    requires field { field ≤ length fields.now }
-    ensures value { result ≡ memo_count (take field fields.now) }
-    ensures small { result ≤ 128 }
-{
-    let mut count = 0;
-    for earlier in &fields[..field] {
-        if earlier.kind == MEMO {
-            count += 1;
-        }
-    }
-    count
+    place_of(number) * memo_count_of(fields) + memo_count_of(&fields[..field])
 }

@@ -7,7 +7,7 @@ ghost use Rattle.dbf_image.specs.Table.{IsTable, is_memo_text as may_be_memo, ki
 ghost use Rattle.dbf_image.specs.Store.{texts_of, row_with, rows_of, IsStore};
 ghost use Rattle.dbf_image.specs.declared.table.TheConstants.{MOST_RECORDS};
 
-use crate::places::{cell_start, memo_count_of, memo_place, record_start, width_of};
+use crate::places::{cell_start, memo_count_of, memo_place, record_start};
 use crate::span::{Span, no_span, text_at};
 use crate::store::Store;
 use dbf_fields::{MEMO, Schema};
@@ -151,7 +151,7 @@ impl TableData {
             return text_at(store.texts, store.memos[place]);
         }
         let start = cell_start(&self.schema, number, field);
-        let end = start + width_of(&self.schema, field);
+        let end = start + self.schema.width(field);
         &store.records[start..end]
     }
 
@@ -220,7 +220,7 @@ impl TableData {
         ensures value { self.new ≡ with_cell self.old number field cell.now }
     {
         let start = cell_start(&self.schema, number, field);
-        let end = start + width_of(&self.schema, field);
+        let end = start + self.schema.width(field);
         self.records[start..end].copy_from_slice(cell);
     }
 

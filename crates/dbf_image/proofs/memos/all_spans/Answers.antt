@@ -6,7 +6,7 @@ use Rattle.dbf_image.specs.declared.span.Span.{Span}
 use Rattle.dbf_image.specs.DbfText.{pieces}
 use Rattle.dbf_image.specs.Reading.{row_tests}
 use Rattle.dbf_image.specs.Spans.{row_spans}
-use Rattle.dbf_image.proofs.Groups.{first_then}
+use Rattle.dbf_fields.proofs.FaultLaws.{first_then}
 use Rattle.dbf_image.proofs.Pieces.{pieces-more, room-next}
 use Rattle.dbf_image.proofs.MemoLoops.{group_stop}
 use Rattle.dbf_image.proofs.memos.all_spans.Goals as goal

@@ -1,10 +1,9 @@
 use Rattle.std.proofs.Common.{arith}
-use Rattle.dbf_fields.proofs.SchemaLaws.{schema_count}
 use Rattle.dbf_image.proofs.CellPlaces.{memo_count_le}
 use Rattle.dbf_image.proofs.places.memo_count_of.Goals as goal
 
 pub overflow_add-count : goal.overflow_add-count
-overflow_add-count c = omega (arith, c.loop-field.invariant, memo_count_le c.args.fields.now, schema_count _ c.requires.schema)
+overflow_add-count c = omega (arith, c.loop-field.invariant, memo_count_le c.args.fields.now, c.requires)
 
 pub returns-clause-small : goal.returns-clause-small
-returns-clause-small c = omega (arith, c.loop-field.invariant, memo_count_le c.args.fields.now, schema_count _ c.requires.schema)
+returns-clause-small c = omega (arith, c.loop-field.invariant, memo_count_le c.args.fields.now, c.requires)

@@ -40,7 +40,7 @@ slice_bounds-result-end c =
     let table = c.args.self.now in
     let fields : c.self.inside.schema ≡ table.schema = ap (λ (t : Table). t.schema) c.self.view_is in
     let start = rw fields at c.cell_start-start.ensures.value in
-    let width = rw fields at c.width_of.ensures.value in
+    let width = rw fields at c.width.ensures.value in
     let inside = cell-inside table.schema (length table.rows) (c.args.number - 1) c.args.field _ c.store-store.result.records.now c.store-store.ensures.kept.run (omega arith) c.requires.field start in
     omega arith
 
@@ -50,11 +50,11 @@ returns-clause-value c =
     let store = c.store-store.result in
     let fields : c.self.inside.schema ≡ table.schema = ap (λ (t : Table). t.schema) c.self.view_is in
     let start = rw fields at c.cell_start-start.ensures.value in
-    let width = rw fields at c.width_of.ensures.value in
+    let width = rw fields at c.width.ensures.value in
     let is = rw (c.fields.ensures.fields, fields) at c.index-fields-field.is in
     let same = kind_is table.schema c.args.field _ c.requires.field is ∙ ap (λ (f : Field). f.kind) c.index-fields-field.is in
     let other : kind_at table.schema c.args.field ≢ 77 = λ e. c.if-fields-field-eq-MEMO.false (sym same ∙ e) in
-    let k : c.cell_start-start.result + c.width_of.result - c.cell_start-start.result ≡ cell_width table.schema c.args.field = omega (arith, width) in
+    let k : c.cell_start-start.result + c.width.result - c.cell_start-start.result ≡ cell_width table.schema c.args.field = omega (arith, width) in
     let blank = blank_row table.schema in
     let nothing : List ℕ = [] in
     let told = cell_told table.schema (length table.rows) (c.args.number - 1) c.args.field store.records.now (texts_of store.texts.now store.memos.now) blank (omega arith) c.requires.field other in

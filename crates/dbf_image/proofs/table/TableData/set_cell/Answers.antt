@@ -17,7 +17,7 @@ slice_bounds-copy_from_slice-end c =
     let wide : length c.args.cell.now ≡ cell_width inside.schema c.args.field = rw (← c.self.view_is) at c.requires.wide in
     let room = cell-inside inside.schema inside.count (c.args.number - 1) c.args.field _ inside.records.items c.self.invariant.run (omega arith) field c.cell_start-start.ensures.value in
     let long : length c.deref_mut.result.now ≡ length inside.records.items = ap (length {A = ℕ}) c.deref_mut.ensures.value in
-    omega (arith, room, c.width_of.ensures.value, long)
+    omega (arith, room, c.width.ensures.value, long)
 
 pub returns : goal.returns
 returns c =
@@ -32,8 +32,8 @@ returns c =
     let field : c.args.field < length inside.schema = rw (← c.self.view_is) at c.requires.field in
     let wide : length cell ≡ cell_width inside.schema c.args.field = rw (← c.self.view_is) at c.requires.wide in
     let room = cell-inside inside.schema inside.count i c.args.field start items c.self.invariant.run (omega arith) field c.cell_start-start.ensures.value in
-    let end = start + c.width_of.result in
-    let k : end - start ≡ length cell = omega (arith, wide, c.width_of.ensures.value) in
+    let end = start + c.width.result in
+    let k : end - start ≡ length cell = omega (arith, wide, c.width.ensures.value) in
     let whole : put_mid start (end - start) c.deref_mut.result.now c.copy_from_slice.new.self ≡ put_mid start (length cell) items cell =
     rw (k, c.deref_mut.ensures.value, c.copy_from_slice.ensures.after) refl in
     let run = run_put inside.schema inside.count start items cell c.self.invariant.run (omega (arith, room, wide)) in
