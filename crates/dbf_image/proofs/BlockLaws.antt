@@ -7,8 +7,8 @@ use Rattle.std.proofs.lemmas.List.{take_at, drop_at, get_or_at, get_or_append_le
 use Rattle.std.proofs.lemmas.List.Sums.{position_or_len_is}
 use Rattle.dbf_fields.specs.declared.field.Field.{Field}
 use Rattle.dbf_image.specs.Table.{is_memo_text, IsCell, AreCells}
-use Rattle.dbf_image.specs.Memo.{HasText, TellsMemo, TellsCell, TellsCells}
-use Rattle.dbf_image.specs.Blocks.{blocks_of, block_bytes, number_cell, cell_bytes, cell_blocks, cell_memo, cells_bytes, cells_blocks, cells_memos}
+use Rattle.dbf_image.specs.Memo.{HasText, EncodesMemo, EncodesCell, EncodesCells}
+use Rattle.dbf_image.specs.Blocks.{blocks_of, block_bytes, block_number_cell, cell_bytes, cell_blocks, cell_memo, cells_bytes, cells_blocks, cells_memos}
 use Rattle.dbf_image.proofs.Numbers.{number_in, length-justified}
 
 -- a memo's cell is ten bytes wide
@@ -70,20 +70,20 @@ text_again front rest next b bs len some h =
     }
 
 pub memo_again : (front rest : List ℕ) (next : ℕ) (text : List ℕ) → length front ≡ 512 * next → 0 < next → next + blocks_of text < 10 ^ 10 → IsText text
-    → TellsMemo (front ++ (block_bytes text ++ rest)) (number_cell next text) text
-unfolding number_cell
+    → EncodesMemo (front ++ (block_bytes text ++ rest)) (block_number_cell next text) text
+unfolding block_number_cell
 memo_again front rest next [] len some room h = inl (number_in 10 0 (lit< tt), refl)
 memo_again front rest next (b ∷ bs) len some room h = inr (next, number_in 10 next (omega arith), text_again front rest next b bs len some h)
 
-length-number : (next : ℕ) (text : List ℕ) → length (number_cell next text) ≡ 10
-unfolding number_cell
+length-number : (next : ℕ) (text : List ℕ) → length (block_number_cell next text) ≡ 10
+unfolding block_number_cell
 length-number next [] = length-justified 10 0
 length-number next (b ∷ bs) = length-justified 10 next
 
 -- ---- cells
 
 cell_again : (dbt front rest : List ℕ) (next : ℕ) (f : Field) (c : List ℕ) → dbt ≡ front ++ (cell_memo f c ++ rest) → length front ≡ 512 * next → 0 < next → next + cell_blocks f c < 10 ^ 10 → IsCell f c
-    → TellsCell dbt f (cell_bytes next f c) c
+    → EncodesCell dbt f (cell_bytes next f c) c
 cell_again dbt front rest next f c is len some room h =
     (λ kind. rw (is, kind) (memo_again front rest next c len some (rw kind at room) (is_text c (h.0 kind))), λ other. rw (ne_eqb f.kind 77 other) refl)
 
@@ -107,7 +107,7 @@ length-memo f c = memo_by f c (eqb f.kind 77)
 
 pub cells_again : (fields : List Field) (cells : List (List ℕ)) (dbt front rest tail : List ℕ) (next : ℕ) → dbt ≡ front ++ (cells_memos fields cells ++ rest)
     → length front ≡ 512 * next → 0 < next → next + cells_blocks fields cells < 10 ^ 10
-    → AreWide fields → AreCells fields cells → TellsCells dbt fields (cells_bytes next fields cells ++ tail) cells
+    → AreWide fields → AreCells fields cells → EncodesCells dbt fields (cells_bytes next fields cells ++ tail) cells
 cells_again [] [] dbt front rest tail next is len some room wide h = tt
 cells_again [] (c ∷ cs) dbt front rest tail next is len some room wide h = absurd h
 cells_again (f ∷ fs) [] dbt front rest tail next is len some room wide h = absurd h
@@ -133,11 +133,11 @@ length-cells_memos (f ∷ fs) (c ∷ cs) = omega (arith, length-append (cell_mem
 
 -- ---- the blocks of a text as they are written
 
-pub block_told : (text : List ℕ) (fill : ℕ) → 0 < length text → fill ≡ (length text + 513) / 512 * 512 - (length text + 2) → fill ≤ 512
+pub block_put : (text : List ℕ) (fill : ℕ) → 0 < length text → fill ≡ (length text + 513) / 512 * 512 - (length text + 2) → fill ≤ 512
     → (text ++ (26 ∷ 26 ∷ [])) ++ take fill (replicate 512 0) ≡ block_bytes text
 unfolding block_bytes blocks_of
-block_told [] fill some is small = absurd (omega arith)
-block_told (b ∷ bs) fill some is small =
+block_put [] fill some is small = absurd (omega arith)
+block_put (b ∷ bs) fill some is small =
     let k : fill ≡ 512 * ((length (b ∷ bs) + 513) / 512) - (length (b ∷ bs) + 2) = omega arith in
     rw (take-replicate {X = ℕ} fill 512 0 small, k) (append_assoc (b ∷ bs) (26 ∷ 26 ∷ []) (replicate (512 * ((length (b ∷ bs) + 513) / 512) - (length (b ∷ bs) + 2)) 0))
 

@@ -10,10 +10,10 @@ use Rattle.dbf_image.specs.declared.fault.ImageFault.{ImageFault}
 use Rattle.dbf_image.specs.declared.fault.ImageFault.TheVariants.{NoMemory}
 use Rattle.dbf_fields.specs.declared.field.Field.{Field}
 use Rattle.dbf_image.specs.Table.{Row, Table, has_memos}
-use Rattle.dbf_image.specs.DbfText.{pieces, header_length, record_length, record_count, field_of, TellsRows, IsDbf}
-use Rattle.dbf_image.specs.Reading.{first_from, field_count, fields_of, schema_of, has_version, header_tests, field_tests, record_tests, memos_tests, records_of, row_told, refusal, IsRefusal, table_of}
+use Rattle.dbf_image.specs.DbfText.{chunks, header_length, record_length, record_count, field_of, EncodesRows, IsDbf}
+use Rattle.dbf_image.specs.Reading.{first_from, field_count, fields_of, schema_of, has_version, header_tests, field_tests, record_tests, memos_tests, records_of, row_read, refusal, IsRefusal, table_read}
 use Rattle.dbf_image.specs.Spans.{table_tests}
-use Rattle.dbf_image.proofs.Rows.{pieces_take}
+use Rattle.dbf_image.proofs.Rows.{chunks_take}
 use Rattle.dbf_fields.proofs.FaultLaws.{first_parts}
 use Rattle.dbf_image.proofs.MemoTests.{rows_ok, ok_rows}
 
@@ -129,10 +129,10 @@ is_version bytes (inr b) = or_right (eqb (slice_index bytes 0) 3) (eqb (slice_in
 abbrev ends_fields : List ℕ → ℕ → Bool
 ends_fields bytes i = eqb (slice_index bytes (32 + 32 * i)) 13
 
-abbrev places : List ℕ → ℕ
-places bytes = (header_length bytes - 1) / 32
+abbrev most_fields : List ℕ → ℕ
+most_fields bytes = (header_length bytes - 1) / 32
 
-fields_by_count : (bytes : List ℕ) (k : ℕ) → field_count bytes ≡ Some k → fields_of bytes ≡ map field_of (pieces 32 k (drop 32 bytes))
+fields_by_count : (bytes : List ℕ) (k : ℕ) → field_count bytes ≡ Some k → fields_of bytes ≡ map field_of (chunks 32 k (drop 32 bytes))
 fields_by_count bytes k e = rw e refl
 
 -- ---- memos
@@ -146,44 +146,44 @@ true_then true b h = h refl
 true_then false b h = refl
 
 memos_pass : (bytes : List ℕ) (dbt : Option (List ℕ)) → first_fault (memos_tests bytes dbt) ≡ None
-    → (has_memos (schema_of bytes) ≡ true → is_some dbt ≡ true) × TellsRows (unwrap_or dbt []) (schema_of bytes) (records_of bytes) (map (row_told (unwrap_or dbt []) (schema_of bytes)) (records_of bytes))
+    → (has_memos (schema_of bytes) ≡ true → is_some dbt ≡ true) × EncodesRows (unwrap_or dbt []) (schema_of bytes) (records_of bytes) (map (row_read (unwrap_or dbt []) (schema_of bytes)) (records_of bytes))
 unfolding memos_tests
 memos_pass bytes dbt h =
     let p = passed (not (has_memos (schema_of bytes)) || is_some dbt) _ _ h in
     (then_true (has_memos (schema_of bytes)) (is_some dbt) p.0, rows_ok (unwrap_or dbt []) (schema_of bytes) (records_of bytes) p.1)
 
-pass_memos : (bytes : List ℕ) (dbt : Option (List ℕ)) (rows : List Row) → (has_memos (schema_of bytes) ≡ true → is_some dbt ≡ true) → TellsRows (unwrap_or dbt []) (schema_of bytes) (records_of bytes) rows
-    → (first_fault (memos_tests bytes dbt) ≡ None) × (map (row_told (unwrap_or dbt []) (schema_of bytes)) (records_of bytes) ≡ rows)
+pass_memos : (bytes : List ℕ) (dbt : Option (List ℕ)) (rows : List Row) → (has_memos (schema_of bytes) ≡ true → is_some dbt ≡ true) → EncodesRows (unwrap_or dbt []) (schema_of bytes) (records_of bytes) rows
+    → (first_fault (memos_tests bytes dbt) ≡ None) × (map (row_read (unwrap_or dbt []) (schema_of bytes)) (records_of bytes) ≡ rows)
 unfolding memos_tests
-pass_memos bytes dbt rows some told =
-    let r = ok_rows (unwrap_or dbt []) (schema_of bytes) (records_of bytes) rows told in
+pass_memos bytes dbt rows some given =
+    let r = ok_rows (unwrap_or dbt []) (schema_of bytes) (records_of bytes) rows given in
     (passes (not (has_memos (schema_of bytes)) || is_some dbt) _ _ (true_then (has_memos (schema_of bytes)) (is_some dbt) some) r.0, r.1)
 
 -- the tests of the records that the reader found, and its rows
-pub tests_told : (bytes : List ℕ) (dbt : Option (List ℕ)) (schema : List Field) (size count start : ℕ) (records : List ℕ)
+pub tests_read : (bytes : List ℕ) (dbt : Option (List ℕ)) (schema : List Field) (size count start : ℕ) (records : List ℕ)
     → schema ≡ schema_of bytes → size ≡ record_length bytes → size ≡ 1 + widths schema → count ≡ record_count bytes → start ≡ header_length bytes
     → records ≡ take (count * size) (drop start bytes)
-    → table_tests dbt schema (pieces (1 + widths schema) count records) ≡ memos_tests bytes dbt
+    → table_tests dbt schema (chunks (1 + widths schema) count records) ≡ memos_tests bytes dbt
 unfolding table_tests memos_tests
-tests_told bytes dbt schema size count start records s z w n h r =
-    let same : pieces (1 + widths schema) count records ≡ pieces size count (drop start bytes) = rw (r, ← w) (pieces_take size count (drop start bytes)) in
+tests_read bytes dbt schema size count start records s z w n h r =
+    let same : chunks (1 + widths schema) count records ≡ chunks size count (drop start bytes) = rw (r, ← w) (chunks_take size count (drop start bytes)) in
     rw same (rw (z, n, h, s) refl)
 
-pub rows_told : (bytes : List ℕ) (dbt : Option (List ℕ)) (schema : List Field) (size count start : ℕ) (records : List ℕ) (rows : List Row)
+pub rows_read : (bytes : List ℕ) (dbt : Option (List ℕ)) (schema : List Field) (size count start : ℕ) (records : List ℕ) (rows : List Row)
     → schema ≡ schema_of bytes → size ≡ record_length bytes → size ≡ 1 + widths schema → count ≡ record_count bytes → start ≡ header_length bytes
-    → records ≡ take (count * size) (drop start bytes) → rows ≡ map (row_told (unwrap_or dbt []) schema) (pieces (1 + widths schema) count records)
-    → record { schema = schema; rows = rows } ≡ table_of bytes dbt
-rows_told bytes dbt schema size count start records rows s z w n h r told =
-    let same : pieces (1 + widths schema) count records ≡ pieces size count (drop start bytes) = rw (r, ← w) (pieces_take size count (drop start bytes)) in
-    rw (told, same) (rw (z, n, h, s) refl)
+    → records ≡ take (count * size) (drop start bytes) → rows ≡ map (row_read (unwrap_or dbt []) schema) (chunks (1 + widths schema) count records)
+    → record { schema = schema; rows = rows } ≡ table_read bytes dbt
+rows_read bytes dbt schema size count start records rows s z w n h r given =
+    let same : chunks (1 + widths schema) count records ≡ chunks size count (drop start bytes) = rw (r, ← w) (chunks_take size count (drop start bytes)) in
+    rw (given, same) (rw (z, n, h, s) refl)
 
-pub is_dbf : (bytes : List ℕ) (dbt : Option (List ℕ)) → refusal bytes dbt ≡ None → IsDbf bytes dbt (table_of bytes dbt)
+pub is_dbf : (bytes : List ℕ) (dbt : Option (List ℕ)) → refusal bytes dbt ≡ None → IsDbf bytes dbt (table_read bytes dbt)
 is_dbf bytes dbt h =
     let p = passes_all bytes dbt h in
     let m = memos_pass bytes dbt p.memos in
     let k = some_is (field_count bytes) p.ended in
-    let first = first_from-some (ends_fields bytes) 0 (places bytes) k.0 k.1 in
-    let fields : fields_of bytes ≡ map field_of (pieces 32 k.0 (drop 32 bytes)) = fields_by_count bytes k.0 k.1 in
+    let first = first_from-some (ends_fields bytes) 0 (most_fields bytes) k.0 k.1 in
+    let fields : fields_of bytes ≡ map field_of (chunks 32 k.0 (drop 32 bytes)) = fields_by_count bytes k.0 k.1 in
     record {
       long = p.long;
       version = version_is bytes p.version;
@@ -200,20 +200,20 @@ is_dbf bytes dbt h =
       rows = m.1;
     }
 
-same_table : (bytes : List ℕ) (dbt : Option (List ℕ)) (table : Table) → schema_of bytes ≡ table.schema → map (row_told (unwrap_or dbt []) (schema_of bytes)) (records_of bytes) ≡ table.rows → table_of bytes dbt ≡ table
+same_table : (bytes : List ℕ) (dbt : Option (List ℕ)) (table : Table) → schema_of bytes ≡ table.schema → map (row_read (unwrap_or dbt []) (schema_of bytes)) (records_of bytes) ≡ table.rows → table_read bytes dbt ≡ table
 same_table bytes dbt table schema rows =
     ap (λ (rs : List Row). record { schema = schema_of bytes; rows = rs }) rows ∙ ap (λ (fs : List Field). record { schema = fs; rows = table.rows }) schema
 
-pub dbf_is : (bytes : List ℕ) (dbt : Option (List ℕ)) (table : Table) → IsDbf bytes dbt table → (refusal bytes dbt ≡ None) × (table_of bytes dbt ≡ table)
+pub dbf_is : (bytes : List ℕ) (dbt : Option (List ℕ)) (table : Table) → IsDbf bytes dbt table → (refusal bytes dbt ≡ None) × (table_read bytes dbt ≡ table)
 dbf_is bytes dbt table d =
-    let counted : field_count bytes ≡ Some d.field_count = first_from-is (ends_fields bytes) 0 (places bytes) d.field_count (omega arith) (omega (arith, d.in_header)) (eq-eqb _ _ d.last_field) (λ j low lt. ne_eqb _ _ (d.not_before j lt)) in
-    let fields : fields_of bytes ≡ map field_of (pieces 32 d.field_count (drop 32 bytes)) = rw counted refl in
+    let counted : field_count bytes ≡ Some d.field_count = first_from-is (ends_fields bytes) 0 (most_fields bytes) d.field_count (omega arith) (omega (arith, d.in_header)) (eq-eqb _ _ d.last_field) (λ j low lt. ne_eqb _ _ (d.not_before j lt)) in
+    let fields : fields_of bytes ≡ map field_of (chunks 32 d.field_count (drop 32 bytes)) = rw counted refl in
     let schema : schema_of bytes ≡ table.schema = ap (map folded) fields ∙ sym d.schema in
     let none : is_none (schemas.refusal (fields_of bytes)) ≡ true = rw (fields, d.accepted) refl in
-    let told : TellsRows (unwrap_or dbt []) (schema_of bytes) (records_of bytes) table.rows = rw schema d.rows in
+    let given : EncodesRows (unwrap_or dbt []) (schema_of bytes) (records_of bytes) table.rows = rw schema d.rows in
     let some : has_memos (schema_of bytes) ≡ true → is_some dbt ≡ true = λ e. d.memos (ap has_memos (sym schema) ∙ e) in
-    let m = pass_memos bytes dbt table.rows some told in
-    let same : table_of bytes dbt ≡ table = same_table bytes dbt table schema m.1 in (
+    let m = pass_memos bytes dbt table.rows some given in
+    let same : table_read bytes dbt ≡ table = same_table bytes dbt table schema m.1 in (
       from_passes bytes dbt (record {
         long = d.long;
         version = is_version bytes d.version;
@@ -234,11 +234,11 @@ no_fault = None
 none_some : (f : ImageFault) → no_fault ≡ Some f → ⊥
 none_some f e = cc
 
-pub found_from : (r : Result Table ImageFault) (bytes : List ℕ) (dbt : Option (List ℕ)) → IfOk r (λ _. refusal bytes dbt ≡ None) → IfOk r (λ t. t ≡ table_of bytes dbt) → IfOk r (IsDbf bytes dbt)
+pub found_from : (r : Result Table ImageFault) (bytes : List ℕ) (dbt : Option (List ℕ)) → IfOk r (λ _. refusal bytes dbt ≡ None) → IfOk r (λ t. t ≡ table_read bytes dbt) → IfOk r (IsDbf bytes dbt)
 found_from (Ok t) bytes dbt h e = rw e (is_dbf bytes dbt h)
 found_from (Err f) bytes dbt h e = tt
 
-pub only_from : (r : Result Table ImageFault) (bytes : List ℕ) (dbt : Option (List ℕ)) (table : Table) → IfOk r (λ t. t ≡ table_of bytes dbt) → IfErr r (λ f. IsRefusal f bytes dbt) → IsDbf bytes dbt table
+pub only_from : (r : Result Table ImageFault) (bytes : List ℕ) (dbt : Option (List ℕ)) (table : Table) → IfOk r (λ t. t ≡ table_read bytes dbt) → IfErr r (λ f. IsRefusal f bytes dbt) → IsDbf bytes dbt table
     → MatchResult r (λ t. t ≡ table) (λ f. f ≡ NoMemory)
 only_from (Ok t) bytes dbt table e h d = e ∙ (dbf_is bytes dbt table d).1
 only_from (Err f) bytes dbt table e (inl h) d = h

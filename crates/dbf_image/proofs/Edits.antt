@@ -7,23 +7,23 @@ use Rattle.std.proofs.lemmas.Slice.{drop-put_mid, take-put_mid_below}
 use borrow.Rule.Slice.PartMut.{put_mid}
 use Rattle.dbf_fields.specs.declared.field.Field.{Field}
 use Rattle.dbf_fields.specs.Field.{widths}
-use Rattle.dbf_image.specs.declared.table.TheConstants.{MOST_RECORDS}
+use Rattle.dbf_image.specs.declared.table.TheConstants.{MAX_RECORDS}
 use Rattle.dbf_image.specs.Table.{Row, kind_at, cell_width, blank_cell, blank_row, row_with_cell}
-use Rattle.dbf_image.specs.DbfText.{pieces, IsRun}
+use Rattle.dbf_image.specs.DbfText.{chunks, AreRecords}
 use Rattle.dbf_image.specs.Store.{first_memo, memo_count, cells_with, row_with, rows_with, rows_of}
-use Rattle.dbf_image.proofs.Rows.{length-pieces}
-use Rattle.dbf_image.proofs.CellPlaces.{piece_here, row_here, cell_within, memo_within, place-inside}
+use Rattle.dbf_image.proofs.Rows.{length-chunks}
+use Rattle.dbf_image.proofs.CellOffsets.{chunk_here, row_here, cell_within, memo_within, chunk-inside}
 
 -- ---- one more record
 
-pub pieces_push : (size n : ℕ) (bytes row : List ℕ) → length bytes ≡ n * size → length row ≡ size → pieces size (n + 1) (bytes ++ row) ≡ pieces size n bytes ++ row ∷ []
-pieces_push size zero [] row e long = rw (take_all size row (omega arith)) refl
-pieces_push size zero (b ∷ bs) row e long = absurd (omega arith)
-pieces_push size (suc n) bytes row e long =
+pub chunks_push : (size n : ℕ) (bytes row : List ℕ) → length bytes ≡ n * size → length row ≡ size → chunks size (n + 1) (bytes ++ row) ≡ chunks size n bytes ++ row ∷ []
+chunks_push size zero [] row e long = rw (take_all size row (omega arith)) refl
+chunks_push size zero (b ∷ bs) row e long = absurd (omega arith)
+chunks_push size (suc n) bytes row e long =
     let k : suc n + 1 ≡ suc (n + 1) = omega arith in
     let wide : suc n * size ≡ size + n * size = omega arith in
     let room : size ≤ length bytes = omega arith in
-    let there = pieces_push size n (drop size bytes) row (omega (arith, length-drop size bytes)) long in
+    let there = chunks_push size n (drop size bytes) row (omega (arith, length-drop size bytes)) long in
     rw (k, take-append-le size bytes row room, drop-append-le size bytes row room, there) refl
 
 -- a record's cells take no more than its own memos
@@ -71,14 +71,14 @@ cells_none : (fields : List Field) (bytes : List ℕ) (k : ℕ) → cells_with f
 cells_none [] bytes k = refl
 cells_none (f ∷ fs) bytes k = none_by fs (take f.width bytes) (drop f.width bytes) k (eqb f.kind 77) (cells_none fs (drop f.width bytes))
 
-pub rows_push : (fields : List Field) (n : ℕ) (bytes row : List ℕ) (memos : List (List ℕ)) → IsRun fields n bytes → length row ≡ 1 + widths fields → length memos ≡ n * memo_count fields
+pub rows_push : (fields : List Field) (n : ℕ) (bytes row : List ℕ) (memos : List (List ℕ)) → AreRecords fields n bytes → length row ≡ 1 + widths fields → length memos ≡ n * memo_count fields
     → rows_of fields (n + 1) (bytes ++ row) (memos ++ replicate (memo_count fields) []) ≡ rows_of fields n bytes memos ++ row_with fields row [] ∷ []
-rows_push fields n bytes row memos run long many =
+rows_push fields n bytes row memos records long many =
     let size : ℕ = 1 + widths fields in
     let more : List (List ℕ) = replicate (memo_count fields) [] in
-    let counted : length memos ≡ length (pieces size n bytes) * memo_count fields = rw (length-pieces size n bytes) many in
-    ap (λ (ps : List (List ℕ)). rows_with fields ps (memos ++ more)) (pieces_push size n bytes row run.whole long)
-    ∙ rows_append fields (pieces size n bytes) (row ∷ []) memos more counted
+    let counted : length memos ≡ length (chunks size n bytes) * memo_count fields = rw (length-chunks size n bytes) many in
+    ap (λ (ps : List (List ℕ)). rows_with fields ps (memos ++ more)) (chunks_push size n bytes row records.whole long)
+    ∙ rows_append fields (chunks size n bytes) (row ∷ []) memos more counted
     ∙ ap (λ (cells : List (List ℕ)). rows_of fields n bytes memos ++ row_of_cells row cells ∷ []) (cells_none fields (drop 1 row) (memo_count fields))
 
 -- a record of blanks
@@ -126,18 +126,18 @@ take_put zero (suc m) xs ys le room = absurd (omega arith)
 take_put (suc size) (suc m) [] ys le room = absurd (omega arith)
 take_put (suc size) (suc m) (x ∷ xs) ys le room = ap (λ (zs : List ℕ). x ∷ zs) (take_put size m xs ys (omega arith) (omega arith))
 
--- inside one of the pieces
-pub pieces_put : (size n i m : ℕ) (bytes ys : List ℕ) → i < n → n * size ≤ length bytes → m + length ys ≤ size
-    → pieces size n (put_mid (i * size + m) (length ys) bytes ys) ≡ set (pieces size n bytes) i (put_mid m (length ys) (take size (drop (i * size) bytes)) ys)
-pieces_put size zero i m bytes ys lt room le = absurd (omega arith)
-pieces_put size (suc n) zero m bytes ys lt room le =
+-- inside one of the chunks
+pub chunks_put : (size n i m : ℕ) (bytes ys : List ℕ) → i < n → n * size ≤ length bytes → m + length ys ≤ size
+    → chunks size n (put_mid (i * size + m) (length ys) bytes ys) ≡ set (chunks size n bytes) i (put_mid m (length ys) (take size (drop (i * size) bytes)) ys)
+chunks_put size zero i m bytes ys lt room le = absurd (omega arith)
+chunks_put size (suc n) zero m bytes ys lt room le =
     let wide : suc n * size ≡ size + n * size = omega arith in
     let k : 0 * size + m ≡ m = omega arith in
     let z : 0 * size ≡ 0 = omega arith in
     rw (k, z, take_put size m bytes ys le (omega arith), drop-put_mid m (length ys) bytes ys size le (omega arith) refl) refl
-pieces_put size (suc n) (suc i) m bytes ys lt room le =
+chunks_put size (suc n) (suc i) m bytes ys lt room le =
     let wide : suc n * size ≡ size + n * size = omega arith in
-    let near = place-inside size (suc n) (suc i) (suc n * size) lt refl in
+    let near = chunk-inside size (suc n) (suc i) (suc n * size) lt refl in
     let k : suc i * size + m ≡ size + (i * size + m) = omega arith in
     let z : suc i * size ≡ size + i * size = omega arith in
     let inside : i * size + m ≤ length (drop size bytes) = omega (arith, length-drop size bytes) in
@@ -147,10 +147,10 @@ pieces_put size (suc n) (suc i) m bytes ys lt room le =
       ← drop-drop (i * size) size bytes,
       take-put_mid_below (size + (i * size + m)) (length ys) bytes ys size (omega arith) (omega arith),
       drop_put size (i * size + m) (length ys) bytes ys (omega arith),
-      pieces_put size n i m (drop size bytes) ys (omega arith) (omega (arith, length-drop size bytes)) le,
+      chunks_put size n i m (drop size bytes) ys (omega arith) (omega (arith, length-drop size bytes)) le,
     ) refl
 
--- one of the rows has another piece
+-- one of the rows has another chunk
 rows_set : (fields : List Field) (ps memos : List (List ℕ)) (i : ℕ) (p : List ℕ)
     → rows_with fields (set ps i p) memos ≡ set (rows_with fields ps memos) i (row_with fields p (drop (i * memo_count fields) memos))
 rows_set fields [] memos i p = refl
@@ -203,20 +203,20 @@ row_put fields j bytes ys memos lt other wide room =
     let flag = flag_stays (widths (take j fields)) (length ys) bytes ys (omega arith) in
     rw (flag, rest, cells) refl
 
-pub rows_put : (fields : List Field) (n i j : ℕ) (bytes ys : List ℕ) (memos : List (List ℕ)) (d : Row) → IsRun fields n bytes → i < n → j < length fields → kind_at fields j ≢ 77 → length ys ≡ cell_width fields j
+pub rows_put : (fields : List Field) (n i j : ℕ) (bytes ys : List ℕ) (memos : List (List ℕ)) (d : Row) → AreRecords fields n bytes → i < n → j < length fields → kind_at fields j ≢ 77 → length ys ≡ cell_width fields j
     → rows_of fields n (put_mid (i * (1 + widths fields) + (1 + widths (take j fields))) (length ys) bytes ys) memos
     ≡ set (rows_of fields n bytes memos) i (row_with_cell (get_or (rows_of fields n bytes memos) i d) j ys)
-rows_put fields n i j bytes ys memos d run lt inside other wide =
+rows_put fields n i j bytes ys memos d records lt inside other wide =
     let size : ℕ = 1 + widths fields in
     let from : ℕ = 1 + widths (take j fields) in
-    let piece : List ℕ = take size (drop (i * size) bytes) in
+    let chunk : List ℕ = take size (drop (i * size) bytes) in
     let within = cell_within fields j inside in
-    let place = place-inside size n i (length bytes) lt run.whole in
-    let long : length piece ≡ size = length-take-le size (drop (i * size) bytes) (omega (arith, length-drop (i * size) bytes)) in
-    ap (λ (ps : List (List ℕ)). rows_with fields ps memos) (pieces_put size n i from bytes ys lt (omega (arith, run.whole)) (omega arith))
-    ∙ rows_set fields (pieces size n bytes) memos i (put_mid from (length ys) piece ys)
+    let near_chunk = chunk-inside size n i (length bytes) lt records.whole in
+    let long : length chunk ≡ size = length-take-le size (drop (i * size) bytes) (omega (arith, length-drop (i * size) bytes)) in
+    ap (λ (ps : List (List ℕ)). rows_with fields ps memos) (chunks_put size n i from bytes ys lt (omega (arith, records.whole)) (omega arith))
+    ∙ rows_set fields (chunks size n bytes) memos i (put_mid from (length ys) chunk ys)
     ∙ ap (set (rows_of fields n bytes memos) i) (
-    row_put fields j piece ys (drop (i * memo_count fields) memos) inside other wide (omega arith) ∙ ap (λ (r : Row). row_with_cell r j ys) (sym (row_here fields n i bytes memos d lt))
+    row_put fields j chunk ys (drop (i * memo_count fields) memos) inside other wide (omega arith) ∙ ap (λ (r : Row). row_with_cell r j ys) (sym (row_here fields n i bytes memos d lt))
     )
 
 -- ---- a memo that is replaced
@@ -265,31 +265,31 @@ rows_memo fields n i j bytes text memos d many lt inside kind =
     let size : ℕ = 1 + widths fields in
     let mc : ℕ = memo_count fields in
     let nothing : List ℕ = [] in
-    let piece : List ℕ = take size (drop (i * size) bytes) in
+    let chunk : List ℕ = take size (drop (i * size) bytes) in
     let own : List (List ℕ) = drop (i * mc) memos in
     let m : ℕ = memo_count (take j fields) in
     let within = memo_within fields j inside kind in
-    let place = place-inside mc n i (length memos) lt many in
+    let near_chunk = chunk-inside mc n i (length memos) lt many in
     let room : mc ≤ length own = omega (arith, length-drop (i * mc) memos) in
-    let here : i < length (pieces size n bytes) = rw (length-pieces size n bytes) lt in
-    memo_set fields (pieces size n bytes) memos i m text nothing within here
+    let here : i < length (chunks size n bytes) = rw (length-chunks size n bytes) lt in
+    memo_set fields (chunks size n bytes) memos i m text nothing within here
     ∙ ap (set (rows_of fields n bytes memos) i) (
-    ap (λ (p : List ℕ). row_with fields p (set own m text)) (piece_here size n i bytes nothing lt)
-    ∙ ap (row_of_cells piece) (cells_set fields j (drop 1 piece) text own inside kind room)
+    ap (λ (p : List ℕ). row_with fields p (set own m text)) (chunk_here size n i bytes nothing lt)
+    ∙ ap (row_of_cells chunk) (cells_set fields j (drop 1 chunk) text own inside kind room)
     ∙ ap (λ (r : Row). row_with_cell r j text) (sym (row_here fields n i bytes memos d lt))
     )
 
--- a run of one more record
-pub run_push : (fields : List Field) (n : ℕ) (bytes row : List ℕ) → IsRun fields n bytes → length row ≡ 1 + widths fields → n < MOST_RECORDS → IsRun fields (n + 1) (bytes ++ row)
-run_push fields n bytes row run long few =
+-- a records of one more record
+pub records_push : (fields : List Field) (n : ℕ) (bytes row : List ℕ) → AreRecords fields n bytes → length row ≡ 1 + widths fields → n < MAX_RECORDS → AreRecords fields (n + 1) (bytes ++ row)
+records_push fields n bytes row records long few =
     let more : (n + 1) * (1 + widths fields) ≡ n * (1 + widths fields) + (1 + widths fields) = omega arith in
-    record { whole = omega (arith, length-append bytes row, run.whole); few = omega arith }
+    record { whole = omega (arith, length-append bytes row, records.whole); few = omega arith }
 
--- a run that is written over in one place
-pub run_put : (fields : List Field) (n a : ℕ) (bytes ys : List ℕ) → IsRun fields n bytes → a + length ys ≤ length bytes → IsRun fields n (put_mid a (length ys) bytes ys)
-run_put fields n a bytes ys run room =
+-- a records that is written over at one offset
+pub records_put : (fields : List Field) (n a : ℕ) (bytes ys : List ℕ) → AreRecords fields n bytes → a + length ys ≤ length bytes → AreRecords fields n (put_mid a (length ys) bytes ys)
+records_put fields n a bytes ys records room =
     let front : length (take a bytes) ≡ a = length-take-le a bytes (omega arith) in
     let rest : List ℕ = drop (length ys) (drop a bytes) in
     let whole : length (put_mid a (length ys) bytes ys) ≡ length bytes =
     omega (arith, front, length-append (take a bytes) (ys ++ rest), length-append ys rest, length-drop (length ys) (drop a bytes), length-drop a bytes) in
-    record { whole = whole ∙ run.whole; few = run.few }
+    record { whole = whole ∙ records.whole; few = records.few }

@@ -24,7 +24,7 @@ end_is xs (Some k) h = position_or_len_is ends_text xs k 0 (omega (arith, h.0.hi
 pub end_inside : (xs : List ℕ) → position_or_len ends_text xs ≤ length xs
 end_inside xs = prefix_len-le-length (λ b. not (ends_text b)) xs
 
--- the first end in a front part, or else behind it
+-- the first end in a front part, or else after it
 end_split : (k : ℕ) (xs : List ℕ)
     → position_or_len ends_text xs ≡ cond (eqb (position_or_len ends_text (take k xs)) (length (take k xs))) (length (take k xs) + position_or_len ends_text (drop k xs)) (position_or_len ends_text (take k xs))
 end_split k xs = ap (position_or_len ends_text) (sym (take-append-drop k xs)) ∙ prefix_len-append (λ b. not (ends_text b)) (take k xs) (drop k xs)
@@ -43,9 +43,9 @@ end_found dbt from to order lt =
     let other : eqb (position_or_len ends_text (take (to - from) xs)) (length (take (to - from) xs)) ≡ false = ne_eqb _ _ (λ e. absurd (omega (arith, e, lt'))) in
     rw part (ap (λ (n : ℕ). from + n) (sym (end_split (to - from) xs ∙ cond-false _ _ _ other)))
 
-pub end_behind : (dbt : List ℕ) (from to end : ℕ) → from ≤ to → to ≤ length dbt → end ≡ end_at dbt to
+pub end_after : (dbt : List ℕ) (from to end : ℕ) → from ≤ to → to ≤ length dbt → end ≡ end_at dbt to
     → position_or_len ends_text (drop from (take to dbt)) ≡ length (drop from (take to dbt)) → end ≡ end_at dbt from
-end_behind dbt from to end order inside known all =
+end_after dbt from to end order inside known all =
     let xs : List ℕ = drop from dbt in
     let k : ℕ = to - from in
     let part = part_is dbt from to order in

@@ -10,10 +10,10 @@ use Rattle.dbf_fields.specs.declared.field.Field.{Field}
 use Rattle.dbf_fields.specs.Field.{widths, folded, has_width}
 use Rattle.dbf_fields.proofs.SchemaLaws.{schema_names, schema_widths, schema_count, schema_wide}
 use Rattle.dbf_image.specs.Table.{Row, Table, has_memos, AreCells, IsRow, IsTable}
-use Rattle.dbf_image.specs.DbfText.{pieces, header_length, record_length, record_count, field_of, TellsRow, TellsRows, IsDbf}
+use Rattle.dbf_image.specs.DbfText.{chunks, header_length, record_length, record_count, field_of, EncodesRow, EncodesRows, IsDbf}
 use Rattle.dbf_image.specs.Blocks.{cells_bytes, cells_blocks, cells_memos, cell_bytes, cell_blocks, rows_blocks, rows_memos, next_free, memo_header, memo_image}
 use Rattle.dbf_image.specs.Image.{header_bytes, descriptor, row_bytes, rows_bytes, image}
-use Rattle.dbf_image.proofs.ReadBack.{pieces-join, length-join, names_from, descriptors_long, fields_again, not_end, behind, end_here, not_here, flag_again}
+use Rattle.dbf_image.proofs.ReadBack.{chunks-join, length-join, names_from, descriptors_long, fields_again, not_end, after_header, end_here, not_here, flag_again}
 use Rattle.dbf_image.proofs.BlockLaws.{AreWide, cells_again, length-cell, length-cells_memos}
 
 memo_wide : (f : Field) → has_width f ≡ true → f.kind ≡ 77 → f.width ≡ 10
@@ -48,7 +48,7 @@ images_long fields (r ∷ rs) next wide h =
 
 record_again : (fields : List Field) (row : Row) (dbt front rest : List ℕ) (next : ℕ) → dbt ≡ front ++ (cells_memos fields row.cells ++ rest)
     → length front ≡ 512 * next → 0 < next → next + cells_blocks fields row.cells < 10 ^ 10 → AreWide fields → AreCells fields row.cells
-    → TellsRow dbt fields (row_bytes next fields row) row
+    → EncodesRow dbt fields (row_bytes next fields row) row
 record_again fields row dbt front rest next is len some room wide h =
     let nothing : List ℕ = [] in
     let cells = cells_again fields row.cells dbt front rest nothing next is len some room wide h in
@@ -56,7 +56,7 @@ record_again fields row dbt front rest next is len some room wide h =
 
 pub records_again : (fields : List Field) (rows : List Row) (dbt front rest : List ℕ) (next : ℕ) → dbt ≡ front ++ (rows_memos fields rows ++ rest)
     → length front ≡ 512 * next → 0 < next → next + rows_blocks fields rows < 10 ^ 10 → AreWide fields → AllByRecursion (IsRow fields) rows
-    → TellsRows dbt fields (rows_bytes next fields rows) rows
+    → EncodesRows dbt fields (rows_bytes next fields rows) rows
 records_again fields [] dbt front rest next is len some room wide h = tt
 records_again fields (r ∷ rs) dbt front rest next is len some room wide h =
     let later : ℕ = next + cells_blocks fields r.cells in
@@ -97,15 +97,15 @@ is_dbf_image table year month day t room =
     let many : length images ≡ length table.rows = length-images schema table.rows 1 in
     let records_long : length records ≡ length images * size = length-join size (λ (b : List ℕ). b) images long in
     let records_size : length records ≡ length table.rows * size = records_long ∙ ap (λ (k : ℕ). k * size) many in
-    let fields : map field_of (pieces 32 n (drop 32 bytes)) ≡ schema =
-    ap (map field_of) (pieces-join 32 descriptor schema (13 ∷ (records ++ 26 ∷ [])) (descriptors_long schema names)) ∙ fields_again schema names in
-    let rest : drop (32 * n + 33) bytes ≡ records ++ 26 ∷ [] = behind head body (records ++ 26 ∷ []) (32 * n + 33) (omega arith) in
-    let joined : pieces size (length images) (records ++ 26 ∷ []) ≡ map (λ (b : List ℕ). b) images = pieces-join size (λ (b : List ℕ). b) images (26 ∷ []) long in
-    let cut : pieces size (length table.rows) (records ++ 26 ∷ []) ≡ images = ap (λ (k : ℕ). pieces size k (records ++ 26 ∷ [])) (sym many) ∙ joined ∙ map-id images in
+    let fields : map field_of (chunks 32 n (drop 32 bytes)) ≡ schema =
+    ap (map field_of) (chunks-join 32 descriptor schema (13 ∷ (records ++ 26 ∷ [])) (descriptors_long schema names)) ∙ fields_again schema names in
+    let rest : drop (32 * n + 33) bytes ≡ records ++ 26 ∷ [] = after_header head body (records ++ 26 ∷ []) (32 * n + 33) (omega arith) in
+    let joined : chunks size (length images) (records ++ 26 ∷ []) ≡ map (λ (b : List ℕ). b) images = chunks-join size (λ (b : List ℕ). b) images (26 ∷ []) long in
+    let cut : chunks size (length table.rows) (records ++ 26 ∷ []) ≡ images = ap (λ (k : ℕ). chunks size k (records ++ 26 ∷ [])) (sym many) ∙ joined ∙ map-id images in
     let nothing : List ℕ = [] in
     let memos : memo_image table ≡ memo_header (next_free table) ++ (rows_memos schema table.rows ++ nothing) = ap (λ (x : List ℕ). memo_header (next_free table) ++ x) (sym (append-nil (rows_memos schema table.rows))) in
     let all = records_again schema table.rows (memo_image table) (memo_header (next_free table)) nothing 1 memos refl (lit< tt) small wide_memos t.fit in
-    let places : pieces (record_length bytes) (record_count bytes) (drop (header_length bytes) bytes) ≡ images = rw (wide, count, header, rest) cut in
+    let chunks_are : chunks (record_length bytes) (record_count bytes) (drop (header_length bytes) bytes) ≡ images = rw (wide, count, header, rest) cut in
     record {
       long = omega (arith, length-append head (body ++ 13 ∷ (records ++ 26 ∷ [])));
       version = version_by (has_memos schema) (slice_index bytes 0) refl;
@@ -119,5 +119,5 @@ is_dbf_image table year month day t room =
       few = rw count t.few;
       whole = rw (header, count, wide) (omega (arith, length-append head (body ++ 13 ∷ (records ++ 26 ∷ [])), length-append body (13 ∷ (records ++ 26 ∷ [])), length-append records (26 ∷ [])));
       memos = λ _. refl;
-      rows = rw places all;
+      rows = rw chunks_are all;
     }

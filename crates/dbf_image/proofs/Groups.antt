@@ -7,10 +7,10 @@ use Rattle.dbf_fields.proofs.FaultLaws.{first_then, first_before}
 use Rattle.dbf_fields.specs.Schema as schemas
 use Rattle.dbf_image.specs.declared.fault.ImageFault.{ImageFault}
 use Rattle.dbf_image.specs.declared.fault.ImageFault.TheVariants.{BadHeaderLength, BadSchema, NoMemory}
-use Rattle.dbf_image.specs.DbfText.{pieces, field_of}
+use Rattle.dbf_image.specs.DbfText.{chunks, field_of}
 use Rattle.dbf_image.specs.Reading.{field_count, fields_of, header_tests, field_tests, record_tests, memos_tests, early_refusal, refusal, IsRefusal}
 
-pub fields_are : (bytes : List ℕ) (count : ℕ) → Some count ≡ field_count bytes → map field_of (pieces 32 count (take (length bytes - 32) (drop 32 bytes))) ≡ fields_of bytes
+pub fields_are : (bytes : List ℕ) (count : ℕ) → Some count ≡ field_count bytes → map field_of (chunks 32 count (take (length bytes - 32) (drop 32 bytes))) ≡ fields_of bytes
 fields_are bytes count e = rw (take_rest bytes 32, ← e) refl
 
 pub fields_pass : (bytes : List ℕ) (count : ℕ) → Some count ≡ field_count bytes → is_none (schemas.refusal (fields_of bytes)) ≡ true → first_fault (field_tests bytes) ≡ None
@@ -48,28 +48,28 @@ count_passed : (o : Option ℕ) (rest : Option ImageFault) → cond (is_some o) 
 count_passed None rest h = absurd cc
 count_passed (Some n) rest h = refl
 
--- a fault behind those tests
+-- a fault after those tests
 pub early_passed : (bytes : List ℕ) (fault first : ImageFault) → first_fault (header_tests bytes) ≡ None → first_fault (field_tests bytes) ≡ None → early_refusal bytes ≡ Some first → fault ≡ first
 unfolding early_refusal field_tests
 early_passed bytes fault first h k is =
     none_some _ first (fault ≡ first) (first_then (header_tests bytes) ((is_some (field_count bytes), BadHeaderLength) ∷ []) h ∙ count_passed (field_count bytes) _ k) is
 
 -- the whole refusal by its groups
-abbrev behind_fields : List ℕ → Option (List ℕ) → List (Bool × ImageFault)
-behind_fields bytes dbt = record_tests bytes ++ memos_tests bytes dbt
+abbrev after_fields : List ℕ → Option (List ℕ) → List (Bool × ImageFault)
+after_fields bytes dbt = record_tests bytes ++ memos_tests bytes dbt
 
 pub refused_by_header : (bytes : List ℕ) (dbt : Option (List ℕ)) (fault : ImageFault) → first_fault (header_tests bytes) ≡ Some fault → IsRefusal fault bytes dbt
-refused_by_header bytes dbt fault h = inr (first_before (header_tests bytes) (field_tests bytes ++ behind_fields bytes dbt) fault h)
+refused_by_header bytes dbt fault h = inr (first_before (header_tests bytes) (field_tests bytes ++ after_fields bytes dbt) fault h)
 
 pub refused_by_fields : (bytes : List ℕ) (dbt : Option (List ℕ)) (fault : ImageFault) → first_fault (header_tests bytes) ≡ None
     → (fault ≡ NoMemory) ⊎ (first_fault (field_tests bytes) ≡ Some fault) → IsRefusal fault bytes dbt
 refused_by_fields bytes dbt fault a (inl h) = inl h
 refused_by_fields bytes dbt fault a (inr h) =
-    inr (first_then (header_tests bytes) (field_tests bytes ++ behind_fields bytes dbt) a ∙ first_before (field_tests bytes) (behind_fields bytes dbt) fault h)
+    inr (first_then (header_tests bytes) (field_tests bytes ++ after_fields bytes dbt) a ∙ first_before (field_tests bytes) (after_fields bytes dbt) fault h)
 
-decided_by_records : (bytes : List ℕ) (dbt : Option (List ℕ)) → first_fault (header_tests bytes) ≡ None → first_fault (field_tests bytes) ≡ None → refusal bytes dbt ≡ first_fault (behind_fields bytes dbt)
+decided_by_records : (bytes : List ℕ) (dbt : Option (List ℕ)) → first_fault (header_tests bytes) ≡ None → first_fault (field_tests bytes) ≡ None → refusal bytes dbt ≡ first_fault (after_fields bytes dbt)
 decided_by_records bytes dbt a b =
-    first_then (header_tests bytes) (field_tests bytes ++ behind_fields bytes dbt) a ∙ first_then (field_tests bytes) (behind_fields bytes dbt) b
+    first_then (header_tests bytes) (field_tests bytes ++ after_fields bytes dbt) a ∙ first_then (field_tests bytes) (after_fields bytes dbt) b
 
 pub refused_by_records : (bytes : List ℕ) (dbt : Option (List ℕ)) (fault : ImageFault) → first_fault (header_tests bytes) ≡ None → first_fault (field_tests bytes) ≡ None
     → first_fault (record_tests bytes) ≡ Some fault → IsRefusal fault bytes dbt

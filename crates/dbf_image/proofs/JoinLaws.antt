@@ -13,9 +13,9 @@ use Rattle.dbf_fields.specs.Schema.{IsSchema}
 use Rattle.dbf_fields.proofs.SchemaLaws.{schema_count}
 use Rattle.dbf_image.specs.declared.span.Span.{Span}
 use Rattle.dbf_image.specs.Table.{Row}
-use Rattle.dbf_image.specs.DbfText.{pieces}
+use Rattle.dbf_image.specs.DbfText.{chunks}
 use Rattle.dbf_image.specs.Store.{text_of, texts_of, memo_count, first_memo, cells_with, rows_with, rows_of}
-use Rattle.dbf_image.proofs.Rows.{length-pieces}
+use Rattle.dbf_image.proofs.Rows.{length-chunks}
 use Rattle.dbf_image.specs.Blocks.{blocks_of, block_bytes, cells_blocks, cells_memos, rows_blocks, rows_memos}
 
 joined_by : (f : Field) (fs : List Field) (cell rest : List ℕ) (memos : List (List ℕ)) (b : Bool) → eqb f.kind 77 ≡ b
@@ -71,7 +71,7 @@ rows_counted fields (p ∷ ps) memos e =
     let there = rows_counted fields ps (drop n memos) (omega (arith, length-drop n memos)) in
     rw (here, there) (sum_by-take-drop blocks_of memos n)
 
--- ---- texts that are told by spans
+-- ---- texts that are given by spans
 
 counted_spans : (texts : List ℕ) (spans : List Span) → sum_by blocks_of (texts_of texts spans) ≡ sum_by (λ s. blocks_of (text_of texts s)) spans
 counted_spans texts [] = refl
@@ -81,17 +81,17 @@ counted_spans texts (s ∷ ss) =
     omega (arith, here, there, counted_spans texts ss)
 
 many_texts : (fields : List Field) (count : ℕ) (bytes texts : List ℕ) (spans : List Span) → length spans ≡ count * memo_count fields
-    → length (texts_of texts spans) ≡ length (pieces (1 + widths fields) count bytes) * memo_count fields
-many_texts fields count bytes texts spans many = length-map spans (text_of texts) ∙ many ∙ ap (λ (n : ℕ). n * memo_count fields) (sym (length-pieces (1 + widths fields) count bytes))
+    → length (texts_of texts spans) ≡ length (chunks (1 + widths fields) count bytes) * memo_count fields
+many_texts fields count bytes texts spans many = length-map spans (text_of texts) ∙ many ∙ ap (λ (n : ℕ). n * memo_count fields) (sym (length-chunks (1 + widths fields) count bytes))
 
 pub store_blocks : (fields : List Field) (count : ℕ) (bytes texts : List ℕ) (spans : List Span) → length spans ≡ count * memo_count fields
     → rows_blocks fields (rows_of fields count bytes (texts_of texts spans)) ≡ sum_by (λ s. blocks_of (text_of texts s)) spans
 store_blocks fields count bytes texts spans many =
-    rows_counted fields (pieces (1 + widths fields) count bytes) (texts_of texts spans) (many_texts fields count bytes texts spans many) ∙ counted_spans texts spans
+    rows_counted fields (chunks (1 + widths fields) count bytes) (texts_of texts spans) (many_texts fields count bytes texts spans many) ∙ counted_spans texts spans
 
-pub next_told : (next : ℕ) (fields : List Field) (rows : List Row) (count : ℕ) (bytes texts : List ℕ) (spans : List Span) → length spans ≡ count * memo_count fields
+pub next_read : (next : ℕ) (fields : List Field) (rows : List Row) (count : ℕ) (bytes texts : List ℕ) (spans : List Span) → length spans ≡ count * memo_count fields
     → rows ≡ rows_of fields count bytes (texts_of texts spans) → next ≡ 1 + sum_by (λ s. blocks_of (text_of texts s)) spans → next ≡ 1 + rows_blocks fields rows
-next_told next fields rows count bytes texts spans many told is = rw (told, store_blocks fields count bytes texts spans many) is
+next_read next fields rows count bytes texts spans many given is = rw (given, store_blocks fields count bytes texts spans many) is
 
 pub free_some : (next free : ℕ) → next ≡ free → next ≤ 4294967295 → Some next ≡ cond (leb free 4294967295) (Some free) None
 free_some next free is le = rw (← is, le-leb next 4294967295 le) refl
@@ -102,11 +102,11 @@ free_none next free is over = rw (← is, lt-leb next 4294967295 over) refl
 pub store_memos : (fields : List Field) (count : ℕ) (bytes texts : List ℕ) (spans : List Span) → length spans ≡ count * memo_count fields
     → rows_memos fields (rows_of fields count bytes (texts_of texts spans)) ≡ flat_map (λ s. block_bytes (text_of texts s)) spans
 store_memos fields count bytes texts spans many =
-    rows_joined fields (pieces (1 + widths fields) count bytes) (texts_of texts spans) (many_texts fields count bytes texts spans many) ∙ flat_map-map block_bytes (text_of texts) spans
+    rows_joined fields (chunks (1 + widths fields) count bytes) (texts_of texts spans) (many_texts fields count bytes texts spans many) ∙ flat_map-map block_bytes (text_of texts) spans
 
-pub memos_told : (fields : List Field) (rows : List Row) (count : ℕ) (bytes texts : List ℕ) (spans : List Span) → length spans ≡ count * memo_count fields
+pub memos_read : (fields : List Field) (rows : List Row) (count : ℕ) (bytes texts : List ℕ) (spans : List Span) → length spans ≡ count * memo_count fields
     → rows ≡ rows_of fields count bytes (texts_of texts spans) → flat_map (λ s. block_bytes (text_of texts s)) spans ≡ rows_memos fields rows
-memos_told fields rows count bytes texts spans many told = rw told (sym (store_memos fields count bytes texts spans many))
+memos_read fields rows count bytes texts spans many given = rw given (sym (store_memos fields count bytes texts spans many))
 
 -- ---- how many memos a table has at most
 

@@ -3,11 +3,11 @@ pub mod MemoRows
 pub mod MemoLoops
 pub mod Groups
 pub mod MemoTests
-pub mod Pieces
+pub mod Chunks
 pub mod Ends
 pub mod Edits
 pub mod Spans
-pub mod CellPlaces
+pub mod CellOffsets
 pub mod Rows
 pub mod Sinks
 pub mod Standing

@@ -12,11 +12,11 @@ use Rattle.dbf_image.specs.declared.fault.ImageFault.TheVariants.{MemoFileMissin
 use Rattle.dbf_image.specs.declared.span.Span.{Span}
 use Rattle.dbf_image.specs.Table.{has_memos}
 use Rattle.dbf_image.specs.Memo.{memo_number, memo_at}
-use Rattle.dbf_image.specs.DbfText.{pieces, IsRun}
+use Rattle.dbf_image.specs.DbfText.{chunks, AreRecords}
 use Rattle.dbf_image.specs.Store.{text_of, texts_of, IsSpan, memo_count, first_memo, cells_with, rows_with, IsStore}
-use Rattle.dbf_image.specs.Reading.{text_tests, memo_tests, memo_text, cell_tests, cell_text, cells_tests, cells_told, row_tests, row_told}
+use Rattle.dbf_image.specs.Reading.{text_tests, memo_tests, memo_text, cell_tests, cell_text, cells_tests, cells_read, row_tests, row_read}
 use Rattle.dbf_image.specs.Spans.{span_of, no_span, memo_span, cell_spans, cells_spans, row_spans, table_tests}
-use Rattle.dbf_image.proofs.Rows.{length-pieces}
+use Rattle.dbf_image.proofs.Rows.{length-chunks}
 use Rattle.dbf_image.proofs.Spans.{all_append, no_span_fits}
 use Rattle.dbf_image.proofs.Ends.{end_inside, prefix_all}
 use Rattle.dbf_fields.proofs.FaultLaws.{first_parts}
@@ -33,14 +33,14 @@ unfolding memo_span memo_text
 span_text dbt cell = span_by dbt (unwrap_or (memo_number cell) 0) (eqb (unwrap_or (memo_number cell) 0) 0)
 
 cells_by : (dbt : List ℕ) (fs : List Field) (cell rest text : List ℕ) (span : Span) (more : List (List ℕ)) (b : Bool) → text_of dbt span ≡ text
-    → ((m : List (List ℕ)) → cells_with fs rest (texts_of dbt (cells_spans dbt fs rest) ++ m) ≡ cells_told dbt fs rest)
+    → ((m : List (List ℕ)) → cells_with fs rest (texts_of dbt (cells_spans dbt fs rest) ++ m) ≡ cells_read dbt fs rest)
     → cond b (first_memo (texts_of dbt (cond b (span ∷ []) [] ++ cells_spans dbt fs rest) ++ more) ∷ cells_with fs rest (drop 1 (texts_of dbt (cond b (span ∷ []) [] ++ cells_spans dbt fs rest) ++ more)))
-    (cell ∷ cells_with fs rest (texts_of dbt (cond b (span ∷ []) [] ++ cells_spans dbt fs rest) ++ more)) ≡ cond b text cell ∷ cells_told dbt fs rest
+    (cell ∷ cells_with fs rest (texts_of dbt (cond b (span ∷ []) [] ++ cells_spans dbt fs rest) ++ more)) ≡ cond b text cell ∷ cells_read dbt fs rest
 cells_by dbt fs cell rest text span more true e ih =
     ap (λ (t : List ℕ). t ∷ cells_with fs rest (texts_of dbt (cells_spans dbt fs rest) ++ more)) e ∙ ap (λ (x : List (List ℕ)). text ∷ x) (ih more)
 cells_by dbt fs cell rest text span more false e ih = ap (λ (x : List (List ℕ)). cell ∷ x) (ih more)
 
-cells_view : (dbt : List ℕ) (fields : List Field) (bytes : List ℕ) (more : List (List ℕ)) → cells_with fields bytes (texts_of dbt (cells_spans dbt fields bytes) ++ more) ≡ cells_told dbt fields bytes
+cells_view : (dbt : List ℕ) (fields : List Field) (bytes : List ℕ) (more : List (List ℕ)) → cells_with fields bytes (texts_of dbt (cells_spans dbt fields bytes) ++ more) ≡ cells_read dbt fields bytes
 unfolding cell_spans cell_text
 cells_view dbt [] bytes more = refl
 cells_view dbt (f ∷ fs) bytes more =
@@ -57,7 +57,7 @@ length-spans dbt [] bytes = refl
 length-spans dbt (f ∷ fs) bytes =
     count_by (memo_span dbt (take f.width bytes)) (cells_spans dbt fs (drop f.width bytes)) (memo_count fs) (eqb f.kind 77) (length-spans dbt fs (drop f.width bytes))
 
-pub rows_view : (dbt : List ℕ) (fields : List Field) (ps : List (List ℕ)) → rows_with fields ps (texts_of dbt (flat_map (row_spans dbt fields) ps)) ≡ map (row_told dbt fields) ps
+pub rows_view : (dbt : List ℕ) (fields : List Field) (ps : List (List ℕ)) → rows_with fields ps (texts_of dbt (flat_map (row_spans dbt fields) ps)) ≡ map (row_read dbt fields) ps
 rows_view dbt fields [] = refl
 rows_view dbt fields (p ∷ ps) =
     let own : List Span = cells_spans dbt fields (drop 1 p) in
@@ -112,13 +112,13 @@ all_fit dbt fields (p ∷ ps) h =
     let q = first_parts (row_tests dbt fields p) (flat_map (row_tests dbt fields) ps) h in
     all_append (IsSpan dbt) (row_spans dbt fields p) (flat_map (row_spans dbt fields) ps) (spans_fit dbt fields (drop 1 p) q.0) (all_fit dbt fields ps q.1)
 
-pub store_read : (dbt : List ℕ) (fields : List Field) (count : ℕ) (bytes : List ℕ) → IsRun fields count bytes → first_fault (flat_map (row_tests dbt fields) (pieces (1 + widths fields) count bytes)) ≡ None
-    → IsStore fields count bytes dbt (flat_map (row_spans dbt fields) (pieces (1 + widths fields) count bytes))
-store_read dbt fields count bytes run h =
-    let ps : List (List ℕ) = pieces (1 + widths fields) count bytes in
+pub store_read : (dbt : List ℕ) (fields : List Field) (count : ℕ) (bytes : List ℕ) → AreRecords fields count bytes → first_fault (flat_map (row_tests dbt fields) (chunks (1 + widths fields) count bytes)) ≡ None
+    → IsStore fields count bytes dbt (flat_map (row_spans dbt fields) (chunks (1 + widths fields) count bytes))
+store_read dbt fields count bytes records h =
+    let ps : List (List ℕ) = chunks (1 + widths fields) count bytes in
     record {
-      run = run;
-      many = many_spans dbt fields ps ∙ ap (λ (n : ℕ). n * memo_count fields) (length-pieces (1 + widths fields) count bytes);
+      records = records;
+      many = many_spans dbt fields ps ∙ ap (λ (n : ℕ). n * memo_count fields) (length-chunks (1 + widths fields) count bytes);
       each = all_fit dbt fields ps h;
     }
 
@@ -135,7 +135,7 @@ plain_tests dbt (f ∷ fs) bytes e =
     let p = neither (eqb f.kind 77) (has_memos fs) e in
     rw (p.0, plain_tests dbt fs (drop f.width bytes) p.1) refl
 
-plain_cells : (dbt : List ℕ) (fields : List Field) (bytes : List ℕ) (memos : List (List ℕ)) → has_memos fields ≡ false → cells_with fields bytes memos ≡ cells_told dbt fields bytes
+plain_cells : (dbt : List ℕ) (fields : List Field) (bytes : List ℕ) (memos : List (List ℕ)) → has_memos fields ≡ false → cells_with fields bytes memos ≡ cells_read dbt fields bytes
 unfolding cell_text
 plain_cells dbt [] bytes memos e = refl
 plain_cells dbt (f ∷ fs) bytes memos e =
@@ -148,7 +148,7 @@ plain_count (f ∷ fs) e =
     let p = neither (eqb f.kind 77) (has_memos fs) e in
     rw p.0 (plain_count fs p.1)
 
-pub plain_rows : (dbt : List ℕ) (fields : List Field) (ps memos : List (List ℕ)) → has_memos fields ≡ false → rows_with fields ps memos ≡ map (row_told dbt fields) ps
+pub plain_rows : (dbt : List ℕ) (fields : List Field) (ps memos : List (List ℕ)) → has_memos fields ≡ false → rows_with fields ps memos ≡ map (row_read dbt fields) ps
 plain_rows dbt fields [] memos e = refl
 plain_rows dbt fields (p ∷ ps) memos e = rw (plain_cells dbt fields (drop 1 p) memos e, plain_rows dbt fields ps (drop (memo_count fields) memos) e) refl
 
@@ -160,10 +160,10 @@ pub plain_passes : (dbt : Option (List ℕ)) (fields : List Field) (ps : List (L
 unfolding table_tests
 plain_passes dbt fields ps e = rw (e, plain_all (unwrap_or dbt []) fields ps e) refl
 
-pub plain_store : (fields : List Field) (count : ℕ) (bytes texts : List ℕ) (spans : List Span) → IsRun fields count bytes → has_memos fields ≡ false → spans ≡ [] → IsStore fields count bytes texts spans
-plain_store fields count bytes texts spans run e nothing =
+pub plain_store : (fields : List Field) (count : ℕ) (bytes texts : List ℕ) (spans : List Span) → AreRecords fields count bytes → has_memos fields ≡ false → spans ≡ [] → IsStore fields count bytes texts spans
+plain_store fields count bytes texts spans records e nothing =
     let none : count * memo_count fields ≡ 0 = rw (plain_count fields e) (omega arith) in
-    record { run = run; many = rw (nothing, none) refl; each = rw nothing tt }
+    record { records = records; many = rw (nothing, none) refl; each = rw nothing tt }
 
 -- ---- where some field is a memo
 

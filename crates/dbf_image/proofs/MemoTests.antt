@@ -8,9 +8,9 @@ use Rattle.dbf_fields.proofs.SchemaLaws.{passed, passes}
 use Rattle.dbf_image.specs.declared.fault.ImageFault.{ImageFault}
 use Rattle.dbf_image.specs.declared.fault.ImageFault.TheVariants.{BadMemoNumber, NoMemory}
 use Rattle.dbf_image.specs.Table.{Row}
-use Rattle.dbf_image.specs.Memo.{memo_number, memo_at, HasText, TellsMemo, TellsCell, TellsCells}
-use Rattle.dbf_image.specs.DbfText.{TellsRows}
-use Rattle.dbf_image.specs.Reading.{is_block, text_tests, memo_tests, memo_text, cell_tests, cell_text, cells_tests, cells_told, row_tests, row_told}
+use Rattle.dbf_image.specs.Memo.{memo_number, memo_at, HasText, EncodesMemo, EncodesCell, EncodesCells}
+use Rattle.dbf_image.specs.DbfText.{EncodesRows}
+use Rattle.dbf_image.specs.Reading.{is_block, text_tests, memo_tests, memo_text, cell_tests, cell_text, cells_tests, cells_read, row_tests, row_read}
 use Rattle.dbf_fields.proofs.FaultLaws.{first_then, first_parts}
 
 -- ---- a text
@@ -57,22 +57,22 @@ tests_by dbt o = (is_some o, BadMemoNumber) ∷ cond (eqb (unwrap_or o 0) 0) [] 
 abbrev text_by : List ℕ → Option ℕ → List ℕ
 text_by dbt o = cond (eqb (unwrap_or o 0) 0) [] (memo_at dbt (unwrap_or o 0))
 
-abbrev TellsBy : List ℕ → Option ℕ → List ℕ → Type 0
-TellsBy dbt o text = ((o ≡ Some 0) × (text ≡ [])) ⊎ ((block : ℕ) × (o ≡ Some block) × HasText dbt block text)
+abbrev EncodesBy : List ℕ → Option ℕ → List ℕ → Type 0
+EncodesBy dbt o text = ((o ≡ Some 0) × (text ≡ [])) ⊎ ((block : ℕ) × (o ≡ Some block) × HasText dbt block text)
 
-some_by : (dbt : List ℕ) (n : ℕ) (b : Bool) → eqb n 0 ≡ b → first_fault (cond b [] (text_tests dbt n)) ≡ None → TellsBy dbt (Some n) (cond b [] (memo_at dbt n))
+some_by : (dbt : List ℕ) (n : ℕ) (b : Bool) → eqb n 0 ≡ b → first_fault (cond b [] (text_tests dbt n)) ≡ None → EncodesBy dbt (Some n) (cond b [] (memo_at dbt n))
 some_by dbt n true e h = inl (ap (λ (m : ℕ). Some m) (eqb-true n 0 e), refl)
 some_by dbt n false e h = inr (n, refl, text_ok dbt n h)
 
-memo_by : (dbt : List ℕ) (o : Option ℕ) → first_fault (tests_by dbt o) ≡ None → TellsBy dbt o (text_by dbt o)
+memo_by : (dbt : List ℕ) (o : Option ℕ) → first_fault (tests_by dbt o) ≡ None → EncodesBy dbt o (text_by dbt o)
 memo_by dbt None h = absurd cc
 memo_by dbt (Some n) h = some_by dbt n (eqb n 0) refl h
 
-pub memo_ok : (dbt cell : List ℕ) → first_fault (memo_tests dbt cell) ≡ None → TellsMemo dbt cell (memo_text dbt cell)
+pub memo_ok : (dbt cell : List ℕ) → first_fault (memo_tests dbt cell) ≡ None → EncodesMemo dbt cell (memo_text dbt cell)
 unfolding memo_tests memo_text
 memo_ok dbt cell h = memo_by dbt (memo_number cell) h
 
-by_memo : (dbt text : List ℕ) (o : Option ℕ) → TellsBy dbt o text → (first_fault (tests_by dbt o) ≡ None) × (text_by dbt o ≡ text)
+by_memo : (dbt text : List ℕ) (o : Option ℕ) → EncodesBy dbt o text → (first_fault (tests_by dbt o) ≡ None) × (text_by dbt o ≡ text)
 by_memo dbt text o (inl h) = (rw h.0 refl, rw h.0 (sym h.1))
 by_memo dbt text o (inr h) =
     let n : ℕ = h.0 in
@@ -80,35 +80,35 @@ by_memo dbt text o (inr h) =
     let off : eqb n 0 ≡ false = ne_eqb n 0 some in
     (rw (h.1, off) (ok_text dbt text n h.2), rw (h.1, off) h.2.text_is)
 
-pub ok_memo : (dbt cell text : List ℕ) → TellsMemo dbt cell text → (first_fault (memo_tests dbt cell) ≡ None) × (memo_text dbt cell ≡ text)
+pub ok_memo : (dbt cell text : List ℕ) → EncodesMemo dbt cell text → (first_fault (memo_tests dbt cell) ≡ None) × (memo_text dbt cell ≡ text)
 unfolding memo_tests memo_text
 ok_memo dbt cell text h = by_memo dbt text (memo_number cell) h
 
 -- ---- cells
 
-cell_ok_by : (dbt : List ℕ) (f : Field) (cell : List ℕ) (b : Bool) → eqb f.kind 77 ≡ b → first_fault (cond b (memo_tests dbt cell) []) ≡ None → TellsCell dbt f cell (cond b (memo_text dbt cell) cell)
+cell_ok_by : (dbt : List ℕ) (f : Field) (cell : List ℕ) (b : Bool) → eqb f.kind 77 ≡ b → first_fault (cond b (memo_tests dbt cell) []) ≡ None → EncodesCell dbt f cell (cond b (memo_text dbt cell) cell)
 cell_ok_by dbt f cell true e h = (λ kind. memo_ok dbt cell h, λ other. absurd (other (eqb-true f.kind 77 e)))
 cell_ok_by dbt f cell false e h = (λ kind. absurd (eqb-false f.kind 77 e kind), λ other. refl)
 
-cell_ok : (dbt : List ℕ) (f : Field) (cell : List ℕ) → first_fault (cell_tests dbt f cell) ≡ None → TellsCell dbt f cell (cell_text dbt f cell)
+cell_ok : (dbt : List ℕ) (f : Field) (cell : List ℕ) → first_fault (cell_tests dbt f cell) ≡ None → EncodesCell dbt f cell (cell_text dbt f cell)
 unfolding cell_tests cell_text
 cell_ok dbt f cell h = cell_ok_by dbt f cell (eqb f.kind 77) refl h
 
-ok_cell_by : (dbt : List ℕ) (f : Field) (cell text : List ℕ) (b : Bool) → eqb f.kind 77 ≡ b → TellsCell dbt f cell text → (first_fault (cond b (memo_tests dbt cell) []) ≡ None) × (cond b (memo_text dbt cell) cell ≡ text)
+ok_cell_by : (dbt : List ℕ) (f : Field) (cell text : List ℕ) (b : Bool) → eqb f.kind 77 ≡ b → EncodesCell dbt f cell text → (first_fault (cond b (memo_tests dbt cell) []) ≡ None) × (cond b (memo_text dbt cell) cell ≡ text)
 ok_cell_by dbt f cell text true e h = ok_memo dbt cell text (h.0 (eqb-true f.kind 77 e))
 ok_cell_by dbt f cell text false e h = (refl, sym (h.1 (eqb-false f.kind 77 e)))
 
-ok_cell : (dbt : List ℕ) (f : Field) (cell text : List ℕ) → TellsCell dbt f cell text → (first_fault (cell_tests dbt f cell) ≡ None) × (cell_text dbt f cell ≡ text)
+ok_cell : (dbt : List ℕ) (f : Field) (cell text : List ℕ) → EncodesCell dbt f cell text → (first_fault (cell_tests dbt f cell) ≡ None) × (cell_text dbt f cell ≡ text)
 unfolding cell_tests cell_text
 ok_cell dbt f cell text h = ok_cell_by dbt f cell text (eqb f.kind 77) refl h
 
-pub cells_ok : (dbt : List ℕ) (fields : List Field) (bytes : List ℕ) → first_fault (cells_tests dbt fields bytes) ≡ None → TellsCells dbt fields bytes (cells_told dbt fields bytes)
+pub cells_ok : (dbt : List ℕ) (fields : List Field) (bytes : List ℕ) → first_fault (cells_tests dbt fields bytes) ≡ None → EncodesCells dbt fields bytes (cells_read dbt fields bytes)
 cells_ok dbt [] bytes h = tt
 cells_ok dbt (f ∷ fs) bytes h =
     let p = first_parts (cell_tests dbt f (take f.width bytes)) (cells_tests dbt fs (drop f.width bytes)) h in
     (cell_ok dbt f (take f.width bytes) p.0, cells_ok dbt fs (drop f.width bytes) p.1)
 
-pub ok_cells : (dbt : List ℕ) (fields : List Field) (bytes : List ℕ) (cells : List (List ℕ)) → TellsCells dbt fields bytes cells → (first_fault (cells_tests dbt fields bytes) ≡ None) × (cells_told dbt fields bytes ≡ cells)
+pub ok_cells : (dbt : List ℕ) (fields : List Field) (bytes : List ℕ) (cells : List (List ℕ)) → EncodesCells dbt fields bytes cells → (first_fault (cells_tests dbt fields bytes) ≡ None) × (cells_read dbt fields bytes ≡ cells)
 ok_cells dbt [] bytes [] h = (refl, refl)
 ok_cells dbt [] bytes (c ∷ cs) h = absurd h
 ok_cells dbt (f ∷ fs) bytes [] h = absurd h
@@ -119,17 +119,17 @@ ok_cells dbt (f ∷ fs) bytes (c ∷ cs) h =
 
 -- ---- records
 
-pub rows_ok : (dbt : List ℕ) (fields : List Field) (ps : List (List ℕ)) → first_fault (flat_map (row_tests dbt fields) ps) ≡ None → TellsRows dbt fields ps (map (row_told dbt fields) ps)
+pub rows_ok : (dbt : List ℕ) (fields : List Field) (ps : List (List ℕ)) → first_fault (flat_map (row_tests dbt fields) ps) ≡ None → EncodesRows dbt fields ps (map (row_read dbt fields) ps)
 rows_ok dbt fields [] h = tt
 rows_ok dbt fields (p ∷ ps) h =
     let q = first_parts (row_tests dbt fields p) (flat_map (row_tests dbt fields) ps) h in
     ((refl, cells_ok dbt fields (drop 1 p) q.0), rows_ok dbt fields ps q.1)
 
-row_same : (dbt : List ℕ) (fields : List Field) (p : List ℕ) (r : Row) → r.deleted ≡ eqb (slice_index p 0) 42 → cells_told dbt fields (drop 1 p) ≡ r.cells → row_told dbt fields p ≡ r
+row_same : (dbt : List ℕ) (fields : List Field) (p : List ℕ) (r : Row) → r.deleted ≡ eqb (slice_index p 0) 42 → cells_read dbt fields (drop 1 p) ≡ r.cells → row_read dbt fields p ≡ r
 row_same dbt fields p r flag cells = rw (← flag, cells) refl
 
-pub ok_rows : (dbt : List ℕ) (fields : List Field) (ps : List (List ℕ)) (rows : List Row) → TellsRows dbt fields ps rows
-    → (first_fault (flat_map (row_tests dbt fields) ps) ≡ None) × (map (row_told dbt fields) ps ≡ rows)
+pub ok_rows : (dbt : List ℕ) (fields : List Field) (ps : List (List ℕ)) (rows : List Row) → EncodesRows dbt fields ps rows
+    → (first_fault (flat_map (row_tests dbt fields) ps) ≡ None) × (map (row_read dbt fields) ps ≡ rows)
 ok_rows dbt fields [] [] h = (refl, refl)
 ok_rows dbt fields [] (r ∷ rs) h = absurd h
 ok_rows dbt fields (p ∷ ps) [] h = absurd h

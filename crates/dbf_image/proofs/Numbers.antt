@@ -11,9 +11,9 @@ use Rattle.std.proofs.Math.Nat.{pow-suc}
 use Rattle.dbf_fields.specs.Digits.{digits_behind}
 use Rattle.dbf_fields.specs.Number.{without_leading, trimmed}
 use Rattle.dbf_image.specs.Memo.{memo_number}
-use Rattle.dbf_image.specs.Blocks.{justified, number_cell}
+use Rattle.dbf_image.specs.Blocks.{justified, block_number_cell}
 
--- a digit behind bytes stays where the blanks before them go
+-- a digit after bytes stays where the blanks before them go
 leading_by : (b : ℕ) (bs : List ℕ) (d : ℕ) (t : Bool) → eqb b 32 ≡ t → without_leading (bs ++ d ∷ []) ≡ without_leading bs ++ d ∷ []
     → cond t (without_leading (bs ++ d ∷ [])) (b ∷ (bs ++ d ∷ [])) ≡ cond t (without_leading bs) (b ∷ bs) ++ d ∷ []
 leading_by b bs d true e h = h
@@ -28,7 +28,7 @@ blank_by : (b : ℕ) (bs : List ℕ) (t : Bool) → cond t (without_leading bs) 
 blank_by b bs true e next = next e
 blank_by b bs false e next = absurd cc
 
--- one more blank behind blanks
+-- one more blank after blanks
 leading_blank : (bs : List ℕ) → without_leading bs ≡ [] → without_leading (bs ++ 32 ∷ []) ≡ []
 leading_blank [] h = refl
 leading_blank (b ∷ bs) h = blank_by b bs (eqb b 32) h (leading_blank bs)
@@ -108,26 +108,26 @@ drop_set (suc i) (b ∷ bs) d lt =
     let k : suc i + 1 ≡ suc (i + 1) = omega arith in
     rw k (drop_set i bs d (omega arith))
 
-pub place-next : (at i n : ℕ) (cell : List ℕ) (d : ℕ) (whole : List ℕ) → i + 1 ≡ at → i < length cell → d ≡ cond (eqb n 0) 32 (48 + n % 10)
+pub digit-next : (at i n : ℕ) (cell : List ℕ) (d : ℕ) (whole : List ℕ) → i + 1 ≡ at → i < length cell → d ≡ cond (eqb n 0) 32 (48 + n % 10)
     → justified at n ++ drop at cell ≡ whole → justified i (n / 10) ++ drop i (set cell i d) ≡ whole
 unfolding justified
-place-next at i n cell d whole k lt is told =
+digit-next at i n cell d whole k lt is given =
     let e : at ≡ suc i = omega arith in
     let e' : i + 1 ≡ suc i = omega arith in
-    let before : justified (suc i) n ++ drop (suc i) cell ≡ whole = rw e at told in
+    let before : justified (suc i) n ++ drop (suc i) cell ≡ whole = rw e at given in
     let here : drop i (set cell i d) ≡ d ∷ drop (suc i) cell = rw e' at (drop_set i cell d lt) in
     rw (here, is) (sym (append_assoc (justified i (n / 10)) (cond (eqb n 0) 32 (48 + n % 10) ∷ []) (drop (suc i) cell)) ∙ before)
 
-pub place-done : (at n : ℕ) (cell whole : List ℕ) → at ≡ 0 → justified at n ++ drop at cell ≡ whole → cell ≡ whole
+pub digit-done : (at n : ℕ) (cell whole : List ℕ) → at ≡ 0 → justified at n ++ drop at cell ≡ whole → cell ≡ whole
 unfolding justified
-place-done at n cell whole e told = rw e at told
+digit-done at n cell whole e given = rw e at given
 
-pub number_none : (next : ℕ) (text : List ℕ) → length text ≡ 0 → justified 10 0 ≡ number_cell next text
-unfolding number_cell
+pub number_none : (next : ℕ) (text : List ℕ) → length text ≡ 0 → justified 10 0 ≡ block_number_cell next text
+unfolding block_number_cell
 number_none next [] e = refl
 number_none next (t ∷ ts) e = absurd (omega arith)
 
-pub number_some : (next : ℕ) (text : List ℕ) → 0 < length text → justified 10 next ≡ number_cell next text
-unfolding number_cell
+pub number_some : (next : ℕ) (text : List ℕ) → 0 < length text → justified 10 next ≡ block_number_cell next text
+unfolding block_number_cell
 number_some next [] some = absurd (omega arith)
 number_some next (t ∷ ts) some = refl

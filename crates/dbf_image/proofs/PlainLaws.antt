@@ -4,8 +4,8 @@ use Rattle.std.specs.Prelude.{◌||◌, unwrap_or}
 use Rattle.std.proofs.lemmas.Bool.{eqb-false, true≢false}
 use Rattle.dbf_fields.specs.declared.field.Field.{Field}
 use Rattle.dbf_image.specs.Table.{Row, Table, has_memos, IsTable}
-use Rattle.dbf_image.specs.Memo.{TellsCells}
-use Rattle.dbf_image.specs.DbfText.{TellsRows, IsDbf}
+use Rattle.dbf_image.specs.Memo.{EncodesCells}
+use Rattle.dbf_image.specs.DbfText.{EncodesRows, IsDbf}
 use Rattle.dbf_image.specs.Blocks.{cells_blocks, rows_blocks, memo_image}
 use Rattle.dbf_image.specs.Image.{image}
 use Rattle.dbf_image.proofs.FileLaws.{is_dbf_image}
@@ -14,7 +14,7 @@ or_parts : (x y : Bool) → (x || y) ≡ false → (x ≡ false) × (y ≡ false
 or_parts true y e = absurd (true≢false e)
 or_parts false y e = (refl, e)
 
-other_cells : (a b : List ℕ) (fields : List Field) (bytes : List ℕ) (cells : List (List ℕ)) → has_memos fields ≡ false → TellsCells a fields bytes cells → TellsCells b fields bytes cells
+other_cells : (a b : List ℕ) (fields : List Field) (bytes : List ℕ) (cells : List (List ℕ)) → has_memos fields ≡ false → EncodesCells a fields bytes cells → EncodesCells b fields bytes cells
 other_cells a b [] bytes [] e h = tt
 other_cells a b [] bytes (c ∷ cs) e h = absurd h
 other_cells a b (f ∷ fs) bytes [] e h = absurd h
@@ -22,7 +22,7 @@ other_cells a b (f ∷ fs) bytes (c ∷ cs) e h =
     let p = or_parts (eqb f.kind 77) (has_memos fs) e in
     ((λ kind. absurd (eqb-false f.kind 77 p.0 kind), h.0.1), other_cells a b fs (drop f.width bytes) cs p.1 h.1)
 
-other_records : (a b : List ℕ) (fields : List Field) (ps : List (List ℕ)) (rows : List Row) → has_memos fields ≡ false → TellsRows a fields ps rows → TellsRows b fields ps rows
+other_records : (a b : List ℕ) (fields : List Field) (ps : List (List ℕ)) (rows : List Row) → has_memos fields ≡ false → EncodesRows a fields ps rows → EncodesRows b fields ps rows
 other_records a b fields [] [] e h = tt
 other_records a b fields [] (r ∷ rs) e h = absurd h
 other_records a b fields (p ∷ ps) [] e h = absurd h

@@ -14,10 +14,10 @@ more_nil w = ap (with_written w) (grown_nil w.written)
 
 -- one more part, of what was left
 pub more_left : (w whole : Wanted) (here left all : List ℕ) → all ≡ here ++ left → more w all ≡ whole → more (more w here) left ≡ whole
-more_left w whole here left all is told = more_then w here left ∙ ap (more w) (sym is) ∙ told
+more_left w whole here left all is given = more_then w here left ∙ ap (more w) (sym is) ∙ given
 
-pub more_two : (w : Wanted) (a b whole : List ℕ) → a ++ b ≡ whole → more (more w a) b ≡ more w whole
-more_two w a b whole is = more_then w a b ∙ ap (more w) is
+pub more_both : (w : Wanted) (a b whole : List ℕ) → a ++ b ≡ whole → more (more w a) b ≡ more w whole
+more_both w a b whole is = more_then w a b ∙ ap (more w) is
 
-pub more_three : (w : Wanted) (a b c whole : List ℕ) → (a ++ b) ++ c ≡ whole → more (more (more w a) b) c ≡ more w whole
-more_three w a b c whole is = ap (λ (v : Wanted). more v c) (more_then w a b) ∙ more_two w (a ++ b) c whole is
+pub more_all_three : (w : Wanted) (a b c whole : List ℕ) → (a ++ b) ++ c ≡ whole → more (more (more w a) b) c ≡ more w whole
+more_all_three w a b c whole is = ap (λ (v : Wanted). more v c) (more_then w a b) ∙ more_both w (a ++ b) c whole is

@@ -9,16 +9,16 @@ use Rattle.std.proofs.lemmas.List.{take_at, drop_at, get_or_at, get_or-append_ri
 use Rattle.std.proofs.lemmas.List.Sums.{position_or_len_is}
 use Rattle.dbf_fields.specs.declared.field.Field.{Field}
 use Rattle.dbf_fields.specs.Name.{is_name_char, is_name}
-use Rattle.dbf_image.specs.DbfText.{pieces, field_of}
+use Rattle.dbf_image.specs.DbfText.{chunks, field_of}
 use Rattle.dbf_image.specs.Image.{descriptor}
 
--- ---- pieces of one size that are joined
+-- ---- chunks of one size that are joined
 
-pub pieces-join : {X : Type 0} (size : ℕ) (f : X → List ℕ) (xs : List X) (rest : List ℕ) → AllByRecursion (λ x. length (f x) ≡ size) xs
-    → pieces size (length xs) (flat_map f xs ++ rest) ≡ map f xs
-pieces-join size f [] rest h = refl
-pieces-join size f (x ∷ xs) rest h =
-    rw (append_assoc (f x) (flat_map f xs) rest, take_at (f x) (flat_map f xs ++ rest) size h.0, drop_at (f x) (flat_map f xs ++ rest) size h.0, pieces-join size f xs rest h.1) refl
+pub chunks-join : {X : Type 0} (size : ℕ) (f : X → List ℕ) (xs : List X) (rest : List ℕ) → AllByRecursion (λ x. length (f x) ≡ size) xs
+    → chunks size (length xs) (flat_map f xs ++ rest) ≡ map f xs
+chunks-join size f [] rest h = refl
+chunks-join size f (x ∷ xs) rest h =
+    rw (append_assoc (f x) (flat_map f xs) rest, take_at (f x) (flat_map f xs ++ rest) size h.0, drop_at (f x) (flat_map f xs ++ rest) size h.0, chunks-join size f xs rest h.1) refl
 
 pub length-join : {X : Type 0} (size : ℕ) (f : X → List ℕ) (xs : List X) → AllByRecursion (λ x. length (f x) ≡ size) xs → length (flat_map f xs) ≡ length xs * size
 length-join size f [] h = omega arith
@@ -132,8 +132,8 @@ flag_again false = refl
 
 -- ---- the whole file
 
-pub behind : (head body more : List ℕ) (m : ℕ) → length head + length body + 1 ≡ m → drop m (head ++ (body ++ 13 ∷ more)) ≡ more
-behind head body more m len =
+pub after_header : (head body more : List ℕ) (m : ℕ) → length head + length body + 1 ≡ m → drop m (head ++ (body ++ 13 ∷ more)) ≡ more
+after_header head body more m len =
     let grouped : head ++ (body ++ 13 ∷ more) ≡ (head ++ (body ++ 13 ∷ [])) ++ more =
     sym (append_assoc head (body ++ 13 ∷ []) more ∙ ap (λ (x : List ℕ). head ++ x) (append_assoc body (13 ∷ []) more)) in
     let long : length (head ++ (body ++ 13 ∷ [])) ≡ m = omega (arith, length-append head (body ++ 13 ∷ []), length-append body (13 ∷ [])) in

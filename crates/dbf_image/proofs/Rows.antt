@@ -9,26 +9,26 @@ use Rattle.dbf_fields.specs.Field.{widths}
 use Rattle.dbf_fields.specs.Schema.{IsSchema}
 use Rattle.dbf_image.specs.declared.span.Span.{Span}
 use Rattle.dbf_image.specs.Table.{IsRow, AreCells, IsTable, is_memo_text}
-use Rattle.dbf_image.specs.DbfText.{pieces}
+use Rattle.dbf_image.specs.DbfText.{chunks}
 use Rattle.dbf_image.specs.Store.{texts_of, IsSpan, first_memo, memo_count, cells_with, rows_with, rows_of, IsStore}
 
-pub length-pieces : (size n : ℕ) (bytes : List ℕ) → length (pieces size n bytes) ≡ n
-length-pieces size zero bytes = refl
-length-pieces size (suc n) bytes = ap suc (length-pieces size n (drop size bytes))
+pub length-chunks : (size n : ℕ) (bytes : List ℕ) → length (chunks size n bytes) ≡ n
+length-chunks size zero bytes = refl
+length-chunks size (suc n) bytes = ap suc (length-chunks size n (drop size bytes))
 
 pub length-rows : (fields : List Field) (ps memos : List (List ℕ)) → length (rows_with fields ps memos) ≡ length ps
 length-rows fields [] memos = refl
 length-rows fields (p ∷ ps) memos = ap suc (length-rows fields ps (drop (memo_count fields) memos))
 
 pub length-rows_of : (fields : List Field) (n : ℕ) (bytes : List ℕ) (memos : List (List ℕ)) → length (rows_of fields n bytes memos) ≡ n
-length-rows_of fields n bytes memos = length-rows fields (pieces (1 + widths fields) n bytes) memos ∙ length-pieces (1 + widths fields) n bytes
+length-rows_of fields n bytes memos = length-rows fields (chunks (1 + widths fields) n bytes) memos ∙ length-chunks (1 + widths fields) n bytes
 
--- the bytes of so many records, and what stands behind them
-pub pieces_take : (size n : ℕ) (bytes : List ℕ) → pieces size n (take (n * size) bytes) ≡ pieces size n bytes
-pieces_take size zero bytes = refl
-pieces_take size (suc n) bytes =
+-- the bytes of so many records, and what stands after them
+pub chunks_take : (size n : ℕ) (bytes : List ℕ) → chunks size n (take (n * size) bytes) ≡ chunks size n bytes
+chunks_take size zero bytes = refl
+chunks_take size (suc n) bytes =
     let k : suc n * size ≡ size + n * size = omega arith in
-    rw (k, take-take size (size + n * size) bytes (omega arith), drop-take size (n * size) bytes, pieces_take size n (drop size bytes)) refl
+    rw (k, take-take size (size + n * size) bytes (omega arith), drop-take size (n * size) bytes, chunks_take size n (drop size bytes)) refl
 
 -- ---- rows that fit
 
@@ -61,7 +61,7 @@ cells_fit (f ∷ fs) bytes memos room texts =
     cells_fit_by f fs (take f.width bytes) (drop f.width bytes) memos (eqb f.kind 77) refl here texts (λ m h. cells_fit fs (drop f.width bytes) m left h)
 
 pub rows_fit : (fields : List Field) (size n : ℕ) (bytes : List ℕ) (memos : List (List ℕ)) → size ≡ 1 + widths fields → n * size ≤ length bytes → AreTexts memos
-    → AllByRecursion (IsRow fields) (rows_with fields (pieces size n bytes) memos)
+    → AllByRecursion (IsRow fields) (rows_with fields (chunks size n bytes) memos)
 rows_fit fields size zero bytes memos wide room texts = tt
 rows_fit fields size (suc n) bytes memos wide room texts =
     let room' : (n + 1) * size ≤ length bytes = rw add-one room in
@@ -79,6 +79,6 @@ pub store_table : (fields : List Field) (n : ℕ) (bytes texts : List ℕ) (span
     → IsTable (record { schema = fields; rows = rows_of fields n bytes (texts_of texts spans) })
 store_table fields n bytes texts spans schema store = record {
   fields = schema;
-  few = rw (length-rows_of fields n bytes (texts_of texts spans)) store.run.few;
-  fit = rows_fit fields (1 + widths fields) n bytes (texts_of texts spans) refl (omega (arith, store.run.whole)) (store_texts texts spans store.each);
+  few = rw (length-rows_of fields n bytes (texts_of texts spans)) store.records.few;
+  fit = rows_fit fields (1 + widths fields) n bytes (texts_of texts spans) refl (omega (arith, store.records.whole)) (store_texts texts spans store.each);
 }

@@ -45,7 +45,7 @@ front_by o p xs more = rw more (front_grown o xs)
 
 -- what is written, of what was to be written
 pub front_from : (o p w : Option (List ℕ)) (rest : List ℕ) → w ≡ o → grown o rest ≡ p → IsFront w p
-front_from o p w rest same told = rw (same, ← told) (front_grown o rest)
+front_from o p w rest same given = rw (same, ← given) (front_grown o rest)
 
 -- what a call that did not succeed says
 pub on_failure : {T E P : Type 0} (r : Result T E) (b : Bool) → b ≡ is_ok r → b ≡ false → OnErr r P → P

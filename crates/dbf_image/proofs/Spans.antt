@@ -4,12 +4,12 @@ use Rattle.std.specs.List.{AllByRecursion}
 use Rattle.std.proofs.lemmas.List.{take-append-le, drop-append-le, drop_at, take_all, length-drop, length-append, length-set, length-replicate, map-append, map-set, get_or-map}
 use Rattle.dbf_fields.specs.declared.field.Field.{Field}
 use Rattle.dbf_fields.specs.Field.{widths}
-use Rattle.dbf_image.specs.declared.table.TheConstants.{MOST_RECORDS}
+use Rattle.dbf_image.specs.declared.table.TheConstants.{MAX_RECORDS}
 use Rattle.dbf_image.specs.declared.span.Span.{Span}
 use Rattle.dbf_image.specs.Table.{is_memo_text}
 use Rattle.dbf_image.specs.Store.{text_of, texts_of, IsSpan, memo_count, IsStore}
 use Rattle.dbf_image.specs.Spans.{no_span}
-use Rattle.dbf_image.proofs.Edits.{run_push}
+use Rattle.dbf_image.proofs.Edits.{records_push}
 
 -- ---- each of a list
 
@@ -32,7 +32,7 @@ all_set P (x ∷ xs) (suc i) y h k = (h.0, all_set P xs i y h.1 k)
 pub text_at : (texts : List ℕ) (spans : List Span) (i : ℕ) (d : Span) → i < length spans → get_or (texts_of texts spans) i [] ≡ text_of texts (get_or spans i d)
 text_at texts spans i d lt = get_or-map (text_of texts) spans i d [] lt
 
--- more texts behind the others change none
+-- more texts after the others change none
 text_more : (texts more : List ℕ) (span : Span) → span.start + span.length ≤ length texts → text_of (texts ++ more) span ≡ text_of texts span
 text_more texts more span room =
     ap (take span.length) (drop-append-le span.start texts more (omega arith))
@@ -66,7 +66,7 @@ store_put fields n bytes texts text spans i store fit =
     let span : Span = record { start = length texts; length = length text } in
     let here : IsSpan (texts ++ text) span = record { inside = omega (arith, length-append texts text); text = rw (last_text texts text) fit } in
     record {
-      run = store.run;
+      records = store.records;
       many = length-set spans i span ∙ store.many;
       each = all_set (IsSpan (texts ++ text)) spans i span (spans_more texts text spans store.each) here;
     }
@@ -82,13 +82,13 @@ texts_push texts spans k = map-append (text_of texts) spans (replicate k no_span
 pub no_span_fits : (texts : List ℕ) → IsSpan texts no_span
 no_span_fits texts = record { inside = omega arith; text = refl }
 
-pub store_push : (fields : List Field) (n : ℕ) (bytes row texts : List ℕ) (spans : List Span) → IsStore fields n bytes texts spans → length row ≡ 1 + widths fields → n < MOST_RECORDS
+pub store_push : (fields : List Field) (n : ℕ) (bytes row texts : List ℕ) (spans : List Span) → IsStore fields n bytes texts spans → length row ≡ 1 + widths fields → n < MAX_RECORDS
     → IsStore fields (n + 1) (bytes ++ row) texts (spans ++ replicate (memo_count fields) no_span)
 store_push fields n bytes row texts spans store long few =
     let k : ℕ = memo_count fields in
     let wide : (n + 1) * k ≡ n * k + k = omega arith in
     record {
-      run = run_push fields n bytes row store.run long few;
+      records = records_push fields n bytes row store.records long few;
       many = omega (arith, length-append spans (replicate k no_span), length-replicate k no_span, store.many);
       each = all_append (IsSpan texts) spans (replicate k no_span) store.each (all_replicate (IsSpan texts) k no_span (no_span_fits texts));
     }

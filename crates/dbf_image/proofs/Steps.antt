@@ -8,7 +8,7 @@ use Rattle.dbf_fields.specs.declared.field.Field.{Field}
 use Rattle.dbf_fields.specs.Field.{widths}
 use Rattle.dbf_image.specs.declared.span.Span.{Span}
 use Rattle.dbf_image.specs.Table.{Row}
-use Rattle.dbf_image.specs.DbfText.{pieces}
+use Rattle.dbf_image.specs.DbfText.{chunks}
 use Rattle.dbf_image.specs.Store.{text_of, texts_of, memo_count, first_memo, cells_with, row_with, rows_with, rows_of}
 use Rattle.dbf_image.specs.Blocks.{cell_bytes, cell_blocks, cells_bytes, cells_blocks}
 use Rattle.dbf_image.specs.Image.{row_bytes, rows_bytes}
@@ -133,7 +133,7 @@ cells_enough (f ∷ fs) bytes memos = enough_by f fs bytes memos (eqb f.kind 77)
 
 -- what is left of the records
 abbrev pub left_rows : ℕ → List Field → ℕ → ℕ → List ℕ → List ℕ → List Span → List ℕ
-left_rows next fields size n rest texts spans = flat_map (λ bytes. bytes) (rows_bytes next fields (rows_with fields (pieces size n rest) (texts_of texts spans)))
+left_rows next fields size n rest texts spans = flat_map (λ bytes. bytes) (rows_bytes next fields (rows_with fields (chunks size n rest) (texts_of texts spans)))
 
 pub rows-next : (fields : List Field) (size n i : ℕ) (rest texts : List ℕ) (spans : List Span) (next : ℕ) → i < n
     → left_rows next fields size (n - i) rest texts spans
@@ -154,5 +154,5 @@ less-next n i m lt =
 -- all records, as they are kept
 pub rows_same : (fields : List Field) (rows : List Row) (size count : ℕ) (bytes texts : List ℕ) (spans : List Span) → rows ≡ rows_of fields (length rows) bytes (texts_of texts spans)
     → size ≡ 1 + widths fields → count ≡ length rows → left_rows 1 fields size count bytes texts spans ≡ flat_map (λ bytes. bytes) (rows_bytes 1 fields rows)
-rows_same fields rows size count bytes texts spans told wide n =
-    rw (wide, n) (ap (λ (rs : List Row). flat_map (λ (b : List ℕ). b) (rows_bytes 1 fields rs)) (sym told))
+rows_same fields rows size count bytes texts spans given wide n =
+    rw (wide, n) (ap (λ (rs : List Row). flat_map (λ (b : List ℕ). b) (rows_bytes 1 fields rs)) (sym given))

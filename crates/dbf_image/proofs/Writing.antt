@@ -1,4 +1,4 @@
--- Pieces that are written one after the other make the whole.
+-- Chunks that are written one after the other make the whole.
 use Rattle.std.proofs.Common.{◌≡◌, true, leb, ◌&&◌, All, ℕ, ◌-◌, ◌≤◌, List, [], ◌∷◌, ◌++◌, length, replicate, append_assoc, arith, ap, sym, ◌∙◌, ◌+◌, drop, set}
 use Rattle.std.specs.Prelude.{slice_index, flat_map}
 use Rattle.std.specs.List.{AllByRecursion, list_all}
@@ -34,9 +34,9 @@ descriptor_built f le =
     rw (whole, kind, width) decimals
 
 -- the parts of a file
-pub image_told : (w : Wanted) (table : Table) (year month day : ℕ)
+pub image_put : (w : Wanted) (table : Table) (year month day : ℕ)
     → more (more (more (more (more w (header_bytes table year month day)) (flat_map descriptor table.schema)) (13 ∷ [])) (flat_map (λ bytes. bytes) (rows_bytes 1 table.schema table.rows))) (26 ∷ []) ≡ more w (image table year month day)
-image_told w table year month day = simp grown_then (ap (more w) (simp append_assoc))
+image_put w table year month day = simp grown_then (ap (more w) (simp append_assoc))
 
 names_fit : (fs : List Field) → AllByRecursion (λ f. is_name f.name ≡ true) fs → AllByRecursion (λ f. length f.name ≤ 11) fs
 names_fit [] h = tt

@@ -11,7 +11,7 @@ unfoldable pub justified : ℕ → ℕ → List ℕ
 justified zero n = []
 justified (suc k) n = justified k (n / 10) ++ (if n == 0 then 32 else 48 + n % 10) ∷ []
 
--- how many blocks a text takes, with the two 0x1A behind it; no text takes none
+-- how many blocks a text takes, with the two 0x1A after it; no text takes none
 unfoldable pub blocks_of : List ℕ → ℕ
 blocks_of [] = 0
 blocks_of (b ∷ bs) = (length (b ∷ bs) + 513) / 512
@@ -22,13 +22,13 @@ block_bytes [] = []
 block_bytes (b ∷ bs) = (b ∷ bs) ++ (26 ∷ 26 ∷ replicate (512 * blocks_of (b ∷ bs) - (length (b ∷ bs) + 2)) 0)
 
 -- a memo's cell, whose text is to stand at the next free block
-unfoldable pub number_cell : ℕ → List ℕ → List ℕ
-number_cell next [] = justified 10 0
-number_cell next (b ∷ bs) = justified 10 next
+unfoldable pub block_number_cell : ℕ → List ℕ → List ℕ
+block_number_cell next [] = justified 10 0
+block_number_cell next (b ∷ bs) = justified 10 next
 
 -- a cell in the file of the table, how many blocks it takes, and what stands there
 abbrev pub cell_bytes : ℕ → Field → List ℕ → List ℕ
-cell_bytes next f cell = if f.kind == MEMO then number_cell next cell else cell
+cell_bytes next f cell = if f.kind == MEMO then block_number_cell next cell else cell
 
 abbrev pub cell_blocks : Field → List ℕ → ℕ
 cell_blocks f cell = if f.kind == MEMO then blocks_of cell else 0

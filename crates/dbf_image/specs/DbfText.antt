@@ -1,18 +1,18 @@
--- The layout of a DBF file. Numbers stand with their lowest byte first, and places count from 0.
+-- The layout of a DBF file. Numbers stand with their lowest byte first, and offsets count from 0.
 use Rattle.std.specs.Prelude.{◌≡◌, ◌≢◌, ℕ, zero, suc, ◌+◌, ◌*◌, ◌<◌, ◌≤◌, ◌⊎◌, ◌==◌, true, List, [], ◌∷◌, length, map, take, drop, slice_index, Option, None, is_some, unwrap_or}
 use Rattle.std.specs.List.{before_first}
 use Rattle.byteorder.specs.Endian.{little_number}
 use Rattle.dbf_fields.specs.declared.field.Field.{Field}
 use Rattle.dbf_fields.specs.Field.{folded, widths}
 use Rattle.dbf_fields.specs.Schema as schemas
-use Rattle.dbf_image.specs.declared.table.TheConstants.{MOST_RECORDS}
+use Rattle.dbf_image.specs.declared.table.TheConstants.{MAX_RECORDS}
 use Rattle.dbf_image.specs.Table.{Row, Table, has_memos}
-use Rattle.dbf_image.specs.Memo.{TellsCells}
+use Rattle.dbf_image.specs.Memo.{EncodesCells}
 
--- so many pieces of one size, one after the other
-abbrev pub pieces : ℕ → ℕ → List ℕ → List (List ℕ)
-pieces size zero bytes = []
-pieces size (suc n) bytes = take size bytes ∷ pieces size n (drop size bytes)
+-- so many chunks of one size, one after the other
+abbrev pub chunks : ℕ → ℕ → List ℕ → List (List ℕ)
+chunks size zero bytes = []
+chunks size (suc n) bytes = take size bytes ∷ chunks size n (drop size bytes)
 
 -- the numbers of the header
 abbrev pub record_count : List ℕ → ℕ
@@ -34,36 +34,36 @@ field_of descriptor = record {
 }
 
 -- a record: a flag and the cells. A flag other than 0x2A means kept
-abbrev pub TellsRow : List ℕ → List Field → List ℕ → Row → Type 0
-TellsRow dbt fields bytes row = (row.deleted ≡ (slice_index bytes 0 == 42)) × TellsCells dbt fields (drop 1 bytes) row.cells
+abbrev pub EncodesRow : List ℕ → List Field → List ℕ → Row → Type 0
+EncodesRow dbt fields bytes row = (row.deleted ≡ (slice_index bytes 0 == 42)) × EncodesCells dbt fields (drop 1 bytes) row.cells
 
 -- one record after the other
-abbrev pub TellsRows : List ℕ → List Field → List (List ℕ) → List Row → Type 0
-TellsRows dbt fields [] [] = Unit {0}
-TellsRows dbt fields [] (r ∷ rs) = ⊥
-TellsRows dbt fields (p ∷ ps) [] = ⊥
-TellsRows dbt fields (p ∷ ps) (r ∷ rs) = TellsRow dbt fields p r × TellsRows dbt fields ps rs
+abbrev pub EncodesRows : List ℕ → List Field → List (List ℕ) → List Row → Type 0
+EncodesRows dbt fields [] [] = Unit {0}
+EncodesRows dbt fields [] (r ∷ rs) = ⊥
+EncodesRows dbt fields (p ∷ ps) [] = ⊥
+EncodesRows dbt fields (p ∷ ps) (r ∷ rs) = EncodesRow dbt fields p r × EncodesRows dbt fields ps rs
 
--- the run has the bytes of so many records and no more
-pub record IsRun (fields : List Field) (count : ℕ) (bytes : List ℕ) : Type 0 where
+-- the bytes are those of so many records and no more
+pub record AreRecords (fields : List Field) (count : ℕ) (bytes : List ℕ) : Type 0 where
   pub whole : length bytes ≡ count * (1 + widths fields)
-  pub few : count ≤ MOST_RECORDS
+  pub few : count ≤ MAX_RECORDS
 
 -- the bytes are a file of the table, with a file of its memos beside it where some field is a memo
 pub record IsDbf (bytes : List ℕ) (dbt : Option (List ℕ)) (table : Table) : Type 0 where
   pub long : 32 ≤ length bytes
   pub version : (slice_index bytes 0 ≡ 3) ⊎ (slice_index bytes 0 ≡ 131)
-  -- the first 0x0D among the bytes 32, 64, .. stands behind some descriptors and below the header's end
+  -- the first 0x0D among the bytes 32, 64, .. stands after some descriptors and below the header's end
   pub field_count : ℕ
   pub last_field : slice_index bytes (32 + 32 * field_count) ≡ 13
   pub not_before : (i : ℕ) → i < field_count → slice_index bytes (32 + 32 * i) ≢ 13
   pub in_header : 32 + 32 * field_count < header_length bytes
   -- they tell fields that a table may have
-  pub accepted : schemas.refusal (map field_of (pieces 32 field_count (drop 32 bytes))) ≡ None
-  pub schema : table.schema ≡ map folded (map field_of (pieces 32 field_count (drop 32 bytes)))
+  pub accepted : schemas.refusal (map field_of (chunks 32 field_count (drop 32 bytes))) ≡ None
+  pub schema : table.schema ≡ map folded (map field_of (chunks 32 field_count (drop 32 bytes)))
   pub wide : record_length bytes ≡ 1 + widths table.schema
-  -- the records stand behind the header, each in its place
-  pub few : record_count bytes ≤ MOST_RECORDS
+  -- the records stand after the header, one after the other
+  pub few : record_count bytes ≤ MAX_RECORDS
   pub whole : header_length bytes + record_count bytes * record_length bytes ≤ length bytes
   pub memos : has_memos table.schema ≡ true → is_some dbt ≡ true
-  pub rows : TellsRows (unwrap_or dbt []) table.schema (pieces (record_length bytes) (record_count bytes) (drop (header_length bytes) bytes)) table.rows
+  pub rows : EncodesRows (unwrap_or dbt []) table.schema (chunks (record_length bytes) (record_count bytes) (drop (header_length bytes) bytes)) table.rows

@@ -19,7 +19,7 @@ header_with version record_count header_length record_length year month day =
 abbrev pub header_bytes : Table → ℕ → ℕ → ℕ → List ℕ
 header_bytes table year month day = header_with (version_of table.schema) (length table.rows) (32 * length table.schema + 33) (1 + widths table.schema) year month day
 
--- a field's descriptor of 32 bytes: the name, zeros up to 11 bytes, the letter, and behind four zeros the width and the decimals
+-- a field's descriptor of 32 bytes: the name, zeros up to 11 bytes, the letter, and after four zeros the width and the decimals
 unfoldable pub descriptor : Field → List ℕ
 descriptor f = (f.name ++ replicate (11 - length f.name) 0) ++ (f.kind ∷ (replicate 4 0 ++ (f.width ∷ f.decimals ∷ replicate 14 0)))
 

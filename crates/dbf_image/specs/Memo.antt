@@ -6,7 +6,7 @@ use Rattle.dbf_fields.specs.declared.field.Field.{Field}
 use Rattle.dbf_fields.specs.declared.field.TheConstants.{MEMO}
 use Rattle.dbf_fields.specs.Digits.{digits_behind}
 use Rattle.dbf_fields.specs.Number.{trimmed}
-use Rattle.dbf_image.specs.declared.table.TheConstants.{MOST_MEMO_BYTES}
+use Rattle.dbf_image.specs.declared.table.TheConstants.{MAX_MEMO_BYTES}
 
 -- the block number of a memo's cell: digits between blanks and nothing else. No digits, or 0, is no memo
 unfoldable pub memo_number : List ℕ → Option ℕ
@@ -20,20 +20,20 @@ memo_at dbt block = before_first (λ b. b == 26) (drop (512 * block) dbt)
 pub record HasText (dbt : List ℕ) (block : ℕ) (text : List ℕ) : Type 0 where
   pub some : 0 < block
   pub inside : 512 * block < length dbt
-  pub short : length text ≤ MOST_MEMO_BYTES
+  pub short : length text ≤ MAX_MEMO_BYTES
   pub text_is : memo_at dbt block ≡ text
 
 -- a memo's cell tells no memo, or the number of a block with the text
-abbrev pub TellsMemo : List ℕ → List ℕ → List ℕ → Type 0
-TellsMemo dbt bytes text = ((memo_number bytes ≡ Some 0) × (text ≡ [])) ⊎ ((block : ℕ) × (memo_number bytes ≡ Some block) × HasText dbt block text)
+abbrev pub EncodesMemo : List ℕ → List ℕ → List ℕ → Type 0
+EncodesMemo dbt bytes text = ((memo_number bytes ≡ Some 0) × (text ≡ [])) ⊎ ((block : ℕ) × (memo_number bytes ≡ Some block) × HasText dbt block text)
 
 -- what the bytes of a cell tell: a memo, or the cell as it is
-abbrev pub TellsCell : List ℕ → Field → List ℕ → List ℕ → Type 0
-TellsCell dbt f bytes cell = (f.kind ≡ MEMO → TellsMemo dbt bytes cell) × (f.kind ≢ MEMO → cell ≡ bytes)
+abbrev pub EncodesCell : List ℕ → Field → List ℕ → List ℕ → Type 0
+EncodesCell dbt f bytes cell = (f.kind ≡ MEMO → EncodesMemo dbt bytes cell) × (f.kind ≢ MEMO → cell ≡ bytes)
 
 -- the same of all cells of a record, which stand without separators
-abbrev pub TellsCells : List ℕ → List Field → List ℕ → List (List ℕ) → Type 0
-TellsCells dbt [] bytes [] = Unit {0}
-TellsCells dbt [] bytes (c ∷ cs) = ⊥
-TellsCells dbt (f ∷ fs) bytes [] = ⊥
-TellsCells dbt (f ∷ fs) bytes (c ∷ cs) = TellsCell dbt f (take f.width bytes) c × TellsCells dbt fs (drop f.width bytes) cs
+abbrev pub EncodesCells : List ℕ → List Field → List ℕ → List (List ℕ) → Type 0
+EncodesCells dbt [] bytes [] = Unit {0}
+EncodesCells dbt [] bytes (c ∷ cs) = ⊥
+EncodesCells dbt (f ∷ fs) bytes [] = ⊥
+EncodesCells dbt (f ∷ fs) bytes (c ∷ cs) = EncodesCell dbt f (take f.width bytes) c × EncodesCells dbt fs (drop f.width bytes) cs

@@ -7,11 +7,11 @@ use Rattle.dbf_fields.specs.Field.{folded, widths}
 use Rattle.dbf_fields.specs.Schema as schemas
 use Rattle.dbf_image.specs.declared.fault.ImageFault.{ImageFault}
 use Rattle.dbf_image.specs.declared.fault.ImageFault.TheVariants.{Truncated, BadVersion, BadHeaderLength, BadSchema, BadRecordLength, TooManyRecords, MemoFileMissing, BadMemoNumber, MemoOutside, MemoTooLong, NoMemory}
-use Rattle.dbf_image.specs.declared.table.TheConstants.{MOST_RECORDS, MOST_MEMO_BYTES}
+use Rattle.dbf_image.specs.declared.table.TheConstants.{MAX_RECORDS, MAX_MEMO_BYTES}
 use Rattle.dbf_image.specs.declared.header.Header.{Header}
 use Rattle.dbf_image.specs.Table.{Row, Table, has_memos}
 use Rattle.dbf_image.specs.Memo.{memo_number, memo_at}
-use Rattle.dbf_image.specs.DbfText.{pieces, record_count, header_length, record_length, field_of}
+use Rattle.dbf_image.specs.DbfText.{chunks, record_count, header_length, record_length, field_of}
 
 -- the first of the n numbers from i on that passes the test
 abbrev pub first_from : (ℕ → Bool) → ℕ → ℕ → Option ℕ
@@ -24,7 +24,7 @@ field_count bytes = first_from (λ i. slice_index bytes (32 + 32 * i) == 13) 0 (
 
 -- the fields as their descriptors tell them
 abbrev pub fields_of : List ℕ → List Field
-fields_of bytes = map field_of (pieces 32 (unwrap_or (field_count bytes) 0) (drop 32 bytes))
+fields_of bytes = map field_of (chunks 32 (unwrap_or (field_count bytes) 0) (drop 32 bytes))
 
 abbrev pub schema_of : List ℕ → List Field
 schema_of bytes = map folded (fields_of bytes)
@@ -56,11 +56,11 @@ early_refusal bytes = first_fault (header_tests bytes ++ ((is_some (field_count 
 unfoldable pub record_tests : List ℕ → List (Bool × ImageFault)
 record_tests bytes =
     (record_length bytes == 1 + widths (schema_of bytes), BadRecordLength)
-    ∷ (nat_le (record_count bytes) MOST_RECORDS, TooManyRecords)
+    ∷ (nat_le (record_count bytes) MAX_RECORDS, TooManyRecords)
     ∷ (nat_le (header_length bytes + record_count bytes * record_length bytes) (length bytes), Truncated)
     ∷ []
 
--- the block begins in the file of memos, behind its header
+-- the block begins in the file of memos, after its header
 abbrev pub is_block : List ℕ → ℕ → Bool
 is_block dbt block = nat_lt 0 block && nat_lt (512 * block) (length dbt)
 
@@ -68,7 +68,7 @@ is_block dbt block = nat_lt 0 block && nat_lt (512 * block) (length dbt)
 unfoldable pub text_tests : List ℕ → ℕ → List (Bool × ImageFault)
 text_tests dbt block =
     (is_block dbt block, MemoOutside)
-    ∷ (nat_le (length (memo_at dbt block)) MOST_MEMO_BYTES, MemoTooLong)
+    ∷ (nat_le (length (memo_at dbt block)) MAX_MEMO_BYTES, MemoTooLong)
     ∷ []
 
 -- the tests of a memo's cell, and its text where they pass
@@ -92,20 +92,20 @@ abbrev pub cells_tests : List ℕ → List Field → List ℕ → List (Bool × 
 cells_tests dbt [] bytes = []
 cells_tests dbt (f ∷ fs) bytes = cell_tests dbt f (take f.width bytes) ++ cells_tests dbt fs (drop f.width bytes)
 
-abbrev pub cells_told : List ℕ → List Field → List ℕ → List (List ℕ)
-cells_told dbt [] bytes = []
-cells_told dbt (f ∷ fs) bytes = cell_text dbt f (take f.width bytes) ∷ cells_told dbt fs (drop f.width bytes)
+abbrev pub cells_read : List ℕ → List Field → List ℕ → List (List ℕ)
+cells_read dbt [] bytes = []
+cells_read dbt (f ∷ fs) bytes = cell_text dbt f (take f.width bytes) ∷ cells_read dbt fs (drop f.width bytes)
 
 -- and of a record
 abbrev pub row_tests : List ℕ → List Field → List ℕ → List (Bool × ImageFault)
 row_tests dbt fields bytes = cells_tests dbt fields (drop 1 bytes)
 
-abbrev pub row_told : List ℕ → List Field → List ℕ → Row
-row_told dbt fields bytes = record { deleted = slice_index bytes 0 == 42; cells = cells_told dbt fields (drop 1 bytes) }
+abbrev pub row_read : List ℕ → List Field → List ℕ → Row
+row_read dbt fields bytes = record { deleted = slice_index bytes 0 == 42; cells = cells_read dbt fields (drop 1 bytes) }
 
--- the records, each in its place
+-- the records, one after the other
 abbrev pub records_of : List ℕ → List (List ℕ)
-records_of bytes = pieces (record_length bytes) (record_count bytes) (drop (header_length bytes) bytes)
+records_of bytes = chunks (record_length bytes) (record_count bytes) (drop (header_length bytes) bytes)
 
 -- and last of the memos, of all records in their order
 unfoldable pub memos_tests : List ℕ → Option (List ℕ) → List (Bool × ImageFault)
@@ -122,12 +122,12 @@ abbrev pub IsRefusal : ImageFault → List ℕ → Option (List ℕ) → Type 0
 IsRefusal fault bytes dbt = (fault ≡ NoMemory) ⊎ (refusal bytes dbt ≡ Some fault)
 
 -- the numbers of the header, as the code keeps them
-abbrev pub header_of : List ℕ → Header
-header_of bytes = record { header_length = header_length bytes; record_length = record_length bytes; record_count = record_count bytes }
+abbrev pub dbf_header : List ℕ → Header
+dbf_header bytes = record { header_length = header_length bytes; record_length = record_length bytes; record_count = record_count bytes }
 
 -- the table, where no test fails
-abbrev pub table_of : List ℕ → Option (List ℕ) → Table
-table_of bytes dbt = record {
+abbrev pub table_read : List ℕ → Option (List ℕ) → Table
+table_read bytes dbt = record {
   schema = schema_of bytes;
-  rows = map (row_told (unwrap_or dbt []) (schema_of bytes)) (records_of bytes);
+  rows = map (row_read (unwrap_or dbt []) (schema_of bytes)) (records_of bytes);
 }

@@ -10,9 +10,9 @@ use Rattle.dbf_image.specs.Table.{has_memos}
 use Rattle.dbf_image.specs.Memo.{memo_number}
 use Rattle.dbf_image.specs.Reading.{row_tests}
 
--- where the first 0x1A stands at or behind a place, or the file's end
+-- where the first 0x1A stands at or after an offset, or the file's end
 abbrev pub end_at : List ℕ → ℕ → ℕ
-end_at dbt place = place + position_or_len (λ b. b == 26) (drop place dbt)
+end_at dbt offset = offset + position_or_len (λ b. b == 26) (drop offset dbt)
 
 -- the same for the heads of all blocks
 pub record AreEnds (dbt ends : List ℕ) : Type 0 where

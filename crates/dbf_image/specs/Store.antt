@@ -1,4 +1,4 @@
--- The rows of a table whose records stand in one run of bytes and its memos' texts in another.
+-- The rows of a table whose records stand in one list of bytes and its memos' texts in another.
 use Rattle.std.specs.Prelude.{◌≡◌, ℕ, suc, ◌+◌, ◌*◌, ◌≤◌, true, ◌==◌, List, [], ◌∷◌, length, map, take, drop, slice_index, if◌then◌else◌}
 use Rattle.std.specs.List.{AllByRecursion}
 use Rattle.dbf_fields.specs.declared.field.Field.{Field}
@@ -6,7 +6,7 @@ use Rattle.dbf_fields.specs.declared.field.TheConstants.{MEMO}
 use Rattle.dbf_fields.specs.Field.{widths}
 use Rattle.dbf_image.specs.declared.span.Span.{Span}
 use Rattle.dbf_image.specs.Table.{Row, is_memo_text}
-use Rattle.dbf_image.specs.DbfText.{pieces, IsRun}
+use Rattle.dbf_image.specs.DbfText.{chunks, AreRecords}
 
 -- a part of the texts
 abbrev pub text_of : List ℕ → Span → List ℕ
@@ -47,12 +47,12 @@ abbrev pub rows_with : List Field → List (List ℕ) → List (List ℕ) → Li
 rows_with fields [] memos = []
 rows_with fields (p ∷ ps) memos = row_with fields p memos ∷ rows_with fields ps (drop (memo_count fields) memos)
 
--- the rows of so many records in a run of bytes
+-- the rows of so many records in a list of bytes
 abbrev pub rows_of : List Field → ℕ → List ℕ → List (List ℕ) → List Row
-rows_of fields count bytes memos = rows_with fields (pieces (1 + widths fields) count bytes) memos
+rows_of fields count bytes memos = rows_with fields (chunks (1 + widths fields) count bytes) memos
 
 -- the runs have so many records, and a text for each memo
 pub record IsStore (fields : List Field) (count : ℕ) (bytes texts : List ℕ) (spans : List Span) : Type 0 where
-  pub run : IsRun fields count bytes
+  pub records : AreRecords fields count bytes
   pub many : length spans ≡ count * memo_count fields
   pub each : AllByRecursion (IsSpan texts) spans

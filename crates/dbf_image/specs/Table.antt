@@ -1,10 +1,10 @@
--- What a table is, and what a change makes of it. Records count from 1, fields are places from 0.
+-- What a table is, and what a change makes of it. Records count from 1, fields have an index from 0.
 use Rattle.std.specs.Prelude.{◌≡◌, ◌≢◌, ℕ, ◌-◌, ◌≤◌, Bool, true, false, not, ◌&&◌, ◌==◌, nat_le, if◌then◌else◌, List, [], ◌∷◌, ◌++◌, length, map, replicate, slice_index, slice_index_or, slice_set}
 use Rattle.std.specs.List.{list_all, list_any, AllByRecursion}
 use Rattle.dbf_fields.specs.declared.field.Field.{Field}
 use Rattle.dbf_fields.specs.declared.field.TheConstants.{MEMO}
 use Rattle.dbf_fields.specs.Schema.{IsSchema}
-use Rattle.dbf_image.specs.declared.table.TheConstants.{MOST_RECORDS, MOST_MEMO_BYTES}
+use Rattle.dbf_image.specs.declared.table.TheConstants.{MAX_RECORDS, MAX_MEMO_BYTES}
 
 -- a record: whether it is marked as deleted, and its cells. The cell of a memo is the memo's text
 pub record Row : Type 0 where
@@ -22,7 +22,7 @@ has_memos fields = list_any (λ f. f.kind == MEMO) fields
 
 -- a text that a memo may have: short, and without the byte that ends a memo
 abbrev pub is_memo_text : List ℕ → Bool
-is_memo_text text = nat_le (length text) MOST_MEMO_BYTES && list_all (λ b. not (b == 26)) text
+is_memo_text text = nat_le (length text) MAX_MEMO_BYTES && list_all (λ b. not (b == 26)) text
 
 -- a cell that a field may have: a memo's text, or as many bytes as the field is wide
 abbrev pub IsCell : Field → List ℕ → Type 0
@@ -41,7 +41,7 @@ IsRow fields row = AreCells fields row.cells
 -- what is true of every table
 pub record IsTable (table : Table) : Type 0 where
   pub fields : IsSchema table.schema
-  pub few : length table.rows ≤ MOST_RECORDS
+  pub few : length table.rows ≤ MAX_RECORDS
   pub fit : AllByRecursion (IsRow table.schema) table.rows
 
 -- the letter of a field's kind
@@ -72,7 +72,7 @@ cell_at table number field = slice_index_or (row_at table number).cells field []
 abbrev pub empty_table : List Field → Table
 empty_table fields = record { schema = fields; rows = [] }
 
--- the table with one more record behind the others
+-- the table with one more record after the others
 abbrev pub with_row : Table → Row → Table
 with_row table row = record { schema = table.schema; rows = table.rows ++ row ∷ [] }
 

@@ -2,7 +2,7 @@
 
 ghost use Rattle.std.specs.Prelude.{◌≡◌, ◌+◌, ◌*◌, ◌%◌, ◌≤◌, ◌==◌, ℕ, List, length, nat_le, if◌then◌else◌, Option, Some, None, sum_by};
 ghost use Rattle.std.specs.List.{AllByRecursion};
-ghost use Rattle.dbf_image.specs.Blocks.{justified, blocks_of, number_cell as number_bytes, next_free};
+ghost use Rattle.dbf_image.specs.Blocks.{justified, blocks_of, block_number_cell as number_bytes, next_free};
 ghost use Rattle.dbf_image.specs.Store.{text_of, IsSpan};
 
 use crate::span::{Span, text_at};
@@ -10,7 +10,7 @@ use crate::store::Store;
 use crate::table::TableData;
 
 /// A memo's text.
-pub(crate) fn memo_at<'a>(texts: &'a [u8], span: &Span) -> &'a [u8]
+pub(crate) fn memo_text<'a>(texts: &'a [u8], span: &Span) -> &'a [u8]
     requires { IsSpan texts.now span.now }
     ensures value { result.now ≡ text_of texts.now span.now }
     ensures short { length result.now ≤ 65535 }
@@ -59,7 +59,7 @@ fn justified_number(number: u64) -> [u8; 10]
 
 /// The cell of a memo whose text is to stand at the next free block: that number, or blanks where there
 /// is no text.
-pub(crate) fn number_cell(next: u64, text: &[u8]) -> [u8; 10]
+pub(crate) fn block_number_cell(next: u64, text: &[u8]) -> [u8; 10]
     ensures value { result ≡ number_bytes next text.now }
 {
     if text.is_empty() {
@@ -69,15 +69,15 @@ pub(crate) fn number_cell(next: u64, text: &[u8]) -> [u8; 10]
     }
 }
 
-// The next free block behind those of all texts.
-fn blocks_behind(store: Store<'_>) -> u64
+// The next free block after those of all texts.
+fn blocks_after(store: Store<'_>) -> u64
     requires few { length store.memos.now ≤ 128000000000 }
     requires each { AllByRecursion (IsSpan store.texts.now) store.memos.now }
     ensures value { result ≡ 1 + sum_by (λ span. blocks_of (text_of store.entry.texts.now span)) store.entry.memos.now }
 {
     let mut next: u64 = 1;
     for span in store.memos {
-        next += block_count(memo_at(store.texts, span));
+        next += block_count(memo_text(store.texts, span));
     }
     next
 }
@@ -88,7 +88,7 @@ pub fn next_free_block(table: &TableData) -> Option<u32>
     ensures value { result ≡ (if nat_le (next_free table.now) 4294967295 then Some (next_free table.now) else None) }
 {
     let _count = table.record_count();
-    let next = blocks_behind(table.store());
+    let next = blocks_after(table.store());
     if next <= 4_294_967_295 {
         Some(next as u32)
     } else {

@@ -1,4 +1,4 @@
-//! Small pieces are gathered before they go to a sink, and take no memory while they wait.
+//! Small chunks are gathered before they go to a sink, and take no memory while they wait.
 #![tactic(auto, using(crate::proofs::Sinks::sinks))]
 
 ghost use Rattle.std.specs.Prelude.{◌≡◌, [], OnOk, OnErr};
@@ -24,14 +24,14 @@ pub(crate) fn send<S: ByteSink>(sink: &mut S, waiting: &mut Waiting) -> Result<(
     Ok(())
 }
 
-/// Lets bytes wait behind those that wait already, and sends to the sink what has no room. An error
+/// Lets bytes wait after those that wait already, and sends to the sink what has no room. An error
 /// where the sink fails, which has then a front part of what it was to have.
 pub(crate) fn gather<S: ByteSink>(
     sink: &mut S,
     waiting: &mut Waiting,
     bytes: &[u8],
 ) -> Result<(), SinkFault>
-    ensures told { OnOk result (grown (S.written sink.new) waiting.new.items ≡ grown (grown (S.written sink.old) waiting.old.items) bytes.now) }
+    ensures put { OnOk result (grown (S.written sink.new) waiting.new.items ≡ grown (grown (S.written sink.old) waiting.old.items) bytes.now) }
     ensures fine { OnOk result (S.failures sink.new ≡ S.failures sink.old) }
     ensures failed { OnErr result (Rises (S.failures sink.old) (S.failures sink.new)) }
     ensures kept { IsFront (S.written sink.old) (S.written sink.new) }

@@ -23,7 +23,7 @@ pub enum ImageFault {
     /// The length of a record is not one more than the widths of the fields together.
     #[error("the records' length is bad")]
     BadRecordLength,
-    /// There are more than [`MOST_RECORDS`](crate::MOST_RECORDS) records.
+    /// There are more than [`MAX_RECORDS`](crate::MAX_RECORDS) records.
     #[error("there are too many records")]
     TooManyRecords,
     /// A field is a memo, and there is no file of memos.
@@ -32,10 +32,10 @@ pub enum ImageFault {
     /// A memo's cell is neither blank nor the number of a block in digits.
     #[error("a memo's number is bad")]
     BadMemoNumber,
-    /// A memo's block does not begin in the file of memos, behind its header.
+    /// A memo's block does not begin in the file of memos, after its header.
     #[error("a memo is outside its file")]
     MemoOutside,
-    /// A memo's text is over [`MOST_MEMO_BYTES`](crate::MOST_MEMO_BYTES) bytes long.
+    /// A memo's text is over [`MAX_MEMO_BYTES`](crate::MAX_MEMO_BYTES) bytes long.
     #[error("a memo is too long")]
     MemoTooLong,
     /// There was no memory for the table.

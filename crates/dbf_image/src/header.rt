@@ -15,7 +15,7 @@ pub(crate) struct Header {
 }
 
 /// The numbers of the header that is written of a table.
-pub(crate) fn header_of(table: &TableData) -> Header
+pub(crate) fn dbf_header(table: &TableData) -> Header
     ensures count { result.record_count ≡ length table.now.rows }
     ensures header { result.header_length ≡ 32 * length table.now.schema + 33 }
     ensures wide { result.record_length ≡ 1 + widths table.now.schema }

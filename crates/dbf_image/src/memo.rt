@@ -10,7 +10,7 @@ ghost use Rattle.dbf_image.specs.Spans.{end_at, AreEnds, span_of};
 
 use crate::fault::ImageFault;
 use crate::span::Span;
-use crate::table::MOST_MEMO_BYTES;
+use crate::table::MAX_MEMO_BYTES;
 use dbf_fields::{Bytes, are_digits, number_of_digits, trimmed};
 use memchr::memchr;
 use std::alloc::{AllocError, Global};
@@ -37,7 +37,7 @@ fn first_end(bytes: &[u8]) -> usize
     memchr(0x1a, bytes).unwrap_or(bytes.len())
 }
 
-// Whether a block begins in the file, behind the header's.
+// Whether a block begins in the file, after the header's.
 fn has_block(dbt: &[u8], block: u64) -> bool
     ensures value { result ≡ is_block dbt.now block }
 {
@@ -53,9 +53,9 @@ fn end_from(dbt: &[u8], from: usize, to: usize, end: usize) -> usize
 {
     let (front, _) = dbt.split_at(to);
     let (_, part) = front.split_at(from);
-    let place = first_end(part);
-    if place < part.len() {
-        from + place
+    let offset = first_end(part);
+    if offset < part.len() {
+        from + offset
     } else {
         end
     }
@@ -92,7 +92,7 @@ pub(crate) fn span_at(dbt: &[u8], ends: &[usize], block: u64) -> Result<Span, Im
     }
     let start = 512 * block as usize;
     let length = ends[block as usize] - start;
-    if length > MOST_MEMO_BYTES {
+    if length > MAX_MEMO_BYTES {
         return Err(ImageFault::MemoTooLong);
     }
     Ok(Span { start, length })
@@ -110,7 +110,7 @@ fn block_text(dbt: &[u8], block: u64) -> Result<&[u8], ImageFault>
     }
     let (_, rest) = dbt.split_at(512 * block as usize);
     let (text, _) = rest.split_at(first_end(rest));
-    if text.len() > MOST_MEMO_BYTES {
+    if text.len() > MAX_MEMO_BYTES {
         return Err(ImageFault::MemoTooLong);
     }
     Ok(text)

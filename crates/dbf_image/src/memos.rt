@@ -6,9 +6,9 @@ ghost use Rattle.dbf_fields.specs.Faults.{first_fault};
 ghost use Rattle.dbf_fields.specs.Field.{widths};
 ghost use Rattle.dbf_fields.specs.Schema.{IsSchema};
 ghost use Rattle.dbf_image.specs.Table.{has_memos as some_memo};
-ghost use Rattle.dbf_image.specs.DbfText.{pieces, IsRun};
+ghost use Rattle.dbf_image.specs.DbfText.{chunks, AreRecords};
 ghost use Rattle.dbf_image.specs.Store.{texts_of, rows_of, IsStore};
-ghost use Rattle.dbf_image.specs.Reading.{memo_tests, cell_tests, cells_tests, row_tests, row_told};
+ghost use Rattle.dbf_image.specs.Reading.{memo_tests, cell_tests, cells_tests, row_tests, row_read};
 ghost use Rattle.dbf_image.specs.Spans.{AreEnds, memo_span, cell_spans, cells_spans, row_spans, table_tests};
 
 use crate::fault::ImageFault;
@@ -91,9 +91,9 @@ fn all_spans(
     requires schema { IsSchema fields.now }
     requires size { size ≡ 1 + widths fields.now }
     requires room { count * size ≤ length bytes.now }
-    ensures accepted { IfOk result (λ _. first_fault (flat_map (row_tests dbt.now fields.now) (pieces size count bytes.now)) ≡ None) }
-    ensures value { IfOk result (λ spans. spans.items ≡ flat_map (row_spans dbt.now fields.now) (pieces size count bytes.now)) }
-    ensures refused { IfErr result (λ fault. (fault ≡ ImageFault.NoMemory) ⊎ (first_fault (flat_map (row_tests dbt.now fields.now) (pieces size count bytes.now)) ≡ Some fault)) }
+    ensures accepted { IfOk result (λ _. first_fault (flat_map (row_tests dbt.now fields.now) (chunks size count bytes.now)) ≡ None) }
+    ensures value { IfOk result (λ spans. spans.items ≡ flat_map (row_spans dbt.now fields.now) (chunks size count bytes.now)) }
+    ensures refused { IfErr result (λ fault. (fault ≡ ImageFault.NoMemory) ⊎ (first_fault (flat_map (row_tests dbt.now fields.now) (chunks size count bytes.now)) ≡ Some fault)) }
 {
     let ends = block_ends(alloc, dbt)?;
     let mut spans = Vec::new(alloc);
@@ -122,11 +122,11 @@ fn memos_in(
     count: u32,
     bytes: &[u8],
 ) -> Result<(Vec<u8>, Vec<Span>), ImageFault>
-    requires { IsRun schema.now count bytes.now }
-    ensures accepted { IfOk result (λ _. first_fault (flat_map (row_tests dbt.now schema.now) (pieces (1 + widths schema.now) count bytes.now)) ≡ None) }
-    ensures value { IfOk result (λ memos. rows_of schema.now count bytes.now (texts_of memos.0.items memos.1.items) ≡ map (row_told dbt.now schema.now) (pieces (1 + widths schema.now) count bytes.now)) }
+    requires { AreRecords schema.now count bytes.now }
+    ensures accepted { IfOk result (λ _. first_fault (flat_map (row_tests dbt.now schema.now) (chunks (1 + widths schema.now) count bytes.now)) ≡ None) }
+    ensures value { IfOk result (λ memos. rows_of schema.now count bytes.now (texts_of memos.0.items memos.1.items) ≡ map (row_read dbt.now schema.now) (chunks (1 + widths schema.now) count bytes.now)) }
     ensures kept { IfOk result (λ memos. IsStore schema.now count bytes.now memos.0.items memos.1.items) }
-    ensures refused { IfErr result (λ fault. (fault ≡ ImageFault.NoMemory) ⊎ (first_fault (flat_map (row_tests dbt.now schema.now) (pieces (1 + widths schema.now) count bytes.now)) ≡ Some fault)) }
+    ensures refused { IfErr result (λ fault. (fault ≡ ImageFault.NoMemory) ⊎ (first_fault (flat_map (row_tests dbt.now schema.now) (chunks (1 + widths schema.now) count bytes.now)) ≡ Some fault)) }
 {
     let size = schema.record_length();
     let spans = all_spans(alloc, dbt, schema.fields(), size, count, bytes)?;
@@ -143,11 +143,11 @@ pub(crate) fn memos_at(
     count: u32,
     bytes: &[u8],
 ) -> Result<(Vec<u8>, Vec<Span>), ImageFault>
-    requires { IsRun schema.now count bytes.now }
-    ensures accepted { IfOk result (λ _. first_fault (table_tests (option_copied dbt.entry) schema.now (pieces (1 + widths schema.now) count bytes.now)) ≡ None) }
-    ensures value { IfOk result (λ memos. rows_of schema.now count bytes.now (texts_of memos.0.items memos.1.items) ≡ map (row_told (unwrap_or (option_copied dbt.entry) []) schema.now) (pieces (1 + widths schema.now) count bytes.now)) }
+    requires { AreRecords schema.now count bytes.now }
+    ensures accepted { IfOk result (λ _. first_fault (table_tests (option_copied dbt.entry) schema.now (chunks (1 + widths schema.now) count bytes.now)) ≡ None) }
+    ensures value { IfOk result (λ memos. rows_of schema.now count bytes.now (texts_of memos.0.items memos.1.items) ≡ map (row_read (unwrap_or (option_copied dbt.entry) []) schema.now) (chunks (1 + widths schema.now) count bytes.now)) }
     ensures kept { IfOk result (λ memos. IsStore schema.now count bytes.now memos.0.items memos.1.items) }
-    ensures refused { IfErr result (λ fault. (fault ≡ ImageFault.NoMemory) ⊎ (first_fault (table_tests (option_copied dbt.entry) schema.now (pieces (1 + widths schema.now) count bytes.now)) ≡ Some fault)) }
+    ensures refused { IfErr result (λ fault. (fault ≡ ImageFault.NoMemory) ⊎ (first_fault (table_tests (option_copied dbt.entry) schema.now (chunks (1 + widths schema.now) count bytes.now)) ≡ Some fault)) }
 {
     if !has_memos(schema.fields()) {
         return Ok((Vec::new(alloc), Vec::new(alloc)));

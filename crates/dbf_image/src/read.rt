@@ -6,16 +6,16 @@ ghost use Rattle.std.specs.Option.{option_copied};
 ghost use Rattle.dbf_fields.specs.Faults.{first_fault};
 ghost use Rattle.dbf_fields.specs.Field.{folded, widths};
 ghost use Rattle.dbf_fields.specs.Schema as schemas;
-ghost use Rattle.dbf_image.specs.DbfText.{pieces, field_of, IsDbf, header_length as dbf_header_length};
+ghost use Rattle.dbf_image.specs.DbfText.{chunks, field_of, IsDbf, header_length as dbf_header_length};
 ghost use Rattle.dbf_image.specs.Table.{Table};
 ghost use Rattle.dbf_image.specs.declared.fault.ImageFault.{ImageFault};
-ghost use Rattle.dbf_image.specs.declared.table.TheConstants.{MOST_RECORDS};
-ghost use Rattle.dbf_image.specs.Reading.{field_count, header_of, schema_of, header_tests, field_tests, record_tests, early_refusal, table_of, refusal, IsRefusal};
+ghost use Rattle.dbf_image.specs.declared.table.TheConstants.{MAX_RECORDS};
+ghost use Rattle.dbf_image.specs.Reading.{field_count, dbf_header, schema_of, header_tests, field_tests, record_tests, early_refusal, table_read, refusal, IsRefusal};
 
 use crate::fault::ImageFault;
 use crate::header::Header;
 use crate::memos::memos_at;
-use crate::table::{MOST_RECORDS, TableData};
+use crate::table::{MAX_RECORDS, TableData};
 use byteorder::{ByteOrder, LittleEndian};
 use dbf_fields::{Bytes, Field, Schema, SchemaFault};
 use std::alloc::{AllocError, Global};
@@ -60,7 +60,7 @@ fn field_at(alloc: Global, descriptor: &[u8]) -> Result<Field, AllocError>
 // The fields of so many descriptors, one after the other.
 fn fields_at(alloc: Global, count: usize, bytes: &[u8]) -> Result<Vec<Field>, AllocError>
     requires { 32 * count ≤ length bytes.now }
-    ensures { IfOk result (λ fields. fields.items ≡ map field_of (pieces 32 count bytes.now)) }
+    ensures { IfOk result (λ fields. fields.items ≡ map field_of (chunks 32 count bytes.now)) }
 {
     let mut fields = Vec::new(alloc);
     let mut rest = bytes;
@@ -77,7 +77,7 @@ fn fields_at(alloc: Global, count: usize, bytes: &[u8]) -> Result<Vec<Field>, Al
 fn header_at(dbf: &[u8]) -> Result<Header, ImageFault>
     ensures accepted { IfOk result (λ _. first_fault (header_tests dbf.now) ≡ None) }
     ensures refused { IfErr result (λ fault. first_fault (header_tests dbf.now) ≡ Some fault) }
-    ensures value { IfOk result (λ header. header ≡ header_of dbf.now) }
+    ensures value { IfOk result (λ header. header ≡ dbf_header dbf.now) }
     ensures long { OnOk result (32 ≤ length dbf.now) }
     ensures inside { IfOk result (λ header. header.header_length ≤ length dbf.now) }
 {
@@ -140,18 +140,18 @@ fn schema_of_fields(alloc: Global, fields: &[Field]) -> Result<Schema, ImageFaul
 // The tests of the records, whose length the schema gives.
 #[tactic(auto, unfolding(crate::specs::Reading::record_tests))]
 fn check_records(dbf: &[u8], header: Header, record_length: usize) -> Result<(), ImageFault>
-    requires value { header ≡ header_of dbf.now }
+    requires value { header ≡ dbf_header dbf.now }
     requires wide { record_length ≡ 1 + widths (schema_of dbf.now) }
     ensures accepted { OnOk result (first_fault (record_tests dbf.now) ≡ None) }
     ensures refused { IfErr result (λ fault. first_fault (record_tests dbf.now) ≡ Some fault) }
     ensures wide { OnOk result (header.record_length ≡ record_length) }
-    ensures few { OnOk result (header.record_count ≤ MOST_RECORDS) }
+    ensures few { OnOk result (header.record_count ≤ MAX_RECORDS) }
     ensures whole { OnOk result (header.header_length + header.record_count * header.record_length ≤ length dbf.now) }
 {
     if usize::from(header.record_length) != record_length {
         return Err(ImageFault::BadRecordLength);
     }
-    if header.record_count > MOST_RECORDS {
+    if header.record_count > MAX_RECORDS {
         return Err(ImageFault::TooManyRecords);
     }
     let size = u64::from(header.record_count) * u64::from(header.record_length);
@@ -162,7 +162,7 @@ fn check_records(dbf: &[u8], header: Header, record_length: usize) -> Result<(),
 }
 
 // The bytes of all records.
-fn run_at(dbf: &[u8], header: Header) -> &[u8]
+fn records_at(dbf: &[u8], header: Header) -> &[u8]
     requires { header.header_length + header.record_count * header.record_length ≤ length dbf.now }
     ensures { result.now ≡ take (header.record_count * header.record_length) (drop header.header_length dbf.now) }
 {
@@ -175,7 +175,7 @@ fn run_at(dbf: &[u8], header: Header) -> &[u8]
 // The table that the bytes tell, or the first test that fails.
 fn table_at(alloc: Global, dbf: &[u8], dbt: Option<&[u8]>) -> Result<TableData, ImageFault>
     ensures accepted { IfOk result (λ _. refusal dbf.now (option_copied dbt.entry) ≡ None) }
-    ensures value { IfOk result (λ table. table ≡ table_of dbf.now (option_copied dbt.entry)) }
+    ensures value { IfOk result (λ table. table ≡ table_read dbf.now (option_copied dbt.entry)) }
     ensures refused { IfErr result (λ fault. IsRefusal fault dbf.now (option_copied dbt.entry)) }
     ensures early { IfErr result (λ fault. (first : ImageFault) → early_refusal dbf.now ≡ Some first → fault ≡ first) }
 {
@@ -184,9 +184,9 @@ fn table_at(alloc: Global, dbf: &[u8], dbt: Option<&[u8]>) -> Result<TableData, 
     let schema = schema_at(alloc, dbf, start)?;
     let size = schema.record_length();
     check_records(dbf, header, size)?;
-    let run = run_at(dbf, header);
-    let (texts, memos) = memos_at(alloc, dbt, &schema, header.record_count, run)?;
-    let records = Vec::from_slice(alloc, run)?;
+    let bytes = records_at(dbf, header);
+    let (texts, memos) = memos_at(alloc, dbt, &schema, header.record_count, bytes)?;
+    let records = Vec::from_slice(alloc, bytes)?;
     Ok(TableData::new(schema, header.record_count, records, texts, memos))
 }
 
@@ -195,9 +195,9 @@ fn table_at(alloc: Global, dbf: &[u8], dbt: Option<&[u8]>) -> Result<TableData, 
 ///
 /// The header tells its own length in bytes 8 and 9, the length of a record in 10 and 11, and how many
 /// records there are in 4 to 7. From byte 32 on a descriptor of 32 bytes tells each field, up to a byte
-/// 0x0D in place of one. The records stand behind the header: a flag, and the cells without separators.
-/// Ignored are the date, the reserved bytes, what stands behind a name's first zero, what stands between
-/// that 0x0D and the header's end, and what stands behind the last record: the closing 0x1A may be
+/// 0x0D in place of one. The records stand after the header: a flag, and the cells without separators.
+/// Ignored are the date, the reserved bytes, what stands after a name's first zero, what stands between
+/// that 0x0D and the header's end, and what stands after the last record: the closing 0x1A may be
 /// missing. A flag other than 0x2A means kept, and cells are kept as they are.
 ///
 /// A memo's cell has the number of a block of 512 bytes between blanks, or none or 0 for no memo. The

@@ -1,4 +1,4 @@
-//! Where bytes are written to.
+//! What bytes are written to.
 #![tactic(auto, using(crate::proofs::Sinks::sinks))]
 
 ghost use Rattle.std.specs.Prelude.{◌≡◌, ◌<◌, ◌≤◌, length, take, IfOk, OnOk, OnErr, List, ℕ, Option};
@@ -11,7 +11,7 @@ use thiserror::Error;
 #[error("the sink failed")]
 pub struct SinkFault;
 
-/// A place that bytes are written to, one after the other, as a file or memory.
+/// Something that bytes are written to, one after the other, as a file or memory.
 ///
 /// A type says by two ghost members what contracts may know of its values. Both are options: a sink
 /// over memory knows what has been written to it, and a real file, whose bytes are no function of its

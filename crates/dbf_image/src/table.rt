@@ -5,9 +5,9 @@ ghost use Rattle.std.specs.List.{list_all};
 ghost use Rattle.dbf_fields.specs.Field.{widths};
 ghost use Rattle.dbf_image.specs.Table.{IsTable, is_memo_text as may_be_memo, kind_at, cell_width, blank_row, row_at, cell_at, empty_table, with_row, with_cell};
 ghost use Rattle.dbf_image.specs.Store.{texts_of, row_with, rows_of, IsStore};
-ghost use Rattle.dbf_image.specs.declared.table.TheConstants.{MOST_RECORDS};
+ghost use Rattle.dbf_image.specs.declared.table.TheConstants.{MAX_RECORDS};
 
-use crate::places::{cell_start, memo_count_of, memo_place, record_start};
+use crate::offsets::{cell_start, memo_count_of, memo_index, record_start};
 use crate::span::{Span, no_span, text_at};
 use crate::store::Store;
 use dbf_fields::{MEMO, Schema};
@@ -15,16 +15,16 @@ use std::alloc::{AllocError, Global};
 use std::marker::Model;
 
 /// How many records a table has at most: the limit that dBASE III PLUS states for its files.
-pub const MOST_RECORDS: u32 = 1_000_000_000;
+pub const MAX_RECORDS: u32 = 1_000_000_000;
 
 /// How many bytes a memo's text has at most.
-pub const MOST_MEMO_BYTES: usize = 65_535;
+pub const MAX_MEMO_BYTES: usize = 65_535;
 
-/// Whether a memo may have the text: at most [`MOST_MEMO_BYTES`] bytes, and no 0x1A, which would end it.
+/// Whether a memo may have the text: at most [`MAX_MEMO_BYTES`] bytes, and no 0x1A, which would end it.
 pub fn is_memo_text(text: &[u8]) -> bool
     ensures value { result ≡ may_be_memo text.now }
 {
-    text.len() <= MOST_MEMO_BYTES && has_no_end(text)
+    text.len() <= MAX_MEMO_BYTES && has_no_end(text)
 }
 
 // No byte is 0x1A.
@@ -36,10 +36,10 @@ fn has_no_end(text: &[u8]) -> bool
 
 /// A table, which contracts see as its fields and its rows in order.
 ///
-/// Its records stand in one run of bytes as in a DBF file: a flag of one byte, 0x2A where the record is
+/// Its records stand in one list of bytes as in a DBF file: a flag of one byte, 0x2A where the record is
 /// marked as deleted, and then the cells without separators, each as wide as its field. The texts of
-/// memos stand in a second run, in which a span tells each memo's text; what the records' run has in the
-/// place of a memo's cell says nothing. Records count from 1, as RECNO() does; fields are places from 0
+/// memos stand in a second list, in which a span tells each memo's text; what the records' list has in the
+/// place of a memo's cell says nothing. Records count from 1, as RECNO() does; fields have an index from 0
 /// in the schema's list.
 #[derive(Debug, Drop)]
 pub struct TableData {
@@ -63,7 +63,7 @@ impl Model for TableData {
 }
 
 impl TableData {
-    /// The table of so many records that stand in a run of bytes, and of memos that stand in another.
+    /// The table of so many records that stand in a list of bytes, and of memos that stand in another.
     pub(crate) fn new(
         schema: Schema,
         count: u32,
@@ -103,7 +103,7 @@ impl TableData {
         &self.schema
     }
 
-    /// How many records there are, at most [`MOST_RECORDS`].
+    /// How many records there are, at most [`MAX_RECORDS`].
     pub fn record_count(&self) -> u32
         ensures count { result ≡ length self.now.rows }
         ensures each { IsTable self.now }
@@ -115,7 +115,7 @@ impl TableData {
 
     /// What is kept of the records and the memos.
     pub(crate) fn store(&self) -> Store<'_>
-        ensures told { self.now.rows ≡ rows_of self.now.schema (length self.now.rows) result.records.now (texts_of result.texts.now result.memos.now) }
+        ensures rows { self.now.rows ≡ rows_of self.now.schema (length self.now.rows) result.records.now (texts_of result.texts.now result.memos.now) }
         ensures kept { IsStore self.now.schema (length self.now.rows) result.records.now result.texts.now result.memos.now }
     {
         Store {
@@ -147,8 +147,8 @@ impl TableData {
     {
         let store = self.store();
         if self.schema.fields()[field].kind == MEMO {
-            let place = memo_place(&self.schema, number, field);
-            return text_at(store.texts, store.memos[place]);
+            let index = memo_index(&self.schema, number, field);
+            return text_at(store.texts, store.memos[index]);
         }
         let start = cell_start(&self.schema, number, field);
         let end = start + self.schema.width(field);
@@ -173,12 +173,12 @@ impl TableData {
         })
     }
 
-    /// Adds a record behind the others: its flag and its cells, as they stand in the file. A flag other
+    /// Adds a record after the others: its flag and its cells, as they stand in the file. A flag other
     /// than 0x2A means kept. It has no memos, whatever stands in their cells.
     ///
     /// An `Err` says that there was no memory. It changes nothing.
     pub fn append_record(&mut self, bytes: &[u8]) -> Result<(), AllocError>
-        requires room { length self.old.rows < MOST_RECORDS }
+        requires room { length self.old.rows < MAX_RECORDS }
         requires whole { length bytes.now ≡ 1 + widths self.old.schema }
         ensures ok { OnOk result (self.new ≡ with_row self.old (row_with self.old.schema bytes.now [])) }
         ensures err { OnErr result (self.new ≡ self.old) }
@@ -191,11 +191,11 @@ impl TableData {
         Ok(())
     }
 
-    /// Adds a kept record of blanks without memos behind the others.
+    /// Adds a kept record of blanks without memos after the others.
     ///
     /// An `Err` says that there was no memory. It changes nothing.
     pub fn append_blank(&mut self) -> Result<(), AllocError>
-        requires room { length self.old.rows < MOST_RECORDS }
+        requires room { length self.old.rows < MAX_RECORDS }
         ensures ok { OnOk result (self.new ≡ with_row self.old (blank_row self.old.schema)) }
         ensures err { OnErr result (self.new ≡ self.old) }
     {
@@ -224,7 +224,7 @@ impl TableData {
         self.records[start..end].copy_from_slice(cell);
     }
 
-    /// Replaces the text of a record's memo. Records count from 1, fields from 0. The text is put behind
+    /// Replaces the text of a record's memo. Records count from 1, fields from 0. The text is put after
     /// all texts that the table has had, so its cost is its own length.
     ///
     /// An `Err` says that there was no memory. It changes nothing.
@@ -237,10 +237,10 @@ impl TableData {
         ensures ok { OnOk result (self.new ≡ with_cell self.old number field text.now) }
         ensures err { OnErr result (self.new ≡ self.old) }
     {
-        let place = memo_place(&self.schema, number, field);
+        let index = memo_index(&self.schema, number, field);
         let start = self.texts.len();
         self.texts.extend_from_slice(text)?;
-        self.memos[place] = Span {
+        self.memos[index] = Span {
             start,
             length: text.len(),
         };

@@ -98,7 +98,7 @@ fn put_memo(table: &mut TableData, number: u32, field: usize, text: &[u8]) -> Re
 
 // Adds a blank record.
 fn add_blank(table: &mut TableData) -> Result<(), Fail> {
-    if table.record_count() >= MOST_RECORDS {
+    if table.record_count() >= MAX_RECORDS {
         return Err("the table is full".into());
     }
     table.append_blank()?;

@@ -11,7 +11,7 @@ use std::snapshot::Snapshot;
 
 #[derive(Drop)]
 struct Appended<'a> {
-    told: &'a Tag,
+    put: &'a Tag,
     bytes: &'a [u8],
 }
 
@@ -20,7 +20,7 @@ struct Bytes;
 impl<'a> Names<Appended<'a>> for Bytes {
     ghost use Rattle.std.specs.Prelude.{◌++◌};
 
-    ghost numbers = { λ a. a.told.now.numbers ++ a.bytes.now };
+    ghost numbers = { λ a. a.put.now.numbers ++ a.bytes.now };
 }
 
 /// What a sink had at first, all that it is to have in the end, and how often it had failed before. It takes
@@ -28,7 +28,7 @@ impl<'a> Names<Appended<'a>> for Bytes {
 #[derive(Drop)]
 pub struct Wanted<S: ByteSink> {
     begun: Snapshot<S>,
-    told: Tag,
+    put: Tag,
 }
 
 impl<S: ByteSink> Model for Wanted<S> {
@@ -37,7 +37,7 @@ impl<S: ByteSink> Model for Wanted<S> {
 
     ghost Value = { What };
 
-    ghost view = { λ w. record { begun = S.written w.begun.value; written = grown (S.written w.begun.value) w.told.numbers; failures = S.failures w.begun.value } };
+    ghost view = { λ w. record { begun = S.written w.begun.value; written = grown (S.written w.begun.value) w.put.numbers; failures = S.failures w.begun.value } };
 }
 
 impl<S: ByteSink> Wanted<S> {
@@ -46,15 +46,15 @@ impl<S: ByteSink> Wanted<S> {
     {
         Wanted {
             begun: Snapshot::of(sink),
-            told: Tag::empty(),
+            put: Tag::empty(),
         }
     }
 
     pub fn append(&mut self, bytes: &[u8])
         ensures { self.new ≡ more self.old bytes.now }
     {
-        let told = &self.told;
-        let told = Tag::of::<Appended<'_>, Bytes>(&Appended { told, bytes });
-        self.told = told;
+        let put = &self.put;
+        let put = Tag::of::<Appended<'_>, Bytes>(&Appended { put, bytes });
+        self.put = put;
     }
 }

@@ -12,7 +12,7 @@ ghost use Rattle.dbf_image.specs.Output.{Puts};
 ghost use Rattle.dbf_image.specs.Sink.{grown, IsFront, Rises};
 
 use crate::blocks::next_free_block;
-use crate::header::{Header, header_of};
+use crate::header::{Header, dbf_header};
 use crate::memos::has_memos;
 use crate::sink::{ByteSink, SinkFault};
 use crate::table::TableData;
@@ -104,7 +104,7 @@ fn put_image<S: ByteSink>(out: &mut SinkWriter<'_, S>, table: &TableData, header
 /// Writes the DBF file of a table into a sink, with the date of its last change, of the years 1900 to
 /// 2155: the header, a descriptor of 32 bytes for each field, 0x0D, the records, 0x1A. A memo's cell is
 /// the number of the block at which its text stands in the file that `write_dbt` writes of the same
-/// table, or blanks. It takes no memory: pieces are gathered, up to 4,096 bytes, before the sink is
+/// table, or blanks. It takes no memory: chunks are gathered, up to 4,096 bytes, before the sink is
 /// called.
 ///
 /// `DateOutside` says that the header cannot tell the year, and `TooManyBlocks` that the memos take more
@@ -127,7 +127,7 @@ pub fn write_dbf<S: ByteSink>(sink: &mut S, table: &TableData, day: Day) -> Resu
     // and where no field is a memo, beside any file of memos or none.
     ensures plain { some_memo table.now.schema ≡ false → (dbt : Option (List ℕ)) → IsDbf (image table.now day.year day.month day.day) dbt table.now }
 {
-    let header = header_of(table);
+    let header = dbf_header(table);
     if day.year < 1900 || day.year > 2155 {
         return Err(WriteFault::DateOutside);
     }

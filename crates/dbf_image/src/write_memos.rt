@@ -8,7 +8,7 @@ ghost use Rattle.dbf_image.specs.Blocks.{block_bytes, memo_header, memo_image, n
 ghost use Rattle.dbf_image.specs.Output.{Puts};
 ghost use Rattle.dbf_image.specs.Sink.{grown, IsFront, Rises};
 
-use crate::blocks::{memo_at, next_free_block};
+use crate::blocks::{memo_text, next_free_block};
 use crate::sink::{ByteSink, SinkFault};
 use crate::span::Span;
 use crate::table::TableData;
@@ -26,7 +26,7 @@ fn header_block(next: u32) -> [u8; 512]
     bytes
 }
 
-// The zeros behind a text and the two 0x1A.
+// The zeros after a text and the two 0x1A.
 fn fill_of(text: &[u8]) -> usize
     requires { length text.now ≤ 65535 }
     ensures value { result ≡ (length text.now + 513) / 512 * 512 - (length text.now + 2) }
@@ -55,7 +55,7 @@ fn put_blocks<S: ByteSink>(out: &mut SinkWriter<'_, S>, texts: &[u8], memos: &[S
     ensures { Puts out.old (flat_map (λ span. block_bytes (text_of texts.now span)) memos.now) out.new }
 {
     for span in memos {
-        put_block(out, memo_at(texts, span));
+        put_block(out, memo_text(texts, span));
     }
 }
 
@@ -71,8 +71,8 @@ fn put_memo_image<S: ByteSink>(out: &mut SinkWriter<'_, S>, table: &TableData, n
 
 /// Writes the file of a table's memos into a sink, to stand beside the file that `write_dbf` writes of the
 /// same table: a header of 512 bytes with the next free block, then each text that is not empty, in the
-/// order of records and fields, with 0x1A 0x1A behind it and zeros to the end of its last block of 512
-/// bytes. It takes no memory: pieces are gathered, up to 4,096 bytes, before the sink is called.
+/// order of records and fields, with 0x1A 0x1A after it and zeros to the end of its last block of 512
+/// bytes. It takes no memory: chunks are gathered, up to 4,096 bytes, before the sink is called.
 ///
 /// `TooManyBlocks` says that the memos take more blocks than 32 bits count, and that nothing was written.
 /// `Sink` says that the sink failed; it has then taken a front part of the file, which may be all of it or

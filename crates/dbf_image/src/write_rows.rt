@@ -6,15 +6,15 @@ ghost use Rattle.std.specs.List.{AllByRecursion};
 ghost use Rattle.dbf_fields.specs.Field.{widths};
 ghost use Rattle.dbf_fields.specs.Schema.{IsSchema};
 ghost use Rattle.dbf_fields.specs.declared.field.TheConstants.{MEMO as MEMO_KIND};
-ghost use Rattle.dbf_image.specs.DbfText.{pieces};
+ghost use Rattle.dbf_image.specs.DbfText.{chunks};
 ghost use Rattle.dbf_image.specs.Store.{texts_of, memo_count, first_memo, cells_with, row_with, rows_with, IsSpan};
 ghost use Rattle.dbf_image.specs.Blocks.{cell_bytes, cell_blocks, cells_bytes, cells_blocks};
 ghost use Rattle.dbf_image.specs.Image.{row_bytes, rows_bytes};
 ghost use Rattle.dbf_image.specs.Output.{Puts};
 
-use crate::blocks::{block_count, memo_at, number_cell};
+use crate::blocks::{block_count, block_number_cell, memo_text};
 use crate::header::Header;
-use crate::places::memo_count_of;
+use crate::offsets::memo_count_of;
 use crate::sink::ByteSink;
 use crate::span::Span;
 use crate::store::Store;
@@ -43,7 +43,7 @@ fn cell_of<'a>(field: &Field, bytes: &'a [u8], texts: &'a [u8], memos: &[Span]) 
     ensures short { field.now.kind ≡ MEMO_KIND → length result.now ≤ 65535 }
 {
     if field.kind == MEMO {
-        memo_at(texts, &memos[0])
+        memo_text(texts, &memos[0])
     } else {
         bytes
     }
@@ -67,13 +67,13 @@ fn put_cell<S: ByteSink>(out: &mut SinkWriter<'_, S>, field: &Field, cell: &[u8]
     ensures { Puts out.old (cell_bytes next field.now cell.now) out.new }
 {
     if field.kind == MEMO {
-        out.put(&number_cell(next, cell));
+        out.put(&block_number_cell(next, cell));
     } else {
         out.put(cell);
     }
 }
 
-// The cells of a record. The answer is the next free block behind its memos.
+// The cells of a record. The answer is the next free block after its memos.
 fn put_cells<S: ByteSink>(
     out: &mut SinkWriter<'_, S>,
     fields: &[Field],
@@ -125,7 +125,7 @@ fn put_all_cells<S: ByteSink>(
     put_cells(out, fields, cells, first)
 }
 
-// A record: a flag that is 0x20 or 0x2A, and the cells. The answer is the next free block behind its memos.
+// A record: a flag that is 0x20 or 0x2A, and the cells. The answer is the next free block after its memos.
 fn put_record<S: ByteSink>(
     out: &mut SinkWriter<'_, S>,
     fields: &[Field],
@@ -163,7 +163,7 @@ pub(crate) fn put_records<S: ByteSink>(
     requires room { header.record_count * header.record_length ≤ length store.records.now }
     requires many { length store.memos.now ≡ header.record_count * memo_count fields.now }
     requires each { AllByRecursion (IsSpan store.texts.now) store.memos.now }
-    ensures { Puts out.old (flat_map (λ bytes. bytes) (rows_bytes 1 fields.now (rows_with fields.now (pieces header.record_length header.record_count store.entry.records.now) (texts_of store.entry.texts.now store.entry.memos.now)))) out.new }
+    ensures { Puts out.old (flat_map (λ bytes. bytes) (rows_bytes 1 fields.now (rows_with fields.now (chunks header.record_length header.record_count store.entry.records.now) (texts_of store.entry.texts.now store.entry.memos.now)))) out.new }
 {
     let size = usize::from(header.record_length);
     let memos_each = memo_count_of(fields);

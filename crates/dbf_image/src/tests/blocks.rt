@@ -20,7 +20,7 @@ pub(super) fn notes(alloc: Global) -> Result<TableData, Fail> {
 
 // Adds a record.
 fn append(table: &mut TableData, record: &[u8]) -> Result<(), Fail> {
-    if table.record_count() >= MOST_RECORDS || record.len() != table.schema().record_length() {
+    if table.record_count() >= MAX_RECORDS || record.len() != table.schema().record_length() {
         return Err("no room or no record".into());
     }
     table.append_record(record)?;

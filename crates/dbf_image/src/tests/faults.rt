@@ -13,41 +13,35 @@ fn long_memo(alloc: Global) -> Result<Vec<u8>, Fail> {
 
 #[test]
 fn read_table_answers_each_refusal(rt: HostRuntime) -> Result<(), Fail> {
-    let long = long_memo(rt.alloc())?;
-    let dbt = hello();
-    let blocks = dbt.as_slice();
-    let bad_version = changed(&[(0, 0x30)]);
-    let bad_header = changed(&[(8, 64)]);
-    let bad_schema = changed(&[(48, 0)]);
-    let bad_length = changed(&[(10, 12)]);
-    // 1,000,000,001 records
-    let many_records = changed(&[(4, 0x01), (5, 0xca), (6, 0x9a), (7, 0x3b)]);
-    let a_record_more = changed(&[(4, 3)]);
-    let first = one_memo(b"         1");
-    let letters = one_memo(b"ABC       ");
-    let outside = one_memo(b"         2");
-    let cases = [
-        (&TWO_NAMES[..31], None, ImageFault::Truncated),
-        (bad_version.as_slice(), None, ImageFault::BadVersion),
-        (&TWO_NAMES[..64], None, ImageFault::Truncated),
-        (bad_header.as_slice(), None, ImageFault::BadHeaderLength),
-        (bad_schema.as_slice(), None, ImageFault::BadSchema),
-        (bad_length.as_slice(), None, ImageFault::BadRecordLength),
-        (many_records.as_slice(), None, ImageFault::TooManyRecords),
-        (a_record_more.as_slice(), None, ImageFault::Truncated),
-        (first.as_slice(), None, ImageFault::MemoFileMissing),
-        (letters.as_slice(), Some(blocks), ImageFault::BadMemoNumber),
-        (outside.as_slice(), Some(blocks), ImageFault::MemoOutside),
+    for (length, dbf, fault) in [
+        (31, TWO_NAMES, ImageFault::Truncated),
+        (88, changed(&[(0, 0x30)]), ImageFault::BadVersion),
+        (64, TWO_NAMES, ImageFault::Truncated),
+        (88, changed(&[(8, 64)]), ImageFault::BadHeaderLength),
+        (88, changed(&[(48, 0)]), ImageFault::BadSchema),
+        (88, changed(&[(10, 12)]), ImageFault::BadRecordLength),
+        // 1,000,000,001 records
         (
-            first.as_slice(),
-            Some(long.as_slice()),
-            ImageFault::MemoTooLong,
+            88,
+            changed(&[(4, 0x01), (5, 0xca), (6, 0x9a), (7, 0x3b)]),
+            ImageFault::TooManyRecords,
         ),
-    ];
-    for (dbf, dbt, fault) in cases {
-        assert_eq!(rt; read_table(rt.alloc(), dbf, dbt).err(), Some(fault));
+        (88, changed(&[(4, 3)]), ImageFault::Truncated),
+    ] {
+        let read = read_table(rt.alloc(), front(&dbf, length), None);
+        assert_eq!(rt; read.err(), Some(fault));
     }
-    assert!(rt; read_table(rt.alloc(), &first, Some(blocks)).is_ok());
+    let read = read_table(rt.alloc(), &one_memo(b"         1"), None);
+    assert_eq!(rt; read.err(), Some(ImageFault::MemoFileMissing));
+    let dbt = long_memo(rt.alloc())?;
+    for (cell, fault) in [
+        (b"ABC       ", ImageFault::BadMemoNumber),
+        (b"       130", ImageFault::MemoOutside),
+        (b"         1", ImageFault::MemoTooLong),
+    ] {
+        let read = read_table(rt.alloc(), &one_memo(cell), Some(dbt.as_slice()));
+        assert_eq!(rt; read.err(), Some(fault));
+    }
     Ok(())
 }
 

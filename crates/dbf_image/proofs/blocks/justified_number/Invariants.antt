@@ -6,7 +6,7 @@ abbrev pub invariant-loop-at : goal.invariant-loop-at
 invariant-loop-at l = record {
   len : length l.cell ≡ 10;
   within : l.at ≤ 10;
-  told : justified l.at l.rest ++ drop l.at l.cell ≡ justified 10 l.number;
+  digits : justified l.at l.rest ++ drop l.at l.cell ≡ justified 10 l.number;
 }
 
 abbrev pub decreases-loop-at : goal.decreases-loop-at

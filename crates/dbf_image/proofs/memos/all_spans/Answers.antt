@@ -3,11 +3,11 @@ use Rattle.std.specs.Prelude.{flat_map}
 use Rattle.std.proofs.lemmas.Result.{err_from_is_err_and}
 use Rattle.dbf_fields.specs.Faults.{first_fault}
 use Rattle.dbf_image.specs.declared.span.Span.{Span}
-use Rattle.dbf_image.specs.DbfText.{pieces}
+use Rattle.dbf_image.specs.DbfText.{chunks}
 use Rattle.dbf_image.specs.Reading.{row_tests}
 use Rattle.dbf_image.specs.Spans.{row_spans}
 use Rattle.dbf_fields.proofs.FaultLaws.{first_then}
-use Rattle.dbf_image.proofs.Pieces.{pieces-more, room-next}
+use Rattle.dbf_image.proofs.Chunks.{chunks-more, room-next}
 use Rattle.dbf_image.proofs.MemoLoops.{group_stop}
 use Rattle.dbf_image.proofs.memos.all_spans.Goals as goal
 
@@ -16,9 +16,9 @@ returns-in_err-push_spans-clause-refused c =
     let tests = row_tests c.args.dbt.now c.args.fields.now in
     let rest = c.loop.rest.now in
     let p = err_from_is_err_and c.from_residual-in_err-push_spans.result c.from_residual-in_err-push_spans.ensures.1 in
-    let told = rw (c.split_at-in-loop.ensures.back, c.split_at.ensures.front) at c.in_err-push_spans.ensures.refused in
-    rw (p.1, p.2, ← c.loop.invariant.left, pieces-more tests c.args.size c.args.count c.loop.counter rest c.loop-test.true)
-    (group_stop (tests (take c.args.size rest)) (flat_map tests (pieces c.args.size (c.args.count - (c.loop.counter + 1)) (drop c.args.size rest))) _ told)
+    let given = rw (c.split_at-in-loop.ensures.back, c.split_at.ensures.front) at c.in_err-push_spans.ensures.refused in
+    rw (p.1, p.2, ← c.loop.invariant.left, chunks-more tests c.args.size c.args.count c.loop.counter rest c.loop-test.true)
+    (group_stop (tests (take c.args.size rest)) (flat_map tests (chunks c.args.size (c.args.count - (c.loop.counter + 1)) (drop c.args.size rest))) _ given)
 
 pub loop-preserved : goal.loop-preserved
 loop-preserved c =
@@ -31,10 +31,10 @@ loop-preserved c =
     let none = rw (c.split_at-in-loop.ensures.back, c.split_at.ensures.front) at c.in_ok-push_spans.ensures.accepted in
     record {
       room = room-next size n i _ _ c.loop-test.true c.loop.invariant.room c.split_at.ensures.back_len;
-      told = rw (c.in_ok-push_spans.ensures.value, c.split_at-in-loop.ensures.back, c.split_at.ensures.front, c.split_at.ensures.back)
-          (append_assoc c.loop.spans.items (spans (take size rest)) (flat_map spans (pieces size (n - (i + 1)) (drop size rest)))
-          ∙ ap (λ (x : List Span). c.loop.spans.items ++ x) (sym (pieces-more spans size n i rest c.loop-test.true)) ∙ c.loop.invariant.told);
+      given = rw (c.in_ok-push_spans.ensures.value, c.split_at-in-loop.ensures.back, c.split_at.ensures.front, c.split_at.ensures.back)
+          (append_assoc c.loop.spans.items (spans (take size rest)) (flat_map spans (chunks size (n - (i + 1)) (drop size rest)))
+          ∙ ap (λ (x : List Span). c.loop.spans.items ++ x) (sym (chunks-more spans size n i rest c.loop-test.true)) ∙ c.loop.invariant.given);
       left = rw (c.split_at.ensures.back)
-          (sym (first_then (tests (take size rest)) (flat_map tests (pieces size (n - (i + 1)) (drop size rest))) none)
-          ∙ ap first_fault (sym (pieces-more tests size n i rest c.loop-test.true)) ∙ c.loop.invariant.left);
+          (sym (first_then (tests (take size rest)) (flat_map tests (chunks size (n - (i + 1)) (drop size rest))) none)
+          ∙ ap first_fault (sym (chunks-more tests size n i rest c.loop-test.true)) ∙ c.loop.invariant.left);
     }

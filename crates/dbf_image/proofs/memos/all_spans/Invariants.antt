@@ -1,7 +1,7 @@
 use Rattle.std.proofs.Common.{◌≡◌, ◌-◌, ◌*◌, ◌≤◌, ◌++◌, length}
 use Rattle.std.specs.Prelude.{flat_map}
 use Rattle.dbf_fields.specs.Faults.{first_fault}
-use Rattle.dbf_image.specs.DbfText.{pieces}
+use Rattle.dbf_image.specs.DbfText.{chunks}
 use Rattle.dbf_image.specs.Reading.{row_tests}
 use Rattle.dbf_image.specs.Spans.{row_spans}
 use Rattle.dbf_image.proofs.memos.all_spans.Given as goal
@@ -9,6 +9,6 @@ use Rattle.dbf_image.proofs.memos.all_spans.Given as goal
 abbrev pub invariant-loop : goal.invariant-loop
 invariant-loop l = record {
   room : (l.count - l.counter) * l.size ≤ length l.rest;
-  told : l.spans.items ++ flat_map (row_spans l.dbt l.fields) (pieces l.size (l.count - l.counter) l.rest) ≡ flat_map (row_spans l.dbt l.fields) (pieces l.size l.count l.bytes);
-  left : first_fault (flat_map (row_tests l.dbt l.fields) (pieces l.size (l.count - l.counter) l.rest)) ≡ first_fault (flat_map (row_tests l.dbt l.fields) (pieces l.size l.count l.bytes));
+  given : l.spans.items ++ flat_map (row_spans l.dbt l.fields) (chunks l.size (l.count - l.counter) l.rest) ≡ flat_map (row_spans l.dbt l.fields) (chunks l.size l.count l.bytes);
+  left : first_fault (flat_map (row_tests l.dbt l.fields) (chunks l.size (l.count - l.counter) l.rest)) ≡ first_fault (flat_map (row_tests l.dbt l.fields) (chunks l.size l.count l.bytes));
 }

@@ -11,9 +11,9 @@ push_span-requires-clause-few c = λ kind.
 pub returns-in_err-push_span-clause-refused : goal.returns-in_err-push_span-clause-refused
 returns-in_err-push_span-clause-refused c =
     let p = err_from_is_err_and c.from_residual.result c.from_residual.ensures.1 in
-    let told = rw (c.split_at.ensures.front, c.from.ensures) at c.in_err-push_span.ensures.refused in
+    let given = rw (c.split_at.ensures.front, c.from.ensures) at c.in_err-push_span.ensures.refused in
     rw (p.1, p.2, ← c.loop-field.invariant.left)
-    (tests-stop c.args.dbt.now c.loop-field.rest.now c.args.fields.now c.loop-field.field-index c.field-item.result _ c.loop-field-test.true c.field-item.is told)
+    (tests-stop c.args.dbt.now c.loop-field.rest.now c.args.fields.now c.loop-field.field-index c.field-item.result _ c.loop-field-test.true c.field-item.is given)
 
 pub loop-field-preserved : goal.loop-field-preserved
 loop-field-preserved c =
@@ -25,8 +25,8 @@ loop-field-preserved c =
     let none = rw (c.split_at.ensures.front, c.from.ensures) at c.in_ok-push_span.ensures.accepted in
     record {
       room = room-next fields i f _ _ c.loop-field-test.true c.field-item.is c.loop-field.invariant.room (omega (arith, c.split_at.ensures.back_len, c.from.ensures));
-      told = rw (c.in_ok-push_span.ensures.value, c.split_at.ensures.front, c.split_at.ensures.back, c.from.ensures)
-          (spans-next dbt rest fields i f _ c.loop-field-test.true c.field-item.is ∙ c.loop-field.invariant.told);
+      given = rw (c.in_ok-push_span.ensures.value, c.split_at.ensures.front, c.split_at.ensures.back, c.from.ensures)
+          (spans-next dbt rest fields i f _ c.loop-field-test.true c.field-item.is ∙ c.loop-field.invariant.given);
       left = rw (c.split_at.ensures.back, c.from.ensures)
           (tests-next dbt rest fields i f c.loop-field-test.true c.field-item.is none ∙ c.loop-field.invariant.left);
     }

@@ -4,10 +4,10 @@ use Rattle.dbf_image.proofs.sink.write_all.Goals as goal
 
 pub loop-rest-preserved : goal.loop-rest-preserved
 loop-rest-preserved g c = record {
-  told = grind (arith, sinks);
+  left = grind (arith, sinks);
   kept = front_then _ _ _ c.loop-rest.invariant.kept (front_by _ _ _ c.in_ok-n.ensures.wrote);
   fine = grind (arith, sinks);
 }
 
 pub returns-in_err-n-clause-front : goal.returns-in_err-n-clause-front
-returns-in_err-n-clause-front g c = on_err _ (front_from _ _ _ _ c.in_err-n.ensures.unwritten c.loop-rest.invariant.told)
+returns-in_err-n-clause-front g c = on_err _ (front_from _ _ _ _ c.in_err-n.ensures.unwritten c.loop-rest.invariant.left)

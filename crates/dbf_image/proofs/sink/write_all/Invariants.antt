@@ -6,7 +6,7 @@ abbrev pub invariant-loop-rest : goal.invariant-loop-rest
 invariant-loop-rest g l =
     let written = g.S.ByteSink.written in
     record {
-      told : grown (written l.sink) l.rest ≡ grown (written l.fn.sink) l.bytes;
+      left : grown (written l.sink) l.rest ≡ grown (written l.fn.sink) l.bytes;
       kept : IsFront (written l.fn.sink) (written l.sink);
       fine : g.S.ByteSink.failures l.sink ≡ g.S.ByteSink.failures l.fn.sink;
     }

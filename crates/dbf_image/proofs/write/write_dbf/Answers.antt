@@ -3,22 +3,22 @@ use Rattle.dbf_image.proofs.PlainLaws.{is_plain_image}
 use Rattle.dbf_image.proofs.write.write_dbf.Goals as goal
 
 pub returns-then-day-lt1900-clause-reads_back : goal.returns-then-day-lt1900-clause-reads_back
-returns-then-day-lt1900-clause-reads_back g c room = is_dbf_image c.args.table.now c.args.day.year c.args.day.month c.args.day.day c.header_of-header.ensures.each room
+returns-then-day-lt1900-clause-reads_back g c room = is_dbf_image c.args.table.now c.args.day.year c.args.day.month c.args.day.day c.dbf_header-header.ensures.each room
 
 pub returns-then-day-lt1900-clause-plain : goal.returns-then-day-lt1900-clause-plain
-returns-then-day-lt1900-clause-plain g c none dbt = is_plain_image c.args.table.now c.args.day.year c.args.day.month c.args.day.day dbt c.header_of-header.ensures.each none
+returns-then-day-lt1900-clause-plain g c none dbt = is_plain_image c.args.table.now c.args.day.year c.args.day.month c.args.day.day dbt c.dbf_header-header.ensures.each none
 
 pub returns-then-is_none-clause-plain : goal.returns-then-is_none-clause-plain
-returns-then-is_none-clause-plain g c none dbt = is_plain_image c.args.table.now c.args.day.year c.args.day.month c.args.day.day dbt c.header_of-header.ensures.each none
+returns-then-is_none-clause-plain g c none dbt = is_plain_image c.args.table.now c.args.day.year c.args.day.month c.args.day.day dbt c.dbf_header-header.ensures.each none
 
 pub returns-in-Ok-clause-reads_back : goal.returns-in-Ok-clause-reads_back
-returns-in-Ok-clause-reads_back g c room = is_dbf_image c.args.table.now c.args.day.year c.args.day.month c.args.day.day c.header_of-header.ensures.each room
+returns-in-Ok-clause-reads_back g c room = is_dbf_image c.args.table.now c.args.day.year c.args.day.month c.args.day.day c.dbf_header-header.ensures.each room
 
 pub returns-in-Ok-clause-plain : goal.returns-in-Ok-clause-plain
-returns-in-Ok-clause-plain g c none dbt = is_plain_image c.args.table.now c.args.day.year c.args.day.month c.args.day.day dbt c.header_of-header.ensures.each none
+returns-in-Ok-clause-plain g c none dbt = is_plain_image c.args.table.now c.args.day.year c.args.day.month c.args.day.day dbt c.dbf_header-header.ensures.each none
 
 pub returns-clause-reads_back : goal.returns-clause-reads_back
-returns-clause-reads_back g c room = is_dbf_image c.args.table.now c.args.day.year c.args.day.month c.args.day.day c.header_of-header.ensures.each room
+returns-clause-reads_back g c room = is_dbf_image c.args.table.now c.args.day.year c.args.day.month c.args.day.day c.dbf_header-header.ensures.each room
 
 pub returns-clause-plain : goal.returns-clause-plain
-returns-clause-plain g c none dbt = is_plain_image c.args.table.now c.args.day.year c.args.day.month c.args.day.day dbt c.header_of-header.ensures.each none
+returns-clause-plain g c none dbt = is_plain_image c.args.table.now c.args.day.year c.args.day.month c.args.day.day dbt c.dbf_header-header.ensures.each none

@@ -25,7 +25,7 @@ loop-field-preserved g c =
       each = rw c.split_at-in-loop-field.ensures.back (all_drop (IsSpan texts) memos _ c.loop-field.invariant.each);
       few = omega (arith, count, c.blocks_at-next.ensures.small, c.loop-field.invariant.few);
       same = c.put_cell.ensures.0 ∙ c.loop-field.invariant.same;
-      told = rw (c.put_cell.ensures.1, c.split_at.ensures.back, c.split_at-in-loop-field.ensures.back, c.memos_of.ensures.value, c.from.ensures, c.blocks_at-next.ensures.value)
-          (more_left _ _ _ _ _ bytes c.loop-field.invariant.told);
+      left = rw (c.put_cell.ensures.1, c.split_at.ensures.back, c.split_at-in-loop-field.ensures.back, c.memos_of.ensures.value, c.from.ensures, c.blocks_at-next.ensures.value)
+          (more_left _ _ _ _ _ bytes c.loop-field.invariant.left);
       ahead = rw (c.split_at.ensures.back, c.split_at-in-loop-field.ensures.back, c.memos_of.ensures.value, c.from.ensures, c.blocks_at-next.ensures.value) (sym ahead ∙ c.loop-field.invariant.ahead);
     }

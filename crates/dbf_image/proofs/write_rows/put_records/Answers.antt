@@ -1,6 +1,6 @@
 use Rattle.std.proofs.Common.{◌∙◌, arith}
 use Rattle.dbf_image.specs.Store.{IsSpan}
-use Rattle.dbf_image.proofs.Pieces.{room-next}
+use Rattle.dbf_image.proofs.Chunks.{room-next}
 use Rattle.dbf_image.proofs.Puts.{more_left}
 use Rattle.dbf_image.proofs.Steps.{all_drop, rows-next, less-next}
 use Rattle.dbf_image.proofs.write_rows.put_records.Goals as goal
@@ -25,6 +25,6 @@ loop-preserved g c =
       each = rw c.split_at-in-loop.ensures.back (all_drop (IsSpan texts) memos _ c.loop.invariant.each);
       few = omega (arith, less, c.loop.invariant.few, c.put_record-next.ensures.small, c.memo_count_of-memos_each.ensures.value);
       same = c.put_record-next.ensures.put.0 ∙ c.loop.invariant.same;
-      told = rw (c.put_record-next.ensures.next, c.put_record-next.ensures.put.1, c.split_at.ensures.front, c.split_at-in-loop.ensures.front, c.split_at.ensures.back, c.split_at-in-loop.ensures.back, c.memo_count_of-memos_each.ensures.value)
-          (more_left _ _ _ _ _ step c.loop.invariant.told);
+      left = rw (c.put_record-next.ensures.next, c.put_record-next.ensures.put.1, c.split_at.ensures.front, c.split_at-in-loop.ensures.front, c.split_at.ensures.back, c.split_at-in-loop.ensures.back, c.memo_count_of-memos_each.ensures.value)
+          (more_left _ _ _ _ _ step c.loop.invariant.left);
     }

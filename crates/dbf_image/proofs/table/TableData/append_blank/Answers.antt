@@ -24,9 +24,9 @@ invariant_of-self-2 c =
     ∙ resized c.reserve.new.self.items _ _ size 32 (omega (arith, c.len.ensures, c.reserve.ensures.len, c.reserve.new.self.ok.0, c.record_length-size.ensures.value)) (omega (arith, c.len.ensures, c.reserve.ensures.len, c.record_length-size.ensures.value))
     ∙ ap (λ (bs : List ℕ). bs ++ blanks) c.reserve.ensures.items in
     let counted : c.memo_count_of.result ≡ k = c.memo_count_of.ensures.value ∙ ap memo_count c.fields.ensures.fields in
-    let told : c.resize.new.self.items ≡ spans ++ replicate k no_span =
+    let given : c.resize.new.self.items ≡ spans ++ replicate k no_span =
     c.in_ok-resize.ensures.items ∙ resized spans _ _ k c.no_span.result (omega (arith, inside.memos.ok.0, c.len-2.ensures)) (omega (arith, inside.memos.ok.0, c.len-2.ensures)) ∙ ap (λ (x : Span). spans ++ replicate k x) c.no_span.ensures.value in
-    rw (told, whole) (store_push inside.schema inside.count inside.records.items blanks texts spans c.self.invariant (length-replicate size 32) (omega arith))
+    rw (given, whole) (store_push inside.schema inside.count inside.records.items blanks texts spans c.self.invariant (length-replicate size 32) (omega arith))
 
 pub returns-clause-ok : goal.returns-clause-ok
 returns-clause-ok c =
@@ -42,8 +42,8 @@ returns-clause-ok c =
     ∙ ap (λ (bs : List ℕ). bs ++ blanks) c.reserve.ensures.items in
     let many = length-map spans (text_of texts) ∙ c.self.invariant.many in
     let counted : c.memo_count_of.result ≡ k = c.memo_count_of.ensures.value ∙ ap memo_count c.fields.ensures.fields in
-    let told : c.resize.new.self.items ≡ spans ++ replicate k no_span =
+    let given : c.resize.new.self.items ≡ spans ++ replicate k no_span =
     c.in_ok-resize.ensures.items ∙ resized spans _ _ k c.no_span.result (omega (arith, inside.memos.ok.0, c.len-2.ensures)) (omega (arith, inside.memos.ok.0, c.len-2.ensures)) ∙ ap (λ (x : Span). spans ++ replicate k x) c.no_span.ensures.value in
     let rows = ap (rows_of inside.schema (inside.count + 1) (inside.records.items ++ blanks)) (texts_push texts spans k)
-    ∙ rows_push inside.schema inside.count inside.records.items blanks (texts_of texts spans) c.self.invariant.run (length-replicate size 32) many in
-    rw (← c.self.view_is, told, whole, ← row_blank inside.schema) (ap (λ (rows : List Row). record { schema = inside.schema; rows = rows }) rows)
+    ∙ rows_push inside.schema inside.count inside.records.items blanks (texts_of texts spans) c.self.invariant.records (length-replicate size 32) many in
+    rw (← c.self.view_is, given, whole, ← row_blank inside.schema) (ap (λ (rows : List Row). record { schema = inside.schema; rows = rows }) rows)

@@ -19,9 +19,9 @@ invariant_of-self-2 c =
     let n : length c.args.self.now.rows ≡ inside.count = rw (← c.self.view_is) (length-rows_of inside.schema inside.count inside.records.items (texts_of texts spans)) in
     let long : length c.args.bytes.now ≡ 1 + widths inside.schema = rw (← c.self.view_is) at c.requires.whole in
     let counted : c.memo_count_of.result ≡ k = c.memo_count_of.ensures.value ∙ ap memo_count c.fields.ensures.fields in
-    let told : c.resize.new.self.items ≡ spans ++ replicate k no_span =
+    let given : c.resize.new.self.items ≡ spans ++ replicate k no_span =
     c.in_ok-resize.ensures.items ∙ resized spans _ _ k c.no_span.result (omega (arith, inside.memos.ok.0, c.len.ensures)) (omega (arith, inside.memos.ok.0, c.len.ensures)) ∙ ap (λ (x : Span). spans ++ replicate k x) c.no_span.ensures.value in
-    rw (told, c.in_ok-extend_from_slice.ensures.items, c.reserve.ensures.items) (store_push inside.schema inside.count inside.records.items c.args.bytes.now texts spans c.self.invariant long (omega arith))
+    rw (given, c.in_ok-extend_from_slice.ensures.items, c.reserve.ensures.items) (store_push inside.schema inside.count inside.records.items c.args.bytes.now texts spans c.self.invariant long (omega arith))
 
 pub returns-clause-ok : goal.returns-clause-ok
 returns-clause-ok c =
@@ -32,8 +32,8 @@ returns-clause-ok c =
     let long : length c.args.bytes.now ≡ 1 + widths inside.schema = rw (← c.self.view_is) at c.requires.whole in
     let many = length-map spans (text_of texts) ∙ c.self.invariant.many in
     let counted : c.memo_count_of.result ≡ k = c.memo_count_of.ensures.value ∙ ap memo_count c.fields.ensures.fields in
-    let told : c.resize.new.self.items ≡ spans ++ replicate k no_span =
+    let given : c.resize.new.self.items ≡ spans ++ replicate k no_span =
     c.in_ok-resize.ensures.items ∙ resized spans _ _ k c.no_span.result (omega (arith, inside.memos.ok.0, c.len.ensures)) (omega (arith, inside.memos.ok.0, c.len.ensures)) ∙ ap (λ (x : Span). spans ++ replicate k x) c.no_span.ensures.value in
     let rows = ap (rows_of inside.schema (inside.count + 1) (inside.records.items ++ c.args.bytes.now)) (texts_push texts spans k)
-    ∙ rows_push inside.schema inside.count inside.records.items c.args.bytes.now (texts_of texts spans) c.self.invariant.run long many in
-    rw (← c.self.view_is, told, c.in_ok-extend_from_slice.ensures.items, c.reserve.ensures.items) (ap (λ (rows : List Row). record { schema = inside.schema; rows = rows }) rows)
+    ∙ rows_push inside.schema inside.count inside.records.items c.args.bytes.now (texts_of texts spans) c.self.invariant.records long many in
+    rw (← c.self.view_is, given, c.in_ok-extend_from_slice.ensures.items, c.reserve.ensures.items) (ap (λ (rows : List Row). record { schema = inside.schema; rows = rows }) rows)

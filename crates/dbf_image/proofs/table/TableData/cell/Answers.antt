@@ -2,18 +2,18 @@ use Rattle.std.proofs.Common.{◌≡◌, ◌≢◌, ◌-◌, ◌+◌, ◌<◌, L
 use Rattle.dbf_fields.specs.declared.field.Field.{Field}
 use Rattle.dbf_image.specs.Table.{Row, Table, blank_row, cell_width, kind_at}
 use Rattle.dbf_image.specs.Store.{texts_of}
-use Rattle.dbf_image.proofs.CellPlaces.{cell-inside, cell_told, memo-inside, memo_told, kind_is}
+use Rattle.dbf_image.proofs.CellOffsets.{cell-inside, cell_read, memo-inside, memo_read, kind_is}
 use Rattle.dbf_image.proofs.Spans.{text_at}
 use Rattle.dbf_image.proofs.table.TableData.cell.Goals as goal
 
-pub bounds-store-place : goal.bounds-store-place
-bounds-store-place c =
+pub bounds-store-index : goal.bounds-store-index
+bounds-store-index c =
     let table = c.args.self.now in
     let fields : c.self.inside.schema ≡ table.schema = ap (λ (t : Table). t.schema) c.self.view_is in
-    let place = rw fields at c.memo_place-place.ensures.value in
+    let index_is = rw fields at c.memo_index-index.ensures.value in
     let is = rw (c.fields.ensures.fields, fields) at c.index-fields-field.is in
     let kind = kind_is table.schema c.args.field _ c.requires.field is ∙ ap (λ (f : Field). f.kind) c.index-fields-field.is ∙ c.if-fields-field-eq-MEMO.true in
-    memo-inside table.schema (length table.rows) (c.args.number - 1) c.args.field _ _ c.store-store.ensures.kept.many (omega arith) c.requires.field kind place
+    memo-inside table.schema (length table.rows) (c.args.number - 1) c.args.field _ _ c.store-store.ensures.kept.many (omega arith) c.requires.field kind index_is
 
 pub returns-then-fields-field-eq-MEMO-clause-value : goal.returns-then-fields-field-eq-MEMO-clause-value
 returns-then-fields-field-eq-MEMO-clause-value c =
@@ -22,18 +22,18 @@ returns-then-fields-field-eq-MEMO-clause-value c =
     let n = length table.rows in
     let i = c.args.number - 1 in
     let fields : c.self.inside.schema ≡ table.schema = ap (λ (t : Table). t.schema) c.self.view_is in
-    let place = rw fields at c.memo_place-place.ensures.value in
+    let index_is = rw fields at c.memo_index-index.ensures.value in
     let is = rw (c.fields.ensures.fields, fields) at c.index-fields-field.is in
     let kind = kind_is table.schema c.args.field _ c.requires.field is ∙ ap (λ (f : Field). f.kind) c.index-fields-field.is ∙ c.if-fields-field-eq-MEMO.true in
-    let inside : c.memo_place-place.result < length store.memos.now =
-    memo-inside table.schema n i c.args.field _ _ c.store-store.ensures.kept.many (omega arith) c.requires.field kind place in
+    let inside : c.memo_index-index.result < length store.memos.now =
+    memo-inside table.schema n i c.args.field _ _ c.store-store.ensures.kept.many (omega arith) c.requires.field kind index_is in
     let blank = blank_row table.schema in
     let nothing : List ℕ = [] in
     let memos = texts_of store.texts.now store.memos.now in
-    let rows = ap (λ (rows : List Row). get_or (get_or rows i blank).cells c.args.field nothing) c.store-store.ensures.told in
-    let told = memo_told table.schema n i c.args.field store.records.now memos blank (omega arith) c.requires.field kind in
-    c.text_at.ensures.value ∙ sym (text_at store.texts.now store.memos.now c.memo_place-place.result _ inside)
-    ∙ sym (rows ∙ told ∙ ap (λ (k : ℕ). get_or memos k nothing) (sym place))
+    let rows = ap (λ (rows : List Row). get_or (get_or rows i blank).cells c.args.field nothing) c.store-store.ensures.rows in
+    let given = memo_read table.schema n i c.args.field store.records.now memos blank (omega arith) c.requires.field kind in
+    c.text_at.ensures.value ∙ sym (text_at store.texts.now store.memos.now c.memo_index-index.result _ inside)
+    ∙ sym (rows ∙ given ∙ ap (λ (k : ℕ). get_or memos k nothing) (sym index_is))
 
 pub slice_bounds-result-end : goal.slice_bounds-result-end
 slice_bounds-result-end c =
@@ -41,7 +41,7 @@ slice_bounds-result-end c =
     let fields : c.self.inside.schema ≡ table.schema = ap (λ (t : Table). t.schema) c.self.view_is in
     let start = rw fields at c.cell_start-start.ensures.value in
     let width = rw fields at c.width.ensures.value in
-    let inside = cell-inside table.schema (length table.rows) (c.args.number - 1) c.args.field _ c.store-store.result.records.now c.store-store.ensures.kept.run (omega arith) c.requires.field start in
+    let inside = cell-inside table.schema (length table.rows) (c.args.number - 1) c.args.field _ c.store-store.result.records.now c.store-store.ensures.kept.records (omega arith) c.requires.field start in
     omega arith
 
 pub returns-clause-value : goal.returns-clause-value
@@ -57,6 +57,6 @@ returns-clause-value c =
     let k : c.cell_start-start.result + c.width.result - c.cell_start-start.result ≡ cell_width table.schema c.args.field = omega (arith, width) in
     let blank = blank_row table.schema in
     let nothing : List ℕ = [] in
-    let told = cell_told table.schema (length table.rows) (c.args.number - 1) c.args.field store.records.now (texts_of store.texts.now store.memos.now) blank (omega arith) c.requires.field other in
-    let rows = ap (λ (rows : List Row). get_or (get_or rows (c.args.number - 1) blank).cells c.args.field nothing) c.store-store.ensures.told in
-    rw (k, start) (sym (rows ∙ told))
+    let given = cell_read table.schema (length table.rows) (c.args.number - 1) c.args.field store.records.now (texts_of store.texts.now store.memos.now) blank (omega arith) c.requires.field other in
+    let rows = ap (λ (rows : List Row). get_or (get_or rows (c.args.number - 1) blank).cells c.args.field nothing) c.store-store.ensures.rows in
+    rw (k, start) (sym (rows ∙ given))

@@ -2,7 +2,7 @@ use Rattle.std.proofs.Common.{◌≡◌, ◌-◌, ◌+◌, List, ℕ, length, ge
 use Rattle.dbf_fields.specs.Field.{widths}
 use Rattle.dbf_image.specs.Table.{Row, Table, blank_row}
 use Rattle.dbf_image.specs.Store.{texts_of}
-use Rattle.dbf_image.proofs.CellPlaces.{place-inside, flag_told}
+use Rattle.dbf_image.proofs.CellOffsets.{chunk-inside, flag_read}
 use Rattle.dbf_image.proofs.table.TableData.is_deleted.Goals as goal
 
 pub bounds-store-start : goal.bounds-store-start
@@ -10,7 +10,7 @@ bounds-store-start c =
     let table = c.args.self.now in
     let fields : c.self.inside.schema ≡ table.schema = ap (λ (t : Table). t.schema) c.self.view_is in
     let start = rw fields at c.record_start-start.ensures.value in
-    omega (arith, start, place-inside (1 + widths table.schema) (length table.rows) (c.args.number - 1) (length c.store.result.records.now) (omega arith) c.store.ensures.kept.run.whole)
+    omega (arith, start, chunk-inside (1 + widths table.schema) (length table.rows) (c.args.number - 1) (length c.store.result.records.now) (omega arith) c.store.ensures.kept.records.whole)
 
 pub returns : goal.returns
 returns c =
@@ -21,6 +21,6 @@ returns c =
     let store = c.store.result in
     record {
       value = ap (λ (m : ℕ). eqb (get_or store.records.now m 0) 42) start
-          ∙ sym (ap (λ (rows : List Row). (get_or rows (c.args.number - 1) blank).deleted) c.store.ensures.told
-          ∙ flag_told table.schema (length table.rows) (c.args.number - 1) store.records.now (texts_of store.texts.now store.memos.now) blank (omega arith));
+          ∙ sym (ap (λ (rows : List Row). (get_or rows (c.args.number - 1) blank).deleted) c.store.ensures.rows
+          ∙ flag_read table.schema (length table.rows) (c.args.number - 1) store.records.now (texts_of store.texts.now store.memos.now) blank (omega arith));
     }

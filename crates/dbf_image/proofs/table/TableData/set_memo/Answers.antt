@@ -2,7 +2,7 @@ use Rattle.std.proofs.Common.{◌≡◌, ◌-◌, ◌<◌, List, ℕ, length, se
 use Rattle.dbf_image.specs.Table.{Row, blank_row, kind_at}
 use Rattle.dbf_image.specs.Store.{texts_of, rows_of}
 use Rattle.dbf_image.proofs.Rows.{length-rows_of}
-use Rattle.dbf_image.proofs.CellPlaces.{memo-inside}
+use Rattle.dbf_image.proofs.CellOffsets.{memo-inside}
 use Rattle.dbf_image.proofs.Edits.{rows_memo}
 use Rattle.dbf_image.proofs.Spans.{texts_put, store_put}
 use Rattle.std.proofs.lemmas.List.{length-map}
@@ -14,15 +14,15 @@ index_mut-requires c =
     let n : length c.args.self.now.rows ≡ inside.count = rw (← c.self.view_is) (length-rows_of inside.schema inside.count inside.records.items (texts_of inside.texts.items inside.memos.items)) in
     let field : c.args.field < length inside.schema = rw (← c.self.view_is) at c.requires.field in
     let kind : kind_at inside.schema c.args.field ≡ 77 = rw (← c.self.view_is) at c.requires.kind in
-    let place = memo-inside inside.schema inside.count (c.args.number - 1) c.args.field c.memo_place-place.result (length inside.memos.items) c.self.invariant.many (omega arith) field kind c.memo_place-place.ensures.value in
-    omega (arith, place, inside.memos.ok.0)
+    let index_is = memo-inside inside.schema inside.count (c.args.number - 1) c.args.field c.memo_index-index.result (length inside.memos.items) c.self.invariant.many (omega arith) field kind c.memo_index-index.ensures.value in
+    omega (arith, index_is, inside.memos.ok.0)
 
 pub invariant_of-self-2 : goal.invariant_of-self-2
 invariant_of-self-2 c =
     let inside = c.self.inside in
     let start : c.len-start.result ≡ length inside.texts.items = omega (arith, c.len-start.ensures, inside.texts.ok.0) in
     rw (c.in_ok-extend_from_slice.ensures.items, start)
-    (store_put inside.schema inside.count inside.records.items inside.texts.items c.args.text.now inside.memos.items c.memo_place-place.result c.self.invariant c.requires.text)
+    (store_put inside.schema inside.count inside.records.items inside.texts.items c.args.text.now inside.memos.items c.memo_index-index.result c.self.invariant c.requires.text)
 
 pub returns-clause-ok : goal.returns-clause-ok
 returns-clause-ok c =
@@ -36,7 +36,7 @@ returns-clause-ok c =
     let field : c.args.field < length inside.schema = rw (← c.self.view_is) at c.requires.field in
     let kind : kind_at inside.schema c.args.field ≡ 77 = rw (← c.self.view_is) at c.requires.kind in
     let many = length-map spans (λ s. Rattle.dbf_image.specs.Store.text_of texts s) ∙ c.self.invariant.many in
-    let rows = ap (rows_of inside.schema inside.count inside.records.items) (texts_put texts text spans c.memo_place-place.result c.self.invariant.each)
-    ∙ ap (λ (k : ℕ). rows_of inside.schema inside.count inside.records.items (set (texts_of texts spans) k text)) c.memo_place-place.ensures.value
+    let rows = ap (rows_of inside.schema inside.count inside.records.items) (texts_put texts text spans c.memo_index-index.result c.self.invariant.each)
+    ∙ ap (λ (k : ℕ). rows_of inside.schema inside.count inside.records.items (set (texts_of texts spans) k text)) c.memo_index-index.ensures.value
     ∙ rows_memo inside.schema inside.count i c.args.field inside.records.items text (texts_of texts spans) (blank_row inside.schema) many (omega arith) field kind in
     rw (← c.self.view_is, c.in_ok-extend_from_slice.ensures.items, start) (ap (λ (rows : List Row). record { schema = inside.schema; rows = rows }) rows)

@@ -3,8 +3,8 @@ use Rattle.dbf_image.specs.Store.{texts_of}
 use Rattle.dbf_image.proofs.Rows.{length-rows_of}
 use Rattle.dbf_image.proofs.table.TableData.store.Goals as goal
 
-pub returns-clause-told : goal.returns-clause-told
-returns-clause-told c =
+pub returns-clause-rows : goal.returns-clause-rows
+returns-clause-rows c =
     let inside = c.self.inside in
     rw (← c.self.view_is, c.as_slice.ensures.value, c.as_slice-2.ensures.value, c.as_slice-3.ensures.value)
     (rw (length-rows_of inside.schema inside.count inside.records.items (texts_of inside.texts.items inside.memos.items)) refl)

@@ -1,4 +1,4 @@
-//! Where the records and cells of a table stand in its run of bytes.
+//! Where the records and cells of a table stand in its bytes.
 
 ghost use Rattle.std.specs.Prelude.{◌≡◌, ◌+◌, ◌-◌, ◌*◌, ◌<◌, ◌≤◌, length, take};
 ghost use Rattle.dbf_fields.specs.Field.{widths};
@@ -6,9 +6,9 @@ ghost use Rattle.dbf_image.specs.Store.{memo_count};
 
 use dbf_fields::{Field, MEMO, Schema};
 
-/// The place of a record among the records. Records count from 1 for every caller of this crate, and
+/// The index of a record among the records. Records count from 1 for every caller of this crate, and
 /// from 0 in the bytes: here alone the one becomes the other.
-fn place_of(number: u32) -> usize
+fn index_of(number: u32) -> usize
     requires { 1 ≤ number }
     ensures value { result ≡ number - 1 }
 {
@@ -21,7 +21,7 @@ pub(crate) fn record_start(schema: &Schema, number: u32) -> usize
     ensures value { result ≡ (number - 1) * (1 + widths schema.now) }
     ensures small { result < 4294967296 * 4001 }
 {
-    place_of(number) * schema.record_length()
+    index_of(number) * schema.record_length()
 }
 
 /// Where the cell of a record and a field begins.
@@ -49,13 +49,13 @@ pub(crate) fn memo_count_of(fields: &[Field]) -> usize
     count
 }
 
-/// The place of a memo among the memos of all records, in the order of records and fields.
-pub(crate) fn memo_place(schema: &Schema, number: u32, field: usize) -> usize
+/// The index of a memo among the memos of all records, in the order of records and fields.
+pub(crate) fn memo_index(schema: &Schema, number: u32, field: usize) -> usize
     requires number { 1 ≤ number }
     requires field { field < length schema.now }
     ensures value { result ≡ (number - 1) * memo_count schema.now + memo_count (take field schema.now) }
     ensures small { result < 4294967297 * 128 }
 {
     let fields = schema.fields();
-    place_of(number) * memo_count_of(fields) + memo_count_of(&fields[..field])
+    index_of(number) * memo_count_of(fields) + memo_count_of(&fields[..field])
 }

@@ -1,8 +1,8 @@
--- Steps of the loops that read one piece after the other.
+-- Steps of the loops that read one chunk after the other.
 use Rattle.std.proofs.Common.{◌≡◌, ℕ, suc, ◌+◌, ◌-◌, ◌*◌, ◌<◌, ◌≤◌, Bool, false, List, [], ◌∷◌, ◌++◌, map, take, drop, refl, sym, append_assoc, arith}
 use Rattle.std.proofs.lemmas.Bool.{cond-false}
 use Rattle.std.specs.Prelude.{flat_map}
-use Rattle.dbf_image.specs.DbfText.{pieces}
+use Rattle.dbf_image.specs.DbfText.{chunks}
 use Rattle.dbf_image.specs.Reading.{first_from}
 
 pub first_from-next : (test : ℕ → Bool) (i n : ℕ) → i < n → test i ≡ false → first_from test (i + 1) (n - (i + 1)) ≡ first_from test i (n - i)
@@ -10,9 +10,9 @@ first_from-next test i n lt fails =
     let k : n - i ≡ suc (n - (i + 1)) = omega arith in
     rw k (sym (cond-false (test i) _ _ fails))
 
-pub pieces-next : {X : Type 0} (f : List ℕ → X) (size n i : ℕ) (bytes : List ℕ) (front : List X) → i < n
-    → (front ++ f (take size bytes) ∷ []) ++ map f (pieces size (n - (i + 1)) (drop size bytes)) ≡ front ++ map f (pieces size (n - i) bytes)
-pieces-next f size n i bytes front lt =
+pub chunks-next : {X : Type 0} (f : List ℕ → X) (size n i : ℕ) (bytes : List ℕ) (front : List X) → i < n
+    → (front ++ f (take size bytes) ∷ []) ++ map f (chunks size (n - (i + 1)) (drop size bytes)) ≡ front ++ map f (chunks size (n - i) bytes)
+chunks-next f size n i bytes front lt =
     let k : n - i ≡ suc (n - (i + 1)) = omega arith in
     rw (k, append_assoc) refl
 
@@ -22,8 +22,8 @@ room-next size n i now later lt room left =
     let wide : ((n - (i + 1)) + 1) * size ≤ now = rw k at room in
     omega (arith, wide)
 
-pub pieces-more : {X : Type 0} (f : List ℕ → List X) (size n i : ℕ) (bytes : List ℕ) → i < n
-    → flat_map f (pieces size (n - i) bytes) ≡ f (take size bytes) ++ flat_map f (pieces size (n - (i + 1)) (drop size bytes))
-pieces-more f size n i bytes lt =
+pub chunks-more : {X : Type 0} (f : List ℕ → List X) (size n i : ℕ) (bytes : List ℕ) → i < n
+    → flat_map f (chunks size (n - i) bytes) ≡ f (take size bytes) ++ flat_map f (chunks size (n - (i + 1)) (drop size bytes))
+chunks-more f size n i bytes lt =
     let k : n - i ≡ suc (n - (i + 1)) = omega arith in
     rw k refl

@@ -6,9 +6,9 @@ use Rattle.std.proofs.lemmas.List.Sums.{sum_by-cons}
 use Rattle.dbf_fields.specs.declared.field.Field.{Field}
 use Rattle.dbf_fields.specs.Field.{widths}
 use Rattle.dbf_image.specs.Table.{Row, cell_width, kind_at}
-use Rattle.dbf_image.specs.DbfText.{pieces, IsRun}
+use Rattle.dbf_image.specs.DbfText.{chunks, AreRecords}
 use Rattle.dbf_image.specs.Store.{first_memo, memo_count, cells_with, row_with, rows_with, rows_of}
-use Rattle.dbf_image.proofs.Rows.{length-pieces}
+use Rattle.dbf_image.proofs.Rows.{length-chunks}
 
 -- a part of a part is a part of the whole
 pub part_of_part : (w k size : ℕ) (xs : List ℕ) → k + w ≤ size → take w (drop k (take size xs)) ≡ take w (drop k xs)
@@ -16,21 +16,21 @@ part_of_part w k size xs le =
     let e : size ≡ k + (size - k) = omega arith in
     ap (λ (n : ℕ). take w (drop k (take n xs))) e ∙ ap (take w) (drop-take k (size - k) xs) ∙ take-take w (size - k) (drop k xs) (omega arith)
 
--- a place inside so many pieces
-pub place-inside : (size count i now : ℕ) → i < count → now ≡ count * size → i * size + size ≤ now
-place-inside size count i now lt is =
+-- a chunk inside so many chunks
+pub chunk-inside : (size count i now : ℕ) → i < count → now ≡ count * size → i * size + size ≤ now
+chunk-inside size count i now lt is =
     let k : count ≡ (i + 1) + (count - (i + 1)) = omega arith in
     let wide : now ≡ ((i + 1) + (count - (i + 1))) * size = is ∙ ap (λ (n : ℕ). n * size) k in
     omega (arith, wide)
 
-pub piece_here : (size n i : ℕ) (bytes d : List ℕ) → i < n → get_or (pieces size n bytes) i d ≡ take size (drop (i * size) bytes)
-piece_here size zero i bytes d lt = absurd (omega arith)
-piece_here size (suc n) zero bytes d lt =
+pub chunk_here : (size n i : ℕ) (bytes d : List ℕ) → i < n → get_or (chunks size n bytes) i d ≡ take size (drop (i * size) bytes)
+chunk_here size zero i bytes d lt = absurd (omega arith)
+chunk_here size (suc n) zero bytes d lt =
     let k : 0 * size ≡ 0 = omega arith in
     rw k refl
-piece_here size (suc n) (suc i) bytes d lt =
+chunk_here size (suc n) (suc i) bytes d lt =
     let k : suc i * size ≡ size + i * size = omega arith in
-    rw (k, ← drop-drop (i * size) size bytes) (piece_here size n i (drop size bytes) d (omega arith))
+    rw (k, ← drop-drop (i * size) size bytes) (chunk_here size n i (drop size bytes) d (omega arith))
 
 row_by : (fields : List Field) (ps memos : List (List ℕ)) (i : ℕ) (d : Row) (e : List ℕ) → i < length ps
     → get_or (rows_with fields ps memos) i d ≡ row_with fields (get_or ps i e) (drop (i * memo_count fields) memos)
@@ -43,15 +43,15 @@ row_by fields (p ∷ ps) memos (suc i) d e lt =
     let k : suc i * n ≡ n + i * n = omega arith in
     rw (k, ← drop-drop (i * n) n memos) (row_by fields ps (drop n memos) i d e (omega arith))
 
--- the row of a place
+-- the row of an index
 pub row_here : (fields : List Field) (n i : ℕ) (bytes : List ℕ) (memos : List (List ℕ)) (d : Row) → i < n
     → get_or (rows_of fields n bytes memos) i d ≡ row_with fields (take (1 + widths fields) (drop (i * (1 + widths fields)) bytes)) (drop (i * memo_count fields) memos)
 row_here fields n i bytes memos d lt =
     let size : ℕ = 1 + widths fields in
     let nothing : List ℕ = [] in
-    let long = length-pieces size n bytes in
-    row_by fields (pieces size n bytes) memos i d nothing (omega arith)
-    ∙ ap (λ (p : List ℕ). row_with fields p (drop (i * memo_count fields) memos)) (piece_here size n i bytes nothing lt)
+    let long = length-chunks size n bytes in
+    row_by fields (chunks size n bytes) memos i d nothing (omega arith)
+    ∙ ap (λ (p : List ℕ). row_with fields p (drop (i * memo_count fields) memos)) (chunk_here size n i bytes nothing lt)
 
 -- ---- cells
 
@@ -125,44 +125,44 @@ kind_is (g ∷ fs) zero f lt is = ap (λ (h : Field). h.kind) (sym is)
 kind_is (g ∷ fs) (suc j) f lt is = kind_is fs j f (omega arith) is
 
 -- the cell of a record and a field that is no memo
-pub cell_told : (fields : List Field) (n i j : ℕ) (bytes : List ℕ) (memos : List (List ℕ)) (d : Row) → i < n → j < length fields → kind_at fields j ≢ 77
+pub cell_read : (fields : List Field) (n i j : ℕ) (bytes : List ℕ) (memos : List (List ℕ)) (d : Row) → i < n → j < length fields → kind_at fields j ≢ 77
     → get_or (get_or (rows_of fields n bytes memos) i d).cells j [] ≡ take (cell_width fields j) (drop (i * (1 + widths fields) + (1 + widths (take j fields))) bytes)
-cell_told fields n i j bytes memos d lt inside other =
+cell_read fields n i j bytes memos d lt inside other =
     let size : ℕ = 1 + widths fields in
     let from : ℕ = widths (take j fields) in
-    let piece : List ℕ = take size (drop (i * size) bytes) in
+    let chunk : List ℕ = take size (drop (i * size) bytes) in
     let room = cell_within fields j inside in
     ap (λ (r : Row). get_or r.cells j []) (row_here fields n i bytes memos d lt)
-    ∙ cell_here fields j (drop 1 piece) [] (drop (i * memo_count fields) memos) inside other
-    ∙ ap (take (cell_width fields j)) (drop-drop from 1 piece)
+    ∙ cell_here fields j (drop 1 chunk) [] (drop (i * memo_count fields) memos) inside other
+    ∙ ap (take (cell_width fields j)) (drop-drop from 1 chunk)
     ∙ part_of_part (cell_width fields j) (1 + from) size (drop (i * size) bytes) (omega arith)
     ∙ ap (take (cell_width fields j)) (drop-drop (1 + from) (i * size) bytes)
 
 -- the memo of a record and a field
-pub memo_told : (fields : List Field) (n i j : ℕ) (bytes : List ℕ) (memos : List (List ℕ)) (d : Row) → i < n → j < length fields → kind_at fields j ≡ 77
+pub memo_read : (fields : List Field) (n i j : ℕ) (bytes : List ℕ) (memos : List (List ℕ)) (d : Row) → i < n → j < length fields → kind_at fields j ≡ 77
     → get_or (get_or (rows_of fields n bytes memos) i d).cells j [] ≡ get_or memos (i * memo_count fields + memo_count (take j fields)) []
-memo_told fields n i j bytes memos d lt inside kind =
-    let piece : List ℕ = take (1 + widths fields) (drop (i * (1 + widths fields)) bytes) in
+memo_read fields n i j bytes memos d lt inside kind =
+    let chunk : List ℕ = take (1 + widths fields) (drop (i * (1 + widths fields)) bytes) in
     ap (λ (r : Row). get_or r.cells j []) (row_here fields n i bytes memos d lt)
-    ∙ memo_here fields j (drop 1 piece) [] (drop (i * memo_count fields) memos) inside kind
+    ∙ memo_here fields j (drop 1 chunk) [] (drop (i * memo_count fields) memos) inside kind
     ∙ get_or-drop (i * memo_count fields) memos (memo_count (take j fields)) []
 
 -- a record's mark
-pub flag_told : (fields : List Field) (n i : ℕ) (bytes : List ℕ) (memos : List (List ℕ)) (d : Row) → i < n
+pub flag_read : (fields : List Field) (n i : ℕ) (bytes : List ℕ) (memos : List (List ℕ)) (d : Row) → i < n
     → (get_or (rows_of fields n bytes memos) i d).deleted ≡ eqb (get_or bytes (i * (1 + widths fields)) 0) 42
-flag_told fields n i bytes memos d lt =
+flag_read fields n i bytes memos d lt =
     let size : ℕ = 1 + widths fields in
     let k : i * size + 0 ≡ i * size = omega arith in
     ap (λ (r : Row). r.deleted) (row_here fields n i bytes memos d lt)
     ∙ ap (λ (b : ℕ). eqb b 42) (get_or-take size (drop (i * size) bytes) 0 0 (omega arith) ∙ get_or-drop (i * size) bytes 0 0 ∙ ap (λ (m : ℕ). get_or bytes m 0) k)
 
--- a cell's bytes stand inside the run, and a memo among the memos
-pub cell-inside : (fields : List Field) (n i j start : ℕ) (bytes : List ℕ) → IsRun fields n bytes → i < n → j < length fields
+-- a cell's bytes stand inside the records, and a memo among the memos
+pub cell-inside : (fields : List Field) (n i j start : ℕ) (bytes : List ℕ) → AreRecords fields n bytes → i < n → j < length fields
     → start ≡ i * (1 + widths fields) + (1 + widths (take j fields)) → start + cell_width fields j ≤ length bytes
-cell-inside fields n i j start bytes run lt inside is =
-    omega (arith, place-inside (1 + widths fields) n i (length bytes) lt run.whole, cell_within fields j inside)
+cell-inside fields n i j start bytes records lt inside is =
+    omega (arith, chunk-inside (1 + widths fields) n i (length bytes) lt records.whole, cell_within fields j inside)
 
-pub memo-inside : (fields : List Field) (n i j place many : ℕ) → many ≡ n * memo_count fields → i < n → j < length fields → kind_at fields j ≡ 77
-    → place ≡ i * memo_count fields + memo_count (take j fields) → place < many
-memo-inside fields n i j place many is lt inside kind at =
-    omega (arith, place-inside (memo_count fields) n i many lt is, memo_within fields j inside kind)
+pub memo-inside : (fields : List Field) (n i j index many : ℕ) → many ≡ n * memo_count fields → i < n → j < length fields → kind_at fields j ≡ 77
+    → index ≡ i * memo_count fields + memo_count (take j fields) → index < many
+memo-inside fields n i j index many is lt inside kind at =
+    omega (arith, chunk-inside (memo_count fields) n i many lt is, memo_within fields j inside kind)
