@@ -71,7 +71,7 @@ rows_counted fields (p ∷ ps) memos e =
     let there = rows_counted fields ps (drop n memos) (omega (arith, length-drop n memos)) in
     rw (here, there) (sum_by-take-drop blocks_of memos n)
 
--- ---- texts that are given by spans
+-- ---- texts by their spans
 
 counted_spans : (texts : List ℕ) (spans : List Span) → sum_by blocks_of (texts_of texts spans) ≡ sum_by (λ s. blocks_of (text_of texts s)) spans
 counted_spans texts [] = refl

@@ -4,7 +4,7 @@ use Rattle.std.specs.List.{AllByRecursion}
 use Rattle.std.proofs.lemmas.List.{take-append-le, drop-append-le, drop_at, take_all, length-drop, length-append, length-set, length-replicate, map-append, map-set, get_or-map}
 use Rattle.dbf_fields.specs.declared.field.Field.{Field}
 use Rattle.dbf_fields.specs.Field.{widths}
-use Rattle.dbf_image.specs.declared.table.TheConstants.{MAX_RECORDS}
+use Rattle.dbf_image.specs.declared.format.TheConstants.{MAX_RECORDS}
 use Rattle.dbf_image.specs.declared.span.Span.{Span}
 use Rattle.dbf_image.specs.Table.{is_memo_text}
 use Rattle.dbf_image.specs.Store.{text_of, texts_of, IsSpan, memo_count, IsStore}
@@ -28,7 +28,7 @@ all_set P (x ∷ xs) (suc i) y h k = (h.0, all_set P xs i y h.1 k)
 
 -- ---- spans
 
--- the text of a place
+-- the text of a span
 pub text_at : (texts : List ℕ) (spans : List Span) (i : ℕ) (d : Span) → i < length spans → get_or (texts_of texts spans) i [] ≡ text_of texts (get_or spans i d)
 text_at texts spans i d lt = get_or-map (text_of texts) spans i d [] lt
 

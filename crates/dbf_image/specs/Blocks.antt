@@ -5,6 +5,7 @@ use Rattle.byteorder.specs.Endian.{little_bytes}
 use Rattle.dbf_fields.specs.declared.field.Field.{Field}
 use Rattle.dbf_fields.specs.declared.field.TheConstants.{MEMO}
 use Rattle.dbf_image.specs.Table.{Row, Table}
+use Rattle.dbf_image.specs.declared.format.TheConstants.{BLOCK, MEMO_END, VERSION}
 
 -- a number at the right end of so many places, with blanks before it; 0 is all blanks
 unfoldable pub justified : ℕ → ℕ → List ℕ
@@ -14,12 +15,12 @@ justified (suc k) n = justified k (n / 10) ++ (if n == 0 then 32 else 48 + n % 1
 -- how many blocks a text takes, with the two 0x1A after it; no text takes none
 unfoldable pub blocks_of : List ℕ → ℕ
 blocks_of [] = 0
-blocks_of (b ∷ bs) = (length (b ∷ bs) + 513) / 512
+blocks_of (b ∷ bs) = (length (b ∷ bs) + (BLOCK + 1)) / BLOCK
 
 -- the blocks of a text: the text, 0x1A 0x1A, and zeros to the last block's end
 unfoldable pub block_bytes : List ℕ → List ℕ
 block_bytes [] = []
-block_bytes (b ∷ bs) = (b ∷ bs) ++ (26 ∷ 26 ∷ replicate (512 * blocks_of (b ∷ bs) - (length (b ∷ bs) + 2)) 0)
+block_bytes (b ∷ bs) = (b ∷ bs) ++ (MEMO_END ∷ MEMO_END ∷ replicate (BLOCK * blocks_of (b ∷ bs) - (length (b ∷ bs) + 2)) 0)
 
 -- a memo's cell, whose text is to stand at the next free block
 unfoldable pub block_number_cell : ℕ → List ℕ → List ℕ
@@ -71,7 +72,7 @@ HasTooManyBlocks table = 4294967295 < next_free table
 
 -- the header: the next free block, and 3 at byte 16
 abbrev pub memo_header : ℕ → List ℕ
-memo_header next = little_bytes 4 next ++ (replicate 12 0 ++ (3 ∷ replicate 495 0))
+memo_header next = little_bytes 4 next ++ (replicate 12 0 ++ (VERSION ∷ replicate 495 0))
 
 -- the file of a table's memos
 abbrev pub memo_image : Table → List ℕ

@@ -5,7 +5,7 @@ use Rattle.byteorder.specs.Endian.{little_number}
 use Rattle.dbf_fields.specs.declared.field.Field.{Field}
 use Rattle.dbf_fields.specs.Field.{folded, widths}
 use Rattle.dbf_fields.specs.Schema as schemas
-use Rattle.dbf_image.specs.declared.table.TheConstants.{MAX_RECORDS}
+use Rattle.dbf_image.specs.declared.format.TheConstants.{DELETED, DESCRIPTOR, HEADER, HEADER_END, MAX_RECORDS, NAME_BYTES, VERSION, VERSION_WITH_MEMOS}
 use Rattle.dbf_image.specs.Table.{Row, Table, has_memos}
 use Rattle.dbf_image.specs.Memo.{EncodesCells}
 
@@ -27,7 +27,7 @@ record_length bytes = little_number 2 (drop 10 bytes)
 -- a field by its descriptor of 32 bytes: the name stands before the first zero of 11 bytes
 abbrev pub field_of : List ℕ → Field
 field_of descriptor = record {
-  name = before_first (λ b. b == 0) (take 11 descriptor);
+  name = before_first (λ b. b == 0) (take NAME_BYTES descriptor);
   kind = slice_index descriptor 11;
   width = slice_index descriptor 16;
   decimals = slice_index descriptor 17;
@@ -35,7 +35,7 @@ field_of descriptor = record {
 
 -- a record: a flag and the cells. A flag other than 0x2A means kept
 abbrev pub EncodesRow : List ℕ → List Field → List ℕ → Row → Type 0
-EncodesRow dbt fields bytes row = (row.deleted ≡ (slice_index bytes 0 == 42)) × EncodesCells dbt fields (drop 1 bytes) row.cells
+EncodesRow dbt fields bytes row = (row.deleted ≡ (slice_index bytes 0 == DELETED)) × EncodesCells dbt fields (drop 1 bytes) row.cells
 
 -- one record after the other
 abbrev pub EncodesRows : List ℕ → List Field → List (List ℕ) → List Row → Type 0
@@ -51,16 +51,16 @@ pub record AreRecords (fields : List Field) (count : ℕ) (bytes : List ℕ) : T
 
 -- the bytes are a file of the table, with a file of its memos beside it where some field is a memo
 pub record IsDbf (bytes : List ℕ) (dbt : Option (List ℕ)) (table : Table) : Type 0 where
-  pub long : 32 ≤ length bytes
-  pub version : (slice_index bytes 0 ≡ 3) ⊎ (slice_index bytes 0 ≡ 131)
+  pub long : HEADER ≤ length bytes
+  pub version : (slice_index bytes 0 ≡ VERSION) ⊎ (slice_index bytes 0 ≡ VERSION_WITH_MEMOS)
   -- the first 0x0D among the bytes 32, 64, .. stands after some descriptors and below the header's end
   pub field_count : ℕ
-  pub last_field : slice_index bytes (32 + 32 * field_count) ≡ 13
-  pub not_before : (i : ℕ) → i < field_count → slice_index bytes (32 + 32 * i) ≢ 13
-  pub in_header : 32 + 32 * field_count < header_length bytes
+  pub last_field : slice_index bytes (HEADER + DESCRIPTOR * field_count) ≡ HEADER_END
+  pub not_before : (i : ℕ) → i < field_count → slice_index bytes (HEADER + DESCRIPTOR * i) ≢ HEADER_END
+  pub in_header : HEADER + DESCRIPTOR * field_count < header_length bytes
   -- they tell fields that a table may have
-  pub accepted : schemas.refusal (map field_of (chunks 32 field_count (drop 32 bytes))) ≡ None
-  pub schema : table.schema ≡ map folded (map field_of (chunks 32 field_count (drop 32 bytes)))
+  pub accepted : schemas.refusal (map field_of (chunks DESCRIPTOR field_count (drop HEADER bytes))) ≡ None
+  pub schema : table.schema ≡ map folded (map field_of (chunks DESCRIPTOR field_count (drop HEADER bytes)))
   pub wide : record_length bytes ≡ 1 + widths table.schema
   -- the records stand after the header, one after the other
   pub few : record_count bytes ≤ MAX_RECORDS

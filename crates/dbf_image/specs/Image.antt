@@ -5,27 +5,28 @@ use Rattle.dbf_fields.specs.declared.field.Field.{Field}
 use Rattle.dbf_fields.specs.Field.{widths}
 use Rattle.dbf_image.specs.Table.{Row, Table, has_memos}
 use Rattle.dbf_image.specs.Blocks.{cells_bytes, cells_blocks}
+use Rattle.dbf_image.specs.declared.format.TheConstants.{DELETED, DESCRIPTOR, END_OF_FILE, FIRST_YEAR, HEADER, HEADER_END, KEPT, LAST_YEAR, NAME_BYTES, VERSION, VERSION_WITH_MEMOS}
 
 -- the version: 0x83 where there is a file of memos
 abbrev pub version_of : List Field → ℕ
-version_of fields = if has_memos fields then 131 else 3
+version_of fields = if has_memos fields then VERSION_WITH_MEMOS else VERSION
 
 -- the 32 bytes before the descriptors: the version, the date, three numbers with their lowest bytes first, zeros
 abbrev pub header_with : ℕ → ℕ → ℕ → ℕ → ℕ → ℕ → ℕ → List ℕ
 header_with version record_count header_length record_length year month day =
-    version ∷ (year - 1900) ∷ month ∷ day ∷ (little_bytes 4 record_count ++ (little_bytes 2 header_length ++ (little_bytes 2 record_length ++ replicate 20 0)))
+    version ∷ (year - FIRST_YEAR) ∷ month ∷ day ∷ (little_bytes 4 record_count ++ (little_bytes 2 header_length ++ (little_bytes 2 record_length ++ replicate 20 0)))
 
 -- the header of a table
 abbrev pub header_bytes : Table → ℕ → ℕ → ℕ → List ℕ
-header_bytes table year month day = header_with (version_of table.schema) (length table.rows) (32 * length table.schema + 33) (1 + widths table.schema) year month day
+header_bytes table year month day = header_with (version_of table.schema) (length table.rows) (DESCRIPTOR * length table.schema + (HEADER + 1)) (1 + widths table.schema) year month day
 
 -- a field's descriptor of 32 bytes: the name, zeros up to 11 bytes, the letter, and after four zeros the width and the decimals
 unfoldable pub descriptor : Field → List ℕ
-descriptor f = (f.name ++ replicate (11 - length f.name) 0) ++ (f.kind ∷ (replicate 4 0 ++ (f.width ∷ f.decimals ∷ replicate 14 0)))
+descriptor f = (f.name ++ replicate (NAME_BYTES - length f.name) 0) ++ (f.kind ∷ (replicate 4 0 ++ (f.width ∷ f.decimals ∷ replicate 14 0)))
 
 -- a record: its flag and its cells, where the next free block is known
 abbrev pub row_bytes : ℕ → List Field → Row → List ℕ
-row_bytes next fields row = (if row.deleted then 42 else 32) ∷ cells_bytes next fields row.cells
+row_bytes next fields row = (if row.deleted then DELETED else KEPT) ∷ cells_bytes next fields row.cells
 
 -- one record after the other, from the next free block on
 abbrev pub rows_bytes : ℕ → List Field → List Row → List (List ℕ)
@@ -35,8 +36,8 @@ rows_bytes next fields (r ∷ rs) = row_bytes next fields r ∷ rows_bytes (next
 -- the text of a table, dated: header, descriptors, 0x0D, records, 0x1A
 abbrev pub image : Table → ℕ → ℕ → ℕ → List ℕ
 image table year month day =
-    header_bytes table year month day ++ (flat_map descriptor table.schema ++ (13 ∷ (flat_map (λ bytes. bytes) (rows_bytes 1 table.schema table.rows) ++ 26 ∷ [])))
+    header_bytes table year month day ++ (flat_map descriptor table.schema ++ (HEADER_END ∷ (flat_map (λ bytes. bytes) (rows_bytes 1 table.schema table.rows) ++ END_OF_FILE ∷ [])))
 
 -- a year that the one byte of the header's date cannot tell
 abbrev pub IsOutside : ℕ → Type 0
-IsOutside year = (year < 1900) ⊎ (2155 < year)
+IsOutside year = (year < FIRST_YEAR) ⊎ (LAST_YEAR < year)

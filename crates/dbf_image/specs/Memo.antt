@@ -6,7 +6,7 @@ use Rattle.dbf_fields.specs.declared.field.Field.{Field}
 use Rattle.dbf_fields.specs.declared.field.TheConstants.{MEMO}
 use Rattle.dbf_fields.specs.Digits.{digits_behind}
 use Rattle.dbf_fields.specs.Number.{trimmed}
-use Rattle.dbf_image.specs.declared.table.TheConstants.{MAX_MEMO_BYTES}
+use Rattle.dbf_image.specs.declared.format.TheConstants.{BLOCK, MAX_MEMO_BYTES, MEMO_END}
 
 -- the block number of a memo's cell: digits between blanks and nothing else. No digits, or 0, is no memo
 unfoldable pub memo_number : List ℕ → Option ℕ
@@ -14,12 +14,12 @@ memo_number cell = if list_all is_ascii_digit (trimmed cell) then Some (digits_b
 
 -- the text from the head of a block to the first 0x1A or the end
 abbrev pub memo_at : List ℕ → ℕ → List ℕ
-memo_at dbt block = before_first (λ b. b == 26) (drop (512 * block) dbt)
+memo_at dbt block = before_first (λ b. b == MEMO_END) (drop (BLOCK * block) dbt)
 
 -- the block, which is not the header's, has the text
 pub record HasText (dbt : List ℕ) (block : ℕ) (text : List ℕ) : Type 0 where
   pub some : 0 < block
-  pub inside : 512 * block < length dbt
+  pub inside : BLOCK * block < length dbt
   pub short : length text ≤ MAX_MEMO_BYTES
   pub text_is : memo_at dbt block ≡ text
 

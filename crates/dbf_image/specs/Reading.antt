@@ -7,7 +7,7 @@ use Rattle.dbf_fields.specs.Field.{folded, widths}
 use Rattle.dbf_fields.specs.Schema as schemas
 use Rattle.dbf_image.specs.declared.fault.ImageFault.{ImageFault}
 use Rattle.dbf_image.specs.declared.fault.ImageFault.TheVariants.{Truncated, BadVersion, BadHeaderLength, BadSchema, BadRecordLength, TooManyRecords, MemoFileMissing, BadMemoNumber, MemoOutside, MemoTooLong, NoMemory}
-use Rattle.dbf_image.specs.declared.table.TheConstants.{MAX_RECORDS, MAX_MEMO_BYTES}
+use Rattle.dbf_image.specs.declared.format.TheConstants.{BLOCK, DELETED, DESCRIPTOR, HEADER, HEADER_END, MAX_MEMO_BYTES, MAX_RECORDS, VERSION, VERSION_WITH_MEMOS}
 use Rattle.dbf_image.specs.declared.header.Header.{Header}
 use Rattle.dbf_image.specs.Table.{Row, Table, has_memos}
 use Rattle.dbf_image.specs.Memo.{memo_number, memo_at}
@@ -20,22 +20,22 @@ first_from test i (suc n) = if test i then Some i else first_from test (i + 1) n
 
 -- how many descriptors stand before the first 0x0D among the bytes 32, 64, .. below the header's end
 abbrev pub field_count : List ℕ → Option ℕ
-field_count bytes = first_from (λ i. slice_index bytes (32 + 32 * i) == 13) 0 ((header_length bytes - 1) / 32)
+field_count bytes = first_from (λ i. slice_index bytes (HEADER + DESCRIPTOR * i) == HEADER_END) 0 ((header_length bytes - 1) / DESCRIPTOR)
 
 -- the fields as their descriptors tell them
 abbrev pub fields_of : List ℕ → List Field
-fields_of bytes = map field_of (chunks 32 (unwrap_or (field_count bytes) 0) (drop 32 bytes))
+fields_of bytes = map field_of (chunks DESCRIPTOR (unwrap_or (field_count bytes) 0) (drop HEADER bytes))
 
 abbrev pub schema_of : List ℕ → List Field
 schema_of bytes = map folded (fields_of bytes)
 
 abbrev pub has_version : List ℕ → Bool
-has_version bytes = slice_index bytes 0 == 3 || slice_index bytes 0 == 131
+has_version bytes = slice_index bytes 0 == VERSION || slice_index bytes 0 == VERSION_WITH_MEMOS
 
 -- each test beside the fault that it is for: first of the header,
 unfoldable pub header_tests : List ℕ → List (Bool × ImageFault)
 header_tests bytes =
-    (nat_le 32 (length bytes), Truncated)
+    (nat_le HEADER (length bytes), Truncated)
     ∷ (has_version bytes, BadVersion)
     ∷ (nat_le (header_length bytes) (length bytes), Truncated)
     ∷ []
@@ -62,7 +62,7 @@ record_tests bytes =
 
 -- the block begins in the file of memos, after its header
 abbrev pub is_block : List ℕ → ℕ → Bool
-is_block dbt block = nat_lt 0 block && nat_lt (512 * block) (length dbt)
+is_block dbt block = nat_lt 0 block && nat_lt (BLOCK * block) (length dbt)
 
 -- the tests of a text at a block
 unfoldable pub text_tests : List ℕ → ℕ → List (Bool × ImageFault)
@@ -101,7 +101,7 @@ abbrev pub row_tests : List ℕ → List Field → List ℕ → List (Bool × Im
 row_tests dbt fields bytes = cells_tests dbt fields (drop 1 bytes)
 
 abbrev pub row_read : List ℕ → List Field → List ℕ → Row
-row_read dbt fields bytes = record { deleted = slice_index bytes 0 == 42; cells = cells_read dbt fields (drop 1 bytes) }
+row_read dbt fields bytes = record { deleted = slice_index bytes 0 == DELETED; cells = cells_read dbt fields (drop 1 bytes) }
 
 -- the records, one after the other
 abbrev pub records_of : List ℕ → List (List ℕ)

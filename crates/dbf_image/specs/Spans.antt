@@ -9,19 +9,20 @@ use Rattle.dbf_image.specs.declared.span.Span.{Span}
 use Rattle.dbf_image.specs.Table.{has_memos}
 use Rattle.dbf_image.specs.Memo.{memo_number}
 use Rattle.dbf_image.specs.Reading.{row_tests}
+use Rattle.dbf_image.specs.declared.format.TheConstants.{BLOCK, MEMO_END}
 
 -- where the first 0x1A stands at or after an offset, or the file's end
 abbrev pub end_at : List ℕ → ℕ → ℕ
-end_at dbt offset = offset + position_or_len (λ b. b == 26) (drop offset dbt)
+end_at dbt offset = offset + position_or_len (λ b. b == MEMO_END) (drop offset dbt)
 
 -- the same for the heads of all blocks
 pub record AreEnds (dbt ends : List ℕ) : Type 0 where
-  pub many : length ends ≡ length dbt / 512 + 1
-  pub each : (block : ℕ) → block < length ends → slice_index ends block ≡ end_at dbt (512 * block)
+  pub many : length ends ≡ length dbt / BLOCK + 1
+  pub each : (block : ℕ) → block < length ends → slice_index ends block ≡ end_at dbt (BLOCK * block)
 
 -- where the text of a block stands
 abbrev pub span_of : List ℕ → ℕ → Span
-span_of dbt block = record { start = 512 * block; length = position_or_len (λ b. b == 26) (drop (512 * block) dbt) }
+span_of dbt block = record { start = BLOCK * block; length = position_or_len (λ b. b == MEMO_END) (drop (BLOCK * block) dbt) }
 
 -- where no text stands
 abbrev pub no_span : Span

@@ -7,6 +7,7 @@ use Rattle.dbf_fields.specs.Field.{widths}
 use Rattle.dbf_image.specs.declared.span.Span.{Span}
 use Rattle.dbf_image.specs.Table.{Row, is_memo_text}
 use Rattle.dbf_image.specs.DbfText.{chunks, AreRecords}
+use Rattle.dbf_image.specs.declared.format.TheConstants.{DELETED}
 
 -- a part of the texts
 abbrev pub text_of : List ℕ → Span → List ℕ
@@ -40,7 +41,7 @@ cells_with (f ∷ fs) bytes memos =
 
 -- a record: a flag and the cells. A flag other than 0x2A means kept
 abbrev pub row_with : List Field → List ℕ → List (List ℕ) → Row
-row_with fields bytes memos = record { deleted = slice_index bytes 0 == 42; cells = cells_with fields (drop 1 bytes) memos }
+row_with fields bytes memos = record { deleted = slice_index bytes 0 == DELETED; cells = cells_with fields (drop 1 bytes) memos }
 
 -- one record after the other, each with its memos
 abbrev pub rows_with : List Field → List (List ℕ) → List (List ℕ) → List Row
@@ -51,7 +52,7 @@ rows_with fields (p ∷ ps) memos = row_with fields p memos ∷ rows_with fields
 abbrev pub rows_of : List Field → ℕ → List ℕ → List (List ℕ) → List Row
 rows_of fields count bytes memos = rows_with fields (chunks (1 + widths fields) count bytes) memos
 
--- the runs have so many records, and a text for each memo
+-- the lists have so many records, and a text for each memo
 pub record IsStore (fields : List Field) (count : ℕ) (bytes texts : List ℕ) (spans : List Span) : Type 0 where
   pub records : AreRecords fields count bytes
   pub many : length spans ≡ count * memo_count fields

@@ -4,7 +4,7 @@ use Rattle.std.specs.List.{list_all, list_any, AllByRecursion}
 use Rattle.dbf_fields.specs.declared.field.Field.{Field}
 use Rattle.dbf_fields.specs.declared.field.TheConstants.{MEMO}
 use Rattle.dbf_fields.specs.Schema.{IsSchema}
-use Rattle.dbf_image.specs.declared.table.TheConstants.{MAX_RECORDS, MAX_MEMO_BYTES}
+use Rattle.dbf_image.specs.declared.format.TheConstants.{MAX_MEMO_BYTES, MAX_RECORDS, MEMO_END}
 
 -- a record: whether it is marked as deleted, and its cells. The cell of a memo is the memo's text
 pub record Row : Type 0 where
@@ -22,7 +22,7 @@ has_memos fields = list_any (λ f. f.kind == MEMO) fields
 
 -- a text that a memo may have: short, and without the byte that ends a memo
 abbrev pub is_memo_text : List ℕ → Bool
-is_memo_text text = nat_le (length text) MAX_MEMO_BYTES && list_all (λ b. not (b == 26)) text
+is_memo_text text = nat_le (length text) MAX_MEMO_BYTES && list_all (λ b. not (b == MEMO_END)) text
 
 -- a cell that a field may have: a memo's text, or as many bytes as the field is wide
 abbrev pub IsCell : Field → List ℕ → Type 0

@@ -4,7 +4,9 @@ ghost use Rattle.std.specs.Prelude.{◌≡◌, ◌+◌, ◌*◌, ◌%◌, ◌≤
 ghost use Rattle.std.specs.List.{AllByRecursion};
 ghost use Rattle.dbf_image.specs.Blocks.{justified, blocks_of, block_number_cell as number_bytes, next_free};
 ghost use Rattle.dbf_image.specs.Store.{text_of, IsSpan};
+ghost use Rattle.dbf_image.specs.declared.format.TheConstants.{MAX_MEMO_BYTES};
 
+use crate::format::BLOCK;
 use crate::span::{Span, text_at};
 use crate::store::Store;
 use crate::table::TableData;
@@ -13,21 +15,21 @@ use crate::table::TableData;
 pub(crate) fn memo_text<'a>(texts: &'a [u8], span: &Span) -> &'a [u8]
     requires { IsSpan texts.now span.now }
     ensures value { result.now ≡ text_of texts.now span.now }
-    ensures short { length result.now ≤ 65535 }
+    ensures short { length result.now ≤ MAX_MEMO_BYTES }
 {
     text_at(texts, *span)
 }
 
 /// How many blocks a text takes.
 pub(crate) fn block_count(text: &[u8]) -> u64
-    requires { length text.now ≤ 65535 }
+    requires { length text.now ≤ MAX_MEMO_BYTES }
     ensures value { result ≡ blocks_of text.now }
     ensures small { result ≤ 129 }
 {
     if text.is_empty() {
         0
     } else {
-        (text.len() as u64 + 513) / 512
+        ((text.len() + (BLOCK + 1)) / BLOCK) as u64
     }
 }
 

@@ -7,10 +7,11 @@ ghost use Rattle.dbf_image.specs.Memo.{memo_number, memo_at, HasText};
 ghost use Rattle.dbf_image.specs.Reading.{is_block, text_tests};
 ghost use Rattle.dbf_image.specs.declared.fault.ImageFault.{ImageFault};
 ghost use Rattle.dbf_image.specs.Spans.{end_at, AreEnds, span_of};
+ghost use Rattle.dbf_image.specs.declared.format.TheConstants.{MEMO_END};
 
 use crate::fault::ImageFault;
+use crate::format::{BLOCK, MAX_MEMO_BYTES, MEMO_END};
 use crate::span::Span;
-use crate::table::MAX_MEMO_BYTES;
 use dbf_fields::{Bytes, are_digits, number_of_digits, trimmed};
 use memchr::memchr;
 use std::alloc::{AllocError, Global};
@@ -31,17 +32,17 @@ pub(crate) fn number_of(cell: &[u8]) -> Option<u64>
 
 // Where the first 0x1A stands, or how many bytes there are.
 fn first_end(bytes: &[u8]) -> usize
-    ensures value { result ≡ position_or_len (λ b. b == 26) bytes.now }
+    ensures value { result ≡ position_or_len (λ b. b == MEMO_END) bytes.now }
     ensures inside { result ≤ length bytes.now }
 {
-    memchr(0x1a, bytes).unwrap_or(bytes.len())
+    memchr(MEMO_END, bytes).unwrap_or(bytes.len())
 }
 
 // Whether a block begins in the file, after the header's.
 fn has_block(dbt: &[u8], block: u64) -> bool
     ensures value { result ≡ is_block dbt.now block }
 {
-    block > 0 && block <= (dbt.len().saturating_sub(1) / 512) as u64
+    block > 0 && block <= (dbt.len().saturating_sub(1) / BLOCK) as u64
 }
 
 // Where a text ends that begins at `from`, where the end from `to` on is known.
@@ -66,14 +67,14 @@ pub(crate) fn block_ends(alloc: Global, dbt: &[u8]) -> Result<Vec<usize>, AllocE
     ensures ends { IfOk result (λ ends. AreEnds dbt.now ends.items) }
 {
     let mut ends = Vec::new(alloc);
-    ends.resize(dbt.len() / 512 + 1, dbt.len())?;
+    ends.resize(dbt.len() / BLOCK + 1, dbt.len())?;
     let mut block = ends.len();
     let mut to = dbt.len();
     let mut end = dbt.len();
     while block > 0 {
         block -= 1;
-        end = end_from(dbt, 512 * block, to, end);
-        to = 512 * block;
+        end = end_from(dbt, BLOCK * block, to, end);
+        to = BLOCK * block;
         ends[block] = end;
     }
     Ok(ends)
@@ -90,7 +91,7 @@ pub(crate) fn span_at(dbt: &[u8], ends: &[usize], block: u64) -> Result<Span, Im
     if !has_block(dbt, block) {
         return Err(ImageFault::MemoOutside);
     }
-    let start = 512 * block as usize;
+    let start = BLOCK * block as usize;
     let length = ends[block as usize] - start;
     if length > MAX_MEMO_BYTES {
         return Err(ImageFault::MemoTooLong);
@@ -108,7 +109,7 @@ fn block_text(dbt: &[u8], block: u64) -> Result<&[u8], ImageFault>
     if !has_block(dbt, block) {
         return Err(ImageFault::MemoOutside);
     }
-    let (_, rest) = dbt.split_at(512 * block as usize);
+    let (_, rest) = dbt.split_at(BLOCK * block as usize);
     let (text, _) = rest.split_at(first_end(rest));
     if text.len() > MAX_MEMO_BYTES {
         return Err(ImageFault::MemoTooLong);

@@ -9,13 +9,16 @@ ghost use Rattle.dbf_fields.specs.Schema as schemas;
 ghost use Rattle.dbf_image.specs.DbfText.{chunks, field_of, IsDbf, header_length as dbf_header_length};
 ghost use Rattle.dbf_image.specs.Table.{Table};
 ghost use Rattle.dbf_image.specs.declared.fault.ImageFault.{ImageFault};
-ghost use Rattle.dbf_image.specs.declared.table.TheConstants.{MAX_RECORDS};
+ghost use Rattle.dbf_image.specs.declared.format.TheConstants.{DESCRIPTOR, HEADER, MAX_RECORDS, VERSION, VERSION_WITH_MEMOS};
 ghost use Rattle.dbf_image.specs.Reading.{field_count, dbf_header, schema_of, header_tests, field_tests, record_tests, early_refusal, table_read, refusal, IsRefusal};
 
 use crate::fault::ImageFault;
+use crate::format::{
+    DESCRIPTOR, HEADER, HEADER_END, MAX_RECORDS, NAME_BYTES, VERSION, VERSION_WITH_MEMOS,
+};
 use crate::header::Header;
 use crate::memos::memos_at;
-use crate::table::{MAX_RECORDS, TableData};
+use crate::table::TableData;
 use byteorder::{ByteOrder, LittleEndian};
 use dbf_fields::{Bytes, Field, Schema, SchemaFault};
 use std::alloc::{AllocError, Global};
@@ -25,10 +28,10 @@ fn descriptor_count(bytes: &[u8], end: usize) -> Option<usize>
     requires inside { end ≤ length bytes.now }
     requires value { end ≡ dbf_header_length bytes.now }
     ensures count { result ≡ field_count bytes.now }
-    ensures room { IfSome result (λ n. 32 + 32 * n < end) }
+    ensures room { IfSome result (λ n. HEADER + DESCRIPTOR * n < end) }
 {
-    for i in 0..end.saturating_sub(1) / 32 {
-        if bytes[32 + 32 * i] == 0x0d {
+    for i in 0..end.saturating_sub(1) / DESCRIPTOR {
+        if bytes[HEADER + DESCRIPTOR * i] == HEADER_END {
             return Some(i);
         }
     }
@@ -44,11 +47,11 @@ fn first_zero(name: &[u8]) -> Option<usize>
 
 // The field of a descriptor.
 fn field_at(alloc: Global, descriptor: &[u8]) -> Result<Field, AllocError>
-    requires { 32 ≤ length descriptor.now }
+    requires { DESCRIPTOR ≤ length descriptor.now }
     ensures { IfOk result (λ field. field ≡ field_of descriptor.now) }
 {
-    let name = &descriptor[..11];
-    let end = first_zero(name).unwrap_or(11);
+    let name = &descriptor[..NAME_BYTES];
+    let end = first_zero(name).unwrap_or(NAME_BYTES);
     Ok(Field {
         name: Bytes::from_slice(alloc, &name[..end])?,
         kind: descriptor[11],
@@ -59,13 +62,13 @@ fn field_at(alloc: Global, descriptor: &[u8]) -> Result<Field, AllocError>
 
 // The fields of so many descriptors, one after the other.
 fn fields_at(alloc: Global, count: usize, bytes: &[u8]) -> Result<Vec<Field>, AllocError>
-    requires { 32 * count ≤ length bytes.now }
-    ensures { IfOk result (λ fields. fields.items ≡ map field_of (chunks 32 count bytes.now)) }
+    requires { DESCRIPTOR * count ≤ length bytes.now }
+    ensures { IfOk result (λ fields. fields.items ≡ map field_of (chunks DESCRIPTOR count bytes.now)) }
 {
     let mut fields = Vec::new(alloc);
     let mut rest = bytes;
     for _ in 0..count {
-        let (descriptor, after) = rest.split_at(32);
+        let (descriptor, after) = rest.split_at(DESCRIPTOR);
         fields.push(field_at(alloc, descriptor)?)?;
         rest = after;
     }
@@ -78,10 +81,10 @@ fn header_at(dbf: &[u8]) -> Result<Header, ImageFault>
     ensures accepted { IfOk result (λ _. first_fault (header_tests dbf.now) ≡ None) }
     ensures refused { IfErr result (λ fault. first_fault (header_tests dbf.now) ≡ Some fault) }
     ensures value { IfOk result (λ header. header ≡ dbf_header dbf.now) }
-    ensures long { OnOk result (32 ≤ length dbf.now) }
+    ensures long { OnOk result (HEADER ≤ length dbf.now) }
     ensures inside { IfOk result (λ header. header.header_length ≤ length dbf.now) }
 {
-    if dbf.len() < 32 {
+    if dbf.len() < HEADER {
         return Err(ImageFault::Truncated);
     }
     if !has_version(dbf[0]) {
@@ -100,15 +103,15 @@ fn header_at(dbf: &[u8]) -> Result<Header, ImageFault>
 
 // Version 3, without a memo file or with one.
 fn has_version(first: u8) -> bool
-    ensures { result ≡ (first == 3 || first == 131) }
+    ensures { result ≡ (first == VERSION || first == VERSION_WITH_MEMOS) }
 {
-    first == 0x03 || first == 0x83
+    first == VERSION || first == VERSION_WITH_MEMOS
 }
 
 // The fields of the schema, by their descriptors.
 #[tactic(auto, unfolding(crate::specs::Reading::field_tests))]
 fn schema_at(alloc: Global, dbf: &[u8], header_length: usize) -> Result<Schema, ImageFault>
-    requires long { 32 ≤ length dbf.now }
+    requires long { HEADER ≤ length dbf.now }
     requires inside { header_length ≤ length dbf.now }
     requires value { header_length ≡ dbf_header_length dbf.now }
     ensures accepted { IfOk result (λ _. first_fault (field_tests dbf.now) ≡ None) }
@@ -119,7 +122,7 @@ fn schema_at(alloc: Global, dbf: &[u8], header_length: usize) -> Result<Schema, 
     let Some(count) = descriptor_count(dbf, header_length) else {
         return Err(ImageFault::BadHeaderLength);
     };
-    let fields = fields_at(alloc, count, &dbf[32..])?;
+    let fields = fields_at(alloc, count, &dbf[HEADER..])?;
     let schema = schema_of_fields(alloc, &fields)?;
     Ok(schema)
 }

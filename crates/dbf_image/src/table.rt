@@ -5,20 +5,15 @@ ghost use Rattle.std.specs.List.{list_all};
 ghost use Rattle.dbf_fields.specs.Field.{widths};
 ghost use Rattle.dbf_image.specs.Table.{IsTable, is_memo_text as may_be_memo, kind_at, cell_width, blank_row, row_at, cell_at, empty_table, with_row, with_cell};
 ghost use Rattle.dbf_image.specs.Store.{texts_of, row_with, rows_of, IsStore};
-ghost use Rattle.dbf_image.specs.declared.table.TheConstants.{MAX_RECORDS};
+ghost use Rattle.dbf_image.specs.declared.format.TheConstants.{MAX_RECORDS, MEMO_END};
 
+use crate::format::{DELETED, MAX_MEMO_BYTES, MAX_RECORDS, MEMO_END};
 use crate::offsets::{cell_start, memo_count_of, memo_index, record_start};
 use crate::span::{Span, no_span, text_at};
 use crate::store::Store;
 use dbf_fields::{MEMO, Schema};
 use std::alloc::{AllocError, Global};
 use std::marker::Model;
-
-/// How many records a table has at most: the limit that dBASE III PLUS states for its files.
-pub const MAX_RECORDS: u32 = 1_000_000_000;
-
-/// How many bytes a memo's text has at most.
-pub const MAX_MEMO_BYTES: usize = 65_535;
 
 /// Whether a memo may have the text: at most [`MAX_MEMO_BYTES`] bytes, and no 0x1A, which would end it.
 pub fn is_memo_text(text: &[u8]) -> bool
@@ -29,9 +24,9 @@ pub fn is_memo_text(text: &[u8]) -> bool
 
 // No byte is 0x1A.
 fn has_no_end(text: &[u8]) -> bool
-    ensures value { result ≡ list_all (λ b. not (b == 26)) text.now }
+    ensures value { result ≡ list_all (λ b. not (b == MEMO_END)) text.now }
 {
-    text.iter().all(|byte| *byte != 0x1a)
+    text.iter().all(|byte| *byte != MEMO_END)
 }
 
 /// A table, which contracts see as its fields and its rows in order.
@@ -39,7 +34,7 @@ fn has_no_end(text: &[u8]) -> bool
 /// Its records stand in one list of bytes as in a DBF file: a flag of one byte, 0x2A where the record is
 /// marked as deleted, and then the cells without separators, each as wide as its field. The texts of
 /// memos stand in a second list, in which a span tells each memo's text; what the records' list has in the
-/// place of a memo's cell says nothing. Records count from 1, as RECNO() does; fields have an index from 0
+/// place of a memo's cell has no meaning. Records count from 1, as RECNO() does; fields have an index from 0
 /// in the schema's list.
 #[derive(Debug, Drop)]
 pub struct TableData {
@@ -132,7 +127,7 @@ impl TableData {
         ensures value { result ≡ (row_at self.now number).deleted }
     {
         let start = record_start(&self.schema, number);
-        self.store().records[start] == 0x2a
+        self.store().records[start] == DELETED
     }
 
     /// A record's cell: as many bytes as its field is wide, or the memo's text. Records count from 1,

@@ -10,8 +10,12 @@ ghost use Rattle.dbf_image.specs.Blocks.{HasTooManyBlocks, next_free, memo_image
 ghost use Rattle.dbf_image.specs.Image.{header_with, descriptor, version_of, image, IsOutside};
 ghost use Rattle.dbf_image.specs.Output.{Puts};
 ghost use Rattle.dbf_image.specs.Sink.{grown, IsFront, Rises};
+ghost use Rattle.dbf_image.specs.declared.format.TheConstants.{DESCRIPTOR, FIRST_YEAR, HEADER, LAST_YEAR, NAME_BYTES};
 
 use crate::blocks::next_free_block;
+use crate::format::{
+    DESCRIPTOR, END_OF_FILE, FIRST_YEAR, HEADER, HEADER_END, LAST_YEAR, VERSION, VERSION_WITH_MEMOS,
+};
 use crate::header::{Header, dbf_header};
 use crate::memos::has_memos;
 use crate::sink::{ByteSink, SinkFault};
@@ -40,18 +44,22 @@ pub enum WriteFault {
 fn version_byte(fields: &[Field]) -> u8
     ensures value { result ≡ version_of fields.now }
 {
-    if has_memos(fields) { 0x83 } else { 0x03 }
+    if has_memos(fields) {
+        VERSION_WITH_MEMOS
+    } else {
+        VERSION
+    }
 }
 
 // The 32 bytes before the descriptors.
-fn header_bytes(version: u8, header: Header, day: Day) -> [u8; 32]
-    requires low { 1900 ≤ day.year }
-    requires high { day.year ≤ 2155 }
+fn header_bytes(version: u8, header: Header, day: Day) -> [u8; HEADER]
+    requires low { FIRST_YEAR ≤ day.year }
+    requires high { day.year ≤ LAST_YEAR }
     ensures value { result ≡ header_with version header.record_count header.header_length header.record_length day.year day.month day.day }
 {
-    let mut bytes = [0; 32];
+    let mut bytes = [0; HEADER];
     bytes[0] = version;
-    bytes[1] = (day.year - 1900) as u8;
+    bytes[1] = (day.year - FIRST_YEAR) as u8;
     bytes[2] = day.month;
     bytes[3] = day.day;
     LittleEndian::write_u32(&mut bytes[4..], header.record_count);
@@ -62,12 +70,12 @@ fn header_bytes(version: u8, header: Header, day: Day) -> [u8; 32]
 
 // The 32 bytes of a field.
 #[tactic(auto, unfolding(crate::specs::Image::descriptor))]
-fn descriptor_bytes(field: &Field) -> [u8; 32]
-    requires { length field.now.name ≤ 11 }
+fn descriptor_bytes(field: &Field) -> [u8; DESCRIPTOR]
+    requires { length field.now.name ≤ NAME_BYTES }
     ensures value { result ≡ descriptor field.now }
 {
     let name = field.name.as_slice();
-    let mut bytes = [0; 32];
+    let mut bytes = [0; DESCRIPTOR];
     bytes[..name.len()].copy_from_slice(name);
     bytes[11] = field.kind;
     bytes[16] = field.width;
@@ -86,19 +94,19 @@ fn put_descriptors<S: ByteSink>(out: &mut SinkWriter<'_, S>, fields: &[Field])
 
 // The bytes of the file.
 fn put_image<S: ByteSink>(out: &mut SinkWriter<'_, S>, table: &TableData, header: Header, day: Day)
-    requires low { 1900 ≤ day.year }
-    requires high { day.year ≤ 2155 }
+    requires low { FIRST_YEAR ≤ day.year }
+    requires high { day.year ≤ LAST_YEAR }
     requires count { header.record_count ≡ length table.now.rows }
-    requires header { header.header_length ≡ 32 * length table.now.schema + 33 }
+    requires header { header.header_length ≡ DESCRIPTOR * length table.now.schema + (HEADER + 1) }
     requires wide { header.record_length ≡ 1 + widths table.now.schema }
     ensures { Puts out.old (image table.now day.year day.month day.day) out.new }
 {
     let fields = table.schema().fields();
     out.put(&header_bytes(version_byte(fields), header, day));
     put_descriptors(out, fields);
-    out.put(&[0x0d]);
+    out.put(&[HEADER_END]);
     put_records(out, fields, header, table.store());
-    out.put(&[0x1a]);
+    out.put(&[END_OF_FILE]);
 }
 
 /// Writes the DBF file of a table into a sink, with the date of its last change, of the years 1900 to
@@ -128,7 +136,7 @@ pub fn write_dbf<S: ByteSink>(sink: &mut S, table: &TableData, day: Day) -> Resu
     ensures plain { some_memo table.now.schema ≡ false → (dbt : Option (List ℕ)) → IsDbf (image table.now day.year day.month day.day) dbt table.now }
 {
     let header = dbf_header(table);
-    if day.year < 1900 || day.year > 2155 {
+    if day.year < FIRST_YEAR || day.year > LAST_YEAR {
         return Err(WriteFault::DateOutside);
     }
     if next_free_block(table).is_none() {

@@ -7,8 +7,10 @@ ghost use Rattle.dbf_image.specs.Store.{text_of, IsSpan};
 ghost use Rattle.dbf_image.specs.Blocks.{block_bytes, memo_header, memo_image, next_free, HasTooManyBlocks};
 ghost use Rattle.dbf_image.specs.Output.{Puts};
 ghost use Rattle.dbf_image.specs.Sink.{grown, IsFront, Rises};
+ghost use Rattle.dbf_image.specs.declared.format.TheConstants.{BLOCK, MAX_MEMO_BYTES};
 
 use crate::blocks::{memo_text, next_free_block};
+use crate::format::{BLOCK, MEMO_END, VERSION};
 use crate::sink::{ByteSink, SinkFault};
 use crate::span::Span;
 use crate::table::TableData;
@@ -17,35 +19,35 @@ use crate::writer::SinkWriter;
 use byteorder::{ByteOrder, LittleEndian};
 
 // The 512 bytes before the blocks of texts.
-fn header_block(next: u32) -> [u8; 512]
+fn header_block(next: u32) -> [u8; BLOCK]
     ensures value { result ≡ memo_header next }
 {
-    let mut bytes = [0; 512];
+    let mut bytes = [0; BLOCK];
     LittleEndian::write_u32(&mut bytes, next);
-    bytes[16] = 0x03;
+    bytes[16] = VERSION;
     bytes
 }
 
 // The zeros after a text and the two 0x1A.
 fn fill_of(text: &[u8]) -> usize
-    requires { length text.now ≤ 65535 }
-    ensures value { result ≡ (length text.now + 513) / 512 * 512 - (length text.now + 2) }
-    ensures small { result ≤ 512 }
+    requires { length text.now ≤ MAX_MEMO_BYTES }
+    ensures value { result ≡ (length text.now + (BLOCK + 1)) / BLOCK * BLOCK - (length text.now + 2) }
+    ensures small { result ≤ BLOCK }
 {
-    (text.len() + 513) / 512 * 512 - (text.len() + 2)
+    (text.len() + (BLOCK + 1)) / BLOCK * BLOCK - (text.len() + 2)
 }
 
 // The blocks of a text, of which there are none where it is empty.
 fn put_block<S: ByteSink>(out: &mut SinkWriter<'_, S>, text: &[u8])
-    requires { length text.now ≤ 65535 }
+    requires { length text.now ≤ MAX_MEMO_BYTES }
     ensures { Puts out.old (block_bytes text.now) out.new }
 {
     if text.is_empty() {
         return;
     }
-    let (zeros, _) = [0; 512].split_at(fill_of(text));
+    let (zeros, _) = [0; BLOCK].split_at(fill_of(text));
     out.put(text);
-    out.put(&[0x1a, 0x1a]);
+    out.put(&[MEMO_END, MEMO_END]);
     out.put(zeros);
 }
 

@@ -11,8 +11,10 @@ ghost use Rattle.dbf_image.specs.Store.{texts_of, memo_count, first_memo, cells_
 ghost use Rattle.dbf_image.specs.Blocks.{cell_bytes, cell_blocks, cells_bytes, cells_blocks};
 ghost use Rattle.dbf_image.specs.Image.{row_bytes, rows_bytes};
 ghost use Rattle.dbf_image.specs.Output.{Puts};
+ghost use Rattle.dbf_image.specs.declared.format.TheConstants.{DELETED, KEPT, MAX_MEMO_BYTES, MAX_RECORDS};
 
 use crate::blocks::{block_count, block_number_cell, memo_text};
+use crate::format::{DELETED, KEPT};
 use crate::header::Header;
 use crate::offsets::memo_count_of;
 use crate::sink::ByteSink;
@@ -22,9 +24,9 @@ use crate::writer::SinkWriter;
 use dbf_fields::{Field, MEMO};
 
 fn flag_of(deleted: bool) -> u8
-    ensures value { result ≡ (if deleted then 42 else 32) }
+    ensures value { result ≡ (if deleted then DELETED else KEPT) }
 {
-    if deleted { 0x2a } else { 0x20 }
+    if deleted { DELETED } else { KEPT }
 }
 
 // How many memos a field has in a record: one or none.
@@ -40,7 +42,7 @@ fn cell_of<'a>(field: &Field, bytes: &'a [u8], texts: &'a [u8], memos: &[Span]) 
     requires many { memo_count (field.now ∷ []) ≤ length memos.now }
     requires each { AllByRecursion (IsSpan texts.now) memos.now }
     ensures value { result.now ≡ (if field.now.kind == MEMO_KIND then first_memo (texts_of texts.now memos.now) else bytes.now) }
-    ensures short { field.now.kind ≡ MEMO_KIND → length result.now ≤ 65535 }
+    ensures short { field.now.kind ≡ MEMO_KIND → length result.now ≤ MAX_MEMO_BYTES }
 {
     if field.kind == MEMO {
         memo_text(texts, &memos[0])
@@ -51,7 +53,7 @@ fn cell_of<'a>(field: &Field, bytes: &'a [u8], texts: &'a [u8], memos: &[Span]) 
 
 // How many blocks a cell takes.
 fn blocks_at(field: &Field, cell: &[u8]) -> u64
-    requires { field.now.kind ≡ MEMO_KIND → length cell.now ≤ 65535 }
+    requires { field.now.kind ≡ MEMO_KIND → length cell.now ≤ MAX_MEMO_BYTES }
     ensures value { result ≡ cell_blocks field.now cell.now }
     ensures small { result ≤ 129 * memo_count (field.now ∷ []) }
 {
@@ -125,7 +127,7 @@ fn put_all_cells<S: ByteSink>(
     put_cells(out, fields, cells, first)
 }
 
-// A record: a flag that is 0x20 or 0x2A, and the cells. The answer is the next free block after its memos.
+// A record: a flag, and the cells. The answer is the next free block after its memos.
 fn put_record<S: ByteSink>(
     out: &mut SinkWriter<'_, S>,
     fields: &[Field],
@@ -141,7 +143,7 @@ fn put_record<S: ByteSink>(
     ensures small { result ≤ first + 129 * memo_count fields.now }
 {
     let (_, bytes) = parts.records.split_at(1);
-    out.put(&[flag_of(parts.records[0] == 0x2a)]);
+    out.put(&[flag_of(parts.records[0] == DELETED)]);
     let cells = Store {
         records: bytes,
         texts: parts.texts,
@@ -159,7 +161,7 @@ pub(crate) fn put_records<S: ByteSink>(
 )
     requires schema { IsSchema fields.now }
     requires wide { header.record_length ≡ 1 + widths fields.now }
-    requires few { header.record_count ≤ 1000000000 }
+    requires few { header.record_count ≤ MAX_RECORDS }
     requires room { header.record_count * header.record_length ≤ length store.records.now }
     requires many { length store.memos.now ≡ header.record_count * memo_count fields.now }
     requires each { AllByRecursion (IsSpan store.texts.now) store.memos.now }

@@ -73,7 +73,7 @@ impl<'s, S: ByteSink> SinkWriter<'s, S> {
     }
 }
 
-// A writer is dropped as it is: what waits is not sent. `flush` comes before, so that a failure is given.
+// A writer is dropped as it is: what waits is not sent. `flush` comes before, so that a failure is seen.
 impl<S: ByteSink> Drop for SinkWriter<'_, S> {
     fn drop(self)
         ensures { self.exit.0.now ≡ self.entry.sink.now }

@@ -31,9 +31,9 @@ loop-preserved c =
     let none = rw (c.split_at-in-loop.ensures.back, c.split_at.ensures.front) at c.in_ok-push_spans.ensures.accepted in
     record {
       room = room-next size n i _ _ c.loop-test.true c.loop.invariant.room c.split_at.ensures.back_len;
-      given = rw (c.in_ok-push_spans.ensures.value, c.split_at-in-loop.ensures.back, c.split_at.ensures.front, c.split_at.ensures.back)
+      spans = rw (c.in_ok-push_spans.ensures.value, c.split_at-in-loop.ensures.back, c.split_at.ensures.front, c.split_at.ensures.back)
           (append_assoc c.loop.spans.items (spans (take size rest)) (flat_map spans (chunks size (n - (i + 1)) (drop size rest)))
-          ∙ ap (λ (x : List Span). c.loop.spans.items ++ x) (sym (chunks-more spans size n i rest c.loop-test.true)) ∙ c.loop.invariant.given);
+          ∙ ap (λ (x : List Span). c.loop.spans.items ++ x) (sym (chunks-more spans size n i rest c.loop-test.true)) ∙ c.loop.invariant.spans);
       left = rw (c.split_at.ensures.back)
           (sym (first_then (tests (take size rest)) (flat_map tests (chunks size (n - (i + 1)) (drop size rest))) none)
           ∙ ap first_fault (sym (chunks-more tests size n i rest c.loop-test.true)) ∙ c.loop.invariant.left);

@@ -9,6 +9,6 @@ use Rattle.dbf_image.proofs.memos.all_spans.Given as goal
 abbrev pub invariant-loop : goal.invariant-loop
 invariant-loop l = record {
   room : (l.count - l.counter) * l.size ≤ length l.rest;
-  given : l.spans.items ++ flat_map (row_spans l.dbt l.fields) (chunks l.size (l.count - l.counter) l.rest) ≡ flat_map (row_spans l.dbt l.fields) (chunks l.size l.count l.bytes);
+  spans : l.spans.items ++ flat_map (row_spans l.dbt l.fields) (chunks l.size (l.count - l.counter) l.rest) ≡ flat_map (row_spans l.dbt l.fields) (chunks l.size l.count l.bytes);
   left : first_fault (flat_map (row_tests l.dbt l.fields) (chunks l.size (l.count - l.counter) l.rest)) ≡ first_fault (flat_map (row_tests l.dbt l.fields) (chunks l.size l.count l.bytes));
 }

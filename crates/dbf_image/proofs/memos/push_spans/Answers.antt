@@ -25,8 +25,8 @@ loop-field-preserved c =
     let none = rw (c.split_at.ensures.front, c.from.ensures) at c.in_ok-push_span.ensures.accepted in
     record {
       room = room-next fields i f _ _ c.loop-field-test.true c.field-item.is c.loop-field.invariant.room (omega (arith, c.split_at.ensures.back_len, c.from.ensures));
-      given = rw (c.in_ok-push_span.ensures.value, c.split_at.ensures.front, c.split_at.ensures.back, c.from.ensures)
-          (spans-next dbt rest fields i f _ c.loop-field-test.true c.field-item.is ∙ c.loop-field.invariant.given);
+      spans = rw (c.in_ok-push_span.ensures.value, c.split_at.ensures.front, c.split_at.ensures.back, c.from.ensures)
+          (spans-next dbt rest fields i f _ c.loop-field-test.true c.field-item.is ∙ c.loop-field.invariant.spans);
       left = rw (c.split_at.ensures.back, c.from.ensures)
           (tests-next dbt rest fields i f c.loop-field-test.true c.field-item.is none ∙ c.loop-field.invariant.left);
     }

@@ -8,6 +8,6 @@ use Rattle.dbf_image.proofs.memos.push_spans.Given as goal
 abbrev pub invariant-loop-field : goal.invariant-loop-field
 invariant-loop-field l = record {
   room : widths (drop l.field-index l.fields) ≤ length l.rest;
-  given : l.spans.items ++ cells_spans l.dbt (drop l.field-index l.fields) l.rest ≡ l.fn.spans.items ++ cells_spans l.dbt l.fields l.bytes;
+  spans : l.spans.items ++ cells_spans l.dbt (drop l.field-index l.fields) l.rest ≡ l.fn.spans.items ++ cells_spans l.dbt l.fields l.bytes;
   left : first_fault (cells_tests l.dbt (drop l.field-index l.fields) l.rest) ≡ first_fault (cells_tests l.dbt l.fields l.bytes);
 }
