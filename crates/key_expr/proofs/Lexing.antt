@@ -1,4 +1,4 @@
--- The tokens behind one that was cut off.
+-- The tokens after one that was cut off.
 use Rattle.std.proofs.Common.{◌≡◌, ℕ, zero, suc, List, [], ◌∷◌, ◌++◌, drop, length, ◌+◌, ◌-◌, ◌≤◌, refl, ap, ◌∙◌, cond, eqb, true, false, Bool, arith, ltb, get_or, not, Option, Some, None}
 use Rattle.dbf_fields.specs.declared.field.Field.{Field}
 use Rattle.std.specs.List.{position, position_or_len}
@@ -8,7 +8,7 @@ use Rattle.std.proofs.lemmas.List.Sums.{prefix_len-le-length}
 use Rattle.dbf_fields.specs.Name.{is_name_char}
 use Rattle.key_expr.specs.declared.token.Token.{Token}
 use Rattle.key_expr.specs.Grammar.{EndsInEnd}
-use Rattle.key_expr.specs.Tokens.{tokens_behind, token_length, kind_of, run}
+use Rattle.key_expr.specs.Tokens.{tokens_after, token_length, kind_of, prefix_length}
 
 not_below : (b : Bool) (n : ℕ) → cond b (Some n) None ≡ None → b ≡ false
 not_below true n e = absurd cc
@@ -23,29 +23,29 @@ position_none p xs e =
 
 -- the bytes that belong to the token before are passed over
 pub tokens_past : (fields : List Field) (whole n : ℕ) (bs : List ℕ)
-    → tokens_behind fields whole n bs ≡ tokens_behind fields whole zero (drop n bs)
+    → tokens_after fields whole n bs ≡ tokens_after fields whole zero (drop n bs)
 tokens_past fields whole zero bs = refl
 tokens_past fields whole (suc n) [] = refl
 tokens_past fields whole (suc n) (b ∷ bs) = tokens_past fields whole n bs
 
-ends_behind : (t : Token) (ts : List Token) → EndsInEnd ts → EndsInEnd (t ∷ ts)
-ends_behind t [] e = absurd e
-ends_behind t (u ∷ ts) e = e
+ends_after : (t : Token) (ts : List Token) → EndsInEnd ts → EndsInEnd (t ∷ ts)
+ends_after t [] e = absurd e
+ends_after t (u ∷ ts) e = e
 
 ends_either : (b : Bool) (xs ys : List Token) → EndsInEnd xs → EndsInEnd ys → EndsInEnd (cond b xs ys)
 ends_either true xs ys d e = d
 ends_either false xs ys d e = e
 
 -- the last token is the end
-pub ends_in_end : (fields : List Field) (whole n : ℕ) (bs : List ℕ) → EndsInEnd (tokens_behind fields whole n bs)
+pub ends_in_end : (fields : List Field) (whole n : ℕ) (bs : List ℕ) → EndsInEnd (tokens_after fields whole n bs)
 ends_in_end fields whole zero [] = refl
 ends_in_end fields whole (suc n) [] = refl
 ends_in_end fields whole (suc n) (b ∷ bs) = ends_in_end fields whole n bs
 ends_in_end fields whole zero (b ∷ bs) =
-    let t : Token = record { kind = kind_of fields (b ∷ bs); place = whole - length (b ∷ bs) } in
-    let later = tokens_behind fields whole (token_length (b ∷ bs) - 1) bs in
-    ends_either (eqb b 32) (tokens_behind fields whole zero bs) (t ∷ later) (ends_in_end fields whole zero bs)
-    (ends_behind t later (ends_in_end fields whole (token_length (b ∷ bs) - 1) bs))
+    let t : Token = record { kind = kind_of fields (b ∷ bs); offset = whole - length (b ∷ bs) } in
+    let later = tokens_after fields whole (token_length (b ∷ bs) - 1) bs in
+    ends_either (eqb b 32) (tokens_after fields whole zero bs) (t ∷ later) (ends_in_end fields whole zero bs)
+    (ends_after t later (ends_in_end fields whole (token_length (b ∷ bs) - 1) bs))
 
 less_one : (n : ℕ) (b : ℕ) (bs : List ℕ) → 1 ≤ n → drop (n - 1) bs ≡ drop n (b ∷ bs)
 less_one zero b bs h = absurd (omega (arith, h))
@@ -56,18 +56,18 @@ some_bytes true q m n = omega arith
 some_bytes false true m n = omega arith
 some_bytes false false m n = omega arith
 
--- the first token, and the tokens behind its bytes
+-- the first token, and the tokens after its bytes
 pub tokens_next : (fields : List Field) (whole b : ℕ) (bs : List ℕ) → eqb b 32 ≡ false
-    → tokens_behind fields whole zero (b ∷ bs)
-    ≡ record { kind = kind_of fields (b ∷ bs); place = whole - length (b ∷ bs) } ∷ tokens_behind fields whole zero (drop (token_length (b ∷ bs)) (b ∷ bs))
+    → tokens_after fields whole zero (b ∷ bs)
+    ≡ record { kind = kind_of fields (b ∷ bs); offset = whole - length (b ∷ bs) } ∷ tokens_after fields whole zero (drop (token_length (b ∷ bs)) (b ∷ bs))
 tokens_next fields whole b bs h =
-    let e : drop (token_length (b ∷ bs) - 1) bs ≡ drop (token_length (b ∷ bs)) (b ∷ bs) = less_one (token_length (b ∷ bs)) b bs (some_bytes (is_ascii_alphabetic b) (is_ascii_digit b) (run is_name_char bs) (run is_ascii_digit bs)) in
-    rw h (ap (λ (ts : List Token). record { kind = kind_of fields (b ∷ bs); place = whole - length (b ∷ bs) } ∷ ts)
-    (tokens_past fields whole (token_length (b ∷ bs) - 1) bs ∙ ap (λ (cs : List ℕ). tokens_behind fields whole zero cs) e))
+    let e : drop (token_length (b ∷ bs) - 1) bs ≡ drop (token_length (b ∷ bs)) (b ∷ bs) = less_one (token_length (b ∷ bs)) b bs (some_bytes (is_ascii_alphabetic b) (is_ascii_digit b) (prefix_length is_name_char bs) (prefix_length is_ascii_digit bs)) in
+    rw h (ap (λ (ts : List Token). record { kind = kind_of fields (b ∷ bs); offset = whole - length (b ∷ bs) } ∷ ts)
+    (tokens_past fields whole (token_length (b ∷ bs) - 1) bs ∙ ap (λ (cs : List ℕ). tokens_after fields whole zero cs) e))
 
 -- the same of bytes that don't begin with a blank
 pub tokens_step : (fields : List Field) (whole : ℕ) (bs : List ℕ) → 1 ≤ length bs → (get_or bs 0 0 ≡ 32 → ⊥)
-    → tokens_behind fields whole zero bs
-    ≡ record { kind = kind_of fields bs; place = whole - length bs } ∷ tokens_behind fields whole zero (drop (token_length bs) bs)
+    → tokens_after fields whole zero bs
+    ≡ record { kind = kind_of fields bs; offset = whole - length bs } ∷ tokens_after fields whole zero (drop (token_length bs) bs)
 tokens_step fields whole [] h other = absurd (omega (arith, h))
 tokens_step fields whole (b ∷ bs) h other = tokens_next fields whole b bs (grind (arith, nat_tests, other))

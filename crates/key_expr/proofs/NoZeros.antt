@@ -8,9 +8,9 @@ use Rattle.dbf_fields.specs.Name.{is_name_char}
 use Rattle.key_expr.specs.declared.token.Token.{Token}
 use Rattle.key_expr.specs.declared.token.Kind.{Kind}
 use Rattle.key_expr.specs.declared.token.Kind.TheVariants.{Plus, Open, Close, Comma, Upper, Substr, Str, Dtoc, Name, Number, End, Bad}
-use Rattle.key_expr.specs.Grammar.{Expr, Begin, EndsPoints, EndsWith, Sort, Reads, one_term, sum, field, parens, upper, substr, str, dtoc, IsText}
+use Rattle.key_expr.specs.Grammar.{Expr, Begin, EndsPoints, EndsWith, Sort, Reads, one_term, sum, field_term, parens_term, upper_term, substr_term, str_term, dtoc_term, IsText}
 use Rattle.key_expr.specs.Rules.{IsKeyText}
-use Rattle.key_expr.specs.Tokens.{tokens_behind, tokens_of, token_length, kind_of, run}
+use Rattle.key_expr.specs.Tokens.{tokens_after, tokens_of, token_length, kind_of, prefix_length}
 
 abbrev is_good : Kind → Bool
 is_good Bad = false
@@ -41,31 +41,31 @@ ends_good (Some n) d ts rest b h = begin_good (Comma ∷ Number n ∷ []) ts b.0
 reads_good : {so : Sort} {e : Expr} {ts us : List Token} → Reads so e ts us → AreGood us → AreGood ts
 reads_good (one_term d) h = reads_good d h
 reads_good (sum {us = us} {vs = vs} d b d2) h = reads_good d (begin_good (Plus ∷ []) us vs (refl, tt) b (reads_good d2 h))
-reads_good (field {p = p} {ts = ts} {rest = r} b) h = begin_good (Name p ∷ []) ts r (refl, tt) b h
-reads_good (parens {ts = ts} {us = us} {vs = vs} {rest = r} a d b) h =
+reads_good (field_term {p = p} {ts = ts} {rest = r} b) h = begin_good (Name p ∷ []) ts r (refl, tt) b h
+reads_good (parens_term {ts = ts} {us = us} {vs = vs} {rest = r} a d b) h =
     begin_good (Open ∷ []) ts us (refl, tt) a (reads_good d (begin_good (Close ∷ []) vs r (refl, tt) b h))
-reads_good (upper {ts = ts} {us = us} {vs = vs} {rest = r} a d b) h =
+reads_good (upper_term {ts = ts} {us = us} {vs = vs} {rest = r} a d b) h =
     begin_good (Upper ∷ Open ∷ []) ts us (refl, (refl, tt)) a (reads_good d (begin_good (Close ∷ []) vs r (refl, tt) b h))
-reads_good (substr {from = n} {count = m} {ts = ts} {us = us} {vs = vs} {rest = r} a d b) h =
+reads_good (substr_term {from = n} {count = m} {ts = ts} {us = us} {vs = vs} {rest = r} a d b) h =
     begin_good (Substr ∷ Open ∷ []) ts us (refl, (refl, tt)) a
     (reads_good d (begin_good (Comma ∷ Number n ∷ Comma ∷ Number m ∷ Close ∷ []) vs r (refl, (refl, (refl, (refl, (refl, tt))))) b h))
-reads_good (str {p = p} {n = n} {d = d} {ts = ts} {rest = r} us a b) h =
+reads_good (str_term {p = p} {n = n} {d = d} {ts = ts} {rest = r} us a b) h =
     begin_good (Str ∷ Open ∷ Name p ∷ []) ts us (refl, (refl, (refl, tt))) a (ends_good n d us r b h)
-reads_good (dtoc {p = p} {ts = ts} {rest = r} b) h = begin_good (Dtoc ∷ Open ∷ Name p ∷ Close ∷ []) ts r (refl, (refl, (refl, (refl, tt)))) b h
+reads_good (dtoc_term {p = p} {ts = ts} {rest = r} b) h = begin_good (Dtoc ∷ Open ∷ Name p ∷ Close ∷ []) ts r (refl, (refl, (refl, (refl, tt)))) b h
 
 -- ---- bytes whose tokens are all of the grammar
 
-run_by : (test : ℕ → Bool) (b : ℕ) (bs : List ℕ) (t : Bool) → test b ≡ t → test 0 ≡ false → NoZero (take (run test bs) bs)
-    → NoZero (take (cond (not (not t)) (1 + run test bs) 0) (b ∷ bs))
-run_by test b bs true e z h =
-    let one : 1 + run test bs ≡ suc (run test bs) = omega arith in
+prefix_by : (test : ℕ → Bool) (b : ℕ) (bs : List ℕ) (t : Bool) → test b ≡ t → test 0 ≡ false → NoZero (take (prefix_length test bs) bs)
+    → NoZero (take (cond (not (not t)) (1 + prefix_length test bs) 0) (b ∷ bs))
+prefix_by test b bs true e z h =
+    let one : 1 + prefix_length test bs ≡ suc (prefix_length test bs) = omega arith in
     rw one (λ k. true≢false (sym e ∙ ap test k ∙ z), h)
-run_by test b bs false e z h = tt
+prefix_by test b bs false e z h = tt
 
--- the bytes of a run pass the test, which a zero fails
-run_no_zero : (test : ℕ → Bool) (bs : List ℕ) → test 0 ≡ false → NoZero (take (run test bs) bs)
-run_no_zero test [] z = tt
-run_no_zero test (b ∷ bs) z = run_by test b bs (test b) refl z (run_no_zero test bs z)
+-- the bytes of a prefix_length pass the test, which a zero fails
+prefix_no_zero : (test : ℕ → Bool) (bs : List ℕ) → test 0 ≡ false → NoZero (take (prefix_length test bs) bs)
+prefix_no_zero test [] z = tt
+prefix_no_zero test (b ∷ bs) z = prefix_by test b bs (test b) refl z (prefix_no_zero test bs z)
 
 part_by : (letter digit : Bool) (m n : ℕ) (bs : List ℕ) → NoZero (take m bs) → NoZero (take n bs)
     → NoZero (take (cond letter (1 + m) (cond digit (1 + n) 1) - 1) bs)
@@ -73,27 +73,27 @@ part_by true digit m n bs h g = let e : (1 + m) - 1 ≡ m = omega arith in rw e 
 part_by false true m n bs h g = let e : (1 + n) - 1 ≡ n = omega arith in rw e g
 part_by false false m n bs h g = tt
 
--- nor has a token a zero behind its first byte
+-- nor has a token a zero after its first byte
 token_no_zero : (b : ℕ) (bs : List ℕ) → NoZero (take (token_length (b ∷ bs) - 1) bs)
 token_no_zero b bs =
-    part_by (is_ascii_alphabetic b) (is_ascii_digit b) (run is_name_char bs) (run is_ascii_digit bs) bs
-    (run_no_zero is_name_char bs refl) (run_no_zero is_ascii_digit bs refl)
+    part_by (is_ascii_alphabetic b) (is_ascii_digit b) (prefix_length is_name_char bs) (prefix_length is_ascii_digit bs) bs
+    (prefix_no_zero is_name_char bs refl) (prefix_no_zero is_ascii_digit bs refl)
 
 zero_bad : (fields : List Field) (b : ℕ) (bs : List ℕ) → b ≡ 0 → is_good (kind_of fields (b ∷ bs)) ≡ false
 unfolding kind_of
 zero_bad fields b bs e = rw e refl
 
-byte_by : (fields : List Field) (whole place b n : ℕ) (bs : List ℕ) (t : Bool) → eqb b 32 ≡ t
-    → (AreGood (tokens_behind fields whole zero bs) → NoZero bs)
-    → (AreGood (tokens_behind fields whole n bs) → NoZero bs)
-    → AreGood (cond t (tokens_behind fields whole zero bs) (record { kind = kind_of fields (b ∷ bs); place = place } ∷ tokens_behind fields whole n bs))
+byte_by : (fields : List Field) (whole offset b n : ℕ) (bs : List ℕ) (t : Bool) → eqb b 32 ≡ t
+    → (AreGood (tokens_after fields whole zero bs) → NoZero bs)
+    → (AreGood (tokens_after fields whole n bs) → NoZero bs)
+    → AreGood (cond t (tokens_after fields whole zero bs) (record { kind = kind_of fields (b ∷ bs); offset = offset } ∷ tokens_after fields whole n bs))
     → NoZero (b ∷ bs)
-byte_by fields whole place b n bs true e blank token g =
+byte_by fields whole offset b n bs true e blank token g =
     let is : b ≡ 32 = eqb-true b 32 e in
     (λ k. absurd (omega (arith, is, k)), blank g)
-byte_by fields whole place b n bs false e blank token g = (λ k. true≢false (sym g.0 ∙ zero_bad fields b bs k), token g.1)
+byte_by fields whole offset b n bs false e blank token g = (λ k. true≢false (sym g.0 ∙ zero_bad fields b bs k), token g.1)
 
-bytes_no_zero : (fields : List Field) (whole n : ℕ) (bs : List ℕ) → NoZero (take n bs) → AreGood (tokens_behind fields whole n bs) → NoZero bs
+bytes_no_zero : (fields : List Field) (whole n : ℕ) (bs : List ℕ) → NoZero (take n bs) → AreGood (tokens_after fields whole n bs) → NoZero bs
 bytes_no_zero fields whole n [] h g = tt
 bytes_no_zero fields whole (suc n) (b ∷ bs) h g = (h.0, bytes_no_zero fields whole n bs h.1 g)
 bytes_no_zero fields whole zero (b ∷ bs) h g =

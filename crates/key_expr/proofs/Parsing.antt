@@ -6,10 +6,10 @@ use Rattle.dbf_fields.specs.Faults.{first_fault}
 use Rattle.key_expr.specs.declared.token.Token.{Token}
 use Rattle.key_expr.specs.declared.fault.ExprFault.{ExprFault}
 use Rattle.key_expr.specs.declared.fault.ExprFault.TheVariants.{ExpressionTooLong, BadSyntax, NoSuchField, NotCharacter, BadArgument, KeyTooLong, NoMemory}
-use Rattle.key_expr.specs.Grammar.{Expr, cell, joined, raised, slice, printed, dated, IsText, IsBadAt, GoesOn, IsRefusal}
+use Rattle.key_expr.specs.Grammar.{Expr, field, concat, upper, substr, str, dtoc, IsText, IsBadAt, GoesOn, IsRefusal}
 use Rattle.key_expr.specs.Tokens.{tokens_of}
 use Rattle.key_expr.specs.Rules.{tests, refusal, IsKeyText, Breaks, IsFault}
-use Rattle.key_expr.proofs.Unique.{one_text}
+use Rattle.key_expr.proofs.Unique.{one_reading}
 
 -- the faults of the rules on fields and arguments
 abbrev pub IsRule : ExprFault → Type 0
@@ -28,12 +28,12 @@ rules_both [] ys a b = b
 rules_both (t ∷ xs) ys a b = (a.0, rules_both xs ys a.1 b)
 
 rules_of : (fields : List Field) (e : Expr) → AreRules (tests fields e)
-rules_of fields (cell i) = (tt, (tt, tt))
-rules_of fields (joined a b) = rules_both (tests fields a) (tests fields b) (rules_of fields a) (rules_of fields b)
-rules_of fields (raised a) = rules_of fields a
-rules_of fields (slice a from count) = rules_both (tests fields a) _ (rules_of fields a) (tt, tt)
-rules_of fields (printed i n d) = (tt, (tt, (tt, tt)))
-rules_of fields (dated i) = (tt, (tt, tt))
+rules_of fields (field i) = (tt, (tt, tt))
+rules_of fields (concat a b) = rules_both (tests fields a) (tests fields b) (rules_of fields a) (rules_of fields b)
+rules_of fields (upper a) = rules_of fields a
+rules_of fields (substr a from count) = rules_both (tests fields a) _ (rules_of fields a) (tt, tt)
+rules_of fields (str i n d) = (tt, (tt, (tt, tt)))
+rules_of fields (dtoc i) = (tt, (tt, tt))
 
 some_same : (f g : ExprFault) → Some g ≡ Some f → g ≡ f
 some_same f g e = cc
@@ -73,16 +73,16 @@ fault_of_tokens fields text KeyTooLong short r = absurd r
 
 -- a text is one expression
 pub one_expr : (fields : List Field) (text : List ℕ) (e f : Expr) → IsKeyText fields text e → IsKeyText fields text f → e ≡ f
-one_expr fields text e f a b = one_text (tokens_of fields text) e f a.read b.read
+one_expr fields text e f a b = one_reading (tokens_of fields text) e f a.read b.read
 
 not_bad : (p : ℕ) (ts : List Token) (e : Expr) → IsBadAt p ts → IsText e ts → ⊥
 not_bad p ts e bad t =
-    let split : ts ≡ (bad.front ++ bad.token ∷ []) ++ bad.behind = bad.whole ∙ sym (append_assoc bad.front (bad.token ∷ []) bad.behind) in
-    bad.after (bad.behind, e, subst (λ (l : List Token). IsText e l) split t)
+    let split : ts ≡ (bad.front ++ bad.token ∷ []) ++ bad.tail = bad.whole ∙ sym (append_assoc bad.front (bad.token ∷ []) bad.tail) in
+    bad.after (bad.tail, e, subst (λ (l : List Token). IsText e l) split t)
 
 not_broken : (fields : List Field) (text : List ℕ) (e : Expr) (f : ExprFault) → IsKeyText fields text e → Breaks f fields text → ⊥
 not_broken fields text e f k b =
-    let same : b.1.0 ≡ e = one_text (tokens_of fields text) b.1.0 e b.1.1 k.read in
+    let same : b.1.0 ≡ e = one_reading (tokens_of fields text) b.1.0 e b.1.1 k.read in
     let broken : refusal fields e ≡ Some f = subst (λ (x : Expr). refusal fields x ≡ Some f) same b.1.2 in
     let kept : refusal fields e ≡ None = k.kept in
     cc

@@ -1,9 +1,9 @@
 -- How many parts an expression has.
 use Rattle.std.proofs.Common.{ℕ, ◌+◌}
-use Rattle.key_expr.specs.Grammar.{Expr, cell, joined, raised, slice, printed, dated}
+use Rattle.key_expr.specs.Grammar.{Expr, field, concat, upper, substr, str, dtoc}
 
 abbrev pub parts : Expr → ℕ
-parts (joined a b) = 1 + parts a + parts b
-parts (raised a) = 1 + parts a
-parts (slice a from count) = 1 + parts a
+parts (concat a b) = 1 + parts a + parts b
+parts (upper a) = 1 + parts a
+parts (substr a from count) = 1 + parts a
 parts e = 1

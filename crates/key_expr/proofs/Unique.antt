@@ -3,7 +3,7 @@ use Rattle.std.proofs.Common.{◌≡◌, ℕ, List, [], ◌∷◌, ◌++◌, Opt
 use Rattle.key_expr.specs.declared.token.Token.{Token}
 use Rattle.key_expr.specs.declared.token.Kind.{Kind}
 use Rattle.key_expr.specs.declared.token.Kind.TheVariants.{Plus, Open, Close, Comma, Upper, Substr, Str, Dtoc, Name, Number, End, Bad}
-use Rattle.key_expr.specs.Grammar.{Expr, cell, joined, raised, slice, printed, dated, Begin, EndsPoints, EndsWith, Sort, a_term, an_expr, Reads, one_term, sum, field, parens, upper, substr, str, dtoc, IsText}
+use Rattle.key_expr.specs.Grammar.{Expr, field, concat, upper, substr, str, dtoc, Begin, EndsPoints, EndsWith, Sort, a_term, an_expr, Reads, one_term, sum, field_term, parens_term, upper_term, substr_term, str_term, dtoc_term, IsText}
 
 -- which rule a first token is for
 abbrev rule_of_kind : Kind → ℕ
@@ -42,20 +42,20 @@ plus_not us (w ∷ ws) vs e h b = let there : NotPlus (w ∷ ws) = subst NotPlus
 abbrev rule : {so : Sort} {e : Expr} {ts us : List Token} → Reads so e ts us → ℕ
 rule (one_term d) = 8
 rule (sum d b d2) = 8
-rule (field b) = 0
-rule (parens a d b) = 1
-rule (upper a d b) = 2
-rule (substr a d b) = 3
-rule (str us a b) = 4
-rule (dtoc b) = 5
+rule (field_term b) = 0
+rule (parens_term a d b) = 1
+rule (upper_term a d b) = 2
+rule (substr_term a d b) = 3
+rule (str_term us a b) = 4
+rule (dtoc_term b) = 5
 
 rule_is : {e : Expr} {ts us : List Token} (d : Reads a_term e ts us) → rule_of ts ≡ rule d
-rule_is (field {p = p} {ts = ts} {rest = r} b) = begin_rule (Name p) [] ts r b
-rule_is (parens {ts = ts} {us = us} a d b) = begin_rule Open [] ts us a
-rule_is (upper {ts = ts} {us = us} a d b) = begin_rule Upper (Open ∷ []) ts us a
-rule_is (substr {ts = ts} {us = us} a d b) = begin_rule Substr (Open ∷ []) ts us a
-rule_is (str {p = p} {ts = ts} us a b) = begin_rule Str (Open ∷ Name p ∷ []) ts us a
-rule_is (dtoc {p = p} {ts = ts} {rest = r} b) = begin_rule Dtoc (Open ∷ Name p ∷ Close ∷ []) ts r b
+rule_is (field_term {p = p} {ts = ts} {rest = r} b) = begin_rule (Name p) [] ts r b
+rule_is (parens_term {ts = ts} {us = us} a d b) = begin_rule Open [] ts us a
+rule_is (upper_term {ts = ts} {us = us} a d b) = begin_rule Upper (Open ∷ []) ts us a
+rule_is (substr_term {ts = ts} {us = us} a d b) = begin_rule Substr (Open ∷ []) ts us a
+rule_is (str_term {p = p} {ts = ts} us a b) = begin_rule Str (Open ∷ Name p ∷ []) ts us a
+rule_is (dtoc_term {p = p} {ts = ts} {rest = r} b) = begin_rule Dtoc (Open ∷ Name p ∷ Close ∷ []) ts r b
 
 same_kinds : (ks ls : List Kind) (ts us vs : List Token) → Begin ks ts us → Begin ls ts vs → length ks ≡ length ls → (ks ≡ ls) × (us ≡ vs)
 same_kinds [] [] ts us vs a b e = (refl, sym a ∙ b)
@@ -98,19 +98,19 @@ same {vs = vs} (sum {us = ws} {vs = xs} d b d3) (sum {f = g} {us = ys} {vs = zs}
     let there = (same_kinds (Plus ∷ []) (Plus ∷ []) ws xs zs b (subst (λ (l : List Token). Begin (Plus ∷ []) l zs) (sym first.1) b2) refl).1 in
     let others = same d3 (subst (λ (l : List Token). Reads an_expr g l vs) (sym there) d4) p q in
     (cc (first.0, others.0), others.1)
-same {ts = ts} {us = us} {vs = vs} (field {p = m} b) (field {p = n} b2) p q =
+same {ts = ts} {us = us} {vs = vs} (field_term {p = m} b) (field_term {p = n} b2) p q =
     let r = same_kinds (Name m ∷ []) (Name n ∷ []) ts us vs b b2 refl in (cc (r.0), r.1)
-same {ts = ts} {us = r} {vs = r2} (parens {us = us} {vs = vs} a d b) (parens {e = g} {us = ws} {vs = xs} a2 d2 b2) p q =
+same {ts = ts} {us = r} {vs = r2} (parens_term {us = us} {vs = vs} a d b) (parens_term {e = g} {us = ws} {vs = xs} a2 d2 b2) p q =
     let start = (same_kinds (Open ∷ []) (Open ∷ []) ts us ws a a2 refl).1 in
     let inside = same d (subst (λ (l : List Token). Reads an_expr g l xs) (sym start) d2)
     (begin_not Close [] vs r (λ (x : Close ≡ Plus). cc) b) (begin_not Close [] xs r2 (λ (x : Close ≡ Plus). cc) b2) in
     (inside.0, (same_kinds (Close ∷ []) (Close ∷ []) vs r r2 b (subst (λ (l : List Token). Begin (Close ∷ []) l r2) (sym inside.1) b2) refl).1)
-same {ts = ts} {us = r} {vs = r2} (upper {us = us} {vs = vs} a d b) (upper {e = g} {us = ws} {vs = xs} a2 d2 b2) p q =
+same {ts = ts} {us = r} {vs = r2} (upper_term {us = us} {vs = vs} a d b) (upper_term {e = g} {us = ws} {vs = xs} a2 d2 b2) p q =
     let start = (same_kinds (Upper ∷ Open ∷ []) (Upper ∷ Open ∷ []) ts us ws a a2 refl).1 in
     let inside = same d (subst (λ (l : List Token). Reads an_expr g l xs) (sym start) d2)
     (begin_not Close [] vs r (λ (x : Close ≡ Plus). cc) b) (begin_not Close [] xs r2 (λ (x : Close ≡ Plus). cc) b2) in
-    (ap raised inside.0, (same_kinds (Close ∷ []) (Close ∷ []) vs r r2 b (subst (λ (l : List Token). Begin (Close ∷ []) l r2) (sym inside.1) b2) refl).1)
-same {ts = ts} {us = r} {vs = r2} (substr {from = n} {count = m} {us = us} {vs = vs} a d b) (substr {e = g} {from = i} {count = j} {us = ws} {vs = xs} a2 d2 b2) p q =
+    (ap upper inside.0, (same_kinds (Close ∷ []) (Close ∷ []) vs r r2 b (subst (λ (l : List Token). Begin (Close ∷ []) l r2) (sym inside.1) b2) refl).1)
+same {ts = ts} {us = r} {vs = r2} (substr_term {from = n} {count = m} {us = us} {vs = vs} a d b) (substr_term {e = g} {from = i} {count = j} {us = ws} {vs = xs} a2 d2 b2) p q =
     let start = (same_kinds (Substr ∷ Open ∷ []) (Substr ∷ Open ∷ []) ts us ws a a2 refl).1 in
     let inside = same d (subst (λ (l : List Token). Reads an_expr g l xs) (sym start) d2)
     (begin_not Comma (Number n ∷ Comma ∷ Number m ∷ Close ∷ []) vs r (λ (x : Comma ≡ Plus). cc) b) (begin_not Comma (Number i ∷ Comma ∷ Number j ∷ Close ∷ []) xs r2 (λ (x : Comma ≡ Plus). cc) b2) in
@@ -118,14 +118,14 @@ same {ts = ts} {us = r} {vs = r2} (substr {from = n} {count = m} {us = us} {vs =
     let last = same_kinds (Comma ∷ Number n ∷ Comma ∷ Number m ∷ Close ∷ []) tail vs r r2 b
     (subst (λ (l : List Token). Begin tail l r2) (sym inside.1) b2) refl in
     (cc (inside.0, last.0), last.1)
-same {ts = ts} {us = r} {vs = r2} (str {p = m} {n = n} {d = d} us a b) (str {p = i} {n = j} {d = k} ws a2 b2) p q =
+same {ts = ts} {us = r} {vs = r2} (str_term {p = m} {n = n} {d = d} us a b) (str_term {p = i} {n = j} {d = k} ws a2 b2) p q =
     let start = same_kinds (Str ∷ Open ∷ Name m ∷ []) (Str ∷ Open ∷ Name i ∷ []) ts us ws a a2 refl in
     let last = same_ends n d j k us r r2 b (subst (λ (l : List Token). EndsWith j k l r2) (sym start.1) b2) in
     (cc (start.0, last.0, last.1), last.2)
-same {ts = ts} {us = us} {vs = vs} (dtoc {p = m} b) (dtoc {p = n} b2) p q =
+same {ts = ts} {us = us} {vs = vs} (dtoc_term {p = m} b) (dtoc_term {p = n} b2) p q =
     let r = same_kinds (Dtoc ∷ Open ∷ Name m ∷ Close ∷ []) (Dtoc ∷ Open ∷ Name n ∷ Close ∷ []) ts us vs b b2 refl in (cc (r.0), r.1)
 same d d2 p q = let h : rule d ≡ rule d2 = sym (rule_is d) ∙ rule_is d2 in absurd (omega (arith, h))
 
-pub one_text : (ts : List Token) (e f : Expr) → IsText e ts → IsText f ts → e ≡ f
-one_text ts e f a b =
+pub one_reading : (ts : List Token) (e f : Expr) → IsText e ts → IsText f ts → e ≡ f
+one_reading ts e f a b =
     (same a.1 b.1 (begin_not End [] a.0 [] (λ (x : End ≡ Plus). cc) a.2) (begin_not End [] b.0 [] (λ (x : End ≡ Plus). cc) b.2)).0

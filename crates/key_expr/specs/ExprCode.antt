@@ -2,7 +2,7 @@
 use Rattle.std.specs.Prelude.{◌≡◌, ℕ, zero, suc, List, [], ◌∷◌, Option, Some, None, refl}
 use Rattle.std.proofs.Common.{◌∙◌}
 use Rattle.std.specs.Coded.{Coded, code_by, coded×, coded_list, coded_ℕ}
-use Rattle.key_expr.specs.Grammar.{Expr, cell, joined, raised, slice, printed, dated}
+use Rattle.key_expr.specs.Grammar.{Expr, field, concat, upper, substr, str, dtoc}
 
 abbrev Step : Type 0
 Step = (ℕ × ℕ) × (ℕ × ℕ)
@@ -16,20 +16,20 @@ option_of zero = None
 option_of (suc n) = Some n
 
 abbrev steps : Expr → List Step → List Step
-steps (cell i) rest = ((0, i), (0, 0)) ∷ rest
-steps (joined a b) rest = steps a (steps b (((1, 0), (0, 0)) ∷ rest))
-steps (raised a) rest = steps a (((2, 0), (0, 0)) ∷ rest)
-steps (slice a from count) rest = steps a (((3, from), (count, 0)) ∷ rest)
-steps (printed i n d) rest = ((4, i), (number_of n, number_of d)) ∷ rest
-steps (dated i) rest = ((5, i), (0, 0)) ∷ rest
+steps (field i) rest = ((0, i), (0, 0)) ∷ rest
+steps (concat a b) rest = steps a (steps b (((1, 0), (0, 0)) ∷ rest))
+steps (upper a) rest = steps a (((2, 0), (0, 0)) ∷ rest)
+steps (substr a from count) rest = steps a (((3, from), (count, 0)) ∷ rest)
+steps (str i n d) rest = ((4, i), (number_of n, number_of d)) ∷ rest
+steps (dtoc i) rest = ((5, i), (0, 0)) ∷ rest
 
 abbrev made : ℕ → ℕ → ℕ → ℕ → List Expr → List Expr
-made zero i m n es = cell i ∷ es
-made (suc zero) i m n (b ∷ a ∷ es) = joined a b ∷ es
-made (suc (suc zero)) i m n (a ∷ es) = raised a ∷ es
-made (suc (suc (suc zero))) i m n (a ∷ es) = slice a i m ∷ es
-made (suc (suc (suc (suc zero)))) i m n es = printed i (option_of m) (option_of n) ∷ es
-made (suc (suc (suc (suc (suc zero))))) i m n es = dated i ∷ es
+made zero i m n es = field i ∷ es
+made (suc zero) i m n (b ∷ a ∷ es) = concat a b ∷ es
+made (suc (suc zero)) i m n (a ∷ es) = upper a ∷ es
+made (suc (suc (suc zero))) i m n (a ∷ es) = substr a i m ∷ es
+made (suc (suc (suc (suc zero)))) i m n es = str i (option_of m) (option_of n) ∷ es
+made (suc (suc (suc (suc (suc zero))))) i m n es = dtoc i ∷ es
 made tag i m n es = es
 
 abbrev built : List Step → List Expr → List Expr
@@ -37,7 +37,7 @@ built [] es = es
 built (s ∷ rest) es = built rest (made s.0.0 s.0.1 s.1.0 s.1.1 es)
 
 abbrev first_of : List Expr → Expr
-first_of [] = cell 0
+first_of [] = field 0
 first_of (e ∷ es) = e
 
 same_option : (o : Option ℕ) → option_of (number_of o) ≡ o
@@ -45,12 +45,12 @@ same_option None = refl
 same_option (Some n) = refl
 
 built-steps : (e : Expr) (rest : List Step) (es : List Expr) → built (steps e rest) es ≡ built rest (e ∷ es)
-built-steps (cell i) rest es = refl
-built-steps (joined a b) rest es = built-steps a _ es ∙ built-steps b _ (a ∷ es)
-built-steps (raised a) rest es = built-steps a _ es
-built-steps (slice a from count) rest es = built-steps a _ es
-built-steps (printed i n d) rest es = λ k. built rest (printed i (same_option n k) (same_option d k) ∷ es)
-built-steps (dated i) rest es = refl
+built-steps (field i) rest es = refl
+built-steps (concat a b) rest es = built-steps a _ es ∙ built-steps b _ (a ∷ es)
+built-steps (upper a) rest es = built-steps a _ es
+built-steps (substr a from count) rest es = built-steps a _ es
+built-steps (str i n d) rest es = λ k. built rest (str i (same_option n k) (same_option d k) ∷ es)
+built-steps (dtoc i) rest es = refl
 
 pub expr_again : (e : Expr) → first_of (built (steps e []) []) ≡ e
 expr_again e = λ i. first_of (built-steps e [] [] i)

@@ -1,4 +1,4 @@
--- Where the cells of a record lie: behind the flag byte, in the order of the fields.
+-- Where the cells of a record lie: after the flag byte, in the order of the fields.
 use Rattle.std.specs.Prelude.{ℕ, ◌+◌, List, [], ◌∷◌, take, drop}
 use Rattle.dbf_fields.specs.declared.field.Field.{Field}
 

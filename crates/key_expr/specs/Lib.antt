@@ -1,6 +1,6 @@
 pub mod Grammar
-pub mod Machine
-pub mod Seen
+pub mod Expected
+pub mod TreeExpr
 pub mod KeyBytes
 pub mod Tokens
 pub mod Layout

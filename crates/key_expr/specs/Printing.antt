@@ -3,7 +3,7 @@ use Rattle.std.specs.Prelude.{ℕ, nat_le, List, ◌++◌, length, replicate, Op
 use Rattle.dbf_fields.specs.Number.{number}
 use Rattle.dbf_fields.specs.NumberText.{number_text, right_justified}
 
--- a text behind as many blanks as fill the width, or asterisks where it is too long
+-- a text after as many blanks as fill the width, or asterisks where it is too long
 abbrev pub fitted : ℕ → List ℕ → List ℕ
 fitted width text = if nat_le (length text) width then right_justified width text else replicate width 42
 

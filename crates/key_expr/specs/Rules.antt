@@ -7,7 +7,7 @@ use Rattle.dbf_fields.specs.declared.field.TheConstants.{CHARACTER, NUMBER, DATE
 use Rattle.dbf_fields.specs.Faults.{first_fault}
 use Rattle.key_expr.specs.declared.fault.ExprFault.{ExprFault}
 use Rattle.key_expr.specs.declared.fault.ExprFault.TheVariants.{ExpressionTooLong, BadSyntax, NoSuchField, NotCharacter, BadArgument, KeyTooLong, NoMemory}
-use Rattle.key_expr.specs.Grammar.{Expr, cell, joined, raised, slice, printed, dated, IsText, IsBadAt}
+use Rattle.key_expr.specs.Grammar.{Expr, field, concat, upper, substr, str, dtoc, IsText, IsBadAt}
 use Rattle.key_expr.specs.Tokens.{tokens_of}
 use Rattle.key_expr.specs.Keys.{length_given, decimals_given, key_length}
 
@@ -28,12 +28,12 @@ field_tests fields i kind = (nat_lt i (length fields), NoSuchField) ∷ (has_kin
 
 -- the tests of an expression from left to right, a term's arguments before the term
 abbrev pub tests : List Field → Expr → List (Bool × ExprFault)
-tests fields (cell i) = field_tests fields i CHARACTER
-tests fields (joined a b) = tests fields a ++ tests fields b
-tests fields (raised a) = tests fields a
-tests fields (slice a from count) = tests fields a ++ (is_in_range 1 (key_length fields a) from && nat_le 1 count, BadArgument) ∷ []
-tests fields (printed i n d) = field_tests fields i NUMBER ++ (can_print fields i (length_given n) (decimals_given d), BadArgument) ∷ []
-tests fields (dated i) = field_tests fields i DATE
+tests fields (field i) = field_tests fields i CHARACTER
+tests fields (concat a b) = tests fields a ++ tests fields b
+tests fields (upper a) = tests fields a
+tests fields (substr a from count) = tests fields a ++ (is_in_range 1 (key_length fields a) from && nat_le 1 count, BadArgument) ∷ []
+tests fields (str i n d) = field_tests fields i NUMBER ++ (can_print fields i (length_given n) (decimals_given d), BadArgument) ∷ []
+tests fields (dtoc i) = field_tests fields i DATE
 
 -- the first rule that an expression breaks
 abbrev pub refusal : List Field → Expr → Option ExprFault
@@ -52,7 +52,7 @@ Breaks fault fields text = (length text ≤ 488) × ((e : Expr) × IsText e (tok
 -- what a fault says of the text: the first of the rules that it breaks
 abbrev pub IsFault : ExprFault → List Field → List ℕ → Type 0
 IsFault ExpressionTooLong fields text = 488 < length text
-IsFault (BadSyntax place) fields text = (length text ≤ 488) × IsBadAt place (tokens_of fields text)
+IsFault (BadSyntax offset) fields text = (length text ≤ 488) × IsBadAt offset (tokens_of fields text)
 IsFault NoMemory fields text = Unit {0}
 IsFault NoSuchField fields text = Breaks NoSuchField fields text
 IsFault NotCharacter fields text = Breaks NotCharacter fields text

@@ -10,15 +10,15 @@ use Rattle.key_expr.specs.declared.token.Kind.{Kind}
 use Rattle.key_expr.specs.declared.token.Kind.TheVariants.{Plus, Open, Close, Comma, Upper, Substr, Str, Dtoc, Name, Number, End, Bad}
 
 -- how many bytes at the head of a text pass a test
-abbrev pub run : (ℕ → Bool) → List ℕ → ℕ
-run test bs = position_or_len (λ b. not (test b)) bs
+abbrev pub prefix_length : (ℕ → Bool) → List ℕ → ℕ
+prefix_length test bs = position_or_len (λ b. not (test b)) bs
 
--- the bytes of the first token: a letter and the letters, digits and `_` behind it, digits, or one byte
+-- the bytes of the first token: a letter and the letters, digits and `_` after it, digits, or one byte
 abbrev pub token_length : List ℕ → ℕ
 token_length [] = 0
 token_length (b ∷ bs) =
-    if is_ascii_alphabetic b then 1 + run is_name_char bs
-    else (if is_ascii_digit b then 1 + run is_ascii_digit bs else 1)
+    if is_ascii_alphabetic b then 1 + prefix_length is_name_char bs
+    else (if is_ascii_digit b then 1 + prefix_length is_ascii_digit bs else 1)
 
 -- a number of 1 to 3 digits
 abbrev pub number_kind : List ℕ → Kind
@@ -36,20 +36,20 @@ function_kind name =
     else (if str_eq_ignore_ascii_case name (68 ∷ 84 ∷ 79 ∷ 67 ∷ []) then Dtoc  -- DTOC
     else Bad)))
 
--- the number of the field that has the name, counted from 0, or the number of the fields where none has it
-abbrev pub number_of : List Field → List ℕ → ℕ
-number_of fields name = position_or_len (λ f. str_eq_ignore_ascii_case name f.name) fields
+-- the index of the field that has the name, or the number of the fields where none has it
+abbrev pub index_of : List Field → List ℕ → ℕ
+index_of fields name = position_or_len (λ f. str_eq_ignore_ascii_case name f.name) fields
 
--- an opening parenthesis is next, behind blanks or none
+-- an opening parenthesis is next, after blanks or none
 abbrev pub opens : List ℕ → Bool
 opens [] = false
 opens (b ∷ bs) = if b == 32 then opens bs else b == 40
 
 -- a name of up to 10 bytes: a function's before an opening parenthesis, else a field's
 abbrev pub name_kind : List Field → List ℕ → List ℕ → Kind
-name_kind fields name behind =
+name_kind fields name after =
     if nat_lt 10 (length name) then Bad
-    else (if opens behind then function_kind name else Name (number_of fields name))
+    else (if opens after then function_kind name else Name (index_of fields name))
 
 -- what the first token of a text is
 unfoldable pub kind_of : List Field → List ℕ → Kind
@@ -65,14 +65,14 @@ kind_of fields (b ∷ bs) =
 
 -- The tokens of the bytes that a text of so many bytes ends with, where some of them still belong to the
 -- token before.
-abbrev pub tokens_behind : List Field → ℕ → ℕ → List ℕ → List Token
-tokens_behind fields whole before [] = record { kind = End; place = whole } ∷ []
-tokens_behind fields whole (suc n) (b ∷ bs) = tokens_behind fields whole n bs
-tokens_behind fields whole zero (b ∷ bs) =
-    if b == 32 then tokens_behind fields whole zero bs
-    else record { kind = kind_of fields (b ∷ bs); place = whole - length (b ∷ bs) }
-    ∷ tokens_behind fields whole (token_length (b ∷ bs) - 1) bs
+abbrev pub tokens_after : List Field → ℕ → ℕ → List ℕ → List Token
+tokens_after fields whole before [] = record { kind = End; offset = whole } ∷ []
+tokens_after fields whole (suc n) (b ∷ bs) = tokens_after fields whole n bs
+tokens_after fields whole zero (b ∷ bs) =
+    if b == 32 then tokens_after fields whole zero bs
+    else record { kind = kind_of fields (b ∷ bs); offset = whole - length (b ∷ bs) }
+    ∷ tokens_after fields whole (token_length (b ∷ bs) - 1) bs
 
 -- the tokens of a text and the end, with their places; the names are those of the fields
 abbrev pub tokens_of : List Field → List ℕ → List Token
-tokens_of fields text = tokens_behind fields (length text) zero text
+tokens_of fields text = tokens_after fields (length text) zero text

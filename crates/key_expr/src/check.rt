@@ -2,23 +2,23 @@
 
 ghost use Rattle.std.specs.Prelude.{◌≡◌, ◌<◌, min, Some, None, IfOk, IfErr};
 ghost use Rattle.dbf_fields.specs.Faults.{first_fault};
-ghost use Rattle.key_expr.specs.Seen.{seen};
+ghost use Rattle.key_expr.specs.TreeExpr.{expr_of};
 ghost use Rattle.key_expr.specs.Keys.{key_length, width_of as width_in, length_given as length_of_given, decimals_given as decimals_of_given};
 ghost use Rattle.key_expr.specs.Rules.{field_tests, has_kind as is_of_kind, can_print as may_print, tests, refusal};
 
 use crate::fault::ExprFault;
-use crate::key::KEY_MAX;
+use crate::key::MAX_KEY_BYTES;
 use crate::tree::Tree;
 use dbf_fields::{CHARACTER, DATE, Field, NUMBER};
 
 /// Lengths are told exactly up to here, which is above every number of a text.
-pub(crate) const LENGTH_CAP: usize = 1_000_000;
+pub(crate) const MAX_LENGTH: usize = 1_000_000;
 
 // How wide the cells of a field are.
-fn width_of(fields: &[Field], number: usize) -> u8
-    ensures value { result ≡ width_in fields.now number }
+fn width_of(fields: &[Field], index: usize) -> u8
+    ensures value { result ≡ width_in fields.now index }
 {
-    match fields.get(number) {
+    match fields.get(index) {
         Some(field) => field.width,
         None => 0,
     }
@@ -45,79 +45,79 @@ pub(crate) fn decimals_given(decimals: Option<u16>) -> usize
     }
 }
 
-/// How many bytes the key of an expression has, at most `LENGTH_CAP`.
+/// How many bytes the key of an expression has, at most `MAX_LENGTH`.
 pub(crate) fn length_of(tree: &Tree, fields: &[Field]) -> usize
-    ensures value { result ≡ min 1000000 (key_length fields.now (seen tree.now)) }
+    ensures value { result ≡ min 1000000 (key_length fields.now (expr_of tree.now)) }
 {
     match tree {
-        Tree::Field(number) => usize::from(width_of(fields, *number)),
-        Tree::Joined(first, second) => {
-            (length_of(first, fields) + length_of(second, fields)).min(LENGTH_CAP)
+        Tree::Field(index) => usize::from(width_of(fields, *index)),
+        Tree::Concat(first, second) => {
+            (length_of(first, fields) + length_of(second, fields)).min(MAX_LENGTH)
         }
         Tree::Upper(inner) => length_of(inner, fields),
-        Tree::Slice(inner, from, count) => {
+        Tree::Substr(inner, from, count) => {
             let before = usize::from(*from).saturating_sub(1);
             length_of(inner, fields)
                 .saturating_sub(before)
                 .min(usize::from(*count))
         }
-        Tree::Printed(_, length, _) => length_given(*length),
-        Tree::Dated(_) => 8,
+        Tree::Str(_, length, _) => length_given(*length),
+        Tree::Dtoc(_) => 8,
     }
 }
 
 // Whether the field is of the kind.
-fn has_kind(fields: &[Field], number: usize, kind: u8) -> bool
-    ensures value { result ≡ is_of_kind fields.now number kind }
+fn has_kind(fields: &[Field], index: usize, kind: u8) -> bool
+    ensures value { result ≡ is_of_kind fields.now index kind }
 {
-    match fields.get(number) {
+    match fields.get(index) {
         Some(field) => field.kind == kind,
         None => false,
     }
 }
 
 // A field that has to be there and of the kind.
-fn check_field(fields: &[Field], number: usize, kind: u8) -> Result<(), ExprFault>
-    ensures kept { IfOk result (λ _. first_fault (field_tests fields.now number kind) ≡ None) }
-    ensures refused { IfErr result (λ fault. first_fault (field_tests fields.now number kind) ≡ Some fault) }
+fn check_field(fields: &[Field], index: usize, kind: u8) -> Result<(), ExprFault>
+    ensures kept { IfOk result (λ _. first_fault (field_tests fields.now index kind) ≡ None) }
+    ensures refused { IfErr result (λ fault. first_fault (field_tests fields.now index kind) ≡ Some fault) }
 {
-    if number >= fields.len() {
+    if index >= fields.len() {
         return Err(ExprFault::NoSuchField);
     }
-    if !has_kind(fields, number, kind) {
+    if !has_kind(fields, index, kind) {
         return Err(ExprFault::NotCharacter);
     }
     Ok(())
 }
 
 // Whether a number prints with so many decimals in so many bytes.
-fn can_print(fields: &[Field], number: usize, length: usize, decimals: usize) -> bool
-    ensures value { result ≡ may_print fields.now number length decimals }
+fn can_print(fields: &[Field], index: usize, length: usize, decimals: usize) -> bool
+    ensures value { result ≡ may_print fields.now index length decimals }
 {
-    match fields.get(number) {
+    match fields.get(index) {
         Some(field) => {
             decimals == usize::from(field.decimals)
                 && length >= usize::from(field.width)
-                && length <= KEY_MAX
+                && length <= MAX_KEY_BYTES
         }
         None => false,
     }
 }
 
 // The rules on fields and arguments, from left to right.
-#[tactic(auto, using(crate::proofs::FaultLaws::fault_behind, crate::proofs::FaultLaws::fault_before))]
+#[tactic(auto, using(crate::proofs::FaultLaws::fault_after, crate::proofs::FaultLaws::fault_before))]
 fn check(tree: &Tree, fields: &[Field]) -> Result<(), ExprFault>
-    ensures kept { IfOk result (λ _. first_fault (tests fields.now (seen tree.now)) ≡ None) }
-    ensures refused { IfErr result (λ fault. first_fault (tests fields.now (seen tree.now)) ≡ Some fault) }
+    ensures kept { IfOk result (λ _. first_fault (tests fields.now (expr_of tree.now)) ≡ None) }
+    ensures refused { IfErr result (λ fault. first_fault (tests fields.now (expr_of tree.now)) ≡ Some fault) }
 {
     match tree {
-        Tree::Field(number) => check_field(fields, *number, CHARACTER),
-        Tree::Joined(first, second) => {
+        Tree::Field(index) => check_field(fields, *index, CHARACTER),
+        Tree::Concat(first, second) => {
             check(first, fields)?;
             check(second, fields)
         }
         Tree::Upper(inner) => check(inner, fields),
-        Tree::Slice(inner, from, count) => {
+        Tree::Substr(inner, from, count) => {
             check(inner, fields)?;
             let from = usize::from(*from);
             if from < 1 || from > length_of(inner, fields) || *count < 1 {
@@ -125,11 +125,11 @@ fn check(tree: &Tree, fields: &[Field]) -> Result<(), ExprFault>
             }
             Ok(())
         }
-        Tree::Printed(number, length, decimals) => {
-            check_field(fields, *number, NUMBER)?;
+        Tree::Str(index, length, decimals) => {
+            check_field(fields, *index, NUMBER)?;
             if !can_print(
                 fields,
-                *number,
+                *index,
                 length_given(*length),
                 decimals_given(*decimals),
             ) {
@@ -137,20 +137,20 @@ fn check(tree: &Tree, fields: &[Field]) -> Result<(), ExprFault>
             }
             Ok(())
         }
-        Tree::Dated(number) => check_field(fields, *number, DATE),
+        Tree::Dtoc(index) => check_field(fields, *index, DATE),
     }
 }
 
 /// All the rules on an expression, and how many bytes its keys have.
-#[tactic(auto, using(crate::proofs::FaultLaws::fault_behind, crate::proofs::FaultLaws::fault_before))]
+#[tactic(auto, using(crate::proofs::FaultLaws::fault_after, crate::proofs::FaultLaws::fault_before))]
 pub(crate) fn check_all(tree: &Tree, fields: &[Field]) -> Result<usize, ExprFault>
-    ensures kept { IfOk result (λ _. refusal fields.now (seen tree.now) ≡ None) }
-    ensures length { IfOk result (λ n. n ≡ key_length fields.now (seen tree.now)) }
-    ensures refused { IfErr result (λ fault. refusal fields.now (seen tree.now) ≡ Some fault) }
+    ensures kept { IfOk result (λ _. refusal fields.now (expr_of tree.now) ≡ None) }
+    ensures length { IfOk result (λ n. n ≡ key_length fields.now (expr_of tree.now)) }
+    ensures refused { IfErr result (λ fault. refusal fields.now (expr_of tree.now) ≡ Some fault) }
 {
     check(tree, fields)?;
     let length = length_of(tree, fields);
-    if length > KEY_MAX {
+    if length > MAX_KEY_BYTES {
         return Err(ExprFault::KeyTooLong);
     }
     Ok(length)

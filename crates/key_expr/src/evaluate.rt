@@ -2,12 +2,12 @@
 
 ghost use Rattle.std.specs.Prelude.{◌≡◌, ◌+◌, ◌-◌, ◌<◌, ◌≤◌, ◌++◌, [], length, take, drop, map, get_or, min, None};
 ghost use Rattle.dbf_fields.specs.Faults.{first_fault};
-ghost use Rattle.key_expr.specs.Seen.{seen};
-ghost use Rattle.key_expr.specs.Grammar.{printed};
+ghost use Rattle.key_expr.specs.TreeExpr.{expr_of};
+ghost use Rattle.key_expr.specs.Grammar.{str};
 ghost use Rattle.key_expr.specs.Keys.{key, width_of};
 ghost use Rattle.key_expr.specs.Layout.{cells_of};
 ghost use Rattle.key_expr.specs.Rules.{tests};
-ghost use Rattle.key_expr.specs.Windows.{cased, seen_through, IsRow};
+ghost use Rattle.key_expr.specs.Windows.{upper_if, bytes_in, IsRecord};
 
 use crate::check::{length_given, length_of};
 use crate::key::Key;
@@ -17,36 +17,36 @@ use dbf_fields::{Field, shown_date};
 
 /// A record's run of bytes, the fields of its table and the places of their cells in the run.
 #[derive(Clone, Copy)]
-pub(crate) struct Row<'a> {
-    pub(crate) record: &'a [u8],
+pub(crate) struct Record<'a> {
+    pub(crate) bytes: &'a [u8],
     pub(crate) fields: &'a [Field],
     pub(crate) places: &'a [usize],
 }
 
-/// Which bytes of a part of the key are wanted: so many behind the first ones, in capitals or as they are.
+/// Which bytes of a part of the key are wanted: so many after the first ones, in capitals or as they are.
 #[derive(Clone, Copy)]
 pub(crate) struct Window {
     pub(crate) from: usize,
     pub(crate) count: usize,
-    pub(crate) raised: bool,
+    pub(crate) upper: bool,
 }
 
 impl Window {
-    // What is left of it behind a part of so many bytes.
-    fn behind(self, length: usize) -> Window
+    // What is left of it after a part of so many bytes.
+    fn after(self, length: usize) -> Window
         ensures from { result.from ≡ self.from - length }
         ensures count { result.count ≡ self.count - (length - self.from) }
-        ensures raised { result.raised ≡ self.raised }
+        ensures upper { result.upper ≡ self.upper }
     {
         let taken = length.saturating_sub(self.from);
         Window {
             from: self.from.saturating_sub(length),
             count: self.count.saturating_sub(taken),
-            raised: self.raised,
+            upper: self.upper,
         }
     }
 
-    // The same bytes, where they are looked up among those from which a part of `most` bytes behind the first
+    // The same bytes, where they are looked up among those from which a part of `most` bytes after the first
     // ones was cut.
     fn within(self, before: usize, most: usize) -> Window
         requires first { before < 65536 }
@@ -55,12 +55,12 @@ impl Window {
         ensures from { result.from ≡ before + self.from }
         ensures near { result.from ≤ 200000 }
         ensures count { result.count ≡ min self.count (most - self.from) }
-        ensures raised { result.raised ≡ self.raised }
+        ensures upper { result.upper ≡ self.upper }
     {
         Window {
             from: before + self.from,
             count: self.count.min(most - self.from),
-            raised: self.raised,
+            upper: self.upper,
         }
     }
 }
@@ -74,22 +74,22 @@ fn part(bytes: &[u8], start: usize, count: usize) -> &[u8]
 }
 
 // The cell of a field.
-fn cell(row: Row, number: usize) -> &[u8]
-    requires row { IsRow row.fields.now row.places.now row.record.now }
-    requires there { number < length row.fields.now }
-    ensures value { result.now ≡ get_or (cells_of row.entry.fields.now (drop 1 row.entry.record.now)) number [] }
-    ensures long { length result.now ≡ width_of row.entry.fields.now number }
+fn cell(record: Record, index: usize) -> &[u8]
+    requires record { IsRecord record.fields.now record.places.now record.bytes.now }
+    requires there { index < length record.fields.now }
+    ensures value { result.now ≡ get_or (cells_of record.entry.fields.now (drop 1 record.entry.bytes.now)) index [] }
+    ensures long { length result.now ≡ width_of record.entry.fields.now index }
 {
-    let start = row.places[number];
-    let width = usize::from(row.fields[number].width);
-    part(row.record, start, width)
+    let start = record.places[index];
+    let width = usize::from(record.fields[index].width);
+    part(record.bytes, start, width)
 }
 
 // A byte, in capitals if so asked.
-fn cased_byte(byte: u8, raised: bool) -> u8
-    ensures value { result ≡ cased raised byte }
+fn upper_byte(byte: u8, upper: bool) -> u8
+    ensures value { result ≡ upper_if upper byte }
 {
-    if raised {
+    if upper {
         byte.to_ascii_uppercase()
     } else {
         byte
@@ -97,71 +97,71 @@ fn cased_byte(byte: u8, raised: bool) -> u8
 }
 
 // Puts bytes at the end of a key.
-fn put_bytes(out: &mut Key, bytes: &[u8], raised: bool)
+fn put_bytes(out: &mut Key, bytes: &[u8], upper: bool)
     requires room { length out.old + length bytes.now ≤ 100 }
-    ensures value { out.new ≡ out.old ++ map (cased raised) bytes.now }
+    ensures value { out.new ≡ out.old ++ map (upper_if upper) bytes.now }
 {
     for byte in bytes {
-        out.push(cased_byte(*byte, raised));
+        out.push(upper_byte(*byte, upper));
     }
 }
 
 // Puts the wanted ones of some bytes at the end of a key.
 fn put_window(out: &mut Key, bytes: &[u8], window: Window)
     requires room { length out.old + window.count ≤ 100 }
-    ensures value { out.new ≡ out.old ++ seen_through window bytes.now }
+    ensures value { out.new ≡ out.old ++ bytes_in window bytes.now }
 {
     let start = window.from.min(bytes.len());
-    let behind = &bytes[start..];
-    let count = window.count.min(behind.len());
-    put_bytes(out, &behind[..count], window.raised);
+    let after = &bytes[start..];
+    let count = window.count.min(after.len());
+    put_bytes(out, &after[..count], window.upper);
 }
 
 // What the number in a field's cell prints.
-fn printed_cell(row: Row, number: usize, length: Option<u16>, decimals: Option<u16>) -> Key
-    requires row { IsRow row.fields.now row.places.now row.record.now }
-    requires kept { first_fault (tests row.fields.now (printed number length decimals)) ≡ None }
-    ensures value { result ≡ key (cells_of row.entry.fields.now (drop 1 row.entry.record.now)) (printed number length decimals) }
+fn str_of_cell(record: Record, index: usize, length: Option<u16>, decimals: Option<u16>) -> Key
+    requires record { IsRecord record.fields.now record.places.now record.bytes.now }
+    requires kept { first_fault (tests record.fields.now (str index length decimals)) ≡ None }
+    ensures value { result ≡ key (cells_of record.entry.fields.now (drop 1 record.entry.bytes.now)) (str index length decimals) }
 {
-    let field = &row.fields[number];
-    printed_number(length_given(length), field.decimals, cell(row, number))
+    let field = &record.fields[index];
+    printed_number(length_given(length), field.decimals, cell(record, index))
 }
 
 /// Puts the wanted bytes of the key of an expression at the end of a key.
-pub(crate) fn put(out: &mut Key, tree: &Tree, row: Row, window: Window)
-    requires row { IsRow row.fields.now row.places.now row.record.now }
-    requires kept { first_fault (tests row.fields.now (seen tree.now)) ≡ None }
+pub(crate) fn put(out: &mut Key, tree: &Tree, record: Record, window: Window)
+    requires record { IsRecord record.fields.now record.places.now record.bytes.now }
+    requires kept { first_fault (tests record.fields.now (expr_of tree.now)) ≡ None }
     requires room { length out.old + window.count ≤ 100 }
     requires near { window.from ≤ 200000 }
-    ensures value { out.new ≡ out.old ++ seen_through window (key (cells_of row.entry.fields.now (drop 1 row.entry.record.now)) (seen tree.now)) }
+    ensures value { out.new ≡ out.old ++ bytes_in window (key (cells_of record.entry.fields.now (drop 1 record.entry.bytes.now)) (expr_of tree.now)) }
 {
     match tree {
-        Tree::Field(number) => put_window(out, cell(row, *number), window),
-        Tree::Joined(first, second) => {
-            let behind = window.behind(length_of(first, row.fields));
-            put(out, first, row, window);
-            put(out, second, row, behind);
+        Tree::Field(index) => put_window(out, cell(record, *index), window),
+        Tree::Concat(first, second) => {
+            let after = window.after(length_of(first, record.fields));
+            put(out, first, record, window);
+            put(out, second, record, after);
         }
         Tree::Upper(inner) => {
-            let raised = Window {
-                raised: true,
+            let upper = Window {
+                upper: true,
                 ..window
             };
-            put(out, inner, row, raised);
+            put(out, inner, record, upper);
         }
-        Tree::Slice(inner, from, count) => {
+        Tree::Substr(inner, from, count) => {
             let most = usize::from(*count);
             if window.from < most {
                 let before = usize::from(*from).saturating_sub(1);
-                put(out, inner, row, window.within(before, most));
+                put(out, inner, record, window.within(before, most));
             }
         }
-        Tree::Printed(number, length, decimals) => {
-            let printed = printed_cell(row, *number, *length, *decimals);
+        Tree::Str(index, length, decimals) => {
+            let printed = str_of_cell(record, *index, *length, *decimals);
             put_window(out, printed.as_bytes(), window);
         }
-        Tree::Dated(number) => {
-            let shown = shown_date(cell(row, *number));
+        Tree::Dtoc(index) => {
+            let shown = shown_date(cell(record, *index));
             put_window(out, &shown, window);
         }
     }

@@ -4,14 +4,14 @@ ghost use Rattle.std.specs.Prelude.{◌≡◌, ◌≢◌, ◌+◌, ◌≤◌, le
 ghost use Rattle.std.specs.List.{AllByRecursion};
 ghost use Rattle.dbf_fields.specs.Field.{widths};
 ghost use Rattle.key_expr.specs.Grammar.{Expr};
-ghost use Rattle.key_expr.specs.Seen.{seen};
+ghost use Rattle.key_expr.specs.TreeExpr.{expr_of};
 ghost use Rattle.key_expr.specs.Keys.{key, key_length};
 ghost use Rattle.key_expr.specs.Layout.{cells_of, places_from};
 ghost use Rattle.key_expr.specs.Rules.{IsKeyText, IsFault};
 ghost use Rattle.key_expr.specs.Expression.{IsAnswer};
 
 use crate::check::check_all;
-use crate::evaluate::{Row, Window, put};
+use crate::evaluate::{Record, Window, put};
 use crate::fault::ExprFault;
 use crate::key::Key;
 use crate::lexer::tokens_of;
@@ -22,7 +22,7 @@ use std::alloc::{AllocError, Global};
 use std::marker::Model;
 
 /// The longest text of a key expression, in bytes.
-pub const EXPRESSION_MAX: usize = 488;
+pub const MAX_EXPRESSION_BYTES: usize = 488;
 
 /// A key expression that was read for the fields of a schema, and keeps all rules.
 ///
@@ -38,7 +38,7 @@ pub struct KeyExpr {
 
 impl Model for KeyExpr {
     ghost use Rattle.key_expr.specs.Expression.{Expression, IsHeld};
-    ghost use Rattle.key_expr.specs.Seen.{seen};
+    ghost use Rattle.key_expr.specs.TreeExpr.{expr_of};
     ghost use Rattle.key_expr.specs.ExprCode.{expr_code};
     ghost use Rattle.std.specs.Coded.{codes};
 
@@ -46,18 +46,18 @@ impl Model for KeyExpr {
 
     ghost coded = { Prim.hlevel (codes, expr_code) };
 
-    ghost view = { λ e. record { text = e.text.items; fields = e.schema; expr = seen e.tree } };
+    ghost view = { λ e. record { text = e.text.items; fields = e.schema; expr = expr_of e.tree } };
 
-    ghost invariant = { λ e. IsHeld e.text.items e.schema e.places.items (seen e.tree) e.key_len };
+    ghost invariant = { λ e. IsHeld e.text.items e.schema e.places.items (expr_of e.tree) e.key_len };
 }
 
 // The tree of a text and the length of its keys.
 fn read_text(alloc: Global, text: &[u8], fields: &[Field]) -> Result<(Tree, usize), ExprFault>
-    ensures read { IfOk result (λ pair. IsKeyText fields.now text.now (seen pair.0)) }
-    ensures long { IfOk result (λ pair. pair.1 ≡ key_length fields.now (seen pair.0)) }
+    ensures read { IfOk result (λ pair. IsKeyText fields.now text.now (expr_of pair.0)) }
+    ensures long { IfOk result (λ pair. pair.1 ≡ key_length fields.now (expr_of pair.0)) }
     ensures refused { IfErr result (λ fault. IsFault fault fields.now text.now) }
 {
-    if text.len() > EXPRESSION_MAX {
+    if text.len() > MAX_EXPRESSION_BYTES {
         return Err(ExprFault::ExpressionTooLong);
     }
     let tokens = tokens_of(alloc, fields, text)?;
@@ -66,7 +66,7 @@ fn read_text(alloc: Global, text: &[u8], fields: &[Field]) -> Result<(Tree, usiz
     Ok((tree, key_len))
 }
 
-// The places of the cells in a record, behind its flag byte.
+// The places of the cells in a record, after its flag byte.
 fn places_of(alloc: Global, fields: &[Field]) -> Result<Vec<usize>, AllocError>
     requires short { widths fields.now ≤ 4000 }
     ensures value { IfOk result (λ places. places.items ≡ places_from 1 fields.now) }
@@ -138,7 +138,7 @@ impl KeyExpr {
         self.text.as_slice()
     }
 
-    /// How many bytes each key has, 1 to `KEY_MAX`. Takes no memory.
+    /// How many bytes each key has, 1 to `MAX_KEY_BYTES`. Takes no memory.
     pub fn key_len(&self) -> usize
         ensures value { result ≡ key_length self.now.fields self.now.expr }
         ensures some { 1 ≤ result }
@@ -147,25 +147,25 @@ impl KeyExpr {
         self.key_len
     }
 
-    /// The key of a record, which is lent as its run of bytes: the flag byte, then the cells in the order of
-    /// the fields. Takes no memory.
-    pub fn key_of(&self, run: &[u8]) -> Key
-        requires long { length run.now ≡ 1 + widths self.now.fields }
-        ensures key { result ≡ key (cells_of self.now.fields (drop 1 run.now)) self.now.expr }
+    /// The key of a record, which is lent as its bytes: the flag, then the cells in the order of the fields.
+    /// Takes no memory.
+    pub fn key_of(&self, record: &[u8]) -> Key
+        requires long { length record.now ≡ 1 + widths self.now.fields }
+        ensures key { result ≡ key (cells_of self.now.fields (drop 1 record.now)) self.now.expr }
         ensures long { length result ≡ key_length self.now.fields self.now.expr }
     {
-        let row = Row {
-            record: run,
+        let lent = Record {
+            bytes: record,
             fields: self.schema.fields(),
             places: self.places.as_slice(),
         };
         let whole = Window {
             from: 0,
             count: self.key_len,
-            raised: false,
+            upper: false,
         };
         let mut out = Key::default();
-        put(&mut out, &self.tree, row, whole);
+        put(&mut out, &self.tree, lent, whole);
         out
     }
 

@@ -6,14 +6,14 @@ use std::cmp::Ordering;
 use std::marker::Model;
 
 /// The longest key, in bytes.
-pub const KEY_MAX: usize = 100;
+pub const MAX_KEY_BYTES: usize = 100;
 
-/// The bytes that a record is sorted by, at most `KEY_MAX`. Contracts see their list.
+/// The bytes that a record is sorted by, at most `MAX_KEY_BYTES`. Contracts see their list.
 ///
 /// Keys are compared byte by byte; where one is the beginning of the other, the shorter is less.
 #[derive(Clone, Copy)]
 pub struct Key {
-    bytes: [u8; KEY_MAX],
+    bytes: [u8; MAX_KEY_BYTES],
     len: usize,
 }
 
@@ -34,12 +34,12 @@ impl Model for Key {
 }
 
 impl Key {
-    /// The key of these bytes, which are at most `KEY_MAX`. Takes no memory.
+    /// The key of these bytes, which are at most `MAX_KEY_BYTES`. Takes no memory.
     pub fn new(bytes: &[u8]) -> Self
         requires short { length bytes.now ≤ 100 }
         ensures bytes { result ≡ bytes.now }
     {
-        let mut padded = [0; KEY_MAX];
+        let mut padded = [0; MAX_KEY_BYTES];
         for (i, byte) in bytes.iter().enumerate() {
             padded[i] = *byte;
         }
@@ -49,7 +49,7 @@ impl Key {
         }
     }
 
-    /// Puts a byte behind the others.
+    /// Puts a byte after the others.
     pub(crate) fn push(&mut self, byte: u8)
         requires room { length self.old < 100 }
         ensures value { self.new ≡ self.old ++ byte ∷ [] }

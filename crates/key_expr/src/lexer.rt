@@ -5,7 +5,7 @@ ghost use Rattle.std.specs.Str.{str_eq_ignore_ascii_case};
 ghost use Rattle.std.specs.Char.{is_ascii_digit};
 ghost use Rattle.dbf_fields.specs.Name.{is_name_char};
 ghost use Rattle.key_expr.specs.Grammar.{EndsInEnd};
-ghost use Rattle.key_expr.specs.Tokens.{run, token_length as length_of, number_kind as number_of_digits, function_kind as function_of, number_of, opens as opens_next, name_kind as kind_of_name, kind_of as kind_at, tokens_of as tokens_in};
+ghost use Rattle.key_expr.specs.Tokens.{prefix_length, token_length as length_of, number_kind as number_of_digits, function_kind as function_of, index_of, opens as opens_next, name_kind as kind_of_name, kind_of as kind_at, tokens_of as tokens_in};
 
 use crate::token::{Kind, Token};
 use dbf_fields::Field;
@@ -20,15 +20,15 @@ fn is_name_byte(byte: u8) -> bool
 
 // Where the first byte stands that is no letter, digit or `_`.
 fn name_end(text: &[u8]) -> Option<usize>
-    ensures place { result ≡ position (λ b. not (is_name_char b)) text.now }
+    ensures offset { result ≡ position (λ b. not (is_name_char b)) text.now }
 {
     text.iter().position(|byte| !is_name_byte(*byte))
 }
 
 // How many letters, digits and `_` are first.
 #[tactic(auto, using(crate::proofs::Lexing::position_none))]
-fn name_run(text: &[u8]) -> usize
-    ensures value { result ≡ run is_name_char text.now }
+fn name_length(text: &[u8]) -> usize
+    ensures value { result ≡ prefix_length is_name_char text.now }
     ensures short { result ≤ length text.now }
 {
     match name_end(text) {
@@ -39,15 +39,15 @@ fn name_run(text: &[u8]) -> usize
 
 // Where the first byte stands that is no digit.
 fn digit_end(text: &[u8]) -> Option<usize>
-    ensures place { result ≡ position (λ b. not (is_ascii_digit b)) text.now }
+    ensures offset { result ≡ position (λ b. not (is_ascii_digit b)) text.now }
 {
     text.iter().position(|byte| !byte.is_ascii_digit())
 }
 
 // How many digits are first.
 #[tactic(auto, using(crate::proofs::Lexing::position_none))]
-fn digit_run(text: &[u8]) -> usize
-    ensures value { result ≡ run is_ascii_digit text.now }
+fn digits_length(text: &[u8]) -> usize
+    ensures value { result ≡ prefix_length is_ascii_digit text.now }
     ensures short { result ≤ length text.now }
 {
     match digit_end(text) {
@@ -65,9 +65,9 @@ fn token_length(text: &[u8]) -> usize
         [] => 0,
         [first, rest @ ..] => {
             if first.is_ascii_alphabetic() {
-                1 + name_run(rest)
+                1 + name_length(rest)
             } else if first.is_ascii_digit() {
-                1 + digit_run(rest)
+                1 + digits_length(rest)
             } else {
                 1
             }
@@ -121,29 +121,29 @@ fn has_name(field: &Field, name: &[u8]) -> bool
 
 // Where the field stands that has the name.
 fn field_named(fields: &[Field], name: &[u8]) -> Option<usize>
-    ensures place { result ≡ position (λ f. str_eq_ignore_ascii_case name.now f.name) fields.now }
+    ensures index { result ≡ position (λ f. str_eq_ignore_ascii_case name.now f.name) fields.now }
 {
     fields.iter().position(|field| has_name(field, name))
 }
 
-// The number of the field that has the name, or of all fields where none has it.
+// The index of the field that has the name, or the number of all fields where none has it.
 #[tactic(auto, using(crate::proofs::Lexing::position_none))]
-fn field_number(fields: &[Field], name: &[u8]) -> usize
-    ensures value { result ≡ number_of fields.now name.now }
+fn field_index(fields: &[Field], name: &[u8]) -> usize
+    ensures value { result ≡ index_of fields.now name.now }
 {
     match field_named(fields, name) {
-        Some(number) => number,
+        Some(index) => index,
         None => fields.len(),
     }
 }
 
-// Whether an opening parenthesis is next, behind blanks or none.
+// Whether an opening parenthesis is next, after blanks or none.
 fn opens(text: &[u8]) -> bool
     ensures value { result ≡ opens_next text.now }
 {
     let mut rest = text;
-    while let [b' ', behind @ ..] = rest {
-        rest = behind;
+    while let [b' ', after @ ..] = rest {
+        rest = after;
     }
     match rest {
         [b'(', ..] => true,
@@ -152,15 +152,15 @@ fn opens(text: &[u8]) -> bool
 }
 
 // A name: a function's before an opening parenthesis, else a field's.
-fn name_kind(fields: &[Field], name: &[u8], behind: &[u8]) -> Kind
-    ensures value { result ≡ kind_of_name fields.now name.now behind.now }
+fn name_kind(fields: &[Field], name: &[u8], after: &[u8]) -> Kind
+    ensures value { result ≡ kind_of_name fields.now name.now after.now }
 {
     if name.len() > 10 {
         Kind::Bad
-    } else if opens(behind) {
+    } else if opens(after) {
         function_kind(name)
     } else {
-        Kind::Name(field_number(fields, name))
+        Kind::Name(field_index(fields, name))
     }
 }
 
@@ -172,7 +172,7 @@ fn kind_of(fields: &[Field], text: &[u8]) -> Kind
     let [first, ..] = text else {
         return Kind::End;
     };
-    let (word, behind) = text.split_at(token_length(text));
+    let (word, after) = text.split_at(token_length(text));
     match first {
         b'+' => Kind::Plus,
         b'(' => Kind::Open,
@@ -182,7 +182,7 @@ fn kind_of(fields: &[Field], text: &[u8]) -> Kind
             if first.is_ascii_digit() {
                 number_kind(word)
             } else if first.is_ascii_alphabetic() {
-                name_kind(fields, word, behind)
+                name_kind(fields, word, after)
             } else {
                 Kind::Bad
             }
@@ -190,15 +190,15 @@ fn kind_of(fields: &[Field], text: &[u8]) -> Kind
     }
 }
 
-// What is behind the first token.
-fn behind_token(text: &[u8]) -> &[u8]
+// What is after the first token.
+fn after_token(text: &[u8]) -> &[u8]
     ensures value { result.now ≡ drop (length_of text.now) text.now }
     ensures shorter { 0 < length text.now → length result.now < length text.now }
 {
     &text[token_length(text)..]
 }
 
-/// The tokens of a text and its end, with the numbers of the fields that they name.
+/// The tokens of a text and its end, with the indexes of the fields that they name.
 #[tactic(auto, using(crate::proofs::Lexing::ends_in_end))]
 pub(crate) fn tokens_of(
     alloc: Global,
@@ -210,20 +210,20 @@ pub(crate) fn tokens_of(
 {
     let mut tokens = Vec::new(alloc);
     let mut rest = text;
-    while let [first, behind @ ..] = rest {
+    while let [first, after @ ..] = rest {
         if *first == b' ' {
-            rest = behind;
+            rest = after;
         } else {
             tokens.push(Token {
                 kind: kind_of(fields, rest),
-                place: text.len() - rest.len(),
+                offset: text.len() - rest.len(),
             })?;
-            rest = behind_token(rest);
+            rest = after_token(rest);
         }
     }
     tokens.push(Token {
         kind: Kind::End,
-        place: text.len(),
+        offset: text.len(),
     })?;
     Ok(tokens)
 }

@@ -19,9 +19,9 @@ mod text;
 mod token;
 mod tree;
 
-pub use expr::{EXPRESSION_MAX, KeyExpr};
+pub use expr::{KeyExpr, MAX_EXPRESSION_BYTES};
 pub use fault::ExprFault;
-pub use key::{KEY_MAX, Key};
+pub use key::{Key, MAX_KEY_BYTES};
 pub use parser::one_reading;
 pub use token::{Kind, Token};
 

@@ -61,7 +61,7 @@ fn push_sign(text: &mut Text, number: i128)
     }
 }
 
-// The text of a number, of whose digits so many stand behind its point.
+// The text of a number, of whose digits so many stand after its point.
 #[tactic(auto, using(crate::proofs::PrintLaws::text_of_parts, crate::proofs::PrintLaws::rest_small))]
 fn number_text(number: i128, decimals: usize) -> Text
     requires few { decimals < 19 }
@@ -75,7 +75,7 @@ fn number_text(number: i128, decimals: usize) -> Text
     text
 }
 
-// A text behind blanks that fill the width, or asterisks where it is too long.
+// A text after blanks that fill the width, or asterisks where it is too long.
 fn fitted(width: usize, text: &[u8]) -> Key
     requires short { width ≤ 100 }
     ensures value { result ≡ fitted_text width text.now }

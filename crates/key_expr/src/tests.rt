@@ -30,12 +30,12 @@ fn people(alloc: Global) -> Result<Schema, Fail> {
 
 // The key of a record by a copy of the expression of a text. A record of another length than the schema's is
 // a slip of the test, and answers a fault.
-fn key_by(alloc: Global, schema: &Schema, text: &[u8], run: &[u8]) -> Result<Key, ExprFault> {
+fn key_by(alloc: Global, schema: &Schema, text: &[u8], record: &[u8]) -> Result<Key, ExprFault> {
     let expr = KeyExpr::parse(alloc, text, schema)?.copy(alloc)?;
-    if run.len() != schema.record_length() {
+    if record.len() != schema.record_length() {
         return Err(ExprFault::KeyTooLong);
     }
-    Ok(expr.key_of(run))
+    Ok(expr.key_of(record))
 }
 
 #[test]
@@ -69,8 +69,8 @@ fn hostile_expressions(rt: HostRuntime) -> Result<(), Fail> {
     let schema = Schema::new(alloc, &fields)?;
     let mut nested = [b'('; 487];
     nested[243] = b'A';
-    for place in 244..487 {
-        nested[place] = b')';
+    for offset in 244..487 {
+        nested[offset] = b')';
     }
     let key = key_by(alloc, &schema, &nested, b" xy")?;
     assert_eq!(rt; key.as_bytes(), b"xy".as_slice());
@@ -105,10 +105,10 @@ fn bad_syntax_stands_at_the_first_token_that_cannot_go_on(rt: HostRuntime) -> Re
         (b"UPPER NAME", 6),
         (b"(NAME))", 6),
     ];
-    for (text, place) in cases {
+    for (text, offset) in cases {
         assert_eq!(rt;
             KeyExpr::parse(alloc, text, &schema).err(),
-            Some(ExprFault::BadSyntax(place))
+            Some(ExprFault::BadSyntax(offset))
         );
     }
     Ok(())
@@ -193,6 +193,6 @@ fn keys_are_compared_byte_by_byte(rt: HostRuntime) -> Result<(), Fail> {
     assert!(rt; Key::new(b"B") > long);
     assert!(rt; Key::default() < short);
     assert!(rt; Key::new(b"AB") == short);
-    assert_eq!(rt; Key::new(&[b'x'; KEY_MAX]).as_bytes().len(), 100);
+    assert_eq!(rt; Key::new(&[b'x'; MAX_KEY_BYTES]).as_bytes().len(), 100);
     Ok(())
 }

@@ -5,12 +5,12 @@ ghost use Rattle.std.specs.Prelude.{◌≡◌, ◌≤◌, ◌<◌, ◌∷◌, []
 use std::marker::Model;
 
 /// The most bytes of a text.
-pub(crate) const TEXT_MAX: usize = 64;
+pub(crate) const MAX_TEXT_BYTES: usize = 64;
 
-/// A text of at most `TEXT_MAX` bytes that grows at its front. Contracts see the list of its bytes.
+/// A text of at most `MAX_TEXT_BYTES` bytes that grows at its front. Contracts see the list of its bytes.
 #[derive(Drop)]
 pub(crate) struct Text {
-    bytes: [u8; TEXT_MAX],
+    bytes: [u8; MAX_TEXT_BYTES],
     start: usize,
 }
 
@@ -30,8 +30,8 @@ impl Text {
         ensures value { result ≡ [] }
     {
         Text {
-            bytes: [b' '; TEXT_MAX],
-            start: TEXT_MAX,
+            bytes: [b' '; MAX_TEXT_BYTES],
+            start: MAX_TEXT_BYTES,
         }
     }
 

@@ -19,7 +19,7 @@ pub enum Kind {
     Str,
     /// The name of the function `DTOC` before a parenthesis.
     Dtoc,
-    /// A field's name: the field's number, counted from 0, or the number of all fields where none has it.
+    /// A field's name: the field's index, or the number of all fields where none has it.
     Name(usize),
     /// A number of 1 to 3 digits.
     Number(u16),
@@ -29,11 +29,11 @@ pub enum Kind {
     Bad,
 }
 
-/// A token and the place of its first byte in the text, counted from 0.
+/// A token and the offset of its first byte in the text, counted from 0.
 #[derive(Clone, Copy, Debug, PartialEq, Eq)]
 pub struct Token {
     /// What the token is.
     pub kind: Kind,
-    /// The place of its first byte; of the end, the text's length.
-    pub place: usize,
+    /// The offset of its first byte; of the end, the text's length.
+    pub offset: usize,
 }

@@ -9,9 +9,9 @@ pub loop-rest-preserved : goal.loop-rest-preserved
 loop-rest-preserved c =
     let step = tokens_step c.args.fields.now (length c.args.text.now) c.loop-rest.rest.now c.in-len1-up.len_at_least c.if-first-eq32.false in
     record {
-      whole = rw (c.in_ok-push.ensures.items, c.kind_of.ensures.value, c.behind_token-rest.ensures.value, append_assoc)
+      whole = rw (c.in_ok-push.ensures.items, c.kind_of.ensures.value, c.after_token-rest.ensures.value, append_assoc)
           (ap (λ (ts : List Token). c.loop-rest.tokens.items ++ ts) (sym step) ∙ c.loop-rest.invariant.whole);
-      short = omega (arith, c.behind_token-rest.ensures.shorter, c.loop-rest.invariant.short, c.in-len1-up.len_at_least);
+      short = omega (arith, c.after_token-rest.ensures.shorter, c.loop-rest.invariant.short, c.in-len1-up.len_at_least);
     }
 
 pub returns-clause-ended : goal.returns-clause-ended

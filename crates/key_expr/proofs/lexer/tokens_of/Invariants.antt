@@ -1,10 +1,10 @@
 use Rattle.std.proofs.Common.{◌≡◌, ◌≤◌, ◌++◌, zero, length}
-use Rattle.key_expr.specs.Tokens.{tokens_behind}
+use Rattle.key_expr.specs.Tokens.{tokens_after}
 use Rattle.key_expr.proofs.lexer.tokens_of.Given as goal
 
 abbrev pub invariant-loop-rest : goal.invariant-loop-rest
 invariant-loop-rest l = record {
-  whole : l.tokens.items ++ tokens_behind l.fields (length l.text) zero l.rest ≡ tokens_behind l.fields (length l.text) zero l.text;
+  whole : l.tokens.items ++ tokens_after l.fields (length l.text) zero l.rest ≡ tokens_after l.fields (length l.text) zero l.text;
   short : length l.rest ≤ length l.text;
 }
 

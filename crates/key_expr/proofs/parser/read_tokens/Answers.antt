@@ -1,8 +1,8 @@
 use Rattle.std.proofs.Common.{[], ◌∷◌}
 use Rattle.std.proofs.lemmas.Result.{err_from_is_err_and}
-use Rattle.key_expr.specs.Machine.{expr, finish}
-use Rattle.key_expr.proofs.Steps.{misfit-along}
-use Rattle.key_expr.proofs.Places.{refusal_at}
+use Rattle.key_expr.specs.Expected.{expr, finish}
+use Rattle.key_expr.proofs.ExpectedSteps.{unexpected_along}
+use Rattle.key_expr.proofs.BadOffsets.{refusal_at}
 use Rattle.key_expr.proofs.parser.read_tokens.Goals as goal
 
 pub returns-in_err-tree-clause-refused : goal.returns-in_err-tree-clause-refused
@@ -14,4 +14,4 @@ pub returns-in_err-skip_end-clause-refused : goal.returns-in_err-skip_end-clause
 returns-in_err-skip_end-clause-refused c =
     let p = err_from_is_err_and c.from_residual-in_err-skip_end.result c.from_residual-in_err-skip_end.ensures.1 in
     rw (p.1, p.2) (refusal_at _ c.args.tokens.now c.requires
-    (misfit-along _ _ _ _ _ (c.in_ok-tree.ensures.passed finish []) c.in_err-skip_end.ensures.refused))
+    (unexpected_along _ _ _ _ _ (c.in_ok-tree.ensures.passed finish []) c.in_err-skip_end.ensures.refused))

@@ -3,7 +3,7 @@ use Rattle.std.proofs.lemmas.Result.{err_from_is_err_and}
 use Rattle.dbf_fields.proofs.SchemaLaws.{schema_widths}
 use Rattle.key_expr.specs.Grammar.{Expr}
 use Rattle.key_expr.specs.Rules.{IsKeyText}
-use Rattle.key_expr.specs.Seen.{seen}
+use Rattle.key_expr.specs.TreeExpr.{expr_of}
 use Rattle.key_expr.proofs.Parsing.{memory_only, one_expr}
 use Rattle.key_expr.proofs.expr.KeyExpr.parse.Goals as goal
 
@@ -19,4 +19,4 @@ places_of-requires c = record { short = rw c.fields-2.ensures.fields (schema_wid
 pub returns-clause-only : goal.returns-clause-only
 returns-clause-only c =
     λ (e : Expr) (k : IsKeyText c.args.schema.now c.args.text.now e).
-    one_expr c.args.schema.now c.args.text.now (seen c.in_ok-tree.tree) e (rw c.fields.ensures.fields at c.in_ok-tree.ensures.read) k
+    one_expr c.args.schema.now c.args.text.now (expr_of c.in_ok-tree.tree) e (rw c.fields.ensures.fields at c.in_ok-tree.ensures.read) k

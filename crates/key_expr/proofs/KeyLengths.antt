@@ -11,7 +11,7 @@ use Rattle.dbf_fields.specs.Date.{is_date, blank_date, date_shown}
 use Rattle.dbf_fields.specs.Field.{widths}
 use Rattle.dbf_fields.specs.Number.{number}
 use Rattle.dbf_fields.specs.NumberText.{number_text}
-use Rattle.key_expr.specs.Grammar.{Expr, cell, joined, raised, slice, printed, dated}
+use Rattle.key_expr.specs.Grammar.{Expr, field, concat, upper, substr, str, dtoc}
 use Rattle.key_expr.specs.Keys.{key, key_length, width_of, length_given, decimals_given}
 use Rattle.key_expr.specs.Layout.{cells_of}
 use Rattle.key_expr.specs.Printing.{fitted, printed_number}
@@ -48,7 +48,7 @@ date_length_if true blank bs h =
 date_length : (bs : List ℕ) → length (date_shown bs) ≡ 8
 date_length bs = date_length_if (is_date bs) (bytes_eq bs blank_date) bs (date_eight bs)
 
--- the length of each cell
+-- the length of each field
 pub cell_length : (fields : List Field) (bytes : List ℕ) (i : ℕ) → widths fields ≤ length bytes
     → length (get_or (cells_of fields bytes) i []) ≡ width_of fields i
 cell_length [] bytes i h = refl
@@ -65,17 +65,17 @@ cell_length (f ∷ fs) bytes (suc i) h =
 -- the length of each key
 pub key_length_is : (fields : List Field) (bytes : List ℕ) (e : Expr) → widths fields ≤ length bytes
     → length (key (cells_of fields bytes) e) ≡ key_length fields e
-key_length_is fields bytes (cell i) h = cell_length fields bytes i h
-key_length_is fields bytes (joined a b) h =
+key_length_is fields bytes (field i) h = cell_length fields bytes i h
+key_length_is fields bytes (concat a b) h =
     let x = key_length_is fields bytes a h in
     let y = key_length_is fields bytes b h in
     let l = length-append (key (cells_of fields bytes) a) (key (cells_of fields bytes) b) in
     omega (arith, x, y, l)
-key_length_is fields bytes (raised a) h = length-map (key (cells_of fields bytes) a) to_ascii_uppercase ∙ key_length_is fields bytes a h
-key_length_is fields bytes (slice a from count) h =
+key_length_is fields bytes (upper a) h = length-map (key (cells_of fields bytes) a) to_ascii_uppercase ∙ key_length_is fields bytes a h
+key_length_is fields bytes (substr a from count) h =
     let x = key_length_is fields bytes a h in
     let t = length-take count (drop (from - 1) (key (cells_of fields bytes) a)) in
     let d = length-drop (from - 1) (key (cells_of fields bytes) a) in
     omega (arith, x, t, d)
-key_length_is fields bytes (printed i n d) h = number_length (number (get_or (cells_of fields bytes) i []) (decimals_given d)) (length_given n) (decimals_given d)
-key_length_is fields bytes (dated i) h = date_length (get_or (cells_of fields bytes) i [])
+key_length_is fields bytes (str i n d) h = number_length (number (get_or (cells_of fields bytes) i []) (decimals_given d)) (length_given n) (decimals_given d)
+key_length_is fields bytes (dtoc i) h = date_length (get_or (cells_of fields bytes) i [])

@@ -11,10 +11,10 @@ use Rattle.dbf_fields.specs.Schema.{IsSchema}
 use Rattle.dbf_fields.proofs.SchemaLaws.{passed, schema_wide}
 use Rattle.key_expr.specs.declared.fault.ExprFault.{ExprFault}
 use Rattle.key_expr.specs.declared.fault.ExprFault.TheVariants.{NoSuchField, NotCharacter, BadArgument, KeyTooLong}
-use Rattle.key_expr.specs.Grammar.{Expr, cell, joined, raised, slice, printed, dated}
+use Rattle.key_expr.specs.Grammar.{Expr, field, concat, upper, substr, str, dtoc}
 use Rattle.key_expr.specs.Keys.{length_given, decimals_given, width_of, key_length}
 use Rattle.key_expr.specs.Rules.{has_kind, can_print, field_tests, tests, refusal}
-use Rattle.key_expr.proofs.FaultLaws.{none_before, none_behind, kept_joined}
+use Rattle.key_expr.proofs.FaultLaws.{none_before, none_after, kept_concat}
 use Rattle.std.specs.Int.{is_in_range}
 
 -- a field that is there
@@ -38,13 +38,13 @@ number_width kind width decimals other e h =
     let k = rw e at h in
     let both = and_parts (leb 1 width && leb width 19) (eqb decimals 0 || ltb decimals width) k in
     let ends = and_parts (leb 1 width) (leb width 19) both.0 in
-    let upper : leb width 19 ≡ true = ends.1 in
-    let lower : leb 1 width ≡ true = ends.0 in
+    let at_most : leb width 19 ≡ true = ends.1 in
+    let at_least : leb 1 width ≡ true = ends.0 in
     let few : (eqb decimals 0 || ltb decimals width) ≡ true = both.1 in
-    (grind (arith, nat_tests, upper), grind (arith, nat_tests, upper, few))
+    (grind (arith, nat_tests, at_most), grind (arith, nat_tests, at_most, few))
 
 -- a STR that keeps the rules
-pub record IsPrinted (fields : List Field) (i : ℕ) (n d : Option ℕ) (f : Field) : Type 0 where
+pub record IsStrKept (fields : List Field) (i : ℕ) (n d : Option ℕ) (f : Field) : Type 0 where
   pub there : i < length fields
   pub narrow : width_of fields i ≤ 19
   pub fits : width_of fields i ≤ length_given n
@@ -52,9 +52,9 @@ pub record IsPrinted (fields : List Field) (i : ℕ) (n d : Option ℕ) (f : Fie
   pub same : decimals_given d ≡ f.decimals
   pub short : length_given n ≤ 100
 
-pub printed_kept : (fields : List Field) (i : ℕ) (n d : Option ℕ) (default : Field) → IsSchema fields
-    → first_fault (tests fields (printed i n d)) ≡ None → IsPrinted fields i n d (get_or fields i default)
-printed_kept fields i n d default s e =
+pub str_kept : (fields : List Field) (i : ℕ) (n d : Option ℕ) (default : Field) → IsSchema fields
+    → first_fault (tests fields (str i n d)) ≡ None → IsStrKept fields i n d (get_or fields i default)
+str_kept fields i n d default s e =
     let p1 = passed (ltb i (length fields)) _ NoSuchField e in
     let p2 = passed (has_kind fields i 78) _ NotCharacter p1.1 in
     let p3 = passed (can_print fields i (length_given n) (decimals_given d)) _ BadArgument p2.1 in
@@ -106,8 +106,8 @@ no_field : Field
 no_field = record { name = []; kind = 0; width = 0; decimals = 0 }
 
 -- a part of a key has at least one byte
-slice_some : (long from count : ℕ) → ((leb 1 from && leb from long) && leb 1 count) ≡ true → 1 ≤ min count (long - (from - 1))
-slice_some long from count h =
+substr_some : (long from count : ℕ) → ((leb 1 from && leb from long) && leb 1 count) ≡ true → 1 ≤ min count (long - (from - 1))
+substr_some long from count h =
     let both = and_parts (leb 1 from && leb from long) (leb 1 count) h in
     let ends = and_parts (leb 1 from) (leb from long) both.0 in
     let first : leb 1 from ≡ true = ends.0 in
@@ -119,18 +119,18 @@ slice_some long from count h =
     omega (arith, a, b, c)
 
 pub key_some : (fields : List Field) (e : Expr) → IsSchema fields → first_fault (tests fields e) ≡ None → 1 ≤ key_length fields e
-key_some fields (cell i) s h = width_some fields i no_field s (field_there fields i 67 h)
-key_some fields (joined a b) s h =
-    let kept = kept_joined fields a b h in
+key_some fields (field i) s h = width_some fields i no_field s (field_there fields i 67 h)
+key_some fields (concat a b) s h =
+    let kept = kept_concat fields a b h in
     let x = key_some fields a s kept.0 in omega (arith, x)
-key_some fields (raised a) s h = key_some fields a s h
-key_some fields (slice a from count) s h =
-    let last = none_behind (tests fields a) ((is_in_range 1 (key_length fields a) from && leb 1 count, BadArgument) ∷ []) h in
-    slice_some (key_length fields a) from count (passed (is_in_range 1 (key_length fields a) from && leb 1 count) None BadArgument last).0
-key_some fields (printed i n d) s h =
-    let k = printed_kept fields i n d no_field s h in
+key_some fields (upper a) s h = key_some fields a s h
+key_some fields (substr a from count) s h =
+    let last = none_after (tests fields a) ((is_in_range 1 (key_length fields a) from && leb 1 count, BadArgument) ∷ []) h in
+    substr_some (key_length fields a) from count (passed (is_in_range 1 (key_length fields a) from && leb 1 count) None BadArgument last).0
+key_some fields (str i n d) s h =
+    let k = str_kept fields i n d no_field s h in
     let w = width_some fields i no_field s k.there in omega (arith, w, k.fits)
-key_some fields (dated i) s h = omega arith
+key_some fields (dtoc i) s h = omega arith
 
 -- what no refusal says
 pub refusal_tests : (fields : List Field) (e : Expr) → refusal fields e ≡ None → first_fault (tests fields e) ≡ None
@@ -138,6 +138,6 @@ refusal_tests fields e h = none_before (tests fields e) ((leb (key_length fields
 
 pub refusal_short : (fields : List Field) (e : Expr) → refusal fields e ≡ None → key_length fields e ≤ 100
 refusal_short fields e h =
-    let last = none_behind (tests fields e) ((leb (key_length fields e) 100, KeyTooLong) ∷ []) h in
+    let last = none_after (tests fields e) ((leb (key_length fields e) 100, KeyTooLong) ∷ []) h in
     let short : leb (key_length fields e) 100 ≡ true = (passed (leb (key_length fields e) 100) None KeyTooLong last).0 in
     grind (arith, nat_tests, short)

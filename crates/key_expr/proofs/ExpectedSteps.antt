@@ -7,24 +7,24 @@ use Rattle.key_expr.specs.declared.token.Kind.TheVariants.{Plus, Open, Close, Co
 use Rattle.key_expr.specs.declared.fault.ExprFault.{ExprFault}
 use Rattle.key_expr.specs.declared.fault.ExprFault.TheVariants.{ExpressionTooLong, BadSyntax, NoSuchField, NotCharacter, BadArgument, KeyTooLong, NoMemory}
 use Rattle.key_expr.specs.Grammar.{Begin}
-use Rattle.key_expr.specs.Machine.{Want, expr, more, misfit, step, IsMisfit}
+use Rattle.key_expr.specs.Expected.{Expected, expr, more, first_unexpected, step, IsFirstUnexpected}
 
--- what doesn't fit is the same where both ways lead to one place
-pub misfit-along : (e : ExprFault) (s w : List Want) (ts us : List Token) → misfit s ts ≡ misfit w us → IsMisfit e w us → IsMisfit e s ts
-misfit-along (BadSyntax p) s w ts us same there = same ∙ there
-misfit-along NoMemory s w ts us same there = tt
-misfit-along ExpressionTooLong s w ts us same there = there
-misfit-along NoSuchField s w ts us same there = there
-misfit-along NotCharacter s w ts us same there = there
-misfit-along BadArgument s w ts us same there = there
-misfit-along KeyTooLong s w ts us same there = there
+-- what doesn't fit is the same where both ways lead to one offset
+pub unexpected_along : (e : ExprFault) (s w : List Expected) (ts us : List Token) → first_unexpected s ts ≡ first_unexpected w us → IsFirstUnexpected e w us → IsFirstUnexpected e s ts
+unexpected_along (BadSyntax p) s w ts us same there = same ∙ there
+unexpected_along NoMemory s w ts us same there = tt
+unexpected_along ExpressionTooLong s w ts us same there = there
+unexpected_along NoSuchField s w ts us same there = there
+unexpected_along NotCharacter s w ts us same there = there
+unexpected_along BadArgument s w ts us same there = there
+unexpected_along KeyTooLong s w ts us same there = there
 
 -- past a token that fits
-pub past : (k : Kind) (s : List Want) (wanted : List Want) (ts : List Token) (t : Token) (us : List Token)
-    → ts ≡ t ∷ us → t.kind ≡ k → step s k ≡ Some wanted → misfit s ts ≡ misfit wanted us
+pub past : (k : Kind) (s : List Expected) (wanted : List Expected) (ts : List Token) (t : Token) (us : List Token)
+    → ts ≡ t ∷ us → t.kind ≡ k → step s k ≡ Some wanted → first_unexpected s ts ≡ first_unexpected wanted us
 past k s wanted ts t us whole here fits =
-    ap (λ (l : List Token). misfit s l) whole
-    ∙ (ap (λ (o : Option (List Want)). elim o [ None ↦ Some t.place | Some w ↦ misfit w us ]) (ap (λ (x : Kind). step s x) here ∙ fits))
+    ap (λ (l : List Token). first_unexpected s l) whole
+    ∙ (ap (λ (o : Option (List Expected)). elim o [ None ↦ Some t.offset | Some w ↦ first_unexpected w us ]) (ap (λ (x : Kind). step s x) here ∙ fits))
 
 pub begin-then : (ks ls : List Kind) (ts us vs : List Token) → Begin ks ts us → Begin ls us vs → Begin (ks ++ ls) ts vs
 begin-then [] ls ts us vs e f = subst (λ (l : List Token). Begin ls l vs) (sym e) f

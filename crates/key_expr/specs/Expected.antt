@@ -6,20 +6,20 @@ use Rattle.key_expr.specs.declared.token.Kind.TheVariants.{Plus, Open, Close, Co
 use Rattle.key_expr.specs.declared.fault.ExprFault.{ExprFault}
 use Rattle.key_expr.specs.declared.fault.ExprFault.TheVariants.{BadSyntax, NoMemory}
 
-pub data Want : Type 0 where
-  expr : Want
-  more : Want
-  name : Want
-  number : Want
-  open_ : Want
-  close : Want
-  comma : Want
-  finish : Want
-  lengths : Want
-  points : Want
+pub data Expected : Type 0 where
+  expr : Expected
+  more : Expected
+  name : Expected
+  number : Expected
+  open_ : Expected
+  close : Expected
+  comma : Expected
+  finish : Expected
+  lengths : Expected
+  points : Expected
 
 -- what is wanted after a token of the kind, where it fits
-abbrev pub step : List Want → Kind → Option (List Want)
+abbrev pub step : List Expected → Kind → Option (List Expected)
 step [] k = None
 step (expr ∷ s) Open = Some (expr ∷ close ∷ more ∷ s)
 step (expr ∷ s) Upper = Some (open_ ∷ expr ∷ close ∷ more ∷ s)
@@ -49,17 +49,17 @@ step (points ∷ s) Comma = Some (number ∷ close ∷ s)
 step (points ∷ s) Close = Some s
 step (points ∷ s) k = None
 
-abbrev pub misfit_at_end : List Want → Option ℕ
-misfit_at_end [] = None
-misfit_at_end (w ∷ s) = Some 0
+abbrev pub unexpected_at_end : List Expected → Option ℕ
+unexpected_at_end [] = None
+unexpected_at_end (w ∷ s) = Some 0
 
--- the place of the first token that doesn't fit
-abbrev pub misfit : List Want → List Token → Option ℕ
-misfit s [] = misfit_at_end s
-misfit s (t ∷ ts) = elim (step s t.kind) [ None ↦ Some t.place | Some wanted ↦ misfit wanted ts ]
+-- the offset of the first token that doesn't fit
+abbrev pub first_unexpected : List Expected → List Token → Option ℕ
+first_unexpected s [] = unexpected_at_end s
+first_unexpected s (t ∷ ts) = elim (step s t.kind) [ None ↦ Some t.offset | Some wanted ↦ first_unexpected wanted ts ]
 
--- a fault that is answered is the place of the first token that doesn't fit, but for want of memory
-abbrev pub IsMisfit : ExprFault → List Want → List Token → Type 0
-IsMisfit (BadSyntax place) s ts = misfit s ts ≡ Some place
-IsMisfit NoMemory s ts = Unit {0}
-IsMisfit fault s ts = ⊥
+-- a fault that is answered is the offset of the first token that doesn't fit, but for want of memory
+abbrev pub IsFirstUnexpected : ExprFault → List Expected → List Token → Type 0
+IsFirstUnexpected (BadSyntax offset) s ts = first_unexpected s ts ≡ Some offset
+IsFirstUnexpected NoMemory s ts = Unit {0}
+IsFirstUnexpected fault s ts = ⊥
