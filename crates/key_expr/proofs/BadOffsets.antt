@@ -2,12 +2,12 @@
 use Rattle.std.proofs.Common.{◌≡◌, ℕ, List, [], ◌∷◌, ◌++◌, Option, Some, None, refl, sym, ◌∙◌, ap, subst, append_assoc}
 use Rattle.key_expr.specs.declared.token.Token.{Token}
 use Rattle.key_expr.specs.declared.token.Kind.{Kind}
-use Rattle.key_expr.specs.declared.token.Kind.TheVariants.{Plus, Open, Close, Comma, Upper, Substr, Str, Dtoc, Name, Number, End, Bad}
+use Rattle.key_expr.specs.declared.token.Kind.TheVariants.{End}
 use Rattle.key_expr.specs.declared.fault.ExprFault.{ExprFault}
 use Rattle.key_expr.specs.declared.fault.ExprFault.TheVariants.{ExpressionTooLong, BadSyntax, NoSuchField, NotCharacter, BadArgument, KeyTooLong, NoMemory}
-use Rattle.key_expr.specs.Grammar.{Expr, Begin, a_term, an_expr, Reads, IsText, GoesOn, IsBadAt, EndsInEnd, IsRefusal}
+use Rattle.key_expr.specs.Grammar.{Expr, Begin, an_expr, Reads, IsText, IsBadAt, EndsInEnd, IsRefusal}
 use Rattle.key_expr.specs.Expected.{Expected, expr, more, name, number, open_, close, comma, finish, lengths, points, step, first_unexpected, IsFirstUnexpected}
-use Rattle.key_expr.proofs.Fits.{Fits, nothing, fits_expr, fits_end, FitsNext, GoesFrom}
+use Rattle.key_expr.proofs.Fits.{Fits, nothing, fits_expr, fits_end, FitsNext}
 use Rattle.key_expr.proofs.FitsByStep.{Good, GoodNext, good_step, step_of_fits, fits_of_step, some_tokens}
 
 -- the tokens before one that doesn't fit, from a stack of wants on

@@ -1,13 +1,11 @@
 -- The machine and what is wanted.
-use Rattle.std.proofs.Common.{◌≡◌, ℕ, List, [], ◌∷◌, ◌++◌, Option, Some, None, refl, sym, ◌∙◌, ap, subst, ◌≤◌, length, arith}
-use Rattle.std.specs.Prelude.{Result, IfErr}
+use Rattle.std.proofs.Common.{◌≡◌, List, [], ◌∷◌, ◌++◌, Option, Some, None, refl, sym, ◌∙◌, ap, subst, ◌≤◌, length, arith}
 use Rattle.key_expr.specs.declared.token.Token.{Token}
 use Rattle.key_expr.specs.declared.token.Kind.{Kind}
-use Rattle.key_expr.specs.declared.token.Kind.TheVariants.{Plus, Open, Close, Comma, Upper, Substr, Str, Dtoc, Name, Number, End, Bad}
 use Rattle.key_expr.specs.declared.fault.ExprFault.{ExprFault}
 use Rattle.key_expr.specs.declared.fault.ExprFault.TheVariants.{ExpressionTooLong, BadSyntax, NoSuchField, NotCharacter, BadArgument, KeyTooLong, NoMemory}
 use Rattle.key_expr.specs.Grammar.{Begin}
-use Rattle.key_expr.specs.Expected.{Expected, expr, more, first_unexpected, step, IsFirstUnexpected}
+use Rattle.key_expr.specs.Expected.{Expected, first_unexpected, step, IsFirstUnexpected}
 
 -- what doesn't fit is the same where both ways lead to one offset
 pub unexpected_along : (e : ExprFault) (s w : List Expected) (ts us : List Token) → first_unexpected s ts ≡ first_unexpected w us → IsFirstUnexpected e w us → IsFirstUnexpected e s ts

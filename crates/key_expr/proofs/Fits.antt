@@ -1,10 +1,10 @@
 -- What a stack of wants asks of the tokens, and that the machine goes on exactly where some text does.
-use Rattle.std.proofs.Common.{◌≡◌, ℕ, List, [], ◌∷◌, ◌++◌, Option, Some, None, refl, sym, ◌∙◌, ap, subst}
+use Rattle.std.proofs.Common.{◌≡◌, ℕ, List, [], ◌∷◌, Option, Some, None, sym, subst}
 use Rattle.key_expr.specs.declared.token.Token.{Token}
 use Rattle.key_expr.specs.declared.token.Kind.{Kind}
-use Rattle.key_expr.specs.declared.token.Kind.TheVariants.{Plus, Open, Close, Comma, Upper, Substr, Str, Dtoc, Name, Number, End, Bad}
-use Rattle.key_expr.specs.Grammar.{Expr, field, concat, upper, substr, str, dtoc, Begin, EndsPoints, EndsWith, Sort, a_term, an_expr, Reads, one_term, sum, field_term, parens_term, upper_term, substr_term, str_term, dtoc_term}
-use Rattle.key_expr.specs.Expected.{Expected, expr, more, name, number, open_, close, comma, finish, lengths, points, step, first_unexpected}
+use Rattle.key_expr.specs.declared.token.Kind.TheVariants.{Plus, Open, Close, Comma, Name, Number, End}
+use Rattle.key_expr.specs.Grammar.{Expr, Begin, EndsPoints, EndsWith, a_term, an_expr, Reads, field_term, parens_term, upper_term, substr_term, str_term, dtoc_term}
+use Rattle.key_expr.specs.Expected.{Expected, expr, more, name, number, open_, close, comma, finish, lengths, points, step}
 
 -- the tokens are what is wanted, to their end
 pub data Fits : List Expected → List Token → Type 0 where

@@ -1,10 +1,10 @@
 -- The machine stops exactly where no text goes on.
-use Rattle.std.proofs.Common.{◌≡◌, ℕ, List, [], ◌∷◌, ◌++◌, Option, Some, None, refl, sym, ◌∙◌, ap, subst}
+use Rattle.std.proofs.Common.{◌≡◌, List, [], ◌∷◌, Option, Some, None, refl, sym, subst}
 use Rattle.key_expr.specs.declared.token.Token.{Token}
 use Rattle.key_expr.specs.declared.token.Kind.{Kind}
-use Rattle.key_expr.specs.declared.token.Kind.TheVariants.{Plus, Open, Close, Comma, Upper, Substr, Str, Dtoc, Name, Number, End, Bad}
-use Rattle.key_expr.specs.Grammar.{Expr, field, Begin, EndsPoints, EndsWith, a_term, an_expr, Reads, one_term, sum, field_term, parens_term, upper_term, substr_term, str_term, dtoc_term, IsText, GoesOn, IsBadAt}
-use Rattle.key_expr.specs.Expected.{Expected, expr, more, name, number, open_, close, comma, finish, lengths, points, step, first_unexpected}
+use Rattle.key_expr.specs.declared.token.Kind.TheVariants.{Plus, Open, Close, Comma, Upper, Substr, Str, Dtoc, Name, Number, End}
+use Rattle.key_expr.specs.Grammar.{Expr, a_term, an_expr, Reads, one_term, sum, field_term, parens_term, upper_term, substr_term, str_term, dtoc_term}
+use Rattle.key_expr.specs.Expected.{Expected, expr, more, name, number, open_, close, comma, finish, lengths, points, step}
 use Rattle.key_expr.proofs.Fits.{Fits, nothing, fits_expr, fits_rest, fits_plus, fits_name, fits_number, fits_open, fits_close, fits_comma, fits_end, lengths_end, lengths_more, points_end, points_more, FitsNext, GoesFrom, term_goes_from}
 
 -- what may stand after an expression can't begin with a plus, and nothing stands after the end

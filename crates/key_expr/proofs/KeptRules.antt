@@ -1,5 +1,5 @@
 -- What the rules on fields and arguments say of a part of an expression.
-use Rattle.std.proofs.Common.{◌≡◌, ℕ, ◌-◌, ◌<◌, ◌≤◌, min, Bool, true, false, cond, eqb, leb, ltb, ◌&&◌, ◌||◌, List, [], ◌∷◌, length, get_or, Option, Some, None, refl, sym, ap, ◌∙◌, arith, zero, suc}
+use Rattle.std.proofs.Common.{◌≡◌, ℕ, ◌-◌, ◌<◌, ◌≤◌, min, Bool, true, false, cond, eqb, leb, ltb, ◌&&◌, ◌||◌, List, [], ◌∷◌, length, get_or, Option, Some, None, arith, zero, suc}
 use Rattle.std.specs.List.{slice_get, AllByRecursion}
 use Rattle.std.proofs.lemmas.Bool.{and_parts}
 use Rattle.std.proofs.lemmas.Bool.Decides.{nat_tests}
@@ -9,13 +9,24 @@ use Rattle.dbf_fields.specs.Faults.{first_fault}
 use Rattle.dbf_fields.specs.Field.{has_width}
 use Rattle.dbf_fields.specs.Schema.{IsSchema}
 use Rattle.dbf_fields.proofs.SchemaLaws.{passed, schema_wide}
-use Rattle.key_expr.specs.declared.fault.ExprFault.{ExprFault}
 use Rattle.key_expr.specs.declared.fault.ExprFault.TheVariants.{NoSuchField, NotCharacter, BadArgument, KeyTooLong}
 use Rattle.key_expr.specs.Grammar.{Expr, field, concat, upper, substr, str, dtoc}
-use Rattle.key_expr.specs.Keys.{length_given, decimals_given, width_of, key_length}
+use Rattle.key_expr.specs.Keys.{length_given, decimals_given, key_length}
+use Rattle.dbf_fields.specs.Layout.{width_of}
 use Rattle.key_expr.specs.Rules.{has_kind, can_print, field_tests, tests, refusal}
-use Rattle.key_expr.proofs.FaultLaws.{none_before, none_after, kept_concat}
+use Rattle.dbf_fields.proofs.FaultLaws.{first_parts}
+use Rattle.dbf_fields.proofs.LayoutLaws.{width_at}
 use Rattle.std.specs.Int.{is_in_range}
+
+-- the parts of an expression that keeps the rules keep them
+pub kept_concat : (fields : List Field) (a b : Expr) → first_fault (tests fields (concat a b)) ≡ None
+    → (first_fault (tests fields a) ≡ None) × (first_fault (tests fields b) ≡ None)
+kept_concat fields a b e = first_parts (tests fields a) (tests fields b) e
+
+pub kept_substr : (fields : List Field) (a : Expr) (from count : ℕ) → first_fault (tests fields (substr a from count)) ≡ None
+    → first_fault (tests fields a) ≡ None
+kept_substr fields a from count e =
+    (first_parts (tests fields a) ((is_in_range 1 (key_length fields a) from && leb 1 count, BadArgument) ∷ []) e).0
 
 -- a field that is there
 pub field_there : (fields : List Field) (i kind : ℕ) → first_fault (field_tests fields i kind) ≡ None → i < length fields
@@ -71,11 +82,11 @@ str_kept fields i n d default s e =
     let short : leb (length_given n) 100 ≡ true = range.1 in
     let fits : leb f.width (length_given n) ≡ true = range.0 in
     let holds : f.width ≤ length_given n = grind (arith, nat_tests, fits) in
-    let wide = number_width _ _ _ _ number (schema_wide_at fields i default s there) in
+    let wide : (f.width ≤ 19) × (f.decimals < 19) = number_width _ _ _ _ number (schema_wide_at fields i default s there) in
     record {
       there = there;
-      narrow = rw (got, width_of) wide.0;
-      fits = rw (got, width_of) holds;
+      narrow = omega (arith, width_at fields i default there, wide.0);
+      fits = omega (arith, width_at fields i default there, holds);
       few = wide.1;
       same = grind (arith, nat_tests, same);
       short = grind (arith, nat_tests, short);
@@ -100,7 +111,7 @@ width_some fields i d s there =
     let f = get_or fields i d in
     let got : slice_get fields i ≡ Some f = slice_get-get_or fields i d there in
     let least : 1 ≤ f.width = some_width (eqb f.kind 67) (eqb f.kind 78) (eqb f.kind 76) (eqb f.kind 68) f.width f.decimals (schema_wide_at fields i d s there) in
-    rw (got, width_of) least
+    omega (arith, width_at fields i d there, least)
 
 no_field : Field
 no_field = record { name = []; kind = 0; width = 0; decimals = 0 }
@@ -125,7 +136,7 @@ key_some fields (concat a b) s h =
     let x = key_some fields a s kept.0 in omega (arith, x)
 key_some fields (upper a) s h = key_some fields a s h
 key_some fields (substr a from count) s h =
-    let last = none_after (tests fields a) ((is_in_range 1 (key_length fields a) from && leb 1 count, BadArgument) ∷ []) h in
+    let last = (first_parts (tests fields a) ((is_in_range 1 (key_length fields a) from && leb 1 count, BadArgument) ∷ []) h).1 in
     substr_some (key_length fields a) from count (passed (is_in_range 1 (key_length fields a) from && leb 1 count) None BadArgument last).0
 key_some fields (str i n d) s h =
     let k = str_kept fields i n d no_field s h in
@@ -134,10 +145,10 @@ key_some fields (dtoc i) s h = omega arith
 
 -- what no refusal says
 pub refusal_tests : (fields : List Field) (e : Expr) → refusal fields e ≡ None → first_fault (tests fields e) ≡ None
-refusal_tests fields e h = none_before (tests fields e) ((leb (key_length fields e) 100, KeyTooLong) ∷ []) h
+refusal_tests fields e h = (first_parts (tests fields e) ((leb (key_length fields e) 100, KeyTooLong) ∷ []) h).0
 
 pub refusal_short : (fields : List Field) (e : Expr) → refusal fields e ≡ None → key_length fields e ≤ 100
 refusal_short fields e h =
-    let last = none_after (tests fields e) ((leb (key_length fields e) 100, KeyTooLong) ∷ []) h in
+    let last = (first_parts (tests fields e) ((leb (key_length fields e) 100, KeyTooLong) ∷ []) h).1 in
     let short : leb (key_length fields e) 100 ≡ true = (passed (leb (key_length fields e) 100) None KeyTooLong last).0 in
     grind (arith, nat_tests, short)

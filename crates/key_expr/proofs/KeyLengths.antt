@@ -1,7 +1,6 @@
 -- The length of a key is fixed by the expression and the fields.
-use Rattle.std.proofs.Common.{◌≡◌, ℕ, ◌+◌, ◌-◌, ◌<◌, ◌≤◌, min, Bool, true, false, cond, eqb, leb, List, [], ◌∷◌, ◌++◌, length, map, take, drop, replicate, get_or, Option, Some, None, refl, sym, ap, ◌∙◌, arith, zero, suc, length-append, length-drop, length-take-le}
+use Rattle.std.proofs.Common.{◌≡◌, ℕ, ◌-◌, ◌≤◌, Bool, true, false, cond, eqb, leb, List, [], ◌∷◌, ◌++◌, length, take, drop, replicate, get_or, Option, Some, None, refl, ◌∙◌, arith, zero, suc, length-append, length-drop, length-take-le}
 use Rattle.std.specs.Prelude.{bytes_eq, codes, ℤ}
-use Rattle.std.specs.List.{slice_get}
 use Rattle.std.specs.Char.{to_ascii_uppercase}
 use Rattle.std.proofs.lemmas.Bool.Decides.{nat_tests}
 use Rattle.std.proofs.lemmas.List.{length-take, length-map, length-replicate}
@@ -12,10 +11,11 @@ use Rattle.dbf_fields.specs.Field.{widths}
 use Rattle.dbf_fields.specs.Number.{number}
 use Rattle.dbf_fields.specs.NumberText.{number_text}
 use Rattle.key_expr.specs.Grammar.{Expr, field, concat, upper, substr, str, dtoc}
-use Rattle.key_expr.specs.Keys.{key, key_length, width_of, length_given, decimals_given}
-use Rattle.key_expr.specs.Layout.{cells_of}
-use Rattle.key_expr.specs.Printing.{fitted, printed_number}
-use Rattle.key_expr.proofs.PrintLaws.{date_eight}
+use Rattle.key_expr.specs.Keys.{key, key_length, length_given, decimals_given}
+use Rattle.dbf_fields.specs.Layout.{width_of}
+use Rattle.dbf_fields.specs.Layout.{cells_of}
+use Rattle.key_expr.specs.Printing.{fitted}
+use Rattle.std.proofs.lemmas.Bool.{and_parts}
 
 fitted_if : (b : Bool) (n : ℕ) (text : List ℕ) → leb (length text) n ≡ b
     → length (cond b (replicate (n - length text) 32 ++ text) (replicate n 42)) ≡ n
@@ -29,6 +29,11 @@ fitted_if true n text h =
 number_length : (o : Option ℤ) (n d : ℕ) → length {A = ℕ} (elim o [ None ↦ replicate n 42 | Some v ↦ fitted n (number_text v d d) ]) ≡ n
 number_length None n d = length-replicate {A = ℕ} n 42
 number_length (Some v) n d = fitted_if (leb (length (number_text v d d)) n) n (number_text v d d) refl
+
+-- a date has eight digits
+date_eight : (cell : List ℕ) → is_date cell ≡ true → length cell ≡ 8
+unfolding is_date
+date_eight cell h = let first : eqb (length cell) 8 ≡ true = (and_parts _ _ h).0 in grind (arith, nat_tests, first)
 
 date_length_if : (real blank : Bool) (bs : List ℕ) → (real ≡ true → length bs ≡ 8)
     → length (cond real (take 2 (drop 4 bs) ++ (47 ∷ (drop 6 bs ++ (47 ∷ take 2 (drop 2 bs))))) (cond blank (codes "  /  /  ") (codes "**/**/**"))) ≡ 8

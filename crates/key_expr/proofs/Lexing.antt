@@ -1,5 +1,5 @@
 -- The tokens after one that was cut off.
-use Rattle.std.proofs.Common.{◌≡◌, ℕ, zero, suc, List, [], ◌∷◌, ◌++◌, drop, length, ◌+◌, ◌-◌, ◌≤◌, refl, ap, ◌∙◌, cond, eqb, true, false, Bool, arith, ltb, get_or, not, Option, Some, None}
+use Rattle.std.proofs.Common.{◌≡◌, ℕ, zero, suc, List, [], ◌∷◌, drop, length, ◌+◌, ◌-◌, ◌≤◌, refl, ap, ◌∙◌, cond, eqb, true, false, Bool, arith, ltb, get_or, not, Some, None}
 use Rattle.dbf_fields.specs.declared.field.Field.{Field}
 use Rattle.std.specs.List.{position, position_or_len}
 use Rattle.std.specs.Char.{is_ascii_alphabetic, is_ascii_digit}

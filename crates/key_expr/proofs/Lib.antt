@@ -5,10 +5,7 @@ pub mod BadOffsets
 pub mod Unique
 pub mod Windows
 pub mod Lexing
-pub mod FaultLaws
-pub mod PrintLaws
 pub mod KeyPadding
-pub mod Rows
 pub mod KeptRules
 pub mod KeyLengths
 pub mod Sizes

@@ -8,9 +8,9 @@ use Rattle.dbf_fields.specs.Name.{is_name_char}
 use Rattle.key_expr.specs.declared.token.Token.{Token}
 use Rattle.key_expr.specs.declared.token.Kind.{Kind}
 use Rattle.key_expr.specs.declared.token.Kind.TheVariants.{Plus, Open, Close, Comma, Upper, Substr, Str, Dtoc, Name, Number, End, Bad}
-use Rattle.key_expr.specs.Grammar.{Expr, Begin, EndsPoints, EndsWith, Sort, Reads, one_term, sum, field_term, parens_term, upper_term, substr_term, str_term, dtoc_term, IsText}
+use Rattle.key_expr.specs.Grammar.{Expr, Begin, EndsPoints, EndsWith, Sort, Reads, one_term, sum, field_term, parens_term, upper_term, substr_term, str_term, dtoc_term}
 use Rattle.key_expr.specs.Rules.{IsKeyText}
-use Rattle.key_expr.specs.Tokens.{tokens_after, tokens_of, token_length, kind_of, prefix_length}
+use Rattle.key_expr.specs.Tokens.{tokens_after, token_length, kind_of, prefix_length}
 
 abbrev is_good : Kind → Bool
 is_good Bad = false

@@ -1,6 +1,6 @@
 -- How many parts an expression has.
 use Rattle.std.proofs.Common.{ℕ, ◌+◌}
-use Rattle.key_expr.specs.Grammar.{Expr, field, concat, upper, substr, str, dtoc}
+use Rattle.key_expr.specs.Grammar.{Expr, concat, upper, substr}
 
 abbrev pub parts : Expr → ℕ
 parts (concat a b) = 1 + parts a + parts b

@@ -4,7 +4,7 @@ use Rattle.std.specs.Char.{to_ascii_uppercase}
 use Rattle.std.specs.List.{take-map}
 use Rattle.std.proofs.Math.Seq.{take-nil}
 use Rattle.std.proofs.lemmas.Bool.Decides.{nat_tests}
-use Rattle.std.proofs.lemmas.List.{drop-take, drop-drop, drop_all, drop-map, length-take, length-map, map-append, take_all}
+use Rattle.std.proofs.lemmas.List.{drop-take, drop-drop, drop_all, drop-map, length-take, length-map, map-append, take_all, append-nil}
 use Rattle.key_expr.specs.declared.evaluate.Window.{Window}
 use Rattle.key_expr.specs.Windows.{upper_if, bytes_in}
 
@@ -93,6 +93,10 @@ put_both w u len old mid new xs ys l near room f c r m n =
     n ∙ (ap (λ (z : List ℕ). z ++ bytes_in u ys) m
     ∙ (append_assoc old (bytes_in w xs) (bytes_in u ys)
     ∙ ap (λ (z : List ℕ). old ++ z) (sym both)))
+
+-- a full window takes no more
+pub no_more : (u : Window) (ys mid : List ℕ) → u.count ≤ 0 → mid ≡ mid ++ bytes_in u ys
+no_more u ys mid full = let none : u.count ≡ 0 = omega (arith, full) in rw none (sym (append-nil mid))
 
 pub room_for_second : (w u : Window) (len : ℕ) (old mid xs : List ℕ)
     → len ≡ min 1000000 (length xs) → w.from ≤ 200000 → length old + w.count ≤ 100

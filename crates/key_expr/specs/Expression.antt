@@ -6,8 +6,10 @@ use Rattle.key_expr.specs.declared.fault.ExprFault.{ExprFault}
 use Rattle.key_expr.specs.declared.fault.ExprFault.TheVariants.{NoMemory}
 use Rattle.key_expr.specs.Grammar.{Expr}
 use Rattle.key_expr.specs.Keys.{key_length}
-use Rattle.key_expr.specs.Layout.{places_from}
 use Rattle.key_expr.specs.Rules.{IsKeyText}
+use Rattle.key_expr.specs.TreeExpr.{expr_of}
+use Rattle.key_expr.specs.KeptLengths.{KeepsLengths}
+use Rattle.key_expr.specs.declared.tree.Tree.{Tree}
 
 -- the text, the fields that it was parsed for, and what it says
 pub record Expression : Type 0 where
@@ -16,11 +18,11 @@ pub record Expression : Type 0 where
   pub expr : Expr
 
 -- what is kept beside the text belongs to it
-pub record IsHeld (text : List ℕ) (fields : List Field) (places : List ℕ) (e : Expr) (len : ℕ) : Type 0 where
+pub record IsHeld (text : List ℕ) (fields : List Field) (tree : Tree) (len : ℕ) : Type 0 where
   pub schema : IsSchema fields
-  pub read : IsKeyText fields text e
-  pub placed : places ≡ places_from 1 fields
-  pub long : len ≡ key_length fields e
+  pub read : IsKeyText fields text (expr_of tree)
+  pub lengths : KeepsLengths fields tree
+  pub long : len ≡ key_length fields (expr_of tree)
 
 -- the answer is this expression, but for want of memory
 abbrev pub IsAnswer : Result Expression ExprFault → Expr → Type 0

@@ -1,24 +1,25 @@
 -- How a key keeps its bytes.
 use Rattle.std.specs.Prelude.{◌≡◌, ℕ, ◌-◌, ◌≤◌, List, ◌++◌, length, take, drop, replicate}
 use Rattle.std.proofs.Common.{arith, ◌∙◌, ap, sym, length-take-le, take-append-drop}
+use Rattle.key_expr.specs.declared.format.TheConstants.{MAX_KEY_BYTES}
 use Rattle.key_expr.specs.declared.key.Key.TheInside.{Inside}
 
 -- the bytes of a key
 abbrev pub bytes_of : Inside → List ℕ
 bytes_of k = take k.len k.bytes
 
--- at most a hundred bytes, and zeros in the places after them
+-- at most so many bytes, and zeros after them
 abbrev pub IsPadded : Inside → Type 0
-IsPadded k = (k.len ≤ 100) × (length k.bytes ≡ 100) × (drop k.len k.bytes ≡ replicate (100 - k.len) 0)
+IsPadded k = (k.len ≤ MAX_KEY_BYTES) × (length k.bytes ≡ MAX_KEY_BYTES) × (drop k.len k.bytes ≡ replicate (MAX_KEY_BYTES - k.len) 0)
 
 -- the fields of the key with these bytes
 abbrev pub padded : List ℕ → Inside
-padded bs = record { bytes = bs ++ replicate (100 - length bs) 0; len = length bs }
+padded bs = record { bytes = bs ++ replicate (MAX_KEY_BYTES - length bs) 0; len = length bs }
 
 pub padded-bytes_of : (k : Inside) → IsPadded k → padded (bytes_of k) ≡ k
 padded-bytes_of k h i =
     let len : length (take k.len k.bytes) ≡ k.len = length-take-le k.len k.bytes (omega (arith, h.0, h.1)) in
     record {
-      bytes = (ap (λ n. take k.len k.bytes ++ replicate (100 - n) 0) len ∙ ap (λ ys. take k.len k.bytes ++ ys) (sym h.2) ∙ take-append-drop k.len k.bytes) i;
+      bytes = (ap (λ n. take k.len k.bytes ++ replicate (MAX_KEY_BYTES - n) 0) len ∙ ap (λ ys. take k.len k.bytes ++ ys) (sym h.2) ∙ take-append-drop k.len k.bytes) i;
       len = len i;
     }

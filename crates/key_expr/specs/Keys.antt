@@ -1,15 +1,16 @@
 -- The key of a row, by cases on the expression.
-use Rattle.std.specs.Prelude.{ℕ, ◌+◌, ◌-◌, List, [], ◌∷◌, ◌++◌, map, take, drop, get_or, min, Option, Some, None, unwrap_or}
-use Rattle.std.specs.List.{slice_get}
+use Rattle.std.specs.Prelude.{ℕ, ◌+◌, ◌-◌, List, [], ◌++◌, map, take, drop, get_or, min, Option, unwrap_or}
 use Rattle.std.specs.Char.{to_ascii_uppercase}
 use Rattle.dbf_fields.specs.declared.field.Field.{Field}
 use Rattle.dbf_fields.specs.Date.{date_shown}
+use Rattle.dbf_fields.specs.Layout.{width_of}
 use Rattle.key_expr.specs.Grammar.{Expr, field, concat, upper, substr, str, dtoc}
+use Rattle.key_expr.specs.declared.format.TheConstants.{STR_LENGTH, DTOC_LENGTH}
 use Rattle.key_expr.specs.Printing.{printed_number}
 
--- A STR prints 10 bytes where no length is given, and no decimals where none are.
+-- A STR prints so many bytes where no length is given, and no decimals where none are.
 abbrev pub length_given : Option ℕ → ℕ
-length_given n = unwrap_or n 10
+length_given n = unwrap_or n STR_LENGTH
 
 abbrev pub decimals_given : Option ℕ → ℕ
 decimals_given d = unwrap_or d 0
@@ -23,10 +24,6 @@ key cells (substr a from count) = take count (drop (from - 1) (key cells a))
 key cells (str i n d) = printed_number (length_given n) (decimals_given d) (get_or cells i [])
 key cells (dtoc i) = date_shown (get_or cells i [])
 
--- how wide the cells of a field are
-abbrev pub width_of : List Field → ℕ → ℕ
-width_of fields i = elim (slice_get fields i) [ None ↦ 0 | Some f ↦ f.width ]
-
 -- how many bytes the key of each row has
 abbrev pub key_length : List Field → Expr → ℕ
 key_length fields (field i) = width_of fields i
@@ -34,4 +31,4 @@ key_length fields (concat a b) = key_length fields a + key_length fields b
 key_length fields (upper a) = key_length fields a
 key_length fields (substr a from count) = min count (key_length fields a - (from - 1))
 key_length fields (str i n d) = length_given n
-key_length fields (dtoc i) = 8
+key_length fields (dtoc i) = DTOC_LENGTH

@@ -3,10 +3,10 @@ pub mod Expected
 pub mod TreeExpr
 pub mod KeyBytes
 pub mod Tokens
-pub mod Layout
 pub mod Printing
 pub mod Keys
 pub mod Rules
 pub mod Windows
 pub mod ExprCode
+pub mod KeptLengths
 pub mod Expression

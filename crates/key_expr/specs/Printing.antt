@@ -1,15 +1,16 @@
 -- What a number prints.
-use Rattle.std.specs.Prelude.{ℕ, nat_le, List, ◌++◌, length, replicate, Option, Some, None, if◌then◌else◌}
+use Rattle.std.specs.Prelude.{ℕ, nat_le, List, length, replicate, Some, None, if◌then◌else◌}
+use Rattle.key_expr.specs.declared.format.TheConstants.{ASTERISK}
 use Rattle.dbf_fields.specs.Number.{number}
 use Rattle.dbf_fields.specs.NumberText.{number_text, right_justified}
 
 -- a text after as many blanks as fill the width, or asterisks where it is too long
 abbrev pub fitted : ℕ → List ℕ → List ℕ
-fitted width text = if nat_le (length text) width then right_justified width text else replicate width 42
+fitted width text = if nat_le (length text) width then right_justified width text else replicate width ASTERISK
 
 -- what the number of a cell prints: asterisks where the cell can't be read
 abbrev pub printed_number : ℕ → ℕ → List ℕ → List ℕ
 printed_number width decimals cell = elim (number cell decimals) [
-  | None ↦ replicate width 42
+  | None ↦ replicate width ASTERISK
   | Some n ↦ fitted width (number_text n decimals decimals)
 ]

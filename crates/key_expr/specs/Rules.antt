@@ -1,5 +1,5 @@
 -- The rules on fields and arguments, and which texts are key expressions.
-use Rattle.std.specs.Prelude.{◌≡◌, ℕ, ◌≤◌, ◌<◌, Bool, true, false, ◌&&◌, ◌==◌, nat_le, nat_lt, List, [], ◌∷◌, ◌++◌, length, Option, Some, None}
+use Rattle.std.specs.Prelude.{◌≡◌, ℕ, ◌≤◌, ◌<◌, Bool, false, ◌&&◌, ◌==◌, nat_le, nat_lt, List, [], ◌∷◌, ◌++◌, length, Option, Some, None}
 use Rattle.std.specs.List.{slice_get}
 use Rattle.std.specs.Int.{is_in_range}
 use Rattle.dbf_fields.specs.declared.field.Field.{Field}
@@ -7,6 +7,7 @@ use Rattle.dbf_fields.specs.declared.field.TheConstants.{CHARACTER, NUMBER, DATE
 use Rattle.dbf_fields.specs.Faults.{first_fault}
 use Rattle.key_expr.specs.declared.fault.ExprFault.{ExprFault}
 use Rattle.key_expr.specs.declared.fault.ExprFault.TheVariants.{ExpressionTooLong, BadSyntax, NoSuchField, NotCharacter, BadArgument, KeyTooLong, NoMemory}
+use Rattle.key_expr.specs.declared.format.TheConstants.{MAX_EXPRESSION_BYTES, MAX_KEY_BYTES}
 use Rattle.key_expr.specs.Grammar.{Expr, field, concat, upper, substr, str, dtoc, IsText, IsBadAt}
 use Rattle.key_expr.specs.Tokens.{tokens_of}
 use Rattle.key_expr.specs.Keys.{length_given, decimals_given, key_length}
@@ -15,11 +16,11 @@ use Rattle.key_expr.specs.Keys.{length_given, decimals_given, key_length}
 abbrev pub has_kind : List Field → ℕ → ℕ → Bool
 has_kind fields i kind = elim (slice_get fields i) [ None ↦ false | Some f ↦ f.kind == kind ]
 
--- the decimals are the number's, and the length is at least its width and at most 100
+-- the decimals are the number's, and the length is at least its width and no longer than a key
 abbrev pub can_print : List Field → ℕ → ℕ → ℕ → Bool
 can_print fields i width decimals = elim (slice_get fields i) [
   | None ↦ false
-  | Some f ↦ (decimals == f.decimals) && is_in_range f.width 100 width
+  | Some f ↦ (decimals == f.decimals) && is_in_range f.width MAX_KEY_BYTES width
 ]
 
 -- the tests of a field that has to be of a kind
@@ -37,22 +38,22 @@ tests fields (dtoc i) = field_tests fields i DATE
 
 -- the first rule that an expression breaks
 abbrev pub refusal : List Field → Expr → Option ExprFault
-refusal fields e = first_fault (tests fields e ++ (nat_le (key_length fields e) 100, KeyTooLong) ∷ [])
+refusal fields e = first_fault (tests fields e ++ (nat_le (key_length fields e) MAX_KEY_BYTES, KeyTooLong) ∷ [])
 
 -- the text is the expression, and keeps the rules
 pub record IsKeyText (fields : List Field) (text : List ℕ) (e : Expr) : Type 0 where
-  pub short : length text ≤ 488
+  pub short : length text ≤ MAX_EXPRESSION_BYTES
   pub read : IsText e (tokens_of fields text)
   pub kept : refusal fields e ≡ None
 
 -- a text of the grammar whose expression breaks a rule, this one first
 abbrev pub Breaks : ExprFault → List Field → List ℕ → Type 0
-Breaks fault fields text = (length text ≤ 488) × ((e : Expr) × IsText e (tokens_of fields text) × (refusal fields e ≡ Some fault))
+Breaks fault fields text = (length text ≤ MAX_EXPRESSION_BYTES) × ((e : Expr) × IsText e (tokens_of fields text) × (refusal fields e ≡ Some fault))
 
 -- what a fault says of the text: the first of the rules that it breaks
 abbrev pub IsFault : ExprFault → List Field → List ℕ → Type 0
-IsFault ExpressionTooLong fields text = 488 < length text
-IsFault (BadSyntax offset) fields text = (length text ≤ 488) × IsBadAt offset (tokens_of fields text)
+IsFault ExpressionTooLong fields text = MAX_EXPRESSION_BYTES < length text
+IsFault (BadSyntax offset) fields text = (length text ≤ MAX_EXPRESSION_BYTES) × IsBadAt offset (tokens_of fields text)
 IsFault NoMemory fields text = Unit {0}
 IsFault NoSuchField fields text = Breaks NoSuchField fields text
 IsFault NotCharacter fields text = Breaks NotCharacter fields text

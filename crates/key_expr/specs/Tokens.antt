@@ -1,5 +1,6 @@
 -- The tokens of a text.
-use Rattle.std.specs.Prelude.{ℕ, zero, suc, ◌+◌, ◌-◌, ◌*◌, Bool, true, false, not, ◌==◌, nat_lt, List, [], ◌∷◌, length, take, drop, if◌then◌else◌}
+use Rattle.std.specs.Prelude.{ℕ, zero, suc, ◌+◌, ◌-◌, ◌*◌, Bool, false, not, ◌==◌, nat_lt, List, [], ◌∷◌, length, take, drop, codes, if◌then◌else◌}
+use Rattle.key_expr.specs.declared.format.TheConstants.{MAX_NAME_BYTES, BLANK, PLUS, OPEN, CLOSE, COMMA}
 use Rattle.std.specs.List.{position_or_len}
 use Rattle.std.specs.Char.{is_ascii_alphabetic, is_ascii_digit}
 use Rattle.std.specs.Str.{str_eq_ignore_ascii_case}
@@ -30,10 +31,10 @@ number_kind digits = Bad
 -- the function of a name
 abbrev pub function_kind : List ℕ → Kind
 function_kind name =
-    if str_eq_ignore_ascii_case name (85 ∷ 80 ∷ 80 ∷ 69 ∷ 82 ∷ []) then Upper  -- UPPER
-    else (if str_eq_ignore_ascii_case name (83 ∷ 85 ∷ 66 ∷ 83 ∷ 84 ∷ 82 ∷ []) then Substr  -- SUBSTR
-    else (if str_eq_ignore_ascii_case name (83 ∷ 84 ∷ 82 ∷ []) then Str  -- STR
-    else (if str_eq_ignore_ascii_case name (68 ∷ 84 ∷ 79 ∷ 67 ∷ []) then Dtoc  -- DTOC
+    if str_eq_ignore_ascii_case name (codes "UPPER") then Upper
+    else (if str_eq_ignore_ascii_case name (codes "SUBSTR") then Substr
+    else (if str_eq_ignore_ascii_case name (codes "STR") then Str
+    else (if str_eq_ignore_ascii_case name (codes "DTOC") then Dtoc
     else Bad)))
 
 -- the index of the field that has the name, or the number of the fields where none has it
@@ -43,22 +44,22 @@ index_of fields name = position_or_len (λ f. str_eq_ignore_ascii_case name f.na
 -- an opening parenthesis is next, after blanks or none
 abbrev pub opens : List ℕ → Bool
 opens [] = false
-opens (b ∷ bs) = if b == 32 then opens bs else b == 40
+opens (b ∷ bs) = if b == BLANK then opens bs else b == OPEN
 
 -- a name of up to 10 bytes: a function's before an opening parenthesis, else a field's
 abbrev pub name_kind : List Field → List ℕ → List ℕ → Kind
 name_kind fields name after =
-    if nat_lt 10 (length name) then Bad
+    if nat_lt MAX_NAME_BYTES (length name) then Bad
     else (if opens after then function_kind name else Name (index_of fields name))
 
 -- what the first token of a text is
 unfoldable pub kind_of : List Field → List ℕ → Kind
 kind_of fields [] = End
 kind_of fields (b ∷ bs) =
-    if b == 43 then Plus  -- +
-    else (if b == 40 then Open  -- (
-    else (if b == 41 then Close  -- )
-    else (if b == 44 then Comma  -- ,
+    if b == PLUS then Plus
+    else (if b == OPEN then Open
+    else (if b == CLOSE then Close
+    else (if b == COMMA then Comma
     else (if is_ascii_digit b then number_kind (take (token_length (b ∷ bs)) (b ∷ bs))
     else (if is_ascii_alphabetic b then name_kind fields (take (token_length (b ∷ bs)) (b ∷ bs)) (drop (token_length (b ∷ bs)) (b ∷ bs))
     else Bad)))))
@@ -69,7 +70,7 @@ abbrev pub tokens_after : List Field → ℕ → ℕ → List ℕ → List Token
 tokens_after fields whole before [] = record { kind = End; offset = whole } ∷ []
 tokens_after fields whole (suc n) (b ∷ bs) = tokens_after fields whole n bs
 tokens_after fields whole zero (b ∷ bs) =
-    if b == 32 then tokens_after fields whole zero bs
+    if b == BLANK then tokens_after fields whole zero bs
     else record { kind = kind_of fields (b ∷ bs); offset = whole - length (b ∷ bs) }
     ∷ tokens_after fields whole (token_length (b ∷ bs) - 1) bs
 

@@ -2,19 +2,20 @@
 
 ghost use Rattle.std.specs.Prelude.{◌≡◌, ◌<◌, min, Some, None, IfOk, IfErr};
 ghost use Rattle.dbf_fields.specs.Faults.{first_fault};
+ghost use Rattle.dbf_fields.specs.Layout.{width_of as width_in};
 ghost use Rattle.key_expr.specs.TreeExpr.{expr_of};
-ghost use Rattle.key_expr.specs.Keys.{key_length, width_of as width_in, length_given as length_of_given, decimals_given as decimals_of_given};
+ghost use Rattle.key_expr.specs.KeptLengths.{KeepsLengths};
+ghost use Rattle.key_expr.specs.declared.format.TheConstants.{MAX_LENGTH};
+ghost use Rattle.key_expr.specs.Keys.{key_length, length_given as length_of_given, decimals_given as decimals_of_given};
 ghost use Rattle.key_expr.specs.Rules.{field_tests, has_kind as is_of_kind, can_print as may_print, tests, refusal};
 
 use crate::fault::ExprFault;
-use crate::key::MAX_KEY_BYTES;
+use crate::format::{DTOC_LENGTH, MAX_KEY_BYTES, MAX_LENGTH, STR_LENGTH};
 use crate::tree::Tree;
 use dbf_fields::{CHARACTER, DATE, Field, NUMBER};
 
-/// Lengths are told exactly up to here, which is above every number of a text.
-pub(crate) const MAX_LENGTH: usize = 1_000_000;
-
 // How wide the cells of a field are.
+#[tactic(auto, using(dbf_fields::proofs::LayoutLaws::width_of_field))]
 fn width_of(fields: &[Field], index: usize) -> u8
     ensures value { result ≡ width_in fields.now index }
 {
@@ -24,14 +25,14 @@ fn width_of(fields: &[Field], index: usize) -> u8
     }
 }
 
-/// The length that a STR prints: 10 where none is given.
+/// The length that a STR prints: `STR_LENGTH` where none is given.
 pub(crate) fn length_given(length: Option<u16>) -> usize
     ensures value { result ≡ length_of_given length }
     ensures small { result < 65536 }
 {
     match length {
         Some(length) => usize::from(length),
-        None => 10,
+        None => STR_LENGTH,
     }
 }
 
@@ -47,13 +48,12 @@ pub(crate) fn decimals_given(decimals: Option<u16>) -> usize
 
 /// How many bytes the key of an expression has, at most `MAX_LENGTH`.
 pub(crate) fn length_of(tree: &Tree, fields: &[Field]) -> usize
-    ensures value { result ≡ min 1000000 (key_length fields.now (expr_of tree.now)) }
+    requires lengths { KeepsLengths fields.now tree.now }
+    ensures value { result ≡ min MAX_LENGTH (key_length fields.now (expr_of tree.now)) }
 {
     match tree {
         Tree::Field(index) => usize::from(width_of(fields, *index)),
-        Tree::Concat(first, second) => {
-            (length_of(first, fields) + length_of(second, fields)).min(MAX_LENGTH)
-        }
+        Tree::Concat(_, second, length) => (*length + length_of(second, fields)).min(MAX_LENGTH),
         Tree::Upper(inner) => length_of(inner, fields),
         Tree::Substr(inner, from, count) => {
             let before = usize::from(*from).saturating_sub(1);
@@ -62,7 +62,7 @@ pub(crate) fn length_of(tree: &Tree, fields: &[Field]) -> usize
                 .min(usize::from(*count))
         }
         Tree::Str(_, length, _) => length_given(*length),
-        Tree::Dtoc(_) => 8,
+        Tree::Dtoc(_) => DTOC_LENGTH,
     }
 }
 
@@ -105,14 +105,15 @@ fn can_print(fields: &[Field], index: usize, length: usize, decimals: usize) -> 
 }
 
 // The rules on fields and arguments, from left to right.
-#[tactic(auto, using(crate::proofs::FaultLaws::fault_after, crate::proofs::FaultLaws::fault_before))]
+#[tactic(auto, using(dbf_fields::proofs::FaultLaws::first_then, dbf_fields::proofs::FaultLaws::first_before))]
 fn check(tree: &Tree, fields: &[Field]) -> Result<(), ExprFault>
+    requires lengths { KeepsLengths fields.now tree.now }
     ensures kept { IfOk result (λ _. first_fault (tests fields.now (expr_of tree.now)) ≡ None) }
     ensures refused { IfErr result (λ fault. first_fault (tests fields.now (expr_of tree.now)) ≡ Some fault) }
 {
     match tree {
         Tree::Field(index) => check_field(fields, *index, CHARACTER),
-        Tree::Concat(first, second) => {
+        Tree::Concat(first, second, _) => {
             check(first, fields)?;
             check(second, fields)
         }
@@ -142,8 +143,9 @@ fn check(tree: &Tree, fields: &[Field]) -> Result<(), ExprFault>
 }
 
 /// All the rules on an expression, and how many bytes its keys have.
-#[tactic(auto, using(crate::proofs::FaultLaws::fault_after, crate::proofs::FaultLaws::fault_before))]
+#[tactic(auto, using(dbf_fields::proofs::FaultLaws::first_then, dbf_fields::proofs::FaultLaws::first_before))]
 pub(crate) fn check_all(tree: &Tree, fields: &[Field]) -> Result<usize, ExprFault>
+    requires lengths { KeepsLengths fields.now tree.now }
     ensures kept { IfOk result (λ _. refusal fields.now (expr_of tree.now) ≡ None) }
     ensures length { IfOk result (λ n. n ≡ key_length fields.now (expr_of tree.now)) }
     ensures refused { IfErr result (λ fault. refusal fields.now (expr_of tree.now) ≡ Some fault) }

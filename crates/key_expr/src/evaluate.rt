@@ -3,25 +3,20 @@
 ghost use Rattle.std.specs.Prelude.{◌≡◌, ◌+◌, ◌-◌, ◌<◌, ◌≤◌, ◌++◌, [], length, take, drop, map, get_or, min, None};
 ghost use Rattle.dbf_fields.specs.Faults.{first_fault};
 ghost use Rattle.key_expr.specs.TreeExpr.{expr_of};
+ghost use Rattle.key_expr.specs.KeptLengths.{KeepsLengths};
 ghost use Rattle.key_expr.specs.Grammar.{str};
-ghost use Rattle.key_expr.specs.Keys.{key, width_of};
-ghost use Rattle.key_expr.specs.Layout.{cells_of};
+ghost use Rattle.key_expr.specs.Keys.{key};
+ghost use Rattle.dbf_fields.specs.Field.{widths};
+ghost use Rattle.dbf_fields.specs.Layout.{cells_of};
+ghost use Rattle.key_expr.specs.declared.format.TheConstants.{MAX_KEY_BYTES};
 ghost use Rattle.key_expr.specs.Rules.{tests};
-ghost use Rattle.key_expr.specs.Windows.{upper_if, bytes_in, IsRecord};
+ghost use Rattle.key_expr.specs.Windows.{upper_if, bytes_in};
 
-use crate::check::{length_given, length_of};
+use crate::check::length_given;
 use crate::key::Key;
 use crate::print::printed_number;
 use crate::tree::Tree;
-use dbf_fields::{Field, shown_date};
-
-/// A record's run of bytes, the fields of its table and the places of their cells in the run.
-#[derive(Clone, Copy)]
-pub(crate) struct Record<'a> {
-    pub(crate) bytes: &'a [u8],
-    pub(crate) fields: &'a [Field],
-    pub(crate) places: &'a [usize],
-}
+use dbf_fields::{Schema, shown_date};
 
 /// Which bytes of a part of the key are wanted: so many after the first ones, in capitals or as they are.
 #[derive(Clone, Copy)]
@@ -65,26 +60,6 @@ impl Window {
     }
 }
 
-// So many bytes of a run from a place on.
-fn part(bytes: &[u8], start: usize, count: usize) -> &[u8]
-    requires within { start + count ≤ length bytes.now }
-    ensures value { result.now ≡ take count (drop start bytes.now) }
-{
-    &bytes[start..][..count]
-}
-
-// The cell of a field.
-fn cell(record: Record, index: usize) -> &[u8]
-    requires record { IsRecord record.fields.now record.places.now record.bytes.now }
-    requires there { index < length record.fields.now }
-    ensures value { result.now ≡ get_or (cells_of record.entry.fields.now (drop 1 record.entry.bytes.now)) index [] }
-    ensures long { length result.now ≡ width_of record.entry.fields.now index }
-{
-    let start = record.places[index];
-    let width = usize::from(record.fields[index].width);
-    part(record.bytes, start, width)
-}
-
 // A byte, in capitals if so asked.
 fn upper_byte(byte: u8, upper: bool) -> u8
     ensures value { result ≡ upper_if upper byte }
@@ -98,7 +73,7 @@ fn upper_byte(byte: u8, upper: bool) -> u8
 
 // Puts bytes at the end of a key.
 fn put_bytes(out: &mut Key, bytes: &[u8], upper: bool)
-    requires room { length out.old + length bytes.now ≤ 100 }
+    requires room { length out.old + length bytes.now ≤ MAX_KEY_BYTES }
     ensures value { out.new ≡ out.old ++ map (upper_if upper) bytes.now }
 {
     for byte in bytes {
@@ -108,7 +83,7 @@ fn put_bytes(out: &mut Key, bytes: &[u8], upper: bool)
 
 // Puts the wanted ones of some bytes at the end of a key.
 fn put_window(out: &mut Key, bytes: &[u8], window: Window)
-    requires room { length out.old + window.count ≤ 100 }
+    requires room { length out.old + window.count ≤ MAX_KEY_BYTES }
     ensures value { out.new ≡ out.old ++ bytes_in window bytes.now }
 {
     let start = window.from.min(bytes.len());
@@ -118,50 +93,69 @@ fn put_window(out: &mut Key, bytes: &[u8], window: Window)
 }
 
 // What the number in a field's cell prints.
-fn str_of_cell(record: Record, index: usize, length: Option<u16>, decimals: Option<u16>) -> Key
-    requires record { IsRecord record.fields.now record.places.now record.bytes.now }
-    requires kept { first_fault (tests record.fields.now (str index length decimals)) ≡ None }
-    ensures value { result ≡ key (cells_of record.entry.fields.now (drop 1 record.entry.bytes.now)) (str index length decimals) }
+fn str_of_cell(
+    schema: &Schema,
+    record_bytes: &[u8],
+    index: usize,
+    given: Option<u16>,
+    decimals: Option<u16>,
+) -> Key
+    requires whole { length record_bytes.now ≡ 1 + widths schema.now }
+    requires kept { first_fault (tests schema.now (str index given decimals)) ≡ None }
+    ensures value { result ≡ key (cells_of schema.now (drop 1 record_bytes.now)) (str index given decimals) }
 {
-    let field = &record.fields[index];
-    printed_number(length_given(length), field.decimals, cell(record, index))
+    let field = &schema.fields()[index];
+    printed_number(
+        length_given(given),
+        field.decimals,
+        schema.cell_in(record_bytes, index),
+    )
 }
 
 /// Puts the wanted bytes of the key of an expression at the end of a key.
-pub(crate) fn put(out: &mut Key, tree: &Tree, record: Record, window: Window)
-    requires record { IsRecord record.fields.now record.places.now record.bytes.now }
-    requires kept { first_fault (tests record.fields.now (expr_of tree.now)) ≡ None }
-    requires room { length out.old + window.count ≤ 100 }
+pub(crate) fn put(out: &mut Key, tree: &Tree, schema: &Schema, record_bytes: &[u8], window: Window)
+    requires whole { length record_bytes.now ≡ 1 + widths schema.now }
+    requires kept { first_fault (tests schema.now (expr_of tree.now)) ≡ None }
+    requires room { length out.old + window.count ≤ MAX_KEY_BYTES }
     requires near { window.from ≤ 200000 }
-    ensures value { out.new ≡ out.old ++ bytes_in window (key (cells_of record.entry.fields.now (drop 1 record.entry.bytes.now)) (expr_of tree.now)) }
+    requires lengths { KeepsLengths schema.now tree.now }
+    ensures value { out.new ≡ out.old ++ bytes_in window (key (cells_of schema.now (drop 1 record_bytes.now)) (expr_of tree.now)) }
 {
     match tree {
-        Tree::Field(index) => put_window(out, cell(record, *index), window),
-        Tree::Concat(first, second) => {
-            let after = window.after(length_of(first, record.fields));
-            put(out, first, record, window);
-            put(out, second, record, after);
+        Tree::Field(index) => put_window(out, schema.cell_in(record_bytes, *index), window),
+        Tree::Concat(first, second, length) => {
+            let after = window.after(*length);
+            put(out, first, schema, record_bytes, window);
+            if after.count > 0 {
+                put(out, second, schema, record_bytes, after);
+            }
         }
         Tree::Upper(inner) => {
             let upper = Window {
                 upper: true,
                 ..window
             };
-            put(out, inner, record, upper);
+            put(out, inner, schema, record_bytes, upper);
         }
         Tree::Substr(inner, from, count) => {
             let most = usize::from(*count);
             if window.from < most {
                 let before = usize::from(*from).saturating_sub(1);
-                put(out, inner, record, window.within(before, most));
+                put(
+                    out,
+                    inner,
+                    schema,
+                    record_bytes,
+                    window.within(before, most),
+                );
             }
         }
         Tree::Str(index, length, decimals) => {
-            let printed = str_of_cell(record, *index, *length, *decimals);
+            let printed = str_of_cell(schema, record_bytes, *index, *length, *decimals);
             put_window(out, printed.as_bytes(), window);
         }
         Tree::Dtoc(index) => {
-            let shown = shown_date(cell(record, *index));
+            let shown = shown_date(schema.cell_in(record_bytes, *index));
             put_window(out, &shown, window);
         }
     }

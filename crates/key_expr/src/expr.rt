@@ -1,18 +1,22 @@
 //! Key expressions: how they are read, and the keys that they give.
 
-ghost use Rattle.std.specs.Prelude.{◌≡◌, ◌≢◌, ◌+◌, ◌≤◌, length, drop, take, IfOk, IfErr};
+ghost use Rattle.std.specs.Prelude.{◌≡◌, ◌≢◌, ◌+◌, ◌≤◌, ◌<◌, length, drop, take, IfOk, IfErr};
 ghost use Rattle.std.specs.List.{AllByRecursion};
 ghost use Rattle.dbf_fields.specs.Field.{widths};
+ghost use Rattle.key_expr.specs.declared.fault.ExprFault.TheVariants.{ExpressionTooLong};
+ghost use Rattle.key_expr.specs.declared.format.TheConstants.{MAX_EXPRESSION_BYTES, MAX_KEY_BYTES};
 ghost use Rattle.key_expr.specs.Grammar.{Expr};
 ghost use Rattle.key_expr.specs.TreeExpr.{expr_of};
+ghost use Rattle.key_expr.specs.KeptLengths.{KeepsLengths};
 ghost use Rattle.key_expr.specs.Keys.{key, key_length};
-ghost use Rattle.key_expr.specs.Layout.{cells_of, places_from};
+ghost use Rattle.dbf_fields.specs.Layout.{cells_of};
 ghost use Rattle.key_expr.specs.Rules.{IsKeyText, IsFault};
 ghost use Rattle.key_expr.specs.Expression.{IsAnswer};
 
 use crate::check::check_all;
-use crate::evaluate::{Record, Window, put};
+use crate::evaluate::{Window, put};
 use crate::fault::ExprFault;
+use crate::format::MAX_EXPRESSION_BYTES;
 use crate::key::Key;
 use crate::lexer::tokens_of;
 use crate::parser::read_tokens;
@@ -21,9 +25,6 @@ use dbf_fields::{Field, Schema};
 use std::alloc::{AllocError, Global};
 use std::marker::Model;
 
-/// The longest text of a key expression, in bytes.
-pub const MAX_EXPRESSION_BYTES: usize = 488;
-
 /// A key expression that was read for the fields of a schema, and keeps all rules.
 ///
 /// Contracts see its text, the fields, and the expression that the text is.
@@ -31,7 +32,6 @@ pub const MAX_EXPRESSION_BYTES: usize = 488;
 pub struct KeyExpr {
     text: Vec<u8>,
     schema: Schema,
-    places: Vec<usize>,
     tree: Tree,
     key_len: usize,
 }
@@ -48,36 +48,24 @@ impl Model for KeyExpr {
 
     ghost view = { λ e. record { text = e.text.items; fields = e.schema; expr = expr_of e.tree } };
 
-    ghost invariant = { λ e. IsHeld e.text.items e.schema e.places.items (expr_of e.tree) e.key_len };
+    ghost invariant = { λ e. IsHeld e.text.items e.schema e.tree e.key_len };
 }
 
 // The tree of a text and the length of its keys.
 fn read_text(alloc: Global, text: &[u8], fields: &[Field]) -> Result<(Tree, usize), ExprFault>
     ensures read { IfOk result (λ pair. IsKeyText fields.now text.now (expr_of pair.0)) }
+    ensures lengths { IfOk result (λ pair. KeepsLengths fields.now pair.0) }
     ensures long { IfOk result (λ pair. pair.1 ≡ key_length fields.now (expr_of pair.0)) }
+    ensures early { IfErr result (λ fault. MAX_EXPRESSION_BYTES < length text.now → fault ≡ ExpressionTooLong) }
     ensures refused { IfErr result (λ fault. IsFault fault fields.now text.now) }
 {
     if text.len() > MAX_EXPRESSION_BYTES {
         return Err(ExprFault::ExpressionTooLong);
     }
     let tokens = tokens_of(alloc, fields, text)?;
-    let tree = read_tokens(alloc, &tokens)?;
+    let tree = read_tokens(alloc, fields, &tokens)?;
     let key_len = check_all(&tree, fields)?;
     Ok((tree, key_len))
-}
-
-// The places of the cells in a record, after its flag byte.
-fn places_of(alloc: Global, fields: &[Field]) -> Result<Vec<usize>, AllocError>
-    requires short { widths fields.now ≤ 4000 }
-    ensures value { IfOk result (λ places. places.items ≡ places_from 1 fields.now) }
-{
-    let mut places = Vec::new(alloc);
-    let mut place = 1;
-    for field in fields {
-        places.push(place)?;
-        place += usize::from(field.width);
-    }
-    Ok(places)
 }
 
 impl KeyExpr {
@@ -103,7 +91,7 @@ impl KeyExpr {
     /// - `DTOC(f)` prints a date as `MM/DD/YY`: the blank date as `  /  /  `, a cell that is no date as
     ///   `**/**/**`.
     ///
-    /// The faults, in order: `ExpressionTooLong` over 488 bytes; `BadSyntax`, judged for the whole text; then
+    /// The faults, in order: `ExpressionTooLong` over 488 bytes, before any memory is taken; `BadSyntax`, judged for the whole text; then
     /// term by term from left to right, a term's arguments before the term, `NoSuchField`, `NotCharacter` for
     /// a field of the wrong kind in its place, and `BadArgument`; `KeyTooLong` for keys over 100 bytes.
     /// `NoMemory` may stand in place of what would have come after the growth that was refused.
@@ -112,16 +100,15 @@ impl KeyExpr {
         ensures fields { IfOk result (λ e. e.fields ≡ schema.now) }
         ensures read { IfOk result (λ e. IsKeyText schema.now text.now e.expr) }
         ensures only { (e : Expr) → IsKeyText schema.now text.now e → IsAnswer result e }
+        ensures early { IfErr result (λ fault. MAX_EXPRESSION_BYTES < length text.now → fault ≡ ExpressionTooLong) }
         ensures refused { IfErr result (λ fault. IsFault fault schema.now text.now) }
     {
         let (tree, key_len) = read_text(alloc, text, schema.fields())?;
-        let places = places_of(alloc, schema.fields())?;
         let text = Vec::from_slice(alloc, text)?;
         let schema = schema.copy(alloc)?;
         Ok(KeyExpr {
             text,
             schema,
-            places,
             tree,
             key_len,
         })
@@ -132,7 +119,7 @@ impl KeyExpr {
     pub fn text(&self) -> &[u8]
         ensures text { result.now ≡ self.now.text }
         ensures read { IsKeyText self.now.fields self.now.text self.now.expr }
-        ensures short { length self.now.text ≤ 488 }
+        ensures short { length self.now.text ≤ MAX_EXPRESSION_BYTES }
         ensures plain { AllByRecursion (λ b. b ≢ 0) self.now.text }
     {
         self.text.as_slice()
@@ -142,30 +129,25 @@ impl KeyExpr {
     pub fn key_len(&self) -> usize
         ensures value { result ≡ key_length self.now.fields self.now.expr }
         ensures some { 1 ≤ result }
-        ensures short { result ≤ 100 }
+        ensures short { result ≤ MAX_KEY_BYTES }
     {
         self.key_len
     }
 
     /// The key of a record, which is lent as its bytes: the flag, then the cells in the order of the fields.
     /// Takes no memory.
-    pub fn key_of(&self, record: &[u8]) -> Key
-        requires long { length record.now ≡ 1 + widths self.now.fields }
-        ensures key { result ≡ key (cells_of self.now.fields (drop 1 record.now)) self.now.expr }
+    pub fn key_of(&self, record_bytes: &[u8]) -> Key
+        requires long { length record_bytes.now ≡ 1 + widths self.now.fields }
+        ensures key { result ≡ key (cells_of self.now.fields (drop 1 record_bytes.now)) self.now.expr }
         ensures long { length result ≡ key_length self.now.fields self.now.expr }
     {
-        let lent = Record {
-            bytes: record,
-            fields: self.schema.fields(),
-            places: self.places.as_slice(),
-        };
         let whole = Window {
             from: 0,
             count: self.key_len,
             upper: false,
         };
         let mut out = Key::default();
-        put(&mut out, &self.tree, lent, whole);
+        put(&mut out, &self.tree, &self.schema, record_bytes, whole);
         out
     }
 
@@ -176,7 +158,6 @@ impl KeyExpr {
         Ok(KeyExpr {
             text: Vec::from_slice(alloc, self.text.as_slice())?,
             schema: self.schema.copy(alloc)?,
-            places: Vec::from_slice(alloc, self.places.as_slice())?,
             tree: self.tree.copy(alloc)?,
             key_len: self.key_len,
         })

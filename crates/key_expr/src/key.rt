@@ -1,12 +1,11 @@
 //! The bytes that a record is sorted by.
 
 ghost use Rattle.std.specs.Prelude.{◌≡◌, ◌<◌, ◌≤◌, ◌∷◌, ◌++◌, [], length};
+ghost use Rattle.key_expr.specs.declared.format.TheConstants.{MAX_KEY_BYTES};
 
+use crate::format::MAX_KEY_BYTES;
 use std::cmp::Ordering;
 use std::marker::Model;
-
-/// The longest key, in bytes.
-pub const MAX_KEY_BYTES: usize = 100;
 
 /// The bytes that a record is sorted by, at most `MAX_KEY_BYTES`. Contracts see their list.
 ///
@@ -36,7 +35,7 @@ impl Model for Key {
 impl Key {
     /// The key of these bytes, which are at most `MAX_KEY_BYTES`. Takes no memory.
     pub fn new(bytes: &[u8]) -> Self
-        requires short { length bytes.now ≤ 100 }
+        requires short { length bytes.now ≤ MAX_KEY_BYTES }
         ensures bytes { result ≡ bytes.now }
     {
         let mut padded = [0; MAX_KEY_BYTES];
@@ -51,7 +50,7 @@ impl Key {
 
     /// Puts a byte after the others.
     pub(crate) fn push(&mut self, byte: u8)
-        requires room { length self.old < 100 }
+        requires room { length self.old < MAX_KEY_BYTES }
         ensures value { self.new ≡ self.old ++ byte ∷ [] }
     {
         self.bytes[self.len] = byte;
@@ -61,7 +60,7 @@ impl Key {
     /// The bytes of the key.
     pub fn as_bytes(&self) -> &[u8]
         ensures bytes { result.now ≡ self.now }
-        ensures short { length self.now ≤ 100 }
+        ensures short { length self.now ≤ MAX_KEY_BYTES }
     {
         &self.bytes[..self.len]
     }

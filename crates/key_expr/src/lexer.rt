@@ -7,6 +7,7 @@ ghost use Rattle.dbf_fields.specs.Name.{is_name_char};
 ghost use Rattle.key_expr.specs.Grammar.{EndsInEnd};
 ghost use Rattle.key_expr.specs.Tokens.{prefix_length, token_length as length_of, number_kind as number_of_digits, function_kind as function_of, index_of, opens as opens_next, name_kind as kind_of_name, kind_of as kind_at, tokens_of as tokens_in};
 
+use crate::format::{BLANK, CLOSE, COMMA, MAX_NAME_BYTES, OPEN, PLUS};
 use crate::token::{Kind, Token};
 use dbf_fields::Field;
 use std::alloc::{AllocError, Global};
@@ -142,11 +143,11 @@ fn opens(text: &[u8]) -> bool
     ensures value { result ≡ opens_next text.now }
 {
     let mut rest = text;
-    while let [b' ', after @ ..] = rest {
+    while let [BLANK, after @ ..] = rest {
         rest = after;
     }
     match rest {
-        [b'(', ..] => true,
+        [OPEN, ..] => true,
         _ => false,
     }
 }
@@ -155,7 +156,7 @@ fn opens(text: &[u8]) -> bool
 fn name_kind(fields: &[Field], name: &[u8], after: &[u8]) -> Kind
     ensures value { result ≡ kind_of_name fields.now name.now after.now }
 {
-    if name.len() > 10 {
+    if name.len() > MAX_NAME_BYTES {
         Kind::Bad
     } else if opens(after) {
         function_kind(name)
@@ -173,11 +174,11 @@ fn kind_of(fields: &[Field], text: &[u8]) -> Kind
         return Kind::End;
     };
     let (word, after) = text.split_at(token_length(text));
-    match first {
-        b'+' => Kind::Plus,
-        b'(' => Kind::Open,
-        b')' => Kind::Close,
-        b',' => Kind::Comma,
+    match *first {
+        PLUS => Kind::Plus,
+        OPEN => Kind::Open,
+        CLOSE => Kind::Close,
+        COMMA => Kind::Comma,
         _ => {
             if first.is_ascii_digit() {
                 number_kind(word)
@@ -211,7 +212,7 @@ pub(crate) fn tokens_of(
     let mut tokens = Vec::new(alloc);
     let mut rest = text;
     while let [first, after @ ..] = rest {
-        if *first == b' ' {
+        if *first == BLANK {
             rest = after;
         } else {
             tokens.push(Token {

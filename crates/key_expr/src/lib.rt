@@ -11,17 +11,18 @@ mod check;
 mod evaluate;
 mod expr;
 mod fault;
+mod format;
 mod key;
 mod lexer;
 mod parser;
 mod print;
-mod text;
 mod token;
 mod tree;
 
-pub use expr::{KeyExpr, MAX_EXPRESSION_BYTES};
+pub use expr::KeyExpr;
 pub use fault::ExprFault;
-pub use key::{Key, MAX_KEY_BYTES};
+pub use format::{MAX_EXPRESSION_BYTES, MAX_KEY_BYTES};
+pub use key::Key;
 pub use parser::one_reading;
 pub use token::{Kind, Token};
 

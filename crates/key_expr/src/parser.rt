@@ -5,11 +5,14 @@ ghost use Rattle.key_expr.specs.declared.token.Kind.TheVariants.{Close, Open, Co
 ghost use Rattle.key_expr.specs.Grammar.{Reads, a_term, an_expr, Begin, EndsPoints, EndsWith, EndsInEnd, IsText, IsRefusal, Expr};
 ghost use Rattle.key_expr.specs.declared.token.Token.{Token};
 ghost use Rattle.key_expr.specs.TreeExpr.{expr_of};
+ghost use Rattle.key_expr.specs.KeptLengths.{KeepsLengths};
 ghost use Rattle.key_expr.specs.Expected.{Expected, expr, more, name, number, open_, close, comma, lengths, points, finish, first_unexpected, IsFirstUnexpected};
 
+use crate::check::length_of;
 use crate::fault::ExprFault;
 use crate::token::{Kind, Token};
 use crate::tree::Tree;
+use dbf_fields::Field;
 use std::alloc::Global;
 
 /// After a closing parenthesis.
@@ -171,7 +174,12 @@ fn take_decimals(tokens: &[Token]) -> Result<(Option<u16>, &[Token]), ExprFault>
 
 /// A term, and what is after it.
 #[cycle(reader)]
-fn read_term(alloc: Global, tokens: &[Token]) -> Result<(Tree, &[Token]), ExprFault>
+fn read_term<'a>(
+    alloc: Global,
+    fields: &[Field],
+    tokens: &'a [Token],
+) -> Result<(Tree, &'a [Token]), ExprFault>
+    ensures lengths { IfOk result (λ taken. KeepsLengths fields.now taken.0) }
     ensures found { IfOk result (λ taken. Reads a_term (expr_of taken.0) tokens.now taken.1.now) }
     ensures shorter { IfOk result (λ taken. length taken.1.now < length tokens.now) }
     ensures passed { IfOk result (λ taken. (s : List Expected) → first_unexpected (expr ∷ s) tokens.now ≡ first_unexpected (more ∷ s) taken.1.now) }
@@ -181,19 +189,19 @@ fn read_term(alloc: Global, tokens: &[Token]) -> Result<(Tree, &[Token]), ExprFa
     match token.kind {
         Kind::Name(index) => Ok((Tree::Field(index), rest)),
         Kind::Open => {
-            let (tree, tail) = read_expr(alloc, rest)?;
+            let (tree, tail) = read_expr(alloc, fields, rest)?;
             let after = skip_close(tail)?;
             Ok((tree, after))
         }
         Kind::Upper => {
             let inside = skip_open(rest)?;
-            let (tree, tail) = read_expr(alloc, inside)?;
+            let (tree, tail) = read_expr(alloc, fields, inside)?;
             let after = skip_close(tail)?;
             Ok((Tree::Upper(Box::new(alloc, tree)?), after))
         }
         Kind::Substr => {
             let inside = skip_open(rest)?;
-            let (tree, tail) = read_expr(alloc, inside)?;
+            let (tree, tail) = read_expr(alloc, fields, inside)?;
             let (from, next) = take_argument(tail)?;
             let (count, last) = take_argument(next)?;
             let after = skip_close(last)?;
@@ -215,19 +223,25 @@ fn read_term(alloc: Global, tokens: &[Token]) -> Result<(Tree, &[Token]), ExprFa
 
 /// An expression that is as long as it can be, and what is after it.
 #[cycle(reader)]
-fn read_expr(alloc: Global, tokens: &[Token]) -> Result<(Tree, &[Token]), ExprFault>
+fn read_expr<'a>(
+    alloc: Global,
+    fields: &[Field],
+    tokens: &'a [Token],
+) -> Result<(Tree, &'a [Token]), ExprFault>
+    ensures lengths { IfOk result (λ taken. KeepsLengths fields.now taken.0) }
     ensures found { IfOk result (λ taken. Reads an_expr (expr_of taken.0) tokens.now taken.1.now) }
     ensures shorter { IfOk result (λ taken. length taken.1.now < length tokens.now) }
     ensures passed { IfOk result (λ taken. (w : Expected) (s : List Expected) → first_unexpected (expr ∷ w ∷ s) tokens.now ≡ first_unexpected (w ∷ s) taken.1.now) }
     ensures refused { IfErr result (λ fault. (s : List Expected) → IsFirstUnexpected fault (expr ∷ s) tokens.now) }
 {
-    let (tree, tail) = read_term(alloc, tokens)?;
+    let (tree, tail) = read_term(alloc, fields, tokens)?;
     let Some(rest) = skip_plus(tail) else {
         return Ok((tree, tail));
     };
-    let (others, after) = read_expr(alloc, rest)?;
+    let length = length_of(&tree, fields);
+    let (others, after) = read_expr(alloc, fields, rest)?;
     Ok((
-        Tree::Concat(Box::new(alloc, tree)?, Box::new(alloc, others)?),
+        Tree::Concat(Box::new(alloc, tree)?, Box::new(alloc, others)?, length),
         after,
     ))
 }
@@ -277,12 +291,17 @@ fn skip_end(tokens: &[Token]) -> Result<(), ExprFault>
 }
 
 /// The tree of the tokens of a whole text.
-pub(crate) fn read_tokens(alloc: Global, tokens: &[Token]) -> Result<Tree, ExprFault>
+pub(crate) fn read_tokens(
+    alloc: Global,
+    fields: &[Field],
+    tokens: &[Token],
+) -> Result<Tree, ExprFault>
     requires { EndsInEnd tokens.now }
+    ensures lengths { IfOk result (λ tree. KeepsLengths fields.now tree) }
     ensures read { IfOk result (λ tree. IsText (expr_of tree) tokens.now) }
     ensures refused { IfErr result (λ fault. IsRefusal fault tokens.now) }
 {
-    let (tree, tail) = read_expr(alloc, tokens)?;
+    let (tree, tail) = read_expr(alloc, fields, tokens)?;
     skip_end(tail)?;
     Ok(tree)
 }

@@ -1,7 +1,9 @@
 //! The tree of a key expression.
 
-ghost use Rattle.std.specs.Prelude.{◌≡◌, IfOk};
+ghost use Rattle.std.specs.Prelude.{◌≡◌, List, IfOk};
+ghost use Rattle.dbf_fields.specs.declared.field.Field.{Field};
 ghost use Rattle.key_expr.specs.TreeExpr.{expr_of};
+ghost use Rattle.key_expr.specs.KeptLengths.{KeepsLengths};
 
 use std::alloc::{AllocError, Global};
 
@@ -10,8 +12,8 @@ use std::alloc::{AllocError, Global};
 pub(crate) enum Tree {
     /// A field's cell.
     Field(usize),
-    /// Two parts joined.
-    Concat(Box<Tree>, Box<Tree>),
+    /// A part and the part after it, and how many bytes the key of the first has.
+    Concat(Box<Tree>, Box<Tree>, usize),
     /// A part in capitals.
     Upper(Box<Tree>),
     /// Some bytes of a part: the number of the first one, then how many.
@@ -25,20 +27,26 @@ pub(crate) enum Tree {
 impl Tree {
     /// The same tree once more, or an error where memory is refused.
     pub(crate) fn copy(&self, alloc: Global) -> Result<Tree, AllocError>
+        ensures lengths { IfOk result (λ tree. (fields : List Field) → KeepsLengths fields self.now → KeepsLengths fields tree) }
         ensures value { IfOk result (λ tree. expr_of tree ≡ expr_of self.now) }
     {
-        Ok(match self {
-            Tree::Field(index) => Tree::Field(*index),
-            Tree::Concat(first, second) => {
+        match self {
+            Tree::Field(index) => Ok(Tree::Field(*index)),
+            Tree::Concat(first, second, length) => {
                 let first = Box::new(alloc, first.copy(alloc)?)?;
-                Tree::Concat(first, Box::new(alloc, second.copy(alloc)?)?)
+                let second = Box::new(alloc, second.copy(alloc)?)?;
+                Ok(Tree::Concat(first, second, *length))
             }
-            Tree::Upper(inner) => Tree::Upper(Box::new(alloc, inner.copy(alloc)?)?),
+            Tree::Upper(inner) => {
+                let inner = Box::new(alloc, inner.copy(alloc)?)?;
+                Ok(Tree::Upper(inner))
+            }
             Tree::Substr(inner, from, count) => {
-                Tree::Substr(Box::new(alloc, inner.copy(alloc)?)?, *from, *count)
+                let inner = Box::new(alloc, inner.copy(alloc)?)?;
+                Ok(Tree::Substr(inner, *from, *count))
             }
-            Tree::Str(index, length, decimals) => Tree::Str(*index, *length, *decimals),
-            Tree::Dtoc(index) => Tree::Dtoc(*index),
-        })
+            Tree::Str(index, length, decimals) => Ok(Tree::Str(*index, *length, *decimals)),
+            Tree::Dtoc(index) => Ok(Tree::Dtoc(*index)),
+        }
     }
 }

@@ -1,46 +1,49 @@
-use Rattle.std.proofs.Common.{◌≡◌, ◌+◌, ◌-◌, ◌≤◌, ◌++◌, ℕ, List, None, length, drop, min, arith, sym, ap, ◌∙◌, refl, length-drop}
-use Rattle.dbf_fields.specs.Faults.{first_fault}
+use Rattle.std.proofs.Common.{◌≡◌, ◌+◌, ◌-◌, ◌≤◌, ◌++◌, ℕ, List, length, drop, min, arith, sym, ap, ◌∙◌, length-drop}
 use Rattle.dbf_fields.specs.Field.{widths}
+use Rattle.dbf_fields.specs.declared.field.Field.{Field}
 use Rattle.key_expr.specs.declared.tree.Tree.{Tree}
 use Rattle.key_expr.specs.Keys.{key, key_length}
-use Rattle.key_expr.specs.Layout.{cells_of}
-use Rattle.key_expr.specs.Rules.{tests}
+use Rattle.dbf_fields.specs.Layout.{cells_of}
 use Rattle.key_expr.specs.TreeExpr.{expr_of}
-use Rattle.key_expr.specs.Windows.{bytes_in}
-use Rattle.key_expr.proofs.FaultLaws.{kept_concat, kept_substr}
+use Rattle.key_expr.proofs.KeptRules.{kept_concat, kept_substr}
 use Rattle.key_expr.proofs.KeyLengths.{key_length_is}
 use Rattle.key_expr.proofs.Sizes.{parts}
-use Rattle.key_expr.proofs.Windows.{put_both, room_for_second, bytes_within, window_upper}
+use Rattle.key_expr.proofs.Windows.{put_both, room_for_second, no_more, bytes_within, window_upper}
 use Rattle.key_expr.proofs.evaluate.+put.Goals as goal
+
+-- the length that is kept is that of the first part's key
+long_first : (fields : List Field) (bytes : List ℕ) (tree first : Tree) (n : ℕ) → widths fields ≤ length bytes → tree ≡ first
+    → n ≡ min 1000000 (key_length fields (expr_of first)) → n ≡ min 1000000 (length (key (cells_of fields bytes) (expr_of tree)))
+long_first fields bytes tree first n rest same long = rw (same, key_length_is fields bytes (expr_of first) rest) long
 
 pub put-requires : goal.put-requires
 put-requires t c =
     let whole : parts (expr_of c.args.tree.now) ≡ 1 + parts (expr_of c.in-Concat.first.value) + parts (expr_of c.in-Concat.second.value) =
     ap (λ (x : Tree). parts (expr_of x)) c.in-Concat.is in
-    let same : parts (expr_of c.deref-in-Concat.result.now) ≡ parts (expr_of c.in-Concat.first.value) = ap (λ (x : Tree). parts (expr_of x)) c.deref-in-Concat.ensures in
-    let kept = kept_concat c.args.record.fields.now (expr_of c.in-Concat.first.value) (expr_of c.in-Concat.second.value) (rw c.in-Concat.is at c.requires.kept) in (
+    let same : parts (expr_of c.deref.result.now) ≡ parts (expr_of c.in-Concat.first.value) = ap (λ (x : Tree). parts (expr_of x)) c.deref.ensures in
+    let kept = kept_concat c.args.schema.now (expr_of c.in-Concat.first.value) (expr_of c.in-Concat.second.value) (rw c.in-Concat.is at c.requires.kept) in
+    let lengths = rw c.in-Concat.is at c.requires.lengths in (
       omega (arith, whole, same, c.decreases),
-      (c.requires.record, (rw c.deref-in-Concat.ensures kept.0, (c.requires.room, c.requires.near))),
+      (c.requires.whole, (rw c.deref.ensures kept.0, (c.requires.room, (c.requires.near, rw c.deref.ensures lengths.1)))),
     )
 
-pub put-requires-in-Concat : goal.put-requires-in-Concat
-put-requires-in-Concat t c =
+pub put-requires-then-after-gt0 : goal.put-requires-then-after-gt0
+put-requires-then-after-gt0 t c =
     let whole : parts (expr_of c.args.tree.now) ≡ 1 + parts (expr_of c.in-Concat.first.value) + parts (expr_of c.in-Concat.second.value) =
     ap (λ (x : Tree). parts (expr_of x)) c.in-Concat.is in
-    let same : parts (expr_of c.deref-in-Concat-2.result.now) ≡ parts (expr_of c.in-Concat.second.value) = ap (λ (x : Tree). parts (expr_of x)) c.deref-in-Concat-2.ensures in
-    let kept = kept_concat c.args.record.fields.now (expr_of c.in-Concat.first.value) (expr_of c.in-Concat.second.value) (rw c.in-Concat.is at c.requires.kept) in
-    let rest : widths c.args.record.fields.now ≤ length (drop 1 c.args.record.bytes.now) = omega (arith, c.requires.record.long, length-drop 1 c.args.record.bytes.now) in
-    let both : c.deref-in-Concat.result.now ≡ c.deref.result.now = c.deref-in-Concat.ensures ∙ sym c.deref.ensures in
-    let long : c.length_of.result ≡ min 1000000 (length (key (cells_of c.args.record.fields.now (drop 1 c.args.record.bytes.now)) (expr_of c.deref-in-Concat.result.now))) =
-    rw (key_length_is c.args.record.fields.now (drop 1 c.args.record.bytes.now) (expr_of c.deref-in-Concat.result.now) rest, both) c.length_of.ensures.value in (
+    let same : parts (expr_of c.deref-then-after-gt0.result.now) ≡ parts (expr_of c.in-Concat.second.value) = ap (λ (x : Tree). parts (expr_of x)) c.deref-then-after-gt0.ensures in
+    let kept = kept_concat c.args.schema.now (expr_of c.in-Concat.first.value) (expr_of c.in-Concat.second.value) (rw c.in-Concat.is at c.requires.kept) in
+    let lengths = rw c.in-Concat.is at c.requires.lengths in
+    let rest : widths c.args.schema.now ≤ length (drop 1 c.args.record_bytes.now) = omega (arith, c.requires.whole, length-drop 1 c.args.record_bytes.now) in
+    let long = long_first c.args.schema.now (drop 1 c.args.record_bytes.now) _ _ c.in-Concat.length rest c.deref.ensures lengths.0 in (
       omega (arith, whole, same, c.decreases),
       (
-        c.requires.record,
+        c.requires.whole,
         (
-          rw c.deref-in-Concat-2.ensures kept.1,
+          rw c.deref-then-after-gt0.ensures kept.1,
           (
             room_for_second c.args.window c.after-after.result _ _ _ _ long c.requires.near c.requires.room c.after-after.ensures.count c.put.ensures.value,
-            omega (arith, c.requires.near, c.after-after.ensures.from),
+            (omega (arith, c.requires.near, c.after-after.ensures.from), rw c.deref-then-after-gt0.ensures lengths.2),
           ),
         ),
       ),
@@ -50,32 +53,44 @@ pub put-requires-then-window-most : goal.put-requires-then-window-most
 put-requires-then-window-most t c =
     let whole : parts (expr_of c.args.tree.now) ≡ 1 + parts (expr_of c.in-Substr.inner.value) = ap (λ (x : Tree). parts (expr_of x)) c.in-Substr.is in
     let same : parts (expr_of c.deref-then-window-most.result.now) ≡ parts (expr_of c.in-Substr.inner.value) = ap (λ (x : Tree). parts (expr_of x)) c.deref-then-window-most.ensures in
-    let kept = kept_substr c.args.record.fields.now (expr_of c.in-Substr.inner.value) c.in-Substr.from c.in-Substr.count (rw c.in-Substr.is at c.requires.kept) in (
+    let kept = kept_substr c.args.schema.now (expr_of c.in-Substr.inner.value) c.in-Substr.from c.in-Substr.count (rw c.in-Substr.is at c.requires.kept) in (
       omega (arith, whole, same, c.decreases),
       (
-        c.requires.record,
+        c.requires.whole,
         (
           rw c.deref-then-window-most.ensures kept,
-          (omega (arith, c.requires.room, c.within.ensures.count), c.within.ensures.near),
+          (omega (arith, c.requires.room, c.within.ensures.count), (c.within.ensures.near, rw (c.deref-then-window-most.ensures) (rw c.in-Substr.is at c.requires.lengths))),
         ),
       ),
     )
 
-pub returns-in-Concat : goal.returns-in-Concat
-returns-in-Concat t c =
-    let rest : widths c.args.record.fields.now ≤ length (drop 1 c.args.record.bytes.now) = omega (arith, c.requires.record.long, length-drop 1 c.args.record.bytes.now) in
-    let both : c.deref-in-Concat.result.now ≡ c.deref.result.now = c.deref-in-Concat.ensures ∙ sym c.deref.ensures in
-    let long : c.length_of.result ≡ min 1000000 (length (key (cells_of c.args.record.fields.now (drop 1 c.args.record.bytes.now)) (expr_of c.deref-in-Concat.result.now))) =
-    rw (key_length_is c.args.record.fields.now (drop 1 c.args.record.bytes.now) (expr_of c.deref-in-Concat.result.now) rest, both) c.length_of.ensures.value in
+pub returns-then-after-gt0 : goal.returns-then-after-gt0
+returns-then-after-gt0 t c =
+    let lengths = rw c.in-Concat.is at c.requires.lengths in
+    let rest : widths c.args.schema.now ≤ length (drop 1 c.args.record_bytes.now) = omega (arith, c.requires.whole, length-drop 1 c.args.record_bytes.now) in
+    let long = long_first c.args.schema.now (drop 1 c.args.record_bytes.now) _ _ c.in-Concat.length rest c.deref.ensures lengths.0 in
     record {
-      value = rw (c.in-Concat.is, ← c.deref-in-Concat.ensures, ← c.deref-in-Concat-2.ensures)
+      value = rw (c.in-Concat.is, ← c.deref.ensures, ← c.deref-then-after-gt0.ensures)
           (put_both c.args.window c.after-after.result _ _ _ _ _ _ long c.requires.near c.requires.room
-          c.after-after.ensures.from c.after-after.ensures.count c.after-after.ensures.upper c.put.ensures.value c.put-in-Concat.ensures.value);
+          c.after-after.ensures.from c.after-after.ensures.count c.after-after.ensures.upper c.put.ensures.value c.put-then-after-gt0.ensures.value);
+    }
+
+pub returns-else-after-gt0 : goal.returns-else-after-gt0
+returns-else-after-gt0 t c =
+    let lengths = rw c.in-Concat.is at c.requires.lengths in
+    let rest : widths c.args.schema.now ≤ length (drop 1 c.args.record_bytes.now) = omega (arith, c.requires.whole, length-drop 1 c.args.record_bytes.now) in
+    let long = long_first c.args.schema.now (drop 1 c.args.record_bytes.now) _ _ c.in-Concat.length rest c.deref.ensures lengths.0 in
+    let second = key (cells_of c.args.schema.now (drop 1 c.args.record_bytes.now)) (expr_of c.in-Concat.second.value) in
+    record {
+      value = rw (c.in-Concat.is, ← c.deref.ensures)
+          (put_both c.args.window c.after-after.result _ _ _ _ _ second long c.requires.near c.requires.room
+          c.after-after.ensures.from c.after-after.ensures.count c.after-after.ensures.upper c.put.ensures.value
+          (no_more c.after-after.result second _ c.if-after-gt0.false));
     }
 
 pub returns-in-Upper : goal.returns-in-Upper
 returns-in-Upper t c =
-    let inner = key (cells_of c.args.record.fields.now (drop 1 c.args.record.bytes.now)) (expr_of c.deref-in-Upper.result.now) in
+    let inner = key (cells_of c.args.schema.now (drop 1 c.args.record_bytes.now)) (expr_of c.deref-in-Upper.result.now) in
     record {
       value = rw (c.in-Upper.is, ← c.deref-in-Upper.ensures)
           (c.put-in-Upper.ensures.value
@@ -84,7 +99,7 @@ returns-in-Upper t c =
 
 pub returns-then-window-most : goal.returns-then-window-most
 returns-then-window-most t c =
-    let inner = key (cells_of c.args.record.fields.now (drop 1 c.args.record.bytes.now)) (expr_of c.deref-then-window-most.result.now) in
+    let inner = key (cells_of c.args.schema.now (drop 1 c.args.record_bytes.now)) (expr_of c.deref-then-window-most.result.now) in
     let before : c.saturating_sub-before.result ≡ c.in-Substr.from - 1 = c.saturating_sub-before.ensures ∙ ap (λ (n : ℕ). n - 1) c.from.ensures in
     let most : c.from-most.result ≡ c.in-Substr.count = c.from-most.ensures in
     record {

@@ -1,6 +1,5 @@
-use Rattle.std.proofs.Common.{◌≡◌, ℕ, List, [], arith, refl, drop, get_or, ◌∙◌, sym}
-use Rattle.key_expr.specs.Keys.{length_given, decimals_given}
-use Rattle.key_expr.specs.Layout.{cells_of}
+use Rattle.std.proofs.Common.{◌≡◌, ℕ, List, arith, refl, ◌∙◌, sym, ap}
+use Rattle.dbf_fields.specs.declared.field.Field.{Field}
 use Rattle.key_expr.specs.Printing.{printed_number}
 use Rattle.key_expr.proofs.KeptRules.{str_kept}
 use Rattle.key_expr.proofs.evaluate.str_of_cell.Goals as goal
@@ -10,18 +9,20 @@ same_print a b d e xs ys p q r = rw (p, q, r) refl
 
 pub printed_number-requires-clause-few : goal.printed_number-requires-clause-few
 printed_number-requires-clause-few c =
-    let k = str_kept c.args.record.fields.now c.args.index c.args.length c.args.decimals c.index-record-index.result c.requires.record.schema c.requires.kept in
-    omega (arith, c.cell.ensures.long, k.narrow)
+    let k = str_kept c.args.schema.now c.args.index c.args.given c.args.decimals c.index-fields-index.result c.fields.ensures.each c.requires.kept in
+    omega (arith, c.cell_in.ensures.wide, k.narrow)
 
 pub printed_number-requires-clause-decimals : goal.printed_number-requires-clause-decimals
 printed_number-requires-clause-decimals c =
-    let k = str_kept c.args.record.fields.now c.args.index c.args.length c.args.decimals c.index-record-index.result c.requires.record.schema c.requires.kept in
-    k.few
+    let k = str_kept c.args.schema.now c.args.index c.args.given c.args.decimals c.index-fields-index.result c.fields.ensures.each c.requires.kept in
+    let same = ap (λ (f : Field). f.decimals) (rw c.fields.ensures.fields at c.index-fields-index.is) in
+    omega (arith, same, k.few)
 
 pub returns : goal.returns
 returns c =
-    let k = str_kept c.args.record.fields.now c.args.index c.args.length c.args.decimals c.index-record-index.result c.requires.record.schema c.requires.kept in
+    let k = str_kept c.args.schema.now c.args.index c.args.given c.args.decimals c.index-fields-index.result c.fields.ensures.each c.requires.kept in
+    let same = ap (λ (f : Field). f.decimals) (rw c.fields.ensures.fields at c.index-fields-index.is) in
     record {
       value = c.printed_number.ensures.value
-          ∙ same_print _ _ _ _ _ _ c.length_given.ensures.value (sym k.same) c.cell.ensures.value;
+          ∙ same_print _ _ _ _ _ _ c.length_given.ensures.value (same ∙ sym k.same) c.cell_in.ensures.value;
     }

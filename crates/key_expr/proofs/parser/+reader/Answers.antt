@@ -1,8 +1,8 @@
-use Rattle.std.proofs.Common.{◌≡◌, ℕ, List, [], ◌∷◌, refl, sym, ◌∙◌, ap, length, arith}
+use Rattle.std.proofs.Common.{[], ◌∷◌, refl, ◌∙◌, ap, length, arith}
 use Rattle.std.proofs.lemmas.Result.{err_from_is_err_and}
-use Rattle.key_expr.specs.declared.token.Kind.TheVariants.{Plus, Open, Close, Comma, Upper, Substr, Str, Dtoc, Name, Number}
+use Rattle.key_expr.specs.declared.token.Kind.TheVariants.{Open, Close, Comma, Upper, Substr, Str, Dtoc, Name, Number}
 use Rattle.key_expr.specs.Grammar.{one_term, sum, field_term, parens_term, upper_term, substr_term, str_term, dtoc_term}
-use Rattle.key_expr.specs.Expected.{Expected, expr, more, name, number, open_, close, comma, lengths, points}
+use Rattle.key_expr.specs.Expected.{expr, more, number, close, comma, lengths}
 use Rattle.key_expr.proofs.ExpectedSteps.{unexpected_along, past, begin-then, begin-first, begin-shorter}
 use Rattle.key_expr.proofs.parser.+reader.Goals as goal
 

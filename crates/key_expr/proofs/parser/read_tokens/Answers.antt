@@ -1,6 +1,6 @@
 use Rattle.std.proofs.Common.{[], ◌∷◌}
 use Rattle.std.proofs.lemmas.Result.{err_from_is_err_and}
-use Rattle.key_expr.specs.Expected.{expr, finish}
+use Rattle.key_expr.specs.Expected.{finish}
 use Rattle.key_expr.proofs.ExpectedSteps.{unexpected_along}
 use Rattle.key_expr.proofs.BadOffsets.{refusal_at}
 use Rattle.key_expr.proofs.parser.read_tokens.Goals as goal

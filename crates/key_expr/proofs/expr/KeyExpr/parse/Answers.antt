@@ -1,6 +1,4 @@
-use Rattle.std.proofs.Common.{◌≡◌}
 use Rattle.std.proofs.lemmas.Result.{err_from_is_err_and}
-use Rattle.dbf_fields.proofs.SchemaLaws.{schema_widths}
 use Rattle.key_expr.specs.Grammar.{Expr}
 use Rattle.key_expr.specs.Rules.{IsKeyText}
 use Rattle.key_expr.specs.TreeExpr.{expr_of}
@@ -12,9 +10,6 @@ returns-in_err-tree-clause-only c =
     let p = err_from_is_err_and c.from_residual.result c.from_residual.ensures.1 in
     λ (e : Expr) (k : IsKeyText c.args.schema.now c.args.text.now e).
     rw (p.1, p.2) (memory_only c.args.schema.now c.args.text.now e _ k (rw c.fields.ensures.fields at c.in_err-tree.ensures.refused))
-
-pub places_of-requires : goal.places_of-requires
-places_of-requires c = record { short = rw c.fields-2.ensures.fields (schema_widths c.args.schema.now c.fields-2.ensures.each) }
 
 pub returns-clause-only : goal.returns-clause-only
 returns-clause-only c =

@@ -1,4 +1,4 @@
-use Rattle.std.proofs.Common.{◌≡◌, ◌<◌, ◌≤◌, length, take, arith, length-take-le, length-set, ap, ◌∙◌, sym}
+use Rattle.std.proofs.Common.{◌≡◌, ◌≤◌, length, take, arith, length-take-le, length-set, ap, ◌∙◌}
 use Rattle.key_expr.specs.KeyBytes.{IsPadded, bytes_of}
 use Rattle.key_expr.proofs.KeyPadding.{padded_push}
 use Rattle.key_expr.proofs.key.Key.push.Goals as goal

@@ -1,4 +1,0 @@
-use Rattle.key_expr.proofs.print.+push_last_digits.Given as goal
-
-abbrev pub decreases-push_last_digits : goal.decreases-push_last_digits
-decreases-push_last_digits l = l.digits
