@@ -5,6 +5,7 @@ pub mod BadOffsets
 pub mod Unique
 pub mod Windows
 pub mod Lexing
+pub mod TokenOffsets
 pub mod KeyPadding
 pub mod KeptRules
 pub mod KeyLengths

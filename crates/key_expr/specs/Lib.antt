@@ -3,6 +3,7 @@ pub mod Expected
 pub mod TreeExpr
 pub mod KeyBytes
 pub mod Tokens
+pub mod TokenOffsets
 pub mod Printing
 pub mod Keys
 pub mod Rules

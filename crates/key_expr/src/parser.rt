@@ -1,9 +1,12 @@
 //! Reads the tokens of a key expression.
 
-ghost use Rattle.std.specs.Prelude.{◌≡◌, ◌<◌, length, List, [], ◌∷◌, IfOk, IfErr, IfSome, IfNone};
+ghost use Rattle.std.specs.Prelude.{◌≡◌, ℕ, ◌<◌, length, List, [], ◌∷◌, IfOk, IfErr, IfSome, IfNone};
 ghost use Rattle.key_expr.specs.declared.token.Kind.TheVariants.{Close, Open, Comma, Name, Number, Plus, End};
 ghost use Rattle.key_expr.specs.Grammar.{Reads, a_term, an_expr, Begin, EndsPoints, EndsWith, EndsInEnd, IsText, IsRefusal, Expr};
 ghost use Rattle.key_expr.specs.declared.token.Token.{Token};
+ghost use Rattle.key_expr.specs.Tokens.{tokens_of};
+ghost use Rattle.key_expr.specs.TokenOffsets.{StandIn};
+ghost use Rattle.dbf_fields.specs.declared.field.Field.{Field};
 ghost use Rattle.key_expr.specs.TreeExpr.{expr_of};
 ghost use Rattle.key_expr.specs.KeptLengths.{KeepsLengths};
 ghost use Rattle.key_expr.specs.Expected.{Expected, expr, more, name, number, open_, close, comma, lengths, points, finish, first_unexpected, IsFirstUnexpected};
@@ -306,7 +309,10 @@ pub(crate) fn read_tokens(
     Ok(tree)
 }
 
-/// A text is read in one way.
+/// A text is read in one way: it has one list of tokens that stand in it one after the other, each of them where
+/// its bytes stand and with blanks alone between them, and these are one expression or none.
 pub fn one_reading()
+    ensures tokens { (fields : List Field) (text : List ℕ) → StandIn fields text 0 (tokens_of fields text) }
+    ensures alone { (fields : List Field) (text : List ℕ) (ts : List Token) → StandIn fields text 0 ts → ts ≡ tokens_of fields text }
     ensures one { (ts : List Token) (e f : Expr) → IsText e ts → IsText f ts → e ≡ f }
 {}

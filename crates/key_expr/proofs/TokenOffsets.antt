@@ -1,0 +1,104 @@
+-- The tokens of a text stand where their bytes stand, and no other tokens do.
+use Rattle.std.proofs.Common.{◌≡◌, ℕ, zero, suc, ◌+◌, ◌-◌, ◌<◌, ◌≤◌, Bool, true, false, cond, eqb, List, [], ◌∷◌, length, drop, get_or, refl, sym, ap, ◌∙◌, subst, arith, not}
+use borrow.Author.Count.{below_more}
+use Rattle.std.specs.List.{position_or_len}
+use Rattle.std.specs.Char.{is_ascii_alphabetic, is_ascii_digit}
+use Rattle.std.proofs.lemmas.Bool.{eqb-true, true≢false}
+use Rattle.std.proofs.lemmas.List.{drop-drop, drop_all, get_or-drop}
+use Rattle.std.proofs.lemmas.List.Sums.{prefix_len-le-length}
+use Rattle.dbf_fields.specs.declared.field.Field.{Field}
+use Rattle.dbf_fields.specs.Name.{is_name_char}
+use Rattle.key_expr.specs.declared.token.Token.{Token}
+use Rattle.key_expr.specs.declared.token.Kind.TheVariants.{End}
+use Rattle.key_expr.specs.Tokens.{tokens_after, tokens_of, token_length, kind_of, prefix_length}
+use Rattle.key_expr.specs.TokenOffsets.{end_of, StandsAfter, StandIn, at_end, before_end}
+
+either : (v : Bool) (fields : List Field) (text : List ℕ) (start : ℕ) (xs ys : List Token)
+    → (v ≡ true → StandIn fields text start xs) → (v ≡ false → StandIn fields text start ys) → StandIn fields text start (cond v xs ys)
+either true fields text start xs ys f g = f refl
+either false fields text start xs ys f g = g refl
+
+-- a token has a byte, and no more than there are
+length_by : (p q : Bool) (m n k : ℕ) → m ≤ k → n ≤ k
+    → (1 ≤ cond p (1 + m) (cond q (1 + n) 1)) × (cond p (1 + m) (cond q (1 + n) 1) - 1 ≤ k)
+length_by true q m n k a b = (omega arith, omega (arith, a))
+length_by false true m n k a b = (omega arith, omega (arith, b))
+length_by false false m n k a b = (omega arith, omega arith)
+
+token_inside : (b : ℕ) (bs : List ℕ) → (1 ≤ token_length (b ∷ bs)) × (token_length (b ∷ bs) - 1 ≤ length bs)
+token_inside b bs =
+    length_by (is_ascii_alphabetic b) (is_ascii_digit b) (prefix_length is_name_char bs) (prefix_length is_ascii_digit bs) (length bs)
+    (prefix_len-le-length (λ x. not (not (is_name_char x))) bs) (prefix_len-le-length (λ x. not (not (is_ascii_digit x))) bs)
+
+end_kind : (fields : List Field) (bs : List ℕ) → bs ≡ [] → End ≡ kind_of fields bs
+unfolding kind_of
+end_kind fields bs e = rw e refl
+
+-- the tokens of the bytes from an offset on, where some of them still belong to the token before
+stand_after : (fields : List Field) (text : List ℕ) (start p n : ℕ) (bs : List ℕ)
+    → drop p text ≡ bs → p + length bs ≡ length text → n ≤ length bs → start ≤ p + n
+    → ((i : ℕ) → start ≤ i → i < p + n → get_or text i 0 ≡ 32)
+    → StandIn fields text start (tokens_after fields (length text) n bs)
+stand_after fields text start p zero [] e l h s gap =
+    at_end (record {
+      later = omega (arith, l, s);
+      blanks = λ i a b. gap i a (omega (arith, l, b));
+      kind = end_kind fields (drop (length text) text) (drop_all (length text) text (omega arith));
+    }) refl
+stand_after fields text start p (suc n) [] e l h s gap = absurd (omega (arith, h))
+stand_after fields text start p (suc n) (b ∷ bs) e l h s gap =
+    let rest : drop (p + 1) text ≡ bs = sym (drop-drop 1 p text) ∙ ap (λ (xs : List ℕ). drop 1 xs) e in
+    stand_after fields text start (p + 1) n bs rest (omega (arith, l)) (omega (arith, h)) (omega (arith, s))
+    (λ i a lt. gap i a (omega (arith, lt)))
+stand_after fields text start p zero (b ∷ bs) e l h s gap =
+    let rest : drop (p + 1) text ≡ bs = sym (drop-drop 1 p text) ∙ ap (λ (xs : List ℕ). drop 1 xs) e in
+    let place : p + 0 ≡ p = omega arith in
+    let here : get_or text p 0 ≡ b = ap (λ (k : ℕ). get_or text k 0) (sym place) ∙ (sym (get_or-drop p text 0 0) ∙ ap (λ (xs : List ℕ). get_or xs 0 0) e) in
+    let t : Token = record { kind = kind_of fields (b ∷ bs); offset = length text - length (b ∷ bs) } in
+    let at : length text - length (b ∷ bs) ≡ p = omega (arith, l) in
+    let same : drop (length text - length (b ∷ bs)) text ≡ b ∷ bs = ap (λ (k : ℕ). drop k text) at ∙ e in
+    let end : end_of text t ≡ p + token_length (b ∷ bs) = rw (same, at) refl in
+    let inside = token_inside b bs in
+    either (eqb b 32) fields text start (tokens_after fields (length text) zero bs) (t ∷ tokens_after fields (length text) (token_length (b ∷ bs) - 1) bs)
+    (λ (blank : eqb b 32 ≡ true).
+    stand_after fields text start (p + 1) zero bs rest (omega (arith, l)) (omega arith) (omega (arith, s))
+    (λ i a lt. below_more (λ (k : ℕ). start ≤ k → get_or text k 0 ≡ 32) p (λ k below after. gap k after (omega (arith, below)))
+    (λ after. here ∙ eqb-true b 32 blank) i (omega (arith, lt)) a))
+    (λ (other : eqb b 32 ≡ false).
+    before_end (record {
+      later = omega (arith, at, s);
+      blanks = λ i a lt. gap i a (omega (arith, at, lt));
+      kind = ap (λ (xs : List ℕ). kind_of fields xs) (sym same);
+    }) (omega (arith, l))
+    (λ blank. let is : b ≡ 32 = sym here ∙ (ap (λ (k : ℕ). get_or text k 0) (sym at) ∙ blank) in
+    true≢false (sym (ap (λ (x : ℕ). eqb x 32) is) ∙ other))
+    (stand_after fields text (end_of text t) (p + 1) (token_length (b ∷ bs) - 1) bs rest (omega (arith, l)) inside.1
+    (omega (arith, end, inside.0)) (λ i a lt. absurd (omega (arith, a, lt, end, inside.0)))))
+
+pub tokens_stand : (fields : List Field) (text : List ℕ) → StandIn fields text 0 (tokens_of fields text)
+tokens_stand fields text =
+    stand_after fields text 0 0 zero text refl (omega arith) (omega arith) (omega arith) (λ i a lt. absurd (omega (arith, lt)))
+
+same_token : (t u : Token) → t.kind ≡ u.kind → t.offset ≡ u.offset → t ≡ u
+same_token t u k o i = record { kind = k i; offset = o i }
+
+same_at : (fields : List Field) (text : List ℕ) (start : ℕ) (t u : Token) → StandsAfter fields text start t → StandsAfter fields text start u
+    → t.offset ≡ u.offset → t ≡ u
+same_at fields text start t u s r o =
+    same_token t u (s.kind ∙ (ap (λ (k : ℕ). kind_of fields (drop k text)) o ∙ sym r.kind)) o
+
+same_tokens : {fields : List Field} {text : List ℕ} {start : ℕ} {ts us : List Token} → StandIn fields text start ts → StandIn fields text start us → ts ≡ us
+same_tokens (at_end {fields = fs} {text = text} {start = start} {t = t} s e) (at_end {t = u} r f) =
+    ap (λ (x : Token). x ∷ []) (same_at fs text start t u s r (e ∙ sym f))
+same_tokens (at_end s e) (before_end {t = u} r lt some more) = absurd (some (s.blanks u.offset r.later (omega (arith, e, lt))))
+same_tokens (before_end {t = t} s lt some more) (at_end r f) = absurd (some (r.blanks t.offset s.later (omega (arith, f, lt))))
+same_tokens (before_end {fields = fs} {text = text} {start = start} {t = t} {ts = ts} s lt some more) (before_end {t = u} {ts = us} r lt2 some2 more2) =
+    let first : t.offset < u.offset → ⊥ = λ h. some (r.blanks t.offset s.later h) in
+    let second : u.offset < t.offset → ⊥ = λ h. some2 (s.blanks u.offset r.later h) in
+    let offset : t.offset ≡ u.offset = omega (arith, first, second) in
+    let one : t ≡ u = same_at fs text start t u s r offset in
+    let others : ts ≡ us = same_tokens (subst (λ (x : Token). StandIn fs text (end_of text x) ts) one more) more2 in
+    cc
+
+pub tokens_alone : (fields : List Field) (text : List ℕ) (ts : List Token) → StandIn fields text 0 ts → ts ≡ tokens_of fields text
+tokens_alone fields text ts s = same_tokens s (tokens_stand fields text)
