@@ -10,7 +10,7 @@ use Rattle.key_expr.specs.Expected.{Expected, expr, more, name, number, open_, c
 use Rattle.key_expr.proofs.Fits.{Fits, nothing, fits_expr, fits_end, FitsNext}
 use Rattle.key_expr.proofs.FitsByStep.{Good, GoodNext, good_step, step_of_fits, fits_of_step, some_tokens}
 
--- the tokens before one that doesn't fit, from a stack of wants on
+-- the tokens before one that doesn't fit, from a stack of what is expected on
 pub record StopsAt (offset : ℕ) (s : List Expected) (ts : List Token) : Type 0 where
   pub front : List Token
   pub token : Token
@@ -21,7 +21,7 @@ pub record StopsAt (offset : ℕ) (s : List Expected) (ts : List Token) : Type 0
   pub before : Fits s (front ++ rest)
   pub after : (others : List Token) → Fits s (front ++ (token ∷ others)) → ⊥
 
--- the end is only wanted last
+-- the end is only expected last
 end_last : (s : List Expected) → Good s → (w : List Expected) → step s End ≡ Some w → w ≡ []
 end_last [] g w e = cc
 end_last (expr ∷ s) g w e = cc
@@ -77,7 +77,7 @@ stops_at s [] p g end m = absurd end
 stops_at s (t ∷ ts) p g end m =
     stops_from s t ts p (λ (w : List Expected). stops_at w ts p) (step s t.kind) refl g end m
 
--- a whole expression is what an expression and the end want
+-- a whole expression is what fits an expression and the end
 text_fits : {e : Expr} (ts rest : List Token) → Reads an_expr e ts rest → Begin (End ∷ []) rest [] → Fits (expr ∷ finish ∷ []) ts
 text_fits ts [] d b = absurd b
 text_fits ts (t ∷ rest) d b = fits_expr d (fits_end b.0 (subst (λ (l : List Token). Fits [] l) (sym b.1) nothing))

@@ -1,4 +1,4 @@
--- The machine and what is wanted.
+-- What is expected after tokens that fit.
 use Rattle.std.proofs.Common.{◌≡◌, List, [], ◌∷◌, ◌++◌, Option, Some, None, refl, sym, ◌∙◌, ap, subst, ◌≤◌, length, arith}
 use Rattle.key_expr.specs.declared.token.Token.{Token}
 use Rattle.key_expr.specs.declared.token.Kind.{Kind}
@@ -18,9 +18,9 @@ unexpected_along BadArgument s w ts us same there = there
 unexpected_along KeyTooLong s w ts us same there = there
 
 -- past a token that fits
-pub past : (k : Kind) (s : List Expected) (wanted : List Expected) (ts : List Token) (t : Token) (us : List Token)
+pub past_token : (k : Kind) (s : List Expected) (wanted : List Expected) (ts : List Token) (t : Token) (us : List Token)
     → ts ≡ t ∷ us → t.kind ≡ k → step s k ≡ Some wanted → first_unexpected s ts ≡ first_unexpected wanted us
-past k s wanted ts t us whole here fits =
+past_token k s wanted ts t us whole here fits =
     ap (λ (l : List Token). first_unexpected s l) whole
     ∙ (ap (λ (o : Option (List Expected)). elim o [ None ↦ Some t.offset | Some w ↦ first_unexpected w us ]) (ap (λ (x : Kind). step s x) here ∙ fits))
 

@@ -1,4 +1,4 @@
--- What a stack of wants asks of the tokens, and that the machine goes on exactly where some text does.
+-- What a stack of what is expected asks of the tokens, and that a term's tokens fit one after the other.
 use Rattle.std.proofs.Common.{◌≡◌, ℕ, List, [], ◌∷◌, Option, Some, None, sym, subst}
 use Rattle.key_expr.specs.declared.token.Token.{Token}
 use Rattle.key_expr.specs.declared.token.Kind.{Kind}
@@ -6,7 +6,7 @@ use Rattle.key_expr.specs.declared.token.Kind.TheVariants.{Plus, Open, Close, Co
 use Rattle.key_expr.specs.Grammar.{Expr, Begin, EndsPoints, EndsWith, a_term, an_expr, Reads, field_term, parens_term, upper_term, substr_term, str_term, dtoc_term}
 use Rattle.key_expr.specs.Expected.{Expected, expr, more, name, number, open_, close, comma, finish, lengths, points, step}
 
--- the tokens are what is wanted, to their end
+-- the tokens are what is expected, to their end
 pub data Fits : List Expected → List Token → Type 0 where
   nothing : Fits [] []
   fits_expr : {e : Expr} {s : List Expected} {ts us : List Token} → Reads an_expr e ts us → Fits s us → Fits (expr ∷ s) ts
@@ -23,12 +23,12 @@ pub data Fits : List Expected → List Token → Type 0 where
   points_end : {s : List Expected} {t : Token} {ts : List Token} → t.kind ≡ Close → Fits s ts → Fits (points ∷ s) (t ∷ ts)
   points_more : {s : List Expected} {t : Token} {ts : List Token} → t.kind ≡ Comma → Fits (number ∷ close ∷ s) ts → Fits (points ∷ s) (t ∷ ts)
 
--- the same of what is wanted after a token, where it fits
+-- the same of what is expected after a token, where it fits
 abbrev pub FitsNext : Option (List Expected) → List Token → Type 0
 FitsNext None ts = ⊥
 FitsNext (Some s) ts = Fits s ts
 
--- the tokens begin with one that fits, and the others are what is wanted then
+-- the tokens begin with one that fits, and the others are what is expected then
 abbrev pub GoesFrom : List Expected → List Token → Type 0
 GoesFrom s [] = Unit {0}
 GoesFrom s (t ∷ ts) = FitsNext (step s t.kind) ts
@@ -72,7 +72,7 @@ fit_lengths (Some n) d s (t ∷ ts) rest b f =
     lengths_more b.1.0 (fit_number n [] (points ∷ s) ts b.0 b.1.1
     (λ us k. subst (λ (l : List Token). Fits (points ∷ s) l) (sym k) (fit_points d s b.0 rest b.2 f)))
 
--- the tokens of a term, and then what is wanted after it
+-- the tokens of a term, and then what is expected after it
 pub term_goes_from : {e : Expr} {ts us : List Token} (s : List Expected) → Reads a_term e ts us → Fits (more ∷ s) us → GoesFrom (expr ∷ s) ts
 term_goes_from {ts = []} s (field_term b) f = absurd b
 term_goes_from {ts = t ∷ ts} s (field_term b) f = rw b.0 (subst (λ (l : List Token). Fits (more ∷ s) l) (sym b.1) f)

@@ -1,4 +1,4 @@
--- The machine stops exactly where no text goes on.
+-- What is expected fits the tokens exactly where the first of them fits and the others fit what is expected then.
 use Rattle.std.proofs.Common.{◌≡◌, List, [], ◌∷◌, Option, Some, None, refl, sym, subst}
 use Rattle.key_expr.specs.declared.token.Token.{Token}
 use Rattle.key_expr.specs.declared.token.Kind.{Kind}
@@ -64,7 +64,7 @@ expr_goes_from s (sum {us = []} d b d2) f = absurd b
 expr_goes_from s (sum {f = e} {us = u ∷ us} {rest = rest} d b d2) f =
     term_goes_from s d (fits_plus b.0 (fits_expr (subst (λ (l : List Token). Reads an_expr e l rest) (sym b.1) d2) f))
 
--- where the tokens are what is wanted, the first one fits
+-- where the tokens are what is expected, the first one fits
 pub step_of_fits : {s : List Expected} {ts : List Token} → Good s → Fits s ts → GoesFrom s ts
 step_of_fits g nothing = tt
 step_of_fits {s = expr ∷ s} g (fits_expr d f) = expr_goes_from s d f
@@ -85,7 +85,7 @@ after_term : {e : Expr} {s : List Expected} {ts us : List Token} → Reads a_ter
 after_term d (fits_rest f) = fits_expr (one_term d) f
 after_term d (fits_plus k (fits_expr d2 f)) = fits_expr (sum d (k, refl) d2) f
 
--- a token that fits, and then what is wanted, is what was wanted
+-- a token that fits, and then what is expected, is what was expected
 pub fits_of_step : (s : List Expected) (k : Kind) (t : Token) (ts : List Token) → t.kind ≡ k → FitsNext (step s k) ts → Fits s (t ∷ ts)
 fits_of_step [] k t ts here f = absurd f
 fits_of_step (expr ∷ s) Open t _ here (fits_expr d (fits_close b f)) = after_term (parens_term (here, refl) d (b, refl)) f
@@ -124,7 +124,7 @@ fits_of_step (points ∷ s) k t ts here f = absurd f
 abbrev of_kind : Kind → Token
 of_kind k = record { kind = k; offset = 0 }
 
--- what is wanted can always be had
+-- some tokens are what is expected
 pub some_tokens : (s : List Expected) → (ts : List Token) × Fits s ts
 some_tokens [] = ([], nothing)
 some_tokens (expr ∷ s) = let f = some_tokens s in (of_kind (Name 0) ∷ f.0, fits_expr (one_term (field_term {p = 0} (refl, refl))) f.1)

@@ -6,7 +6,7 @@ use Rattle.std.proofs.lemmas.List.{drop-set-lt, drop-drop, drop-replicate}
 zeros_less : (zeros : List ℕ) (n m : ℕ) → zeros ≡ replicate n 0 → n - 1 ≡ m → drop 1 zeros ≡ replicate m 0
 zeros_less zeros n m e less = ap (λ (l : List ℕ). drop 1 l) e ∙ (drop-replicate 1 n 0 ∙ ap (λ (k : ℕ). replicate k 0) less)
 
--- the places after it are still zeros
+-- the bytes after it are still zeros
 pub padded_push : (bytes : List ℕ) (len b : ℕ) → drop len bytes ≡ replicate (100 - len) 0
     → drop (len + 1) (set bytes len b) ≡ replicate (100 - (len + 1)) 0
 padded_push bytes len b zeros =

@@ -1,7 +1,6 @@
 -- The tokens of a text stand where their bytes stand, and no other tokens do.
 use Rattle.std.proofs.Common.{◌≡◌, ℕ, zero, suc, ◌+◌, ◌-◌, ◌<◌, ◌≤◌, Bool, true, false, cond, eqb, List, [], ◌∷◌, length, drop, get_or, refl, sym, ap, ◌∙◌, subst, arith, not}
 use borrow.Author.Count.{below_more}
-use Rattle.std.specs.List.{position_or_len}
 use Rattle.std.specs.Char.{is_ascii_alphabetic, is_ascii_digit}
 use Rattle.std.proofs.lemmas.Bool.{eqb-true, true≢false}
 use Rattle.std.proofs.lemmas.List.{drop-drop, drop_all, get_or-drop}
@@ -52,8 +51,8 @@ stand_after fields text start p (suc n) (b ∷ bs) e l h s gap =
     (λ i a lt. gap i a (omega (arith, lt)))
 stand_after fields text start p zero (b ∷ bs) e l h s gap =
     let rest : drop (p + 1) text ≡ bs = sym (drop-drop 1 p text) ∙ ap (λ (xs : List ℕ). drop 1 xs) e in
-    let place : p + 0 ≡ p = omega arith in
-    let here : get_or text p 0 ≡ b = ap (λ (k : ℕ). get_or text k 0) (sym place) ∙ (sym (get_or-drop p text 0 0) ∙ ap (λ (xs : List ℕ). get_or xs 0 0) e) in
+    let plain : p + 0 ≡ p = omega arith in
+    let here : get_or text p 0 ≡ b = ap (λ (k : ℕ). get_or text k 0) (sym plain) ∙ (sym (get_or-drop p text 0 0) ∙ ap (λ (xs : List ℕ). get_or xs 0 0) e) in
     let t : Token = record { kind = kind_of fields (b ∷ bs); offset = length text - length (b ∷ bs) } in
     let at : length text - length (b ∷ bs) ≡ p = omega (arith, l) in
     let same : drop (length text - length (b ∷ bs)) text ≡ b ∷ bs = ap (λ (k : ℕ). drop k text) at ∙ e in

@@ -1,4 +1,4 @@
--- Which token fits next: a stack of what is still wanted.
+-- Which token fits next: a stack of what is still expected.
 use Rattle.std.specs.Prelude.{◌≡◌, ℕ, List, [], ◌∷◌, Option, Some, None}
 use Rattle.key_expr.specs.declared.token.Token.{Token}
 use Rattle.key_expr.specs.declared.token.Kind.{Kind}
@@ -18,7 +18,7 @@ pub data Expected : Type 0 where
   lengths : Expected
   points : Expected
 
--- what is wanted after a token of the kind, where it fits
+-- what is expected after a token of the kind, where it fits
 abbrev pub step : List Expected → Kind → Option (List Expected)
 step [] k = None
 step (expr ∷ s) Open = Some (expr ∷ close ∷ more ∷ s)
@@ -49,6 +49,11 @@ step (points ∷ s) Comma = Some (number ∷ close ∷ s)
 step (points ∷ s) Close = Some s
 step (points ∷ s) k = None
 
+-- where the first token begins
+abbrev pub first_offset : List Token → ℕ
+first_offset [] = 0
+first_offset (t ∷ ts) = t.offset
+
 abbrev pub unexpected_at_end : List Expected → Option ℕ
 unexpected_at_end [] = None
 unexpected_at_end (w ∷ s) = Some 0
@@ -56,7 +61,7 @@ unexpected_at_end (w ∷ s) = Some 0
 -- the offset of the first token that doesn't fit
 abbrev pub first_unexpected : List Expected → List Token → Option ℕ
 first_unexpected s [] = unexpected_at_end s
-first_unexpected s (t ∷ ts) = elim (step s t.kind) [ None ↦ Some t.offset | Some wanted ↦ first_unexpected wanted ts ]
+first_unexpected s (t ∷ ts) = elim (step s t.kind) [ None ↦ Some t.offset | Some expected ↦ first_unexpected expected ts ]
 
 -- a fault that is answered is the offset of the first token that doesn't fit, but for want of memory
 abbrev pub IsFirstUnexpected : ExprFault → List Expected → List Token → Type 0

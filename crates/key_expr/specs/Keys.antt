@@ -1,4 +1,4 @@
--- The key of a row, by cases on the expression.
+-- The key of a record, by cases on the expression.
 use Rattle.std.specs.Prelude.{ℕ, ◌+◌, ◌-◌, List, [], ◌++◌, map, take, drop, get_or, min, Option, unwrap_or}
 use Rattle.std.specs.Char.{to_ascii_uppercase}
 use Rattle.dbf_fields.specs.declared.field.Field.{Field}
@@ -15,7 +15,7 @@ length_given n = unwrap_or n STR_LENGTH
 abbrev pub decimals_given : Option ℕ → ℕ
 decimals_given d = unwrap_or d 0
 
--- the key of a row's cells
+-- the key of a record's cells
 abbrev pub key : List (List ℕ) → Expr → List ℕ
 key cells (field i) = get_or cells i []
 key cells (concat a b) = key cells a ++ key cells b
@@ -24,7 +24,7 @@ key cells (substr a from count) = take count (drop (from - 1) (key cells a))
 key cells (str i n d) = printed_number (length_given n) (decimals_given d) (get_or cells i [])
 key cells (dtoc i) = date_shown (get_or cells i [])
 
--- how many bytes the key of each row has
+-- how many bytes the key of each record has
 abbrev pub key_length : List Field → Expr → ℕ
 key_length fields (field i) = width_of fields i
 key_length fields (concat a b) = key_length fields a + key_length fields b

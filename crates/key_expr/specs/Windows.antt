@@ -1,4 +1,4 @@
--- Which bytes of a key are asked for, and the run of bytes in which they are looked up.
+-- Which bytes of a key are asked for.
 use Rattle.std.specs.Prelude.{ℕ, Bool, true, false, List, map, take, drop}
 use Rattle.std.specs.Char.{to_ascii_uppercase}
 use Rattle.key_expr.specs.declared.evaluate.Window.{Window}

@@ -91,10 +91,11 @@ impl KeyExpr {
     /// - `DTOC(f)` prints a date as `MM/DD/YY`: the blank date as `  /  /  `, a cell that is no date as
     ///   `**/**/**`.
     ///
-    /// The faults, in order: `ExpressionTooLong` over 488 bytes, before any memory is taken; `BadSyntax`, judged for the whole text; then
-    /// term by term from left to right, a term's arguments before the term, `NoSuchField`, `NotCharacter` for
-    /// a field of the wrong kind in its place, and `BadArgument`; `KeyTooLong` for keys over 100 bytes.
-    /// `NoMemory` may stand in place of what would have come after the growth that was refused.
+    /// The faults, in order: `ExpressionTooLong` over 488 bytes, before any memory is taken; `BadSyntax`, judged
+    /// for the whole text; then term by term from left to right, a term's arguments before the term,
+    /// `NoSuchField`, `NotCharacter` for a field of another kind than is asked for there, and `BadArgument`;
+    /// `KeyTooLong` for keys over 100 bytes. `NoMemory` may stand in place of what would have come after the
+    /// growth that was refused, so never for a text over 488 bytes.
     pub fn parse(alloc: Global, text: &[u8], schema: &Schema) -> Result<KeyExpr, ExprFault>
         ensures text { IfOk result (λ e. e.text ≡ text.now) }
         ensures fields { IfOk result (λ e. e.fields ≡ schema.now) }

@@ -37,7 +37,7 @@ impl From<AllocError> for ExprFault {
 
     ghost from_gives = { λ _ e. e ≡ NoMemory };
 
-    fn from(_e: AllocError) -> ExprFault {
+    fn from(_refused: AllocError) -> ExprFault {
         ExprFault::NoMemory
     }
 }
@@ -48,7 +48,7 @@ impl<T: Drop> From<AllocFailed<T>> for ExprFault {
 
     ghost from_gives = { λ _ e. e ≡ NoMemory };
 
-    fn from(_e: AllocFailed<T>) -> ExprFault {
+    fn from(_refused: AllocFailed<T>) -> ExprFault {
         ExprFault::NoMemory
     }
 }

@@ -9,7 +9,7 @@ pub const MAX_KEY_BYTES: usize = 100;
 /// The longest name of a field or of a function, in bytes.
 pub(crate) const MAX_NAME_BYTES: usize = 10;
 
-/// Lengths of keys are told exactly up to here, which is above the length of the key of any text.
+/// Lengths of keys are exact up to here, which is above the length of the key of any text.
 pub(crate) const MAX_LENGTH: usize = 1_000_000;
 
 /// How many bytes a STR prints where no length is given.

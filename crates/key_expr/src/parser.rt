@@ -9,7 +9,8 @@ ghost use Rattle.key_expr.specs.TokenOffsets.{StandIn};
 ghost use Rattle.dbf_fields.specs.declared.field.Field.{Field};
 ghost use Rattle.key_expr.specs.TreeExpr.{expr_of};
 ghost use Rattle.key_expr.specs.KeptLengths.{KeepsLengths};
-ghost use Rattle.key_expr.specs.Expected.{Expected, expr, more, name, number, open_, close, comma, lengths, points, finish, first_unexpected, IsFirstUnexpected};
+ghost use Rattle.key_expr.specs.Expected.{Expected, expr, more, name, number, open_, close, comma, lengths, points, finish, first_offset, first_unexpected, IsFirstUnexpected};
+ghost use Rattle.key_expr.specs.declared.fault.ExprFault.TheVariants.{BadSyntax};
 
 use crate::check::length_of;
 use crate::fault::ExprFault;
@@ -17,6 +18,16 @@ use crate::token::{Kind, Token};
 use crate::tree::Tree;
 use dbf_fields::Field;
 use std::alloc::Global;
+
+// That the first token doesn't fit.
+fn unexpected(tokens: &[Token]) -> ExprFault
+    ensures fault { result ≡ BadSyntax (first_offset tokens.now) }
+{
+    match tokens {
+        [token, ..] => ExprFault::BadSyntax(token.offset),
+        [] => ExprFault::BadSyntax(0),
+    }
+}
 
 /// After a closing parenthesis.
 fn skip_close(tokens: &[Token]) -> Result<&[Token], ExprFault>
@@ -32,8 +43,7 @@ fn skip_close(tokens: &[Token]) -> Result<&[Token], ExprFault>
             },
             rest @ ..,
         ] => Ok(rest),
-        [token, ..] => Err(ExprFault::BadSyntax(token.offset)),
-        [] => Err(ExprFault::BadSyntax(0)),
+        _ => Err(unexpected(tokens)),
     }
 }
 
@@ -46,9 +56,9 @@ fn take_name(tokens: &[Token]) -> Result<(usize, &[Token]), ExprFault>
     match tokens {
         [token, rest @ ..] => match token.kind {
             Kind::Name(index) => Ok((index, rest)),
-            _ => Err(ExprFault::BadSyntax(token.offset)),
+            _ => Err(unexpected(tokens)),
         },
-        [] => Err(ExprFault::BadSyntax(0)),
+        [] => Err(unexpected(tokens)),
     }
 }
 
@@ -66,8 +76,7 @@ fn skip_open(tokens: &[Token]) -> Result<&[Token], ExprFault>
             },
             rest @ ..,
         ] => Ok(rest),
-        [token, ..] => Err(ExprFault::BadSyntax(token.offset)),
-        [] => Err(ExprFault::BadSyntax(0)),
+        _ => Err(unexpected(tokens)),
     }
 }
 
@@ -85,8 +94,7 @@ fn skip_comma(tokens: &[Token]) -> Result<&[Token], ExprFault>
             },
             rest @ ..,
         ] => Ok(rest),
-        [token, ..] => Err(ExprFault::BadSyntax(token.offset)),
-        [] => Err(ExprFault::BadSyntax(0)),
+        _ => Err(unexpected(tokens)),
     }
 }
 
@@ -99,9 +107,9 @@ fn take_number(tokens: &[Token]) -> Result<(u16, &[Token]), ExprFault>
     match tokens {
         [token, rest @ ..] => match token.kind {
             Kind::Number(n) => Ok((n, rest)),
-            _ => Err(ExprFault::BadSyntax(token.offset)),
+            _ => Err(unexpected(tokens)),
         },
-        [] => Err(ExprFault::BadSyntax(0)),
+        [] => Err(unexpected(tokens)),
     }
 }
 
@@ -299,7 +307,7 @@ pub(crate) fn read_tokens(
     fields: &[Field],
     tokens: &[Token],
 ) -> Result<Tree, ExprFault>
-    requires { EndsInEnd tokens.now }
+    requires ended { EndsInEnd tokens.now }
     ensures lengths { IfOk result (λ tree. KeepsLengths fields.now tree) }
     ensures read { IfOk result (λ tree. IsText (expr_of tree) tokens.now) }
     ensures refused { IfErr result (λ fault. IsRefusal fault tokens.now) }

@@ -3,60 +3,60 @@ use Rattle.std.proofs.lemmas.Result.{err_from_is_err_and}
 use Rattle.key_expr.specs.declared.token.Kind.TheVariants.{Open, Close, Comma, Upper, Substr, Str, Dtoc, Name, Number}
 use Rattle.key_expr.specs.Grammar.{one_term, sum, field_term, parens_term, upper_term, substr_term, str_term, dtoc_term}
 use Rattle.key_expr.specs.Expected.{expr, more, number, close, comma, lengths}
-use Rattle.key_expr.proofs.ExpectedSteps.{unexpected_along, past, begin-then, begin-first, begin-shorter}
+use Rattle.key_expr.proofs.ExpectedSteps.{unexpected_along, past_token, begin-then, begin-first, begin-shorter}
 use Rattle.key_expr.proofs.parser.+reader.Goals as goal
 
 pub read_term-returns-in_err-tree-in-Open-clause-refused : goal.read_term-returns-in_err-tree-in-Open-clause-refused
 read_term-returns-in_err-tree-in-Open-clause-refused t c =
     let p = err_from_is_err_and c.from_residual-in_err-tree-in-Open.result c.from_residual-in_err-tree-in-Open.ensures.1 in
-    rw (p.1, p.2) (λ s. unexpected_along _ _ _ _ _ (past Open (expr ∷ s) _ _ _ _ c.in_ok-token.ensures.found c.in-Open.is refl) (c.in_err-tree-in-Open.ensures.refused (close ∷ more ∷ s)))
+    rw (p.1, p.2) (λ s. unexpected_along _ _ _ _ _ (past_token Open (expr ∷ s) _ _ _ _ c.in_ok-token.ensures.found c.in-Open.is refl) (c.in_err-tree-in-Open.ensures.refused (close ∷ more ∷ s)))
 
 pub read_term-returns-in_err-after-in-Open-clause-refused : goal.read_term-returns-in_err-after-in-Open-clause-refused
 read_term-returns-in_err-after-in-Open-clause-refused t c =
     let p = err_from_is_err_and c.from_residual-in_err-after-in-Open.result c.from_residual-in_err-after-in-Open.ensures.1 in
-    rw (p.1, p.2) (λ s. unexpected_along _ _ _ _ _ (past Open (expr ∷ s) _ _ _ _ c.in_ok-token.ensures.found c.in-Open.is refl
+    rw (p.1, p.2) (λ s. unexpected_along _ _ _ _ _ (past_token Open (expr ∷ s) _ _ _ _ c.in_ok-token.ensures.found c.in-Open.is refl
     ∙ c.in_ok-tree-in-Open.ensures.passed close (more ∷ s)) (c.in_err-after-in-Open.ensures.refused (more ∷ s)))
 
 pub read_term-returns-in_err-inside-in-Upper-clause-refused : goal.read_term-returns-in_err-inside-in-Upper-clause-refused
 read_term-returns-in_err-inside-in-Upper-clause-refused t c =
     let p = err_from_is_err_and c.from_residual-in_err-inside-in-Upper.result c.from_residual-in_err-inside-in-Upper.ensures.1 in
-    rw (p.1, p.2) (λ s. unexpected_along _ _ _ _ _ (past Upper (expr ∷ s) _ _ _ _ c.in_ok-token.ensures.found c.in-Upper.is refl) (c.in_err-inside-in-Upper.ensures.refused (expr ∷ close ∷ more ∷ s)))
+    rw (p.1, p.2) (λ s. unexpected_along _ _ _ _ _ (past_token Upper (expr ∷ s) _ _ _ _ c.in_ok-token.ensures.found c.in-Upper.is refl) (c.in_err-inside-in-Upper.ensures.refused (expr ∷ close ∷ more ∷ s)))
 
 pub read_term-returns-in_err-tree-in-Upper-clause-refused : goal.read_term-returns-in_err-tree-in-Upper-clause-refused
 read_term-returns-in_err-tree-in-Upper-clause-refused t c =
     let p = err_from_is_err_and c.from_residual-in_err-tree-in-Upper.result c.from_residual-in_err-tree-in-Upper.ensures.1 in
-    rw (p.1, p.2) (λ s. unexpected_along _ _ _ _ _ (past Upper (expr ∷ s) _ _ _ _ c.in_ok-token.ensures.found c.in-Upper.is refl
+    rw (p.1, p.2) (λ s. unexpected_along _ _ _ _ _ (past_token Upper (expr ∷ s) _ _ _ _ c.in_ok-token.ensures.found c.in-Upper.is refl
     ∙ c.in_ok-inside-in-Upper.ensures.passed (expr ∷ close ∷ more ∷ s)) (c.in_err-tree-in-Upper.ensures.refused (close ∷ more ∷ s)))
 
 pub read_term-returns-in_err-after-in-Upper-clause-refused : goal.read_term-returns-in_err-after-in-Upper-clause-refused
 read_term-returns-in_err-after-in-Upper-clause-refused t c =
     let p = err_from_is_err_and c.from_residual-in_err-after-in-Upper.result c.from_residual-in_err-after-in-Upper.ensures.1 in
-    rw (p.1, p.2) (λ s. unexpected_along _ _ _ _ _ (past Upper (expr ∷ s) _ _ _ _ c.in_ok-token.ensures.found c.in-Upper.is refl
+    rw (p.1, p.2) (λ s. unexpected_along _ _ _ _ _ (past_token Upper (expr ∷ s) _ _ _ _ c.in_ok-token.ensures.found c.in-Upper.is refl
     ∙ c.in_ok-inside-in-Upper.ensures.passed (expr ∷ close ∷ more ∷ s)
     ∙ c.in_ok-tree-in-Upper.ensures.passed close (more ∷ s)) (c.in_err-after-in-Upper.ensures.refused (more ∷ s)))
 
 pub read_term-returns-in_err-inside-in-Substr-clause-refused : goal.read_term-returns-in_err-inside-in-Substr-clause-refused
 read_term-returns-in_err-inside-in-Substr-clause-refused t c =
     let p = err_from_is_err_and c.from_residual-in_err-inside-in-Substr.result c.from_residual-in_err-inside-in-Substr.ensures.1 in
-    rw (p.1, p.2) (λ s. unexpected_along _ _ _ _ _ (past Substr (expr ∷ s) _ _ _ _ c.in_ok-token.ensures.found c.in-Substr.is refl) (c.in_err-inside-in-Substr.ensures.refused (expr ∷ comma ∷ number ∷ comma ∷ number ∷ close ∷ more ∷ s)))
+    rw (p.1, p.2) (λ s. unexpected_along _ _ _ _ _ (past_token Substr (expr ∷ s) _ _ _ _ c.in_ok-token.ensures.found c.in-Substr.is refl) (c.in_err-inside-in-Substr.ensures.refused (expr ∷ comma ∷ number ∷ comma ∷ number ∷ close ∷ more ∷ s)))
 
 pub read_term-returns-in_err-tree-in-Substr-clause-refused : goal.read_term-returns-in_err-tree-in-Substr-clause-refused
 read_term-returns-in_err-tree-in-Substr-clause-refused t c =
     let p = err_from_is_err_and c.from_residual-in_err-tree-in-Substr.result c.from_residual-in_err-tree-in-Substr.ensures.1 in
-    rw (p.1, p.2) (λ s. unexpected_along _ _ _ _ _ (past Substr (expr ∷ s) _ _ _ _ c.in_ok-token.ensures.found c.in-Substr.is refl
+    rw (p.1, p.2) (λ s. unexpected_along _ _ _ _ _ (past_token Substr (expr ∷ s) _ _ _ _ c.in_ok-token.ensures.found c.in-Substr.is refl
     ∙ c.in_ok-inside-in-Substr.ensures.passed (expr ∷ comma ∷ number ∷ comma ∷ number ∷ close ∷ more ∷ s)) (c.in_err-tree-in-Substr.ensures.refused (comma ∷ number ∷ comma ∷ number ∷ close ∷ more ∷ s)))
 
 pub read_term-returns-in_err-from-in-Substr-clause-refused : goal.read_term-returns-in_err-from-in-Substr-clause-refused
 read_term-returns-in_err-from-in-Substr-clause-refused t c =
     let p = err_from_is_err_and c.from_residual-in_err-from-in-Substr.result c.from_residual-in_err-from-in-Substr.ensures.1 in
-    rw (p.1, p.2) (λ s. unexpected_along _ _ _ _ _ (past Substr (expr ∷ s) _ _ _ _ c.in_ok-token.ensures.found c.in-Substr.is refl
+    rw (p.1, p.2) (λ s. unexpected_along _ _ _ _ _ (past_token Substr (expr ∷ s) _ _ _ _ c.in_ok-token.ensures.found c.in-Substr.is refl
     ∙ c.in_ok-inside-in-Substr.ensures.passed (expr ∷ comma ∷ number ∷ comma ∷ number ∷ close ∷ more ∷ s)
     ∙ c.in_ok-tree-in-Substr.ensures.passed comma (number ∷ comma ∷ number ∷ close ∷ more ∷ s)) (c.in_err-from-in-Substr.ensures.refused (comma ∷ number ∷ close ∷ more ∷ s)))
 
 pub read_term-returns-in_err-count-in-Substr-clause-refused : goal.read_term-returns-in_err-count-in-Substr-clause-refused
 read_term-returns-in_err-count-in-Substr-clause-refused t c =
     let p = err_from_is_err_and c.from_residual-in_err-count-in-Substr.result c.from_residual-in_err-count-in-Substr.ensures.1 in
-    rw (p.1, p.2) (λ s. unexpected_along _ _ _ _ _ (past Substr (expr ∷ s) _ _ _ _ c.in_ok-token.ensures.found c.in-Substr.is refl
+    rw (p.1, p.2) (λ s. unexpected_along _ _ _ _ _ (past_token Substr (expr ∷ s) _ _ _ _ c.in_ok-token.ensures.found c.in-Substr.is refl
     ∙ c.in_ok-inside-in-Substr.ensures.passed (expr ∷ comma ∷ number ∷ comma ∷ number ∷ close ∷ more ∷ s)
     ∙ c.in_ok-tree-in-Substr.ensures.passed comma (number ∷ comma ∷ number ∷ close ∷ more ∷ s)
     ∙ c.in_ok-from-in-Substr.ensures.passed (comma ∷ number ∷ close ∷ more ∷ s)) (c.in_err-count-in-Substr.ensures.refused (close ∷ more ∷ s)))
@@ -64,7 +64,7 @@ read_term-returns-in_err-count-in-Substr-clause-refused t c =
 pub read_term-returns-in_err-after-in-Substr-clause-refused : goal.read_term-returns-in_err-after-in-Substr-clause-refused
 read_term-returns-in_err-after-in-Substr-clause-refused t c =
     let p = err_from_is_err_and c.from_residual-in_err-after-in-Substr.result c.from_residual-in_err-after-in-Substr.ensures.1 in
-    rw (p.1, p.2) (λ s. unexpected_along _ _ _ _ _ (past Substr (expr ∷ s) _ _ _ _ c.in_ok-token.ensures.found c.in-Substr.is refl
+    rw (p.1, p.2) (λ s. unexpected_along _ _ _ _ _ (past_token Substr (expr ∷ s) _ _ _ _ c.in_ok-token.ensures.found c.in-Substr.is refl
     ∙ c.in_ok-inside-in-Substr.ensures.passed (expr ∷ comma ∷ number ∷ comma ∷ number ∷ close ∷ more ∷ s)
     ∙ c.in_ok-tree-in-Substr.ensures.passed comma (number ∷ comma ∷ number ∷ close ∷ more ∷ s)
     ∙ c.in_ok-from-in-Substr.ensures.passed (comma ∷ number ∷ close ∷ more ∷ s)
@@ -73,23 +73,23 @@ read_term-returns-in_err-after-in-Substr-clause-refused t c =
 pub read_term-returns-in_err-index-in-Dtoc-clause-refused : goal.read_term-returns-in_err-index-in-Dtoc-clause-refused
 read_term-returns-in_err-index-in-Dtoc-clause-refused t c =
     let p = err_from_is_err_and c.from_residual-in_err-index-in-Dtoc.result c.from_residual-in_err-index-in-Dtoc.ensures.1 in
-    rw (p.1, p.2) (λ s. unexpected_along _ _ _ _ _ (past Dtoc (expr ∷ s) _ _ _ _ c.in_ok-token.ensures.found c.in-Dtoc.is refl) (c.in_err-index-in-Dtoc.ensures.refused (close ∷ more ∷ s)))
+    rw (p.1, p.2) (λ s. unexpected_along _ _ _ _ _ (past_token Dtoc (expr ∷ s) _ _ _ _ c.in_ok-token.ensures.found c.in-Dtoc.is refl) (c.in_err-index-in-Dtoc.ensures.refused (close ∷ more ∷ s)))
 
 pub read_term-returns-in_err-after-in-Dtoc-clause-refused : goal.read_term-returns-in_err-after-in-Dtoc-clause-refused
 read_term-returns-in_err-after-in-Dtoc-clause-refused t c =
     let p = err_from_is_err_and c.from_residual-in_err-after-in-Dtoc.result c.from_residual-in_err-after-in-Dtoc.ensures.1 in
-    rw (p.1, p.2) (λ s. unexpected_along _ _ _ _ _ (past Dtoc (expr ∷ s) _ _ _ _ c.in_ok-token.ensures.found c.in-Dtoc.is refl
+    rw (p.1, p.2) (λ s. unexpected_along _ _ _ _ _ (past_token Dtoc (expr ∷ s) _ _ _ _ c.in_ok-token.ensures.found c.in-Dtoc.is refl
     ∙ c.in_ok-index-in-Dtoc.ensures.passed (close ∷ more ∷ s)) (c.in_err-after-in-Dtoc.ensures.refused (more ∷ s)))
 
 pub read_term-returns-in_err-index-in-Str-clause-refused : goal.read_term-returns-in_err-index-in-Str-clause-refused
 read_term-returns-in_err-index-in-Str-clause-refused t c =
     let p = err_from_is_err_and c.from_residual-in_err-index-in-Str.result c.from_residual-in_err-index-in-Str.ensures.1 in
-    rw (p.1, p.2) (λ s. unexpected_along _ _ _ _ _ (past Str (expr ∷ s) _ _ _ _ c.in_ok-token.ensures.found c.in-Str.is refl) (c.in_err-index-in-Str.ensures.refused (lengths ∷ more ∷ s)))
+    rw (p.1, p.2) (λ s. unexpected_along _ _ _ _ _ (past_token Str (expr ∷ s) _ _ _ _ c.in_ok-token.ensures.found c.in-Str.is refl) (c.in_err-index-in-Str.ensures.refused (lengths ∷ more ∷ s)))
 
 pub read_term-returns-in_err-length-in-Str-clause-refused : goal.read_term-returns-in_err-length-in-Str-clause-refused
 read_term-returns-in_err-length-in-Str-clause-refused t c =
     let p = err_from_is_err_and c.from_residual-in_err-length-in-Str.result c.from_residual-in_err-length-in-Str.ensures.1 in
-    rw (p.1, p.2) (λ s. unexpected_along _ _ _ _ _ (past Str (expr ∷ s) _ _ _ _ c.in_ok-token.ensures.found c.in-Str.is refl
+    rw (p.1, p.2) (λ s. unexpected_along _ _ _ _ _ (past_token Str (expr ∷ s) _ _ _ _ c.in_ok-token.ensures.found c.in-Str.is refl
     ∙ c.in_ok-index-in-Str.ensures.passed (lengths ∷ more ∷ s)) (c.in_err-length-in-Str.ensures.refused (more ∷ s)))
 
 pub read_expr-returns-in_err-others-clause-refused : goal.read_expr-returns-in_err-others-clause-refused
