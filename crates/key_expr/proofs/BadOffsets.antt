@@ -8,7 +8,7 @@ use Rattle.key_expr.specs.declared.fault.ExprFault.TheVariants.{ExpressionTooLon
 use Rattle.key_expr.specs.Grammar.{Expr, Begin, an_expr, Reads, IsText, IsBadAt, EndsInEnd, IsRefusal}
 use Rattle.key_expr.specs.Expected.{Expected, expr, more, name, number, open_, close, comma, finish, lengths, points, step, first_unexpected, IsFirstUnexpected}
 use Rattle.key_expr.proofs.Fits.{Fits, nothing, fits_expr, fits_end, FitsNext}
-use Rattle.key_expr.proofs.FitsByStep.{Good, GoodNext, good_step, step_of_fits, fits_of_step, some_tokens}
+use Rattle.key_expr.proofs.FitsByStep.{WellFormed, WellFormedNext, well_formed_step, step_of_fits, fits_of_step, some_tokens}
 
 -- the tokens before one that doesn't fit, from a stack of what is expected on
 pub record StopsAt (offset : ℕ) (s : List Expected) (ts : List Token) : Type 0 where
@@ -22,7 +22,7 @@ pub record StopsAt (offset : ℕ) (s : List Expected) (ts : List Token) : Type 0
   pub after : (others : List Token) → Fits s (front ++ (token ∷ others)) → ⊥
 
 -- the end is only expected last
-end_last : (s : List Expected) → Good s → (w : List Expected) → step s End ≡ Some w → w ≡ []
+end_last : (s : List Expected) → WellFormed s → (w : List Expected) → step s End ≡ Some w → w ≡ []
 end_last [] g w e = cc
 end_last (expr ∷ s) g w e = cc
 end_last (more ∷ s) g w e = end_last s g.1 w e
@@ -37,8 +37,8 @@ end_last (points ∷ s) g w e = cc
 
 -- one token further, where the law holds tail it
 stops_from : (s : List Expected) (t : Token) (ts : List Token) (p : ℕ)
-    → ((w : List Expected) → Good w → EndsInEnd ts → first_unexpected w ts ≡ Some p → StopsAt p w ts)
-    → (o : Option (List Expected)) → step s t.kind ≡ o → Good s → EndsInEnd (t ∷ ts)
+    → ((w : List Expected) → WellFormed w → EndsInEnd ts → first_unexpected w ts ≡ Some p → StopsAt p w ts)
+    → (o : Option (List Expected)) → step s t.kind ≡ o → WellFormed s → EndsInEnd (t ∷ ts)
     → elim o [ None ↦ Some t.offset | Some w ↦ first_unexpected w ts ] ≡ Some p → StopsAt p s (t ∷ ts)
 stops_from s t ts p go None here g end m =
     let some = some_tokens s in
@@ -57,7 +57,7 @@ stops_from s t [] p go (Some w) here g end m =
     let no_way : first_unexpected [] [] ≡ Some p = sym (ap (λ (v : List Expected). first_unexpected v []) last) ∙ m in
     cc
 stops_from s t (u ∷ us) p go (Some w) here g end m =
-    let good : GoodNext (Some w) = rw here at (good_step s t.kind g) in
+    let good : WellFormedNext (Some w) = rw here at (well_formed_step s t.kind g) in
     let later = go w good end m in
     record {
       front = t ∷ later.front;
@@ -72,7 +72,7 @@ stops_from s t (u ∷ us) p go (Some w) here g end m =
           let next : FitsNext (Some w) (later.front ++ (later.token ∷ others)) = rw here at (step_of_fits g f) in later.after others next;
     }
 
-pub stops_at : (s : List Expected) (ts : List Token) (p : ℕ) → Good s → EndsInEnd ts → first_unexpected s ts ≡ Some p → StopsAt p s ts
+pub stops_at : (s : List Expected) (ts : List Token) (p : ℕ) → WellFormed s → EndsInEnd ts → first_unexpected s ts ≡ Some p → StopsAt p s ts
 stops_at s [] p g end m = absurd end
 stops_at s (t ∷ ts) p g end m =
     stops_from s t ts p (λ (w : List Expected). stops_at w ts p) (step s t.kind) refl g end m

@@ -8,46 +8,46 @@ use Rattle.key_expr.specs.Expected.{Expected, expr, more, name, number, open_, c
 use Rattle.key_expr.proofs.Fits.{Fits, nothing, fits_expr, fits_rest, fits_plus, fits_name, fits_number, fits_open, fits_close, fits_comma, fits_end, lengths_end, lengths_more, points_end, points_more, FitsNext, GoesFrom, term_goes_from}
 
 -- what may stand after an expression can't begin with a plus, and nothing stands after the end
-abbrev pub Good : List Expected → Type 0
-Good [] = Unit {0}
-Good (expr ∷ s) = (step s Plus ≡ None) × Good s
-Good (more ∷ s) = (step s Plus ≡ None) × Good s
-Good (finish ∷ s) = s ≡ []
-Good (w ∷ s) = Good s
+abbrev pub WellFormed : List Expected → Type 0
+WellFormed [] = Unit {0}
+WellFormed (expr ∷ s) = (step s Plus ≡ None) × WellFormed s
+WellFormed (more ∷ s) = (step s Plus ≡ None) × WellFormed s
+WellFormed (finish ∷ s) = s ≡ []
+WellFormed (w ∷ s) = WellFormed s
 
-abbrev pub GoodNext : Option (List Expected) → Type 0
-GoodNext None = Unit {0}
-GoodNext (Some s) = Good s
+abbrev pub WellFormedNext : Option (List Expected) → Type 0
+WellFormedNext None = Unit {0}
+WellFormedNext (Some s) = WellFormed s
 
-pub good_step : (s : List Expected) (k : Kind) → Good s → GoodNext (step s k)
-good_step [] k g = tt
-good_step (expr ∷ s) Open g = (refl, g)
-good_step (expr ∷ s) Upper g = (refl, g)
-good_step (expr ∷ s) Substr g = (refl, g)
-good_step (expr ∷ s) Str g = g
-good_step (expr ∷ s) Dtoc g = g
-good_step (expr ∷ s) (Name p) g = g
-good_step (expr ∷ s) k g = tt
-good_step (more ∷ s) Plus g = g
-good_step (more ∷ s) k g = good_step s k g.1
-good_step (name ∷ s) (Name p) g = g
-good_step (name ∷ s) k g = tt
-good_step (number ∷ s) (Number n) g = g
-good_step (number ∷ s) k g = tt
-good_step (open_ ∷ s) Open g = g
-good_step (open_ ∷ s) k g = tt
-good_step (close ∷ s) Close g = g
-good_step (close ∷ s) k g = tt
-good_step (comma ∷ s) Comma g = g
-good_step (comma ∷ s) k g = tt
-good_step (finish ∷ s) End g = subst (λ (w : List Expected). Good w) (sym g) tt
-good_step (finish ∷ s) k g = tt
-good_step (lengths ∷ s) Comma g = g
-good_step (lengths ∷ s) Close g = g
-good_step (lengths ∷ s) k g = tt
-good_step (points ∷ s) Comma g = g
-good_step (points ∷ s) Close g = g
-good_step (points ∷ s) k g = tt
+pub well_formed_step : (s : List Expected) (k : Kind) → WellFormed s → WellFormedNext (step s k)
+well_formed_step [] k g = tt
+well_formed_step (expr ∷ s) Open g = (refl, g)
+well_formed_step (expr ∷ s) Upper g = (refl, g)
+well_formed_step (expr ∷ s) Substr g = (refl, g)
+well_formed_step (expr ∷ s) Str g = g
+well_formed_step (expr ∷ s) Dtoc g = g
+well_formed_step (expr ∷ s) (Name p) g = g
+well_formed_step (expr ∷ s) k g = tt
+well_formed_step (more ∷ s) Plus g = g
+well_formed_step (more ∷ s) k g = well_formed_step s k g.1
+well_formed_step (name ∷ s) (Name p) g = g
+well_formed_step (name ∷ s) k g = tt
+well_formed_step (number ∷ s) (Number n) g = g
+well_formed_step (number ∷ s) k g = tt
+well_formed_step (open_ ∷ s) Open g = g
+well_formed_step (open_ ∷ s) k g = tt
+well_formed_step (close ∷ s) Close g = g
+well_formed_step (close ∷ s) k g = tt
+well_formed_step (comma ∷ s) Comma g = g
+well_formed_step (comma ∷ s) k g = tt
+well_formed_step (finish ∷ s) End g = subst (λ (w : List Expected). WellFormed w) (sym g) tt
+well_formed_step (finish ∷ s) k g = tt
+well_formed_step (lengths ∷ s) Comma g = g
+well_formed_step (lengths ∷ s) Close g = g
+well_formed_step (lengths ∷ s) k g = tt
+well_formed_step (points ∷ s) Comma g = g
+well_formed_step (points ∷ s) Close g = g
+well_formed_step (points ∷ s) k g = tt
 
 -- an expression may end before each token but a plus
 step_past_more : (k : Kind) (s : List Expected) (ts : List Token) → step s Plus ≡ None → FitsNext (step s k) ts → FitsNext (step (more ∷ s) k) ts
@@ -65,7 +65,7 @@ expr_goes_from s (sum {f = e} {us = u ∷ us} {rest = rest} d b d2) f =
     term_goes_from s d (fits_plus b.0 (fits_expr (subst (λ (l : List Token). Reads an_expr e l rest) (sym b.1) d2) f))
 
 -- where the tokens are what is expected, the first one fits
-pub step_of_fits : {s : List Expected} {ts : List Token} → Good s → Fits s ts → GoesFrom s ts
+pub step_of_fits : {s : List Expected} {ts : List Token} → WellFormed s → Fits s ts → GoesFrom s ts
 step_of_fits g nothing = tt
 step_of_fits {s = expr ∷ s} g (fits_expr d f) = expr_goes_from s d f
 step_of_fits {s = more ∷ s} {ts = ts} g (fits_rest f) = goes_past_more s ts g.0 (step_of_fits g.1 f)

@@ -14,7 +14,7 @@ use Rattle.key_expr.specs.Grammar.{Expr, field, concat, upper, substr, str, dtoc
 use Rattle.key_expr.specs.Keys.{key, key_length, length_given, decimals_given}
 use Rattle.dbf_fields.specs.Layout.{width_of}
 use Rattle.dbf_fields.specs.Layout.{cells_of}
-use Rattle.key_expr.specs.Printing.{fitted}
+use Rattle.key_expr.specs.StrText.{text_in_width}
 use Rattle.std.proofs.lemmas.Bool.{and_parts}
 
 fitted_if : (b : Bool) (n : ℕ) (text : List ℕ) → leb (length text) n ≡ b
@@ -26,7 +26,7 @@ fitted_if true n text h =
     let r = length-replicate {A = ℕ} (n - length text) 32 in
     omega (arith, a, r, within)
 
-number_length : (o : Option ℤ) (n d : ℕ) → length {A = ℕ} (elim o [ None ↦ replicate n 42 | Some v ↦ fitted n (number_text v d d) ]) ≡ n
+number_length : (o : Option ℤ) (n d : ℕ) → length {A = ℕ} (elim o [ None ↦ replicate n 42 | Some v ↦ text_in_width n (number_text v d d) ]) ≡ n
 number_length None n d = length-replicate {A = ℕ} n 42
 number_length (Some v) n d = fitted_if (leb (length (number_text v d d)) n) n (number_text v d d) refl
 

@@ -7,9 +7,9 @@ zeros_less : (zeros : List ℕ) (n m : ℕ) → zeros ≡ replicate n 0 → n - 
 zeros_less zeros n m e less = ap (λ (l : List ℕ). drop 1 l) e ∙ (drop-replicate 1 n 0 ∙ ap (λ (k : ℕ). replicate k 0) less)
 
 -- the bytes after it are still zeros
-pub padded_push : (bytes : List ℕ) (len b : ℕ) → drop len bytes ≡ replicate (100 - len) 0
+pub zeros_after_push : (bytes : List ℕ) (len b : ℕ) → drop len bytes ≡ replicate (100 - len) 0
     → drop (len + 1) (set bytes len b) ≡ replicate (100 - (len + 1)) 0
-padded_push bytes len b zeros =
+zeros_after_push bytes len b zeros =
     let past : len < len + 1 = omega arith in
     let less : 100 - len - 1 ≡ 100 - (len + 1) = omega arith in
     rw (drop-set-lt (len + 1) bytes len b past, ← drop-drop 1 len bytes) (zeros_less (drop len bytes) (100 - len) (100 - (len + 1)) zeros less)

@@ -12,46 +12,46 @@ use Rattle.key_expr.specs.Grammar.{Expr, Begin, EndsPoints, EndsWith, Sort, Read
 use Rattle.key_expr.specs.Rules.{IsKeyText}
 use Rattle.key_expr.specs.Tokens.{tokens_after, token_length, kind_of, prefix_length}
 
-abbrev is_good : Kind → Bool
-is_good Bad = false
-is_good kind = true
+abbrev is_of_grammar : Kind → Bool
+is_of_grammar Bad = false
+is_of_grammar kind = true
 
-abbrev AreGood : List Token → Type 0
-AreGood ts = AllByRecursion (λ t. is_good t.kind ≡ true) ts
+abbrev AreOfGrammar : List Token → Type 0
+AreOfGrammar ts = AllByRecursion (λ t. is_of_grammar t.kind ≡ true) ts
 
 abbrev NoZero : List ℕ → Type 0
 NoZero bs = AllByRecursion (λ b. b ≢ 0) bs
 
 -- ---- the tokens of an expression are all of the grammar
 
-begin_good : (ks : List Kind) (ts rest : List Token) → AllByRecursion (λ k. is_good k ≡ true) ks → Begin ks ts rest → AreGood rest → AreGood ts
-begin_good [] ts rest g b h = subst AreGood (sym b) h
-begin_good (k ∷ ks) [] rest g b h = absurd b
-begin_good (k ∷ ks) (t ∷ ts) rest g b h = (ap is_good b.0 ∙ g.0, begin_good ks ts rest g.1 b.1 h)
+begin_of_grammar : (ks : List Kind) (ts rest : List Token) → AllByRecursion (λ k. is_of_grammar k ≡ true) ks → Begin ks ts rest → AreOfGrammar rest → AreOfGrammar ts
+begin_of_grammar [] ts rest g b h = subst AreOfGrammar (sym b) h
+begin_of_grammar (k ∷ ks) [] rest g b h = absurd b
+begin_of_grammar (k ∷ ks) (t ∷ ts) rest g b h = (ap is_of_grammar b.0 ∙ g.0, begin_of_grammar ks ts rest g.1 b.1 h)
 
-points_good : (d : Option ℕ) (ts rest : List Token) → EndsPoints d ts rest → AreGood rest → AreGood ts
-points_good None ts rest b h = begin_good (Close ∷ []) ts rest (refl, tt) b h
-points_good (Some d) ts rest b h = begin_good (Comma ∷ Number d ∷ Close ∷ []) ts rest (refl, (refl, (refl, tt))) b h
+points_of_grammar : (d : Option ℕ) (ts rest : List Token) → EndsPoints d ts rest → AreOfGrammar rest → AreOfGrammar ts
+points_of_grammar None ts rest b h = begin_of_grammar (Close ∷ []) ts rest (refl, tt) b h
+points_of_grammar (Some d) ts rest b h = begin_of_grammar (Comma ∷ Number d ∷ Close ∷ []) ts rest (refl, (refl, (refl, tt))) b h
 
-ends_good : (n d : Option ℕ) (ts rest : List Token) → EndsWith n d ts rest → AreGood rest → AreGood ts
-ends_good None None ts rest b h = begin_good (Close ∷ []) ts rest (refl, tt) b h
-ends_good None (Some d) ts rest b h = absurd b
-ends_good (Some n) d ts rest b h = begin_good (Comma ∷ Number n ∷ []) ts b.0 (refl, (refl, tt)) b.1 (points_good d b.0 rest b.2 h)
+ends_of_grammar : (n d : Option ℕ) (ts rest : List Token) → EndsWith n d ts rest → AreOfGrammar rest → AreOfGrammar ts
+ends_of_grammar None None ts rest b h = begin_of_grammar (Close ∷ []) ts rest (refl, tt) b h
+ends_of_grammar None (Some d) ts rest b h = absurd b
+ends_of_grammar (Some n) d ts rest b h = begin_of_grammar (Comma ∷ Number n ∷ []) ts b.0 (refl, (refl, tt)) b.1 (points_of_grammar d b.0 rest b.2 h)
 
-reads_good : {so : Sort} {e : Expr} {ts us : List Token} → Reads so e ts us → AreGood us → AreGood ts
-reads_good (one_term d) h = reads_good d h
-reads_good (sum {us = us} {vs = vs} d b d2) h = reads_good d (begin_good (Plus ∷ []) us vs (refl, tt) b (reads_good d2 h))
-reads_good (field_term {p = p} {ts = ts} {rest = r} b) h = begin_good (Name p ∷ []) ts r (refl, tt) b h
-reads_good (parens_term {ts = ts} {us = us} {vs = vs} {rest = r} a d b) h =
-    begin_good (Open ∷ []) ts us (refl, tt) a (reads_good d (begin_good (Close ∷ []) vs r (refl, tt) b h))
-reads_good (upper_term {ts = ts} {us = us} {vs = vs} {rest = r} a d b) h =
-    begin_good (Upper ∷ Open ∷ []) ts us (refl, (refl, tt)) a (reads_good d (begin_good (Close ∷ []) vs r (refl, tt) b h))
-reads_good (substr_term {from = n} {count = m} {ts = ts} {us = us} {vs = vs} {rest = r} a d b) h =
-    begin_good (Substr ∷ Open ∷ []) ts us (refl, (refl, tt)) a
-    (reads_good d (begin_good (Comma ∷ Number n ∷ Comma ∷ Number m ∷ Close ∷ []) vs r (refl, (refl, (refl, (refl, (refl, tt))))) b h))
-reads_good (str_term {p = p} {n = n} {d = d} {ts = ts} {rest = r} us a b) h =
-    begin_good (Str ∷ Open ∷ Name p ∷ []) ts us (refl, (refl, (refl, tt))) a (ends_good n d us r b h)
-reads_good (dtoc_term {p = p} {ts = ts} {rest = r} b) h = begin_good (Dtoc ∷ Open ∷ Name p ∷ Close ∷ []) ts r (refl, (refl, (refl, (refl, tt)))) b h
+reads_of_grammar : {so : Sort} {e : Expr} {ts us : List Token} → Reads so e ts us → AreOfGrammar us → AreOfGrammar ts
+reads_of_grammar (one_term d) h = reads_of_grammar d h
+reads_of_grammar (sum {us = us} {vs = vs} d b d2) h = reads_of_grammar d (begin_of_grammar (Plus ∷ []) us vs (refl, tt) b (reads_of_grammar d2 h))
+reads_of_grammar (field_term {p = p} {ts = ts} {rest = r} b) h = begin_of_grammar (Name p ∷ []) ts r (refl, tt) b h
+reads_of_grammar (parens_term {ts = ts} {us = us} {vs = vs} {rest = r} a d b) h =
+    begin_of_grammar (Open ∷ []) ts us (refl, tt) a (reads_of_grammar d (begin_of_grammar (Close ∷ []) vs r (refl, tt) b h))
+reads_of_grammar (upper_term {ts = ts} {us = us} {vs = vs} {rest = r} a d b) h =
+    begin_of_grammar (Upper ∷ Open ∷ []) ts us (refl, (refl, tt)) a (reads_of_grammar d (begin_of_grammar (Close ∷ []) vs r (refl, tt) b h))
+reads_of_grammar (substr_term {from = n} {count = m} {ts = ts} {us = us} {vs = vs} {rest = r} a d b) h =
+    begin_of_grammar (Substr ∷ Open ∷ []) ts us (refl, (refl, tt)) a
+    (reads_of_grammar d (begin_of_grammar (Comma ∷ Number n ∷ Comma ∷ Number m ∷ Close ∷ []) vs r (refl, (refl, (refl, (refl, (refl, tt))))) b h))
+reads_of_grammar (str_term {p = p} {n = n} {d = d} {ts = ts} {rest = r} us a b) h =
+    begin_of_grammar (Str ∷ Open ∷ Name p ∷ []) ts us (refl, (refl, (refl, tt))) a (ends_of_grammar n d us r b h)
+reads_of_grammar (dtoc_term {p = p} {ts = ts} {rest = r} b) h = begin_of_grammar (Dtoc ∷ Open ∷ Name p ∷ Close ∷ []) ts r (refl, (refl, (refl, (refl, tt)))) b h
 
 -- ---- bytes whose tokens are all of the grammar
 
@@ -79,21 +79,21 @@ token_no_zero b bs =
     part_by (is_ascii_alphabetic b) (is_ascii_digit b) (prefix_length is_name_char bs) (prefix_length is_ascii_digit bs) bs
     (prefix_no_zero is_name_char bs refl) (prefix_no_zero is_ascii_digit bs refl)
 
-zero_bad : (fields : List Field) (b : ℕ) (bs : List ℕ) → b ≡ 0 → is_good (kind_of fields (b ∷ bs)) ≡ false
+zero_bad : (fields : List Field) (b : ℕ) (bs : List ℕ) → b ≡ 0 → is_of_grammar (kind_of fields (b ∷ bs)) ≡ false
 unfolding kind_of
 zero_bad fields b bs e = rw e refl
 
 byte_by : (fields : List Field) (whole offset b n : ℕ) (bs : List ℕ) (t : Bool) → eqb b 32 ≡ t
-    → (AreGood (tokens_after fields whole zero bs) → NoZero bs)
-    → (AreGood (tokens_after fields whole n bs) → NoZero bs)
-    → AreGood (cond t (tokens_after fields whole zero bs) (record { kind = kind_of fields (b ∷ bs); offset = offset } ∷ tokens_after fields whole n bs))
+    → (AreOfGrammar (tokens_after fields whole zero bs) → NoZero bs)
+    → (AreOfGrammar (tokens_after fields whole n bs) → NoZero bs)
+    → AreOfGrammar (cond t (tokens_after fields whole zero bs) (record { kind = kind_of fields (b ∷ bs); offset = offset } ∷ tokens_after fields whole n bs))
     → NoZero (b ∷ bs)
 byte_by fields whole offset b n bs true e blank token g =
     let is : b ≡ 32 = eqb-true b 32 e in
     (λ k. absurd (omega (arith, is, k)), blank g)
 byte_by fields whole offset b n bs false e blank token g = (λ k. true≢false (sym g.0 ∙ zero_bad fields b bs k), token g.1)
 
-bytes_no_zero : (fields : List Field) (whole n : ℕ) (bs : List ℕ) → NoZero (take n bs) → AreGood (tokens_after fields whole n bs) → NoZero bs
+bytes_no_zero : (fields : List Field) (whole n : ℕ) (bs : List ℕ) → NoZero (take n bs) → AreOfGrammar (tokens_after fields whole n bs) → NoZero bs
 bytes_no_zero fields whole n [] h g = tt
 bytes_no_zero fields whole (suc n) (b ∷ bs) h g = (h.0, bytes_no_zero fields whole n bs h.1 g)
 bytes_no_zero fields whole zero (b ∷ bs) h g =
@@ -102,4 +102,4 @@ bytes_no_zero fields whole zero (b ∷ bs) h g =
 
 pub no_zero : (fields : List Field) (text : List ℕ) (e : Expr) → IsKeyText fields text e → AllByRecursion (λ b. b ≢ 0) text
 no_zero fields text e k =
-    bytes_no_zero fields (length text) zero text tt (reads_good k.read.1 (begin_good (End ∷ []) k.read.0 [] (refl, tt) k.read.2 tt))
+    bytes_no_zero fields (length text) zero text tt (reads_of_grammar k.read.1 (begin_of_grammar (End ∷ []) k.read.0 [] (refl, tt) k.read.2 tt))

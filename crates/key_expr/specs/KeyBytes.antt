@@ -9,15 +9,15 @@ abbrev pub bytes_of : Inside → List ℕ
 bytes_of k = take k.len k.bytes
 
 -- at most so many bytes, and zeros after them
-abbrev pub IsPadded : Inside → Type 0
-IsPadded k = (k.len ≤ MAX_KEY_BYTES) × (length k.bytes ≡ MAX_KEY_BYTES) × (drop k.len k.bytes ≡ replicate (MAX_KEY_BYTES - k.len) 0)
+abbrev pub HasZerosAfter : Inside → Type 0
+HasZerosAfter k = (k.len ≤ MAX_KEY_BYTES) × (length k.bytes ≡ MAX_KEY_BYTES) × (drop k.len k.bytes ≡ replicate (MAX_KEY_BYTES - k.len) 0)
 
 -- the fields of the key with these bytes
-abbrev pub padded : List ℕ → Inside
-padded bs = record { bytes = bs ++ replicate (MAX_KEY_BYTES - length bs) 0; len = length bs }
+abbrev pub inside_of : List ℕ → Inside
+inside_of bs = record { bytes = bs ++ replicate (MAX_KEY_BYTES - length bs) 0; len = length bs }
 
-pub padded-bytes_of : (k : Inside) → IsPadded k → padded (bytes_of k) ≡ k
-padded-bytes_of k h i =
+pub inside_of-bytes_of : (k : Inside) → HasZerosAfter k → inside_of (bytes_of k) ≡ k
+inside_of-bytes_of k h i =
     let len : length (take k.len k.bytes) ≡ k.len = length-take-le k.len k.bytes (omega (arith, h.0, h.1)) in
     record {
       bytes = (ap (λ n. take k.len k.bytes ++ replicate (MAX_KEY_BYTES - n) 0) len ∙ ap (λ ys. take k.len k.bytes ++ ys) (sym h.2) ∙ take-append-drop k.len k.bytes) i;

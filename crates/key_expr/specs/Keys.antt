@@ -6,7 +6,7 @@ use Rattle.dbf_fields.specs.Date.{date_shown}
 use Rattle.dbf_fields.specs.Layout.{width_of}
 use Rattle.key_expr.specs.Grammar.{Expr, field, concat, upper, substr, str, dtoc}
 use Rattle.key_expr.specs.declared.format.TheConstants.{STR_LENGTH, DTOC_LENGTH}
-use Rattle.key_expr.specs.Printing.{printed_number}
+use Rattle.key_expr.specs.StrText.{str_text}
 
 -- A STR prints so many bytes where no length is given, and no decimals where none are.
 abbrev pub length_given : Option ℕ → ℕ
@@ -21,7 +21,7 @@ key cells (field i) = get_or cells i []
 key cells (concat a b) = key cells a ++ key cells b
 key cells (upper a) = map to_ascii_uppercase (key cells a)
 key cells (substr a from count) = take count (drop (from - 1) (key cells a))
-key cells (str i n d) = printed_number (length_given n) (decimals_given d) (get_or cells i [])
+key cells (str i n d) = str_text (length_given n) (decimals_given d) (get_or cells i [])
 key cells (dtoc i) = date_shown (get_or cells i [])
 
 -- how many bytes the key of each record has

@@ -4,7 +4,7 @@ pub mod TreeExpr
 pub mod KeyBytes
 pub mod Tokens
 pub mod TokenOffsets
-pub mod Printing
+pub mod StrText
 pub mod Keys
 pub mod Rules
 pub mod Windows

@@ -14,7 +14,7 @@ ghost use Rattle.key_expr.specs.Windows.{upper_if, bytes_in};
 
 use crate::check::length_given;
 use crate::key::Key;
-use crate::print::printed_number;
+use crate::str_text::str_text;
 use crate::tree::Tree;
 use dbf_fields::{Schema, shown_date};
 
@@ -105,7 +105,7 @@ fn str_of_cell(
     ensures value { result ≡ key (cells_of schema.now (drop 1 record_bytes.now)) (str index given decimals) }
 {
     let field = &schema.fields()[index];
-    printed_number(
+    str_text(
         length_given(given),
         field.decimals,
         schema.cell_in(record_bytes, index),

@@ -21,15 +21,15 @@ impl Model for Key {
 
     ghost Value = { List ℕ };
 
-    ghost use Rattle.key_expr.specs.KeyBytes.{bytes_of, IsPadded, padded, padded-bytes_of};
+    ghost use Rattle.key_expr.specs.KeyBytes.{bytes_of, HasZerosAfter, inside_of, inside_of-bytes_of};
 
     ghost view = { bytes_of };
 
-    ghost invariant = { IsPadded };
+    ghost invariant = { HasZerosAfter };
 
-    ghost inverse = { padded };
+    ghost inverse = { inside_of };
 
-    ghost inverse_ok = { padded-bytes_of };
+    ghost inverse_ok = { inside_of-bytes_of };
 }
 
 impl Key {
@@ -38,12 +38,12 @@ impl Key {
         requires short { length bytes.now ≤ MAX_KEY_BYTES }
         ensures bytes { result ≡ bytes.now }
     {
-        let mut padded = [0; MAX_KEY_BYTES];
+        let mut kept = [0; MAX_KEY_BYTES];
         for (i, byte) in bytes.iter().enumerate() {
-            padded[i] = *byte;
+            kept[i] = *byte;
         }
         Key {
-            bytes: padded,
+            bytes: kept,
             len: bytes.len(),
         }
     }

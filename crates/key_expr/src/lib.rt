@@ -15,7 +15,7 @@ mod format;
 mod key;
 mod lexer;
 mod parser;
-mod print;
+mod str_text;
 mod token;
 mod tree;
 

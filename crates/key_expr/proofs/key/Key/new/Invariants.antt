@@ -2,4 +2,4 @@ use Rattle.std.proofs.Common.{◌≡◌, ◌-◌, ◌++◌, take, replicate}
 use Rattle.key_expr.proofs.key.Key.new.Given as goal
 
 abbrev pub invariant-loop-i : goal.invariant-loop-i
-invariant-loop-i l = l.padded ≡ take l.i l.bytes ++ replicate (100 - l.i) 0
+invariant-loop-i l = l.kept ≡ take l.i l.bytes ++ replicate (100 - l.i) 0

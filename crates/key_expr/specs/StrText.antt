@@ -5,12 +5,12 @@ use Rattle.dbf_fields.specs.Number.{number}
 use Rattle.dbf_fields.specs.NumberText.{number_text, right_justified}
 
 -- a text after as many blanks as fill the width, or asterisks where it is too long
-abbrev pub fitted : ℕ → List ℕ → List ℕ
-fitted width text = if nat_le (length text) width then right_justified width text else replicate width ASTERISK
+abbrev pub text_in_width : ℕ → List ℕ → List ℕ
+text_in_width width text = if nat_le (length text) width then right_justified width text else replicate width ASTERISK
 
 -- what the number of a cell prints: asterisks where the cell can't be read
-abbrev pub printed_number : ℕ → ℕ → List ℕ → List ℕ
-printed_number width decimals cell = elim (number cell decimals) [
+abbrev pub str_text : ℕ → ℕ → List ℕ → List ℕ
+str_text width decimals cell = elim (number cell decimals) [
   | None ↦ replicate width ASTERISK
-  | Some n ↦ fitted width (number_text n decimals decimals)
+  | Some n ↦ text_in_width width (number_text n decimals decimals)
 ]

@@ -1,5 +1,5 @@
 use Rattle.std.proofs.Common.{◌≡◌, replicate}
-use Rattle.key_expr.proofs.print.filled.Given as goal
+use Rattle.key_expr.proofs.str_text.fill.Given as goal
 
 abbrev pub invariant-loop : goal.invariant-loop
 invariant-loop l = l.key ≡ replicate l.counter l.byte
