@@ -4,50 +4,50 @@ use Rattle.std.specs.Prelude.{flat_map}
 use Rattle.std.specs.List.{AllByRecursion}
 use Rattle.std.proofs.lemmas.Bool.{cases_eq, ne_eqb, eq-eqb}
 use Rattle.std.proofs.lemmas.List.{take-append-drop, length-take}
-use Rattle.ndx_index.specs.Image.{groups, leaf_bite, inner_bite}
+use Rattle.ndx_index.specs.Image.{groups, leaf_group_size, inner_group_size}
 
 abbrev pub joined : {X : Type 0} → List (List X) → List X
 joined gs = flat_map (λ g. g) gs
 
-pub groups-join : {X : Type 0} (bite : ℕ → ℕ) (fuel : ℕ) (xs : List X) → length xs ≤ fuel → ((n : ℕ) → 1 ≤ bite n) → joined (groups bite fuel xs) ≡ xs
-groups-join bite zero [] h b = refl
-groups-join bite zero (x ∷ xs) h b = absurd (omega arith)
-groups-join bite (suc f) [] h b = refl
-groups-join bite (suc f) (x ∷ xs) h b =
-    let n : ℕ = bite (length (x ∷ xs)) in
+pub groups-join : {X : Type 0} (group_size : ℕ → ℕ) (fuel : ℕ) (xs : List X) → length xs ≤ fuel → ((n : ℕ) → 1 ≤ group_size n) → joined (groups group_size fuel xs) ≡ xs
+groups-join group_size zero [] h b = refl
+groups-join group_size zero (x ∷ xs) h b = absurd (omega arith)
+groups-join group_size (suc f) [] h b = refl
+groups-join group_size (suc f) (x ∷ xs) h b =
+    let n : ℕ = group_size (length (x ∷ xs)) in
     let some : 1 ≤ n = b (length (x ∷ xs)) in
     let less : length (drop n (x ∷ xs)) ≤ f = omega (arith, length-drop n (x ∷ xs)) in
-    ap (λ ys. take n (x ∷ xs) ++ ys) (groups-join bite f (drop n (x ∷ xs)) less b) ∙ take-append-drop n (x ∷ xs)
+    ap (λ ys. take n (x ∷ xs) ++ ys) (groups-join group_size f (drop n (x ∷ xs)) less b) ∙ take-append-drop n (x ∷ xs)
 
 -- the number of elements of a group is from `low` to `high`
 pub record HasSize {X : Type 0} (from to : ℕ) (g : List X) : Type 0 where
   pub low : from ≤ length g
   pub high : length g ≤ to
 
-pub leaf_groups : {X : Type 0} (k fuel : ℕ) (xs : List X) → 1 ≤ k → AllByRecursion (HasSize 1 k) (groups (leaf_bite k) fuel xs)
+pub leaf_groups : {X : Type 0} (k fuel : ℕ) (xs : List X) → 1 ≤ k → AllByRecursion (HasSize 1 k) (groups (leaf_group_size k) fuel xs)
 leaf_groups k zero xs h = tt
 leaf_groups k (suc f) [] h = tt
 leaf_groups k (suc f) (x ∷ xs) h =
     (record { low = omega (arith, length-take k (x ∷ xs)); high = omega (arith, length-take k (x ∷ xs)) }, leaf_groups k f (drop k (x ∷ xs)) h)
 
-pub bite_some : (k : ℕ) → 1 ≤ k → (n : ℕ) → 1 ≤ inner_bite k n
-bite_some k h n = elim (cases_eq n (k + 2)) [
+pub group_size_some : (k : ℕ) → 1 ≤ k → (n : ℕ) → 1 ≤ inner_group_size k n
+group_size_some k h n = elim (cases_eq n (k + 2)) [
   | inl e ↦ rw (eq-eqb n (k + 2) e) h
   | inr ne ↦ rw (ne_eqb n (k + 2) ne) (omega arith)
 ]
 
-pub inner_groups : {X : Type 0} (k fuel : ℕ) (xs : List X) → 2 ≤ k → length xs ≢ 1 → AllByRecursion (HasSize 2 (k + 1)) (groups (inner_bite k) fuel xs)
+pub inner_groups : {X : Type 0} (k fuel : ℕ) (xs : List X) → 2 ≤ k → length xs ≢ 1 → AllByRecursion (HasSize 2 (k + 1)) (groups (inner_group_size k) fuel xs)
 inner_groups k zero xs h ne = tt
 inner_groups k (suc f) [] h ne = tt
 inner_groups k (suc f) (x ∷ xs) h ne = elim (cases_eq (length (x ∷ xs)) (k + 2)) [
   | inl e ↦
-      let b : inner_bite k (length (x ∷ xs)) ≡ k = rw (eq-eqb (length (x ∷ xs)) (k + 2) e) refl in
+      let b : inner_group_size k (length (x ∷ xs)) ≡ k = rw (eq-eqb (length (x ∷ xs)) (k + 2) e) refl in
       rw b (
         record { low = omega (arith, length-take k (x ∷ xs)); high = omega (arith, length-take k (x ∷ xs)) },
         inner_groups k f (drop k (x ∷ xs)) h (λ one. absurd (omega (arith, length-drop k (x ∷ xs)))),
       )
   | inr differs ↦
-      let b : inner_bite k (length (x ∷ xs)) ≡ k + 1 = rw (ne_eqb (length (x ∷ xs)) (k + 2) differs) refl in
+      let b : inner_group_size k (length (x ∷ xs)) ≡ k + 1 = rw (ne_eqb (length (x ∷ xs)) (k + 2) differs) refl in
       rw b (
         record { low = omega (arith, length-take (k + 1) (x ∷ xs)); high = omega (arith, length-take (k + 1) (x ∷ xs)) },
         inner_groups k f (drop (k + 1) (x ∷ xs)) h (λ one. absurd (omega (arith, length-drop (k + 1) (x ∷ xs)))),

@@ -8,15 +8,15 @@ use Rattle.std.proofs.lemmas.List.{take_at, length-append, length-replicate, len
 use Rattle.byteorder.specs.Endian.{little_bytes}
 use Rattle.byteorder.specs.Numbers.{little_number-reads_back}
 use Rattle.ndx_index.specs.declared.pair.Pair.{Pair}
-use Rattle.ndx_index.specs.declared.page.Layout.{Layout}
-use Rattle.ndx_index.specs.Pages.{word}
+use Rattle.ndx_index.specs.declared.page.PageLayout.{PageLayout}
+use Rattle.ndx_index.specs.Pages.{u32_at}
 use Rattle.ndx_index.specs.NdxTree.{Trees}
-use Rattle.ndx_index.specs.Header.{header_of, short, before_zero, trimmed, expression, IsIndex}
+use Rattle.ndx_index.specs.Header.{header_of, u16_at, before_zero, trimmed_end, expression, IsIndex}
 use Rattle.ndx_index.proofs.Texts.{before_zeros, no_zero}
-use Rattle.ndx_index.specs.Image.{Top, tops, last_key, leaves, inner_pages, leaf_page, inner_page, padded, header_page, pages_of, ndx_image, record_size, page_keys, IsWritable}
+use Rattle.ndx_index.specs.Image.{ChildEntry, child_entries, last_key, leaves, inner_pages, leaf_page, inner_page, filled_page, header_page, pages_of, ndx_image, record_size, page_keys, IsWritable}
 use Rattle.ndx_index.proofs.Grouped.{joined, groups-join, leaf_groups, count_one, HasSize, all_groups}
-use Rattle.ndx_index.proofs.PageBytes.{Fits, length-padded, ltb_false}
-use Rattle.ndx_index.proofs.ReadBack.{pages_at, at_append, numbers, length-tops, once_distinct, tops_run, Level, levels_tree, levels_long, leaves_long, leaf_trees, all_both, tops_fit, last_of_tops}
+use Rattle.ndx_index.proofs.PageBytes.{Fits, length-filled_page, ltb_false}
+use Rattle.ndx_index.proofs.ReadBack.{pages_at, at_append, numbers, length-child_entries, once_distinct, child_entries_run, Level, levels_tree, levels_long, leaves_long, leaf_trees, all_both, child_entries_fit, last_of_tops}
 
 record Sizes (key_len : ℕ) : Type 0 where
   room : key_len + 8 ≤ record_size key_len
@@ -59,24 +59,24 @@ leaves_few k (p ∷ ps) h =
     let total : length (joined gs) ≡ length (p ∷ ps) = ap (λ (xs : List Pair). length xs) (leaves_joined k (p ∷ ps) h) in
     omega (arith, count_one k gs (leaf_groups k (length (p ∷ ps)) (p ∷ ps) h))
 
-short_key : (s : Layout) (g : List Pair) → s.key_len + 8 ≤ s.size → AllByRecursion (Fits s) g → length (last_key g) + 8 ≤ s.size
+short_key : (s : PageLayout) (g : List Pair) → s.key_len + 8 ≤ s.size → AllByRecursion (Fits s) g → length (last_key g) + 8 ≤ s.size
 short_key s [] room h = omega arith
 short_key s (p ∷ []) room h = omega (arith, h.0.long)
 short_key s (p ∷ q ∷ g) room h = short_key s (q ∷ g) room h.1
 
-short_keys : (s : Layout) (gs : List (List Pair)) → s.key_len + 8 ≤ s.size → AllByRecursion (AllByRecursion (Fits s)) gs → AllByRecursion (λ g. length (last_key g) + 8 ≤ s.size) gs
+short_keys : (s : PageLayout) (gs : List (List Pair)) → s.key_len + 8 ≤ s.size → AllByRecursion (AllByRecursion (Fits s)) gs → AllByRecursion (λ g. length (last_key g) + 8 ≤ s.size) gs
 short_keys s [] room h = tt
 short_keys s (g ∷ gs) room h = (short_key s g room h.0, short_keys s gs room h.1)
 
-pairs_fit : (s : Layout) (pairs : List Pair) → AllByRecursion (λ p. (length p.key ≡ s.key_len) × (p.number < 2 ^ 32)) pairs → AllByRecursion (Fits s) pairs
+pairs_fit : (s : PageLayout) (pairs : List Pair) → AllByRecursion (λ p. (length p.key ≡ s.key_len) × (p.number < 2 ^ 32)) pairs → AllByRecursion (Fits s) pairs
 pairs_fit s [] h = tt
 pairs_fit s (p ∷ ps) h = (record { long = h.0.0; number = h.0.1 }, pairs_fit s ps h.1)
 
 length-header : (text : List ℕ) (key_len n : ℕ) → length text ≤ 488 → length (header_page text key_len n) ≡ 512
 unfolding header_page
-length-header text key_len n h = length-padded _ (omega arith)
+length-header text key_len n h = length-filled_page _ (omega arith)
 
-header_is : (bytes : List ℕ) (key_len size root : ℕ) → nat_lt (length bytes) 512 ≡ false → short bytes 16 ≡ 0 → slice_index bytes 23 ≡ 0 → short bytes 12 ≡ key_len → short bytes 18 ≡ size → word bytes 0 ≡ root
+header_is : (bytes : List ℕ) (key_len size root : ℕ) → nat_lt (length bytes) 512 ≡ false → u16_at bytes 16 ≡ 0 → slice_index bytes 23 ≡ 0 → u16_at bytes 12 ≡ key_len → u16_at bytes 18 ≡ size → u32_at bytes 0 ≡ root
     → 1 ≤ key_len → key_len ≤ 100 → key_len + 8 ≤ size → size ≤ 504 → header_of bytes ≡ Ok (record { layout = record { key_len = key_len; size = size }; root = root })
 unfolding header_of
 header_is bytes key_len size root long kind unique key_is size_is root_is some few room small =
@@ -87,9 +87,9 @@ header_is bytes key_len size root long kind unique key_is size_is root_is some f
     rw (long, kind, unique, key_is, size_is, root_is, a, b, c, d) refl
 
 header_parts : (text rest : List ℕ) (key_len n : ℕ) → key_len ≤ 100 → record_size key_len ≤ 504 → n < 2 ^ 32
-    → (short (header_page text key_len n ++ rest) 16 ≡ 0) × (slice_index (header_page text key_len n ++ rest) 23 ≡ 0) × (short (header_page text key_len n ++ rest) 12 ≡ key_len)
-    × (short (header_page text key_len n ++ rest) 18 ≡ record_size key_len) × (word (header_page text key_len n ++ rest) 0 ≡ n - 1)
-unfolding header_page short word padded
+    → (u16_at (header_page text key_len n ++ rest) 16 ≡ 0) × (slice_index (header_page text key_len n ++ rest) 23 ≡ 0) × (u16_at (header_page text key_len n ++ rest) 12 ≡ key_len)
+    × (u16_at (header_page text key_len n ++ rest) 18 ≡ record_size key_len) × (u32_at (header_page text key_len n ++ rest) 0 ≡ n - 1)
+unfolding header_page u16_at u32_at filled_page
 header_parts text rest key_len n few small fits =
     (refl, refl, little_number-reads_back 2 key_len [] (omega arith), little_number-reads_back 2 (record_size key_len) [] (omega arith), little_number-reads_back 4 (n - 1) [] (omega arith))
 
@@ -101,9 +101,9 @@ header_reads text rest key_len n short_text some few sizes small fits =
     let parts = header_parts text rest key_len n few small fits in
     header_is bytes key_len (record_size key_len) (n - 1) long parts.0 parts.1 parts.2 parts.3 parts.4 some few sizes.room small
 
--- the text and the zeros behind it
+-- the text and the zeros after it
 text_at : (text rest : List ℕ) (key_len n : ℕ) → length text ≤ 488 → slice_range (header_page text key_len n ++ rest) 24 512 ≡ text ++ replicate (488 - length text) 0
-unfolding header_page padded
+unfolding header_page filled_page
 text_at text rest key_len n few =
     let front : List ℕ = little_bytes 4 (n - 1) ++ (little_bytes 4 n ++ (replicate 4 0 ++ (little_bytes 2 key_len ++ (little_bytes 2 (page_keys key_len) ++ (0 ∷ 0 ∷ (little_bytes 2 (record_size key_len) ++ (0 ∷ 0 ∷ 0 ∷ 0 ∷ text))))))) in
     let long : 512 - length front ≡ 488 - length text = omega arith in
@@ -111,20 +111,20 @@ text_at text rest key_len n few =
     let whole : length (text ++ zs) ≡ 488 = omega (arith, length-append text zs, length-replicate {A = ℕ} (488 - length text) 0) in
     rw long (take_at (text ++ zs) rest 488 whole)
 
-text_reads : (text rest : List ℕ) (key_len n : ℕ) → length text ≤ 488 → expression (header_page text key_len n ++ rest) ≡ trimmed (before_zero text)
+text_reads : (text rest : List ℕ) (key_len n : ℕ) → length text ≤ 488 → expression (header_page text key_len n ++ rest) ≡ trimmed_end (before_zero text)
 text_reads text rest key_len n few =
-    ap (λ (bytes : List ℕ). trimmed (before_zero bytes)) (text_at text rest key_len n few) ∙ ap (λ (bytes : List ℕ). trimmed bytes) (before_zeros text (488 - length text))
+    ap (λ (bytes : List ℕ). trimmed_end (before_zero bytes)) (text_at text rest key_len n few) ∙ ap (λ (bytes : List ℕ). trimmed_end bytes) (before_zeros text (488 - length text))
 
-pub read_back : (text : List ℕ) (key_len : ℕ) (pairs : List Pair) → IsWritable text key_len pairs → IsIndex (ndx_image text key_len pairs) (trimmed (before_zero text)) key_len pairs
+pub read_back : (text : List ℕ) (key_len : ℕ) (pairs : List Pair) → IsWritable text key_len pairs → IsIndex (ndx_image text key_len pairs) (trimmed_end (before_zero text)) key_len pairs
 read_back text key_len pairs w =
     let size : ℕ = record_size key_len in
     let k : ℕ = page_keys key_len in
-    let s : Layout = record { key_len = key_len; size = size } in
+    let s : PageLayout = record { key_len = key_len; size = size } in
     let sizes = sizes_of key_len w.key_short in
     let gs : List (List Pair) = leaves k pairs in
     let m : ℕ = length gs in
-    let ts : List Top = tops last_key 1 gs in
-    let above : List (List Top) = inner_pages k pairs in
+    let ts : List ChildEntry = child_entries last_key 1 gs in
+    let above : List (List ChildEntry) = inner_pages k pairs in
     let leaf_pages : List (List ℕ) = map (leaf_page size) gs in
     let upper_pages : List (List ℕ) = map (inner_page size) above in
     let pages : List (List ℕ) = pages_of key_len pairs in
@@ -136,8 +136,8 @@ read_back text key_len pairs w =
     let few : m ≤ length pairs + 1 = leaves_few k pairs one_key in
     let some : 1 ≤ m = leaves_some k pairs in
     let fits = all_groups (Fits s) gs (rw join (pairs_fit s pairs w.each)) in
-    let long_ts : length ts ≡ m = length-tops last_key 1 gs in
-    let children = tops_fit s [] last_key 1 gs (omega arith) (omega (arith, w.few)) (short_keys s gs sizes.room fits) in
+    let long_ts : length ts ≡ m = length-child_entries last_key 1 gs in
+    let children = child_entries_fit s [] last_key 1 gs (omega arith) (omega (arith, w.few)) (short_keys s gs sizes.room fits) in
     let up = levels_long s m k (m + 1) ts (omega arith) (omega (arith, sizes.least)) (omega (arith, sizes.room)) sizes.fit (omega (arith, w.few)) children in
     let leaf_count : length leaf_pages ≡ m = length-map gs (leaf_page size) in
     let upper_count : length upper_pages ≡ length above = length-map above (inner_page size) in
@@ -146,7 +146,7 @@ read_back text key_len pairs w =
     let at = pages_at bytes header pages 1 refl (length-header text key_len (1 + length pages) w.text_short) long in
     let parts = at_append bytes 1 (m + 1) leaf_pages upper_pages (omega arith) at in
     let bottom = leaf_trees s bytes k 1 gs (omega arith) sizes.room sizes.fit sizes.most sized fits parts.0 in
-    let run = tops_run last_key 1 (m + 1) gs (omega arith) in
+    let run = child_entries_run last_key 1 (m + 1) gs (omega arith) in
     let level : Level s bytes (m + 1) ts pairs = record { pages = numbers ts; tree = subst (λ ps. Trees s bytes (numbers ts) (numbers ts) ps) join bottom; once = run.once; under = run.over } in
     let rooted = levels_tree s bytes m k (m + 1) (length pages) ts pairs (omega arith) (omega (arith, sizes.least)) (omega (arith, sizes.room)) sizes.fit sizes.most (omega arith) (omega arith)
     (omega (arith, w.few)) children (last_of_tops s bytes last_key 1 gs some ∙ add_one m) (omega arith) parts.1 level in
@@ -166,8 +166,8 @@ read_back text key_len pairs w =
     one_less n = omega arith
 
 -- a text without a zero is read whole, but for the blanks at its end
-pub read_back_plain : (text : List ℕ) (key_len : ℕ) (pairs : List Pair) → IsWritable text key_len pairs → AllByRecursion (λ b. b ≢ 0) text → IsIndex (ndx_image text key_len pairs) (trimmed text) key_len pairs
-read_back_plain text key_len pairs w h = subst (λ read. IsIndex (ndx_image text key_len pairs) (trimmed read) key_len pairs) (no_zero text h) (read_back text key_len pairs w)
+pub read_back_plain : (text : List ℕ) (key_len : ℕ) (pairs : List Pair) → IsWritable text key_len pairs → AllByRecursion (λ b. b ≢ 0) text → IsIndex (ndx_image text key_len pairs) (trimmed_end text) key_len pairs
+read_back_plain text key_len pairs w h = subst (λ read. IsIndex (ndx_image text key_len pairs) (trimmed_end read) key_len pairs) (no_zero text h) (read_back text key_len pairs w)
 
 both : (P Q : Pair → Type 0) (pairs : List Pair) → AllByRecursion P pairs → AllByRecursion Q pairs → AllByRecursion (λ p. P p × Q p) pairs
 both P Q [] h k = tt
@@ -182,3 +182,9 @@ writable text key_len pairs t some short few keys numbers = record {
   few = few;
   each = both (λ p. length p.key ≡ key_len) (λ p. p.number < 2 ^ 32) pairs keys numbers;
 }
+
+-- what is written of the pairs of a key expression reads back
+pub written_reads : (text : List ℕ) (key_len n : ℕ) (pairs : List Pair) → key_len ≡ n → length text ≤ 488 → 1 ≤ key_len → key_len ≤ 100 → length pairs ≤ 1000000000 → AllByRecursion (λ p. length p.key ≡ n) pairs
+    → AllByRecursion (λ p. p.number < 2 ^ 32) pairs → AllByRecursion (λ b. b ≢ 0) text → IsIndex (ndx_image text n pairs) (trimmed_end text) n pairs
+written_reads text key_len n pairs same t some few_bytes few keys numbers plain =
+    read_back_plain text n pairs (writable text n pairs t (omega arith) (omega arith) few keys numbers) plain

@@ -10,12 +10,12 @@ pub mod PageBytes
 pub mod ReadBack
 pub mod ImageLaw
 pub mod Writing
-pub mod Lasts
-pub mod Uppers
-pub mod Levelling
+pub mod GreatestKeys
+pub mod InnerPageBytes
+pub mod LevelLaws
 pub mod Sinks
 pub mod Planning
-pub mod Rising
+pub mod TreeBytes
 pub mod OneReading
 pub mod Texts
 pub mod TableOrders

@@ -121,7 +121,7 @@ not_same a b ne = elim (same a b) as (λ t. same a b ≡ t → not t ≡ true) [
 pub without_absent : (p : Pair) (ps : List Pair) → (Contains ps p → ⊥) → without p ps ≡ ps
 without_absent p ps absent = filter_all (λ q. not (same p q)) ps (λ k d lt. not_same p (get_or ps k d) (λ e. absent (k, lt, get_or_default ps k p d lt ∙ e)))
 
--- the pair at place i taken out
+-- the pair at index i taken out
 pub without_at : (p : Pair) (ps : List Pair) (i : ℕ) → AreInOrder ps → i < length ps → ((d : Pair) → get_or ps i d ≡ p) → without p ps ≡ remove ps i
 without_at p ps i sorted lt here = filter_but (λ q. not (same p q)) ps i lt
     (λ d. rw here (ap not (same_itself p)))

@@ -8,50 +8,50 @@ use Rattle.std.proofs.lemmas.List.{take_at, drop_at, length-append, length-repli
 use Rattle.byteorder.specs.Endian.{little_bytes}
 use Rattle.byteorder.specs.Numbers.{little_number-reads_back}
 use Rattle.ndx_index.specs.declared.pair.Pair.{Pair}
-use Rattle.ndx_index.specs.declared.page.Layout.{Layout}
-use Rattle.ndx_index.specs.Pages.{leaf, inner, node_of, word, child, entry, children, entries, some_child, is_null}
-use Rattle.ndx_index.specs.Image.{Top, padded, key_record, leaf_record, inner_records, leaf_page, inner_page}
+use Rattle.ndx_index.specs.declared.page.PageLayout.{PageLayout}
+use Rattle.ndx_index.specs.Pages.{leaf, inner, node_of, u32_at, child, leaf_pair, children, leaf_pairs, some_child, is_null}
+use Rattle.ndx_index.specs.Image.{ChildEntry, filled_page, key_record, leaf_record, inner_records, leaf_page, inner_page}
 
-pub length-padded : (xs : List ℕ) → length xs ≤ 512 → length (padded xs) ≡ 512
-unfolding padded
-length-padded xs h = omega (arith, length-append xs (replicate (512 - length xs) 0), length-replicate {A = ℕ} (512 - length xs) 0)
+pub length-filled_page : (xs : List ℕ) → length xs ≤ 512 → length (filled_page xs) ≡ 512
+unfolding filled_page
+length-filled_page xs h = omega (arith, length-append xs (replicate (512 - length xs) 0), length-replicate {A = ℕ} (512 - length xs) 0)
 
 pub length-key_record : (size c n : ℕ) (key : List ℕ) → length key + 8 ≤ size → length (key_record size c n key) ≡ size
 unfolding key_record
 length-key_record size c n key h = omega (arith, length-append key (replicate (size - 8 - length key) 0), length-replicate {A = ℕ} (size - 8 - length key) 0)
 
-pub word_at : (front rest : List ℕ) (x at : ℕ) → length front ≡ at → x < 2 ^ 32 → word (front ++ (little_bytes 4 x ++ rest)) at ≡ x
-unfolding word
-word_at front rest x at e h = rw (drop_at front (little_bytes 4 x ++ rest) at e) (little_number-reads_back 4 x rest h)
+pub u32_reads : (front rest : List ℕ) (x at : ℕ) → length front ≡ at → x < 2 ^ 32 → u32_at (front ++ (little_bytes 4 x ++ rest)) at ≡ x
+unfolding u32_at
+u32_reads front rest x at e h = rw (drop_at front (little_bytes 4 x ++ rest) at e) (little_number-reads_back 4 x rest h)
 
 -- a key record as it is read
-pub record Fits (s : Layout) (p : Pair) : Type 0 where
+pub record Fits (s : PageLayout) (p : Pair) : Type 0 where
   pub long : length p.key ≡ s.key_len
   pub number : p.number < 2 ^ 32
 
-pub entry_at : (s : Layout) (front rest : List ℕ) (p : Pair) (i : ℕ) → length front ≡ 4 + s.size * i → Fits s p → entry s (front ++ (leaf_record s.size p ++ rest)) i ≡ p
+pub leaf_pair_at : (s : PageLayout) (front rest : List ℕ) (p : Pair) (i : ℕ) → length front ≡ 4 + s.size * i → Fits s p → leaf_pair s (front ++ (leaf_record s.size p ++ rest)) i ≡ p
 unfolding leaf_record key_record
-entry_at s front rest p i e fits =
+leaf_pair_at s front rest p i e fits =
     let at : ℕ = s.size * i in
     let zs : List ℕ = replicate (s.size - 8 - length p.key) 0 in
     let zero_bytes : List ℕ = little_bytes 4 0 in
     let number_bytes : List ℕ = little_bytes 4 p.number in
     let whole : List ℕ = front ++ (leaf_record s.size p ++ rest) in
     let third : whole ≡ (front ++ zero_bytes) ++ (number_bytes ++ ((p.key ++ zs) ++ rest)) = sym (append_assoc front zero_bytes (number_bytes ++ ((p.key ++ zs) ++ rest))) in
-    let number : word whole (8 + at) ≡ p.number =
-    rw third (word_at (front ++ zero_bytes) ((p.key ++ zs) ++ rest) p.number (8 + at) (omega (arith, length-append front zero_bytes)) fits.number) in
+    let number : u32_at whole (8 + at) ≡ p.number =
+    rw third (u32_reads (front ++ zero_bytes) ((p.key ++ zs) ++ rest) p.number (8 + at) (omega (arith, length-append front zero_bytes)) fits.number) in
     let fourth : whole ≡ (front ++ (zero_bytes ++ number_bytes)) ++ (p.key ++ (zs ++ rest)) =
     ap (λ (xs : List ℕ). front ++ ((zero_bytes ++ number_bytes) ++ xs)) (append_assoc p.key zs rest) ∙ sym (append_assoc front (zero_bytes ++ number_bytes) (p.key ++ (zs ++ rest))) in
-    let behind : drop (12 + at) whole ≡ p.key ++ (zs ++ rest) =
+    let after : drop (12 + at) whole ≡ p.key ++ (zs ++ rest) =
     rw fourth (drop_at (front ++ (zero_bytes ++ number_bytes)) (p.key ++ (zs ++ rest)) (12 + at) (omega (arith, length-append front (zero_bytes ++ number_bytes)))) in
     let long : 12 + at + s.key_len - (12 + at) ≡ s.key_len = omega arith in
-    let key : slice_range whole (12 + at) (12 + at + s.key_len) ≡ p.key = rw (long, behind) (take_at p.key (zs ++ rest) s.key_len fits.long) in
+    let key : slice_range whole (12 + at) (12 + at + s.key_len) ≡ p.key = rw (long, after) (take_at p.key (zs ++ rest) s.key_len fits.long) in
     rw (key, number) refl
 
-pub child_at : (s : Layout) (front rest : List ℕ) (x i : ℕ) → length front ≡ 4 + s.size * i → x < 2 ^ 32 → child s (front ++ (little_bytes 4 x ++ rest)) i ≡ x
-child_at s front rest x i e h = word_at front rest x (4 + s.size * i) e h
+pub child_at : (s : PageLayout) (front rest : List ℕ) (x i : ℕ) → length front ≡ 4 + s.size * i → x < 2 ^ 32 → child s (front ++ (little_bytes 4 x ++ rest)) i ≡ x
+child_at s front rest x i e h = u32_reads front rest x (4 + s.size * i) e h
 
-pub null_at : (s : Layout) (front rest : List ℕ) (p : Pair) (i : ℕ) → length front ≡ 4 + s.size * i → child s (front ++ (leaf_record s.size p ++ rest)) i ≡ 0
+pub null_at : (s : PageLayout) (front rest : List ℕ) (p : Pair) (i : ℕ) → length front ≡ 4 + s.size * i → child s (front ++ (leaf_record s.size p ++ rest)) i ≡ 0
 unfolding leaf_record key_record
 null_at s front rest p i e =
     child_at s front ((little_bytes 4 p.number ++ (p.key ++ replicate (s.size - 8 - length p.key) 0)) ++ rest) 0 i e (omega arith)
@@ -63,42 +63,42 @@ pub length_leaf_record : (size : ℕ) (p : Pair) → length p.key + 8 ≤ size �
 unfolding leaf_record
 length_leaf_record size p h = length-key_record size 0 p.number p.key h
 
-pub leaf_reads : (s : Layout) (g : List Pair) (front zs page : List ℕ) (j n : ℕ) → s.key_len + 8 ≤ s.size → page ≡ front ++ (flat_map (leaf_record s.size) g ++ zs)
+pub leaf_reads : (s : PageLayout) (g : List Pair) (front zs page : List ℕ) (j n : ℕ) → s.key_len + 8 ≤ s.size → page ≡ front ++ (flat_map (leaf_record s.size) g ++ zs)
     → length front ≡ 4 + s.size * j → j + length g ≡ n → AllByRecursion (Fits s) g → some_child is_there s page j ≡ false
-    → (entries s page j ++ g ≡ entries s page n) × (some_child is_there s page n ≡ false)
+    → (leaf_pairs s page j ++ g ≡ leaf_pairs s page n) × (some_child is_there s page n ≡ false)
 leaf_reads s [] front zs page j n room is long e fits before =
     let same : n ≡ j = omega arith in
-    rw same (append-nil (entries s page j), before)
+    rw same (append-nil (leaf_pairs s page j), before)
 leaf_reads s (p ∷ g) front zs page j n room is long e fits before =
     let r : List ℕ = leaf_record s.size p in
     let rest : List ℕ = flat_map (leaf_record s.size) g ++ zs in
     let here : page ≡ front ++ (r ++ rest) = is ∙ ap (λ (xs : List ℕ). front ++ xs) (append_assoc r (flat_map (leaf_record s.size) g) zs) in
     let next : page ≡ (front ++ r) ++ rest = here ∙ sym (append_assoc front r rest) in
-    let at : entry s page j ≡ p = rw here (entry_at s front rest p j long fits.0) in
+    let at : leaf_pair s page j ≡ p = rw here (leaf_pair_at s front rest p j long fits.0) in
     let null : child s page j ≡ 0 = rw here (null_at s front rest p j long) in
     let size : length r ≡ s.size = length_leaf_record s.size p (omega (arith, fits.0.long)) in
     let after : some_child is_there s page (suc j) ≡ false = rw (before, null) refl in
     let more = leaf_reads s g (front ++ r) zs page (suc j) n room next (omega (arith, length-append front r)) (omega arith) fits.1 after in
-    let shift : entries s page j ++ p ∷ g ≡ entries s page (suc j) ++ g = sym (append_assoc (entries s page j) (entry s page j ∷ []) g ∙ ap (λ q. entries s page j ++ q ∷ g) at) in
+    let shift : leaf_pairs s page j ++ p ∷ g ≡ leaf_pairs s page (suc j) ++ g = sym (append_assoc (leaf_pairs s page j) (leaf_pair s page j ∷ []) g ∙ ap (λ q. leaf_pairs s page j ++ q ∷ g) at) in
     (shift ∙ more.0, more.1)
 
 pub ltb_false : (a b : ℕ) → b ≤ a → nat_lt a b ≡ false
 ltb_false a b h = grind (arith, nat_tests)
 
-pub zeros_word : (n : ℕ) → word (little_bytes 4 0 ++ replicate (suc (suc (suc (suc n)))) 0) 4 ≡ 0
-unfolding word
-zeros_word n = refl
+pub zeros_u32 : (n : ℕ) → u32_at (little_bytes 4 0 ++ replicate (suc (suc (suc (suc n)))) 0) 4 ≡ 0
+unfolding u32_at
+zeros_u32 n = refl
 
 -- the first child pointer of a leaf, also of an empty one
-pub first_null : (s : Layout) (g : List Pair) → child s (leaf_page s.size g) 0 ≡ 0
-unfolding leaf_page padded
-first_null s [] = rw at (word_zeros)
+pub first_null : (s : PageLayout) (g : List Pair) → child s (leaf_page s.size g) 0 ≡ 0
+unfolding leaf_page filled_page
+first_null s [] = rw at (zeros_508_u32)
   where
     at : 4 + s.size * 0 ≡ 4
     at = omega arith
 
-    word_zeros : word (little_bytes 4 0 ++ replicate 508 0) 4 ≡ 0
-    word_zeros = zeros_word 504
+    zeros_508_u32 : u32_at (little_bytes 4 0 ++ replicate 508 0) 4 ≡ 0
+    zeros_508_u32 = zeros_u32 504
 first_null s (p ∷ g) =
     let front : List ℕ = little_bytes 4 (length (p ∷ g)) in
     let r : List ℕ = leaf_record s.size p in
@@ -107,22 +107,22 @@ first_null s (p ∷ g) =
     let is : (front ++ (r ++ more)) ++ zs ≡ front ++ (r ++ (more ++ zs)) = append_assoc front (r ++ more) zs ∙ ap (λ (xs : List ℕ). front ++ xs) (append_assoc r more zs) in
     rw is (null_at s front (more ++ zs) p 0 (omega arith))
 
-pub leaf_node : (s : Layout) (g : List Pair) → s.key_len + 8 ≤ s.size → length g * s.size ≤ 504 → length g < 2 ^ 32 → AllByRecursion (Fits s) g → node_of s (leaf_page s.size g) ≡ Ok (leaf g)
-unfolding node_of leaf_page padded
+pub leaf_node : (s : PageLayout) (g : List Pair) → s.key_len + 8 ≤ s.size → length g * s.size ≤ 504 → length g < 2 ^ 32 → AllByRecursion (Fits s) g → node_of s (leaf_page s.size g) ≡ Ok (leaf g)
+unfolding node_of leaf_page filled_page
 leaf_node s g room few small fits =
     let front : List ℕ = little_bytes 4 (length g) in
     let body : List ℕ = flat_map (leaf_record s.size) g in
     let zs : List ℕ = replicate (512 - length (front ++ body)) 0 in
     let page : List ℕ = (front ++ body) ++ zs in
     let is : page ≡ front ++ (body ++ zs) = append_assoc front body zs in
-    let count : word page 0 ≡ length g = rw is (word_at [] (body ++ zs) (length g) 0 refl small) in
+    let count : u32_at page 0 ≡ length g = rw is (u32_reads [] (body ++ zs) (length g) 0 refl small) in
     let reads = leaf_reads s g front zs page 0 (length g) room is (omega arith) (omega arith) fits refl in
     let first : child s page 0 ≡ 0 = first_null s g in
     let fit : nat_lt 512 (4 + length g * s.size) ≡ false = ltb_false 512 (4 + length g * s.size) (omega arith) in
     rw (first, count, fit, reads.1, ← reads.0) refl
 
 -- a child pointer as it is read
-pub record IsChild (s : Layout) (t : Top) : Type 0 where
+pub record IsChild (s : PageLayout) (t : ChildEntry) : Type 0 where
   pub some : 1 ≤ t.page
   pub small : t.page < 2 ^ 32
   pub short : length t.key + 8 ≤ s.size
@@ -130,11 +130,11 @@ pub record IsChild (s : Layout) (t : Top) : Type 0 where
 not_null : (p : ℕ) → 1 ≤ p → is_null p ≡ false
 not_null p h = ne_eqb p 0 (λ e. absurd (omega arith))
 
-record_child : (s : Layout) (front rest : List ℕ) (x n : ℕ) (key : List ℕ) (i : ℕ) → length front ≡ 4 + s.size * i → x < 2 ^ 32 → child s (front ++ (key_record s.size x n key ++ rest)) i ≡ x
+record_child : (s : PageLayout) (front rest : List ℕ) (x n : ℕ) (key : List ℕ) (i : ℕ) → length front ≡ 4 + s.size * i → x < 2 ^ 32 → child s (front ++ (key_record s.size x n key ++ rest)) i ≡ x
 unfolding key_record
 record_child s front rest x n key i e h = child_at s front ((little_bytes 4 n ++ (key ++ replicate (s.size - 8 - length key) 0)) ++ rest) x i e h
 
-pub inner_reads : (s : Layout) (t : Top) (g : List Top) (front zs page : List ℕ) (j n : ℕ) → page ≡ front ++ (inner_records s.size (t ∷ g) ++ zs)
+pub inner_reads : (s : PageLayout) (t : ChildEntry) (g : List ChildEntry) (front zs page : List ℕ) (j n : ℕ) → page ≡ front ++ (inner_records s.size (t ∷ g) ++ zs)
     → length front ≡ 4 + s.size * j → j + suc (length g) ≡ n → AllByRecursion (IsChild s) (t ∷ g) → some_child is_null s page j ≡ false
     → (children s page j ++ map (λ t. t.page) (t ∷ g) ≡ children s page n) × (some_child is_null s page n ≡ false)
 unfolding inner_records
@@ -158,16 +158,16 @@ inner_reads s t (u ∷ g) front zs page j n is long e fits before =
     sym (append_assoc (children s page j) (child s page j ∷ []) (map (λ t. t.page) (u ∷ g)) ∙ ap (λ q. children s page j ++ q ∷ map (λ t. t.page) (u ∷ g)) at) in
     (shift ∙ more.0, more.1)
 
-first_child : (s : Layout) (t u : Top) (g : List Top) (zs front page : List ℕ) → page ≡ front ++ (inner_records s.size (t ∷ u ∷ g) ++ zs) → length front ≡ 4 + s.size * 0 → t.page < 2 ^ 32 → child s page 0 ≡ t.page
+first_child : (s : PageLayout) (t u : ChildEntry) (g : List ChildEntry) (zs front page : List ℕ) → page ≡ front ++ (inner_records s.size (t ∷ u ∷ g) ++ zs) → length front ≡ 4 + s.size * 0 → t.page < 2 ^ 32 → child s page 0 ≡ t.page
 unfolding inner_records
 first_child s t u g zs front page is long small =
     let r : List ℕ = key_record s.size t.page 0 t.key in
     let rest : List ℕ = inner_records s.size (u ∷ g) in
     rw (is ∙ ap (λ (xs : List ℕ). front ++ xs) (append_assoc r rest zs)) (record_child s front (rest ++ zs) t.page 0 t.key 0 long small)
 
-pub inner_node : (s : Layout) (t u : Top) (g : List Top) → (length g + 1) * s.size ≤ 504 → length g + 1 < 2 ^ 32 → AllByRecursion (IsChild s) (t ∷ u ∷ g)
+pub inner_node : (s : PageLayout) (t u : ChildEntry) (g : List ChildEntry) → (length g + 1) * s.size ≤ 504 → length g + 1 < 2 ^ 32 → AllByRecursion (IsChild s) (t ∷ u ∷ g)
     → node_of s (inner_page s.size (t ∷ u ∷ g)) ≡ Ok (inner (map (λ t. t.page) (t ∷ u ∷ g)))
-unfolding node_of inner_page padded
+unfolding node_of inner_page filled_page
 inner_node s t u g few small fits =
     let front : List ℕ = little_bytes 4 (length (t ∷ u ∷ g) - 1) in
     let body : List ℕ = inner_records s.size (t ∷ u ∷ g) in
@@ -175,7 +175,7 @@ inner_node s t u g few small fits =
     let page : List ℕ = (front ++ body) ++ zs in
     let is : page ≡ front ++ (body ++ zs) = append_assoc front body zs in
     let keys : length (t ∷ u ∷ g) - 1 ≡ length g + 1 = omega arith in
-    let count : word page 0 ≡ length g + 1 = rw is (word_at [] (body ++ zs) (length (t ∷ u ∷ g) - 1) 0 refl (omega arith)) ∙ keys in
+    let count : u32_at page 0 ≡ length g + 1 = rw is (u32_reads [] (body ++ zs) (length (t ∷ u ∷ g) - 1) 0 refl (omega arith)) ∙ keys in
     let reads = inner_reads s t (u ∷ g) front zs page 0 (length g + 1 + 1) is (omega arith) (omega arith) fits refl in
     let first : child s page 0 ≡ t.page = first_child s t u g zs front page is (omega arith) fits.0.small in
     let there : is_null t.page ≡ false = not_null t.page fits.0.some in
@@ -184,7 +184,7 @@ inner_node s t u g few small fits =
 
 -- ---- lengths
 
-length_records : (s : Layout) (g : List Pair) → s.key_len + 8 ≤ s.size → AllByRecursion (Fits s) g → length (flat_map (leaf_record s.size) g) ≡ length g * s.size
+length_records : (s : PageLayout) (g : List Pair) → s.key_len + 8 ≤ s.size → AllByRecursion (Fits s) g → length (flat_map (leaf_record s.size) g) ≡ length g * s.size
 length_records s [] room h = omega arith
 length_records s (p ∷ g) room h =
     let one : length (leaf_record s.size p) ≡ s.size = length_leaf_record s.size p (omega (arith, h.0.long)) in
@@ -193,24 +193,24 @@ length_records s (p ∷ g) room h =
 product_le : (a b c : ℕ) → a ≤ b → a * c ≤ b * c
 product_le a b c h = grind arith
 
-pub length_leaf_page : (s : Layout) (k : ℕ) (g : List Pair) → s.key_len + 8 ≤ s.size → k * s.size ≤ 504 → length g ≤ k → AllByRecursion (Fits s) g → length (leaf_page s.size g) ≡ 512
+pub length_leaf_page : (s : PageLayout) (k : ℕ) (g : List Pair) → s.key_len + 8 ≤ s.size → k * s.size ≤ 504 → length g ≤ k → AllByRecursion (Fits s) g → length (leaf_page s.size g) ≡ 512
 unfolding leaf_page
 length_leaf_page s k g room fit few fits =
     let front : List ℕ = little_bytes 4 (length g) in
     let body : List ℕ = flat_map (leaf_record s.size) g in
-    length-padded (front ++ body) (omega (arith, length-append front body, length_records s g room fits, product_le (length g) k s.size few))
+    length-filled_page (front ++ body) (omega (arith, length-append front body, length_records s g room fits, product_le (length g) k s.size few))
 
-length_inner_records : (s : Layout) (t : Top) (g : List Top) → AllByRecursion (IsChild s) (t ∷ g) → length (inner_records s.size (t ∷ g)) ≡ length g * s.size + 4
+length_inner_records : (s : PageLayout) (t : ChildEntry) (g : List ChildEntry) → AllByRecursion (IsChild s) (t ∷ g) → length (inner_records s.size (t ∷ g)) ≡ length g * s.size + 4
 unfolding inner_records
 length_inner_records s t [] h = omega arith
 length_inner_records s t (u ∷ g) h =
     let r : List ℕ = key_record s.size t.page 0 t.key in
     omega (arith, length-append r (inner_records s.size (u ∷ g)), length-key_record s.size t.page 0 t.key h.0.short, length_inner_records s u g h.1)
 
-pub length_inner_page : (s : Layout) (k : ℕ) (g : List Top) → k * s.size ≤ 504 → 1 ≤ length g → length g ≤ k + 1 → AllByRecursion (IsChild s) g → length (inner_page s.size g) ≡ 512
+pub length_inner_page : (s : PageLayout) (k : ℕ) (g : List ChildEntry) → k * s.size ≤ 504 → 1 ≤ length g → length g ≤ k + 1 → AllByRecursion (IsChild s) g → length (inner_page s.size g) ≡ 512
 unfolding inner_page
 length_inner_page s k [] fit some few fits = absurd (omega arith)
 length_inner_page s k (t ∷ g) fit some few fits =
     let front : List ℕ = little_bytes 4 (length (t ∷ g) - 1) in
     let body : List ℕ = inner_records s.size (t ∷ g) in
-    length-padded (front ++ body) (omega (arith, length-append front body, length_inner_records s t g fits, product_le (length g) k s.size (omega arith)))
+    length-filled_page (front ++ body) (omega (arith, length-append front body, length_inner_records s t g fits, product_le (length g) k s.size (omega arith)))

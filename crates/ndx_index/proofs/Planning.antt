@@ -5,13 +5,13 @@ use Rattle.std.proofs.Math.Nat.{le-div_iff_mul-le, div-lt_iff_lt-mul, pow-le-pow
 use Rattle.std.proofs.lemmas.Bool.{cases_eq, cases_lt}
 use Rattle.std.proofs.lemmas.List.{length-append, length-set, get_or-set_same, get_or-set_other}
 use Rattle.ndx_index.specs.declared.pair.Pair.{Pair}
-use Rattle.ndx_index.specs.Image.{Top, tops, last_top, last_key, leaves, leaf_bite, inner_bite, next_level}
-use Rattle.ndx_index.specs.Levels.{AreSizes, IsTop, level}
-use Rattle.ndx_index.proofs.Grouped.{joined, groups-join, leaf_groups, inner_groups, bite_some, HasSize}
-use Rattle.ndx_index.proofs.ReadBack.{length-tops}
+use Rattle.ndx_index.specs.Image.{ChildEntry, child_entries, last_entry_key, last_key, leaves, leaf_group_size, inner_group_size, next_level}
+use Rattle.ndx_index.specs.Levels.{AreSizes, IsRootLevel, level}
+use Rattle.ndx_index.proofs.Grouped.{joined, groups-join, leaf_groups, inner_groups, group_size_some, HasSize}
+use Rattle.ndx_index.proofs.ReadBack.{length-child_entries}
 use Rattle.ndx_index.proofs.ImageLaw.{leaves_few, leaves_some}
-use Rattle.ndx_index.proofs.Lasts.{leaf_group_start, group_start, leaf_start}
-use Rattle.ndx_index.proofs.Levelling.{half_as_many}
+use Rattle.ndx_index.proofs.GreatestKeys.{leaf_group_start, group_start, leaf_start}
+use Rattle.ndx_index.proofs.LevelLaws.{half_as_many}
 
 quotient : (n k c : ℕ) → zero < k → c * k ≤ n → n < (c + 1) * k → n / k ≡ c
 quotient n k c some low high =
@@ -36,7 +36,7 @@ leaves_counted k p ps some =
     let n : ℕ = length (p ∷ ps) in
     let c : ℕ = length gs - 1 in
     let there : 1 ≤ length gs = leaves_some k (p ∷ ps) in
-    let total : length (joined gs) ≡ n = ap (λ (xs : List Pair). length xs) (groups-join (leaf_bite k) n (p ∷ ps) (omega arith) (λ m. some)) in
+    let total : length (joined gs) ≡ n = ap (λ (xs : List Pair). length xs) (groups-join (leaf_group_size k) n (p ∷ ps) (omega arith) (λ m. some)) in
     let high : length (joined gs) ≤ length gs * k = count_high 1 k gs (leaf_groups k n (p ∷ ps) some) in
     let low : c * k < n = leaf_group_start k n c (p ∷ ps) some (omega arith) in
     let e : length gs ≡ c + 1 = omega arith in
@@ -45,12 +45,12 @@ leaves_counted k p ps some =
     omega arith
 
 -- the number of pages above these
-pub level_counted : (k : ℕ) (ts : List Top) → 2 ≤ k → 2 ≤ length ts → length (next_level k ts) ≡ (length ts + k) / (k + 1)
+pub level_counted : (k : ℕ) (ts : List ChildEntry) → 2 ≤ k → 2 ≤ length ts → length (next_level k ts) ≡ (length ts + k) / (k + 1)
 level_counted k ts two many =
-    let gs : List (List Top) = next_level k ts in
+    let gs : List (List ChildEntry) = next_level k ts in
     let n : ℕ = length ts in
     let c : ℕ = length gs - 1 in
-    let total : length (joined gs) ≡ n = ap (λ (xs : List Top). length xs) (groups-join (inner_bite k) n ts (omega arith) (bite_some k (omega arith))) in
+    let total : length (joined gs) ≡ n = ap (λ (xs : List ChildEntry). length xs) (groups-join (inner_group_size k) n ts (omega arith) (group_size_some k (omega arith))) in
     let high : length (joined gs) ≤ length gs * (k + 1) = count_high 2 (k + 1) gs (inner_groups k n ts two (λ h. absurd (omega arith))) in
     let there : 1 ≤ length gs = some_group gs (k + 1) (omega arith) in
     let low : c * (k + 1) < n = group_start k n c ts two (λ h. absurd (omega arith)) (omega arith) in
@@ -80,7 +80,7 @@ pub reach_leaves : (k : ℕ) (pairs : List Pair) (count : ℕ) (sizes : List ℕ
 reach_leaves k pairs count sizes one few e long =
     let most : length (leaves k pairs) ≤ length pairs + 1 = leaves_few k pairs one in
     let there : 1 ≤ length (leaves k pairs) = leaves_some k pairs in
-    let same : length (tops last_key 1 (leaves k pairs)) ≡ length (leaves k pairs) = length-tops last_key 1 (leaves k pairs) in
+    let same : length (child_entries last_key 1 (leaves k pairs)) ≡ length (leaves k pairs) = length-child_entries last_key 1 (leaves k pairs) in
     record {
       below = record { each = λ l lt. absurd (omega arith); several = λ l lt. absurd (omega arith) };
       first_is = refl;
@@ -117,15 +117,15 @@ shallow h c two narrow = elim (cases_lt h 30) [
 pub reach_up : (k : ℕ) (pairs : List Pair) (height first count above : ℕ) (sizes : List ℕ) → 2 ≤ k → 2 ≤ count → Reached k pairs height first count sizes
     → above ≡ (count + k) / (k + 1) → Reached k pairs (height + 1) (first + count) above (set sizes height count)
 reach_up k pairs height first count above sizes two many r e =
-    let ts : List Top = (level k pairs height).pages in
+    let ts : List ChildEntry = (level k pairs height).pages in
     let n : ℕ = (level k pairs height).first + length ts in
-    let gs : List (List Top) = next_level k ts in
-    let ups : List Top = tops last_top n gs in
+    let gs : List (List ChildEntry) = next_level k ts in
+    let ups : List ChildEntry = child_entries last_entry_key n gs in
     let h : ℕ = 2 ^ height in
     let several : 2 ≤ length ts = omega (arith, r.count_is) in
     let counted : length gs ≡ (length ts + k) / (k + 1) = level_counted k ts two several in
     let same : (count + k) / (k + 1) ≡ (length ts + k) / (k + 1) = ap (λ (m : ℕ). (m + k) / (k + 1)) r.count_is in
-    let long_ups : length ups ≡ length gs = length-tops last_top n gs in
+    let long_ups : length ups ≡ length gs = length-child_entries last_entry_key n gs in
     let is : above ≡ length ups = e ∙ same ∙ sym counted ∙ sym long_ups in
     let half : length ups + length ups ≤ length ts = half_as_many k n ts two several in
     let some : 1 ≤ length ups = subst (λ (m : ℕ). 1 ≤ m) (sym counted ∙ sym long_ups) ((le-div_iff_mul-le {k = k + 1} {x = 1} {y = length ts + k} (omega arith)).1 (omega arith)) in
@@ -155,7 +155,7 @@ reach_up k pairs height first count above sizes two many r e =
       long = length-set sizes height count ∙ r.long;
     }
 
-pub top_is : (k : ℕ) (pairs : List Pair) (height first count : ℕ) (sizes : List ℕ) → count ≤ 1 → Reached k pairs height first count sizes → IsTop k pairs height first
+pub top_is : (k : ℕ) (pairs : List Pair) (height first count : ℕ) (sizes : List ℕ) → count ≤ 1 → Reached k pairs height first count sizes → IsRootLevel k pairs height first
 top_is k pairs height first count sizes one r = record { one = sym r.count_is ∙ single; root_is = r.first_is; numbered = omega (arith, r.low) }
   where
     single : count ≡ 1

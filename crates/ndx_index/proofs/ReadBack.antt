@@ -5,12 +5,12 @@ use Rattle.std.proofs.lemmas.Bool.{cases_eq, cases_lt, ne_eqb, eq-eqb}
 use Rattle.std.proofs.lemmas.Bool.Decides.{nat_tests}
 use Rattle.std.proofs.lemmas.List.{take_at, drop_at, length-append, length-map, map-append}
 use Rattle.ndx_index.specs.declared.pair.Pair.{Pair}
-use Rattle.ndx_index.specs.declared.page.Layout.{Layout}
+use Rattle.ndx_index.specs.declared.page.PageLayout.{PageLayout}
 use Rattle.ndx_index.specs.Pages.{inner, page_of, is_page}
 use Rattle.ndx_index.specs.NdxTree.{Trees, none, at_leaf, at_inner, Holds}
-use Rattle.ndx_index.specs.Image.{Top, tops, last_key, last_top, leaf_page, inner_page, inner_bite, next_level, levels_above}
+use Rattle.ndx_index.specs.Image.{ChildEntry, child_entries, last_key, last_entry_key, leaf_page, inner_page, inner_group_size, next_level, levels_above}
 use Rattle.ndx_index.proofs.Laws.{trees_split}
-use Rattle.ndx_index.proofs.Grouped.{joined, groups-join, HasSize, inner_groups, bite_some, count_two, all_groups}
+use Rattle.ndx_index.proofs.Grouped.{joined, groups-join, HasSize, inner_groups, group_size_some, count_two, all_groups}
 use Rattle.ndx_index.proofs.PageBytes.{Fits, IsChild, leaf_node, inner_node, length_leaf_page, length_inner_page}
 
 -- ---- pages at their places
@@ -24,8 +24,8 @@ pub pages_at : (bytes front : List ℕ) (ps : List (List ℕ)) (n : ℕ) → byt
 pages_at bytes front [] n is long h = tt
 pages_at bytes front (p ∷ ps) n is long h =
     let width : 512 * n + 512 - 512 * n ≡ 512 = omega arith in
-    let behind : drop (512 * n) bytes ≡ p ++ joined ps = rw is (drop_at front (p ++ joined ps) (512 * n) long) in (
-      rw (width, behind) (take_at p (joined ps) 512 h.0),
+    let after : drop (512 * n) bytes ≡ p ++ joined ps = rw is (drop_at front (p ++ joined ps) (512 * n) long) in (
+      rw (width, after) (take_at p (joined ps) 512 h.0),
       rw is (omega (arith, length-append front (p ++ joined ps), length-append p (joined ps), h.0)),
       pages_at bytes (front ++ p) ps (n + 1) (is ∙ sym (append_assoc front p (joined ps))) (omega (arith, length-append front p, h.0)) h.1,
     )
@@ -74,12 +74,12 @@ once_distinct (p ∷ ps) h =
     let here : times p (p ∷ ps) ≤ 1 = h p in
     (not_among p ps (omega arith), once_distinct ps (λ r. let all : times r (p ∷ ps) ≤ 1 = h r in omega arith))
 
-abbrev pub numbers : List Top → List ℕ
+abbrev pub numbers : List ChildEntry → List ℕ
 numbers ts = map (λ t. t.page) ts
 
-pub length-tops : {X : Type 0} (f : List X → List ℕ) (n : ℕ) (gs : List (List X)) → length (tops f n gs) ≡ length gs
-length-tops f n [] = refl
-length-tops f n (g ∷ gs) = ap suc (length-tops f (n + 1) gs)
+pub length-child_entries : {X : Type 0} (f : List X → List ℕ) (n : ℕ) (gs : List (List X)) → length (child_entries f n gs) ≡ length gs
+length-child_entries f n [] = refl
+length-child_entries f n (g ∷ gs) = ap suc (length-child_entries f (n + 1) gs)
 
 pub record Run (n m : ℕ) (ps : List ℕ) : Type 0 where
   pub under : (r : ℕ) → r < n → times r ps ≡ 0
@@ -89,11 +89,11 @@ pub record Run (n m : ℕ) (ps : List ℕ) : Type 0 where
 delta_zero : (r p : ℕ) → r ≢ p → hit r p ≡ 0
 delta_zero r p ne = rw (ne_eqb r p ne) refl
 
-pub tops_run : {X : Type 0} (f : List X → List ℕ) (n m : ℕ) (gs : List (List X)) → n + length gs ≡ m → Run n m (numbers (tops f n gs))
-tops_run f n m [] e = record { under = λ r lt. refl; over = λ r le. refl; once = λ r. omega arith }
-tops_run f n m (g ∷ gs) e =
-    let rest = tops_run f (n + 1) m gs (omega arith) in
-    let ps : List ℕ = numbers (tops f (n + 1) gs) in
+pub child_entries_run : {X : Type 0} (f : List X → List ℕ) (n m : ℕ) (gs : List (List X)) → n + length gs ≡ m → Run n m (numbers (child_entries f n gs))
+child_entries_run f n m [] e = record { under = λ r lt. refl; over = λ r le. refl; once = λ r. omega arith }
+child_entries_run f n m (g ∷ gs) e =
+    let rest = child_entries_run f (n + 1) m gs (omega arith) in
+    let ps : List ℕ = numbers (child_entries f (n + 1) gs) in
     record {
       under = λ r lt. let d : hit r n ≡ 0 = delta_zero r n (omega arith) in let k : times r ps ≡ 0 = rest.under r (omega arith) in omega arith;
       over = λ r le. let d : hit r n ≡ 0 = delta_zero r n (omega arith) in let k : times r ps ≡ 0 = rest.over r le in omega arith;
@@ -111,17 +111,17 @@ tops_run f n m (g ∷ gs) e =
 
 -- ---- one level above another
 
-map_parts : (g ts : List Top) → numbers (g ++ ts) ≡ numbers g ++ numbers ts
+map_parts : (g ts : List ChildEntry) → numbers (g ++ ts) ≡ numbers g ++ numbers ts
 map_parts [] ts = refl
 map_parts (t ∷ g) ts = ap (λ (ps : List ℕ). t.page ∷ ps) (map_parts g ts)
 
-record Up (s : Layout) (bytes : List ℕ) (roots pages : List ℕ) (pairs : List Pair) : Type 0 where
+record Up (s : PageLayout) (bytes : List ℕ) (roots pages : List ℕ) (pairs : List Pair) : Type 0 where
   all : List ℕ
   tree : Trees s bytes roots all pairs
   times_are : (r : ℕ) → times r all ≡ times r pages + times r roots
 
-module _ (s : Layout) (bytes : List ℕ) where
-  holds_inner : (k n : ℕ) (g : List Top) → 1 ≤ n → k * s.size ≤ 504 → k ≤ 504 → HasSize 2 (k + 1) g → AllByRecursion (IsChild s) g
+module _ (s : PageLayout) (bytes : List ℕ) where
+  holds_inner : (k n : ℕ) (g : List ChildEntry) → 1 ≤ n → k * s.size ≤ 504 → k ≤ 504 → HasSize 2 (k + 1) g → AllByRecursion (IsChild s) g
       → page_of bytes n ≡ inner_page s.size g → 512 * n + 512 ≤ length bytes → Holds s bytes n (inner (numbers g))
   holds_inner k n [] some room few size fits is whole = absurd (omega (arith, size.low))
   holds_inner k n (t ∷ []) some room few size fits is whole = absurd (omega (arith, size.low))
@@ -133,28 +133,28 @@ module _ (s : Layout) (bytes : List ℕ) where
       times_le : (a b c : ℕ) → a ≤ b → a * c ≤ b * c
       times_le a b c h = grind arith
 
-  up_trees : (k n : ℕ) (gs : List (List Top)) (pages : List ℕ) (pairs : List Pair) → 1 ≤ n → k * s.size ≤ 504 → k ≤ 504
+  up_trees : (k n : ℕ) (gs : List (List ChildEntry)) (pages : List ℕ) (pairs : List Pair) → 1 ≤ n → k * s.size ≤ 504 → k ≤ 504
       → AllByRecursion (HasSize 2 (k + 1)) gs → AllByRecursion (AllByRecursion (IsChild s)) gs → AreAt bytes n (map (inner_page s.size) gs)
-      → Trees s bytes (numbers (joined gs)) pages pairs → Up s bytes (numbers (tops last_top n gs)) pages pairs
+      → Trees s bytes (numbers (joined gs)) pages pairs → Up s bytes (numbers (child_entries last_entry_key n gs)) pages pairs
   up_trees k n [] pages pairs some room few sizes fits at t = record { all = pages; tree = t; times_are = λ r. omega arith }
   up_trees k n (g ∷ gs) pages pairs some room few sizes fits at t =
       let parted : Trees s bytes (numbers g ++ numbers (joined gs)) pages pairs = subst (λ rs. Trees s bytes rs pages pairs) (map_parts g (joined gs)) t in
       let parts = trees_split s bytes (numbers g) (numbers (joined gs)) parted in
       let more = up_trees k (n + 1) gs parts.rest parts.others (omega arith) room few sizes.1 fits.1 at.2 parts.right in
       let holds = holds_inner k n g some room few sizes.0 fits.0 at.0 at.1 in
-      let whole : Trees s bytes (n ∷ numbers (tops last_top (n + 1) gs)) (n ∷ (parts.below ++ more.all)) (parts.own ++ parts.others) = at_inner holds parts.left more.tree in
+      let whole : Trees s bytes (n ∷ numbers (child_entries last_entry_key (n + 1) gs)) (n ∷ (parts.below ++ more.all)) (parts.own ++ parts.others) = at_inner holds parts.left more.tree in
       record {
         all = n ∷ (parts.below ++ more.all);
-        tree = subst (λ qs. Trees s bytes (n ∷ numbers (tops last_top (n + 1) gs)) (n ∷ (parts.below ++ more.all)) qs) (sym parts.pairs_are) whole;
+        tree = subst (λ qs. Trees s bytes (n ∷ numbers (child_entries last_entry_key (n + 1) gs)) (n ∷ (parts.below ++ more.all)) qs) (sym parts.pairs_are) whole;
         times_are = λ r.
             let a : times r pages ≡ times r parts.below + times r parts.rest = ap (λ ps. times r ps) parts.pages_are ∙ times-append r parts.below parts.rest in
             let b : times r (parts.below ++ more.all) ≡ times r parts.below + times r more.all = times-append r parts.below more.all in
-            let c : times r more.all ≡ times r parts.rest + times r (numbers (tops last_top (n + 1) gs)) = more.times_are r in
+            let c : times r more.all ≡ times r parts.rest + times r (numbers (child_entries last_entry_key (n + 1) gs)) = more.times_are r in
             omega arith;
       }
 
   -- the trees of a level whose pages are numbered below n
-  pub record Level (n : ℕ) (ts : List Top) (pairs : List Pair) : Type 0 where
+  pub record Level (n : ℕ) (ts : List ChildEntry) (pairs : List Pair) : Type 0 where
     pub pages : List ℕ
     pub tree : Trees s bytes (numbers ts) pages pairs
     pub once : (r : ℕ) → times r pages ≤ 1
@@ -165,13 +165,13 @@ module _ (s : Layout) (bytes : List ℕ) where
     pub tree : Trees s bytes (root ∷ []) pages pairs
     pub once : (r : ℕ) → times r pages ≤ 1
 
-  next : (k n m : ℕ) (ts : List Top) (pairs : List Pair) → 1 ≤ n → 2 ≤ k → k * s.size ≤ 504 → k ≤ 504 → length ts ≢ 1 → AllByRecursion (IsChild s) ts
-      → n + length (next_level k ts) ≡ m → AreAt bytes n (map (inner_page s.size) (next_level k ts)) → Level n ts pairs → Level m (tops last_top n (next_level k ts)) pairs
+  next : (k n m : ℕ) (ts : List ChildEntry) (pairs : List Pair) → 1 ≤ n → 2 ≤ k → k * s.size ≤ 504 → k ≤ 504 → length ts ≢ 1 → AllByRecursion (IsChild s) ts
+      → n + length (next_level k ts) ≡ m → AreAt bytes n (map (inner_page s.size) (next_level k ts)) → Level n ts pairs → Level m (child_entries last_entry_key n (next_level k ts)) pairs
   next k n m ts pairs some two room few many fits e at level =
-      let gs : List (List Top) = next_level k ts in
-      let join : joined gs ≡ ts = groups-join (inner_bite k) (length ts) ts (omega arith) (bite_some k (omega arith)) in
+      let gs : List (List ChildEntry) = next_level k ts in
+      let join : joined gs ≡ ts = groups-join (inner_group_size k) (length ts) ts (omega arith) (group_size_some k (omega arith)) in
       let up = up_trees k n gs level.pages pairs some room few (inner_groups k (length ts) ts two many) (all_groups (IsChild s) gs (rw join fits)) at (rw join level.tree) in
-      let run = tops_run last_top n m gs e in
+      let run = child_entries_run last_entry_key n m gs e in
       record {
         pages = up.all;
         tree = up.tree;
@@ -182,31 +182,31 @@ module _ (s : Layout) (bytes : List ℕ) where
         under = λ r le. omega (arith, up.times_are r, level.under r (omega arith), run.over r le);
       }
 
-  pub last_number : List Top → ℕ
+  pub last_number : List ChildEntry → ℕ
   last_number [] = 0
   last_number (t ∷ []) = t.page
   last_number (t ∷ u ∷ ts) = last_number (u ∷ ts)
 
-  pub last_of_tops : {X : Type 0} (f : List X → List ℕ) (n : ℕ) (gs : List (List X)) → 1 ≤ length gs → last_number (tops f n gs) + 1 ≡ n + length gs
+  pub last_of_tops : {X : Type 0} (f : List X → List ℕ) (n : ℕ) (gs : List (List X)) → 1 ≤ length gs → last_number (child_entries f n gs) + 1 ≡ n + length gs
   unfolding last_number
   last_of_tops f n [] some = absurd (omega arith)
   last_of_tops f n (g ∷ []) some = omega arith
   last_of_tops f n (g ∷ h ∷ gs) some = omega (arith, last_of_tops f (n + 1) (h ∷ gs) (omega arith))
 
-  short_last : (ts : List Top) → 8 ≤ s.size → AllByRecursion (IsChild s) ts → length (last_top ts) + 8 ≤ s.size
+  short_last : (ts : List ChildEntry) → 8 ≤ s.size → AllByRecursion (IsChild s) ts → length (last_entry_key ts) + 8 ≤ s.size
   short_last [] room h = omega arith
   short_last (t ∷ []) room h = h.0.short
   short_last (t ∷ u ∷ ts) room h = short_last (u ∷ ts) room h.1
 
-  pub tops_fit : {X : Type 0} (f : List X → List ℕ) (n : ℕ) (gs : List (List X)) → 1 ≤ n → n + length gs ≤ 2 ^ 32 → AllByRecursion (λ g. length (f g) + 8 ≤ s.size) gs → AllByRecursion (IsChild s) (tops f n gs)
-  tops_fit f n [] some small h = tt
-  tops_fit f n (g ∷ gs) some small h = (record { some = some; small = omega arith; short = h.0 }, tops_fit f (n + 1) gs (omega arith) (omega arith) h.1)
+  pub child_entries_fit : {X : Type 0} (f : List X → List ℕ) (n : ℕ) (gs : List (List X)) → 1 ≤ n → n + length gs ≤ 2 ^ 32 → AllByRecursion (λ g. length (f g) + 8 ≤ s.size) gs → AllByRecursion (IsChild s) (child_entries f n gs)
+  child_entries_fit f n [] some small h = tt
+  child_entries_fit f n (g ∷ gs) some small h = (record { some = some; small = omega arith; short = h.0 }, child_entries_fit f (n + 1) gs (omega arith) (omega arith) h.1)
 
-  all_short : (gs : List (List Top)) → 8 ≤ s.size → AllByRecursion (AllByRecursion (IsChild s)) gs → AllByRecursion (λ g. length (last_top g) + 8 ≤ s.size) gs
+  all_short : (gs : List (List ChildEntry)) → 8 ≤ s.size → AllByRecursion (AllByRecursion (IsChild s)) gs → AllByRecursion (λ g. length (last_entry_key g) + 8 ≤ s.size) gs
   all_short [] room h = tt
   all_short (g ∷ gs) room h = (short_last g room h.0, all_short gs room h.1)
 
-  pub levels_tree : (fuel k n root : ℕ) (ts : List Top) (pairs : List Pair) → 1 ≤ n → 2 ≤ k → 8 ≤ s.size → k * s.size ≤ 504 → k ≤ 504 → 1 ≤ length ts → length ts ≤ fuel
+  pub levels_tree : (fuel k n root : ℕ) (ts : List ChildEntry) (pairs : List Pair) → 1 ≤ n → 2 ≤ k → 8 ≤ s.size → k * s.size ≤ 504 → k ≤ 504 → 1 ≤ length ts → length ts ≤ fuel
       → n + length ts ≤ 2 ^ 32 → AllByRecursion (IsChild s) ts → last_number ts + 1 ≡ n → n + length (levels_above fuel k n ts) ≡ root + 1
       → AreAt bytes n (map (inner_page s.size) (levels_above fuel k n ts)) → Level n ts pairs → Rooted root pairs
   unfolding last_number
@@ -216,23 +216,23 @@ module _ (s : Layout) (bytes : List ℕ) where
       let same : root ≡ t.page = omega arith in
       rw same (record { pages = level.pages; tree = level.tree; once = level.once })
   levels_tree (suc f) k n root (t ∷ u ∷ ts) pairs some two eight room few one enough small fits last e at level =
-      let all : List Top = t ∷ u ∷ ts in
-      let gs : List (List Top) = next_level k all in
+      let all : List ChildEntry = t ∷ u ∷ ts in
+      let gs : List (List ChildEntry) = next_level k all in
       let m : ℕ = n + length gs in
-      let ups : List Top = tops last_top n gs in
-      let above : List (List Top) = levels_above f k m ups in
+      let ups : List ChildEntry = child_entries last_entry_key n gs in
+      let above : List (List ChildEntry) = levels_above f k m ups in
       let many : length all ≢ 1 = λ h. absurd (omega arith) in
-      let join : joined gs ≡ all = groups-join (inner_bite k) (length all) all (omega arith) (bite_some k (omega arith)) in
+      let join : joined gs ≡ all = groups-join (inner_group_size k) (length all) all (omega arith) (group_size_some k (omega arith)) in
       let sizes = inner_groups k (length all) all two many in
       let half : length gs + length gs ≤ length (joined gs) = count_two (k + 1) gs sizes in
-      let total : length (joined gs) ≡ length all = ap (λ (xs : List Top). length xs) join in
+      let total : length (joined gs) ≡ length all = ap (λ (xs : List ChildEntry). length xs) join in
       let some_group : 1 ≤ length gs = some_groups gs (omega arith) in
       let parts = at_append bytes n m (map (inner_page s.size) gs) (map (inner_page s.size) above) (omega (arith, length-map gs (inner_page s.size))) (subst (λ ps. AreAt bytes n ps) (map-append (inner_page s.size) gs above) at) in
       let fits_groups = all_groups (IsChild s) gs (rw join fits) in
       let up = next k n m all pairs some two room few many fits refl parts.0 level in
-      let long : length ups ≡ length gs = length-tops last_top n gs in
+      let long : length ups ≡ length gs = length-child_entries last_entry_key n gs in
       levels_tree f k m root ups pairs (omega arith) two eight room few (omega arith) (omega arith) (omega arith)
-      (tops_fit last_top n gs some (omega arith) (all_short gs eight fits_groups)) (last_of_tops last_top n gs some_group)
+      (child_entries_fit last_entry_key n gs some (omega arith) (all_short gs eight fits_groups)) (last_of_tops last_entry_key n gs some_group)
       (omega (arith, length-append gs above)) parts.1 up
     where
       some_groups : {X : Type 0} (gs : List (List X)) → 1 ≤ length (joined gs) → 1 ≤ length gs
@@ -242,7 +242,7 @@ module _ (s : Layout) (bytes : List ℕ) where
   -- ---- the leaves
 
   pub leaf_trees : (k n : ℕ) (gs : List (List Pair)) → 1 ≤ n → s.key_len + 8 ≤ s.size → k * s.size ≤ 504 → k ≤ 504 → AllByRecursion (HasSize 0 k) gs → AllByRecursion (AllByRecursion (Fits s)) gs
-      → AreAt bytes n (map (leaf_page s.size) gs) → Trees s bytes (numbers (tops last_key n gs)) (numbers (tops last_key n gs)) (joined gs)
+      → AreAt bytes n (map (leaf_page s.size) gs) → Trees s bytes (numbers (child_entries last_key n gs)) (numbers (child_entries last_key n gs)) (joined gs)
   leaf_trees k n [] some room fit few sizes fits at = none
   leaf_trees k n (g ∷ gs) some room fit few sizes fits at =
       let product : length g * s.size ≤ k * s.size = leaf_fits (length g) k s.size sizes.0.high in
@@ -254,13 +254,13 @@ module _ (s : Layout) (bytes : List ℕ) where
 
 -- ---- the pages' lengths
 
-module _ (s : Layout) where
+module _ (s : PageLayout) where
   pub leaves_long : (k : ℕ) (gs : List (List Pair)) → s.key_len + 8 ≤ s.size → k * s.size ≤ 504 → AllByRecursion (HasSize 0 k) gs → AllByRecursion (AllByRecursion (Fits s)) gs
       → AllByRecursion (λ p. length p ≡ 512) (map (leaf_page s.size) gs)
   leaves_long k [] room fit sizes fits = tt
   leaves_long k (g ∷ gs) room fit sizes fits = (length_leaf_page s k g room fit sizes.0.high fits.0, leaves_long k gs room fit sizes.1 fits.1)
 
-  groups_long : (k : ℕ) (gs : List (List Top)) → k * s.size ≤ 504 → AllByRecursion (HasSize 2 (k + 1)) gs → AllByRecursion (AllByRecursion (IsChild s)) gs
+  groups_long : (k : ℕ) (gs : List (List ChildEntry)) → k * s.size ≤ 504 → AllByRecursion (HasSize 2 (k + 1)) gs → AllByRecursion (AllByRecursion (IsChild s)) gs
       → AllByRecursion (λ p. length p ≡ 512) (map (inner_page s.size) gs)
   groups_long k [] fit sizes fits = tt
   groups_long k (g ∷ gs) fit sizes fits = (length_inner_page s k g fit (omega (arith, sizes.0.low)) sizes.0.high fits.0, groups_long k gs fit sizes.1 fits.1)
@@ -269,26 +269,26 @@ module _ (s : Layout) where
   all_both P [] qs h k = k
   all_both P (p ∷ ps) qs h k = (h.0, all_both P ps qs h.1 k)
 
-  pub record Above (k : ℕ) (ts : List Top) (above : List (List Top)) : Type 0 where
+  pub record Above (k : ℕ) (ts : List ChildEntry) (above : List (List ChildEntry)) : Type 0 where
     pub long : AllByRecursion (λ p. length p ≡ 512) (map (inner_page s.size) above)
     pub few : length above ≤ length ts
 
-  pub levels_long : (fuel k n : ℕ) (ts : List Top) → 1 ≤ n → 2 ≤ k → 8 ≤ s.size → k * s.size ≤ 504 → n + length ts ≤ 2 ^ 32 → AllByRecursion (IsChild s) ts → Above k ts (levels_above fuel k n ts)
+  pub levels_long : (fuel k n : ℕ) (ts : List ChildEntry) → 1 ≤ n → 2 ≤ k → 8 ≤ s.size → k * s.size ≤ 504 → n + length ts ≤ 2 ^ 32 → AllByRecursion (IsChild s) ts → Above k ts (levels_above fuel k n ts)
   levels_long zero k n ts some two eight fit small fits = record { long = tt; few = omega arith }
   levels_long (suc f) k n [] some two eight fit small fits = record { long = tt; few = omega arith }
   levels_long (suc f) k n (t ∷ []) some two eight fit small fits = record { long = tt; few = omega arith }
   levels_long (suc f) k n (t ∷ u ∷ ts) some two eight fit small fits =
-      let all : List Top = t ∷ u ∷ ts in
-      let gs : List (List Top) = next_level k all in
-      let ups : List Top = tops last_top n gs in
-      let above : List (List Top) = levels_above f k (n + length gs) ups in
-      let join : joined gs ≡ all = groups-join (inner_bite k) (length all) all (omega arith) (bite_some k (omega arith)) in
+      let all : List ChildEntry = t ∷ u ∷ ts in
+      let gs : List (List ChildEntry) = next_level k all in
+      let ups : List ChildEntry = child_entries last_entry_key n gs in
+      let above : List (List ChildEntry) = levels_above f k (n + length gs) ups in
+      let join : joined gs ≡ all = groups-join (inner_group_size k) (length all) all (omega arith) (group_size_some k (omega arith)) in
       let sizes = inner_groups k (length all) all two (λ h. absurd (omega arith)) in
       let half : length gs + length gs ≤ length (joined gs) = count_two (k + 1) gs sizes in
-      let total : length (joined gs) ≡ length all = ap (λ (xs : List Top). length xs) join in
+      let total : length (joined gs) ≡ length all = ap (λ (xs : List ChildEntry). length xs) join in
       let fits_groups = all_groups (IsChild s) gs (rw join fits) in
-      let long : length ups ≡ length gs = length-tops last_top n gs in
-      let more = levels_long f k (n + length gs) ups (omega arith) two eight fit (omega arith) (tops_fit s [] last_top n gs some (omega arith) (all_short s [] gs eight fits_groups)) in
+      let long : length ups ≡ length gs = length-child_entries last_entry_key n gs in
+      let more = levels_long f k (n + length gs) ups (omega arith) two eight fit (omega arith) (child_entries_fit s [] last_entry_key n gs some (omega arith) (all_short s [] gs eight fits_groups)) in
       record {
         long = subst (λ ps. AllByRecursion (λ p. length p ≡ 512) ps) (sym (map-append (inner_page s.size) gs above)) (all_both (λ p. length p ≡ 512) (map (inner_page s.size) gs) (map (inner_page s.size) above) (groups_long k gs fit sizes fits_groups) more.long);
         few = omega (arith, length-append gs above, more.few);

@@ -2,4 +2,4 @@
 use Rattle.std.proofs.lemmas.Grind.{common_steps}
 use Rattle.dbf_image.proofs.Sinks.{grown_then, grown_nil}
 
-pub ruleset sinks = (grown_then, grown_nil, common_steps)
+pub ruleset puts = (grown_then, grown_nil, common_steps)

@@ -3,7 +3,7 @@ use Rattle.std.proofs.Common.{◌≡◌, ◌≢◌, ℕ, zero, suc, ◌<◌, ◌
 use Rattle.std.specs.List.{AllByRecursion}
 use Rattle.std.proofs.lemmas.Bool.{ne_eqb, eq-eqb}
 use Rattle.std.proofs.lemmas.List.{reverse-append}
-use Rattle.ndx_index.specs.Header.{before_zero, trimmed}
+use Rattle.ndx_index.specs.Header.{before_zero, trimmed_end}
 
 -- one more byte that isn't zero
 pub zero_step : (xs : List ℕ) (i d : ℕ) → i < length xs → get_or xs i d ≢ 0 → take (suc i) xs ++ before_zero (drop (suc i) xs) ≡ take i xs ++ before_zero (drop i xs)
@@ -43,15 +43,15 @@ reverse_twice [] = refl
 reverse_twice (x ∷ xs) = ap (λ (ys : List ℕ). reverse ys) (reverse_first x xs) ∙ reverse_last (reverse xs) x ∙ ap (λ (ys : List ℕ). x ∷ ys) (reverse_twice xs)
 
 -- a blank at the end
-pub trim_step : (xs : List ℕ) (n d : ℕ) → n < length xs → get_or xs n d ≡ 32 → trimmed (take n xs) ≡ trimmed (take (suc n) xs)
-unfolding trimmed
+pub trim_step : (xs : List ℕ) (n d : ℕ) → n < length xs → get_or xs n d ≡ 32 → trimmed_end (take n xs) ≡ trimmed_end (take (suc n) xs)
+unfolding trimmed_end
 trim_step xs n d lt e =
     let more : take (suc n) xs ≡ take n xs ++ get_or xs n d ∷ [] = take_more xs n d lt in
     rw (more, reverse_last (take n xs) (get_or xs n d), eq-eqb (get_or xs n d) 32 e) refl
 
 -- no blank at the end
-pub trim_stop : (xs : List ℕ) (n d : ℕ) → n < length xs → get_or xs n d ≢ 32 → take (suc n) xs ≡ trimmed (take (suc n) xs)
-unfolding trimmed
+pub trim_stop : (xs : List ℕ) (n d : ℕ) → n < length xs → get_or xs n d ≢ 32 → take (suc n) xs ≡ trimmed_end (take (suc n) xs)
+unfolding trimmed_end
 trim_stop xs n d lt ne =
     let more : take (suc n) xs ≡ take n xs ++ get_or xs n d ∷ [] = take_more xs n d lt in
     let back : reverse (get_or xs n d ∷ reverse (take n xs)) ≡ take n xs ++ get_or xs n d ∷ [] =
@@ -59,8 +59,8 @@ trim_stop xs n d lt ne =
     rw (more, reverse_last (take n xs) (get_or xs n d), ne_eqb (get_or xs n d) 32 ne) (sym back)
 
 -- only blanks
-pub trim_none : (xs : List ℕ) (n : ℕ) → n ≤ 0 → take n xs ≡ trimmed (take n xs)
-unfolding trimmed
+pub trim_none : (xs : List ℕ) (n : ℕ) → n ≤ 0 → take n xs ≡ trimmed_end (take n xs)
+unfolding trimmed_end
 trim_none xs zero h = refl
 trim_none xs (suc n) h = absurd (omega arith)
 

@@ -4,8 +4,9 @@ use Rattle.std.specs.Prelude.{flat_map}
 use Rattle.std.specs.List.{AllByRecursion}
 use Rattle.ndx_index.specs.declared.pair.Pair.{Pair}
 use Rattle.byteorder.specs.Endian.{little_bytes}
-use Rattle.ndx_index.specs.Image.{groups, leaf_bite, header_page, page_keys, record_size, leaf_record, leaf_page, padded}
+use Rattle.ndx_index.specs.Image.{groups, leaf_group_size, header_page, page_keys, record_size, leaf_record, leaf_page, filled_page}
 use Rattle.dbf_image.specs.Sink.{grown}
+use Rattle.dbf_image.specs.Writer.{Wanted, more}
 use Rattle.ndx_index.proofs.PageBytes.{length_leaf_record}
 use Rattle.dbf_image.proofs.Sinks.{grown_then}
 
@@ -20,38 +21,37 @@ length_pairs size (p ∷ g) h =
     omega (arith, length-append (leaf_record size p) (flat_map (leaf_record size) g), length_leaf_record size p h.0, length_pairs size g h.1)
 
 -- a leaf's parts, one after the other
-pub leaf_parts : (size : ℕ) (g : List Pair) (o : Option (List ℕ)) → AllByRecursion (λ p. length p.key + 8 ≤ size) g
-    → grown (grown (grown o (little_bytes 4 (length g))) (flat_map (leaf_record size) g)) (replicate (508 - length g * size) 0) ≡ grown o (leaf_page size g)
-unfolding leaf_page padded
-leaf_parts size g o h =
+pub leaf_parts : (size : ℕ) (g : List Pair) → AllByRecursion (λ p. length p.key + 8 ≤ size) g
+    → (little_bytes 4 (length g) ++ flat_map (leaf_record size) g) ++ replicate (508 - length g * size) 0 ≡ leaf_page size g
+unfolding leaf_page filled_page
+leaf_parts size g h =
     let front : List ℕ = little_bytes 4 (length g) in
     let body : List ℕ = flat_map (leaf_record size) g in
     let long : 512 - length (front ++ body) ≡ 508 - length g * size = omega (arith, length-append front body, length_pairs size g h) in
-    ap (λ p. grown p (replicate {A = ℕ} (508 - length g * size) 0)) (grown_then o front body) ∙ grown_then o (front ++ body) (replicate (508 - length g * size) 0)
-    ∙ ap (λ (n : ℕ). grown o ((front ++ body) ++ replicate n 0)) (sym long)
+    ap (λ (n : ℕ). (front ++ body) ++ replicate n 0) (sym long)
 
 -- more fuel makes no other groups
-pub groups-fuel : {X : Type 0} (bite : ℕ → ℕ) (f h : ℕ) (xs : List X) → length xs ≤ f → length xs ≤ h → ((n : ℕ) → 1 ≤ bite n) → groups bite f xs ≡ groups bite h xs
-groups-fuel bite zero zero xs a b some = refl
-groups-fuel bite zero (suc h) [] a b some = refl
-groups-fuel bite zero (suc h) (x ∷ xs) a b some = absurd (omega arith)
-groups-fuel bite (suc f) zero [] a b some = refl
-groups-fuel bite (suc f) zero (x ∷ xs) a b some = absurd (omega arith)
-groups-fuel bite (suc f) (suc h) [] a b some = refl
-groups-fuel bite (suc f) (suc h) (x ∷ xs) a b some =
-    let n : ℕ = bite (length (x ∷ xs)) in
+pub groups-fuel : {X : Type 0} (group_size : ℕ → ℕ) (f h : ℕ) (xs : List X) → length xs ≤ f → length xs ≤ h → ((n : ℕ) → 1 ≤ group_size n) → groups group_size f xs ≡ groups group_size h xs
+groups-fuel group_size zero zero xs a b some = refl
+groups-fuel group_size zero (suc h) [] a b some = refl
+groups-fuel group_size zero (suc h) (x ∷ xs) a b some = absurd (omega arith)
+groups-fuel group_size (suc f) zero [] a b some = refl
+groups-fuel group_size (suc f) zero (x ∷ xs) a b some = absurd (omega arith)
+groups-fuel group_size (suc f) (suc h) [] a b some = refl
+groups-fuel group_size (suc f) (suc h) (x ∷ xs) a b some =
+    let n : ℕ = group_size (length (x ∷ xs)) in
     let k : 1 ≤ n = some (length (x ∷ xs)) in
-    ap (λ gs. take n (x ∷ xs) ∷ gs) (groups-fuel bite f h (drop n (x ∷ xs)) (omega (arith, length-drop n (x ∷ xs))) (omega (arith, length-drop n (x ∷ xs))) some)
+    ap (λ gs. take n (x ∷ xs) ∷ gs) (groups-fuel group_size f h (drop n (x ∷ xs)) (omega (arith, length-drop n (x ∷ xs))) (omega (arith, length-drop n (x ∷ xs))) some)
 
 -- the first group, and then the groups of the rest
-pub groups-next : {X : Type 0} (bite : ℕ → ℕ) (xs : List X) → 1 ≤ length xs → ((n : ℕ) → 1 ≤ bite n)
-    → groups bite (length xs) xs ≡ take (bite (length xs)) xs ∷ groups bite (length (drop (bite (length xs)) xs)) (drop (bite (length xs)) xs)
-groups-next bite [] h some = absurd (omega arith)
-groups-next {X = X} bite (x ∷ xs) h some =
-    let n : ℕ = bite (length (x ∷ xs)) in
+pub groups-next : {X : Type 0} (group_size : ℕ → ℕ) (xs : List X) → 1 ≤ length xs → ((n : ℕ) → 1 ≤ group_size n)
+    → groups group_size (length xs) xs ≡ take (group_size (length xs)) xs ∷ groups group_size (length (drop (group_size (length xs)) xs)) (drop (group_size (length xs)) xs)
+groups-next group_size [] h some = absurd (omega arith)
+groups-next {X = X} group_size (x ∷ xs) h some =
+    let n : ℕ = group_size (length (x ∷ xs)) in
     let k : 1 ≤ n = some (length (x ∷ xs)) in
     let rest : List X = drop n (x ∷ xs) in
-    ap (λ gs. take n (x ∷ xs) ∷ gs) (groups-fuel bite (length xs) (length rest) rest (omega (arith, length-drop n (x ∷ xs))) (omega arith) some)
+    ap (λ gs. take n (x ∷ xs) ∷ gs) (groups-fuel group_size (length xs) (length rest) rest (omega (arith, length-drop n (x ∷ xs))) (omega arith) some)
 
 -- ---- the leaves
 
@@ -77,21 +77,20 @@ same_parts n (suc k) (x ∷ xs) e =
     let r = same_parts (min k (length xs)) k xs refl in
     rw e' (ap (λ ys. x ∷ ys) r.0, r.1)
 
-pub leaf_step : (size k n : ℕ) (rest : List Pair) (o : Option (List ℕ)) → n ≡ min k (length rest) → 1 ≤ length rest → 1 ≤ k
-    → grown (grown o (leaf_page size (take n rest))) (flat_map (leaf_page size) (groups (leaf_bite k) (length (drop n rest)) (drop n rest)))
-    ≡ grown o (flat_map (leaf_page size) (groups (leaf_bite k) (length rest) rest))
-leaf_step size k n rest o e some one =
+pub leaf_step : (size k n : ℕ) (rest : List Pair) → n ≡ min k (length rest) → 1 ≤ length rest → 1 ≤ k
+    → flat_map (leaf_page size) (groups (leaf_group_size k) (length rest) rest)
+    ≡ leaf_page size (take n rest) ++ flat_map (leaf_page size) (groups (leaf_group_size k) (length (drop n rest)) (drop n rest))
+leaf_step size k n rest e some one =
     let same = same_parts n k rest e in
-    let next : groups (leaf_bite k) (length rest) rest ≡ take k rest ∷ groups (leaf_bite k) (length (drop k rest)) (drop k rest) = groups-next (leaf_bite k) rest some (λ m. one) in
-    rw (same.0, same.1) (grown_then o (leaf_page size (take k rest)) (flat_map (leaf_page size) (groups (leaf_bite k) (length (drop k rest)) (drop k rest)))
-    ∙ ap (λ gs. grown o (flat_map (leaf_page size) gs)) (sym next))
+    let next : groups (leaf_group_size k) (length rest) rest ≡ take k rest ∷ groups (leaf_group_size k) (length (drop k rest)) (drop k rest) = groups-next (leaf_group_size k) rest some (λ m. one) in
+    rw (same.0, same.1) (ap (λ gs. flat_map (leaf_page size) gs) next)
 
 -- ---- the header
 
-pub header_parts : (text : List ℕ) (key_len root : ℕ) (o : Option (List ℕ))
+header_parts : (text : List ℕ) (key_len root : ℕ) (o : Option (List ℕ))
     → grown (grown (grown (grown (grown (grown (grown (grown (grown (grown o (little_bytes 4 root)) (little_bytes 4 (root + 1))) (replicate 4 0)) (little_bytes 2 key_len)) (little_bytes 2 (page_keys key_len))) (replicate 2 0)) (little_bytes 2 (record_size key_len))) (replicate 4 0)) text) (replicate (488 - length text) 0)
     ≡ grown o (header_page text key_len (root + 1))
-unfolding header_page padded
+unfolding header_page filled_page
 header_parts text key_len root o =
     let less : root + 1 - 1 ≡ root = omega arith in
     let n : ℕ = root + 1 in
@@ -105,3 +104,9 @@ header_parts text key_len root o =
     let long : 512 - length front ≡ 488 - length text = omega arith in
     let whole : grown o (front ++ zs) ≡ grown o (front ++ replicate (512 - length front) 0) = ap (λ (m : ℕ). grown o (front ++ replicate m 0)) (sym long) in
     rw less (simp grown_then whole)
+
+-- the header's parts, put one after the other
+pub header_puts : (w : Wanted) (text : List ℕ) (key_len root : ℕ)
+    → more (more (more (more (more (more (more (more (more (more w (little_bytes 4 root)) (little_bytes 4 (root + 1))) (replicate 4 0)) (little_bytes 2 key_len)) (little_bytes 2 (page_keys key_len))) (replicate 2 0)) (little_bytes 2 (record_size key_len))) (replicate 4 0)) text) (replicate (488 - length text) 0)
+    ≡ more w (header_page text key_len (root + 1))
+header_puts w text key_len root = ap (λ (o : Option (List ℕ)). record { written = o; failures = w.failures }) (header_parts text key_len root w.written)

@@ -5,22 +5,22 @@ use Rattle.ndx_index.specs.declared.pair.Pair.{Pair}
 use Rattle.ndx_index.specs.declared.header.Header.{Header}
 use Rattle.ndx_index.specs.declared.fault.NdxFault.{NdxFault}
 use Rattle.ndx_index.specs.declared.fault.NdxFault.TheVariants.{Truncated, NumericIndex, UniqueIndex, BadKeyLength, BadRecordSize}
-use Rattle.ndx_index.specs.Pages.{word}
+use Rattle.ndx_index.specs.Pages.{u32_at}
 use Rattle.ndx_index.specs.NdxTree.{IsTree, Visits}
 
--- the number in the two bytes at a place
-unfoldable pub short : List ℕ → ℕ → ℕ
-short bytes at = little_number 2 (drop at bytes)
+-- the number in the two bytes at an offset
+unfoldable pub u16_at : List ℕ → ℕ → ℕ
+u16_at bytes at = little_number 2 (drop at bytes)
 
 -- the header, or the first rule that it breaks
 unfoldable pub header_of : List ℕ → Result Header NdxFault
 header_of bytes =
     if nat_lt (length bytes) 512 then Err Truncated
-    else (if not (short bytes 16 == 0) then Err NumericIndex
+    else (if not (u16_at bytes 16 == 0) then Err NumericIndex
     else (if not (slice_index bytes 23 == 0) then Err UniqueIndex
-    else (if short bytes 12 == 0 || nat_lt 100 (short bytes 12) then Err BadKeyLength
-    else (if nat_lt (short bytes 18) (short bytes 12 + 8) || nat_lt 504 (short bytes 18) then Err BadRecordSize
-    else Ok (record { layout = record { key_len = short bytes 12; size = short bytes 18 }; root = word bytes 0 })))))
+    else (if u16_at bytes 12 == 0 || nat_lt 100 (u16_at bytes 12) then Err BadKeyLength
+    else (if nat_lt (u16_at bytes 18) (u16_at bytes 12 + 8) || nat_lt 504 (u16_at bytes 18) then Err BadRecordSize
+    else Ok (record { layout = record { key_len = u16_at bytes 12; size = u16_at bytes 18 }; root = u32_at bytes 0 })))))
 
 -- the bytes up to the first zero
 unfoldable pub before_zero : List ℕ → List ℕ
@@ -33,12 +33,12 @@ after_blanks [] = []
 after_blanks (b ∷ bs) = if b == 32 then after_blanks bs else b ∷ bs
 
 -- without the blanks at the end
-unfoldable pub trimmed : List ℕ → List ℕ
-trimmed bs = reverse (after_blanks (reverse bs))
+unfoldable pub trimmed_end : List ℕ → List ℕ
+trimmed_end bs = reverse (after_blanks (reverse bs))
 
 -- the text of the key expression: from byte 24 of the header page on
 abbrev pub expression : List ℕ → List ℕ
-expression bytes = trimmed (before_zero (slice_range bytes 24 512))
+expression bytes = trimmed_end (before_zero (slice_range bytes 24 512))
 
 -- the bytes are an index file with this key expression, keys of this length, and these pairs
 pub record IsIndex (bytes text : List ℕ) (key_len : ℕ) (pairs : List Pair) : Type 0 where

@@ -16,30 +16,30 @@ page_keys key_len = 504 / record_size key_len
 
 -- ---- groups
 
--- the elements in groups from the front, the next as long as `bite` says of how many are left
+-- the elements in groups from the front, the next as long as `group_size` says of how many are left
 abbrev pub groups : {X : Type 0} → (ℕ → ℕ) → ℕ → List X → List (List X)
-groups bite zero xs = []
-groups bite (suc fuel) [] = []
-groups bite (suc fuel) (x ∷ xs) =
-    take (bite (length (x ∷ xs))) (x ∷ xs) ∷ groups bite fuel (drop (bite (length (x ∷ xs))) (x ∷ xs))
+groups group_size zero xs = []
+groups group_size (suc fuel) [] = []
+groups group_size (suc fuel) (x ∷ xs) =
+    take (group_size (length (x ∷ xs))) (x ∷ xs) ∷ groups group_size fuel (drop (group_size (length (x ∷ xs))) (x ∷ xs))
 
 -- a leaf takes k pairs
-abbrev pub leaf_bite : ℕ → ℕ → ℕ
-leaf_bite k left = k
+abbrev pub leaf_group_size : ℕ → ℕ → ℕ
+leaf_group_size k left = k
 
 -- an inner page takes k + 1 children, and one less where else the last page would have one child
-abbrev pub inner_bite : ℕ → ℕ → ℕ
-inner_bite k left = if left == k + 2 then k else k + 1
+abbrev pub inner_group_size : ℕ → ℕ → ℕ
+inner_group_size k left = if left == k + 2 then k else k + 1
 
 -- an empty index has one empty leaf
 abbrev pub leaves : ℕ → List Pair → List (List Pair)
 leaves k [] = [] ∷ []
-leaves k (p ∷ ps) = groups (leaf_bite k) (length (p ∷ ps)) (p ∷ ps)
+leaves k (p ∷ ps) = groups (leaf_group_size k) (length (p ∷ ps)) (p ∷ ps)
 
 -- ---- levels
 
 -- a page's number and the greatest key under it
-pub record Top : Type 0 where
+pub record ChildEntry : Type 0 where
   pub page : ℕ
   pub key : List ℕ
 
@@ -48,38 +48,38 @@ last_key [] = []
 last_key (p ∷ []) = p.key
 last_key (p ∷ q ∷ ps) = last_key (q ∷ ps)
 
-abbrev pub last_top : List Top → List ℕ
-last_top [] = []
-last_top (t ∷ []) = t.key
-last_top (t ∷ u ∷ ts) = last_top (u ∷ ts)
+abbrev pub last_entry_key : List ChildEntry → List ℕ
+last_entry_key [] = []
+last_entry_key (t ∷ []) = t.key
+last_entry_key (t ∷ u ∷ ts) = last_entry_key (u ∷ ts)
 
 -- pages numbered from n on, each with its greatest key
-abbrev pub tops : {X : Type 0} → (List X → List ℕ) → ℕ → List (List X) → List Top
-tops greatest n [] = []
-tops greatest n (g ∷ gs) = record { page = n; key = greatest g } ∷ tops greatest (n + 1) gs
+abbrev pub child_entries : {X : Type 0} → (List X → List ℕ) → ℕ → List (List X) → List ChildEntry
+child_entries greatest n [] = []
+child_entries greatest n (g ∷ gs) = record { page = n; key = greatest g } ∷ child_entries greatest (n + 1) gs
 
-abbrev pub next_level : ℕ → List Top → List (List Top)
-next_level k ts = groups (inner_bite k) (length ts) ts
+abbrev pub next_level : ℕ → List ChildEntry → List (List ChildEntry)
+next_level k ts = groups (inner_group_size k) (length ts) ts
 
 -- the pages above these, from number n on, level by level up to a level of one page
-abbrev pub levels_above : ℕ → ℕ → ℕ → List Top → List (List Top)
+abbrev pub levels_above : ℕ → ℕ → ℕ → List ChildEntry → List (List ChildEntry)
 levels_above zero k n ts = []
 levels_above (suc fuel) k n [] = []
 levels_above (suc fuel) k n (t ∷ []) = []
 levels_above (suc fuel) k n (t ∷ u ∷ ts) =
     let gs = next_level k (t ∷ u ∷ ts) in
-    gs ++ levels_above fuel k (n + length gs) (tops last_top n gs)
+    gs ++ levels_above fuel k (n + length gs) (child_entries last_entry_key n gs)
 
-abbrev pub inner_pages : ℕ → List Pair → List (List Top)
+abbrev pub inner_pages : ℕ → List Pair → List (List ChildEntry)
 inner_pages k pairs =
     let gs = leaves k pairs in
-    levels_above (length gs) k (length gs + 1) (tops last_key 1 gs)
+    levels_above (length gs) k (length gs + 1) (child_entries last_key 1 gs)
 
 -- ---- bytes
 
 -- filled up to a page with zeros
-unfoldable pub padded : List ℕ → List ℕ
-padded xs = xs ++ replicate (512 - length xs) 0
+unfoldable pub filled_page : List ℕ → List ℕ
+filled_page xs = xs ++ replicate (512 - length xs) 0
 
 -- a key record: child page, record number, key, and zeros up to its size
 unfoldable pub key_record : ℕ → ℕ → ℕ → List ℕ → List ℕ
@@ -89,21 +89,21 @@ unfoldable pub leaf_record : ℕ → Pair → List ℕ
 leaf_record size p = key_record size 0 p.number p.key
 
 -- the last child has a pointer alone
-unfoldable pub inner_records : ℕ → List Top → List ℕ
+unfoldable pub inner_records : ℕ → List ChildEntry → List ℕ
 inner_records size [] = []
 inner_records size (t ∷ []) = little_bytes 4 t.page
 inner_records size (t ∷ u ∷ ts) = key_record size t.page 0 t.key ++ inner_records size (u ∷ ts)
 
 unfoldable pub leaf_page : ℕ → List Pair → List ℕ
-leaf_page size g = padded (little_bytes 4 (length g) ++ flat_map (leaf_record size) g)
+leaf_page size g = filled_page (little_bytes 4 (length g) ++ flat_map (leaf_record size) g)
 
-unfoldable pub inner_page : ℕ → List Top → List ℕ
-inner_page size g = padded (little_bytes 4 (length g - 1) ++ inner_records size g)
+unfoldable pub inner_page : ℕ → List ChildEntry → List ℕ
+inner_page size g = filled_page (little_bytes 4 (length g - 1) ++ inner_records size g)
 
 -- root, number of pages, key length, keys of a page, kind, size of a key record, unique flag, key expression
 unfoldable pub header_page : List ℕ → ℕ → ℕ → List ℕ
 header_page text key_len pages =
-    padded (little_bytes 4 (pages - 1) ++ (little_bytes 4 pages ++ (replicate 4 0 ++ (little_bytes 2 key_len ++ (little_bytes 2 (page_keys key_len)
+    filled_page (little_bytes 4 (pages - 1) ++ (little_bytes 4 pages ++ (replicate 4 0 ++ (little_bytes 2 key_len ++ (little_bytes 2 (page_keys key_len)
     ++ (0 ∷ 0 ∷ (little_bytes 2 (record_size key_len) ++ (0 ∷ 0 ∷ 0 ∷ 0 ∷ text))))))))
 
 -- all pages but the header
@@ -149,13 +149,13 @@ leaves_0 : leaves 25 [] ≡ [] ∷ []
 leaves_0 = refl
 
 bytes_26 : take 20 (ndx_image (78 ∷ 65 ∷ 77 ∷ 69 ∷ []) 10 (replicate 26 pair)) ≡ 3 ∷ 0 ∷ 0 ∷ 0 ∷ 4 ∷ 0 ∷ 0 ∷ 0 ∷ 0 ∷ 0 ∷ 0 ∷ 0 ∷ 10 ∷ 0 ∷ 25 ∷ 0 ∷ 0 ∷ 0 ∷ 20 ∷ 0 ∷ []
-unfolding pair header_page padded
+unfolding pair header_page filled_page
 bytes_26 = refl
 
 root_26 : slice_range (ndx_image (78 ∷ 65 ∷ 77 ∷ 69 ∷ []) 10 (replicate 26 pair)) 1536 1566 ≡ 1 ∷ 0 ∷ 0 ∷ 0 ∷ 1 ∷ 0 ∷ 0 ∷ 0 ∷ 0 ∷ 0 ∷ 0 ∷ 0 ∷ 65 ∷ 66 ∷ 67 ∷ 68 ∷ 69 ∷ 70 ∷ 71 ∷ 72 ∷ 73 ∷ 74 ∷ 0 ∷ 0 ∷ 2 ∷ 0 ∷ 0 ∷ 0 ∷ 0 ∷ 0 ∷ []
-unfolding pair header_page padded leaf_page inner_page leaf_record inner_records key_record
+unfolding pair header_page filled_page leaf_page inner_page leaf_record inner_records key_record
 root_26 = refl
 
 length_26 : length (ndx_image (78 ∷ 65 ∷ 77 ∷ 69 ∷ []) 10 (replicate 26 pair)) ≡ 2048
-unfolding pair header_page padded leaf_page inner_page leaf_record inner_records key_record
+unfolding pair header_page filled_page leaf_page inner_page leaf_record inner_records key_record
 length_26 = refl

@@ -1,7 +1,7 @@
 -- The levels of a written index.
 use Rattle.std.specs.Prelude.{◌≡◌, ℕ, zero, suc, ◌+◌, ◌*◌, ◌<◌, ◌≤◌, List, [], length, slice_index, get_or, take, drop}
 use Rattle.ndx_index.specs.declared.pair.Pair.{Pair}
-use Rattle.ndx_index.specs.Image.{Top, tops, last_key, last_top, leaves, next_level}
+use Rattle.ndx_index.specs.Image.{ChildEntry, child_entries, last_key, last_entry_key, leaves, next_level}
 
 -- child i of m is the last one of page j above them
 pub record IsLast (k m j i : ℕ) : Type 0 where
@@ -12,14 +12,14 @@ pub record IsLast (k m j i : ℕ) : Type 0 where
 -- the number of a level's first page, and its pages
 pub record Level : Type 0 where
   pub first : ℕ
-  pub pages : List Top
+  pub pages : List ChildEntry
 
 abbrev pub above : ℕ → Level → Level
-above k below = let n = below.first + length below.pages in record { first = n; pages = tops last_top n (next_level k below.pages) }
+above k below = let n = below.first + length below.pages in record { first = n; pages = child_entries last_entry_key n (next_level k below.pages) }
 
 -- the levels, the leaves as level 0
 abbrev pub level : ℕ → List Pair → ℕ → Level
-level k pairs zero = record { first = 1; pages = tops last_key 1 (leaves k pairs) }
+level k pairs zero = record { first = 1; pages = child_entries last_key 1 (leaves k pairs) }
 level k pairs (suc l) = above k (level k pairs l)
 
 -- these are the numbers of pages of the first n levels, and each of these levels has several
@@ -31,11 +31,11 @@ pub record AreSizes (k : ℕ) (pairs : List Pair) (n : ℕ) (sizes : List ℕ) :
 abbrev pub key_under : ℕ → List Pair → ℕ → ℕ → List ℕ
 key_under k pairs l page = (get_or (level k pairs l).pages page (record { page = 0; key = [] })).key
 
-abbrev pub no_top : Top
-no_top = record { page = 0; key = [] }
+abbrev pub no_child : ChildEntry
+no_child = record { page = 0; key = [] }
 
--- these children of a page, from place `at` of this level on
-abbrev pub children_from : ℕ → List Pair → ℕ → ℕ → ℕ → List Top
+-- these children of a page, from index `at` of this level on
+abbrev pub children_from : ℕ → List Pair → ℕ → ℕ → ℕ → List ChildEntry
 children_from k pairs l at count = take count (drop at (level k pairs l).pages)
 
 -- this is the number of a level's first page and how many pages it has, and there is a level above it
@@ -46,7 +46,7 @@ pub record IsLevel (k : ℕ) (pairs : List Pair) (height first count : ℕ) : Ty
   pub numbered : first + count ≤ 4294967295
 
 -- the level has one page, the root
-pub record IsTop (k : ℕ) (pairs : List Pair) (height root : ℕ) : Type 0 where
+pub record IsRootLevel (k : ℕ) (pairs : List Pair) (height root : ℕ) : Type 0 where
   pub one : length (level k pairs height).pages ≡ 1
   pub root_is : root ≡ (level k pairs height).first
   pub numbered : root ≤ 4000000000

@@ -4,21 +4,21 @@ use Rattle.std.specs.List.{list_any, IsDistinct}
 use Rattle.ndx_index.specs.declared.pair.Pair.{Pair}
 use Rattle.ndx_index.specs.declared.fault.NdxFault.{NdxFault}
 use Rattle.ndx_index.specs.declared.fault.NdxFault.TheVariants.{PageOutside, PageTwice}
-use Rattle.ndx_index.specs.declared.page.Layout.{Layout}
+use Rattle.ndx_index.specs.declared.page.PageLayout.{PageLayout}
 use Rattle.ndx_index.specs.Pages.{Node, leaf, inner, node_of, page_of, is_page}
 
 -- the page is among these
-abbrev pub is_met : ℕ → List ℕ → Bool
-is_met p met = list_any (nat_eq p) met
+abbrev pub is_visited : ℕ → List ℕ → Bool
+is_visited p visited = list_any (nat_eq p) visited
 
 -- page p holds this node
-pub record Holds (s : Layout) (bytes : List ℕ) (p : ℕ) (node : Node) : Type 0 where
+pub record Holds (s : PageLayout) (bytes : List ℕ) (p : ℕ) (node : Node) : Type 0 where
   pub whole : is_page bytes p ≡ true
   pub keeps : node_of s (page_of bytes p) ≡ Ok node
 
 -- Trees side by side, by their roots: all their pages, each before those below it, and all their pairs. A leaf
 -- has its own pairs, and an inner page those of its children, the last one's included.
-pub data Trees (s : Layout) (bytes : List ℕ) : List ℕ → List ℕ → List Pair → Type 0 where
+pub data Trees (s : PageLayout) (bytes : List ℕ) : List ℕ → List ℕ → List Pair → Type 0 where
   none : Trees s bytes [] [] []
   at_leaf : {p : ℕ} {rest pages : List ℕ} {own pairs : List Pair} → Holds s bytes p (leaf own)
       → Trees s bytes rest pages pairs → Trees s bytes (p ∷ rest) (p ∷ pages) (own ++ pairs)
@@ -26,21 +26,21 @@ pub data Trees (s : Layout) (bytes : List ℕ) : List ℕ → List ℕ → List 
       → Trees s bytes children below own → Trees s bytes rest pages pairs → Trees s bytes (p ∷ rest) (p ∷ (below ++ pages)) (own ++ pairs)
 
 -- the tree under page p has these pages, all different, and these pairs
-pub record IsTree (s : Layout) (bytes : List ℕ) (p : ℕ) (pages : List ℕ) (pairs : List Pair) : Type 0 where
+pub record IsTree (s : PageLayout) (bytes : List ℕ) (p : ℕ) (pages : List ℕ) (pairs : List Pair) : Type 0 where
   pub tree : Trees s bytes (p ∷ []) pages pairs
   pub apart : IsDistinct nat_eq pages
 
--- what page p holds, or the first rule that it breaks where these pages were met before
-abbrev pub look : Layout → List ℕ → List ℕ → ℕ → Result Node NdxFault
-look s bytes met p =
-    if is_page bytes p then (if is_met p met then Err PageTwice else node_of s (page_of bytes p)) else Err PageOutside
+-- what page p holds, or the first rule that it breaks where these pages were visited before
+abbrev pub look : PageLayout → List ℕ → List ℕ → ℕ → Result Node NdxFault
+look s bytes visited p =
+    if is_page bytes p then (if is_visited p visited then Err PageTwice else node_of s (page_of bytes p)) else Err PageOutside
 
--- A walk, depth first: which pages were met before, which are still to be visited, and then the pages that are
+-- A walk, depth first: which pages were visited before, which are still to be visited, and then the pages that are
 -- visited up to the first that breaks a rule, their pairs, and that rule.
-pub data Visits (s : Layout) (bytes : List ℕ) : List ℕ → List ℕ → List ℕ → List Pair → Option NdxFault → Type 0 where
-  done : {met : List ℕ} → Visits s bytes met [] [] [] None
-  stops : {met todo : List ℕ} {p : ℕ} {e : NdxFault} → look s bytes met p ≡ Err e → Visits s bytes met (p ∷ todo) [] [] (Some e)
-  visit_leaf : {met todo pages : List ℕ} {p : ℕ} {own pairs : List Pair} {r : Option NdxFault} → look s bytes met p ≡ Ok (leaf own)
-      → Visits s bytes (p ∷ met) todo pages pairs r → Visits s bytes met (p ∷ todo) (p ∷ pages) (own ++ pairs) r
-  visit_inner : {met todo children pages : List ℕ} {p : ℕ} {pairs : List Pair} {r : Option NdxFault} → look s bytes met p ≡ Ok (inner children)
-      → Visits s bytes (p ∷ met) (children ++ todo) pages pairs r → Visits s bytes met (p ∷ todo) (p ∷ pages) pairs r
+pub data Visits (s : PageLayout) (bytes : List ℕ) : List ℕ → List ℕ → List ℕ → List Pair → Option NdxFault → Type 0 where
+  done : {visited : List ℕ} → Visits s bytes visited [] [] [] None
+  stops : {visited pending : List ℕ} {p : ℕ} {e : NdxFault} → look s bytes visited p ≡ Err e → Visits s bytes visited (p ∷ pending) [] [] (Some e)
+  visit_leaf : {visited pending pages : List ℕ} {p : ℕ} {own pairs : List Pair} {r : Option NdxFault} → look s bytes visited p ≡ Ok (leaf own)
+      → Visits s bytes (p ∷ visited) pending pages pairs r → Visits s bytes visited (p ∷ pending) (p ∷ pages) (own ++ pairs) r
+  visit_inner : {visited pending children pages : List ℕ} {p : ℕ} {pairs : List Pair} {r : Option NdxFault} → look s bytes visited p ≡ Ok (inner children)
+      → Visits s bytes (p ∷ visited) (children ++ pending) pages pairs r → Visits s bytes visited (p ∷ pending) (p ∷ pages) pairs r

@@ -1,27 +1,27 @@
 //! The header page of an index file.
 
 ghost use Rattle.std.specs.Prelude.{◌≡◌, ◌+◌, ◌≤◌, length, IfOk};
-ghost use Rattle.ndx_index.specs.Header.{short, header_of, before_zero, trimmed, expression};
-ghost use Rattle.ndx_index.specs.Pages.{IsLayout};
+ghost use Rattle.ndx_index.specs.Header.{u16_at, header_of, before_zero, trimmed_end, expression};
+ghost use Rattle.ndx_index.specs.Pages.{IsPageLayout};
 
 use crate::fault::NdxFault;
-use crate::page::{Layout, PAGE, word};
+use crate::page::{PAGE, PageLayout, u32_at};
 use byteorder::{ByteOrder, LittleEndian};
 
 /// What the header of an index file says of its pages.
 #[derive(Clone, Copy)]
 pub(crate) struct Header {
     /// The key length and the size of a key record.
-    pub layout: Layout,
+    pub layout: PageLayout,
     /// The number of the root page.
     pub root: u32,
 }
 
-// The number in the two bytes at a place.
-#[tactic(auto, unfolding(crate::specs::Header::short))]
-fn short(bytes: &[u8], at: usize) -> u16
+// The number in the two bytes at an offset.
+#[tactic(auto, unfolding(crate::specs::Header::u16_at))]
+fn u16_at(bytes: &[u8], at: usize) -> u16
     requires { at + 2 ≤ length bytes.now }
-    ensures { result ≡ short bytes.now at }
+    ensures { result ≡ u16_at bytes.now at }
 {
     LittleEndian::read_u16(&bytes[at..])
 }
@@ -31,28 +31,28 @@ fn short(bytes: &[u8], at: usize) -> u16
 pub(crate) fn read_header(bytes: &[u8]) -> Result<Header, NdxFault>
     ensures is { result ≡ header_of bytes.now }
     ensures long { IfOk result (λ header. 512 ≤ length bytes.now) }
-    ensures layout { IfOk result (λ header. IsLayout header.layout) }
+    ensures layout { IfOk result (λ header. IsPageLayout header.layout) }
 {
     if bytes.len() < PAGE {
         return Err(NdxFault::Truncated);
     }
-    if short(bytes, 16) != 0 {
+    if u16_at(bytes, 16) != 0 {
         return Err(NdxFault::NumericIndex);
     }
     if bytes[23] != 0 {
         return Err(NdxFault::UniqueIndex);
     }
-    let key_len = short(bytes, 12) as usize;
+    let key_len = u16_at(bytes, 12) as usize;
     if key_len == 0 || key_len > 100 {
         return Err(NdxFault::BadKeyLength);
     }
-    let size = short(bytes, 18) as usize;
+    let size = u16_at(bytes, 18) as usize;
     if size < key_len + 8 || size > 504 {
         return Err(NdxFault::BadRecordSize);
     }
     Ok(Header {
-        layout: Layout { key_len, size },
-        root: word(bytes, 0),
+        layout: PageLayout { key_len, size },
+        root: u32_at(bytes, 0),
     })
 }
 
@@ -69,8 +69,8 @@ fn before_zero(text: &[u8]) -> &[u8]
 }
 
 // The text without the blanks at its end.
-fn trimmed(text: &[u8]) -> &[u8]
-    ensures { result.now ≡ trimmed text.now }
+fn trimmed_end(text: &[u8]) -> &[u8]
+    ensures { result.now ≡ trimmed_end text.now }
 {
     let mut end = text.len();
     while end > 0 {
@@ -83,10 +83,10 @@ fn trimmed(text: &[u8]) -> &[u8]
 }
 
 /// The text of the key expression: from byte 24 of the header page up to its first zero or the page's
-/// end, without the blanks behind it.
+/// end, without the blanks after it.
 pub(crate) fn expression(bytes: &[u8]) -> &[u8]
     requires { 512 ≤ length bytes.now }
     ensures { result.now ≡ expression bytes.now }
 {
-    trimmed(before_zero(&bytes[24..PAGE]))
+    trimmed_end(before_zero(&bytes[24..PAGE]))
 }

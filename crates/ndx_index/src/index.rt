@@ -64,7 +64,7 @@ impl OrderedIndex {
         ensures pairs { self.new.pairs ≡ placed pair self.old.pairs }
         ensures spare { self.old.spare ≤ self.new.spare + 1 }
     {
-        let at = self.place(&pair);
+        let at = self.pair_index(&pair);
         let done = self.kept.insert(at, pair);
         prove!(done.is_ok());
         let _ = done;
@@ -76,7 +76,7 @@ impl OrderedIndex {
         ensures pairs { self.new.pairs ≡ without pair self.old.pairs }
         ensures spare { self.old.spare ≤ self.new.spare }
     {
-        let at = self.place(&pair);
+        let at = self.pair_index(&pair);
         if at == self.kept.len() {
             return false;
         }
@@ -121,7 +121,7 @@ impl OrderedIndex {
     pub fn previous(&self, pair: Pair) -> Option<Pair>
         ensures pair { result ≡ previous_of pair self.now.pairs }
     {
-        let at = self.place(&pair);
+        let at = self.pair_index(&pair);
         if at == 0 {
             None
         } else {
@@ -144,7 +144,7 @@ impl OrderedIndex {
     }
 
     // Where the pair is, or where it would go.
-    fn place(&self, pair: &Pair) -> usize
+    fn pair_index(&self, pair: &Pair) -> usize
         ensures within { result ≤ length self.now.pairs }
         ensures parted { IsPartitionPoint (λ q. before q pair.now ≡ true) (λ q. before q pair.now ≡ false) self.now.pairs result }
     {

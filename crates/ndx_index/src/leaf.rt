@@ -1,75 +1,51 @@
 //! Writing the leaves of an index.
-#![tactic(auto, using(crate::proofs::Sinks::sinks))]
+#![tactic(auto, using(crate::proofs::Sinks::puts))]
 
-ghost use Rattle.std.specs.Prelude.{◌≡◌, ◌+◌, ◌*◌, ◌≤◌, ◌<◌, ◌^◌, length, flat_map, OnOk, OnErr};
+ghost use Rattle.std.specs.Prelude.{◌≡◌, ◌+◌, ◌*◌, ◌≤◌, ◌<◌, ◌^◌, length, flat_map};
 ghost use Rattle.std.specs.List.{AllByRecursion};
-ghost use Rattle.dbf_image.specs.Sink.{grown, Rises};
+ghost use Rattle.dbf_image.specs.Output.{Puts};
 ghost use Rattle.ndx_index.specs.Image.{leaf_record, leaf_page, leaves};
 
 use crate::pair::Pair;
-use crate::pieces::{write_record, write_u32, write_zeros};
+use crate::pieces::{put_key_record, put_u32, put_zeros};
 use crate::shape::Shape;
-use dbf_image::{ByteSink, SinkFault, Waiting};
+use dbf_image::{ByteSink, SinkWriter};
 
-#[tactic(auto, using(crate::proofs::Sinks::sinks), unfolding(crate::specs::Image::leaf_record))]
-fn write_pairs<S: ByteSink>(
-    sink: &mut S,
-    waiting: &mut Waiting,
-    shape: Shape,
-    group: &[Pair],
-) -> Result<(), SinkFault>
-    ensures told { OnOk result (grown (S.written sink.new) waiting.new.items ≡ grown (grown (S.written sink.old) waiting.old.items) (flat_map (leaf_record shape.size) group.now)) }
-    ensures numbers { OnOk result (AllByRecursion (λ p. p.number < 2 ^ 32) group.now) }
-    ensures fine { OnOk result (S.failures sink.new ≡ S.failures sink.old) }
-    ensures failed { OnErr result (Rises (S.failures sink.old) (S.failures sink.new)) }
+#[tactic(auto, using(crate::proofs::Sinks::puts), unfolding(crate::specs::Image::leaf_record))]
+fn put_pairs<S: ByteSink>(out: &mut SinkWriter<'_, S>, shape: Shape, group: &[Pair])
+    ensures put { Puts out.old (flat_map (leaf_record shape.size) group.now) out.new }
+    ensures numbers { AllByRecursion (λ p. p.number < 2 ^ 32) group.now }
 {
     for pair in group {
-        let key = pair.key.as_bytes();
-        write_record(sink, waiting, shape, 0, pair.number, key)?;
+        put_key_record(out, shape, 0, pair.number, pair.key.as_bytes());
     }
-    Ok(())
 }
 
-fn write_leaf<S: ByteSink>(
-    sink: &mut S,
-    waiting: &mut Waiting,
-    shape: Shape,
-    group: &[Pair],
-) -> Result<(), SinkFault>
+fn put_leaf<S: ByteSink>(out: &mut SinkWriter<'_, S>, shape: Shape, group: &[Pair])
     requires few { length group.now ≤ shape.keys }
     requires keys { AllByRecursion (λ p. length p.key + 8 ≤ shape.size) group.now }
-    ensures told { OnOk result (grown (S.written sink.new) waiting.new.items ≡ grown (grown (S.written sink.old) waiting.old.items) (leaf_page shape.size group.now)) }
-    ensures numbers { OnOk result (AllByRecursion (λ p. p.number < 2 ^ 32) group.now) }
-    ensures fine { OnOk result (S.failures sink.new ≡ S.failures sink.old) }
-    ensures failed { OnErr result (Rises (S.failures sink.old) (S.failures sink.new)) }
+    ensures put { Puts out.old (leaf_page shape.size group.now) out.new }
+    ensures numbers { AllByRecursion (λ p. p.number < 2 ^ 32) group.now }
 {
-    write_u32(sink, waiting, group.len() as u32)?;
-    write_pairs(sink, waiting, shape, group)?;
-    write_zeros(sink, waiting, 508 - group.len() * shape.size)?;
-    Ok(())
+    put_u32(out, group.len() as u32);
+    put_pairs(out, shape, group);
+    put_zeros(out, 508 - group.len() * shape.size);
 }
 
-/// Writes all leaves, each full but the last. An index without pairs has one empty leaf.
-pub(crate) fn write_leaves<S: ByteSink>(
-    sink: &mut S,
-    waiting: &mut Waiting,
-    shape: Shape,
-    pairs: &[Pair],
-) -> Result<(), SinkFault>
+/// All leaves, each full but the last. An index without pairs has one empty leaf.
+pub(crate) fn put_leaves<S: ByteSink>(out: &mut SinkWriter<'_, S>, shape: Shape, pairs: &[Pair])
     requires keys { AllByRecursion (λ p. length p.key + 8 ≤ shape.size) pairs.now }
-    ensures told { OnOk result (grown (S.written sink.new) waiting.new.items ≡ grown (grown (S.written sink.old) waiting.old.items) (flat_map (leaf_page shape.size) (leaves shape.keys pairs.now))) }
-    ensures numbers { OnOk result (AllByRecursion (λ p. p.number < 2 ^ 32) pairs.now) }
-    ensures fine { OnOk result (S.failures sink.new ≡ S.failures sink.old) }
-    ensures failed { OnErr result (Rises (S.failures sink.old) (S.failures sink.new)) }
+    ensures put { Puts out.old (flat_map (leaf_page shape.size) (leaves shape.keys pairs.now)) out.new }
+    ensures numbers { AllByRecursion (λ p. p.number < 2 ^ 32) pairs.now }
 {
     if pairs.is_empty() {
-        return write_leaf(sink, waiting, shape, pairs);
+        put_leaf(out, shape, pairs);
+        return;
     }
     let mut rest = pairs;
     while !rest.is_empty() {
         let n = shape.keys.min(rest.len());
-        write_leaf(sink, waiting, shape, &rest[..n])?;
+        put_leaf(out, shape, &rest[..n]);
         rest = &rest[n..];
     }
-    Ok(())
 }

@@ -17,9 +17,9 @@ ghost use Rattle.std.specs.List.{AllByRecursion};
 ghost use Rattle.dbf_image.specs.Table.{Table};
 ghost use Rattle.key_expr.specs.Grammar.{Expr};
 ghost use Rattle.ndx_index.specs.declared.pair.Pair.{Pair as PairValue};
-ghost use Rattle.ndx_index.specs.declared.page.Layout.{Layout as LayoutValue};
+ghost use Rattle.ndx_index.specs.declared.page.PageLayout.{PageLayout as LayoutValue};
 ghost use Rattle.ndx_index.specs.declared.fault.NdxFault.{NdxFault as Fault};
-ghost use Rattle.ndx_index.specs.Header.{IsIndex, before_zero, trimmed};
+ghost use Rattle.ndx_index.specs.Header.{IsIndex, before_zero, trimmed_end};
 ghost use Rattle.ndx_index.specs.Image.{IsWritable, ndx_image};
 ghost use Rattle.ndx_index.specs.NdxTree.{IsTree, Visits};
 ghost use Rattle.ndx_index.specs.Order.{in_order, pair_cmp, AreInOrder};
@@ -43,7 +43,7 @@ pub use crate::fault::NdxFault;
 pub use crate::index::OrderedIndex;
 pub use crate::pair::Pair;
 pub use crate::read::{NdxFile, read_ndx};
-pub use crate::write::{NdxWriteFault, write_ndx};
+pub use crate::write::write_ndx;
 
 /// The order of pairs is their sorted permutation, and they have no other.
 pub fn one_order()
@@ -67,8 +67,8 @@ pub fn one_walk()
 /// of its keys, and its key expression without the blanks at its end. Of an expression with a zero in it,
 /// which is none, what stands before the zero is read.
 pub fn reads_back()
-    ensures law { (text : List ℕ) (key_len : ℕ) (pairs : List PairValue) → IsWritable text key_len pairs → IsIndex (ndx_image text key_len pairs) (trimmed (before_zero text)) key_len pairs }
-    ensures plain { (text : List ℕ) (key_len : ℕ) (pairs : List PairValue) → IsWritable text key_len pairs → AllByRecursion (λ b. b ≢ 0) text → IsIndex (ndx_image text key_len pairs) (trimmed text) key_len pairs }
+    ensures law { (text : List ℕ) (key_len : ℕ) (pairs : List PairValue) → IsWritable text key_len pairs → IsIndex (ndx_image text key_len pairs) (trimmed_end (before_zero text)) key_len pairs }
+    ensures plain { (text : List ℕ) (key_len : ℕ) (pairs : List PairValue) → IsWritable text key_len pairs → AllByRecursion (λ b. b ≢ 0) text → IsIndex (ndx_image text key_len pairs) (trimmed_end text) key_len pairs }
 {}
 
 #[cfg(test)]

@@ -2,7 +2,7 @@
 //! child page (4 bytes), a record number (4 bytes) and a key.
 
 ghost use Rattle.std.specs.Prelude.{◌≡◌, ◌+◌, ◌*◌, ◌<◌, ◌≤◌, ◌++◌, length, reverse, IfErr, OnOk, not};
-ghost use Rattle.ndx_index.specs.Pages.{IsLayout, word, entry, children, entries, some_child, is_null, node_of};
+ghost use Rattle.ndx_index.specs.Pages.{IsPageLayout, u32_at, leaf_pair, children, leaf_pairs, some_child, is_null, node_of};
 ghost use Rattle.ndx_index.specs.Walks.{Takes, Refuses};
 
 use crate::fault::NdxFault;
@@ -16,31 +16,31 @@ pub(crate) const PAGE: usize = 512;
 
 /// The sizes that a file's header gives.
 #[derive(Clone, Copy)]
-pub(crate) struct Layout {
+pub(crate) struct PageLayout {
     /// The bytes of a key.
     pub key_len: usize,
     /// The bytes from one key record to the next.
     pub size: usize,
 }
 
-/// The number in the four bytes at a place.
-#[tactic(auto, unfolding(crate::specs::Pages::word))]
-pub(crate) fn word(bytes: &[u8], at: usize) -> u32
+/// The number in the four bytes at an offset.
+#[tactic(auto, unfolding(crate::specs::Pages::u32_at))]
+pub(crate) fn u32_at(bytes: &[u8], at: usize) -> u32
     requires { at + 4 ≤ length bytes.now }
-    ensures { result ≡ word bytes.now at }
+    ensures { result ≡ u32_at bytes.now at }
 {
     LittleEndian::read_u32(&bytes[at..])
 }
 
 // Whether one of the first `n` child pointers isn't zero.
-fn has_child(layout: Layout, page: &[u8], n: usize) -> bool
+fn has_child(layout: PageLayout, page: &[u8], n: usize) -> bool
     requires whole { length page.now ≡ 512 }
-    requires layout { IsLayout layout }
+    requires layout { IsPageLayout layout }
     requires fits { 8 + layout.size * n ≤ 512 + layout.size }
     ensures { result ≡ some_child (λ p. not (is_null p)) layout page.now n }
 {
     for i in 0..n {
-        if word(page, 4 + layout.size * i) != 0 {
+        if u32_at(page, 4 + layout.size * i) != 0 {
             return true;
         }
     }
@@ -48,14 +48,14 @@ fn has_child(layout: Layout, page: &[u8], n: usize) -> bool
 }
 
 // Whether one of the first `n` child pointers is zero.
-fn lacks_child(layout: Layout, page: &[u8], n: usize) -> bool
+fn lacks_child(layout: PageLayout, page: &[u8], n: usize) -> bool
     requires whole { length page.now ≡ 512 }
-    requires layout { IsLayout layout }
+    requires layout { IsPageLayout layout }
     requires fits { 8 + layout.size * n ≤ 512 + layout.size }
     ensures { result ≡ some_child is_null layout page.now n }
 {
     for i in 0..n {
-        if word(page, 4 + layout.size * i) == 0 {
+        if u32_at(page, 4 + layout.size * i) == 0 {
             return true;
         }
     }
@@ -63,50 +63,50 @@ fn lacks_child(layout: Layout, page: &[u8], n: usize) -> bool
 }
 
 // The pair of a leaf's key record.
-fn entry(layout: Layout, page: &[u8], i: usize) -> Pair
-    requires layout { IsLayout layout }
+fn leaf_pair(layout: PageLayout, page: &[u8], i: usize) -> Pair
+    requires layout { IsPageLayout layout }
     requires fits { 12 + layout.size * i + layout.key_len ≤ length page.now }
-    ensures { result ≡ entry layout page.now i }
+    ensures { result ≡ leaf_pair layout page.now i }
 {
     let at = 12 + layout.size * i;
     Pair {
         key: Key::new(&page[at..at + layout.key_len]),
-        number: word(page, at - 4),
+        number: u32_at(page, at - 4),
     }
 }
 
 // Puts a leaf's first `n` pairs at the end.
-fn push_entries(
-    layout: Layout,
+fn push_leaf_pairs(
+    layout: PageLayout,
     page: &[u8],
     n: usize,
     pairs: &mut Vec<Pair>,
 ) -> Result<(), AllocFailed<Pair>>
     requires whole { length page.now ≡ 512 }
-    requires layout { IsLayout layout }
+    requires layout { IsPageLayout layout }
     requires fits { 4 + layout.size * n ≤ 512 }
-    ensures { OnOk result (pairs.new.items ≡ pairs.old.items ++ entries layout page.now n) }
+    ensures { OnOk result (pairs.new.items ≡ pairs.old.items ++ leaf_pairs layout page.now n) }
 {
     for i in 0..n {
-        pairs.push(entry(layout, page, i))?;
+        pairs.push(leaf_pair(layout, page, i))?;
     }
     Ok(())
 }
 
 // Puts the first `n` child pointers at the end, the first one last.
 fn push_children(
-    layout: Layout,
+    layout: PageLayout,
     page: &[u8],
     n: usize,
-    todo: &mut Vec<u32>,
+    pending: &mut Vec<u32>,
 ) -> Result<(), AllocFailed<u32>>
     requires whole { length page.now ≡ 512 }
-    requires layout { IsLayout layout }
+    requires layout { IsPageLayout layout }
     requires fits { 8 + layout.size * n ≤ 512 + layout.size }
-    ensures { OnOk result (todo.new.items ≡ todo.old.items ++ reverse (children layout page.now n)) }
+    ensures { OnOk result (pending.new.items ≡ pending.old.items ++ reverse (children layout page.now n)) }
 {
     for i in (0..n).rev() {
-        todo.push(word(page, 4 + layout.size * i))?;
+        pending.push(u32_at(page, 4 + layout.size * i))?;
     }
     Ok(())
 }
@@ -114,25 +114,25 @@ fn push_children(
 /// Takes the pairs of a leaf, or the children of an inner page.
 #[tactic(auto, unfolding(crate::specs::Pages::node_of))]
 pub(crate) fn take_page(
-    layout: Layout,
+    layout: PageLayout,
     page: &[u8],
-    todo: &mut Vec<u32>,
+    pending: &mut Vec<u32>,
     pairs: &mut Vec<Pair>,
 ) -> Result<(), NdxFault>
     requires whole { length page.now ≡ 512 }
-    requires layout { IsLayout layout }
-    ensures ok { OnOk result (Takes (node_of layout page.now) todo.old.items todo.new.items pairs.old.items pairs.new.items) }
+    requires layout { IsPageLayout layout }
+    ensures ok { OnOk result (Takes (node_of layout page.now) pending.old.items pending.new.items pairs.old.items pairs.new.items) }
     ensures err { IfErr result (Refuses (node_of layout page.now)) }
 {
-    let n = word(page, 0) as usize;
-    if word(page, 4) == 0 {
+    let n = u32_at(page, 0) as usize;
+    if u32_at(page, 4) == 0 {
         if 4 + n * layout.size > PAGE {
             return Err(NdxFault::TooManyEntries);
         }
         if has_child(layout, page, n) {
             return Err(NdxFault::MixedPage);
         }
-        push_entries(layout, page, n, pairs)?;
+        push_leaf_pairs(layout, page, n, pairs)?;
     } else {
         if 8 + n * layout.size > PAGE {
             return Err(NdxFault::TooManyEntries);
@@ -140,7 +140,7 @@ pub(crate) fn take_page(
         if lacks_child(layout, page, n + 1) {
             return Err(NdxFault::MixedPage);
         }
-        push_children(layout, page, n + 1, todo)?;
+        push_children(layout, page, n + 1, pending)?;
     }
     Ok(())
 }

@@ -1,76 +1,54 @@
 //! Numbers, zeros and key records as bytes.
-#![tactic(auto, using(crate::proofs::Sinks::sinks))]
+#![tactic(auto, using(crate::proofs::Sinks::puts))]
 
-ghost use Rattle.std.specs.Prelude.{◌≡◌, ◌+◌, ◌≤◌, length, replicate, OnOk, OnErr};
+ghost use Rattle.std.specs.Prelude.{◌≡◌, ◌+◌, ◌≤◌, length, replicate};
 ghost use Rattle.byteorder.specs.Endian.{little_bytes};
-ghost use Rattle.dbf_image.specs.Sink.{grown, Rises};
+ghost use Rattle.dbf_image.specs.Output.{Puts};
 ghost use Rattle.ndx_index.specs.Image.{key_record};
 
 use crate::shape::Shape;
 use byteorder::{ByteOrder, LittleEndian};
-use dbf_image::{ByteSink, SinkFault, Waiting, gather};
+use dbf_image::{ByteSink, SinkWriter};
 
-pub(crate) fn write_u16<S: ByteSink>(
-    sink: &mut S,
-    waiting: &mut Waiting,
-    number: u16,
-) -> Result<(), SinkFault>
-    ensures told { OnOk result (grown (S.written sink.new) waiting.new.items ≡ grown (grown (S.written sink.old) waiting.old.items) (little_bytes 2 number)) }
-    ensures fine { OnOk result (S.failures sink.new ≡ S.failures sink.old) }
-    ensures failed { OnErr result (Rises (S.failures sink.old) (S.failures sink.new)) }
+pub(crate) fn put_u16<S: ByteSink>(out: &mut SinkWriter<'_, S>, number: u16)
+    ensures { Puts out.old (little_bytes 2 number) out.new }
 {
     let mut bytes = [0; 2];
     LittleEndian::write_u16(&mut bytes, number);
-    gather(sink, waiting, &bytes)
+    out.put(&bytes);
 }
 
-pub(crate) fn write_u32<S: ByteSink>(
-    sink: &mut S,
-    waiting: &mut Waiting,
-    number: u32,
-) -> Result<(), SinkFault>
-    ensures told { OnOk result (grown (S.written sink.new) waiting.new.items ≡ grown (grown (S.written sink.old) waiting.old.items) (little_bytes 4 number)) }
-    ensures fine { OnOk result (S.failures sink.new ≡ S.failures sink.old) }
-    ensures failed { OnErr result (Rises (S.failures sink.old) (S.failures sink.new)) }
+pub(crate) fn put_u32<S: ByteSink>(out: &mut SinkWriter<'_, S>, number: u32)
+    ensures { Puts out.old (little_bytes 4 number) out.new }
 {
     let mut bytes = [0; 4];
     LittleEndian::write_u32(&mut bytes, number);
-    gather(sink, waiting, &bytes)
+    out.put(&bytes);
 }
 
-/// Writes this many zeros, as they fill a page up.
-pub(crate) fn write_zeros<S: ByteSink>(
-    sink: &mut S,
-    waiting: &mut Waiting,
-    n: usize,
-) -> Result<(), SinkFault>
+/// This many zeros, as they fill a page up.
+pub(crate) fn put_zeros<S: ByteSink>(out: &mut SinkWriter<'_, S>, n: usize)
     requires { n ≤ 512 }
-    ensures told { OnOk result (grown (S.written sink.new) waiting.new.items ≡ grown (grown (S.written sink.old) waiting.old.items) (replicate n 0)) }
-    ensures fine { OnOk result (S.failures sink.new ≡ S.failures sink.old) }
-    ensures failed { OnErr result (Rises (S.failures sink.old) (S.failures sink.new)) }
+    ensures { Puts out.old (replicate n 0) out.new }
 {
     let zeros = [0; 512];
-    gather(sink, waiting, &zeros[..n])
+    out.put(&zeros[..n]);
 }
 
-/// Writes a key record: the child page, the record number, the key, and zeros up to the record's size.
-#[tactic(auto, using(crate::proofs::Sinks::sinks), unfolding(crate::specs::Image::key_record))]
-pub(crate) fn write_record<S: ByteSink>(
-    sink: &mut S,
-    waiting: &mut Waiting,
+/// A key record: the child page, the record number, the key, and zeros up to the record's size.
+#[tactic(auto, using(crate::proofs::Sinks::puts), unfolding(crate::specs::Image::key_record))]
+pub(crate) fn put_key_record<S: ByteSink>(
+    out: &mut SinkWriter<'_, S>,
     shape: Shape,
     child: u32,
     number: u32,
     key: &[u8],
-) -> Result<(), SinkFault>
+)
     requires { length key.now ≤ 100 }
-    ensures told { OnOk result (grown (S.written sink.new) waiting.new.items ≡ grown (grown (S.written sink.old) waiting.old.items) (key_record shape.size child number key.now)) }
-    ensures fine { OnOk result (S.failures sink.new ≡ S.failures sink.old) }
-    ensures failed { OnErr result (Rises (S.failures sink.old) (S.failures sink.new)) }
+    ensures { Puts out.old (key_record shape.size child number key.now) out.new }
 {
-    write_u32(sink, waiting, child)?;
-    write_u32(sink, waiting, number)?;
-    gather(sink, waiting, key)?;
-    write_zeros(sink, waiting, shape.size.saturating_sub(8 + key.len()))?;
-    Ok(())
+    put_u32(out, child);
+    put_u32(out, number);
+    out.put(key);
+    put_zeros(out, shape.size.saturating_sub(8 + key.len()));
 }

@@ -4,7 +4,7 @@ ghost use Rattle.std.specs.Prelude.{◌≡◌, ◌+◌, ◌*◌, ◌/◌, ◌<�
 ghost use Rattle.std.proofs.Props.{props};
 ghost use Rattle.std.specs.List.{AllByRecursion};
 ghost use Rattle.ndx_index.specs.Image.{leaves};
-ghost use Rattle.ndx_index.specs.Levels.{IsLast, AreSizes, IsTop, key_under, level as level_of};
+ghost use Rattle.ndx_index.specs.Levels.{IsLast, AreSizes, IsRootLevel, key_under, level as level_of};
 
 use crate::pair::Pair;
 use crate::shape::Shape;
@@ -14,7 +14,7 @@ const LEVELS: usize = 32;
 
 /// A level of the tree.
 #[derive(Clone, Copy)]
-pub(crate) struct Level {
+pub(crate) struct LevelSpan {
     /// How many levels are below it: 0 for the leaves.
     pub height: usize,
     /// The number of its first page.
@@ -25,7 +25,7 @@ pub(crate) struct Level {
 
 /// What is known of a tree before any of it is written.
 #[derive(Clone, Copy)]
-pub(crate) struct Plan<'a> {
+pub(crate) struct TreePlan<'a> {
     pub shape: Shape,
     pub pairs: &'a [Pair],
     /// How many pages each level below the root has, from the leaves on.
@@ -38,12 +38,12 @@ pub(crate) struct Plan<'a> {
     ghost keys: { AllByRecursion (λ p. length p.key + 8 ≤ shape.size) pairs.now } by { Prim.hlevel props },
     ghost depth: { height ≤ length sizes },
     ghost below: { AreSizes shape.keys pairs.now height sizes },
-    ghost top: { IsTop shape.keys pairs.now height root },
+    ghost top: { IsRootLevel shape.keys pairs.now height root },
 }
 
-impl<'a> Plan<'a> {
+impl<'a> TreePlan<'a> {
     /// The plan of these pairs' tree.
-    pub(crate) fn new(shape: Shape, pairs: &'a [Pair]) -> Plan<'a>
+    pub(crate) fn new(shape: Shape, pairs: &'a [Pair]) -> TreePlan<'a>
         requires few { length pairs.now ≤ 1000000000 }
         requires keys { AllByRecursion (λ p. length p.key + 8 ≤ shape.size) pairs.now }
         ensures shape { result.shape ≡ shape }
@@ -55,7 +55,7 @@ impl<'a> Plan<'a> {
             sizes[level.height] = level.count;
             level = above(shape, level);
         }
-        Plan {
+        TreePlan {
             shape,
             pairs,
             sizes,
@@ -66,13 +66,13 @@ impl<'a> Plan<'a> {
 }
 
 // The level of the leaves.
-fn leaves_of(shape: Shape, pairs: &[Pair]) -> Level
+fn leaves_of(shape: Shape, pairs: &[Pair]) -> LevelSpan
     requires { length pairs.now ≤ 1000000000 }
     ensures height { result.height ≡ 0 }
     ensures first { result.first ≡ 1 }
     ensures count { result.count ≡ length (leaves shape.keys pairs.now) }
 {
-    Level {
+    LevelSpan {
         height: 0,
         first: 1,
         count: if pairs.is_empty() {
@@ -84,14 +84,14 @@ fn leaves_of(shape: Shape, pairs: &[Pair]) -> Level
 }
 
 // The level above a level of several pages.
-fn above(shape: Shape, level: Level) -> Level
+fn above(shape: Shape, level: LevelSpan) -> LevelSpan
     requires numbers { level.first + level.count ≤ 4294967295 }
     requires height { level.height < 32 }
     ensures height { result.height ≡ level.height + 1 }
     ensures first { result.first ≡ level.first + level.count }
     ensures count { result.count ≡ (level.count + shape.keys) / (shape.keys + 1) }
 {
-    Level {
+    LevelSpan {
         height: level.height + 1,
         first: level.first + level.count as u32,
         count: (level.count + shape.keys) / (shape.keys + 1),
@@ -115,7 +115,7 @@ fn last_child(shape: Shape, count: usize, page: usize) -> usize
 }
 
 /// The last pair under a page of a level: down the levels by arithmetic, and then its leaf's last.
-pub(crate) fn greatest<'a>(plan: &Plan<'a>, height: usize, page: usize) -> &'a Pair
+pub(crate) fn greatest<'a>(plan: &TreePlan<'a>, height: usize, page: usize) -> &'a Pair
     requires height { height < plan.now.height }
     requires inside { page < length (level_of plan.now.shape.keys plan.now.pairs.now height).pages }
     ensures { result.now.key ≡ key_under plan.now.shape.keys plan.now.pairs.now height page }

@@ -5,7 +5,7 @@ ghost use Rattle.std.specs.List.{AllByRecursion};
 
 use super::*;
 use dbf_fields::{Bytes, CHARACTER, Field, Schema};
-use dbf_image::{ByteSink, MemorySink, SinkFault};
+use dbf_image::{ByteSink, MemorySink, SinkFault, WriteFault};
 use key_expr::{Key, KeyExpr};
 use std::alloc::Global;
 use std::test::*;
@@ -16,14 +16,14 @@ const EMPTY: [u8; 28] = [
     0x45,
 ];
 
-// EMPTY with zeros behind it, of this length, and some of its bytes changed.
-fn file(alloc: Global, len: usize, places: &[(usize, u8)]) -> Result<Vec<u8>, Fail> {
+// EMPTY with zeros after it, of this length, and some of its bytes changed.
+fn file(alloc: Global, len: usize, changes: &[(usize, u8)]) -> Result<Vec<u8>, Fail> {
     let mut bytes = Vec::from_slice(alloc, &EMPTY)?;
     for _ in 28..len {
         bytes.push(0)?;
     }
-    for (place, value) in places {
-        if let Some(byte) = bytes.get_mut(*place) {
+    for (offset, value) in changes {
+        if let Some(byte) = bytes.get_mut(*offset) {
             *byte = *value;
         }
     }
@@ -37,7 +37,7 @@ fn part(bytes: &[u8], from: usize, to: usize) -> &[u8] {
     }
 }
 
-// The key of a record: two digits, and blanks behind them.
+// The key of a record: two digits, and blanks after them.
 fn key(number: u32, len: usize) -> Key
     requires { len ≤ 100 }
 {
@@ -89,7 +89,7 @@ fn schema_of_name(alloc: Global, width: u8) -> Result<Schema, Fail> {
     Ok(Schema::new(alloc, &[name])?)
 }
 
-// The field NAME between 241 parentheses on each side, and two blanks behind: 488 bytes.
+// The field NAME between 241 parentheses on each side, and two blanks after: 488 bytes.
 fn parenthesized(alloc: Global) -> Result<Vec<u8>, Fail> {
     let mut text = Vec::new(alloc);
     for _ in 0..241 {
@@ -108,7 +108,7 @@ fn write_into<S: ByteSink>(
     alloc: Global,
     index: &OrderedIndex,
     len: u8,
-) -> Result<Result<(), NdxWriteFault>, Fail> {
+) -> Result<Result<(), WriteFault>, Fail> {
     let expr = KeyExpr::parse(alloc, b"NAME", &schema_of_name(alloc, len)?)?;
     let pairs = index.pairs(alloc)?;
     if pairs.len() > 1_000_000_000 || !are_long(&pairs, expr.key_len()) {
@@ -354,7 +354,7 @@ fn failing_sink_has_the_front(rt: HostRuntime) -> Result<(), Fail> {
         };
         assert_eq!(rt;
             write_into(&mut sink, alloc, &index, 10)?,
-            Err(NdxWriteFault::Sink)
+            Err(WriteFault::Sink)
         );
         assert_eq!(rt; sink.taken.bytes.as_slice(), part(&whole, 0, writes));
     }

@@ -4,4 +4,4 @@ use Rattle.ndx_index.proofs.page.push_children.Given as goal
 
 abbrev pub invariant-loop-i : goal.invariant-loop-i
 invariant-loop-i l =
-    l.todo.items ++ reverse (children l.layout l.page l.i) ≡ l.fn.todo.items ++ reverse (children l.layout l.page l.n)
+    l.pending.items ++ reverse (children l.layout l.page l.i) ≡ l.fn.pending.items ++ reverse (children l.layout l.page l.n)

@@ -1,5 +1,5 @@
 use Rattle.std.proofs.Common.{◌+◌, ◌*◌, ◌-◌, ◌≤◌, ℕ, length, ◌∙◌, arith}
-use Rattle.ndx_index.proofs.Lasts.{step_down, step_same, last_pair}
+use Rattle.ndx_index.proofs.GreatestKeys.{step_down, step_same, last_pair}
 use Rattle.ndx_index.proofs.Planning.{leaf_low, some_pairs}
 use Rattle.ndx_index.proofs.plan.greatest.Goals as goal
 

@@ -8,14 +8,14 @@ use Rattle.ndx_index.proofs.index.OrderedIndex.insert.Goals as goal
 
 pub returns-clause-pairs : goal.returns-clause-pairs
 returns-clause-pairs c =
-    let at = c.place-at.result in
+    let at = c.pair_index-at.result in
     let pair = c.args.pair in
     let kept = c.self.inside.kept.items in
     let pairs = ap (λ (v : Index). v.pairs) c.self.view_is in
     let ok : is_ok c.insert-done.result ≡ true = cc in
-    let parts = c.place-at.ensures.parted in
+    let parts = c.pair_index-at.ensures.parted in
     c.insert-done.ensures.items ∙ ap (λ b. cond b (insert kept at pair) kept) ok ∙ ap (λ xs. insert xs at pair) pairs
-    ∙ placed_at pair c.args.self.now.pairs at (λ k d h. parts.0 k d (omega arith) h) (λ d h. parts.1 at d (omega arith) h) c.place-at.ensures.within
+    ∙ placed_at pair c.args.self.now.pairs at (λ k d h. parts.0 k d (omega arith) h) (λ d h. parts.1 at d (omega arith) h) c.pair_index-at.ensures.within
 
 pub invariant_of-self : goal.invariant_of-self
 invariant_of-self c =

@@ -12,9 +12,9 @@ use Rattle.ndx_index.proofs.index.OrderedIndex.remove.Goals.{Then-at-len, Then-n
 absent_past : (c : Then-at-len) → Contains c.args.self.now.pairs c.args.pair → ⊥
 absent_past c =
     let pairs = ap (λ (v : Index). v.pairs) c.self.view_is in
-    let parts = c.place-at.ensures.parted in
+    let parts = c.pair_index-at.ensures.parted in
     let n : length c.self.inside.kept.items ≡ length c.args.self.now.pairs = ap length pairs in
-    absent_at c.args.pair c.args.self.now.pairs c.place-at.result (subst AreInOrder pairs c.self.invariant) (λ k d h. parts.0 k d (omega arith) h) (λ k d le lt. parts.1 k d le lt) (λ lt e. omega (arith, c.self.inside.kept.ok.0))
+    absent_at c.args.pair c.args.self.now.pairs c.pair_index-at.result (subst AreInOrder pairs c.self.invariant) (λ k d h. parts.0 k d (omega arith) h) (λ k d le lt. parts.1 k d le lt) (λ lt e. omega (arith, c.self.inside.kept.ok.0))
 
 pub returns-then-at-len-clause-found : goal.returns-then-at-len-clause-found
 returns-then-at-len-clause-found c = (λ t. absurd (false≢true t), λ h. absurd (absent_past c h))
@@ -25,11 +25,11 @@ returns-then-at-len-clause-pairs c = sym (without_absent c.args.pair c.args.self
 absent_here : (c : Then-ne) → Contains c.args.self.now.pairs c.args.pair → ⊥
 absent_here c =
     let pairs = ap (λ (v : Index). v.pairs) c.self.view_is in
-    let parts = c.place-at.ensures.parted in
+    let parts = c.pair_index-at.ensures.parted in
     let read = rw pairs at c.index.ensures in
     let differs : not (same c.index.result.now c.args.pair) ≡ true = ap not (sym (same_by_parts c.index.result.now c.args.pair)) ∙ sym c.ne.ensures ∙ c.if-ne.true in
-    absent_at c.args.pair c.args.self.now.pairs c.place-at.result (subst AreInOrder pairs c.self.invariant) (λ k d h. parts.0 k d (omega arith) h) (λ k d le lt. parts.1 k d le lt)
-    (λ lt e. false≢true (sym (false-from_not _ differs) ∙ ap (λ q. same q c.args.pair) (read ∙ get_or_default c.args.self.now.pairs c.place-at.result c.index.result.now c.args.pair lt ∙ e) ∙ same_itself c.args.pair))
+    absent_at c.args.pair c.args.self.now.pairs c.pair_index-at.result (subst AreInOrder pairs c.self.invariant) (λ k d h. parts.0 k d (omega arith) h) (λ k d le lt. parts.1 k d le lt)
+    (λ lt e. false≢true (sym (false-from_not _ differs) ∙ ap (λ q. same q c.args.pair) (read ∙ get_or_default c.args.self.now.pairs c.pair_index-at.result c.index.result.now c.args.pair lt ∙ e) ∙ same_itself c.args.pair))
 
 pub returns-then-ne-clause-found : goal.returns-then-ne-clause-found
 returns-then-ne-clause-found c = (λ t. absurd (false≢true t), λ h. absurd (absent_here c h))
@@ -40,7 +40,7 @@ returns-then-ne-clause-pairs c = sym (without_absent c.args.pair c.args.self.now
 pub returns-clause-pairs : goal.returns-clause-pairs
 returns-clause-pairs c =
     let pairs = ap (λ (v : Index). v.pairs) c.self.view_is in
-    let at = c.place-at.result in
+    let at = c.pair_index-at.result in
     let now = c.args.self.now.pairs in
     let n : length c.self.inside.kept.items ≡ length now = ap length pairs in
     let lt : at < length now = omega (arith, c.self.inside.kept.ok.0) in

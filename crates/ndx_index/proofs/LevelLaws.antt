@@ -1,0 +1,70 @@
+-- More fuel makes no other levels.
+use Rattle.std.proofs.Common.{◌≡◌, ℕ, zero, suc, ◌+◌, ◌≤◌, List, [], ◌∷◌, ◌++◌, length, refl, ap, arith}
+use Rattle.std.specs.List.{AllByRecursion}
+use Rattle.ndx_index.specs.declared.pair.Pair.{Pair}
+use Rattle.ndx_index.specs.Levels.{level}
+use Rattle.ndx_index.specs.Image.{ChildEntry, child_entries, last_entry_key, last_key, leaves, inner_group_size, next_level, levels_above}
+use Rattle.ndx_index.proofs.Grouped.{joined, groups-join, inner_groups, group_size_some, count_two, all_groups}
+use Rattle.ndx_index.proofs.ImageLaw.{leaves_joined}
+use Rattle.ndx_index.proofs.ReadBack.{length-child_entries}
+
+pub half_as_many : (k n : ℕ) (ts : List ChildEntry) → 2 ≤ k → 2 ≤ length ts → length (child_entries last_entry_key n (next_level k ts)) + length (child_entries last_entry_key n (next_level k ts)) ≤ length ts
+half_as_many k n ts two many =
+    let gs : List (List ChildEntry) = next_level k ts in
+    let join : joined gs ≡ ts = groups-join (inner_group_size k) (length ts) ts (omega arith) (group_size_some k (omega arith)) in
+    let half : length gs + length gs ≤ length (joined gs) = count_two (k + 1) gs (inner_groups k (length ts) ts two (λ h. absurd (omega arith))) in
+    let total : length (joined gs) ≡ length ts = ap (λ (xs : List ChildEntry). length xs) join in
+    let long : length (child_entries last_entry_key n gs) ≡ length gs = length-child_entries last_entry_key n gs in
+    omega arith
+
+pub levels-fuel : (f h k n : ℕ) (ts : List ChildEntry) → 2 ≤ k → length ts ≤ f → length ts ≤ h → levels_above f k n ts ≡ levels_above h k n ts
+levels-fuel zero zero k n ts two a b = refl
+levels-fuel zero (suc h) k n [] two a b = refl
+levels-fuel zero (suc h) k n (t ∷ ts) two a b = absurd (omega arith)
+levels-fuel (suc f) zero k n [] two a b = refl
+levels-fuel (suc f) zero k n (t ∷ ts) two a b = absurd (omega arith)
+levels-fuel (suc f) (suc h) k n [] two a b = refl
+levels-fuel (suc f) (suc h) k n (t ∷ []) two a b = refl
+levels-fuel (suc f) (suc h) k n (t ∷ u ∷ ts) two a b =
+    let gs : List (List ChildEntry) = next_level k (t ∷ u ∷ ts) in
+    let half = half_as_many k n (t ∷ u ∷ ts) two (omega arith) in
+    ap (λ more. gs ++ more) (levels-fuel f h k (n + length gs) (child_entries last_entry_key n gs) two (omega arith) (omega arith))
+
+-- a level of several pages: the one above it, and then those above that
+pub levels-next : (k n : ℕ) (ts : List ChildEntry) → 2 ≤ k → 2 ≤ length ts → levels_above (length ts) k n ts
+    ≡ next_level k ts ++ levels_above (length (child_entries last_entry_key n (next_level k ts))) k (n + length (next_level k ts)) (child_entries last_entry_key n (next_level k ts))
+levels-next k n [] two many = absurd (omega arith)
+levels-next k n (t ∷ []) two many = absurd (omega arith)
+levels-next k n (t ∷ u ∷ ts) two many =
+    let gs : List (List ChildEntry) = next_level k (t ∷ u ∷ ts) in
+    let ups : List ChildEntry = child_entries last_entry_key n gs in
+    let half = half_as_many k n (t ∷ u ∷ ts) two many in
+    ap (λ more. gs ++ more) (levels-fuel (length (u ∷ ts)) (length ups) k (n + length gs) ups two (omega arith) (omega arith))
+
+-- ---- the greatest keys are keys of pairs
+
+short_last_entry : (size : ℕ) (ts : List ChildEntry) → 8 ≤ size → AllByRecursion (λ t. length t.key + 8 ≤ size) ts → length (last_entry_key ts) + 8 ≤ size
+short_last_entry size [] room h = omega arith
+short_last_entry size (t ∷ []) room h = h.0
+short_last_entry size (t ∷ u ∷ ts) room h = short_last_entry size (u ∷ ts) room h.1
+
+short_pair : (size : ℕ) (g : List Pair) → 8 ≤ size → AllByRecursion (λ p. length p.key + 8 ≤ size) g → length (last_key g) + 8 ≤ size
+short_pair size [] room h = omega arith
+short_pair size (p ∷ []) room h = h.0
+short_pair size (p ∷ q ∷ g) room h = short_pair size (q ∷ g) room h.1
+
+short_child_entries : {X : Type 0} (P : X → Type 0) (f : List X → List ℕ) (size n : ℕ) (gs : List (List X)) → ((g : List X) → AllByRecursion P g → length (f g) + 8 ≤ size)
+    → AllByRecursion (AllByRecursion P) gs → AllByRecursion (λ t. length t.key + 8 ≤ size) (child_entries f n gs)
+short_child_entries P f size n [] each h = tt
+short_child_entries P f size n (g ∷ gs) each h = (each g h.0, short_child_entries P f size (n + 1) gs each h.1)
+
+pub level_short : (size k : ℕ) (pairs : List Pair) (l : ℕ) → 1 ≤ k → 8 ≤ size → AllByRecursion (λ p. length p.key + 8 ≤ size) pairs → AllByRecursion (λ t. length t.key + 8 ≤ size) (level k pairs l).pages
+level_short size k pairs zero one room h =
+    let gs : List (List Pair) = leaves k pairs in
+    let join : joined gs ≡ pairs = leaves_joined k pairs one in
+    short_child_entries (λ p. length p.key + 8 ≤ size) last_key size 1 gs (λ g each. short_pair size g room each) (all_groups _ gs (rw join h))
+level_short size k pairs (suc l) one room h =
+    let ts : List ChildEntry = (level k pairs l).pages in
+    let gs : List (List ChildEntry) = next_level k ts in
+    let join : joined gs ≡ ts = groups-join (inner_group_size k) (length ts) ts (omega arith) (group_size_some k one) in
+    short_child_entries (λ t. length t.key + 8 ≤ size) last_entry_key size _ gs (λ g each. short_last_entry size g room each) (all_groups _ gs (rw join (level_short size k pairs l one room h)))
