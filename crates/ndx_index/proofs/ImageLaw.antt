@@ -1,21 +1,23 @@
 -- The file that is written of an index is an index file with its pairs, and no other.
-use Rattle.std.proofs.Common.{◌≡◌, ◌≢◌, ℕ, ◌+◌, ◌-◌, ◌*◌, ◌/◌, ◌^◌, ◌<◌, ◌≤◌, false, eqb, List, [], ◌∷◌, ◌++◌, length, map, replicate, refl, ap, sym, ◌∙◌, subst, arith, Ok}
-use Rattle.std.specs.Prelude.{slice_index, slice_range, nat_lt}
+use Rattle.std.proofs.Common.{◌≡◌, ◌≢◌, ℕ, ◌+◌, ◌-◌, ◌*◌, ◌/◌, ◌^◌, ◌<◌, ◌≤◌, true, List, [], ◌∷◌, ◌++◌, length, map, replicate, refl, ap, sym, ◌∙◌, subst, arith, None}
+use Rattle.std.specs.Prelude.{slice_index, slice_range, nat_le}
+use Rattle.std.specs.Int.{is_in_range}
+use Rattle.std.proofs.lemmas.Bool.Decides.{nat_tests}
+use Rattle.ndx_index.specs.declared.header.Header.{Header}
 use Rattle.std.specs.List.{AllByRecursion}
 use Rattle.std.proofs.Math.Nat.{div-mul-le_self, le-div_iff_mul-le}
-use Rattle.std.proofs.lemmas.Bool.{ne_eqb}
 use Rattle.std.proofs.lemmas.List.{take_at, length-append, length-replicate, length-map}
 use Rattle.byteorder.specs.Endian.{little_bytes}
 use Rattle.byteorder.specs.Numbers.{little_number-reads_back}
 use Rattle.ndx_index.specs.declared.pair.Pair.{Pair}
 use Rattle.ndx_index.specs.declared.page.PageLayout.{PageLayout}
 use Rattle.ndx_index.specs.Pages.{u32_at}
-use Rattle.ndx_index.specs.NdxTree.{Trees}
-use Rattle.ndx_index.specs.Header.{header_of, u16_at, before_zero, trimmed_end, expression, IsIndex}
+use Rattle.ndx_index.specs.NdxTree.{Trees, IsTree}
+use Rattle.ndx_index.specs.Header.{header_refusal, header_tests, ndx_header, u16_at, before_zero, trimmed_end, expression, IsIndex}
 use Rattle.ndx_index.proofs.Texts.{before_zeros, no_zero}
 use Rattle.ndx_index.specs.Image.{ChildEntry, child_entries, last_key, leaves, inner_pages, leaf_page, inner_page, filled_page, header_page, pages_of, ndx_image, record_size, page_keys, IsWritable}
 use Rattle.ndx_index.proofs.Grouped.{joined, groups-join, leaf_groups, count_one, HasSize, all_groups}
-use Rattle.ndx_index.proofs.PageBytes.{Fits, length-filled_page, ltb_false}
+use Rattle.ndx_index.proofs.PageBytes.{Fits, length-filled_page, leb_true}
 use Rattle.ndx_index.proofs.ReadBack.{pages_at, at_append, numbers, length-child_entries, once_distinct, child_entries_run, Level, levels_tree, levels_long, leaves_long, leaf_trees, all_both, child_entries_fit, last_of_tops}
 
 record Sizes (key_len : ℕ) : Type 0 where
@@ -76,15 +78,14 @@ length-header : (text : List ℕ) (key_len n : ℕ) → length text ≤ 488 → 
 unfolding header_page
 length-header text key_len n h = length-filled_page _ (omega arith)
 
-header_is : (bytes : List ℕ) (key_len size root : ℕ) → nat_lt (length bytes) 512 ≡ false → u16_at bytes 16 ≡ 0 → slice_index bytes 23 ≡ 0 → u16_at bytes 12 ≡ key_len → u16_at bytes 18 ≡ size → u32_at bytes 0 ≡ root
-    → 1 ≤ key_len → key_len ≤ 100 → key_len + 8 ≤ size → size ≤ 504 → header_of bytes ≡ Ok (record { layout = record { key_len = key_len; size = size }; root = root })
-unfolding header_of
-header_is bytes key_len size root long kind unique key_is size_is root_is some few room small =
-    let a : eqb key_len 0 ≡ false = ne_eqb key_len 0 (λ e. absurd (omega arith)) in
-    let b : nat_lt 100 key_len ≡ false = ltb_false 100 key_len few in
-    let c : nat_lt size (key_len + 8) ≡ false = ltb_false size (key_len + 8) room in
-    let d : nat_lt 504 size ≡ false = ltb_false 504 size small in
-    rw (long, kind, unique, key_is, size_is, root_is, a, b, c, d) refl
+header_accepted : (bytes : List ℕ) (key_len size : ℕ) → 512 ≤ length bytes → u16_at bytes 16 ≡ 0 → slice_index bytes 23 ≡ 0 → u16_at bytes 12 ≡ key_len → u16_at bytes 18 ≡ size
+    → 1 ≤ key_len → key_len ≤ 100 → key_len + 8 ≤ size → size ≤ 504 → header_refusal bytes ≡ None
+unfolding header_tests
+header_accepted bytes key_len size long kind unique key_is size_is some few room small =
+    let a : nat_le 512 (length bytes) ≡ true = grind (arith, nat_tests) in
+    let b : is_in_range 1 100 key_len ≡ true = grind (arith, nat_tests) in
+    let c : is_in_range (key_len + 8) 504 size ≡ true = grind (arith, nat_tests) in
+    rw (a, kind, unique, key_is, size_is, b, c) refl
 
 header_parts : (text rest : List ℕ) (key_len n : ℕ) → key_len ≤ 100 → record_size key_len ≤ 504 → n < 2 ^ 32
     → (u16_at (header_page text key_len n ++ rest) 16 ≡ 0) × (slice_index (header_page text key_len n ++ rest) 23 ≡ 0) × (u16_at (header_page text key_len n ++ rest) 12 ≡ key_len)
@@ -94,12 +95,13 @@ header_parts text rest key_len n few small fits =
     (refl, refl, little_number-reads_back 2 key_len [] (omega arith), little_number-reads_back 2 (record_size key_len) [] (omega arith), little_number-reads_back 4 (n - 1) [] (omega arith))
 
 header_reads : (text rest : List ℕ) (key_len n : ℕ) → length text ≤ 488 → 1 ≤ key_len → key_len ≤ 100 → Sizes key_len → record_size key_len ≤ 504 → n < 2 ^ 32
-    → header_of (header_page text key_len n ++ rest) ≡ Ok (record { layout = record { key_len = key_len; size = record_size key_len }; root = n - 1 })
+    → (header_refusal (header_page text key_len n ++ rest) ≡ None) × (ndx_header (header_page text key_len n ++ rest) ≡ record { layout = record { key_len = key_len; size = record_size key_len }; root = n - 1 })
+unfolding ndx_header
 header_reads text rest key_len n short_text some few sizes small fits =
     let bytes : List ℕ = header_page text key_len n ++ rest in
-    let long : nat_lt (length bytes) 512 ≡ false = ltb_false (length bytes) 512 (omega (arith, length-append (header_page text key_len n) rest, length-header text key_len n short_text)) in
+    let long : 512 ≤ length bytes = omega (arith, length-append (header_page text key_len n) rest, length-header text key_len n short_text) in
     let parts = header_parts text rest key_len n few small fits in
-    header_is bytes key_len (record_size key_len) (n - 1) long parts.0 parts.1 parts.2 parts.3 parts.4 some few sizes.room small
+    (header_accepted bytes key_len (record_size key_len) long parts.0 parts.1 parts.2 parts.3 some few sizes.room small, rw (parts.2, parts.3, parts.4) refl)
 
 -- the text and the zeros after it
 text_at : (text rest : List ℕ) (key_len n : ℕ) → length text ≤ 488 → slice_range (header_page text key_len n ++ rest) 24 512 ≡ text ++ replicate (488 - length text) 0
@@ -150,13 +152,14 @@ read_back text key_len pairs w =
     let level : Level s bytes (m + 1) ts pairs = record { pages = numbers ts; tree = subst (λ ps. Trees s bytes (numbers ts) (numbers ts) ps) join bottom; once = run.once; under = run.over } in
     let rooted = levels_tree s bytes m k (m + 1) (length pages) ts pairs (omega arith) (omega (arith, sizes.least)) (omega (arith, sizes.room)) sizes.fit sizes.most (omega arith) (omega arith)
     (omega (arith, w.few)) children (last_of_tops s bytes last_key 1 gs some ∙ add_one m) (omega arith) parts.1 level in
+    let reads = header_reads text (joined pages) key_len (1 + length pages) w.text_short w.key_some w.key_short sizes (omega (arith, w.key_short)) (omega (arith, w.few, up.few)) in
+    let header_is : ndx_header bytes ≡ record { layout = s; root = length pages } = reads.1 ∙ ap (λ r. record { layout = s; root = r }) (one_less (length pages)) in
     record {
-      header = record { layout = s; root = length pages };
-      header_is = header_reads text (joined pages) key_len (1 + length pages) w.text_short w.key_some w.key_short sizes (omega (arith, w.key_short)) (omega (arith, w.few, up.few)) ∙ ap (λ r. Ok (record { layout = s; root = r })) (one_less (length pages));
+      header_is = reads.0;
       text_is = sym (text_reads text (joined pages) key_len (1 + length pages) w.text_short);
-      length_is = refl;
+      length_is = ap (λ (h : Header). h.layout.key_len) (sym header_is);
       pages = rooted.pages;
-      tree = record { tree = rooted.tree; apart = once_distinct rooted.pages rooted.once };
+      tree = subst (λ (h : Header). IsTree h.layout bytes h.root rooted.pages pairs) (sym header_is) (record { tree = rooted.tree; apart = once_distinct rooted.pages rooted.once });
     }
   where
     add_one : (n : ℕ) → 1 + n ≡ n + 1

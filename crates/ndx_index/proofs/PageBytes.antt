@@ -1,7 +1,7 @@
 -- What a written page reads as.
-use Rattle.std.proofs.Common.{◌≡◌, ℕ, suc, ◌+◌, ◌-◌, ◌*◌, ◌^◌, ◌<◌, ◌≤◌, Bool, false, not, List, [], ◌∷◌, ◌++◌, length, map, drop, replicate, refl, ap, sym, ◌∙◌, append_assoc, append-nil, arith, Ok}
+use Rattle.std.proofs.Common.{◌≡◌, ℕ, suc, ◌+◌, ◌-◌, ◌*◌, ◌^◌, ◌<◌, ◌≤◌, Bool, true, false, not, List, [], ◌∷◌, ◌++◌, length, map, drop, replicate, refl, ap, sym, ◌∙◌, append_assoc, append-nil, arith, Ok}
 use Rattle.std.proofs.lemmas.Bool.Decides.{nat_tests}
-use Rattle.std.specs.Prelude.{flat_map, slice_range, nat_lt}
+use Rattle.std.specs.Prelude.{flat_map, slice_range, nat_le}
 use Rattle.std.specs.List.{AllByRecursion}
 use Rattle.std.proofs.lemmas.Bool.{ne_eqb}
 use Rattle.std.proofs.lemmas.List.{take_at, drop_at, length-append, length-replicate}
@@ -9,7 +9,7 @@ use Rattle.byteorder.specs.Endian.{little_bytes}
 use Rattle.byteorder.specs.Numbers.{little_number-reads_back}
 use Rattle.ndx_index.specs.declared.pair.Pair.{Pair}
 use Rattle.ndx_index.specs.declared.page.PageLayout.{PageLayout}
-use Rattle.ndx_index.specs.Pages.{leaf, inner, node_of, u32_at, child, leaf_pair, children, leaf_pairs, some_child, is_null}
+use Rattle.ndx_index.specs.Pages.{leaf, inner, node_of, page_tests, page_node, u32_at, child, leaf_pair, children, leaf_pairs, some_child, is_null}
 use Rattle.ndx_index.specs.Image.{ChildEntry, filled_page, key_record, leaf_record, inner_records, leaf_page, inner_page}
 
 pub length-filled_page : (xs : List ℕ) → length xs ≤ 512 → length (filled_page xs) ≡ 512
@@ -82,8 +82,8 @@ leaf_reads s (p ∷ g) front zs page j n room is long e fits before =
     let shift : leaf_pairs s page j ++ p ∷ g ≡ leaf_pairs s page (suc j) ++ g = sym (append_assoc (leaf_pairs s page j) (leaf_pair s page j ∷ []) g ∙ ap (λ q. leaf_pairs s page j ++ q ∷ g) at) in
     (shift ∙ more.0, more.1)
 
-pub ltb_false : (a b : ℕ) → b ≤ a → nat_lt a b ≡ false
-ltb_false a b h = grind (arith, nat_tests)
+pub leb_true : (a b : ℕ) → a ≤ b → nat_le a b ≡ true
+leb_true a b h = grind (arith, nat_tests)
 
 pub zeros_u32 : (n : ℕ) → u32_at (little_bytes 4 0 ++ replicate (suc (suc (suc (suc n)))) 0) 4 ≡ 0
 unfolding u32_at
@@ -108,7 +108,7 @@ first_null s (p ∷ g) =
     rw is (null_at s front (more ++ zs) p 0 (omega arith))
 
 pub leaf_node : (s : PageLayout) (g : List Pair) → s.key_len + 8 ≤ s.size → length g * s.size ≤ 504 → length g < 2 ^ 32 → AllByRecursion (Fits s) g → node_of s (leaf_page s.size g) ≡ Ok (leaf g)
-unfolding node_of leaf_page filled_page
+unfolding node_of page_tests page_node leaf_page filled_page
 leaf_node s g room few small fits =
     let front : List ℕ = little_bytes 4 (length g) in
     let body : List ℕ = flat_map (leaf_record s.size) g in
@@ -118,7 +118,7 @@ leaf_node s g room few small fits =
     let count : u32_at page 0 ≡ length g = rw is (u32_reads [] (body ++ zs) (length g) 0 refl small) in
     let reads = leaf_reads s g front zs page 0 (length g) room is (omega arith) (omega arith) fits refl in
     let first : child s page 0 ≡ 0 = first_null s g in
-    let fit : nat_lt 512 (4 + length g * s.size) ≡ false = ltb_false 512 (4 + length g * s.size) (omega arith) in
+    let fit : nat_le (4 + length g * s.size) 512 ≡ true = leb_true (4 + length g * s.size) 512 (omega arith) in
     rw (first, count, fit, reads.1, ← reads.0) refl
 
 -- a child pointer as it is read
@@ -167,7 +167,7 @@ first_child s t u g zs front page is long small =
 
 pub inner_node : (s : PageLayout) (t u : ChildEntry) (g : List ChildEntry) → (length g + 1) * s.size ≤ 504 → length g + 1 < 2 ^ 32 → AllByRecursion (IsChild s) (t ∷ u ∷ g)
     → node_of s (inner_page s.size (t ∷ u ∷ g)) ≡ Ok (inner (map (λ t. t.page) (t ∷ u ∷ g)))
-unfolding node_of inner_page filled_page
+unfolding node_of page_tests page_node inner_page filled_page
 inner_node s t u g few small fits =
     let front : List ℕ = little_bytes 4 (length (t ∷ u ∷ g) - 1) in
     let body : List ℕ = inner_records s.size (t ∷ u ∷ g) in
@@ -179,7 +179,7 @@ inner_node s t u g few small fits =
     let reads = inner_reads s t (u ∷ g) front zs page 0 (length g + 1 + 1) is (omega arith) (omega arith) fits refl in
     let first : child s page 0 ≡ t.page = first_child s t u g zs front page is (omega arith) fits.0.small in
     let there : is_null t.page ≡ false = not_null t.page fits.0.some in
-    let fit : nat_lt 512 (8 + (length g + 1) * s.size) ≡ false = ltb_false 512 (8 + (length g + 1) * s.size) (omega arith) in
+    let fit : nat_le (8 + (length g + 1) * s.size) 512 ≡ true = leb_true (8 + (length g + 1) * s.size) 512 (omega arith) in
     rw (first, there, count, fit, reads.1, ← reads.0) refl
 
 -- ---- lengths

@@ -1,6 +1,8 @@
 -- The header of an index file, and the whole file.
-use Rattle.std.specs.Prelude.{◌≡◌, ◌+◌, ℕ, not, List, [], ◌∷◌, length, drop, reverse, slice_index, slice_range, nat_lt, ◌==◌, ◌||◌, ◌⊎◌, Some, if◌then◌else◌, Result, Ok, Err}
+use Rattle.std.specs.Prelude.{◌≡◌, ◌+◌, ℕ, List, [], ◌∷◌, length, drop, reverse, slice_index, slice_range, nat_le, Bool, ◌==◌, ◌⊎◌, Option, Some, None, if◌then◌else◌}
+use Rattle.std.specs.Int.{is_in_range}
 use Rattle.byteorder.specs.Endian.{little_number}
+use Rattle.dbf_fields.specs.Faults.{first_fault}
 use Rattle.ndx_index.specs.declared.pair.Pair.{Pair}
 use Rattle.ndx_index.specs.declared.header.Header.{Header}
 use Rattle.ndx_index.specs.declared.fault.NdxFault.{NdxFault}
@@ -12,15 +14,23 @@ use Rattle.ndx_index.specs.NdxTree.{IsTree, Visits}
 unfoldable pub u16_at : List ℕ → ℕ → ℕ
 u16_at bytes at = little_number 2 (drop at bytes)
 
--- the header, or the first rule that it breaks
-unfoldable pub header_of : List ℕ → Result Header NdxFault
-header_of bytes =
-    if nat_lt (length bytes) 512 then Err Truncated
-    else (if not (u16_at bytes 16 == 0) then Err NumericIndex
-    else (if not (slice_index bytes 23 == 0) then Err UniqueIndex
-    else (if u16_at bytes 12 == 0 || nat_lt 100 (u16_at bytes 12) then Err BadKeyLength
-    else (if nat_lt (u16_at bytes 18) (u16_at bytes 12 + 8) || nat_lt 504 (u16_at bytes 18) then Err BadRecordSize
-    else Ok (record { layout = record { key_len = u16_at bytes 12; size = u16_at bytes 18 }; root = u32_at bytes 0 })))))
+-- each test of the header page beside the fault that it is for
+unfoldable pub header_tests : List ℕ → List (Bool × NdxFault)
+header_tests bytes =
+    (nat_le 512 (length bytes), Truncated)
+    ∷ (u16_at bytes 16 == 0, NumericIndex)
+    ∷ (slice_index bytes 23 == 0, UniqueIndex)
+    ∷ (is_in_range 1 100 (u16_at bytes 12), BadKeyLength)
+    ∷ (is_in_range (u16_at bytes 12 + 8) 504 (u16_at bytes 18), BadRecordSize)
+    ∷ []
+
+-- the first rule that the header page breaks
+abbrev pub header_refusal : List ℕ → Option NdxFault
+header_refusal bytes = first_fault (header_tests bytes)
+
+-- what the header page says, where no test fails
+unfoldable pub ndx_header : List ℕ → Header
+ndx_header bytes = record { layout = record { key_len = u16_at bytes 12; size = u16_at bytes 18 }; root = u32_at bytes 0 }
 
 -- the bytes up to the first zero
 unfoldable pub before_zero : List ℕ → List ℕ
@@ -42,15 +52,14 @@ expression bytes = trimmed_end (before_zero (slice_range bytes 24 512))
 
 -- the bytes are an index file with this key expression, keys of this length, and these pairs
 pub record IsIndex (bytes text : List ℕ) (key_len : ℕ) (pairs : List Pair) : Type 0 where
-  pub header : Header
-  pub header_is : header_of bytes ≡ Ok header
+  pub header_is : header_refusal bytes ≡ None
   pub text_is : text ≡ expression bytes
-  pub length_is : key_len ≡ header.layout.key_len
+  pub length_is : key_len ≡ (ndx_header bytes).layout.key_len
   pub pages : List ℕ
-  pub tree : IsTree header.layout bytes header.root pages pairs
+  pub tree : IsTree (ndx_header bytes).layout bytes (ndx_header bytes).root pages pairs
 
 -- this is the first rule that the bytes break
 abbrev pub Breaks : List ℕ → NdxFault → Type 0
 Breaks bytes e =
-    (header_of bytes ≡ Err e)
-    ⊎ ((header : Header) × (header_of bytes ≡ Ok header) × (pages : List ℕ) × (pairs : List Pair) × Visits header.layout bytes [] (header.root ∷ []) pages pairs (Some e))
+    (header_refusal bytes ≡ Some e)
+    ⊎ ((header_refusal bytes ≡ None) × (pages : List ℕ) × (pairs : List Pair) × Visits (ndx_header bytes).layout bytes [] ((ndx_header bytes).root ∷ []) pages pairs (Some e))

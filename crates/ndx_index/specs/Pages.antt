@@ -1,6 +1,7 @@
 -- What a page of an index file holds.
-use Rattle.std.specs.Prelude.{◌≤◌, ℕ, zero, suc, ◌+◌, ◌*◌, Bool, not, false, ◌||◌, ◌&&◌, List, [], ◌∷◌, ◌++◌, length, drop, slice_range, nat_lt, nat_le, ◌==◌, if◌then◌else◌, Result, Ok, Err}
+use Rattle.std.specs.Prelude.{◌≤◌, ℕ, zero, suc, ◌+◌, ◌*◌, Bool, not, false, ◌||◌, ◌&&◌, List, [], ◌∷◌, ◌++◌, length, drop, slice_range, nat_lt, nat_le, ◌==◌, if◌then◌else◌, Option, Some, None, Result, Ok, Err}
 use Rattle.byteorder.specs.Endian.{little_number}
+use Rattle.dbf_fields.specs.Faults.{first_fault}
 use Rattle.ndx_index.specs.declared.pair.Pair.{Pair}
 use Rattle.ndx_index.specs.declared.page.PageLayout.{PageLayout}
 use Rattle.ndx_index.specs.declared.fault.NdxFault.{NdxFault}
@@ -49,19 +50,40 @@ pub data Node : Type 0 where
 abbrev pub is_null : ℕ → Bool
 is_null p = p == 0
 
-abbrev pub leaf_of : PageLayout → List ℕ → ℕ → Result Node NdxFault
-leaf_of s page n =
-    if nat_lt 512 (4 + n * s.size) then Err TooManyEntries
-    else (if some_child (λ p. not (is_null p)) s page n then Err MixedPage else Ok (leaf (leaf_pairs s page n)))
+-- its first child pointer tells a page's kind
+abbrev pub is_leaf : PageLayout → List ℕ → Bool
+is_leaf s page = is_null (child s page 0)
 
-abbrev pub inner_of : PageLayout → List ℕ → ℕ → Result Node NdxFault
-inner_of s page n =
-    if nat_lt 512 (8 + n * s.size) then Err TooManyEntries
-    else (if some_child is_null s page (n + 1) then Err MixedPage else Ok (inner (children s page (n + 1))))
+-- each test of a leaf with n key records beside the fault that it is for,
+abbrev pub leaf_tests : PageLayout → List ℕ → ℕ → List (Bool × NdxFault)
+leaf_tests s page n =
+    (nat_le (4 + n * s.size) 512, TooManyEntries)
+    ∷ (not (some_child (λ p. not (is_null p)) s page n), MixedPage)
+    ∷ []
 
--- What a page holds, or the rule that it breaks. Its first child pointer tells the kind.
+-- of an inner page, which has one child more,
+abbrev pub inner_tests : PageLayout → List ℕ → ℕ → List (Bool × NdxFault)
+inner_tests s page n =
+    (nat_le (8 + n * s.size) 512, TooManyEntries)
+    ∷ (not (some_child is_null s page (n + 1)), MixedPage)
+    ∷ []
+
+-- and of any page
+unfoldable pub page_tests : PageLayout → List ℕ → List (Bool × NdxFault)
+page_tests s page = if is_leaf s page then leaf_tests s page (u32_at page 0) else inner_tests s page (u32_at page 0)
+
+-- what a page holds, where no test fails
+unfoldable pub page_node : PageLayout → List ℕ → Node
+page_node s page = if is_leaf s page then leaf (leaf_pairs s page (u32_at page 0)) else inner (children s page (u32_at page 0 + 1))
+
+-- a value, or the fault in its place
+abbrev pub value_or : {X F : Type 0} → X → Option F → Result X F
+value_or x None = Ok x
+value_or x (Some fault) = Err fault
+
+-- what a page holds, or the first rule that it breaks
 unfoldable pub node_of : PageLayout → List ℕ → Result Node NdxFault
-node_of s page = if is_null (child s page 0) then leaf_of s page (u32_at page 0) else inner_of s page (u32_at page 0)
+node_of s page = value_or (page_node s page) (first_fault (page_tests s page))
 
 -- the bytes of page p
 abbrev pub page_of : List ℕ → ℕ → List ℕ

@@ -1,7 +1,7 @@
 //! The header page of an index file.
 
-ghost use Rattle.std.specs.Prelude.{◌≡◌, ◌+◌, ◌≤◌, length, IfOk};
-ghost use Rattle.ndx_index.specs.Header.{u16_at, header_of, before_zero, trimmed_end, expression};
+ghost use Rattle.std.specs.Prelude.{◌≡◌, ◌+◌, ◌≤◌, length, IfOk, IfErr, OnOk};
+ghost use Rattle.ndx_index.specs.Header.{u16_at, header_refusal, ndx_header, before_zero, trimmed_end, expression};
 ghost use Rattle.ndx_index.specs.Pages.{IsPageLayout};
 
 use crate::fault::NdxFault;
@@ -27,9 +27,11 @@ fn u16_at(bytes: &[u8], at: usize) -> u16
 }
 
 /// Reads the header, or says which rule it breaks first.
-#[tactic(auto, unfolding(crate::specs::Header::header_of))]
+#[tactic(auto, unfolding(crate::specs::Header::header_tests, crate::specs::Header::ndx_header))]
 pub(crate) fn read_header(bytes: &[u8]) -> Result<Header, NdxFault>
-    ensures is { result ≡ header_of bytes.now }
+    ensures header { IfOk result (λ header. header ≡ ndx_header bytes.now) }
+    ensures accepted { OnOk result (header_refusal bytes.now ≡ None) }
+    ensures refused { IfErr result (λ e. header_refusal bytes.now ≡ Some e) }
     ensures long { IfOk result (λ header. 512 ≤ length bytes.now) }
     ensures layout { IfOk result (λ header. IsPageLayout header.layout) }
 {

@@ -112,7 +112,7 @@ fn push_children(
 }
 
 /// Takes the pairs of a leaf, or the children of an inner page.
-#[tactic(auto, unfolding(crate::specs::Pages::node_of))]
+#[tactic(auto, unfolding(crate::specs::Pages::node_of, crate::specs::Pages::page_tests, crate::specs::Pages::page_node))]
 pub(crate) fn take_page(
     layout: PageLayout,
     page: &[u8],

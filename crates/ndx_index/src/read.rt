@@ -1,9 +1,10 @@
 //! Reading an index file.
 
 ghost use Rattle.std.specs.Prelude.{◌≡◌, ◌≢◌, ℕ, List, IfOk, IfErr};
+ghost use Rattle.ndx_index.specs.declared.fault.NdxFault.{NdxFault as Fault};
 ghost use Rattle.ndx_index.specs.declared.fault.NdxFault.TheVariants.{NoMemory};
 ghost use Rattle.ndx_index.specs.declared.pair.Pair.{Pair as PairValue};
-ghost use Rattle.ndx_index.specs.Header.{IsIndex, Breaks};
+ghost use Rattle.ndx_index.specs.Header.{IsIndex, Breaks, header_refusal};
 ghost use Rattle.ndx_index.specs.Reading.{IsOnly};
 
 use crate::fault::NdxFault;
@@ -27,6 +28,7 @@ pub struct NdxFile {
 fn read_file(alloc: Global, bytes: &[u8]) -> Result<NdxFile, NdxFault>
     ensures found { IfOk result (λ file. IsIndex bytes.now file.expr file.key_len file.pairs.items) }
     ensures refused { IfErr result (λ e. e ≢ NoMemory → Breaks bytes.now e) }
+    ensures early { IfErr result (λ e. (f : Fault) → header_refusal bytes.now ≡ Some f → e ≡ f) }
 {
     let header = read_header(bytes)?;
     let pairs = read_tree(alloc, bytes, header.layout, header.root)?;
@@ -43,13 +45,15 @@ fn read_file(alloc: Global, bytes: &[u8]) -> Result<NdxFile, NdxFault>
 /// The header page is tested first, in the order of [`NdxFault`]: `Truncated`, `NumericIndex`,
 /// `UniqueIndex`, `BadKeyLength`, `BadRecordSize`. Then the pages are walked from the root, depth first
 /// and children from left to right, and each is tested for `PageOutside`, `PageTwice`, `TooManyEntries`
-/// and `MixedPage`. The fault is that of the first broken rule; `NoMemory` may come in place of any
-/// other answer. Pages that the walk does not reach, and keys and record numbers of inner pages, are
+/// and `MixedPage`. The fault is that of the first broken rule. `NoMemory` may come in place of any other
+/// answer, but for the header page's faults, which are found before any memory is taken. Pages that the walk does not reach, and keys and record numbers of inner pages, are
 /// never looked at.
 pub fn read_ndx(alloc: Global, bytes: &[u8]) -> Result<NdxFile, NdxFault>
     ensures found { IfOk result (λ file. IsIndex bytes.now file.expr file.key_len file.pairs.items) }
     ensures only { (text : List ℕ) (key_len : ℕ) (pairs : List PairValue) → IsIndex bytes.now text key_len pairs → IsOnly text key_len pairs result }
     ensures refused { IfErr result (λ e. e ≢ NoMemory → Breaks bytes.now e) }
+    // Where the header page breaks a rule the answer is its fault, and nothing else.
+    ensures early { IfErr result (λ e. (f : Fault) → header_refusal bytes.now ≡ Some f → e ≡ f) }
 {
     read_file(alloc, bytes)
 }

@@ -1,16 +1,19 @@
-use Rattle.std.proofs.Common.{refl, sym, ◌∙◌}
+use Rattle.std.proofs.Common.{refl, sym, ◌∙◌, ap, subst}
+use Rattle.ndx_index.specs.declared.header.Header.{Header}
+use Rattle.ndx_index.specs.NdxTree.{IsTree}
 use Rattle.ndx_index.proofs.Laws.{tree_from_visits}
 use Rattle.ndx_index.proofs.read.read_file.Goals as goal
 
 pub returns-clause-found : goal.returns-clause-found
 returns-clause-found c =
+    let bytes = c.args.bytes.now in
     let header = c.in_ok-header.header in
     let walk = c.in_ok-pairs.ensures.ok in
+    let tree = tree_from_visits header.layout bytes header.root walk.0 c.in_ok-pairs.pairs.items walk.1 in
     record {
-      header = header;
-      header_is = sym c.in_ok-header.ensures.is;
+      header_is = c.in_ok-header.ensures.accepted;
       text_is = c.in_ok-expr.ensures.value ∙ c.expression.ensures;
-      length_is = refl;
+      length_is = ap (λ (h : Header). h.layout.key_len) c.in_ok-header.ensures.header;
       pages = walk.0;
-      tree = tree_from_visits header.layout c.args.bytes.now header.root walk.0 c.in_ok-pairs.pairs.items walk.1;
+      tree = subst (λ (h : Header). IsTree h.layout bytes h.root walk.0 c.in_ok-pairs.pairs.items) c.in_ok-header.ensures.header tree;
     }
