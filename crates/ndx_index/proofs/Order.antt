@@ -15,7 +15,7 @@ use Rattle.std.proofs.lemmas.Cmp.{then_total, on_total, nat_list_cmp_total, nat_
 use Rattle.std.proofs.lemmas.Map.Lookups.{CmpEqualImpliesEq, exact_pairs, exact_bytes, exact_unsigned}
 use Rattle.std.proofs.lemmas.Map.Keys.{Less-from_sorted}
 use Rattle.ndx_index.specs.declared.pair.Pair.{Pair}
-use Rattle.ndx_index.specs.Order.{pair_cmp, before, same, placed, without, AreInOrder}
+use Rattle.ndx_index.specs.Order.{pair_cmp, before, same, placed, in_order, without, AreInOrder}
 use Rattle.ndx_index.proofs.Parts.{filter_all, filter_but}
 
 pub pairs_total : IsTotalOrder pair_cmp
@@ -76,7 +76,7 @@ parted_by u down ps sorted i j d le lt h = elim (cases_eq i j) [
 pub parted-before : (p : Pair) (ps : List Pair) → AreInOrder ps → IsPartitionedBy (λ q. before q p) ps
 parted-before p = parted_by (λ q. before q p) (λ a b h k. ap is_lt (before_trans a b p h (before_is b p k)))
 
--- a pair goes to its place
+-- a pair goes where it belongs
 pub placed_at : (p : Pair) (ps : List Pair) (i : ℕ) → ((k : ℕ) (d : Pair) → k < i → before (get_or ps k d) p ≡ true) → ((d : Pair) → i < length ps → before (get_or ps i d) p ≡ false) → i ≤ length ps → insert ps i p ≡ placed p ps
 placed_at p [] zero low here le = refl
 placed_at p [] (suc i) low here le = absurd (omega arith)
@@ -96,6 +96,17 @@ all_weaker P Q f (q ∷ qs) all = (f q all.0, all_weaker P Q f qs all.1)
 
 pub contains_more : (q : Pair) (qs : List Pair) (p : Pair) → Contains qs p → Contains (q ∷ qs) p
 contains_more q qs p h = (suc h.0, omega (arith, h.1), h.2)
+
+pub all-in_order : (P : Pair → Type 0) (ps : List Pair) → AllByRecursion P ps → AllByRecursion P (in_order ps)
+all-in_order P [] all = tt
+all-in_order P (p ∷ ps) all = all-placed P p (in_order ps) all.0 (all-in_order P ps all.1)
+
+pub all-filter : (P : Pair → Type 0) (t : Pair → Bool) (ps : List Pair) → AllByRecursion P ps → AllByRecursion P (filter t ps)
+all-filter P t [] all = tt
+all-filter P t (p ∷ ps) all = elim (t p) as (λ b. AllByRecursion P (cond b (p ∷ filter t ps) (filter t ps))) [
+  | true ↦ (all.0, all-filter P t ps all.1)
+  | false ↦ all-filter P t ps all.1
+]
 
 -- a new pair keeps the order
 pub sorted_placed : (p : Pair) (ps : List Pair) → AreInOrder ps → (Contains ps p → ⊥) → AreInOrder (placed p ps)
@@ -130,7 +141,7 @@ without_at p ps i sorted lt here = filter_but (λ q. not (same p q)) ps i lt
       | inr more ↦ irreflexive p (subst (λ q. pair_cmp p q ≡ Less) e (subst (λ q. pair_cmp q (get_or ps k d) ≡ Less) (here d) (Less-from_sorted pair_cmp ps i k d sorted (omega arith) klt)))
     ]))
 
--- a pair that isn't at its place isn't there
+-- a pair that isn't where it belongs isn't there
 pub absent_at : (p : Pair) (ps : List Pair) (i : ℕ) → AreInOrder ps → ((k : ℕ) (d : Pair) → k < i → before (get_or ps k d) p ≡ true) → ((k : ℕ) (d : Pair) → i ≤ k → k < length ps → before (get_or ps k d) p ≡ false) → (i < length ps → get_or ps i p ≡ p → ⊥) → Contains ps p → ⊥
 absent_at p ps i sorted low high ne h = elim (cases_lt h.0 i) [
   | inl less ↦ irreflexive p (subst (λ q. pair_cmp q p ≡ Less) h.2 (before_is (get_or ps h.0 p) p (low h.0 p less)))

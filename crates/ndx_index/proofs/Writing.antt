@@ -109,4 +109,4 @@ header_parts text key_len root o =
 pub header_puts : (w : Wanted) (text : List ℕ) (key_len root : ℕ)
     → more (more (more (more (more (more (more (more (more (more w (little_bytes 4 root)) (little_bytes 4 (root + 1))) (replicate 4 0)) (little_bytes 2 key_len)) (little_bytes 2 (page_keys key_len))) (replicate 2 0)) (little_bytes 2 (record_size key_len))) (replicate 4 0)) text) (replicate (488 - length text) 0)
     ≡ more w (header_page text key_len (root + 1))
-header_puts w text key_len root = ap (λ (o : Option (List ℕ)). record { written = o; failures = w.failures }) (header_parts text key_len root w.written)
+header_puts w text key_len root = ap (λ (o : Option (List ℕ)). record { begun = w.begun; written = o; failures = w.failures }) (header_parts text key_len root w.written)

@@ -3,64 +3,87 @@
 ghost use Rattle.std.specs.Prelude.{◌≡◌, ◌+◌, ◌-◌, ◌<◌, ◌≤◌, ◌↔◌, [], length, slice_get, Contains, IsTrue, OnOk, OnErr, IfOk, true, false};
 ghost use Rattle.std.specs.List.{IsDistinct};
 ghost use Rattle.std.specs.List.Sorted.{IsPartitionPoint};
+ghost use Rattle.ndx_index.specs.Index.{HaveLength};
 ghost use Rattle.ndx_index.specs.Order.{before, same, in_order, placed, without, first_from, next_of, previous_of, reaches, AreInOrder};
 
 use crate::pair::Pair;
 use std::alloc::{AllocError, Global};
 use std::marker::Model;
 
-/// The pairs of an index in order, none of them twice. Contracts see their list and how many inserts have
-/// room. The searches go by bisection, and take no memory.
+/// The pairs of an index in order, none of them twice, whose keys all have one length. Contracts see that
+/// length, the list of pairs, and how many inserts have room. The searches go by bisection, and take no
+/// memory.
 #[derive(Drop)]
 pub struct OrderedIndex {
+    key_len: usize,
     kept: Vec<Pair>,
 }
 
 impl Model for OrderedIndex {
     ghost use Rattle.std.specs.Prelude.{◌-◌, vec_len, vec_capacity};
-    ghost use Rattle.ndx_index.specs.Index.{Index};
+    ghost use Rattle.ndx_index.specs.Index.{Index, HaveLength};
     ghost use Rattle.ndx_index.specs.Order.{AreInOrder};
 
     ghost Value = { Index };
 
-    ghost view = { λ a. record { pairs = a.kept.items; spare = vec_capacity a.kept - vec_len a.kept } };
+    ghost view = { λ a. record { key_len = a.key_len; pairs = a.kept.items; spare = vec_capacity a.kept - vec_len a.kept } };
 
-    ghost invariant = { λ a. AreInOrder a.kept.items };
+    ghost invariant = { λ a. AreInOrder a.kept.items × HaveLength a.key_len a.kept.items };
 }
 
 impl OrderedIndex {
-    /// An index without pairs. It takes no memory.
-    pub fn new(alloc: Global) -> Self
+    /// An index without pairs, for keys of this many bytes. It takes no memory.
+    pub fn new(alloc: Global, key_len: usize) -> Self
+        requires { key_len ≤ 100 }
+        ensures key_len { result.key_len ≡ key_len }
         ensures pairs { result.pairs ≡ [] }
     {
         OrderedIndex {
+            key_len,
             kept: Vec::new(alloc),
         }
     }
 
-    /// The index of these pairs, put in order. It takes no memory.
-    pub fn from_pairs(mut pairs: Vec<Pair>) -> Self
+    /// The index of these pairs, put in order. `AllocError` where there is no memory for it.
+    pub fn from_pairs(_alloc: Global, key_len: usize, mut pairs: Vec<Pair>) -> Result<Self, AllocError>
+        requires short { key_len ≤ 100 }
+        requires keys { HaveLength key_len pairs.items }
         requires distinct { IsDistinct same pairs.items }
-        ensures pairs { result.pairs ≡ in_order pairs.items }
+        ensures key_len { IfOk result (λ index. index.key_len ≡ key_len) }
+        ensures pairs { IfOk result (λ index. index.pairs ≡ in_order pairs.items) }
     {
         pairs.sort_unstable();
-        OrderedIndex { kept: pairs }
+        Ok(OrderedIndex {
+            key_len,
+            kept: pairs,
+        })
+    }
+
+    /// The length of the keys.
+    pub fn key_len(&self) -> usize
+        ensures key_len { result ≡ self.now.key_len }
+        ensures keys { HaveLength self.now.key_len self.now.pairs }
+    {
+        self.key_len
     }
 
     /// Makes room for one insert at least. `AllocError` where there is no memory for it; the pairs are the
     /// same then, and no room is lost.
     pub fn reserve(&mut self) -> Result<(), AllocError>
         ensures ok { OnOk result (0 < self.new.spare) }
+        ensures key_len { self.new.key_len ≡ self.old.key_len }
         ensures pairs { self.new.pairs ≡ self.old.pairs }
         ensures spare { self.old.spare ≤ self.new.spare }
     {
         self.kept.reserve(1)
     }
 
-    /// Puts an absent pair in its place. It takes one insert's room, no memory, and can't fail.
+    /// Puts an absent pair where it belongs. It takes one insert's room, no memory, and can't fail.
     pub fn insert(&mut self, pair: Pair)
         requires room { 0 < self.old.spare }
+        requires key { length pair.key ≡ self.old.key_len }
         requires absent { Contains self.old.pairs pair → ⊥ }
+        ensures key_len { self.new.key_len ≡ self.old.key_len }
         ensures pairs { self.new.pairs ≡ placed pair self.old.pairs }
         ensures spare { self.old.spare ≤ self.new.spare + 1 }
     {
@@ -73,6 +96,7 @@ impl OrderedIndex {
     /// Takes the pair out, and says whether it was there. It takes no memory, and no room is lost.
     pub fn remove(&mut self, pair: Pair) -> bool
         ensures found { IsTrue result ↔ Contains self.old.pairs pair }
+        ensures key_len { self.new.key_len ≡ self.old.key_len }
         ensures pairs { self.new.pairs ≡ without pair self.old.pairs }
         ensures spare { self.old.spare ≤ self.new.spare }
     {
@@ -90,6 +114,7 @@ impl OrderedIndex {
     /// The least pair; `None` of an index without pairs.
     pub fn first(&self) -> Option<Pair>
         ensures pair { result ≡ slice_get self.now.pairs 0 }
+        ensures ordered { AreInOrder self.now.pairs }
     {
         self.kept.first().copied()
     }
@@ -133,6 +158,7 @@ impl OrderedIndex {
     pub fn pairs(&self, alloc: Global) -> Result<Vec<Pair>, AllocError>
         ensures pairs { IfOk result (λ v. v.items ≡ self.now.pairs) }
         ensures ordered { AreInOrder self.now.pairs }
+        ensures keys { HaveLength self.now.key_len self.now.pairs }
     {
         self.kept.as_slice().to_vec(alloc)
     }

@@ -71,6 +71,8 @@ pub fn write_ndx<S: ByteSink>(
     ensures dated { result ≡ Err WriteFault.DateOutside → ⊥ }
     ensures blocks { result ≡ Err WriteFault.TooManyBlocks → ⊥ }
     ensures failed { result ≡ Err WriteFault.Sink → Rises (S.failures sink.old) (S.failures sink.new) }
+    // What the sink held before the call it still holds.
+    ensures kept { IsFront (S.written sink.old) (S.written sink.new) }
     // What a sink that failed has taken is a front part of the file.
     ensures front { result ≡ Err WriteFault.Sink → IsFront (S.written sink.new) (grown (S.written sink.old) (ndx_image expr.now.text (key_length expr.now.fields expr.now.expr) pairs.now)) }
     // What is written can be read.

@@ -1,9 +1,9 @@
-use Rattle.std.proofs.Common.{ap, sym, subst, cond, true, ◌∙◌, ◌≡◌, arith}
+use Rattle.std.proofs.Common.{ap, sym, subst, cond, length, true, ◌∙◌, ◌≡◌, arith}
 use Rattle.std.specs.List.{insert}
 use Rattle.std.specs.Result.{is_ok}
-use Rattle.ndx_index.specs.Index.{Index}
+use Rattle.ndx_index.specs.Index.{Index, HaveLength}
 use Rattle.ndx_index.specs.Order.{AreInOrder}
-use Rattle.ndx_index.proofs.Order.{placed_at, sorted_placed}
+use Rattle.ndx_index.proofs.Order.{all-placed, placed_at, sorted_placed}
 use Rattle.ndx_index.proofs.index.OrderedIndex.insert.Goals as goal
 
 pub returns-clause-pairs : goal.returns-clause-pairs
@@ -20,4 +20,6 @@ returns-clause-pairs c =
 pub invariant_of-self : goal.invariant_of-self
 invariant_of-self c =
     let pairs = ap (λ (v : Index). v.pairs) c.self.view_is in
-    subst AreInOrder (sym (returns-clause-pairs c)) (sorted_placed c.args.pair c.args.self.now.pairs (subst AreInOrder pairs c.self.invariant) c.requires.absent)
+    let now = sym (returns-clause-pairs c) in
+    let keys = all-placed (λ p. length p.key ≡ c.self.inside.key_len) c.args.pair c.args.self.now.pairs (c.requires.key ∙ sym (ap (λ (v : Index). v.key_len) c.self.view_is)) (subst (HaveLength c.self.inside.key_len) pairs c.self.invariant.1) in
+    (subst AreInOrder now (sorted_placed c.args.pair c.args.self.now.pairs (subst AreInOrder pairs c.self.invariant.0) c.requires.absent), subst (HaveLength c.self.inside.key_len) now keys)

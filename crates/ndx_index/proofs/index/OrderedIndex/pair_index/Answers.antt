@@ -9,5 +9,5 @@ pub returns-clause-parted : goal.returns-clause-parted
 returns-clause-parted c =
     let p = c.args.pair.now in
     let pairs = ap (λ (v : Index). v.pairs) c.self.view_is in
-    let parted = c.partition_point.ensures.partitioned (λ q. before q p) (always_returns_same _ _ _ (λ a r f k. search (rules, of_calls))) (rw c.deref.ensures.value (parted-before p _ c.self.invariant)) in
+    let parted = c.partition_point.ensures.partitioned (λ q. before q p) (always_returns_same _ _ _ (λ a r f k. search (rules, of_calls))) (rw c.deref.ensures.value (parted-before p _ c.self.invariant.0)) in
     rw (← pairs, ← c.deref.ensures.value) parted
