@@ -10,7 +10,7 @@ Takes (Ok (leaf own)) pending pending' pairs pairs' = (pending' ≡ pending) × 
 Takes (Ok (inner children)) pending pending' pairs pairs' = (pending' ≡ pending ++ reverse children) × (pairs' ≡ pairs)
 Takes (Err e) pending pending' pairs pairs' = ⊥
 
--- memory ran out, or the page breaks this rule
+-- memory is refused, or the page breaks this rule
 abbrev pub Refuses : Result Node NdxFault → NdxFault → Type 0
 Refuses node e = (e ≡ NoMemory) ⊎ (node ≡ Err e)
 

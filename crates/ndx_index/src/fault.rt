@@ -36,8 +36,8 @@ pub enum NdxFault {
     /// A leaf has a child, or one of an inner page's children is missing.
     #[error("a page is neither a leaf nor an inner page")]
     MixedPage,
-    /// Memory ran out.
-    #[error("memory ran out")]
+    /// Memory is refused.
+    #[error("out of memory")]
     NoMemory,
 }
 

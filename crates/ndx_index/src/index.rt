@@ -45,7 +45,11 @@ impl OrderedIndex {
     }
 
     /// The index of these pairs, put in order. `AllocError` where there is no memory for it.
-    pub fn from_pairs(_alloc: Global, key_len: usize, mut pairs: Vec<Pair>) -> Result<Self, AllocError>
+    pub fn from_pairs(
+        _alloc: Global,
+        key_len: usize,
+        mut pairs: Vec<Pair>,
+    ) -> Result<Self, AllocError>
         requires short { key_len ≤ 100 }
         requires keys { HaveLength key_len pairs.items }
         requires distinct { IsDistinct same pairs.items }

@@ -1,0 +1,142 @@
+//! The files that are written of an index.
+
+use super::*;
+
+// The four bytes at an offset.
+fn four_at(bytes: &[u8], offset: usize) -> &[u8] {
+    part(bytes, offset, offset.saturating_add(4))
+}
+
+// The field NAME between 241 parentheses on each side, and two blanks after them: 488 bytes.
+fn parenthesized(alloc: Global) -> Result<Vec<u8>, Fail> {
+    let mut text = Vec::new(alloc);
+    for _ in 0..241 {
+        text.push(b'(')?;
+    }
+    text.extend_from_slice(b"NAME")?;
+    for _ in 0..241 {
+        text.push(b')')?;
+    }
+    text.extend_from_slice(b"  ")?;
+    Ok(text)
+}
+
+#[test]
+fn twenty_six_entries_make_three_pages(rt: HostRuntime) -> Result<(), Fail> {
+    let alloc = rt.alloc();
+    let full = written(alloc, &index_of(alloc, 25, 10)?, 10)?;
+    assert_eq!(rt; full.len(), 1_024);
+    assert_eq!(rt; part(&full, 0, 8), [1, 0, 0, 0, 2, 0, 0, 0].as_slice());
+
+    let index = index_of(alloc, 26, 10)?;
+    let bytes = written(alloc, &index, 10)?;
+    assert_eq!(rt; bytes.len(), 2_048);
+    assert_eq!(rt; part(&bytes, 0, 8), [3, 0, 0, 0, 4, 0, 0, 0].as_slice());
+    assert_eq!(rt;
+        part(&bytes, 12, 20),
+        [0x0a, 0, 0x19, 0, 0, 0, 0x14, 0].as_slice()
+    );
+    assert_eq!(rt; part(&bytes, 24, 28), [0x4e, 0x41, 0x4d, 0x45].as_slice());
+    assert_eq!(rt; part(&bytes, 512, 516), [25, 0, 0, 0].as_slice());
+    assert_eq!(rt; part(&bytes, 1_024, 1_028), [1, 0, 0, 0].as_slice());
+    let mut root = Vec::from_slice(alloc, &[1, 0, 0, 0, 1, 0, 0, 0, 0, 0, 0, 0])?;
+    root.extend_from_slice(b"25        \0\0\x02\0\0\0")?;
+    for _ in 28..512 {
+        root.push(0)?;
+    }
+    assert_eq!(rt; part(&bytes, 1_536, 2_048), root.as_slice());
+
+    let read = read_ndx(alloc, &bytes)?;
+    assert_eq!(rt; read.expr.as_slice(), b"NAME".as_slice());
+    assert_eq!(rt; read.key_len, 10);
+    assert!(rt; read.pairs == index.pairs(alloc)?);
+    assert_eq!(rt; read.pairs.len(), 26);
+    Ok(())
+}
+
+#[test]
+fn wide_keys_make_inner_pages(rt: HostRuntime) -> Result<(), Fail> {
+    let alloc = rt.alloc();
+    let bytes = written(alloc, &index_of(alloc, 17, 100)?, 100)?;
+    assert_eq!(rt; bytes.len(), 3_584);
+    // The root is page 6, which has the five leaves as its children.
+    let cases = [
+        (0, [6, 0, 0, 0]),
+        (4, [7, 0, 0, 0]),
+        (12, [100, 0, 4, 0]),
+        (16, [0, 0, 108, 0]),
+        (2_560, [1, 0, 0, 0]),
+        (3_072, [4, 0, 0, 0]),
+        (3_076, [1, 0, 0, 0]),
+        (3_184, [2, 0, 0, 0]),
+        (3_292, [3, 0, 0, 0]),
+        (3_400, [4, 0, 0, 0]),
+        (3_508, [5, 0, 0, 0]),
+    ];
+    for (offset, expected) in cases {
+        assert_eq!(rt; four_at(&bytes, offset), expected.as_slice());
+    }
+    Ok(())
+}
+
+#[test]
+fn twenty_one_wide_keys_make_three_levels(rt: HostRuntime) -> Result<(), Fail> {
+    let alloc = rt.alloc();
+    let index = index_of(alloc, 21, 100)?;
+    let bytes = written(alloc, &index, 100)?;
+    assert_eq!(rt; bytes.len(), 5_120);
+    // Page 7 has four children, page 8 two, and the root, page 9, these two pages.
+    let cases = [
+        (0, [9, 0, 0, 0]),
+        (4, [10, 0, 0, 0]),
+        (3_584, [3, 0, 0, 0]),
+        (3_588, [1, 0, 0, 0]),
+        (4_096, [1, 0, 0, 0]),
+        (4_100, [5, 0, 0, 0]),
+        (4_208, [6, 0, 0, 0]),
+        (4_608, [1, 0, 0, 0]),
+        (4_612, [7, 0, 0, 0]),
+        (4_620, [b'1', b'6', b' ', b' ']),
+        (4_720, [8, 0, 0, 0]),
+    ];
+    for (offset, expected) in cases {
+        assert_eq!(rt; four_at(&bytes, offset), expected.as_slice());
+    }
+    let read = read_ndx(alloc, &bytes)?;
+    assert_eq!(rt; read.key_len, 100);
+    assert!(rt; read.pairs == index.pairs(alloc)?);
+    assert_eq!(rt; read.pairs.len(), 21);
+    Ok(())
+}
+
+#[test]
+fn empty_index_file(rt: HostRuntime) -> Result<(), Fail> {
+    let alloc = rt.alloc();
+    let bytes = written(alloc, &OrderedIndex::new(alloc, 10), 10)?;
+    assert_eq!(rt; bytes.len(), 1_024);
+    assert_eq!(rt; part(&bytes, 0, 8), [1, 0, 0, 0, 2, 0, 0, 0].as_slice());
+    assert_eq!(rt; part(&bytes, 512, 1_024), [0; 512].as_slice());
+    assert_eq!(rt; bytes, file(alloc, 1_024, &[])?);
+    assert!(rt; read_ndx(alloc, &bytes)?.pairs.is_empty());
+    Ok(())
+}
+
+#[test]
+#[tactic(auto, using(crate::proofs::Order::sorted_none))]
+fn expression_ends_at_zero_without_blanks(rt: HostRuntime) -> Result<(), Fail> {
+    let alloc = rt.alloc();
+    let bytes = file(alloc, 1_024, &[(28, b' '), (29, b' '), (31, b'X')])?;
+    assert_eq!(rt;
+        read_ndx(alloc, &bytes)?.expr.as_slice(),
+        b"NAME".as_slice()
+    );
+    let mut sink = MemorySink::new(alloc);
+    let text = parenthesized(alloc)?;
+    let expr = KeyExpr::parse(alloc, &text, &schema_of_name(alloc, 10)?)?;
+    write_ndx(&mut sink, &expr, &[])?;
+    assert_eq!(rt; sink.bytes.len(), 1_024);
+    let read = read_ndx(alloc, &sink.bytes)?;
+    assert_eq!(rt; read.expr.as_slice().len(), 486);
+    assert_eq!(rt; read.expr.as_slice(), part(&text, 0, 486));
+    Ok(())
+}
