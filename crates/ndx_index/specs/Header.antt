@@ -6,6 +6,7 @@ use Rattle.dbf_fields.specs.Faults.{first_fault}
 use Rattle.ndx_index.specs.declared.pair.Pair.{Pair}
 use Rattle.ndx_index.specs.declared.header.Header.{Header}
 use Rattle.ndx_index.specs.declared.fault.NdxFault.{NdxFault}
+use Rattle.ndx_index.specs.declared.format.TheConstants.{PAGE, KEY_LENGTH_OFFSET, KEY_TYPE_OFFSET, RECORD_SIZE_OFFSET, UNIQUE_FLAG_OFFSET, EXPRESSION_OFFSET, MAX_KEY_LENGTH, MAX_RECORDS_BYTES}
 use Rattle.ndx_index.specs.declared.fault.NdxFault.TheVariants.{Truncated, NumericIndex, UniqueIndex, BadKeyLength, BadRecordSize}
 use Rattle.ndx_index.specs.Pages.{u32_at}
 use Rattle.ndx_index.specs.NdxTree.{IsTree, Visits}
@@ -17,11 +18,11 @@ u16_at bytes at = little_number 2 (drop at bytes)
 -- each test of the header page beside the fault that it is for
 unfoldable pub header_tests : List ℕ → List (Bool × NdxFault)
 header_tests bytes =
-    (nat_le 512 (length bytes), Truncated)
-    ∷ (u16_at bytes 16 == 0, NumericIndex)
-    ∷ (slice_index bytes 23 == 0, UniqueIndex)
-    ∷ (is_in_range 1 100 (u16_at bytes 12), BadKeyLength)
-    ∷ (is_in_range (u16_at bytes 12 + 8) 504 (u16_at bytes 18), BadRecordSize)
+    (nat_le PAGE (length bytes), Truncated)
+    ∷ (u16_at bytes KEY_TYPE_OFFSET == 0, NumericIndex)
+    ∷ (slice_index bytes UNIQUE_FLAG_OFFSET == 0, UniqueIndex)
+    ∷ (is_in_range 1 MAX_KEY_LENGTH (u16_at bytes KEY_LENGTH_OFFSET), BadKeyLength)
+    ∷ (is_in_range (u16_at bytes KEY_LENGTH_OFFSET + 8) MAX_RECORDS_BYTES (u16_at bytes RECORD_SIZE_OFFSET), BadRecordSize)
     ∷ []
 
 -- the first rule that the header page breaks
@@ -30,7 +31,7 @@ header_refusal bytes = first_fault (header_tests bytes)
 
 -- what the header page says, where no test fails
 unfoldable pub ndx_header : List ℕ → Header
-ndx_header bytes = record { layout = record { key_len = u16_at bytes 12; size = u16_at bytes 18 }; root = u32_at bytes 0 }
+ndx_header bytes = record { layout = record { key_len = u16_at bytes KEY_LENGTH_OFFSET; size = u16_at bytes RECORD_SIZE_OFFSET }; root = u32_at bytes 0 }
 
 -- the bytes up to the first zero
 unfoldable pub before_zero : List ℕ → List ℕ
@@ -46,9 +47,9 @@ after_blanks (b ∷ bs) = if b == 32 then after_blanks bs else b ∷ bs
 unfoldable pub trimmed_end : List ℕ → List ℕ
 trimmed_end bs = reverse (after_blanks (reverse bs))
 
--- the text of the key expression: from byte 24 of the header page on
+-- the text of the key expression: to the header page's end
 abbrev pub expression : List ℕ → List ℕ
-expression bytes = trimmed_end (before_zero (slice_range bytes 24 512))
+expression bytes = trimmed_end (before_zero (slice_range bytes EXPRESSION_OFFSET PAGE))
 
 -- the bytes are an index file with this key expression, keys of this length, and these pairs
 pub record IsIndex (bytes text : List ℕ) (key_len : ℕ) (pairs : List Pair) : Type 0 where

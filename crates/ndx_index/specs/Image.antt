@@ -2,6 +2,7 @@
 use Rattle.std.specs.Prelude.{◌≡◌, ℕ, zero, suc, ◌+◌, ◌-◌, ◌*◌, ◌/◌, ◌^◌, ◌<◌, ◌≤◌, ◌==◌, List, [], ◌∷◌, ◌++◌, map, length, refl, replicate, take, drop, flat_map, if◌then◌else◌, slice_range}
 use Rattle.std.specs.List.{AllByRecursion}
 use Rattle.byteorder.specs.Endian.{little_bytes}
+use Rattle.ndx_index.specs.declared.format.TheConstants.{PAGE, MAX_RECORDS_BYTES, MAX_TEXT_BYTES, MAX_KEY_LENGTH, MAX_PAIRS}
 use Rattle.ndx_index.specs.declared.pair.Pair.{Pair}
 
 -- ---- layout
@@ -12,7 +13,7 @@ record_size key_len = 4 * ((key_len + 11) / 4)
 
 -- the most key records of a page
 abbrev pub page_keys : ℕ → ℕ
-page_keys key_len = 504 / record_size key_len
+page_keys key_len = MAX_RECORDS_BYTES / record_size key_len
 
 -- ---- groups
 
@@ -79,7 +80,7 @@ inner_pages k pairs =
 
 -- filled up to a page with zeros
 unfoldable pub filled_page : List ℕ → List ℕ
-filled_page xs = xs ++ replicate (512 - length xs) 0
+filled_page xs = xs ++ replicate (PAGE - length xs) 0
 
 -- a key record: child page, record number, key, and zeros up to its size
 unfoldable pub key_record : ℕ → ℕ → ℕ → List ℕ → List ℕ
@@ -119,10 +120,10 @@ ndx_image text key_len pairs =
 
 -- what can be written: a key expression that fits the header page, and keys of one length
 pub record IsWritable (text : List ℕ) (key_len : ℕ) (pairs : List Pair) : Type 0 where
-  pub text_short : length text ≤ 488
+  pub text_short : length text ≤ MAX_TEXT_BYTES
   pub key_some : 1 ≤ key_len
-  pub key_short : key_len ≤ 100
-  pub few : length pairs ≤ 1000000000
+  pub key_short : key_len ≤ MAX_KEY_LENGTH
+  pub few : length pairs ≤ MAX_PAIRS
   pub each : AllByRecursion (λ p. (length p.key ≡ key_len) × (p.number < 2 ^ 32)) pairs
 
 -- ---- worked sizes

@@ -5,13 +5,14 @@ use Rattle.dbf_fields.specs.Faults.{first_fault}
 use Rattle.ndx_index.specs.declared.pair.Pair.{Pair}
 use Rattle.ndx_index.specs.declared.page.PageLayout.{PageLayout}
 use Rattle.ndx_index.specs.declared.fault.NdxFault.{NdxFault}
+use Rattle.ndx_index.specs.declared.format.TheConstants.{PAGE, MAX_KEY_LENGTH, MAX_RECORDS_BYTES}
 use Rattle.ndx_index.specs.declared.fault.NdxFault.TheVariants.{TooManyEntries, MixedPage}
 
 -- a key record has a pointer, a number and a key of at most a hundred bytes, and fits a page
 pub record IsPageLayout (s : PageLayout) : Type 0 where
-  pub key_short : s.key_len ≤ 100
+  pub key_short : s.key_len ≤ MAX_KEY_LENGTH
   pub key_fits : s.key_len + 8 ≤ s.size
-  pub size_fits : s.size ≤ 504
+  pub size_fits : s.size ≤ MAX_RECORDS_BYTES
 
 -- the number in the four bytes at an offset
 unfoldable pub u32_at : List ℕ → ℕ → ℕ
@@ -57,14 +58,14 @@ is_leaf s page = is_null (child s page 0)
 -- each test of a leaf with n key records beside the fault that it is for,
 abbrev pub leaf_tests : PageLayout → List ℕ → ℕ → List (Bool × NdxFault)
 leaf_tests s page n =
-    (nat_le (4 + n * s.size) 512, TooManyEntries)
+    (nat_le (4 + n * s.size) PAGE, TooManyEntries)
     ∷ (not (some_child (λ p. not (is_null p)) s page n), MixedPage)
     ∷ []
 
 -- of an inner page, which has one child more,
 abbrev pub inner_tests : PageLayout → List ℕ → ℕ → List (Bool × NdxFault)
 inner_tests s page n =
-    (nat_le (8 + n * s.size) 512, TooManyEntries)
+    (nat_le (8 + n * s.size) PAGE, TooManyEntries)
     ∷ (not (some_child is_null s page (n + 1)), MixedPage)
     ∷ []
 
@@ -87,8 +88,8 @@ node_of s page = value_or (page_node s page) (first_fault (page_tests s page))
 
 -- the bytes of page p
 abbrev pub page_of : List ℕ → ℕ → List ℕ
-page_of bytes p = slice_range bytes (512 * p) (512 * p + 512)
+page_of bytes p = slice_range bytes (PAGE * p) (PAGE * p + PAGE)
 
 -- page p is whole in the file, and isn't the header
 abbrev pub is_page : List ℕ → ℕ → Bool
-is_page bytes p = nat_lt 0 p && nat_le (512 * p + 512) (length bytes)
+is_page bytes p = nat_lt 0 p && nat_le (PAGE * p + PAGE) (length bytes)

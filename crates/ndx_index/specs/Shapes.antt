@@ -1,15 +1,16 @@
 -- How the pages of an index are filled.
 use Rattle.std.specs.Prelude.{◌≡◌, ℕ, ◌+◌, ◌*◌, ◌≤◌}
+use Rattle.ndx_index.specs.declared.format.TheConstants.{MAX_KEY_LENGTH, MAX_RECORDS_BYTES}
 use Rattle.ndx_index.specs.Image.{record_size, page_keys}
 
 -- the bytes of a key record and the most key records of a page, for keys of this length
 pub record IsShape (key_len size keys : ℕ) : Type 0 where
   pub key_some : 1 ≤ key_len
-  pub key_short : key_len ≤ 100
+  pub key_short : key_len ≤ MAX_KEY_LENGTH
   pub size_is : size ≡ record_size key_len
   pub keys_are : keys ≡ page_keys key_len
   pub room : key_len + 8 ≤ size
-  pub small : size ≤ 504
+  pub small : size ≤ MAX_RECORDS_BYTES
   pub some : 2 ≤ keys
-  pub few : keys ≤ 504
-  pub fits : keys * size ≤ 504
+  pub few : keys ≤ MAX_RECORDS_BYTES
+  pub fits : keys * size ≤ MAX_RECORDS_BYTES

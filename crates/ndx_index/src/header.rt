@@ -5,7 +5,11 @@ ghost use Rattle.ndx_index.specs.Header.{u16_at, header_refusal, ndx_header, bef
 ghost use Rattle.ndx_index.specs.Pages.{IsPageLayout};
 
 use crate::fault::NdxFault;
-use crate::page::{PAGE, PageLayout, u32_at};
+use crate::format::{
+    EXPRESSION_OFFSET, KEY_LENGTH_OFFSET, KEY_TYPE_OFFSET, MAX_KEY_LENGTH, MAX_RECORDS_BYTES, PAGE,
+    RECORD_SIZE_OFFSET, UNIQUE_FLAG_OFFSET,
+};
+use crate::page::{PageLayout, u32_at};
 use byteorder::{ByteOrder, LittleEndian};
 
 /// What the header of an index file says of its pages.
@@ -32,24 +36,24 @@ pub(crate) fn read_header(bytes: &[u8]) -> Result<Header, NdxFault>
     ensures header { IfOk result (λ header. header ≡ ndx_header bytes.now) }
     ensures accepted { OnOk result (header_refusal bytes.now ≡ None) }
     ensures refused { IfErr result (λ e. header_refusal bytes.now ≡ Some e) }
-    ensures long { IfOk result (λ header. 512 ≤ length bytes.now) }
+    ensures long { IfOk result (λ header. PAGE ≤ length bytes.now) }
     ensures layout { IfOk result (λ header. IsPageLayout header.layout) }
 {
     if bytes.len() < PAGE {
         return Err(NdxFault::Truncated);
     }
-    if u16_at(bytes, 16) != 0 {
+    if u16_at(bytes, KEY_TYPE_OFFSET) != 0 {
         return Err(NdxFault::NumericIndex);
     }
-    if bytes[23] != 0 {
+    if bytes[UNIQUE_FLAG_OFFSET] != 0 {
         return Err(NdxFault::UniqueIndex);
     }
-    let key_len = u16_at(bytes, 12) as usize;
-    if key_len == 0 || key_len > 100 {
+    let key_len = u16_at(bytes, KEY_LENGTH_OFFSET) as usize;
+    if key_len == 0 || key_len > MAX_KEY_LENGTH {
         return Err(NdxFault::BadKeyLength);
     }
-    let size = u16_at(bytes, 18) as usize;
-    if size < key_len + 8 || size > 504 {
+    let size = u16_at(bytes, RECORD_SIZE_OFFSET) as usize;
+    if size < key_len + 8 || size > MAX_RECORDS_BYTES {
         return Err(NdxFault::BadRecordSize);
     }
     Ok(Header {
@@ -87,8 +91,8 @@ fn trimmed_end(text: &[u8]) -> &[u8]
 /// The text of the key expression: from byte 24 of the header page up to its first zero or the page's
 /// end, without the blanks after it.
 pub(crate) fn expression(bytes: &[u8]) -> &[u8]
-    requires { 512 ≤ length bytes.now }
+    requires { PAGE ≤ length bytes.now }
     ensures { result.now ≡ expression bytes.now }
 {
-    trimmed_end(before_zero(&bytes[24..PAGE]))
+    trimmed_end(before_zero(&bytes[EXPRESSION_OFFSET..PAGE]))
 }

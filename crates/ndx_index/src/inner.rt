@@ -6,6 +6,7 @@ ghost use Rattle.dbf_image.specs.Output.{Puts};
 ghost use Rattle.ndx_index.specs.Image.{inner_group_size, inner_pages, inner_records, inner_page, next_level};
 ghost use Rattle.ndx_index.specs.Levels.{IsLevel, children_from, level as level_of};
 
+use crate::format::MAX_RECORDS_BYTES;
 use crate::pieces::{put_key_record, put_u32, put_zeros};
 use crate::plan::{LevelSpan, TreePlan, greatest};
 use crate::shape::Shape;
@@ -51,7 +52,7 @@ fn put_inner<S: ByteSink>(
 {
     put_u32(out, (count - 1) as u32);
     put_children(out, plan, level, at, count);
-    put_zeros(out, 504 - (count - 1) * plan.shape.size);
+    put_zeros(out, MAX_RECORDS_BYTES - (count - 1) * plan.shape.size);
 }
 
 // How many of `left` children the next page takes.

@@ -6,6 +6,7 @@ ghost use Rattle.std.specs.List.{AllByRecursion};
 ghost use Rattle.dbf_image.specs.Output.{Puts};
 ghost use Rattle.ndx_index.specs.Image.{leaf_record, leaf_page, leaves};
 
+use crate::format::PAGE;
 use crate::pair::Pair;
 use crate::pieces::{put_key_record, put_u32, put_zeros};
 use crate::shape::Shape;
@@ -29,7 +30,7 @@ fn put_leaf<S: ByteSink>(out: &mut SinkWriter<'_, S>, shape: Shape, group: &[Pai
 {
     put_u32(out, group.len() as u32);
     put_pairs(out, shape, group);
-    put_zeros(out, 508 - group.len() * shape.size);
+    put_zeros(out, PAGE - 4 - group.len() * shape.size);
 }
 
 /// All leaves, each full but the last. An index without pairs has one empty leaf.

@@ -26,6 +26,7 @@ ghost use Rattle.ndx_index.specs.Order.{in_order, pair_cmp, AreInOrder};
 ghost use Rattle.ndx_index.specs.TableOrder.{order, pairs_of};
 
 mod fault;
+mod format;
 mod header;
 mod index;
 mod inner;
@@ -40,6 +41,7 @@ mod walk;
 mod write;
 
 pub use crate::fault::NdxFault;
+pub use crate::format::MAX_PAIRS;
 pub use crate::index::OrderedIndex;
 pub use crate::pair::Pair;
 pub use crate::read::{NdxFile, read_ndx};

@@ -6,13 +6,11 @@ ghost use Rattle.ndx_index.specs.Pages.{IsPageLayout, u32_at, leaf_pair, childre
 ghost use Rattle.ndx_index.specs.Walks.{Takes, Refuses};
 
 use crate::fault::NdxFault;
+use crate::format::PAGE;
 use crate::pair::Pair;
 use byteorder::{ByteOrder, LittleEndian};
 use key_expr::Key;
 use std::alloc::AllocFailed;
-
-/// The bytes of a page.
-pub(crate) const PAGE: usize = 512;
 
 /// The sizes that a file's header gives.
 #[derive(Clone, Copy)]
@@ -34,9 +32,9 @@ pub(crate) fn u32_at(bytes: &[u8], at: usize) -> u32
 
 // Whether one of the first `n` child pointers isn't zero.
 fn has_child(layout: PageLayout, page: &[u8], n: usize) -> bool
-    requires whole { length page.now ≡ 512 }
+    requires whole { length page.now ≡ PAGE }
     requires layout { IsPageLayout layout }
-    requires fits { 8 + layout.size * n ≤ 512 + layout.size }
+    requires fits { 8 + layout.size * n ≤ PAGE + layout.size }
     ensures { result ≡ some_child (λ p. not (is_null p)) layout page.now n }
 {
     for i in 0..n {
@@ -49,9 +47,9 @@ fn has_child(layout: PageLayout, page: &[u8], n: usize) -> bool
 
 // Whether one of the first `n` child pointers is zero.
 fn lacks_child(layout: PageLayout, page: &[u8], n: usize) -> bool
-    requires whole { length page.now ≡ 512 }
+    requires whole { length page.now ≡ PAGE }
     requires layout { IsPageLayout layout }
-    requires fits { 8 + layout.size * n ≤ 512 + layout.size }
+    requires fits { 8 + layout.size * n ≤ PAGE + layout.size }
     ensures { result ≡ some_child is_null layout page.now n }
 {
     for i in 0..n {
@@ -82,9 +80,9 @@ fn push_leaf_pairs(
     n: usize,
     pairs: &mut Vec<Pair>,
 ) -> Result<(), AllocFailed<Pair>>
-    requires whole { length page.now ≡ 512 }
+    requires whole { length page.now ≡ PAGE }
     requires layout { IsPageLayout layout }
-    requires fits { 4 + layout.size * n ≤ 512 }
+    requires fits { 4 + layout.size * n ≤ PAGE }
     ensures { OnOk result (pairs.new.items ≡ pairs.old.items ++ leaf_pairs layout page.now n) }
 {
     for i in 0..n {
@@ -100,9 +98,9 @@ fn push_children(
     n: usize,
     pending: &mut Vec<u32>,
 ) -> Result<(), AllocFailed<u32>>
-    requires whole { length page.now ≡ 512 }
+    requires whole { length page.now ≡ PAGE }
     requires layout { IsPageLayout layout }
-    requires fits { 8 + layout.size * n ≤ 512 + layout.size }
+    requires fits { 8 + layout.size * n ≤ PAGE + layout.size }
     ensures { OnOk result (pending.new.items ≡ pending.old.items ++ reverse (children layout page.now n)) }
 {
     for i in (0..n).rev() {
@@ -119,7 +117,7 @@ pub(crate) fn take_page(
     pending: &mut Vec<u32>,
     pairs: &mut Vec<Pair>,
 ) -> Result<(), NdxFault>
-    requires whole { length page.now ≡ 512 }
+    requires whole { length page.now ≡ PAGE }
     requires layout { IsPageLayout layout }
     ensures ok { OnOk result (Takes (node_of layout page.now) pending.old.items pending.new.items pairs.old.items pairs.new.items) }
     ensures err { IfErr result (Refuses (node_of layout page.now)) }

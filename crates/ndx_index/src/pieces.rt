@@ -6,6 +6,7 @@ ghost use Rattle.byteorder.specs.Endian.{little_bytes};
 ghost use Rattle.dbf_image.specs.Output.{Puts};
 ghost use Rattle.ndx_index.specs.Image.{key_record};
 
+use crate::format::{MAX_KEY_LENGTH, PAGE};
 use crate::shape::Shape;
 use byteorder::{ByteOrder, LittleEndian};
 use dbf_image::{ByteSink, SinkWriter};
@@ -28,10 +29,10 @@ pub(crate) fn put_u32<S: ByteSink>(out: &mut SinkWriter<'_, S>, number: u32)
 
 /// This many zeros, as they fill a page up.
 pub(crate) fn put_zeros<S: ByteSink>(out: &mut SinkWriter<'_, S>, n: usize)
-    requires { n ≤ 512 }
+    requires { n ≤ PAGE }
     ensures { Puts out.old (replicate n 0) out.new }
 {
-    let zeros = [0; 512];
+    let zeros = [0; PAGE];
     out.put(&zeros[..n]);
 }
 
@@ -44,7 +45,7 @@ pub(crate) fn put_key_record<S: ByteSink>(
     number: u32,
     key: &[u8],
 )
-    requires { length key.now ≤ 100 }
+    requires { length key.now ≤ MAX_KEY_LENGTH }
     ensures { Puts out.old (key_record shape.size child number key.now) out.new }
 {
     put_u32(out, child);

@@ -3,13 +3,15 @@
 ghost use Rattle.std.specs.Prelude.{◌≡◌, ◌+◌, ◌*◌, ◌/◌, ◌<◌, ◌≤◌, length};
 ghost use Rattle.std.proofs.Props.{props};
 ghost use Rattle.std.specs.List.{AllByRecursion};
+ghost use Rattle.ndx_index.specs.declared.format.TheConstants.{MAX_PAIRS};
 ghost use Rattle.ndx_index.specs.Image.{leaves};
 ghost use Rattle.ndx_index.specs.Levels.{IsLast, AreSizes, IsRootLevel, key_under, level as level_of};
 
+use crate::format::MAX_PAIRS;
 use crate::pair::Pair;
 use crate::shape::Shape;
 
-// No tree of 1,000,000,000 pairs has as many levels.
+// No tree of that many pairs has as many levels.
 const LEVELS: usize = 32;
 
 /// A level of the tree.
@@ -34,7 +36,7 @@ pub(crate) struct TreePlan<'a> {
     pub height: usize,
     /// The number of the root page, which is the last of the file.
     pub root: u32,
-    ghost few: { length pairs.now ≤ 1000000000 },
+    ghost few: { length pairs.now ≤ MAX_PAIRS },
     ghost keys: { AllByRecursion (λ p. length p.key + 8 ≤ shape.size) pairs.now } by { Prim.hlevel props },
     ghost depth: { height ≤ length sizes },
     ghost below: { AreSizes shape.keys pairs.now height sizes },
@@ -44,7 +46,7 @@ pub(crate) struct TreePlan<'a> {
 impl<'a> TreePlan<'a> {
     /// The plan of these pairs' tree.
     pub(crate) fn new(shape: Shape, pairs: &'a [Pair]) -> TreePlan<'a>
-        requires few { length pairs.now ≤ 1000000000 }
+        requires few { length pairs.now ≤ MAX_PAIRS }
         requires keys { AllByRecursion (λ p. length p.key + 8 ≤ shape.size) pairs.now }
         ensures shape { result.shape ≡ shape }
         ensures pairs { result.pairs.now ≡ pairs.now }
@@ -67,7 +69,7 @@ impl<'a> TreePlan<'a> {
 
 // The level of the leaves.
 fn leaves_of(shape: Shape, pairs: &[Pair]) -> LevelSpan
-    requires { length pairs.now ≤ 1000000000 }
+    requires { length pairs.now ≤ MAX_PAIRS }
     ensures height { result.height ≡ 0 }
     ensures first { result.first ≡ 1 }
     ensures count { result.count ≡ length (leaves shape.keys pairs.now) }

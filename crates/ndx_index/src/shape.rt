@@ -3,7 +3,7 @@
 ghost use Rattle.std.specs.Prelude.{◌≡◌, ◌≤◌};
 ghost use Rattle.ndx_index.specs.Shapes.{IsShape};
 
-use crate::page::PAGE;
+use crate::format::{MAX_KEY_LENGTH, MAX_RECORDS_BYTES};
 
 /// The sizes that follow from the length of an index's keys.
 #[derive(Clone, Copy)]
@@ -21,14 +21,14 @@ impl Shape {
     /// The shape of an index with keys of this many bytes.
     pub(crate) fn new(key_len: usize) -> Shape
         requires some { 1 ≤ key_len }
-        requires short { key_len ≤ 100 }
+        requires short { key_len ≤ MAX_KEY_LENGTH }
         ensures { result.key_len ≡ key_len }
     {
         let size = 4 * ((key_len + 11) / 4);
         Shape {
             key_len,
             size,
-            keys: (PAGE - 8) / size,
+            keys: MAX_RECORDS_BYTES / size,
         }
     }
 }

@@ -98,7 +98,7 @@ fn write_into<S: ByteSink>(
 ) -> Result<Result<(), WriteFault>, Fail> {
     let expr = KeyExpr::parse(alloc, b"NAME", &schema_of_name(alloc, len)?)?;
     let pairs = index.pairs(alloc)?;
-    if pairs.len() > 1_000_000_000 || index.key_len() != expr.key_len() {
+    if pairs.len() > MAX_PAIRS || index.key_len() != expr.key_len() {
         return Err("keys of another length".into());
     }
     Ok(write_ndx(sink, &expr, &pairs))

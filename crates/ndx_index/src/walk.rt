@@ -8,13 +8,14 @@ ghost use Rattle.ndx_index.specs.NdxTree.{Visits};
 ghost use Rattle.ndx_index.specs.Walks.{IsFirstVisit, FailsToVisit};
 
 use crate::fault::NdxFault;
-use crate::page::{PAGE, PageLayout, take_page};
+use crate::format::PAGE;
+use crate::page::{PageLayout, take_page};
 use crate::pair::Pair;
 use std::alloc::Global;
 
 // The bytes of a page that is there and wasn't visited before. It is visited then.
 fn visit<'a>(bytes: &'a [u8], page: u32, visited: &mut Vec<bool>) -> Result<&'a [u8], NdxFault>
-    requires { vec_len visited.old ≡ length bytes.now / 512 }
+    requires { vec_len visited.old ≡ length bytes.now / PAGE }
     ensures ok { IfOk result (λ taken. IsFirstVisit bytes.now page visited.old.items visited.new.items taken.now) }
     ensures err { IfErr result (FailsToVisit bytes.now page visited.old.items) }
 {

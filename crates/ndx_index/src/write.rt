@@ -10,6 +10,7 @@ ghost use Rattle.ndx_index.specs.Header.{IsIndex, trimmed_end};
 ghost use Rattle.ndx_index.specs.Image.{header_page, ndx_image};
 ghost use Rattle.ndx_index.specs.Order.{AreInOrder};
 
+use crate::format::{MAX_PAIRS, MAX_TEXT_BYTES};
 use crate::inner::put_inner_pages;
 use crate::leaf::put_leaves;
 use crate::pair::Pair;
@@ -21,7 +22,7 @@ use key_expr::KeyExpr;
 
 // The header page of a file whose last page is the root.
 fn put_header<S: ByteSink>(out: &mut SinkWriter<'_, S>, text: &[u8], shape: Shape, root: u32)
-    requires text { length text.now ≤ 488 }
+    requires text { length text.now ≤ MAX_TEXT_BYTES }
     requires root { root < 4294967295 }
     ensures { Puts out.old (header_page text.now shape.key_len (root + 1)) out.new }
 {
@@ -34,12 +35,12 @@ fn put_header<S: ByteSink>(out: &mut SinkWriter<'_, S>, text: &[u8], shape: Shap
     put_u16(out, shape.size as u16);
     put_zeros(out, 4);
     out.put(text);
-    put_zeros(out, 488 - text.len());
+    put_zeros(out, MAX_TEXT_BYTES - text.len());
 }
 
 // The bytes of the file.
 fn put_image<S: ByteSink>(out: &mut SinkWriter<'_, S>, text: &[u8], plan: &TreePlan<'_>)
-    requires { length text.now ≤ 488 }
+    requires { length text.now ≤ MAX_TEXT_BYTES }
     ensures put { Puts out.old (ndx_image text.now plan.now.shape.key_len plan.now.pairs.now) out.new }
     ensures numbers { AllByRecursion (λ p. p.number < 2 ^ 32) plan.now.pairs.now }
 {
@@ -53,7 +54,7 @@ fn put_image<S: ByteSink>(out: &mut SinkWriter<'_, S>, text: &[u8], plan: &TreeP
 /// 4,096 bytes, before the sink is called.
 ///
 /// The pairs are those of the key expression: each key has its length. They stand in order,
-/// 1,000,000,000 at most. The one fault is `Sink`: the sink failed, and has then taken a front part of the
+/// [`MAX_PAIRS`] at most. The one fault is `Sink`: the sink failed, and has then taken a front part of the
 /// file, which may be all of it or nothing.
 ///
 /// What is written reads back as these pairs, this length of keys, and the expression's text without the
@@ -63,7 +64,7 @@ pub fn write_ndx<S: ByteSink>(
     expr: &KeyExpr,
     pairs: &[Pair],
 ) -> Result<(), WriteFault>
-    requires few { length pairs.now ≤ 1000000000 }
+    requires few { length pairs.now ≤ MAX_PAIRS }
     requires keys { AllByRecursion (λ p. length p.key ≡ key_length expr.now.fields expr.now.expr) pairs.now }
     requires ordered { AreInOrder pairs.now }
     ensures wrote { OnOk result (S.written sink.new ≡ grown (S.written sink.old) (ndx_image expr.now.text (key_length expr.now.fields expr.now.expr) pairs.now)) }
