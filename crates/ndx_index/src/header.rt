@@ -25,7 +25,7 @@ pub(crate) struct Header {
 #[tactic(auto, unfolding(crate::specs::Header::u16_at))]
 fn u16_at(bytes: &[u8], at: usize) -> u16
     requires { at + 2 ≤ length bytes.now }
-    ensures { result ≡ u16_at bytes.now at }
+    ensures value { result ≡ u16_at bytes.now at }
 {
     LittleEndian::read_u16(&bytes[at..])
 }
@@ -64,7 +64,7 @@ pub(crate) fn read_header(bytes: &[u8]) -> Result<Header, NdxFault>
 
 // The bytes up to the first zero.
 fn before_zero(text: &[u8]) -> &[u8]
-    ensures { result.now ≡ before_zero text.now }
+    ensures value { result.now ≡ before_zero text.now }
 {
     for i in 0..text.len() {
         if text[i] == 0 {
@@ -76,7 +76,7 @@ fn before_zero(text: &[u8]) -> &[u8]
 
 // The text without the blanks at its end.
 fn trimmed_end(text: &[u8]) -> &[u8]
-    ensures { result.now ≡ trimmed_end text.now }
+    ensures value { result.now ≡ trimmed_end text.now }
 {
     let mut end = text.len();
     while end > 0 {
@@ -92,7 +92,7 @@ fn trimmed_end(text: &[u8]) -> &[u8]
 /// end, without the blanks after it.
 pub(crate) fn expression(bytes: &[u8]) -> &[u8]
     requires { PAGE ≤ length bytes.now }
-    ensures { result.now ≡ expression bytes.now }
+    ensures value { result.now ≡ expression bytes.now }
 {
     trimmed_end(before_zero(&bytes[EXPRESSION_OFFSET..PAGE]))
 }

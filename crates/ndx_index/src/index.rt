@@ -169,7 +169,7 @@ impl OrderedIndex {
     }
 
     fn pair_at(&self, at: usize) -> Option<Pair>
-        ensures { result ≡ slice_get self.now.pairs at }
+        ensures value { result ≡ slice_get self.now.pairs at }
     {
         self.kept.get(at).copied()
     }

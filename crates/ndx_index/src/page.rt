@@ -25,7 +25,7 @@ pub(crate) struct PageLayout {
 #[tactic(auto, unfolding(crate::specs::Pages::u32_at))]
 pub(crate) fn u32_at(bytes: &[u8], at: usize) -> u32
     requires { at + 4 ≤ length bytes.now }
-    ensures { result ≡ u32_at bytes.now at }
+    ensures value { result ≡ u32_at bytes.now at }
 {
     LittleEndian::read_u32(&bytes[at..])
 }
@@ -35,7 +35,7 @@ fn has_child(layout: PageLayout, page: &[u8], n: usize) -> bool
     requires whole { length page.now ≡ PAGE }
     requires layout { IsPageLayout layout }
     requires fits { 8 + layout.size * n ≤ PAGE + layout.size }
-    ensures { result ≡ some_child (λ p. not (is_null p)) layout page.now n }
+    ensures value { result ≡ some_child (λ p. not (is_null p)) layout page.now n }
 {
     for i in 0..n {
         if u32_at(page, 4 + layout.size * i) != 0 {
@@ -50,7 +50,7 @@ fn lacks_child(layout: PageLayout, page: &[u8], n: usize) -> bool
     requires whole { length page.now ≡ PAGE }
     requires layout { IsPageLayout layout }
     requires fits { 8 + layout.size * n ≤ PAGE + layout.size }
-    ensures { result ≡ some_child is_null layout page.now n }
+    ensures value { result ≡ some_child is_null layout page.now n }
 {
     for i in 0..n {
         if u32_at(page, 4 + layout.size * i) == 0 {
@@ -64,7 +64,7 @@ fn lacks_child(layout: PageLayout, page: &[u8], n: usize) -> bool
 fn leaf_pair(layout: PageLayout, page: &[u8], i: usize) -> Pair
     requires layout { IsPageLayout layout }
     requires fits { 12 + layout.size * i + layout.key_len ≤ length page.now }
-    ensures { result ≡ leaf_pair layout page.now i }
+    ensures value { result ≡ leaf_pair layout page.now i }
 {
     let at = 12 + layout.size * i;
     Pair {
@@ -83,7 +83,7 @@ fn push_leaf_pairs(
     requires whole { length page.now ≡ PAGE }
     requires layout { IsPageLayout layout }
     requires fits { 4 + layout.size * n ≤ PAGE }
-    ensures { OnOk result (pairs.new.items ≡ pairs.old.items ++ leaf_pairs layout page.now n) }
+    ensures pairs { OnOk result (pairs.new.items ≡ pairs.old.items ++ leaf_pairs layout page.now n) }
 {
     for i in 0..n {
         pairs.push(leaf_pair(layout, page, i))?;
@@ -101,7 +101,7 @@ fn push_children(
     requires whole { length page.now ≡ PAGE }
     requires layout { IsPageLayout layout }
     requires fits { 8 + layout.size * n ≤ PAGE + layout.size }
-    ensures { OnOk result (pending.new.items ≡ pending.old.items ++ reverse (children layout page.now n)) }
+    ensures pending { OnOk result (pending.new.items ≡ pending.old.items ++ reverse (children layout page.now n)) }
 {
     for i in (0..n).rev() {
         pending.push(u32_at(page, 4 + layout.size * i))?;

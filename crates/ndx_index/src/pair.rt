@@ -20,14 +20,14 @@ impl Pair {
 
     /// Whether the pair stands before another one in an index.
     pub(crate) fn is_before(&self, other: &Pair) -> bool
-        ensures { result ≡ before self.now other.now }
+        ensures value { result ≡ before self.now other.now }
     {
         self.cmp(other).is_lt()
     }
 
     /// Whether the key stands before these bytes.
     pub(crate) fn is_below(&self, prefix: &[u8]) -> bool
-        ensures { result ≡ is_lt (slice_cmp nat_cmp self.now.key prefix.now) }
+        ensures value { result ≡ is_lt (slice_cmp nat_cmp self.now.key prefix.now) }
     {
         self.key.as_bytes().cmp(&prefix).is_lt()
     }

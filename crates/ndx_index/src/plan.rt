@@ -103,7 +103,7 @@ fn above(shape: Shape, level: LevelSpan) -> LevelSpan
 // Which of `count` children is the last one of page `page` above them.
 fn last_child(shape: Shape, count: usize, page: usize) -> usize
     requires { page * (shape.keys + 1) < count }
-    ensures { IsLast shape.keys count page result }
+    ensures last { IsLast shape.keys count page result }
 {
     let start = page * (shape.keys + 1);
     let left = count - start;
@@ -120,7 +120,7 @@ fn last_child(shape: Shape, count: usize, page: usize) -> usize
 pub(crate) fn greatest<'a>(plan: &TreePlan<'a>, height: usize, page: usize) -> &'a Pair
     requires height { height < plan.now.height }
     requires inside { page < length (level_of plan.now.shape.keys plan.now.pairs.now height).pages }
-    ensures { result.now.key ≡ key_under plan.now.shape.keys plan.now.pairs.now height page }
+    ensures key { result.now.key ≡ key_under plan.now.shape.keys plan.now.pairs.now height page }
 {
     let pairs = plan.pairs;
     let keys = plan.shape.keys;

@@ -22,7 +22,7 @@ impl Shape {
     pub(crate) fn new(key_len: usize) -> Shape
         requires some { 1 ≤ key_len }
         requires short { key_len ≤ MAX_KEY_LENGTH }
-        ensures { result.key_len ≡ key_len }
+        ensures key_len { result.key_len ≡ key_len }
     {
         let size = 4 * ((key_len + 11) / 4);
         Shape {

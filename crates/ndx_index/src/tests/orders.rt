@@ -6,7 +6,7 @@ use super::*;
 
 // The pair of a key and a record.
 fn named(key: &[u8; 3], number: u32) -> Pair
-    ensures { length result.key ≡ 3 }
+    ensures wide { length result.key ≡ 3 }
 {
     Pair {
         key: Key::new(key),

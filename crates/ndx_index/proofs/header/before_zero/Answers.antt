@@ -12,7 +12,7 @@ loop-i-preserved c =
     step ∙ c.loop-i.invariant
 
 pub returns-then-text-i-eq0 : goal.returns-then-text-i-eq0
-returns-then-text-i-eq0 c = zero_stop c.args.text.now c.loop-i.i 0 (omega arith) c.if-text-i-eq0.true ∙ c.loop-i.invariant
+returns-then-text-i-eq0 c = record { value = zero_stop c.args.text.now c.loop-i.i 0 (omega arith) c.if-text-i-eq0.true ∙ c.loop-i.invariant }
 
 pub returns : goal.returns
-returns c = zero_none c.args.text.now c.loop-i.i (omega arith) ∙ c.loop-i.invariant
+returns c = record { value = zero_none c.args.text.now c.loop-i.i (omega arith) ∙ c.loop-i.invariant }

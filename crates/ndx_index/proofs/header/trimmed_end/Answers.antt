@@ -18,7 +18,7 @@ returns-then-text-end-ne32 c =
     let text = c.args.text.now in
     let n : ℕ = c.loop-end.end - 1 in
     let at : suc n ≡ c.loop-end.end = omega arith in
-    ap (λ (m : ℕ). take m text) (sym at) ∙ trim_stop text n 0 (omega (arith, c.loop-end.invariant.within)) c.if-text-end-ne32.true ∙ ap (λ (m : ℕ). trimmed_end (take m text)) at ∙ c.loop-end.invariant.same
+    record { value = ap (λ (m : ℕ). take m text) (sym at) ∙ trim_stop text n 0 (omega (arith, c.loop-end.invariant.within)) c.if-text-end-ne32.true ∙ ap (λ (m : ℕ). trimmed_end (take m text)) at ∙ c.loop-end.invariant.same }
 
 pub returns : goal.returns
-returns c = trim_none c.args.text.now c.loop-end.end (omega arith) ∙ c.loop-end.invariant.same
+returns c = record { value = trim_none c.args.text.now c.loop-end.end (omega arith) ∙ c.loop-end.invariant.same }

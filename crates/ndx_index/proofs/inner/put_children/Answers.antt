@@ -11,7 +11,7 @@ loop-i-preserved g c =
     let at = c.args.level in
     let next : c.loop-i.i + 1 ≡ suc c.loop-i.i = omega arith in
     let inside : c.args.at + c.args.count ≤ length (level plan.shape.keys plan.pairs.now at.height).pages = omega (arith, c.requires.inside, c.requires.level.count_is) in
-    let step = child_step plan.shape.keys plan.pairs.now at.height c.args.at c.args.count c.loop-i.i plan.shape.size _ _ (omega arith) inside (c.as_bytes-key.ensures.bytes ∙ c.greatest.ensures) (ap (λ (n : ℕ). n + (c.args.at + c.loop-i.i)) c.requires.level.first_is) in
+    let step = child_step plan.shape.keys plan.pairs.now at.height c.args.at c.args.count c.loop-i.i plan.shape.size _ _ (omega arith) inside (c.as_bytes-key.ensures.bytes ∙ c.greatest.ensures.key) (ap (λ (n : ℕ). n + (c.args.at + c.loop-i.i)) c.requires.level.first_is) in
     rw (next, c.put_key_record.ensures.1) (record {
       same = c.put_key_record.ensures.0 ∙ c.loop-i.invariant.same;
       left = more_left _ _ _ _ _ step c.loop-i.invariant.left;

@@ -7,4 +7,4 @@ use Rattle.ndx_index.proofs.page.has_child.Goals as goal
 pub returns-then-u32_at-ne0 : goal.returns-then-u32_at-ne0
 returns-then-u32_at-ne0 c =
     let there : not (is_null c.u32_at.result) ≡ true = ap not (ne_eqb c.u32_at.result 0 c.if-u32_at-ne0.true) in
-    sym (some_child_at (λ p. not (is_null p)) c.args.layout c.args.page.now c.loop-i.i c.args.n (omega arith) (ap (λ p. not (is_null p)) (sym c.u32_at.ensures) ∙ there))
+    record { value = sym (some_child_at (λ p. not (is_null p)) c.args.layout c.args.page.now c.loop-i.i c.args.n (omega arith) (ap (λ p. not (is_null p)) (sym c.u32_at.ensures.value) ∙ there)) }

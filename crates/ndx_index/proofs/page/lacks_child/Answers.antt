@@ -6,4 +6,4 @@ use Rattle.ndx_index.proofs.page.lacks_child.Goals as goal
 
 pub returns-then-u32_at-eq0 : goal.returns-then-u32_at-eq0
 returns-then-u32_at-eq0 c =
-    sym (some_child_at is_null c.args.layout c.args.page.now c.loop-i.i c.args.n (omega arith) (ap is_null (sym c.u32_at.ensures) ∙ eq-eqb c.u32_at.result 0 c.if-u32_at-eq0.true))
+    record { value = sym (some_child_at is_null c.args.layout c.args.page.now c.loop-i.i c.args.n (omega arith) (ap is_null (sym c.u32_at.ensures.value) ∙ eq-eqb c.u32_at.result 0 c.if-u32_at-eq0.true)) }

@@ -12,7 +12,7 @@ returns-clause-found c =
     let tree = tree_from_visits header.layout bytes header.root walk.0 c.in_ok-pairs.pairs.items walk.1 in
     record {
       header_is = c.in_ok-header.ensures.accepted;
-      text_is = c.in_ok-expr.ensures.value ∙ c.expression.ensures;
+      text_is = c.in_ok-expr.ensures.value ∙ c.expression.ensures.value;
       length_is = ap (λ (h : Header). h.layout.key_len) c.in_ok-header.ensures.header;
       pages = walk.0;
       tree = subst (λ (h : Header). IsTree h.layout bytes h.root walk.0 c.in_ok-pairs.pairs.items) c.in_ok-header.ensures.header tree;

@@ -14,4 +14,4 @@ returns c =
     let items = c.deref.ensures.value ∙ ap (λ (v : Index). v.pairs) c.self.view_is in
     let parted = c.partition_point-at.ensures.partitioned (λ q. is_lt (slice_cmp nat_cmp q.key prefix)) (always_returns_same _ _ _ (λ a r f k. search (rules, of_calls))) (rw c.deref.ensures.value (parted-key prefix _ c.self.invariant.0)) in
     let parts = rw items at parted in
-    record { pair = c.pair_at.ensures ∙ sym (find_at (reaches prefix) c.args.self.now.pairs c.partition_point-at.result (λ k d h. ap not (parts.0 k d (omega arith) h)) (λ d h. ap not (parts.1 c.partition_point-at.result d (omega arith) h))) }
+    record { pair = c.pair_at.ensures.value ∙ sym (find_at (reaches prefix) c.args.self.now.pairs c.partition_point-at.result (λ k d h. ap not (parts.0 k d (omega arith) h)) (λ d h. ap not (parts.1 c.partition_point-at.result d (omega arith) h))) }
