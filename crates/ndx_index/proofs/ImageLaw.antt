@@ -3,14 +3,14 @@ use Rattle.std.proofs.Common.{◌≡◌, ◌≢◌, ℕ, ◌+◌, ◌-◌, ◌*�
 use Rattle.std.specs.Prelude.{slice_index, slice_range, nat_le}
 use Rattle.std.specs.Int.{is_in_range}
 use Rattle.std.proofs.lemmas.Bool.Decides.{nat_tests}
-use Rattle.ndx_index.specs.declared.header.Header.{Header}
+use Rattle.ndx_index.specs.declared.read.header.Header.{Header}
 use Rattle.std.specs.List.{AllByRecursion}
 use Rattle.std.proofs.Math.Nat.{div-mul-le_self, le-div_iff_mul-le}
 use Rattle.std.proofs.lemmas.List.{take_at, length-append, length-replicate, length-map}
 use Rattle.byteorder.specs.Endian.{little_bytes}
 use Rattle.byteorder.specs.Numbers.{little_number-reads_back}
 use Rattle.ndx_index.specs.declared.pair.Pair.{Pair}
-use Rattle.ndx_index.specs.declared.page.PageLayout.{PageLayout}
+use Rattle.ndx_index.specs.declared.read.page.PageLayout.{PageLayout}
 use Rattle.ndx_index.specs.Pages.{u32_at}
 use Rattle.ndx_index.specs.NdxTree.{Trees, IsTree}
 use Rattle.ndx_index.specs.Header.{header_refusal, header_tests, ndx_header, u16_at, before_zero, trimmed_end, expression, IsIndex}

@@ -8,7 +8,7 @@ use Rattle.std.proofs.lemmas.List.{take_at, drop_at, length-append, length-repli
 use Rattle.byteorder.specs.Endian.{little_bytes}
 use Rattle.byteorder.specs.Numbers.{little_number-reads_back}
 use Rattle.ndx_index.specs.declared.pair.Pair.{Pair}
-use Rattle.ndx_index.specs.declared.page.PageLayout.{PageLayout}
+use Rattle.ndx_index.specs.declared.read.page.PageLayout.{PageLayout}
 use Rattle.ndx_index.specs.Pages.{leaf, inner, node_of, page_tests, page_node, u32_at, child, leaf_pair, children, leaf_pairs, some_child, is_null}
 use Rattle.ndx_index.specs.Image.{ChildEntry, filled_page, key_record, leaf_record, inner_records, leaf_page, inner_page}
 

@@ -3,7 +3,7 @@ use Rattle.std.proofs.Common.{◌≡◌, ℕ, zero, suc, ◌+◌, ◌<◌, Bool,
 use Rattle.std.proofs.lemmas.Bool.{cases_eq, or_right}
 use Rattle.std.proofs.lemmas.List.{reverse-append}
 use Rattle.ndx_index.specs.declared.pair.Pair.{Pair}
-use Rattle.ndx_index.specs.declared.page.PageLayout.{PageLayout}
+use Rattle.ndx_index.specs.declared.read.page.PageLayout.{PageLayout}
 use Rattle.ndx_index.specs.Pages.{child, leaf_pair, children, leaf_pairs, some_child}
 
 pub some_child_at : (test : ℕ → Bool) (s : PageLayout) (page : List ℕ) (i n : ℕ) → i < n → test (child s page i) ≡ true → some_child test s page n ≡ true

@@ -5,7 +5,7 @@ use Rattle.std.proofs.lemmas.Bool.{cases_eq, cases_lt, ne_eqb, eq-eqb}
 use Rattle.std.proofs.lemmas.Bool.Decides.{nat_tests}
 use Rattle.std.proofs.lemmas.List.{take_at, drop_at, length-append, length-map, map-append}
 use Rattle.ndx_index.specs.declared.pair.Pair.{Pair}
-use Rattle.ndx_index.specs.declared.page.PageLayout.{PageLayout}
+use Rattle.ndx_index.specs.declared.read.page.PageLayout.{PageLayout}
 use Rattle.ndx_index.specs.Pages.{inner, page_of, is_page}
 use Rattle.ndx_index.specs.NdxTree.{Trees, none, at_leaf, at_inner, Holds}
 use Rattle.ndx_index.specs.Image.{ChildEntry, child_entries, last_key, last_entry_key, leaf_page, inner_page, inner_group_size, next_level, levels_above}

@@ -4,7 +4,7 @@ use Rattle.std.specs.Int.{is_in_range}
 use Rattle.byteorder.specs.Endian.{little_number}
 use Rattle.dbf_fields.specs.Faults.{first_fault}
 use Rattle.ndx_index.specs.declared.pair.Pair.{Pair}
-use Rattle.ndx_index.specs.declared.header.Header.{Header}
+use Rattle.ndx_index.specs.declared.read.header.Header.{Header}
 use Rattle.ndx_index.specs.declared.fault.NdxFault.{NdxFault}
 use Rattle.ndx_index.specs.declared.format.TheConstants.{PAGE, KEY_LENGTH_OFFSET, KEY_TYPE_OFFSET, RECORD_SIZE_OFFSET, UNIQUE_FLAG_OFFSET, EXPRESSION_OFFSET, MAX_KEY_LENGTH, MAX_RECORDS_BYTES}
 use Rattle.ndx_index.specs.declared.fault.NdxFault.TheVariants.{Truncated, NumericIndex, UniqueIndex, BadKeyLength, BadRecordSize}

@@ -3,7 +3,7 @@ use Rattle.std.specs.Prelude.{◌≤◌, ℕ, zero, suc, ◌+◌, ◌*◌, Bool,
 use Rattle.byteorder.specs.Endian.{little_number}
 use Rattle.dbf_fields.specs.Faults.{first_fault}
 use Rattle.ndx_index.specs.declared.pair.Pair.{Pair}
-use Rattle.ndx_index.specs.declared.page.PageLayout.{PageLayout}
+use Rattle.ndx_index.specs.declared.read.page.PageLayout.{PageLayout}
 use Rattle.ndx_index.specs.declared.fault.NdxFault.{NdxFault}
 use Rattle.ndx_index.specs.declared.format.TheConstants.{PAGE, MAX_KEY_LENGTH, MAX_RECORDS_BYTES}
 use Rattle.ndx_index.specs.declared.fault.NdxFault.TheVariants.{TooManyEntries, MixedPage}

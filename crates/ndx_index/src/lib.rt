@@ -8,8 +8,7 @@
 //!
 //! Start with specs/Order.antt (the order), specs/NdxTree.antt (the tree and its walk), specs/Header.antt
 //! (when bytes are an index file) and specs/Image.antt (the file that is written). Then src/index.rt holds
-//! the ordered index; src/read.rt, src/header.rt, src/walk.rt and src/page.rt read a file; src/write.rt,
-//! src/plan.rt, src/leaf.rt and src/inner.rt write one.
+//! the ordered index; src/read.rt with src/read/ reads a file, and src/write.rt with src/write/ writes one.
 #![tactic(auto)]
 
 ghost use Rattle.std.specs.Prelude.{◌≡◌, ◌≢◌, ◌↔◌, ℕ, List, [], ◌∷◌, Option, None, IsPermutation, IsSorted};
@@ -17,7 +16,7 @@ ghost use Rattle.std.specs.List.{AllByRecursion};
 ghost use Rattle.dbf_image.specs.Table.{Table};
 ghost use Rattle.key_expr.specs.Grammar.{Expr};
 ghost use Rattle.ndx_index.specs.declared.pair.Pair.{Pair as PairValue};
-ghost use Rattle.ndx_index.specs.declared.page.PageLayout.{PageLayout as LayoutValue};
+ghost use Rattle.ndx_index.specs.declared.read.page.PageLayout.{PageLayout as LayoutValue};
 ghost use Rattle.ndx_index.specs.declared.fault.NdxFault.{NdxFault as Fault};
 ghost use Rattle.ndx_index.specs.Header.{IsIndex, before_zero, trimmed_end};
 ghost use Rattle.ndx_index.specs.Image.{IsWritable, ndx_image};
@@ -27,17 +26,9 @@ ghost use Rattle.ndx_index.specs.TableOrder.{order, pairs_of};
 
 mod fault;
 mod format;
-mod header;
 mod index;
-mod inner;
-mod leaf;
-mod page;
 mod pair;
-mod pieces;
-mod plan;
 mod read;
-mod shape;
-mod walk;
 mod write;
 
 pub use crate::fault::NdxFault;

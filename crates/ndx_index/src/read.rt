@@ -7,10 +7,14 @@ ghost use Rattle.ndx_index.specs.declared.pair.Pair.{Pair as PairValue};
 ghost use Rattle.ndx_index.specs.Header.{IsIndex, Breaks, header_refusal};
 ghost use Rattle.ndx_index.specs.Reading.{IsOnly};
 
+mod header;
+mod page;
+mod walk;
+
 use crate::fault::NdxFault;
-use crate::header::{expression, read_header};
 use crate::pair::Pair;
-use crate::walk::read_tree;
+use crate::read::header::{expression, read_header};
+use crate::read::walk::read_tree;
 use dbf_fields::Bytes;
 use std::alloc::Global;
 

@@ -10,13 +10,19 @@ ghost use Rattle.ndx_index.specs.Header.{IsIndex, trimmed_end};
 ghost use Rattle.ndx_index.specs.Image.{header_page, ndx_image};
 ghost use Rattle.ndx_index.specs.Order.{AreInOrder};
 
+mod inner;
+mod leaf;
+mod pieces;
+mod plan;
+mod shape;
+
 use crate::format::{MAX_PAIRS, MAX_TEXT_BYTES};
-use crate::inner::put_inner_pages;
-use crate::leaf::put_leaves;
 use crate::pair::Pair;
-use crate::pieces::{put_u16, put_u32, put_zeros};
-use crate::plan::TreePlan;
-use crate::shape::Shape;
+use crate::write::inner::put_inner_pages;
+use crate::write::leaf::put_leaves;
+use crate::write::pieces::{put_u16, put_u32, put_zeros};
+use crate::write::plan::TreePlan;
+use crate::write::shape::Shape;
 use dbf_image::{ByteSink, SinkFault, SinkWriter, WriteFault};
 use key_expr::KeyExpr;
 

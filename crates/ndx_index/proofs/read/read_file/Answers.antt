@@ -1,5 +1,5 @@
 use Rattle.std.proofs.Common.{refl, sym, ◌∙◌, ap, subst}
-use Rattle.ndx_index.specs.declared.header.Header.{Header}
+use Rattle.ndx_index.specs.declared.read.header.Header.{Header}
 use Rattle.ndx_index.specs.NdxTree.{IsTree}
 use Rattle.ndx_index.proofs.Laws.{tree_from_visits}
 use Rattle.ndx_index.proofs.read.read_file.Goals as goal

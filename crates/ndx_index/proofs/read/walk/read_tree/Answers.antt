@@ -1,0 +1,39 @@
+use Rattle.std.proofs.Common.{◌≡◌, ◌/◌, ◌<◌, ℕ, true, false, length, get_or, rules, refl, ◌∙◌, ap, arith}
+use Rattle.std.proofs.lemmas.Result.{err_from_is_err_and}
+use Rattle.std.proofs.lemmas.List.{length-set, length-replicate, get_or-replicate, nil_from_length}
+use Rattle.ndx_index.proofs.WalkSteps.{is_page_whole, state_init, step, step_broken, step_unvisited, state_done}
+use Rattle.ndx_index.proofs.read.walk.read_tree.Goals as goal
+
+pub loop-next-init : goal.loop-next-init
+loop-next-init c =
+    let clear : (k : ℕ) → k < length c.in_ok-visited.visited.items → get_or c.in_ok-visited.visited.items k true ≡ false = λ k lt.
+    let items = c.in_ok-visited.ensures.items_if_clones_equal (λ y h. h) in
+    rw items (get_or-replicate (length c.args.bytes.now / 512) k false true (omega (arith, ap length items, length-replicate (length c.args.bytes.now / 512) false, lt))) in
+    record {
+      flags = search rules;
+      state = state_init c.args.layout c.args.bytes.now c.args.root c.in_ok-visited.visited.items c.in_ok-pending.pending.items c.new-pairs.result.items clear c.in_ok-pending.ensures.items c.new-pairs.ensures.items;
+    }
+
+pub loop-next-preserved : goal.loop-next-preserved
+loop-next-preserved c =
+    let claims = c.in_ok-page.ensures.ok in
+    record {
+      flags = rw claims.marked (length-set c.loop-next.visited.items c.in-Some.next true ∙ c.loop-next.invariant.flags);
+      state = step c.args.layout c.args.bytes.now c.args.root c.loop-next.visited.items c.loop-next.pending.items c.pop.new.self.items c.loop-next.pairs.items c.in-Some.next c.in-Some.ensures.items c.loop-next.invariant.state
+          c.visit.new.visited.items c.in_ok-page.page.now c.take_page.new.pending.items c.take_page.new.pairs.items claims _ refl c.in_ok-take_page.ensures.ok;
+    }
+
+pub returns-in_err-page-clause-err : goal.returns-in_err-page-clause-err
+returns-in_err-page-clause-err c =
+    let p = err_from_is_err_and c.from_residual-in_err-page.result c.from_residual-in_err-page.ensures.1 in
+    rw (p.1, p.2) (λ ne. step_unvisited c.args.layout c.args.bytes.now c.args.root c.loop-next.visited.items c.loop-next.pending.items c.pop.new.self.items c.loop-next.pairs.items c.in-Some.next c.in-Some.ensures.items c.loop-next.invariant.state
+    c.in_err-page.field-0.0 (λ k h. omega (arith, is_page_whole c.args.bytes.now k h, c.loop-next.invariant.flags)) c.in_err-page.ensures.err)
+
+pub returns-in_err-take_page-clause-err : goal.returns-in_err-take_page-clause-err
+returns-in_err-take_page-clause-err c =
+    let p = err_from_is_err_and c.from_residual-in_err-take_page.result c.from_residual-in_err-take_page.ensures.1 in
+    rw (p.1, p.2) (λ ne. step_broken c.args.layout c.args.bytes.now c.args.root c.loop-next.visited.items c.loop-next.pending.items c.pop.new.self.items c.loop-next.pairs.items c.in-Some.next c.in-Some.ensures.items c.loop-next.invariant.state
+    c.visit.new.visited.items c.in_ok-page.page.now c.in_err-take_page.field-0.0 c.in_ok-page.ensures.ok c.in_err-take_page.ensures.err ne)
+
+pub returns-clause-ok : goal.returns-clause-ok
+returns-clause-ok c = state_done c.args.layout c.args.bytes.now c.args.root c.loop-next.visited.items c.loop-next.pending.items c.loop-next.pairs.items c.loop-next.invariant.state (nil_from_length c.loop-next.pending.items (omega (arith, c.loop-next.pending.ok.0, c.in_default.ensures.cases)))

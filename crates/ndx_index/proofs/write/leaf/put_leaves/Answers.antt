@@ -1,0 +1,20 @@
+use Rattle.std.proofs.Common.{◌≡◌, ◌≤◌, ℕ, length, min, ◌∙◌, arith}
+use Rattle.std.proofs.lemmas.List.{take_rest}
+use Rattle.dbf_image.proofs.Puts.{more_left}
+use Rattle.ndx_index.proofs.Writing.{leaf_step, all_parts, all_whole}
+use Rattle.ndx_index.proofs.write.leaf.put_leaves.Goals as goal
+
+pub loop-rest-preserved : goal.loop-rest-preserved
+loop-rest-preserved g c =
+    let rest = c.loop-rest.rest.now in
+    let n : ℕ = c.min-n.result in
+    let shape = c.args.shape in
+    let some : 1 ≤ length rest = grind (arith, c.is_empty-in-loop-rest.ensures, c.loop-rest-test.true) in
+    let one : 1 ≤ shape.keys = omega (arith, shape.fits.some) in
+    let e : n ≡ min shape.keys (length rest) = c.min-n.ensures in
+    rw (take_rest rest n, c.put_leaf-in-loop-rest.ensures.put.1) (record {
+      same = c.put_leaf-in-loop-rest.ensures.put.0 ∙ c.loop-rest.invariant.same;
+      left = more_left _ _ _ _ _ (leaf_step shape.size shape.keys n rest e some one) c.loop-rest.invariant.left;
+      keys = (all_parts _ n rest c.loop-rest.invariant.keys).1;
+      numbers = λ h. c.loop-rest.invariant.numbers (all_whole _ n rest c.put_leaf-in-loop-rest.ensures.numbers h);
+    })

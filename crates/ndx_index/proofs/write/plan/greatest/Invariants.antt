@@ -1,0 +1,9 @@
+use Rattle.std.proofs.Common.{◌≡◌, ◌<◌, length}
+use Rattle.ndx_index.specs.Levels.{level, key_under}
+use Rattle.ndx_index.proofs.write.plan.greatest.Given as goal
+
+abbrev pub invariant-loop-below : goal.invariant-loop-below
+invariant-loop-below l = record {
+  same : key_under l.plan.shape.keys l.plan.pairs.now l.below l.at ≡ key_under l.plan.shape.keys l.plan.pairs.now l.height l.page;
+  inside : l.at < length (level l.plan.shape.keys l.plan.pairs.now l.below).pages;
+}

@@ -1,0 +1,105 @@
+//! Writing the inner pages of an index.
+#![tactic(auto, using(crate::proofs::Sinks::puts))]
+
+ghost use Rattle.std.specs.Prelude.{◌≡◌, ◌≢◌, min, ◌+◌, ◌-◌, ◌<◌, ◌≤◌, length, flat_map};
+ghost use Rattle.dbf_image.specs.Output.{Puts};
+ghost use Rattle.ndx_index.specs.Image.{inner_group_size, inner_pages, inner_records, inner_page, next_level};
+ghost use Rattle.ndx_index.specs.Levels.{IsLevel, children_from, level as level_of};
+
+use crate::format::MAX_RECORDS_BYTES;
+use crate::write::pieces::{put_key_record, put_u32, put_zeros};
+use crate::write::plan::{LevelSpan, TreePlan, greatest};
+use crate::write::shape::Shape;
+use dbf_image::{ByteSink, SinkWriter};
+
+// The key records of an inner page's children, from index `at` of their level on. The last child has a
+// pointer alone.
+fn put_children<S: ByteSink>(
+    out: &mut SinkWriter<'_, S>,
+    plan: &TreePlan<'_>,
+    level: LevelSpan,
+    at: usize,
+    count: usize,
+)
+    requires height { level.height < plan.now.height }
+    requires level { IsLevel plan.now.shape.keys plan.now.pairs.now level.height level.first level.count }
+    requires inside { at + count ≤ level.count }
+    requires child { 1 ≤ count }
+    ensures { Puts out.old (inner_records plan.now.shape.size (children_from plan.now.shape.keys plan.now.pairs.now level.height at count)) out.new }
+{
+    for i in 0..count - 1 {
+        let page = level.first + (at + i) as u32;
+        let key = greatest(plan, level.height, at + i).key.as_bytes();
+        put_key_record(out, plan.shape, page, 0, key);
+    }
+    put_u32(out, level.first + (at + count - 1) as u32);
+}
+
+// The page above these children.
+fn put_inner<S: ByteSink>(
+    out: &mut SinkWriter<'_, S>,
+    plan: &TreePlan<'_>,
+    level: LevelSpan,
+    at: usize,
+    count: usize,
+)
+    requires height { level.height < plan.now.height }
+    requires level { IsLevel plan.now.shape.keys plan.now.pairs.now level.height level.first level.count }
+    requires inside { at + count ≤ level.count }
+    requires child { 1 ≤ count }
+    requires few { count ≤ plan.now.shape.keys + 1 }
+    ensures { Puts out.old (inner_page plan.now.shape.size (children_from plan.now.shape.keys plan.now.pairs.now level.height at count)) out.new }
+{
+    put_u32(out, (count - 1) as u32);
+    put_children(out, plan, level, at, count);
+    put_zeros(out, MAX_RECORDS_BYTES - (count - 1) * plan.shape.size);
+}
+
+// How many of `left` children the next page takes.
+fn next_count(shape: Shape, left: usize) -> usize
+    requires { 2 ≤ left }
+    ensures is { result ≡ min (inner_group_size shape.keys left) left }
+    ensures some { 1 ≤ result }
+    ensures few { result ≤ shape.keys + 1 }
+    ensures inside { result ≤ left }
+    ensures left { left - result ≢ 1 }
+{
+    if left == shape.keys + 2 {
+        shape.keys
+    } else if left < shape.keys + 1 {
+        left
+    } else {
+        shape.keys + 1
+    }
+}
+
+// The pages above a level.
+fn put_level<S: ByteSink>(out: &mut SinkWriter<'_, S>, plan: &TreePlan<'_>, level: LevelSpan)
+    requires height { level.height < plan.now.height }
+    requires level { IsLevel plan.now.shape.keys plan.now.pairs.now level.height level.first level.count }
+    ensures { Puts out.old (flat_map (inner_page plan.now.shape.size) (next_level plan.now.shape.keys (level_of plan.now.shape.keys plan.now.pairs.now level.height).pages)) out.new }
+{
+    let mut at = 0;
+    while at < level.count {
+        let n = next_count(plan.shape, level.count - at);
+        put_inner(out, plan, level, at, n);
+        at += n;
+    }
+}
+
+/// All inner pages, level by level up to the root.
+pub(crate) fn put_inner_pages<S: ByteSink>(out: &mut SinkWriter<'_, S>, plan: &TreePlan<'_>)
+    ensures { Puts out.old (flat_map (inner_page plan.now.shape.size) (inner_pages plan.now.shape.keys plan.now.pairs.now)) out.new }
+{
+    let mut first = 1;
+    for height in 0..plan.height {
+        let count = plan.sizes[height];
+        let level = LevelSpan {
+            height,
+            first,
+            count,
+        };
+        put_level(out, plan, level);
+        first += count as u32;
+    }
+}

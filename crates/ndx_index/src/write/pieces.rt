@@ -1,0 +1,55 @@
+//! Numbers, zeros and key records as bytes.
+#![tactic(auto, using(crate::proofs::Sinks::puts))]
+
+ghost use Rattle.std.specs.Prelude.{◌≡◌, ◌+◌, ◌≤◌, length, replicate};
+ghost use Rattle.byteorder.specs.Endian.{little_bytes};
+ghost use Rattle.dbf_image.specs.Output.{Puts};
+ghost use Rattle.ndx_index.specs.Image.{key_record};
+
+use crate::format::{MAX_KEY_LENGTH, PAGE};
+use crate::write::shape::Shape;
+use byteorder::{ByteOrder, LittleEndian};
+use dbf_image::{ByteSink, SinkWriter};
+
+pub(crate) fn put_u16<S: ByteSink>(out: &mut SinkWriter<'_, S>, number: u16)
+    ensures { Puts out.old (little_bytes 2 number) out.new }
+{
+    let mut bytes = [0; 2];
+    LittleEndian::write_u16(&mut bytes, number);
+    out.put(&bytes);
+}
+
+pub(crate) fn put_u32<S: ByteSink>(out: &mut SinkWriter<'_, S>, number: u32)
+    ensures { Puts out.old (little_bytes 4 number) out.new }
+{
+    let mut bytes = [0; 4];
+    LittleEndian::write_u32(&mut bytes, number);
+    out.put(&bytes);
+}
+
+/// This many zeros, as they fill a page up.
+pub(crate) fn put_zeros<S: ByteSink>(out: &mut SinkWriter<'_, S>, n: usize)
+    requires { n ≤ PAGE }
+    ensures { Puts out.old (replicate n 0) out.new }
+{
+    let zeros = [0; PAGE];
+    out.put(&zeros[..n]);
+}
+
+/// A key record: the child page, the record number, the key, and zeros up to the record's size.
+#[tactic(auto, using(crate::proofs::Sinks::puts), unfolding(crate::specs::Image::key_record))]
+pub(crate) fn put_key_record<S: ByteSink>(
+    out: &mut SinkWriter<'_, S>,
+    shape: Shape,
+    child: u32,
+    number: u32,
+    key: &[u8],
+)
+    requires { length key.now ≤ MAX_KEY_LENGTH }
+    ensures { Puts out.old (key_record shape.size child number key.now) out.new }
+{
+    put_u32(out, child);
+    put_u32(out, number);
+    out.put(key);
+    put_zeros(out, shape.size.saturating_sub(8 + key.len()));
+}
