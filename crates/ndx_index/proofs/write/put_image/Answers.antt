@@ -1,5 +1,5 @@
 use Rattle.std.proofs.Common.{◌+◌, ◌≤◌, ℕ, ◌∙◌, subst}
-use Rattle.dbf_image.proofs.Puts.{more_three}
+use Rattle.dbf_image.proofs.Puts.{more_all_three}
 use Rattle.ndx_index.specs.Image.{page_keys}
 use Rattle.ndx_index.specs.Levels.{AreSizes, IsRootLevel}
 use Rattle.ndx_index.proofs.TreeBytes.{image_parts, pages_counted}
@@ -14,5 +14,5 @@ returns-clause-put g c =
     let top = subst (λ k. IsRootLevel k plan.pairs.now plan.height plan.root) shape.fits.keys_are plan.top in
     let whole = image_parts c.args.text.now shape.key_len (plan.root + 1) plan.pairs.now (pages_counted shape.key_len plan.pairs.now plan.height plan.root plan.sizes some below top) in (
       c.put_inner_pages.ensures.0 ∙ (c.put_leaves.ensures.put.0 ∙ c.put_header.ensures.0),
-      rw (c.put_inner_pages.ensures.1, c.put_leaves.ensures.put.1, c.put_header.ensures.1, shape.fits.keys_are, shape.fits.size_is) (more_three _ _ _ _ _ whole),
+      rw (c.put_inner_pages.ensures.1, c.put_leaves.ensures.put.1, c.put_header.ensures.1, shape.fits.keys_are, shape.fits.size_is) (more_all_three _ _ _ _ _ whole),
     )
