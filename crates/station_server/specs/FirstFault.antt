@@ -1,9 +1,9 @@
 -- Which faults the steps of a run may have.
 use Rattle.std.specs.Prelude.{◌≡◌, ◌⊎◌, ℕ, ◌<◌}
-use Rattle.station_server.specs.declared.catalogue.Stop.TheVariants as stop
+use Rattle.shared_catalogue.specs.declared.catalogue.Stop.TheVariants as stop
 use Rattle.station_server.specs.declared.first_run.FirstFault.{FirstFault}
 use Rattle.station_server.specs.declared.first_run.FirstFault.TheVariants as run
-use Rattle.station_server.specs.declared.opening.OpenFault.TheVariants as opening
+use Rattle.shared_catalogue.specs.declared.opening.OpenFault.TheVariants as opening
 
 -- opening one table for one station fails for want of memory alone
 abbrev pub IsOpening : FirstFault → Type 0

@@ -1,11 +1,11 @@
 -- A run of commands by the only station on one table.
 use Rattle.std.specs.Prelude.{◌≡◌, List, [], ◌∷◌, map, codes}
 use Rattle.dbf_image.specs.Table.{Table}
-use Rattle.station_server.specs.declared.answer.Answer.{Answer}
-use Rattle.station_server.specs.declared.command.Command.{Command}
-use Rattle.station_server.specs.declared.entry.Entry.{Entry}
-use Rattle.station_server.specs.Replay.{Opened, opened_as, replay, IsLegal}
-use Rattle.station_server.specs.State.{table_at}
+use Rattle.shared_catalogue.specs.declared.answer.Answer.{Answer}
+use Rattle.shared_catalogue.specs.declared.command.Command.{Command}
+use Rattle.shared_catalogue.specs.declared.entry.Entry.{Entry}
+use Rattle.shared_catalogue.specs.Replay.{Opened, opened_as, replay, IsLegal}
+use Rattle.shared_catalogue.specs.State.{table_at}
 
 -- the table T, opened for one station
 abbrev pub table_t : Table → Opened

@@ -1,12 +1,3 @@
-pub mod Refusals
 pub mod Line
-pub mod Shown
-pub mod State
-pub mod CellRefusal
-pub mod Step
-pub mod Planned
-pub mod Replay
-pub mod Kept
-pub mod Opening
 pub mod FirstFault
 pub mod FirstRun

@@ -1,10 +1,10 @@
 -- An answer as a line of an answer file.
 use Rattle.std.specs.Prelude.{ℕ, true, false, List, ◌++◌, codes}
 use Rattle.std.specs.Fmt.{decimal}
-use Rattle.station_server.specs.declared.answer.Answer.{Answer}
-use Rattle.station_server.specs.declared.answer.Answer.TheVariants.{Done, Number, Truth, Text, Refused}
-use Rattle.station_server.specs.declared.answer.Refusal.{Refusal}
-use Rattle.station_server.specs.Refusals.{code_of, name_of}
+use Rattle.shared_catalogue.specs.declared.answer.Answer.{Answer}
+use Rattle.shared_catalogue.specs.declared.answer.Answer.TheVariants.{Done, Number, Truth, Text, Refused}
+use Rattle.shared_catalogue.specs.declared.answer.Refusal.{Refusal}
+use Rattle.shared_catalogue.specs.Refusals.{code_of, name_of}
 
 -- a refusal's line: its number and its name
 abbrev pub refusal_text : Refusal → List ℕ

@@ -8,15 +8,11 @@ ghost use Rattle.dbf_image.specs.Sink.{grown, Rises};
 ghost use Rattle.dbf_image.specs.Table.{Table};
 ghost use Rattle.station_server.specs.FirstFault.{IsOpening, IsStopping};
 ghost use Rattle.station_server.specs.FirstRun.{IsRun, table_t};
-ghost use Rattle.station_server.specs.Replay.{past, IsLegal};
+ghost use Rattle.shared_catalogue.specs.Replay.{past, IsLegal};
 
-use crate::answer::Answer;
-use crate::catalogue::{Catalogue, Stop};
-use crate::command::Command;
-use crate::opening::OpenFault;
-use crate::source::TableSource;
 use dbf_fields::{Bytes, Day};
 use dbf_image::{ByteSink, ImageFault, TableData, WriteFault, read_table, write_dbf};
+use shared_catalogue::{Answer, Catalogue, Command, OpenFault, Stop, TableSource};
 use std::alloc::{AllocError, AllocFailed, Global};
 use thiserror::Error;
 

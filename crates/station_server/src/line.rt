@@ -4,8 +4,8 @@ ghost use Rattle.std.specs.Prelude.{◌≡◌, IfOk};
 ghost use Rattle.std.specs.Fmt.{decimal};
 ghost use Rattle.station_server.specs.Line.{line_of, refusal_text};
 
-use crate::answer::{Answer, Refusal};
 use dbf_fields::Bytes;
+use shared_catalogue::{Answer, Refusal};
 use std::alloc::{AllocError, Global};
 
 /// The text of an answer in an answer file, without the LF that ends its line: `OK`, a number in

@@ -1,38 +1,22 @@
 //! A server for dBASE III PLUS tables.
 //!
 //! Its first path: a table is read from a DBF file, opened for one station, changed by the station's
-//! commands, and written as a DBF file. What a command does is defined in `specs/Step.antt`; the
-//! `Catalogue` performs commands, keeps their journal, and its type says that its tables are what the
-//! journal makes of the opened ones. Start reading at `catalogue.rt`, then `first_run.rt`.
+//! commands, and written as a DBF file. Commands and their journal are `shared_catalogue`'s. Start
+//! reading at `first_run.rt`.
 #![tactic(auto)]
 
-mod answer;
-mod area;
-mod catalogue;
-mod change;
-mod command;
-mod entry;
 mod first_run;
-#[cfg(test)]
-mod kind_tests;
 mod line;
-#[cfg(test)]
-mod memo_tests;
-mod opening;
-mod plan;
 mod sample;
-mod shown;
-mod source;
-mod state;
 #[cfg(test)]
 mod tests;
 
-use crate::answer::Answer;
 use crate::first_run::first_run;
 use crate::line::answer_line;
 use anyhow::{Context, Result};
 use dbf_fields::day_of;
 use dbf_image::MemorySink;
+use shared_catalogue::Answer;
 use std::alloc::Global;
 use std::io;
 use std::io::Write;

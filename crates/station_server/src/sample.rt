@@ -1,7 +1,7 @@
 //! The table and the commands that the program runs.
 
-use crate::command::Command;
 use dbf_fields::{Bytes, Literal};
+use shared_catalogue::Command;
 use std::alloc::{AllocError, AllocFailed, Global};
 
 /// The DBF file of a table with one field of characters, NAME, 10 bytes wide, and the records `ADA` and

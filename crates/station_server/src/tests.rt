@@ -1,13 +1,9 @@
-use crate::answer::{Answer, Refusal};
-use crate::catalogue::Catalogue;
-use crate::command::Command;
 use crate::first_run::{FirstFault, first_run};
 use crate::line::answer_line;
-use crate::opening::OpenFault;
 use crate::sample;
-use crate::source::TableSource;
-use dbf_fields::{Bytes, Literal, day_of};
+use dbf_fields::{Bytes, day_of};
 use dbf_image::{ImageFault, MemorySink, WriteFault, read_table, write_dbf};
+use shared_catalogue::{Answer, Catalogue, Command, Refusal, TableSource};
 use std::alloc::{AllocError, Global};
 use std::test::Fail;
 
@@ -24,17 +20,6 @@ const WITH_CYD: [u8; 99] = [
     0x20, 0x43, 0x59, 0x44, 0x20, 0x20, 0x20, 0x20, 0x20, 0x20, 0x20,
     0x1a,
 ];
-
-fn show(alloc: Global, field: &[u8]) -> Result<Command, AllocError> {
-    Ok(Command::Show(Bytes::from_slice(alloc, field)?))
-}
-
-fn replace_name(alloc: Global, value: Literal) -> Result<Command, AllocError> {
-    Ok(Command::Replace {
-        field: Bytes::from_slice(alloc, b"NAME")?,
-        value,
-    })
-}
 
 fn text(alloc: Global, bytes: &[u8]) -> Result<Answer, AllocError> {
     Ok(Answer::Text(Bytes::from_slice(alloc, bytes)?))
@@ -107,97 +92,6 @@ fn written_table_is_the_catalogues(rt: HostRuntime) -> Result<(), Fail> {
 }
 
 #[test]
-fn first_path_refusals(rt: HostRuntime) -> Result<(), Fail> {
-    let alloc = rt.alloc();
-    let mut catalogue = open_sample(alloc)?;
-    let first = sample::commands(alloc)?;
-    answers_of(alloc, &mut catalogue, &first)?;
-    let commands = vec![in alloc;
-        Command::Go(4),
-        show(alloc, b"NAME")?,
-        show(alloc, b"ZIP")?,
-        replace_name(alloc, Literal::Truth(true))?,
-        Command::Bad,
-    ]?;
-    let answers = answers_of(alloc, &mut catalogue, &commands)?;
-    let wanted = vec![in alloc;
-        Answer::Refused(Refusal::OutOfRange),
-        text(alloc, b"CYD       ")?,
-        Answer::Refused(Refusal::NoSuchField),
-        Answer::Refused(Refusal::TypeMismatch),
-        Answer::Refused(Refusal::BadCommand),
-    ]?;
-    assert_eq!(rt; answers.as_slice(), wanted.as_slice());
-    assert_eq!(rt;
-        answer_line(alloc, &answers[4])?.as_slice(),
-        b"REFUSED 19 BadCommand".as_slice()
-    );
-    Ok(())
-}
-
-#[test]
-fn shared_use_needs_a_lock(rt: HostRuntime) -> Result<(), Fail> {
-    let alloc = rt.alloc();
-    let mut catalogue = open_sample(alloc)?;
-    let value = Literal::Text(Bytes::from_slice(alloc, b"X")?);
-    let commands = vec![in alloc;
-        Command::Go(1),
-        sample::use_table(alloc, b"NONE", false)?,
-        sample::use_table(alloc, b"T", false)?,
-        replace_name(alloc, value)?,
-    ]?;
-    let answers = answers_of(alloc, &mut catalogue, &commands)?;
-    let wanted = [
-        Answer::Refused(Refusal::NoTableInUse),
-        Answer::Refused(Refusal::NoTable),
-        Answer::Done,
-        Answer::Refused(Refusal::NotLocked),
-    ];
-    assert_eq!(rt; answers.as_slice(), wanted.as_slice());
-    Ok(())
-}
-
-#[test]
-fn journal_keeps_commands_and_answers(rt: HostRuntime) -> Result<(), Fail> {
-    let alloc = rt.alloc();
-    let mut catalogue = open_sample(alloc)?;
-    let told = catalogue.perform(alloc, 1, &Command::Go(1))?;
-    assert_eq!(rt; told, (1, Answer::Refused(Refusal::NoTableInUse)));
-    let use_t = sample::use_table(alloc, b"T", false)?.copy(alloc)?;
-    let told = catalogue.perform(alloc, 1, &use_t)?;
-    assert_eq!(rt; told, (2, Answer::Done.copy(alloc)?));
-    let journal = catalogue.journal();
-    assert_eq!(rt; journal.len(), 2);
-    assert_eq!(rt; journal[1].station, 1);
-    assert_eq!(rt; journal[1].command, use_t);
-    assert_eq!(rt; journal[1].answer, Answer::Done);
-    Ok(())
-}
-
-#[test]
-fn openings_are_refused_in_order(rt: HostRuntime) -> Result<(), Fail> {
-    let alloc = rt.alloc();
-    let cases = [
-        (12, 0, OpenFault::NoStation),
-        (12, 2, OpenFault::TooManyStations),
-        (11, 1, OpenFault::TooManyTables),
-        (3, 1, OpenFault::DuplicateTable(3)),
-    ];
-    for (count, stations, fault) in cases {
-        let mut sources = Vec::new(alloc);
-        for i in 0..count {
-            let name = if i == 1 { b"U" } else { b"T" };
-            sources.push(source(alloc, name)?.copy(alloc)?)?;
-        }
-        assert_eq!(rt;
-            Catalogue::open(alloc, sources, stations).err(),
-            Some(fault)
-        );
-    }
-    Ok(())
-}
-
-#[test]
 fn runs_that_fail_write_nothing(rt: HostRuntime) -> Result<(), Fail> {
     let alloc = rt.alloc();
     let day = day_of(1987, 3, 15).ok_or("a date")?;
@@ -243,33 +137,4 @@ fn answers_have_their_lines(rt: HostRuntime) -> Result<(), Fail> {
         assert_eq!(rt; answer_line(alloc, answer)?.as_slice(), *line);
     }
     Ok(())
-}
-
-#[test]
-fn refusals_have_their_numbers_and_names(rt: HostRuntime) {
-    let cases = [
-        (Refusal::NoTable, 1, "NoTable"),
-        (Refusal::NoTableInUse, 2, "NoTableInUse"),
-        (Refusal::TableInUse, 3, "TableInUse"),
-        (Refusal::NeedsExclusive, 4, "NeedsExclusive"),
-        (Refusal::NotLocked, 5, "NotLocked"),
-        (Refusal::OutOfRange, 6, "OutOfRange"),
-        (Refusal::EndOfFile, 7, "EndOfFile"),
-        (Refusal::BeginOfFile, 8, "BeginOfFile"),
-        (Refusal::NotIndexed, 9, "NotIndexed"),
-        (Refusal::NoSuchField, 10, "NoSuchField"),
-        (Refusal::TypeMismatch, 11, "TypeMismatch"),
-        (Refusal::NumberTooWide, 12, "NumberTooWide"),
-        (Refusal::BadDate, 13, "BadDate"),
-        (Refusal::BadText, 14, "BadText"),
-        (Refusal::BadArea, 15, "BadArea"),
-        (Refusal::AlreadyOpen, 16, "AlreadyOpen"),
-        (Refusal::TableFull, 17, "TableFull"),
-        (Refusal::NoSuchOrder, 18, "NoSuchOrder"),
-        (Refusal::BadCommand, 19, "BadCommand"),
-    ];
-    for (refusal, code, name) in cases {
-        assert_eq!(rt; refusal.code(), code);
-        assert_eq!(rt; refusal.name(), name);
-    }
 }

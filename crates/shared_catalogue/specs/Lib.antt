@@ -1,0 +1,9 @@
+pub mod Refusals
+pub mod Shown
+pub mod State
+pub mod CellRefusal
+pub mod Step
+pub mod Planned
+pub mod Replay
+pub mod Kept
+pub mod Opening

@@ -1,0 +1,32 @@
+-- Which tables and how many stations a catalogue may be opened with, and the refusal of the others.
+use Rattle.std.specs.Prelude.{◌≡◌, ◌⊎◌, ℕ, ◌+◌, Bool, not, bytes_eq, nat_le, List, [], ◌∷◌, ◌++◌, length, Option, Some}
+use Rattle.std.specs.List.{list_any}
+use Rattle.dbf_fields.specs.Faults.{first_fault}
+use Rattle.shared_catalogue.specs.declared.opening.OpenFault.{OpenFault}
+use Rattle.shared_catalogue.specs.declared.opening.OpenFault.TheVariants.{NoStation, TooManyStations, TooManyTables, DuplicateTable, NoMemory}
+use Rattle.shared_catalogue.specs.declared.source.TableSource.{TableSource}
+
+-- one of the tables has the name
+abbrev pub has_name : List TableSource → List ℕ → Bool
+has_name tables name = list_any (λ t. bytes_eq t.name name) tables
+
+-- the tests of the tables from one on, after the earlier ones; tables count from 1
+abbrev pub table_tests : List TableSource → List TableSource → List (Bool × OpenFault)
+table_tests earlier [] = []
+table_tests earlier (t ∷ ts) = (not (has_name earlier t.name), DuplicateTable (length earlier + 1)) ∷ table_tests (earlier ++ t ∷ []) ts
+
+-- each test beside the fault that it is for: first the counts, then table by table
+abbrev pub open_tests : List TableSource → ℕ → List (Bool × OpenFault)
+open_tests tables stations =
+    (nat_le 1 stations, NoStation)
+    ∷ (nat_le stations 1, TooManyStations)
+    ∷ (nat_le (length tables) 10, TooManyTables)
+    ∷ table_tests [] tables
+
+-- why a catalogue can't be opened, where it can't
+abbrev pub refusal : List TableSource → ℕ → Option OpenFault
+refusal tables stations = first_fault (open_tests tables stations)
+
+-- a fault that is answered is the first one, but for want of memory
+abbrev pub IsRefusal : OpenFault → List TableSource → ℕ → Type 0
+IsRefusal fault tables stations = (fault ≡ NoMemory) ⊎ (refusal tables stations ≡ Some fault)

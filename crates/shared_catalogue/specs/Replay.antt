@@ -1,0 +1,60 @@
+-- What was opened, the journal of the commands since, and what they made of it.
+use Rattle.std.specs.Prelude.{◌≡◌, ℕ, List, [], ◌∷◌, ◌++◌, map, None}
+use Rattle.shared_catalogue.specs.declared.answer.Answer.{Answer}
+use Rattle.shared_catalogue.specs.declared.command.Command.{Command}
+use Rattle.shared_catalogue.specs.declared.entry.Entry.{Entry}
+use Rattle.shared_catalogue.specs.declared.source.TableSource.{TableSource}
+use Rattle.shared_catalogue.specs.State.{State}
+use Rattle.shared_catalogue.specs.Step.{step}
+
+-- the number of stations, and the tables as they were opened
+pub record Opened : Type 0 where
+  pub stations : ℕ
+  pub tables : List TableSource
+
+-- a catalogue as contracts see it: what was opened, and the journal since
+pub record Past : Type 0 where
+  pub opened : Opened
+  pub journal : List Entry
+
+abbrev pub opened_as : ℕ → List TableSource → Opened
+opened_as stations tables = record { stations = stations; tables = tables }
+
+abbrev pub past : Opened → List Entry → Past
+past opened journal = record { opened = opened; journal = journal }
+
+-- the state at opening: the tables, and no table in use
+abbrev pub start : Opened → State
+start opened = record { names = map (λ t. t.name) opened.tables; tables = map (λ t. t.content) opened.tables; area = None }
+
+-- the state after the commands of a list of entries, one after another
+abbrev pub run : State → List Entry → State
+run s [] = s
+run s (e ∷ es) = run (step s e.command).0 es
+
+abbrev pub replay : Opened → List Entry → State
+replay opened journal = run (start opened) journal
+
+-- each stored answer is the one that its command has at its place
+abbrev pub LegalFrom : State → List Entry → Type 0
+LegalFrom s [] = Unit {0}
+LegalFrom s (e ∷ es) = (e.answer ≡ (step s e.command).1) × LegalFrom (step s e.command).0 es
+
+abbrev pub IsLegal : Opened → List Entry → Type 0
+IsLegal opened journal = LegalFrom (start opened) journal
+
+-- the state now
+abbrev pub state_of : Past → State
+state_of p = replay p.opened p.journal
+
+-- what a command is answered now
+abbrev pub answer_of : Past → Command → Answer
+answer_of p command = (step (state_of p) command).1
+
+-- the journal's entry for a command
+abbrev pub entry : ℕ → Command → Answer → Entry
+entry station command answer = record { station = station; command = command; answer = answer }
+
+-- the past once a station's command has been performed
+abbrev pub called : Past → ℕ → Command → Past
+called p station command = past p.opened (p.journal ++ entry station command (answer_of p command) ∷ [])

@@ -1,0 +1,152 @@
+//! The catalogue: the tables as they were opened, the journal of the commands since, and their state.
+
+ghost use Rattle.std.specs.Prelude.{◌≡◌, ◌↔◌, ◌-◌, ◌<◌, ◌≤◌, [], length, None, IfOk, IfErr, OnErr, IsErrOf};
+ghost use Rattle.shared_catalogue.specs.State.{table_at as content_at};
+
+use crate::answer::Answer;
+use crate::command::Command;
+use crate::entry::Entry;
+use crate::opening::{OpenFault, check_opening};
+use crate::plan::plan;
+use crate::source::TableSource;
+use crate::state::State;
+use dbf_image::TableData;
+use std::alloc::{AllocError, Global};
+use std::marker::Model;
+use thiserror::Error;
+
+/// The most entries of a journal.
+pub const MOST_ENTRIES: usize = 4_294_967_295;
+
+/// Why a command was not performed. It is in no journal and has changed nothing.
+#[derive(Clone, Copy, Debug, PartialEq, Eq, Error)]
+pub enum Stop {
+    /// The journal has 4,294,967,295 entries.
+    #[error("the journal is full")]
+    JournalFull,
+    /// Memory was refused.
+    #[error("out of memory")]
+    NoMemory,
+}
+
+impl From<AllocError> for Stop {
+    ghost use Rattle.std.specs.Prelude.{◌≡◌};
+    ghost use Rattle.shared_catalogue.specs.declared.catalogue.Stop.TheVariants.{NoMemory};
+
+    ghost from_gives = { λ _ stop. stop ≡ NoMemory };
+
+    fn from(_refused: AllocError) -> Stop {
+        Stop::NoMemory
+    }
+}
+
+/// A catalogue, which contracts see as what was opened and the journal since. Every value of this type
+/// has the state that its journal's commands make of the opened tables, one after another, and each
+/// answer in the journal is the one that its command has at its place.
+#[derive(Debug, Drop)]
+pub struct Catalogue {
+    sources: Vec<TableSource>,
+    state: State,
+    journal: Vec<Entry>,
+}
+
+impl Model for Catalogue {
+    ghost use Rattle.std.specs.Prelude.{◌≤◌, length};
+    ghost use Rattle.shared_catalogue.specs.Replay.{Past, past, opened_as};
+
+    ghost Value = { Past };
+
+    ghost use Rattle.shared_catalogue.specs.Kept.{IsKept};
+
+    ghost view = { λ c. past (opened_as 1 c.sources.items) c.journal.items };
+
+    ghost invariant = { λ c. IsKept (opened_as 1 c.sources.items) c.state c.journal.items };
+}
+
+impl Catalogue {
+    ghost use Rattle.shared_catalogue.specs.declared.answer.Refusal.{Refusal};
+    ghost use Rattle.shared_catalogue.specs.Opening.{refusal, IsRefusal};
+    ghost use Rattle.shared_catalogue.specs.Replay.{past, opened_as, state_of, answer_of, called, IsLegal};
+
+    /// Opens tables for stations: no table is in use, and the journal is empty.
+    ///
+    /// The faults are tested in this order: `NoStation`, `TooManyStations` (more than one, until
+    /// stations share tables under locks), `TooManyTables` (more than 10), and then, table by table,
+    /// `DuplicateTable` (a name used by an earlier table). `NoMemory` comes last.
+    pub fn open(
+        alloc: Global,
+        sources: Vec<TableSource>,
+        stations: u32,
+    ) -> Result<Catalogue, OpenFault>
+        ensures accepted { IfOk result (λ _. refusal sources.items stations ≡ None) }
+        ensures opened { IfOk result (λ catalogue. catalogue ≡ past (opened_as stations sources.items) []) }
+        ensures refused { IfErr result (λ fault. IsRefusal fault sources.items stations) }
+    {
+        check_opening(&sources, stations)?;
+        let state = State::new(alloc, &sources)?;
+        Ok(Catalogue {
+            sources,
+            state,
+            journal: Vec::new(alloc),
+        })
+    }
+
+    /// Performs a command of a station as one step, and answers its number in the journal, from 1, and
+    /// what the station is told. A refused command is an entry too, and changes no table.
+    ///
+    /// `JournalFull` is tested first, and comes exactly where the journal has 4,294,967,295 entries.
+    /// After `JournalFull` and `NoMemory` the catalogue is as it was.
+    pub fn perform(
+        &mut self,
+        alloc: Global,
+        station: u32,
+        command: &Command,
+    ) -> Result<(u64, Answer), Stop>
+        ensures number { IfOk result (λ told. told.0 ≡ length self.new.journal) }
+        ensures answer { IfOk result (λ told. told.1 ≡ answer_of self.old command.now) }
+        ensures entry { IfOk result (λ _. self.new ≡ called self.old station command.now) }
+        ensures refused { IfOk result (λ told. (refusal : Refusal) → told.1 ≡ Answer.Refused refusal → state_of self.new ≡ state_of self.old) }
+        ensures full { IsErrOf result Stop.JournalFull ↔ (length self.old.journal ≡ 4294967295) }
+        ensures stopped { OnErr result (self.new ≡ self.old) }
+    {
+        if self.journal.len() >= MOST_ENTRIES {
+            return Err(Stop::JournalFull);
+        }
+        let command_told = command.copy(alloc)?;
+        let planned = plan(alloc, &self.state, command)?;
+        let answer = planned.answer.copy(alloc)?;
+        self.journal.reserve(1)?;
+        self.state.make(planned.change)?;
+        self.journal.push_reserved(Entry {
+            station,
+            command: command_told,
+            answer: planned.answer,
+        });
+        Ok((self.journal.len() as u64, answer))
+    }
+
+    /// How many tables were opened.
+    pub fn table_count(&self) -> usize
+        ensures value { result ≡ length self.now.opened.tables }
+    {
+        self.sources.len()
+    }
+
+    /// The table of a number, from 1, as it stands now. An error where memory is refused.
+    pub fn content(&self, alloc: Global, number: u32) -> Result<TableData, AllocError>
+        requires counted { 1 ≤ number }
+        requires inside { number ≤ length self.now.opened.tables }
+        ensures value { IfOk result (λ table. table ≡ content_at (state_of self.now).tables (number - 1)) }
+    {
+        self.state.table_at(number as usize - 1).copy(alloc)
+    }
+
+    /// The entries of the journal, in order. Each answer is the one that its command has at its place.
+    pub fn journal(&self) -> &[Entry]
+        ensures entries { result.now ≡ self.now.journal }
+        ensures legal { IsLegal self.now.opened self.now.journal }
+        ensures few { length self.now.journal ≤ 4294967295 }
+    {
+        &self.journal
+    }
+}

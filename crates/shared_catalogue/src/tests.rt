@@ -1,0 +1,5 @@
+mod cells;
+mod memos;
+mod openings;
+mod performing;
+mod sample;
