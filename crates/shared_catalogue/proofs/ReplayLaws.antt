@@ -5,28 +5,28 @@ use Rattle.shared_catalogue.specs.declared.entry.Entry.{Entry}
 use Rattle.shared_catalogue.specs.declared.source.TableSource.{TableSource}
 use Rattle.shared_catalogue.specs.State.{State}
 use Rattle.shared_catalogue.specs.Step.{step}
-use Rattle.shared_catalogue.specs.Replay.{Opened, run, replay, start, LegalFrom}
+use Rattle.shared_catalogue.specs.Replay.{Opened, after, replay, start, LegalFrom}
 use Rattle.shared_catalogue.specs.declared.answer.Answer.TheVariants.{Refused}
 use Rattle.shared_catalogue.specs.declared.answer.Refusal.{Refusal}
 use Rattle.shared_catalogue.proofs.StepLaws.{length-step, refused_step}
 
-pub run-push : (s : State) (es : List Entry) (e : Entry) → run s (es ++ e ∷ []) ≡ (step (run s es) e.command).0
-run-push s [] e = refl
-run-push s (x ∷ xs) e = run-push (step s x.command).0 xs e
+pub after-push : (s : State) (es : List Entry) (e : Entry) → after s (es ++ e ∷ []) ≡ (step (after s es) e.command).0
+after-push s [] e = refl
+after-push s (x ∷ xs) e = after-push (step s x.command).0 xs e
 
-pub legal-push : (s : State) (es : List Entry) (e : Entry) → LegalFrom s es → e.answer ≡ (step (run s es) e.command).1 → LegalFrom s (es ++ e ∷ [])
+pub legal-push : (s : State) (es : List Entry) (e : Entry) → LegalFrom s es → e.answer ≡ (step (after s es) e.command).1 → LegalFrom s (es ++ e ∷ [])
 legal-push s [] e legal answer = (answer, tt)
 legal-push s (x ∷ xs) e legal answer = (legal.0, legal-push (step s x.command).0 xs e legal.1 answer)
 
-length-run : (s : State) (es : List Entry) → length (run s es).tables ≡ length s.tables
-length-run s [] = refl
-length-run s (e ∷ es) = length-run (step s e.command).0 es ∙ length-step s e.command
+length-after : (s : State) (es : List Entry) → length (after s es).tables ≡ length s.tables
+length-after s [] = refl
+length-after s (e ∷ es) = length-after (step s e.command).0 es ∙ length-step s e.command
 
 -- there are as many tables as were opened
 pub length-replay : (opened : Opened) (journal : List Entry) → length (replay opened journal).tables ≡ length opened.tables
-length-replay opened journal = length-run (start opened) journal ∙ length-map opened.tables (λ (t : TableSource). t.content)
+length-replay opened journal = length-after (start opened) journal ∙ length-map opened.tables (λ (t : TableSource). t.content)
 
 -- a refused command leaves the state as it was
 pub refused-push : (opened : Opened) (journal : List Entry) (e : Entry) (refusal : Refusal) → e.answer ≡ (step (replay opened journal) e.command).1 → e.answer ≡ Refused refusal
     → replay opened (journal ++ e ∷ []) ≡ replay opened journal
-refused-push opened journal e refusal told refused = run-push (start opened) journal e ∙ refused_step (replay opened journal) e.command refusal (sym told ∙ refused)
+refused-push opened journal e refusal answer refused = after-push (start opened) journal e ∙ refused_step (replay opened journal) e.command refusal (sym answer ∙ refused)

@@ -1,66 +1,95 @@
--- What every command leaves as it is.
-use Rattle.std.proofs.Common.{◌≡◌, ℕ, Bool, List, length, refl, arith}
+-- What holds of the outcome of every command: there are as many tables as before, and the answer is no
+-- refusal. So a refused command leaves the state as it was.
+use Rattle.std.proofs.Common.{◌≡◌, ℕ, Bool, List, length, Result, Ok, Err, refl}
+use Rattle.std.specs.Int.{is_in_range}
+use Rattle.std.specs.Prelude.{nat_lt, ◌==◌, IfOk}
 use Rattle.std.proofs.lemmas.List.{length-set}
+use Rattle.dbf_fields.specs.declared.field.TheConstants.{MEMO}
 use Rattle.dbf_fields.specs.declared.literal.Literal.{Literal}
-use Rattle.shared_catalogue.specs.declared.answer.Answer.TheVariants.{Refused}
+use Rattle.dbf_fields.specs.Cell.{stored}
+use Rattle.dbf_image.specs.declared.table.TheConstants.{MOST_RECORDS}
+use Rattle.dbf_image.specs.Table.{is_memo_text}
+use Rattle.shared_catalogue.specs.declared.answer.Answer.{Answer}
+use Rattle.shared_catalogue.specs.declared.answer.Answer.TheVariants.{Done, Text, Refused}
 use Rattle.shared_catalogue.specs.declared.answer.Refusal.{Refusal}
+use Rattle.shared_catalogue.specs.declared.answer.Refusal.TheVariants.{NoTable, NoTableInUse, OutOfRange, EndOfFile, TableFull, NoSuchField, TypeMismatch, NumberTooWide, BadDate, BadText}
 use Rattle.shared_catalogue.specs.declared.command.Command.{Command}
 use Rattle.shared_catalogue.specs.declared.command.Command.TheVariants.{UseTable, Go, AppendBlank, Replace, Memo, Show, Bad}
-use Rattle.shared_catalogue.specs.State.{State}
-use Rattle.shared_catalogue.specs.Step.{use_table, go, append_blank, replace, memo, show, step}
+use Rattle.shared_catalogue.specs.CellFaults.{is_of_type, is_no_bad_date, cell_of}
+use Rattle.shared_catalogue.specs.State.{State, index_named, record_count, field_named, field_at}
+use Rattle.shared_catalogue.specs.Step.{target, use_table, go, append_blank, replace, memo, show, outcome, settled, step}
+use Rattle.shared_catalogue.proofs.Cases.{found_cases, granted_cases, passed_cases}
 
-refused_use : (s : State) (name : List ℕ) (exclusive : Bool) (refusal : Refusal) → (use_table s name exclusive).1 ≡ Refused refusal → (use_table s name exclusive).0 ≡ s
-refused_use s name exclusive refusal e = grind arith
+-- the outcome has as many tables as the state, and an answer that is no refusal
+pub record IsCarriedOut (s : State) (end : State × Answer) : Type 0 where
+  pub tables : length end.0.tables ≡ length s.tables
+  pub answer : (refusal : Refusal) → end.1 ≡ Refused refusal → ⊥
 
-refused_go : (s : State) (number : ℕ) (refusal : Refusal) → (go s number).1 ≡ Refused refusal → (go s number).0 ≡ s
-refused_go s number refusal e = grind arith
+abbrev pub Carries : State → Result (State × Answer) Refusal → Type 0
+Carries s outcome = IfOk outcome (IsCarriedOut s)
 
-refused_append : (s : State) (refusal : Refusal) → (append_blank s).1 ≡ Refused refusal → (append_blank s).0 ≡ s
-refused_append s refusal e = grind arith
+done_refused : (refusal : Refusal) → Done ≡ Refused refusal → ⊥
+done_refused refusal e = cc
 
-refused_replace : (s : State) (name : List ℕ) (value : Literal) (refusal : Refusal) → (replace s name value).1 ≡ Refused refusal → (replace s name value).0 ≡ s
-refused_replace s name value refusal e = grind arith
+text_refused : (text : List ℕ) (refusal : Refusal) → Text text ≡ Refused refusal → ⊥
+text_refused text refusal e = cc
 
-refused_memo : (s : State) (name text : List ℕ) (refusal : Refusal) → (memo s name text).1 ≡ Refused refusal → (memo s name text).0 ≡ s
-refused_memo s name text refusal e = grind arith
+done : (s t : State) → length t.tables ≡ length s.tables → Carries s (Ok (t, Done))
+done s t tables = record { tables = tables; answer = done_refused }
 
-refused_show : (s : State) (name : List ℕ) (refusal : Refusal) → (show s name).1 ≡ Refused refusal → (show s name).0 ≡ s
-refused_show s name refusal e = grind arith
+carries_use : (s : State) (name : List ℕ) (exclusive : Bool) → Carries s (use_table s name exclusive)
+carries_use s name exclusive = found_cases (Carries s) (index_named s name) NoTable _ tt (λ index _. done s _ refl)
 
-length-append : (s : State) → length (append_blank s).0.tables ≡ length s.tables
-length-append s = grind (arith, length-set)
+carries_go : (s : State) (number : ℕ) → Carries s (go s number)
+carries_go s number =
+    found_cases (Carries s) s.area NoTableInUse _ tt (λ area _.
+    granted_cases (Carries s) (is_in_range 1 (record_count s area) number) OutOfRange _ tt (λ _. done s _ refl))
 
-length-replace : (s : State) (name : List ℕ) (value : Literal) → length (replace s name value).0.tables ≡ length s.tables
-length-replace s name value = grind (arith, length-set)
+carries_append : (s : State) → Carries s (append_blank s)
+carries_append s =
+    found_cases (Carries s) s.area NoTableInUse _ tt (λ area _.
+    granted_cases (Carries s) (nat_lt (record_count s area) MOST_RECORDS) TableFull _ tt (λ _. done s _ (length-set s.tables area.table _)))
 
-length-memo : (s : State) (name text : List ℕ) → length (memo s name text).0.tables ≡ length s.tables
-length-memo s name text = grind (arith, length-set)
+carries_replace : (s : State) (name : List ℕ) (value : Literal) → Carries s (replace s name value)
+carries_replace s name value =
+    passed_cases (Carries s) (target s name) _ (λ _. tt) (λ t _.
+    granted_cases (Carries s) (is_of_type (stored (field_at s t.area t.field) value)) TypeMismatch _ tt (λ _.
+    granted_cases (Carries s) (is_no_bad_date (stored (field_at s t.area t.field) value)) BadDate _ tt (λ _.
+    found_cases (Carries s) (cell_of (stored (field_at s t.area t.field) value)) NumberTooWide _ tt (λ cell _. done s _ (length-set s.tables t.area.table _)))))
 
-length-use : (s : State) (name : List ℕ) (exclusive : Bool) → length (use_table s name exclusive).0.tables ≡ length s.tables
-length-use s name exclusive = grind arith
+carries_memo : (s : State) (name text : List ℕ) → Carries s (memo s name text)
+carries_memo s name text =
+    passed_cases (Carries s) (target s name) _ (λ _. tt) (λ t _.
+    granted_cases (Carries s) ((field_at s t.area t.field).kind == MEMO) TypeMismatch _ tt (λ _.
+    granted_cases (Carries s) (is_memo_text text) BadText _ tt (λ _. done s _ (length-set s.tables t.area.table _))))
 
-length-go : (s : State) (number : ℕ) → length (go s number).0.tables ≡ length s.tables
-length-go s number = grind arith
+carries_show : (s : State) (name : List ℕ) → Carries s (show s name)
+carries_show s name =
+    found_cases (Carries s) s.area NoTableInUse _ tt (λ area _.
+    found_cases (Carries s) area.at EndOfFile _ tt (λ number _.
+    found_cases (Carries s) (field_named s area name) NoSuchField _ tt (λ field _. record { tables = refl; answer = text_refused _ })))
 
-length-show : (s : State) (name : List ℕ) → length (show s name).0.tables ≡ length s.tables
-length-show s name = grind arith
+carries_outcome : (s : State) (command : Command) → Carries s (outcome s command)
+carries_outcome s (UseTable name exclusive) = carries_use s name exclusive
+carries_outcome s (Go number) = carries_go s number
+carries_outcome s AppendBlank = carries_append s
+carries_outcome s (Replace name value) = carries_replace s name value
+carries_outcome s (Memo name text) = carries_memo s name text
+carries_outcome s (Show name) = carries_show s name
+carries_outcome s Bad = tt
+
+length_settled : (s : State) (outcome : Result (State × Answer) Refusal) → Carries s outcome → length (settled s outcome).0.tables ≡ length s.tables
+length_settled s (Ok end) carries = carries.tables
+length_settled s (Err refusal) carries = refl
 
 -- there are as many tables after a command as before
 pub length-step : (s : State) (command : Command) → length (step s command).0.tables ≡ length s.tables
-length-step s (UseTable name exclusive) = length-use s name exclusive
-length-step s (Go number) = length-go s number
-length-step s AppendBlank = length-append s
-length-step s (Replace name value) = length-replace s name value
-length-step s (Memo name text) = length-memo s name text
-length-step s (Show name) = length-show s name
-length-step s Bad = refl
+length-step s command = length_settled s (outcome s command) (carries_outcome s command)
+
+refused_settled : (s : State) (outcome : Result (State × Answer) Refusal) (refusal : Refusal) → Carries s outcome → (settled s outcome).1 ≡ Refused refusal → (settled s outcome).0 ≡ s
+refused_settled s (Ok end) refusal carries e = absurd (carries.answer refusal e)
+refused_settled s (Err other) refusal carries e = refl
 
 -- a refused command leaves the state as it was
 pub refused_step : (s : State) (command : Command) (refusal : Refusal) → (step s command).1 ≡ Refused refusal → (step s command).0 ≡ s
-refused_step s (UseTable name exclusive) refusal e = refused_use s name exclusive refusal e
-refused_step s (Go number) refusal e = refused_go s number refusal e
-refused_step s AppendBlank refusal e = refused_append s refusal e
-refused_step s (Replace name value) refusal e = refused_replace s name value refusal e
-refused_step s (Memo name text) refusal e = refused_memo s name text refusal e
-refused_step s (Show name) refusal e = refused_show s name refusal e
-refused_step s Bad refusal e = refl
+refused_step s command refusal e = refused_settled s (outcome s command) refusal (carries_outcome s command) e

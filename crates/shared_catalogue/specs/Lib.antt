@@ -1,7 +1,7 @@
 pub mod Refusals
 pub mod Shown
 pub mod State
-pub mod CellRefusal
+pub mod CellFaults
 pub mod Step
 pub mod Planned
 pub mod Replay

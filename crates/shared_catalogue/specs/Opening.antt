@@ -1,7 +1,8 @@
 -- Which tables and how many stations a catalogue may be opened with, and the refusal of the others.
-use Rattle.std.specs.Prelude.{◌≡◌, ◌⊎◌, ℕ, ◌+◌, Bool, not, bytes_eq, nat_le, List, [], ◌∷◌, ◌++◌, length, Option, Some}
+use Rattle.std.specs.Prelude.{◌≡◌, ◌⊎◌, ℕ, ◌+◌, Bool, not, bytes_eq, nat_le, List, [], ◌∷◌, ◌++◌, length, Option, Some, None}
 use Rattle.std.specs.List.{list_any}
 use Rattle.dbf_fields.specs.Faults.{first_fault}
+use Rattle.shared_catalogue.specs.declared.opening.TheConstants.{MAX_STATIONS, MAX_TABLES}
 use Rattle.shared_catalogue.specs.declared.opening.OpenFault.{OpenFault}
 use Rattle.shared_catalogue.specs.declared.opening.OpenFault.TheVariants.{NoStation, TooManyStations, TooManyTables, DuplicateTable, NoMemory}
 use Rattle.shared_catalogue.specs.declared.source.TableSource.{TableSource}
@@ -19,14 +20,14 @@ table_tests earlier (t ∷ ts) = (not (has_name earlier t.name), DuplicateTable 
 abbrev pub open_tests : List TableSource → ℕ → List (Bool × OpenFault)
 open_tests tables stations =
     (nat_le 1 stations, NoStation)
-    ∷ (nat_le stations 1, TooManyStations)
-    ∷ (nat_le (length tables) 10, TooManyTables)
+    ∷ (nat_le stations MAX_STATIONS, TooManyStations)
+    ∷ (nat_le (length tables) MAX_TABLES, TooManyTables)
     ∷ table_tests [] tables
 
 -- why a catalogue can't be opened, where it can't
 abbrev pub refusal : List TableSource → ℕ → Option OpenFault
 refusal tables stations = first_fault (open_tests tables stations)
 
--- a fault that is answered is the first one, but for want of memory
+-- a fault that is answered is that of the first test that fails, and want of memory comes only where none fails
 abbrev pub IsRefusal : OpenFault → List TableSource → ℕ → Type 0
-IsRefusal fault tables stations = (fault ≡ NoMemory) ⊎ (refusal tables stations ≡ Some fault)
+IsRefusal fault tables stations = ((fault ≡ NoMemory) × (refusal tables stations ≡ None)) ⊎ (refusal tables stations ≡ Some fault)

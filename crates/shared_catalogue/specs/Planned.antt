@@ -1,62 +1,90 @@
 -- What a plan makes of a state.
-use Rattle.std.specs.Prelude.{◌≡◌, ◌≢◌, ℕ, true, List, ◌<◌, ◌≤◌, length, Option, Some, None}
+use Rattle.std.specs.Prelude.{◌≡◌, ◌≢◌, ◌⊎◌, ℕ, true, List, ◌<◌, ◌≤◌, length, Some, Result, Ok, Err, IsOk}
 use Rattle.dbf_fields.specs.declared.field.TheConstants.{MEMO}
 use Rattle.dbf_image.specs.declared.table.TheConstants.{MOST_RECORDS}
 use Rattle.dbf_image.specs.Table.{kind_at, cell_width, is_memo_text}
 use Rattle.shared_catalogue.specs.declared.answer.Answer.{Answer}
-use Rattle.shared_catalogue.specs.declared.area.Area.{Area}
+use Rattle.shared_catalogue.specs.declared.answer.Refusal.{Refusal}
+use Rattle.shared_catalogue.specs.declared.answer.Refusal.TheVariants.{TypeMismatch, BadDate, NumberTooWide}
+use Rattle.shared_catalogue.specs.declared.area.Target.{Target}
 use Rattle.shared_catalogue.specs.declared.change.Change.{Change}
-use Rattle.shared_catalogue.specs.declared.change.Change.TheVariants.{Nothing, Open, GoTo, AppendBlank, SetCell, SetMemo}
+use Rattle.shared_catalogue.specs.declared.change.Change.TheVariants.{Nothing, Open, GoTo, AppendBlank, Replace, Memo}
 use Rattle.shared_catalogue.specs.declared.change.Plan.{Plan}
-use Rattle.shared_catalogue.specs.State.{State, table_of, record_count, with_opened, with_cursor_at, with_blank, with_value}
+use Rattle.shared_catalogue.specs.declared.command.Command.{Command}
+use Rattle.shared_catalogue.specs.declared.command.Command.TheVariants as command
+use Rattle.shared_catalogue.specs.declared.fault.CommandFault.{CommandFault}
+use Rattle.shared_catalogue.specs.declared.fault.CommandFault.TheVariants.{Refused, NoMemory}
+use Rattle.shared_catalogue.specs.State.{State, area_table, record_count, with_opened, with_cursor_at, with_blank, with_value}
 
 abbrev pub plan_of : Change → Answer → Plan
 plan_of change answer = record { change = change; answer = answer }
-
--- the area with a table in it, where there is one
-abbrev pub on_area : Option Area → State → (Area → State) → State
-on_area None s act = s
-on_area (Some area) s act = act area
 
 -- the state after a change
 abbrev pub changed : State → Change → State
 changed s Nothing = s
 changed s (Open table exclusive) = with_opened s table exclusive
-changed s (GoTo number) = on_area s.area s (λ area. with_cursor_at s area number)
-changed s AppendBlank = on_area s.area s (λ area. with_blank s area)
-changed s (SetCell number field cell) = on_area s.area s (λ area. with_value s area number field cell)
-changed s (SetMemo number field text) = on_area s.area s (λ area. with_value s area number field text)
+changed s (GoTo area number) = with_cursor_at s area number
+changed s (AppendBlank area) = with_blank s area
+changed s (Replace target cell) = with_value s target.area target.number target.field cell
+changed s (Memo target text) = with_value s target.area target.number target.field text
 
 -- the state and the answer of a plan
-abbrev pub outcome : State → Plan → State × Answer
-outcome s plan = (changed s plan.change, plan.answer)
+abbrev pub planned : State → Plan → State × Answer
+planned s plan = (changed s plan.change, plan.answer)
 
--- a fact of the area with a table in it, and that there is one
-abbrev pub ForArea : Option Area → (Area → Type 0) → Type 0
-ForArea None fact = ⊥
-ForArea (Some area) fact = fact area
+-- the outcome of a plan, or its refusal
+abbrev pub outcome_of : State → Result Plan Refusal → Result (State × Answer) Refusal
+outcome_of s (Ok plan) = Ok (planned s plan)
+outcome_of s (Err refusal) = Err refusal
 
--- a cell of the area's table that can be replaced by so many bytes
-pub record IsPlace (s : State) (area : Area) (number field width : ℕ) : Type 0 where
-  pub counted : 1 ≤ number
-  pub inside : number ≤ record_count s area
-  pub field_is : field < length (table_of s area).schema
-  pub kind : kind_at (table_of s area).schema field ≢ MEMO
-  pub wide : width ≡ cell_width (table_of s area).schema field
+-- a fault is the refusal of the outcome, and want of memory comes only where the outcome is no refusal
+abbrev pub IsFaultOf : CommandFault → Result (State × Answer) Refusal → Type 0
+IsFaultOf (Refused refusal) outcome = outcome ≡ Err refusal
+IsFaultOf NoMemory outcome = IsOk outcome
 
--- a memo of the area's table that can be replaced by this text
-pub record IsMemoPlace (s : State) (area : Area) (number field : ℕ) (text : List ℕ) : Type 0 where
-  pub counted : 1 ≤ number
-  pub inside : number ≤ record_count s area
-  pub field_is : field < length (table_of s area).schema
-  pub kind : kind_at (table_of s area).schema field ≡ MEMO
+-- the outcome is no refusal but for one of a value that no cell keeps, which memory is taken for
+abbrev pub IsOkButForValue : Result (State × Answer) Refusal → Type 0
+IsOkButForValue (Ok end) = Unit {0}
+IsOkButForValue (Err refusal) = (refusal ≡ TypeMismatch) ⊎ ((refusal ≡ BadDate) ⊎ (refusal ≡ NumberTooWide))
+
+abbrev pub IsReplaceFaultOf : CommandFault → Result (State × Answer) Refusal → Type 0
+IsReplaceFaultOf (Refused refusal) outcome = outcome ≡ Err refusal
+IsReplaceFaultOf NoMemory outcome = IsOkButForValue outcome
+
+-- where a command's plan may lack memory: no refusal is left that is tested before memory is taken
+abbrev pub MayLackMemory : Command → Result (State × Answer) Refusal → Type 0
+MayLackMemory (command.Replace name value) outcome = IsOkButForValue outcome
+MayLackMemory _ outcome = IsOk outcome
+
+-- a fault is the refusal of the command's outcome, or want of memory where memory may be taken
+abbrev pub IsCommandFaultOf : CommandFault → Command → Result (State × Answer) Refusal → Type 0
+IsCommandFaultOf (Refused refusal) command outcome = outcome ≡ Err refusal
+IsCommandFaultOf NoMemory command outcome = MayLackMemory command outcome
+
+-- a field of a record of the area's table, to be changed
+pub record IsTarget (s : State) (t : Target) : Type 0 where
+  pub current : s.area ≡ Some t.area
+  pub counted : 1 ≤ t.number
+  pub inside : t.number ≤ record_count s t.area
+  pub field_is : t.field < length (area_table s t.area).schema
+
+-- a cell that can be replaced by so many bytes
+pub record IsCell (s : State) (t : Target) (width : ℕ) : Type 0 where
+  pub target : IsTarget s t
+  pub kind : kind_at (area_table s t.area).schema t.field ≢ MEMO
+  pub wide : width ≡ cell_width (area_table s t.area).schema t.field
+
+-- a memo that can be replaced by this text
+pub record IsMemo (s : State) (t : Target) (text : List ℕ) : Type 0 where
+  pub target : IsTarget s t
+  pub kind : kind_at (area_table s t.area).schema t.field ≡ MEMO
   pub text_is : is_memo_text text ≡ true
 
 -- the change can be made of the state
 abbrev pub CanChange : State → Change → Type 0
 CanChange s Nothing = Unit {0}
 CanChange s (Open table exclusive) = table < length s.tables
-CanChange s (GoTo number) = ForArea s.area (λ area. (1 ≤ number) × (number ≤ record_count s area))
-CanChange s AppendBlank = ForArea s.area (λ area. record_count s area < MOST_RECORDS)
-CanChange s (SetCell number field cell) = ForArea s.area (λ area. IsPlace s area number field (length cell))
-CanChange s (SetMemo number field text) = ForArea s.area (λ area. IsMemoPlace s area number field text)
+CanChange s (GoTo area number) = (s.area ≡ Some area) × ((1 ≤ number) × (number ≤ record_count s area))
+CanChange s (AppendBlank area) = (s.area ≡ Some area) × (record_count s area < MOST_RECORDS)
+CanChange s (Replace target cell) = IsCell s target (length cell)
+CanChange s (Memo target text) = IsMemo s target text

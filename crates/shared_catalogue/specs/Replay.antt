@@ -13,27 +13,27 @@ pub record Opened : Type 0 where
   pub tables : List TableSource
 
 -- a catalogue as contracts see it: what was opened, and the journal since
-pub record Past : Type 0 where
+pub record History : Type 0 where
   pub opened : Opened
   pub journal : List Entry
 
 abbrev pub opened_as : ℕ → List TableSource → Opened
 opened_as stations tables = record { stations = stations; tables = tables }
 
-abbrev pub past : Opened → List Entry → Past
-past opened journal = record { opened = opened; journal = journal }
+abbrev pub history : Opened → List Entry → History
+history opened journal = record { opened = opened; journal = journal }
 
 -- the state at opening: the tables, and no table in use
 abbrev pub start : Opened → State
 start opened = record { names = map (λ t. t.name) opened.tables; tables = map (λ t. t.content) opened.tables; area = None }
 
 -- the state after the commands of a list of entries, one after another
-abbrev pub run : State → List Entry → State
-run s [] = s
-run s (e ∷ es) = run (step s e.command).0 es
+abbrev pub after : State → List Entry → State
+after s [] = s
+after s (e ∷ es) = after (step s e.command).0 es
 
 abbrev pub replay : Opened → List Entry → State
-replay opened journal = run (start opened) journal
+replay opened journal = after (start opened) journal
 
 -- each stored answer is the one that its command has at its place
 abbrev pub LegalFrom : State → List Entry → Type 0
@@ -44,17 +44,17 @@ abbrev pub IsLegal : Opened → List Entry → Type 0
 IsLegal opened journal = LegalFrom (start opened) journal
 
 -- the state now
-abbrev pub state_of : Past → State
-state_of p = replay p.opened p.journal
+abbrev pub state_of : History → State
+state_of h = replay h.opened h.journal
 
 -- what a command is answered now
-abbrev pub answer_of : Past → Command → Answer
-answer_of p command = (step (state_of p) command).1
+abbrev pub answer_of : History → Command → Answer
+answer_of h command = (step (state_of h) command).1
 
 -- the journal's entry for a command
 abbrev pub entry : ℕ → Command → Answer → Entry
 entry station command answer = record { station = station; command = command; answer = answer }
 
--- the past once a station's command has been performed
-abbrev pub called : Past → ℕ → Command → Past
-called p station command = past p.opened (p.journal ++ entry station command (answer_of p command) ∷ [])
+-- the history once a station's command has been performed
+abbrev pub with_entry : History → ℕ → Command → History
+with_entry h station command = history h.opened (h.journal ++ entry station command (answer_of h command) ∷ [])

@@ -5,35 +5,35 @@ use Rattle.dbf_fields.specs.declared.field.Field.{Field}
 use Rattle.dbf_image.specs.Table.{Table, empty_table, with_row, with_cell, blank_row}
 use Rattle.shared_catalogue.specs.declared.area.Area.{Area}
 
--- the tables by their places from 0, each with its name, and the area, where a table is open in it
+-- the tables by their indexes from 0, each with its name, and the area, where a table is open in it
 pub record State : Type 0 where
   pub names : List (List ℕ)
   pub tables : List Table
   pub area : Option Area
 
--- the table of a place
+-- the table of an index
 abbrev pub table_at : List Table → ℕ → Table
-table_at tables place = slice_index_or tables place (empty_table [])
+table_at tables index = slice_index_or tables index (empty_table [])
 
--- the place of the table of a name
-abbrev pub place_named : State → List ℕ → Option ℕ
-place_named s name = position (λ n. bytes_eq n name) s.names
+-- the index of the table of a name
+abbrev pub index_named : State → List ℕ → Option ℕ
+index_named s name = position (λ n. bytes_eq n name) s.names
 
 -- the table that is open in an area
-abbrev pub table_of : State → Area → Table
-table_of s area = table_at s.tables area.table
+abbrev pub area_table : State → Area → Table
+area_table s area = table_at s.tables area.table
 
 -- how many records that table has
 abbrev pub record_count : State → Area → ℕ
-record_count s area = length (table_of s area).rows
+record_count s area = length (area_table s area).rows
 
--- the place of that table's field of a name
+-- the index of that table's field of a name
 abbrev pub field_named : State → Area → List ℕ → Option ℕ
-field_named s area name = position (λ f. bytes_eq f.name name) (table_of s area).schema
+field_named s area name = position (λ f. bytes_eq f.name name) (area_table s area).schema
 
--- the field of a place in that table
+-- the field of an index in that table
 abbrev pub field_at : State → Area → ℕ → Field
-field_at s area place = slice_index_or (table_of s area).schema place (record { name = []; kind = 0; width = 0; decimals = 0 })
+field_at s area index = slice_index_or (area_table s area).schema index (record { name = []; kind = 0; width = 0; decimals = 0 })
 
 -- the cursor at the top: the first record, or the end where there is none
 abbrev pub top_of : Table → Option ℕ
@@ -43,13 +43,13 @@ top_of table = if nat_lt 0 (length table.rows) then Some 1 else None
 abbrev pub with_area : State → Area → State
 with_area s area = record { names = s.names; tables = s.tables; area = Some area }
 
--- the state with another table at a place
+-- the state with another table at a index
 abbrev pub with_table : State → ℕ → Table → State
-with_table s place table = record { names = s.names; tables = slice_set s.tables place table; area = s.area }
+with_table s index table = record { names = s.names; tables = slice_set s.tables index table; area = s.area }
 
--- the table of a place is open in the area, with the cursor at the top
+-- the table of a index is open in the area, with the cursor at the top
 abbrev pub with_opened : State → ℕ → Bool → State
-with_opened s place exclusive = with_area s (record { table = place; exclusive = exclusive; at = top_of (table_at s.tables place) })
+with_opened s index exclusive = with_area s (record { table = index; exclusive = exclusive; at = top_of (table_at s.tables index) })
 
 -- the cursor is at a record
 abbrev pub with_cursor_at : State → Area → ℕ → State
@@ -58,11 +58,11 @@ with_cursor_at s area number = with_area s (record { table = area.table; exclusi
 -- the area's table has one more record, of blanks, and the cursor is at it
 abbrev pub with_blank : State → Area → State
 with_blank s area =
-    with_cursor_at (with_table s area.table (with_row (table_of s area) (blank_row (table_of s area).schema))) area (record_count s area + 1)
+    with_cursor_at (with_table s area.table (with_row (area_table s area) (blank_row (area_table s area).schema))) area (record_count s area + 1)
 
 -- a cell of the area's table is replaced, or the text of a memo
 abbrev pub with_value : State → Area → ℕ → ℕ → List ℕ → State
-with_value s area number field cell = with_table s area.table (with_cell (table_of s area) number field cell)
+with_value s area number field cell = with_table s area.table (with_cell (area_table s area) number field cell)
 
 -- a cursor is at a record of the table, or at the end
 abbrev pub IsCursor : Table → Option ℕ → Type 0

@@ -2,6 +2,7 @@
 
 ghost use Rattle.std.specs.Prelude.{◌≡◌, ◌↔◌, ◌-◌, ◌<◌, ◌≤◌, [], length, None, IfOk, IfErr, OnErr, IsErrOf};
 ghost use Rattle.shared_catalogue.specs.State.{table_at as content_at};
+ghost use Rattle.shared_catalogue.specs.declared.catalogue.TheConstants.{MAX_ENTRIES};
 
 use crate::answer::Answer;
 use crate::command::Command;
@@ -16,7 +17,7 @@ use std::marker::Model;
 use thiserror::Error;
 
 /// The most entries of a journal.
-pub const MOST_ENTRIES: usize = 4_294_967_295;
+pub const MAX_ENTRIES: usize = 4_294_967_295;
 
 /// Why a command was not performed. It is in no journal and has changed nothing.
 #[derive(Clone, Copy, Debug, PartialEq, Eq, Error)]
@@ -52,13 +53,13 @@ pub struct Catalogue {
 
 impl Model for Catalogue {
     ghost use Rattle.std.specs.Prelude.{◌≤◌, length};
-    ghost use Rattle.shared_catalogue.specs.Replay.{Past, past, opened_as};
+    ghost use Rattle.shared_catalogue.specs.Replay.{History, history, opened_as};
 
-    ghost Value = { Past };
+    ghost Value = { History };
 
     ghost use Rattle.shared_catalogue.specs.Kept.{IsKept};
 
-    ghost view = { λ c. past (opened_as 1 c.sources.items) c.journal.items };
+    ghost view = { λ c. history (opened_as 1 c.sources.items) c.journal.items };
 
     ghost invariant = { λ c. IsKept (opened_as 1 c.sources.items) c.state c.journal.items };
 }
@@ -66,20 +67,20 @@ impl Model for Catalogue {
 impl Catalogue {
     ghost use Rattle.shared_catalogue.specs.declared.answer.Refusal.{Refusal};
     ghost use Rattle.shared_catalogue.specs.Opening.{refusal, IsRefusal};
-    ghost use Rattle.shared_catalogue.specs.Replay.{past, opened_as, state_of, answer_of, called, IsLegal};
+    ghost use Rattle.shared_catalogue.specs.Replay.{history, opened_as, state_of, answer_of, with_entry, IsLegal};
 
     /// Opens tables for stations: no table is in use, and the journal is empty.
     ///
     /// The faults are tested in this order: `NoStation`, `TooManyStations` (more than one, until
     /// stations share tables under locks), `TooManyTables` (more than 10), and then, table by table,
-    /// `DuplicateTable` (a name used by an earlier table). `NoMemory` comes last.
+    /// `DuplicateTable` (a name used by an earlier table). `NoMemory` comes only where none of these does.
     pub fn open(
         alloc: Global,
         sources: Vec<TableSource>,
         stations: u32,
     ) -> Result<Catalogue, OpenFault>
         ensures accepted { IfOk result (λ _. refusal sources.items stations ≡ None) }
-        ensures opened { IfOk result (λ catalogue. catalogue ≡ past (opened_as stations sources.items) []) }
+        ensures opened { IfOk result (λ catalogue. catalogue ≡ history (opened_as stations sources.items) []) }
         ensures refused { IfErr result (λ fault. IsRefusal fault sources.items stations) }
     {
         check_opening(&sources, stations)?;
@@ -92,35 +93,37 @@ impl Catalogue {
     }
 
     /// Performs a command of a station as one step, and answers its number in the journal, from 1, and
-    /// what the station is told. A refused command is an entry too, and changes no table.
+    /// its answer. A refused command is an entry too, and changes no table.
     ///
     /// `JournalFull` is tested first, and comes exactly where the journal has 4,294,967,295 entries.
-    /// After `JournalFull` and `NoMemory` the catalogue is as it was.
+    /// Then the command is planned, which is refused memory only where no test of the command that takes
+    /// none refuses it. `NoMemory` comes from the plan, from the journal's entry, which a refused command
+    /// has too, or from the change. After `JournalFull` and `NoMemory` the catalogue is as it was.
     pub fn perform(
         &mut self,
         alloc: Global,
         station: u32,
         command: &Command,
     ) -> Result<(u64, Answer), Stop>
-        ensures number { IfOk result (λ told. told.0 ≡ length self.new.journal) }
-        ensures answer { IfOk result (λ told. told.1 ≡ answer_of self.old command.now) }
-        ensures entry { IfOk result (λ _. self.new ≡ called self.old station command.now) }
-        ensures refused { IfOk result (λ told. (refusal : Refusal) → told.1 ≡ Answer.Refused refusal → state_of self.new ≡ state_of self.old) }
-        ensures full { IsErrOf result Stop.JournalFull ↔ (length self.old.journal ≡ 4294967295) }
+        ensures number { IfOk result (λ done. done.0 ≡ length self.new.journal) }
+        ensures answer { IfOk result (λ done. done.1 ≡ answer_of self.old command.now) }
+        ensures entry { IfOk result (λ _. self.new ≡ with_entry self.old station command.now) }
+        ensures refused { IfOk result (λ done. (refusal : Refusal) → done.1 ≡ Answer.Refused refusal → state_of self.new ≡ state_of self.old) }
+        ensures full { IsErrOf result Stop.JournalFull ↔ (length self.old.journal ≡ MAX_ENTRIES) }
         ensures stopped { OnErr result (self.new ≡ self.old) }
     {
-        if self.journal.len() >= MOST_ENTRIES {
+        if self.journal.len() >= MAX_ENTRIES {
             return Err(Stop::JournalFull);
         }
-        let command_told = command.copy(alloc)?;
-        let planned = plan(alloc, &self.state, command)?;
-        let answer = planned.answer.copy(alloc)?;
+        let plan = plan(alloc, &self.state, command)?;
+        let answer = plan.answer.copy(alloc)?;
+        let command_copy = command.copy(alloc)?;
         self.journal.reserve(1)?;
-        self.state.make(planned.change)?;
+        self.state.apply(plan.change)?;
         self.journal.push_reserved(Entry {
             station,
-            command: command_told,
-            answer: planned.answer,
+            command: command_copy,
+            answer: plan.answer,
         });
         Ok((self.journal.len() as u64, answer))
     }
@@ -145,7 +148,7 @@ impl Catalogue {
     pub fn journal(&self) -> &[Entry]
         ensures entries { result.now ≡ self.now.journal }
         ensures legal { IsLegal self.now.opened self.now.journal }
-        ensures few { length self.now.journal ≤ 4294967295 }
+        ensures few { length self.now.journal ≤ MAX_ENTRIES }
     {
         &self.journal
     }

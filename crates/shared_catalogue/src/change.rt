@@ -2,7 +2,8 @@
 
 ghost use Rattle.std.specs.Prelude.{◌≡◌};
 
-use crate::answer::{Answer, Refusal};
+use crate::answer::Answer;
+use crate::area::{Area, Target};
 use dbf_fields::Bytes;
 
 /// A change of the state.
@@ -12,36 +13,37 @@ pub enum Change {
     Nothing,
     /// A table is opened in the area, its cursor at the top.
     Open {
-        /// The place of the table, from 0.
+        /// The index of the table, from 0.
         table: usize,
         /// Whether no other station may have it open.
         exclusive: bool,
     },
-    /// The cursor goes to a record, from 1.
-    GoTo(u32),
-    /// The area's table gets a last record of blanks.
-    AppendBlank,
-    /// A cell of the area's table is replaced.
-    SetCell {
+    /// The cursor of the area goes to a record.
+    GoTo {
+        /// The area.
+        area: Area,
         /// The record, from 1.
         number: u32,
-        /// The field's place, from 0.
-        field: usize,
+    },
+    /// The area's table gets a last record of blanks.
+    AppendBlank(Area),
+    /// A cell is replaced.
+    Replace {
+        /// The cell's record and field.
+        target: Target,
         /// As many bytes as the field is wide.
         cell: Bytes,
     },
-    /// A memo of the area's table is replaced.
-    SetMemo {
-        /// The record, from 1.
-        number: u32,
-        /// The field's place, from 0.
-        field: usize,
+    /// A memo is replaced.
+    Memo {
+        /// The memo's record and field.
+        target: Target,
         /// The memo's text.
         text: Bytes,
     },
 }
 
-/// A change that a command asks for, and what the station will be told.
+/// A change that a command asks for, and its answer.
 #[derive(Debug, Drop)]
 pub struct Plan {
     /// What will change.
@@ -53,7 +55,7 @@ pub struct Plan {
 impl Plan {
     ghost use Rattle.shared_catalogue.specs.Planned.{plan_of};
     ghost use Rattle.shared_catalogue.specs.declared.change.Change.TheVariants.{Nothing};
-    ghost use Rattle.shared_catalogue.specs.declared.answer.Answer.TheVariants.{Done, Refused};
+    ghost use Rattle.shared_catalogue.specs.declared.answer.Answer.TheVariants.{Done};
 
     /// A change that is answered by OK.
     pub fn done(change: Change) -> Plan
@@ -66,19 +68,12 @@ impl Plan {
     }
 
     /// An answer that changes nothing.
-    pub fn told(answer: Answer) -> Plan
+    pub fn answered(answer: Answer) -> Plan
         ensures value { result ≡ plan_of Nothing answer }
     {
         Plan {
             change: Change::Nothing,
             answer,
         }
-    }
-
-    /// A refusal.
-    pub fn refused(refusal: Refusal) -> Plan
-        ensures value { result ≡ plan_of Nothing (Refused refusal) }
-    {
-        Plan::told(Answer::Refused(refusal))
     }
 }

@@ -12,6 +12,7 @@ mod catalogue;
 mod change;
 mod command;
 mod entry;
+mod fault;
 mod opening;
 mod plan;
 mod shown;
@@ -19,10 +20,10 @@ mod source;
 mod state;
 
 pub use answer::{Answer, Refusal};
-pub use catalogue::{Catalogue, MOST_ENTRIES, Stop};
+pub use catalogue::{Catalogue, MAX_ENTRIES, Stop};
 pub use command::Command;
 pub use entry::Entry;
-pub use opening::{MOST_STATIONS, MOST_TABLES, OpenFault};
+pub use opening::{MAX_STATIONS, MAX_TABLES, OpenFault};
 pub use source::TableSource;
 
 #[cfg(test)]

@@ -10,10 +10,10 @@ use std::alloc::AllocError;
 use thiserror::Error;
 
 /// The most tables of a catalogue.
-pub const MOST_TABLES: usize = 10;
+pub const MAX_TABLES: usize = 10;
 
 /// The most stations of a catalogue, until stations share tables under locks.
-pub const MOST_STATIONS: u32 = 1;
+pub const MAX_STATIONS: u32 = 1;
 
 /// Why a catalogue can't be opened: the first fault. Tables count from 1.
 #[derive(Clone, Copy, Debug, PartialEq, Eq, Error)]
@@ -52,15 +52,15 @@ pub fn check_opening(sources: &[TableSource], stations: u32) -> Result<(), OpenF
     ensures accepted { OnOk result (refusal sources.now stations ≡ None) }
     ensures refused { IfErr result (λ fault. refusal sources.now stations ≡ Some fault) }
     ensures one { OnOk result (stations ≡ 1) }
-    ensures few { OnOk result (length sources.now ≤ MOST_TABLES) }
+    ensures few { OnOk result (length sources.now ≤ MAX_TABLES) }
 {
     if stations < 1 {
         return Err(OpenFault::NoStation);
     }
-    if stations > MOST_STATIONS {
+    if stations > MAX_STATIONS {
         return Err(OpenFault::TooManyStations);
     }
-    if sources.len() > MOST_TABLES {
+    if sources.len() > MAX_TABLES {
         return Err(OpenFault::TooManyTables);
     }
     check_names(sources)
@@ -68,7 +68,7 @@ pub fn check_opening(sources: &[TableSource], stations: u32) -> Result<(), OpenF
 
 // Tests whether each table has a name that no earlier one has.
 fn check_names(sources: &[TableSource]) -> Result<(), OpenFault>
-    requires few { length sources.now ≤ MOST_TABLES }
+    requires few { length sources.now ≤ MAX_TABLES }
     ensures accepted { OnOk result (first_fault (table_tests [] sources.now) ≡ None) }
     ensures refused { IfErr result (λ fault. first_fault (table_tests [] sources.now) ≡ Some fault) }
 {

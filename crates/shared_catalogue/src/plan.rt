@@ -1,73 +1,84 @@
 //! What a command will change, and what it will be answered: the refusals of each command, in order.
 
-ghost use Rattle.std.specs.Prelude.{◌≡◌, ◌≢◌, ◌<◌, length, IfSome, IfOk, IsErr, ◌↔◌};
-ghost use Rattle.dbf_fields.specs.declared.cell.CellFault.TheVariants.{NoMemory};
-ghost use Rattle.shared_catalogue.specs.CellRefusal.{refusal_of as cell_refusal};
-ghost use Rattle.shared_catalogue.specs.Step.{step, use_table, go, append_blank, replace, memo, show};
-ghost use Rattle.shared_catalogue.specs.State.{table_of, field_named};
-ghost use Rattle.shared_catalogue.specs.Planned.{outcome, CanChange};
+ghost use Rattle.std.specs.Prelude.{◌≡◌, ◌<◌, length, Ok, IfSome, IfOk, IfErr, OnErr};
+ghost use Rattle.shared_catalogue.specs.Step.{outcome, step, target, use_table, go, append_blank, replace, memo, show};
+ghost use Rattle.shared_catalogue.specs.State.{area_table, field_named};
+ghost use Rattle.shared_catalogue.specs.Planned.{planned, outcome_of, CanChange, IsTarget, IsFaultOf, IsReplaceFaultOf, IsCommandFaultOf, MayLackMemory};
 
 use crate::answer::{Answer, Refusal};
-use crate::area::Area;
+use crate::area::{Area, Target};
 use crate::change::{Change, Plan};
 use crate::command::Command;
+use crate::fault::CommandFault;
 use crate::shown::shown;
 use crate::state::State;
-use dbf_fields::{Bytes, CellFault, Literal, MEMO, encode_cell};
+use dbf_fields::{Bytes, Literal, MEMO, encode_cell};
 use dbf_image::{MOST_RECORDS, is_memo_text};
 use std::alloc::{AllocError, Global};
 
-/// The plan of a command, which changes nothing yet. An error where memory is refused.
+/// The plan of a command, which changes nothing yet; a refused command has the plan to answer its refusal.
+/// An error where memory is refused, and that comes only after the tests: of a command that one of them
+/// refuses there is always a plan. (A value that no cell of its field keeps is found while its cell is made,
+/// so memory may be refused before it.)
 pub fn plan(alloc: Global, state: &State, command: &Command) -> Result<Plan, AllocError>
-    ensures outcome { IfOk result (λ plan. outcome state.now plan ≡ step state.now command.now) }
+    ensures stepped { IfOk result (λ plan. planned state.now plan ≡ step state.now command.now) }
     ensures can { IfOk result (λ plan. CanChange state.now plan.change) }
+    ensures early { OnErr result (MayLackMemory command.now (outcome state.now command.now)) }
+{
+    match plan_command(alloc, state, command) {
+        Ok(plan) => Ok(plan),
+        Err(CommandFault::Refused(refusal)) => Ok(Plan::answered(Answer::Refused(refusal))),
+        Err(CommandFault::NoMemory) => Err(AllocError),
+    }
+}
+
+// The plan of a command that is not refused.
+fn plan_command(alloc: Global, state: &State, command: &Command) -> Result<Plan, CommandFault>
+    ensures planned { IfOk result (λ plan. outcome state.now command.now ≡ Ok (planned state.now plan)) }
+    ensures can { IfOk result (λ plan. CanChange state.now plan.change) }
+    ensures refused { IfErr result (λ fault. IsCommandFaultOf fault command.now (outcome state.now command.now)) }
 {
     match command {
-        Command::UseTable { name, exclusive } => Ok(plan_use_table(state, name, *exclusive)),
-        Command::Go(number) => Ok(plan_go(state, *number)),
-        Command::AppendBlank => Ok(plan_append_blank(state)),
+        Command::UseTable { name, exclusive } => Ok(plan_use_table(state, name, *exclusive)?),
+        Command::Go(number) => Ok(plan_go(state, *number)?),
+        Command::AppendBlank => Ok(plan_append_blank(state)?),
         Command::Replace { field, value } => plan_replace(alloc, state, field, value),
         Command::Memo { field, text } => plan_memo(alloc, state, field, text),
         Command::Show(field) => plan_show(alloc, state, field),
-        Command::Bad => Ok(Plan::refused(Refusal::BadCommand)),
+        Command::Bad => Err(Refusal::BadCommand.into()),
     }
 }
 
-fn plan_use_table(state: &State, name: &Bytes, exclusive: bool) -> Plan
-    ensures outcome { outcome state.now result ≡ use_table state.now name.now exclusive }
-    ensures can { CanChange state.now result.change }
+fn plan_use_table(state: &State, name: &Bytes, exclusive: bool) -> Result<Plan, Refusal>
+    ensures outcome { outcome_of state.now result ≡ use_table state.now name.now exclusive }
+    ensures can { IfOk result (λ plan. CanChange state.now plan.change) }
 {
-    match state.place_of(name) {
-        Some(table) => Plan::done(Change::Open { table, exclusive }),
-        None => Plan::refused(Refusal::NoTable),
-    }
+    let table = state.index_of(name).ok_or(Refusal::NoTable)?;
+    Ok(Plan::done(Change::Open { table, exclusive }))
 }
 
-fn plan_go(state: &State, number: u64) -> Plan
-    ensures outcome { outcome state.now result ≡ go state.now number }
-    ensures can { CanChange state.now result.change }
+fn plan_go(state: &State, number: u64) -> Result<Plan, Refusal>
+    ensures outcome { outcome_of state.now result ≡ go state.now number }
+    ensures can { IfOk result (λ plan. CanChange state.now plan.change) }
 {
-    let Some(area) = state.area() else {
-        return Plan::refused(Refusal::NoTableInUse);
-    };
+    let area = state.area().ok_or(Refusal::NoTableInUse)?;
     let count = state.table(area).record_count();
     if number < 1 || number > u64::from(count) {
-        return Plan::refused(Refusal::OutOfRange);
+        return Err(Refusal::OutOfRange);
     }
-    Plan::done(Change::GoTo(number as u32))
+    let number = number as u32;
+    Ok(Plan::done(Change::GoTo { area, number }))
 }
 
-fn plan_append_blank(state: &State) -> Plan
-    ensures outcome { outcome state.now result ≡ append_blank state.now }
-    ensures can { CanChange state.now result.change }
+fn plan_append_blank(state: &State) -> Result<Plan, Refusal>
+    ensures outcome { outcome_of state.now result ≡ append_blank state.now }
+    ensures can { IfOk result (λ plan. CanChange state.now plan.change) }
 {
-    let Some(area) = state.area() else {
-        return Plan::refused(Refusal::NoTableInUse);
-    };
+    let area = state.area().ok_or(Refusal::NoTableInUse)?;
     if state.table(area).record_count() >= MOST_RECORDS {
-        return Plan::refused(Refusal::TableFull);
+        return Err(Refusal::TableFull);
     }
-    Plan::done(Change::AppendBlank)
+    Ok(Plan::done(Change::AppendBlank(area)))
 }
 
 fn plan_replace(
@@ -75,83 +86,67 @@ fn plan_replace(
     state: &State,
     name: &Bytes,
     value: &Literal,
-) -> Result<Plan, AllocError>
-    ensures outcome { IfOk result (λ plan. outcome state.now plan ≡ replace state.now name.now value.now) }
+) -> Result<Plan, CommandFault>
+    ensures planned { IfOk result (λ plan. replace state.now name.now value.now ≡ Ok (planned state.now plan)) }
     ensures can { IfOk result (λ plan. CanChange state.now plan.change) }
+    ensures refused { IfErr result (λ fault. IsReplaceFaultOf fault (replace state.now name.now value.now)) }
 {
-    let Some(area) = state.area() else {
-        return Ok(Plan::refused(Refusal::NoTableInUse));
-    };
-    let Some(number) = area.at else {
-        return Ok(Plan::refused(Refusal::EndOfFile));
-    };
-    if !may_write(area) {
-        return Ok(Plan::refused(Refusal::NotLocked));
-    }
-    let Some(field) = field_of(state, area, name) else {
-        return Ok(Plan::refused(Refusal::NoSuchField));
-    };
-    let described = &state.table(area).schema().fields()[field];
-    match encode_cell(alloc, described, value) {
-        Ok(cell) => Ok(Plan::done(Change::SetCell {
-            number,
-            field,
-            cell,
-        })),
-        Err(fault) => {
-            let refusal = refusal_of(fault)?;
-            Ok(Plan::refused(refusal))
-        }
-    }
+    let target = find_target(state, name)?;
+    let field = &state.table(target.area).schema().fields()[target.field];
+    let cell = encode_cell(alloc, field, value)?;
+    Ok(Plan::done(Change::Replace { target, cell }))
 }
 
-fn plan_memo(alloc: Global, state: &State, name: &Bytes, text: &Bytes) -> Result<Plan, AllocError>
-    ensures outcome { IfOk result (λ plan. outcome state.now plan ≡ memo state.now name.now text.now) }
+fn plan_memo(alloc: Global, state: &State, name: &Bytes, text: &Bytes) -> Result<Plan, CommandFault>
+    ensures planned { IfOk result (λ plan. memo state.now name.now text.now ≡ Ok (planned state.now plan)) }
     ensures can { IfOk result (λ plan. CanChange state.now plan.change) }
+    ensures refused { IfErr result (λ fault. IsFaultOf fault (memo state.now name.now text.now)) }
 {
-    let Some(area) = state.area() else {
-        return Ok(Plan::refused(Refusal::NoTableInUse));
-    };
-    let Some(number) = area.at else {
-        return Ok(Plan::refused(Refusal::EndOfFile));
-    };
-    if !may_write(area) {
-        return Ok(Plan::refused(Refusal::NotLocked));
-    }
-    let Some(field) = field_of(state, area, name) else {
-        return Ok(Plan::refused(Refusal::NoSuchField));
-    };
-    if state.table(area).schema().fields()[field].kind != MEMO {
-        return Ok(Plan::refused(Refusal::TypeMismatch));
+    let target = find_target(state, name)?;
+    if state.table(target.area).schema().fields()[target.field].kind != MEMO {
+        return Err(Refusal::TypeMismatch.into());
     }
     if !is_memo_text(text.as_slice()) {
-        return Ok(Plan::refused(Refusal::BadText));
+        return Err(Refusal::BadText.into());
     }
     let text = text.copy(alloc)?;
-    Ok(Plan::done(Change::SetMemo {
-        number,
-        field,
-        text,
-    }))
+    Ok(Plan::done(Change::Memo { target, text }))
 }
 
-fn plan_show(alloc: Global, state: &State, name: &Bytes) -> Result<Plan, AllocError>
-    ensures outcome { IfOk result (λ plan. outcome state.now plan ≡ show state.now name.now) }
+fn plan_show(alloc: Global, state: &State, name: &Bytes) -> Result<Plan, CommandFault>
+    ensures planned { IfOk result (λ plan. show state.now name.now ≡ Ok (planned state.now plan)) }
     ensures can { IfOk result (λ plan. CanChange state.now plan.change) }
+    ensures refused { IfErr result (λ fault. IsFaultOf fault (show state.now name.now)) }
 {
-    let Some(area) = state.area() else {
-        return Ok(Plan::refused(Refusal::NoTableInUse));
-    };
-    let Some(number) = area.at else {
-        return Ok(Plan::refused(Refusal::EndOfFile));
-    };
-    let Some(field) = field_of(state, area, name) else {
-        return Ok(Plan::refused(Refusal::NoSuchField));
-    };
+    let area = state.area().ok_or(Refusal::NoTableInUse)?;
+    let number = area.at.ok_or(Refusal::EndOfFile)?;
+    let field = index_of_field(state, area, name).ok_or(Refusal::NoSuchField)?;
     let table = state.table(area);
-    let described = &table.schema().fields()[field];
-    let text = shown(alloc, described, table.cell(number, field))?;
-    Ok(Plan::told(Answer::Text(text)))
+    let text = shown(
+        alloc,
+        &table.schema().fields()[field],
+        table.cell(number, field),
+    )?;
+    Ok(Plan::answered(Answer::Text(text)))
+}
+
+// The field of a name in the record at the cursor, where the station may change it.
+fn find_target(state: &State, name: &Bytes) -> Result<Target, Refusal>
+    ensures value { result ≡ target state.now name.now }
+    ensures inside { IfOk result (λ t. IsTarget state.now t) }
+    ensures table { IfOk result (λ t. t.area.table < length state.now.tables) }
+{
+    let area = state.area().ok_or(Refusal::NoTableInUse)?;
+    let number = area.at.ok_or(Refusal::EndOfFile)?;
+    if !may_write(area) {
+        return Err(Refusal::NotLocked);
+    }
+    let field = index_of_field(state, area, name).ok_or(Refusal::NoSuchField)?;
+    Ok(Target {
+        area,
+        number,
+        field,
+    })
 }
 
 // Whether the station may write the record at the cursor. As long as there are no locks, the table has to
@@ -162,25 +157,12 @@ fn may_write(area: Area) -> bool
     area.exclusive
 }
 
-// The place of the field of a name in the area's table.
-fn field_of(state: &State, area: Area, name: &Bytes) -> Option<usize>
+// The index of the field of a name in the area's table.
+fn index_of_field(state: &State, area: Area, name: &Bytes) -> Option<usize>
     requires inside { area.table < length state.now.tables }
     ensures value { result ≡ field_named state.now area name.now }
-    ensures inside { IfSome result (λ place. place < length (table_of state.now area).schema) }
+    ensures inside { IfSome result (λ index. index < length (area_table state.now area).schema) }
 {
     let fields = state.table(area).schema().fields();
     fields.iter().position(|field| field.name == *name)
-}
-
-// The refusal for a value that a cell can't keep, or want of memory.
-fn refusal_of(fault: CellFault) -> Result<Refusal, AllocError>
-    ensures value { IfOk result (λ refusal. refusal ≡ cell_refusal fault) }
-    ensures memory { IsErr result ↔ (fault ≡ NoMemory) }
-{
-    match fault {
-        CellFault::TypeMismatch => Ok(Refusal::TypeMismatch),
-        CellFault::BadDate => Ok(Refusal::BadDate),
-        CellFault::NumberTooWide => Ok(Refusal::NumberTooWide),
-        CellFault::NoMemory => Err(AllocError),
-    }
 }

@@ -1,8 +1,9 @@
 //! The tables and the area, which commands read and change.
 
-ghost use Rattle.std.specs.Prelude.{◌≡◌, ◌<◌, ◌≤◌, length, map, None, IfSome, IfOk, OnOk, OnErr};
+ghost use Rattle.dbf_image.specs.declared.table.TheConstants.{MOST_RECORDS};
+ghost use Rattle.std.specs.Prelude.{◌≡◌, ◌<◌, ◌≤◌, length, map, None, Some, IfSome, IfOk, OnOk, OnErr};
 
-use crate::area::Area;
+use crate::area::{Area, Target};
 use crate::change::Change;
 use crate::source::TableSource;
 use dbf_fields::Bytes;
@@ -29,8 +30,8 @@ impl Model for State {
 }
 
 impl State {
-    ghost use Rattle.shared_catalogue.specs.State.{table_at as content_at, place_named, table_of, record_count, IsCursor, with_opened, with_cursor_at, with_blank, with_value};
-    ghost use Rattle.shared_catalogue.specs.Planned.{changed, CanChange};
+    ghost use Rattle.shared_catalogue.specs.State.{table_at as content_at, index_named, area_table, record_count, IsCursor, with_opened, with_cursor_at, with_blank, with_value};
+    ghost use Rattle.shared_catalogue.specs.Planned.{changed, CanChange, IsCell, IsMemo};
     ghost use Rattle.shared_catalogue.specs.Replay.{start, opened_as};
 
     /// The state at opening, which has copies of the tables and none in use. An error where memory is
@@ -55,7 +56,7 @@ impl State {
     pub fn area(&self) -> Option<Area>
         ensures area { result ≡ self.now.area }
         ensures inside { IfSome result (λ area. area.table < length self.now.tables) }
-        ensures cursor { IfSome result (λ area. IsCursor (table_of self.now area) area.at) }
+        ensures cursor { IfSome result (λ area. IsCursor (area_table self.now area) area.at) }
     {
         self.area
     }
@@ -63,58 +64,42 @@ impl State {
     /// The table that is open in an area.
     pub fn table(&self, area: Area) -> &TableData
         requires inside { area.table < length self.now.tables }
-        ensures value { result.now ≡ table_of self.now area }
+        ensures value { result.now ≡ area_table self.now area }
     {
         &self.tables[area.table]
     }
 
-    /// The table of a place.
-    pub fn table_at(&self, place: usize) -> &TableData
-        requires inside { place < length self.now.tables }
-        ensures value { result.now ≡ content_at self.now.tables place }
+    /// The table of an index.
+    pub fn table_at(&self, index: usize) -> &TableData
+        requires inside { index < length self.now.tables }
+        ensures value { result.now ≡ content_at self.now.tables index }
     {
-        &self.tables[place]
+        &self.tables[index]
     }
 
-    /// The place of the table of a name, where there is one.
-    pub fn place_of(&self, name: &Bytes) -> Option<usize>
-        ensures value { result ≡ place_named self.now name.now }
-        ensures inside { IfSome result (λ place. place < length self.now.tables) }
+    /// The index of the table of a name, where there is one.
+    pub fn index_of(&self, name: &Bytes) -> Option<usize>
+        ensures value { result ≡ index_named self.now name.now }
+        ensures inside { IfSome result (λ index. index < length self.now.tables) }
     {
         self.names.iter().position(|other| *other == *name)
     }
 
-    /// Makes a change. An error where memory is refused, and then nothing has changed.
-    pub fn make(&mut self, change: Change) -> Result<(), AllocError>
+    /// Applies a change. An error where memory is refused, and then nothing has changed.
+    pub fn apply(&mut self, change: Change) -> Result<(), AllocError>
         requires can { CanChange self.old change }
         ensures ok { OnOk result (self.new ≡ changed self.old change) }
         ensures err { OnErr result (self.new ≡ self.old) }
     {
         match change {
-            Change::Nothing => Ok(()),
-            Change::Open { table, exclusive } => {
-                self.open(table, exclusive);
-                Ok(())
-            }
-            Change::GoTo(number) => {
-                self.go_to(number);
-                Ok(())
-            }
-            Change::AppendBlank => self.append_blank(),
-            Change::SetCell {
-                number,
-                field,
-                cell,
-            } => {
-                self.set_cell(number, field, cell);
-                Ok(())
-            }
-            Change::SetMemo {
-                number,
-                field,
-                text,
-            } => self.set_memo(number, field, text),
+            Change::Nothing => {}
+            Change::Open { table, exclusive } => self.open(table, exclusive),
+            Change::GoTo { area, number } => self.go_to(area, number),
+            Change::AppendBlank(area) => return self.append_blank(area),
+            Change::Replace { target, cell } => self.replace(target, cell),
+            Change::Memo { target, text } => return self.memo(target, text),
         }
+        Ok(())
     }
 
     // Opens a table in the area, which lets go of the one that was open there.
@@ -134,26 +119,26 @@ impl State {
         });
     }
 
-    fn go_to(&mut self, number: u32)
-        requires can { CanChange self.old (Change.GoTo number) }
-        ensures value { self.new ≡ changed self.old (Change.GoTo number) }
+    // Puts the cursor of the area at a record.
+    fn go_to(&mut self, area: Area, number: u32)
+        requires current { self.old.area ≡ Some area }
+        requires counted { 1 ≤ number }
+        requires inside { number ≤ record_count self.old area }
+        ensures value { self.new ≡ with_cursor_at self.old area number }
     {
-        if let Some(area) = self.area {
-            self.area = Some(Area {
-                at: Some(number),
-                ..area
-            });
-        }
+        self.area = Some(Area {
+            at: Some(number),
+            ..area
+        });
     }
 
-    fn append_blank(&mut self) -> Result<(), AllocError>
-        requires can { CanChange self.old Change.AppendBlank }
-        ensures ok { OnOk result (self.new ≡ changed self.old Change.AppendBlank) }
+    // Gives the area's table a last record of blanks, and puts the cursor at it.
+    fn append_blank(&mut self, area: Area) -> Result<(), AllocError>
+        requires current { self.old.area ≡ Some area }
+        requires few { record_count self.old area < MOST_RECORDS }
+        ensures ok { OnOk result (self.new ≡ with_blank self.old area) }
         ensures err { OnErr result (self.new ≡ self.old) }
     {
-        let Some(area) = self.area else {
-            return Ok(());
-        };
         let table = &mut self.tables[area.table];
         table.append_blank()?;
         let last = table.record_count();
@@ -164,25 +149,22 @@ impl State {
         Ok(())
     }
 
-    fn set_cell(&mut self, number: u32, field: usize, cell: Bytes)
-        requires can { CanChange self.old (Change.SetCell number field cell) }
-        ensures value { self.new ≡ changed self.old (Change.SetCell number field cell) }
+    // Replaces a cell.
+    fn replace(&mut self, target: Target, cell: Bytes)
+        requires can { IsCell self.old target (length cell) }
+        ensures value { self.new ≡ with_value self.old target.area target.number target.field cell }
     {
-        if let Some(area) = self.area {
-            let table = &mut self.tables[area.table];
-            table.set_cell(number, field, cell.as_slice());
-        }
+        let table = &mut self.tables[target.area.table];
+        table.set_cell(target.number, target.field, cell.as_slice());
     }
 
-    fn set_memo(&mut self, number: u32, field: usize, text: Bytes) -> Result<(), AllocError>
-        requires can { CanChange self.old (Change.SetMemo number field text) }
-        ensures ok { OnOk result (self.new ≡ changed self.old (Change.SetMemo number field text)) }
+    // Replaces the text of a memo.
+    fn memo(&mut self, target: Target, text: Bytes) -> Result<(), AllocError>
+        requires can { IsMemo self.old target text }
+        ensures ok { OnOk result (self.new ≡ with_value self.old target.area target.number target.field text) }
         ensures err { OnErr result (self.new ≡ self.old) }
     {
-        let Some(area) = self.area else {
-            return Ok(());
-        };
-        let table = &mut self.tables[area.table];
-        table.set_memo(number, field, text.as_slice())
+        let table = &mut self.tables[target.area.table];
+        table.set_memo(target.number, target.field, text.as_slice())
     }
 }

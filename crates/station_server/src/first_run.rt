@@ -8,7 +8,8 @@ ghost use Rattle.dbf_image.specs.Sink.{grown, Rises};
 ghost use Rattle.dbf_image.specs.Table.{Table};
 ghost use Rattle.station_server.specs.FirstFault.{IsOpening, IsStopping};
 ghost use Rattle.station_server.specs.FirstRun.{IsRun, table_t};
-ghost use Rattle.shared_catalogue.specs.Replay.{past, IsLegal};
+ghost use Rattle.shared_catalogue.specs.declared.catalogue.TheConstants.{MAX_ENTRIES};
+ghost use Rattle.shared_catalogue.specs.Replay.{history, IsLegal};
 
 use dbf_fields::{Bytes, Day};
 use dbf_image::{ByteSink, ImageFault, TableData, WriteFault, read_table, write_dbf};
@@ -87,7 +88,7 @@ pub fn first_run<S: ByteSink>(
     ensures ran { IfOk result (λ answers. (table : Table) × (end : Table) × IsDbf dbf.now None table × IsRun table commands.now answers.items end × (S.written sink.new ≡ grown (S.written sink.old) (image end day.year day.month day.day))) }
     ensures image { (fault : ImageFault) → result ≡ Err (FirstFault.Image fault) → IsRefusal fault dbf.now None }
     ensures open { (fault : OpenFault) → result ≡ Err (FirstFault.Open fault) → fault ≡ OpenFault.NoMemory }
-    ensures stopped { result ≡ Err (FirstFault.Stopped Stop.JournalFull) → 4294967295 < length commands.now }
+    ensures stopped { result ≡ Err (FirstFault.Stopped Stop.JournalFull) → MAX_ENTRIES < length commands.now }
     ensures outside { result ≡ Err (FirstFault.Write WriteFault.DateOutside) → IsOutside day.year }
     ensures failed { result ≡ Err (FirstFault.Write WriteFault.Sink) → Rises (S.failures sink.old) (S.failures sink.new) }
     ensures unwritten { IfErr result (λ fault. fault ≢ FirstFault.Write WriteFault.Sink → sink.new ≡ sink.old) }
@@ -107,7 +108,7 @@ pub fn first_run<S: ByteSink>(
 
 // A catalogue of one station that has the table T alone.
 fn open_table(alloc: Global, table: TableData) -> Result<Catalogue, FirstFault>
-    ensures opened { IfOk result (λ catalogue. catalogue ≡ past (table_t table) []) }
+    ensures opened { IfOk result (λ catalogue. catalogue ≡ history (table_t table) []) }
     ensures refused { IfErr result IsOpening }
 {
     let mut sources = Vec::with_capacity(alloc, 1)?;
