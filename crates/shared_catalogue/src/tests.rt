@@ -2,4 +2,5 @@ mod cells;
 mod memos;
 mod openings;
 mod performing;
+mod refusals;
 mod sample;

@@ -1,9 +1,10 @@
 use super::sample::{field, replace, show, text, use_table};
 use crate::answer::{Answer, Refusal};
 use crate::catalogue::Catalogue;
+use crate::command::Command;
 use crate::source::TableSource;
 use dbf_fields::{Bytes, DATE, LOGICAL, Literal, NUMBER, Schema, day_of};
-use dbf_image::TableData;
+use dbf_image::{TableData, read_table};
 use std::alloc::Global;
 use std::test::Fail;
 
@@ -49,8 +50,8 @@ fn number_cells(rt: HostRuntime) -> Result<(), Fail> {
     ];
     for (digits, scale, answer, cell) in cases {
         let value = Literal::Number { digits, scale };
-        let told = replaced(alloc, &mut catalogue, b"AMT", value)?;
-        assert_eq!(rt; told, (answer, text(alloc, cell)?));
+        let answers = replaced(alloc, &mut catalogue, b"AMT", value)?;
+        assert_eq!(rt; answers, (answer, text(alloc, cell)?));
     }
     Ok(())
 }
@@ -83,8 +84,8 @@ fn date_cells(rt: HostRuntime) -> Result<(), Fail> {
         (Literal::BlankDate, Answer::Done, b"  /  /  ", b"        "),
     ];
     for (value, answer, shown, stored) in cases {
-        let told = replaced(alloc, &mut catalogue, b"BORN", value)?;
-        assert_eq!(rt; told, (answer, text(alloc, shown)?));
+        let answers = replaced(alloc, &mut catalogue, b"BORN", value)?;
+        assert_eq!(rt; answers, (answer, text(alloc, shown)?));
         assert_eq!(rt; catalogue.table_count(), 1);
         let table = catalogue.content(alloc, 1)?;
         assert_eq!(rt; table.record_count(), 1);
@@ -100,8 +101,65 @@ fn logical_cells(rt: HostRuntime) -> Result<(), Fail> {
     let mut catalogue = open_table(alloc)?;
     let cases: [(bool, &[u8]); 2] = [(true, b".T."), (false, b".F.")];
     for (value, shown) in cases {
-        let told = replaced(alloc, &mut catalogue, b"PAID", Literal::Truth(value))?;
-        assert_eq!(rt; told, (Answer::Done, text(alloc, shown)?));
+        let answers = replaced(alloc, &mut catalogue, b"PAID", Literal::Truth(value))?;
+        assert_eq!(rt; answers, (Answer::Done, text(alloc, shown)?));
+    }
+    Ok(())
+}
+
+// The file of a table with the fields AMT, BORN and PAID, whose first record has cells that are no number,
+// no date and no logical value, and whose second record is blank.
+const ODD_TABLE: [&[u8]; 7] = [
+    b"\x03\x57\x03\x0f\x02\0\0\0\x81\0\x10\0\0\0\0\0\0\0\0\0\0\0\0\0\0\0\0\0\0\0\0\0",
+    b"AMT\0\0\0\0\0\0\0\0N\0\0\0\0\x06\x02\0\0\0\0\0\0\0\0\0\0\0\0\0\0",
+    b"BORN\0\0\0\0\0\0\0D\0\0\0\0\x08\0\0\0\0\0\0\0\0\0\0\0\0\0\0\0",
+    b"PAID\0\0\0\0\0\0\0L\0\0\0\0\x01\0\0\0\0\0\0\0\0\0\0\0\0\0\0\0",
+    b"\x0d",
+    b"  1.2.319990230?",
+    b"                \x1a",
+];
+
+// The table of odd and blank cells, in use.
+fn open_odd_table(alloc: Global) -> Result<Catalogue, Fail> {
+    let mut bytes = Vec::new(alloc);
+    for part in ODD_TABLE {
+        bytes.extend_from_slice(part)?;
+    }
+    let content = read_table(alloc, &bytes, None)?;
+    let name = Bytes::from_slice(alloc, b"T")?;
+    let sources = vec![in alloc; TableSource { name, content }]?;
+    let mut catalogue = Catalogue::open(alloc, sources, 1)?;
+    catalogue.perform(alloc, 1, &use_table(alloc, b"T", false)?)?;
+    Ok(catalogue)
+}
+
+// What a field of a record shows.
+fn shown_at(
+    alloc: Global,
+    catalogue: &mut Catalogue,
+    number: u64,
+    name: &[u8],
+) -> Result<Answer, Fail> {
+    catalogue.perform(alloc, 1, &Command::Go(number))?;
+    let (_, answer) = catalogue.perform(alloc, 1, &show(alloc, name)?)?;
+    Ok(answer)
+}
+
+#[test]
+fn odd_and_blank_cells_are_shown(rt: HostRuntime) -> Result<(), Fail> {
+    let alloc = rt.alloc();
+    let mut catalogue = open_odd_table(alloc)?;
+    let cases: [(u64, &[u8], &[u8]); 6] = [
+        (1, b"AMT", b" 1.2.3"),
+        (1, b"BORN", b"**/**/**"),
+        (1, b"PAID", b".F."),
+        (2, b"AMT", b"      "),
+        (2, b"BORN", b"  /  /  "),
+        (2, b"PAID", b".F."),
+    ];
+    for (number, name, shown) in cases {
+        let answer = shown_at(alloc, &mut catalogue, number, name)?;
+        assert_eq!(rt; answer, text(alloc, shown)?);
     }
     Ok(())
 }

@@ -22,7 +22,7 @@ fn open_table(alloc: Global, fields: &[Field], count: u32) -> Result<Catalogue, 
 }
 
 // What a command of the only station is answered.
-fn told(alloc: Global, catalogue: &mut Catalogue, command: &Command) -> Result<Answer, Fail> {
+fn answer_to(alloc: Global, catalogue: &mut Catalogue, command: &Command) -> Result<Answer, Fail> {
     let (_, answer) = catalogue.perform(alloc, 1, command)?;
     Ok(answer)
 }
@@ -41,7 +41,7 @@ fn text_of(alloc: Global, length: usize) -> Result<Vec<u8>, AllocError> {
     Ok(text)
 }
 
-// The bytes from a place to another one, or none where there are fewer.
+// The bytes from an offset to another one, or none where there are fewer.
 fn part(bytes: &[u8], from: usize, to: usize) -> &[u8] {
     match bytes.get(from..to) {
         Some(found) => found,
@@ -170,15 +170,21 @@ fn memo_refusals(rt: HostRuntime) -> Result<(), Fail> {
         (memo(alloc, b"NOTE", &long)?, refused(Refusal::BadText)),
     ];
     for (command, answer) in &commands {
-        assert_eq!(rt; told(alloc, &mut catalogue, command)?, answer.copy(alloc)?);
+        assert_eq!(rt;
+            answer_to(alloc, &mut catalogue, command)?,
+            answer.copy(alloc)?
+        );
     }
     let show = show(alloc, b"NOTE")?;
     let hello = Answer::Text(Bytes::from_slice(alloc, b"HELLO")?);
-    assert_eq!(rt; told(alloc, &mut catalogue, &show)?, hello);
+    assert_eq!(rt; answer_to(alloc, &mut catalogue, &show)?, hello);
     let longest = Bytes::from_slice(alloc, part(&long, 0, 65_535))?;
     let command = memo(alloc, b"NOTE", longest.as_slice())?;
-    assert_eq!(rt; told(alloc, &mut catalogue, &command)?, Answer::Done);
-    assert_eq!(rt; told(alloc, &mut catalogue, &show)?, Answer::Text(longest));
+    assert_eq!(rt; answer_to(alloc, &mut catalogue, &command)?, Answer::Done);
+    assert_eq!(rt;
+        answer_to(alloc, &mut catalogue, &show)?,
+        Answer::Text(longest)
+    );
     Ok(())
 }
 
@@ -186,9 +192,9 @@ fn memo_refusals(rt: HostRuntime) -> Result<(), Fail> {
 fn memo_needs_a_record(rt: HostRuntime) -> Result<(), Fail> {
     let alloc = rt.alloc();
     let mut catalogue = open_table(alloc, &[field(alloc, b"NOTE", MEMO, 10, 0)?], 0)?;
-    told(alloc, &mut catalogue, &use_table(alloc, b"T", true)?)?;
+    answer_to(alloc, &mut catalogue, &use_table(alloc, b"T", true)?)?;
     assert_eq!(rt;
-        told(alloc, &mut catalogue, &memo(alloc, b"NOTE", b"A")?)?,
+        answer_to(alloc, &mut catalogue, &memo(alloc, b"NOTE", b"A")?)?,
         Answer::Refused(Refusal::EndOfFile)
     );
     Ok(())

@@ -69,11 +69,11 @@ fn shared_use_needs_a_lock(rt: HostRuntime) -> Result<(), Fail> {
 fn journal_keeps_commands_and_answers(rt: HostRuntime) -> Result<(), Fail> {
     let alloc = rt.alloc();
     let mut catalogue = open_sample(alloc)?;
-    let told = catalogue.perform(alloc, 1, &Command::Go(1))?;
-    assert_eq!(rt; told, (1, Answer::Refused(Refusal::NoTableInUse)));
+    let performed = catalogue.perform(alloc, 1, &Command::Go(1))?;
+    assert_eq!(rt; performed, (1, Answer::Refused(Refusal::NoTableInUse)));
     let use_t = use_table(alloc, b"T", false)?.copy(alloc)?;
-    let told = catalogue.perform(alloc, 1, &use_t)?;
-    assert_eq!(rt; told, (2, Answer::Done.copy(alloc)?));
+    let performed = catalogue.perform(alloc, 1, &use_t)?;
+    assert_eq!(rt; performed, (2, Answer::Done.copy(alloc)?));
     let journal = catalogue.journal();
     assert_eq!(rt; journal.len(), 2);
     assert_eq!(rt; journal[1].station, 1);
