@@ -3,7 +3,7 @@ use Rattle.std.specs.Prelude.{◌≡◌, ℕ, ◌≤◌, ◌<◌, Bool, false, �
 use Rattle.std.specs.List.{slice_get}
 use Rattle.std.specs.Int.{is_in_range}
 use Rattle.dbf_fields.specs.declared.field.Field.{Field}
-use Rattle.dbf_fields.specs.declared.field.TheConstants.{CHARACTER, NUMBER, DATE}
+use Rattle.dbf_fields.specs.declared.format.TheConstants.{CHARACTER, NUMBER, DATE}
 use Rattle.dbf_fields.specs.Faults.{first_fault}
 use Rattle.key_expr.specs.declared.fault.ExprFault.{ExprFault}
 use Rattle.key_expr.specs.declared.fault.ExprFault.TheVariants.{ExpressionTooLong, BadSyntax, NoSuchField, NotCharacter, BadArgument, KeyTooLong, NoMemory}

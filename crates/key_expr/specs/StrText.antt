@@ -1,6 +1,6 @@
 -- What a number prints.
 use Rattle.std.specs.Prelude.{ℕ, nat_le, List, length, replicate, Some, None, if◌then◌else◌}
-use Rattle.key_expr.specs.declared.format.TheConstants.{ASTERISK}
+use Rattle.dbf_fields.specs.declared.format.TheConstants.{ASTERISK}
 use Rattle.dbf_fields.specs.Number.{number}
 use Rattle.dbf_fields.specs.NumberText.{number_text, right_justified}
 

@@ -1,7 +1,7 @@
 -- Where the tokens of a text stand in it.
 use Rattle.std.specs.Prelude.{◌≡◌, ◌≢◌, ℕ, ◌+◌, ◌<◌, ◌≤◌, List, [], ◌∷◌, length, drop, get_or}
 use Rattle.dbf_fields.specs.declared.field.Field.{Field}
-use Rattle.key_expr.specs.declared.format.TheConstants.{BLANK}
+use Rattle.dbf_fields.specs.declared.format.TheConstants.{BLANK}
 use Rattle.key_expr.specs.declared.token.Token.{Token}
 use Rattle.key_expr.specs.Tokens.{token_length, kind_of}
 

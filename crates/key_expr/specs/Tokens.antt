@@ -1,6 +1,7 @@
 -- The tokens of a text.
 use Rattle.std.specs.Prelude.{ℕ, zero, suc, ◌+◌, ◌-◌, ◌*◌, Bool, false, not, ◌==◌, nat_lt, List, [], ◌∷◌, length, take, drop, codes, if◌then◌else◌}
-use Rattle.key_expr.specs.declared.format.TheConstants.{MAX_NAME_BYTES, BLANK, PLUS, OPEN, CLOSE, COMMA}
+use Rattle.dbf_fields.specs.declared.format.TheConstants.{BLANK}
+use Rattle.key_expr.specs.declared.format.TheConstants.{MAX_NAME_BYTES, PLUS, OPEN, CLOSE, COMMA}
 use Rattle.std.specs.List.{position_or_len}
 use Rattle.std.specs.Char.{is_ascii_alphabetic, is_ascii_digit}
 use Rattle.std.specs.Str.{str_eq_ignore_ascii_case}

@@ -1,4 +1,4 @@
-//! The limits of key expressions and the bytes that stand in them.
+//! The limits of key expressions, and the bytes that stand between their names.
 
 /// The longest text of a key expression, in bytes.
 pub const MAX_EXPRESSION_BYTES: usize = 488;
@@ -17,12 +17,6 @@ pub(crate) const STR_LENGTH: usize = 10;
 
 /// How many bytes a DTOC prints.
 pub(crate) const DTOC_LENGTH: usize = 8;
-
-/// A blank.
-pub(crate) const BLANK: u8 = b' ';
-
-/// What a STR prints in place of each byte of a number that it can't print.
-pub(crate) const ASTERISK: u8 = b'*';
 
 /// Joins two parts.
 pub(crate) const PLUS: u8 = b'+';

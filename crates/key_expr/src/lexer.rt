@@ -7,9 +7,9 @@ ghost use Rattle.dbf_fields.specs.Name.{is_name_char};
 ghost use Rattle.key_expr.specs.Grammar.{EndsInEnd};
 ghost use Rattle.key_expr.specs.Tokens.{prefix_length, token_length as length_of, number_kind as number_of_digits, function_kind as function_of, index_of, opens as opens_next, name_kind as kind_of_name, kind_of as kind_at, tokens_of as tokens_in};
 
-use crate::format::{BLANK, CLOSE, COMMA, MAX_NAME_BYTES, OPEN, PLUS};
+use crate::format::{CLOSE, COMMA, MAX_NAME_BYTES, OPEN, PLUS};
 use crate::token::{Kind, Token};
-use dbf_fields::Field;
+use dbf_fields::{BLANK, Field};
 use std::alloc::{AllocError, Global};
 
 // A letter, a digit or `_`.

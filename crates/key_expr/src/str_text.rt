@@ -4,9 +4,8 @@ ghost use Rattle.std.specs.Prelude.{◌≡◌, ◌≤◌, ◌<◌, length, repli
 ghost use Rattle.key_expr.specs.declared.format.TheConstants.{MAX_KEY_BYTES};
 ghost use Rattle.key_expr.specs.StrText.{text_in_width, str_text as str_of_number};
 
-use crate::format::{ASTERISK, BLANK};
 use crate::key::Key;
-use dbf_fields::{NumberText, read_number};
+use dbf_fields::{ASTERISK, BLANK, NumberText, read_number};
 
 // So many bytes of one kind.
 fn fill(byte: u8, count: usize) -> Key
