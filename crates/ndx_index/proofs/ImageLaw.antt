@@ -17,7 +17,7 @@ use Rattle.ndx_index.specs.Header.{header_refusal, header_tests, ndx_header, u16
 use Rattle.ndx_index.proofs.Texts.{before_zeros, no_zero}
 use Rattle.ndx_index.specs.Image.{ChildEntry, child_entries, last_key, leaves, inner_pages, leaf_page, inner_page, filled_page, header_page, pages_of, ndx_image, record_size, page_keys, IsWritable}
 use Rattle.ndx_index.proofs.Grouped.{joined, groups-join, leaf_groups, count_one, HasSize, all_groups}
-use Rattle.ndx_index.proofs.PageBytes.{Fits, length-filled_page, leb_true}
+use Rattle.ndx_index.proofs.PageBytes.{Fits, length-filled_page}
 use Rattle.ndx_index.proofs.ReadBack.{pages_at, at_append, numbers, length-child_entries, once_distinct, child_entries_run, Level, levels_tree, levels_long, leaves_long, leaf_trees, all_both, child_entries_fit, last_of_tops}
 
 record Sizes (key_len : ℕ) : Type 0 where

@@ -1,5 +1,5 @@
 -- Writing an inner page.
-use Rattle.std.proofs.Common.{◌≡◌, ℕ, zero, suc, ◌+◌, ◌-◌, ◌*◌, ◌<◌, ◌≤◌, min, List, [], ◌∷◌, ◌++◌, Option, length, take, drop, replicate, get_or, refl, ap, sym, ◌∙◌, arith, length-drop, get_or-drop}
+use Rattle.std.proofs.Common.{◌≡◌, ℕ, zero, suc, ◌+◌, ◌-◌, ◌*◌, ◌<◌, ◌≤◌, min, List, [], ◌∷◌, ◌++◌, length, take, drop, replicate, get_or, refl, ap, sym, ◌∙◌, arith, length-drop, get_or-drop}
 use Rattle.std.proofs.lemmas.List.{length-take, length-append}
 use Rattle.ndx_index.specs.declared.pair.Pair.{Pair}
 use Rattle.byteorder.specs.Endian.{little_bytes}
@@ -109,13 +109,6 @@ level_step size k at n ts e some one =
     let joined_drop : drop (at + n) ts ≡ drop b rest = sym (drop-drop n at ts) ∙ same.1 in
     let next : groups (inner_group_size k) (length rest) rest ≡ take b rest ∷ groups (inner_group_size k) (length (drop b rest)) (drop b rest) = groups-next (inner_group_size k) rest some (group_size_some k one) in
     rw (joined_drop, same.0) (ap (λ gs. flat_map (inner_page size) gs) next)
-
-pub level_done : (size k at : ℕ) (ts : List ChildEntry) → length ts ≤ at → flat_map (inner_page size) (groups (inner_group_size k) (length (drop at ts)) (drop at ts)) ≡ []
-level_done size k at ts h = empty (drop at ts) (omega (arith, length-drop at ts))
-  where
-    empty : (rest : List ChildEntry) → length rest ≡ 0 → flat_map (inner_page size) (groups (inner_group_size k) (length rest) rest) ≡ []
-    empty [] e = refl
-    empty (t ∷ rest) e = absurd (omega arith)
 
 pub children_short : (size at n : ℕ) (ts : List ChildEntry) → AllByRecursion (λ u. length u.key + 8 ≤ size) ts → AllByRecursion (λ u. length u.key + 8 ≤ size) (take n (drop at ts))
 children_short size at n ts h = (all_parts _ n (drop at ts) (all_parts _ at ts h).1).0

@@ -1,12 +1,11 @@
 -- Bytes are the file of one index at most.
-use Rattle.std.proofs.Common.{◌≡◌, ◌≢◌, ℕ, List, [], ◌∷◌, Some, None, Result, Ok, Err, inl, inr, refl, sym, ◌∙◌}
+use Rattle.std.proofs.Common.{◌≡◌, ◌≢◌, ℕ, List, Some, None, Result, Ok, Err, inl, inr, refl, sym, ◌∙◌}
 use Rattle.std.specs.Prelude.{IfOk, IfErr}
 use Rattle.ndx_index.specs.declared.pair.Pair.{Pair}
 use Rattle.ndx_index.specs.declared.fault.NdxFault.{NdxFault}
 use Rattle.ndx_index.specs.declared.fault.NdxFault.TheVariants.{Truncated, NumericIndex, UniqueIndex, BadKeyLength, BadRecordSize, PageOutside, PageTwice, TooManyEntries, MixedPage, NoMemory}
 use Rattle.ndx_index.specs.declared.read.NdxFile.{NdxFile}
 use Rattle.ndx_index.specs.Header.{header_refusal, ndx_header, IsIndex, Breaks}
-use Rattle.ndx_index.specs.NdxTree.{Visits}
 use Rattle.ndx_index.specs.Reading.{IsOnly}
 use Rattle.ndx_index.proofs.Laws.{visits_from_tree, one_walk}
 

@@ -59,13 +59,6 @@ turned Greater r e h ne = e
 pub before_other : (q p : Pair) → before q p ≡ false → (q ≡ p → ⊥) → pair_cmp p q ≡ Less
 before_other q p h ne = turned (pair_cmp q p) (pair_cmp p q) (pairs_total.antisymm p q) h (λ e. ne (exact_pair q p e))
 
--- a pair before another is not the same
-differs-from_less : (o : Ordering) → o ≡ Less → is_eq o ≡ false
-differs-from_less o e = ap is_eq e
-
-differs-from_greater : (o r : Ordering) → r ≡ ordering_reverse o → o ≡ Less → is_eq r ≡ false
-differs-from_greater o r e h = ap is_eq (e ∙ ap ordering_reverse h)
-
 -- a test that holds of each pair before one of which it holds
 pub parted_by : (u : Pair → Bool) → ((a b : Pair) → pair_cmp a b ≡ Less → u b ≡ true → u a ≡ true) → (ps : List Pair) → AreInOrder ps → IsPartitionedBy u ps
 parted_by u down ps sorted i j d le lt h = elim (cases_eq i j) [

@@ -6,7 +6,7 @@ use Rattle.std.proofs.lemmas.Bool.{cases_eq, cases_lt}
 use Rattle.std.proofs.lemmas.List.{length-append, length-set, get_or-set_same, get_or-set_other}
 use Rattle.ndx_index.specs.declared.pair.Pair.{Pair}
 use Rattle.ndx_index.specs.Image.{ChildEntry, child_entries, last_entry_key, last_key, leaves, leaf_group_size, inner_group_size, next_level}
-use Rattle.ndx_index.specs.Levels.{AreSizes, IsRootLevel, level}
+use Rattle.ndx_index.specs.Levels.{AreSizes, level}
 use Rattle.ndx_index.proofs.Grouped.{joined, groups-join, leaf_groups, inner_groups, group_size_some, HasSize}
 use Rattle.ndx_index.proofs.ReadBack.{length-child_entries}
 use Rattle.ndx_index.proofs.ImageLaw.{leaves_few, leaves_some}
@@ -154,12 +154,6 @@ reach_up k pairs height first count above sizes two many r e =
       low = omega (arith, r.low, r.count_is);
       long = length-set sizes height count ∙ r.long;
     }
-
-pub top_is : (k : ℕ) (pairs : List Pair) (height first count : ℕ) (sizes : List ℕ) → count ≤ 1 → Reached k pairs height first count sizes → IsRootLevel k pairs height first
-top_is k pairs height first count sizes one r = record { one = sym r.count_is ∙ single; root_is = r.first_is; numbered = omega (arith, r.low) }
-  where
-    single : count ≡ 1
-    single = omega (arith, r.some, one)
 
 -- an index of several levels has pairs
 pub some_pairs : (k : ℕ) (pairs : List Pair) (n : ℕ) (sizes : List ℕ) → 0 < n → AreSizes k pairs n sizes → 1 ≤ length pairs

@@ -117,15 +117,6 @@ pub in_order-IsPermutation : (xs ys : List Pair) → IsPermutation xs ys → in_
 in_order-IsPermutation xs ys h = one_order (in_order xs) (in_order ys) (ascends-in_order xs) (ascends-in_order ys) (λ p.
     times-in_order p xs ∙ sym (times-IsPermutation p xs ys h) ∙ sym (times-in_order p ys))
 
--- pairs in order are their own order
-pub ascends_from_order : (ps : List Pair) → AreInOrder ps → Ascends ps
-unfolding IsStrictlySortedBy
-ascends_from_order [] s = tt
-ascends_from_order (p ∷ ps) s = (all_map (λ q. pair_cmp p q ≡ Less) (λ q. before q p ≡ false) (λ q h. not_after p q h) ps s.0, ascends_from_order ps s.1)
-
-pub in_order-AreInOrder : (ps : List Pair) → AreInOrder ps → in_order ps ≡ ps
-in_order-AreInOrder ps s = one_order (in_order ps) ps (ascends-in_order ps) (ascends_from_order ps s) (λ p. times-in_order p ps)
-
 placed_perm : (p : Pair) (ps : List Pair) → IsPermutation (p ∷ ps) (placed p ps)
 placed_perm p [] = IsPermutation-refl (p ∷ [])
 placed_perm p (q ∷ qs) = elim (before q p) as (λ b. IsPermutation (p ∷ q ∷ qs) (cond b (q ∷ placed p qs) (p ∷ q ∷ qs))) [

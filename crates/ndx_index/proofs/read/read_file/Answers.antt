@@ -1,4 +1,4 @@
-use Rattle.std.proofs.Common.{refl, sym, ◌∙◌, ap, subst}
+use Rattle.std.proofs.Common.{◌∙◌, ap, subst}
 use Rattle.ndx_index.specs.declared.read.header.Header.{Header}
 use Rattle.ndx_index.specs.NdxTree.{IsTree}
 use Rattle.ndx_index.proofs.Laws.{tree_from_visits}
