@@ -154,7 +154,7 @@ module _ (s : PageLayout) (bytes : List ℕ) where
       }
 
   -- the trees of a level whose pages are numbered below n
-  pub record Level (n : ℕ) (ts : List ChildEntry) (pairs : List Pair) : Type 0 where
+  pub record LevelTrees (n : ℕ) (ts : List ChildEntry) (pairs : List Pair) : Type 0 where
     pub pages : List ℕ
     pub tree : Trees s bytes (numbers ts) pages pairs
     pub once : (r : ℕ) → times r pages ≤ 1
@@ -166,7 +166,7 @@ module _ (s : PageLayout) (bytes : List ℕ) where
     pub once : (r : ℕ) → times r pages ≤ 1
 
   next : (k n m : ℕ) (ts : List ChildEntry) (pairs : List Pair) → 1 ≤ n → 2 ≤ k → k * s.size ≤ 504 → k ≤ 504 → length ts ≢ 1 → AllByRecursion (IsChild s) ts
-      → n + length (next_level k ts) ≡ m → AreAt bytes n (map (inner_page s.size) (next_level k ts)) → Level n ts pairs → Level m (child_entries last_entry_key n (next_level k ts)) pairs
+      → n + length (next_level k ts) ≡ m → AreAt bytes n (map (inner_page s.size) (next_level k ts)) → LevelTrees n ts pairs → LevelTrees m (child_entries last_entry_key n (next_level k ts)) pairs
   next k n m ts pairs some two room few many fits e at level =
       let gs : List (List ChildEntry) = next_level k ts in
       let join : joined gs ≡ ts = groups-join (inner_group_size k) (length ts) ts (omega arith) (group_size_some k (omega arith)) in
@@ -208,7 +208,7 @@ module _ (s : PageLayout) (bytes : List ℕ) where
 
   pub levels_tree : (fuel k n root : ℕ) (ts : List ChildEntry) (pairs : List Pair) → 1 ≤ n → 2 ≤ k → 8 ≤ s.size → k * s.size ≤ 504 → k ≤ 504 → 1 ≤ length ts → length ts ≤ fuel
       → n + length ts ≤ 2 ^ 32 → AllByRecursion (IsChild s) ts → last_number ts + 1 ≡ n → n + length (levels_above fuel k n ts) ≡ root + 1
-      → AreAt bytes n (map (inner_page s.size) (levels_above fuel k n ts)) → Level n ts pairs → Rooted root pairs
+      → AreAt bytes n (map (inner_page s.size) (levels_above fuel k n ts)) → LevelTrees n ts pairs → Rooted root pairs
   unfolding last_number
   levels_tree zero k n root ts pairs some two eight room few one enough small fits last e at level = absurd (omega arith)
   levels_tree (suc f) k n root [] pairs some two eight room few one enough small fits last e at level = absurd (omega arith)

@@ -25,7 +25,7 @@ pub(crate) const EXPRESSION_OFFSET: usize = 24;
 pub(crate) const MAX_TEXT_BYTES: usize = 488;
 
 /// The most bytes of a key.
-pub(crate) const MAX_KEY_LENGTH: usize = 100;
+pub const MAX_KEY_LENGTH: usize = 100;
 
 /// The most pairs of an index that is written.
 pub const MAX_PAIRS: usize = 1_000_000_000;

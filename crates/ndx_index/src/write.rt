@@ -8,6 +8,7 @@ ghost use Rattle.dbf_image.specs.Sink.{grown, IsFront, Rises};
 ghost use Rattle.key_expr.specs.Keys.{key_length};
 ghost use Rattle.ndx_index.specs.Header.{IsIndex, trimmed_end};
 ghost use Rattle.ndx_index.specs.Image.{header_page, ndx_image};
+ghost use Rattle.ndx_index.specs.Index.{HaveLength};
 ghost use Rattle.ndx_index.specs.Order.{AreInOrder};
 
 mod inner;
@@ -71,7 +72,7 @@ pub fn write_ndx<S: ByteSink>(
     pairs: &[Pair],
 ) -> Result<(), WriteFault>
     requires few { length pairs.now ≤ MAX_PAIRS }
-    requires keys { AllByRecursion (λ p. length p.key ≡ key_length expr.now.fields expr.now.expr) pairs.now }
+    requires keys { HaveLength (key_length expr.now.fields expr.now.expr) pairs.now }
     requires ordered { AreInOrder pairs.now }
     ensures wrote { OnOk result (S.written sink.new ≡ grown (S.written sink.old) (ndx_image expr.now.text (key_length expr.now.fields expr.now.expr) pairs.now)) }
     ensures fine { OnOk result (S.failures sink.new ≡ S.failures sink.old) }
