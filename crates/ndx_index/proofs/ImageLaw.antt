@@ -18,7 +18,7 @@ use Rattle.ndx_index.proofs.Texts.{before_zeros, no_zero}
 use Rattle.ndx_index.specs.Image.{ChildEntry, child_entries, last_key, leaves, inner_pages, leaf_page, inner_page, filled_page, header_page, pages_of, ndx_image, record_size, page_keys, IsWritable}
 use Rattle.ndx_index.proofs.Grouped.{joined, groups-join, leaf_groups, count_one, HasSize, all_groups}
 use Rattle.ndx_index.proofs.PageBytes.{Fits, length-filled_page}
-use Rattle.ndx_index.proofs.ReadBack.{pages_at, at_append, numbers, length-child_entries, once_distinct, child_entries_run, LevelTrees, levels_tree, levels_long, leaves_long, leaf_trees, all_both, child_entries_fit, last_of_tops}
+use Rattle.ndx_index.proofs.ReadBack.{pages_at, at_append, numbers, length-child_entries, once_distinct, child_entries_run, LevelTrees, levels_tree, levels_long, leaves_long, leaf_trees, all_both, child_entries_fit, last_of_child_entries}
 
 record Sizes (key_len : ℕ) : Type 0 where
   room : key_len + 8 ≤ record_size key_len
@@ -151,7 +151,7 @@ read_back text key_len pairs w =
     let run = child_entries_run last_key 1 (m + 1) gs (omega arith) in
     let level : LevelTrees s bytes (m + 1) ts pairs = record { pages = numbers ts; tree = subst (λ ps. Trees s bytes (numbers ts) (numbers ts) ps) join bottom; once = run.once; under = run.over } in
     let rooted = levels_tree s bytes m k (m + 1) (length pages) ts pairs (omega arith) (omega (arith, sizes.least)) (omega (arith, sizes.room)) sizes.fit sizes.most (omega arith) (omega arith)
-    (omega (arith, w.few)) children (last_of_tops s bytes last_key 1 gs some ∙ add_one m) (omega arith) parts.1 level in
+    (omega (arith, w.few)) children (last_of_child_entries s bytes last_key 1 gs some ∙ add_one m) (omega arith) parts.1 level in
     let reads = header_reads text (joined pages) key_len (1 + length pages) w.text_short w.key_some w.key_short sizes (omega (arith, w.key_short)) (omega (arith, w.few, up.few)) in
     let header_is : ndx_header bytes ≡ record { layout = s; root = length pages } = reads.1 ∙ ap (λ r. record { layout = s; root = r }) (one_less (length pages)) in
     record {

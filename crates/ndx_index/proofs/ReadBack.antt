@@ -187,11 +187,11 @@ module _ (s : PageLayout) (bytes : List ℕ) where
   last_number (t ∷ []) = t.page
   last_number (t ∷ u ∷ ts) = last_number (u ∷ ts)
 
-  pub last_of_tops : {X : Type 0} (f : List X → List ℕ) (n : ℕ) (gs : List (List X)) → 1 ≤ length gs → last_number (child_entries f n gs) + 1 ≡ n + length gs
+  pub last_of_child_entries : {X : Type 0} (f : List X → List ℕ) (n : ℕ) (gs : List (List X)) → 1 ≤ length gs → last_number (child_entries f n gs) + 1 ≡ n + length gs
   unfolding last_number
-  last_of_tops f n [] some = absurd (omega arith)
-  last_of_tops f n (g ∷ []) some = omega arith
-  last_of_tops f n (g ∷ h ∷ gs) some = omega (arith, last_of_tops f (n + 1) (h ∷ gs) (omega arith))
+  last_of_child_entries f n [] some = absurd (omega arith)
+  last_of_child_entries f n (g ∷ []) some = omega arith
+  last_of_child_entries f n (g ∷ h ∷ gs) some = omega (arith, last_of_child_entries f (n + 1) (h ∷ gs) (omega arith))
 
   short_last : (ts : List ChildEntry) → 8 ≤ s.size → AllByRecursion (IsChild s) ts → length (last_entry_key ts) + 8 ≤ s.size
   short_last [] room h = omega arith
@@ -232,7 +232,7 @@ module _ (s : PageLayout) (bytes : List ℕ) where
       let up = next k n m all pairs some two room few many fits refl parts.0 level in
       let long : length ups ≡ length gs = length-child_entries last_entry_key n gs in
       levels_tree f k m root ups pairs (omega arith) two eight room few (omega arith) (omega arith) (omega arith)
-      (child_entries_fit last_entry_key n gs some (omega arith) (all_short gs eight fits_groups)) (last_of_tops last_entry_key n gs some_group)
+      (child_entries_fit last_entry_key n gs some (omega arith) (all_short gs eight fits_groups)) (last_of_child_entries last_entry_key n gs some_group)
       (omega (arith, length-append gs above)) parts.1 up
     where
       some_groups : {X : Type 0} (gs : List (List X)) → 1 ≤ length (joined gs) → 1 ≤ length gs

@@ -58,33 +58,33 @@ module _ (s : PageLayout) (bytes : List ℕ) (root : ℕ) (visited : List Bool) 
   looks_twice h k = rw (h, k)
 
   looks : {new : List Bool} {page : List ℕ} → IsFirstVisit bytes p visited new page → is_visited p state.seen ≡ false → look s bytes state.seen p ≡ node_of s page
-  looks claims new = rw (claims.whole, new) (ap (node_of s) (sym claims.bytes_are))
+  looks entered new = rw (entered.whole, new) (ap (node_of s) (sym entered.bytes_are))
 
   pub step : (new : List Bool) (page : List ℕ) (pending' : List ℕ) (so_far' : List Pair) → IsFirstVisit bytes p visited new page → (node : Result Node NdxFault) → node_of s page ≡ node → Takes node pending pending' so_far so_far' → State s bytes root new pending' so_far'
-  step new page pending' so_far' claims (Ok (leaf own)) e takes = record {
+  step new page pending' so_far' entered (Ok (leaf own)) e takes = record {
     seen = p ∷ state.seen;
     before = state.before ++ p ∷ [];
-    flagged = flags_next new claims.marked;
+    flagged = flags_next new entered.marked;
     completes = λ pages pairs r v.
-        let seen_as : look s bytes state.seen p ≡ Ok (leaf own) = looks claims (unvisited claims.unvisited) ∙ e in
+        let seen_as : look s bytes state.seen p ≡ Ok (leaf own) = looks entered (unvisited entered.unvisited) ∙ e in
         rw (takes.1, append_assoc state.before (p ∷ []) pages, append_assoc so_far own pairs)
         (next_page (p ∷ pages) (own ++ pairs) r (visit_leaf seen_as (subst (λ xs. Visits s bytes (p ∷ state.seen) (reverse xs) pages pairs r) takes.0 v)));
   }
-  step new page pending' so_far' claims (Ok (inner children)) e takes = record {
+  step new page pending' so_far' entered (Ok (inner children)) e takes = record {
     seen = p ∷ state.seen;
     before = state.before ++ p ∷ [];
-    flagged = flags_next new claims.marked;
+    flagged = flags_next new entered.marked;
     completes = λ pages pairs r v.
-        let seen_as : look s bytes state.seen p ≡ Ok (inner children) = looks claims (unvisited claims.unvisited) ∙ e in
+        let seen_as : look s bytes state.seen p ≡ Ok (inner children) = looks entered (unvisited entered.unvisited) ∙ e in
         let pending_is : reverse pending' ≡ children ++ reverse pending = ap reverse takes.0 ∙ reverse-append pending (reverse children) ∙ ap (λ xs. xs ++ reverse pending) (reverse-reverse children) in
         rw (takes.1, append_assoc state.before (p ∷ []) pages)
         (next_page (p ∷ pages) pairs r (visit_inner seen_as (subst (λ xs. Visits s bytes (p ∷ state.seen) xs pages pairs r) pending_is v)));
   }
-  step new page pending' so_far' claims (Err f) e takes = absurd takes
+  step new page pending' so_far' entered (Err f) e takes = absurd takes
 
   pub step_broken : (new : List Bool) (page : List ℕ) (f : NdxFault) → IsFirstVisit bytes p visited new page → Refuses (node_of s page) f → f ≢ NoMemory → (pages : List ℕ) × (pairs : List Pair) × Visits s bytes [] (root ∷ []) pages pairs (Some f)
-  step_broken new page f claims (inl e) ne = absurd (ne e)
-  step_broken new page f claims (inr e) ne = (state.before ++ [], so_far ++ [], next_page [] [] (Some f) (stops (looks claims (unvisited claims.unvisited) ∙ e)))
+  step_broken new page f entered (inl e) ne = absurd (ne e)
+  step_broken new page f entered (inr e) ne = (state.before ++ [], so_far ++ [], next_page [] [] (Some f) (stops (looks entered (unvisited entered.unvisited) ∙ e)))
 
   pub step_unvisited : (f : NdxFault) → ((k : ℕ) → is_page bytes k ≡ true → k < length visited) → FailsToVisit bytes p visited f → (pages : List ℕ) × (pairs : List Pair) × Visits s bytes [] (root ∷ []) pages pairs (Some f)
   step_unvisited f within (inl h) = (state.before ++ [], so_far ++ [], rw h.0 (next_page [] [] (Some PageOutside) (stops (rw h.1))))

@@ -3,7 +3,7 @@
 ghost use Rattle.std.specs.Prelude.{◌≡◌, ◌≤◌, length};
 
 use super::*;
-use dbf_fields::{Bytes, CHARACTER, Field, Schema};
+use dbf_fields::{CHARACTER, Field, Schema};
 use dbf_image::{ByteSink, MemorySink, WriteFault};
 use key_expr::{Key, KeyExpr};
 use std::alloc::Global;
@@ -81,12 +81,7 @@ fn index_of(alloc: Global, count: u32, len: usize) -> Result<OrderedIndex, Fail>
 
 // One field NAME of characters, so wide.
 fn schema_of_name(alloc: Global, width: u8) -> Result<Schema, Fail> {
-    let name = Field {
-        name: Bytes::from_slice(alloc, b"NAME")?,
-        kind: CHARACTER,
-        width,
-        decimals: 0,
-    };
+    let name = Field::new(alloc, b"NAME", CHARACTER, width, 0)?;
     Ok(Schema::new(alloc, &[name])?)
 }
 

@@ -16,11 +16,11 @@ loop-next-init c =
 
 pub loop-next-preserved : goal.loop-next-preserved
 loop-next-preserved c =
-    let claims = c.in_ok-page.ensures.ok in
+    let entered = c.in_ok-page.ensures.ok in
     record {
-      flags = rw claims.marked (length-set c.loop-next.visited.items c.in-Some.next true ∙ c.loop-next.invariant.flags);
+      flags = rw entered.marked (length-set c.loop-next.visited.items c.in-Some.next true ∙ c.loop-next.invariant.flags);
       state = step c.args.layout c.args.bytes.now c.args.root c.loop-next.visited.items c.loop-next.pending.items c.pop.new.self.items c.loop-next.pairs.items c.in-Some.next c.in-Some.ensures.items c.loop-next.invariant.state
-          c.visit.new.visited.items c.in_ok-page.page.now c.take_page.new.pending.items c.take_page.new.pairs.items claims _ refl c.in_ok-take_page.ensures.ok;
+          c.visit.new.visited.items c.in_ok-page.page.now c.take_page.new.pending.items c.take_page.new.pairs.items entered _ refl c.in_ok-take_page.ensures.ok;
     }
 
 pub returns-in_err-page-clause-err : goal.returns-in_err-page-clause-err
