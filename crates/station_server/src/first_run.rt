@@ -77,7 +77,8 @@ impl From<Stop> for FirstFault {
 /// commands left it. `Image` tells why the bytes are no table, and `Open` that there was no memory for
 /// the catalogue; `Stopped` that the journal was full or that there was no memory for a command.
 /// `Write` comes last: the year was not one of 1900 to 2155, and nothing was written, or the sink failed.
-/// Before `Write` nothing is written.
+/// (The memos never take too many blocks: a table that is read without a file of memos has none.) Before
+/// `Write` nothing is written.
 pub fn first_run<S: ByteSink>(
     alloc: Global,
     dbf: &[u8],
@@ -91,6 +92,7 @@ pub fn first_run<S: ByteSink>(
     ensures stopped { result ≡ Err (FirstFault.Stopped Stop.JournalFull) → MAX_ENTRIES < length commands.now }
     ensures outside { result ≡ Err (FirstFault.Write WriteFault.DateOutside) → IsOutside day.year }
     ensures failed { result ≡ Err (FirstFault.Write WriteFault.Sink) → Rises (S.failures sink.old) (S.failures sink.new) }
+    ensures blocks { result ≢ Err (FirstFault.Write WriteFault.TooManyBlocks) }
     ensures unwritten { IfErr result (λ fault. fault ≢ FirstFault.Write WriteFault.Sink → sink.new ≡ sink.old) }
 {
     let table = match read_table(alloc, dbf, None) {

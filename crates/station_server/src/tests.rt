@@ -3,11 +3,11 @@ use crate::line::answer_line;
 use crate::sample;
 use dbf_fields::{Bytes, day_of};
 use dbf_image::{ImageFault, MemorySink, WriteFault, read_table, write_dbf};
-use shared_catalogue::{Answer, Catalogue, Command, Refusal, TableSource};
+use shared_catalogue::{Answer, Catalogue, Command, OpenFault, Refusal, Stop, TableSource};
 use std::alloc::{AllocError, Global};
 use std::test::Fail;
 
-// The sample's file with the record `CYD` behind the others.
+// The sample's file with the record `CYD` after the others.
 #[rattlefmt::skip]
 const WITH_CYD: [u8; 99] = [
     0x03, 0x57, 0x03, 0x0f, 0x03, 0x00, 0x00, 0x00, 0x41, 0x00, 0x0b, 0x00, 0, 0, 0, 0,
@@ -121,20 +121,96 @@ fn runs_that_fail_write_nothing(rt: HostRuntime) -> Result<(), Fail> {
 #[test]
 fn answers_have_their_lines(rt: HostRuntime) -> Result<(), Fail> {
     let alloc = rt.alloc();
-    let cases: [(Answer, &[u8]); 7] = [
+    let cases: [(Answer, &[u8]); 6] = [
         (Answer::Done, b"OK"),
         (Answer::Number(0), b"0"),
         (Answer::Number(4_294_967_295), b"4294967295"),
         (Answer::Truth(true), b".T."),
         (Answer::Truth(false), b".F."),
         (text(alloc, b"  5.00")?, b"  5.00"),
-        (
-            Answer::Refused(Refusal::NoTableInUse),
-            b"REFUSED 2 NoTableInUse",
-        ),
     ];
     for (answer, line) in cases.iter() {
         assert_eq!(rt; answer_line(alloc, answer)?.as_slice(), *line);
+    }
+    Ok(())
+}
+
+#[test]
+fn refusals_have_their_lines(rt: HostRuntime) -> Result<(), Fail> {
+    let alloc = rt.alloc();
+    let cases: [(Refusal, &[u8]); 19] = [
+        (Refusal::NoTable, b"REFUSED 1 NoTable"),
+        (Refusal::NoTableInUse, b"REFUSED 2 NoTableInUse"),
+        (Refusal::TableInUse, b"REFUSED 3 TableInUse"),
+        (Refusal::NeedsExclusive, b"REFUSED 4 NeedsExclusive"),
+        (Refusal::NotLocked, b"REFUSED 5 NotLocked"),
+        (Refusal::OutOfRange, b"REFUSED 6 OutOfRange"),
+        (Refusal::EndOfFile, b"REFUSED 7 EndOfFile"),
+        (Refusal::BeginOfFile, b"REFUSED 8 BeginOfFile"),
+        (Refusal::NotIndexed, b"REFUSED 9 NotIndexed"),
+        (Refusal::NoSuchField, b"REFUSED 10 NoSuchField"),
+        (Refusal::TypeMismatch, b"REFUSED 11 TypeMismatch"),
+        (Refusal::NumberTooWide, b"REFUSED 12 NumberTooWide"),
+        (Refusal::BadDate, b"REFUSED 13 BadDate"),
+        (Refusal::BadText, b"REFUSED 14 BadText"),
+        (Refusal::BadArea, b"REFUSED 15 BadArea"),
+        (Refusal::AlreadyOpen, b"REFUSED 16 AlreadyOpen"),
+        (Refusal::TableFull, b"REFUSED 17 TableFull"),
+        (Refusal::NoSuchOrder, b"REFUSED 18 NoSuchOrder"),
+        (Refusal::BadCommand, b"REFUSED 19 BadCommand"),
+    ];
+    for (refusal, line) in cases {
+        let answer = Answer::Refused(refusal);
+        assert_eq!(rt; answer_line(alloc, &answer)?.as_slice(), line);
+    }
+    Ok(())
+}
+
+#[test]
+fn faults_have_their_texts(rt: HostRuntime) -> Result<(), Fail> {
+    let alloc = rt.alloc();
+    let cases: [(FirstFault, &str); 10] = [
+        (
+            FirstFault::Image(ImageFault::Truncated),
+            "the table can't be read: the file is too short",
+        ),
+        (
+            FirstFault::Open(OpenFault::NoStation),
+            "the catalogue can't be opened: there is no station",
+        ),
+        (
+            FirstFault::Open(OpenFault::TooManyStations),
+            "the catalogue can't be opened: there are too many stations",
+        ),
+        (
+            FirstFault::Open(OpenFault::TooManyTables),
+            "the catalogue can't be opened: there are too many tables",
+        ),
+        (
+            FirstFault::Open(OpenFault::DuplicateTable(3)),
+            "the catalogue can't be opened: table 3 has the name of an earlier one",
+        ),
+        (
+            FirstFault::Open(OpenFault::NoMemory),
+            "the catalogue can't be opened: out of memory",
+        ),
+        (
+            FirstFault::Stopped(Stop::JournalFull),
+            "the run was stopped: the journal is full",
+        ),
+        (
+            FirstFault::Stopped(Stop::NoMemory),
+            "the run was stopped: out of memory",
+        ),
+        (
+            FirstFault::Write(WriteFault::DateOutside),
+            "the table can't be written: the year is not one of 1900 to 2155",
+        ),
+        (FirstFault::NoMemory, "out of memory"),
+    ];
+    for (fault, text) in cases {
+        let shown = format!(in alloc; "{fault}")?;
+        assert_eq!(rt; shown.as_str(), text);
     }
     Ok(())
 }

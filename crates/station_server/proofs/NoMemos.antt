@@ -1,0 +1,51 @@
+-- A table without memos takes no blocks for them, so a run on a table that was read without a file of memos
+-- never has too many.
+use Rattle.std.proofs.Common.{◌≡◌, ℕ, map, None, sym, ap, ◌∙◌, Bool, true, false, ◌||◌, ◌==◌, List, [], ◌∷◌, refl, arith}
+use Rattle.dbf_fields.specs.declared.field.Field.{Field}
+use Rattle.dbf_fields.specs.declared.field.TheConstants.{MEMO}
+use Rattle.dbf_image.specs.Blocks.{cell_blocks, cells_blocks, rows_blocks, next_free, HasTooManyBlocks}
+use Rattle.dbf_image.specs.DbfText.{IsDbf}
+use Rattle.dbf_image.specs.Table.{Row, Table, has_memos}
+use Rattle.shared_catalogue.specs.declared.source.TableSource.{TableSource}
+use Rattle.shared_catalogue.specs.Replay.{History, Opened, state_of}
+use Rattle.shared_catalogue.specs.State.{table_at}
+use Rattle.shared_catalogue.proofs.ReplayLaws.{schema_replay}
+use Rattle.station_server.specs.FirstRun.{table_t}
+
+or_parts : (a b : Bool) → (a || b) ≡ false → (a ≡ false) × (b ≡ false)
+or_parts false b e = (refl, e)
+or_parts true b e = absurd (true_is_false e)
+  where true_is_false : true ≡ false → ⊥
+        true_is_false e = cc
+
+no_cell : (f : Field) (cell : List ℕ) → (f.kind == MEMO) ≡ false → cell_blocks f cell ≡ 0
+no_cell f cell e = rw e refl
+
+no_cells : (fields : List Field) (cells : List (List ℕ)) → has_memos fields ≡ false → cells_blocks fields cells ≡ 0
+no_cells [] cells e = refl
+no_cells (f ∷ fs) [] e = refl
+no_cells (f ∷ fs) (c ∷ cs) e =
+    let parts = or_parts (f.kind == MEMO) (has_memos fs) e in
+    omega (arith, no_cell f c parts.0, no_cells fs cs parts.1)
+
+no_rows : (fields : List Field) (rows : List Row) → has_memos fields ≡ false → rows_blocks fields rows ≡ 0
+no_rows fields [] e = refl
+no_rows fields (r ∷ rs) e = omega (arith, no_cells fields r.cells e, no_rows fields rs e)
+
+pub no_blocks : (table : Table) → has_memos table.schema ≡ false → next_free table ≡ 1
+no_blocks table e = omega (arith, no_rows table.schema table.rows e)
+
+no_memos : (b : Bool) → (b ≡ true → false ≡ true) → b ≡ false
+no_memos false needs = refl
+no_memos true needs = sym (needs refl)
+
+-- the table at the end of a run on a table that was read without a file of memos has no memos
+pub few_blocks : (h : History) (table end : Table) (dbf : List ℕ) → IsDbf dbf None table → h.opened ≡ table_t table
+    → end ≡ table_at (state_of h).tables 0 → HasTooManyBlocks end → ⊥
+few_blocks h table end dbf is_dbf opened content many =
+    let fields : end.schema ≡ table.schema =
+    ap (λ (t : Table). t.schema) content ∙ schema_replay h.opened h.journal 0
+    ∙ ap (λ (o : Opened). (table_at (map (λ (t : TableSource). t.content) o.tables) 0).schema) opened in
+    let none : has_memos end.schema ≡ false = ap has_memos fields ∙ no_memos (has_memos table.schema) is_dbf.memos in
+    let one : next_free end ≡ 1 = no_blocks end none in
+    omega (arith, one, many)
