@@ -1,17 +1,14 @@
 -- What a plan makes of a state.
-use Rattle.std.specs.Prelude.{◌≡◌, ◌≢◌, ◌⊎◌, ℕ, true, List, ◌<◌, ◌≤◌, length, Some, Result, Ok, Err, IsOk}
+use Rattle.std.specs.Prelude.{◌≡◌, ◌≢◌, ℕ, true, List, ◌<◌, ◌≤◌, length, Some, Result, Ok, Err, IsOk}
 use Rattle.dbf_fields.specs.declared.field.TheConstants.{MEMO}
 use Rattle.dbf_image.specs.declared.table.TheConstants.{MOST_RECORDS}
 use Rattle.dbf_image.specs.Table.{kind_at, cell_width, is_memo_text}
 use Rattle.shared_catalogue.specs.declared.answer.Answer.{Answer}
 use Rattle.shared_catalogue.specs.declared.answer.Refusal.{Refusal}
-use Rattle.shared_catalogue.specs.declared.answer.Refusal.TheVariants.{TypeMismatch, BadDate, NumberTooWide}
 use Rattle.shared_catalogue.specs.declared.area.Target.{Target}
 use Rattle.shared_catalogue.specs.declared.change.Change.{Change}
 use Rattle.shared_catalogue.specs.declared.change.Change.TheVariants.{Nothing, Open, GoTo, AppendBlank, Replace, Memo}
 use Rattle.shared_catalogue.specs.declared.change.Plan.{Plan}
-use Rattle.shared_catalogue.specs.declared.command.Command.{Command}
-use Rattle.shared_catalogue.specs.declared.command.Command.TheVariants as command
 use Rattle.shared_catalogue.specs.declared.fault.CommandFault.{CommandFault}
 use Rattle.shared_catalogue.specs.declared.fault.CommandFault.TheVariants.{Refused, NoMemory}
 use Rattle.shared_catalogue.specs.State.{State, area_table, record_count, with_opened, with_cursor_at, with_blank, with_value}
@@ -41,25 +38,6 @@ outcome_of s (Err refusal) = Err refusal
 abbrev pub IsFaultOf : CommandFault → Result (State × Answer) Refusal → Type 0
 IsFaultOf (Refused refusal) outcome = outcome ≡ Err refusal
 IsFaultOf NoMemory outcome = IsOk outcome
-
--- the outcome is no refusal but for one of a value that no cell keeps, which memory is taken for
-abbrev pub IsOkButForValue : Result (State × Answer) Refusal → Type 0
-IsOkButForValue (Ok end) = Unit {0}
-IsOkButForValue (Err refusal) = (refusal ≡ TypeMismatch) ⊎ ((refusal ≡ BadDate) ⊎ (refusal ≡ NumberTooWide))
-
-abbrev pub IsReplaceFaultOf : CommandFault → Result (State × Answer) Refusal → Type 0
-IsReplaceFaultOf (Refused refusal) outcome = outcome ≡ Err refusal
-IsReplaceFaultOf NoMemory outcome = IsOkButForValue outcome
-
--- where a command's plan may lack memory: no refusal is left that is tested before memory is taken
-abbrev pub MayLackMemory : Command → Result (State × Answer) Refusal → Type 0
-MayLackMemory (command.Replace name value) outcome = IsOkButForValue outcome
-MayLackMemory _ outcome = IsOk outcome
-
--- a fault is the refusal of the command's outcome, or want of memory where memory may be taken
-abbrev pub IsCommandFaultOf : CommandFault → Command → Result (State × Answer) Refusal → Type 0
-IsCommandFaultOf (Refused refusal) command outcome = outcome ≡ Err refusal
-IsCommandFaultOf NoMemory command outcome = MayLackMemory command outcome
 
 -- a field of a record of the area's table, to be changed
 pub record IsTarget (s : State) (t : Target) : Type 0 where

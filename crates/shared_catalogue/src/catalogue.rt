@@ -16,7 +16,7 @@ use std::alloc::{AllocError, Global};
 use std::marker::Model;
 use thiserror::Error;
 
-/// The most entries of a journal.
+/// The greatest number of entries of a journal.
 pub const MAX_ENTRIES: usize = 4_294_967_295;
 
 /// Why a command was not performed. It is in no journal and has changed nothing.
@@ -96,9 +96,9 @@ impl Catalogue {
     /// its answer. A refused command is an entry too, and changes no table.
     ///
     /// `JournalFull` is tested first, and comes exactly where the journal has 4,294,967,295 entries.
-    /// Then the command is planned, which is refused memory only where no test of the command that takes
-    /// none refuses it. `NoMemory` comes from the plan, from the journal's entry, which a refused command
-    /// has too, or from the change. After `JournalFull` and `NoMemory` the catalogue is as it was.
+    /// Then the command is planned, and all of its tests come before the plan takes memory. `NoMemory`
+    /// comes from the plan of a command that no test refuses, from the journal's entry, which a refused
+    /// command has too, or from the change. After `JournalFull` and `NoMemory` the catalogue is as it was.
     pub fn perform(
         &mut self,
         alloc: Global,

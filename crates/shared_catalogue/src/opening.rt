@@ -9,10 +9,10 @@ use dbf_fields::Bytes;
 use std::alloc::AllocError;
 use thiserror::Error;
 
-/// The most tables of a catalogue.
+/// The greatest number of tables of a catalogue.
 pub const MAX_TABLES: usize = 10;
 
-/// The most stations of a catalogue, until stations share tables under locks.
+/// The greatest number of stations of a catalogue, until stations share tables under locks.
 pub const MAX_STATIONS: u32 = 1;
 
 /// Why a catalogue can't be opened: the first fault. Tables count from 1.

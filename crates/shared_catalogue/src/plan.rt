@@ -1,9 +1,9 @@
 //! What a command will change, and what it will be answered: the refusals of each command, in order.
 
-ghost use Rattle.std.specs.Prelude.{◌≡◌, ◌<◌, length, Ok, IfSome, IfOk, IfErr, OnErr};
+ghost use Rattle.std.specs.Prelude.{◌≡◌, ◌<◌, length, Ok, IfSome, IfOk, IfErr, IsOk, OnErr};
 ghost use Rattle.shared_catalogue.specs.Step.{outcome, step, target, use_table, go, append_blank, replace, memo, show};
 ghost use Rattle.shared_catalogue.specs.State.{area_table, field_named};
-ghost use Rattle.shared_catalogue.specs.Planned.{planned, outcome_of, CanChange, IsTarget, IsFaultOf, IsReplaceFaultOf, IsCommandFaultOf, MayLackMemory};
+ghost use Rattle.shared_catalogue.specs.Planned.{planned, outcome_of, CanChange, IsTarget, IsFaultOf};
 
 use crate::answer::{Answer, Refusal};
 use crate::area::{Area, Target};
@@ -17,13 +17,11 @@ use dbf_image::{MOST_RECORDS, is_memo_text};
 use std::alloc::{AllocError, Global};
 
 /// The plan of a command, which changes nothing yet; a refused command has the plan to answer its refusal.
-/// An error where memory is refused, and that comes only after the tests: of a command that one of them
-/// refuses there is always a plan. (A value that no cell of its field keeps is found while its cell is made,
-/// so memory may be refused before it.)
+/// An error where memory is refused, and only after all tests: a refused command always has a plan.
 pub fn plan(alloc: Global, state: &State, command: &Command) -> Result<Plan, AllocError>
     ensures stepped { IfOk result (λ plan. planned state.now plan ≡ step state.now command.now) }
     ensures can { IfOk result (λ plan. CanChange state.now plan.change) }
-    ensures early { OnErr result (MayLackMemory command.now (outcome state.now command.now)) }
+    ensures early { OnErr result (IsOk (outcome state.now command.now)) }
 {
     match plan_command(alloc, state, command) {
         Ok(plan) => Ok(plan),
@@ -36,7 +34,7 @@ pub fn plan(alloc: Global, state: &State, command: &Command) -> Result<Plan, All
 fn plan_command(alloc: Global, state: &State, command: &Command) -> Result<Plan, CommandFault>
     ensures planned { IfOk result (λ plan. outcome state.now command.now ≡ Ok (planned state.now plan)) }
     ensures can { IfOk result (λ plan. CanChange state.now plan.change) }
-    ensures refused { IfErr result (λ fault. IsCommandFaultOf fault command.now (outcome state.now command.now)) }
+    ensures refused { IfErr result (λ fault. IsFaultOf fault (outcome state.now command.now)) }
 {
     match command {
         Command::UseTable { name, exclusive } => Ok(plan_use_table(state, name, *exclusive)?),
@@ -89,7 +87,7 @@ fn plan_replace(
 ) -> Result<Plan, CommandFault>
     ensures planned { IfOk result (λ plan. replace state.now name.now value.now ≡ Ok (planned state.now plan)) }
     ensures can { IfOk result (λ plan. CanChange state.now plan.change) }
-    ensures refused { IfErr result (λ fault. IsReplaceFaultOf fault (replace state.now name.now value.now)) }
+    ensures refused { IfErr result (λ fault. IsFaultOf fault (replace state.now name.now value.now)) }
 {
     let target = find_target(state, name)?;
     let field = &state.table(target.area).schema().fields()[target.field];
