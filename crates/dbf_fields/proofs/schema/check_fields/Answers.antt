@@ -1,4 +1,4 @@
-use Rattle.std.proofs.Common.{◌≡◌, ◌+◌, ◌*◌, ◌≤◌, Some, ◌∙◌, sym, rules, arith}
+use Rattle.std.proofs.Common.{◌≡◌, Some, sym, rules, arith}
 use Rattle.std.proofs.lemmas.List.Sums.{sum_by_more}
 use Rattle.dbf_fields.specs.declared.field.Field.{Field}
 use Rattle.dbf_fields.specs.Schema.{refusal}

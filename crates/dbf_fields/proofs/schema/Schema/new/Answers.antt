@@ -1,4 +1,3 @@
-use Rattle.std.proofs.Common.{sym}
 use Rattle.dbf_fields.proofs.SchemaLaws.{schema_from_accepted, accepted_widths}
 use Rattle.dbf_fields.proofs.schema.Schema.new.Goals as goal
 
