@@ -11,7 +11,7 @@ use Rattle.dbf_fields.specs.declared.field.Field.{Field}
 use Rattle.dbf_fields.specs.Field.{widths}
 use Rattle.dbf_fields.specs.Schema.{IsSchema}
 use Rattle.dbf_fields.proofs.SchemaLaws.{schema_count}
-use Rattle.dbf_image.specs.declared.span.Span.{Span}
+use Rattle.dbf_image.specs.declared.table.span.Span.{Span}
 use Rattle.dbf_image.specs.Table.{Row}
 use Rattle.dbf_image.specs.DbfText.{chunks}
 use Rattle.dbf_image.specs.Store.{text_of, texts_of, memo_count, first_memo, cells_with, rows_with, rows_of}

@@ -13,7 +13,7 @@ use Rattle.dbf_fields.specs.Schema.{IsSchema}
 use Rattle.dbf_fields.proofs.SchemaLaws.{schema_wide}
 use Rattle.dbf_image.specs.declared.fault.ImageFault.{ImageFault}
 use Rattle.dbf_image.specs.declared.fault.ImageFault.TheVariants.{NoMemory}
-use Rattle.dbf_image.specs.declared.span.Span.{Span}
+use Rattle.dbf_image.specs.declared.table.span.Span.{Span}
 use Rattle.dbf_image.specs.Reading.{cell_tests, cells_tests}
 use Rattle.dbf_image.specs.Spans.{cell_spans, cells_spans}
 use Rattle.dbf_fields.proofs.FaultLaws.{first_then, first_before}

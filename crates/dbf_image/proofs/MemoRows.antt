@@ -9,7 +9,7 @@ use Rattle.dbf_fields.specs.Faults.{first_fault}
 use Rattle.dbf_fields.specs.Field.{widths}
 use Rattle.dbf_fields.proofs.SchemaLaws.{passed}
 use Rattle.dbf_image.specs.declared.fault.ImageFault.TheVariants.{MemoFileMissing, BadMemoNumber}
-use Rattle.dbf_image.specs.declared.span.Span.{Span}
+use Rattle.dbf_image.specs.declared.table.span.Span.{Span}
 use Rattle.dbf_image.specs.Table.{has_memos}
 use Rattle.dbf_image.specs.Memo.{memo_number, memo_at}
 use Rattle.dbf_image.specs.DbfText.{chunks, AreRecords}

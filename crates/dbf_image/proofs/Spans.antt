@@ -5,7 +5,7 @@ use Rattle.std.proofs.lemmas.List.{take-append-le, drop-append-le, drop_at, take
 use Rattle.dbf_fields.specs.declared.field.Field.{Field}
 use Rattle.dbf_fields.specs.Field.{widths}
 use Rattle.dbf_image.specs.declared.format.TheConstants.{MAX_RECORDS}
-use Rattle.dbf_image.specs.declared.span.Span.{Span}
+use Rattle.dbf_image.specs.declared.table.span.Span.{Span}
 use Rattle.dbf_image.specs.Table.{is_memo_text}
 use Rattle.dbf_image.specs.Store.{text_of, texts_of, IsSpan, memo_count, IsStore}
 use Rattle.dbf_image.specs.Spans.{no_span}

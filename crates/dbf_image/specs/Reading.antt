@@ -8,7 +8,7 @@ use Rattle.dbf_fields.specs.Schema as schemas
 use Rattle.dbf_image.specs.declared.fault.ImageFault.{ImageFault}
 use Rattle.dbf_image.specs.declared.fault.ImageFault.TheVariants.{Truncated, BadVersion, BadHeaderLength, BadSchema, BadRecordLength, TooManyRecords, MemoFileMissing, BadMemoNumber, MemoOutside, MemoTooLong, NoMemory}
 use Rattle.dbf_image.specs.declared.format.TheConstants.{BLOCK, DELETED, DESCRIPTOR, HEADER, HEADER_END, MAX_MEMO_BYTES, MAX_RECORDS, VERSION, VERSION_WITH_MEMOS}
-use Rattle.dbf_image.specs.declared.header.Header.{Header}
+use Rattle.dbf_image.specs.declared.dbf.header.Header.{Header}
 use Rattle.dbf_image.specs.Table.{Row, Table, has_memos}
 use Rattle.dbf_image.specs.Memo.{memo_number, memo_at}
 use Rattle.dbf_image.specs.DbfText.{chunks, record_count, header_length, record_length, field_of}

@@ -5,7 +5,7 @@ use Rattle.dbf_fields.specs.declared.field.Field.{Field}
 use Rattle.dbf_fields.specs.declared.field.TheConstants.{MEMO}
 use Rattle.dbf_image.specs.declared.fault.ImageFault.{ImageFault}
 use Rattle.dbf_image.specs.declared.fault.ImageFault.TheVariants.{MemoFileMissing}
-use Rattle.dbf_image.specs.declared.span.Span.{Span}
+use Rattle.dbf_image.specs.declared.table.span.Span.{Span}
 use Rattle.dbf_image.specs.Table.{has_memos}
 use Rattle.dbf_image.specs.Memo.{memo_number}
 use Rattle.dbf_image.specs.Reading.{row_tests}

@@ -4,7 +4,7 @@ use Rattle.std.specs.List.{AllByRecursion}
 use Rattle.dbf_fields.specs.declared.field.Field.{Field}
 use Rattle.dbf_fields.specs.declared.field.TheConstants.{MEMO}
 use Rattle.dbf_fields.specs.Field.{widths}
-use Rattle.dbf_image.specs.declared.span.Span.{Span}
+use Rattle.dbf_image.specs.declared.table.span.Span.{Span}
 use Rattle.dbf_image.specs.Table.{Row, is_memo_text}
 use Rattle.dbf_image.specs.DbfText.{chunks, AreRecords}
 use Rattle.dbf_image.specs.declared.format.TheConstants.{DELETED}

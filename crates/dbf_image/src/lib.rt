@@ -8,43 +8,29 @@
 //! [`ByteSink`], and [`write_dbt`] the file of its memos; what they write can be read back as that table.
 //!
 //! Start with specs/Table.antt (what a table is), specs/Memo.antt (what a memo's cell tells) and
-//! specs/DbfText.antt (when bytes are a table's files), then read src/table.rt, src/memo.rt, src/read.rt,
-//! src/write.rt and src/write_memos.rt.
+//! specs/DbfText.antt (when bytes are a table's files), then read src/table.rt, src/dbf/read.rt,
+//! src/dbf/write.rt, src/dbt/memo.rt and src/dbt/write.rt.
 #![tactic(auto)]
 
-mod blocks;
-mod buffer;
-mod failures;
+mod dbf;
+mod dbt;
 mod fault;
 mod format;
-mod header;
-mod memo;
-mod memory;
-mod memos;
-mod offsets;
-mod read;
 mod sink;
-mod span;
-mod store;
 mod table;
-mod wanted;
-mod write;
-mod write_memos;
-mod write_rows;
-mod writer;
 
-pub use blocks::next_free_block;
-pub use failures::Failures;
+pub use dbf::read::read_table;
+pub use dbf::write::{WriteFault, write_dbf};
+pub use dbt::blocks::next_free_block;
+pub use dbt::memo::read_memo;
+pub use dbt::write::write_dbt;
 pub use fault::ImageFault;
 pub use format::{MAX_MEMO_BYTES, MAX_RECORDS};
-pub use memo::read_memo;
-pub use memory::MemorySink;
-pub use read::read_table;
+pub use sink::failures::Failures;
+pub use sink::memory::MemorySink;
+pub use sink::writer::SinkWriter;
 pub use sink::{ByteSink, SinkFault, write_all};
 pub use table::{TableData, is_memo_text};
-pub use write::{WriteFault, write_dbf};
-pub use write_memos::write_dbt;
-pub use writer::SinkWriter;
 
 #[cfg(test)]
 mod tests;

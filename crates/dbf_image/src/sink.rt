@@ -4,6 +4,12 @@
 ghost use Rattle.std.specs.Prelude.{◌≡◌, ◌<◌, ◌≤◌, length, take, IfOk, OnOk, OnErr, List, ℕ, Option};
 ghost use Rattle.dbf_image.specs.Sink.{grown, IsFront, Rises};
 
+pub(crate) mod buffer;
+pub(crate) mod failures;
+pub(crate) mod memory;
+pub(crate) mod wanted;
+pub(crate) mod writer;
+
 use thiserror::Error;
 
 /// A write into a sink failed, and wrote nothing.

@@ -7,10 +7,14 @@ ghost use Rattle.dbf_image.specs.Table.{IsTable, is_memo_text as may_be_memo, ki
 ghost use Rattle.dbf_image.specs.Store.{texts_of, row_with, rows_of, IsStore};
 ghost use Rattle.dbf_image.specs.declared.format.TheConstants.{MAX_RECORDS, MEMO_END};
 
+pub(crate) mod offsets;
+pub(crate) mod span;
+pub(crate) mod store;
+
 use crate::format::{DELETED, MAX_MEMO_BYTES, MAX_RECORDS, MEMO_END};
-use crate::offsets::{cell_start, memo_count_of, memo_index, record_start};
-use crate::span::{Span, no_span, text_at};
-use crate::store::Store;
+use crate::table::offsets::{cell_start, memo_count_of, memo_index, record_start};
+use crate::table::span::{Span, no_span, text_at};
+use crate::table::store::Store;
 use dbf_fields::{MEMO, Schema};
 use std::alloc::{AllocError, Global};
 use std::marker::Model;

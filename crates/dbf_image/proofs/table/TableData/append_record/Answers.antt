@@ -5,7 +5,7 @@ use Rattle.dbf_image.specs.Table.{Row}
 use Rattle.dbf_image.specs.Store.{text_of, texts_of, memo_count, rows_of}
 use Rattle.dbf_image.proofs.Rows.{length-rows_of}
 use Rattle.dbf_image.proofs.Edits.{rows_push, resized}
-use Rattle.dbf_image.specs.declared.span.Span.{Span}
+use Rattle.dbf_image.specs.declared.table.span.Span.{Span}
 use Rattle.dbf_image.specs.Spans.{no_span}
 use Rattle.dbf_image.proofs.Spans.{texts_push, store_push}
 use Rattle.dbf_image.proofs.table.TableData.append_record.Goals as goal

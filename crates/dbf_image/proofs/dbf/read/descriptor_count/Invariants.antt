@@ -1,0 +1,9 @@
+use Rattle.std.proofs.Common.{◌≡◌, ℕ, ◌+◌, ◌-◌, ◌*◌, ◌/◌, eqb}
+use Rattle.std.specs.Prelude.{slice_index}
+use Rattle.dbf_image.specs.Reading.{first_from}
+use Rattle.dbf_image.proofs.dbf.read.descriptor_count.Given as goal
+
+abbrev pub invariant-loop-i : goal.invariant-loop-i
+invariant-loop-i l =
+    let test = λ (i : ℕ). eqb (slice_index l.bytes (32 + 32 * i)) 13 in
+    first_from test l.i ((l.end - 1) / 32 - l.i) ≡ first_from test 0 ((l.end - 1) / 32)

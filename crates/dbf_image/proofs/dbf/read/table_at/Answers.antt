@@ -1,0 +1,78 @@
+use Rattle.std.proofs.Common.{List, ℕ, ap, ◌∙◌}
+use Rattle.std.specs.Option.{option_copied}
+use Rattle.std.proofs.lemmas.Result.{err_from_is_err_and}
+use Rattle.dbf_image.specs.declared.dbf.header.Header.{Header}
+use Rattle.dbf_image.specs.Store.{texts_of, rows_of}
+use Rattle.dbf_image.proofs.Groups.{early_by_header, early_by_fields, early_passed, refused_by_header, refused_by_fields, refused_by_records, refused_by_memos, decided_by_memos}
+use Rattle.dbf_image.proofs.DbfLaws.{rows_read, tests_read}
+use Rattle.dbf_image.proofs.dbf.read.table_at.Goals as goal
+
+pub returns-in_err-header-clause-refused : goal.returns-in_err-header-clause-refused
+returns-in_err-header-clause-refused c =
+    let p = err_from_is_err_and c.from_residual.result c.from_residual.ensures.1 in
+    rw (p.1, p.2) (refused_by_header c.args.dbf.now (option_copied c.args.dbt) _ c.in_err-header.ensures.refused)
+
+pub returns-in_err-schema-clause-refused : goal.returns-in_err-schema-clause-refused
+returns-in_err-schema-clause-refused c =
+    let p = err_from_is_err_and c.from_residual-in_err-schema.result c.from_residual-in_err-schema.ensures.1 in
+    rw (p.1, p.2) (refused_by_fields c.args.dbf.now (option_copied c.args.dbt) _ c.in_ok-header.ensures.accepted c.in_err-schema.ensures.refused)
+
+pub returns-in_err-check_records-clause-refused : goal.returns-in_err-check_records-clause-refused
+returns-in_err-check_records-clause-refused c =
+    let p = err_from_is_err_and c.from_residual-in_err-check_records.result c.from_residual-in_err-check_records.ensures.1 in
+    rw (p.1, p.2) (refused_by_records c.args.dbf.now (option_copied c.args.dbt) _ c.in_ok-header.ensures.accepted c.in_ok-schema.ensures.accepted c.in_err-check_records.ensures.refused)
+
+pub returns-in_err-texts-clause-refused : goal.returns-in_err-texts-clause-refused
+returns-in_err-texts-clause-refused c =
+    let given = c.in_ok-header.ensures.value in
+    let header = c.in_ok-header.header in
+    let dbt = option_copied c.args.dbt in
+    let p = err_from_is_err_and c.from_residual-in_err-texts.result c.from_residual-in_err-texts.ensures.1 in
+    let tests = tests_read c.args.dbf.now dbt c.in_ok-schema.schema header.record_length header.record_count header.header_length c.records_at-bytes.result.now c.in_ok-schema.ensures.value (ap (λ (h : Header). h.record_length) given)
+    (c.in_ok-check_records.ensures.wide ∙ c.record_length-size.ensures.value) (ap (λ (h : Header). h.record_count) given) (ap (λ (h : Header). h.header_length) given) c.records_at-bytes.ensures in
+    let refused = rw tests at c.in_err-texts.ensures.refused in
+    rw (p.1, p.2) (refused_by_memos c.args.dbf.now dbt _ c.in_ok-header.ensures.accepted c.in_ok-schema.ensures.accepted c.in_ok-check_records.ensures.accepted refused)
+
+pub returns-in_err-header-clause-early : goal.returns-in_err-header-clause-early
+returns-in_err-header-clause-early c =
+    let p = err_from_is_err_and c.from_residual.result c.from_residual.ensures.1 in
+    rw (p.1, p.2) (λ first. early_by_header c.args.dbf.now _ first c.in_err-header.ensures.refused)
+
+pub returns-in_err-schema-clause-early : goal.returns-in_err-schema-clause-early
+returns-in_err-schema-clause-early c =
+    let p = err_from_is_err_and c.from_residual-in_err-schema.result c.from_residual-in_err-schema.ensures.1 in
+    rw (p.1, p.2) (λ first. early_by_fields c.args.dbf.now _ first c.in_ok-header.ensures.accepted c.in_err-schema.ensures.early)
+
+pub returns-in_err-check_records-clause-early : goal.returns-in_err-check_records-clause-early
+returns-in_err-check_records-clause-early c =
+    let p = err_from_is_err_and c.from_residual-in_err-check_records.result c.from_residual-in_err-check_records.ensures.1 in
+    rw (p.1, p.2) (λ first. early_passed c.args.dbf.now _ first c.in_ok-header.ensures.accepted c.in_ok-schema.ensures.accepted)
+
+pub returns-in_err-texts-clause-early : goal.returns-in_err-texts-clause-early
+returns-in_err-texts-clause-early c =
+    let p = err_from_is_err_and c.from_residual-in_err-texts.result c.from_residual-in_err-texts.ensures.1 in
+    rw (p.1, p.2) (λ first. early_passed c.args.dbf.now _ first c.in_ok-header.ensures.accepted c.in_ok-schema.ensures.accepted)
+
+pub returns-in_err-records-clause-early : goal.returns-in_err-records-clause-early
+returns-in_err-records-clause-early c =
+    let p = err_from_is_err_and c.from_residual-in_err-records.result c.from_residual-in_err-records.ensures.1 in
+    rw (p.1, p.2) (λ first. early_passed c.args.dbf.now _ first c.in_ok-header.ensures.accepted c.in_ok-schema.ensures.accepted)
+
+pub returns-clause-accepted : goal.returns-clause-accepted
+returns-clause-accepted c =
+    let given = c.in_ok-header.ensures.value in
+    let header = c.in_ok-header.header in
+    let dbt = option_copied c.args.dbt in
+    let tests = tests_read c.args.dbf.now dbt c.in_ok-schema.schema header.record_length header.record_count header.header_length c.records_at-bytes.result.now c.in_ok-schema.ensures.value (ap (λ (h : Header). h.record_length) given)
+    (c.in_ok-check_records.ensures.wide ∙ c.record_length-size.ensures.value) (ap (λ (h : Header). h.record_count) given) (ap (λ (h : Header). h.header_length) given) c.records_at-bytes.ensures in
+    decided_by_memos c.args.dbf.now dbt c.in_ok-header.ensures.accepted c.in_ok-schema.ensures.accepted c.in_ok-check_records.ensures.accepted ∙ rw tests at c.in_ok-texts.ensures.accepted
+
+pub returns-clause-value : goal.returns-clause-value
+returns-clause-value c =
+    let given = c.in_ok-header.ensures.value in
+    let header = c.in_ok-header.header in
+    let dbt = option_copied c.args.dbt in
+    c.new.ensures
+    ∙ rows_read c.args.dbf.now dbt c.in_ok-schema.schema header.record_length header.record_count header.header_length c.records_at-bytes.result.now _ c.in_ok-schema.ensures.value (ap (λ (h : Header). h.record_length) given)
+    (c.in_ok-check_records.ensures.wide ∙ c.record_length-size.ensures.value) (ap (λ (h : Header). h.record_count) given) (ap (λ (h : Header). h.header_length) given) c.records_at-bytes.ensures
+    (ap (λ (bs : List ℕ). rows_of c.in_ok-schema.schema header.record_count bs (texts_of c.in_ok-texts.texts.items c.in_ok-texts.memos.items)) c.in_ok-records.ensures.items ∙ c.in_ok-texts.ensures.value)

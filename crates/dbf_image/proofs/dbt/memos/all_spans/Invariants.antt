@@ -1,0 +1,14 @@
+use Rattle.std.proofs.Common.{◌≡◌, ◌-◌, ◌*◌, ◌≤◌, ◌++◌, length}
+use Rattle.std.specs.Prelude.{flat_map}
+use Rattle.dbf_fields.specs.Faults.{first_fault}
+use Rattle.dbf_image.specs.DbfText.{chunks}
+use Rattle.dbf_image.specs.Reading.{row_tests}
+use Rattle.dbf_image.specs.Spans.{row_spans}
+use Rattle.dbf_image.proofs.dbt.memos.all_spans.Given as goal
+
+abbrev pub invariant-loop : goal.invariant-loop
+invariant-loop l = record {
+  room : (l.count - l.counter) * l.size ≤ length l.rest;
+  spans : l.spans.items ++ flat_map (row_spans l.dbt l.fields) (chunks l.size (l.count - l.counter) l.rest) ≡ flat_map (row_spans l.dbt l.fields) (chunks l.size l.count l.bytes);
+  left : first_fault (flat_map (row_tests l.dbt l.fields) (chunks l.size (l.count - l.counter) l.rest)) ≡ first_fault (flat_map (row_tests l.dbt l.fields) (chunks l.size l.count l.bytes));
+}

@@ -1,0 +1,32 @@
+use Rattle.std.proofs.Common.{◌≡◌, ◌≤◌, ◌∙◌, arith}
+use Rattle.std.proofs.lemmas.Result.{err_from_is_err_and}
+use Rattle.dbf_image.proofs.MemoLoops.{tests-next, tests-stop, spans-next, room-next, memo_fits}
+use Rattle.dbf_image.proofs.dbt.memos.push_spans.Goals as goal
+
+pub push_span-requires-clause-few : goal.push_span-requires-clause-few
+push_span-requires-clause-few c = λ kind.
+    let wide : c.field-item.result.kind ≡ 77 → c.field-item.result.width ≤ 10 = rw c.field-item.is (memo_fits c.args.fields.now c.requires.schema c.loop-field.field-index _ c.loop-field-test.true) in
+    omega (arith, wide kind, c.split_at.ensures.front_len, c.from.ensures)
+
+pub returns-in_err-push_span-clause-refused : goal.returns-in_err-push_span-clause-refused
+returns-in_err-push_span-clause-refused c =
+    let p = err_from_is_err_and c.from_residual.result c.from_residual.ensures.1 in
+    let given = rw (c.split_at.ensures.front, c.from.ensures) at c.in_err-push_span.ensures.refused in
+    rw (p.1, p.2, ← c.loop-field.invariant.left)
+    (tests-stop c.args.dbt.now c.loop-field.rest.now c.args.fields.now c.loop-field.field-index c.field-item.result _ c.loop-field-test.true c.field-item.is given)
+
+pub loop-field-preserved : goal.loop-field-preserved
+loop-field-preserved c =
+    let fields = c.args.fields.now in
+    let dbt = c.args.dbt.now in
+    let rest = c.loop-field.rest.now in
+    let i = c.loop-field.field-index in
+    let f = c.field-item.result in
+    let none = rw (c.split_at.ensures.front, c.from.ensures) at c.in_ok-push_span.ensures.accepted in
+    record {
+      room = room-next fields i f _ _ c.loop-field-test.true c.field-item.is c.loop-field.invariant.room (omega (arith, c.split_at.ensures.back_len, c.from.ensures));
+      spans = rw (c.in_ok-push_span.ensures.value, c.split_at.ensures.front, c.split_at.ensures.back, c.from.ensures)
+          (spans-next dbt rest fields i f _ c.loop-field-test.true c.field-item.is ∙ c.loop-field.invariant.spans);
+      left = rw (c.split_at.ensures.back, c.from.ensures)
+          (tests-next dbt rest fields i f c.loop-field-test.true c.field-item.is none ∙ c.loop-field.invariant.left);
+    }

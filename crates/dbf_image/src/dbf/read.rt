@@ -1,0 +1,227 @@
+//! Reading a table from the bytes of a DBF file.
+
+ghost use Rattle.std.specs.Prelude.{◌≡◌, ◌+◌, ◌-◌, ◌*◌, ◌/◌, ◌<◌, ◌≤◌, ◌==◌, ◌||◌, ◌⊎◌, true, false, length, map, take, drop, slice_index, Some, None, is_none, IfSome, IfOk, IfErr, OnOk, MatchResult};
+ghost use Rattle.std.specs.List.{position};
+ghost use Rattle.std.specs.Option.{option_copied};
+ghost use Rattle.dbf_fields.specs.Faults.{first_fault};
+ghost use Rattle.dbf_fields.specs.Field.{folded, widths};
+ghost use Rattle.dbf_fields.specs.Schema as schemas;
+ghost use Rattle.dbf_image.specs.DbfText.{chunks, field_of, IsDbf, header_length as dbf_header_length};
+ghost use Rattle.dbf_image.specs.Table.{Table};
+ghost use Rattle.dbf_image.specs.declared.fault.ImageFault.{ImageFault};
+ghost use Rattle.dbf_image.specs.declared.format.TheConstants.{DESCRIPTOR, HEADER, MAX_RECORDS, VERSION, VERSION_WITH_MEMOS};
+ghost use Rattle.dbf_image.specs.Reading.{field_count, dbf_header, schema_of, header_tests, field_tests, record_tests, early_refusal, table_read, refusal, IsRefusal};
+
+use crate::dbf::header::Header;
+use crate::dbt::memos::memos_at;
+use crate::fault::ImageFault;
+use crate::format::{
+    DESCRIPTOR, HEADER, HEADER_END, MAX_RECORDS, NAME_BYTES, VERSION, VERSION_WITH_MEMOS,
+};
+use crate::table::TableData;
+use byteorder::{ByteOrder, LittleEndian};
+use dbf_fields::{Bytes, Field, Schema, SchemaFault};
+use std::alloc::{AllocError, Global};
+
+// How many descriptors stand before the first 0x0D among the bytes 32, 64, .. below `end`.
+fn descriptor_count(bytes: &[u8], end: usize) -> Option<usize>
+    requires inside { end ≤ length bytes.now }
+    requires value { end ≡ dbf_header_length bytes.now }
+    ensures count { result ≡ field_count bytes.now }
+    ensures room { IfSome result (λ n. HEADER + DESCRIPTOR * n < end) }
+{
+    for i in 0..end.saturating_sub(1) / DESCRIPTOR {
+        if bytes[HEADER + DESCRIPTOR * i] == HEADER_END {
+            return Some(i);
+        }
+    }
+    None
+}
+
+// Where the first zero stands.
+fn first_zero(name: &[u8]) -> Option<usize>
+    ensures { result ≡ position (λ b. b == 0) name.now }
+{
+    name.iter().position(|byte| *byte == 0)
+}
+
+// The field of a descriptor.
+fn field_at(alloc: Global, descriptor: &[u8]) -> Result<Field, AllocError>
+    requires { DESCRIPTOR ≤ length descriptor.now }
+    ensures { IfOk result (λ field. field ≡ field_of descriptor.now) }
+{
+    let name = &descriptor[..NAME_BYTES];
+    let end = first_zero(name).unwrap_or(NAME_BYTES);
+    Ok(Field {
+        name: Bytes::from_slice(alloc, &name[..end])?,
+        kind: descriptor[11],
+        width: descriptor[16],
+        decimals: descriptor[17],
+    })
+}
+
+// The fields of so many descriptors, one after the other.
+fn fields_at(alloc: Global, count: usize, bytes: &[u8]) -> Result<Vec<Field>, AllocError>
+    requires { DESCRIPTOR * count ≤ length bytes.now }
+    ensures { IfOk result (λ fields. fields.items ≡ map field_of (chunks DESCRIPTOR count bytes.now)) }
+{
+    let mut fields = Vec::new(alloc);
+    let mut rest = bytes;
+    for _ in 0..count {
+        let (descriptor, after) = rest.split_at(DESCRIPTOR);
+        fields.push(field_at(alloc, descriptor)?)?;
+        rest = after;
+    }
+    Ok(fields)
+}
+
+// The numbers of the header, where all of it is there.
+#[tactic(auto, unfolding(crate::specs::Reading::header_tests))]
+fn header_at(dbf: &[u8]) -> Result<Header, ImageFault>
+    ensures accepted { IfOk result (λ _. first_fault (header_tests dbf.now) ≡ None) }
+    ensures refused { IfErr result (λ fault. first_fault (header_tests dbf.now) ≡ Some fault) }
+    ensures value { IfOk result (λ header. header ≡ dbf_header dbf.now) }
+    ensures long { OnOk result (HEADER ≤ length dbf.now) }
+    ensures inside { IfOk result (λ header. header.header_length ≤ length dbf.now) }
+{
+    if dbf.len() < HEADER {
+        return Err(ImageFault::Truncated);
+    }
+    if !has_version(dbf[0]) {
+        return Err(ImageFault::BadVersion);
+    }
+    let header = Header {
+        header_length: LittleEndian::read_u16(&dbf[8..]),
+        record_length: LittleEndian::read_u16(&dbf[10..]),
+        record_count: LittleEndian::read_u32(&dbf[4..]),
+    };
+    if usize::from(header.header_length) > dbf.len() {
+        return Err(ImageFault::Truncated);
+    }
+    Ok(header)
+}
+
+// Version 3, without a memo file or with one.
+fn has_version(first: u8) -> bool
+    ensures { result ≡ (first == VERSION || first == VERSION_WITH_MEMOS) }
+{
+    first == VERSION || first == VERSION_WITH_MEMOS
+}
+
+// The fields of the schema, by their descriptors.
+#[tactic(auto, unfolding(crate::specs::Reading::field_tests))]
+fn schema_at(alloc: Global, dbf: &[u8], header_length: usize) -> Result<Schema, ImageFault>
+    requires long { HEADER ≤ length dbf.now }
+    requires inside { header_length ≤ length dbf.now }
+    requires value { header_length ≡ dbf_header_length dbf.now }
+    ensures accepted { IfOk result (λ _. first_fault (field_tests dbf.now) ≡ None) }
+    ensures refused { IfErr result (λ fault. (fault ≡ ImageFault.NoMemory) ⊎ (first_fault (field_tests dbf.now) ≡ Some fault)) }
+    ensures early { IfErr result (λ fault. field_count dbf.now ≡ None → fault ≡ ImageFault.BadHeaderLength) }
+    ensures value { IfOk result (λ schema. schema ≡ schema_of dbf.now) }
+{
+    let Some(count) = descriptor_count(dbf, header_length) else {
+        return Err(ImageFault::BadHeaderLength);
+    };
+    let fields = fields_at(alloc, count, &dbf[HEADER..])?;
+    let schema = schema_of_fields(alloc, &fields)?;
+    Ok(schema)
+}
+
+// A list of fields as a schema.
+fn schema_of_fields(alloc: Global, fields: &[Field]) -> Result<Schema, ImageFault>
+    ensures accepted { IfOk result (λ _. is_none (schemas.refusal fields.now) ≡ true) }
+    ensures value { IfOk result (λ schema. schema ≡ map folded fields.now) }
+    ensures refused { IfErr result (λ fault. (fault ≡ ImageFault.NoMemory) ⊎ ((fault ≡ ImageFault.BadSchema) × (is_none (schemas.refusal fields.now) ≡ false))) }
+{
+    match Schema::new(alloc, fields) {
+        Ok(schema) => Ok(schema),
+        Err(SchemaFault::NoMemory) => Err(ImageFault::NoMemory),
+        Err(_) => Err(ImageFault::BadSchema),
+    }
+}
+
+// The tests of the records, whose length the schema gives.
+#[tactic(auto, unfolding(crate::specs::Reading::record_tests))]
+fn check_records(dbf: &[u8], header: Header, record_length: usize) -> Result<(), ImageFault>
+    requires value { header ≡ dbf_header dbf.now }
+    requires wide { record_length ≡ 1 + widths (schema_of dbf.now) }
+    ensures accepted { OnOk result (first_fault (record_tests dbf.now) ≡ None) }
+    ensures refused { IfErr result (λ fault. first_fault (record_tests dbf.now) ≡ Some fault) }
+    ensures wide { OnOk result (header.record_length ≡ record_length) }
+    ensures few { OnOk result (header.record_count ≤ MAX_RECORDS) }
+    ensures whole { OnOk result (header.header_length + header.record_count * header.record_length ≤ length dbf.now) }
+{
+    if usize::from(header.record_length) != record_length {
+        return Err(ImageFault::BadRecordLength);
+    }
+    if header.record_count > MAX_RECORDS {
+        return Err(ImageFault::TooManyRecords);
+    }
+    let size = u64::from(header.record_count) * u64::from(header.record_length);
+    if u64::from(header.header_length) + size > dbf.len() as u64 {
+        return Err(ImageFault::Truncated);
+    }
+    Ok(())
+}
+
+// The bytes of all records.
+fn records_at(dbf: &[u8], header: Header) -> &[u8]
+    requires { header.header_length + header.record_count * header.record_length ≤ length dbf.now }
+    ensures { result.now ≡ take (header.record_count * header.record_length) (drop header.header_length dbf.now) }
+{
+    let size = u64::from(header.record_count) * u64::from(header.record_length);
+    let (_, rest) = dbf.split_at(usize::from(header.header_length));
+    let (records, _) = rest.split_at(size as usize);
+    records
+}
+
+// The table that the bytes tell, or the first test that fails.
+fn table_at(alloc: Global, dbf: &[u8], dbt: Option<&[u8]>) -> Result<TableData, ImageFault>
+    ensures accepted { IfOk result (λ _. refusal dbf.now (option_copied dbt.entry) ≡ None) }
+    ensures value { IfOk result (λ table. table ≡ table_read dbf.now (option_copied dbt.entry)) }
+    ensures refused { IfErr result (λ fault. IsRefusal fault dbf.now (option_copied dbt.entry)) }
+    ensures early { IfErr result (λ fault. (first : ImageFault) → early_refusal dbf.now ≡ Some first → fault ≡ first) }
+{
+    let header = header_at(dbf)?;
+    let start = usize::from(header.header_length);
+    let schema = schema_at(alloc, dbf, start)?;
+    let size = schema.record_length();
+    check_records(dbf, header, size)?;
+    let bytes = records_at(dbf, header);
+    let (texts, memos) = memos_at(alloc, dbt, &schema, header.record_count, bytes)?;
+    let records = Vec::from_slice(alloc, bytes)?;
+    Ok(TableData::new(schema, header.record_count, records, texts, memos))
+}
+
+/// Reads a table from the bytes of a DBF file, laid out as dBASE III PLUS publishes it, and from those of
+/// the file of its memos, where some field is a memo. Numbers stand with their lowest byte first.
+///
+/// The header tells its own length in bytes 8 and 9, the length of a record in 10 and 11, and how many
+/// records there are in 4 to 7. From byte 32 on a descriptor of 32 bytes tells each field, up to a byte
+/// 0x0D in place of one. The records stand after the header: a flag, and the cells without separators.
+/// Ignored are the date, the reserved bytes, what stands after a name's first zero, what stands between
+/// that 0x0D and the header's end, and what stands after the last record: the closing 0x1A may be
+/// missing. A flag other than 0x2A means kept, and cells are kept as they are.
+///
+/// A memo's cell has the number of a block of 512 bytes between blanks, or none or 0 for no memo. The
+/// block's text is read as [`read_memo`](crate::read_memo) reads it. The first byte may be 0x03 or 0x83
+/// with memos or without. What is read costs time and memory in proportion to the two files, also where
+/// many cells name one block.
+///
+/// An `Err` is the fault of the first test that fails: see [`ImageFault`].
+pub fn read_table(alloc: Global, dbf: &[u8], dbt: Option<&[u8]>) -> Result<TableData, ImageFault>
+    // What is read is the files' table.
+    ensures found { IfOk result (IsDbf dbf.now (option_copied dbt.entry)) }
+    // No test fails where a table is read.
+    ensures accepted { IfOk result (λ _. refusal dbf.now (option_copied dbt.entry) ≡ None) }
+    // Files of a table are read, unless memory is refused.
+    ensures only { (table : Table) → IsDbf dbf.now (option_copied dbt.entry) table → MatchResult result (λ t. t ≡ table) (λ fault. fault ≡ ImageFault.NoMemory) }
+    // Which fault it is.
+    ensures refused { IfErr result (λ fault. IsRefusal fault dbf.now (option_copied dbt.entry)) }
+    // What is tested before memory is taken is answered as it is, and never as `NoMemory`.
+    ensures early { IfErr result (λ fault. (first : ImageFault) → early_refusal dbf.now ≡ Some first → fault ≡ first) }
+    // Two files are those of one table at most.
+    ensures one { (a b : Table) → IsDbf dbf.now (option_copied dbt.entry) a → IsDbf dbf.now (option_copied dbt.entry) b → a ≡ b }
+{
+    table_at(alloc, dbf, dbt)
+}

@@ -1,0 +1,99 @@
+//! The blocks that memos take in their file, and the cells that tell where they stand.
+
+ghost use Rattle.std.specs.Prelude.{◌≡◌, ◌+◌, ◌*◌, ◌%◌, ◌≤◌, ◌==◌, ℕ, List, length, nat_le, if◌then◌else◌, Option, Some, None, sum_by};
+ghost use Rattle.std.specs.List.{AllByRecursion};
+ghost use Rattle.dbf_image.specs.Blocks.{justified, blocks_of, block_number_cell as number_bytes, next_free};
+ghost use Rattle.dbf_image.specs.Store.{text_of, IsSpan};
+ghost use Rattle.dbf_image.specs.declared.format.TheConstants.{MAX_MEMO_BYTES};
+
+use crate::format::BLOCK;
+use crate::table::TableData;
+use crate::table::span::{Span, text_at};
+use crate::table::store::Store;
+
+/// A memo's text.
+pub(crate) fn memo_text<'a>(texts: &'a [u8], span: &Span) -> &'a [u8]
+    requires { IsSpan texts.now span.now }
+    ensures value { result.now ≡ text_of texts.now span.now }
+    ensures short { length result.now ≤ MAX_MEMO_BYTES }
+{
+    text_at(texts, *span)
+}
+
+/// How many blocks a text takes.
+pub(crate) fn block_count(text: &[u8]) -> u64
+    requires { length text.now ≤ MAX_MEMO_BYTES }
+    ensures value { result ≡ blocks_of text.now }
+    ensures small { result ≤ 129 }
+{
+    if text.is_empty() {
+        0
+    } else {
+        ((text.len() + (BLOCK + 1)) / BLOCK) as u64
+    }
+}
+
+// The last digit, or a blank for 0.
+fn last_digit(number: u64) -> u8
+    ensures value { result ≡ (if number == 0 then 32 else 48 + number % 10) }
+{
+    if number == 0 {
+        b' '
+    } else {
+        b'0' + (number % 10) as u8
+    }
+}
+
+// A number at the right end of ten places, with blanks before it; 0 is ten blanks.
+fn justified_number(number: u64) -> [u8; 10]
+    ensures value { result ≡ justified 10 number }
+{
+    let mut cell = [b' '; 10];
+    let mut rest = number;
+    let mut at: usize = 10;
+    while at > 0 {
+        at -= 1;
+        cell[at] = last_digit(rest);
+        rest /= 10;
+    }
+    cell
+}
+
+/// The cell of a memo whose text is to stand at the next free block: that number, or blanks where there
+/// is no text.
+pub(crate) fn block_number_cell(next: u64, text: &[u8]) -> [u8; 10]
+    ensures value { result ≡ number_bytes next text.now }
+{
+    if text.is_empty() {
+        justified_number(0)
+    } else {
+        justified_number(next)
+    }
+}
+
+// The next free block after those of all texts.
+fn blocks_after(store: Store<'_>) -> u64
+    requires few { length store.memos.now ≤ 128000000000 }
+    requires each { AllByRecursion (IsSpan store.texts.now) store.memos.now }
+    ensures value { result ≡ 1 + sum_by (λ span. blocks_of (text_of store.entry.texts.now span)) store.entry.memos.now }
+{
+    let mut next: u64 = 1;
+    for span in store.memos {
+        next += block_count(memo_text(store.texts, span));
+    }
+    next
+}
+
+/// The next free block of the file of memos that is written of a table: one more than all blocks that its
+/// texts take, since block 0 is the header. None says that it does not fit 32 bits. It takes no memory.
+pub fn next_free_block(table: &TableData) -> Option<u32>
+    ensures value { result ≡ (if nat_le (next_free table.now) 4294967295 then Some (next_free table.now) else None) }
+{
+    let _count = table.record_count();
+    let next = blocks_after(table.store());
+    if next <= 4_294_967_295 {
+        Some(next as u32)
+    } else {
+        None
+    }
+}

@@ -1,0 +1,103 @@
+//! Writing the memos of a table as the bytes of a file of memos (DBT).
+#![tactic(auto, using(crate::proofs::Sinks::sinks))]
+
+ghost use Rattle.std.specs.Prelude.{◌≡◌, ◌+◌, ◌-◌, ◌*◌, ◌/◌, ◌≤◌, ◌↔◌, length, flat_map, OnOk, OnErr};
+ghost use Rattle.std.specs.List.{AllByRecursion};
+ghost use Rattle.dbf_image.specs.Store.{text_of, IsSpan};
+ghost use Rattle.dbf_image.specs.Blocks.{block_bytes, memo_header, memo_image, next_free, HasTooManyBlocks};
+ghost use Rattle.dbf_image.specs.Output.{Puts};
+ghost use Rattle.dbf_image.specs.Sink.{grown, IsFront, Rises};
+ghost use Rattle.dbf_image.specs.declared.format.TheConstants.{BLOCK, MAX_MEMO_BYTES};
+
+use crate::dbf::write::WriteFault;
+use crate::dbt::blocks::{memo_text, next_free_block};
+use crate::format::{BLOCK, MEMO_END, VERSION};
+use crate::sink::writer::SinkWriter;
+use crate::sink::{ByteSink, SinkFault};
+use crate::table::TableData;
+use crate::table::span::Span;
+use byteorder::{ByteOrder, LittleEndian};
+
+// The 512 bytes before the blocks of texts.
+fn header_block(next: u32) -> [u8; BLOCK]
+    ensures value { result ≡ memo_header next }
+{
+    let mut bytes = [0; BLOCK];
+    LittleEndian::write_u32(&mut bytes, next);
+    bytes[16] = VERSION;
+    bytes
+}
+
+// The zeros after a text and the two 0x1A.
+fn fill_of(text: &[u8]) -> usize
+    requires { length text.now ≤ MAX_MEMO_BYTES }
+    ensures value { result ≡ (length text.now + (BLOCK + 1)) / BLOCK * BLOCK - (length text.now + 2) }
+    ensures small { result ≤ BLOCK }
+{
+    (text.len() + (BLOCK + 1)) / BLOCK * BLOCK - (text.len() + 2)
+}
+
+// The blocks of a text, of which there are none where it is empty.
+fn put_block<S: ByteSink>(out: &mut SinkWriter<'_, S>, text: &[u8])
+    requires { length text.now ≤ MAX_MEMO_BYTES }
+    ensures { Puts out.old (block_bytes text.now) out.new }
+{
+    if text.is_empty() {
+        return;
+    }
+    let (zeros, _) = [0; BLOCK].split_at(fill_of(text));
+    out.put(text);
+    out.put(&[MEMO_END, MEMO_END]);
+    out.put(zeros);
+}
+
+// The blocks of all texts, one after the other.
+fn put_blocks<S: ByteSink>(out: &mut SinkWriter<'_, S>, texts: &[u8], memos: &[Span])
+    requires { AllByRecursion (IsSpan texts.now) memos.now }
+    ensures { Puts out.old (flat_map (λ span. block_bytes (text_of texts.now span)) memos.now) out.new }
+{
+    for span in memos {
+        put_block(out, memo_text(texts, span));
+    }
+}
+
+// The bytes of the file.
+fn put_memo_image<S: ByteSink>(out: &mut SinkWriter<'_, S>, table: &TableData, next: u32)
+    requires { next ≡ next_free table.now }
+    ensures { Puts out.old (memo_image table.now) out.new }
+{
+    let store = table.store();
+    out.put(&header_block(next));
+    put_blocks(out, store.texts, store.memos);
+}
+
+/// Writes the file of a table's memos into a sink, to stand beside the file that `write_dbf` writes of the
+/// same table: a header of 512 bytes with the next free block, then each text that is not empty, in the
+/// order of records and fields, with 0x1A 0x1A after it and zeros to the end of its last block of 512
+/// bytes. It takes no memory: chunks are gathered, up to 4,096 bytes, before the sink is called.
+///
+/// `TooManyBlocks` says that the memos take more blocks than 32 bits count, and that nothing was written.
+/// `Sink` says that the sink failed; it has then taken a front part of the file, which may be all of it or
+/// nothing.
+pub fn write_dbt<S: ByteSink>(sink: &mut S, table: &TableData) -> Result<(), WriteFault>
+    ensures wrote { OnOk result (S.written sink.new ≡ grown (S.written sink.old) (memo_image table.now)) }
+    ensures fine { OnOk result (S.failures sink.new ≡ S.failures sink.old) }
+    ensures dated { result ≡ Err WriteFault.DateOutside → ⊥ }
+    ensures blocks { (result ≡ Err WriteFault.TooManyBlocks) ↔ HasTooManyBlocks table.now }
+    ensures unwritten { result ≡ Err WriteFault.TooManyBlocks → sink.new ≡ sink.old }
+    ensures failed { result ≡ Err WriteFault.Sink → Rises (S.failures sink.old) (S.failures sink.new) }
+    // What the sink held before the call it still holds.
+    ensures kept { IsFront (S.written sink.old) (S.written sink.new) }
+    // What a sink that failed has taken is a front part of the file.
+    ensures front { result ≡ Err WriteFault.Sink → IsFront (S.written sink.new) (grown (S.written sink.old) (memo_image table.now)) }
+{
+    let Some(next) = next_free_block(table) else {
+        return Err(WriteFault::TooManyBlocks);
+    };
+    let mut out = SinkWriter::new(sink);
+    put_memo_image(&mut out, table, next);
+    match out.flush() {
+        Ok(()) => Ok(()),
+        Err(SinkFault) => Err(WriteFault::Sink),
+    }
+}
