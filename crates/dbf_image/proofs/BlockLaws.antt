@@ -10,19 +10,21 @@ use Rattle.dbf_image.specs.Table.{is_memo_text, IsCell, AreCells}
 use Rattle.dbf_image.specs.Memo.{HasText, EncodesMemo, EncodesCell, EncodesCells}
 use Rattle.dbf_image.specs.Blocks.{blocks_of, block_bytes, block_number_cell, cell_bytes, cell_blocks, cell_memo, cells_bytes, cells_blocks, cells_memos}
 use Rattle.dbf_image.proofs.Numbers.{number_in, length-justified}
+use Rattle.dbf_image.specs.declared.format.TheConstants.{BLOCK, MAX_MEMO_BYTES, MEMO_END}
+use Rattle.dbf_fields.specs.declared.field.TheConstants.{MEMO}
 
 -- a memo's cell is ten bytes wide
 abbrev pub AreWide : List Field → Type 0
-AreWide fields = AllByRecursion (λ f. f.kind ≡ 77 → f.width ≡ 10) fields
+AreWide fields = AllByRecursion (λ f. f.kind ≡ MEMO → f.width ≡ 10) fields
 
 -- a memo's text is short and has no 0x1A
 pub record IsText (text : List ℕ) : Type 0 where
-  pub short : length text ≤ 65535
-  pub free : list_all (λ b. not (eqb b 26)) text ≡ true
+  pub short : length text ≤ MAX_MEMO_BYTES
+  pub free : list_all (λ b. not (eqb b MEMO_END)) text ≡ true
 
 pub is_text : (text : List ℕ) → is_memo_text text ≡ true → IsText text
 is_text text h =
-    let p = and_parts (leb (length text) 65535) (list_all (λ b. not (eqb b 26)) text) h in
+    let p = and_parts (leb (length text) MAX_MEMO_BYTES) (list_all (λ b. not (eqb b MEMO_END)) text) h in
     record { short = leb-true _ _ p.0; free = p.1 }
 
 -- ---- texts
@@ -31,45 +33,45 @@ not_false : (b : Bool) → not b ≡ true → b ≡ false
 not_false true e = absurd (true≢false (sym e))
 not_false false e = refl
 
-no_end : (cs : List ℕ) → list_all (λ b. not (eqb b 26)) cs ≡ true → (k : ℕ) → k < length cs → eqb (get_or cs k 0) 26 ≡ false
+no_end : (cs : List ℕ) → list_all (λ b. not (eqb b MEMO_END)) cs ≡ true → (k : ℕ) → k < length cs → eqb (get_or cs k 0) MEMO_END ≡ false
 no_end [] h k lt = absurd (omega arith)
-no_end (c ∷ cs) h zero lt = not_false (eqb c 26) (and_parts (not (eqb c 26)) (list_all (λ b. not (eqb b 26)) cs) h).0
-no_end (c ∷ cs) h (suc k) lt = no_end cs (and_parts (not (eqb c 26)) (list_all (λ b. not (eqb b 26)) cs) h).1 k (omega arith)
+no_end (c ∷ cs) h zero lt = not_false (eqb c MEMO_END) (and_parts (not (eqb c MEMO_END)) (list_all (λ b. not (eqb b MEMO_END)) cs) h).0
+no_end (c ∷ cs) h (suc k) lt = no_end cs (and_parts (not (eqb c MEMO_END)) (list_all (λ b. not (eqb b MEMO_END)) cs) h).1 k (omega arith)
 
-text_before : (text more : List ℕ) → list_all (λ b. not (eqb b 26)) text ≡ true → before_first (λ b. eqb b 26) (text ++ 26 ∷ more) ≡ text
+text_before : (text more : List ℕ) → list_all (λ b. not (eqb b MEMO_END)) text ≡ true → before_first (λ b. eqb b MEMO_END) (text ++ MEMO_END ∷ more) ≡ text
 text_before text more h =
-    let long : length text ≤ length (text ++ 26 ∷ more) = omega (arith, length-append text (26 ∷ more)) in
-    let n : position_or_len (λ b. eqb b 26) (text ++ 26 ∷ more) ≡ length text =
-    position_or_len_is (λ b. eqb b 26) (text ++ 26 ∷ more) (length text) 0 long
-    (λ k lt. rw (get_or_append_left text (26 ∷ more) 0 k lt) (no_end text h k lt))
-    (λ lt. rw (get_or_at text 26 more 0 (length text) refl) refl) in
-    rw (n, take_at text (26 ∷ more) (length text) refl) refl
+    let long : length text ≤ length (text ++ MEMO_END ∷ more) = omega (arith, length-append text (MEMO_END ∷ more)) in
+    let n : position_or_len (λ b. eqb b MEMO_END) (text ++ MEMO_END ∷ more) ≡ length text =
+    position_or_len_is (λ b. eqb b MEMO_END) (text ++ MEMO_END ∷ more) (length text) 0 long
+    (λ k lt. rw (get_or_append_left text (MEMO_END ∷ more) 0 k lt) (no_end text h k lt))
+    (λ lt. rw (get_or_at text MEMO_END more 0 (length text) refl) refl) in
+    rw (n, take_at text (MEMO_END ∷ more) (length text) refl) refl
 
-pub length-block : (text : List ℕ) → length (block_bytes text) ≡ 512 * blocks_of text
+pub length-block : (text : List ℕ) → length (block_bytes text) ≡ BLOCK * blocks_of text
 unfolding block_bytes blocks_of
 length-block [] = refl
 length-block (b ∷ bs) =
-    let blocks : ℕ = (length (b ∷ bs) + 513) / 512 in
-    let fill : ℕ = 512 * blocks - (length (b ∷ bs) + 2) in
-    omega (arith, length-append (b ∷ bs) (26 ∷ 26 ∷ replicate fill 0), length-replicate {A = ℕ} fill 0)
+    let blocks : ℕ = (length (b ∷ bs) + (BLOCK + 1)) / BLOCK in
+    let fill : ℕ = BLOCK * blocks - (length (b ∷ bs) + 2) in
+    omega (arith, length-append (b ∷ bs) (MEMO_END ∷ MEMO_END ∷ replicate fill 0), length-replicate {A = ℕ} fill 0)
 
 -- a text stands at its block
-text_again : (front rest : List ℕ) (next b : ℕ) (bs : List ℕ) → length front ≡ 512 * next → 0 < next → IsText (b ∷ bs)
+text_again : (front rest : List ℕ) (next b : ℕ) (bs : List ℕ) → length front ≡ BLOCK * next → 0 < next → IsText (b ∷ bs)
     → HasText (front ++ (block_bytes (b ∷ bs) ++ rest)) next (b ∷ bs)
 unfolding block_bytes
 text_again front rest next b bs len some h =
     let text : List ℕ = b ∷ bs in
-    let fill : List ℕ = replicate (512 * blocks_of text - (length text + 2)) 0 in
-    let body : List ℕ = text ++ (26 ∷ 26 ∷ fill) in
-    let grouped : body ++ rest ≡ text ++ 26 ∷ (26 ∷ fill ++ rest) = append_assoc text (26 ∷ 26 ∷ fill) rest in
+    let fill : List ℕ = replicate (BLOCK * blocks_of text - (length text + 2)) 0 in
+    let body : List ℕ = text ++ (MEMO_END ∷ MEMO_END ∷ fill) in
+    let grouped : body ++ rest ≡ text ++ MEMO_END ∷ (MEMO_END ∷ fill ++ rest) = append_assoc text (MEMO_END ∷ MEMO_END ∷ fill) rest in
     record {
       some = some;
-      inside = omega (arith, length-append front (body ++ rest), length-append body rest, length-append text (26 ∷ 26 ∷ fill));
+      inside = omega (arith, length-append front (body ++ rest), length-append body rest, length-append text (MEMO_END ∷ MEMO_END ∷ fill));
       short = h.short;
-      text_is = ap (before_first (λ b. eqb b 26)) (drop_at front (body ++ rest) (512 * next) len ∙ grouped) ∙ text_before text (26 ∷ fill ++ rest) h.free;
+      text_is = ap (before_first (λ b. eqb b MEMO_END)) (drop_at front (body ++ rest) (BLOCK * next) len ∙ grouped) ∙ text_before text (MEMO_END ∷ fill ++ rest) h.free;
     }
 
-pub memo_again : (front rest : List ℕ) (next : ℕ) (text : List ℕ) → length front ≡ 512 * next → 0 < next → next + blocks_of text < 10 ^ 10 → IsText text
+pub memo_again : (front rest : List ℕ) (next : ℕ) (text : List ℕ) → length front ≡ BLOCK * next → 0 < next → next + blocks_of text < 10 ^ 10 → IsText text
     → EncodesMemo (front ++ (block_bytes text ++ rest)) (block_number_cell next text) text
 unfolding block_number_cell
 memo_again front rest next [] len some room h = inl (number_in 10 0 (lit< tt), refl)
@@ -82,31 +84,31 @@ length-number next (b ∷ bs) = length-justified 10 next
 
 -- ---- cells
 
-cell_again : (dbt front rest : List ℕ) (next : ℕ) (f : Field) (c : List ℕ) → dbt ≡ front ++ (cell_memo f c ++ rest) → length front ≡ 512 * next → 0 < next → next + cell_blocks f c < 10 ^ 10 → IsCell f c
+cell_again : (dbt front rest : List ℕ) (next : ℕ) (f : Field) (c : List ℕ) → dbt ≡ front ++ (cell_memo f c ++ rest) → length front ≡ BLOCK * next → 0 < next → next + cell_blocks f c < 10 ^ 10 → IsCell f c
     → EncodesCell dbt f (cell_bytes next f c) c
 cell_again dbt front rest next f c is len some room h =
-    (λ kind. rw (is, kind) (memo_again front rest next c len some (rw kind at room) (is_text c (h.0 kind))), λ other. rw (ne_eqb f.kind 77 other) refl)
+    (λ kind. rw (is, kind) (memo_again front rest next c len some (rw kind at room) (is_text c (h.0 kind))), λ other. rw (ne_eqb f.kind MEMO other) refl)
 
-kind_by : (k : ℕ) (b : Bool) → eqb k 77 ≡ b → (k ≡ 77) ⊎ (k ≢ 77)
+kind_by : (k : ℕ) (b : Bool) → eqb k MEMO ≡ b → (k ≡ MEMO) ⊎ (k ≢ MEMO)
 kind_by k true e = inl (eqb-true _ _ e)
 kind_by k false e = inr (eqb-false _ _ e)
 
-length-by : (next : ℕ) (f : Field) (c : List ℕ) → (f.kind ≡ 77 → f.width ≡ 10) → IsCell f c → (f.kind ≡ 77) ⊎ (f.kind ≢ 77) → length (cell_bytes next f c) ≡ f.width
+length-by : (next : ℕ) (f : Field) (c : List ℕ) → (f.kind ≡ MEMO → f.width ≡ 10) → IsCell f c → (f.kind ≡ MEMO) ⊎ (f.kind ≢ MEMO) → length (cell_bytes next f c) ≡ f.width
 length-by next f c wide h (inl kind) = rw (kind, wide kind) (length-number next c)
-length-by next f c wide h (inr other) = rw (ne_eqb f.kind 77 other) (h.1 other)
+length-by next f c wide h (inr other) = rw (ne_eqb f.kind MEMO other) (h.1 other)
 
-pub length-cell : (next : ℕ) (f : Field) (c : List ℕ) → (f.kind ≡ 77 → f.width ≡ 10) → IsCell f c → length (cell_bytes next f c) ≡ f.width
-length-cell next f c wide h = length-by next f c wide h (kind_by f.kind (eqb f.kind 77) refl)
+pub length-cell : (next : ℕ) (f : Field) (c : List ℕ) → (f.kind ≡ MEMO → f.width ≡ 10) → IsCell f c → length (cell_bytes next f c) ≡ f.width
+length-cell next f c wide h = length-by next f c wide h (kind_by f.kind (eqb f.kind MEMO) refl)
 
-memo_by : (f : Field) (c : List ℕ) (b : Bool) → length (cond b (block_bytes c) []) ≡ 512 * cond b (blocks_of c) 0
+memo_by : (f : Field) (c : List ℕ) (b : Bool) → length (cond b (block_bytes c) []) ≡ BLOCK * cond b (blocks_of c) 0
 memo_by f c true = length-block c
 memo_by f c false = refl
 
-length-memo : (f : Field) (c : List ℕ) → length (cell_memo f c) ≡ 512 * cell_blocks f c
-length-memo f c = memo_by f c (eqb f.kind 77)
+length-memo : (f : Field) (c : List ℕ) → length (cell_memo f c) ≡ BLOCK * cell_blocks f c
+length-memo f c = memo_by f c (eqb f.kind MEMO)
 
 pub cells_again : (fields : List Field) (cells : List (List ℕ)) (dbt front rest tail : List ℕ) (next : ℕ) → dbt ≡ front ++ (cells_memos fields cells ++ rest)
-    → length front ≡ 512 * next → 0 < next → next + cells_blocks fields cells < 10 ^ 10
+    → length front ≡ BLOCK * next → 0 < next → next + cells_blocks fields cells < 10 ^ 10
     → AreWide fields → AreCells fields cells → EncodesCells dbt fields (cells_bytes next fields cells ++ tail) cells
 cells_again [] [] dbt front rest tail next is len some room wide h = tt
 cells_again [] (c ∷ cs) dbt front rest tail next is len some room wide h = absurd h
@@ -118,7 +120,7 @@ cells_again (f ∷ fs) (c ∷ cs) dbt front rest tail next is len some room wide
     let memo : List ℕ = cell_memo f c in
     let memos : List ℕ = cells_memos fs cs in
     let long : length here ≡ f.width = length-cell next f c wide.0 h.0 in
-    let moved : length (front ++ memo) ≡ 512 * later = omega (arith, length-append front memo, length-memo f c) in
+    let moved : length (front ++ memo) ≡ BLOCK * later = omega (arith, length-append front memo, length-memo f c) in
     let grouped : (here ++ there) ++ tail ≡ here ++ (there ++ tail) = append_assoc here there tail in
     let one : dbt ≡ front ++ (memo ++ (memos ++ rest)) = is ∙ ap (λ (x : List ℕ). front ++ x) (append_assoc memo memos rest) in
     let two : dbt ≡ (front ++ memo) ++ (memos ++ rest) = one ∙ sym (append_assoc front memo (memos ++ rest)) in
@@ -126,20 +128,20 @@ cells_again (f ∷ fs) (c ∷ cs) dbt front rest tail next is len some room wide
     let others = cells_again fs cs dbt (front ++ memo) rest tail later two moved (omega arith) (omega arith) wide.1 h.1 in
     rw (grouped, take_at here (there ++ tail) f.width long, drop_at here (there ++ tail) f.width long) (first, others)
 
-pub length-cells_memos : (fields : List Field) (cells : List (List ℕ)) → length (cells_memos fields cells) ≡ 512 * cells_blocks fields cells
+pub length-cells_memos : (fields : List Field) (cells : List (List ℕ)) → length (cells_memos fields cells) ≡ BLOCK * cells_blocks fields cells
 length-cells_memos [] cells = refl
 length-cells_memos (f ∷ fs) [] = refl
 length-cells_memos (f ∷ fs) (c ∷ cs) = omega (arith, length-append (cell_memo f c) (cells_memos fs cs), length-memo f c, length-cells_memos fs cs)
 
 -- ---- the blocks of a text as they are written
 
-pub block_put : (text : List ℕ) (fill : ℕ) → 0 < length text → fill ≡ (length text + 513) / 512 * 512 - (length text + 2) → fill ≤ 512
-    → (text ++ (26 ∷ 26 ∷ [])) ++ take fill (replicate 512 0) ≡ block_bytes text
+pub block_put : (text : List ℕ) (fill : ℕ) → 0 < length text → fill ≡ (length text + (BLOCK + 1)) / BLOCK * BLOCK - (length text + 2) → fill ≤ BLOCK
+    → (text ++ (MEMO_END ∷ MEMO_END ∷ [])) ++ take fill (replicate BLOCK 0) ≡ block_bytes text
 unfolding block_bytes blocks_of
 block_put [] fill some is small = absurd (omega arith)
 block_put (b ∷ bs) fill some is small =
-    let k : fill ≡ 512 * ((length (b ∷ bs) + 513) / 512) - (length (b ∷ bs) + 2) = omega arith in
-    rw (take-replicate {X = ℕ} fill 512 0 small, k) (append_assoc (b ∷ bs) (26 ∷ 26 ∷ []) (replicate (512 * ((length (b ∷ bs) + 513) / 512) - (length (b ∷ bs) + 2)) 0))
+    let k : fill ≡ BLOCK * ((length (b ∷ bs) + (BLOCK + 1)) / BLOCK) - (length (b ∷ bs) + 2) = omega arith in
+    rw (take-replicate {X = ℕ} fill BLOCK 0 small, k) (append_assoc (b ∷ bs) (MEMO_END ∷ MEMO_END ∷ []) (replicate (BLOCK * ((length (b ∷ bs) + (BLOCK + 1)) / BLOCK) - (length (b ∷ bs) + 2)) 0))
 
 pub block_none : (text : List ℕ) → length text ≡ 0 → block_bytes text ≡ []
 unfolding block_bytes
@@ -151,7 +153,7 @@ unfolding blocks_of
 blocks_none [] e = refl
 blocks_none (b ∷ bs) e = absurd (omega arith)
 
-pub blocks_some : (text : List ℕ) → 0 < length text → (length text + 513) / 512 ≡ blocks_of text
+pub blocks_some : (text : List ℕ) → 0 < length text → (length text + (BLOCK + 1)) / BLOCK ≡ blocks_of text
 unfolding blocks_of
 blocks_some [] some = absurd (omega arith)
 blocks_some (b ∷ bs) some = refl

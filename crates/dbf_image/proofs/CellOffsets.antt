@@ -9,6 +9,8 @@ use Rattle.dbf_image.specs.Table.{Row, cell_width, kind_at}
 use Rattle.dbf_image.specs.DbfText.{chunks, AreRecords}
 use Rattle.dbf_image.specs.Store.{first_memo, memo_count, cells_with, row_with, rows_with, rows_of}
 use Rattle.dbf_image.proofs.Rows.{length-chunks}
+use Rattle.dbf_image.specs.declared.format.TheConstants.{DELETED}
+use Rattle.dbf_fields.specs.declared.field.TheConstants.{MEMO}
 
 -- a part of a part is a part of the whole
 pub part_of_part : (w k size : ℕ) (xs : List ℕ) → k + w ≤ size → take w (drop k (take size xs)) ≡ take w (drop k xs)
@@ -60,14 +62,14 @@ cell_by : (fs : List Field) (cell rest out d : List ℕ) (memos : List (List ℕ
 cell_by fs cell rest out d memos j true ih = ih (drop 1 memos)
 cell_by fs cell rest out d memos j false ih = ih memos
 
-pub cell_here : (fields : List Field) (j : ℕ) (bytes d : List ℕ) (memos : List (List ℕ)) → j < length fields → kind_at fields j ≢ 77
+pub cell_here : (fields : List Field) (j : ℕ) (bytes d : List ℕ) (memos : List (List ℕ)) → j < length fields → kind_at fields j ≢ MEMO
     → get_or (cells_with fields bytes memos) j d ≡ take (cell_width fields j) (drop (widths (take j fields)) bytes)
 cell_here [] j bytes d memos lt other = absurd (omega arith)
-cell_here (f ∷ fs) zero bytes d memos lt other = rw (ne_eqb f.kind 77 other) refl
+cell_here (f ∷ fs) zero bytes d memos lt other = rw (ne_eqb f.kind MEMO other) refl
 cell_here (f ∷ fs) (suc j) bytes d memos lt other =
     let sum : widths (f ∷ take j fs) ≡ f.width + widths (take j fs) = sum_by-cons (λ (g : Field). g.width) f (take j fs) in
     rw (sum, ← drop-drop (widths (take j fs)) f.width bytes)
-    (cell_by fs (take f.width bytes) (drop f.width bytes) _ d memos j (eqb f.kind 77) (λ m. cell_here fs j (drop f.width bytes) d m (omega arith) other))
+    (cell_by fs (take f.width bytes) (drop f.width bytes) _ d memos j (eqb f.kind MEMO) (λ m. cell_here fs j (drop f.width bytes) d m (omega arith) other))
 
 first_is : (memos : List (List ℕ)) → first_memo memos ≡ get_or memos 0 []
 first_is [] = refl
@@ -79,12 +81,12 @@ memo_by fs cell rest d [] j k true ih = ih []
 memo_by fs cell rest d (t ∷ ts) j k true ih = ih ts
 memo_by fs cell rest d memos j k false ih = ih memos
 
-pub memo_here : (fields : List Field) (j : ℕ) (bytes d : List ℕ) (memos : List (List ℕ)) → j < length fields → kind_at fields j ≡ 77
+pub memo_here : (fields : List Field) (j : ℕ) (bytes d : List ℕ) (memos : List (List ℕ)) → j < length fields → kind_at fields j ≡ MEMO
     → get_or (cells_with fields bytes memos) j d ≡ get_or memos (memo_count (take j fields)) []
 memo_here [] j bytes d memos lt kind = absurd (omega arith)
-memo_here (f ∷ fs) zero bytes d memos lt kind = rw (eq-eqb f.kind 77 kind) (first_is memos)
+memo_here (f ∷ fs) zero bytes d memos lt kind = rw (eq-eqb f.kind MEMO kind) (first_is memos)
 memo_here (f ∷ fs) (suc j) bytes d memos lt kind =
-    memo_by fs (take f.width bytes) (drop f.width bytes) d memos j (memo_count (take j fs)) (eqb f.kind 77) (λ m. memo_here fs j (drop f.width bytes) d m (omega arith) kind)
+    memo_by fs (take f.width bytes) (drop f.width bytes) d memos j (memo_count (take j fs)) (eqb f.kind MEMO) (λ m. memo_here fs j (drop f.width bytes) d m (omega arith) kind)
 
 pub cell_within : (fields : List Field) (j : ℕ) → j < length fields → widths (take j fields) + cell_width fields j ≤ widths fields
 cell_within [] j lt = absurd (omega arith)
@@ -100,10 +102,10 @@ within_by : (b : Bool) (k n : ℕ) → k < n → cond b (suc k) k < cond b (suc 
 within_by true k n lt = omega arith
 within_by false k n lt = lt
 
-pub memo_within : (fields : List Field) (j : ℕ) → j < length fields → kind_at fields j ≡ 77 → memo_count (take j fields) < memo_count fields
+pub memo_within : (fields : List Field) (j : ℕ) → j < length fields → kind_at fields j ≡ MEMO → memo_count (take j fields) < memo_count fields
 memo_within [] j lt kind = absurd (omega arith)
-memo_within (f ∷ fs) zero lt kind = rw (eq-eqb f.kind 77 kind) (omega arith)
-memo_within (f ∷ fs) (suc j) lt kind = within_by (eqb f.kind 77) (memo_count (take j fs)) (memo_count fs) (memo_within fs j (omega arith) kind)
+memo_within (f ∷ fs) zero lt kind = rw (eq-eqb f.kind MEMO kind) (omega arith)
+memo_within (f ∷ fs) (suc j) lt kind = within_by (eqb f.kind MEMO) (memo_count (take j fs)) (memo_count fs) (memo_within fs j (omega arith) kind)
 
 le_by : (b : Bool) (k n : ℕ) → k ≤ n → cond b (suc k) k ≤ suc n
 le_by true k n le = omega arith
@@ -111,7 +113,7 @@ le_by false k n le = omega arith
 
 pub memo_count_le : (fields : List Field) → memo_count fields ≤ length fields
 memo_count_le [] = omega arith
-memo_count_le (f ∷ fs) = le_by (eqb f.kind 77) (memo_count fs) (length fs) (memo_count_le fs)
+memo_count_le (f ∷ fs) = le_by (eqb f.kind MEMO) (memo_count fs) (length fs) (memo_count_le fs)
 
 -- the width and the kind that a field of the list tells
 pub cell_width_is : (fields : List Field) (j : ℕ) (f : Field) → j < length fields → f ≡ get_or fields j f → cell_width fields j ≡ f.width
@@ -125,7 +127,7 @@ kind_is (g ∷ fs) zero f lt is = ap (λ (h : Field). h.kind) (sym is)
 kind_is (g ∷ fs) (suc j) f lt is = kind_is fs j f (omega arith) is
 
 -- the cell of a record and a field that is no memo
-pub cell_read : (fields : List Field) (n i j : ℕ) (bytes : List ℕ) (memos : List (List ℕ)) (d : Row) → i < n → j < length fields → kind_at fields j ≢ 77
+pub cell_read : (fields : List Field) (n i j : ℕ) (bytes : List ℕ) (memos : List (List ℕ)) (d : Row) → i < n → j < length fields → kind_at fields j ≢ MEMO
     → get_or (get_or (rows_of fields n bytes memos) i d).cells j [] ≡ take (cell_width fields j) (drop (i * (1 + widths fields) + (1 + widths (take j fields))) bytes)
 cell_read fields n i j bytes memos d lt inside other =
     let size : ℕ = 1 + widths fields in
@@ -139,7 +141,7 @@ cell_read fields n i j bytes memos d lt inside other =
     ∙ ap (take (cell_width fields j)) (drop-drop (1 + from) (i * size) bytes)
 
 -- the memo of a record and a field
-pub memo_read : (fields : List Field) (n i j : ℕ) (bytes : List ℕ) (memos : List (List ℕ)) (d : Row) → i < n → j < length fields → kind_at fields j ≡ 77
+pub memo_read : (fields : List Field) (n i j : ℕ) (bytes : List ℕ) (memos : List (List ℕ)) (d : Row) → i < n → j < length fields → kind_at fields j ≡ MEMO
     → get_or (get_or (rows_of fields n bytes memos) i d).cells j [] ≡ get_or memos (i * memo_count fields + memo_count (take j fields)) []
 memo_read fields n i j bytes memos d lt inside kind =
     let chunk : List ℕ = take (1 + widths fields) (drop (i * (1 + widths fields)) bytes) in
@@ -149,12 +151,12 @@ memo_read fields n i j bytes memos d lt inside kind =
 
 -- a record's mark
 pub flag_read : (fields : List Field) (n i : ℕ) (bytes : List ℕ) (memos : List (List ℕ)) (d : Row) → i < n
-    → (get_or (rows_of fields n bytes memos) i d).deleted ≡ eqb (get_or bytes (i * (1 + widths fields)) 0) 42
+    → (get_or (rows_of fields n bytes memos) i d).deleted ≡ eqb (get_or bytes (i * (1 + widths fields)) 0) DELETED
 flag_read fields n i bytes memos d lt =
     let size : ℕ = 1 + widths fields in
     let k : i * size + 0 ≡ i * size = omega arith in
     ap (λ (r : Row). r.deleted) (row_here fields n i bytes memos d lt)
-    ∙ ap (λ (b : ℕ). eqb b 42) (get_or-take size (drop (i * size) bytes) 0 0 (omega arith) ∙ get_or-drop (i * size) bytes 0 0 ∙ ap (λ (m : ℕ). get_or bytes m 0) k)
+    ∙ ap (λ (b : ℕ). eqb b DELETED) (get_or-take size (drop (i * size) bytes) 0 0 (omega arith) ∙ get_or-drop (i * size) bytes 0 0 ∙ ap (λ (m : ℕ). get_or bytes m 0) k)
 
 -- a cell's bytes stand inside the records, and a memo among the memos
 pub cell-inside : (fields : List Field) (n i j start : ℕ) (bytes : List ℕ) → AreRecords fields n bytes → i < n → j < length fields
@@ -162,7 +164,7 @@ pub cell-inside : (fields : List Field) (n i j start : ℕ) (bytes : List ℕ) �
 cell-inside fields n i j start bytes records lt inside is =
     omega (arith, chunk-inside (1 + widths fields) n i (length bytes) lt records.whole, cell_within fields j inside)
 
-pub memo-inside : (fields : List Field) (n i j index many : ℕ) → many ≡ n * memo_count fields → i < n → j < length fields → kind_at fields j ≡ 77
+pub memo-inside : (fields : List Field) (n i j index many : ℕ) → many ≡ n * memo_count fields → i < n → j < length fields → kind_at fields j ≡ MEMO
     → index ≡ i * memo_count fields + memo_count (take j fields) → index < many
 memo-inside fields n i j index many is lt inside kind at =
     omega (arith, chunk-inside (memo_count fields) n i many lt is, memo_within fields j inside kind)

@@ -16,6 +16,7 @@ use Rattle.dbf_image.specs.Spans.{table_tests}
 use Rattle.dbf_image.proofs.Rows.{chunks_take}
 use Rattle.dbf_fields.proofs.FaultLaws.{first_parts}
 use Rattle.dbf_image.proofs.MemoTests.{rows_ok, ok_rows}
+use Rattle.dbf_image.specs.declared.format.TheConstants.{HEADER_END, MAX_RECORDS}
 
 -- ---- the first number that passes a test
 
@@ -68,7 +69,7 @@ pub record Passes (bytes : List ℕ) (dbt : Option (List ℕ)) : Type 0 where
   pub ended : is_some (field_count bytes) ≡ true
   pub accepted : is_none (schemas.refusal (fields_of bytes)) ≡ true
   pub wide : record_length bytes ≡ 1 + widths (schema_of bytes)
-  pub few : record_count bytes ≤ 1000000000
+  pub few : record_count bytes ≤ MAX_RECORDS
   pub whole : header_length bytes + record_count bytes * record_length bytes ≤ length bytes
   pub memos : first_fault (memos_tests bytes dbt) ≡ None
 
@@ -84,7 +85,7 @@ passes_all bytes dbt h =
     let d = passed (is_some (field_count bytes)) _ _ q.0 in
     let e = passed (is_none (schemas.refusal (fields_of bytes))) _ _ d.1 in
     let f = passed (eqb (record_length bytes) (1 + widths (schema_of bytes))) _ _ r.0 in
-    let g = passed (leb (record_count bytes) 1000000000) _ _ f.1 in
+    let g = passed (leb (record_count bytes) MAX_RECORDS) _ _ f.1 in
     let i = passed (leb (header_length bytes + record_count bytes * record_length bytes) (length bytes)) _ _ g.1 in
     record {
       long = leb-true _ _ a.0;
@@ -127,7 +128,7 @@ is_version bytes (inl a) = or_left (eqb (slice_index bytes 0) 3) (eqb (slice_ind
 is_version bytes (inr b) = or_right (eqb (slice_index bytes 0) 3) (eqb (slice_index bytes 0) 131) (eq-eqb _ _ b)
 
 abbrev ends_fields : List ℕ → ℕ → Bool
-ends_fields bytes i = eqb (slice_index bytes (32 + 32 * i)) 13
+ends_fields bytes i = eqb (slice_index bytes (32 + 32 * i)) HEADER_END
 
 abbrev most_fields : List ℕ → ℕ
 most_fields bytes = (header_length bytes - 1) / 32

@@ -7,12 +7,13 @@ use Rattle.std.proofs.lemmas.Slice.{drop-put_mid, take-put_mid_below}
 use borrow.Rule.Slice.PartMut.{put_mid}
 use Rattle.dbf_fields.specs.declared.field.Field.{Field}
 use Rattle.dbf_fields.specs.Field.{widths}
-use Rattle.dbf_image.specs.declared.format.TheConstants.{MAX_RECORDS}
+use Rattle.dbf_image.specs.declared.format.TheConstants.{DELETED, MAX_RECORDS}
 use Rattle.dbf_image.specs.Table.{Row, kind_at, cell_width, blank_cell, blank_row, row_with_cell}
 use Rattle.dbf_image.specs.DbfText.{chunks, AreRecords}
 use Rattle.dbf_image.specs.Store.{first_memo, memo_count, cells_with, row_with, rows_with, rows_of}
 use Rattle.dbf_image.proofs.Rows.{length-chunks}
 use Rattle.dbf_image.proofs.CellOffsets.{chunk_here, row_here, cell_within, memo_within, chunk-inside}
+use Rattle.dbf_fields.specs.declared.field.TheConstants.{MEMO}
 
 -- ---- one more record
 
@@ -36,14 +37,14 @@ front_by fs cell rest n memos false ih = ap (λ (x : List (List ℕ)). cell ∷ 
 
 pub cells_front : (fields : List Field) (bytes : List ℕ) (memos : List (List ℕ)) → cells_with fields bytes (take (memo_count fields) memos) ≡ cells_with fields bytes memos
 cells_front [] bytes memos = refl
-cells_front (f ∷ fs) bytes memos = front_by fs (take f.width bytes) (drop f.width bytes) (memo_count fs) memos (eqb f.kind 77) (cells_front fs (drop f.width bytes))
+cells_front (f ∷ fs) bytes memos = front_by fs (take f.width bytes) (drop f.width bytes) (memo_count fs) memos (eqb f.kind MEMO) (cells_front fs (drop f.width bytes))
 
 cells_same : (fields : List Field) (bytes : List ℕ) (memos others : List (List ℕ)) → take (memo_count fields) memos ≡ take (memo_count fields) others
     → cells_with fields bytes memos ≡ cells_with fields bytes others
 cells_same fields bytes memos others e = sym (cells_front fields bytes memos) ∙ ap (cells_with fields bytes) e ∙ cells_front fields bytes others
 
 abbrev row_of_cells : List ℕ → List (List ℕ) → Row
-row_of_cells bytes cells = record { deleted = eqb (get_or bytes 0 0) 42; cells = cells }
+row_of_cells bytes cells = record { deleted = eqb (get_or bytes 0 0) DELETED; cells = cells }
 
 row_same : (fields : List Field) (bytes : List ℕ) (memos others : List (List ℕ)) → take (memo_count fields) memos ≡ take (memo_count fields) others
     → row_with fields bytes memos ≡ row_with fields bytes others
@@ -69,7 +70,7 @@ none_by fs cell rest (suc k) false ih = ap (λ (x : List (List ℕ)). cell ∷ x
 
 cells_none : (fields : List Field) (bytes : List ℕ) (k : ℕ) → cells_with fields bytes (replicate k []) ≡ cells_with fields bytes []
 cells_none [] bytes k = refl
-cells_none (f ∷ fs) bytes k = none_by fs (take f.width bytes) (drop f.width bytes) k (eqb f.kind 77) (cells_none fs (drop f.width bytes))
+cells_none (f ∷ fs) bytes k = none_by fs (take f.width bytes) (drop f.width bytes) k (eqb f.kind MEMO) (cells_none fs (drop f.width bytes))
 
 pub rows_push : (fields : List Field) (n : ℕ) (bytes row : List ℕ) (memos : List (List ℕ)) → AreRecords fields n bytes → length row ≡ 1 + widths fields → length memos ≡ n * memo_count fields
     → rows_of fields (n + 1) (bytes ++ row) (memos ++ replicate (memo_count fields) []) ≡ rows_of fields n bytes memos ++ row_with fields row [] ∷ []
@@ -93,7 +94,7 @@ cells_blank (f ∷ fs) =
     let left : f.width + widths fs - f.width ≡ widths fs = omega arith in
     let here = take-replicate {X = ℕ} f.width (f.width + widths fs) 32 (omega arith) in
     let there = drop-replicate {X = ℕ} f.width (f.width + widths fs) 32 ∙ ap (λ (k : ℕ). replicate k 32) left in
-    rw (sum, there) (blank_by _ (replicate f.width 32) _ _ (eqb f.kind 77) here (cells_blank fs))
+    rw (sum, there) (blank_by _ (replicate f.width 32) _ _ (eqb f.kind MEMO) here (cells_blank fs))
 
 pub row_blank : (fields : List Field) → row_with fields (replicate (1 + widths fields) 32) [] ≡ blank_row fields
 row_blank fields =
@@ -169,11 +170,11 @@ put_by : (fs : List Field) (cell rest new ys : List ℕ) (memos : List (List ℕ
 put_by fs cell rest new ys memos j true ih = ap (λ (x : List (List ℕ)). first_memo memos ∷ x) (ih (drop 1 memos))
 put_by fs cell rest new ys memos j false ih = ap (λ (x : List (List ℕ)). cell ∷ x) (ih memos)
 
-cells_put : (fields : List Field) (j : ℕ) (bytes ys : List ℕ) (memos : List (List ℕ)) → j < length fields → kind_at fields j ≢ 77 → length ys ≡ cell_width fields j → widths fields ≤ length bytes
+cells_put : (fields : List Field) (j : ℕ) (bytes ys : List ℕ) (memos : List (List ℕ)) → j < length fields → kind_at fields j ≢ MEMO → length ys ≡ cell_width fields j → widths fields ≤ length bytes
     → cells_with fields (put_mid (widths (take j fields)) (length ys) bytes ys) memos ≡ set (cells_with fields bytes memos) j ys
 cells_put [] j bytes ys memos lt other wide room = absurd (omega arith)
 cells_put (f ∷ fs) zero bytes ys memos lt other wide room =
-    rw (ne_eqb f.kind 77 other, wide, take_at ys (drop f.width bytes) f.width wide, drop_at ys (drop f.width bytes) f.width wide) refl
+    rw (ne_eqb f.kind MEMO other, wide, take_at ys (drop f.width bytes) f.width wide, drop_at ys (drop f.width bytes) f.width wide) refl
 cells_put (f ∷ fs) (suc j) bytes ys memos lt other wide room =
     let front : widths (f ∷ take j fs) ≡ f.width + widths (take j fs) = sum_by-cons (λ (g : Field). g.width) f (take j fs) in
     let whole : widths (f ∷ fs) ≡ f.width + widths fs = sum_by-cons (λ (g : Field). g.width) f fs in
@@ -184,7 +185,7 @@ cells_put (f ∷ fs) (suc j) bytes ys memos lt other wide room =
       take-put_mid_below (f.width + widths (take j fs)) (length ys) bytes ys f.width (omega arith) (omega arith),
       drop_put f.width (widths (take j fs)) (length ys) bytes ys (omega arith),
     ) (
-    put_by fs (take f.width bytes) (drop f.width bytes) (put_mid (widths (take j fs)) (length ys) (drop f.width bytes) ys) ys memos j (eqb f.kind 77)
+    put_by fs (take f.width bytes) (drop f.width bytes) (put_mid (widths (take j fs)) (length ys) (drop f.width bytes) ys) ys memos j (eqb f.kind MEMO)
     (λ m. cells_put fs j (drop f.width bytes) ys m (omega arith) other wide left)
     )
 
@@ -194,7 +195,7 @@ flag_stays m k (b ∷ bs) ys some =
     let e : 1 + m ≡ suc m = omega arith in
     rw e refl
 
-row_put : (fields : List Field) (j : ℕ) (bytes ys : List ℕ) (memos : List (List ℕ)) → j < length fields → kind_at fields j ≢ 77 → length ys ≡ cell_width fields j → 1 + widths fields ≤ length bytes
+row_put : (fields : List Field) (j : ℕ) (bytes ys : List ℕ) (memos : List (List ℕ)) → j < length fields → kind_at fields j ≢ MEMO → length ys ≡ cell_width fields j → 1 + widths fields ≤ length bytes
     → row_with fields (put_mid (1 + widths (take j fields)) (length ys) bytes ys) memos ≡ row_with_cell (row_with fields bytes memos) j ys
 row_put fields j bytes ys memos lt other wide room =
     let within = cell_within fields j lt in
@@ -203,7 +204,7 @@ row_put fields j bytes ys memos lt other wide room =
     let flag = flag_stays (widths (take j fields)) (length ys) bytes ys (omega arith) in
     rw (flag, rest, cells) refl
 
-pub rows_put : (fields : List Field) (n i j : ℕ) (bytes ys : List ℕ) (memos : List (List ℕ)) (d : Row) → AreRecords fields n bytes → i < n → j < length fields → kind_at fields j ≢ 77 → length ys ≡ cell_width fields j
+pub rows_put : (fields : List Field) (n i j : ℕ) (bytes ys : List ℕ) (memos : List (List ℕ)) (d : Row) → AreRecords fields n bytes → i < n → j < length fields → kind_at fields j ≢ MEMO → length ys ≡ cell_width fields j
     → rows_of fields n (put_mid (i * (1 + widths fields) + (1 + widths (take j fields))) (length ys) bytes ys) memos
     ≡ set (rows_of fields n bytes memos) i (row_with_cell (get_or (rows_of fields n bytes memos) i d) j ys)
 rows_put fields n i j bytes ys memos d records lt inside other wide =
@@ -234,14 +235,14 @@ set_first : (fs : List Field) (rest text : List ℕ) (n : ℕ) (memos : List (Li
 set_first fs rest text n [] room = absurd (omega arith)
 set_first fs rest text n (t ∷ ts) room = refl
 
-cells_set : (fields : List Field) (j : ℕ) (bytes text : List ℕ) (memos : List (List ℕ)) → j < length fields → kind_at fields j ≡ 77 → memo_count fields ≤ length memos
+cells_set : (fields : List Field) (j : ℕ) (bytes text : List ℕ) (memos : List (List ℕ)) → j < length fields → kind_at fields j ≡ MEMO → memo_count fields ≤ length memos
     → cells_with fields bytes (set memos (memo_count (take j fields)) text) ≡ set (cells_with fields bytes memos) j text
 cells_set [] j bytes text memos lt kind room = absurd (omega arith)
 cells_set (f ∷ fs) zero bytes text memos lt kind room =
-    let is : eqb f.kind 77 ≡ true = eq-eqb f.kind 77 kind in
+    let is : eqb f.kind MEMO ≡ true = eq-eqb f.kind MEMO kind in
     rw is (set_first fs (drop f.width bytes) text (memo_count fs) memos (rw is at room))
 cells_set (f ∷ fs) (suc j) bytes text memos lt kind room =
-    set_by fs (take f.width bytes) (drop f.width bytes) text j (memo_count fs) (memo_count (take j fs)) memos (eqb f.kind 77)
+    set_by fs (take f.width bytes) (drop f.width bytes) text j (memo_count fs) (memo_count (take j fs)) memos (eqb f.kind MEMO)
     (λ m h. cells_set fs j (drop f.width bytes) text m (omega arith) kind h) room
 
 memo_set : (fields : List Field) (ps memos : List (List ℕ)) (i m : ℕ) (text e : List ℕ) → m < memo_count fields → i < length ps
@@ -258,7 +259,7 @@ memo_set fields (p ∷ ps) memos (suc i) m text e lt inside =
     let here = row_same fields p (set memos (n + (i * n + m)) text) memos (take-set-le n memos (n + (i * n + m)) text (omega arith)) in
     rw (k, z, ← drop-drop (i * n) n memos, here, drop-set-add n memos (i * n + m) text, memo_set fields ps (drop n memos) i m text e lt (omega arith)) refl
 
-pub rows_memo : (fields : List Field) (n i j : ℕ) (bytes text : List ℕ) (memos : List (List ℕ)) (d : Row) → length memos ≡ n * memo_count fields → i < n → j < length fields → kind_at fields j ≡ 77
+pub rows_memo : (fields : List Field) (n i j : ℕ) (bytes text : List ℕ) (memos : List (List ℕ)) (d : Row) → length memos ≡ n * memo_count fields → i < n → j < length fields → kind_at fields j ≡ MEMO
     → rows_of fields n bytes (set memos (i * memo_count fields + memo_count (take j fields)) text)
     ≡ set (rows_of fields n bytes memos) i (row_with_cell (get_or (rows_of fields n bytes memos) i d) j text)
 rows_memo fields n i j bytes text memos d many lt inside kind =

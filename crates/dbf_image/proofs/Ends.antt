@@ -8,9 +8,10 @@ use Rattle.std.proofs.lemmas.List.Folds.{prefix_len-append}
 use Rattle.std.proofs.lemmas.List.Sums.{prefix_len-le-length, position_or_len_is}
 use Rattle.memchr.specs.Find.{IsFirstByte}
 use Rattle.dbf_image.specs.Spans.{end_at}
+use Rattle.dbf_image.specs.declared.format.TheConstants.{MEMO_END}
 
 abbrev ends_text : ℕ → Bool
-ends_text b = eqb b 26
+ends_text b = eqb b MEMO_END
 
 no_end : (b : Bool) → (b ≡ true → ⊥) → b ≡ false
 no_end true h = absurd (h refl)

@@ -15,8 +15,10 @@ use Rattle.dbf_image.specs.Blocks.{cells_bytes, cells_blocks, cells_memos, cell_
 use Rattle.dbf_image.specs.Image.{header_bytes, descriptor, row_bytes, rows_bytes, image}
 use Rattle.dbf_image.proofs.ReadBack.{chunks-join, length-join, names_from, descriptors_long, fields_again, not_end, after_header, end_here, not_here, flag_again}
 use Rattle.dbf_image.proofs.BlockLaws.{AreWide, cells_again, length-cell, length-cells_memos}
+use Rattle.dbf_image.specs.declared.format.TheConstants.{BLOCK, END_OF_FILE, HEADER_END}
+use Rattle.dbf_fields.specs.declared.field.TheConstants.{MEMO}
 
-memo_wide : (f : Field) → has_width f ≡ true → f.kind ≡ 77 → f.width ≡ 10
+memo_wide : (f : Field) → has_width f ≡ true → f.kind ≡ MEMO → f.width ≡ 10
 memo_wide f h kind = eqb-true f.width 10 (rw kind at h)
 
 memos_wide : (fs : List Field) → AllByRecursion (λ f. has_width f ≡ true) fs → AreWide fs
@@ -47,7 +49,7 @@ images_long fields (r ∷ rs) next wide h =
     (omega (arith, here), images_long fields rs (next + cells_blocks fields r.cells) wide h.1)
 
 record_again : (fields : List Field) (row : Row) (dbt front rest : List ℕ) (next : ℕ) → dbt ≡ front ++ (cells_memos fields row.cells ++ rest)
-    → length front ≡ 512 * next → 0 < next → next + cells_blocks fields row.cells < 10 ^ 10 → AreWide fields → AreCells fields row.cells
+    → length front ≡ BLOCK * next → 0 < next → next + cells_blocks fields row.cells < 10 ^ 10 → AreWide fields → AreCells fields row.cells
     → EncodesRow dbt fields (row_bytes next fields row) row
 record_again fields row dbt front rest next is len some room wide h =
     let nothing : List ℕ = [] in
@@ -55,14 +57,14 @@ record_again fields row dbt front rest next is len some room wide h =
     (sym (flag_again row.deleted), rw append-nil at cells)
 
 pub records_again : (fields : List Field) (rows : List Row) (dbt front rest : List ℕ) (next : ℕ) → dbt ≡ front ++ (rows_memos fields rows ++ rest)
-    → length front ≡ 512 * next → 0 < next → next + rows_blocks fields rows < 10 ^ 10 → AreWide fields → AllByRecursion (IsRow fields) rows
+    → length front ≡ BLOCK * next → 0 < next → next + rows_blocks fields rows < 10 ^ 10 → AreWide fields → AllByRecursion (IsRow fields) rows
     → EncodesRows dbt fields (rows_bytes next fields rows) rows
 records_again fields [] dbt front rest next is len some room wide h = tt
 records_again fields (r ∷ rs) dbt front rest next is len some room wide h =
     let later : ℕ = next + cells_blocks fields r.cells in
     let memo : List ℕ = cells_memos fields r.cells in
     let memos : List ℕ = rows_memos fields rs in
-    let moved : length (front ++ memo) ≡ 512 * later = omega (arith, length-append front memo, length-cells_memos fields r.cells) in
+    let moved : length (front ++ memo) ≡ BLOCK * later = omega (arith, length-append front memo, length-cells_memos fields r.cells) in
     let one : dbt ≡ front ++ (memo ++ (memos ++ rest)) = is ∙ ap (λ (x : List ℕ). front ++ x) (append_assoc memo memos rest) in
     let two : dbt ≡ (front ++ memo) ++ (memos ++ rest) = one ∙ sym (append_assoc front memo (memos ++ rest)) in
     (record_again fields r dbt front (memos ++ rest) next one len some (omega arith) wide h.0, records_again fields rs dbt (front ++ memo) rest later two moved (omega arith) (omega arith) wide h.1)
@@ -98,26 +100,26 @@ is_dbf_image table year month day t room =
     let records_long : length records ≡ length images * size = length-join size (λ (b : List ℕ). b) images long in
     let records_size : length records ≡ length table.rows * size = records_long ∙ ap (λ (k : ℕ). k * size) many in
     let fields : map field_of (chunks 32 n (drop 32 bytes)) ≡ schema =
-    ap (map field_of) (chunks-join 32 descriptor schema (13 ∷ (records ++ 26 ∷ [])) (descriptors_long schema names)) ∙ fields_again schema names in
-    let rest : drop (32 * n + 33) bytes ≡ records ++ 26 ∷ [] = after_header head body (records ++ 26 ∷ []) (32 * n + 33) (omega arith) in
-    let joined : chunks size (length images) (records ++ 26 ∷ []) ≡ map (λ (b : List ℕ). b) images = chunks-join size (λ (b : List ℕ). b) images (26 ∷ []) long in
-    let cut : chunks size (length table.rows) (records ++ 26 ∷ []) ≡ images = ap (λ (k : ℕ). chunks size k (records ++ 26 ∷ [])) (sym many) ∙ joined ∙ map-id images in
+    ap (map field_of) (chunks-join 32 descriptor schema (HEADER_END ∷ (records ++ END_OF_FILE ∷ [])) (descriptors_long schema names)) ∙ fields_again schema names in
+    let rest : drop (32 * n + 33) bytes ≡ records ++ END_OF_FILE ∷ [] = after_header head body (records ++ END_OF_FILE ∷ []) (32 * n + 33) (omega arith) in
+    let joined : chunks size (length images) (records ++ END_OF_FILE ∷ []) ≡ map (λ (b : List ℕ). b) images = chunks-join size (λ (b : List ℕ). b) images (END_OF_FILE ∷ []) long in
+    let cut : chunks size (length table.rows) (records ++ END_OF_FILE ∷ []) ≡ images = ap (λ (k : ℕ). chunks size k (records ++ END_OF_FILE ∷ [])) (sym many) ∙ joined ∙ map-id images in
     let nothing : List ℕ = [] in
     let memos : memo_image table ≡ memo_header (next_free table) ++ (rows_memos schema table.rows ++ nothing) = ap (λ (x : List ℕ). memo_header (next_free table) ++ x) (sym (append-nil (rows_memos schema table.rows))) in
     let all = records_again schema table.rows (memo_image table) (memo_header (next_free table)) nothing 1 memos refl (lit< tt) small wide_memos t.fit in
     let chunks_are : chunks (record_length bytes) (record_count bytes) (drop (header_length bytes) bytes) ≡ images = rw (wide, count, header, rest) cut in
     record {
-      long = omega (arith, length-append head (body ++ 13 ∷ (records ++ 26 ∷ [])));
+      long = omega (arith, length-append head (body ++ HEADER_END ∷ (records ++ END_OF_FILE ∷ [])));
       version = version_by (has_memos schema) (slice_index bytes 0) refl;
       field_count = n;
-      last_field = end_here head body (records ++ 26 ∷ []) (32 + 32 * n) (omega arith);
-      not_before = λ i lt. not_here head (body ++ 13 ∷ (records ++ 26 ∷ [])) 32 (32 * i) refl (not_end schema (13 ∷ (records ++ 26 ∷ [])) names i lt);
+      last_field = end_here head body (records ++ END_OF_FILE ∷ []) (32 + 32 * n) (omega arith);
+      not_before = λ i lt. not_here head (body ++ HEADER_END ∷ (records ++ END_OF_FILE ∷ [])) 32 (32 * i) refl (not_end schema (HEADER_END ∷ (records ++ END_OF_FILE ∷ [])) names i lt);
       in_header = rw header (omega arith);
       accepted = rw fields t.fields.accepted;
       schema = sym (ap (map folded) fields ∙ t.fields.kept);
       wide = wide;
       few = rw count t.few;
-      whole = rw (header, count, wide) (omega (arith, length-append head (body ++ 13 ∷ (records ++ 26 ∷ [])), length-append body (13 ∷ (records ++ 26 ∷ [])), length-append records (26 ∷ [])));
+      whole = rw (header, count, wide) (omega (arith, length-append head (body ++ HEADER_END ∷ (records ++ END_OF_FILE ∷ [])), length-append body (HEADER_END ∷ (records ++ END_OF_FILE ∷ [])), length-append records (END_OF_FILE ∷ [])));
       memos = λ _. refl;
       rows = rw chunks_are all;
     }

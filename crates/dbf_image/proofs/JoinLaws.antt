@@ -17,8 +17,10 @@ use Rattle.dbf_image.specs.DbfText.{chunks}
 use Rattle.dbf_image.specs.Store.{text_of, texts_of, memo_count, first_memo, cells_with, rows_with, rows_of}
 use Rattle.dbf_image.proofs.Rows.{length-chunks}
 use Rattle.dbf_image.specs.Blocks.{blocks_of, block_bytes, cells_blocks, cells_memos, rows_blocks, rows_memos}
+use Rattle.dbf_image.specs.declared.format.TheConstants.{MAX_RECORDS}
+use Rattle.dbf_fields.specs.declared.field.TheConstants.{MEMO}
 
-joined_by : (f : Field) (fs : List Field) (cell rest : List ℕ) (memos : List (List ℕ)) (b : Bool) → eqb f.kind 77 ≡ b
+joined_by : (f : Field) (fs : List Field) (cell rest : List ℕ) (memos : List (List ℕ)) (b : Bool) → eqb f.kind MEMO ≡ b
     → ((m : List (List ℕ)) → memo_count fs ≤ length m → cells_memos fs (cells_with fs rest m) ≡ flat_map block_bytes (take (memo_count fs) m))
     → cond b (suc (memo_count fs)) (memo_count fs) ≤ length memos
     → cells_memos (f ∷ fs) (cond b (first_memo memos ∷ cells_with fs rest (drop 1 memos)) (cell ∷ cells_with fs rest memos)) ≡ flat_map block_bytes (take (cond b (suc (memo_count fs)) (memo_count fs)) memos)
@@ -29,7 +31,7 @@ joined_by f fs cell rest memos false e ih room = rw e (ih memos room)
 pub cells_joined : (fields : List Field) (bytes : List ℕ) (memos : List (List ℕ)) → memo_count fields ≤ length memos
     → cells_memos fields (cells_with fields bytes memos) ≡ flat_map block_bytes (take (memo_count fields) memos)
 cells_joined [] bytes memos room = refl
-cells_joined (f ∷ fs) bytes memos room = joined_by f fs (take f.width bytes) (drop f.width bytes) memos (eqb f.kind 77) refl (cells_joined fs (drop f.width bytes)) room
+cells_joined (f ∷ fs) bytes memos room = joined_by f fs (take f.width bytes) (drop f.width bytes) memos (eqb f.kind MEMO) refl (cells_joined fs (drop f.width bytes)) room
 
 none_left : (memos : List (List ℕ)) → length memos ≡ 0 → [] ≡ flat_map block_bytes memos
 none_left [] e = refl
@@ -45,7 +47,7 @@ rows_joined fields (p ∷ ps) memos e =
 
 -- ---- how many blocks they are
 
-counted_by : (f : Field) (fs : List Field) (cell rest : List ℕ) (memos : List (List ℕ)) (b : Bool) → eqb f.kind 77 ≡ b
+counted_by : (f : Field) (fs : List Field) (cell rest : List ℕ) (memos : List (List ℕ)) (b : Bool) → eqb f.kind MEMO ≡ b
     → ((m : List (List ℕ)) → memo_count fs ≤ length m → cells_blocks fs (cells_with fs rest m) ≡ sum_by blocks_of (take (memo_count fs) m))
     → cond b (suc (memo_count fs)) (memo_count fs) ≤ length memos
     → cells_blocks (f ∷ fs) (cond b (first_memo memos ∷ cells_with fs rest (drop 1 memos)) (cell ∷ cells_with fs rest memos)) ≡ sum_by blocks_of (take (cond b (suc (memo_count fs)) (memo_count fs)) memos)
@@ -57,7 +59,7 @@ counted_by f fs cell rest memos false e ih room = rw e (omega (arith, ih memos r
 cells_counted : (fields : List Field) (bytes : List ℕ) (memos : List (List ℕ)) → memo_count fields ≤ length memos
     → cells_blocks fields (cells_with fields bytes memos) ≡ sum_by blocks_of (take (memo_count fields) memos)
 cells_counted [] bytes memos room = refl
-cells_counted (f ∷ fs) bytes memos room = counted_by f fs (take f.width bytes) (drop f.width bytes) memos (eqb f.kind 77) refl (cells_counted fs (drop f.width bytes)) room
+cells_counted (f ∷ fs) bytes memos room = counted_by f fs (take f.width bytes) (drop f.width bytes) memos (eqb f.kind MEMO) refl (cells_counted fs (drop f.width bytes)) room
 
 no_more : (memos : List (List ℕ)) → length memos ≡ 0 → 0 ≡ sum_by blocks_of memos
 no_more [] e = refl
@@ -116,10 +118,10 @@ few_by fs false h = omega arith
 
 few_memos : (fields : List Field) → memo_count fields ≤ length fields
 few_memos [] = omega arith
-few_memos (f ∷ fs) = few_by fs (eqb f.kind 77) (few_memos fs)
+few_memos (f ∷ fs) = few_by fs (eqb f.kind MEMO) (few_memos fs)
 
 pub memos_each : (fields : List Field) → IsSchema fields → memo_count fields ≤ 128
 memos_each fields schema = omega (arith, few_memos fields, schema_count fields schema)
 
-pub memos_all : (fields : List Field) (count : ℕ) → IsSchema fields → count ≤ 1000000000 → count * memo_count fields ≤ 128000000000
+pub memos_all : (fields : List Field) (count : ℕ) → IsSchema fields → count ≤ MAX_RECORDS → count * memo_count fields ≤ 128000000000
 memos_all fields count schema few = omega (arith, mul-le-mul_left count (memos_each fields schema))

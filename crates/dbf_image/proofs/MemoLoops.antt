@@ -17,6 +17,7 @@ use Rattle.dbf_image.specs.declared.table.span.Span.{Span}
 use Rattle.dbf_image.specs.Reading.{cell_tests, cells_tests}
 use Rattle.dbf_image.specs.Spans.{cell_spans, cells_spans}
 use Rattle.dbf_fields.proofs.FaultLaws.{first_then, first_before}
+use Rattle.dbf_fields.specs.declared.field.TheConstants.{MEMO}
 
 pub tests-next : (dbt bytes : List ℕ) (fields : List Field) (i : ℕ) (f : Field) → i < length fields → f ≡ get_or fields i f
     → first_fault (cell_tests dbt f (take f.width bytes)) ≡ None
@@ -50,12 +51,12 @@ room-next fields i f now later lt is room left =
     omega arith
 
 -- a memo's cell is ten bytes wide
-memo_wide : (f : Field) → has_width f ≡ true → f.kind ≡ 77 → f.width ≤ 10
+memo_wide : (f : Field) → has_width f ≡ true → f.kind ≡ MEMO → f.width ≤ 10
 memo_wide f h kind = omega (arith, eqb-true f.width 10 (rw kind at h))
 
-memos_wide : (fs : List Field) → AllByRecursion (λ f. has_width f ≡ true) fs → AllByRecursion (λ f. f.kind ≡ 77 → f.width ≤ 10) fs
+memos_wide : (fs : List Field) → AllByRecursion (λ f. has_width f ≡ true) fs → AllByRecursion (λ f. f.kind ≡ MEMO → f.width ≤ 10) fs
 memos_wide [] h = tt
 memos_wide (f ∷ fs) h = (memo_wide f h.0, memos_wide fs h.1)
 
-pub memo_fits : (fs : List Field) → IsSchema fs → All (λ f. f.kind ≡ 77 → f.width ≤ 10) fs
-memo_fits fs s = All-from_recursion (λ f. f.kind ≡ 77 → f.width ≤ 10) fs (memos_wide fs (schema_wide fs s))
+pub memo_fits : (fs : List Field) → IsSchema fs → All (λ f. f.kind ≡ MEMO → f.width ≤ 10) fs
+memo_fits fs s = All-from_recursion (λ f. f.kind ≡ MEMO → f.width ≤ 10) fs (memos_wide fs (schema_wide fs s))

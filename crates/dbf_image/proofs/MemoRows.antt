@@ -21,6 +21,8 @@ use Rattle.dbf_image.proofs.Spans.{all_append, no_span_fits}
 use Rattle.dbf_image.proofs.Ends.{end_inside, prefix_all}
 use Rattle.dbf_fields.proofs.FaultLaws.{first_parts}
 use Rattle.dbf_image.proofs.MemoTests.{both, text_ok}
+use Rattle.dbf_image.specs.declared.format.TheConstants.{BLOCK, MAX_MEMO_BYTES, MEMO_END}
+use Rattle.dbf_fields.specs.declared.field.TheConstants.{MEMO}
 
 -- ---- what stands there
 
@@ -44,7 +46,7 @@ cells_view : (dbt : List ℕ) (fields : List Field) (bytes : List ℕ) (more : L
 unfolding cell_spans cell_text
 cells_view dbt [] bytes more = refl
 cells_view dbt (f ∷ fs) bytes more =
-    cells_by dbt fs (take f.width bytes) (drop f.width bytes) (memo_text dbt (take f.width bytes)) (memo_span dbt (take f.width bytes)) more (eqb f.kind 77)
+    cells_by dbt fs (take f.width bytes) (drop f.width bytes) (memo_text dbt (take f.width bytes)) (memo_span dbt (take f.width bytes)) more (eqb f.kind MEMO)
     (span_text dbt (take f.width bytes)) (cells_view dbt fs (drop f.width bytes))
 
 count_by : (span : Span) (spans : List Span) (n : ℕ) (b : Bool) → length spans ≡ n → length (cond b (span ∷ []) [] ++ spans) ≡ cond b (suc n) n
@@ -55,7 +57,7 @@ length-spans : (dbt : List ℕ) (fields : List Field) (bytes : List ℕ) → len
 unfolding cell_spans
 length-spans dbt [] bytes = refl
 length-spans dbt (f ∷ fs) bytes =
-    count_by (memo_span dbt (take f.width bytes)) (cells_spans dbt fs (drop f.width bytes)) (memo_count fs) (eqb f.kind 77) (length-spans dbt fs (drop f.width bytes))
+    count_by (memo_span dbt (take f.width bytes)) (cells_spans dbt fs (drop f.width bytes)) (memo_count fs) (eqb f.kind MEMO) (length-spans dbt fs (drop f.width bytes))
 
 pub rows_view : (dbt : List ℕ) (fields : List Field) (ps : List (List ℕ)) → rows_with fields ps (texts_of dbt (flat_map (row_spans dbt fields) ps)) ≡ map (row_read dbt fields) ps
 rows_view dbt fields [] = refl
@@ -79,8 +81,8 @@ block_fits : (dbt : List ℕ) (n : ℕ) → first_fault (text_tests dbt n) ≡ N
 block_fits dbt n h =
     let t = text_ok dbt n h in
     record {
-      inside = omega (arith, t.inside, end_inside (drop (512 * n) dbt), length-drop (512 * n) dbt);
-      text = both (leb (length (memo_at dbt n)) 65535) (list_all (λ b. not (eqb b 26)) (memo_at dbt n)) (le-leb _ _ t.short) (prefix_all (λ b. not (eqb b 26)) (drop (512 * n) dbt));
+      inside = omega (arith, t.inside, end_inside (drop (BLOCK * n) dbt), length-drop (BLOCK * n) dbt);
+      text = both (leb (length (memo_at dbt n)) MAX_MEMO_BYTES) (list_all (λ b. not (eqb b MEMO_END)) (memo_at dbt n)) (le-leb _ _ t.short) (prefix_all (λ b. not (eqb b MEMO_END)) (drop (BLOCK * n) dbt));
     }
 
 fits_by : (dbt : List ℕ) (n : ℕ) (b : Bool) → first_fault (cond b [] (text_tests dbt n)) ≡ None → IsSpan dbt (cond b no_span (span_of dbt n))
@@ -98,7 +100,7 @@ cell_fits_by dbt cell false h = tt
 
 cell_fits : (dbt : List ℕ) (f : Field) (cell : List ℕ) → first_fault (cell_tests dbt f cell) ≡ None → AllByRecursion (IsSpan dbt) (cell_spans dbt f cell)
 unfolding cell_tests cell_spans
-cell_fits dbt f cell h = cell_fits_by dbt cell (eqb f.kind 77) h
+cell_fits dbt f cell h = cell_fits_by dbt cell (eqb f.kind MEMO) h
 
 spans_fit : (dbt : List ℕ) (fields : List Field) (bytes : List ℕ) → first_fault (cells_tests dbt fields bytes) ≡ None → AllByRecursion (IsSpan dbt) (cells_spans dbt fields bytes)
 spans_fit dbt [] bytes h = tt
@@ -132,20 +134,20 @@ plain_tests : (dbt : List ℕ) (fields : List Field) (bytes : List ℕ) → has_
 unfolding cell_tests
 plain_tests dbt [] bytes e = refl
 plain_tests dbt (f ∷ fs) bytes e =
-    let p = neither (eqb f.kind 77) (has_memos fs) e in
+    let p = neither (eqb f.kind MEMO) (has_memos fs) e in
     rw (p.0, plain_tests dbt fs (drop f.width bytes) p.1) refl
 
 plain_cells : (dbt : List ℕ) (fields : List Field) (bytes : List ℕ) (memos : List (List ℕ)) → has_memos fields ≡ false → cells_with fields bytes memos ≡ cells_read dbt fields bytes
 unfolding cell_text
 plain_cells dbt [] bytes memos e = refl
 plain_cells dbt (f ∷ fs) bytes memos e =
-    let p = neither (eqb f.kind 77) (has_memos fs) e in
+    let p = neither (eqb f.kind MEMO) (has_memos fs) e in
     rw (p.0, plain_cells dbt fs (drop f.width bytes) memos p.1) refl
 
 plain_count : (fields : List Field) → has_memos fields ≡ false → memo_count fields ≡ 0
 plain_count [] e = refl
 plain_count (f ∷ fs) e =
-    let p = neither (eqb f.kind 77) (has_memos fs) e in
+    let p = neither (eqb f.kind MEMO) (has_memos fs) e in
     rw p.0 (plain_count fs p.1)
 
 pub plain_rows : (dbt : List ℕ) (fields : List Field) (ps memos : List (List ℕ)) → has_memos fields ≡ false → rows_with fields ps memos ≡ map (row_read dbt fields) ps

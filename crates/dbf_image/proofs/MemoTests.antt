@@ -12,6 +12,8 @@ use Rattle.dbf_image.specs.Memo.{memo_number, memo_at, HasText, EncodesMemo, Enc
 use Rattle.dbf_image.specs.DbfText.{EncodesRows}
 use Rattle.dbf_image.specs.Reading.{is_block, text_tests, memo_tests, memo_text, cell_tests, cell_text, cells_tests, cells_read, row_tests, row_read}
 use Rattle.dbf_fields.proofs.FaultLaws.{first_then, first_parts}
+use Rattle.dbf_image.specs.declared.format.TheConstants.{BLOCK, DELETED, MAX_MEMO_BYTES}
+use Rattle.dbf_fields.specs.declared.field.TheConstants.{MEMO}
 
 -- ---- a text
 
@@ -23,15 +25,15 @@ pub text_ok : (dbt : List ℕ) (n : ℕ) → first_fault (text_tests dbt n) ≡ 
 unfolding text_tests
 text_ok dbt n h =
     let a = passed (is_block dbt n) _ _ h in
-    let b = passed (leb (length (memo_at dbt n)) 65535) _ _ a.1 in
-    let c = and_parts (ltb 0 n) (ltb (512 * n) (length dbt)) a.0 in
+    let b = passed (leb (length (memo_at dbt n)) MAX_MEMO_BYTES) _ _ a.1 in
+    let c = and_parts (ltb 0 n) (ltb (BLOCK * n) (length dbt)) a.0 in
     record { some = ltb-true _ _ c.0; inside = ltb-true _ _ c.1; short = leb-true _ _ b.0; text_is = refl }
 
 pub ok_text : (dbt text : List ℕ) (n : ℕ) → HasText dbt n text → first_fault (text_tests dbt n) ≡ None
 unfolding text_tests
 ok_text dbt text n h =
-    let a : is_block dbt n ≡ true = both (ltb 0 n) (ltb (512 * n) (length dbt)) (lt-ltb _ _ h.some) (lt-ltb _ _ h.inside) in
-    let short : length (memo_at dbt n) ≤ 65535 = rw h.text_is h.short in
+    let a : is_block dbt n ≡ true = both (ltb 0 n) (ltb (BLOCK * n) (length dbt)) (lt-ltb _ _ h.some) (lt-ltb _ _ h.inside) in
+    let short : length (memo_at dbt n) ≤ MAX_MEMO_BYTES = rw h.text_is h.short in
     let b = le-leb _ _ short in
     passes _ _ _ a (passes _ _ _ b refl)
 
@@ -86,21 +88,21 @@ ok_memo dbt cell text h = by_memo dbt text (memo_number cell) h
 
 -- ---- cells
 
-cell_ok_by : (dbt : List ℕ) (f : Field) (cell : List ℕ) (b : Bool) → eqb f.kind 77 ≡ b → first_fault (cond b (memo_tests dbt cell) []) ≡ None → EncodesCell dbt f cell (cond b (memo_text dbt cell) cell)
-cell_ok_by dbt f cell true e h = (λ kind. memo_ok dbt cell h, λ other. absurd (other (eqb-true f.kind 77 e)))
-cell_ok_by dbt f cell false e h = (λ kind. absurd (eqb-false f.kind 77 e kind), λ other. refl)
+cell_ok_by : (dbt : List ℕ) (f : Field) (cell : List ℕ) (b : Bool) → eqb f.kind MEMO ≡ b → first_fault (cond b (memo_tests dbt cell) []) ≡ None → EncodesCell dbt f cell (cond b (memo_text dbt cell) cell)
+cell_ok_by dbt f cell true e h = (λ kind. memo_ok dbt cell h, λ other. absurd (other (eqb-true f.kind MEMO e)))
+cell_ok_by dbt f cell false e h = (λ kind. absurd (eqb-false f.kind MEMO e kind), λ other. refl)
 
 cell_ok : (dbt : List ℕ) (f : Field) (cell : List ℕ) → first_fault (cell_tests dbt f cell) ≡ None → EncodesCell dbt f cell (cell_text dbt f cell)
 unfolding cell_tests cell_text
-cell_ok dbt f cell h = cell_ok_by dbt f cell (eqb f.kind 77) refl h
+cell_ok dbt f cell h = cell_ok_by dbt f cell (eqb f.kind MEMO) refl h
 
-ok_cell_by : (dbt : List ℕ) (f : Field) (cell text : List ℕ) (b : Bool) → eqb f.kind 77 ≡ b → EncodesCell dbt f cell text → (first_fault (cond b (memo_tests dbt cell) []) ≡ None) × (cond b (memo_text dbt cell) cell ≡ text)
-ok_cell_by dbt f cell text true e h = ok_memo dbt cell text (h.0 (eqb-true f.kind 77 e))
-ok_cell_by dbt f cell text false e h = (refl, sym (h.1 (eqb-false f.kind 77 e)))
+ok_cell_by : (dbt : List ℕ) (f : Field) (cell text : List ℕ) (b : Bool) → eqb f.kind MEMO ≡ b → EncodesCell dbt f cell text → (first_fault (cond b (memo_tests dbt cell) []) ≡ None) × (cond b (memo_text dbt cell) cell ≡ text)
+ok_cell_by dbt f cell text true e h = ok_memo dbt cell text (h.0 (eqb-true f.kind MEMO e))
+ok_cell_by dbt f cell text false e h = (refl, sym (h.1 (eqb-false f.kind MEMO e)))
 
 ok_cell : (dbt : List ℕ) (f : Field) (cell text : List ℕ) → EncodesCell dbt f cell text → (first_fault (cell_tests dbt f cell) ≡ None) × (cell_text dbt f cell ≡ text)
 unfolding cell_tests cell_text
-ok_cell dbt f cell text h = ok_cell_by dbt f cell text (eqb f.kind 77) refl h
+ok_cell dbt f cell text h = ok_cell_by dbt f cell text (eqb f.kind MEMO) refl h
 
 pub cells_ok : (dbt : List ℕ) (fields : List Field) (bytes : List ℕ) → first_fault (cells_tests dbt fields bytes) ≡ None → EncodesCells dbt fields bytes (cells_read dbt fields bytes)
 cells_ok dbt [] bytes h = tt
@@ -125,7 +127,7 @@ rows_ok dbt fields (p ∷ ps) h =
     let q = first_parts (row_tests dbt fields p) (flat_map (row_tests dbt fields) ps) h in
     ((refl, cells_ok dbt fields (drop 1 p) q.0), rows_ok dbt fields ps q.1)
 
-row_same : (dbt : List ℕ) (fields : List Field) (p : List ℕ) (r : Row) → r.deleted ≡ eqb (slice_index p 0) 42 → cells_read dbt fields (drop 1 p) ≡ r.cells → row_read dbt fields p ≡ r
+row_same : (dbt : List ℕ) (fields : List Field) (p : List ℕ) (r : Row) → r.deleted ≡ eqb (slice_index p 0) DELETED → cells_read dbt fields (drop 1 p) ≡ r.cells → row_read dbt fields p ≡ r
 row_same dbt fields p r flag cells = rw (← flag, cells) refl
 
 pub ok_rows : (dbt : List ℕ) (fields : List Field) (ps : List (List ℕ)) (rows : List Row) → EncodesRows dbt fields ps rows

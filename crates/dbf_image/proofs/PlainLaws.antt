@@ -9,6 +9,7 @@ use Rattle.dbf_image.specs.DbfText.{EncodesRows, IsDbf}
 use Rattle.dbf_image.specs.Blocks.{cells_blocks, rows_blocks, memo_image}
 use Rattle.dbf_image.specs.Image.{image}
 use Rattle.dbf_image.proofs.FileLaws.{is_dbf_image}
+use Rattle.dbf_fields.specs.declared.field.TheConstants.{MEMO}
 
 or_parts : (x y : Bool) → (x || y) ≡ false → (x ≡ false) × (y ≡ false)
 or_parts true y e = absurd (true≢false e)
@@ -19,8 +20,8 @@ other_cells a b [] bytes [] e h = tt
 other_cells a b [] bytes (c ∷ cs) e h = absurd h
 other_cells a b (f ∷ fs) bytes [] e h = absurd h
 other_cells a b (f ∷ fs) bytes (c ∷ cs) e h =
-    let p = or_parts (eqb f.kind 77) (has_memos fs) e in
-    ((λ kind. absurd (eqb-false f.kind 77 p.0 kind), h.0.1), other_cells a b fs (drop f.width bytes) cs p.1 h.1)
+    let p = or_parts (eqb f.kind MEMO) (has_memos fs) e in
+    ((λ kind. absurd (eqb-false f.kind MEMO p.0 kind), h.0.1), other_cells a b fs (drop f.width bytes) cs p.1 h.1)
 
 other_records : (a b : List ℕ) (fields : List Field) (ps : List (List ℕ)) (rows : List Row) → has_memos fields ≡ false → EncodesRows a fields ps rows → EncodesRows b fields ps rows
 other_records a b fields [] [] e h = tt
@@ -32,7 +33,7 @@ no_blocks : (fields : List Field) (cells : List (List ℕ)) → has_memos fields
 no_blocks [] cells e = refl
 no_blocks (f ∷ fs) [] e = refl
 no_blocks (f ∷ fs) (c ∷ cs) e =
-    let p = or_parts (eqb f.kind 77) (has_memos fs) e in
+    let p = or_parts (eqb f.kind MEMO) (has_memos fs) e in
     rw p.0 (omega (arith, no_blocks fs cs p.1))
 
 pub none_free : (fields : List Field) (rows : List Row) → has_memos fields ≡ false → rows_blocks fields rows ≡ 0

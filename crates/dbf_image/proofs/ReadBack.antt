@@ -11,6 +11,7 @@ use Rattle.dbf_fields.specs.declared.field.Field.{Field}
 use Rattle.dbf_fields.specs.Name.{is_name_char, is_name}
 use Rattle.dbf_image.specs.DbfText.{chunks, field_of}
 use Rattle.dbf_image.specs.Image.{descriptor}
+use Rattle.dbf_image.specs.declared.format.TheConstants.{DELETED, HEADER_END}
 
 -- ---- chunks of one size that are joined
 
@@ -89,14 +90,14 @@ field_again f h =
     rw (name, kind, width, decimals) refl
 
 -- a letter is not the byte that ends the fields
-no_letter : (c : ℕ) → is_ascii_alphabetic c ≡ true → c ≢ 13
+no_letter : (c : ℕ) → is_ascii_alphabetic c ≡ true → c ≢ HEADER_END
 no_letter c letter e = absurd (true≢false (sym (rw e at letter)))
 
-letter_no_end : (cs rest : List ℕ) → 1 ≤ length cs → is_ascii_alphabetic (slice_index cs 0) ≡ true → get_or (cs ++ rest) 0 0 ≢ 13
+letter_no_end : (cs rest : List ℕ) → 1 ≤ length cs → is_ascii_alphabetic (slice_index cs 0) ≡ true → get_or (cs ++ rest) 0 0 ≢ HEADER_END
 letter_no_end [] rest some letter e = absurd (omega arith)
 letter_no_end (c ∷ cs) rest some letter e = no_letter c letter e
 
-starts : (f : Field) (rest : List ℕ) → HasName f → get_or (descriptor f ++ rest) 0 0 ≢ 13
+starts : (f : Field) (rest : List ℕ) → HasName f → get_or (descriptor f ++ rest) 0 0 ≢ HEADER_END
 unfolding descriptor
 starts f rest h =
     let zeros : List ℕ = replicate (11 - length f.name) 0 in
@@ -116,7 +117,7 @@ pub descriptors_long : (fs : List Field) → AllByRecursion HasName fs → AllBy
 descriptors_long [] h = tt
 descriptors_long (f ∷ fs) h = (length-descriptor f (omega (arith, h.0.short)), descriptors_long fs h.1)
 
-pub not_end : (fs : List Field) (rest : List ℕ) → AllByRecursion HasName fs → (i : ℕ) → i < length fs → get_or (flat_map descriptor fs ++ rest) (32 * i) 0 ≢ 13
+pub not_end : (fs : List Field) (rest : List ℕ) → AllByRecursion HasName fs → (i : ℕ) → i < length fs → get_or (flat_map descriptor fs ++ rest) (32 * i) 0 ≢ HEADER_END
 not_end [] rest h i lt = absurd (omega arith)
 not_end (f ∷ fs) rest h zero lt = rw (append_assoc (descriptor f) (flat_map descriptor fs) rest) (starts f (flat_map descriptor fs ++ rest) h.0)
 not_end (f ∷ fs) rest h (suc i) lt =
@@ -126,24 +127,24 @@ not_end (f ∷ fs) rest h (suc i) lt =
 
 -- ---- the flag of a record
 
-pub flag_again : (b : Bool) → eqb (cond b 42 32) 42 ≡ b
+pub flag_again : (b : Bool) → eqb (cond b DELETED 32) DELETED ≡ b
 flag_again true = refl
 flag_again false = refl
 
 -- ---- the whole file
 
-pub after_header : (head body more : List ℕ) (m : ℕ) → length head + length body + 1 ≡ m → drop m (head ++ (body ++ 13 ∷ more)) ≡ more
+pub after_header : (head body more : List ℕ) (m : ℕ) → length head + length body + 1 ≡ m → drop m (head ++ (body ++ HEADER_END ∷ more)) ≡ more
 after_header head body more m len =
-    let grouped : head ++ (body ++ 13 ∷ more) ≡ (head ++ (body ++ 13 ∷ [])) ++ more =
-    sym (append_assoc head (body ++ 13 ∷ []) more ∙ ap (λ (x : List ℕ). head ++ x) (append_assoc body (13 ∷ []) more)) in
-    let long : length (head ++ (body ++ 13 ∷ [])) ≡ m = omega (arith, length-append head (body ++ 13 ∷ []), length-append body (13 ∷ [])) in
-    rw grouped (drop_at (head ++ (body ++ 13 ∷ [])) more m long)
+    let grouped : head ++ (body ++ HEADER_END ∷ more) ≡ (head ++ (body ++ HEADER_END ∷ [])) ++ more =
+    sym (append_assoc head (body ++ HEADER_END ∷ []) more ∙ ap (λ (x : List ℕ). head ++ x) (append_assoc body (HEADER_END ∷ []) more)) in
+    let long : length (head ++ (body ++ HEADER_END ∷ [])) ≡ m = omega (arith, length-append head (body ++ HEADER_END ∷ []), length-append body (HEADER_END ∷ [])) in
+    rw grouped (drop_at (head ++ (body ++ HEADER_END ∷ [])) more m long)
 
-pub end_here : (head body more : List ℕ) (i : ℕ) → length head + length body ≡ i → get_or (head ++ (body ++ 13 ∷ more)) i 0 ≡ 13
+pub end_here : (head body more : List ℕ) (i : ℕ) → length head + length body ≡ i → get_or (head ++ (body ++ HEADER_END ∷ more)) i 0 ≡ HEADER_END
 end_here head body more i len =
-    rw (← append_assoc head body (13 ∷ more)) (get_or_at (head ++ body) 13 more 0 i (omega (arith, length-append head body)))
+    rw (← append_assoc head body (HEADER_END ∷ more)) (get_or_at (head ++ body) HEADER_END more 0 i (omega (arith, length-append head body)))
 
-pub not_here : (head tail : List ℕ) (h i : ℕ) → length head ≡ h → get_or tail i 0 ≢ 13 → get_or (head ++ tail) (h + i) 0 ≢ 13
+pub not_here : (head tail : List ℕ) (h i : ℕ) → length head ≡ h → get_or tail i 0 ≢ HEADER_END → get_or (head ++ tail) (h + i) 0 ≢ HEADER_END
 not_here head tail h i len differs =
     let k : h + i - h ≡ i = omega arith in
     rw (get_or-append_right head tail h (h + i) 0 len (omega arith), k) differs

@@ -11,6 +11,7 @@ use Rattle.dbf_image.specs.declared.table.span.Span.{Span}
 use Rattle.dbf_image.specs.Table.{IsRow, AreCells, IsTable, is_memo_text}
 use Rattle.dbf_image.specs.DbfText.{chunks}
 use Rattle.dbf_image.specs.Store.{texts_of, IsSpan, first_memo, memo_count, cells_with, rows_with, rows_of, IsStore}
+use Rattle.dbf_fields.specs.declared.field.TheConstants.{MEMO}
 
 pub length-chunks : (size n : ℕ) (bytes : List ℕ) → length (chunks size n bytes) ≡ n
 length-chunks size zero bytes = refl
@@ -45,12 +46,12 @@ texts_drop zero memos h = h
 texts_drop (suc n) [] h = tt
 texts_drop (suc n) (t ∷ ts) h = texts_drop n ts h.1
 
-cells_fit_by : (f : Field) (fs : List Field) (cell rest : List ℕ) (memos : List (List ℕ)) (b : Bool) → eqb f.kind 77 ≡ b → length cell ≡ f.width → AreTexts memos
+cells_fit_by : (f : Field) (fs : List Field) (cell rest : List ℕ) (memos : List (List ℕ)) (b : Bool) → eqb f.kind MEMO ≡ b → length cell ≡ f.width → AreTexts memos
     → ((m : List (List ℕ)) → AreTexts m → AreCells fs (cells_with fs rest m))
     → AreCells (f ∷ fs) (cond b (first_memo memos ∷ cells_with fs rest (drop 1 memos)) (cell ∷ cells_with fs rest memos))
 cells_fit_by f fs cell rest memos true e wide texts ih =
-    ((λ kind. first_text memos texts, λ other. absurd (other (eqb-true f.kind 77 e))), ih (drop 1 memos) (texts_drop 1 memos texts))
-cells_fit_by f fs cell rest memos false e wide texts ih = ((λ kind. absurd (eqb-false f.kind 77 e kind), λ other. wide), ih memos texts)
+    ((λ kind. first_text memos texts, λ other. absurd (other (eqb-true f.kind MEMO e))), ih (drop 1 memos) (texts_drop 1 memos texts))
+cells_fit_by f fs cell rest memos false e wide texts ih = ((λ kind. absurd (eqb-false f.kind MEMO e kind), λ other. wide), ih memos texts)
 
 pub cells_fit : (fields : List Field) (bytes : List ℕ) (memos : List (List ℕ)) → widths fields ≤ length bytes → AreTexts memos → AreCells fields (cells_with fields bytes memos)
 cells_fit [] bytes memos room texts = tt
@@ -58,7 +59,7 @@ cells_fit (f ∷ fs) bytes memos room texts =
     let sum : widths (f ∷ fs) ≡ f.width + widths fs = sum_by-cons (λ (g : Field). g.width) f fs in
     let here : length (take f.width bytes) ≡ f.width = length-take-le f.width bytes (omega arith) in
     let left : widths fs ≤ length (drop f.width bytes) = omega (arith, length-drop f.width bytes) in
-    cells_fit_by f fs (take f.width bytes) (drop f.width bytes) memos (eqb f.kind 77) refl here texts (λ m h. cells_fit fs (drop f.width bytes) m left h)
+    cells_fit_by f fs (take f.width bytes) (drop f.width bytes) memos (eqb f.kind MEMO) refl here texts (λ m h. cells_fit fs (drop f.width bytes) m left h)
 
 pub rows_fit : (fields : List Field) (size n : ℕ) (bytes : List ℕ) (memos : List (List ℕ)) → size ≡ 1 + widths fields → n * size ≤ length bytes → AreTexts memos
     → AllByRecursion (IsRow fields) (rows_with fields (chunks size n bytes) memos)

@@ -12,6 +12,7 @@ use Rattle.dbf_image.specs.DbfText.{chunks}
 use Rattle.dbf_image.specs.Store.{text_of, texts_of, memo_count, first_memo, cells_with, row_with, rows_with, rows_of}
 use Rattle.dbf_image.specs.Blocks.{cell_bytes, cell_blocks, cells_bytes, cells_blocks}
 use Rattle.dbf_image.specs.Image.{row_bytes, rows_bytes}
+use Rattle.dbf_fields.specs.declared.field.TheConstants.{MEMO}
 
 pub all_drop : {X : Type 0} (P : X → Type 0) (xs : List X) (n : ℕ) → AllByRecursion P xs → AllByRecursion P (drop n xs)
 all_drop P [] zero h = tt
@@ -23,16 +24,16 @@ all_drop P (x ∷ xs) (suc n) h = all_drop P xs n h.1
 
 -- the cell of the first field
 abbrev pub first_cell : Field → List ℕ → List ℕ → List Span → List ℕ
-first_cell f bytes texts spans = cond (eqb f.kind 77) (first_memo (texts_of texts spans)) bytes
+first_cell f bytes texts spans = cond (eqb f.kind MEMO) (first_memo (texts_of texts spans)) bytes
 
-count_by : (f : Field) (fs : List Field) (b : Bool) → eqb f.kind 77 ≡ b → memo_count (f ∷ fs) ≡ memo_count (f ∷ []) + memo_count fs
+count_by : (f : Field) (fs : List Field) (b : Bool) → eqb f.kind MEMO ≡ b → memo_count (f ∷ fs) ≡ memo_count (f ∷ []) + memo_count fs
 count_by f fs true e = rw e (omega arith)
 count_by f fs false e = rw e (omega arith)
 
 pub count_first : (f : Field) (fs : List Field) → memo_count (f ∷ fs) ≡ memo_count (f ∷ []) + memo_count fs
-count_first f fs = count_by f fs (eqb f.kind 77) refl
+count_first f fs = count_by f fs (eqb f.kind MEMO) refl
 
-bytes_by : (f : Field) (fs : List Field) (rest texts : List ℕ) (spans : List Span) (next : ℕ) (b : Bool) → eqb f.kind 77 ≡ b
+bytes_by : (f : Field) (fs : List Field) (rest texts : List ℕ) (spans : List Span) (next : ℕ) (b : Bool) → eqb f.kind MEMO ≡ b
     → cells_bytes next (f ∷ fs) (cells_with (f ∷ fs) rest (texts_of texts spans))
     ≡ cell_bytes next f (first_cell f (take f.width rest) texts (take (memo_count (f ∷ [])) spans))
     ++ cells_bytes (next + cell_blocks f (first_cell f (take f.width rest) texts (take (memo_count (f ∷ [])) spans))) fs (cells_with fs (drop f.width rest) (texts_of texts (drop (memo_count (f ∷ [])) spans)))
@@ -44,9 +45,9 @@ pub bytes_first : (f : Field) (fs : List Field) (rest texts : List ℕ) (spans :
     → cells_bytes next (f ∷ fs) (cells_with (f ∷ fs) rest (texts_of texts spans))
     ≡ cell_bytes next f (first_cell f (take f.width rest) texts (take (memo_count (f ∷ [])) spans))
     ++ cells_bytes (next + cell_blocks f (first_cell f (take f.width rest) texts (take (memo_count (f ∷ [])) spans))) fs (cells_with fs (drop f.width rest) (texts_of texts (drop (memo_count (f ∷ [])) spans)))
-bytes_first f fs rest texts spans next = bytes_by f fs rest texts spans next (eqb f.kind 77) refl
+bytes_first f fs rest texts spans next = bytes_by f fs rest texts spans next (eqb f.kind MEMO) refl
 
-blocks_by : (f : Field) (fs : List Field) (rest texts : List ℕ) (spans : List Span) (b : Bool) → eqb f.kind 77 ≡ b
+blocks_by : (f : Field) (fs : List Field) (rest texts : List ℕ) (spans : List Span) (b : Bool) → eqb f.kind MEMO ≡ b
     → cells_blocks (f ∷ fs) (cells_with (f ∷ fs) rest (texts_of texts spans))
     ≡ cell_blocks f (first_cell f (take f.width rest) texts (take (memo_count (f ∷ [])) spans))
     + cells_blocks fs (cells_with fs (drop f.width rest) (texts_of texts (drop (memo_count (f ∷ [])) spans)))
@@ -80,12 +81,12 @@ module _ (fields : List Field) (i : ℕ) (f : Field) (lt : i < length fields) (i
       → next + left_blocks (drop i fields) rest texts spans
       ≡ (next + cell_blocks f cell) + left_blocks (drop (i + 1) fields) (drop f.width rest) texts (drop (memo_count (f ∷ [])) spans)
   blocks-next rest texts spans next cell c =
-      let step = blocks_by f (drop (i + 1) fields) rest texts spans (eqb f.kind 77) refl in
+      let step = blocks_by f (drop (i + 1) fields) rest texts spans (eqb f.kind MEMO) refl in
       rw (here, c) (omega (arith, step))
 
 -- ---- cells without memos are the bytes as they are
 
-plain_by : (f : Field) (fs : List Field) (bytes : List ℕ) (memos : List (List ℕ)) (next : ℕ) (b : Bool) → eqb f.kind 77 ≡ b → memo_count (f ∷ fs) ≡ 0 → length bytes ≡ widths (f ∷ fs)
+plain_by : (f : Field) (fs : List Field) (bytes : List ℕ) (memos : List (List ℕ)) (next : ℕ) (b : Bool) → eqb f.kind MEMO ≡ b → memo_count (f ∷ fs) ≡ 0 → length bytes ≡ widths (f ∷ fs)
     → ((rest : List ℕ) (n : ℕ) → memo_count fs ≡ 0 → length rest ≡ widths fs → cells_bytes n fs (cells_with fs rest memos) ≡ rest)
     → cells_bytes next (f ∷ fs) (cells_with (f ∷ fs) bytes memos) ≡ bytes
 plain_by f fs bytes memos next true e none long ih =
@@ -101,9 +102,9 @@ pub plain_bytes : (fields : List Field) (bytes : List ℕ) (memos : List (List �
     → cells_bytes next fields (cells_with fields bytes memos) ≡ bytes
 plain_bytes [] [] memos next none long = refl
 plain_bytes [] (b ∷ bs) memos next none long = absurd (omega arith)
-plain_bytes (f ∷ fs) bytes memos next none long = plain_by f fs bytes memos next (eqb f.kind 77) refl none long (λ rest n. plain_bytes fs rest memos n)
+plain_bytes (f ∷ fs) bytes memos next none long = plain_by f fs bytes memos next (eqb f.kind MEMO) refl none long (λ rest n. plain_bytes fs rest memos n)
 
-plain_count_by : (f : Field) (fs : List Field) (bytes : List ℕ) (memos : List (List ℕ)) (b : Bool) → eqb f.kind 77 ≡ b → memo_count (f ∷ fs) ≡ 0
+plain_count_by : (f : Field) (fs : List Field) (bytes : List ℕ) (memos : List (List ℕ)) (b : Bool) → eqb f.kind MEMO ≡ b → memo_count (f ∷ fs) ≡ 0
     → ((rest : List ℕ) → memo_count fs ≡ 0 → cells_blocks fs (cells_with fs rest memos) ≡ 0)
     → cells_blocks (f ∷ fs) (cells_with (f ∷ fs) bytes memos) ≡ 0
 plain_count_by f fs bytes memos true e none ih =
@@ -115,11 +116,11 @@ plain_count_by f fs bytes memos false e none ih =
 
 pub plain_blocks : (fields : List Field) (bytes : List ℕ) (memos : List (List ℕ)) → memo_count fields ≡ 0 → cells_blocks fields (cells_with fields bytes memos) ≡ 0
 plain_blocks [] bytes memos none = refl
-plain_blocks (f ∷ fs) bytes memos none = plain_count_by f fs bytes memos (eqb f.kind 77) refl none (λ rest. plain_blocks fs rest memos)
+plain_blocks (f ∷ fs) bytes memos none = plain_count_by f fs bytes memos (eqb f.kind MEMO) refl none (λ rest. plain_blocks fs rest memos)
 
 -- ---- records
 
-enough_by : (f : Field) (fs : List Field) (bytes : List ℕ) (memos : List (List ℕ)) (b : Bool) → eqb f.kind 77 ≡ b
+enough_by : (f : Field) (fs : List Field) (bytes : List ℕ) (memos : List (List ℕ)) (b : Bool) → eqb f.kind MEMO ≡ b
     → ((rest : List ℕ) (m : List (List ℕ)) → cells_with fs rest (take (memo_count fs) m) ≡ cells_with fs rest m)
     → cells_with (f ∷ fs) bytes (take (memo_count (f ∷ fs)) memos) ≡ cells_with (f ∷ fs) bytes memos
 enough_by f fs bytes [] true e ih = rw e refl
@@ -129,7 +130,7 @@ enough_by f fs bytes memos false e ih = rw e (ap (λ (x : List (List ℕ)). take
 -- a record takes no more memos than it has
 pub cells_enough : (fields : List Field) (bytes : List ℕ) (memos : List (List ℕ)) → cells_with fields bytes (take (memo_count fields) memos) ≡ cells_with fields bytes memos
 cells_enough [] bytes memos = refl
-cells_enough (f ∷ fs) bytes memos = enough_by f fs bytes memos (eqb f.kind 77) refl (cells_enough fs)
+cells_enough (f ∷ fs) bytes memos = enough_by f fs bytes memos (eqb f.kind MEMO) refl (cells_enough fs)
 
 -- what is left of the records
 abbrev pub left_rows : ℕ → List Field → ℕ → ℕ → List ℕ → List ℕ → List Span → List ℕ

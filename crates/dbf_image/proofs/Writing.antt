@@ -15,6 +15,7 @@ use Rattle.dbf_image.specs.Image.{header_bytes, descriptor, rows_bytes, image}
 use Rattle.dbf_image.specs.Writer.{Wanted, more}
 use Rattle.dbf_image.specs.Table.{Table}
 use Rattle.dbf_image.proofs.Sinks.{grown_then}
+use Rattle.dbf_image.specs.declared.format.TheConstants.{END_OF_FILE, HEADER_END}
 
 -- a descriptor, whose name, letter, width and decimals are written over zeros
 pub descriptor_built : (f : Field) → length f.name ≤ 11 → set (set (set (f.name ++ drop (length f.name) (replicate 32 0)) 11 f.kind) 16 f.width) 17 f.decimals ≡ descriptor f
@@ -35,7 +36,7 @@ descriptor_built f le =
 
 -- the parts of a file
 pub image_put : (w : Wanted) (table : Table) (year month day : ℕ)
-    → more (more (more (more (more w (header_bytes table year month day)) (flat_map descriptor table.schema)) (13 ∷ [])) (flat_map (λ bytes. bytes) (rows_bytes 1 table.schema table.rows))) (26 ∷ []) ≡ more w (image table year month day)
+    → more (more (more (more (more w (header_bytes table year month day)) (flat_map descriptor table.schema)) (HEADER_END ∷ [])) (flat_map (λ bytes. bytes) (rows_bytes 1 table.schema table.rows))) (END_OF_FILE ∷ []) ≡ more w (image table year month day)
 image_put w table year month day = simp grown_then (ap (more w) (simp append_assoc))
 
 names_fit : (fs : List Field) → AllByRecursion (λ f. is_name f.name ≡ true) fs → AllByRecursion (λ f. length f.name ≤ 11) fs

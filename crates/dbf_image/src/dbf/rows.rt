@@ -14,7 +14,7 @@ ghost use Rattle.dbf_image.specs.Output.{Puts};
 ghost use Rattle.dbf_image.specs.declared.format.TheConstants.{DELETED, KEPT, MAX_MEMO_BYTES, MAX_RECORDS};
 
 use crate::dbf::header::Header;
-use crate::dbt::blocks::{block_count, block_number_cell, memo_text};
+use crate::dbt::blocks::{block_count, block_number_cell, span_text};
 use crate::format::{DELETED, KEPT};
 use crate::sink::ByteSink;
 use crate::sink::writer::SinkWriter;
@@ -45,7 +45,7 @@ fn cell_of<'a>(field: &Field, bytes: &'a [u8], texts: &'a [u8], memos: &[Span]) 
     ensures short { field.now.kind ≡ MEMO_KIND → length result.now ≤ MAX_MEMO_BYTES }
 {
     if field.kind == MEMO {
-        memo_text(texts, &memos[0])
+        span_text(texts, &memos[0])
     } else {
         bytes
     }

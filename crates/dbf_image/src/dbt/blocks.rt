@@ -12,7 +12,7 @@ use crate::table::span::{Span, text_at};
 use crate::table::store::Store;
 
 /// A memo's text.
-pub(crate) fn memo_text<'a>(texts: &'a [u8], span: &Span) -> &'a [u8]
+pub(crate) fn span_text<'a>(texts: &'a [u8], span: &Span) -> &'a [u8]
     requires { IsSpan texts.now span.now }
     ensures value { result.now ≡ text_of texts.now span.now }
     ensures short { length result.now ≤ MAX_MEMO_BYTES }
@@ -79,7 +79,7 @@ fn blocks_after(store: Store<'_>) -> u64
 {
     let mut next: u64 = 1;
     for span in store.memos {
-        next += block_count(memo_text(store.texts, span));
+        next += block_count(span_text(store.texts, span));
     }
     next
 }

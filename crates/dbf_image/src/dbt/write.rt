@@ -10,7 +10,7 @@ ghost use Rattle.dbf_image.specs.Sink.{grown, IsFront, Rises};
 ghost use Rattle.dbf_image.specs.declared.format.TheConstants.{BLOCK, MAX_MEMO_BYTES};
 
 use crate::dbf::write::WriteFault;
-use crate::dbt::blocks::{memo_text, next_free_block};
+use crate::dbt::blocks::{next_free_block, span_text};
 use crate::format::{BLOCK, MEMO_END, VERSION};
 use crate::sink::writer::SinkWriter;
 use crate::sink::{ByteSink, SinkFault};
@@ -57,7 +57,7 @@ fn put_blocks<S: ByteSink>(out: &mut SinkWriter<'_, S>, texts: &[u8], memos: &[S
     ensures { Puts out.old (flat_map (λ span. block_bytes (text_of texts.now span)) memos.now) out.new }
 {
     for span in memos {
-        put_block(out, memo_text(texts, span));
+        put_block(out, span_text(texts, span));
     }
 }
 

@@ -2,10 +2,11 @@ use Rattle.std.proofs.Common.{◌≡◌, ◌≤◌, ◌∙◌, arith}
 use Rattle.std.proofs.lemmas.Result.{err_from_is_err_and}
 use Rattle.dbf_image.proofs.MemoLoops.{tests-next, tests-stop, spans-next, room-next, memo_fits}
 use Rattle.dbf_image.proofs.dbt.memos.push_spans.Goals as goal
+use Rattle.dbf_fields.specs.declared.field.TheConstants.{MEMO}
 
 pub push_span-requires-clause-few : goal.push_span-requires-clause-few
 push_span-requires-clause-few c = λ kind.
-    let wide : c.field-item.result.kind ≡ 77 → c.field-item.result.width ≤ 10 = rw c.field-item.is (memo_fits c.args.fields.now c.requires.schema c.loop-field.field-index _ c.loop-field-test.true) in
+    let wide : c.field-item.result.kind ≡ MEMO → c.field-item.result.width ≤ 10 = rw c.field-item.is (memo_fits c.args.fields.now c.requires.schema c.loop-field.field-index _ c.loop-field-test.true) in
     omega (arith, wide kind, c.split_at.ensures.front_len, c.from.ensures)
 
 pub returns-in_err-push_span-clause-refused : goal.returns-in_err-push_span-clause-refused

@@ -5,6 +5,7 @@ use Rattle.dbf_image.specs.Store.{texts_of}
 use Rattle.dbf_image.proofs.CellOffsets.{cell-inside, cell_read, memo-inside, memo_read, kind_is}
 use Rattle.dbf_image.proofs.Spans.{text_at}
 use Rattle.dbf_image.proofs.table.TableData.cell.Goals as goal
+use Rattle.dbf_fields.specs.declared.field.TheConstants.{MEMO}
 
 pub bounds-store-index : goal.bounds-store-index
 bounds-store-index c =
@@ -53,7 +54,7 @@ returns-clause-value c =
     let width = rw fields at c.width.ensures.value in
     let is = rw (c.fields.ensures.fields, fields) at c.index-fields-field.is in
     let same = kind_is table.schema c.args.field _ c.requires.field is ∙ ap (λ (f : Field). f.kind) c.index-fields-field.is in
-    let other : kind_at table.schema c.args.field ≢ 77 = λ e. c.if-fields-field-eq-MEMO.false (sym same ∙ e) in
+    let other : kind_at table.schema c.args.field ≢ MEMO = λ e. c.if-fields-field-eq-MEMO.false (sym same ∙ e) in
     let k : c.cell_start-start.result + c.width.result - c.cell_start-start.result ≡ cell_width table.schema c.args.field = omega (arith, width) in
     let blank = blank_row table.schema in
     let nothing : List ℕ = [] in

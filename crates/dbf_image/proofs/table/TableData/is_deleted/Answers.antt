@@ -4,6 +4,7 @@ use Rattle.dbf_image.specs.Table.{Row, Table, blank_row}
 use Rattle.dbf_image.specs.Store.{texts_of}
 use Rattle.dbf_image.proofs.CellOffsets.{chunk-inside, flag_read}
 use Rattle.dbf_image.proofs.table.TableData.is_deleted.Goals as goal
+use Rattle.dbf_image.specs.declared.format.TheConstants.{DELETED}
 
 pub bounds-store-start : goal.bounds-store-start
 bounds-store-start c =
@@ -20,7 +21,7 @@ returns c =
     let blank = blank_row table.schema in
     let store = c.store.result in
     record {
-      value = ap (λ (m : ℕ). eqb (get_or store.records.now m 0) 42) start
+      value = ap (λ (m : ℕ). eqb (get_or store.records.now m 0) DELETED) start
           ∙ sym (ap (λ (rows : List Row). (get_or rows (c.args.number - 1) blank).deleted) c.store.ensures.rows
           ∙ flag_read table.schema (length table.rows) (c.args.number - 1) store.records.now (texts_of store.texts.now store.memos.now) blank (omega arith));
     }

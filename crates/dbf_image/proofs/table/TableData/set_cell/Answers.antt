@@ -8,6 +8,7 @@ use Rattle.dbf_image.proofs.Rows.{length-rows_of}
 use Rattle.dbf_image.proofs.CellOffsets.{cell-inside}
 use Rattle.dbf_image.proofs.Edits.{rows_put, records_put}
 use Rattle.dbf_image.proofs.table.TableData.set_cell.Goals as goal
+use Rattle.dbf_fields.specs.declared.field.TheConstants.{MEMO}
 
 pub slice_bounds-copy_from_slice-end : goal.slice_bounds-copy_from_slice-end
 slice_bounds-copy_from_slice-end c =
@@ -24,7 +25,7 @@ returns c =
     let inside = c.self.inside in
     let items = inside.records.items in
     let memos = texts_of inside.texts.items inside.memos.items in
-    let other : kind_at inside.schema c.args.field ≢ 77 = rw (← c.self.view_is) at c.requires.kind in
+    let other : kind_at inside.schema c.args.field ≢ MEMO = rw (← c.self.view_is) at c.requires.kind in
     let cell = c.args.cell.now in
     let start = c.cell_start-start.result in
     let i = c.args.number - 1 in

@@ -7,13 +7,14 @@ use Rattle.dbf_image.proofs.Edits.{rows_memo}
 use Rattle.dbf_image.proofs.Spans.{texts_put, store_put}
 use Rattle.std.proofs.lemmas.List.{length-map}
 use Rattle.dbf_image.proofs.table.TableData.set_memo.Goals as goal
+use Rattle.dbf_fields.specs.declared.field.TheConstants.{MEMO}
 
 pub index_mut-requires : goal.index_mut-requires
 index_mut-requires c =
     let inside = c.self.inside in
     let n : length c.args.self.now.rows ≡ inside.count = rw (← c.self.view_is) (length-rows_of inside.schema inside.count inside.records.items (texts_of inside.texts.items inside.memos.items)) in
     let field : c.args.field < length inside.schema = rw (← c.self.view_is) at c.requires.field in
-    let kind : kind_at inside.schema c.args.field ≡ 77 = rw (← c.self.view_is) at c.requires.kind in
+    let kind : kind_at inside.schema c.args.field ≡ MEMO = rw (← c.self.view_is) at c.requires.kind in
     let index_is = memo-inside inside.schema inside.count (c.args.number - 1) c.args.field c.memo_index-index.result (length inside.memos.items) c.self.invariant.many (omega arith) field kind c.memo_index-index.ensures.value in
     omega (arith, index_is, inside.memos.ok.0)
 
@@ -34,7 +35,7 @@ returns-clause-ok c =
     let start : c.len-start.result ≡ length texts = omega (arith, c.len-start.ensures, inside.texts.ok.0) in
     let n : length c.args.self.now.rows ≡ inside.count = rw (← c.self.view_is) (length-rows_of inside.schema inside.count inside.records.items (texts_of texts spans)) in
     let field : c.args.field < length inside.schema = rw (← c.self.view_is) at c.requires.field in
-    let kind : kind_at inside.schema c.args.field ≡ 77 = rw (← c.self.view_is) at c.requires.kind in
+    let kind : kind_at inside.schema c.args.field ≡ MEMO = rw (← c.self.view_is) at c.requires.kind in
     let many = length-map spans (λ s. Rattle.dbf_image.specs.Store.text_of texts s) ∙ c.self.invariant.many in
     let rows = ap (rows_of inside.schema inside.count inside.records.items) (texts_put texts text spans c.memo_index-index.result c.self.invariant.each)
     ∙ ap (λ (k : ℕ). rows_of inside.schema inside.count inside.records.items (set (texts_of texts spans) k text)) c.memo_index-index.ensures.value
