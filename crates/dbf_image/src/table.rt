@@ -71,7 +71,7 @@ impl TableData {
         memos: Vec<Span>,
     ) -> TableData
         requires { IsStore schema count records.items texts.items memos.items }
-        ensures { result ≡ record { schema = schema; rows = rows_of schema count records.items (texts_of texts.items memos.items) } }
+        ensures value { result ≡ record { schema = schema; rows = rows_of schema count records.items (texts_of texts.items memos.items) } }
     {
         TableData {
             schema,

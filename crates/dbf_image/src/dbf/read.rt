@@ -40,7 +40,7 @@ fn descriptor_count(bytes: &[u8], end: usize) -> Option<usize>
 
 // Where the first zero stands.
 fn first_zero(name: &[u8]) -> Option<usize>
-    ensures { result ≡ position (λ b. b == 0) name.now }
+    ensures value { result ≡ position (λ b. b == 0) name.now }
 {
     name.iter().position(|byte| *byte == 0)
 }
@@ -48,7 +48,7 @@ fn first_zero(name: &[u8]) -> Option<usize>
 // The field of a descriptor.
 fn field_at(alloc: Global, descriptor: &[u8]) -> Result<Field, AllocError>
     requires { DESCRIPTOR ≤ length descriptor.now }
-    ensures { IfOk result (λ field. field ≡ field_of descriptor.now) }
+    ensures value { IfOk result (λ field. field ≡ field_of descriptor.now) }
 {
     let name = &descriptor[..NAME_BYTES];
     let end = first_zero(name).unwrap_or(NAME_BYTES);
@@ -63,7 +63,7 @@ fn field_at(alloc: Global, descriptor: &[u8]) -> Result<Field, AllocError>
 // The fields of so many descriptors, one after the other.
 fn fields_at(alloc: Global, count: usize, bytes: &[u8]) -> Result<Vec<Field>, AllocError>
     requires { DESCRIPTOR * count ≤ length bytes.now }
-    ensures { IfOk result (λ fields. fields.items ≡ map field_of (chunks DESCRIPTOR count bytes.now)) }
+    ensures value { IfOk result (λ fields. fields.items ≡ map field_of (chunks DESCRIPTOR count bytes.now)) }
 {
     let mut fields = Vec::new(alloc);
     let mut rest = bytes;
@@ -103,7 +103,7 @@ fn header_at(dbf: &[u8]) -> Result<Header, ImageFault>
 
 // Version 3, without a memo file or with one.
 fn has_version(first: u8) -> bool
-    ensures { result ≡ (first == VERSION || first == VERSION_WITH_MEMOS) }
+    ensures value { result ≡ (first == VERSION || first == VERSION_WITH_MEMOS) }
 {
     first == VERSION || first == VERSION_WITH_MEMOS
 }
@@ -167,7 +167,7 @@ fn check_records(dbf: &[u8], header: Header, record_length: usize) -> Result<(),
 // The bytes of all records.
 fn records_at(dbf: &[u8], header: Header) -> &[u8]
     requires { header.header_length + header.record_count * header.record_length ≤ length dbf.now }
-    ensures { result.now ≡ take (header.record_count * header.record_length) (drop header.header_length dbf.now) }
+    ensures value { result.now ≡ take (header.record_count * header.record_length) (drop header.header_length dbf.now) }
 {
     let size = u64::from(header.record_count) * u64::from(header.record_length);
     let (_, rest) = dbf.split_at(usize::from(header.header_length));

@@ -42,7 +42,7 @@ impl<S: ByteSink> Model for Wanted<S> {
 
 impl<S: ByteSink> Wanted<S> {
     pub fn of(sink: &S) -> Wanted<S>
-        ensures { result ≡ record { begun = S.written sink.now; written = S.written sink.now; failures = S.failures sink.now } }
+        ensures value { result ≡ record { begun = S.written sink.now; written = S.written sink.now; failures = S.failures sink.now } }
     {
         Wanted {
             begun: Snapshot::of(sink),
@@ -51,7 +51,7 @@ impl<S: ByteSink> Wanted<S> {
     }
 
     pub fn append(&mut self, bytes: &[u8])
-        ensures { self.new ≡ more self.old bytes.now }
+        ensures value { self.new ≡ more self.old bytes.now }
     {
         let put = &self.put;
         let put = Tag::of::<Appended<'_>, Bytes>(&Appended { put, bytes });

@@ -13,13 +13,13 @@ pub returns-in_err-schema-clause-refused : goal.returns-in_err-schema-clause-ref
 returns-in_err-schema-clause-refused c =
     let p = err_from_is_err_and c.from_residual-in_err-schema.result c.from_residual-in_err-schema.ensures.1 in
     let all : c.deref.result.now ≡ fields_of c.args.dbf.now =
-    c.deref.ensures.value ∙ c.in_ok-fields.ensures ∙ fields_are c.args.dbf.now c.in-Some.count c.in-Some.ensures.count in
+    c.deref.ensures.value ∙ c.in_ok-fields.ensures.value ∙ fields_are c.args.dbf.now c.in-Some.count c.in-Some.ensures.count in
     rw (p.1, p.2) (fields_fail c.args.dbf.now c.in-Some.count _ c.in-Some.ensures.count (rw all at c.in_err-schema.ensures.refused))
 
 pub returns : goal.returns
 returns c =
     let all : c.deref.result.now ≡ fields_of c.args.dbf.now =
-    c.deref.ensures.value ∙ c.in_ok-fields.ensures ∙ fields_are c.args.dbf.now c.in-Some.count c.in-Some.ensures.count in
+    c.deref.ensures.value ∙ c.in_ok-fields.ensures.value ∙ fields_are c.args.dbf.now c.in-Some.count c.in-Some.ensures.count in
     record {
       accepted = fields_pass c.args.dbf.now c.in-Some.count c.in-Some.ensures.count (rw all at c.in_ok-schema.ensures.accepted);
       refused = tt;
