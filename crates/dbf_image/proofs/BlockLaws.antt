@@ -11,7 +11,7 @@ use Rattle.dbf_image.specs.Memo.{HasText, EncodesMemo, EncodesCell, EncodesCells
 use Rattle.dbf_image.specs.Blocks.{blocks_of, block_bytes, block_number_cell, cell_bytes, cell_blocks, cell_memo, cells_bytes, cells_blocks, cells_memos}
 use Rattle.dbf_image.proofs.Numbers.{number_in, length-justified}
 use Rattle.dbf_image.specs.declared.format.TheConstants.{BLOCK, MAX_MEMO_BYTES, MEMO_END}
-use Rattle.dbf_fields.specs.declared.field.TheConstants.{MEMO}
+use Rattle.dbf_fields.specs.declared.format.TheConstants.{MEMO}
 
 -- a memo's cell is ten bytes wide
 abbrev pub AreWide : List Field → Type 0

@@ -10,7 +10,7 @@ use Rattle.dbf_image.specs.DbfText.{chunks, AreRecords}
 use Rattle.dbf_image.specs.Store.{first_memo, memo_count, cells_with, row_with, rows_with, rows_of}
 use Rattle.dbf_image.proofs.Rows.{length-chunks}
 use Rattle.dbf_image.specs.declared.format.TheConstants.{DELETED}
-use Rattle.dbf_fields.specs.declared.field.TheConstants.{MEMO}
+use Rattle.dbf_fields.specs.declared.format.TheConstants.{MEMO}
 
 -- a part of a part is a part of the whole
 pub part_of_part : (w k size : ℕ) (xs : List ℕ) → k + w ≤ size → take w (drop k (take size xs)) ≡ take w (drop k xs)

@@ -13,7 +13,7 @@ use Rattle.dbf_image.specs.DbfText.{chunks, AreRecords}
 use Rattle.dbf_image.specs.Store.{first_memo, memo_count, cells_with, row_with, rows_with, rows_of}
 use Rattle.dbf_image.proofs.Rows.{length-chunks}
 use Rattle.dbf_image.proofs.CellOffsets.{chunk_here, row_here, cell_within, memo_within, chunk-inside}
-use Rattle.dbf_fields.specs.declared.field.TheConstants.{MEMO}
+use Rattle.dbf_fields.specs.declared.format.TheConstants.{MEMO}
 
 -- ---- one more record
 

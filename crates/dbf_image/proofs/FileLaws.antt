@@ -16,7 +16,7 @@ use Rattle.dbf_image.specs.Image.{header_bytes, descriptor, row_bytes, rows_byte
 use Rattle.dbf_image.proofs.ReadBack.{chunks-join, length-join, names_from, descriptors_long, fields_again, not_end, after_header, end_here, not_here, flag_again}
 use Rattle.dbf_image.proofs.BlockLaws.{AreWide, cells_again, length-cell, length-cells_memos}
 use Rattle.dbf_image.specs.declared.format.TheConstants.{BLOCK, END_OF_FILE, HEADER_END}
-use Rattle.dbf_fields.specs.declared.field.TheConstants.{MEMO}
+use Rattle.dbf_fields.specs.declared.format.TheConstants.{MEMO}
 
 memo_wide : (f : Field) → has_width f ≡ true → f.kind ≡ MEMO → f.width ≡ 10
 memo_wide f h kind = eqb-true f.width 10 (rw kind at h)

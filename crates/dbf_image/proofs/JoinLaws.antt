@@ -18,7 +18,7 @@ use Rattle.dbf_image.specs.Store.{text_of, texts_of, memo_count, first_memo, cel
 use Rattle.dbf_image.proofs.Rows.{length-chunks}
 use Rattle.dbf_image.specs.Blocks.{blocks_of, block_bytes, cells_blocks, cells_memos, rows_blocks, rows_memos}
 use Rattle.dbf_image.specs.declared.format.TheConstants.{MAX_RECORDS}
-use Rattle.dbf_fields.specs.declared.field.TheConstants.{MEMO}
+use Rattle.dbf_fields.specs.declared.format.TheConstants.{MEMO}
 
 joined_by : (f : Field) (fs : List Field) (cell rest : List ℕ) (memos : List (List ℕ)) (b : Bool) → eqb f.kind MEMO ≡ b
     → ((m : List (List ℕ)) → memo_count fs ≤ length m → cells_memos fs (cells_with fs rest m) ≡ flat_map block_bytes (take (memo_count fs) m))

@@ -17,7 +17,7 @@ use Rattle.dbf_image.specs.declared.table.span.Span.{Span}
 use Rattle.dbf_image.specs.Reading.{cell_tests, cells_tests}
 use Rattle.dbf_image.specs.Spans.{cell_spans, cells_spans}
 use Rattle.dbf_fields.proofs.FaultLaws.{first_then, first_before}
-use Rattle.dbf_fields.specs.declared.field.TheConstants.{MEMO}
+use Rattle.dbf_fields.specs.declared.format.TheConstants.{MEMO}
 
 pub tests-next : (dbt bytes : List ℕ) (fields : List Field) (i : ℕ) (f : Field) → i < length fields → f ≡ get_or fields i f
     → first_fault (cell_tests dbt f (take f.width bytes)) ≡ None

@@ -13,7 +13,7 @@ use Rattle.dbf_image.specs.DbfText.{EncodesRows}
 use Rattle.dbf_image.specs.Reading.{is_block, text_tests, memo_tests, memo_text, cell_tests, cell_text, cells_tests, cells_read, row_tests, row_read}
 use Rattle.dbf_fields.proofs.FaultLaws.{first_then, first_parts}
 use Rattle.dbf_image.specs.declared.format.TheConstants.{BLOCK, DELETED, MAX_MEMO_BYTES}
-use Rattle.dbf_fields.specs.declared.field.TheConstants.{MEMO}
+use Rattle.dbf_fields.specs.declared.format.TheConstants.{MEMO}
 
 -- ---- a text
 

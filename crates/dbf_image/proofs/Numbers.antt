@@ -8,7 +8,7 @@ use Rattle.std.proofs.lemmas.List.{length-append, reverse-append, reverse-revers
 use Rattle.std.proofs.lemmas.List.Folds.{list_all-append}
 use Rattle.std.proofs.lemmas.List.Sums.{fold-append}
 use Rattle.std.proofs.Math.Nat.{pow-suc}
-use Rattle.dbf_fields.specs.Digits.{digits_behind}
+use Rattle.dbf_fields.specs.Digits.{digits_after}
 use Rattle.dbf_fields.specs.Number.{without_leading, trimmed}
 use Rattle.dbf_image.specs.Memo.{memo_number}
 use Rattle.dbf_image.specs.Blocks.{justified, block_number_cell}
@@ -38,7 +38,7 @@ record AreDigits (n : ℕ) (digits : List ℕ) : Type 0 where
   none : n ≡ 0 → digits ≡ []
   kept : reverse (without_leading (reverse digits)) ≡ digits
   each : list_all is_ascii_digit digits ≡ true
-  value : digits_behind 0 digits ≡ n
+  value : digits_after 0 digits ≡ n
 
 is_digit : (n : ℕ) → n < 10 → is_ascii_digit (48 + n) ≡ true
 is_digit n lt = rw (le-leb 48 (48 + n) (omega arith), le-leb (48 + n) 57 (omega arith)) refl
@@ -80,7 +80,7 @@ digits_of (suc k) n lt =
     let wide : 10 ^ suc k ≡ 10 ^ k * 10 = pow-suc 10 k in
     digits_by k n (eqb n 0) refl (digits_of k (n / 10) (omega (arith, wide)))
 
-number_by : (cell digits : List ℕ) (n : ℕ) → trimmed cell ≡ digits → list_all is_ascii_digit digits ≡ true → digits_behind 0 digits ≡ n → memo_number cell ≡ Some n
+number_by : (cell digits : List ℕ) (n : ℕ) → trimmed cell ≡ digits → list_all is_ascii_digit digits ≡ true → digits_after 0 digits ≡ n → memo_number cell ≡ Some n
 unfolding memo_number
 number_by cell digits n e each value = rw (e, each) (ap (λ (m : ℕ). Some m) value)
 

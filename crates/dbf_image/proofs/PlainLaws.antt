@@ -9,7 +9,7 @@ use Rattle.dbf_image.specs.DbfText.{EncodesRows, IsDbf}
 use Rattle.dbf_image.specs.Blocks.{cells_blocks, rows_blocks, memo_image}
 use Rattle.dbf_image.specs.Image.{image}
 use Rattle.dbf_image.proofs.FileLaws.{is_dbf_image}
-use Rattle.dbf_fields.specs.declared.field.TheConstants.{MEMO}
+use Rattle.dbf_fields.specs.declared.format.TheConstants.{MEMO}
 
 or_parts : (x y : Bool) → (x || y) ≡ false → (x ≡ false) × (y ≡ false)
 or_parts true y e = absurd (true≢false e)

@@ -11,7 +11,7 @@ use Rattle.dbf_image.specs.declared.table.span.Span.{Span}
 use Rattle.dbf_image.specs.Table.{IsRow, AreCells, IsTable, is_memo_text}
 use Rattle.dbf_image.specs.DbfText.{chunks}
 use Rattle.dbf_image.specs.Store.{texts_of, IsSpan, first_memo, memo_count, cells_with, rows_with, rows_of, IsStore}
-use Rattle.dbf_fields.specs.declared.field.TheConstants.{MEMO}
+use Rattle.dbf_fields.specs.declared.format.TheConstants.{MEMO}
 
 pub length-chunks : (size n : ℕ) (bytes : List ℕ) → length (chunks size n bytes) ≡ n
 length-chunks size zero bytes = refl

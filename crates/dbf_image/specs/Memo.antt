@@ -3,14 +3,14 @@ use Rattle.std.specs.Prelude.{◌≡◌, ◌≢◌, ℕ, ◌*◌, ◌<◌, ◌�
 use Rattle.std.specs.List.{list_all, before_first}
 use Rattle.std.specs.Char.{is_ascii_digit}
 use Rattle.dbf_fields.specs.declared.field.Field.{Field}
-use Rattle.dbf_fields.specs.declared.field.TheConstants.{MEMO}
-use Rattle.dbf_fields.specs.Digits.{digits_behind}
+use Rattle.dbf_fields.specs.declared.format.TheConstants.{MEMO}
+use Rattle.dbf_fields.specs.Digits.{digits_after}
 use Rattle.dbf_fields.specs.Number.{trimmed}
 use Rattle.dbf_image.specs.declared.format.TheConstants.{BLOCK, MAX_MEMO_BYTES, MEMO_END}
 
 -- the block number of a memo's cell: digits between blanks and nothing else. No digits, or 0, is no memo
 unfoldable pub memo_number : List ℕ → Option ℕ
-memo_number cell = if list_all is_ascii_digit (trimmed cell) then Some (digits_behind 0 (trimmed cell)) else None
+memo_number cell = if list_all is_ascii_digit (trimmed cell) then Some (digits_after 0 (trimmed cell)) else None
 
 -- the text from the head of a block to the first 0x1A or the end
 abbrev pub memo_at : List ℕ → ℕ → List ℕ

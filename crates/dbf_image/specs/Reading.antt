@@ -1,7 +1,7 @@
 -- The tests of a reader of DBF files in their order, and what it reads.
 use Rattle.std.specs.Prelude.{◌≡◌, ℕ, zero, suc, ◌+◌, ◌-◌, ◌*◌, ◌/◌, Bool, not, ◌&&◌, ◌||◌, ◌==◌, nat_lt, nat_le, ◌⊎◌, List, [], ◌∷◌, ◌++◌, length, map, flat_map, take, drop, slice_index, Option, Some, None, is_some, is_none, unwrap_or, if◌then◌else◌}
 use Rattle.dbf_fields.specs.declared.field.Field.{Field}
-use Rattle.dbf_fields.specs.declared.field.TheConstants.{MEMO}
+use Rattle.dbf_fields.specs.declared.format.TheConstants.{MEMO}
 use Rattle.dbf_fields.specs.Faults.{first_fault}
 use Rattle.dbf_fields.specs.Field.{folded, widths}
 use Rattle.dbf_fields.specs.Schema as schemas

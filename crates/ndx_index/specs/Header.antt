@@ -6,7 +6,8 @@ use Rattle.dbf_fields.specs.Faults.{first_fault}
 use Rattle.ndx_index.specs.declared.pair.Pair.{Pair}
 use Rattle.ndx_index.specs.declared.read.header.Header.{Header}
 use Rattle.ndx_index.specs.declared.fault.NdxFault.{NdxFault}
-use Rattle.ndx_index.specs.declared.format.TheConstants.{PAGE, KEY_LENGTH_OFFSET, KEY_TYPE_OFFSET, RECORD_SIZE_OFFSET, UNIQUE_FLAG_OFFSET, EXPRESSION_OFFSET, MAX_KEY_LENGTH, MAX_RECORDS_BYTES}
+use Rattle.key_expr.specs.declared.format.TheConstants.{MAX_KEY_BYTES}
+use Rattle.ndx_index.specs.declared.format.TheConstants.{PAGE, KEY_LENGTH_OFFSET, KEY_TYPE_OFFSET, RECORD_SIZE_OFFSET, UNIQUE_FLAG_OFFSET, EXPRESSION_OFFSET, MAX_RECORDS_BYTES}
 use Rattle.ndx_index.specs.declared.fault.NdxFault.TheVariants.{Truncated, NumericIndex, UniqueIndex, BadKeyLength, BadRecordSize}
 use Rattle.ndx_index.specs.Pages.{u32_at}
 use Rattle.ndx_index.specs.NdxTree.{IsTree, Visits}
@@ -21,7 +22,7 @@ header_tests bytes =
     (nat_le PAGE (length bytes), Truncated)
     ∷ (u16_at bytes KEY_TYPE_OFFSET == 0, NumericIndex)
     ∷ (slice_index bytes UNIQUE_FLAG_OFFSET == 0, UniqueIndex)
-    ∷ (is_in_range 1 MAX_KEY_LENGTH (u16_at bytes KEY_LENGTH_OFFSET), BadKeyLength)
+    ∷ (is_in_range 1 MAX_KEY_BYTES (u16_at bytes KEY_LENGTH_OFFSET), BadKeyLength)
     ∷ (is_in_range (u16_at bytes KEY_LENGTH_OFFSET + 8) MAX_RECORDS_BYTES (u16_at bytes RECORD_SIZE_OFFSET), BadRecordSize)
     ∷ []
 

@@ -2,7 +2,8 @@
 use Rattle.std.specs.Prelude.{◌≡◌, ℕ, zero, suc, ◌+◌, ◌-◌, ◌*◌, ◌/◌, ◌^◌, ◌<◌, ◌≤◌, ◌==◌, List, [], ◌∷◌, ◌++◌, map, length, refl, replicate, take, drop, flat_map, if◌then◌else◌, slice_range}
 use Rattle.std.specs.List.{AllByRecursion}
 use Rattle.byteorder.specs.Endian.{little_bytes}
-use Rattle.ndx_index.specs.declared.format.TheConstants.{PAGE, MAX_RECORDS_BYTES, MAX_TEXT_BYTES, MAX_KEY_LENGTH, MAX_PAIRS}
+use Rattle.key_expr.specs.declared.format.TheConstants.{MAX_KEY_BYTES, MAX_EXPRESSION_BYTES}
+use Rattle.ndx_index.specs.declared.format.TheConstants.{PAGE, MAX_RECORDS_BYTES, MAX_PAIRS}
 use Rattle.ndx_index.specs.declared.pair.Pair.{Pair}
 
 -- ---- layout
@@ -120,9 +121,9 @@ ndx_image text key_len pairs =
 
 -- what can be written: a key expression that fits the header page, and keys of one length
 pub record IsWritable (text : List ℕ) (key_len : ℕ) (pairs : List Pair) : Type 0 where
-  pub text_short : length text ≤ MAX_TEXT_BYTES
+  pub text_short : length text ≤ MAX_EXPRESSION_BYTES
   pub key_some : 1 ≤ key_len
-  pub key_short : key_len ≤ MAX_KEY_LENGTH
+  pub key_short : key_len ≤ MAX_KEY_BYTES
   pub few : length pairs ≤ MAX_PAIRS
   pub each : AllByRecursion (λ p. (length p.key ≡ key_len) × (p.number < 2 ^ 32)) pairs
 

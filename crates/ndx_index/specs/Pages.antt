@@ -5,12 +5,13 @@ use Rattle.dbf_fields.specs.Faults.{first_fault}
 use Rattle.ndx_index.specs.declared.pair.Pair.{Pair}
 use Rattle.ndx_index.specs.declared.read.page.PageLayout.{PageLayout}
 use Rattle.ndx_index.specs.declared.fault.NdxFault.{NdxFault}
-use Rattle.ndx_index.specs.declared.format.TheConstants.{PAGE, MAX_KEY_LENGTH, MAX_RECORDS_BYTES}
+use Rattle.key_expr.specs.declared.format.TheConstants.{MAX_KEY_BYTES}
+use Rattle.ndx_index.specs.declared.format.TheConstants.{PAGE, MAX_RECORDS_BYTES}
 use Rattle.ndx_index.specs.declared.fault.NdxFault.TheVariants.{TooManyEntries, MixedPage}
 
 -- a key record has a pointer, a number and a key of at most a hundred bytes, and fits a page
 pub record IsPageLayout (s : PageLayout) : Type 0 where
-  pub key_short : s.key_len ≤ MAX_KEY_LENGTH
+  pub key_short : s.key_len ≤ MAX_KEY_BYTES
   pub key_fits : s.key_len + 8 ≤ s.size
   pub size_fits : s.size ≤ MAX_RECORDS_BYTES
 

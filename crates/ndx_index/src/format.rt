@@ -21,11 +21,5 @@ pub(crate) const UNIQUE_FLAG_OFFSET: usize = 23;
 /// Where the key expression's text begins in the header page.
 pub(crate) const EXPRESSION_OFFSET: usize = 24;
 
-/// The most bytes of a key expression's text, up to the header page's end.
-pub(crate) const MAX_TEXT_BYTES: usize = 488;
-
-/// The most bytes of a key.
-pub const MAX_KEY_LENGTH: usize = 100;
-
 /// The most pairs of an index that is written.
 pub const MAX_PAIRS: usize = 1_000_000_000;

@@ -3,10 +3,10 @@
 ghost use Rattle.std.specs.Prelude.{◌≡◌, ◌+◌, ◌-◌, ◌<◌, ◌≤◌, ◌↔◌, [], length, slice_get, Contains, IsTrue, OnOk, OnErr, IfOk, true, false};
 ghost use Rattle.std.specs.List.{IsDistinct};
 ghost use Rattle.std.specs.List.Sorted.{IsPartitionPoint};
+ghost use Rattle.key_expr.specs.declared.format.TheConstants.{MAX_KEY_BYTES};
 ghost use Rattle.ndx_index.specs.Index.{HaveLength};
 ghost use Rattle.ndx_index.specs.Order.{before, same, in_order, placed, without, first_from, next_of, previous_of, reaches, AreInOrder};
 
-use crate::format::MAX_KEY_LENGTH;
 use crate::pair::Pair;
 use std::alloc::{AllocError, Global};
 use std::marker::Model;
@@ -35,7 +35,7 @@ impl Model for OrderedIndex {
 impl OrderedIndex {
     /// An index without pairs, for keys of this many bytes. It takes no memory.
     pub fn new(alloc: Global, key_len: usize) -> Self
-        requires { key_len ≤ MAX_KEY_LENGTH }
+        requires { key_len ≤ MAX_KEY_BYTES }
         ensures key_len { result.key_len ≡ key_len }
         ensures pairs { result.pairs ≡ [] }
     {
@@ -51,7 +51,7 @@ impl OrderedIndex {
         key_len: usize,
         mut pairs: Vec<Pair>,
     ) -> Result<Self, AllocError>
-        requires short { key_len ≤ MAX_KEY_LENGTH }
+        requires short { key_len ≤ MAX_KEY_BYTES }
         requires keys { HaveLength key_len pairs.items }
         requires distinct { IsDistinct same pairs.items }
         ensures key_len { IfOk result (λ index. index.key_len ≡ key_len) }

@@ -32,7 +32,7 @@ mod read;
 mod write;
 
 pub use crate::fault::NdxFault;
-pub use crate::format::{MAX_KEY_LENGTH, MAX_PAIRS};
+pub use crate::format::MAX_PAIRS;
 pub use crate::index::OrderedIndex;
 pub use crate::pair::Pair;
 pub use crate::read::{NdxFile, read_ndx};

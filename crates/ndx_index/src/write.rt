@@ -17,7 +17,7 @@ mod pieces;
 mod plan;
 mod shape;
 
-use crate::format::{MAX_PAIRS, MAX_TEXT_BYTES};
+use crate::format::MAX_PAIRS;
 use crate::pair::Pair;
 use crate::write::inner::put_inner_pages;
 use crate::write::leaf::put_leaves;
@@ -25,11 +25,11 @@ use crate::write::pieces::{put_u16, put_u32, put_zeros};
 use crate::write::plan::TreePlan;
 use crate::write::shape::Shape;
 use dbf_image::{ByteSink, SinkFault, SinkWriter, WriteFault};
-use key_expr::KeyExpr;
+use key_expr::{KeyExpr, MAX_EXPRESSION_BYTES};
 
 // The header page of a file whose last page is the root.
 fn put_header<S: ByteSink>(out: &mut SinkWriter<'_, S>, text: &[u8], shape: Shape, root: u32)
-    requires text { length text.now ≤ MAX_TEXT_BYTES }
+    requires text { length text.now ≤ MAX_EXPRESSION_BYTES }
     requires root { root < 4294967295 }
     ensures { Puts out.old (header_page text.now shape.key_len (root + 1)) out.new }
 {
@@ -42,12 +42,12 @@ fn put_header<S: ByteSink>(out: &mut SinkWriter<'_, S>, text: &[u8], shape: Shap
     put_u16(out, shape.size as u16);
     put_zeros(out, 4);
     out.put(text);
-    put_zeros(out, MAX_TEXT_BYTES - text.len());
+    put_zeros(out, MAX_EXPRESSION_BYTES - text.len());
 }
 
 // The bytes of the file.
 fn put_image<S: ByteSink>(out: &mut SinkWriter<'_, S>, text: &[u8], plan: &TreePlan<'_>)
-    requires { length text.now ≤ MAX_TEXT_BYTES }
+    requires { length text.now ≤ MAX_EXPRESSION_BYTES }
     ensures put { Puts out.old (ndx_image text.now plan.now.shape.key_len plan.now.pairs.now) out.new }
     ensures numbers { AllByRecursion (λ p. p.number < 2 ^ 32) plan.now.pairs.now }
 {

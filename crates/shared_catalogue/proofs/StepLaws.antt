@@ -4,11 +4,11 @@ use Rattle.std.proofs.Common.{◌≡◌, ℕ, Bool, List, [], map, Result, Ok, E
 use Rattle.std.specs.Int.{is_in_range}
 use Rattle.std.specs.Prelude.{nat_lt, slice_set, ◌==◌, IfOk}
 use Rattle.std.proofs.Math.Seq.{map-set_same}
-use Rattle.dbf_fields.specs.declared.field.TheConstants.{MEMO}
+use Rattle.dbf_fields.specs.declared.format.TheConstants.{MEMO}
 use Rattle.dbf_fields.specs.declared.field.Field.{Field}
 use Rattle.dbf_fields.specs.declared.literal.Literal.{Literal}
 use Rattle.dbf_fields.specs.Cell.{stored}
-use Rattle.dbf_image.specs.declared.table.TheConstants.{MOST_RECORDS}
+use Rattle.dbf_image.specs.declared.format.TheConstants.{MAX_RECORDS}
 use Rattle.dbf_image.specs.Table.{Table, empty_table, is_memo_text}
 use Rattle.shared_catalogue.specs.declared.answer.Answer.{Answer}
 use Rattle.shared_catalogue.specs.declared.answer.Answer.TheVariants.{Done, Text, Refused}
@@ -57,7 +57,7 @@ carries_go s number =
 carries_append : (s : State) → Carries s (append_blank s)
 carries_append s =
     found_cases (Carries s) s.area NoTableInUse _ tt (λ area _.
-    granted_cases (Carries s) (nat_lt (record_count s area) MOST_RECORDS) TableFull _ tt (λ _. done s _ (same_fields s.tables area.table _ refl)))
+    granted_cases (Carries s) (nat_lt (record_count s area) MAX_RECORDS) TableFull _ tt (λ _. done s _ (same_fields s.tables area.table _ refl)))
 
 carries_replace : (s : State) (name : List ℕ) (value : Literal) → Carries s (replace s name value)
 carries_replace s name value =

@@ -1,7 +1,7 @@
 -- What a plan makes of a state.
 use Rattle.std.specs.Prelude.{◌≡◌, ◌≢◌, ℕ, true, List, ◌<◌, ◌≤◌, length, Some, Result, Ok, Err, IsOk}
-use Rattle.dbf_fields.specs.declared.field.TheConstants.{MEMO}
-use Rattle.dbf_image.specs.declared.table.TheConstants.{MOST_RECORDS}
+use Rattle.dbf_fields.specs.declared.format.TheConstants.{MEMO}
+use Rattle.dbf_image.specs.declared.format.TheConstants.{MAX_RECORDS}
 use Rattle.dbf_image.specs.Table.{kind_at, cell_width, is_memo_text}
 use Rattle.shared_catalogue.specs.declared.answer.Answer.{Answer}
 use Rattle.shared_catalogue.specs.declared.answer.Refusal.{Refusal}
@@ -63,6 +63,6 @@ abbrev pub CanChange : State → Change → Type 0
 CanChange s Nothing = Unit {0}
 CanChange s (Open table exclusive) = table < length s.tables
 CanChange s (GoTo area number) = (s.area ≡ Some area) × ((1 ≤ number) × (number ≤ record_count s area))
-CanChange s (AppendBlank area) = (s.area ≡ Some area) × (record_count s area < MOST_RECORDS)
+CanChange s (AppendBlank area) = (s.area ≡ Some area) × (record_count s area < MAX_RECORDS)
 CanChange s (Replace target cell) = IsCell s target (length cell)
 CanChange s (Memo target text) = IsMemo s target text

@@ -2,11 +2,11 @@
 -- in which a refused command leaves the state as it is.
 use Rattle.std.specs.Prelude.{ℕ, Bool, nat_lt, ◌==◌, if◌then◌else◌, List, Option, Some, None, Result, Ok, Err}
 use Rattle.std.specs.Int.{is_in_range}
-use Rattle.dbf_fields.specs.declared.field.TheConstants.{MEMO}
+use Rattle.dbf_fields.specs.declared.format.TheConstants.{MEMO}
 use Rattle.dbf_fields.specs.declared.literal.Literal.{Literal}
 use Rattle.dbf_fields.specs.declared.cell.CellFault.{CellFault}
 use Rattle.dbf_fields.specs.Cell.{stored}
-use Rattle.dbf_image.specs.declared.table.TheConstants.{MOST_RECORDS}
+use Rattle.dbf_image.specs.declared.format.TheConstants.{MAX_RECORDS}
 use Rattle.dbf_image.specs.Table.{cell_at, is_memo_text}
 use Rattle.shared_catalogue.specs.declared.answer.Answer.{Answer}
 use Rattle.shared_catalogue.specs.declared.answer.Answer.TheVariants.{Done, Text, Refused}
@@ -67,7 +67,7 @@ go s number =
 abbrev pub append_blank : State → Result (State × Answer) Refusal
 append_blank s =
     found s.area NoTableInUse (λ area.
-    granted (nat_lt (record_count s area) MOST_RECORDS) TableFull (Ok (with_blank s area, Done)))
+    granted (nat_lt (record_count s area) MAX_RECORDS) TableFull (Ok (with_blank s area, Done)))
 
 -- REPLACE: the field's cell of the record at the cursor keeps the value
 abbrev pub replace : State → List ℕ → Literal → Result (State × Answer) Refusal

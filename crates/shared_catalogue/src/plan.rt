@@ -13,7 +13,7 @@ use crate::fault::CommandFault;
 use crate::shown::shown;
 use crate::state::State;
 use dbf_fields::{Bytes, Literal, MEMO, encode_cell};
-use dbf_image::{MOST_RECORDS, is_memo_text};
+use dbf_image::{MAX_RECORDS, is_memo_text};
 use std::alloc::{AllocError, Global};
 
 /// The plan of a command, which changes nothing yet; a refused command has the plan to answer its refusal.
@@ -73,7 +73,7 @@ fn plan_append_blank(state: &State) -> Result<Plan, Refusal>
     ensures can { IfOk result (λ plan. CanChange state.now plan.change) }
 {
     let area = state.area().ok_or(Refusal::NoTableInUse)?;
-    if state.table(area).record_count() >= MOST_RECORDS {
+    if state.table(area).record_count() >= MAX_RECORDS {
         return Err(Refusal::TableFull);
     }
     Ok(Plan::done(Change::AppendBlank(area)))

@@ -1,6 +1,6 @@
 //! The tables and the area, which commands read and change.
 
-ghost use Rattle.dbf_image.specs.declared.table.TheConstants.{MOST_RECORDS};
+ghost use Rattle.dbf_image.specs.declared.format.TheConstants.{MAX_RECORDS};
 ghost use Rattle.std.specs.Prelude.{◌≡◌, ◌<◌, ◌≤◌, length, map, None, Some, IfSome, IfOk, OnOk, OnErr};
 
 use crate::area::{Area, Target};
@@ -135,7 +135,7 @@ impl State {
     // Gives the area's table a last record of blanks, and puts the cursor at it.
     fn append_blank(&mut self, area: Area) -> Result<(), AllocError>
         requires current { self.old.area ≡ Some area }
-        requires few { record_count self.old area < MOST_RECORDS }
+        requires few { record_count self.old area < MAX_RECORDS }
         ensures ok { OnOk result (self.new ≡ with_blank self.old area) }
         ensures err { OnErr result (self.new ≡ self.old) }
     {

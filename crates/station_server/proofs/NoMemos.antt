@@ -2,7 +2,7 @@
 -- never has too many.
 use Rattle.std.proofs.Common.{◌≡◌, ℕ, map, None, sym, ap, ◌∙◌, Bool, true, false, ◌||◌, ◌==◌, List, [], ◌∷◌, refl, arith}
 use Rattle.dbf_fields.specs.declared.field.Field.{Field}
-use Rattle.dbf_fields.specs.declared.field.TheConstants.{MEMO}
+use Rattle.dbf_fields.specs.declared.format.TheConstants.{MEMO}
 use Rattle.dbf_image.specs.Blocks.{cell_blocks, cells_blocks, rows_blocks, next_free, HasTooManyBlocks}
 use Rattle.dbf_image.specs.DbfText.{IsDbf}
 use Rattle.dbf_image.specs.Table.{Row, Table, has_memos}

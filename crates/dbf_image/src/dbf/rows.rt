@@ -5,7 +5,7 @@ ghost use Rattle.std.specs.Prelude.{◌≡◌, ◌+◌, ◌≤◌, ◌*◌, ◌=
 ghost use Rattle.std.specs.List.{AllByRecursion};
 ghost use Rattle.dbf_fields.specs.Field.{widths};
 ghost use Rattle.dbf_fields.specs.Schema.{IsSchema};
-ghost use Rattle.dbf_fields.specs.declared.field.TheConstants.{MEMO as MEMO_KIND};
+ghost use Rattle.dbf_fields.specs.declared.format.TheConstants.{MEMO as MEMO_KIND};
 ghost use Rattle.dbf_image.specs.DbfText.{chunks};
 ghost use Rattle.dbf_image.specs.Store.{texts_of, memo_count, first_memo, cells_with, row_with, rows_with, IsSpan};
 ghost use Rattle.dbf_image.specs.Blocks.{cell_bytes, cell_blocks, cells_bytes, cells_blocks};

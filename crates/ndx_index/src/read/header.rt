@@ -6,11 +6,12 @@ ghost use Rattle.ndx_index.specs.Pages.{IsPageLayout};
 
 use crate::fault::NdxFault;
 use crate::format::{
-    EXPRESSION_OFFSET, KEY_LENGTH_OFFSET, KEY_TYPE_OFFSET, MAX_KEY_LENGTH, MAX_RECORDS_BYTES, PAGE,
+    EXPRESSION_OFFSET, KEY_LENGTH_OFFSET, KEY_TYPE_OFFSET, MAX_RECORDS_BYTES, PAGE,
     RECORD_SIZE_OFFSET, UNIQUE_FLAG_OFFSET,
 };
 use crate::read::page::{PageLayout, u32_at};
 use byteorder::{ByteOrder, LittleEndian};
+use key_expr::MAX_KEY_BYTES;
 
 /// What the header of an index file says of its pages.
 #[derive(Clone, Copy)]
@@ -49,7 +50,7 @@ pub(crate) fn read_header(bytes: &[u8]) -> Result<Header, NdxFault>
         return Err(NdxFault::UniqueIndex);
     }
     let key_len = u16_at(bytes, KEY_LENGTH_OFFSET) as usize;
-    if key_len == 0 || key_len > MAX_KEY_LENGTH {
+    if key_len == 0 || key_len > MAX_KEY_BYTES {
         return Err(NdxFault::BadKeyLength);
     }
     let size = u16_at(bytes, RECORD_SIZE_OFFSET) as usize;

@@ -4,9 +4,10 @@
 ghost use Rattle.std.specs.Prelude.{◌≡◌, ◌+◌, ◌≤◌, length, replicate};
 ghost use Rattle.byteorder.specs.Endian.{little_bytes};
 ghost use Rattle.dbf_image.specs.Output.{Puts};
+ghost use Rattle.key_expr.specs.declared.format.TheConstants.{MAX_KEY_BYTES};
 ghost use Rattle.ndx_index.specs.Image.{key_record};
 
-use crate::format::{MAX_KEY_LENGTH, PAGE};
+use crate::format::PAGE;
 use crate::write::shape::Shape;
 use byteorder::{ByteOrder, LittleEndian};
 use dbf_image::{ByteSink, SinkWriter};
@@ -45,7 +46,7 @@ pub(crate) fn put_key_record<S: ByteSink>(
     number: u32,
     key: &[u8],
 )
-    requires { length key.now ≤ MAX_KEY_LENGTH }
+    requires { length key.now ≤ MAX_KEY_BYTES }
     ensures { Puts out.old (key_record shape.size child number key.now) out.new }
 {
     put_u32(out, child);

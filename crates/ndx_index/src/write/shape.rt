@@ -1,9 +1,10 @@
 //! How the pages of an index are filled.
 
 ghost use Rattle.std.specs.Prelude.{◌≡◌, ◌≤◌};
+ghost use Rattle.key_expr.specs.declared.format.TheConstants.{MAX_KEY_BYTES};
 ghost use Rattle.ndx_index.specs.Shapes.{IsShape};
 
-use crate::format::{MAX_KEY_LENGTH, MAX_RECORDS_BYTES};
+use crate::format::MAX_RECORDS_BYTES;
 
 /// The sizes that follow from the length of an index's keys.
 #[derive(Clone, Copy)]
@@ -21,7 +22,7 @@ impl Shape {
     /// The shape of an index with keys of this many bytes.
     pub(crate) fn new(key_len: usize) -> Shape
         requires some { 1 ≤ key_len }
-        requires short { key_len ≤ MAX_KEY_LENGTH }
+        requires short { key_len ≤ MAX_KEY_BYTES }
         ensures key_len { result.key_len ≡ key_len }
     {
         let size = 4 * ((key_len + 11) / 4);

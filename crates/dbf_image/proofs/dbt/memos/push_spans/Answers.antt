@@ -2,7 +2,7 @@ use Rattle.std.proofs.Common.{◌≡◌, ◌≤◌, ◌∙◌, arith}
 use Rattle.std.proofs.lemmas.Result.{err_from_is_err_and}
 use Rattle.dbf_image.proofs.MemoLoops.{tests-next, tests-stop, spans-next, room-next, memo_fits}
 use Rattle.dbf_image.proofs.dbt.memos.push_spans.Goals as goal
-use Rattle.dbf_fields.specs.declared.field.TheConstants.{MEMO}
+use Rattle.dbf_fields.specs.declared.format.TheConstants.{MEMO}
 
 pub push_span-requires-clause-few : goal.push_span-requires-clause-few
 push_span-requires-clause-few c = λ kind.

@@ -5,7 +5,7 @@ use Rattle.dbf_image.specs.Store.{texts_of}
 use Rattle.dbf_image.proofs.CellOffsets.{cell-inside, cell_read, memo-inside, memo_read, kind_is}
 use Rattle.dbf_image.proofs.Spans.{text_at}
 use Rattle.dbf_image.proofs.table.TableData.cell.Goals as goal
-use Rattle.dbf_fields.specs.declared.field.TheConstants.{MEMO}
+use Rattle.dbf_fields.specs.declared.format.TheConstants.{MEMO}
 
 pub bounds-store-index : goal.bounds-store-index
 bounds-store-index c =

@@ -8,7 +8,7 @@ use Rattle.dbf_image.proofs.Rows.{length-rows_of}
 use Rattle.dbf_image.proofs.CellOffsets.{cell-inside}
 use Rattle.dbf_image.proofs.Edits.{rows_put, records_put}
 use Rattle.dbf_image.proofs.table.TableData.set_cell.Goals as goal
-use Rattle.dbf_fields.specs.declared.field.TheConstants.{MEMO}
+use Rattle.dbf_fields.specs.declared.format.TheConstants.{MEMO}
 
 pub slice_bounds-copy_from_slice-end : goal.slice_bounds-copy_from_slice-end
 slice_bounds-copy_from_slice-end c =

@@ -7,7 +7,7 @@ use Rattle.dbf_image.proofs.Edits.{rows_memo}
 use Rattle.dbf_image.proofs.Spans.{texts_put, store_put}
 use Rattle.std.proofs.lemmas.List.{length-map}
 use Rattle.dbf_image.proofs.table.TableData.set_memo.Goals as goal
-use Rattle.dbf_fields.specs.declared.field.TheConstants.{MEMO}
+use Rattle.dbf_fields.specs.declared.format.TheConstants.{MEMO}
 
 pub index_mut-requires : goal.index_mut-requires
 index_mut-requires c =
