@@ -4,7 +4,8 @@
 //! for a schema, and tells of every other text the first rule that it breaks; `KeyExpr::key_of` gives the
 //! key of a record, which is defined by cases on the expression. Start reading at `expr.rt`, then
 //! `specs/Grammar.antt`, `specs/Rules.antt` and `specs/Keys.antt`; the text becomes tokens in `lexer.rt`,
-//! those become a tree in `parser.rt`, which `check.rt` judges and `evaluate.rt` evaluates.
+//! those become a tree in `parser.rt`, which `check.rt` judges and `evaluate.rt` evaluates. That a text has
+//! one list of tokens, each where its bytes stand, and is one expression or none, is said by `one_reading`.
 #![tactic(auto)]
 
 mod check;
