@@ -115,12 +115,7 @@ pub memo_count_le : (fields : List Field) → memo_count fields ≤ length field
 memo_count_le [] = omega arith
 memo_count_le (f ∷ fs) = le_by (eqb f.kind MEMO) (memo_count fs) (length fs) (memo_count_le fs)
 
--- the width and the kind that a field of the list tells
-pub cell_width_is : (fields : List Field) (j : ℕ) (f : Field) → j < length fields → f ≡ get_or fields j f → cell_width fields j ≡ f.width
-cell_width_is [] j f lt is = absurd (omega arith)
-cell_width_is (g ∷ fs) zero f lt is = ap (λ (h : Field). h.width) (sym is)
-cell_width_is (g ∷ fs) (suc j) f lt is = cell_width_is fs j f (omega arith) is
-
+-- the kind that a field of the list tells
 pub kind_is : (fields : List Field) (j : ℕ) (f : Field) → j < length fields → f ≡ get_or fields j f → kind_at fields j ≡ f.kind
 kind_is [] j f lt is = absurd (omega arith)
 kind_is (g ∷ fs) zero f lt is = ap (λ (h : Field). h.kind) (sym is)

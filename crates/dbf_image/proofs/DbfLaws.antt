@@ -14,6 +14,7 @@ use Rattle.dbf_image.specs.DbfText.{chunks, header_length, record_length, record
 use Rattle.dbf_image.specs.Reading.{first_from, field_count, fields_of, schema_of, has_version, header_tests, field_tests, record_tests, memos_tests, records_of, row_read, refusal, IsRefusal, table_read}
 use Rattle.dbf_image.specs.Spans.{table_tests}
 use Rattle.dbf_image.proofs.Rows.{chunks_take}
+use Rattle.dbf_image.proofs.Groups.{none_some}
 use Rattle.dbf_fields.proofs.FaultLaws.{first_parts}
 use Rattle.dbf_image.proofs.MemoTests.{rows_ok, ok_rows}
 use Rattle.dbf_image.specs.declared.format.TheConstants.{HEADER_END, MAX_RECORDS}
@@ -229,12 +230,6 @@ dbf_is bytes dbt table d =
       same,
     )
 
-abbrev no_fault : Option ImageFault
-no_fault = None
-
-none_some : (f : ImageFault) → no_fault ≡ Some f → ⊥
-none_some f e = cc
-
 pub found_from : (r : Result Table ImageFault) (bytes : List ℕ) (dbt : Option (List ℕ)) → IfOk r (λ _. refusal bytes dbt ≡ None) → IfOk r (λ t. t ≡ table_read bytes dbt) → IfOk r (IsDbf bytes dbt)
 found_from (Ok t) bytes dbt h e = rw e (is_dbf bytes dbt h)
 found_from (Err f) bytes dbt h e = tt
@@ -243,4 +238,4 @@ pub only_from : (r : Result Table ImageFault) (bytes : List ℕ) (dbt : Option (
     → MatchResult r (λ t. t ≡ table) (λ f. f ≡ NoMemory)
 only_from (Ok t) bytes dbt table e h d = e ∙ (dbf_is bytes dbt table d).1
 only_from (Err f) bytes dbt table e (inl h) d = h
-only_from (Err f) bytes dbt table e (inr h) d = absurd (none_some f (sym (dbf_is bytes dbt table d).0 ∙ h))
+only_from (Err f) bytes dbt table e (inr h) d = none_some _ f _ (dbf_is bytes dbt table d).0 h

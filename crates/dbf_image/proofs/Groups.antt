@@ -29,7 +29,7 @@ fields_fail bytes count fault e (inr h) = inr (rw (h.1, h.0, ← e) refl)
 some_same : {F : Type 0} (x y : F) → Some x ≡ Some y → x ≡ y
 some_same x y e = cc
 
-none_some : {F : Type 0} (o : Option F) (x : F) (P : Type 0) → o ≡ None → o ≡ Some x → P
+pub none_some : {F : Type 0} (o : Option F) (x : F) (P : Type 0) → o ≡ None → o ≡ Some x → P
 none_some o x P none some = absurd cc
 
 early_count : (o : Option ℕ) (fault first : ImageFault) → (o ≡ None → fault ≡ BadHeaderLength) → cond (is_some o) None (Some BadHeaderLength) ≡ Some first → fault ≡ first

@@ -11,6 +11,7 @@ use Rattle.dbf_image.specs.Table.{Row}
 use Rattle.dbf_image.specs.Memo.{memo_number, memo_at, HasText, EncodesMemo, EncodesCell, EncodesCells}
 use Rattle.dbf_image.specs.DbfText.{EncodesRows}
 use Rattle.dbf_image.specs.Reading.{is_block, text_tests, memo_tests, memo_text, cell_tests, cell_text, cells_tests, cells_read, row_tests, row_read}
+use Rattle.dbf_image.proofs.Groups.{none_some}
 use Rattle.dbf_fields.proofs.FaultLaws.{first_then, first_parts}
 use Rattle.dbf_image.specs.declared.format.TheConstants.{BLOCK, DELETED, MAX_MEMO_BYTES}
 use Rattle.dbf_fields.specs.declared.format.TheConstants.{MEMO}
@@ -41,14 +42,11 @@ pub text_found : (r : Result (List ℕ) ImageFault) (dbt : List ℕ) (n : ℕ) �
 text_found (Ok t) dbt n h e = rw e (text_ok dbt n h)
 text_found (Err f) dbt n h e = tt
 
-none_some : (o : Option ImageFault) (f : ImageFault) → o ≡ None → o ≡ Some f → ⊥
-none_some o f e h = cc
-
 pub text_only : (r : Result (List ℕ) ImageFault) (dbt : List ℕ) (n : ℕ) (text : List ℕ) → IfOk r (λ t. t ≡ memo_at dbt n)
     → IfErr r (λ f. (f ≡ NoMemory) ⊎ (first_fault (text_tests dbt n) ≡ Some f)) → HasText dbt n text → MatchResult r (λ t. t ≡ text) (λ f. f ≡ NoMemory)
 text_only (Ok t) dbt n text e h d = e ∙ d.text_is
 text_only (Err f) dbt n text e (inl h) d = h
-text_only (Err f) dbt n text e (inr h) d = absurd (none_some _ f (ok_text dbt text n d) h)
+text_only (Err f) dbt n text e (inr h) d = none_some _ f _ (ok_text dbt text n d) h
 
 -- ---- a memo's cell
 

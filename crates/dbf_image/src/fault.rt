@@ -38,7 +38,7 @@ pub enum ImageFault {
     /// A memo's text is over [`MAX_MEMO_BYTES`](crate::MAX_MEMO_BYTES) bytes long.
     #[error("a memo is too long")]
     MemoTooLong,
-    /// There was no memory for the table.
+    /// Memory was refused.
     #[error("out of memory")]
     NoMemory,
 }

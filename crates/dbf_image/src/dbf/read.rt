@@ -208,7 +208,8 @@ fn table_at(alloc: Global, dbf: &[u8], dbt: Option<&[u8]>) -> Result<TableData, 
 /// with memos or without. What is read costs time and memory in proportion to the two files, also where
 /// many cells name one block.
 ///
-/// An `Err` is the fault of the first test that fails: see [`ImageFault`].
+/// An `Err` is the fault of the first test that fails: see [`ImageFault`]. `NoMemory` may stand in its place
+/// where memory was refused before that test, and so never in place of a fault of the header.
 pub fn read_table(alloc: Global, dbf: &[u8], dbt: Option<&[u8]>) -> Result<TableData, ImageFault>
     // What is read is the files' table.
     ensures found { IfOk result (IsDbf dbf.now (option_copied dbt.entry)) }
