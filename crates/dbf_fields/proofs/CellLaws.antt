@@ -16,10 +16,6 @@ filled_from (suc width) blanks (b ∷ text) le =
 pub filled : (width : ℕ) (text : List ℕ) → take width text ++ replicate (width - length (take width text)) 32 ≡ padded width text
 filled width text = filled_from width width text (omega arith)
 
-pub length-padded : (width : ℕ) (text : List ℕ) → length (padded width text) ≡ width
-length-padded width text =
-    length-take-le width (text ++ replicate width 32) (omega (arith, length-append text (replicate width 32), length-replicate {A = ℕ} width 32))
-
 -- a text that is cut where it is longer than the width
 cut_twice : (width kept : ℕ) (text : List ℕ) → kept ≡ min (length text) width → take width (take kept text) ≡ take width text
 cut_twice zero kept text e = refl

@@ -49,8 +49,3 @@ cell_from (f ∷ fs) offset (suc index) record_bytes lt =
 pub cell_at : (fields : List Field) (index : ℕ) (record_bytes : List ℕ) → index < length fields
     → get_or (cells_of fields (drop 1 record_bytes)) index [] ≡ take (width_of fields index) (drop (offset_of fields index) record_bytes)
 cell_at fields index record_bytes lt = cell_from fields 1 index record_bytes lt
-
-pub length-cell_at : (fields : List Field) (index : ℕ) (record_bytes : List ℕ) → index < length fields → length record_bytes ≡ 1 + widths fields
-    → length (take (width_of fields index) (drop (offset_of fields index) record_bytes)) ≡ width_of fields index
-length-cell_at fields index record_bytes lt whole =
-    length-take-le _ _ (omega (arith, whole, width_within fields index lt, length-drop (offset_of fields index) record_bytes))

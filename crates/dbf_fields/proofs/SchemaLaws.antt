@@ -133,10 +133,6 @@ wide_of_accepted earlier (f ∷ fs) h =
 pub schema_wide : (fs : List Field) → IsSchema fs → AllByRecursion (λ f. has_width f ≡ true) fs
 schema_wide fs s = wide_of_accepted [] fs (passed (is_in_range 1 128 (length fs)) _ _ s.accepted).1
 
-widths_folded : (fs : List Field) → widths (map folded fs) ≡ widths fs
-widths_folded [] = refl
-widths_folded (f ∷ fs) = omega (arith, widths_folded fs, sum_by-cons (λ (g : Field). g.width) f fs, sum_by-cons (λ (g : Field). g.width) (folded f) (map folded fs))
-
 pub accepted_widths : (fs : List Field) → refusal fs ≡ None → widths (map folded fs) ≤ 4000
 accepted_widths fs h = schema_widths (map folded fs) (schema_from_accepted fs h)
 
@@ -158,8 +154,3 @@ pub field_fails : (fs : List Field) (i : ℕ) (f : Field) (refused : Option Sche
     → refused ≡ Some fault
 field_fails fs i f refused fault lt is left some =
     sym left ∙ ap (λ (ts : List (Bool × SchemaFault)). first_fault ts) (tests_split fs i f lt is) ∙ first_before (field_tests (map folded (take i fs)) f) (tests_from (map folded (take (i + 1) fs)) (drop (i + 1) fs)) fault some
-
--- after the last field the widths decide
-pub widths_decide : (fs : List Field) (i : ℕ) (refused : Option SchemaFault) → length fs ≤ i → first_fault (tests_from (map folded (take i fs)) (drop i fs)) ≡ refused
-    → cond (leb (widths (take i fs)) 4000) None (Some RecordTooLong) ≡ refused
-widths_decide fs i refused past left = rw (drop_all i fs past, widths_folded (take i fs)) at left

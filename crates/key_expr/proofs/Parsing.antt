@@ -59,17 +59,6 @@ pub fault_of_rule : (fields : List Field) (text : List ℕ) (e : Expr) (f : Expr
     → IsText e (tokens_of fields text) → refusal fields e ≡ Some f → IsFault f fields text
 fault_of_rule fields text e f short t h = breaks_rule f fields text (rule_refusal fields e f h) (short, (e, t, h))
 
--- tokens that are no expression
-pub fault_of_tokens : (fields : List Field) (text : List ℕ) (f : ExprFault) → length text ≤ 488
-    → IsRefusal f (tokens_of fields text) → IsFault f fields text
-fault_of_tokens fields text (BadSyntax p) short r = (short, r)
-fault_of_tokens fields text NoMemory short r = tt
-fault_of_tokens fields text ExpressionTooLong short r = absurd r
-fault_of_tokens fields text NoSuchField short r = absurd r
-fault_of_tokens fields text NotCharacter short r = absurd r
-fault_of_tokens fields text BadArgument short r = absurd r
-fault_of_tokens fields text KeyTooLong short r = absurd r
-
 -- a text is one expression
 pub one_expr : (fields : List Field) (text : List ℕ) (e f : Expr) → IsKeyText fields text e → IsKeyText fields text f → e ≡ f
 one_expr fields text e f a b = one_reading (tokens_of fields text) e f a.read b.read

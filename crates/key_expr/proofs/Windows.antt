@@ -44,12 +44,6 @@ window_within from count before most xs h =
     ∙ (take_twice count (most - from) (drop from (drop before xs))
     ∙ ap (λ (l : List ℕ). take (min count (most - from)) l) (drop-drop from before xs)))
 
-pub window_past : (from count before most : ℕ) (xs : List ℕ) → most ≤ from → take count (drop from (take most (drop before xs))) ≡ []
-window_past from count before most xs h =
-    let short : length (take most (drop before xs)) ≤ from = omega (arith, h, length-take most (drop before xs)) in
-    let none : drop from (take most (drop before xs)) ≡ [] = drop_all from (take most (drop before xs)) short in
-    ap (λ (l : List ℕ). take count l) none ∙ take-nil count
-
 -- capitals are capitals
 upper_twice : (r : Bool) (b : ℕ) → upper_if r (to_ascii_uppercase b) ≡ to_ascii_uppercase b
 upper_twice true b = grind (arith, nat_tests)

@@ -9,7 +9,7 @@ use Rattle.ndx_index.specs.Order.{before, same, placed, in_order, without}
 use Rattle.ndx_index.proofs.Order.{not_same, same_itself, without_absent, contains_more}
 use Rattle.ndx_index.proofs.Sorts.{in_order-IsPermutation, IsPermutation-in_order}
 
-without-placed : (p : Pair) (ps : List Pair) → (Contains ps p → ⊥) → without p (placed p ps) ≡ ps
+pub without-placed : (p : Pair) (ps : List Pair) → (Contains ps p → ⊥) → without p (placed p ps) ≡ ps
 without-placed p [] absent = rw (same_itself p) refl
 without-placed p (q ∷ qs) absent =
     let other : not (same p q) ≡ true = not_same p q (λ e. absent (0, omega arith, e)) in
@@ -18,7 +18,7 @@ without-placed p (q ∷ qs) absent =
       | false ↦ rw (same_itself p) (without_absent p (q ∷ qs) absent)
     ]
 
-remove-set : (xs : List Pair) (i : ℕ) (p : Pair) → remove (set xs i p) i ≡ remove xs i
+pub remove-set : (xs : List Pair) (i : ℕ) (p : Pair) → remove (set xs i p) i ≡ remove xs i
 remove-set xs i p = ap (λ ys. ys ++ Rattle.std.proofs.Common.drop (suc i) (set xs i p)) (take-set xs i p) ∙ ap (λ ys. Rattle.std.proofs.Common.take i xs ++ ys) (drop-set-lt (suc i) xs i p (omega arith))
 
 -- the i-th pair, which is there once, becomes another
