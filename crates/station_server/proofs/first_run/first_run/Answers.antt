@@ -1,5 +1,5 @@
 use Rattle.std.proofs.Common.{◌≡◌, Err, ap, ◌∙◌}
-use Rattle.dbf_image.specs.declared.write.WriteFault.TheVariants.{DateOutside, TooManyBlocks}
+use Rattle.dbf_image.specs.declared.dbf.write.WriteFault.TheVariants.{DateOutside, TooManyBlocks}
 use Rattle.shared_catalogue.specs.Replay.{History}
 use Rattle.station_server.proofs.NoMemos.{few_blocks}
 use Rattle.station_server.proofs.first_run.first_run.Goals as goal
