@@ -1,5 +1,5 @@
 -- Where a writer stands after a call on its sink.
-use Rattle.std.proofs.Common.{◌≡◌, ℕ, List, Option, Some, None, [], ◌∙◌, Result, Ok, Err, Bool, true, false}
+use Rattle.std.proofs.Common.{◌≡◌, ℕ, List, Option, [], ◌∙◌, Result, Ok, Err, Bool}
 use Rattle.std.specs.Prelude.{OnOk, OnErr, is_err}
 use Rattle.dbf_image.specs.Sink.{grown, IsFront, Rises}
 use Rattle.dbf_image.proofs.Sinks.{grown_nil}
