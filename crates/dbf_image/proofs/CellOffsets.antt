@@ -5,7 +5,8 @@ use Rattle.std.proofs.lemmas.List.{drop-drop, drop-take, take-take, get_or-take,
 use Rattle.std.proofs.lemmas.List.Sums.{sum_by-cons}
 use Rattle.dbf_fields.specs.declared.field.Field.{Field}
 use Rattle.dbf_fields.specs.Field.{widths}
-use Rattle.dbf_image.specs.Table.{Row, cell_width, kind_at}
+use Rattle.dbf_fields.specs.Layout.{width_of}
+use Rattle.dbf_image.specs.Table.{Row, kind_at}
 use Rattle.dbf_image.specs.DbfText.{chunks, AreRecords}
 use Rattle.dbf_image.specs.Store.{first_memo, memo_count, cells_with, row_with, rows_with, rows_of}
 use Rattle.dbf_image.proofs.Rows.{length-chunks}
@@ -63,7 +64,7 @@ cell_by fs cell rest out d memos j true ih = ih (drop 1 memos)
 cell_by fs cell rest out d memos j false ih = ih memos
 
 pub cell_here : (fields : List Field) (j : ℕ) (bytes d : List ℕ) (memos : List (List ℕ)) → j < length fields → kind_at fields j ≢ MEMO
-    → get_or (cells_with fields bytes memos) j d ≡ take (cell_width fields j) (drop (widths (take j fields)) bytes)
+    → get_or (cells_with fields bytes memos) j d ≡ take (width_of fields j) (drop (widths (take j fields)) bytes)
 cell_here [] j bytes d memos lt other = absurd (omega arith)
 cell_here (f ∷ fs) zero bytes d memos lt other = rw (ne_eqb f.kind MEMO other) refl
 cell_here (f ∷ fs) (suc j) bytes d memos lt other =
@@ -88,7 +89,7 @@ memo_here (f ∷ fs) zero bytes d memos lt kind = rw (eq-eqb f.kind MEMO kind) (
 memo_here (f ∷ fs) (suc j) bytes d memos lt kind =
     memo_by fs (take f.width bytes) (drop f.width bytes) d memos j (memo_count (take j fs)) (eqb f.kind MEMO) (λ m. memo_here fs j (drop f.width bytes) d m (omega arith) kind)
 
-pub cell_within : (fields : List Field) (j : ℕ) → j < length fields → widths (take j fields) + cell_width fields j ≤ widths fields
+pub cell_within : (fields : List Field) (j : ℕ) → j < length fields → widths (take j fields) + width_of fields j ≤ widths fields
 cell_within [] j lt = absurd (omega arith)
 cell_within (f ∷ fs) zero lt =
     let sum : widths (f ∷ fs) ≡ f.width + widths fs = sum_by-cons (λ (g : Field). g.width) f fs in
@@ -123,7 +124,7 @@ kind_is (g ∷ fs) (suc j) f lt is = kind_is fs j f (omega arith) is
 
 -- the cell of a record and a field that is no memo
 pub cell_read : (fields : List Field) (n i j : ℕ) (bytes : List ℕ) (memos : List (List ℕ)) (d : Row) → i < n → j < length fields → kind_at fields j ≢ MEMO
-    → get_or (get_or (rows_of fields n bytes memos) i d).cells j [] ≡ take (cell_width fields j) (drop (i * (1 + widths fields) + (1 + widths (take j fields))) bytes)
+    → get_or (get_or (rows_of fields n bytes memos) i d).cells j [] ≡ take (width_of fields j) (drop (i * (1 + widths fields) + (1 + widths (take j fields))) bytes)
 cell_read fields n i j bytes memos d lt inside other =
     let size : ℕ = 1 + widths fields in
     let from : ℕ = widths (take j fields) in
@@ -131,9 +132,9 @@ cell_read fields n i j bytes memos d lt inside other =
     let room = cell_within fields j inside in
     ap (λ (r : Row). get_or r.cells j []) (row_here fields n i bytes memos d lt)
     ∙ cell_here fields j (drop 1 chunk) [] (drop (i * memo_count fields) memos) inside other
-    ∙ ap (take (cell_width fields j)) (drop-drop from 1 chunk)
-    ∙ part_of_part (cell_width fields j) (1 + from) size (drop (i * size) bytes) (omega arith)
-    ∙ ap (take (cell_width fields j)) (drop-drop (1 + from) (i * size) bytes)
+    ∙ ap (take (width_of fields j)) (drop-drop from 1 chunk)
+    ∙ part_of_part (width_of fields j) (1 + from) size (drop (i * size) bytes) (omega arith)
+    ∙ ap (take (width_of fields j)) (drop-drop (1 + from) (i * size) bytes)
 
 -- the memo of a record and a field
 pub memo_read : (fields : List Field) (n i j : ℕ) (bytes : List ℕ) (memos : List (List ℕ)) (d : Row) → i < n → j < length fields → kind_at fields j ≡ MEMO
@@ -155,7 +156,7 @@ flag_read fields n i bytes memos d lt =
 
 -- a cell's bytes stand inside the records, and a memo among the memos
 pub cell-inside : (fields : List Field) (n i j start : ℕ) (bytes : List ℕ) → AreRecords fields n bytes → i < n → j < length fields
-    → start ≡ i * (1 + widths fields) + (1 + widths (take j fields)) → start + cell_width fields j ≤ length bytes
+    → start ≡ i * (1 + widths fields) + (1 + widths (take j fields)) → start + width_of fields j ≤ length bytes
 cell-inside fields n i j start bytes records lt inside is =
     omega (arith, chunk-inside (1 + widths fields) n i (length bytes) lt records.whole, cell_within fields j inside)
 

@@ -8,7 +8,8 @@ use borrow.Rule.Slice.PartMut.{put_mid}
 use Rattle.dbf_fields.specs.declared.field.Field.{Field}
 use Rattle.dbf_fields.specs.Field.{widths}
 use Rattle.dbf_image.specs.declared.format.TheConstants.{DELETED, MAX_RECORDS}
-use Rattle.dbf_image.specs.Table.{Row, kind_at, cell_width, blank_cell, blank_row, row_with_cell}
+use Rattle.dbf_fields.specs.Layout.{width_of}
+use Rattle.dbf_image.specs.Table.{Row, kind_at, blank_cell, blank_row, row_with_cell}
 use Rattle.dbf_image.specs.DbfText.{chunks, AreRecords}
 use Rattle.dbf_image.specs.Store.{first_memo, memo_count, cells_with, row_with, rows_with, rows_of}
 use Rattle.dbf_image.proofs.Rows.{length-chunks}
@@ -170,7 +171,7 @@ put_by : (fs : List Field) (cell rest new ys : List ℕ) (memos : List (List ℕ
 put_by fs cell rest new ys memos j true ih = ap (λ (x : List (List ℕ)). first_memo memos ∷ x) (ih (drop 1 memos))
 put_by fs cell rest new ys memos j false ih = ap (λ (x : List (List ℕ)). cell ∷ x) (ih memos)
 
-cells_put : (fields : List Field) (j : ℕ) (bytes ys : List ℕ) (memos : List (List ℕ)) → j < length fields → kind_at fields j ≢ MEMO → length ys ≡ cell_width fields j → widths fields ≤ length bytes
+cells_put : (fields : List Field) (j : ℕ) (bytes ys : List ℕ) (memos : List (List ℕ)) → j < length fields → kind_at fields j ≢ MEMO → length ys ≡ width_of fields j → widths fields ≤ length bytes
     → cells_with fields (put_mid (widths (take j fields)) (length ys) bytes ys) memos ≡ set (cells_with fields bytes memos) j ys
 cells_put [] j bytes ys memos lt other wide room = absurd (omega arith)
 cells_put (f ∷ fs) zero bytes ys memos lt other wide room =
@@ -195,7 +196,7 @@ flag_stays m k (b ∷ bs) ys some =
     let e : 1 + m ≡ suc m = omega arith in
     rw e refl
 
-row_put : (fields : List Field) (j : ℕ) (bytes ys : List ℕ) (memos : List (List ℕ)) → j < length fields → kind_at fields j ≢ MEMO → length ys ≡ cell_width fields j → 1 + widths fields ≤ length bytes
+row_put : (fields : List Field) (j : ℕ) (bytes ys : List ℕ) (memos : List (List ℕ)) → j < length fields → kind_at fields j ≢ MEMO → length ys ≡ width_of fields j → 1 + widths fields ≤ length bytes
     → row_with fields (put_mid (1 + widths (take j fields)) (length ys) bytes ys) memos ≡ row_with_cell (row_with fields bytes memos) j ys
 row_put fields j bytes ys memos lt other wide room =
     let within = cell_within fields j lt in
@@ -204,7 +205,7 @@ row_put fields j bytes ys memos lt other wide room =
     let flag = flag_stays (widths (take j fields)) (length ys) bytes ys (omega arith) in
     rw (flag, rest, cells) refl
 
-pub rows_put : (fields : List Field) (n i j : ℕ) (bytes ys : List ℕ) (memos : List (List ℕ)) (d : Row) → AreRecords fields n bytes → i < n → j < length fields → kind_at fields j ≢ MEMO → length ys ≡ cell_width fields j
+pub rows_put : (fields : List Field) (n i j : ℕ) (bytes ys : List ℕ) (memos : List (List ℕ)) (d : Row) → AreRecords fields n bytes → i < n → j < length fields → kind_at fields j ≢ MEMO → length ys ≡ width_of fields j
     → rows_of fields n (put_mid (i * (1 + widths fields) + (1 + widths (take j fields))) (length ys) bytes ys) memos
     ≡ set (rows_of fields n bytes memos) i (row_with_cell (get_or (rows_of fields n bytes memos) i d) j ys)
 rows_put fields n i j bytes ys memos d records lt inside other wide =

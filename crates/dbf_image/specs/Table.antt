@@ -48,10 +48,6 @@ pub record IsTable (table : Table) : Type 0 where
 abbrev pub kind_at : List Field → ℕ → ℕ
 kind_at fields field = slice_index (map (λ f. f.kind) fields) field
 
--- how wide the cells of a field are
-abbrev pub cell_width : List Field → ℕ → ℕ
-cell_width fields field = slice_index (map (λ f. f.width) fields) field
-
 -- a field's cell of blanks, or no memo
 abbrev pub blank_cell : Field → List ℕ
 blank_cell f = if f.kind == MEMO then [] else replicate f.width 32

@@ -3,7 +3,8 @@
 ghost use Rattle.std.specs.Prelude.{◌≡◌, ◌≢◌, ◌<◌, ◌≤◌, ◌+◌, ◌==◌, true, not, [], length, IfOk, OnOk, OnErr};
 ghost use Rattle.std.specs.List.{list_all};
 ghost use Rattle.dbf_fields.specs.Field.{widths};
-ghost use Rattle.dbf_image.specs.Table.{IsTable, is_memo_text as may_be_memo, kind_at, cell_width, blank_row, row_at, cell_at, empty_table, with_row, with_cell};
+ghost use Rattle.dbf_fields.specs.Layout.{width_of};
+ghost use Rattle.dbf_image.specs.Table.{IsTable, is_memo_text as may_be_memo, kind_at, blank_row, row_at, cell_at, empty_table, with_row, with_cell};
 ghost use Rattle.dbf_image.specs.Store.{texts_of, row_with, rows_of, IsStore};
 ghost use Rattle.dbf_image.specs.declared.format.TheConstants.{MAX_RECORDS, MEMO_END};
 
@@ -141,7 +142,7 @@ impl TableData {
         requires inside { number ≤ length self.now.rows }
         requires field { field < length self.now.schema }
         ensures value { result.now ≡ cell_at self.now number field }
-        ensures wide { kind_at self.now.schema field ≢ MEMO → length result.now ≡ cell_width self.now.schema field }
+        ensures wide { kind_at self.now.schema field ≢ MEMO → length result.now ≡ width_of self.now.schema field }
         ensures text { kind_at self.now.schema field ≡ MEMO → may_be_memo result.now ≡ true }
     {
         let store = self.store();
@@ -215,7 +216,7 @@ impl TableData {
         requires inside { number ≤ length self.old.rows }
         requires field { field < length self.old.schema }
         requires kind { kind_at self.old.schema field ≢ MEMO }
-        requires wide { length cell.now ≡ cell_width self.old.schema field }
+        requires wide { length cell.now ≡ width_of self.old.schema field }
         ensures value { self.new ≡ with_cell self.old number field cell.now }
     {
         let start = cell_start(&self.schema, number, field);

@@ -2,7 +2,8 @@
 use Rattle.std.specs.Prelude.{◌≡◌, ◌≢◌, ℕ, true, List, ◌<◌, ◌≤◌, length, Some, Result, Ok, Err, IsOk}
 use Rattle.dbf_fields.specs.declared.format.TheConstants.{MEMO}
 use Rattle.dbf_image.specs.declared.format.TheConstants.{MAX_RECORDS}
-use Rattle.dbf_image.specs.Table.{kind_at, cell_width, is_memo_text}
+use Rattle.dbf_fields.specs.Layout.{width_of}
+use Rattle.dbf_image.specs.Table.{kind_at, is_memo_text}
 use Rattle.shared_catalogue.specs.declared.answer.Answer.{Answer}
 use Rattle.shared_catalogue.specs.declared.answer.Refusal.{Refusal}
 use Rattle.shared_catalogue.specs.declared.area.Target.{Target}
@@ -50,7 +51,7 @@ pub record IsTarget (s : State) (t : Target) : Type 0 where
 pub record IsCell (s : State) (t : Target) (width : ℕ) : Type 0 where
   pub target : IsTarget s t
   pub kind : kind_at (area_table s t.area).schema t.field ≢ MEMO
-  pub wide : width ≡ cell_width (area_table s t.area).schema t.field
+  pub wide : width ≡ width_of (area_table s t.area).schema t.field
 
 -- a memo that can be replaced by this text
 pub record IsMemo (s : State) (t : Target) (text : List ℕ) : Type 0 where

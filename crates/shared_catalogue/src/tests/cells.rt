@@ -1,9 +1,9 @@
-use super::sample::{field, replace, show, text, use_table};
+use super::sample::{replace, show, text, use_table};
 use crate::answer::{Answer, Refusal};
 use crate::catalogue::Catalogue;
 use crate::command::Command;
 use crate::source::TableSource;
-use dbf_fields::{Bytes, DATE, LOGICAL, Literal, NUMBER, Schema, day_of};
+use dbf_fields::{Bytes, DATE, Field, LOGICAL, Literal, NUMBER, Schema, day_of};
 use dbf_image::{TableData, read_table};
 use std::alloc::Global;
 use std::test::Fail;
@@ -11,9 +11,9 @@ use std::test::Fail;
 // A table T of one blank record, with the fields AMT, BORN and PAID, open exclusively.
 fn open_table(alloc: Global) -> Result<Catalogue, Fail> {
     let fields = vec![in alloc;
-        field(alloc, b"AMT", NUMBER, 6, 2)?,
-        field(alloc, b"BORN", DATE, 8, 0)?,
-        field(alloc, b"PAID", LOGICAL, 1, 0)?,
+        Field::new(alloc, b"AMT", NUMBER, 6, 2)?,
+        Field::new(alloc, b"BORN", DATE, 8, 0)?,
+        Field::new(alloc, b"PAID", LOGICAL, 1, 0)?,
     ]?;
     let mut content = TableData::empty(alloc, Schema::new(alloc, &fields)?);
     content.append_blank()?;

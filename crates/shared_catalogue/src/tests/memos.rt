@@ -1,4 +1,4 @@
-use super::sample::{field, replace, show, use_table};
+use super::sample::{replace, show, use_table};
 use crate::answer::{Answer, Refusal};
 use crate::catalogue::Catalogue;
 use crate::command::Command;
@@ -73,7 +73,7 @@ fn note_at(alloc: Global, number: u64, length: usize) -> Result<[Command; 2], Al
 
 // The table of one field NOTE and three records, after MEMO of 510, 511 and 0 bytes.
 fn noted(alloc: Global) -> Result<TableData, Fail> {
-    let mut catalogue = open_table(alloc, &[field(alloc, b"NOTE", MEMO, 10, 0)?], 3)?;
+    let mut catalogue = open_table(alloc, &[Field::new(alloc, b"NOTE", MEMO, 10, 0)?], 3)?;
     perform_all(alloc, &mut catalogue, &[use_table(alloc, b"T", true)?])?;
     perform_all(alloc, &mut catalogue, &note_at(alloc, 1, 510)?)?;
     perform_all(alloc, &mut catalogue, &note_at(alloc, 2, 511)?)?;
@@ -140,8 +140,8 @@ fn written_memos_are_read_again(rt: HostRuntime) -> Result<(), Fail> {
 fn memo_refusals(rt: HostRuntime) -> Result<(), Fail> {
     let alloc = rt.alloc();
     let fields = [
-        field(alloc, b"NOTE", MEMO, 10, 0)?,
-        field(alloc, b"AMT", NUMBER, 6, 0)?,
+        Field::new(alloc, b"NOTE", MEMO, 10, 0)?,
+        Field::new(alloc, b"AMT", NUMBER, 6, 0)?,
     ];
     let mut catalogue = open_table(alloc, &fields, 1)?;
     let hello = memo(alloc, b"NOTE", b"HELLO")?;
@@ -191,7 +191,7 @@ fn memo_refusals(rt: HostRuntime) -> Result<(), Fail> {
 #[test]
 fn memo_needs_a_record(rt: HostRuntime) -> Result<(), Fail> {
     let alloc = rt.alloc();
-    let mut catalogue = open_table(alloc, &[field(alloc, b"NOTE", MEMO, 10, 0)?], 0)?;
+    let mut catalogue = open_table(alloc, &[Field::new(alloc, b"NOTE", MEMO, 10, 0)?], 0)?;
     answer_to(alloc, &mut catalogue, &use_table(alloc, b"T", true)?)?;
     assert_eq!(rt;
         answer_to(alloc, &mut catalogue, &memo(alloc, b"NOTE", b"A")?)?,

@@ -1,9 +1,8 @@
-use super::sample::field;
 use crate::answer::Answer;
 use crate::catalogue::Catalogue;
 use crate::command::Command;
 use crate::source::TableSource;
-use dbf_fields::{Bytes, DATE, Literal, MEMO, NUMBER, Schema};
+use dbf_fields::{Bytes, DATE, Field, Literal, MEMO, NUMBER, Schema};
 use dbf_image::TableData;
 use std::alloc::{AllocError, Global};
 use std::test::Fail;
@@ -25,9 +24,9 @@ enum Asked {
 // The table of a name, with the fields AMT, BORN and NOTE, and a blank record or none.
 fn table(alloc: Global, name: &[u8], has_record: bool) -> Result<TableSource, Fail> {
     let fields = [
-        field(alloc, b"AMT", NUMBER, 6, 2)?,
-        field(alloc, b"BORN", DATE, 8, 0)?,
-        field(alloc, b"NOTE", MEMO, 10, 0)?,
+        Field::new(alloc, b"AMT", NUMBER, 6, 2)?,
+        Field::new(alloc, b"BORN", DATE, 8, 0)?,
+        Field::new(alloc, b"NOTE", MEMO, 10, 0)?,
     ];
     let mut content = TableData::empty(alloc, Schema::new(alloc, &fields)?);
     if has_record {

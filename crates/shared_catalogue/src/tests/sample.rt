@@ -2,7 +2,7 @@ use crate::answer::Answer;
 use crate::catalogue::Catalogue;
 use crate::command::Command;
 use crate::source::TableSource;
-use dbf_fields::{Bytes, Field, Literal};
+use dbf_fields::{Bytes, Literal};
 use dbf_image::read_table;
 use std::alloc::{AllocError, Global};
 use std::test::Fail;
@@ -49,22 +49,6 @@ pub fn answers_of(
         answers.push(answer)?;
     }
     Ok(answers)
-}
-
-// A field.
-pub fn field(
-    alloc: Global,
-    name: &[u8],
-    kind: u8,
-    width: u8,
-    decimals: u8,
-) -> Result<Field, AllocError> {
-    Ok(Field {
-        name: Bytes::from_slice(alloc, name)?,
-        kind,
-        width,
-        decimals,
-    })
 }
 
 // USE of a table's name.

@@ -1,6 +1,7 @@
 use Rattle.std.proofs.Common.{◌≡◌, ◌≢◌, ◌-◌, ◌+◌, ◌<◌, List, [], ℕ, length, get_or, ap, ◌∙◌, sym, arith}
 use Rattle.dbf_fields.specs.declared.field.Field.{Field}
-use Rattle.dbf_image.specs.Table.{Row, Table, blank_row, cell_width, kind_at}
+use Rattle.dbf_fields.specs.Layout.{width_of}
+use Rattle.dbf_image.specs.Table.{Row, Table, blank_row, kind_at}
 use Rattle.dbf_image.specs.Store.{texts_of}
 use Rattle.dbf_image.proofs.CellOffsets.{cell-inside, cell_read, memo-inside, memo_read, kind_is}
 use Rattle.dbf_image.proofs.Spans.{text_at}
@@ -55,7 +56,7 @@ returns-clause-value c =
     let is = rw (c.fields.ensures.fields, fields) at c.index-fields-field.is in
     let same = kind_is table.schema c.args.field _ c.requires.field is ∙ ap (λ (f : Field). f.kind) c.index-fields-field.is in
     let other : kind_at table.schema c.args.field ≢ MEMO = λ e. c.if-fields-field-eq-MEMO.false (sym same ∙ e) in
-    let k : c.cell_start-start.result + c.width.result - c.cell_start-start.result ≡ cell_width table.schema c.args.field = omega (arith, width) in
+    let k : c.cell_start-start.result + c.width.result - c.cell_start-start.result ≡ width_of table.schema c.args.field = omega (arith, width) in
     let blank = blank_row table.schema in
     let nothing : List ℕ = [] in
     let given = cell_read table.schema (length table.rows) (c.args.number - 1) c.args.field store.records.now (texts_of store.texts.now store.memos.now) blank (omega arith) c.requires.field other in

@@ -3,7 +3,8 @@ use Rattle.std.proofs.lemmas.List.{with_items_is}
 use Rattle.std.specs.Vec.{with_items}
 use borrow.Rule.Slice.PartMut.{put_mid}
 use Rattle.dbf_image.specs.Store.{texts_of, rows_of}
-use Rattle.dbf_image.specs.Table.{Row, blank_row, cell_width, kind_at}
+use Rattle.dbf_fields.specs.Layout.{width_of}
+use Rattle.dbf_image.specs.Table.{Row, blank_row, kind_at}
 use Rattle.dbf_image.proofs.Rows.{length-rows_of}
 use Rattle.dbf_image.proofs.CellOffsets.{cell-inside}
 use Rattle.dbf_image.proofs.Edits.{rows_put, records_put}
@@ -15,7 +16,7 @@ slice_bounds-copy_from_slice-end c =
     let inside = c.self.inside in
     let n : length c.args.self.now.rows ≡ inside.count = rw (← c.self.view_is) (length-rows_of inside.schema inside.count inside.records.items (texts_of inside.texts.items inside.memos.items)) in
     let field : c.args.field < length inside.schema = rw (← c.self.view_is) at c.requires.field in
-    let wide : length c.args.cell.now ≡ cell_width inside.schema c.args.field = rw (← c.self.view_is) at c.requires.wide in
+    let wide : length c.args.cell.now ≡ width_of inside.schema c.args.field = rw (← c.self.view_is) at c.requires.wide in
     let room = cell-inside inside.schema inside.count (c.args.number - 1) c.args.field _ inside.records.items c.self.invariant.records (omega arith) field c.cell_start-start.ensures.value in
     let long : length c.deref_mut.result.now ≡ length inside.records.items = ap (length {A = ℕ}) c.deref_mut.ensures.value in
     omega (arith, room, c.width.ensures.value, long)
@@ -31,7 +32,7 @@ returns c =
     let i = c.args.number - 1 in
     let n : length c.args.self.now.rows ≡ inside.count = rw (← c.self.view_is) (length-rows_of inside.schema inside.count items memos) in
     let field : c.args.field < length inside.schema = rw (← c.self.view_is) at c.requires.field in
-    let wide : length cell ≡ cell_width inside.schema c.args.field = rw (← c.self.view_is) at c.requires.wide in
+    let wide : length cell ≡ width_of inside.schema c.args.field = rw (← c.self.view_is) at c.requires.wide in
     let room = cell-inside inside.schema inside.count i c.args.field start items c.self.invariant.records (omega arith) field c.cell_start-start.ensures.value in
     let end = start + c.width.result in
     let k : end - start ≡ length cell = omega (arith, wide, c.width.ensures.value) in
