@@ -27,6 +27,7 @@ pub use dbt::write::write_dbt;
 pub use fault::ImageFault;
 pub use format::{MAX_MEMO_BYTES, MAX_RECORDS};
 pub use sink::failures::Failures;
+pub use sink::limited::LimitedSink;
 pub use sink::memory::MemorySink;
 pub use sink::writer::SinkWriter;
 pub use sink::{ByteSink, SinkFault, write_all};

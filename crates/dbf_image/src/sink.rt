@@ -6,6 +6,7 @@ ghost use Rattle.dbf_image.specs.Sink.{grown, IsFront, Rises};
 
 pub(crate) mod buffer;
 pub(crate) mod failures;
+pub(crate) mod limited;
 pub(crate) mod memory;
 pub(crate) mod wanted;
 pub(crate) mod writer;

@@ -1,55 +1,16 @@
-//! A sink for tests, and what a sink has that failed.
+//! What a sink has that failed.
 
 use super::blocks::{NOTES, blocks, notes};
 use super::*;
 use dbf_fields::day_of;
-use std::alloc::Global;
 use std::test::*;
-
-// Takes so many bytes a write at most, counts its writes, and fails once so many are done.
-#[derive(Drop)]
-pub(super) struct TestSink {
-    pub(super) taken: MemorySink,
-    pub(super) writes: u64,
-    most: usize,
-    fails_after: u64,
-}
-
-impl TestSink {
-    pub(super) fn new(alloc: Global, most: usize, fails_after: u64) -> TestSink {
-        TestSink {
-            taken: MemorySink::new(alloc),
-            writes: 0,
-            most,
-            fails_after,
-        }
-    }
-}
-
-impl ByteSink for TestSink {
-    ghost use Rattle.std.specs.Prelude.{Some};
-
-    ghost written = { λ s. Some s.taken.bytes.items };
-
-    ghost failures = { λ s. Some s.taken.failures };
-
-    fn write(&mut self, bytes: &[u8]) -> Result<usize, SinkFault> {
-        if self.writes >= self.fails_after {
-            self.taken.failures.count();
-            return Err(SinkFault);
-        }
-        self.writes += 1;
-        self.taken
-            .write(&bytes[..bytes.len().min(self.most.max(1))])
-    }
-}
 
 #[test]
 fn failing_sink_has_the_front(rt: HostRuntime) -> Result<(), Fail> {
     let table = read_table(rt.alloc(), &TWO_NAMES, None)?;
     let day = day_of(1987, 3, 15).ok_or("no such day")?;
     for writes in 0..89usize {
-        let mut sink = TestSink::new(rt.alloc(), 1, writes as u64);
+        let mut sink = LimitedSink::new(rt.alloc(), 1, writes as u64);
         let expected = if writes < 88 {
             Err(WriteFault::Sink)
         } else {
@@ -80,7 +41,7 @@ fn failing_sink_keeps_the_file_before(rt: HostRuntime) -> Result<(), Fail> {
         (2_146, Ok(()), Err(WriteFault::Sink)),
         (2_147, Ok(()), Ok(())),
     ] {
-        let mut sink = TestSink::new(rt.alloc(), 1, writes);
+        let mut sink = LimitedSink::new(rt.alloc(), 1, writes);
         assert_eq!(rt; write_dbf(&mut sink, &table, day), dbf, "after {writes}");
         assert_eq!(rt; write_dbt(&mut sink, &table), dbt, "after {writes}");
         assert_eq!(rt; sink.taken.bytes.as_slice(), front(&both, writes as usize));
@@ -100,7 +61,7 @@ fn small_chunks_are_gathered(rt: HostRuntime) -> Result<(), Fail> {
     }
     image.push(0x1a)?;
     let day = day_of(1987, 3, 15).ok_or("no such day")?;
-    let mut sink = TestSink::new(rt.alloc(), usize::MAX, u64::MAX);
+    let mut sink = LimitedSink::new(rt.alloc(), usize::MAX, u64::MAX);
     write_dbf(&mut sink, &table, day)?;
     assert_eq!(rt; sink.writes, 2);
     assert_eq!(rt; sink.taken.bytes, image);

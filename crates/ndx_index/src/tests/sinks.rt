@@ -1,31 +1,7 @@
 //! What sinks get of an index.
 
 use super::*;
-use dbf_image::SinkFault;
-
-// Takes one byte a write, and fails once so many writes are done.
-#[derive(Drop)]
-struct SlowSink {
-    taken: MemorySink,
-    writes_left: usize,
-}
-
-impl ByteSink for SlowSink {
-    ghost use Rattle.std.specs.Prelude.{Some};
-
-    ghost written = { λ s. Some s.taken.bytes.items };
-
-    ghost failures = { λ s. Some s.taken.failures };
-
-    fn write(&mut self, bytes: &[u8]) -> Result<usize, SinkFault> {
-        if self.writes_left == 0 {
-            self.taken.failures.count();
-            return Err(SinkFault);
-        }
-        self.writes_left -= 1;
-        self.taken.write(&bytes[..bytes.len().min(1)])
-    }
-}
+use dbf_image::LimitedSink;
 
 // What the sink has after three bytes of another file and so many of this one is compared.
 #[test]
@@ -36,10 +12,7 @@ fn failing_sink_has_the_front(rt: HostRuntime) -> Result<(), Fail> {
     whole.extend_from_slice(&written(alloc, &index, 10)?)?;
     assert_eq!(rt; whole.len(), 2_051);
     for writes in [0usize, 1, 600, 2_047] {
-        let mut sink = SlowSink {
-            taken: MemorySink::new(alloc),
-            writes_left: writes,
-        };
+        let mut sink = LimitedSink::new(alloc, 1, writes as u64);
         sink.taken.bytes.extend_from_slice(b"ABC")?;
         assert_eq!(rt;
             write_into(&mut sink, alloc, &index, 10)?,
@@ -50,34 +23,11 @@ fn failing_sink_has_the_front(rt: HostRuntime) -> Result<(), Fail> {
     Ok(())
 }
 
-// Counts its writes.
-#[derive(Drop)]
-struct CountingSink {
-    taken: MemorySink,
-    writes: u64,
-}
-
-impl ByteSink for CountingSink {
-    ghost use Rattle.std.specs.Prelude.{Some};
-
-    ghost written = { λ s. Some s.taken.bytes.items };
-
-    ghost failures = { λ s. Some s.taken.failures };
-
-    fn write(&mut self, bytes: &[u8]) -> Result<usize, SinkFault> {
-        self.writes = self.writes.saturating_add(1);
-        self.taken.write(bytes)
-    }
-}
-
 #[test]
 fn small_pieces_are_gathered(rt: HostRuntime) -> Result<(), Fail> {
     let alloc = rt.alloc();
     let index = index_of(alloc, 21, 100)?;
-    let mut sink = CountingSink {
-        taken: MemorySink::new(alloc),
-        writes: 0,
-    };
+    let mut sink = LimitedSink::new(alloc, usize::MAX, u64::MAX);
     write_into(&mut sink, alloc, &index, 100)??;
     assert_eq!(rt; sink.writes, 2);
     assert_eq!(rt; sink.taken.bytes, written(alloc, &index, 100)?);
