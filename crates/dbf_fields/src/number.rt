@@ -5,7 +5,7 @@ ghost use Rattle.dbf_fields.specs.Digits.{digits_after};
 ghost use Rattle.dbf_fields.specs.Number.{whole_part, fraction_part, magnitude, number};
 
 use crate::decimal::{are_digits, are_zeros, push_digits};
-use crate::format::{MINUS, PLUS, POINT, ZERO_DIGIT};
+use crate::format::{MAX_NUMBER_WIDTH, MINUS, PLUS, POINT, ZERO_DIGIT};
 use crate::trim::trimmed;
 
 fn point_in(text: &[u8]) -> Option<usize>
@@ -24,20 +24,6 @@ fn parts(text: &[u8]) -> (&[u8], &[u8])
         Some(point) => (&text[..point], &text[point + 1..]),
         None => (text, &[]),
     }
-}
-
-// The number with so many zeros after it.
-fn push_zeros(number: u128, zeros: usize, most: u32) -> u128
-    requires small { number < 10 ^ most }
-    requires room { most + zeros ≤ 37 }
-    ensures value { result ≡ digits_after number (replicate zeros ZERO_DIGIT) }
-    ensures small { result < 10 ^ (most + zeros) }
-{
-    let mut value = number;
-    for _ in 0..zeros {
-        value *= 10;
-    }
-    value
 }
 
 // The number without its sign, in a text of so many decimals.
@@ -65,7 +51,8 @@ fn magnitude_of(text: &[u8], decimals: u8) -> Option<u128>
     }
     let number = push_digits(0, whole, 0);
     let number = push_digits(number, &fraction[..kept], whole.len() as u32);
-    Some(push_zeros(number, decimals - kept, (whole.len() + kept) as u32))
+    let zeros = &[ZERO_DIGIT; MAX_NUMBER_WIDTH as usize][..decimals - kept];
+    Some(push_digits(number, zeros, (whole.len() + kept) as u32))
 }
 
 /// The number in a cell of a field with so many decimals, as a whole number: times ten for each decimal.
