@@ -18,7 +18,7 @@ use Rattle.dbf_fields.specs.Digits.{digits_after, last_digits, numeral}
 use Rattle.dbf_fields.specs.Number.{without_leading, trimmed, is_decimal, scaled, magnitude, signed, number}
 use Rattle.dbf_fields.specs.NumberText.{sign, point, kept, number_text, is_exact, right_justified, number_cell, IsSameNumber}
 use Rattle.dbf_fields.proofs.Digits.{digits_take}
-use Rattle.dbf_fields.proofs.WrittenDigits.{length-last_digits}
+use Rattle.dbf_fields.proofs.WrittenDigits.{length-last_digits, zeros_all}
 
 -- ---- digits
 
@@ -81,17 +81,13 @@ zeros_number n (d ∷ ds) h =
     let power : n * 10 * 10 ^ length ds ≡ n * 10 ^ suc (length ds) = mul_assoc n 10 (10 ^ length ds) ∙ ap (λ (x : ℕ). n * x) (mul_comm 10 (10 ^ length ds) ∙ sym (pow-suc 10 (length ds))) in
     rw zero_digit (zeros_number (n * 10) ds p.1 ∙ power)
 
-zeros_are : (k : ℕ) → list_all (λ b. b == 48) (replicate k 48) ≡ true
-zeros_are zero = refl
-zeros_are (suc k) = zeros_are k
-
 ten_more : (v a n b : ℕ) → v * 10 ^ a ≡ n * 10 ^ b → v * 10 ^ suc a ≡ n * 10 ^ suc b
 ten_more v a n b e = rw (pow-suc 10 a, pow-suc 10 b, ← mul_assoc v (10 ^ a) 10, ← mul_assoc n (10 ^ b) 10, e) refl
 
 kept_number : (n : ℕ) (ds : List ℕ) (d r : ℕ) → d ≤ length ds + r → list_all (λ b. b == 48) (drop d ds) ≡ true
     → digits_after n (take d (ds ++ replicate r 48)) * 10 ^ length ds ≡ digits_after n ds * 10 ^ d
 kept_number n [] d r room zeros =
-    let e : digits_after n (replicate d 48) ≡ n * 10 ^ d = zeros_number n (replicate d 48) (zeros_are d) ∙ ap (λ (k : ℕ). n * 10 ^ k) (length-replicate {A = ℕ} d 48) in
+    let e : digits_after n (replicate d 48) ≡ n * 10 ^ d = zeros_number n (replicate d 48) (zeros_all d) ∙ ap (λ (k : ℕ). n * 10 ^ k) (length-replicate {A = ℕ} d 48) in
     rw (take-replicate {X = ℕ} d r 48 (omega arith), e) (omega arith)
 kept_number n (b ∷ ds) zero r room zeros = rw (zeros_number n (b ∷ ds) zeros) (omega arith)
 kept_number n (b ∷ ds) (suc d) r room zeros =

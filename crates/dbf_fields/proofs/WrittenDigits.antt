@@ -57,7 +57,7 @@ filled_take [] k r q a b = rw (take-replicate {X = ℕ} k r 48 (omega arith), ta
 filled_take (d ∷ ds) zero r q a b = refl
 filled_take (d ∷ ds) (suc k) r q a b = ap (λ (t : List ℕ). d ∷ t) (filled_take ds k r q (omega arith) (omega arith))
 
-zeros_all : (r : ℕ) → list_all (λ b. b == 48) (replicate r 48) ≡ true
+pub zeros_all : (r : ℕ) → list_all (λ b. b == 48) (replicate r 48) ≡ true
 zeros_all zero = refl
 zeros_all (suc r) = zeros_all r
 
@@ -68,33 +68,12 @@ zeros_after (d ∷ ds) zero r = ap (λ (t : Bool). (d == 48) && t) (zeros_after 
 zeros_after (d ∷ ds) (suc k) r = zeros_after ds k r
 
 -- the digits after the point, as they are written
-pub kept_is : (ds : List ℕ) (scale decimals : ℕ) → length ds ≡ scale → scale ≤ 255 → decimals ≤ 255 → take decimals (ds ++ replicate (255 - scale) 48) ≡ kept decimals ds
-kept_is ds scale decimals len a b = filled_take ds decimals (255 - scale) decimals (omega arith) (omega arith)
+pub kept_is : (scale n decimals : ℕ) → scale < 256 → decimals < 256 → take decimals (last_digits scale n ++ replicate (255 - scale) 48) ≡ kept decimals (last_digits scale n)
+kept_is scale n decimals a b =
+    let len = length-last_digits scale n in
+    filled_take (last_digits scale n) decimals (255 - scale) decimals (omega arith) (omega arith)
 
 -- the digits past the decimals, as the code cuts them off
-pub exact_is : (b : Bool) (z : ℤ) (m scale decimals index : ℕ) (last cut : List ℕ) → m ≡ unsigned_abs z → last ≡ last_digits scale m ++ replicate (255 - scale) 48
-    → index ≡ decimals → cut ≡ drop index last → b ≡ list_all (λ b. b == 48) cut → is_exact z scale decimals ≡ b
+pub cut_is : (z : ℤ) (scale decimals : ℕ) → list_all (λ b. b == 48) (drop decimals (last_digits scale (unsigned_abs z) ++ replicate (255 - scale) 48)) ≡ is_exact z scale decimals
 unfolding is_exact
-exact_is b z m scale decimals index last cut em el ep ec eb =
-    rw (eb, ec, ep, el, em) (sym (zeros_after (last_digits scale (unsigned_abs z)) decimals (255 - scale)))
-
--- the text, as the code makes it
-pub text_is : (z y : ℤ) (m whole scale decimals : ℕ) (last text : List ℕ) → y ≡ z → m ≡ unsigned_abs z → last ≡ last_digits scale m ++ replicate (255 - scale) 48
-    → whole ≡ m / 10 ^ scale → text ≡ sign y ++ (numeral whole ++ (point decimals ++ take decimals last)) → scale ≤ 255 → decimals ≤ 255
-    → text ≡ number_text z scale decimals
-unfolding number_text
-text_is z y m whole scale decimals last text ey em el ew et a b =
-    rw (et, ew, el, em, ey, kept_is (last_digits scale (unsigned_abs z)) scale decimals (length-last_digits scale (unsigned_abs z)) a b) refl
-
-pub inexact : (width decimals : ℕ) (z : ℤ) (scale : ℕ) → is_exact z scale decimals ≡ false → number_cell width decimals z scale ≡ None
-unfolding number_cell
-inexact width decimals z scale e = rw e refl
-
-pub too_wide : (width decimals : ℕ) (z : ℤ) (scale : ℕ) → width < length (number_text z scale decimals) → number_cell width decimals z scale ≡ None
-unfolding number_cell
-too_wide width decimals z scale wide = rw (and_right (is_exact z scale decimals) _ (lt-leb (length (number_text z scale decimals)) width wide)) refl
-
-pub has_room : (width decimals : ℕ) (z : ℤ) (scale : ℕ) (text : List ℕ) → is_exact z scale decimals ≡ true → text ≡ number_text z scale decimals → length text ≤ width
-    → number_cell width decimals z scale ≡ Some (right_justified width text)
-unfolding number_cell
-has_room width decimals z scale text e t room = rw (t, e, le-leb _ _ (rw t at room)) refl
+cut_is z scale decimals = zeros_after (last_digits scale (unsigned_abs z)) decimals (255 - scale)

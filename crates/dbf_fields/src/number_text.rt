@@ -2,7 +2,7 @@
 
 ghost use Rattle.std.specs.Prelude.{◌≡◌, ◌+◌, ◌-◌, ◌/◌, ◌<◌, ◌≤◌, ◌^◌, ◌++◌, [], length, take, drop, replicate, IfOk, IfErr, IfSome, MatchOption, Some, None, ◌⊎◌};
 ghost use Rattle.dbf_fields.specs.Digits.{last_digits, numeral};
-ghost use Rattle.dbf_fields.specs.NumberText.{sign as sign_of, point as point_before, number_text as text_of, right_justified as justified, number_cell as cell_of};
+ghost use Rattle.dbf_fields.specs.NumberText.{sign as sign_of, point as point_before, number_text as text_of, is_exact as exact, right_justified as justified, number_cell as cell_of};
 
 use crate::bytes::Bytes;
 use crate::cell::CellFault;
@@ -40,7 +40,15 @@ impl NumberText {
         ensures value { result ≡ text_of digits scale decimals }
     {
         let (last, whole) = split_off(digits.unsigned_abs(), scale);
-        text_of_parts(digits, whole, &last, decimals)
+        let (kept, _) = last.split_at(usize::from(decimals));
+        let (padded, start) = numeral_of(whole);
+        let (_, before_point) = padded.split_at(start);
+        let mut text = NumberText::empty();
+        text.push(sign(digits));
+        text.push(before_point);
+        text.push(point(decimals));
+        text.push(kept);
+        text
     }
 
     fn empty() -> NumberText
@@ -117,21 +125,6 @@ fn point(decimals: u8) -> &'static [u8]
     if decimals == 0 { b"" } else { b"." }
 }
 
-// The text of a number of this sign, from the number before the point and the last digits.
-fn text_of_parts(signed: i128, whole: u128, last: &[u8; 255], decimals: u8) -> NumberText
-    ensures value { result ≡ sign_of signed ++ (numeral whole ++ (point_before decimals ++ take decimals last.now)) }
-{
-    let (kept, _) = last.split_at(usize::from(decimals));
-    let (padded, start) = numeral_of(whole);
-    let (_, digits) = padded.split_at(start);
-    let mut text = NumberText::empty();
-    text.push(sign(signed));
-    text.push(digits);
-    text.push(point(decimals));
-    text.push(kept);
-    text
-}
-
 // A text after as many blanks as fill the width.
 fn right_justified(alloc: Global, width: usize, text: &[u8]) -> Result<Bytes, AllocError>
     requires fits { length text.now ≤ width }
@@ -143,24 +136,17 @@ fn right_justified(alloc: Global, width: usize, text: &[u8]) -> Result<Bytes, Al
     Ok(Bytes::from_vec(cell))
 }
 
-// The text of a number of which so many decimals keep all and that so many bytes hold, where there is one.
-fn fitting_text(width: usize, decimals: u8, digits: i128, scale: u8) -> Option<NumberText>
-    ensures value { MatchOption result (cell_of width decimals digits scale ≡ None) (λ text. cell_of width decimals digits scale ≡ Some (justified width text)) }
-    ensures fits { IfSome result (λ text. length text ≤ width) }
+// Whether so many decimals keep all digits of a number.
+fn is_exact(digits: i128, scale: u8, decimals: u8) -> bool
+    ensures value { result ≡ exact digits scale decimals }
 {
-    let (last, whole) = split_off(digits.unsigned_abs(), scale);
+    let (last, _) = split_off(digits.unsigned_abs(), scale);
     let (_, cut) = last.split_at(usize::from(decimals));
-    if !are_zeros(cut) {
-        return None;
-    }
-    let text = text_of_parts(digits, whole, &last, decimals);
-    if text.as_bytes().len() > width {
-        return None;
-    }
-    Some(text)
+    are_zeros(cut)
 }
 
 // The cell of a number, of whose digits `scale` stand after its point.
+#[tactic(auto, unfolding(crate::specs::NumberText::number_cell))]
 pub(crate) fn number_cell(
     alloc: Global,
     width: u8,
@@ -173,11 +159,10 @@ pub(crate) fn number_cell(
     ensures early { IfErr result (λ fault. cell_of width decimals digits scale ≡ None → fault ≡ CellFault.NumberTooWide) }
 {
     let width = usize::from(width);
-    match fitting_text(width, decimals, digits, scale) {
-        Some(text) => {
-            let cell = right_justified(alloc, width, text.as_bytes())?;
-            Ok(cell)
-        }
-        None => Err(CellFault::NumberTooWide),
+    let text = NumberText::new(digits, scale, decimals);
+    if !is_exact(digits, scale, decimals) || text.as_bytes().len() > width {
+        return Err(CellFault::NumberTooWide);
     }
+    let cell = right_justified(alloc, width, text.as_bytes())?;
+    Ok(cell)
 }
