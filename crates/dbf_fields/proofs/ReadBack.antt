@@ -1,24 +1,25 @@
 -- The number that a cell keeps is read from it again.
-use Rattle.std.proofs.Common.{◌≡◌, ℕ, zero, suc, ◌+◌, ◌-◌, ◌*◌, ◌/◌, ◌%◌, ◌^◌, ◌<◌, ◌≤◌, Bool, true, false, cond, not, leb, eqb, ◌==◌, ◌&&◌, List, [], ◌∷◌, ◌++◌, length, take, drop, map, replicate, reverse, Some, None, ℤ, pos, negsuc, neg_ℤ, ◌*ℤ◌, refl, sym, ap, ◌∙◌, arith, length-append}
+use Rattle.std.proofs.Common.{◌≡◌, ℕ, zero, suc, ◌+◌, ◌-◌, ◌*◌, ◌/◌, ◌%◌, ◌^◌, ◌<◌, ◌≤◌, true, false, not, eqb, ◌==◌, List, [], ◌∷◌, ◌++◌, length, take, drop, map, replicate, reverse, Some, ℤ, pos, negsuc, neg_ℤ, ◌*ℤ◌, refl, ap, ◌∙◌, arith, length-append}
 use Rattle.std.specs.Prelude.{option_map}
 use Rattle.std.specs.List.{list_all, AllByRecursion, position_or_len}
 use Rattle.std.specs.Char.{is_ascii_digit}
 use Rattle.std.specs.Int.Digits.{digits_of, number_from_digits_after}
 use Rattle.std.specs.Int.RustNames.{unsigned_abs}
-use Rattle.std.proofs.Math.Nat.{pow-suc, mul_assoc, div-div-eq-div-mul, mul_comm}
+use Rattle.std.proofs.Math.Nat.{pow-suc, pow-succ', mul_assoc, div-div-eq-div-mul}
 use Rattle.std.proofs.Math.IntN.{pos-*ℤ-pos, negsuc-*ℤ-pos}
-use Rattle.std.proofs.lemmas.Bool.{and_parts, not-true, le-leb, leb-true, eqb-true, ne_eqb}
+use Rattle.std.proofs.lemmas.Bool.{and_parts, not-true, le-leb, eqb-true, ne_eqb}
 use Rattle.std.proofs.lemmas.Bool.Decides.{nat_tests}
 use Rattle.std.proofs.lemmas.Grind.{fold-append}
 use Rattle.std.proofs.lemmas.Int.{ints}
 use Rattle.std.proofs.lemmas.Int.Digits.{number_digits_of, all_below_base_digits_of}
-use Rattle.std.proofs.lemmas.List.{reverse-append, reverse-reverse, take_all, drop_all, append-nil, take_at, length-take-le, length-replicate, take-replicate}
+use Rattle.std.proofs.Math.Seq.{take-append_seam, drop-append-add}
+use Rattle.std.proofs.lemmas.List.{reverse-append, reverse-reverse, take_all, drop_all, append-nil, length-take-le, length-replicate, take-replicate}
 use Rattle.std.proofs.lemmas.List.Folds.{list_all-append}
 use Rattle.dbf_fields.specs.Digits.{digits_after, last_digits, numeral}
 use Rattle.dbf_fields.specs.Number.{without_leading, trimmed, is_decimal, scaled, magnitude, signed, number}
 use Rattle.dbf_fields.specs.NumberText.{sign, point, kept, number_text, is_exact, right_justified, number_cell, IsSameNumber}
 use Rattle.dbf_fields.proofs.Digits.{digits_take}
-use Rattle.dbf_fields.proofs.WrittenDigits.{length-last_digits, zeros_all}
+use Rattle.dbf_fields.proofs.WrittenDigits.{length-last_digits, zeros_pass}
 
 -- ---- digits
 
@@ -41,24 +42,19 @@ last_digits_digits zero n = refl
 last_digits_digits (suc k) n =
     rw (list_all-append is_ascii_digit (last_digits k (n / 10)) ((48 + n % 10) ∷ []), last_digits_digits k (n / 10), glyph_digit (n % 10) (omega arith)) refl
 
-zeros_digits : (k : ℕ) → list_all is_ascii_digit (replicate k 48) ≡ true
-zeros_digits zero = refl
-zeros_digits (suc k) = zeros_digits k
-
 kept_digits : (d : ℕ) (ds : List ℕ) → list_all is_ascii_digit ds ≡ true → list_all is_ascii_digit (kept d ds) ≡ true
-kept_digits d ds h = digits_take d (ds ++ replicate d 48) (rw (list_all-append is_ascii_digit ds (replicate d 48), h, zeros_digits d) refl)
+kept_digits d ds h = digits_take d (ds ++ replicate d 48) (rw (list_all-append is_ascii_digit ds (replicate d 48), h, zeros_pass is_ascii_digit refl d) refl)
 
 length-kept : (d : ℕ) (ds : List ℕ) → length (kept d ds) ≡ d
 length-kept d ds = length-take-le d (ds ++ replicate d 48) (omega (arith, length-append ds (replicate d 48), length-replicate {A = ℕ} d 48))
 
 -- ---- the number of digits that were written
 
-digits_step : (n glyph digit value : ℕ) (rest : List ℕ) → glyph - 48 ≡ digit → digits_after (n * 10 + digit) rest ≡ value → digits_after n (glyph ∷ rest) ≡ value
-digits_step n glyph digit value rest e h = rw e h
-
 number_of_glyphs : (n : ℕ) (ds : List ℕ) → digits_after n (map (λ d. 48 + d) ds) ≡ number_from_digits_after 10 n ds
 number_of_glyphs n [] = refl
-number_of_glyphs n (d ∷ ds) = digits_step n (48 + d) d _ (map (λ d. 48 + d) ds) (omega arith) (number_of_glyphs (n * 10 + d) ds)
+number_of_glyphs n (d ∷ ds) =
+    let digit : 48 + d - 48 ≡ d = omega arith in
+    ap (λ (k : ℕ). digits_after (n * 10 + k) (map (λ d. 48 + d) ds)) digit ∙ number_of_glyphs (n * 10 + d) ds
 
 number_of_numeral : (n : ℕ) → digits_after 0 (numeral n) ≡ n
 number_of_numeral n =
@@ -68,8 +64,7 @@ number_of_numeral n =
 pub number_of_last : (k n : ℕ) → digits_after (n / 10 ^ k) (last_digits k n) ≡ n
 number_of_last zero n = omega arith
 number_of_last (suc k) n =
-    let power : 10 ^ suc k ≡ 10 * 10 ^ k = pow-suc 10 k ∙ mul_comm (10 ^ k) 10 in
-    let front : digits_after (n / 10 ^ suc k) (last_digits k (n / 10)) ≡ n / 10 = rw (power, ← div-div-eq-div-mul n 10 (10 ^ k)) (number_of_last k (n / 10)) in
+    let front : digits_after (n / 10 ^ suc k) (last_digits k (n / 10)) ≡ n / 10 = rw (pow-succ' 10 k, ← div-div-eq-div-mul n 10 (10 ^ k)) (number_of_last k (n / 10)) in
     rw (fold-append, front) (omega arith)
 
 -- zeros after a number, and more or fewer of them
@@ -78,8 +73,7 @@ zeros_number n [] h = omega arith
 zeros_number n (d ∷ ds) h =
     let p = and_parts (eqb d 48) (list_all (λ b. b == 48) ds) h in
     let zero_digit : n * 10 + (d - 48) ≡ n * 10 = omega (arith, eqb-true d 48 p.0) in
-    let power : n * 10 * 10 ^ length ds ≡ n * 10 ^ suc (length ds) = mul_assoc n 10 (10 ^ length ds) ∙ ap (λ (x : ℕ). n * x) (mul_comm 10 (10 ^ length ds) ∙ sym (pow-suc 10 (length ds))) in
-    rw zero_digit (zeros_number (n * 10) ds p.1 ∙ power)
+    rw (zero_digit, pow-succ' 10 (length ds), ← mul_assoc n 10 (10 ^ length ds)) (zeros_number (n * 10) ds p.1)
 
 ten_more : (v a n b : ℕ) → v * 10 ^ a ≡ n * 10 ^ b → v * 10 ^ suc a ≡ n * 10 ^ suc b
 ten_more v a n b e = rw (pow-suc 10 a, pow-suc 10 b, ← mul_assoc v (10 ^ a) 10, ← mul_assoc n (10 ^ b) 10, e) refl
@@ -87,7 +81,7 @@ ten_more v a n b e = rw (pow-suc 10 a, pow-suc 10 b, ← mul_assoc v (10 ^ a) 10
 kept_number : (n : ℕ) (ds : List ℕ) (d r : ℕ) → d ≤ length ds + r → list_all (λ b. b == 48) (drop d ds) ≡ true
     → digits_after n (take d (ds ++ replicate r 48)) * 10 ^ length ds ≡ digits_after n ds * 10 ^ d
 kept_number n [] d r room zeros =
-    let e : digits_after n (replicate d 48) ≡ n * 10 ^ d = zeros_number n (replicate d 48) (zeros_all d) ∙ ap (λ (k : ℕ). n * 10 ^ k) (length-replicate {A = ℕ} d 48) in
+    let e : digits_after n (replicate d 48) ≡ n * 10 ^ d = zeros_number n (replicate d 48) (zeros_pass (λ b. b == 48) refl d) ∙ ap (λ (k : ℕ). n * 10 ^ k) (length-replicate {A = ℕ} d 48) in
     rw (take-replicate {X = ℕ} d r 48 (omega arith), e) (omega arith)
 kept_number n (b ∷ ds) zero r room zeros = rw (zeros_number n (b ∷ ds) zeros) (omega arith)
 kept_number n (b ∷ ds) (suc d) r room zeros =
@@ -95,14 +89,14 @@ kept_number n (b ∷ ds) (suc d) r room zeros =
 
 -- ---- the text between the blanks
 
-digit_full : (b : ℕ) → is_ascii_digit b ≡ true → not (eqb b 32) ≡ true
-digit_full b h = grind (arith, nat_tests)
+digit_is_no : (b other : ℕ) → is_ascii_digit b ≡ true → other < 48 → eqb b other ≡ false
+digit_is_no b other h low = grind (arith, nat_tests)
 
 digits_full : (ds : List ℕ) → list_all is_ascii_digit ds ≡ true → list_all (λ b. not (b == 32)) ds ≡ true
 digits_full [] h = refl
 digits_full (d ∷ ds) h =
     let p = and_parts (is_ascii_digit d) (list_all is_ascii_digit ds) h in
-    rw (digit_full d p.0, digits_full ds p.1) refl
+    rw (digit_is_no d 32 p.0 (omega arith), digits_full ds p.1) refl
 
 full_append : (a b : List ℕ) → list_all (λ b. not (b == 32)) a ≡ true → list_all (λ b. not (b == 32)) b ≡ true → list_all (λ b. not (b == 32)) (a ++ b) ≡ true
 full_append a b ha hb = rw (list_all-append (λ b. not (b == 32)) a b, ha, hb) refl
@@ -130,40 +124,26 @@ trimmed_cell k text h = rw (blanks_off k text, nothing_off text h, nothing_off (
 
 -- ---- the parts of the text
 
-digit_no_point : (b : ℕ) → is_ascii_digit b ≡ true → eqb b 46 ≡ false
-digit_no_point b h = grind (arith, nat_tests)
-
-point_after : (whole rest : List ℕ) → list_all is_ascii_digit whole ≡ true → position_or_len (λ b. b == 46) (whole ++ (46 ∷ rest)) ≡ length whole
-point_after [] rest h = refl
-point_after (b ∷ bs) rest h =
+no_point_in : (whole rest : List ℕ) → list_all is_ascii_digit whole ≡ true → position_or_len (λ b. b == 46) (whole ++ rest) ≡ length whole + position_or_len (λ b. b == 46) rest
+no_point_in [] rest h = omega arith
+no_point_in (b ∷ bs) rest h =
     let p = and_parts (is_ascii_digit b) (list_all is_ascii_digit bs) h in
-    rw (digit_no_point b p.0, point_after bs rest p.1) (omega arith)
-
-no_point : (whole : List ℕ) → list_all is_ascii_digit whole ≡ true → position_or_len (λ b. b == 46) whole ≡ length whole
-no_point [] h = refl
-no_point (b ∷ bs) h =
-    let p = and_parts (is_ascii_digit b) (list_all is_ascii_digit bs) h in
-    rw (digit_no_point b p.0, no_point bs p.1) (omega arith)
-
-past_point : (whole rest : List ℕ) → drop (length whole + 1) (whole ++ (46 ∷ rest)) ≡ rest
-past_point [] rest = refl
-past_point (b ∷ bs) rest =
-    let e : suc (length bs) + 1 ≡ suc (length bs + 1) = omega arith in
-    rw e (past_point bs rest)
+    rw (digit_is_no b 46 p.0 (omega arith), no_point_in bs rest p.1) (omega arith)
 
 -- digits with a point are read as they stand
 with_point : (whole digits : List ℕ) (decimals : ℕ) → list_all is_ascii_digit whole ≡ true → list_all is_ascii_digit digits ≡ true → 0 < length whole → length digits ≡ decimals
     → magnitude (whole ++ (46 ∷ digits)) decimals ≡ Some (digits_after 0 (whole ++ digits))
 unfolding is_decimal scaled
 with_point whole digits decimals hw hd some len =
-    let before : take (length whole) (whole ++ (46 ∷ digits)) ≡ whole = take_at whole (46 ∷ digits) (length whole) refl in
+    let before : position_or_len (λ b. b == 46) (whole ++ (46 ∷ digits)) ≡ length whole = omega (arith, no_point_in whole (46 ∷ digits) hw) in
     let none : decimals - length digits ≡ 0 = omega arith in
-    rw (point_after whole digits hw, before, past_point whole digits, hw, hd, le-leb 1 (length whole + length digits) (omega arith), drop_all decimals digits (omega arith), take_all decimals digits (omega arith), none, append-nil) refl
+    rw (before, take-append_seam whole (46 ∷ digits), drop-append-add whole (46 ∷ digits) 1, hw, hd, le-leb 1 (length whole + length digits) (omega arith), drop_all decimals digits (omega arith), take_all decimals digits (omega arith), none, append-nil) refl
 
 without_point : (whole : List ℕ) → list_all is_ascii_digit whole ≡ true → 0 < length whole → magnitude whole 0 ≡ Some (digits_after 0 whole)
 unfolding is_decimal scaled
 without_point whole hw some =
-    rw (no_point whole hw, take_all (length whole) whole (omega arith), drop_all (length whole + 1) whole (omega arith), hw, le-leb 1 (length whole + 0) (omega arith), append-nil) refl
+    let before : position_or_len (λ b. b == 46) whole ≡ length whole = omega (arith, rw append-nil at (no_point_in whole [] hw)) in
+    rw (before, take_all (length whole) whole (omega arith), drop_all (length whole + 1) whole (omega arith), hw, le-leb 1 (length whole + 0) (omega arith), append-nil) refl
 
 a_point : (decimals : ℕ) → point (suc decimals) ≡ 46 ∷ []
 a_point decimals = rw (ne_eqb (suc decimals) 0 (λ e. absurd (omega arith))) refl
@@ -175,15 +155,11 @@ magnitude_of whole [] zero hw hd some len = rw append-nil (without_point whole h
 magnitude_of whole (b ∷ bs) zero hw hd some len = absurd (omega arith)
 magnitude_of whole digits (suc decimals) hw hd some len = rw (a_point decimals) (with_point whole digits (suc decimals) hw hd some len)
 
-digit_no_sign : (b : ℕ) → is_ascii_digit b ≡ true → (eqb b 45 ≡ false) × (eqb b 43 ≡ false)
-digit_no_sign b h = (grind (arith, nat_tests), grind (arith, nat_tests))
-
 unsigned : (whole rest : List ℕ) (decimals : ℕ) → list_all is_ascii_digit whole ≡ true → 0 < length whole → signed (whole ++ rest) decimals ≡ option_map pos (magnitude (whole ++ rest) decimals)
 unsigned [] rest decimals h some = absurd (omega arith)
 unsigned (b ∷ bs) rest decimals h some =
     let p = and_parts (is_ascii_digit b) (list_all is_ascii_digit bs) h in
-    let no = digit_no_sign b p.0 in
-    rw (no.0, no.1) refl
+    rw (digit_is_no b 45 p.0 (omega arith), digit_is_no b 43 p.0 (omega arith)) refl
 
 -- ---- the law
 
@@ -229,19 +205,11 @@ text_full z scale decimals =
     (full_append whole _ (digits_full whole (numeral_digits (unsigned_abs z / 10 ^ scale)))
     (full_append (point decimals) _ (point_full decimals) (digits_full (kept decimals last) (kept_digits decimals last (last_digits_digits scale (unsigned_abs z))))))
 
-chosen : (b : Bool) (x y : List ℕ) → cond b (Some x) None ≡ Some y → (b ≡ true) × (y ≡ x)
-chosen true x y e = (refl, cc)
-chosen false x y e = absurd cc
-
 -- what a cell of a number is
 cell_parts : (width decimals : ℕ) (z : ℤ) (scale : ℕ) (cell : List ℕ) → number_cell width decimals z scale ≡ Some cell
     → (is_exact z scale decimals ≡ true) × (length (number_text z scale decimals) ≤ width) × (cell ≡ right_justified width (number_text z scale decimals))
 unfolding number_cell
-cell_parts width decimals z scale cell e =
-    let fits = is_exact z scale decimals && leb (length (number_text z scale decimals)) width in
-    let some = chosen fits (right_justified width (number_text z scale decimals)) cell e in
-    let p = and_parts (is_exact z scale decimals) (leb (length (number_text z scale decimals)) width) some.0 in
-    (p.0, leb-true _ width p.1, some.1)
+cell_parts width decimals z scale cell e = (grind (arith, nat_tests), grind (arith, nat_tests), grind (arith, nat_tests))
 
 pub length-number_cell : (width decimals : ℕ) (z : ℤ) (scale : ℕ) (cell : List ℕ) → number_cell width decimals z scale ≡ Some cell → length cell ≡ width
 length-number_cell width decimals z scale cell e =

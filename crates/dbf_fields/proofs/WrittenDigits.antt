@@ -1,15 +1,14 @@
 -- The digits of a number, written from the last one on.
-use Rattle.std.proofs.Common.{◌≡◌, ℕ, zero, suc, ◌+◌, ◌-◌, ◌*◌, ◌/◌, ◌%◌, ◌^◌, ◌<◌, ◌≤◌, Bool, true, false, Some, None, ◌==◌, ◌&&◌, List, [], ◌∷◌, ◌++◌, length, take, drop, map, replicate, ℤ, refl, sym, ap, ◌∙◌, append_assoc, arith, length-append}
+use Rattle.std.proofs.Common.{◌≡◌, ℕ, zero, suc, ◌+◌, ◌-◌, ◌/◌, ◌%◌, ◌^◌, ◌<◌, ◌≤◌, Bool, true, ◌==◌, ◌&&◌, List, [], ◌∷◌, ◌++◌, length, take, drop, map, replicate, ℤ, refl, ap, append_assoc, arith, length-append}
 use Rattle.std.proofs.Math.ListN.{set}
-use Rattle.std.proofs.Math.Nat.{div-div-eq-div-mul, pow-suc, mul_comm}
+use Rattle.std.proofs.Math.Nat.{div-div-eq-div-mul, pow-suc, pow-succ'}
 use Rattle.std.specs.List.{list_all}
 use Rattle.std.specs.Int.Digits.{digits_of}
 use Rattle.std.specs.Int.RustNames.{unsigned_abs}
 use Rattle.std.proofs.lemmas.Int.Digits.{digits_of_step}
-use Rattle.std.proofs.lemmas.Bool.{and_right, lt-leb, le-leb}
 use Rattle.std.proofs.lemmas.List.{drop-set, drop-replicate, take-replicate, map-append}
-use Rattle.dbf_fields.specs.Digits.{last_digits, numeral}
-use Rattle.dbf_fields.specs.NumberText.{sign, point, kept, number_text, is_exact, right_justified, number_cell}
+use Rattle.dbf_fields.specs.Digits.{last_digits}
+use Rattle.dbf_fields.specs.NumberText.{kept, is_exact}
 
 -- the last digit of the rest, written before what stands
 pub digit_before : (index rest : ℕ) (last : List ℕ) → 0 < index → index ≤ length last
@@ -24,8 +23,7 @@ pub rest_before : (index rest : ℕ) → 0 < index → rest / 10 / 10 ^ (index -
 rest_before zero rest some = absurd (omega arith)
 rest_before (suc p) rest some =
     let e : suc p - 1 ≡ p = omega arith in
-    let power : 10 * 10 ^ p ≡ 10 ^ suc p = mul_comm 10 (10 ^ p) ∙ sym (pow-suc 10 p) in
-    rw (e, div-div-eq-div-mul rest 10 (10 ^ p), power) refl
+    rw (e, pow-succ' 10 p, ← div-div-eq-div-mul rest 10 (10 ^ p)) refl
 
 -- nothing is written yet
 pub all_zeros : (index k n : ℕ) → index ≡ k → last_digits index n ++ drop index (replicate 255 48) ≡ last_digits k n ++ replicate (255 - k) 48
@@ -57,13 +55,13 @@ filled_take [] k r q a b = rw (take-replicate {X = ℕ} k r 48 (omega arith), ta
 filled_take (d ∷ ds) zero r q a b = refl
 filled_take (d ∷ ds) (suc k) r q a b = ap (λ (t : List ℕ). d ∷ t) (filled_take ds k r q (omega arith) (omega arith))
 
-pub zeros_all : (r : ℕ) → list_all (λ b. b == 48) (replicate r 48) ≡ true
-zeros_all zero = refl
-zeros_all (suc r) = zeros_all r
+pub zeros_pass : (p : ℕ → Bool) → p 48 ≡ true → (r : ℕ) → list_all p (replicate r 48) ≡ true
+zeros_pass p h zero = refl
+zeros_pass p h (suc r) = rw h (zeros_pass p h r)
 
 zeros_after : (ds : List ℕ) (k r : ℕ) → list_all (λ b. b == 48) (drop k (ds ++ replicate r 48)) ≡ list_all (λ b. b == 48) (drop k ds)
-zeros_after [] zero r = zeros_all r
-zeros_after [] (suc k) r = rw (drop-replicate {X = ℕ} (suc k) r 48) (zeros_all (r - suc k))
+zeros_after [] zero r = zeros_pass (λ b. b == 48) refl r
+zeros_after [] (suc k) r = rw (drop-replicate {X = ℕ} (suc k) r 48) (zeros_pass (λ b. b == 48) refl (r - suc k))
 zeros_after (d ∷ ds) zero r = ap (λ (t : Bool). (d == 48) && t) (zeros_after ds zero r)
 zeros_after (d ∷ ds) (suc k) r = zeros_after ds k r
 
