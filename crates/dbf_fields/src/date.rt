@@ -3,9 +3,8 @@
 ghost use Rattle.std.specs.Prelude.{◌≡◌, ◌+◌, ◌<◌, ◌%◌, ◌^◌, ◌↔◌, length, true, IsSome, IfSome};
 ghost use Rattle.std.specs.List.{list_all};
 ghost use Rattle.std.specs.Char.{is_ascii_digit};
-ghost use Rattle.dbf_fields.specs.Day.{IsDay};
 ghost use Rattle.dbf_fields.specs.Digits.{digits_after};
-ghost use Rattle.dbf_fields.specs.Date.{year_in, month_in, day_in, IsDateCell, date_text as text_of, date_shown};
+ghost use Rattle.dbf_fields.specs.Date.{year_in, month_in, day_in, is_date, IsDateCell, date_text as text_of, date_shown};
 
 use crate::day::{Day, day_of};
 use crate::decimal::{are_digits, number_of_digits};
@@ -32,15 +31,17 @@ fn small_number(digits: &[u8]) -> u16
     number_of_digits(digits) as u16
 }
 
-// The date that eight digits are, where they are one.
-fn day_of_digits(cell: &[u8]) -> Option<Day>
-    requires eight { length cell.now ≡ 8 }
-    requires digits { list_all is_ascii_digit cell.now ≡ true }
-    ensures some { IsSome result ↔ IsDay (year_in cell.now) (month_in cell.now) (day_in cell.now) }
+// The date that the eight digits of a cell are, where they are one.
+#[tactic(auto, unfolding(crate::specs::Date::is_date))]
+fn date_in(cell: &[u8]) -> Option<Day>
+    ensures some { IsSome result ↔ (is_date cell.now ≡ true) }
     ensures year { IfSome result (λ date. year_in cell.now ≡ date.year) }
     ensures month { IfSome result (λ date. month_in cell.now ≡ date.month) }
     ensures day { IfSome result (λ date. day_in cell.now ≡ date.day) }
 {
+    if cell.len() != 8 || !are_digits(cell) {
+        return None;
+    }
     let year = small_number(&cell[..4]);
     let month = small_number(&cell[4..6]);
     let day = small_number(&cell[6..8]);
@@ -55,13 +56,7 @@ pub fn read_date(cell: &[u8]) -> DateCell
     if cell == b"        ".as_slice() {
         return DateCell::Blank;
     }
-    if cell.len() != 8 {
-        return DateCell::Odd;
-    }
-    if !are_digits(cell) {
-        return DateCell::Odd;
-    }
-    match day_of_digits(cell) {
+    match date_in(cell) {
         Some(day) => DateCell::Is(day),
         None => DateCell::Odd,
     }
