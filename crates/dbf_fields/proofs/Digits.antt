@@ -1,20 +1,19 @@
 -- The number that decimal digits stand for.
-use Rattle.std.proofs.Common.{◌≡◌, ℕ, zero, suc, ◌+◌, ◌-◌, ◌*◌, ◌^◌, ◌<◌, ◌≤◌, true, leb, List, [], ◌∷◌, length, take, drop, replicate, get_or, refl, sym, ◌∙◌, arith}
+use Rattle.std.proofs.Common.{◌≡◌, ℕ, zero, suc, ◌+◌, ◌-◌, ◌*◌, ◌^◌, ◌<◌, ◌≤◌, true, List, [], ◌∷◌, length, take, drop, get_or, refl, sym, ◌∙◌, arith}
 use Rattle.std.specs.List.{list_all}
 use Rattle.std.specs.Char.{is_ascii_digit}
-use Rattle.std.proofs.lemmas.Bool.{and_parts, leb-true}
+use Rattle.std.proofs.lemmas.Bool.{and_parts}
+use Rattle.std.proofs.lemmas.Bool.Decides.{nat_tests}
 use Rattle.std.proofs.lemmas.Grind.{pow_more, fold-append}
-use Rattle.std.proofs.lemmas.List.{take_more, take-append-drop, replicate_more}
+use Rattle.std.proofs.lemmas.List.{take_more, take-append-drop}
 use Rattle.std.proofs.lemmas.List.Folds.{list_all-append}
 use Rattle.std.proofs.Math.Nat.{pow-le-pow_right}
 use Rattle.dbf_fields.specs.Digits.{digits_after}
 
 pub digit_at : (ds : List ℕ) → list_all is_ascii_digit ds ≡ true → (i : ℕ) → i < length ds → (48 ≤ get_or ds i 0) × (get_or ds i 0 ≤ 57)
 digit_at [] h i lt = absurd (omega arith)
-digit_at (d ∷ ds) h zero lt =
-    let r = and_parts (leb 48 d) (leb d 57) (and_parts (is_ascii_digit d) (list_all is_ascii_digit ds) h).0 in
-    (leb-true 48 d r.0, leb-true d 57 r.1)
-digit_at (d ∷ ds) h (suc i) lt = digit_at ds (and_parts (is_ascii_digit d) (list_all is_ascii_digit ds) h).1 i (omega arith)
+digit_at (d ∷ ds) h zero lt = (grind (arith, nat_tests), grind (arith, nat_tests))
+digit_at (d ∷ ds) h (suc i) lt = digit_at ds (grind (arith, nat_tests)) i (omega arith)
 
 pub digits_take : (k : ℕ) (ds : List ℕ) → list_all is_ascii_digit ds ≡ true → list_all is_ascii_digit (take k ds) ≡ true
 digits_take k ds h =
@@ -31,9 +30,6 @@ capped i le = pow-le-pow_right (omega arith) le
 
 pub digit_more : (n : ℕ) (ds : List ℕ) (i : ℕ) → i < length ds → digits_after n (take (i + 1) ds) ≡ digits_after n (take i ds) * 10 + (get_or ds i 0 - 48)
 digit_more n ds i lt = rw (take_more ds i 0 lt, fold-append) refl
-
-pub zero_more : (n i : ℕ) → digits_after n (replicate (i + 1) 48) ≡ digits_after n (replicate i 48) * 10
-zero_more n i = rw (← replicate_more {X = ℕ} i 48, fold-append) (omega arith)
 
 pub below_cap : (v a : ℕ) → v < 10 ^ a → a ≤ 37 → v < 10 ^ 37
 below_cap v a small le = omega (arith, capped a le)

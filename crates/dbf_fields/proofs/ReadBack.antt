@@ -7,7 +7,7 @@ use Rattle.std.specs.Int.Digits.{digits_of, number_from_digits_after}
 use Rattle.std.specs.Int.RustNames.{unsigned_abs}
 use Rattle.std.proofs.Math.Nat.{pow-suc, pow-succ', mul_assoc, div-div-eq-div-mul}
 use Rattle.std.proofs.Math.IntN.{pos-*ℤ-pos, negsuc-*ℤ-pos}
-use Rattle.std.proofs.lemmas.Bool.{and_parts, not-true, le-leb, eqb-true, ne_eqb}
+use Rattle.std.proofs.lemmas.Bool.{and_parts, le-leb, eqb-true, ne_eqb}
 use Rattle.std.proofs.lemmas.Bool.Decides.{nat_tests}
 use Rattle.std.proofs.lemmas.Grind.{fold-append}
 use Rattle.std.proofs.lemmas.Int.{ints}
@@ -94,9 +94,7 @@ digit_is_no b other h low = grind (arith, nat_tests)
 
 digits_full : (ds : List ℕ) → list_all is_ascii_digit ds ≡ true → list_all (λ b. not (b == 32)) ds ≡ true
 digits_full [] h = refl
-digits_full (d ∷ ds) h =
-    let p = and_parts (is_ascii_digit d) (list_all is_ascii_digit ds) h in
-    rw (digit_is_no d 32 p.0 (omega arith), digits_full ds p.1) refl
+digits_full (d ∷ ds) h = grind (arith, nat_tests, digits_full ds)
 
 full_append : (a b : List ℕ) → list_all (λ b. not (b == 32)) a ≡ true → list_all (λ b. not (b == 32)) b ≡ true → list_all (λ b. not (b == 32)) (a ++ b) ≡ true
 full_append a b ha hb = rw (list_all-append (λ b. not (b == 32)) a b, ha, hb) refl
@@ -110,9 +108,7 @@ full_reverse (b ∷ bs) h =
 
 nothing_off : (text : List ℕ) → list_all (λ b. not (b == 32)) text ≡ true → without_leading text ≡ text
 nothing_off [] h = refl
-nothing_off (b ∷ bs) h =
-    let p = and_parts (not (eqb b 32)) (list_all (λ b. not (b == 32)) bs) h in
-    rw (not-true (eqb b 32) p.0) refl
+nothing_off (b ∷ bs) h = grind (arith, nat_tests)
 
 blanks_off : (k : ℕ) (text : List ℕ) → without_leading (replicate k 32 ++ text) ≡ without_leading text
 blanks_off zero text = refl
@@ -126,9 +122,7 @@ trimmed_cell k text h = rw (blanks_off k text, nothing_off text h, nothing_off (
 
 no_point_in : (whole rest : List ℕ) → list_all is_ascii_digit whole ≡ true → position_or_len (λ b. b == 46) (whole ++ rest) ≡ length whole + position_or_len (λ b. b == 46) rest
 no_point_in [] rest h = omega arith
-no_point_in (b ∷ bs) rest h =
-    let p = and_parts (is_ascii_digit b) (list_all is_ascii_digit bs) h in
-    rw (digit_is_no b 46 p.0 (omega arith), no_point_in bs rest p.1) (omega arith)
+no_point_in (b ∷ bs) rest h = grind (arith, nat_tests, no_point_in bs rest)
 
 -- digits with a point are read as they stand
 with_point : (whole digits : List ℕ) (decimals : ℕ) → list_all is_ascii_digit whole ≡ true → list_all is_ascii_digit digits ≡ true → 0 < length whole → length digits ≡ decimals
@@ -157,9 +151,7 @@ magnitude_of whole digits (suc decimals) hw hd some len = rw (a_point decimals) 
 
 unsigned : (whole rest : List ℕ) (decimals : ℕ) → list_all is_ascii_digit whole ≡ true → 0 < length whole → signed (whole ++ rest) decimals ≡ option_map pos (magnitude (whole ++ rest) decimals)
 unsigned [] rest decimals h some = absurd (omega arith)
-unsigned (b ∷ bs) rest decimals h some =
-    let p = and_parts (is_ascii_digit b) (list_all is_ascii_digit bs) h in
-    rw (digit_is_no b 45 p.0 (omega arith), digit_is_no b 43 p.0 (omega arith)) refl
+unsigned (b ∷ bs) rest decimals h some = grind (arith, nat_tests)
 
 -- ---- the law
 
