@@ -19,20 +19,16 @@ pub digits_take : (k : ℕ) (ds : List ℕ) → list_all is_ascii_digit ds ≡ t
 digits_take k ds h =
     (and_parts (list_all is_ascii_digit (take k ds)) (list_all is_ascii_digit (drop k ds)) (sym (list_all-append is_ascii_digit (take k ds) (drop k ds)) ∙ rw (take-append-drop k ds) h)).0
 
-pub next_small : (n i d : ℕ) → n < 10 ^ i → d < 10 → n * 10 + d < 10 ^ (i + 1)
-next_small n i d small digit = omega (arith, pow_more 10 i)
+pub next_small : (n a b d : ℕ) → b ≡ a + 1 → n < 10 ^ a → d < 10 → n * 10 + d < 10 ^ b
+next_small n a b d e small digit = rw e (omega (arith, pow_more 10 a))
 
-pub next_small_at : (n a b d : ℕ) → b ≡ a + 1 → n < 10 ^ a → d < 10 → n * 10 + d < 10 ^ b
-next_small_at n a b d e small digit = rw e (next_small n a d small digit)
-
-pub capped : (i : ℕ) → i ≤ 37 → 10 ^ i ≤ 10 ^ 37
-capped i le = pow-le-pow_right (omega arith) le
+pub below_cap : (v a : ℕ) → v < 10 ^ a → a ≤ 37 → v < 10 ^ 37
+below_cap v a small le =
+    let most : 10 ^ a ≤ 10 ^ 37 = pow-le-pow_right (omega arith) le in
+    omega (arith, most)
 
 pub digit_more : (n : ℕ) (ds : List ℕ) (i : ℕ) → i < length ds → digits_after n (take (i + 1) ds) ≡ digits_after n (take i ds) * 10 + (get_or ds i 0 - 48)
 digit_more n ds i lt = rw (take_more ds i 0 lt, fold-append) refl
-
-pub below_cap : (v a : ℕ) → v < 10 ^ a → a ≤ 37 → v < 10 ^ 37
-below_cap v a small le = omega (arith, capped a le)
 
 pub below_64_bits : (v k : ℕ) → v < 10 ^ k → k ≤ 19 → v < 2 ^ 64
 below_64_bits v k small le =

@@ -36,7 +36,7 @@ width_within (f ∷ fs) zero lt = omega (arith, widths_cons f fs)
 width_within (f ∷ fs) (suc index) lt = omega (arith, width_within fs index (omega arith), widths_cons f fs, widths_cons f (take index fs))
 
 -- a cell is the bytes from its offset on, as many as the field is wide
-cell_from : (fields : List Field) (offset index : ℕ) (record_bytes : List ℕ) → index < length fields
+pub cell_from : (fields : List Field) (offset index : ℕ) (record_bytes : List ℕ) → index < length fields
     → get_or (cells_of fields (drop offset record_bytes)) index [] ≡ take (width_of fields index) (drop (offset + widths (take index fields)) record_bytes)
 cell_from [] offset index record_bytes lt = absurd (omega arith)
 cell_from (f ∷ fs) offset zero record_bytes lt = let e : offset + 0 ≡ offset = omega arith in rw e refl
@@ -45,7 +45,3 @@ cell_from (f ∷ fs) offset (suc index) record_bytes lt =
     ap (λ (l : List ℕ). get_or (cells_of fs l) index []) (drop-drop f.width offset record_bytes)
     ∙ cell_from fs (offset + f.width) index record_bytes (omega arith)
     ∙ ap (λ (n : ℕ). take (width_of fs index) (drop n record_bytes)) e
-
-pub cell_at : (fields : List Field) (index : ℕ) (record_bytes : List ℕ) → index < length fields
-    → get_or (cells_of fields (drop 1 record_bytes)) index [] ≡ take (width_of fields index) (drop (offset_of fields index) record_bytes)
-cell_at fields index record_bytes lt = cell_from fields 1 index record_bytes lt

@@ -1,5 +1,5 @@
 -- The number that a cell keeps is read from it again.
-use Rattle.std.proofs.Common.{◌≡◌, ℕ, zero, suc, ◌+◌, ◌-◌, ◌*◌, ◌/◌, ◌%◌, ◌^◌, ◌<◌, ◌≤◌, true, false, not, eqb, ◌==◌, List, [], ◌∷◌, ◌++◌, length, take, drop, map, replicate, reverse, Some, ℤ, pos, negsuc, neg_ℤ, ◌*ℤ◌, refl, ap, ◌∙◌, arith, length-append}
+use Rattle.std.proofs.Common.{◌≡◌, ℕ, zero, suc, ◌+◌, ◌-◌, ◌*◌, ◌/◌, ◌%◌, ◌^◌, ◌<◌, ◌≤◌, true, not, eqb, ◌==◌, List, [], ◌∷◌, ◌++◌, length, take, drop, map, replicate, reverse, Some, ℤ, pos, negsuc, neg_ℤ, ◌*ℤ◌, refl, ap, ◌∙◌, arith, length-append}
 use Rattle.std.specs.Prelude.{option_map}
 use Rattle.std.specs.List.{list_all, AllByRecursion, position_or_len}
 use Rattle.std.specs.Char.{is_ascii_digit}
@@ -89,9 +89,6 @@ kept_number n (b ∷ ds) (suc d) r room zeros =
 
 -- ---- the text between the blanks
 
-digit_is_no : (b other : ℕ) → is_ascii_digit b ≡ true → other < 48 → eqb b other ≡ false
-digit_is_no b other h low = grind (arith, nat_tests)
-
 digits_full : (ds : List ℕ) → list_all is_ascii_digit ds ≡ true → list_all (λ b. not (b == 32)) ds ≡ true
 digits_full [] h = refl
 digits_full (d ∷ ds) h = grind (arith, nat_tests, digits_full ds)
@@ -102,9 +99,8 @@ full_append a b ha hb = rw (list_all-append (λ b. not (b == 32)) a b, ha, hb) r
 full_reverse : (text : List ℕ) → list_all (λ b. not (b == 32)) text ≡ true → list_all (λ b. not (b == 32)) (reverse text) ≡ true
 full_reverse [] h = refl
 full_reverse (b ∷ bs) h =
-    let p = and_parts (not (eqb b 32)) (list_all (λ b. not (b == 32)) bs) h in
     let turned : reverse (b ∷ bs) ≡ reverse bs ++ (b ∷ []) = reverse-append (b ∷ []) bs in
-    rw turned (full_append (reverse bs) (b ∷ []) (full_reverse bs p.1) (rw p.0 refl))
+    rw turned (full_append (reverse bs) (b ∷ []) (full_reverse bs (grind (arith, nat_tests))) (grind (arith, nat_tests)))
 
 nothing_off : (text : List ℕ) → list_all (λ b. not (b == 32)) text ≡ true → without_leading text ≡ text
 nothing_off [] h = refl

@@ -1,15 +1,12 @@
 -- A date's cell, piece by piece.
-use Rattle.std.proofs.Common.{◌≡◌, ℕ, ◌+◌, ◌≤◌, List, [], ◌∷◌, length, drop, get_or, true, eqb, ◌&&◌, refl, ap, ◌∙◌, arith}
-use Rattle.std.specs.List.{list_all}
-use Rattle.std.specs.Char.{is_ascii_digit}
-use Rattle.std.proofs.lemmas.Bool.{and_parts, eqb-true}
+use Rattle.std.proofs.Common.{◌≡◌, ℕ, ◌+◌, ◌≤◌, List, [], ◌∷◌, length, drop, get_or, true, refl, ap, ◌∙◌, arith}
+use Rattle.std.proofs.lemmas.Bool.Decides.{nat_tests}
 use Rattle.std.proofs.lemmas.List.{drop_more, drop_all}
-use Rattle.dbf_fields.specs.Date.{is_date, is_day, year_in, month_in, day_in, date_shown}
+use Rattle.dbf_fields.specs.Date.{is_date, date_shown}
 
 length-date : (cell : List ℕ) → is_date cell ≡ true → length cell ≡ 8
 unfolding is_date
-length-date cell date =
-    eqb-true (length cell) 8 (and_parts (eqb (length cell) 8) (list_all is_ascii_digit cell && is_day (year_in cell) (month_in cell) (day_in cell)) date).0
+length-date cell date = grind (arith, nat_tests)
 
 two_at : (xs : List ℕ) (i : ℕ) → i + 2 ≤ length xs → drop i xs ≡ get_or xs i 0 ∷ get_or xs (i + 1) 0 ∷ drop (i + 1 + 1) xs
 two_at xs i le = drop_more xs i 0 (omega arith) ∙ ap (λ (l : List ℕ). get_or xs i 0 ∷ l) (drop_more xs (i + 1) 0 (omega arith))

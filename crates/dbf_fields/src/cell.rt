@@ -80,25 +80,16 @@ pub fn encode_cell(alloc: Global, field: &Field, value: &Literal) -> Result<Byte
     let width = usize::from(field.width);
     match value {
         Literal::Text(text) if field.kind == CHARACTER => {
-            let cell = padded(alloc, text.as_slice(), width)?;
-            Ok(cell)
+            Ok(padded(alloc, text.as_slice(), width)?)
         }
         Literal::Number { digits, scale } if field.kind == NUMBER => {
-            let cell = number_cell(alloc, field.width, field.decimals, *digits, *scale)?;
-            Ok(cell)
+            Ok(number_cell(alloc, field.width, field.decimals, *digits, *scale)?)
         }
         Literal::Truth(truth) if field.kind == LOGICAL => {
-            let cell = padded(alloc, &truth_text(*truth), width)?;
-            Ok(cell)
+            Ok(padded(alloc, &truth_text(*truth), width)?)
         }
-        Literal::Date(day) if field.kind == DATE => {
-            let cell = padded(alloc, &date_text(day), width)?;
-            Ok(cell)
-        }
-        Literal::BlankDate if field.kind == DATE => {
-            let cell = padded(alloc, b"", width)?;
-            Ok(cell)
-        }
+        Literal::Date(day) if field.kind == DATE => { Ok(padded(alloc, &date_text(day), width)?) }
+        Literal::BlankDate if field.kind == DATE => { Ok(padded(alloc, b"", width)?) }
         Literal::BadDate if field.kind == DATE => Err(CellFault::BadDate),
         _ => Err(CellFault::TypeMismatch),
     }
