@@ -1,11 +1,9 @@
 pub mod SchemaLaws
-pub mod DayLaws
 pub mod CellLaws
 pub mod Digits
 pub mod WrittenDigits
 pub mod ReadBack
 pub mod DateLaws
-pub mod ShownDate
 pub mod FaultLaws
 pub mod LayoutLaws
 pub mod NameLaws

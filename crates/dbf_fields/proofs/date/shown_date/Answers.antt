@@ -1,4 +1,4 @@
-use Rattle.dbf_fields.proofs.ShownDate.{shown_pieces}
+use Rattle.dbf_fields.proofs.DateLaws.{shown_pieces}
 use Rattle.dbf_fields.proofs.date.shown_date.Goals as goal
 
 pub returns-in-Is : goal.returns-in-Is
