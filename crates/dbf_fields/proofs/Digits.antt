@@ -1,8 +1,7 @@
 -- The number that decimal digits stand for.
-use Rattle.std.proofs.Common.{◌≡◌, ℕ, zero, suc, ◌+◌, ◌-◌, ◌*◌, ◌^◌, ◌<◌, ◌≤◌, true, List, [], ◌∷◌, length, take, drop, get_or, refl, sym, ◌∙◌, arith}
+use Rattle.std.proofs.Common.{◌≡◌, ℕ, zero, suc, ◌+◌, ◌-◌, ◌*◌, ◌^◌, ◌<◌, ◌≤◌, true, List, [], ◌∷◌, length, take, drop, get_or, refl, arith}
 use Rattle.std.specs.List.{list_all}
 use Rattle.std.specs.Char.{is_ascii_digit}
-use Rattle.std.proofs.lemmas.Bool.{and_parts}
 use Rattle.std.proofs.lemmas.Bool.Decides.{nat_tests}
 use Rattle.std.proofs.lemmas.Grind.{pow_more, fold-append}
 use Rattle.std.proofs.lemmas.List.{take_more, take-append-drop}
@@ -16,8 +15,7 @@ digit_at (d ∷ ds) h zero lt = (grind (arith, nat_tests), grind (arith, nat_tes
 digit_at (d ∷ ds) h (suc i) lt = digit_at ds (grind (arith, nat_tests)) i (omega arith)
 
 pub digits_take : (k : ℕ) (ds : List ℕ) → list_all is_ascii_digit ds ≡ true → list_all is_ascii_digit (take k ds) ≡ true
-digits_take k ds h =
-    (and_parts (list_all is_ascii_digit (take k ds)) (list_all is_ascii_digit (drop k ds)) (sym (list_all-append is_ascii_digit (take k ds) (drop k ds)) ∙ rw (take-append-drop k ds) h)).0
+digits_take k ds h = grind (arith, nat_tests, list_all-append is_ascii_digit (take k ds) (drop k ds), take-append-drop k ds)
 
 pub next_small : (n a b d : ℕ) → b ≡ a + 1 → n < 10 ^ a → d < 10 → n * 10 + d < 10 ^ b
 next_small n a b d e small digit = rw e (omega (arith, pow_more 10 a))

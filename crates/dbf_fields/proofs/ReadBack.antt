@@ -1,5 +1,5 @@
 -- The number that a cell keeps is read from it again.
-use Rattle.std.proofs.Common.{◌≡◌, ℕ, zero, suc, ◌+◌, ◌-◌, ◌*◌, ◌/◌, ◌%◌, ◌^◌, ◌<◌, ◌≤◌, true, not, eqb, ◌==◌, List, [], ◌∷◌, ◌++◌, length, take, drop, map, replicate, reverse, Some, ℤ, pos, negsuc, neg_ℤ, ◌*ℤ◌, refl, ap, ◌∙◌, arith, length-append}
+use Rattle.std.proofs.Common.{◌≡◌, ℕ, zero, suc, ◌+◌, ◌-◌, ◌*◌, ◌/◌, ◌%◌, ◌^◌, ◌<◌, ◌≤◌, true, not, ◌==◌, List, [], ◌∷◌, ◌++◌, length, take, drop, map, replicate, reverse, Some, ℤ, pos, negsuc, neg_ℤ, ◌*ℤ◌, refl, ap, ◌∙◌, arith, length-append}
 use Rattle.std.specs.Prelude.{option_map}
 use Rattle.std.specs.List.{list_all, AllByRecursion, position_or_len}
 use Rattle.std.specs.Char.{is_ascii_digit}
@@ -7,7 +7,7 @@ use Rattle.std.specs.Int.Digits.{digits_of, number_from_digits_after}
 use Rattle.std.specs.Int.RustNames.{unsigned_abs}
 use Rattle.std.proofs.Math.Nat.{pow-suc, pow-succ', mul_assoc, div-div-eq-div-mul}
 use Rattle.std.proofs.Math.IntN.{pos-*ℤ-pos, negsuc-*ℤ-pos}
-use Rattle.std.proofs.lemmas.Bool.{and_parts, le-leb, eqb-true, ne_eqb}
+use Rattle.std.proofs.lemmas.Bool.{le-leb}
 use Rattle.std.proofs.lemmas.Bool.Decides.{nat_tests}
 use Rattle.std.proofs.lemmas.Grind.{fold-append}
 use Rattle.std.proofs.lemmas.Int.{ints}
@@ -71,9 +71,8 @@ number_of_last (suc k) n =
 zeros_number : (n : ℕ) (ds : List ℕ) → list_all (λ b. b == 48) ds ≡ true → digits_after n ds ≡ n * 10 ^ length ds
 zeros_number n [] h = omega arith
 zeros_number n (d ∷ ds) h =
-    let p = and_parts (eqb d 48) (list_all (λ b. b == 48) ds) h in
-    let zero_digit : n * 10 + (d - 48) ≡ n * 10 = omega (arith, eqb-true d 48 p.0) in
-    rw (zero_digit, pow-succ' 10 (length ds), ← mul_assoc n 10 (10 ^ length ds)) (zeros_number (n * 10) ds p.1)
+    let zero_digit : n * 10 + (d - 48) ≡ n * 10 = grind (arith, nat_tests) in
+    rw (zero_digit, pow-succ' 10 (length ds), ← mul_assoc n 10 (10 ^ length ds)) (zeros_number (n * 10) ds (grind (arith, nat_tests)))
 
 ten_more : (v a n b : ℕ) → v * 10 ^ a ≡ n * 10 ^ b → v * 10 ^ suc a ≡ n * 10 ^ suc b
 ten_more v a n b e = rw (pow-suc 10 a, pow-suc 10 b, ← mul_assoc v (10 ^ a) 10, ← mul_assoc n (10 ^ b) 10, e) refl
@@ -136,7 +135,7 @@ without_point whole hw some =
     rw (before, take_all (length whole) whole (omega arith), drop_all (length whole + 1) whole (omega arith), hw, le-leb 1 (length whole + 0) (omega arith), append-nil) refl
 
 a_point : (decimals : ℕ) → point (suc decimals) ≡ 46 ∷ []
-a_point decimals = rw (ne_eqb (suc decimals) 0 (λ e. absurd (omega arith))) refl
+a_point decimals = grind (arith, nat_tests)
 
 -- the digits of a cell: so many of them after the point
 magnitude_of : (whole digits : List ℕ) (decimals : ℕ) → list_all is_ascii_digit whole ≡ true → list_all is_ascii_digit digits ≡ true → 0 < length whole → length digits ≡ decimals
