@@ -175,22 +175,16 @@ text_signed (pos m) scale decimals exact =
 text_signed (negsuc m) scale decimals exact =
     rw (text_magnitude (suc m) scale decimals) (negative_times _ (10 ^ scale) m (10 ^ decimals) (text_number (suc m) scale decimals exact))
 
-point_full : (decimals : ℕ) → list_all (λ b. not (b == 32)) (point decimals) ≡ true
-point_full zero = refl
-point_full (suc decimals) = rw (a_point decimals) refl
-
-sign_full : (z : ℤ) → list_all (λ b. not (b == 32)) (sign z) ≡ true
-sign_full (pos m) = refl
-sign_full (negsuc m) = refl
-
 text_full : (z : ℤ) (scale decimals : ℕ) → list_all (λ b. not (b == 32)) (number_text z scale decimals) ≡ true
 unfolding number_text
 text_full z scale decimals =
     let whole = numeral (unsigned_abs z / 10 ^ scale) in
     let last = last_digits scale (unsigned_abs z) in
-    full_append (sign z) _ (sign_full z)
+    let sign_full : list_all (λ b. not (b == 32)) (sign z) ≡ true = elim z as (λ k. list_all (λ b. not (b == 32)) (sign k) ≡ true) [ pos m ↦ refl | negsuc m ↦ refl ] in
+    let point_full : list_all (λ b. not (b == 32)) (point decimals) ≡ true = grind (arith, nat_tests) in
+    full_append (sign z) _ sign_full
     (full_append whole _ (digits_full whole (numeral_digits (unsigned_abs z / 10 ^ scale)))
-    (full_append (point decimals) _ (point_full decimals) (digits_full (kept decimals last) (kept_digits decimals last (last_digits_digits scale (unsigned_abs z))))))
+    (full_append (point decimals) _ point_full (digits_full (kept decimals last) (kept_digits decimals last (last_digits_digits scale (unsigned_abs z))))))
 
 -- what a cell of a number is
 cell_parts : (width decimals : ℕ) (z : ℤ) (scale : ℕ) (cell : List ℕ) → number_cell width decimals z scale ≡ Some cell
