@@ -88,8 +88,8 @@ pub fn encode_cell(alloc: Global, field: &Field, value: &Literal) -> Result<Byte
         Literal::Truth(truth) if field.kind == LOGICAL => {
             Ok(padded(alloc, &truth_text(*truth), width)?)
         }
-        Literal::Date(day) if field.kind == DATE => { Ok(padded(alloc, &date_text(day), width)?) }
-        Literal::BlankDate if field.kind == DATE => { Ok(padded(alloc, b"", width)?) }
+        Literal::Date(day) if field.kind == DATE => Ok(padded(alloc, &date_text(day), width)?),
+        Literal::BlankDate if field.kind == DATE => Ok(padded(alloc, b"", width)?),
         Literal::BadDate if field.kind == DATE => Err(CellFault::BadDate),
         _ => Err(CellFault::TypeMismatch),
     }

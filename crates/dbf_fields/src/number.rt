@@ -1,7 +1,6 @@
 //! Numbers in cells, as they are read.
 
-ghost use Rattle.std.specs.Prelude.{◌≡◌, ◌+◌, ◌*◌, ◌<◌, ◌≤◌, ◌==◌, ◌^◌, ◌++◌, length, replicate, position, IfSome};
-ghost use Rattle.dbf_fields.specs.Digits.{digits_after};
+ghost use Rattle.std.specs.Prelude.{◌≡◌, ◌+◌, ◌*◌, ◌<◌, ◌≤◌, ◌==◌, ◌^◌, length, position, IfSome};
 ghost use Rattle.dbf_fields.specs.Number.{whole_part, fraction_part, magnitude, number};
 
 use crate::decimal::{are_digits, are_zeros, push_digits};
