@@ -2,7 +2,7 @@
 use Rattle.std.proofs.Common.{◌≡◌, ◌≢◌, ℕ, zero, suc, ◌+◌, ◌-◌, ◌*◌, ◌/◌, ◌^◌, ◌<◌, ◌≤◌, Bool, true, false, cond, eqb, leb, not, List, [], ◌∷◌, ◌++◌, length, take, replicate, get_or, refl, sym, ap, ◌∙◌, inl, inr, append_assoc, lit<, arith}
 use Rattle.std.specs.Prelude.{◌⊎◌}
 use Rattle.std.specs.List.{AllByRecursion, before_first, position_or_len, list_all}
-use Rattle.std.proofs.lemmas.Bool.{and_parts, leb-true, eqb-true, eqb-false, ne_eqb, true≢false}
+use Rattle.std.proofs.lemmas.Bool.{and_parts, leb-true, eqb-true, eqb-false, ne_eqb, true≢false, not-true, cases_eq}
 use Rattle.std.proofs.lemmas.List.{take_at, drop_at, get_or_at, get_or_append_left, length-append, length-replicate, take-replicate}
 use Rattle.std.proofs.lemmas.List.Sums.{position_or_len_is}
 use Rattle.dbf_fields.specs.declared.field.Field.{Field}
@@ -29,13 +29,9 @@ is_text text h =
 
 -- ---- texts
 
-not_false : (b : Bool) → not b ≡ true → b ≡ false
-not_false true e = absurd (true≢false (sym e))
-not_false false e = refl
-
 no_end : (cs : List ℕ) → list_all (λ b. not (eqb b MEMO_END)) cs ≡ true → (k : ℕ) → k < length cs → eqb (get_or cs k 0) MEMO_END ≡ false
 no_end [] h k lt = absurd (omega arith)
-no_end (c ∷ cs) h zero lt = not_false (eqb c MEMO_END) (and_parts (not (eqb c MEMO_END)) (list_all (λ b. not (eqb b MEMO_END)) cs) h).0
+no_end (c ∷ cs) h zero lt = not-true (eqb c MEMO_END) (and_parts (not (eqb c MEMO_END)) (list_all (λ b. not (eqb b MEMO_END)) cs) h).0
 no_end (c ∷ cs) h (suc k) lt = no_end cs (and_parts (not (eqb c MEMO_END)) (list_all (λ b. not (eqb b MEMO_END)) cs) h).1 k (omega arith)
 
 text_before : (text more : List ℕ) → list_all (λ b. not (eqb b MEMO_END)) text ≡ true → before_first (λ b. eqb b MEMO_END) (text ++ MEMO_END ∷ more) ≡ text
@@ -89,16 +85,12 @@ cell_again : (dbt front rest : List ℕ) (next : ℕ) (f : Field) (c : List ℕ)
 cell_again dbt front rest next f c is len some room h =
     (λ kind. rw (is, kind) (memo_again front rest next c len some (rw kind at room) (is_text c (h.0 kind))), λ other. rw (ne_eqb f.kind MEMO other) refl)
 
-kind_by : (k : ℕ) (b : Bool) → eqb k MEMO ≡ b → (k ≡ MEMO) ⊎ (k ≢ MEMO)
-kind_by k true e = inl (eqb-true _ _ e)
-kind_by k false e = inr (eqb-false _ _ e)
-
 length-by : (next : ℕ) (f : Field) (c : List ℕ) → (f.kind ≡ MEMO → f.width ≡ 10) → IsCell f c → (f.kind ≡ MEMO) ⊎ (f.kind ≢ MEMO) → length (cell_bytes next f c) ≡ f.width
 length-by next f c wide h (inl kind) = rw (kind, wide kind) (length-number next c)
 length-by next f c wide h (inr other) = rw (ne_eqb f.kind MEMO other) (h.1 other)
 
 pub length-cell : (next : ℕ) (f : Field) (c : List ℕ) → (f.kind ≡ MEMO → f.width ≡ 10) → IsCell f c → length (cell_bytes next f c) ≡ f.width
-length-cell next f c wide h = length-by next f c wide h (kind_by f.kind (eqb f.kind MEMO) refl)
+length-cell next f c wide h = length-by next f c wide h (cases_eq f.kind MEMO)
 
 memo_by : (f : Field) (c : List ℕ) (b : Bool) → length (cond b (block_bytes c) []) ≡ BLOCK * cond b (blocks_of c) 0
 memo_by f c true = length-block c

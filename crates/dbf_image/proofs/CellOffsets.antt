@@ -1,6 +1,6 @@
 -- Where records, cells and memos stand.
-use Rattle.std.proofs.Common.{◌≡◌, ◌≢◌, ℕ, zero, suc, ◌+◌, ◌-◌, ◌*◌, ◌<◌, ◌≤◌, Bool, true, false, cond, eqb, List, [], ◌∷◌, length, take, drop, get_or, refl, sym, ap, ◌∙◌, arith}
-use Rattle.std.proofs.lemmas.Bool.{eq-eqb, ne_eqb}
+use Rattle.std.proofs.Common.{◌≡◌, ◌≢◌, ℕ, zero, suc, ◌+◌, ◌-◌, ◌*◌, ◌<◌, ◌≤◌, Bool, true, false, cond, eqb, List, [], ◌∷◌, length, take, drop, get_or, refl, sym, ap, ◌∙◌, arith, inl, inr}
+use Rattle.std.proofs.lemmas.Bool.{eq-eqb, ne_eqb, cases_Bool}
 use Rattle.std.proofs.lemmas.List.{drop-drop, drop-take, take-take, get_or-take, get_or-drop}
 use Rattle.std.proofs.lemmas.List.Sums.{sum_by-cons}
 use Rattle.dbf_fields.specs.declared.field.Field.{Field}
@@ -58,11 +58,6 @@ row_here fields n i bytes memos d lt =
 
 -- ---- cells
 
-cell_by : (fs : List Field) (cell rest out d : List ℕ) (memos : List (List ℕ)) (j : ℕ) (b : Bool) → ((m : List (List ℕ)) → get_or (cells_with fs rest m) j d ≡ out)
-    → get_or (cond b (first_memo memos ∷ cells_with fs rest (drop 1 memos)) (cell ∷ cells_with fs rest memos)) (suc j) d ≡ out
-cell_by fs cell rest out d memos j true ih = ih (drop 1 memos)
-cell_by fs cell rest out d memos j false ih = ih memos
-
 pub cell_here : (fields : List Field) (j : ℕ) (bytes d : List ℕ) (memos : List (List ℕ)) → j < length fields → kind_at fields j ≢ MEMO
     → get_or (cells_with fields bytes memos) j d ≡ take (width_of fields j) (drop (widths (take j fields)) bytes)
 cell_here [] j bytes d memos lt other = absurd (omega arith)
@@ -70,11 +65,10 @@ cell_here (f ∷ fs) zero bytes d memos lt other = rw (ne_eqb f.kind MEMO other)
 cell_here (f ∷ fs) (suc j) bytes d memos lt other =
     let sum : widths (f ∷ take j fs) ≡ f.width + widths (take j fs) = sum_by-cons (λ (g : Field). g.width) f (take j fs) in
     rw (sum, ← drop-drop (widths (take j fs)) f.width bytes)
-    (cell_by fs (take f.width bytes) (drop f.width bytes) _ d memos j (eqb f.kind MEMO) (λ m. cell_here fs j (drop f.width bytes) d m (omega arith) other))
-
-first_is : (memos : List (List ℕ)) → first_memo memos ≡ get_or memos 0 []
-first_is [] = refl
-first_is (t ∷ ts) = refl
+    (elim (cases_Bool (eqb f.kind MEMO)) [
+      | inl e ↦ rw e (cell_here fs j (drop f.width bytes) d (drop 1 memos) (omega arith) other)
+      | inr e ↦ rw e (cell_here fs j (drop f.width bytes) d memos (omega arith) other)
+    ])
 
 memo_by : (fs : List Field) (cell rest d : List ℕ) (memos : List (List ℕ)) (j k : ℕ) (b : Bool) → ((m : List (List ℕ)) → get_or (cells_with fs rest m) j d ≡ get_or m k [])
     → get_or (cond b (first_memo memos ∷ cells_with fs rest (drop 1 memos)) (cell ∷ cells_with fs rest memos)) (suc j) d ≡ get_or memos (cond b (suc k) k) []
@@ -85,7 +79,8 @@ memo_by fs cell rest d memos j k false ih = ih memos
 pub memo_here : (fields : List Field) (j : ℕ) (bytes d : List ℕ) (memos : List (List ℕ)) → j < length fields → kind_at fields j ≡ MEMO
     → get_or (cells_with fields bytes memos) j d ≡ get_or memos (memo_count (take j fields)) []
 memo_here [] j bytes d memos lt kind = absurd (omega arith)
-memo_here (f ∷ fs) zero bytes d memos lt kind = rw (eq-eqb f.kind MEMO kind) (first_is memos)
+memo_here (f ∷ fs) zero bytes d [] lt kind = rw (eq-eqb f.kind MEMO kind) refl
+memo_here (f ∷ fs) zero bytes d (t ∷ ts) lt kind = rw (eq-eqb f.kind MEMO kind) refl
 memo_here (f ∷ fs) (suc j) bytes d memos lt kind =
     memo_by fs (take f.width bytes) (drop f.width bytes) d memos j (memo_count (take j fs)) (eqb f.kind MEMO) (λ m. memo_here fs j (drop f.width bytes) d m (omega arith) kind)
 
@@ -99,22 +94,18 @@ cell_within (f ∷ fs) (suc j) lt =
     let whole : widths (f ∷ fs) ≡ f.width + widths fs = sum_by-cons (λ (g : Field). g.width) f fs in
     omega (arith, cell_within fs j (omega arith))
 
-within_by : (b : Bool) (k n : ℕ) → k < n → cond b (suc k) k < cond b (suc n) n
-within_by true k n lt = omega arith
-within_by false k n lt = lt
-
 pub memo_within : (fields : List Field) (j : ℕ) → j < length fields → kind_at fields j ≡ MEMO → memo_count (take j fields) < memo_count fields
 memo_within [] j lt kind = absurd (omega arith)
 memo_within (f ∷ fs) zero lt kind = rw (eq-eqb f.kind MEMO kind) (omega arith)
-memo_within (f ∷ fs) (suc j) lt kind = within_by (eqb f.kind MEMO) (memo_count (take j fs)) (memo_count fs) (memo_within fs j (omega arith) kind)
-
-le_by : (b : Bool) (k n : ℕ) → k ≤ n → cond b (suc k) k ≤ suc n
-le_by true k n le = omega arith
-le_by false k n le = omega arith
+memo_within (f ∷ fs) (suc j) lt kind =
+    let there = memo_within fs j (omega arith) kind in
+    elim (cases_Bool (eqb f.kind MEMO)) [ inl e ↦ rw e (omega (arith, there)) | inr e ↦ rw e there ]
 
 pub memo_count_le : (fields : List Field) → memo_count fields ≤ length fields
 memo_count_le [] = omega arith
-memo_count_le (f ∷ fs) = le_by (eqb f.kind MEMO) (memo_count fs) (length fs) (memo_count_le fs)
+memo_count_le (f ∷ fs) =
+    let there = memo_count_le fs in
+    elim (cases_Bool (eqb f.kind MEMO)) [ inl e ↦ rw e (omega (arith, there)) | inr e ↦ rw e (omega (arith, there)) ]
 
 -- the kind that a field of the list tells
 pub kind_is : (fields : List Field) (j : ℕ) (f : Field) → j < length fields → f ≡ get_or fields j f → kind_at fields j ≡ f.kind

@@ -1,7 +1,10 @@
 -- The reader's tests and the layout say the same of the bytes.
+use Rattle.dbf_image.specs.declared.dbf.header.Header.{Header}
+use Rattle.std.proofs.lemmas.Option.{same_Some}
+use Rattle.std.proofs.Math.Nat.{eq-or-lt_of_le}
 use Rattle.std.proofs.Common.{◌≡◌, ℕ, zero, suc, ◌+◌, ◌-◌, ◌*◌, ◌/◌, ◌<◌, ◌≤◌, Bool, true, false, cond, eqb, leb, Result, Ok, Err, List, [], ◌++◌, length, map, take, drop, Option, Some, None, refl, sym, ap, ◌∙◌, inl, inr, arith}
 use Rattle.std.specs.Prelude.{slice_index, is_some, is_none, unwrap_or, not, ◌||◌, ◌⊎◌, IfOk, IfErr, MatchResult}
-use Rattle.std.proofs.lemmas.Bool.{cases_lt, eqb-true, eqb-false, eq-eqb, ne_eqb, leb-true, le-leb, or_cases, or_left, or_right, cond-true, cond-false}
+use Rattle.std.proofs.lemmas.Bool.{cases_lt, eqb-true, eqb-false, eq-eqb, ne_eqb, leb-true, le-leb, or_cases, or_left, or_right, cond-true, cond-false, cases_Bool, cases_eq}
 use Rattle.dbf_fields.specs.Faults.{first_fault}
 use Rattle.dbf_fields.specs.Field.{folded, widths}
 use Rattle.dbf_fields.specs.Schema as schemas
@@ -11,7 +14,7 @@ use Rattle.dbf_image.specs.declared.fault.ImageFault.TheVariants.{NoMemory}
 use Rattle.dbf_fields.specs.declared.field.Field.{Field}
 use Rattle.dbf_image.specs.Table.{Row, Table, has_memos}
 use Rattle.dbf_image.specs.DbfText.{chunks, header_length, record_length, record_count, field_of, EncodesRows, IsDbf}
-use Rattle.dbf_image.specs.Reading.{first_from, field_count, fields_of, schema_of, has_version, header_tests, field_tests, record_tests, memos_tests, records_of, row_read, refusal, IsRefusal, table_read}
+use Rattle.dbf_image.specs.Reading.{first_from, field_count, fields_of, schema_of, has_version, header_tests, field_tests, record_tests, memos_tests, records_of, row_read, refusal, IsRefusal, table_read, dbf_header}
 use Rattle.dbf_image.specs.Spans.{table_tests}
 use Rattle.dbf_image.proofs.Rows.{chunks_take}
 use Rattle.dbf_image.proofs.Groups.{none_some}
@@ -27,36 +30,26 @@ pub record IsFirst (test : ℕ → Bool) (from end k : ℕ) : Type 0 where
   pub here : test k ≡ true
   pub before : (j : ℕ) → from ≤ j → j < k → test j ≡ false
 
-same_or_more : (i j : ℕ) → i ≤ j → (i ≡ j) ⊎ (i < j)
-same_or_more i j le = elim (cases_lt i j) [ inl lt ↦ inr lt | inr ge ↦ inl (omega arith) ]
-
--- at the start or after it
-at_start : (test : ℕ → Bool) (i n j k : ℕ) → test i ≡ false → IsFirst test (i + 1) (i + 1 + n) k → i ≤ j → j < k → (i ≡ j) ⊎ (i < j) → test j ≡ false
-at_start test i n j k here r low high (inl e) = rw (← e) here
-at_start test i n j k here r low high (inr lt) = r.before j (omega arith) high
-
-first_by : (test : ℕ → Bool) (i n k : ℕ) (b : Bool) → test i ≡ b → cond b (Some i) (first_from test (i + 1) n) ≡ Some k
-    → (first_from test (i + 1) n ≡ Some k → IsFirst test (i + 1) (i + 1 + n) k) → IsFirst test i (i + suc n) k
-first_by test i n k true here e later =
-    let same : i ≡ k = cc in
+pub first_from-some : (test : ℕ → Bool) (i n k : ℕ) → first_from test i n ≡ Some k → IsFirst test i (i + n) k
+first_from-some test i zero k e = absurd cc
+first_from-some test i (suc n) k e = elim (cases_Bool (test i)) [
+  | inl here ↦
+    let same : i ≡ k = same_Some i k (rw here at e) in
     record { not_below = omega arith; below = omega arith; here = rw (← same) here; before = λ j low high. absurd (omega arith) }
-first_by test i n k false here e later =
-    let r = later e in
+  | inr here ↦
+    let r = first_from-some test (i + 1) n k (rw here at e) in
     record {
       not_below = omega (arith, r.not_below);
       below = omega (arith, r.below);
       here = r.here;
-      before = λ j low high. at_start test i n j k here r low high (same_or_more i j low);
+      before = λ j low high. elim (cases_eq i j) [ inl same ↦ rw (← same) here | inr other ↦ r.before j (omega arith) high ];
     }
-
-pub first_from-some : (test : ℕ → Bool) (i n k : ℕ) → first_from test i n ≡ Some k → IsFirst test i (i + n) k
-first_from-some test i zero k e = absurd cc
-first_from-some test i (suc n) k e = first_by test i n k (test i) refl e (first_from-some test (i + 1) n k)
+]
 
 pub first_from-is : (test : ℕ → Bool) (i n k : ℕ) → i ≤ k → k < i + n → test k ≡ true → ((j : ℕ) → i ≤ j → j < k → test j ≡ false) → first_from test i n ≡ Some k
 first_from-is test i zero k low high here before = absurd (omega arith)
 first_from-is test i (suc n) k low high here before =
-    elim (same_or_more i k low) [
+    elim (eq-or-lt_of_le low) [
       | inl e ↦ rw (cond-true (test i) (Some i) (first_from test (i + 1) n) (rw e here)) (ap (λ (x : ℕ). Some x) e)
       | inr lt ↦ rw (cond-false (test i) (Some i) (first_from test (i + 1) n) (before i (omega arith) lt)) (first_from-is test (i + 1) n k (omega arith) (omega arith) here (λ j l h. before j (omega arith) h))
     ]
@@ -134,9 +127,6 @@ ends_fields bytes i = eqb (slice_index bytes (32 + 32 * i)) HEADER_END
 abbrev most_fields : List ℕ → ℕ
 most_fields bytes = (header_length bytes - 1) / 32
 
-fields_by_count : (bytes : List ℕ) (k : ℕ) → field_count bytes ≡ Some k → fields_of bytes ≡ map field_of (chunks 32 k (drop 32 bytes))
-fields_by_count bytes k e = rw e refl
-
 -- ---- memos
 
 then_true : (a b : Bool) → (not a || b) ≡ true → a ≡ true → b ≡ true
@@ -161,23 +151,24 @@ pass_memos bytes dbt rows some given =
     let r = ok_rows (unwrap_or dbt []) (schema_of bytes) (records_of bytes) rows given in
     (passes (not (has_memos (schema_of bytes)) || is_some dbt) _ _ (true_then (has_memos (schema_of bytes)) (is_some dbt) some) r.0, r.1)
 
--- the tests of the records that the reader found, and its rows
-pub tests_read : (bytes : List ℕ) (dbt : Option (List ℕ)) (schema : List Field) (size count start : ℕ) (records : List ℕ)
-    → schema ≡ schema_of bytes → size ≡ record_length bytes → size ≡ 1 + widths schema → count ≡ record_count bytes → start ≡ header_length bytes
-    → records ≡ take (count * size) (drop start bytes)
-    → table_tests dbt schema (chunks (1 + widths schema) count records) ≡ memos_tests bytes dbt
-unfolding table_tests memos_tests
-tests_read bytes dbt schema size count start records s z w n h r =
-    let same : chunks (1 + widths schema) count records ≡ chunks size count (drop start bytes) = rw (r, ← w) (chunks_take size count (drop start bytes)) in
-    rw same (rw (z, n, h, s) refl)
+records_read : (bytes : List ℕ) (schema : List Field) (header : Header) (records : List ℕ) → header ≡ dbf_header bytes → header.record_length ≡ 1 + widths schema
+    → records ≡ take (header.record_count * header.record_length) (drop header.header_length bytes) → chunks (1 + widths schema) header.record_count records ≡ records_of bytes
+records_read bytes schema header records h w r =
+    let same : chunks (1 + widths schema) header.record_count records ≡ chunks header.record_length header.record_count (drop header.header_length bytes) =
+    rw (r, ← w) (chunks_take header.record_length header.record_count (drop header.header_length bytes)) in
+    same ∙ ap (λ (g : Header). chunks g.record_length g.record_count (drop g.header_length bytes)) h
 
-pub rows_read : (bytes : List ℕ) (dbt : Option (List ℕ)) (schema : List Field) (size count start : ℕ) (records : List ℕ) (rows : List Row)
-    → schema ≡ schema_of bytes → size ≡ record_length bytes → size ≡ 1 + widths schema → count ≡ record_count bytes → start ≡ header_length bytes
-    → records ≡ take (count * size) (drop start bytes) → rows ≡ map (row_read (unwrap_or dbt []) schema) (chunks (1 + widths schema) count records)
-    → record { schema = schema; rows = rows } ≡ table_read bytes dbt
-rows_read bytes dbt schema size count start records rows s z w n h r given =
-    let same : chunks (1 + widths schema) count records ≡ chunks size count (drop start bytes) = rw (r, ← w) (chunks_take size count (drop start bytes)) in
-    rw (given, same) (rw (z, n, h, s) refl)
+-- the tests of the records that the reader found, and its rows
+pub tests_read : (bytes : List ℕ) (dbt : Option (List ℕ)) (schema : List Field) (header : Header) (records : List ℕ) → header ≡ dbf_header bytes → schema ≡ schema_of bytes → header.record_length ≡ 1 + widths schema
+    → records ≡ take (header.record_count * header.record_length) (drop header.header_length bytes)
+    → table_tests dbt schema (chunks (1 + widths schema) header.record_count records) ≡ memos_tests bytes dbt
+unfolding table_tests memos_tests
+tests_read bytes dbt schema header records h s w r = rw (records_read bytes schema header records h w r) (rw s refl)
+
+pub rows_read : (bytes : List ℕ) (dbt : Option (List ℕ)) (schema : List Field) (header : Header) (records : List ℕ) (rows : List Row) → header ≡ dbf_header bytes → schema ≡ schema_of bytes → header.record_length ≡ 1 + widths schema
+    → records ≡ take (header.record_count * header.record_length) (drop header.header_length bytes)
+    → rows ≡ map (row_read (unwrap_or dbt []) schema) (chunks (1 + widths schema) header.record_count records) → record { schema = schema; rows = rows } ≡ table_read bytes dbt
+rows_read bytes dbt schema header records rows h s w r given = rw (given, records_read bytes schema header records h w r) (rw s refl)
 
 pub is_dbf : (bytes : List ℕ) (dbt : Option (List ℕ)) → refusal bytes dbt ≡ None → IsDbf bytes dbt (table_read bytes dbt)
 is_dbf bytes dbt h =
@@ -185,7 +176,7 @@ is_dbf bytes dbt h =
     let m = memos_pass bytes dbt p.memos in
     let k = some_is (field_count bytes) p.ended in
     let first = first_from-some (ends_fields bytes) 0 (most_fields bytes) k.0 k.1 in
-    let fields : fields_of bytes ≡ map field_of (chunks 32 k.0 (drop 32 bytes)) = fields_by_count bytes k.0 k.1 in
+    let fields : fields_of bytes ≡ map field_of (chunks 32 k.0 (drop 32 bytes)) = ap (λ (o : Option ℕ). map field_of (chunks 32 (unwrap_or o 0) (drop 32 bytes))) k.1 in
     record {
       long = p.long;
       version = version_is bytes p.version;

@@ -1,6 +1,7 @@
 -- What a change of the bytes or of the memos makes of the rows.
-use Rattle.std.proofs.Common.{◌≡◌, ◌≢◌, ℕ, zero, suc, ◌+◌, ◌-◌, ◌*◌, ◌<◌, ◌≤◌, Bool, true, false, cond, eqb, List, [], ◌∷◌, ◌++◌, length, map, take, drop, replicate, get_or, set, refl, sym, ap, ◌∙◌, arith}
-use Rattle.std.proofs.lemmas.Bool.{eq-eqb, ne_eqb}
+use Rattle.std.proofs.Math.Seq.{take-nil}
+use Rattle.std.proofs.Common.{◌≡◌, ◌≢◌, ℕ, zero, suc, ◌+◌, ◌-◌, ◌*◌, ◌<◌, ◌≤◌, Bool, true, false, cond, eqb, List, [], ◌∷◌, ◌++◌, length, map, take, drop, replicate, get_or, set, refl, sym, ap, ◌∙◌, arith, inl, inr}
+use Rattle.std.proofs.lemmas.Bool.{eq-eqb, ne_eqb, cases_Bool}
 use Rattle.std.proofs.lemmas.List.{take-append-le, drop-append-le, take_all, take_at, drop_at, take-set-le, drop-set-lt, drop-set-add, drop-drop, length-take-le, length-drop, length-append, take-replicate, drop-replicate}
 use Rattle.std.proofs.lemmas.List.Sums.{sum_by-cons}
 use Rattle.std.proofs.lemmas.Slice.{drop-put_mid, take-put_mid_below}
@@ -29,16 +30,13 @@ chunks_push size (suc n) bytes row e long =
     rw (k, take-append-le size bytes row room, drop-append-le size bytes row room, there) refl
 
 -- a record's cells take no more than its own memos
-front_by : (fs : List Field) (cell rest : List ℕ) (n : ℕ) (memos : List (List ℕ)) (b : Bool) → ((m : List (List ℕ)) → cells_with fs rest (take n m) ≡ cells_with fs rest m)
-    → cond b (first_memo (take (cond b (suc n) n) memos) ∷ cells_with fs rest (drop 1 (take (cond b (suc n) n) memos))) (cell ∷ cells_with fs rest (take (cond b (suc n) n) memos))
-    ≡ cond b (first_memo memos ∷ cells_with fs rest (drop 1 memos)) (cell ∷ cells_with fs rest memos)
-front_by fs cell rest n [] true ih = refl
-front_by fs cell rest n (t ∷ ts) true ih = ap (λ (x : List (List ℕ)). t ∷ x) (ih ts)
-front_by fs cell rest n memos false ih = ap (λ (x : List (List ℕ)). cell ∷ x) (ih memos)
-
 pub cells_front : (fields : List Field) (bytes : List ℕ) (memos : List (List ℕ)) → cells_with fields bytes (take (memo_count fields) memos) ≡ cells_with fields bytes memos
 cells_front [] bytes memos = refl
-cells_front (f ∷ fs) bytes memos = front_by fs (take f.width bytes) (drop f.width bytes) (memo_count fs) memos (eqb f.kind MEMO) (cells_front fs (drop f.width bytes))
+cells_front (f ∷ fs) bytes [] = rw take-nil refl
+cells_front (f ∷ fs) bytes (t ∷ ts) = elim (cases_Bool (eqb f.kind MEMO)) [
+  | inl e ↦ rw e (ap (λ (x : List (List ℕ)). t ∷ x) (cells_front fs (drop f.width bytes) ts))
+  | inr e ↦ rw e (ap (λ (x : List (List ℕ)). take f.width bytes ∷ x) (cells_front fs (drop f.width bytes) (t ∷ ts)))
+]
 
 cells_same : (fields : List Field) (bytes : List ℕ) (memos others : List (List ℕ)) → take (memo_count fields) memos ≡ take (memo_count fields) others
     → cells_with fields bytes memos ≡ cells_with fields bytes others
@@ -61,17 +59,13 @@ rows_append fields (p ∷ ps) qs memos more e =
     let here = row_same fields p (memos ++ more) memos (take-append-le n memos more room) in
     rw (here, drop-append-le n memos more room, rows_append fields ps qs (drop n memos) more (omega (arith, length-drop n memos))) refl
 
--- memos without a text are no memos
-none_by : (fs : List Field) (cell rest : List ℕ) (k : ℕ) (b : Bool) → ((k : ℕ) → cells_with fs rest (replicate k []) ≡ cells_with fs rest [])
-    → cond b (first_memo (replicate k []) ∷ cells_with fs rest (drop 1 (replicate k []))) (cell ∷ cells_with fs rest (replicate k []))
-    ≡ cond b ([] ∷ cells_with fs rest []) (cell ∷ cells_with fs rest [])
-none_by fs cell rest zero b ih = refl
-none_by fs cell rest (suc k) true ih = ap (λ (x : List (List ℕ)). [] ∷ x) (ih k)
-none_by fs cell rest (suc k) false ih = ap (λ (x : List (List ℕ)). cell ∷ x) (ih (suc k))
-
 cells_none : (fields : List Field) (bytes : List ℕ) (k : ℕ) → cells_with fields bytes (replicate k []) ≡ cells_with fields bytes []
 cells_none [] bytes k = refl
-cells_none (f ∷ fs) bytes k = none_by fs (take f.width bytes) (drop f.width bytes) k (eqb f.kind MEMO) (cells_none fs (drop f.width bytes))
+cells_none (f ∷ fs) bytes zero = refl
+cells_none (f ∷ fs) bytes (suc k) = elim (cases_Bool (eqb f.kind MEMO)) [
+  | inl e ↦ rw e (ap (λ (x : List (List ℕ)). [] ∷ x) (cells_none fs (drop f.width bytes) k))
+  | inr e ↦ rw e (ap (λ (x : List (List ℕ)). take f.width bytes ∷ x) (cells_none fs (drop f.width bytes) (suc k)))
+]
 
 pub rows_push : (fields : List Field) (n : ℕ) (bytes row : List ℕ) (memos : List (List ℕ)) → AreRecords fields n bytes → length row ≡ 1 + widths fields → length memos ≡ n * memo_count fields
     → rows_of fields (n + 1) (bytes ++ row) (memos ++ replicate (memo_count fields) []) ≡ rows_of fields n bytes memos ++ row_with fields row [] ∷ []
@@ -83,11 +77,6 @@ rows_push fields n bytes row memos records long many =
     ∙ rows_append fields (chunks size n bytes) (row ∷ []) memos more counted
     ∙ ap (λ (cells : List (List ℕ)). rows_of fields n bytes memos ++ row_of_cells row cells ∷ []) (cells_none fields (drop 1 row) (memo_count fields))
 
--- a record of blanks
-blank_by : (cell blank : List ℕ) (xs ys : List (List ℕ)) (b : Bool) → cell ≡ blank → xs ≡ ys → cond b ([] ∷ xs) (cell ∷ xs) ≡ cond b [] blank ∷ ys
-blank_by cell blank xs ys true e same = ap (λ (x : List (List ℕ)). [] ∷ x) same
-blank_by cell blank xs ys false e same = rw (e, same) refl
-
 cells_blank : (fields : List Field) → cells_with fields (replicate (widths fields) 32) [] ≡ map blank_cell fields
 cells_blank [] = refl
 cells_blank (f ∷ fs) =
@@ -95,7 +84,10 @@ cells_blank (f ∷ fs) =
     let left : f.width + widths fs - f.width ≡ widths fs = omega arith in
     let here = take-replicate {X = ℕ} f.width (f.width + widths fs) 32 (omega arith) in
     let there = drop-replicate {X = ℕ} f.width (f.width + widths fs) 32 ∙ ap (λ (k : ℕ). replicate k 32) left in
-    rw (sum, there) (blank_by _ (replicate f.width 32) _ _ (eqb f.kind MEMO) here (cells_blank fs))
+    elim (cases_Bool (eqb f.kind MEMO)) [
+      | inl e ↦ rw (e, sum, there, cells_blank fs) refl
+      | inr e ↦ rw (e, sum, there, here, cells_blank fs) refl
+    ]
 
 pub row_blank : (fields : List Field) → row_with fields (replicate (1 + widths fields) 32) [] ≡ blank_row fields
 row_blank fields =
@@ -164,13 +156,6 @@ rows_set fields (q ∷ ps) memos (suc i) p =
     let k : suc i * n ≡ n + i * n = omega arith in
     rw (k, ← drop-drop (i * n) n memos, rows_set fields ps (drop n memos) i p) refl
 
--- one of the cells of a record
-put_by : (fs : List Field) (cell rest new ys : List ℕ) (memos : List (List ℕ)) (j : ℕ) (b : Bool) → ((m : List (List ℕ)) → cells_with fs new m ≡ set (cells_with fs rest m) j ys)
-    → cond b (first_memo memos ∷ cells_with fs new (drop 1 memos)) (cell ∷ cells_with fs new memos)
-    ≡ set (cond b (first_memo memos ∷ cells_with fs rest (drop 1 memos)) (cell ∷ cells_with fs rest memos)) (suc j) ys
-put_by fs cell rest new ys memos j true ih = ap (λ (x : List (List ℕ)). first_memo memos ∷ x) (ih (drop 1 memos))
-put_by fs cell rest new ys memos j false ih = ap (λ (x : List (List ℕ)). cell ∷ x) (ih memos)
-
 cells_put : (fields : List Field) (j : ℕ) (bytes ys : List ℕ) (memos : List (List ℕ)) → j < length fields → kind_at fields j ≢ MEMO → length ys ≡ width_of fields j → widths fields ≤ length bytes
     → cells_with fields (put_mid (widths (take j fields)) (length ys) bytes ys) memos ≡ set (cells_with fields bytes memos) j ys
 cells_put [] j bytes ys memos lt other wide room = absurd (omega arith)
@@ -185,10 +170,10 @@ cells_put (f ∷ fs) (suc j) bytes ys memos lt other wide room =
       front,
       take-put_mid_below (f.width + widths (take j fs)) (length ys) bytes ys f.width (omega arith) (omega arith),
       drop_put f.width (widths (take j fs)) (length ys) bytes ys (omega arith),
-    ) (
-    put_by fs (take f.width bytes) (drop f.width bytes) (put_mid (widths (take j fs)) (length ys) (drop f.width bytes) ys) ys memos j (eqb f.kind MEMO)
-    (λ m. cells_put fs j (drop f.width bytes) ys m (omega arith) other wide left)
-    )
+    ) (elim (cases_Bool (eqb f.kind MEMO)) [
+      | inl e ↦ rw (e, cells_put fs j (drop f.width bytes) ys (drop 1 memos) (omega arith) other wide left) refl
+      | inr e ↦ rw (e, cells_put fs j (drop f.width bytes) ys memos (omega arith) other wide left) refl
+    ])
 
 flag_stays : (m k : ℕ) (bytes ys : List ℕ) → 1 ≤ length bytes → get_or (put_mid (1 + m) k bytes ys) 0 0 ≡ get_or bytes 0 0
 flag_stays m k [] ys some = absurd (omega arith)
@@ -231,17 +216,13 @@ set_by fs cell rest text j n k [] true ih room = absurd (omega arith)
 set_by fs cell rest text j n k (t ∷ ts) true ih room = ap (λ (x : List (List ℕ)). t ∷ x) (ih ts (omega arith))
 set_by fs cell rest text j n k memos false ih room = ap (λ (x : List (List ℕ)). cell ∷ x) (ih memos room)
 
-set_first : (fs : List Field) (rest text : List ℕ) (n : ℕ) (memos : List (List ℕ)) → suc n ≤ length memos
-    → first_memo (set memos 0 text) ∷ cells_with fs rest (drop 1 (set memos 0 text)) ≡ text ∷ cells_with fs rest (drop 1 memos)
-set_first fs rest text n [] room = absurd (omega arith)
-set_first fs rest text n (t ∷ ts) room = refl
-
 cells_set : (fields : List Field) (j : ℕ) (bytes text : List ℕ) (memos : List (List ℕ)) → j < length fields → kind_at fields j ≡ MEMO → memo_count fields ≤ length memos
     → cells_with fields bytes (set memos (memo_count (take j fields)) text) ≡ set (cells_with fields bytes memos) j text
 cells_set [] j bytes text memos lt kind room = absurd (omega arith)
-cells_set (f ∷ fs) zero bytes text memos lt kind room =
-    let is : eqb f.kind MEMO ≡ true = eq-eqb f.kind MEMO kind in
-    rw is (set_first fs (drop f.width bytes) text (memo_count fs) memos (rw is at room))
+cells_set (f ∷ fs) zero bytes text [] lt kind room =
+    let some : suc (memo_count fs) ≤ 0 = rw (eq-eqb f.kind MEMO kind) at room in
+    absurd (omega arith)
+cells_set (f ∷ fs) zero bytes text (t ∷ ts) lt kind room = rw (eq-eqb f.kind MEMO kind) refl
 cells_set (f ∷ fs) (suc j) bytes text memos lt kind room =
     set_by fs (take f.width bytes) (drop f.width bytes) text j (memo_count fs) (memo_count (take j fs)) memos (eqb f.kind MEMO)
     (λ m h. cells_set fs j (drop f.width bytes) text m (omega arith) kind h) room

@@ -21,7 +21,7 @@ use Rattle.dbf_fields.specs.declared.format.TheConstants.{MEMO}
 memo_wide : (f : Field) → has_width f ≡ true → f.kind ≡ MEMO → f.width ≡ 10
 memo_wide f h kind = eqb-true f.width 10 (rw kind at h)
 
-memos_wide : (fs : List Field) → AllByRecursion (λ f. has_width f ≡ true) fs → AreWide fs
+pub memos_wide : (fs : List Field) → AllByRecursion (λ f. has_width f ≡ true) fs → AreWide fs
 memos_wide [] h = tt
 memos_wide (f ∷ fs) h = (memo_wide f h.0, memos_wide fs h.1)
 

@@ -1,8 +1,9 @@
 -- The blocks of the memos of a table are those of its list of texts.
+use Rattle.dbf_image.proofs.CellOffsets.{memo_count_le}
 use Rattle.std.proofs.Common.{◌≡◌, ℕ, suc, ◌+◌, ◌*◌, ◌≤◌, Bool, true, false, cond, eqb, List, [], ◌∷◌, ◌++◌, length, take, drop, leb, ◌<◌, Some, None, refl, sym, ap, ◌∙◌, arith}
 use Rattle.std.specs.Prelude.{flat_map, sum_by}
 use Rattle.std.proofs.lemmas.Bool.{le-leb, lt-leb}
-use Rattle.std.proofs.lemmas.List.{take-append-drop, length-drop, length-map}
+use Rattle.std.proofs.lemmas.List.{take-append-drop, length-drop, length-map, nil_from_length}
 use Rattle.std.proofs.lemmas.List.Concat.{flat_map-append}
 use Rattle.std.proofs.lemmas.List.Sums.{sum_by-cons, sum_by-take-drop}
 use Rattle.std.proofs.lemmas.List.Folds.{flat_map-map}
@@ -33,12 +34,8 @@ pub cells_joined : (fields : List Field) (bytes : List ℕ) (memos : List (List 
 cells_joined [] bytes memos room = refl
 cells_joined (f ∷ fs) bytes memos room = joined_by f fs (take f.width bytes) (drop f.width bytes) memos (eqb f.kind MEMO) refl (cells_joined fs (drop f.width bytes)) room
 
-none_left : (memos : List (List ℕ)) → length memos ≡ 0 → [] ≡ flat_map block_bytes memos
-none_left [] e = refl
-none_left (t ∷ ts) e = absurd (omega arith)
-
 pub rows_joined : (fields : List Field) (ps memos : List (List ℕ)) → length memos ≡ length ps * memo_count fields → rows_memos fields (rows_with fields ps memos) ≡ flat_map block_bytes memos
-rows_joined fields [] memos e = none_left memos (omega arith)
+rows_joined fields [] memos e = rw (nil_from_length memos (omega arith)) refl
 rows_joined fields (p ∷ ps) memos e =
     let n : ℕ = memo_count fields in
     let here = cells_joined fields (drop 1 p) memos (omega arith) in
@@ -61,12 +58,8 @@ cells_counted : (fields : List Field) (bytes : List ℕ) (memos : List (List ℕ
 cells_counted [] bytes memos room = refl
 cells_counted (f ∷ fs) bytes memos room = counted_by f fs (take f.width bytes) (drop f.width bytes) memos (eqb f.kind MEMO) refl (cells_counted fs (drop f.width bytes)) room
 
-no_more : (memos : List (List ℕ)) → length memos ≡ 0 → 0 ≡ sum_by blocks_of memos
-no_more [] e = refl
-no_more (t ∷ ts) e = absurd (omega arith)
-
 rows_counted : (fields : List Field) (ps memos : List (List ℕ)) → length memos ≡ length ps * memo_count fields → rows_blocks fields (rows_with fields ps memos) ≡ sum_by blocks_of memos
-rows_counted fields [] memos e = no_more memos (omega arith)
+rows_counted fields [] memos e = rw (nil_from_length memos (omega arith)) refl
 rows_counted fields (p ∷ ps) memos e =
     let n : ℕ = memo_count fields in
     let here = cells_counted fields (drop 1 p) memos (omega arith) in
@@ -112,16 +105,8 @@ memos_read fields rows count bytes texts spans many given = rw given (sym (store
 
 -- ---- how many memos a table has at most
 
-few_by : (fs : List Field) (b : Bool) → memo_count fs ≤ length fs → cond b (suc (memo_count fs)) (memo_count fs) ≤ suc (length fs)
-few_by fs true h = omega arith
-few_by fs false h = omega arith
-
-few_memos : (fields : List Field) → memo_count fields ≤ length fields
-few_memos [] = omega arith
-few_memos (f ∷ fs) = few_by fs (eqb f.kind MEMO) (few_memos fs)
-
 pub memos_each : (fields : List Field) → IsSchema fields → memo_count fields ≤ 128
-memos_each fields schema = omega (arith, few_memos fields, schema_count fields schema)
+memos_each fields schema = omega (arith, memo_count_le fields, schema_count fields schema)
 
 pub memos_all : (fields : List Field) (count : ℕ) → IsSchema fields → count ≤ MAX_RECORDS → count * memo_count fields ≤ 128000000000
 memos_all fields count schema few = omega (arith, mul-le-mul_left count (memos_each fields schema))

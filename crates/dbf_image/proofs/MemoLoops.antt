@@ -1,4 +1,5 @@
 -- One more cell of a record.
+use Rattle.dbf_image.proofs.FileLaws.{memos_wide}
 use Rattle.std.proofs.Common.{◌≡◌, ℕ, ◌+◌, ◌<◌, ◌≤◌, true, Bool, List, [], ◌∷◌, ◌++◌, length, take, drop, get_or, Some, None, refl, sym, ap, ◌∙◌, append_assoc, inl, inr, All, arith}
 use Rattle.std.specs.Prelude.{◌⊎◌}
 use Rattle.std.specs.List.{AllByRecursion}
@@ -51,12 +52,5 @@ room-next fields i f now later lt is room left =
     omega arith
 
 -- a memo's cell is ten bytes wide
-memo_wide : (f : Field) → has_width f ≡ true → f.kind ≡ MEMO → f.width ≤ 10
-memo_wide f h kind = omega (arith, eqb-true f.width 10 (rw kind at h))
-
-memos_wide : (fs : List Field) → AllByRecursion (λ f. has_width f ≡ true) fs → AllByRecursion (λ f. f.kind ≡ MEMO → f.width ≤ 10) fs
-memos_wide [] h = tt
-memos_wide (f ∷ fs) h = (memo_wide f h.0, memos_wide fs h.1)
-
-pub memo_fits : (fs : List Field) → IsSchema fs → All (λ f. f.kind ≡ MEMO → f.width ≤ 10) fs
-memo_fits fs s = All-from_recursion (λ f. f.kind ≡ MEMO → f.width ≤ 10) fs (memos_wide fs (schema_wide fs s))
+pub memo_fits : (fs : List Field) → IsSchema fs → All (λ f. f.kind ≡ MEMO → f.width ≡ 10) fs
+memo_fits fs s = All-from_recursion (λ f. f.kind ≡ MEMO → f.width ≡ 10) fs (memos_wide fs (schema_wide fs s))

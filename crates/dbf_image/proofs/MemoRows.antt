@@ -1,8 +1,9 @@
 -- The texts where the reader finds them are those that the records' cells tell.
+use Rattle.std.proofs.Math.Bool.{or-true}
 use Rattle.std.proofs.Common.{◌≡◌, ℕ, suc, ◌+◌, ◌*◌, Bool, true, false, cond, eqb, leb, List, [], ◌∷◌, ◌++◌, length, map, take, drop, Option, Some, None, refl, ap, ◌∙◌, arith}
 use Rattle.std.specs.Prelude.{flat_map, not, ◌||◌, is_some, unwrap_or}
 use Rattle.std.specs.List.{AllByRecursion, list_all}
-use Rattle.std.proofs.lemmas.Bool.{le-leb, cond-true}
+use Rattle.std.proofs.lemmas.Bool.{le-leb, cond-true, or_parts, and_from}
 use Rattle.std.proofs.lemmas.List.{drop_at, length-map, length-append, length-drop, map-append}
 use Rattle.dbf_fields.specs.declared.field.Field.{Field}
 use Rattle.dbf_fields.specs.Faults.{first_fault}
@@ -20,7 +21,7 @@ use Rattle.dbf_image.proofs.Rows.{length-chunks}
 use Rattle.dbf_image.proofs.Spans.{all_append, no_span_fits}
 use Rattle.dbf_image.proofs.Ends.{end_inside, prefix_all}
 use Rattle.dbf_fields.proofs.FaultLaws.{first_parts}
-use Rattle.dbf_image.proofs.MemoTests.{both, text_ok}
+use Rattle.dbf_image.proofs.MemoTests.{text_ok}
 use Rattle.dbf_image.specs.declared.format.TheConstants.{BLOCK, MAX_MEMO_BYTES, MEMO_END}
 use Rattle.dbf_fields.specs.declared.format.TheConstants.{MEMO}
 
@@ -82,7 +83,7 @@ block_fits dbt n h =
     let t = text_ok dbt n h in
     record {
       inside = omega (arith, t.inside, end_inside (drop (BLOCK * n) dbt), length-drop (BLOCK * n) dbt);
-      text = both (leb (length (memo_at dbt n)) MAX_MEMO_BYTES) (list_all (λ b. not (eqb b MEMO_END)) (memo_at dbt n)) (le-leb _ _ t.short) (prefix_all (λ b. not (eqb b MEMO_END)) (drop (BLOCK * n) dbt));
+      text = and_from (leb (length (memo_at dbt n)) MAX_MEMO_BYTES) (list_all (λ b. not (eqb b MEMO_END)) (memo_at dbt n)) (le-leb _ _ t.short) (prefix_all (λ b. not (eqb b MEMO_END)) (drop (BLOCK * n) dbt));
     }
 
 fits_by : (dbt : List ℕ) (n : ℕ) (b : Bool) → first_fault (cond b [] (text_tests dbt n)) ≡ None → IsSpan dbt (cond b no_span (span_of dbt n))
@@ -126,28 +127,24 @@ store_read dbt fields count bytes records h =
 
 -- ---- where no field is a memo
 
-neither : (a b : Bool) → (a || b) ≡ false → (a ≡ false) × (b ≡ false)
-neither true b e = absurd cc
-neither false b e = (refl, e)
-
 plain_tests : (dbt : List ℕ) (fields : List Field) (bytes : List ℕ) → has_memos fields ≡ false → cells_tests dbt fields bytes ≡ []
 unfolding cell_tests
 plain_tests dbt [] bytes e = refl
 plain_tests dbt (f ∷ fs) bytes e =
-    let p = neither (eqb f.kind MEMO) (has_memos fs) e in
+    let p = or_parts (eqb f.kind MEMO) (has_memos fs) e in
     rw (p.0, plain_tests dbt fs (drop f.width bytes) p.1) refl
 
 plain_cells : (dbt : List ℕ) (fields : List Field) (bytes : List ℕ) (memos : List (List ℕ)) → has_memos fields ≡ false → cells_with fields bytes memos ≡ cells_read dbt fields bytes
 unfolding cell_text
 plain_cells dbt [] bytes memos e = refl
 plain_cells dbt (f ∷ fs) bytes memos e =
-    let p = neither (eqb f.kind MEMO) (has_memos fs) e in
+    let p = or_parts (eqb f.kind MEMO) (has_memos fs) e in
     rw (p.0, plain_cells dbt fs (drop f.width bytes) memos p.1) refl
 
 plain_count : (fields : List Field) → has_memos fields ≡ false → memo_count fields ≡ 0
 plain_count [] e = refl
 plain_count (f ∷ fs) e =
-    let p = neither (eqb f.kind MEMO) (has_memos fs) e in
+    let p = or_parts (eqb f.kind MEMO) (has_memos fs) e in
     rw p.0 (plain_count fs p.1)
 
 pub plain_rows : (dbt : List ℕ) (fields : List Field) (ps memos : List (List ℕ)) → has_memos fields ≡ false → rows_with fields ps memos ≡ map (row_read dbt fields) ps
@@ -173,10 +170,6 @@ pub missing : (fields : List Field) (ps : List (List ℕ)) → has_memos fields 
 unfolding table_tests
 missing fields ps e = rw e refl
 
-not_or_true : (a : Bool) → (not a || true) ≡ true
-not_or_true true = refl
-not_or_true false = refl
-
 pub tests_in : (dbt : List ℕ) (fields : List Field) (ps : List (List ℕ)) → first_fault (table_tests (Some dbt) fields ps) ≡ first_fault (flat_map (row_tests dbt fields) ps)
 unfolding table_tests
-tests_in dbt fields ps = cond-true (not (has_memos fields) || true) _ _ (not_or_true (has_memos fields))
+tests_in dbt fields ps = cond-true (not (has_memos fields) || true) _ _ (or-true (not (has_memos fields)))

@@ -1,7 +1,7 @@
 -- The tests of memos' cells and the layout say the same.
 use Rattle.std.proofs.Common.{◌≡◌, ◌≢◌, ℕ, ◌*◌, ◌≤◌, Bool, true, false, cond, eqb, leb, ltb, Result, Ok, Err, List, [], ◌∷◌, length, map, take, drop, Option, Some, None, refl, sym, ap, ◌∙◌, inl, inr, arith}
 use Rattle.std.specs.Prelude.{◌⊎◌, ◌&&◌, is_some, unwrap_or, flat_map, slice_index, IfOk, IfErr, MatchResult}
-use Rattle.std.proofs.lemmas.Bool.{eqb-true, eqb-false, ne_eqb, leb-true, le-leb, lt-ltb, ltb-true, and_parts}
+use Rattle.std.proofs.lemmas.Bool.{eqb-true, eqb-false, ne_eqb, leb-true, le-leb, lt-ltb, ltb-true, and_parts, and_from}
 use Rattle.dbf_fields.specs.declared.field.Field.{Field}
 use Rattle.dbf_fields.specs.Faults.{first_fault}
 use Rattle.dbf_fields.proofs.SchemaLaws.{passed, passes}
@@ -18,10 +18,6 @@ use Rattle.dbf_fields.specs.declared.format.TheConstants.{MEMO}
 
 -- ---- a text
 
-pub both : (a b : Bool) → a ≡ true → b ≡ true → (a && b) ≡ true
-both true b p q = q
-both false b p q = absurd cc
-
 pub text_ok : (dbt : List ℕ) (n : ℕ) → first_fault (text_tests dbt n) ≡ None → HasText dbt n (memo_at dbt n)
 unfolding text_tests
 text_ok dbt n h =
@@ -33,7 +29,7 @@ text_ok dbt n h =
 pub ok_text : (dbt text : List ℕ) (n : ℕ) → HasText dbt n text → first_fault (text_tests dbt n) ≡ None
 unfolding text_tests
 ok_text dbt text n h =
-    let a : is_block dbt n ≡ true = both (ltb 0 n) (ltb (BLOCK * n) (length dbt)) (lt-ltb _ _ h.some) (lt-ltb _ _ h.inside) in
+    let a : is_block dbt n ≡ true = and_from (ltb 0 n) (ltb (BLOCK * n) (length dbt)) (lt-ltb _ _ h.some) (lt-ltb _ _ h.inside) in
     let short : length (memo_at dbt n) ≤ MAX_MEMO_BYTES = rw h.text_is h.short in
     let b = le-leb _ _ short in
     passes _ _ _ a (passes _ _ _ b refl)

@@ -4,7 +4,7 @@ use Rattle.std.specs.Prelude.{reverse}
 use Rattle.std.specs.List.{list_all}
 use Rattle.std.specs.Char.{is_ascii_digit}
 use Rattle.std.proofs.lemmas.Bool.{eqb-true, eqb-false, ne_eqb, le-leb}
-use Rattle.std.proofs.lemmas.List.{length-append, reverse-append, reverse-reverse}
+use Rattle.std.proofs.lemmas.List.{length-append, reverse-append, reverse-reverse, drop-set}
 use Rattle.std.proofs.lemmas.List.Folds.{list_all-append}
 use Rattle.std.proofs.lemmas.List.Sums.{fold-append}
 use Rattle.std.proofs.Math.Nat.{pow-suc}
@@ -101,13 +101,6 @@ length-justified (suc k) n = omega (arith, length-append (justified k (n / 10)) 
 
 -- ---- the digits that are written, from the last one on
 
-drop_set : (i : ℕ) (cell : List ℕ) (d : ℕ) → i < length cell → drop i (set cell i d) ≡ d ∷ drop (i + 1) cell
-drop_set i [] d lt = absurd (omega arith)
-drop_set zero (b ∷ bs) d lt = refl
-drop_set (suc i) (b ∷ bs) d lt =
-    let k : suc i + 1 ≡ suc (i + 1) = omega arith in
-    rw k (drop_set i bs d (omega arith))
-
 pub digit-next : (at i n : ℕ) (cell : List ℕ) (d : ℕ) (whole : List ℕ) → i + 1 ≡ at → i < length cell → d ≡ cond (eqb n 0) 32 (48 + n % 10)
     → justified at n ++ drop at cell ≡ whole → justified i (n / 10) ++ drop i (set cell i d) ≡ whole
 unfolding justified
@@ -115,7 +108,7 @@ digit-next at i n cell d whole k lt is given =
     let e : at ≡ suc i = omega arith in
     let e' : i + 1 ≡ suc i = omega arith in
     let before : justified (suc i) n ++ drop (suc i) cell ≡ whole = rw e at given in
-    let here : drop i (set cell i d) ≡ d ∷ drop (suc i) cell = rw e' at (drop_set i cell d lt) in
+    let here : drop i (set cell i d) ≡ d ∷ drop (suc i) cell = rw e' at (drop-set cell i d lt) in
     rw (here, is) (sym (append_assoc (justified i (n / 10)) (cond (eqb n 0) 32 (48 + n % 10) ∷ []) (drop (suc i) cell)) ∙ before)
 
 pub digit-done : (at n : ℕ) (cell whole : List ℕ) → at ≡ 0 → justified at n ++ drop at cell ≡ whole → cell ≡ whole

@@ -1,7 +1,7 @@
 -- A table without memos needs no file of memos.
 use Rattle.std.proofs.Common.{◌≡◌, ℕ, Bool, true, false, eqb, List, [], ◌∷◌, drop, Option, refl, sym, ◌∙◌, arith}
 use Rattle.std.specs.Prelude.{◌||◌, unwrap_or}
-use Rattle.std.proofs.lemmas.Bool.{eqb-false, true≢false}
+use Rattle.std.proofs.lemmas.Bool.{eqb-false, true≢false, or_parts}
 use Rattle.dbf_fields.specs.declared.field.Field.{Field}
 use Rattle.dbf_image.specs.Table.{Row, Table, has_memos, IsTable}
 use Rattle.dbf_image.specs.Memo.{EncodesCells}
@@ -10,10 +10,6 @@ use Rattle.dbf_image.specs.Blocks.{cells_blocks, rows_blocks, memo_image}
 use Rattle.dbf_image.specs.Image.{image}
 use Rattle.dbf_image.proofs.FileLaws.{is_dbf_image}
 use Rattle.dbf_fields.specs.declared.format.TheConstants.{MEMO}
-
-or_parts : (x y : Bool) → (x || y) ≡ false → (x ≡ false) × (y ≡ false)
-or_parts true y e = absurd (true≢false e)
-or_parts false y e = (refl, e)
 
 other_cells : (a b : List ℕ) (fields : List Field) (bytes : List ℕ) (cells : List (List ℕ)) → has_memos fields ≡ false → EncodesCells a fields bytes cells → EncodesCells b fields bytes cells
 other_cells a b [] bytes [] e h = tt

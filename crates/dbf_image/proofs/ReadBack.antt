@@ -5,7 +5,7 @@ use Rattle.std.specs.List.{AllByRecursion, before_first, position_or_len, list_a
 use Rattle.std.specs.Int.{is_in_range}
 use Rattle.std.specs.Char.{is_ascii_alphabetic}
 use Rattle.std.proofs.lemmas.Bool.{and_parts, leb-true, ne_eqb, true≢false}
-use Rattle.std.proofs.lemmas.List.{take_at, drop_at, get_or_at, get_or-append_right, get_or_append_left, length-append, length-replicate}
+use Rattle.std.proofs.lemmas.List.{take_at, drop_at, get_or_at, get_or-append_right, get_or_append_left, length-append, length-replicate, get_or-replicate}
 use Rattle.std.proofs.lemmas.List.Sums.{position_or_len_is}
 use Rattle.dbf_fields.specs.declared.field.Field.{Field}
 use Rattle.dbf_fields.specs.Name.{is_name_char, is_name}
@@ -61,17 +61,12 @@ no_zeros [] h k lt = absurd (omega arith)
 no_zeros (c ∷ cs) h zero lt = no_zero c (and_parts (is_name_char c) (list_all is_name_char cs) h).0
 no_zeros (c ∷ cs) h (suc k) lt = no_zeros cs (and_parts (is_name_char c) (list_all is_name_char cs) h).1 k (omega arith)
 
-get_or-zeros : (n i : ℕ) → get_or {A = ℕ} (replicate n 0) i 0 ≡ 0
-get_or-zeros zero i = refl
-get_or-zeros (suc n) zero = refl
-get_or-zeros (suc n) (suc i) = get_or-zeros n i
-
 name_again : (f : Field) → HasName f → before_first (λ b. eqb b 0) (name_part f) ≡ f.name
 name_again f h =
     let zeros : List ℕ = replicate (11 - length f.name) 0 in
     let inside : length f.name ≤ length (name_part f) = omega (arith, length-append f.name zeros) in
     let ended : eqb (get_or (name_part f) (length f.name) 0) 0 ≡ true =
-    rw (get_or-append_right f.name zeros (length f.name) (length f.name) 0 refl (omega arith), get_or-zeros) refl in
+    rw (get_or-append_right f.name zeros (length f.name) (length f.name) 0 refl (omega arith), get_or-replicate {A = ℕ} (11 - length f.name) (length f.name - length f.name) 0 0 (omega (arith, h.short))) refl in
     let n : position_or_len (λ b. eqb b 0) (name_part f) ≡ length f.name =
     position_or_len_is (λ b. eqb b 0) (name_part f) (length f.name) 0 inside
     (λ k lt. rw (get_or_append_left f.name zeros 0 k lt) (no_zeros f.name h.letters k lt))

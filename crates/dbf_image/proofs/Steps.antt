@@ -1,4 +1,5 @@
 -- One more cell, and one more record, of those that are written from the next free block on.
+use Rattle.dbf_image.proofs.Edits.{cells_front}
 use Rattle.std.proofs.Common.{◌≡◌, ℕ, zero, suc, ◌+◌, ◌-◌, ◌*◌, ◌<◌, Bool, true, false, cond, eqb, List, [], ◌∷◌, ◌++◌, length, take, drop, get_or, refl, sym, ap, ◌∙◌, arith}
 use Rattle.std.specs.Prelude.{flat_map}
 use Rattle.std.specs.List.{AllByRecursion}
@@ -120,18 +121,6 @@ plain_blocks (f ∷ fs) bytes memos none = plain_count_by f fs bytes memos (eqb 
 
 -- ---- records
 
-enough_by : (f : Field) (fs : List Field) (bytes : List ℕ) (memos : List (List ℕ)) (b : Bool) → eqb f.kind MEMO ≡ b
-    → ((rest : List ℕ) (m : List (List ℕ)) → cells_with fs rest (take (memo_count fs) m) ≡ cells_with fs rest m)
-    → cells_with (f ∷ fs) bytes (take (memo_count (f ∷ fs)) memos) ≡ cells_with (f ∷ fs) bytes memos
-enough_by f fs bytes [] true e ih = rw e refl
-enough_by f fs bytes (t ∷ ts) true e ih = rw e (ap (λ (x : List (List ℕ)). t ∷ x) (ih (drop f.width bytes) ts))
-enough_by f fs bytes memos false e ih = rw e (ap (λ (x : List (List ℕ)). take f.width bytes ∷ x) (ih (drop f.width bytes) memos))
-
--- a record takes no more memos than it has
-pub cells_enough : (fields : List Field) (bytes : List ℕ) (memos : List (List ℕ)) → cells_with fields bytes (take (memo_count fields) memos) ≡ cells_with fields bytes memos
-cells_enough [] bytes memos = refl
-cells_enough (f ∷ fs) bytes memos = enough_by f fs bytes memos (eqb f.kind MEMO) refl (cells_enough fs)
-
 -- what is left of the records
 abbrev pub left_rows : ℕ → List Field → ℕ → ℕ → List ℕ → List ℕ → List Span → List ℕ
 left_rows next fields size n rest texts spans = flat_map (λ bytes. bytes) (rows_bytes next fields (rows_with fields (chunks size n rest) (texts_of texts spans)))
@@ -145,7 +134,7 @@ rows-next fields size n i rest texts spans next lt =
     let m : ℕ = memo_count fields in
     let taken : texts_of texts (take m spans) ≡ take m (texts_of texts spans) = sym (take-map (text_of texts) m spans) in
     let left : texts_of texts (drop m spans) ≡ drop m (texts_of texts spans) = sym (drop-map (text_of texts) m spans) in
-    rw (k, taken, left, cells_enough fields (drop 1 (take size rest)) (texts_of texts spans)) refl
+    rw (k, taken, left, cells_front fields (drop 1 (take size rest)) (texts_of texts spans)) refl
 
 pub less-next : (n i m : ℕ) → i < n → (n - i) * m ≡ m + (n - (i + 1)) * m
 less-next n i m lt =

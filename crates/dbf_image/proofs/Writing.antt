@@ -1,4 +1,5 @@
 -- Chunks that are written one after the other make the whole.
+use Rattle.dbf_image.proofs.ReadBack.{HasName, names_from}
 use Rattle.std.proofs.Common.{◌≡◌, true, leb, ◌&&◌, All, ℕ, ◌-◌, ◌≤◌, List, [], ◌∷◌, ◌++◌, length, replicate, append_assoc, arith, ap, sym, ◌∙◌, ◌+◌, drop, set}
 use Rattle.std.specs.Prelude.{slice_index, flat_map}
 use Rattle.std.specs.List.{AllByRecursion, list_all}
@@ -39,12 +40,5 @@ pub image_put : (w : Wanted) (table : Table) (year month day : ℕ)
     → more (more (more (more (more w (header_bytes table year month day)) (flat_map descriptor table.schema)) (HEADER_END ∷ [])) (flat_map (λ bytes. bytes) (rows_bytes 1 table.schema table.rows))) (END_OF_FILE ∷ []) ≡ more w (image table year month day)
 image_put w table year month day = simp grown_then (ap (more w) (simp append_assoc))
 
-names_fit : (fs : List Field) → AllByRecursion (λ f. is_name f.name ≡ true) fs → AllByRecursion (λ f. length f.name ≤ 11) fs
-names_fit [] h = tt
-names_fit (f ∷ fs) h =
-    let ranged = and_parts (is_in_range 1 10 (length f.name)) (is_ascii_alphabetic (slice_index f.name 0) && list_all is_name_char f.name) h.0 in
-    let short : length f.name ≤ 10 = leb-true _ _ (and_parts (leb 1 (length f.name)) (leb (length f.name) 10) ranged.0).1 in
-    (omega arith, names_fit fs h.1)
-
-pub name_fits : (fs : List Field) → IsSchema fs → All (λ f. length f.name ≤ 11) fs
-name_fits fs s = All-from_recursion (λ f. length f.name ≤ 11) fs (names_fit fs (schema_names fs s))
+pub name_fits : (fs : List Field) → IsSchema fs → All HasName fs
+name_fits fs s = All-from_recursion HasName fs (names_from fs (schema_names fs s))

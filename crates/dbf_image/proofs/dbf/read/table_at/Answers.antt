@@ -24,14 +24,9 @@ returns-in_err-check_records-clause-refused c =
 
 pub returns-in_err-texts-clause-refused : goal.returns-in_err-texts-clause-refused
 returns-in_err-texts-clause-refused c =
-    let given = c.in_ok-header.ensures.value in
-    let header = c.in_ok-header.header in
-    let dbt = option_copied c.args.dbt in
     let p = err_from_is_err_and c.from_residual-in_err-texts.result c.from_residual-in_err-texts.ensures.1 in
-    let tests = tests_read c.args.dbf.now dbt c.in_ok-schema.schema header.record_length header.record_count header.header_length c.records_at-bytes.result.now c.in_ok-schema.ensures.value (ap (λ (h : Header). h.record_length) given)
-    (c.in_ok-check_records.ensures.wide ∙ c.record_length-size.ensures.value) (ap (λ (h : Header). h.record_count) given) (ap (λ (h : Header). h.header_length) given) c.records_at-bytes.ensures.value in
-    let refused = rw tests at c.in_err-texts.ensures.refused in
-    rw (p.1, p.2) (refused_by_memos c.args.dbf.now dbt _ c.in_ok-header.ensures.accepted c.in_ok-schema.ensures.accepted c.in_ok-check_records.ensures.accepted refused)
+    let tests = tests_read c.args.dbf.now (option_copied c.args.dbt) c.in_ok-schema.schema c.in_ok-header.header _ c.in_ok-header.ensures.value c.in_ok-schema.ensures.value (c.in_ok-check_records.ensures.wide ∙ c.record_length-size.ensures.value) c.records_at-bytes.ensures.value in
+    rw (p.1, p.2) (refused_by_memos c.args.dbf.now (option_copied c.args.dbt) _ c.in_ok-header.ensures.accepted c.in_ok-schema.ensures.accepted c.in_ok-check_records.ensures.accepted (rw tests at c.in_err-texts.ensures.refused))
 
 pub returns-in_err-header-clause-early : goal.returns-in_err-header-clause-early
 returns-in_err-header-clause-early c =
@@ -60,19 +55,13 @@ returns-in_err-records-clause-early c =
 
 pub returns-clause-accepted : goal.returns-clause-accepted
 returns-clause-accepted c =
-    let given = c.in_ok-header.ensures.value in
-    let header = c.in_ok-header.header in
-    let dbt = option_copied c.args.dbt in
-    let tests = tests_read c.args.dbf.now dbt c.in_ok-schema.schema header.record_length header.record_count header.header_length c.records_at-bytes.result.now c.in_ok-schema.ensures.value (ap (λ (h : Header). h.record_length) given)
-    (c.in_ok-check_records.ensures.wide ∙ c.record_length-size.ensures.value) (ap (λ (h : Header). h.record_count) given) (ap (λ (h : Header). h.header_length) given) c.records_at-bytes.ensures.value in
-    decided_by_memos c.args.dbf.now dbt c.in_ok-header.ensures.accepted c.in_ok-schema.ensures.accepted c.in_ok-check_records.ensures.accepted ∙ rw tests at c.in_ok-texts.ensures.accepted
+    let tests = tests_read c.args.dbf.now (option_copied c.args.dbt) c.in_ok-schema.schema c.in_ok-header.header _ c.in_ok-header.ensures.value c.in_ok-schema.ensures.value (c.in_ok-check_records.ensures.wide ∙ c.record_length-size.ensures.value) c.records_at-bytes.ensures.value in
+    decided_by_memos c.args.dbf.now (option_copied c.args.dbt) c.in_ok-header.ensures.accepted c.in_ok-schema.ensures.accepted c.in_ok-check_records.ensures.accepted ∙ rw tests at c.in_ok-texts.ensures.accepted
 
 pub returns-clause-value : goal.returns-clause-value
 returns-clause-value c =
-    let given = c.in_ok-header.ensures.value in
+    let schema = c.in_ok-schema.schema in
     let header = c.in_ok-header.header in
-    let dbt = option_copied c.args.dbt in
+    let rows = ap (λ (bs : List ℕ). rows_of schema header.record_count bs (texts_of c.in_ok-texts.texts.items c.in_ok-texts.memos.items)) c.in_ok-records.ensures.items ∙ c.in_ok-texts.ensures.value in
     c.new.ensures.value
-    ∙ rows_read c.args.dbf.now dbt c.in_ok-schema.schema header.record_length header.record_count header.header_length c.records_at-bytes.result.now _ c.in_ok-schema.ensures.value (ap (λ (h : Header). h.record_length) given)
-    (c.in_ok-check_records.ensures.wide ∙ c.record_length-size.ensures.value) (ap (λ (h : Header). h.record_count) given) (ap (λ (h : Header). h.header_length) given) c.records_at-bytes.ensures.value
-    (ap (λ (bs : List ℕ). rows_of c.in_ok-schema.schema header.record_count bs (texts_of c.in_ok-texts.texts.items c.in_ok-texts.memos.items)) c.in_ok-records.ensures.items ∙ c.in_ok-texts.ensures.value)
+    ∙ rows_read c.args.dbf.now (option_copied c.args.dbt) schema header c.records_at-bytes.result.now _ c.in_ok-header.ensures.value c.in_ok-schema.ensures.value (c.in_ok-check_records.ensures.wide ∙ c.record_length-size.ensures.value) c.records_at-bytes.ensures.value rows

@@ -6,7 +6,7 @@ use Rattle.dbf_fields.specs.declared.format.TheConstants.{MEMO}
 
 pub push_span-requires-clause-few : goal.push_span-requires-clause-few
 push_span-requires-clause-few c = λ kind.
-    let wide : c.field-item.result.kind ≡ MEMO → c.field-item.result.width ≤ 10 = rw c.field-item.is (memo_fits c.args.fields.now c.requires.schema c.loop-field.field-index _ c.loop-field-test.true) in
+    let wide : c.field-item.result.kind ≡ MEMO → c.field-item.result.width ≡ 10 = rw c.field-item.is (memo_fits c.args.fields.now c.requires.schema c.loop-field.field-index _ c.loop-field-test.true) in
     omega (arith, wide kind, c.split_at.ensures.front_len, c.from.ensures)
 
 pub returns-in_err-push_span-clause-refused : goal.returns-in_err-push_span-clause-refused
