@@ -1,9 +1,10 @@
 -- The blocks of the memos of a table are those of its list of texts.
+use Rattle.dbf_image.proofs.BlockLaws.{length-block, length-cells_memos}
 use Rattle.dbf_image.proofs.CellOffsets.{memo_count_le}
 use Rattle.std.proofs.Common.{◌≡◌, ℕ, suc, ◌+◌, ◌*◌, ◌≤◌, Bool, true, false, cond, eqb, List, [], ◌∷◌, ◌++◌, length, take, drop, leb, ◌<◌, Some, None, refl, sym, ap, ◌∙◌, arith}
 use Rattle.std.specs.Prelude.{flat_map, sum_by}
 use Rattle.std.proofs.lemmas.Bool.{le-leb, lt-leb}
-use Rattle.std.proofs.lemmas.List.{take-append-drop, length-drop, length-map, nil_from_length}
+use Rattle.std.proofs.lemmas.List.{take-append-drop, length-drop, length-map, nil_from_length, length-append}
 use Rattle.std.proofs.lemmas.List.Concat.{flat_map-append}
 use Rattle.std.proofs.lemmas.List.Sums.{sum_by-cons, sum_by-take-drop}
 use Rattle.std.proofs.lemmas.List.Folds.{flat_map-map}
@@ -18,7 +19,7 @@ use Rattle.dbf_image.specs.DbfText.{chunks}
 use Rattle.dbf_image.specs.Store.{text_of, texts_of, memo_count, first_memo, cells_with, rows_with, rows_of}
 use Rattle.dbf_image.proofs.Rows.{length-chunks}
 use Rattle.dbf_image.specs.Blocks.{blocks_of, block_bytes, cells_blocks, cells_memos, rows_blocks, rows_memos}
-use Rattle.dbf_image.specs.declared.format.TheConstants.{MAX_RECORDS}
+use Rattle.dbf_image.specs.declared.format.TheConstants.{MAX_RECORDS, BLOCK}
 use Rattle.dbf_fields.specs.declared.format.TheConstants.{MEMO}
 
 joined_by : (f : Field) (fs : List Field) (cell rest : List ℕ) (memos : List (List ℕ)) (b : Bool) → eqb f.kind MEMO ≡ b
@@ -42,47 +43,33 @@ rows_joined fields (p ∷ ps) memos e =
     let there = rows_joined fields ps (drop n memos) (omega (arith, length-drop n memos)) in
     rw (here, there) (sym (flat_map-append block_bytes (take n memos) (drop n memos)) ∙ ap (flat_map block_bytes) (take-append-drop n memos))
 
--- ---- how many blocks they are
-
-counted_by : (f : Field) (fs : List Field) (cell rest : List ℕ) (memos : List (List ℕ)) (b : Bool) → eqb f.kind MEMO ≡ b
-    → ((m : List (List ℕ)) → memo_count fs ≤ length m → cells_blocks fs (cells_with fs rest m) ≡ sum_by blocks_of (take (memo_count fs) m))
-    → cond b (suc (memo_count fs)) (memo_count fs) ≤ length memos
-    → cells_blocks (f ∷ fs) (cond b (first_memo memos ∷ cells_with fs rest (drop 1 memos)) (cell ∷ cells_with fs rest memos)) ≡ sum_by blocks_of (take (cond b (suc (memo_count fs)) (memo_count fs)) memos)
-counted_by f fs cell rest [] true e ih room = absurd (omega arith)
-counted_by f fs cell rest (t ∷ ts) true e ih room =
-    rw e (ap (λ (n : ℕ). blocks_of t + n) (ih ts (omega arith)) ∙ sym (sum_by-cons blocks_of t (take (memo_count fs) ts)))
-counted_by f fs cell rest memos false e ih room = rw e (omega (arith, ih memos room))
-
-cells_counted : (fields : List Field) (bytes : List ℕ) (memos : List (List ℕ)) → memo_count fields ≤ length memos
-    → cells_blocks fields (cells_with fields bytes memos) ≡ sum_by blocks_of (take (memo_count fields) memos)
-cells_counted [] bytes memos room = refl
-cells_counted (f ∷ fs) bytes memos room = counted_by f fs (take f.width bytes) (drop f.width bytes) memos (eqb f.kind MEMO) refl (cells_counted fs (drop f.width bytes)) room
-
-rows_counted : (fields : List Field) (ps memos : List (List ℕ)) → length memos ≡ length ps * memo_count fields → rows_blocks fields (rows_with fields ps memos) ≡ sum_by blocks_of memos
-rows_counted fields [] memos e = rw (nil_from_length memos (omega arith)) refl
-rows_counted fields (p ∷ ps) memos e =
-    let n : ℕ = memo_count fields in
-    let here = cells_counted fields (drop 1 p) memos (omega arith) in
-    let there = rows_counted fields ps (drop n memos) (omega (arith, length-drop n memos)) in
-    rw (here, there) (sum_by-take-drop blocks_of memos n)
-
 -- ---- texts by their spans
-
-counted_spans : (texts : List ℕ) (spans : List Span) → sum_by blocks_of (texts_of texts spans) ≡ sum_by (λ s. blocks_of (text_of texts s)) spans
-counted_spans texts [] = refl
-counted_spans texts (s ∷ ss) =
-    let here : sum_by blocks_of (texts_of texts (s ∷ ss)) ≡ blocks_of (text_of texts s) + sum_by blocks_of (texts_of texts ss) = sum_by-cons blocks_of (text_of texts s) (texts_of texts ss) in
-    let there : sum_by (λ (x : Span). blocks_of (text_of texts x)) (s ∷ ss) ≡ blocks_of (text_of texts s) + sum_by (λ (x : Span). blocks_of (text_of texts x)) ss = sum_by-cons (λ (x : Span). blocks_of (text_of texts x)) s ss in
-    omega (arith, here, there, counted_spans texts ss)
 
 many_texts : (fields : List Field) (count : ℕ) (bytes texts : List ℕ) (spans : List Span) → length spans ≡ count * memo_count fields
     → length (texts_of texts spans) ≡ length (chunks (1 + widths fields) count bytes) * memo_count fields
 many_texts fields count bytes texts spans many = length-map spans (text_of texts) ∙ many ∙ ap (λ (n : ℕ). n * memo_count fields) (sym (length-chunks (1 + widths fields) count bytes))
 
+pub store_memos : (fields : List Field) (count : ℕ) (bytes texts : List ℕ) (spans : List Span) → length spans ≡ count * memo_count fields
+    → rows_memos fields (rows_of fields count bytes (texts_of texts spans)) ≡ flat_map (λ s. block_bytes (text_of texts s)) spans
+store_memos fields count bytes texts spans many =
+    rows_joined fields (chunks (1 + widths fields) count bytes) (texts_of texts spans) (many_texts fields count bytes texts spans many) ∙ flat_map-map block_bytes (text_of texts) spans
+
+length-rows_memos : (fields : List Field) (rows : List Row) → length (rows_memos fields rows) ≡ BLOCK * rows_blocks fields rows
+length-rows_memos fields [] = refl
+length-rows_memos fields (r ∷ rs) = omega (arith, length-append (cells_memos fields r.cells) (rows_memos fields rs), length-cells_memos fields r.cells, length-rows_memos fields rs)
+
+length-blocks : (texts : List ℕ) (spans : List Span) → length (flat_map (λ s. block_bytes (text_of texts s)) spans) ≡ BLOCK * sum_by (λ s. blocks_of (text_of texts s)) spans
+length-blocks texts [] = refl
+length-blocks texts (s ∷ ss) =
+    let later : List ℕ = flat_map (λ (x : Span). block_bytes (text_of texts x)) ss in
+    let sum = sum_by-cons (λ (x : Span). blocks_of (text_of texts x)) s ss in
+    omega (arith, sum, length-append (block_bytes (text_of texts s)) later, length-block (text_of texts s), length-blocks texts ss)
+
 pub store_blocks : (fields : List Field) (count : ℕ) (bytes texts : List ℕ) (spans : List Span) → length spans ≡ count * memo_count fields
     → rows_blocks fields (rows_of fields count bytes (texts_of texts spans)) ≡ sum_by (λ s. blocks_of (text_of texts s)) spans
 store_blocks fields count bytes texts spans many =
-    rows_counted fields (chunks (1 + widths fields) count bytes) (texts_of texts spans) (many_texts fields count bytes texts spans many) ∙ counted_spans texts spans
+    let same = ap (length {A = ℕ}) (store_memos fields count bytes texts spans many) in
+    omega (arith, same, length-rows_memos fields (rows_of fields count bytes (texts_of texts spans)), length-blocks texts spans)
 
 pub next_read : (next : ℕ) (fields : List Field) (rows : List Row) (count : ℕ) (bytes texts : List ℕ) (spans : List Span) → length spans ≡ count * memo_count fields
     → rows ≡ rows_of fields count bytes (texts_of texts spans) → next ≡ 1 + sum_by (λ s. blocks_of (text_of texts s)) spans → next ≡ 1 + rows_blocks fields rows
@@ -93,11 +80,6 @@ free_some next free is le = rw (← is, le-leb next 4294967295 le) refl
 
 pub free_none : (next free : ℕ) → next ≡ free → 4294967295 < next → None ≡ cond (leb free 4294967295) (Some free) None
 free_none next free is over = rw (← is, lt-leb next 4294967295 over) refl
-
-pub store_memos : (fields : List Field) (count : ℕ) (bytes texts : List ℕ) (spans : List Span) → length spans ≡ count * memo_count fields
-    → rows_memos fields (rows_of fields count bytes (texts_of texts spans)) ≡ flat_map (λ s. block_bytes (text_of texts s)) spans
-store_memos fields count bytes texts spans many =
-    rows_joined fields (chunks (1 + widths fields) count bytes) (texts_of texts spans) (many_texts fields count bytes texts spans many) ∙ flat_map-map block_bytes (text_of texts) spans
 
 pub memos_read : (fields : List Field) (rows : List Row) (count : ℕ) (bytes texts : List ℕ) (spans : List Span) → length spans ≡ count * memo_count fields
     → rows ≡ rows_of fields count bytes (texts_of texts spans) → flat_map (λ s. block_bytes (text_of texts s)) spans ≡ rows_memos fields rows

@@ -1,7 +1,7 @@
 -- The rows of a table's store: how many there are, and that they fit the fields.
-use Rattle.std.proofs.Common.{◌≡◌, ℕ, zero, suc, ◌+◌, ◌*◌, ◌≤◌, Bool, true, false, cond, eqb, List, [], ◌∷◌, length, take, drop, refl, ap, ◌∙◌, add-one, arith}
+use Rattle.std.proofs.Common.{◌≡◌, ℕ, zero, suc, ◌+◌, ◌*◌, ◌≤◌, Bool, true, false, cond, eqb, List, [], ◌∷◌, length, take, drop, refl, ap, ◌∙◌, add-one, arith, inl, inr}
 use Rattle.std.specs.List.{AllByRecursion}
-use Rattle.std.proofs.lemmas.Bool.{eqb-true, eqb-false}
+use Rattle.std.proofs.lemmas.Bool.{eqb-true, eqb-false, cases_Bool}
 use Rattle.std.proofs.lemmas.List.{take-take, drop-take, length-take, length-drop, length-take-le}
 use Rattle.std.proofs.lemmas.List.Sums.{sum_by-cons}
 use Rattle.dbf_fields.specs.declared.field.Field.{Field}
@@ -41,17 +41,10 @@ first_text : (memos : List (List ℕ)) → AreTexts memos → is_memo_text (firs
 first_text [] h = refl
 first_text (t ∷ ts) h = h.0
 
-texts_drop : (n : ℕ) (memos : List (List ℕ)) → AreTexts memos → AreTexts (drop n memos)
-texts_drop zero memos h = h
-texts_drop (suc n) [] h = tt
-texts_drop (suc n) (t ∷ ts) h = texts_drop n ts h.1
-
-cells_fit_by : (f : Field) (fs : List Field) (cell rest : List ℕ) (memos : List (List ℕ)) (b : Bool) → eqb f.kind MEMO ≡ b → length cell ≡ f.width → AreTexts memos
-    → ((m : List (List ℕ)) → AreTexts m → AreCells fs (cells_with fs rest m))
-    → AreCells (f ∷ fs) (cond b (first_memo memos ∷ cells_with fs rest (drop 1 memos)) (cell ∷ cells_with fs rest memos))
-cells_fit_by f fs cell rest memos true e wide texts ih =
-    ((λ kind. first_text memos texts, λ other. absurd (other (eqb-true f.kind MEMO e))), ih (drop 1 memos) (texts_drop 1 memos texts))
-cells_fit_by f fs cell rest memos false e wide texts ih = ((λ kind. absurd (eqb-false f.kind MEMO e kind), λ other. wide), ih memos texts)
+pub all_drop : {X : Type 0} (P : X → Type 0) (xs : List X) (n : ℕ) → AllByRecursion P xs → AllByRecursion P (drop n xs)
+all_drop P xs zero h = h
+all_drop P [] (suc n) h = tt
+all_drop P (x ∷ xs) (suc n) h = all_drop P xs n h.1
 
 pub cells_fit : (fields : List Field) (bytes : List ℕ) (memos : List (List ℕ)) → widths fields ≤ length bytes → AreTexts memos → AreCells fields (cells_with fields bytes memos)
 cells_fit [] bytes memos room texts = tt
@@ -59,7 +52,10 @@ cells_fit (f ∷ fs) bytes memos room texts =
     let sum : widths (f ∷ fs) ≡ f.width + widths fs = sum_by-cons (λ (g : Field). g.width) f fs in
     let here : length (take f.width bytes) ≡ f.width = length-take-le f.width bytes (omega arith) in
     let left : widths fs ≤ length (drop f.width bytes) = omega (arith, length-drop f.width bytes) in
-    cells_fit_by f fs (take f.width bytes) (drop f.width bytes) memos (eqb f.kind MEMO) refl here texts (λ m h. cells_fit fs (drop f.width bytes) m left h)
+    elim (cases_Bool (eqb f.kind MEMO)) [
+      | inl e ↦ rw e ((λ kind. first_text memos texts, λ other. absurd (other (eqb-true f.kind MEMO e))), cells_fit fs (drop f.width bytes) (drop 1 memos) left (all_drop _ memos 1 texts))
+      | inr e ↦ rw e ((λ kind. absurd (eqb-false f.kind MEMO e kind), λ other. here), cells_fit fs (drop f.width bytes) memos left texts)
+    ]
 
 pub rows_fit : (fields : List Field) (size n : ℕ) (bytes : List ℕ) (memos : List (List ℕ)) → size ≡ 1 + widths fields → n * size ≤ length bytes → AreTexts memos
     → AllByRecursion (IsRow fields) (rows_with fields (chunks size n bytes) memos)
@@ -69,7 +65,7 @@ rows_fit fields size (suc n) bytes memos wide room texts =
     let left = length-drop size bytes in
     let long = length-take size bytes in
     let here = cells_fit fields (drop 1 (take size bytes)) memos (omega (arith, length-drop 1 (take size bytes))) texts in
-    (here, rows_fit fields size n (drop size bytes) (drop (memo_count fields) memos) wide (omega arith) (texts_drop (memo_count fields) memos texts))
+    (here, rows_fit fields size n (drop size bytes) (drop (memo_count fields) memos) wide (omega arith) (all_drop _ memos (memo_count fields) texts))
 
 pub store_texts : (texts : List ℕ) (spans : List Span) → AllByRecursion (IsSpan texts) spans → AreTexts (texts_of texts spans)
 store_texts texts [] h = tt

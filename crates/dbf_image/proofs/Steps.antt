@@ -1,6 +1,7 @@
 -- One more cell, and one more record, of those that are written from the next free block on.
+use Rattle.std.proofs.lemmas.Bool.{cases_Bool}
 use Rattle.dbf_image.proofs.Edits.{cells_front}
-use Rattle.std.proofs.Common.{◌≡◌, ℕ, zero, suc, ◌+◌, ◌-◌, ◌*◌, ◌<◌, Bool, true, false, cond, eqb, List, [], ◌∷◌, ◌++◌, length, take, drop, get_or, refl, sym, ap, ◌∙◌, arith}
+use Rattle.std.proofs.Common.{◌≡◌, ℕ, zero, suc, ◌+◌, ◌-◌, ◌*◌, ◌<◌, Bool, true, false, cond, eqb, List, [], ◌∷◌, ◌++◌, length, take, drop, get_or, refl, sym, ap, ◌∙◌, arith, inl, inr}
 use Rattle.std.specs.Prelude.{flat_map}
 use Rattle.std.specs.List.{AllByRecursion}
 use Rattle.std.proofs.lemmas.List.{drop_more, take-map, drop-map, take-append-drop, length-drop}
@@ -15,46 +16,28 @@ use Rattle.dbf_image.specs.Blocks.{cell_bytes, cell_blocks, cells_bytes, cells_b
 use Rattle.dbf_image.specs.Image.{row_bytes, rows_bytes}
 use Rattle.dbf_fields.specs.declared.format.TheConstants.{MEMO}
 
-pub all_drop : {X : Type 0} (P : X → Type 0) (xs : List X) (n : ℕ) → AllByRecursion P xs → AllByRecursion P (drop n xs)
-all_drop P [] zero h = tt
-all_drop P [] (suc n) h = tt
-all_drop P (x ∷ xs) zero h = h
-all_drop P (x ∷ xs) (suc n) h = all_drop P xs n h.1
-
 -- ---- cells
 
 -- the cell of the first field
 abbrev pub first_cell : Field → List ℕ → List ℕ → List Span → List ℕ
 first_cell f bytes texts spans = cond (eqb f.kind MEMO) (first_memo (texts_of texts spans)) bytes
 
-count_by : (f : Field) (fs : List Field) (b : Bool) → eqb f.kind MEMO ≡ b → memo_count (f ∷ fs) ≡ memo_count (f ∷ []) + memo_count fs
-count_by f fs true e = rw e (omega arith)
-count_by f fs false e = rw e (omega arith)
-
 pub count_first : (f : Field) (fs : List Field) → memo_count (f ∷ fs) ≡ memo_count (f ∷ []) + memo_count fs
-count_first f fs = count_by f fs (eqb f.kind MEMO) refl
-
-bytes_by : (f : Field) (fs : List Field) (rest texts : List ℕ) (spans : List Span) (next : ℕ) (b : Bool) → eqb f.kind MEMO ≡ b
-    → cells_bytes next (f ∷ fs) (cells_with (f ∷ fs) rest (texts_of texts spans))
-    ≡ cell_bytes next f (first_cell f (take f.width rest) texts (take (memo_count (f ∷ [])) spans))
-    ++ cells_bytes (next + cell_blocks f (first_cell f (take f.width rest) texts (take (memo_count (f ∷ [])) spans))) fs (cells_with fs (drop f.width rest) (texts_of texts (drop (memo_count (f ∷ [])) spans)))
-bytes_by f fs rest texts [] next true e = rw e (rw e refl)
-bytes_by f fs rest texts (s ∷ ss) next true e = rw e (rw e refl)
-bytes_by f fs rest texts spans next false e = rw e (rw e refl)
+count_first f fs = elim (cases_Bool (eqb f.kind MEMO)) [ inl e ↦ rw e (omega arith) | inr e ↦ rw e (omega arith) ]
 
 pub bytes_first : (f : Field) (fs : List Field) (rest texts : List ℕ) (spans : List Span) (next : ℕ)
     → cells_bytes next (f ∷ fs) (cells_with (f ∷ fs) rest (texts_of texts spans))
     ≡ cell_bytes next f (first_cell f (take f.width rest) texts (take (memo_count (f ∷ [])) spans))
     ++ cells_bytes (next + cell_blocks f (first_cell f (take f.width rest) texts (take (memo_count (f ∷ [])) spans))) fs (cells_with fs (drop f.width rest) (texts_of texts (drop (memo_count (f ∷ [])) spans)))
-bytes_first f fs rest texts spans next = bytes_by f fs rest texts spans next (eqb f.kind MEMO) refl
+bytes_first f fs rest texts [] next = elim (cases_Bool (eqb f.kind MEMO)) [ inl e ↦ rw e (rw e refl) | inr e ↦ rw e (rw e refl) ]
+bytes_first f fs rest texts (s ∷ ss) next = elim (cases_Bool (eqb f.kind MEMO)) [ inl e ↦ rw e (rw e refl) | inr e ↦ rw e (rw e refl) ]
 
-blocks_by : (f : Field) (fs : List Field) (rest texts : List ℕ) (spans : List Span) (b : Bool) → eqb f.kind MEMO ≡ b
+blocks_first : (f : Field) (fs : List Field) (rest texts : List ℕ) (spans : List Span)
     → cells_blocks (f ∷ fs) (cells_with (f ∷ fs) rest (texts_of texts spans))
     ≡ cell_blocks f (first_cell f (take f.width rest) texts (take (memo_count (f ∷ [])) spans))
     + cells_blocks fs (cells_with fs (drop f.width rest) (texts_of texts (drop (memo_count (f ∷ [])) spans)))
-blocks_by f fs rest texts [] true e = rw e (rw e refl)
-blocks_by f fs rest texts (s ∷ ss) true e = rw e (rw e refl)
-blocks_by f fs rest texts spans false e = rw e (rw e refl)
+blocks_first f fs rest texts [] = elim (cases_Bool (eqb f.kind MEMO)) [ inl e ↦ rw e (rw e refl) | inr e ↦ rw e (rw e refl) ]
+blocks_first f fs rest texts (s ∷ ss) = elim (cases_Bool (eqb f.kind MEMO)) [ inl e ↦ rw e (rw e refl) | inr e ↦ rw e (rw e refl) ]
 
 -- what is left of the cells and of their blocks
 abbrev pub left_bytes : ℕ → List Field → List ℕ → List ℕ → List Span → List ℕ
@@ -82,42 +65,35 @@ module _ (fields : List Field) (i : ℕ) (f : Field) (lt : i < length fields) (i
       → next + left_blocks (drop i fields) rest texts spans
       ≡ (next + cell_blocks f cell) + left_blocks (drop (i + 1) fields) (drop f.width rest) texts (drop (memo_count (f ∷ [])) spans)
   blocks-next rest texts spans next cell c =
-      let step = blocks_by f (drop (i + 1) fields) rest texts spans (eqb f.kind MEMO) refl in
+      let step = blocks_first f (drop (i + 1) fields) rest texts spans in
       rw (here, c) (omega (arith, step))
 
 -- ---- cells without memos are the bytes as they are
-
-plain_by : (f : Field) (fs : List Field) (bytes : List ℕ) (memos : List (List ℕ)) (next : ℕ) (b : Bool) → eqb f.kind MEMO ≡ b → memo_count (f ∷ fs) ≡ 0 → length bytes ≡ widths (f ∷ fs)
-    → ((rest : List ℕ) (n : ℕ) → memo_count fs ≡ 0 → length rest ≡ widths fs → cells_bytes n fs (cells_with fs rest memos) ≡ rest)
-    → cells_bytes next (f ∷ fs) (cells_with (f ∷ fs) bytes memos) ≡ bytes
-plain_by f fs bytes memos next true e none long ih =
-    let some : suc (memo_count fs) ≡ 0 = rw e at none in
-    absurd (omega (arith, some))
-plain_by f fs bytes memos next false e none long ih =
-    let less : memo_count fs ≡ 0 = rw e at none in
-    let sum : widths (f ∷ fs) ≡ f.width + widths fs = sum_by-cons (λ (g : Field). g.width) f fs in
-    let there = ih (drop f.width bytes) (next + 0) less (omega (arith, length-drop f.width bytes, sum)) in
-    rw e (rw e (rw there (take-append-drop f.width bytes)))
 
 pub plain_bytes : (fields : List Field) (bytes : List ℕ) (memos : List (List ℕ)) (next : ℕ) → memo_count fields ≡ 0 → length bytes ≡ widths fields
     → cells_bytes next fields (cells_with fields bytes memos) ≡ bytes
 plain_bytes [] [] memos next none long = refl
 plain_bytes [] (b ∷ bs) memos next none long = absurd (omega arith)
-plain_bytes (f ∷ fs) bytes memos next none long = plain_by f fs bytes memos next (eqb f.kind MEMO) refl none long (λ rest n. plain_bytes fs rest memos n)
-
-plain_count_by : (f : Field) (fs : List Field) (bytes : List ℕ) (memos : List (List ℕ)) (b : Bool) → eqb f.kind MEMO ≡ b → memo_count (f ∷ fs) ≡ 0
-    → ((rest : List ℕ) → memo_count fs ≡ 0 → cells_blocks fs (cells_with fs rest memos) ≡ 0)
-    → cells_blocks (f ∷ fs) (cells_with (f ∷ fs) bytes memos) ≡ 0
-plain_count_by f fs bytes memos true e none ih =
+plain_bytes (f ∷ fs) bytes memos next none long = elim (cases_Bool (eqb f.kind MEMO)) [
+  | inl e ↦
     let some : suc (memo_count fs) ≡ 0 = rw e at none in
     absurd (omega (arith, some))
-plain_count_by f fs bytes memos false e none ih =
-    let less : memo_count fs ≡ 0 = rw e at none in
-    rw e (rw e (omega (arith, ih (drop f.width bytes) less)))
+  | inr e ↦
+    let sum : widths (f ∷ fs) ≡ f.width + widths fs = sum_by-cons (λ (g : Field). g.width) f fs in
+    let there = plain_bytes fs (drop f.width bytes) memos (next + 0) (rw e at none) (omega (arith, length-drop f.width bytes, sum)) in
+    rw e (rw e (rw there (take-append-drop f.width bytes)))
+]
 
 pub plain_blocks : (fields : List Field) (bytes : List ℕ) (memos : List (List ℕ)) → memo_count fields ≡ 0 → cells_blocks fields (cells_with fields bytes memos) ≡ 0
 plain_blocks [] bytes memos none = refl
-plain_blocks (f ∷ fs) bytes memos none = plain_count_by f fs bytes memos (eqb f.kind MEMO) refl none (λ rest. plain_blocks fs rest memos)
+plain_blocks (f ∷ fs) bytes memos none = elim (cases_Bool (eqb f.kind MEMO)) [
+  | inl e ↦
+    let some : suc (memo_count fs) ≡ 0 = rw e at none in
+    absurd (omega (arith, some))
+  | inr e ↦
+    let there = plain_blocks fs (drop f.width bytes) memos (rw e at none) in
+    rw e (rw e (omega (arith, there)))
+]
 
 -- ---- records
 

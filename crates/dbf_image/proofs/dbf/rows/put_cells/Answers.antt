@@ -1,7 +1,8 @@
+use Rattle.dbf_image.proofs.Rows.{all_drop}
 use Rattle.std.proofs.Common.{◌∙◌, sym, arith}
 use Rattle.dbf_image.specs.Store.{IsSpan}
 use Rattle.dbf_image.proofs.Puts.{more_left}
-use Rattle.dbf_image.proofs.Steps.{all_drop, widths-next, count-next, bytes-next, blocks-next}
+use Rattle.dbf_image.proofs.Steps.{widths-next, count-next, bytes-next, blocks-next}
 use Rattle.dbf_image.proofs.dbf.rows.put_cells.Goals as goal
 
 pub loop-field-preserved : goal.loop-field-preserved

@@ -1,8 +1,9 @@
+use Rattle.dbf_image.proofs.Rows.{all_drop}
 use Rattle.std.proofs.Common.{◌∙◌, arith}
 use Rattle.dbf_image.specs.Store.{IsSpan}
 use Rattle.dbf_image.proofs.Chunks.{room-next}
 use Rattle.dbf_image.proofs.Puts.{more_left}
-use Rattle.dbf_image.proofs.Steps.{all_drop, rows-next, less-next}
+use Rattle.dbf_image.proofs.Steps.{rows-next, less-next}
 use Rattle.dbf_image.proofs.dbf.rows.put_records.Goals as goal
 
 pub loop-preserved : goal.loop-preserved
