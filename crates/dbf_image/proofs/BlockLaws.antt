@@ -2,7 +2,7 @@
 use Rattle.std.proofs.Common.{◌≡◌, ◌≢◌, ℕ, zero, suc, ◌+◌, ◌-◌, ◌*◌, ◌/◌, ◌^◌, ◌<◌, ◌≤◌, Bool, true, false, cond, eqb, leb, not, List, [], ◌∷◌, ◌++◌, length, take, replicate, get_or, refl, sym, ap, ◌∙◌, inl, inr, append_assoc, lit<, arith}
 use Rattle.std.specs.Prelude.{◌⊎◌}
 use Rattle.std.specs.List.{AllByRecursion, before_first, position_or_len, list_all}
-use Rattle.std.proofs.lemmas.Bool.{and_parts, leb-true, eqb-true, eqb-false, ne_eqb, true≢false, not-true, cases_eq}
+use Rattle.std.proofs.lemmas.Bool.{and_parts, leb-true, eqb-true, eqb-false, ne_eqb, true≢false, not-true, cases_eq, cases_Bool}
 use Rattle.std.proofs.lemmas.List.{take_at, drop_at, get_or_at, get_or_append_left, length-append, length-replicate, take-replicate}
 use Rattle.std.proofs.lemmas.List.Sums.{position_or_len_is}
 use Rattle.dbf_fields.specs.declared.field.Field.{Field}
@@ -85,19 +85,14 @@ cell_again : (dbt front rest : List ℕ) (next : ℕ) (f : Field) (c : List ℕ)
 cell_again dbt front rest next f c is len some room h =
     (λ kind. rw (is, kind) (memo_again front rest next c len some (rw kind at room) (is_text c (h.0 kind))), λ other. rw (ne_eqb f.kind MEMO other) refl)
 
-length-by : (next : ℕ) (f : Field) (c : List ℕ) → (f.kind ≡ MEMO → f.width ≡ 10) → IsCell f c → (f.kind ≡ MEMO) ⊎ (f.kind ≢ MEMO) → length (cell_bytes next f c) ≡ f.width
-length-by next f c wide h (inl kind) = rw (kind, wide kind) (length-number next c)
-length-by next f c wide h (inr other) = rw (ne_eqb f.kind MEMO other) (h.1 other)
-
 pub length-cell : (next : ℕ) (f : Field) (c : List ℕ) → (f.kind ≡ MEMO → f.width ≡ 10) → IsCell f c → length (cell_bytes next f c) ≡ f.width
-length-cell next f c wide h = length-by next f c wide h (cases_eq f.kind MEMO)
-
-memo_by : (f : Field) (c : List ℕ) (b : Bool) → length (cond b (block_bytes c) []) ≡ BLOCK * cond b (blocks_of c) 0
-memo_by f c true = length-block c
-memo_by f c false = refl
+length-cell next f c wide h = elim (cases_eq f.kind MEMO) [
+  | inl kind ↦ rw (kind, wide kind) (length-number next c)
+  | inr other ↦ rw (ne_eqb f.kind MEMO other) (h.1 other)
+]
 
 length-memo : (f : Field) (c : List ℕ) → length (cell_memo f c) ≡ BLOCK * cell_blocks f c
-length-memo f c = memo_by f c (eqb f.kind MEMO)
+length-memo f c = elim (cases_Bool (eqb f.kind MEMO)) [ inl e ↦ rw e (length-block c) | inr e ↦ rw e refl ]
 
 pub cells_again : (fields : List Field) (cells : List (List ℕ)) (dbt front rest tail : List ℕ) (next : ℕ) → dbt ≡ front ++ (cells_memos fields cells ++ rest)
     → length front ≡ BLOCK * next → 0 < next → next + cells_blocks fields cells < 10 ^ 10

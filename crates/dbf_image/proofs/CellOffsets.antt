@@ -70,19 +70,17 @@ cell_here (f ∷ fs) (suc j) bytes d memos lt other =
       | inr e ↦ rw e (cell_here fs j (drop f.width bytes) d memos (omega arith) other)
     ])
 
-memo_by : (fs : List Field) (cell rest d : List ℕ) (memos : List (List ℕ)) (j k : ℕ) (b : Bool) → ((m : List (List ℕ)) → get_or (cells_with fs rest m) j d ≡ get_or m k [])
-    → get_or (cond b (first_memo memos ∷ cells_with fs rest (drop 1 memos)) (cell ∷ cells_with fs rest memos)) (suc j) d ≡ get_or memos (cond b (suc k) k) []
-memo_by fs cell rest d [] j k true ih = ih []
-memo_by fs cell rest d (t ∷ ts) j k true ih = ih ts
-memo_by fs cell rest d memos j k false ih = ih memos
-
 pub memo_here : (fields : List Field) (j : ℕ) (bytes d : List ℕ) (memos : List (List ℕ)) → j < length fields → kind_at fields j ≡ MEMO
     → get_or (cells_with fields bytes memos) j d ≡ get_or memos (memo_count (take j fields)) []
 memo_here [] j bytes d memos lt kind = absurd (omega arith)
 memo_here (f ∷ fs) zero bytes d [] lt kind = rw (eq-eqb f.kind MEMO kind) refl
 memo_here (f ∷ fs) zero bytes d (t ∷ ts) lt kind = rw (eq-eqb f.kind MEMO kind) refl
 memo_here (f ∷ fs) (suc j) bytes d memos lt kind =
-    memo_by fs (take f.width bytes) (drop f.width bytes) d memos j (memo_count (take j fs)) (eqb f.kind MEMO) (λ m. memo_here fs j (drop f.width bytes) d m (omega arith) kind)
+    let next : 1 + memo_count (take j fs) ≡ suc (memo_count (take j fs)) = omega arith in
+    elim (cases_Bool (eqb f.kind MEMO)) [
+      | inl e ↦ rw e (memo_here fs j (drop f.width bytes) d (drop 1 memos) (omega arith) kind ∙ get_or-drop 1 memos (memo_count (take j fs)) [] ∙ ap (λ (n : ℕ). get_or memos n []) next)
+      | inr e ↦ rw e (memo_here fs j (drop f.width bytes) d memos (omega arith) kind)
+    ]
 
 pub cell_within : (fields : List Field) (j : ℕ) → j < length fields → widths (take j fields) + width_of fields j ≤ widths fields
 cell_within [] j lt = absurd (omega arith)

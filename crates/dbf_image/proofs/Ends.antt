@@ -1,8 +1,8 @@
 -- Where texts end.
-use Rattle.std.proofs.Common.{◌≡◌, ℕ, suc, ◌+◌, ◌-◌, ◌<◌, ◌≤◌, Bool, true, false, cond, eqb, Option, Some, None, List, [], ◌∷◌, length, take, drop, refl, sym, ap, ◌∙◌, arith}
+use Rattle.std.proofs.Common.{◌≡◌, ℕ, suc, ◌+◌, ◌-◌, ◌<◌, ◌≤◌, Bool, true, false, cond, eqb, Option, Some, None, List, [], ◌∷◌, length, take, drop, refl, sym, ap, ◌∙◌, arith, inl, inr}
 use Rattle.std.specs.Prelude.{not, unwrap_or}
 use Rattle.std.specs.List.{position_or_len, prefix_len, list_all}
-use Rattle.std.proofs.lemmas.Bool.{cond-true, cond-false, eq-eqb, ne_eqb, false_from_ne_true}
+use Rattle.std.proofs.lemmas.Bool.{cond-true, cond-false, eq-eqb, ne_eqb, false_from_ne_true, cases_Bool}
 use Rattle.std.proofs.lemmas.List.{take-append-drop, drop-take, drop-drop, length-take-le, length-drop}
 use Rattle.std.proofs.lemmas.List.Folds.{prefix_len-append}
 use Rattle.std.proofs.lemmas.List.Sums.{prefix_len-le-length, position_or_len_is}
@@ -54,13 +54,8 @@ end_after dbt from to end order inside known all =
     end_split k xs ∙ cond-true _ _ _ (eq-eqb _ _ all') ∙ ap (λ (n : ℕ). n + position_or_len ends_text (drop k xs)) long ∙ ap (λ (ys : List ℕ). k + position_or_len ends_text ys) rest in
     omega (arith, known, here)
 
--- what stands before the first end has none
-prefix_by : (q : ℕ → Bool) (x k : ℕ) (xs : List ℕ) (b : Bool) → q x ≡ b → list_all q (take k xs) ≡ true → list_all q (take (cond b (1 + k) 0) (x ∷ xs)) ≡ true
-prefix_by q x k xs true e h =
-    let s : 1 + k ≡ suc k = omega arith in
-    rw (s, e) h
-prefix_by q x k xs false e h = refl
-
 pub prefix_all : (q : ℕ → Bool) (xs : List ℕ) → list_all q (take (prefix_len q xs) xs) ≡ true
 prefix_all q [] = refl
-prefix_all q (x ∷ xs) = prefix_by q x (prefix_len q xs) xs (q x) refl (prefix_all q xs)
+prefix_all q (x ∷ xs) =
+    let s : 1 + prefix_len q xs ≡ suc (prefix_len q xs) = omega arith in
+    elim (cases_Bool (q x)) [ inl e ↦ rw e (rw (s, e) (prefix_all q xs)) | inr e ↦ rw e refl ]

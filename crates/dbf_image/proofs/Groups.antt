@@ -1,4 +1,5 @@
 -- What the groups of tests say, one after the other.
+use Rattle.std.proofs.lemmas.Option.{same_Some}
 use Rattle.std.proofs.Common.{◌≡◌, ℕ, ◌-◌, Bool, true, false, cond, List, [], ◌∷◌, ◌++◌, length, map, take, drop, Option, Some, None, refl, sym, ◌∙◌, inl, inr}
 use Rattle.std.specs.Prelude.{is_none, is_some, ◌⊎◌}
 use Rattle.std.proofs.lemmas.List.{take_rest}
@@ -26,19 +27,16 @@ fields_fail bytes count fault e (inr h) = inr (rw (h.1, h.0, ← e) refl)
 
 -- ---- what is tested before memory is taken
 
-some_same : {F : Type 0} (x y : F) → Some x ≡ Some y → x ≡ y
-some_same x y e = cc
-
 pub none_some : {F : Type 0} (o : Option F) (x : F) (P : Type 0) → o ≡ None → o ≡ Some x → P
 none_some o x P none some = absurd cc
 
 early_count : (o : Option ℕ) (fault first : ImageFault) → (o ≡ None → fault ≡ BadHeaderLength) → cond (is_some o) None (Some BadHeaderLength) ≡ Some first → fault ≡ first
-early_count None fault first answers is = answers refl ∙ some_same _ _ is
+early_count None fault first answers is = answers refl ∙ same_Some _ _ is
 early_count (Some n) fault first answers is = absurd cc
 
 pub early_by_header : (bytes : List ℕ) (fault first : ImageFault) → first_fault (header_tests bytes) ≡ Some fault → early_refusal bytes ≡ Some first → fault ≡ first
 unfolding early_refusal
-early_by_header bytes fault first h is = some_same _ _ (sym (first_before (header_tests bytes) _ fault h) ∙ is)
+early_by_header bytes fault first h is = same_Some _ _ (sym (first_before (header_tests bytes) _ fault h) ∙ is)
 
 pub early_by_fields : (bytes : List ℕ) (fault first : ImageFault) → first_fault (header_tests bytes) ≡ None → (field_count bytes ≡ None → fault ≡ BadHeaderLength) → early_refusal bytes ≡ Some first → fault ≡ first
 unfolding early_refusal

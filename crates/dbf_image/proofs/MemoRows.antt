@@ -1,9 +1,9 @@
 -- The texts where the reader finds them are those that the records' cells tell.
 use Rattle.std.proofs.Math.Bool.{or-true}
-use Rattle.std.proofs.Common.{◌≡◌, ℕ, suc, ◌+◌, ◌*◌, Bool, true, false, cond, eqb, leb, List, [], ◌∷◌, ◌++◌, length, map, take, drop, Option, Some, None, refl, ap, ◌∙◌, arith}
+use Rattle.std.proofs.Common.{◌≡◌, ℕ, suc, ◌+◌, ◌*◌, Bool, true, false, cond, eqb, leb, List, [], ◌∷◌, ◌++◌, length, map, take, drop, Option, Some, None, refl, ap, ◌∙◌, arith, inl, inr}
 use Rattle.std.specs.Prelude.{flat_map, not, ◌||◌, is_some, unwrap_or}
 use Rattle.std.specs.List.{AllByRecursion, list_all}
-use Rattle.std.proofs.lemmas.Bool.{le-leb, cond-true, or_parts, and_from}
+use Rattle.std.proofs.lemmas.Bool.{le-leb, cond-true, or_parts, and_from, cases_Bool}
 use Rattle.std.proofs.lemmas.List.{drop_at, length-map, length-append, length-drop, map-append}
 use Rattle.dbf_fields.specs.declared.field.Field.{Field}
 use Rattle.dbf_fields.specs.Faults.{first_fault}
@@ -27,38 +27,24 @@ use Rattle.dbf_fields.specs.declared.format.TheConstants.{MEMO}
 
 -- ---- what stands there
 
-span_by : (dbt : List ℕ) (n : ℕ) (b : Bool) → text_of dbt (cond b no_span (span_of dbt n)) ≡ cond b [] (memo_at dbt n)
-span_by dbt n true = refl
-span_by dbt n false = refl
-
 span_text : (dbt cell : List ℕ) → text_of dbt (memo_span dbt cell) ≡ memo_text dbt cell
 unfolding memo_span memo_text
-span_text dbt cell = span_by dbt (unwrap_or (memo_number cell) 0) (eqb (unwrap_or (memo_number cell) 0) 0)
-
-cells_by : (dbt : List ℕ) (fs : List Field) (cell rest text : List ℕ) (span : Span) (more : List (List ℕ)) (b : Bool) → text_of dbt span ≡ text
-    → ((m : List (List ℕ)) → cells_with fs rest (texts_of dbt (cells_spans dbt fs rest) ++ m) ≡ cells_read dbt fs rest)
-    → cond b (first_memo (texts_of dbt (cond b (span ∷ []) [] ++ cells_spans dbt fs rest) ++ more) ∷ cells_with fs rest (drop 1 (texts_of dbt (cond b (span ∷ []) [] ++ cells_spans dbt fs rest) ++ more)))
-    (cell ∷ cells_with fs rest (texts_of dbt (cond b (span ∷ []) [] ++ cells_spans dbt fs rest) ++ more)) ≡ cond b text cell ∷ cells_read dbt fs rest
-cells_by dbt fs cell rest text span more true e ih =
-    ap (λ (t : List ℕ). t ∷ cells_with fs rest (texts_of dbt (cells_spans dbt fs rest) ++ more)) e ∙ ap (λ (x : List (List ℕ)). text ∷ x) (ih more)
-cells_by dbt fs cell rest text span more false e ih = ap (λ (x : List (List ℕ)). cell ∷ x) (ih more)
+span_text dbt cell = elim (cases_Bool (eqb (unwrap_or (memo_number cell) 0) 0)) [ inl e ↦ rw e refl | inr e ↦ rw e refl ]
 
 cells_view : (dbt : List ℕ) (fields : List Field) (bytes : List ℕ) (more : List (List ℕ)) → cells_with fields bytes (texts_of dbt (cells_spans dbt fields bytes) ++ more) ≡ cells_read dbt fields bytes
 unfolding cell_spans cell_text
 cells_view dbt [] bytes more = refl
-cells_view dbt (f ∷ fs) bytes more =
-    cells_by dbt fs (take f.width bytes) (drop f.width bytes) (memo_text dbt (take f.width bytes)) (memo_span dbt (take f.width bytes)) more (eqb f.kind MEMO)
-    (span_text dbt (take f.width bytes)) (cells_view dbt fs (drop f.width bytes))
-
-count_by : (span : Span) (spans : List Span) (n : ℕ) (b : Bool) → length spans ≡ n → length (cond b (span ∷ []) [] ++ spans) ≡ cond b (suc n) n
-count_by span spans n true e = ap suc e
-count_by span spans n false e = e
+cells_view dbt (f ∷ fs) bytes more = elim (cases_Bool (eqb f.kind MEMO)) [
+  | inl e ↦ rw e (rw (span_text dbt (take f.width bytes), cells_view dbt fs (drop f.width bytes) more) refl)
+  | inr e ↦ rw e (rw (cells_view dbt fs (drop f.width bytes) more) refl)
+]
 
 length-spans : (dbt : List ℕ) (fields : List Field) (bytes : List ℕ) → length (cells_spans dbt fields bytes) ≡ memo_count fields
 unfolding cell_spans
 length-spans dbt [] bytes = refl
 length-spans dbt (f ∷ fs) bytes =
-    count_by (memo_span dbt (take f.width bytes)) (cells_spans dbt fs (drop f.width bytes)) (memo_count fs) (eqb f.kind MEMO) (length-spans dbt fs (drop f.width bytes))
+    let there = length-spans dbt fs (drop f.width bytes) in
+    elim (cases_Bool (eqb f.kind MEMO)) [ inl e ↦ rw e (ap suc there) | inr e ↦ rw e there ]
 
 pub rows_view : (dbt : List ℕ) (fields : List Field) (ps : List (List ℕ)) → rows_with fields ps (texts_of dbt (flat_map (row_spans dbt fields) ps)) ≡ map (row_read dbt fields) ps
 rows_view dbt fields [] = refl
@@ -95,13 +81,9 @@ unfolding memo_tests memo_span
 span_fits dbt cell h =
     fits_by dbt (unwrap_or (memo_number cell) 0) (eqb (unwrap_or (memo_number cell) 0) 0) (passed (is_some (memo_number cell)) _ BadMemoNumber h).1
 
-cell_fits_by : (dbt cell : List ℕ) (b : Bool) → first_fault (cond b (memo_tests dbt cell) []) ≡ None → AllByRecursion (IsSpan dbt) (cond b (memo_span dbt cell ∷ []) [])
-cell_fits_by dbt cell true h = (span_fits dbt cell h, tt)
-cell_fits_by dbt cell false h = tt
-
 cell_fits : (dbt : List ℕ) (f : Field) (cell : List ℕ) → first_fault (cell_tests dbt f cell) ≡ None → AllByRecursion (IsSpan dbt) (cell_spans dbt f cell)
 unfolding cell_tests cell_spans
-cell_fits dbt f cell h = cell_fits_by dbt cell (eqb f.kind MEMO) h
+cell_fits dbt f cell h = elim (cases_Bool (eqb f.kind MEMO)) [ inl e ↦ rw e (span_fits dbt cell (rw e at h), tt) | inr e ↦ rw e tt ]
 
 spans_fit : (dbt : List ℕ) (fields : List Field) (bytes : List ℕ) → first_fault (cells_tests dbt fields bytes) ≡ None → AllByRecursion (IsSpan dbt) (cells_spans dbt fields bytes)
 spans_fit dbt [] bytes h = tt

@@ -1,7 +1,7 @@
 -- The tests of memos' cells and the layout say the same.
 use Rattle.std.proofs.Common.{◌≡◌, ◌≢◌, ℕ, ◌*◌, ◌≤◌, Bool, true, false, cond, eqb, leb, ltb, Result, Ok, Err, List, [], ◌∷◌, length, map, take, drop, Option, Some, None, refl, sym, ap, ◌∙◌, inl, inr, arith}
 use Rattle.std.specs.Prelude.{◌⊎◌, ◌&&◌, is_some, unwrap_or, flat_map, slice_index, IfOk, IfErr, MatchResult}
-use Rattle.std.proofs.lemmas.Bool.{eqb-true, eqb-false, ne_eqb, leb-true, le-leb, lt-ltb, ltb-true, and_parts, and_from}
+use Rattle.std.proofs.lemmas.Bool.{eqb-true, eqb-false, ne_eqb, leb-true, le-leb, lt-ltb, ltb-true, and_parts, and_from, cases_Bool}
 use Rattle.dbf_fields.specs.declared.field.Field.{Field}
 use Rattle.dbf_fields.specs.Faults.{first_fault}
 use Rattle.dbf_fields.proofs.SchemaLaws.{passed, passes}
@@ -82,21 +82,19 @@ ok_memo dbt cell text h = by_memo dbt text (memo_number cell) h
 
 -- ---- cells
 
-cell_ok_by : (dbt : List ℕ) (f : Field) (cell : List ℕ) (b : Bool) → eqb f.kind MEMO ≡ b → first_fault (cond b (memo_tests dbt cell) []) ≡ None → EncodesCell dbt f cell (cond b (memo_text dbt cell) cell)
-cell_ok_by dbt f cell true e h = (λ kind. memo_ok dbt cell h, λ other. absurd (other (eqb-true f.kind MEMO e)))
-cell_ok_by dbt f cell false e h = (λ kind. absurd (eqb-false f.kind MEMO e kind), λ other. refl)
-
 cell_ok : (dbt : List ℕ) (f : Field) (cell : List ℕ) → first_fault (cell_tests dbt f cell) ≡ None → EncodesCell dbt f cell (cell_text dbt f cell)
 unfolding cell_tests cell_text
-cell_ok dbt f cell h = cell_ok_by dbt f cell (eqb f.kind MEMO) refl h
-
-ok_cell_by : (dbt : List ℕ) (f : Field) (cell text : List ℕ) (b : Bool) → eqb f.kind MEMO ≡ b → EncodesCell dbt f cell text → (first_fault (cond b (memo_tests dbt cell) []) ≡ None) × (cond b (memo_text dbt cell) cell ≡ text)
-ok_cell_by dbt f cell text true e h = ok_memo dbt cell text (h.0 (eqb-true f.kind MEMO e))
-ok_cell_by dbt f cell text false e h = (refl, sym (h.1 (eqb-false f.kind MEMO e)))
+cell_ok dbt f cell h = elim (cases_Bool (eqb f.kind MEMO)) [
+  | inl e ↦ rw e (λ kind. memo_ok dbt cell (rw e at h), λ other. absurd (other (eqb-true f.kind MEMO e)))
+  | inr e ↦ rw e (λ kind. absurd (eqb-false f.kind MEMO e kind), λ other. refl)
+]
 
 ok_cell : (dbt : List ℕ) (f : Field) (cell text : List ℕ) → EncodesCell dbt f cell text → (first_fault (cell_tests dbt f cell) ≡ None) × (cell_text dbt f cell ≡ text)
 unfolding cell_tests cell_text
-ok_cell dbt f cell text h = ok_cell_by dbt f cell text (eqb f.kind MEMO) refl h
+ok_cell dbt f cell text h = elim (cases_Bool (eqb f.kind MEMO)) [
+  | inl e ↦ rw e (ok_memo dbt cell text (h.0 (eqb-true f.kind MEMO e)))
+  | inr e ↦ rw e (refl, sym (h.1 (eqb-false f.kind MEMO e)))
+]
 
 pub cells_ok : (dbt : List ℕ) (fields : List Field) (bytes : List ℕ) → first_fault (cells_tests dbt fields bytes) ≡ None → EncodesCells dbt fields bytes (cells_read dbt fields bytes)
 cells_ok dbt [] bytes h = tt

@@ -1,9 +1,9 @@
 -- The block numbers that are written are read.
-use Rattle.std.proofs.Common.{◌≡◌, ◌≢◌, ℕ, zero, suc, ◌+◌, ◌-◌, ◌*◌, ◌/◌, ◌%◌, ◌^◌, ◌<◌, Bool, true, false, cond, eqb, List, [], ◌∷◌, ◌++◌, length, drop, set, Some, refl, sym, ap, ◌∙◌, append_assoc, arith}
+use Rattle.std.proofs.Common.{◌≡◌, ◌≢◌, ℕ, zero, suc, ◌+◌, ◌-◌, ◌*◌, ◌/◌, ◌%◌, ◌^◌, ◌<◌, Bool, true, false, cond, eqb, List, [], ◌∷◌, ◌++◌, length, drop, set, Some, refl, sym, ap, ◌∙◌, append_assoc, arith, inl, inr}
 use Rattle.std.specs.Prelude.{reverse}
 use Rattle.std.specs.List.{list_all}
 use Rattle.std.specs.Char.{is_ascii_digit}
-use Rattle.std.proofs.lemmas.Bool.{eqb-true, eqb-false, ne_eqb, le-leb}
+use Rattle.std.proofs.lemmas.Bool.{eqb-true, eqb-false, ne_eqb, le-leb, cases_Bool, cases_eq, eq-eqb}
 use Rattle.std.proofs.lemmas.List.{length-append, reverse-append, reverse-reverse, drop-set}
 use Rattle.std.proofs.lemmas.List.Folds.{list_all-append}
 use Rattle.std.proofs.lemmas.List.Sums.{fold-append}
@@ -13,25 +13,17 @@ use Rattle.dbf_fields.specs.Number.{without_leading, trimmed}
 use Rattle.dbf_image.specs.Memo.{memo_number}
 use Rattle.dbf_image.specs.Blocks.{justified, block_number_cell}
 
--- a digit after bytes stays where the blanks before them go
-leading_by : (b : ℕ) (bs : List ℕ) (d : ℕ) (t : Bool) → eqb b 32 ≡ t → without_leading (bs ++ d ∷ []) ≡ without_leading bs ++ d ∷ []
-    → cond t (without_leading (bs ++ d ∷ [])) (b ∷ (bs ++ d ∷ [])) ≡ cond t (without_leading bs) (b ∷ bs) ++ d ∷ []
-leading_by b bs d true e h = h
-leading_by b bs d false e h = refl
-
 leading_digit : (bs : List ℕ) (d : ℕ) → d ≢ 32 → without_leading (bs ++ d ∷ []) ≡ without_leading bs ++ d ∷ []
 leading_digit [] d h = rw (ne_eqb d 32 h) refl
-leading_digit (b ∷ bs) d h = leading_by b bs d (eqb b 32) refl (leading_digit bs d h)
-
-blank_by : (b : ℕ) (bs : List ℕ) (t : Bool) → cond t (without_leading bs) (b ∷ bs) ≡ [] → (without_leading bs ≡ [] → without_leading (bs ++ 32 ∷ []) ≡ [])
-    → cond t (without_leading (bs ++ 32 ∷ [])) (b ∷ (bs ++ 32 ∷ [])) ≡ []
-blank_by b bs true e next = next e
-blank_by b bs false e next = absurd cc
+leading_digit (b ∷ bs) d h = elim (cases_Bool (eqb b 32)) [ inl e ↦ rw e (leading_digit bs d h) | inr e ↦ rw e refl ]
 
 -- one more blank after blanks
 leading_blank : (bs : List ℕ) → without_leading bs ≡ [] → without_leading (bs ++ 32 ∷ []) ≡ []
 leading_blank [] h = refl
-leading_blank (b ∷ bs) h = blank_by b bs (eqb b 32) h (leading_blank bs)
+leading_blank (b ∷ bs) h = elim (cases_Bool (eqb b 32)) [
+  | inl e ↦ rw e (leading_blank bs (rw e at h))
+  | inr e ↦ absurd (let some : b ∷ bs ≡ [] = rw e at h in cc)
+]
 
 -- what is known of the digits of a number, of which none is a blank
 record AreDigits (n : ℕ) (digits : List ℕ) : Type 0 where
@@ -62,15 +54,6 @@ one_more n digits some h =
       value = fold-append (λ (m b : ℕ). m * 10 + (b - 48)) 0 digits ((48 + n % 10) ∷ []) ∙ rw h.value (omega (arith, split));
     }
 
-digits_by : (k n : ℕ) (t : Bool) → eqb n 0 ≡ t → AreDigits (n / 10) (without_leading (justified k (n / 10)))
-    → AreDigits n (without_leading (justified k (n / 10) ++ cond t 32 (48 + n % 10) ∷ []))
-digits_by k n true e h =
-    let zero_is : n ≡ 0 = eqb-true n 0 e in
-    let nothing : without_leading (justified k (n / 10) ++ 32 ∷ []) ≡ [] = leading_blank (justified k (n / 10)) (h.none (omega arith)) in
-    rw nothing (record { none = λ _. refl; kept = refl; each = refl; value = sym zero_is })
-digits_by k n false e h =
-    rw (leading_digit (justified k (n / 10)) (48 + n % 10) (λ d. absurd (omega (arith, d)))) (one_more n (without_leading (justified k (n / 10))) (eqb-false n 0 e) h)
-
 digits_of : (k n : ℕ) → n < 10 ^ k → AreDigits n (without_leading (justified k n))
 unfolding justified
 digits_of zero n lt =
@@ -78,7 +61,11 @@ digits_of zero n lt =
     record { none = λ _. refl; kept = refl; each = refl; value = sym none }
 digits_of (suc k) n lt =
     let wide : 10 ^ suc k ≡ 10 ^ k * 10 = pow-suc 10 k in
-    digits_by k n (eqb n 0) refl (digits_of k (n / 10) (omega (arith, wide)))
+    let h = digits_of k (n / 10) (omega (arith, wide)) in
+    elim (cases_eq n 0) [
+      | inl none ↦ rw (eq-eqb n 0 none, leading_blank (justified k (n / 10)) (h.none (omega arith))) (record { none = λ _. refl; kept = refl; each = refl; value = sym none })
+      | inr some ↦ rw (ne_eqb n 0 some, leading_digit (justified k (n / 10)) (48 + n % 10) (λ d. absurd (omega (arith, d)))) (one_more n (without_leading (justified k (n / 10))) some h)
+    ]
 
 number_by : (cell digits : List ℕ) (n : ℕ) → trimmed cell ≡ digits → list_all is_ascii_digit digits ≡ true → digits_after 0 digits ≡ n → memo_number cell ≡ Some n
 unfolding memo_number
