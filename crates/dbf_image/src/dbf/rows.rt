@@ -105,29 +105,7 @@ fn put_cells<S: ByteSink>(
     next
 }
 
-// The cells of a record, all at once where none is a memo's. The answer is as that of `put_cells`.
-fn put_all_cells<S: ByteSink>(
-    out: &mut SinkWriter<'_, S>,
-    fields: &[Field],
-    cells: Store<'_>,
-    first: u64,
-) -> u64
-    requires whole { length cells.records.now ≡ widths fields.now }
-    requires many { memo_count fields.now ≤ length cells.memos.now }
-    requires each { AllByRecursion (IsSpan cells.texts.now) cells.memos.now }
-    requires few { first + 129 * memo_count fields.now ≤ 18446744073709551615 }
-    ensures put { Puts out.old (cells_bytes first fields.now (cells_with fields.now cells.entry.records.now (texts_of cells.entry.texts.now cells.entry.memos.now))) out.new }
-    ensures next { result ≡ first + cells_blocks fields.now (cells_with fields.now cells.entry.records.now (texts_of cells.entry.texts.now cells.entry.memos.now)) }
-    ensures small { result ≤ first + 129 * memo_count fields.now }
-{
-    if cells.memos.is_empty() {
-        out.put(cells.records);
-        return first;
-    }
-    put_cells(out, fields, cells, first)
-}
-
-// A record: a flag, and the cells. The answer is the next free block after its memos.
+// A record: a flag, and the cells, all at once where none is a memo's. The answer is the next free block after its memos.
 fn put_record<S: ByteSink>(
     out: &mut SinkWriter<'_, S>,
     fields: &[Field],
@@ -144,12 +122,16 @@ fn put_record<S: ByteSink>(
 {
     let (_, bytes) = parts.records.split_at(1);
     out.put(&[flag_of(parts.records[0] == DELETED)]);
+    if parts.memos.is_empty() {
+        out.put(bytes);
+        return first;
+    }
     let cells = Store {
         records: bytes,
         texts: parts.texts,
         memos: parts.memos,
     };
-    put_all_cells(out, fields, cells, first)
+    put_cells(out, fields, cells, first)
 }
 
 /// All records of a table, with the cells of memos counting from block 1.
