@@ -3,7 +3,7 @@ use Rattle.std.proofs.Common.{◌≡◌, ◌≢◌, ℕ, zero, suc, ◌+◌, ◌
 use Rattle.std.specs.Prelude.{◌⊎◌}
 use Rattle.std.specs.List.{AllByRecursion, before_first, position_or_len, list_all}
 use Rattle.std.proofs.lemmas.Bool.{and_parts, leb-true, eqb-true, eqb-false, ne_eqb, true≢false, not-true, cases_eq, cases_Bool}
-use Rattle.std.proofs.lemmas.List.{take_at, drop_at, get_or_at, get_or_append_left, length-append, length-replicate, take-replicate}
+use Rattle.std.proofs.lemmas.List.{take_at, drop_at, get_or_at, get_or_append_left, length-append, length-replicate, take-replicate, nil_from_length}
 use Rattle.std.proofs.lemmas.List.Sums.{position_or_len_is}
 use Rattle.dbf_fields.specs.declared.field.Field.{Field}
 use Rattle.dbf_image.specs.Table.{is_memo_text, IsCell, AreCells}
@@ -132,13 +132,11 @@ block_put (b ∷ bs) fill some is small =
 
 pub block_none : (text : List ℕ) → length text ≡ 0 → block_bytes text ≡ []
 unfolding block_bytes
-block_none [] e = refl
-block_none (b ∷ bs) e = absurd (omega arith)
+block_none text e = rw (nil_from_length text e) refl
 
 pub blocks_none : (text : List ℕ) → length text ≡ 0 → 0 ≡ blocks_of text
 unfolding blocks_of
-blocks_none [] e = refl
-blocks_none (b ∷ bs) e = absurd (omega arith)
+blocks_none text e = rw (nil_from_length text e) refl
 
 pub blocks_some : (text : List ℕ) → 0 < length text → (length text + (BLOCK + 1)) / BLOCK ≡ blocks_of text
 unfolding blocks_of

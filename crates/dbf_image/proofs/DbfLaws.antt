@@ -19,7 +19,7 @@ use Rattle.dbf_image.specs.Spans.{table_tests}
 use Rattle.dbf_image.proofs.Rows.{chunks_take}
 use Rattle.dbf_image.proofs.Groups.{none_some}
 use Rattle.dbf_fields.proofs.FaultLaws.{first_parts}
-use Rattle.dbf_image.proofs.MemoTests.{rows_ok, ok_rows}
+use Rattle.dbf_image.proofs.MemoTests.{rows_ok, ok_rows, some_is}
 use Rattle.dbf_image.specs.declared.format.TheConstants.{HEADER_END, MAX_RECORDS}
 
 -- ---- the first number that passes a test
@@ -105,10 +105,6 @@ from_passes bytes dbt p =
 
 -- ---- the layout
 
-some_is : (o : Option ℕ) → is_some o ≡ true → (k : ℕ) × (o ≡ Some k)
-some_is (Some k) h = (k, refl)
-some_is None h = absurd cc
-
 none_is : {X : Type 0} (o : Option X) → is_none o ≡ true → o ≡ None
 none_is (Some k) h = absurd cc
 none_is None h = refl
@@ -174,18 +170,17 @@ pub is_dbf : (bytes : List ℕ) (dbt : Option (List ℕ)) → refusal bytes dbt 
 is_dbf bytes dbt h =
     let p = passes_all bytes dbt h in
     let m = memos_pass bytes dbt p.memos in
-    let k = some_is (field_count bytes) p.ended in
-    let first = first_from-some (ends_fields bytes) 0 (most_fields bytes) k.0 k.1 in
-    let fields : fields_of bytes ≡ map field_of (chunks 32 k.0 (drop 32 bytes)) = ap (λ (o : Option ℕ). map field_of (chunks 32 (unwrap_or o 0) (drop 32 bytes))) k.1 in
+    let k : ℕ = unwrap_or (field_count bytes) 0 in
+    let first = first_from-some (ends_fields bytes) 0 (most_fields bytes) k (some_is (field_count bytes) p.ended) in
     record {
       long = p.long;
       version = version_is bytes p.version;
-      field_count = k.0;
+      field_count = k;
       last_field = eqb-true _ _ first.here;
       not_before = λ i lt. eqb-false _ _ (first.before i (omega arith) lt);
       in_header = omega (arith, first.below);
-      accepted = rw (← fields) (none_is _ p.accepted);
-      schema = ap (map folded) fields;
+      accepted = none_is _ p.accepted;
+      schema = refl;
       wide = p.wide;
       few = p.few;
       whole = p.whole;

@@ -38,16 +38,13 @@ cells_front (f ∷ fs) bytes (t ∷ ts) = elim (cases_Bool (eqb f.kind MEMO)) [
   | inr e ↦ rw e (ap (λ (x : List (List ℕ)). take f.width bytes ∷ x) (cells_front fs (drop f.width bytes) (t ∷ ts)))
 ]
 
-cells_same : (fields : List Field) (bytes : List ℕ) (memos others : List (List ℕ)) → take (memo_count fields) memos ≡ take (memo_count fields) others
-    → cells_with fields bytes memos ≡ cells_with fields bytes others
-cells_same fields bytes memos others e = sym (cells_front fields bytes memos) ∙ ap (cells_with fields bytes) e ∙ cells_front fields bytes others
-
 abbrev row_of_cells : List ℕ → List (List ℕ) → Row
 row_of_cells bytes cells = record { deleted = eqb (get_or bytes 0 0) DELETED; cells = cells }
 
 row_same : (fields : List Field) (bytes : List ℕ) (memos others : List (List ℕ)) → take (memo_count fields) memos ≡ take (memo_count fields) others
     → row_with fields bytes memos ≡ row_with fields bytes others
-row_same fields bytes memos others e = ap (row_of_cells bytes) (cells_same fields (drop 1 bytes) memos others e)
+row_same fields bytes memos others e =
+    ap (row_of_cells bytes) (sym (cells_front fields (drop 1 bytes) memos) ∙ ap (cells_with fields (drop 1 bytes)) e ∙ cells_front fields (drop 1 bytes) others)
 
 pub rows_append : (fields : List Field) (ps qs memos more : List (List ℕ)) → length memos ≡ length ps * memo_count fields
     → rows_with fields (ps ++ qs) (memos ++ more) ≡ rows_with fields ps memos ++ rows_with fields qs more

@@ -45,14 +45,11 @@ rows_joined fields (p ∷ ps) memos e =
 
 -- ---- texts by their spans
 
-many_texts : (fields : List Field) (count : ℕ) (bytes texts : List ℕ) (spans : List Span) → length spans ≡ count * memo_count fields
-    → length (texts_of texts spans) ≡ length (chunks (1 + widths fields) count bytes) * memo_count fields
-many_texts fields count bytes texts spans many = length-map spans (text_of texts) ∙ many ∙ ap (λ (n : ℕ). n * memo_count fields) (sym (length-chunks (1 + widths fields) count bytes))
-
 pub store_memos : (fields : List Field) (count : ℕ) (bytes texts : List ℕ) (spans : List Span) → length spans ≡ count * memo_count fields
     → rows_memos fields (rows_of fields count bytes (texts_of texts spans)) ≡ flat_map (λ s. block_bytes (text_of texts s)) spans
 store_memos fields count bytes texts spans many =
-    rows_joined fields (chunks (1 + widths fields) count bytes) (texts_of texts spans) (many_texts fields count bytes texts spans many) ∙ flat_map-map block_bytes (text_of texts) spans
+    rows_joined fields (chunks (1 + widths fields) count bytes) (texts_of texts spans) (rw (length-map spans (text_of texts), length-chunks (1 + widths fields) count bytes) many)
+    ∙ flat_map-map block_bytes (text_of texts) spans
 
 length-rows_memos : (fields : List Field) (rows : List Row) → length (rows_memos fields rows) ≡ BLOCK * rows_blocks fields rows
 length-rows_memos fields [] = refl

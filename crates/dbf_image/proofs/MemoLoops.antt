@@ -1,4 +1,5 @@
 -- One more cell of a record.
+use Rattle.dbf_image.proofs.Steps.{here}
 use Rattle.dbf_image.proofs.FileLaws.{memos_wide}
 use Rattle.std.proofs.Common.{◌≡◌, ℕ, ◌+◌, ◌<◌, ◌≤◌, true, Bool, List, [], ◌∷◌, ◌++◌, length, take, drop, get_or, Some, None, refl, sym, ap, ◌∙◌, append_assoc, inl, inr, All, arith}
 use Rattle.std.specs.Prelude.{◌⊎◌}
@@ -23,9 +24,7 @@ use Rattle.dbf_fields.specs.declared.format.TheConstants.{MEMO}
 pub tests-next : (dbt bytes : List ℕ) (fields : List Field) (i : ℕ) (f : Field) → i < length fields → f ≡ get_or fields i f
     → first_fault (cell_tests dbt f (take f.width bytes)) ≡ None
     → first_fault (cells_tests dbt (drop (i + 1) fields) (drop f.width bytes)) ≡ first_fault (cells_tests dbt (drop i fields) bytes)
-tests-next dbt bytes fields i f lt is none =
-    let e : drop i fields ≡ f ∷ drop (i + 1) fields = drop_more fields i f lt ∙ ap (λ (g : Field). g ∷ drop (i + 1) fields) (sym is) in
-    rw e (sym (first_then (cell_tests dbt f (take f.width bytes)) (cells_tests dbt (drop (i + 1) fields) (drop f.width bytes)) none))
+tests-next dbt bytes fields i f lt is none = rw (here fields i f lt is) (sym (first_then (cell_tests dbt f (take f.width bytes)) (cells_tests dbt (drop (i + 1) fields) (drop f.width bytes)) none))
 
 pub group_stop : (xs ys : List (Bool × ImageFault)) (fault : ImageFault) → (fault ≡ NoMemory) ⊎ (first_fault xs ≡ Some fault) → (fault ≡ NoMemory) ⊎ (first_fault (xs ++ ys) ≡ Some fault)
 group_stop xs ys fault (inl h) = inl h
@@ -34,22 +33,11 @@ group_stop xs ys fault (inr h) = inr (first_before xs ys fault h)
 pub tests-stop : (dbt bytes : List ℕ) (fields : List Field) (i : ℕ) (f : Field) (fault : ImageFault) → i < length fields → f ≡ get_or fields i f
     → (fault ≡ NoMemory) ⊎ (first_fault (cell_tests dbt f (take f.width bytes)) ≡ Some fault)
     → (fault ≡ NoMemory) ⊎ (first_fault (cells_tests dbt (drop i fields) bytes) ≡ Some fault)
-tests-stop dbt bytes fields i f fault lt is h =
-    let e : drop i fields ≡ f ∷ drop (i + 1) fields = drop_more fields i f lt ∙ ap (λ (g : Field). g ∷ drop (i + 1) fields) (sym is) in
-    rw e (group_stop (cell_tests dbt f (take f.width bytes)) (cells_tests dbt (drop (i + 1) fields) (drop f.width bytes)) fault h)
+tests-stop dbt bytes fields i f fault lt is h = rw (here fields i f lt is) (group_stop (cell_tests dbt f (take f.width bytes)) (cells_tests dbt (drop (i + 1) fields) (drop f.width bytes)) fault h)
 
 pub spans-next : (dbt bytes : List ℕ) (fields : List Field) (i : ℕ) (f : Field) (front : List Span) → i < length fields → f ≡ get_or fields i f
     → (front ++ cell_spans dbt f (take f.width bytes)) ++ cells_spans dbt (drop (i + 1) fields) (drop f.width bytes) ≡ front ++ cells_spans dbt (drop i fields) bytes
-spans-next dbt bytes fields i f front lt is =
-    let e : drop i fields ≡ f ∷ drop (i + 1) fields = drop_more fields i f lt ∙ ap (λ (g : Field). g ∷ drop (i + 1) fields) (sym is) in
-    rw (e, append_assoc) refl
-
-pub room-next : (fields : List Field) (i : ℕ) (f : Field) (now later : ℕ) → i < length fields → f ≡ get_or fields i f → widths (drop i fields) ≤ now → later + f.width ≡ now
-    → widths (drop (i + 1) fields) ≤ later
-room-next fields i f now later lt is room left =
-    let e : drop i fields ≡ f ∷ drop (i + 1) fields = drop_more fields i f lt ∙ ap (λ (g : Field). g ∷ drop (i + 1) fields) (sym is) in
-    let sum : widths (drop i fields) ≡ f.width + widths (drop (i + 1) fields) = rw e (sum_by-cons (λ (g : Field). g.width) f (drop (i + 1) fields)) in
-    omega arith
+spans-next dbt bytes fields i f front lt is = rw (here fields i f lt is, append_assoc) refl
 
 -- a memo's cell is ten bytes wide
 pub memo_fits : (fs : List Field) → IsSchema fs → All (λ f. f.kind ≡ MEMO → f.width ≡ 10) fs

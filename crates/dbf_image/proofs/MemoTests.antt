@@ -1,7 +1,7 @@
 -- The tests of memos' cells and the layout say the same.
 use Rattle.std.proofs.Common.{◌≡◌, ◌≢◌, ℕ, ◌*◌, ◌≤◌, Bool, true, false, cond, eqb, leb, ltb, Result, Ok, Err, List, [], ◌∷◌, length, map, take, drop, Option, Some, None, refl, sym, ap, ◌∙◌, inl, inr, arith}
 use Rattle.std.specs.Prelude.{◌⊎◌, ◌&&◌, is_some, unwrap_or, flat_map, slice_index, IfOk, IfErr, MatchResult}
-use Rattle.std.proofs.lemmas.Bool.{eqb-true, eqb-false, ne_eqb, leb-true, le-leb, lt-ltb, ltb-true, and_parts, and_from, cases_Bool}
+use Rattle.std.proofs.lemmas.Bool.{eqb-true, eqb-false, ne_eqb, leb-true, le-leb, lt-ltb, ltb-true, and_parts, and_from, cases_Bool, cases_eq, eq-eqb}
 use Rattle.dbf_fields.specs.declared.field.Field.{Field}
 use Rattle.dbf_fields.specs.Faults.{first_fault}
 use Rattle.dbf_fields.proofs.SchemaLaws.{passed, passes}
@@ -46,39 +46,27 @@ text_only (Err f) dbt n text e (inr h) d = none_some _ f _ (ok_text dbt text n d
 
 -- ---- a memo's cell
 
--- the tests and the text by the number that was read
-abbrev tests_by : List ℕ → Option ℕ → List (Bool × ImageFault)
-tests_by dbt o = (is_some o, BadMemoNumber) ∷ cond (eqb (unwrap_or o 0) 0) [] (text_tests dbt (unwrap_or o 0))
-
-abbrev text_by : List ℕ → Option ℕ → List ℕ
-text_by dbt o = cond (eqb (unwrap_or o 0) 0) [] (memo_at dbt (unwrap_or o 0))
-
-abbrev EncodesBy : List ℕ → Option ℕ → List ℕ → Type 0
-EncodesBy dbt o text = ((o ≡ Some 0) × (text ≡ [])) ⊎ ((block : ℕ) × (o ≡ Some block) × HasText dbt block text)
-
-some_by : (dbt : List ℕ) (n : ℕ) (b : Bool) → eqb n 0 ≡ b → first_fault (cond b [] (text_tests dbt n)) ≡ None → EncodesBy dbt (Some n) (cond b [] (memo_at dbt n))
-some_by dbt n true e h = inl (ap (λ (m : ℕ). Some m) (eqb-true n 0 e), refl)
-some_by dbt n false e h = inr (n, refl, text_ok dbt n h)
-
-memo_by : (dbt : List ℕ) (o : Option ℕ) → first_fault (tests_by dbt o) ≡ None → EncodesBy dbt o (text_by dbt o)
-memo_by dbt None h = absurd cc
-memo_by dbt (Some n) h = some_by dbt n (eqb n 0) refl h
+pub some_is : (o : Option ℕ) → is_some o ≡ true → o ≡ Some (unwrap_or o 0)
+some_is (Some k) h = refl
+some_is None h = absurd cc
 
 pub memo_ok : (dbt cell : List ℕ) → first_fault (memo_tests dbt cell) ≡ None → EncodesMemo dbt cell (memo_text dbt cell)
 unfolding memo_tests memo_text
-memo_ok dbt cell h = memo_by dbt (memo_number cell) h
-
-by_memo : (dbt text : List ℕ) (o : Option ℕ) → EncodesBy dbt o text → (first_fault (tests_by dbt o) ≡ None) × (text_by dbt o ≡ text)
-by_memo dbt text o (inl h) = (rw h.0 refl, rw h.0 (sym h.1))
-by_memo dbt text o (inr h) =
-    let n : ℕ = h.0 in
-    let some : n ≢ 0 = λ e. absurd (omega (arith, e, h.2.some)) in
-    let off : eqb n 0 ≡ false = ne_eqb n 0 some in
-    (rw (h.1, off) (ok_text dbt text n h.2), rw (h.1, off) h.2.text_is)
+memo_ok dbt cell h =
+    let n : ℕ = unwrap_or (memo_number cell) 0 in
+    let p = passed (is_some (memo_number cell)) _ BadMemoNumber h in
+    let is : memo_number cell ≡ Some n = some_is (memo_number cell) p.0 in
+    elim (cases_eq n 0) [
+      | inl none ↦ inl (is ∙ ap (λ (m : ℕ). Some m) none, rw (eq-eqb n 0 none) refl)
+      | inr some ↦ inr (n, is, rw (ne_eqb n 0 some) (text_ok dbt n (rw (ne_eqb n 0 some) at p.1)))
+    ]
 
 pub ok_memo : (dbt cell text : List ℕ) → EncodesMemo dbt cell text → (first_fault (memo_tests dbt cell) ≡ None) × (memo_text dbt cell ≡ text)
 unfolding memo_tests memo_text
-ok_memo dbt cell text h = by_memo dbt text (memo_number cell) h
+ok_memo dbt cell text (inl h) = (rw h.0 refl, rw h.0 (sym h.1))
+ok_memo dbt cell text (inr h) =
+    let off : eqb h.0 0 ≡ false = ne_eqb h.0 0 (λ e. absurd (omega (arith, e, h.2.some))) in
+    (rw (h.1, off) (ok_text dbt text h.0 h.2), rw (h.1, off) h.2.text_is)
 
 -- ---- cells
 

@@ -4,7 +4,7 @@ use Rattle.std.specs.Prelude.{reverse}
 use Rattle.std.specs.List.{list_all}
 use Rattle.std.specs.Char.{is_ascii_digit}
 use Rattle.std.proofs.lemmas.Bool.{eqb-true, eqb-false, ne_eqb, le-leb, cases_Bool, cases_eq, eq-eqb}
-use Rattle.std.proofs.lemmas.List.{length-append, reverse-append, reverse-reverse, drop-set}
+use Rattle.std.proofs.lemmas.List.{length-append, reverse-append, reverse-reverse, drop-set, nil_from_length}
 use Rattle.std.proofs.lemmas.List.Folds.{list_all-append}
 use Rattle.std.proofs.lemmas.List.Sums.{fold-append}
 use Rattle.std.proofs.Math.Nat.{pow-suc}
@@ -67,19 +67,12 @@ digits_of (suc k) n lt =
       | inr some ↦ rw (ne_eqb n 0 some, leading_digit (justified k (n / 10)) (48 + n % 10) (λ d. absurd (omega (arith, d)))) (one_more n (without_leading (justified k (n / 10))) some h)
     ]
 
-number_by : (cell digits : List ℕ) (n : ℕ) → trimmed cell ≡ digits → list_all is_ascii_digit digits ≡ true → digits_after 0 digits ≡ n → memo_number cell ≡ Some n
-unfolding memo_number
-number_by cell digits n e each value = rw (e, each) (ap (λ (m : ℕ). Some m) value)
-
-trimmed_is : (cell digits : List ℕ) → without_leading cell ≡ digits → reverse (without_leading (reverse digits)) ≡ digits → trimmed cell ≡ digits
-unfolding trimmed
-trimmed_is cell digits e kept = ap (λ (x : List ℕ). reverse (without_leading (reverse x))) e ∙ kept
-
 -- the number that is written is read
 pub number_in : (k n : ℕ) → n < 10 ^ k → memo_number (justified k n) ≡ Some n
+unfolding memo_number trimmed
 number_in k n lt =
     let h = digits_of k n lt in
-    number_by (justified k n) (without_leading (justified k n)) n (trimmed_is (justified k n) _ refl h.kept) h.each h.value
+    rw (h.kept, h.each) (ap (λ (m : ℕ). Some m) h.value)
 
 pub length-justified : (k n : ℕ) → length (justified k n) ≡ k
 unfolding justified
@@ -104,8 +97,7 @@ digit-done at n cell whole e given = rw e at given
 
 pub number_none : (next : ℕ) (text : List ℕ) → length text ≡ 0 → justified 10 0 ≡ block_number_cell next text
 unfolding block_number_cell
-number_none next [] e = refl
-number_none next (t ∷ ts) e = absurd (omega arith)
+number_none next text e = rw (nil_from_length text e) refl
 
 pub number_some : (next : ℕ) (text : List ℕ) → 0 < length text → justified 10 next ≡ block_number_cell next text
 unfolding block_number_cell

@@ -47,7 +47,7 @@ abbrev pub left_blocks : List Field → List ℕ → List ℕ → List Span → 
 left_blocks fields rest texts spans = cells_blocks fields (cells_with fields rest (texts_of texts spans))
 
 module _ (fields : List Field) (i : ℕ) (f : Field) (lt : i < length fields) (is : f ≡ get_or fields i f) where
-  here : drop i fields ≡ f ∷ drop (i + 1) fields
+  pub here : drop i fields ≡ f ∷ drop (i + 1) fields
   here = drop_more fields i f lt ∙ ap (λ (g : Field). g ∷ drop (i + 1) fields) (sym is)
 
   pub widths-next : widths (drop i fields) ≡ f.width + widths (drop (i + 1) fields)

@@ -1,6 +1,7 @@
+use Rattle.dbf_image.proofs.Steps.{widths-next}
 use Rattle.std.proofs.Common.{◌≡◌, ◌≤◌, ◌∙◌, arith}
 use Rattle.std.proofs.lemmas.Result.{err_from_is_err_and}
-use Rattle.dbf_image.proofs.MemoLoops.{tests-next, tests-stop, spans-next, room-next, memo_fits}
+use Rattle.dbf_image.proofs.MemoLoops.{tests-next, tests-stop, spans-next, memo_fits}
 use Rattle.dbf_image.proofs.dbt.memos.push_spans.Goals as goal
 use Rattle.dbf_fields.specs.declared.format.TheConstants.{MEMO}
 
@@ -25,7 +26,7 @@ loop-field-preserved c =
     let f = c.field-item.result in
     let none = rw (c.split_at.ensures.front, c.from.ensures) at c.in_ok-push_span.ensures.accepted in
     record {
-      room = room-next fields i f _ _ c.loop-field-test.true c.field-item.is c.loop-field.invariant.room (omega (arith, c.split_at.ensures.back_len, c.from.ensures));
+      room = omega (arith, widths-next fields i f c.loop-field-test.true c.field-item.is, c.loop-field.invariant.room, c.split_at.ensures.back_len, c.from.ensures);
       spans = rw (c.in_ok-push_span.ensures.value, c.split_at.ensures.front, c.split_at.ensures.back, c.from.ensures)
           (spans-next dbt rest fields i f _ c.loop-field-test.true c.field-item.is ∙ c.loop-field.invariant.spans);
       left = rw (c.split_at.ensures.back, c.from.ensures)
