@@ -16,7 +16,7 @@ use crate::format::{DELETED, MAX_MEMO_BYTES, MAX_RECORDS, MEMO_END};
 use crate::table::offsets::{cell_start, memo_count_of, memo_index, record_start};
 use crate::table::span::{Span, no_span, text_at};
 use crate::table::store::Store;
-use dbf_fields::{MEMO, Schema};
+use dbf_fields::{MAX_RECORD_BYTES, MEMO, Schema};
 use std::alloc::{AllocError, Global};
 use std::marker::Model;
 
@@ -199,14 +199,9 @@ impl TableData {
         ensures ok { OnOk result (self.new ≡ with_row self.old (blank_row self.old.schema)) }
         ensures err { OnErr result (self.new ≡ self.old) }
     {
+        let blanks = [b' '; 1 + MAX_RECORD_BYTES as usize];
         let size = self.schema.record_length();
-        let length = self.records.len() + size;
-        let memos = self.memos.len() + memo_count_of(self.schema.fields());
-        self.records.reserve(size)?;
-        self.memos.resize(memos, no_span())?;
-        self.records.resize(length, b' ')?;
-        self.count += 1;
-        Ok(())
+        self.append_record(&blanks[..size])
     }
 
     /// Replaces a record's cell by as many bytes; its field is no memo. Records count from 1, fields from
