@@ -72,14 +72,12 @@ block_fits dbt n h =
       text = and_from (leb (length (memo_at dbt n)) MAX_MEMO_BYTES) (list_all (λ b. not (eqb b MEMO_END)) (memo_at dbt n)) (le-leb _ _ t.short) (prefix_all (λ b. not (eqb b MEMO_END)) (drop (BLOCK * n) dbt));
     }
 
-fits_by : (dbt : List ℕ) (n : ℕ) (b : Bool) → first_fault (cond b [] (text_tests dbt n)) ≡ None → IsSpan dbt (cond b no_span (span_of dbt n))
-fits_by dbt n true h = no_span_fits dbt
-fits_by dbt n false h = block_fits dbt n h
-
 span_fits : (dbt cell : List ℕ) → first_fault (memo_tests dbt cell) ≡ None → IsSpan dbt (memo_span dbt cell)
 unfolding memo_tests memo_span
 span_fits dbt cell h =
-    fits_by dbt (unwrap_or (memo_number cell) 0) (eqb (unwrap_or (memo_number cell) 0) 0) (passed (is_some (memo_number cell)) _ BadMemoNumber h).1
+    let n : ℕ = unwrap_or (memo_number cell) 0 in
+    let p = passed (is_some (memo_number cell)) _ BadMemoNumber h in
+    elim (cases_Bool (eqb n 0)) [ inl e ↦ rw e (no_span_fits dbt) | inr e ↦ rw e (block_fits dbt n (rw e at p.1)) ]
 
 cell_fits : (dbt : List ℕ) (f : Field) (cell : List ℕ) → first_fault (cell_tests dbt f cell) ≡ None → AllByRecursion (IsSpan dbt) (cell_spans dbt f cell)
 unfolding cell_tests cell_spans

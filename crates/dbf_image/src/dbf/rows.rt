@@ -128,8 +128,7 @@ fn put_record<S: ByteSink>(
     }
     let cells = Store {
         records: bytes,
-        texts: parts.texts,
-        memos: parts.memos,
+        ..parts
     };
     put_cells(out, fields, cells, first)
 }

@@ -155,6 +155,5 @@ pub(crate) fn memos_at(
     let Some(dbt) = dbt else {
         return Err(ImageFault::MemoFileMissing);
     };
-    let memos = memos_in(alloc, dbt, schema, count, bytes)?;
-    Ok(memos)
+    memos_in(alloc, dbt, schema, count, bytes)
 }

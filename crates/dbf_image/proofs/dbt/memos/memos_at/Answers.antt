@@ -33,13 +33,12 @@ returns-in_default-clause-refused c =
     let some : has_memos schema ≡ true = ap has_memos (sym c.fields.ensures.fields) ∙ sym c.has_memos.ensures.value ∙ c.if-not-has_memos.false in
     inr (rw c.in_default.is (missing schema (chunks (1 + widths schema) c.args.count c.args.bytes.now) some))
 
-pub returns-in_err-memos-clause-refused : goal.returns-in_err-memos-clause-refused
-returns-in_err-memos-clause-refused c =
-    let schema = c.args.schema.now in
-    let p = err_from_is_err_and c.from_residual.result c.from_residual.ensures.1 in
-    rw (p.1, p.2, c.in-Some.is, tests_in c.in-Some.dbt.now schema (chunks (1 + widths schema) c.args.count c.args.bytes.now)) c.in_err-memos.ensures.refused
-
 pub returns-clause-accepted : goal.returns-clause-accepted
 returns-clause-accepted c =
     let schema = c.args.schema.now in
-    rw (c.in-Some.is, tests_in c.in-Some.dbt.now schema (chunks (1 + widths schema) c.args.count c.args.bytes.now)) c.in_ok-memos.ensures.accepted
+    rw (c.in-Some.is, tests_in c.in-Some.dbt.now schema (chunks (1 + widths schema) c.args.count c.args.bytes.now)) c.memos_in.ensures.accepted
+
+pub returns-clause-refused : goal.returns-clause-refused
+returns-clause-refused c =
+    let schema = c.args.schema.now in
+    rw (c.in-Some.is, tests_in c.in-Some.dbt.now schema (chunks (1 + widths schema) c.args.count c.args.bytes.now)) c.memos_in.ensures.refused
