@@ -1,7 +1,7 @@
 -- What the groups of tests say, one after the other.
 use Rattle.std.proofs.lemmas.Option.{same_Some}
-use Rattle.std.proofs.Common.{◌≡◌, ℕ, ◌-◌, Bool, true, false, cond, List, [], ◌∷◌, ◌++◌, length, map, take, drop, Option, Some, None, refl, sym, ◌∙◌, inl, inr}
-use Rattle.std.specs.Prelude.{is_none, is_some, ◌⊎◌}
+use Rattle.std.proofs.Common.{◌≡◌, ℕ, ◌-◌, Bool, true, false, cond, List, [], ◌∷◌, ◌++◌, length, map, take, drop, Option, Some, None, refl, sym, ◌∙◌, inl, inr, Result, Ok, Err}
+use Rattle.std.specs.Prelude.{is_none, is_some, ◌⊎◌, IfErr, IsErrAnd}
 use Rattle.std.proofs.lemmas.List.{take_rest}
 use Rattle.dbf_fields.specs.Faults.{first_fault}
 use Rattle.dbf_fields.proofs.FaultLaws.{first_then, first_before}
@@ -81,3 +81,8 @@ pub refused_by_memos : (bytes : List ℕ) (dbt : Option (List ℕ)) (fault : Ima
     → first_fault (record_tests bytes) ≡ None → (fault ≡ NoMemory) ⊎ (first_fault (memos_tests bytes dbt) ≡ Some fault) → IsRefusal fault bytes dbt
 refused_by_memos bytes dbt fault a b c (inl h) = inl h
 refused_by_memos bytes dbt fault a b c (inr h) = inr (decided_by_memos bytes dbt a b c ∙ h)
+
+-- what the exit of a `?` answers
+pub err_exit : {T : Type 0} {fault : ImageFault} (r : Result T ImageFault) (P : ImageFault → Type 0) → IsErrAnd r (λ y. y ≡ fault) → P fault → IfErr r P
+err_exit (Ok x) P e given = tt
+err_exit (Err y) P e given = rw e given

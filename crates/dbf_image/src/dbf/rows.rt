@@ -158,8 +158,8 @@ pub(crate) fn put_records<S: ByteSink>(
         let (mine, others) = memos.split_at(memos_each);
         let record = Store {
             records: bytes,
-            texts: store.texts,
             memos: mine,
+            ..store
         };
         next = put_record(out, fields, record, next);
         rest = after;

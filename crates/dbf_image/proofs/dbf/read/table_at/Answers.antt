@@ -3,14 +3,12 @@ use Rattle.std.specs.Option.{option_copied}
 use Rattle.std.proofs.lemmas.Result.{err_from_is_err_and}
 use Rattle.dbf_image.specs.declared.dbf.header.Header.{Header}
 use Rattle.dbf_image.specs.Store.{texts_of, rows_of}
-use Rattle.dbf_image.proofs.Groups.{early_by_header, early_by_fields, early_passed, refused_by_header, refused_by_fields, refused_by_records, refused_by_memos, decided_by_memos}
+use Rattle.dbf_image.proofs.Groups.{early_by_header, early_by_fields, early_passed, refused_by_header, refused_by_fields, refused_by_records, refused_by_memos, decided_by_memos, err_exit}
 use Rattle.dbf_image.proofs.DbfLaws.{rows_read, tests_read}
 use Rattle.dbf_image.proofs.dbf.read.table_at.Goals as goal
 
 pub returns-in_err-header-clause-refused : goal.returns-in_err-header-clause-refused
-returns-in_err-header-clause-refused c =
-    let p = err_from_is_err_and c.from_residual.result c.from_residual.ensures.1 in
-    rw (p.1, p.2) (refused_by_header c.args.dbf.now (option_copied c.args.dbt) _ c.in_err-header.ensures.refused)
+returns-in_err-header-clause-refused c = err_exit _ _ c.from_residual.ensures.1 (refused_by_header c.args.dbf.now (option_copied c.args.dbt) _ c.in_err-header.ensures.refused)
 
 pub returns-in_err-schema-clause-refused : goal.returns-in_err-schema-clause-refused
 returns-in_err-schema-clause-refused c =
