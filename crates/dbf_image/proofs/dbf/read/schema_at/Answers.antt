@@ -3,7 +3,7 @@ use Rattle.std.proofs.lemmas.List.{length-take, length-drop}
 use Rattle.std.proofs.lemmas.Result.{err_from_is_err_and}
 use Rattle.dbf_fields.specs.Field.{folded}
 use Rattle.dbf_image.specs.Reading.{fields_of}
-use Rattle.dbf_image.proofs.Groups.{fields_are, fields_pass, fields_fail}
+use Rattle.dbf_image.proofs.Groups.{fields_are, fields_pass, fields_fail, err_exit}
 use Rattle.dbf_image.proofs.dbf.read.schema_at.Goals as goal
 
 pub fields_at-requires : goal.fields_at-requires
@@ -11,10 +11,9 @@ fields_at-requires c = simp (length-take, length-drop) (omega (arith, c.in-Some.
 
 pub returns-in_err-schema-clause-refused : goal.returns-in_err-schema-clause-refused
 returns-in_err-schema-clause-refused c =
-    let p = err_from_is_err_and c.from_residual-in_err-schema.result c.from_residual-in_err-schema.ensures.1 in
     let all : c.deref.result.now ≡ fields_of c.args.dbf.now =
     c.deref.ensures.value ∙ c.in_ok-fields.ensures.value ∙ fields_are c.args.dbf.now c.in-Some.count c.in-Some.ensures.count in
-    rw (p.1, p.2) (fields_fail c.args.dbf.now c.in-Some.count _ c.in-Some.ensures.count (rw all at c.in_err-schema.ensures.refused))
+    err_exit _ _ c.from_residual-in_err-schema.ensures.1 (fields_fail c.args.dbf.now c.in-Some.count _ c.in-Some.ensures.count (rw all at c.in_err-schema.ensures.refused))
 
 pub returns : goal.returns
 returns c =

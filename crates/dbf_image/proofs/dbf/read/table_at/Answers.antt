@@ -11,45 +11,30 @@ pub returns-in_err-header-clause-refused : goal.returns-in_err-header-clause-ref
 returns-in_err-header-clause-refused c = err_exit _ _ c.from_residual.ensures.1 (refused_by_header c.args.dbf.now (option_copied c.args.dbt) _ c.in_err-header.ensures.refused)
 
 pub returns-in_err-schema-clause-refused : goal.returns-in_err-schema-clause-refused
-returns-in_err-schema-clause-refused c =
-    let p = err_from_is_err_and c.from_residual-in_err-schema.result c.from_residual-in_err-schema.ensures.1 in
-    rw (p.1, p.2) (refused_by_fields c.args.dbf.now (option_copied c.args.dbt) _ c.in_ok-header.ensures.accepted c.in_err-schema.ensures.refused)
+returns-in_err-schema-clause-refused c = err_exit _ _ c.from_residual-in_err-schema.ensures.1 (refused_by_fields c.args.dbf.now (option_copied c.args.dbt) _ c.in_ok-header.ensures.accepted c.in_err-schema.ensures.refused)
 
 pub returns-in_err-check_records-clause-refused : goal.returns-in_err-check_records-clause-refused
-returns-in_err-check_records-clause-refused c =
-    let p = err_from_is_err_and c.from_residual-in_err-check_records.result c.from_residual-in_err-check_records.ensures.1 in
-    rw (p.1, p.2) (refused_by_records c.args.dbf.now (option_copied c.args.dbt) _ c.in_ok-header.ensures.accepted c.in_ok-schema.ensures.accepted c.in_err-check_records.ensures.refused)
+returns-in_err-check_records-clause-refused c = err_exit _ _ c.from_residual-in_err-check_records.ensures.1 (refused_by_records c.args.dbf.now (option_copied c.args.dbt) _ c.in_ok-header.ensures.accepted c.in_ok-schema.ensures.accepted c.in_err-check_records.ensures.refused)
 
 pub returns-in_err-texts-clause-refused : goal.returns-in_err-texts-clause-refused
 returns-in_err-texts-clause-refused c =
-    let p = err_from_is_err_and c.from_residual-in_err-texts.result c.from_residual-in_err-texts.ensures.1 in
     let tests = tests_read c.args.dbf.now (option_copied c.args.dbt) c.in_ok-schema.schema c.in_ok-header.header _ c.in_ok-header.ensures.value c.in_ok-schema.ensures.value (c.in_ok-check_records.ensures.wide ∙ c.record_length-size.ensures.value) c.records_at-bytes.ensures.value in
-    rw (p.1, p.2) (refused_by_memos c.args.dbf.now (option_copied c.args.dbt) _ c.in_ok-header.ensures.accepted c.in_ok-schema.ensures.accepted c.in_ok-check_records.ensures.accepted (rw tests at c.in_err-texts.ensures.refused))
+    err_exit _ _ c.from_residual-in_err-texts.ensures.1 (refused_by_memos c.args.dbf.now (option_copied c.args.dbt) _ c.in_ok-header.ensures.accepted c.in_ok-schema.ensures.accepted c.in_ok-check_records.ensures.accepted (rw tests at c.in_err-texts.ensures.refused))
 
 pub returns-in_err-header-clause-early : goal.returns-in_err-header-clause-early
-returns-in_err-header-clause-early c =
-    let p = err_from_is_err_and c.from_residual.result c.from_residual.ensures.1 in
-    rw (p.1, p.2) (λ first. early_by_header c.args.dbf.now _ first c.in_err-header.ensures.refused)
+returns-in_err-header-clause-early c = err_exit _ _ c.from_residual.ensures.1 (λ first. early_by_header c.args.dbf.now _ first c.in_err-header.ensures.refused)
 
 pub returns-in_err-schema-clause-early : goal.returns-in_err-schema-clause-early
-returns-in_err-schema-clause-early c =
-    let p = err_from_is_err_and c.from_residual-in_err-schema.result c.from_residual-in_err-schema.ensures.1 in
-    rw (p.1, p.2) (λ first. early_by_fields c.args.dbf.now _ first c.in_ok-header.ensures.accepted c.in_err-schema.ensures.early)
+returns-in_err-schema-clause-early c = err_exit _ _ c.from_residual-in_err-schema.ensures.1 (λ first. early_by_fields c.args.dbf.now _ first c.in_ok-header.ensures.accepted c.in_err-schema.ensures.early)
 
 pub returns-in_err-check_records-clause-early : goal.returns-in_err-check_records-clause-early
-returns-in_err-check_records-clause-early c =
-    let p = err_from_is_err_and c.from_residual-in_err-check_records.result c.from_residual-in_err-check_records.ensures.1 in
-    rw (p.1, p.2) (λ first. early_passed c.args.dbf.now _ first c.in_ok-header.ensures.accepted c.in_ok-schema.ensures.accepted)
+returns-in_err-check_records-clause-early c = err_exit _ _ c.from_residual-in_err-check_records.ensures.1 (λ first. early_passed c.args.dbf.now _ first c.in_ok-header.ensures.accepted c.in_ok-schema.ensures.accepted)
 
 pub returns-in_err-texts-clause-early : goal.returns-in_err-texts-clause-early
-returns-in_err-texts-clause-early c =
-    let p = err_from_is_err_and c.from_residual-in_err-texts.result c.from_residual-in_err-texts.ensures.1 in
-    rw (p.1, p.2) (λ first. early_passed c.args.dbf.now _ first c.in_ok-header.ensures.accepted c.in_ok-schema.ensures.accepted)
+returns-in_err-texts-clause-early c = err_exit _ _ c.from_residual-in_err-texts.ensures.1 (λ first. early_passed c.args.dbf.now _ first c.in_ok-header.ensures.accepted c.in_ok-schema.ensures.accepted)
 
 pub returns-in_err-records-clause-early : goal.returns-in_err-records-clause-early
-returns-in_err-records-clause-early c =
-    let p = err_from_is_err_and c.from_residual-in_err-records.result c.from_residual-in_err-records.ensures.1 in
-    rw (p.1, p.2) (λ first. early_passed c.args.dbf.now _ first c.in_ok-header.ensures.accepted c.in_ok-schema.ensures.accepted)
+returns-in_err-records-clause-early c = err_exit _ _ c.from_residual-in_err-records.ensures.1 (λ first. early_passed c.args.dbf.now _ first c.in_ok-header.ensures.accepted c.in_ok-schema.ensures.accepted)
 
 pub returns-clause-accepted : goal.returns-clause-accepted
 returns-clause-accepted c =

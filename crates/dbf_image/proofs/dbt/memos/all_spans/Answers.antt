@@ -1,3 +1,4 @@
+use Rattle.dbf_image.proofs.Groups.{err_exit}
 use Rattle.std.proofs.Common.{◌-◌, ◌+◌, ◌++◌, List, take, drop, sym, ap, ◌∙◌, append_assoc}
 use Rattle.std.specs.Prelude.{flat_map}
 use Rattle.std.proofs.lemmas.Result.{err_from_is_err_and}
@@ -15,10 +16,8 @@ pub returns-in_err-push_spans-clause-refused : goal.returns-in_err-push_spans-cl
 returns-in_err-push_spans-clause-refused c =
     let tests = row_tests c.args.dbt.now c.args.fields.now in
     let rest = c.loop.rest.now in
-    let p = err_from_is_err_and c.from_residual-in_err-push_spans.result c.from_residual-in_err-push_spans.ensures.1 in
     let given = rw (c.split_at-in-loop.ensures.back, c.split_at.ensures.front) at c.in_err-push_spans.ensures.refused in
-    rw (p.1, p.2, ← c.loop.invariant.left, chunks-more tests c.args.size c.args.count c.loop.counter rest c.loop-test.true)
-    (group_stop (tests (take c.args.size rest)) (flat_map tests (chunks c.args.size (c.args.count - (c.loop.counter + 1)) (drop c.args.size rest))) _ given)
+    err_exit _ _ c.from_residual-in_err-push_spans.ensures.1 (rw (← c.loop.invariant.left, chunks-more tests c.args.size c.args.count c.loop.counter rest c.loop-test.true) (group_stop (tests (take c.args.size rest)) (flat_map tests (chunks c.args.size (c.args.count - (c.loop.counter + 1)) (drop c.args.size rest))) _ given))
 
 pub loop-preserved : goal.loop-preserved
 loop-preserved c =

@@ -1,3 +1,4 @@
+use Rattle.dbf_image.proofs.Groups.{err_exit}
 use Rattle.dbf_image.proofs.Steps.{widths-next}
 use Rattle.std.proofs.Common.{◌≡◌, ◌≤◌, ◌∙◌, arith}
 use Rattle.std.proofs.lemmas.Result.{err_from_is_err_and}
@@ -12,10 +13,8 @@ push_span-requires-clause-few c = λ kind.
 
 pub returns-in_err-push_span-clause-refused : goal.returns-in_err-push_span-clause-refused
 returns-in_err-push_span-clause-refused c =
-    let p = err_from_is_err_and c.from_residual.result c.from_residual.ensures.1 in
     let given = rw (c.split_at.ensures.front, c.from.ensures) at c.in_err-push_span.ensures.refused in
-    rw (p.1, p.2, ← c.loop-field.invariant.left)
-    (tests-stop c.args.dbt.now c.loop-field.rest.now c.args.fields.now c.loop-field.field-index c.field-item.result _ c.loop-field-test.true c.field-item.is given)
+    err_exit _ _ c.from_residual.ensures.1 (rw (← c.loop-field.invariant.left) (tests-stop c.args.dbt.now c.loop-field.rest.now c.args.fields.now c.loop-field.field-index c.field-item.result _ c.loop-field-test.true c.field-item.is given))
 
 pub loop-field-preserved : goal.loop-field-preserved
 loop-field-preserved c =
