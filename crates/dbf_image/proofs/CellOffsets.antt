@@ -1,5 +1,5 @@
 -- Where records, cells and memos stand.
-use Rattle.std.proofs.Common.{◌≡◌, ◌≢◌, ℕ, zero, suc, ◌+◌, ◌-◌, ◌*◌, ◌<◌, ◌≤◌, Bool, true, false, cond, eqb, List, [], ◌∷◌, length, take, drop, get_or, refl, sym, ap, ◌∙◌, arith, inl, inr}
+use Rattle.std.proofs.Common.{◌≡◌, ◌≢◌, ℕ, zero, suc, ◌+◌, ◌-◌, ◌*◌, ◌<◌, ◌≤◌, eqb, List, [], ◌∷◌, length, take, drop, get_or, refl, sym, ap, ◌∙◌, arith, inl, inr}
 use Rattle.std.proofs.lemmas.Bool.{eq-eqb, ne_eqb, cases_Bool}
 use Rattle.std.proofs.lemmas.List.{drop-drop, drop-take, take-take, get_or-take, get_or-drop}
 use Rattle.std.proofs.lemmas.List.Sums.{sum_by-cons}
@@ -8,7 +8,7 @@ use Rattle.dbf_fields.specs.Field.{widths}
 use Rattle.dbf_fields.specs.Layout.{width_of}
 use Rattle.dbf_image.specs.Table.{Row, kind_at}
 use Rattle.dbf_image.specs.DbfText.{chunks, AreRecords}
-use Rattle.dbf_image.specs.Store.{first_memo, memo_count, cells_with, row_with, rows_with, rows_of}
+use Rattle.dbf_image.specs.Store.{memo_count, cells_with, row_with, rows_with, rows_of}
 use Rattle.dbf_image.proofs.Rows.{length-chunks}
 use Rattle.dbf_image.specs.declared.format.TheConstants.{DELETED}
 use Rattle.dbf_fields.specs.declared.format.TheConstants.{MEMO}

@@ -2,9 +2,9 @@
 use Rattle.dbf_image.specs.declared.dbf.header.Header.{Header}
 use Rattle.std.proofs.lemmas.Option.{same_Some}
 use Rattle.std.proofs.Math.Nat.{eq-or-lt_of_le}
-use Rattle.std.proofs.Common.{◌≡◌, ℕ, zero, suc, ◌+◌, ◌-◌, ◌*◌, ◌/◌, ◌<◌, ◌≤◌, Bool, true, false, cond, eqb, leb, Result, Ok, Err, List, [], ◌++◌, length, map, take, drop, Option, Some, None, refl, sym, ap, ◌∙◌, inl, inr, arith}
+use Rattle.std.proofs.Common.{◌≡◌, ℕ, zero, suc, ◌+◌, ◌-◌, ◌*◌, ◌/◌, ◌<◌, ◌≤◌, Bool, true, false, eqb, leb, Result, Ok, Err, List, [], ◌++◌, length, map, take, drop, Option, Some, None, refl, sym, ap, ◌∙◌, inl, inr, arith}
 use Rattle.std.specs.Prelude.{slice_index, is_some, is_none, unwrap_or, not, ◌||◌, ◌⊎◌, IfOk, IfErr, MatchResult}
-use Rattle.std.proofs.lemmas.Bool.{cases_lt, eqb-true, eqb-false, eq-eqb, ne_eqb, leb-true, le-leb, or_cases, or_left, or_right, cond-true, cond-false, cases_Bool, cases_eq}
+use Rattle.std.proofs.lemmas.Bool.{eqb-true, eqb-false, eq-eqb, ne_eqb, leb-true, le-leb, or_cases, or_left, or_right, cond-true, cond-false, cases_Bool, cases_eq}
 use Rattle.dbf_fields.specs.Faults.{first_fault}
 use Rattle.dbf_fields.specs.Field.{folded, widths}
 use Rattle.dbf_fields.specs.Schema as schemas
@@ -34,16 +34,16 @@ pub first_from-some : (test : ℕ → Bool) (i n k : ℕ) → first_from test i 
 first_from-some test i zero k e = absurd cc
 first_from-some test i (suc n) k e = elim (cases_Bool (test i)) [
   | inl here ↦
-    let same : i ≡ k = same_Some i k (rw here at e) in
-    record { not_below = omega arith; below = omega arith; here = rw (← same) here; before = λ j low high. absurd (omega arith) }
+      let same : i ≡ k = same_Some i k (rw here at e) in
+      record { not_below = omega arith; below = omega arith; here = rw (← same) here; before = λ j low high. absurd (omega arith) }
   | inr here ↦
-    let r = first_from-some test (i + 1) n k (rw here at e) in
-    record {
-      not_below = omega (arith, r.not_below);
-      below = omega (arith, r.below);
-      here = r.here;
-      before = λ j low high. elim (cases_eq i j) [ inl same ↦ rw (← same) here | inr other ↦ r.before j (omega arith) high ];
-    }
+      let r = first_from-some test (i + 1) n k (rw here at e) in
+      record {
+        not_below = omega (arith, r.not_below);
+        below = omega (arith, r.below);
+        here = r.here;
+        before = λ j low high. elim (cases_eq i j) [ inl same ↦ rw (← same) here | inr other ↦ r.before j (omega arith) high ];
+      }
 ]
 
 pub first_from-is : (test : ℕ → Bool) (i n k : ℕ) → i ≤ k → k < i + n → test k ≡ true → ((j : ℕ) → i ≤ j → j < k → test j ≡ false) → first_from test i n ≡ Some k

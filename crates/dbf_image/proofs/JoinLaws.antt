@@ -6,7 +6,7 @@ use Rattle.std.specs.Prelude.{flat_map, sum_by}
 use Rattle.std.proofs.lemmas.Bool.{le-leb, lt-leb}
 use Rattle.std.proofs.lemmas.List.{take-append-drop, length-drop, length-map, nil_from_length, length-append}
 use Rattle.std.proofs.lemmas.List.Concat.{flat_map-append}
-use Rattle.std.proofs.lemmas.List.Sums.{sum_by-cons, sum_by-take-drop}
+use Rattle.std.proofs.lemmas.List.Sums.{sum_by-cons}
 use Rattle.std.proofs.lemmas.List.Folds.{flat_map-map}
 use Rattle.std.proofs.Math.Nat.{mul-le-mul_left}
 use Rattle.dbf_fields.specs.declared.field.Field.{Field}
@@ -18,7 +18,7 @@ use Rattle.dbf_image.specs.Table.{Row}
 use Rattle.dbf_image.specs.DbfText.{chunks}
 use Rattle.dbf_image.specs.Store.{text_of, texts_of, memo_count, first_memo, cells_with, rows_with, rows_of}
 use Rattle.dbf_image.proofs.Rows.{length-chunks}
-use Rattle.dbf_image.specs.Blocks.{blocks_of, block_bytes, cells_blocks, cells_memos, rows_blocks, rows_memos}
+use Rattle.dbf_image.specs.Blocks.{blocks_of, block_bytes, cells_memos, rows_blocks, rows_memos}
 use Rattle.dbf_image.specs.declared.format.TheConstants.{MAX_RECORDS, BLOCK}
 use Rattle.dbf_fields.specs.declared.format.TheConstants.{MEMO}
 

@@ -1,16 +1,11 @@
 -- One more cell of a record.
 use Rattle.dbf_image.proofs.Steps.{here}
 use Rattle.dbf_image.proofs.FileLaws.{memos_wide}
-use Rattle.std.proofs.Common.{◌≡◌, ℕ, ◌+◌, ◌<◌, ◌≤◌, true, Bool, List, [], ◌∷◌, ◌++◌, length, take, drop, get_or, Some, None, refl, sym, ap, ◌∙◌, append_assoc, inl, inr, All, arith}
+use Rattle.std.proofs.Common.{◌≡◌, ℕ, ◌+◌, ◌<◌, Bool, List, ◌++◌, length, take, drop, get_or, Some, None, refl, sym, append_assoc, inl, inr, All}
 use Rattle.std.specs.Prelude.{◌⊎◌}
-use Rattle.std.specs.List.{AllByRecursion}
-use Rattle.std.proofs.lemmas.Bool.{eqb-true}
-use Rattle.std.proofs.lemmas.List.{drop_more}
-use Rattle.std.proofs.lemmas.List.Sums.{sum_by-cons}
 use Rattle.std.proofs.lemmas.List.Elements.{All-from_recursion}
 use Rattle.dbf_fields.specs.declared.field.Field.{Field}
 use Rattle.dbf_fields.specs.Faults.{first_fault}
-use Rattle.dbf_fields.specs.Field.{widths, has_width}
 use Rattle.dbf_fields.specs.Schema.{IsSchema}
 use Rattle.dbf_fields.proofs.SchemaLaws.{schema_wide}
 use Rattle.dbf_image.specs.declared.fault.ImageFault.{ImageFault}

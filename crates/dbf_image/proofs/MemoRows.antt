@@ -1,6 +1,6 @@
 -- The texts where the reader finds them are those that the records' cells tell.
 use Rattle.std.proofs.Math.Bool.{or-true}
-use Rattle.std.proofs.Common.{◌≡◌, ℕ, suc, ◌+◌, ◌*◌, Bool, true, false, cond, eqb, leb, List, [], ◌∷◌, ◌++◌, length, map, take, drop, Option, Some, None, refl, ap, ◌∙◌, arith, inl, inr}
+use Rattle.std.proofs.Common.{◌≡◌, ℕ, suc, ◌+◌, ◌*◌, true, false, eqb, leb, List, [], ◌∷◌, ◌++◌, length, map, take, drop, Option, Some, None, refl, ap, ◌∙◌, arith, inl, inr}
 use Rattle.std.specs.Prelude.{flat_map, not, ◌||◌, is_some, unwrap_or}
 use Rattle.std.specs.List.{AllByRecursion, list_all}
 use Rattle.std.proofs.lemmas.Bool.{le-leb, cond-true, or_parts, and_from, cases_Bool}
@@ -14,9 +14,9 @@ use Rattle.dbf_image.specs.declared.table.span.Span.{Span}
 use Rattle.dbf_image.specs.Table.{has_memos}
 use Rattle.dbf_image.specs.Memo.{memo_number, memo_at}
 use Rattle.dbf_image.specs.DbfText.{chunks, AreRecords}
-use Rattle.dbf_image.specs.Store.{text_of, texts_of, IsSpan, memo_count, first_memo, cells_with, rows_with, IsStore}
+use Rattle.dbf_image.specs.Store.{text_of, texts_of, IsSpan, memo_count, cells_with, rows_with, IsStore}
 use Rattle.dbf_image.specs.Reading.{text_tests, memo_tests, memo_text, cell_tests, cell_text, cells_tests, cells_read, row_tests, row_read}
-use Rattle.dbf_image.specs.Spans.{span_of, no_span, memo_span, cell_spans, cells_spans, row_spans, table_tests}
+use Rattle.dbf_image.specs.Spans.{span_of, memo_span, cell_spans, cells_spans, row_spans, table_tests}
 use Rattle.dbf_image.proofs.Rows.{length-chunks}
 use Rattle.dbf_image.proofs.Spans.{all_append, no_span_fits}
 use Rattle.dbf_image.proofs.Ends.{end_inside, prefix_all}

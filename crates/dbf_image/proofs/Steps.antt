@@ -1,9 +1,8 @@
 -- One more cell, and one more record, of those that are written from the next free block on.
 use Rattle.std.proofs.lemmas.Bool.{cases_Bool}
 use Rattle.dbf_image.proofs.Edits.{cells_front}
-use Rattle.std.proofs.Common.{◌≡◌, ℕ, zero, suc, ◌+◌, ◌-◌, ◌*◌, ◌<◌, Bool, true, false, cond, eqb, List, [], ◌∷◌, ◌++◌, length, take, drop, get_or, refl, sym, ap, ◌∙◌, arith, inl, inr}
+use Rattle.std.proofs.Common.{◌≡◌, ℕ, suc, ◌+◌, ◌-◌, ◌*◌, ◌<◌, cond, eqb, List, [], ◌∷◌, ◌++◌, length, take, drop, get_or, refl, sym, ap, ◌∙◌, arith, inl, inr}
 use Rattle.std.specs.Prelude.{flat_map}
-use Rattle.std.specs.List.{AllByRecursion}
 use Rattle.std.proofs.lemmas.List.{drop_more, take-map, drop-map, take-append-drop, length-drop}
 use Rattle.std.proofs.lemmas.List.Sums.{sum_by-cons}
 use Rattle.dbf_fields.specs.declared.field.Field.{Field}
@@ -76,23 +75,23 @@ plain_bytes [] [] memos next none long = refl
 plain_bytes [] (b ∷ bs) memos next none long = absurd (omega arith)
 plain_bytes (f ∷ fs) bytes memos next none long = elim (cases_Bool (eqb f.kind MEMO)) [
   | inl e ↦
-    let some : suc (memo_count fs) ≡ 0 = rw e at none in
-    absurd (omega (arith, some))
+      let some : suc (memo_count fs) ≡ 0 = rw e at none in
+      absurd (omega (arith, some))
   | inr e ↦
-    let sum : widths (f ∷ fs) ≡ f.width + widths fs = sum_by-cons (λ (g : Field). g.width) f fs in
-    let there = plain_bytes fs (drop f.width bytes) memos (next + 0) (rw e at none) (omega (arith, length-drop f.width bytes, sum)) in
-    rw e (rw e (rw there (take-append-drop f.width bytes)))
+      let sum : widths (f ∷ fs) ≡ f.width + widths fs = sum_by-cons (λ (g : Field). g.width) f fs in
+      let there = plain_bytes fs (drop f.width bytes) memos (next + 0) (rw e at none) (omega (arith, length-drop f.width bytes, sum)) in
+      rw e (rw e (rw there (take-append-drop f.width bytes)))
 ]
 
 pub plain_blocks : (fields : List Field) (bytes : List ℕ) (memos : List (List ℕ)) → memo_count fields ≡ 0 → cells_blocks fields (cells_with fields bytes memos) ≡ 0
 plain_blocks [] bytes memos none = refl
 plain_blocks (f ∷ fs) bytes memos none = elim (cases_Bool (eqb f.kind MEMO)) [
   | inl e ↦
-    let some : suc (memo_count fs) ≡ 0 = rw e at none in
-    absurd (omega (arith, some))
+      let some : suc (memo_count fs) ≡ 0 = rw e at none in
+      absurd (omega (arith, some))
   | inr e ↦
-    let there = plain_blocks fs (drop f.width bytes) memos (rw e at none) in
-    rw e (rw e (omega (arith, there)))
+      let there = plain_blocks fs (drop f.width bytes) memos (rw e at none) in
+      rw e (rw e (omega (arith, there)))
 ]
 
 -- ---- records

@@ -1,14 +1,9 @@
 -- Chunks that are written one after the other make the whole.
 use Rattle.dbf_image.proofs.ReadBack.{HasName, names_from}
-use Rattle.std.proofs.Common.{◌≡◌, true, leb, ◌&&◌, All, ℕ, ◌-◌, ◌≤◌, List, [], ◌∷◌, ◌++◌, length, replicate, append_assoc, arith, ap, sym, ◌∙◌, ◌+◌, drop, set}
-use Rattle.std.specs.Prelude.{slice_index, flat_map}
-use Rattle.std.specs.List.{AllByRecursion, list_all}
-use Rattle.std.specs.Char.{is_ascii_alphabetic}
-use Rattle.std.specs.Int.{is_in_range}
-use Rattle.std.proofs.lemmas.Bool.{and_parts, leb-true}
+use Rattle.std.proofs.Common.{◌≡◌, All, ℕ, ◌-◌, ◌≤◌, List, [], ◌∷◌, ◌++◌, length, replicate, append_assoc, arith, ap, sym, ◌∙◌, ◌+◌, drop, set}
+use Rattle.std.specs.Prelude.{flat_map}
 use Rattle.std.proofs.lemmas.List.{drop-replicate, length-append, length-replicate, replicate-append-replicate, set-append_right}
 use Rattle.std.proofs.lemmas.List.Elements.{All-from_recursion}
-use Rattle.dbf_fields.specs.Name.{is_name_char, is_name}
 use Rattle.dbf_fields.specs.Schema.{IsSchema}
 use Rattle.dbf_fields.proofs.SchemaLaws.{schema_names}
 use Rattle.dbf_fields.specs.declared.field.Field.{Field}

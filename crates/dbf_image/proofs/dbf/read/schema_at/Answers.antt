@@ -1,6 +1,5 @@
 use Rattle.std.proofs.Common.{◌≡◌, map, ap, ◌∙◌, arith}
 use Rattle.std.proofs.lemmas.List.{length-take, length-drop}
-use Rattle.std.proofs.lemmas.Result.{err_from_is_err_and}
 use Rattle.dbf_fields.specs.Field.{folded}
 use Rattle.dbf_image.specs.Reading.{fields_of}
 use Rattle.dbf_image.proofs.Groups.{fields_are, fields_pass, fields_fail, err_exit}

@@ -1,7 +1,5 @@
 use Rattle.std.proofs.Common.{List, ℕ, ap, ◌∙◌}
 use Rattle.std.specs.Option.{option_copied}
-use Rattle.std.proofs.lemmas.Result.{err_from_is_err_and}
-use Rattle.dbf_image.specs.declared.dbf.header.Header.{Header}
 use Rattle.dbf_image.specs.Store.{texts_of, rows_of}
 use Rattle.dbf_image.proofs.Groups.{early_by_header, early_by_fields, early_passed, refused_by_header, refused_by_fields, refused_by_records, refused_by_memos, decided_by_memos, err_exit}
 use Rattle.dbf_image.proofs.DbfLaws.{rows_read, tests_read}

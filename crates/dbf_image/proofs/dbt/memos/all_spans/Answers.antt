@@ -1,7 +1,6 @@
 use Rattle.dbf_image.proofs.Groups.{err_exit}
 use Rattle.std.proofs.Common.{◌-◌, ◌+◌, ◌++◌, List, take, drop, sym, ap, ◌∙◌, append_assoc}
 use Rattle.std.specs.Prelude.{flat_map}
-use Rattle.std.proofs.lemmas.Result.{err_from_is_err_and}
 use Rattle.dbf_fields.specs.Faults.{first_fault}
 use Rattle.dbf_image.specs.declared.table.span.Span.{Span}
 use Rattle.dbf_image.specs.DbfText.{chunks}

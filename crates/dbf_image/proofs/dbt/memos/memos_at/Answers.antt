@@ -1,7 +1,6 @@
 use Rattle.std.proofs.Common.{◌≡◌, ◌+◌, true, false, [], ap, sym, ◌∙◌, inr}
 use Rattle.std.specs.Prelude.{unwrap_or}
 use Rattle.std.specs.Option.{option_copied}
-use Rattle.std.proofs.lemmas.Result.{err_from_is_err_and}
 use Rattle.dbf_fields.specs.Field.{widths}
 use Rattle.dbf_image.specs.Table.{has_memos}
 use Rattle.dbf_image.specs.DbfText.{chunks}

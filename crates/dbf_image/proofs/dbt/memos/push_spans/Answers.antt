@@ -1,7 +1,6 @@
 use Rattle.dbf_image.proofs.Groups.{err_exit}
 use Rattle.dbf_image.proofs.Steps.{widths-next}
-use Rattle.std.proofs.Common.{◌≡◌, ◌≤◌, ◌∙◌, arith}
-use Rattle.std.proofs.lemmas.Result.{err_from_is_err_and}
+use Rattle.std.proofs.Common.{◌≡◌, ◌∙◌, arith}
 use Rattle.dbf_image.proofs.MemoLoops.{tests-next, tests-stop, spans-next, memo_fits}
 use Rattle.dbf_image.proofs.dbt.memos.push_spans.Goals as goal
 use Rattle.dbf_fields.specs.declared.format.TheConstants.{MEMO}
