@@ -1,7 +1,8 @@
 -- The memos that are written are read.
+use Rattle.std.proofs.lemmas.List.Folds.{list_all_at}
 use Rattle.std.proofs.Common.{◌≡◌, ℕ, zero, suc, ◌+◌, ◌-◌, ◌*◌, ◌/◌, ◌^◌, ◌<◌, ◌≤◌, true, false, eqb, leb, not, List, [], ◌∷◌, ◌++◌, length, take, replicate, get_or, refl, sym, ap, ◌∙◌, inl, inr, append_assoc, lit<, arith}
 use Rattle.std.specs.List.{AllByRecursion, before_first, position_or_len, list_all}
-use Rattle.std.proofs.lemmas.Bool.{and_parts, leb-true, ne_eqb, not-true, cases_eq, cases_Bool}
+use Rattle.std.proofs.lemmas.Bool.{and_parts, leb-true, ne_eqb, not-true, cases_eq, cases_Bool, true_from_ne_false, true≢false}
 use Rattle.std.proofs.lemmas.List.{take_at, drop_at, get_or_at, get_or_append_left, length-append, length-replicate, take-replicate, nil_from_length}
 use Rattle.std.proofs.lemmas.List.Sums.{position_or_len_is}
 use Rattle.dbf_fields.specs.declared.field.Field.{Field}
@@ -29,9 +30,7 @@ is_text text h =
 -- ---- texts
 
 no_end : (cs : List ℕ) → list_all (λ b. not (eqb b MEMO_END)) cs ≡ true → (k : ℕ) → k < length cs → eqb (get_or cs k 0) MEMO_END ≡ false
-no_end [] h k lt = absurd (omega arith)
-no_end (c ∷ cs) h zero lt = not-true (eqb c MEMO_END) (and_parts (not (eqb c MEMO_END)) (list_all (λ b. not (eqb b MEMO_END)) cs) h).0
-no_end (c ∷ cs) h (suc k) lt = no_end cs (and_parts (not (eqb c MEMO_END)) (list_all (λ b. not (eqb b MEMO_END)) cs) h).1 k (omega arith)
+no_end cs h k lt = not-true _ (true_from_ne_false _ (λ no. true≢false (sym h ∙ list_all_at (λ b. not (eqb b MEMO_END)) cs k 0 lt no)))
 
 text_before : (text more : List ℕ) → list_all (λ b. not (eqb b MEMO_END)) text ≡ true → before_first (λ b. eqb b MEMO_END) (text ++ MEMO_END ∷ more) ≡ text
 text_before text more h =

@@ -215,13 +215,3 @@ dbf_is bytes dbt table d =
       }),
       same,
     )
-
-pub found_from : (r : Result Table ImageFault) (bytes : List ℕ) (dbt : Option (List ℕ)) → IfOk r (λ _. refusal bytes dbt ≡ None) → IfOk r (λ t. t ≡ table_read bytes dbt) → IfOk r (IsDbf bytes dbt)
-found_from (Ok t) bytes dbt h e = rw e (is_dbf bytes dbt h)
-found_from (Err f) bytes dbt h e = tt
-
-pub only_from : (r : Result Table ImageFault) (bytes : List ℕ) (dbt : Option (List ℕ)) (table : Table) → IfOk r (λ t. t ≡ table_read bytes dbt) → IfErr r (λ f. IsRefusal f bytes dbt) → IsDbf bytes dbt table
-    → MatchResult r (λ t. t ≡ table) (λ f. f ≡ NoMemory)
-only_from (Ok t) bytes dbt table e h d = e ∙ (dbf_is bytes dbt table d).1
-only_from (Err f) bytes dbt table e (inl h) d = h
-only_from (Err f) bytes dbt table e (inr h) d = none_some _ f _ (dbf_is bytes dbt table d).0 h

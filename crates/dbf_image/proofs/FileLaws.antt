@@ -2,7 +2,7 @@
 use Rattle.std.proofs.Common.{◌≡◌, ℕ, suc, ◌+◌, ◌*◌, ◌^◌, ◌<◌, ◌≤◌, Bool, true, false, cond, List, [], ◌∷◌, ◌++◌, length, map, drop, Some, refl, sym, ap, ◌∙◌, inl, inr, append_assoc, lit<, arith}
 use Rattle.std.specs.Prelude.{slice_index, flat_map, ◌⊎◌}
 use Rattle.std.specs.List.{AllByRecursion}
-use Rattle.std.proofs.lemmas.Bool.{eqb-true}
+use Rattle.std.proofs.lemmas.Bool.{eqb-true, cases_Bool}
 use Rattle.std.proofs.lemmas.List.{length-append, append-nil, map-id}
 use Rattle.std.proofs.lemmas.List.Sums.{sum_by-cons}
 use Rattle.byteorder.specs.Numbers.{little_number-reads_back}
@@ -18,12 +18,9 @@ use Rattle.dbf_image.proofs.BlockLaws.{AreWide, cells_again, length-cell, length
 use Rattle.dbf_image.specs.declared.format.TheConstants.{BLOCK, END_OF_FILE, HEADER_END}
 use Rattle.dbf_fields.specs.declared.format.TheConstants.{MEMO}
 
-memo_wide : (f : Field) → has_width f ≡ true → f.kind ≡ MEMO → f.width ≡ 10
-memo_wide f h kind = eqb-true f.width 10 (rw kind at h)
-
 pub memos_wide : (fs : List Field) → AllByRecursion (λ f. has_width f ≡ true) fs → AreWide fs
 memos_wide [] h = tt
-memos_wide (f ∷ fs) h = (memo_wide f h.0, memos_wide fs h.1)
+memos_wide (f ∷ fs) h = (λ kind. eqb-true f.width 10 (rw kind at h.0), memos_wide fs h.1)
 
 length-cells : (fields : List Field) (cells : List (List ℕ)) (next : ℕ) → AreWide fields → AreCells fields cells → length (cells_bytes next fields cells) ≡ widths fields
 length-cells [] [] next wide h = refl
@@ -71,10 +68,6 @@ records_again fields (r ∷ rs) dbt front rest next is len some room wide h =
 
 -- ---- the whole files
 
-version_by : (b : Bool) (v : ℕ) → v ≡ cond b 131 3 → (v ≡ 3) ⊎ (v ≡ 131)
-version_by true v e = inr e
-version_by false v e = inl e
-
 pub is_dbf_image : (table : Table) (year month day : ℕ) → IsTable table → next_free table ≤ 4294967295
     → IsDbf (image table year month day) (Some (memo_image table)) table
 is_dbf_image table year month day t room =
@@ -110,7 +103,7 @@ is_dbf_image table year month day t room =
     let chunks_are : chunks (record_length bytes) (record_count bytes) (drop (header_length bytes) bytes) ≡ images = rw (wide, count, header, rest) cut in
     record {
       long = omega (arith, length-append head (body ++ HEADER_END ∷ (records ++ END_OF_FILE ∷ [])));
-      version = version_by (has_memos schema) (slice_index bytes 0) refl;
+      version = elim (cases_Bool (has_memos schema)) [ inl some ↦ inr (rw some refl) | inr none ↦ inl (rw none refl) ];
       field_count = n;
       last_field = end_here head body (records ++ END_OF_FILE ∷ []) (32 + 32 * n) (omega arith);
       not_before = λ i lt. not_here head (body ++ HEADER_END ∷ (records ++ END_OF_FILE ∷ [])) 32 (32 * i) refl (not_end schema (HEADER_END ∷ (records ++ END_OF_FILE ∷ [])) names i lt);

@@ -1,7 +1,7 @@
 -- What the groups of tests say, one after the other.
 use Rattle.std.proofs.lemmas.Option.{same_Some}
 use Rattle.std.proofs.Common.{◌≡◌, ℕ, ◌-◌, Bool, true, false, cond, List, [], ◌∷◌, ◌++◌, length, map, take, drop, Option, Some, None, refl, sym, ◌∙◌, inl, inr, Result, Ok, Err}
-use Rattle.std.specs.Prelude.{is_none, is_some, ◌⊎◌, IfErr, IsErrAnd}
+use Rattle.std.specs.Prelude.{is_none, is_some, ◌⊎◌, IfErr, IsErrAnd, IfOk, MatchResult}
 use Rattle.std.proofs.lemmas.List.{take_rest}
 use Rattle.dbf_fields.specs.Faults.{first_fault}
 use Rattle.dbf_fields.proofs.FaultLaws.{first_then, first_before}
@@ -86,3 +86,15 @@ refused_by_memos bytes dbt fault a b c (inr h) = inr (decided_by_memos bytes dbt
 pub err_exit : {T : Type 0} {fault : ImageFault} (r : Result T ImageFault) (P : ImageFault → Type 0) → IsErrAnd r (λ y. y ≡ fault) → P fault → IfErr r P
 err_exit (Ok x) P e given = tt
 err_exit (Err y) P e given = rw e given
+
+-- what is read, where no test fails,
+pub found_by : {T : Type 0} (r : Result T ImageFault) (value : T) (none : Type 0) (P : T → Type 0) → IfOk r (λ _. none) → IfOk r (λ t. t ≡ value) → (none → P value) → IfOk r P
+found_by (Ok t) value none P h e given = rw e (given h)
+found_by (Err f) value none P h e given = tt
+
+-- and that it is read, unless memory is refused
+pub only_by : {T : Type 0} (r : Result T ImageFault) (value x : T) (o : Option ImageFault) → IfOk r (λ t. t ≡ value) → IfErr r (λ f. (f ≡ NoMemory) ⊎ (o ≡ Some f)) → o ≡ None → value ≡ x
+    → MatchResult r (λ t. t ≡ x) (λ f. f ≡ NoMemory)
+only_by (Ok t) value x o e h none is = e ∙ is
+only_by (Err f) value x o e (inl h) none is = h
+only_by (Err f) value x o e (inr h) none is = none_some _ f _ none h

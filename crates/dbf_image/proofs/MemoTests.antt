@@ -34,16 +34,6 @@ ok_text dbt text n h =
     let b = le-leb _ _ short in
     passes _ _ _ a (passes _ _ _ b refl)
 
-pub text_found : (r : Result (List ℕ) ImageFault) (dbt : List ℕ) (n : ℕ) → IfOk r (λ _. first_fault (text_tests dbt n) ≡ None) → IfOk r (λ t. t ≡ memo_at dbt n) → IfOk r (HasText dbt n)
-text_found (Ok t) dbt n h e = rw e (text_ok dbt n h)
-text_found (Err f) dbt n h e = tt
-
-pub text_only : (r : Result (List ℕ) ImageFault) (dbt : List ℕ) (n : ℕ) (text : List ℕ) → IfOk r (λ t. t ≡ memo_at dbt n)
-    → IfErr r (λ f. (f ≡ NoMemory) ⊎ (first_fault (text_tests dbt n) ≡ Some f)) → HasText dbt n text → MatchResult r (λ t. t ≡ text) (λ f. f ≡ NoMemory)
-text_only (Ok t) dbt n text e h d = e ∙ d.text_is
-text_only (Err f) dbt n text e (inl h) d = h
-text_only (Err f) dbt n text e (inr h) d = none_some _ f _ (ok_text dbt text n d) h
-
 -- ---- a memo's cell
 
 pub some_is : (o : Option ℕ) → is_some o ≡ true → o ≡ Some (unwrap_or o 0)

@@ -36,9 +36,6 @@ pub none_free : (fields : List Field) (rows : List Row) → has_memos fields ≡
 none_free fields [] e = refl
 none_free fields (r ∷ rs) e = omega (arith, no_blocks fields r.cells e, none_free fields rs e)
 
-no_memos : (b o : Bool) → b ≡ false → b ≡ true → o ≡ true
-no_memos b o e h = absurd (true≢false (sym h ∙ e))
-
 pub is_plain_image : (table : Table) (year month day : ℕ) (dbt : Option (List ℕ)) → IsTable table → has_memos table.schema ≡ false
     → IsDbf (image table year month day) dbt table
 is_plain_image table year month day dbt t e =
@@ -56,6 +53,6 @@ is_plain_image table year month day dbt t e =
       wide = r.wide;
       few = r.few;
       whole = r.whole;
-      memos = λ h. no_memos (has_memos table.schema) _ e h;
+      memos = λ h. absurd (true≢false (sym h ∙ e));
       rows = other_records (memo_image table) (unwrap_or dbt []) table.schema _ table.rows e r.rows;
     }

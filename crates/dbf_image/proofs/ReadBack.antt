@@ -1,10 +1,11 @@
 -- The parts of a file that is written are read.
+use Rattle.std.proofs.lemmas.List.Folds.{list_all_at}
 use Rattle.std.proofs.Common.{◌≡◌, ◌≢◌, ℕ, zero, suc, ◌+◌, ◌-◌, ◌*◌, ◌<◌, ◌≤◌, Bool, true, false, cond, eqb, leb, ◌&&◌, List, [], ◌∷◌, ◌++◌, length, map, take, drop, replicate, get_or, refl, sym, ap, ◌∙◌, append_assoc, arith}
 use Rattle.std.specs.Prelude.{slice_index, flat_map}
 use Rattle.std.specs.List.{AllByRecursion, before_first, position_or_len, list_all}
 use Rattle.std.specs.Int.{is_in_range}
 use Rattle.std.specs.Char.{is_ascii_alphabetic}
-use Rattle.std.proofs.lemmas.Bool.{and_parts, leb-true, ne_eqb, true≢false}
+use Rattle.std.proofs.lemmas.Bool.{and_parts, leb-true, ne_eqb, true≢false, true_from_ne_false}
 use Rattle.std.proofs.lemmas.List.{take_at, drop_at, get_or_at, get_or-append_right, get_or_append_left, length-append, length-replicate, get_or-replicate}
 use Rattle.std.proofs.lemmas.List.Sums.{position_or_len_is}
 use Rattle.dbf_fields.specs.declared.field.Field.{Field}
@@ -57,9 +58,7 @@ no_zero zero h = absurd cc
 no_zero (suc c) h = ne_eqb (suc c) 0 (λ e. absurd (omega arith))
 
 no_zeros : (cs : List ℕ) → list_all is_name_char cs ≡ true → (k : ℕ) → k < length cs → eqb (get_or cs k 0) 0 ≡ false
-no_zeros [] h k lt = absurd (omega arith)
-no_zeros (c ∷ cs) h zero lt = no_zero c (and_parts (is_name_char c) (list_all is_name_char cs) h).0
-no_zeros (c ∷ cs) h (suc k) lt = no_zeros cs (and_parts (is_name_char c) (list_all is_name_char cs) h).1 k (omega arith)
+no_zeros cs h k lt = no_zero _ (true_from_ne_false _ (λ no. true≢false (sym h ∙ list_all_at is_name_char cs k 0 lt no)))
 
 name_again : (f : Field) → HasName f → before_first (λ b. eqb b 0) (name_part f) ≡ f.name
 name_again f h =
@@ -84,13 +83,9 @@ field_again f h =
     let decimals : get_or (name_part f ++ rest) 17 0 ≡ f.decimals = get_or-append_right (name_part f) rest 11 17 0 len (omega arith) in
     rw (name, kind, width, decimals) refl
 
--- a letter is not the byte that ends the fields
-no_letter : (c : ℕ) → is_ascii_alphabetic c ≡ true → c ≢ HEADER_END
-no_letter c letter e = absurd (true≢false (sym (rw e at letter)))
-
 letter_no_end : (cs rest : List ℕ) → 1 ≤ length cs → is_ascii_alphabetic (slice_index cs 0) ≡ true → get_or (cs ++ rest) 0 0 ≢ HEADER_END
 letter_no_end [] rest some letter e = absurd (omega arith)
-letter_no_end (c ∷ cs) rest some letter e = no_letter c letter e
+letter_no_end (c ∷ cs) rest some letter e = absurd (true≢false (sym (rw e at letter)))
 
 starts : (f : Field) (rest : List ℕ) → HasName f → get_or (descriptor f ++ rest) 0 0 ≢ HEADER_END
 unfolding descriptor
