@@ -1,6 +1,6 @@
 -- The memos that are written are read.
 use Rattle.std.proofs.lemmas.List.Folds.{list_all_at}
-use Rattle.std.proofs.Common.{◌≡◌, ℕ, zero, suc, ◌+◌, ◌-◌, ◌*◌, ◌/◌, ◌^◌, ◌<◌, ◌≤◌, true, false, eqb, leb, not, List, [], ◌∷◌, ◌++◌, length, take, replicate, get_or, refl, sym, ap, ◌∙◌, inl, inr, append_assoc, lit<, arith}
+use Rattle.std.proofs.Common.{◌≡◌, ℕ, ◌+◌, ◌-◌, ◌*◌, ◌/◌, ◌^◌, ◌<◌, ◌≤◌, true, false, eqb, leb, not, List, [], ◌∷◌, ◌++◌, length, take, replicate, get_or, refl, sym, ap, ◌∙◌, inl, inr, append_assoc, lit<, arith}
 use Rattle.std.specs.List.{AllByRecursion, before_first, position_or_len, list_all}
 use Rattle.std.proofs.lemmas.Bool.{and_parts, leb-true, ne_eqb, not-true, cases_eq, cases_Bool, true_from_ne_false, true≢false}
 use Rattle.std.proofs.lemmas.List.{take_at, drop_at, get_or_at, get_or_append_left, length-append, length-replicate, take-replicate, nil_from_length}

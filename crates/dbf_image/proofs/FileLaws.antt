@@ -1,6 +1,6 @@
 -- The files that are written of a table are files of that table.
-use Rattle.std.proofs.Common.{◌≡◌, ℕ, suc, ◌+◌, ◌*◌, ◌^◌, ◌<◌, ◌≤◌, Bool, true, false, cond, List, [], ◌∷◌, ◌++◌, length, map, drop, Some, refl, sym, ap, ◌∙◌, inl, inr, append_assoc, lit<, arith}
-use Rattle.std.specs.Prelude.{slice_index, flat_map, ◌⊎◌}
+use Rattle.std.proofs.Common.{◌≡◌, ℕ, suc, ◌+◌, ◌*◌, ◌^◌, ◌<◌, ◌≤◌, true, List, [], ◌∷◌, ◌++◌, length, map, drop, Some, refl, sym, ap, ◌∙◌, inl, inr, append_assoc, lit<, arith}
+use Rattle.std.specs.Prelude.{flat_map}
 use Rattle.std.specs.List.{AllByRecursion}
 use Rattle.std.proofs.lemmas.Bool.{eqb-true, cases_Bool}
 use Rattle.std.proofs.lemmas.List.{length-append, append-nil, map-id}
@@ -16,7 +16,6 @@ use Rattle.dbf_image.specs.Image.{header_bytes, descriptor, row_bytes, rows_byte
 use Rattle.dbf_image.proofs.ReadBack.{chunks-join, length-join, names_from, descriptors_long, fields_again, not_end, after_header, end_here, not_here, flag_again}
 use Rattle.dbf_image.proofs.BlockLaws.{AreWide, cells_again, length-cell, length-cells_memos}
 use Rattle.dbf_image.specs.declared.format.TheConstants.{BLOCK, END_OF_FILE, HEADER_END}
-use Rattle.dbf_fields.specs.declared.format.TheConstants.{MEMO}
 
 pub memos_wide : (fs : List Field) → AllByRecursion (λ f. has_width f ≡ true) fs → AreWide fs
 memos_wide [] h = tt

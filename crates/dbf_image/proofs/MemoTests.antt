@@ -1,17 +1,15 @@
 -- The tests of memos' cells and the layout say the same.
-use Rattle.std.proofs.Common.{◌≡◌, ℕ, ◌*◌, ◌≤◌, true, false, eqb, leb, ltb, Result, Ok, Err, List, [], ◌∷◌, length, map, take, drop, Option, Some, None, refl, sym, ap, ◌∙◌, inl, inr, arith}
-use Rattle.std.specs.Prelude.{◌⊎◌, is_some, unwrap_or, flat_map, slice_index, IfOk, IfErr, MatchResult}
+use Rattle.std.proofs.Common.{◌≡◌, ℕ, ◌*◌, ◌≤◌, true, false, eqb, leb, ltb, List, [], ◌∷◌, length, map, take, drop, Option, Some, None, refl, sym, ap, ◌∙◌, inl, inr, arith}
+use Rattle.std.specs.Prelude.{is_some, unwrap_or, flat_map, slice_index}
 use Rattle.std.proofs.lemmas.Bool.{eqb-true, eqb-false, ne_eqb, leb-true, le-leb, lt-ltb, ltb-true, and_parts, and_from, cases_Bool, cases_eq, eq-eqb}
 use Rattle.dbf_fields.specs.declared.field.Field.{Field}
 use Rattle.dbf_fields.specs.Faults.{first_fault}
 use Rattle.dbf_fields.proofs.SchemaLaws.{passed, passes}
-use Rattle.dbf_image.specs.declared.fault.ImageFault.{ImageFault}
-use Rattle.dbf_image.specs.declared.fault.ImageFault.TheVariants.{BadMemoNumber, NoMemory}
+use Rattle.dbf_image.specs.declared.fault.ImageFault.TheVariants.{BadMemoNumber}
 use Rattle.dbf_image.specs.Table.{Row}
 use Rattle.dbf_image.specs.Memo.{memo_number, memo_at, HasText, EncodesMemo, EncodesCell, EncodesCells}
 use Rattle.dbf_image.specs.DbfText.{EncodesRows}
 use Rattle.dbf_image.specs.Reading.{is_block, text_tests, memo_tests, memo_text, cell_tests, cell_text, cells_tests, cells_read, row_tests, row_read}
-use Rattle.dbf_image.proofs.Groups.{none_some}
 use Rattle.dbf_fields.proofs.FaultLaws.{first_then, first_parts}
 use Rattle.dbf_image.specs.declared.format.TheConstants.{BLOCK, DELETED, MAX_MEMO_BYTES}
 use Rattle.dbf_fields.specs.declared.format.TheConstants.{MEMO}
