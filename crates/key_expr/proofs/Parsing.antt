@@ -5,7 +5,7 @@ use Rattle.dbf_fields.specs.Faults.{first_fault}
 use Rattle.key_expr.specs.declared.token.Token.{Token}
 use Rattle.key_expr.specs.declared.fault.ExprFault.{ExprFault}
 use Rattle.key_expr.specs.declared.fault.ExprFault.TheVariants.{ExpressionTooLong, BadSyntax, NoSuchField, NotCharacter, BadArgument, KeyTooLong, NoMemory}
-use Rattle.key_expr.specs.Grammar.{Expr, field, concat, upper, substr, str, dtoc, IsText, IsBadAt, IsRefusal}
+use Rattle.key_expr.specs.Grammar.{Expr, field, concat, upper, substr, str, dtoc, IsText, IsBadAt}
 use Rattle.key_expr.specs.Tokens.{tokens_of}
 use Rattle.key_expr.specs.Rules.{tests, refusal, IsKeyText, Breaks, IsFault}
 use Rattle.key_expr.proofs.Unique.{one_reading}

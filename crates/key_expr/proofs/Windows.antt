@@ -2,9 +2,8 @@
 use Rattle.std.proofs.Common.{◌≡◌, ℕ, ◌+◌, ◌-◌, ◌<◌, ◌≤◌, min, Bool, true, false, List, [], ◌∷◌, ◌++◌, length, map, take, drop, refl, sym, ap, arith, length-drop, length-append, append_assoc, ◌∙◌, zero, suc}
 use Rattle.std.specs.Char.{to_ascii_uppercase}
 use Rattle.std.specs.List.{take-map}
-use Rattle.std.proofs.Math.Seq.{take-nil}
 use Rattle.std.proofs.lemmas.Bool.Decides.{nat_tests}
-use Rattle.std.proofs.lemmas.List.{drop-take, drop-drop, drop_all, drop-map, length-take, length-map, map-append, take_all, append-nil}
+use Rattle.std.proofs.lemmas.List.{drop-take, drop-drop, drop-map, length-take, length-map, map-append, take_all, append-nil}
 use Rattle.key_expr.specs.declared.evaluate.Window.{Window}
 use Rattle.key_expr.specs.Windows.{upper_if, bytes_in}
 

@@ -49,11 +49,6 @@ step (points ∷ s) Comma = Some (number ∷ close ∷ s)
 step (points ∷ s) Close = Some s
 step (points ∷ s) k = None
 
--- where the first token begins
-abbrev pub first_offset : List Token → ℕ
-first_offset [] = 0
-first_offset (t ∷ ts) = t.offset
-
 abbrev pub unexpected_at_end : List Expected → Option ℕ
 unexpected_at_end [] = None
 unexpected_at_end (w ∷ s) = Some 0
@@ -63,8 +58,11 @@ abbrev pub first_unexpected : List Expected → List Token → Option ℕ
 first_unexpected s [] = unexpected_at_end s
 first_unexpected s (t ∷ ts) = elim (step s t.kind) [ None ↦ Some t.offset | Some expected ↦ first_unexpected expected ts ]
 
--- a fault that is answered is the offset of the first token that doesn't fit, but for want of memory
+-- a fault that is answered is that offset, but for want of memory
+abbrev pub IsUnexpectedAt : ExprFault → Option ℕ → Type 0
+IsUnexpectedAt (BadSyntax offset) at = at ≡ Some offset
+IsUnexpectedAt NoMemory at = Unit {0}
+IsUnexpectedAt fault at = ⊥
+
 abbrev pub IsFirstUnexpected : ExprFault → List Expected → List Token → Type 0
-IsFirstUnexpected (BadSyntax offset) s ts = first_unexpected s ts ≡ Some offset
-IsFirstUnexpected NoMemory s ts = Unit {0}
-IsFirstUnexpected fault s ts = ⊥
+IsFirstUnexpected fault s ts = IsUnexpectedAt fault (first_unexpected s ts)

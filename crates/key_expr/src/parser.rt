@@ -9,7 +9,7 @@ ghost use Rattle.key_expr.specs.TokenOffsets.{StandIn};
 ghost use Rattle.dbf_fields.specs.declared.field.Field.{Field};
 ghost use Rattle.key_expr.specs.TreeExpr.{expr_of};
 ghost use Rattle.key_expr.specs.KeptLengths.{KeepsLengths};
-ghost use Rattle.key_expr.specs.Expected.{Expected, expr, more, name, number, open_, close, comma, lengths, points, finish, first_offset, first_unexpected, IsFirstUnexpected};
+ghost use Rattle.key_expr.specs.Expected.{Expected, expr, more, name, number, open_, close, comma, lengths, points, finish, first_unexpected, IsFirstUnexpected};
 ghost use Rattle.key_expr.specs.declared.fault.ExprFault.TheVariants.{BadSyntax};
 
 use crate::check::length_of;
@@ -19,98 +19,11 @@ use crate::tree::Tree;
 use dbf_fields::Field;
 use std::alloc::Global;
 
-// That the first token doesn't fit.
-fn unexpected(tokens: &[Token]) -> ExprFault
-    ensures fault { result ≡ BadSyntax (first_offset tokens.now) }
+// That the token doesn't fit.
+fn unexpected(token: Token) -> ExprFault
+    ensures fault { result ≡ BadSyntax token.offset }
 {
-    match tokens {
-        [token, ..] => ExprFault::BadSyntax(token.offset),
-        [] => ExprFault::BadSyntax(0),
-    }
-}
-
-/// After a closing parenthesis.
-fn skip_close(tokens: &[Token]) -> Result<&[Token], ExprFault>
-    ensures found { IfOk result (λ rest. Begin (Close ∷ []) tokens.now rest.now) }
-    ensures passed { IfOk result (λ rest. (s : List Expected) → first_unexpected (close ∷ s) tokens.now ≡ first_unexpected s rest.now) }
-    ensures refused { IfErr result (λ fault. (s : List Expected) → IsFirstUnexpected fault (close ∷ s) tokens.now) }
-{
-    match tokens {
-        [
-            Token {
-                kind: Kind::Close,
-                ..
-            },
-            rest @ ..,
-        ] => Ok(rest),
-        _ => Err(unexpected(tokens)),
-    }
-}
-
-/// The field whose name is first, and what is after it.
-fn take_name(tokens: &[Token]) -> Result<(usize, &[Token]), ExprFault>
-    ensures found { IfOk result (λ taken. Begin (Name taken.0 ∷ []) tokens.now taken.1.now) }
-    ensures passed { IfOk result (λ taken. (s : List Expected) → first_unexpected (name ∷ s) tokens.now ≡ first_unexpected s taken.1.now) }
-    ensures refused { IfErr result (λ fault. (s : List Expected) → IsFirstUnexpected fault (name ∷ s) tokens.now) }
-{
-    match tokens {
-        [token, rest @ ..] => match token.kind {
-            Kind::Name(index) => Ok((index, rest)),
-            _ => Err(unexpected(tokens)),
-        },
-        [] => Err(unexpected(tokens)),
-    }
-}
-
-/// After an opening parenthesis.
-fn skip_open(tokens: &[Token]) -> Result<&[Token], ExprFault>
-    ensures found { IfOk result (λ rest. Begin (Open ∷ []) tokens.now rest.now) }
-    ensures passed { IfOk result (λ rest. (s : List Expected) → first_unexpected (open_ ∷ s) tokens.now ≡ first_unexpected s rest.now) }
-    ensures refused { IfErr result (λ fault. (s : List Expected) → IsFirstUnexpected fault (open_ ∷ s) tokens.now) }
-{
-    match tokens {
-        [
-            Token {
-                kind: Kind::Open,
-                ..
-            },
-            rest @ ..,
-        ] => Ok(rest),
-        _ => Err(unexpected(tokens)),
-    }
-}
-
-/// After a comma.
-fn skip_comma(tokens: &[Token]) -> Result<&[Token], ExprFault>
-    ensures found { IfOk result (λ rest. Begin (Comma ∷ []) tokens.now rest.now) }
-    ensures passed { IfOk result (λ rest. (s : List Expected) → first_unexpected (comma ∷ s) tokens.now ≡ first_unexpected s rest.now) }
-    ensures refused { IfErr result (λ fault. (s : List Expected) → IsFirstUnexpected fault (comma ∷ s) tokens.now) }
-{
-    match tokens {
-        [
-            Token {
-                kind: Kind::Comma,
-                ..
-            },
-            rest @ ..,
-        ] => Ok(rest),
-        _ => Err(unexpected(tokens)),
-    }
-}
-
-/// The number that is first, and what is after it.
-fn take_number(tokens: &[Token]) -> Result<(u16, &[Token]), ExprFault>
-    ensures found { IfOk result (λ taken. Begin (Number taken.0 ∷ []) tokens.now taken.1.now) }
-    ensures passed { IfOk result (λ taken. (s : List Expected) → first_unexpected (number ∷ s) tokens.now ≡ first_unexpected s taken.1.now) }
-    ensures refused { IfErr result (λ fault. (s : List Expected) → IsFirstUnexpected fault (number ∷ s) tokens.now) }
-{
-    match tokens {
-        [token, rest @ ..] => match token.kind {
-            Kind::Number(n) => Ok((n, rest)),
-            _ => Err(unexpected(tokens)),
-        },
-        [] => Err(unexpected(tokens)),
-    }
+    ExprFault::BadSyntax(token.offset)
 }
 
 /// The first token, and what is after it.
@@ -121,6 +34,74 @@ fn first(tokens: &[Token]) -> Result<(Token, &[Token]), ExprFault>
     match tokens {
         [token, rest @ ..] => Ok((*token, rest)),
         [] => Err(ExprFault::BadSyntax(0)),
+    }
+}
+
+/// After a closing parenthesis.
+fn skip_close(tokens: &[Token]) -> Result<&[Token], ExprFault>
+    ensures found { IfOk result (λ rest. Begin (Close ∷ []) tokens.now rest.now) }
+    ensures shorter { IfOk result (λ rest. length rest.now < length tokens.now) }
+    ensures passed { IfOk result (λ rest. (s : List Expected) → first_unexpected (close ∷ s) tokens.now ≡ first_unexpected s rest.now) }
+    ensures refused { IfErr result (λ fault. (s : List Expected) → IsFirstUnexpected fault (close ∷ s) tokens.now) }
+{
+    let (token, rest) = first(tokens)?;
+    match token.kind {
+        Kind::Close => Ok(rest),
+        _ => Err(unexpected(token)),
+    }
+}
+
+/// The field whose name is first, and what is after it.
+fn take_name(tokens: &[Token]) -> Result<(usize, &[Token]), ExprFault>
+    ensures found { IfOk result (λ taken. Begin (Name taken.0 ∷ []) tokens.now taken.1.now) }
+    ensures passed { IfOk result (λ taken. (s : List Expected) → first_unexpected (name ∷ s) tokens.now ≡ first_unexpected s taken.1.now) }
+    ensures refused { IfErr result (λ fault. (s : List Expected) → IsFirstUnexpected fault (name ∷ s) tokens.now) }
+{
+    let (token, rest) = first(tokens)?;
+    match token.kind {
+        Kind::Name(index) => Ok((index, rest)),
+        _ => Err(unexpected(token)),
+    }
+}
+
+/// After an opening parenthesis.
+fn skip_open(tokens: &[Token]) -> Result<&[Token], ExprFault>
+    ensures found { IfOk result (λ rest. Begin (Open ∷ []) tokens.now rest.now) }
+    ensures shorter { IfOk result (λ rest. length rest.now < length tokens.now) }
+    ensures passed { IfOk result (λ rest. (s : List Expected) → first_unexpected (open_ ∷ s) tokens.now ≡ first_unexpected s rest.now) }
+    ensures refused { IfErr result (λ fault. (s : List Expected) → IsFirstUnexpected fault (open_ ∷ s) tokens.now) }
+{
+    let (token, rest) = first(tokens)?;
+    match token.kind {
+        Kind::Open => Ok(rest),
+        _ => Err(unexpected(token)),
+    }
+}
+
+/// After a comma.
+fn skip_comma(tokens: &[Token]) -> Result<&[Token], ExprFault>
+    ensures found { IfOk result (λ rest. Begin (Comma ∷ []) tokens.now rest.now) }
+    ensures shorter { IfOk result (λ rest. length rest.now < length tokens.now) }
+    ensures passed { IfOk result (λ rest. (s : List Expected) → first_unexpected (comma ∷ s) tokens.now ≡ first_unexpected s rest.now) }
+    ensures refused { IfErr result (λ fault. (s : List Expected) → IsFirstUnexpected fault (comma ∷ s) tokens.now) }
+{
+    let (token, rest) = first(tokens)?;
+    match token.kind {
+        Kind::Comma => Ok(rest),
+        _ => Err(unexpected(token)),
+    }
+}
+
+/// The number that is first, and what is after it.
+fn take_number(tokens: &[Token]) -> Result<(u16, &[Token]), ExprFault>
+    ensures found { IfOk result (λ taken. Begin (Number taken.0 ∷ []) tokens.now taken.1.now) }
+    ensures passed { IfOk result (λ taken. (s : List Expected) → first_unexpected (number ∷ s) tokens.now ≡ first_unexpected s taken.1.now) }
+    ensures refused { IfErr result (λ fault. (s : List Expected) → IsFirstUnexpected fault (number ∷ s) tokens.now) }
+{
+    let (token, rest) = first(tokens)?;
+    match token.kind {
+        Kind::Number(n) => Ok((n, rest)),
+        _ => Err(unexpected(token)),
     }
 }
 
@@ -138,6 +119,7 @@ fn take_field(tokens: &[Token]) -> Result<(usize, &[Token]), ExprFault>
 /// The number after a comma, and what is after it.
 fn take_argument(tokens: &[Token]) -> Result<(u16, &[Token]), ExprFault>
     ensures found { IfOk result (λ taken. Begin (Comma ∷ Number taken.0 ∷ []) tokens.now taken.1.now) }
+    ensures shorter { IfOk result (λ taken. length taken.1.now < length tokens.now) }
     ensures passed { IfOk result (λ taken. (s : List Expected) → first_unexpected (comma ∷ number ∷ s) tokens.now ≡ first_unexpected s taken.1.now) }
     ensures refused { IfErr result (λ fault. (s : List Expected) → IsFirstUnexpected fault (comma ∷ number ∷ s) tokens.now) }
 {
@@ -161,7 +143,7 @@ fn take_lengths(tokens: &[Token]) -> Result<(Option<u16>, Option<u16>, &[Token])
             let (decimals, after) = take_decimals(tail)?;
             Ok((Some(n), decimals, after))
         }
-        _ => Err(ExprFault::BadSyntax(token.offset)),
+        _ => Err(unexpected(token)),
     }
 }
 
@@ -179,12 +161,13 @@ fn take_decimals(tokens: &[Token]) -> Result<(Option<u16>, &[Token]), ExprFault>
             let after = skip_close(tail)?;
             Ok((Some(n), after))
         }
-        _ => Err(ExprFault::BadSyntax(token.offset)),
+        _ => Err(unexpected(token)),
     }
 }
 
 /// A term, and what is after it.
 #[cycle(reader)]
+#[tactic(auto, using(crate::proofs::ExpectedSteps::begin_then, crate::proofs::ExpectedSteps::begin_first, crate::specs::Grammar::field_term, crate::specs::Grammar::dtoc_term))]
 fn read_term<'a>(
     alloc: Global,
     fields: &[Field],
@@ -228,12 +211,13 @@ fn read_term<'a>(
             let (length, decimals, after) = take_lengths(tail)?;
             Ok((Tree::Str(index, length, decimals), after))
         }
-        _ => Err(ExprFault::BadSyntax(token.offset)),
+        _ => Err(unexpected(token)),
     }
 }
 
 /// An expression that is as long as it can be, and what is after it.
 #[cycle(reader)]
+#[tactic(auto, using(crate::specs::Grammar::one_term, crate::specs::Grammar::sum))]
 fn read_expr<'a>(
     alloc: Global,
     fields: &[Field],
@@ -295,13 +279,14 @@ fn skip_end(tokens: &[Token]) -> Result<(), ExprFault>
             },
             second,
             ..
-        ] => Err(ExprFault::BadSyntax(second.offset)),
-        [token, ..] => Err(ExprFault::BadSyntax(token.offset)),
+        ] => Err(unexpected(*second)),
+        [token, ..] => Err(unexpected(*token)),
         [] => Err(ExprFault::BadSyntax(0)),
     }
 }
 
 /// The tree of the tokens of a whole text.
+#[tactic(auto, using(crate::proofs::BadOffsets::refusal_at))]
 pub(crate) fn read_tokens(
     alloc: Global,
     fields: &[Field],
