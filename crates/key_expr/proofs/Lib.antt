@@ -1,6 +1,5 @@
 pub mod ExpectedSteps
 pub mod Fits
-pub mod FitsByStep
 pub mod BadOffsets
 pub mod Unique
 pub mod Windows

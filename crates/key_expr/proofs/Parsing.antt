@@ -1,5 +1,6 @@
 -- What the parts of the reader say of a text.
 use Rattle.std.proofs.Common.{◌≡◌, ℕ, ◌≤◌, Bool, true, false, List, [], ◌∷◌, ◌++◌, length, Some, None, refl, sym, ◌∙◌, arith, subst, append_assoc}
+use Rattle.std.specs.List.{AllByRecursion}
 use Rattle.dbf_fields.specs.declared.field.Field.{Field}
 use Rattle.dbf_fields.specs.Faults.{first_fault}
 use Rattle.key_expr.specs.declared.token.Token.{Token}
@@ -10,54 +11,41 @@ use Rattle.key_expr.specs.Tokens.{tokens_of}
 use Rattle.key_expr.specs.Rules.{tests, refusal, IsKeyText, Breaks, IsFault}
 use Rattle.key_expr.proofs.Unique.{one_reading}
 
--- the faults of the rules on fields and arguments
-abbrev pub IsRule : ExprFault → Type 0
-IsRule NoSuchField = Unit {0}
-IsRule NotCharacter = Unit {0}
-IsRule BadArgument = Unit {0}
-IsRule KeyTooLong = Unit {0}
-IsRule fault = ⊥
+-- a fault of the rules on fields and arguments
+abbrev IsRule : ExprFault → Type 0
+IsRule f = (fields : List Field) (text : List ℕ) → Breaks f fields text → IsFault f fields text
 
 abbrev AreRules : List (Bool × ExprFault) → Type 0
-AreRules [] = Unit {0}
-AreRules (t ∷ ts) = IsRule t.1 × AreRules ts
+AreRules ts = AllByRecursion (λ t. IsRule t.1) ts
 
 rules_both : (xs ys : List (Bool × ExprFault)) → AreRules xs → AreRules ys → AreRules (xs ++ ys)
 rules_both [] ys a b = b
 rules_both (t ∷ xs) ys a b = (a.0, rules_both xs ys a.1 b)
 
+broken : (f : ExprFault) (fields : List Field) (text : List ℕ) → Breaks f fields text → Breaks f fields text
+broken f fields text b = b
+
+field_rules : AreRules ((true, NoSuchField) ∷ (true, NotCharacter) ∷ [])
+field_rules = (broken NoSuchField, (broken NotCharacter, tt))
+
 rules_of : (fields : List Field) (e : Expr) → AreRules (tests fields e)
-rules_of fields (field i) = (tt, (tt, tt))
+rules_of fields (field i) = field_rules
 rules_of fields (concat a b) = rules_both (tests fields a) (tests fields b) (rules_of fields a) (rules_of fields b)
 rules_of fields (upper a) = rules_of fields a
-rules_of fields (substr a from count) = rules_both (tests fields a) _ (rules_of fields a) (tt, tt)
-rules_of fields (str i n d) = (tt, (tt, (tt, tt)))
-rules_of fields (dtoc i) = (tt, (tt, tt))
-
-some_same : (f g : ExprFault) → Some g ≡ Some f → g ≡ f
-some_same f g e = cc
+rules_of fields (substr a from count) = rules_both (tests fields a) _ (rules_of fields a) (broken BadArgument, tt)
+rules_of fields (str i n d) = (field_rules.0, (field_rules.1.0, (broken BadArgument, tt)))
+rules_of fields (dtoc i) = field_rules
 
 rule_first : (ts : List (Bool × ExprFault)) (f : ExprFault) → AreRules ts → first_fault ts ≡ Some f → IsRule f
 rule_first [] f a e = absurd cc
 rule_first ((true, g) ∷ ts) f a e = rule_first ts f a.1 e
-rule_first ((false, g) ∷ ts) f a e = subst (λ (h : ExprFault). IsRule h) (some_same f g e) a.0
-
-rule_refusal : (fields : List Field) (e : Expr) (f : ExprFault) → refusal fields e ≡ Some f → IsRule f
-rule_refusal fields e f h = rule_first _ f (rules_both (tests fields e) _ (rules_of fields e) (tt, tt)) h
-
-breaks_rule : (f : ExprFault) (fields : List Field) (text : List ℕ) → IsRule f → Breaks f fields text → IsFault f fields text
-breaks_rule NoSuchField fields text r b = b
-breaks_rule NotCharacter fields text r b = b
-breaks_rule BadArgument fields text r b = b
-breaks_rule KeyTooLong fields text r b = b
-breaks_rule ExpressionTooLong fields text r b = absurd r
-breaks_rule (BadSyntax p) fields text r b = absurd r
-breaks_rule NoMemory fields text r b = absurd r
+rule_first ((false, g) ∷ ts) f a e = let same : g ≡ f = cc in subst IsRule same a.0
 
 -- an expression that breaks a rule
 pub fault_of_rule : (fields : List Field) (text : List ℕ) (e : Expr) (f : ExprFault) → length text ≤ 488
     → IsText e (tokens_of fields text) → refusal fields e ≡ Some f → IsFault f fields text
-fault_of_rule fields text e f short t h = breaks_rule f fields text (rule_refusal fields e f h) (short, (e, t, h))
+fault_of_rule fields text e f short t h =
+    rule_first _ f (rules_both (tests fields e) _ (rules_of fields e) (broken KeyTooLong, tt)) h fields text (short, (e, t, h))
 
 -- a text is one expression
 pub one_expr : (fields : List Field) (text : List ℕ) (e f : Expr) → IsKeyText fields text e → IsKeyText fields text f → e ≡ f
@@ -81,7 +69,4 @@ pub memory_only : (fields : List Field) (text : List ℕ) (e : Expr) (f : ExprFa
 memory_only fields text e NoMemory k h = refl
 memory_only fields text e ExpressionTooLong k h = absurd (omega (arith, k.short, h))
 memory_only fields text e (BadSyntax p) k h = absurd (not_bad p (tokens_of fields text) e h.1 k.read)
-memory_only fields text e NoSuchField k h = absurd (not_broken fields text e NoSuchField k h)
-memory_only fields text e NotCharacter k h = absurd (not_broken fields text e NotCharacter k h)
-memory_only fields text e BadArgument k h = absurd (not_broken fields text e BadArgument k h)
-memory_only fields text e KeyTooLong k h = absurd (not_broken fields text e KeyTooLong k h)
+memory_only fields text e f k h = absurd (not_broken fields text e f k h)

@@ -18,36 +18,27 @@ pub data Expected : Type 0 where
   lengths : Expected
   points : Expected
 
--- what is expected after a token of the kind, where it fits
+-- what is expected after a token of the kind, where it fits; after the end nothing is
 abbrev pub step : List Expected → Kind → Option (List Expected)
-step [] k = None
 step (expr ∷ s) Open = Some (expr ∷ close ∷ more ∷ s)
 step (expr ∷ s) Upper = Some (open_ ∷ expr ∷ close ∷ more ∷ s)
 step (expr ∷ s) Substr = Some (open_ ∷ expr ∷ comma ∷ number ∷ comma ∷ number ∷ close ∷ more ∷ s)
 step (expr ∷ s) Str = Some (open_ ∷ name ∷ lengths ∷ more ∷ s)
 step (expr ∷ s) Dtoc = Some (open_ ∷ name ∷ close ∷ more ∷ s)
 step (expr ∷ s) (Name p) = Some (more ∷ s)
-step (expr ∷ s) k = None
 step (more ∷ s) Plus = Some (expr ∷ s)
 step (more ∷ s) k = step s k
 step (name ∷ s) (Name p) = Some s
-step (name ∷ s) k = None
 step (number ∷ s) (Number n) = Some s
-step (number ∷ s) k = None
 step (open_ ∷ s) Open = Some s
-step (open_ ∷ s) k = None
 step (close ∷ s) Close = Some s
-step (close ∷ s) k = None
 step (comma ∷ s) Comma = Some s
-step (comma ∷ s) k = None
-step (finish ∷ s) End = Some s
-step (finish ∷ s) k = None
+step (finish ∷ s) End = Some []
 step (lengths ∷ s) Comma = Some (number ∷ points ∷ s)
 step (lengths ∷ s) Close = Some s
-step (lengths ∷ s) k = None
 step (points ∷ s) Comma = Some (number ∷ close ∷ s)
 step (points ∷ s) Close = Some s
-step (points ∷ s) k = None
+step s k = None
 
 abbrev pub unexpected_at_end : List Expected → Option ℕ
 unexpected_at_end [] = None

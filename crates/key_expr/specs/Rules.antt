@@ -55,7 +55,4 @@ abbrev pub IsFault : ExprFault → List Field → List ℕ → Type 0
 IsFault ExpressionTooLong fields text = MAX_EXPRESSION_BYTES < length text
 IsFault (BadSyntax offset) fields text = (length text ≤ MAX_EXPRESSION_BYTES) × IsBadAt offset (tokens_of fields text)
 IsFault NoMemory fields text = Unit {0}
-IsFault NoSuchField fields text = Breaks NoSuchField fields text
-IsFault NotCharacter fields text = Breaks NotCharacter fields text
-IsFault BadArgument fields text = Breaks BadArgument fields text
-IsFault KeyTooLong fields text = Breaks KeyTooLong fields text
+IsFault fault fields text = Breaks fault fields text
