@@ -93,6 +93,7 @@ fn put_window(out: &mut Key, bytes: &[u8], window: Window)
 }
 
 // What the number in a field's cell prints.
+#[tactic(auto, using(crate::proofs::KeptRules::str_kept))]
 fn str_of_cell(
     schema: &Schema,
     record_bytes: &[u8],
@@ -113,6 +114,7 @@ fn str_of_cell(
 }
 
 /// Puts the wanted bytes of the key of an expression at the end of a key.
+#[tactic(auto, using(crate::proofs::KeptRules::kept_concat, crate::proofs::KeptRules::kept_substr, crate::proofs::Windows::bytes_within, crate::proofs::Windows::window_upper))]
 pub(crate) fn put(out: &mut Key, tree: &Tree, schema: &Schema, record_bytes: &[u8], window: Window)
     requires whole { length record_bytes.now ≡ 1 + widths schema.now }
     requires kept { first_fault (tests schema.now (expr_of tree.now)) ≡ None }

@@ -52,6 +52,7 @@ impl Model for KeyExpr {
 }
 
 // The tree of a text and the length of its keys.
+#[tactic(auto, using(crate::proofs::Parsing::fault_of_rule))]
 fn read_text(alloc: Global, text: &[u8], fields: &[Field]) -> Result<(Tree, usize), ExprFault>
     ensures read { IfOk result (λ pair. IsKeyText fields.now text.now (expr_of pair.0)) }
     ensures lengths { IfOk result (λ pair. KeepsLengths fields.now pair.0) }
@@ -96,6 +97,7 @@ impl KeyExpr {
     /// `NoSuchField`, `NotCharacter` for a field of another kind than is asked for there, and `BadArgument`;
     /// `KeyTooLong` for keys over 100 bytes. `NoMemory` may stand in place of what would have come after the
     /// growth that was refused, so never for a text over 488 bytes.
+    #[tactic(auto, using(crate::proofs::Parsing::memory_only, crate::proofs::Parsing::one_expr))]
     pub fn parse(alloc: Global, text: &[u8], schema: &Schema) -> Result<KeyExpr, ExprFault>
         ensures text { IfOk result (λ e. e.text ≡ text.now) }
         ensures fields { IfOk result (λ e. e.fields ≡ schema.now) }
@@ -127,6 +129,7 @@ impl KeyExpr {
     }
 
     /// How many bytes each key has, 1 to `MAX_KEY_BYTES`. Takes no memory.
+    #[tactic(auto, using(crate::proofs::KeptRules::key_some, crate::proofs::KeptRules::refusal_tests, crate::proofs::KeptRules::refusal_short))]
     pub fn key_len(&self) -> usize
         ensures value { result ≡ key_length self.now.fields self.now.expr }
         ensures some { 1 ≤ result }
@@ -137,6 +140,7 @@ impl KeyExpr {
 
     /// The key of a record, which is lent as its bytes: the flag, then the cells in the order of the fields.
     /// Takes no memory.
+    #[tactic(auto, using(crate::proofs::KeptRules::refusal_tests, crate::proofs::KeptRules::refusal_short, crate::proofs::KeyLengths::key_length_is, crate::proofs::Windows::whole_window))]
     pub fn key_of(&self, record_bytes: &[u8]) -> Key
         requires long { length record_bytes.now ≡ 1 + widths self.now.fields }
         ensures key { result ≡ key (cells_of self.now.fields (drop 1 record_bytes.now)) self.now.expr }
