@@ -1,5 +1,5 @@
 -- No byte of a key expression's text is zero: a zero begins no token, and stands in none.
-use Rattle.std.proofs.Common.{◌≡◌, ◌≢◌, ℕ, zero, suc, ◌+◌, ◌-◌, Bool, true, false, not, cond, eqb, List, [], ◌∷◌, length, take, Option, Some, None, refl, sym, ap, ◌∙◌, subst, arith}
+use Rattle.std.proofs.Common.{◌≡◌, ◌≢◌, ℕ, zero, suc, ◌+◌, ◌-◌, Bool, true, false, not, cond, eqb, List, [], ◌∷◌, length, take, Option, Some, None, refl, sym, ap, ◌∙◌, arith}
 use Rattle.std.specs.List.{AllByRecursion}
 use Rattle.std.specs.Char.{is_ascii_alphabetic, is_ascii_digit}
 use Rattle.std.proofs.lemmas.Bool.{eqb-true, true≢false}
@@ -7,10 +7,12 @@ use Rattle.dbf_fields.specs.declared.field.Field.{Field}
 use Rattle.dbf_fields.specs.Name.{is_name_char}
 use Rattle.key_expr.specs.declared.token.Token.{Token}
 use Rattle.key_expr.specs.declared.token.Kind.{Kind}
-use Rattle.key_expr.specs.declared.token.Kind.TheVariants.{Plus, Open, Close, Comma, Upper, Substr, Str, Dtoc, Name, Number, End, Bad}
-use Rattle.key_expr.specs.Grammar.{Expr, Begin, EndsPoints, EndsWith, Sort, Reads, one_term, sum, field_term, parens_term, upper_term, substr_term, str_term, dtoc_term}
+use Rattle.key_expr.specs.declared.token.Kind.TheVariants.{Bad}
+use Rattle.key_expr.specs.Grammar.{Expr}
+use Rattle.key_expr.specs.Expected.{Expected, more, step, first_unexpected}
 use Rattle.key_expr.specs.Rules.{IsKeyText}
 use Rattle.key_expr.specs.Tokens.{tokens_after, token_length, kind_of, prefix_length}
+use Rattle.key_expr.proofs.ExpectedSteps.{text_fits}
 
 abbrev is_of_grammar : Kind → Bool
 is_of_grammar Bad = false
@@ -24,34 +26,23 @@ NoZero bs = AllByRecursion (λ b. b ≢ 0) bs
 
 -- ---- the tokens of an expression are all of the grammar
 
-begin_of_grammar : (ks : List Kind) (ts rest : List Token) → AllByRecursion (λ k. is_of_grammar k ≡ true) ks → Begin ks ts rest → AreOfGrammar rest → AreOfGrammar ts
-begin_of_grammar [] ts rest g b h = subst AreOfGrammar (sym b) h
-begin_of_grammar (k ∷ ks) [] rest g b h = absurd b
-begin_of_grammar (k ∷ ks) (t ∷ ts) rest g b h = (ap is_of_grammar b.0 ∙ g.0, begin_of_grammar ks ts rest g.1 b.1 h)
+bad_fits_none : (s : List Expected) → step s Bad ≡ None
+bad_fits_none (more ∷ s) = bad_fits_none s
+bad_fits_none s = refl
 
-points_of_grammar : (d : Option ℕ) (ts rest : List Token) → EndsPoints d ts rest → AreOfGrammar rest → AreOfGrammar ts
-points_of_grammar None ts rest b h = begin_of_grammar (Close ∷ []) ts rest (refl, tt) b h
-points_of_grammar (Some d) ts rest b h = begin_of_grammar (Comma ∷ Number d ∷ Close ∷ []) ts rest (refl, (refl, (refl, tt))) b h
+fits_of_grammar : (s w : List Expected) (k : Kind) → step s k ≡ Some w → is_of_grammar k ≡ true
+fits_of_grammar s w Bad e = let none = bad_fits_none s in cc
+fits_of_grammar s w k e = refl
 
-ends_of_grammar : (n d : Option ℕ) (ts rest : List Token) → EndsWith n d ts rest → AreOfGrammar rest → AreOfGrammar ts
-ends_of_grammar None None ts rest b h = begin_of_grammar (Close ∷ []) ts rest (refl, tt) b h
-ends_of_grammar None (Some d) ts rest b h = absurd b
-ends_of_grammar (Some n) d ts rest b h = begin_of_grammar (Comma ∷ Number n ∷ []) ts b.0 (refl, (refl, tt)) b.1 (points_of_grammar d b.0 rest b.2 h)
+next_of_grammar : (s : List Expected) (t : Token) (ts : List Token) (o : Option (List Expected)) → step s t.kind ≡ o
+    → ((w : List Expected) → first_unexpected w ts ≡ None → AreOfGrammar ts)
+    → ◌≡◌ {A = Option ℕ} (elim o [ None ↦ Some t.offset | Some w ↦ first_unexpected w ts ]) None → AreOfGrammar (t ∷ ts)
+next_of_grammar s t ts None e later m = absurd cc
+next_of_grammar s t ts (Some w) e later m = (fits_of_grammar s w t.kind e, later w m)
 
-reads_of_grammar : {so : Sort} {e : Expr} {ts us : List Token} → Reads so e ts us → AreOfGrammar us → AreOfGrammar ts
-reads_of_grammar (one_term d) h = reads_of_grammar d h
-reads_of_grammar (sum {us = us} {vs = vs} d b d2) h = reads_of_grammar d (begin_of_grammar (Plus ∷ []) us vs (refl, tt) b (reads_of_grammar d2 h))
-reads_of_grammar (field_term {p = p} {ts = ts} {rest = r} b) h = begin_of_grammar (Name p ∷ []) ts r (refl, tt) b h
-reads_of_grammar (parens_term {ts = ts} {us = us} {vs = vs} {rest = r} a d b) h =
-    begin_of_grammar (Open ∷ []) ts us (refl, tt) a (reads_of_grammar d (begin_of_grammar (Close ∷ []) vs r (refl, tt) b h))
-reads_of_grammar (upper_term {ts = ts} {us = us} {vs = vs} {rest = r} a d b) h =
-    begin_of_grammar (Upper ∷ Open ∷ []) ts us (refl, (refl, tt)) a (reads_of_grammar d (begin_of_grammar (Close ∷ []) vs r (refl, tt) b h))
-reads_of_grammar (substr_term {from = n} {count = m} {ts = ts} {us = us} {vs = vs} {rest = r} a d b) h =
-    begin_of_grammar (Substr ∷ Open ∷ []) ts us (refl, (refl, tt)) a
-    (reads_of_grammar d (begin_of_grammar (Comma ∷ Number n ∷ Comma ∷ Number m ∷ Close ∷ []) vs r (refl, (refl, (refl, (refl, (refl, tt))))) b h))
-reads_of_grammar (str_term {p = p} {n = n} {d = d} {ts = ts} {rest = r} us a b) h =
-    begin_of_grammar (Str ∷ Open ∷ Name p ∷ []) ts us (refl, (refl, (refl, tt))) a (ends_of_grammar n d us r b h)
-reads_of_grammar (dtoc_term {p = p} {ts = ts} {rest = r} b) h = begin_of_grammar (Dtoc ∷ Open ∷ Name p ∷ Close ∷ []) ts r (refl, (refl, (refl, (refl, tt)))) b h
+tokens_of_grammar : (s : List Expected) (ts : List Token) → first_unexpected s ts ≡ None → AreOfGrammar ts
+tokens_of_grammar s [] m = tt
+tokens_of_grammar s (t ∷ ts) m = next_of_grammar s t ts (step s t.kind) refl (λ w. tokens_of_grammar w ts) m
 
 -- ---- bytes whose tokens are all of the grammar
 
@@ -102,4 +93,4 @@ bytes_no_zero fields whole zero (b ∷ bs) h g =
 
 pub no_zero : (fields : List Field) (text : List ℕ) (e : Expr) → IsKeyText fields text e → AllByRecursion (λ b. b ≢ 0) text
 no_zero fields text e k =
-    bytes_no_zero fields (length text) zero text tt (reads_of_grammar k.read.1 (begin_of_grammar (End ∷ []) k.read.0 [] (refl, tt) k.read.2 tt))
+    bytes_no_zero fields (length text) zero text tt (tokens_of_grammar _ _ (text_fits e _ k.read))
