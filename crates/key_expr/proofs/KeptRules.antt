@@ -45,14 +45,7 @@ schema_wide_at fields i d s h = wide_at fields i d (schema_wide fields s) h
 number_width : (kind width decimals : ℕ) (other : Bool) → kind ≡ 78
     → cond (eqb kind 67) (leb 1 width && leb width 254) (cond (eqb kind 78) ((leb 1 width && leb width 19) && (eqb decimals 0 || ltb decimals width)) other) ≡ true
     → (width ≤ 19) × (decimals < 19)
-number_width kind width decimals other e h =
-    let k = rw e at h in
-    let both = and_parts (leb 1 width && leb width 19) (eqb decimals 0 || ltb decimals width) k in
-    let ends = and_parts (leb 1 width) (leb width 19) both.0 in
-    let at_most : leb width 19 ≡ true = ends.1 in
-    let at_least : leb 1 width ≡ true = ends.0 in
-    let few : (eqb decimals 0 || ltb decimals width) ≡ true = both.1 in
-    (grind (arith, nat_tests, at_most), grind (arith, nat_tests, at_most, few))
+number_width kind width decimals other e h = let k = rw e at h in (grind (arith, nat_tests, k), grind (arith, nat_tests, k))
 
 -- a STR that keeps the rules
 pub record IsStrKept (fields : List Field) (i : ℕ) (n d : Option ℕ) (f : Field) : Type 0 where
@@ -76,20 +69,14 @@ str_kept fields i n d default s e =
     let number : (get_or fields i default).kind ≡ 78 = grind (arith, nat_tests, kind) in
     let f = get_or fields i default in
     let prints : (eqb (decimals_given d) f.decimals && (leb f.width (length_given n) && leb (length_given n) 100)) ≡ true = rw (got, can_print) at p3.0 in
-    let both = and_parts (eqb (decimals_given d) f.decimals) (leb f.width (length_given n) && leb (length_given n) 100) prints in
-    let range = and_parts (leb f.width (length_given n)) (leb (length_given n) 100) both.1 in
-    let same : eqb (decimals_given d) f.decimals ≡ true = both.0 in
-    let short : leb (length_given n) 100 ≡ true = range.1 in
-    let fits : leb f.width (length_given n) ≡ true = range.0 in
-    let holds : f.width ≤ length_given n = grind (arith, nat_tests, fits) in
     let wide : (f.width ≤ 19) × (f.decimals < 19) = number_width _ _ _ _ number (schema_wide_at fields i default s there) in
     record {
       there = there;
       narrow = omega (arith, width_at fields i default there, wide.0);
-      fits = omega (arith, width_at fields i default there, holds);
+      fits = let wide_enough : f.width ≤ length_given n = grind (arith, nat_tests, prints) in omega (arith, width_at fields i default there, wide_enough);
       few = wide.1;
-      same = grind (arith, nat_tests, same);
-      short = grind (arith, nat_tests, short);
+      same = grind (arith, nat_tests, prints);
+      short = grind (arith, nat_tests, prints);
     }
 
 -- no width is nothing
@@ -97,14 +84,7 @@ some_width : (character number truth date : Bool) (width decimals : ℕ)
     → cond character (leb 1 width && leb width 254) (cond number ((leb 1 width && leb width 19) && (eqb decimals 0 || ltb decimals width))
     (cond truth (eqb width 1) (cond date (eqb width 8) (eqb width 10)))) ≡ true
     → 1 ≤ width
-some_width true n l d width decimals h =
-    let least : leb 1 width ≡ true = (and_parts (leb 1 width) (leb width 254) h).0 in grind (arith, nat_tests, least)
-some_width false true l d width decimals h =
-    let both : (leb 1 width && leb width 19) ≡ true = (and_parts (leb 1 width && leb width 19) (eqb decimals 0 || ltb decimals width) h).0 in
-    let least : leb 1 width ≡ true = (and_parts (leb 1 width) (leb width 19) both).0 in grind (arith, nat_tests, least)
-some_width false false true d width decimals h = grind (arith, nat_tests, h)
-some_width false false false true width decimals h = grind (arith, nat_tests, h)
-some_width false false false false width decimals h = grind (arith, nat_tests, h)
+some_width character number truth date width decimals h = grind (arith, nat_tests)
 
 width_some : (fields : List Field) (i : ℕ) (d : Field) → IsSchema fields → i < length fields → 1 ≤ width_of fields i
 width_some fields i d s there =
@@ -118,16 +98,7 @@ no_field = record { name = []; kind = 0; width = 0; decimals = 0 }
 
 -- a part of a key has at least one byte
 substr_some : (long from count : ℕ) → ((leb 1 from && leb from long) && leb 1 count) ≡ true → 1 ≤ min count (long - (from - 1))
-substr_some long from count h =
-    let both = and_parts (leb 1 from && leb from long) (leb 1 count) h in
-    let ends = and_parts (leb 1 from) (leb from long) both.0 in
-    let first : leb 1 from ≡ true = ends.0 in
-    let last : leb from long ≡ true = ends.1 in
-    let some : leb 1 count ≡ true = both.1 in
-    let a : 1 ≤ from = grind (arith, nat_tests, first) in
-    let b : from ≤ long = grind (arith, nat_tests, last) in
-    let c : 1 ≤ count = grind (arith, nat_tests, some) in
-    omega (arith, a, b, c)
+substr_some long from count h = grind (arith, nat_tests)
 
 pub key_some : (fields : List Field) (e : Expr) → IsSchema fields → first_fault (tests fields e) ≡ None → 1 ≤ key_length fields e
 key_some fields (field i) s h = width_some fields i no_field s (field_there fields i 67 h)
