@@ -22,9 +22,7 @@ fitted_if : (b : Bool) (n : ℕ) (text : List ℕ) → leb (length text) n ≡ b
 fitted_if false n text h = length-replicate {A = ℕ} n 42
 fitted_if true n text h =
     let within : length text ≤ n = grind (arith, nat_tests, h) in
-    let a = length-append (replicate (n - length text) 32) text in
-    let r = length-replicate {A = ℕ} (n - length text) 32 in
-    omega (arith, a, r, within)
+    simp (length-append, length-replicate) (omega (arith, within))
 
 number_length : (o : Option ℤ) (n d : ℕ) → length {A = ℕ} (elim o [ None ↦ replicate n 42 | Some v ↦ text_in_width n (number_text v d d) ]) ≡ n
 number_length None n d = length-replicate {A = ℕ} n 42
@@ -39,16 +37,7 @@ date_length_if : (real blank : Bool) (bs : List ℕ) → (real ≡ true → leng
     → length (cond real (take 2 (drop 4 bs) ++ (47 ∷ (drop 6 bs ++ (47 ∷ take 2 (drop 2 bs))))) (cond blank (codes "  /  /  ") (codes "**/**/**"))) ≡ 8
 date_length_if false true bs h = refl
 date_length_if false false bs h = refl
-date_length_if true blank bs h =
-    let eight : length bs ≡ 8 = h refl in
-    let m = length-take 2 (drop 4 bs) in
-    let y = length-take 2 (drop 2 bs) in
-    let dm = length-drop 4 bs in
-    let dd = length-drop 6 bs in
-    let dy = length-drop 2 bs in
-    let a = length-append (take 2 (drop 4 bs)) (47 ∷ (drop 6 bs ++ (47 ∷ take 2 (drop 2 bs)))) in
-    let b = length-append (drop 6 bs) (47 ∷ take 2 (drop 2 bs)) in
-    omega (arith, eight, m, y, dm, dd, dy, a, b)
+date_length_if true blank bs h = let eight = h refl in simp (length-append, length-take, length-drop) (omega (arith, eight))
 
 date_length : (bs : List ℕ) → length (date_shown bs) ≡ 8
 date_length bs = date_length_if (is_date bs) (bytes_eq bs blank_date) bs (date_eight bs)
@@ -74,13 +63,10 @@ key_length_is fields bytes (field i) h = cell_length fields bytes i h
 key_length_is fields bytes (concat a b) h =
     let x = key_length_is fields bytes a h in
     let y = key_length_is fields bytes b h in
-    let l = length-append (key (cells_of fields bytes) a) (key (cells_of fields bytes) b) in
-    omega (arith, x, y, l)
+    simp length-append (omega (arith, x, y))
 key_length_is fields bytes (upper a) h = length-map (key (cells_of fields bytes) a) to_ascii_uppercase ∙ key_length_is fields bytes a h
 key_length_is fields bytes (substr a from count) h =
     let x = key_length_is fields bytes a h in
-    let t = length-take count (drop (from - 1) (key (cells_of fields bytes) a)) in
-    let d = length-drop (from - 1) (key (cells_of fields bytes) a) in
-    omega (arith, x, t, d)
+    simp (length-take, length-drop) (omega (arith, x))
 key_length_is fields bytes (str i n d) h = number_length (number (get_or (cells_of fields bytes) i []) (decimals_given d)) (length_given n) (decimals_given d)
 key_length_is fields bytes (dtoc i) h = date_length (get_or (cells_of fields bytes) i [])

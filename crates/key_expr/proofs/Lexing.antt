@@ -32,9 +32,10 @@ ends_after : (t : Token) (ts : List Token) → EndsInEnd ts → EndsInEnd (t ∷
 ends_after t [] e = absurd e
 ends_after t (u ∷ ts) e = e
 
-ends_either : (b : Bool) (xs ys : List Token) → EndsInEnd xs → EndsInEnd ys → EndsInEnd (cond b xs ys)
-ends_either true xs ys d e = d
-ends_either false xs ys d e = e
+-- what holds of both lists, where the test chose each, holds of the one that it chooses
+pub either : (P : List Token → Type 0) (v : Bool) (xs ys : List Token) → (v ≡ true → P xs) → (v ≡ false → P ys) → P (cond v xs ys)
+either P true xs ys f g = f refl
+either P false xs ys f g = g refl
 
 -- the last token is the end
 pub ends_in_end : (fields : List Field) (whole n : ℕ) (bs : List ℕ) → EndsInEnd (tokens_after fields whole n bs)
@@ -44,24 +45,31 @@ ends_in_end fields whole (suc n) (b ∷ bs) = ends_in_end fields whole n bs
 ends_in_end fields whole zero (b ∷ bs) =
     let t : Token = record { kind = kind_of fields (b ∷ bs); offset = whole - length (b ∷ bs) } in
     let later = tokens_after fields whole (token_length (b ∷ bs) - 1) bs in
-    ends_either (eqb b 32) (tokens_after fields whole zero bs) (t ∷ later) (ends_in_end fields whole zero bs)
-    (ends_after t later (ends_in_end fields whole (token_length (b ∷ bs) - 1) bs))
+    either EndsInEnd (eqb b 32) (tokens_after fields whole zero bs) (t ∷ later) (λ blank. ends_in_end fields whole zero bs)
+    (λ other. ends_after t later (ends_in_end fields whole (token_length (b ∷ bs) - 1) bs))
 
 less_one : (n : ℕ) (b : ℕ) (bs : List ℕ) → 1 ≤ n → drop (n - 1) bs ≡ drop n (b ∷ bs)
 less_one zero b bs h = absurd (omega (arith, h))
 less_one (suc n) b bs h = let e : suc n - 1 ≡ n = omega arith in rw e refl
 
-some_bytes : (p q : Bool) (m n : ℕ) → 1 ≤ cond p (1 + m) (cond q (1 + n) 1)
-some_bytes true q m n = omega arith
-some_bytes false true m n = omega arith
-some_bytes false false m n = omega arith
+-- a token has a byte, and no more than there are
+length_by : (p q : Bool) (m n k : ℕ) → m ≤ k → n ≤ k
+    → (1 ≤ cond p (1 + m) (cond q (1 + n) 1)) × (cond p (1 + m) (cond q (1 + n) 1) - 1 ≤ k)
+length_by true q m n k a b = (omega arith, omega (arith, a))
+length_by false true m n k a b = (omega arith, omega (arith, b))
+length_by false false m n k a b = (omega arith, omega arith)
+
+pub token_inside : (b : ℕ) (bs : List ℕ) → (1 ≤ token_length (b ∷ bs)) × (token_length (b ∷ bs) - 1 ≤ length bs)
+token_inside b bs =
+    length_by (is_ascii_alphabetic b) (is_ascii_digit b) (prefix_length is_name_char bs) (prefix_length is_ascii_digit bs) (length bs)
+    (prefix_len-le-length (λ x. not (not (is_name_char x))) bs) (prefix_len-le-length (λ x. not (not (is_ascii_digit x))) bs)
 
 -- the first token, and the tokens after its bytes
 pub tokens_next : (fields : List Field) (whole b : ℕ) (bs : List ℕ) → eqb b 32 ≡ false
     → tokens_after fields whole zero (b ∷ bs)
     ≡ record { kind = kind_of fields (b ∷ bs); offset = whole - length (b ∷ bs) } ∷ tokens_after fields whole zero (drop (token_length (b ∷ bs)) (b ∷ bs))
 tokens_next fields whole b bs h =
-    let e : drop (token_length (b ∷ bs) - 1) bs ≡ drop (token_length (b ∷ bs)) (b ∷ bs) = less_one (token_length (b ∷ bs)) b bs (some_bytes (is_ascii_alphabetic b) (is_ascii_digit b) (prefix_length is_name_char bs) (prefix_length is_ascii_digit bs)) in
+    let e : drop (token_length (b ∷ bs) - 1) bs ≡ drop (token_length (b ∷ bs)) (b ∷ bs) = less_one (token_length (b ∷ bs)) b bs (token_inside b bs).0 in
     rw h (ap (λ (ts : List Token). record { kind = kind_of fields (b ∷ bs); offset = whole - length (b ∷ bs) } ∷ ts)
     (tokens_past fields whole (token_length (b ∷ bs) - 1) bs ∙ ap (λ (cs : List ℕ). tokens_after fields whole zero cs) e))
 

@@ -1,33 +1,14 @@
 -- The tokens of a text stand where their bytes stand, and no other tokens do.
-use Rattle.std.proofs.Common.{◌≡◌, ℕ, zero, suc, ◌+◌, ◌-◌, ◌<◌, ◌≤◌, Bool, true, false, cond, eqb, List, [], ◌∷◌, length, drop, get_or, refl, sym, ap, ◌∙◌, subst, arith, not}
+use Rattle.std.proofs.Common.{◌≡◌, ℕ, zero, suc, ◌+◌, ◌-◌, ◌<◌, ◌≤◌, true, false, eqb, List, [], ◌∷◌, length, drop, get_or, refl, sym, ap, ◌∙◌, subst, arith}
 use borrow.Author.Count.{below_more}
-use Rattle.std.specs.Char.{is_ascii_alphabetic, is_ascii_digit}
 use Rattle.std.proofs.lemmas.Bool.{eqb-true, true≢false}
 use Rattle.std.proofs.lemmas.List.{drop-drop, drop_all, get_or-drop}
-use Rattle.std.proofs.lemmas.List.Sums.{prefix_len-le-length}
 use Rattle.dbf_fields.specs.declared.field.Field.{Field}
-use Rattle.dbf_fields.specs.Name.{is_name_char}
 use Rattle.key_expr.specs.declared.token.Token.{Token}
 use Rattle.key_expr.specs.declared.token.Kind.TheVariants.{End}
-use Rattle.key_expr.specs.Tokens.{tokens_after, tokens_of, token_length, kind_of, prefix_length}
+use Rattle.key_expr.specs.Tokens.{tokens_after, tokens_of, token_length, kind_of}
+use Rattle.key_expr.proofs.Lexing.{either, token_inside}
 use Rattle.key_expr.specs.TokenOffsets.{end_of, StandsAfter, StandIn, at_end, before_end}
-
-either : (v : Bool) (fields : List Field) (text : List ℕ) (start : ℕ) (xs ys : List Token)
-    → (v ≡ true → StandIn fields text start xs) → (v ≡ false → StandIn fields text start ys) → StandIn fields text start (cond v xs ys)
-either true fields text start xs ys f g = f refl
-either false fields text start xs ys f g = g refl
-
--- a token has a byte, and no more than there are
-length_by : (p q : Bool) (m n k : ℕ) → m ≤ k → n ≤ k
-    → (1 ≤ cond p (1 + m) (cond q (1 + n) 1)) × (cond p (1 + m) (cond q (1 + n) 1) - 1 ≤ k)
-length_by true q m n k a b = (omega arith, omega (arith, a))
-length_by false true m n k a b = (omega arith, omega (arith, b))
-length_by false false m n k a b = (omega arith, omega arith)
-
-token_inside : (b : ℕ) (bs : List ℕ) → (1 ≤ token_length (b ∷ bs)) × (token_length (b ∷ bs) - 1 ≤ length bs)
-token_inside b bs =
-    length_by (is_ascii_alphabetic b) (is_ascii_digit b) (prefix_length is_name_char bs) (prefix_length is_ascii_digit bs) (length bs)
-    (prefix_len-le-length (λ x. not (not (is_name_char x))) bs) (prefix_len-le-length (λ x. not (not (is_ascii_digit x))) bs)
 
 end_kind : (fields : List Field) (bs : List ℕ) → bs ≡ [] → End ≡ kind_of fields bs
 unfolding kind_of
@@ -58,7 +39,7 @@ stand_after fields text start p zero (b ∷ bs) e l h s gap =
     let same : drop (length text - length (b ∷ bs)) text ≡ b ∷ bs = ap (λ (k : ℕ). drop k text) at ∙ e in
     let end : end_of text t ≡ p + token_length (b ∷ bs) = rw (same, at) refl in
     let inside = token_inside b bs in
-    either (eqb b 32) fields text start (tokens_after fields (length text) zero bs) (t ∷ tokens_after fields (length text) (token_length (b ∷ bs) - 1) bs)
+    either (StandIn fields text start) (eqb b 32) (tokens_after fields (length text) zero bs) (t ∷ tokens_after fields (length text) (token_length (b ∷ bs) - 1) bs)
     (λ (blank : eqb b 32 ≡ true).
     stand_after fields text start (p + 1) zero bs rest (omega (arith, l)) (omega arith) (omega (arith, s))
     (λ i a lt. below_more (λ (k : ℕ). start ≤ k → get_or text k 0 ≡ 32) p (λ k below after. gap k after (omega (arith, below)))
