@@ -1,8 +1,8 @@
 -- Lists in groups.
-use Rattle.std.proofs.Common.{◌≡◌, ◌≢◌, ℕ, zero, suc, ◌+◌, ◌≤◌, List, [], ◌∷◌, ◌++◌, length, take, drop, refl, ap, ◌∙◌, inl, inr, arith, length-append, length-drop}
+use Rattle.std.proofs.Common.{◌≡◌, ◌≢◌, ℕ, zero, suc, ◌+◌, ◌-◌, ◌≤◌, min, List, [], ◌∷◌, ◌++◌, length, take, drop, refl, ap, ◌∙◌, arith, length-append, length-drop}
 use Rattle.std.specs.Prelude.{flat_map}
 use Rattle.std.specs.List.{AllByRecursion}
-use Rattle.std.proofs.lemmas.Bool.{cases_eq, ne_eqb, eq-eqb}
+use Rattle.std.proofs.lemmas.Bool.{ne_eqb, eq-eqb}
 use Rattle.std.proofs.lemmas.List.{take-append-drop, length-take}
 use Rattle.ndx_index.specs.Image.{groups, leaf_group_size, inner_group_size}
 
@@ -30,29 +30,26 @@ leaf_groups k (suc f) [] h = tt
 leaf_groups k (suc f) (x ∷ xs) h =
     (record { low = omega (arith, length-take k (x ∷ xs)); high = omega (arith, length-take k (x ∷ xs)) }, leaf_groups k f (drop k (x ∷ xs)) h)
 
+-- how many children the next of n goes with
+pub record IsNextSize (k n size : ℕ) : Type 0 where
+  pub less : n ≡ k + 2 → size ≡ k
+  pub full : n ≢ k + 2 → size ≡ k + 1
+
+pub next_size : (k n : ℕ) → IsNextSize k n (inner_group_size k n)
+next_size k n = record { less = λ e. rw (eq-eqb n (k + 2) e) refl; full = λ ne. rw (ne_eqb n (k + 2) ne) refl }
+
 pub group_size_some : (k : ℕ) → 1 ≤ k → (n : ℕ) → 1 ≤ inner_group_size k n
-group_size_some k h n = elim (cases_eq n (k + 2)) [
-  | inl e ↦ rw (eq-eqb n (k + 2) e) h
-  | inr ne ↦ rw (ne_eqb n (k + 2) ne) (omega arith)
-]
+group_size_some k h n = grind (arith, next_size k n)
 
 pub inner_groups : {X : Type 0} (k fuel : ℕ) (xs : List X) → 2 ≤ k → length xs ≢ 1 → AllByRecursion (HasSize 2 (k + 1)) (groups (inner_group_size k) fuel xs)
 inner_groups k zero xs h ne = tt
 inner_groups k (suc f) [] h ne = tt
-inner_groups k (suc f) (x ∷ xs) h ne = elim (cases_eq (length (x ∷ xs)) (k + 2)) [
-  | inl e ↦
-      let b : inner_group_size k (length (x ∷ xs)) ≡ k = rw (eq-eqb (length (x ∷ xs)) (k + 2) e) refl in
-      rw b (
-        record { low = omega (arith, length-take k (x ∷ xs)); high = omega (arith, length-take k (x ∷ xs)) },
-        inner_groups k f (drop k (x ∷ xs)) h (λ one. absurd (omega (arith, length-drop k (x ∷ xs)))),
-      )
-  | inr differs ↦
-      let b : inner_group_size k (length (x ∷ xs)) ≡ k + 1 = rw (ne_eqb (length (x ∷ xs)) (k + 2) differs) refl in
-      rw b (
-        record { low = omega (arith, length-take (k + 1) (x ∷ xs)); high = omega (arith, length-take (k + 1) (x ∷ xs)) },
-        inner_groups k f (drop (k + 1) (x ∷ xs)) h (λ one. absurd (omega (arith, length-drop (k + 1) (x ∷ xs)))),
-      )
-]
+inner_groups k (suc f) (x ∷ xs) h ne =
+    let n : ℕ = inner_group_size k (length (x ∷ xs)) in
+    let size : IsNextSize k (length (x ∷ xs)) n = next_size k (length (x ∷ xs)) in
+    let part : length (take n (x ∷ xs)) ≡ min n (length (x ∷ xs)) = length-take n (x ∷ xs) in
+    let rest : length (drop n (x ∷ xs)) ≡ length (x ∷ xs) - n = length-drop n (x ∷ xs) in
+    (record { low = grind arith; high = grind arith }, inner_groups k f (drop n (x ∷ xs)) h (λ one. absurd (grind arith)))
 
 pub count_two : {X : Type 0} (high : ℕ) (gs : List (List X)) → AllByRecursion (HasSize 2 high) gs → length gs + length gs ≤ length (joined gs)
 count_two high [] h = omega arith

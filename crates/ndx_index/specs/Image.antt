@@ -45,15 +45,17 @@ pub record ChildEntry : Type 0 where
   pub page : ℕ
   pub key : List ℕ
 
+-- what f reads off the last element, and d where there is none
+abbrev pub last_of : {X Y : Type 0} → (X → Y) → Y → List X → Y
+last_of f d [] = d
+last_of f d (x ∷ []) = f x
+last_of f d (x ∷ y ∷ xs) = last_of f d (y ∷ xs)
+
 abbrev pub last_key : List Pair → List ℕ
-last_key [] = []
-last_key (p ∷ []) = p.key
-last_key (p ∷ q ∷ ps) = last_key (q ∷ ps)
+last_key ps = last_of (λ p. p.key) [] ps
 
 abbrev pub last_entry_key : List ChildEntry → List ℕ
-last_entry_key [] = []
-last_entry_key (t ∷ []) = t.key
-last_entry_key (t ∷ u ∷ ts) = last_entry_key (u ∷ ts)
+last_entry_key ts = last_of (λ t. t.key) [] ts
 
 -- pages numbered from n on, each with its greatest key
 abbrev pub child_entries : {X : Type 0} → (List X → List ℕ) → ℕ → List (List X) → List ChildEntry
