@@ -1,6 +1,6 @@
 -- Writing an inner page.
 use Rattle.std.proofs.Common.{◌≡◌, ℕ, zero, suc, ◌+◌, ◌-◌, ◌*◌, ◌<◌, ◌≤◌, min, List, [], ◌∷◌, ◌++◌, length, take, drop, replicate, get_or, refl, ap, sym, ◌∙◌, arith, length-drop, get_or-drop}
-use Rattle.std.proofs.lemmas.List.{length-take, length-append}
+use Rattle.std.proofs.lemmas.List.{length-take, length-append, get_or-take}
 use Rattle.ndx_index.specs.declared.pair.Pair.{Pair}
 use Rattle.byteorder.specs.Endian.{little_bytes}
 use Rattle.ndx_index.specs.Image.{ChildEntry, child_entries, last_key, last_entry_key, leaves, next_level, key_record, inner_records, inner_page, filled_page}
@@ -39,14 +39,8 @@ level_page : (k : ℕ) (pairs : List Pair) (l j : ℕ) → j < length (level k p
 level_page k pairs zero j h = child_entry_page last_key 1 j (leaves k pairs) no_child h
 level_page k pairs (suc l) j h = child_entry_page last_entry_key ((level k pairs l).first + length (level k pairs l).pages) j (next_level k (level k pairs l).pages) no_child h
 
-get_take : {X : Type 0} (c i : ℕ) (xs : List X) (d : X) → i < c → get_or (take c xs) i d ≡ get_or xs i d
-get_take zero i xs d h = absurd (omega arith)
-get_take (suc c) i [] d h = refl
-get_take (suc c) zero (x ∷ xs) d h = refl
-get_take (suc c) (suc i) (x ∷ xs) d h = get_take c i xs d (omega arith)
-
 child_is : (k : ℕ) (pairs : List Pair) (l at count i : ℕ) → i < count → get_or (children_from k pairs l at count) i no_child ≡ get_or (level k pairs l).pages (at + i) no_child
-child_is k pairs l at count i lt = get_take count i (drop at (level k pairs l).pages) no_child lt ∙ get_or-drop at (level k pairs l).pages i no_child
+child_is k pairs l at count i lt = get_or-take count (drop at (level k pairs l).pages) i no_child lt ∙ get_or-drop at (level k pairs l).pages i no_child
 
 count_is : (k : ℕ) (pairs : List Pair) (l at count : ℕ) → at + count ≤ length (level k pairs l).pages → length (children_from k pairs l at count) ≡ count
 count_is k pairs l at count h = omega (arith, length-take count (drop at (level k pairs l).pages), length-drop at (level k pairs l).pages)

@@ -16,7 +16,7 @@ use Rattle.std.proofs.lemmas.Map.Lookups.{CmpEqualImpliesEq, exact_pairs, exact_
 use Rattle.std.proofs.lemmas.Map.Keys.{Less-from_sorted}
 use Rattle.ndx_index.specs.declared.pair.Pair.{Pair}
 use Rattle.ndx_index.specs.Order.{pair_cmp, before, same, placed, in_order, without, AreInOrder}
-use Rattle.ndx_index.proofs.Parts.{filter_all, filter_but}
+use Rattle.ndx_index.proofs.Parts.{filter_all, filter_but, all_weaker}
 
 pub pairs_total : IsTotalOrder pair_cmp
 pairs_total = then_total (on_total (λ (p : Pair). p.key) nat_list_cmp_total) (on_total (λ (p : Pair). p.number) nat_cmp_total)
@@ -82,10 +82,6 @@ all-placed P p (q ∷ qs) h all = elim (before q p) as (λ b. AllByRecursion P (
   | true ↦ (all.0, all-placed P p qs h all.1)
   | false ↦ (h, all)
 ]
-
-all_weaker : (P Q : Pair → Type 0) → ((q : Pair) → P q → Q q) → (ps : List Pair) → AllByRecursion P ps → AllByRecursion Q ps
-all_weaker P Q f [] all = tt
-all_weaker P Q f (q ∷ qs) all = (f q all.0, all_weaker P Q f qs all.1)
 
 pub contains_more : (q : Pair) (qs : List Pair) (p : Pair) → Contains qs p → Contains (q ∷ qs) p
 contains_more q qs p h = (suc h.0, omega (arith, h.1), h.2)

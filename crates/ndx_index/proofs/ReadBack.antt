@@ -111,10 +111,6 @@ child_entries_run f n m (g ∷ gs) e =
 
 -- ---- one level above another
 
-map_parts : (g ts : List ChildEntry) → numbers (g ++ ts) ≡ numbers g ++ numbers ts
-map_parts [] ts = refl
-map_parts (t ∷ g) ts = ap (λ (ps : List ℕ). t.page ∷ ps) (map_parts g ts)
-
 record Up (s : PageLayout) (bytes : List ℕ) (roots pages : List ℕ) (pairs : List Pair) : Type 0 where
   all : List ℕ
   tree : Trees s bytes roots all pairs
@@ -138,7 +134,7 @@ module _ (s : PageLayout) (bytes : List ℕ) where
       → Trees s bytes (numbers (joined gs)) pages pairs → Up s bytes (numbers (child_entries last_entry_key n gs)) pages pairs
   up_trees k n [] pages pairs some room few sizes fits at t = record { all = pages; tree = t; times_are = λ r. omega arith }
   up_trees k n (g ∷ gs) pages pairs some room few sizes fits at t =
-      let parted : Trees s bytes (numbers g ++ numbers (joined gs)) pages pairs = subst (λ rs. Trees s bytes rs pages pairs) (map_parts g (joined gs)) t in
+      let parted : Trees s bytes (numbers g ++ numbers (joined gs)) pages pairs = subst (λ rs. Trees s bytes rs pages pairs) (map-append (λ t. t.page) g (joined gs)) t in
       let parts = trees_split s bytes (numbers g) (numbers (joined gs)) parted in
       let more = up_trees k (n + 1) gs parts.rest parts.others (omega arith) room few sizes.1 fits.1 at.2 parts.right in
       let holds = holds_inner k n g some room few sizes.0 fits.0 at.0 at.1 in

@@ -12,6 +12,7 @@ use Rattle.std.proofs.lemmas.Cmp.{eq_by_cmp_equiv}
 use Rattle.std.proofs.lemmas.List.Sorted.{sum_by-IsPermutation, IsPermutation-refl, IsPermutation-cons, IsPermutation-trans, IsPermutation-insert, sorted_far, ranks_by}
 use Rattle.ndx_index.specs.declared.pair.Pair.{Pair}
 use Rattle.ndx_index.specs.Order.{pair_cmp, before, same, placed, in_order, AreInOrder}
+use Rattle.ndx_index.proofs.Parts.{all_weaker}
 use Rattle.ndx_index.proofs.Order.{pairs_total, exact_pair, before_is, before_trans, irreflexive, same_itself, before_other, all-placed}
 
 -- no later pair stands before the first
@@ -50,15 +51,11 @@ not_before_trans p q r h k = elim (before r p) as (λ t. before r p ≡ t → t 
     step Equal o l = sym (ap is_lt (subst (λ x. pair_cmp x p ≡ Less) (sym (exact_pair q r o)) l)) ∙ h
     step Greater o l = sym (ap is_lt (pairs_total.antisymm r q ∙ ap ordering_reverse o)) ∙ k
 
-all_map : (P Q : Pair → Type 0) → ((q : Pair) → P q → Q q) → (ps : List Pair) → AllByRecursion P ps → AllByRecursion Q ps
-all_map P Q f [] all = tt
-all_map P Q f (q ∷ qs) all = (f q all.0, all_map P Q f qs all.1)
-
 ascends-placed : (p : Pair) (ps : List Pair) → Ascends ps → Ascends (placed p ps)
 ascends-placed p [] a = (tt, tt)
 ascends-placed p (q ∷ qs) a = elim (before q p) as (λ b. before q p ≡ b → Ascends (cond b (q ∷ placed p qs) (p ∷ q ∷ qs))) [
   | true ↦ λ e. (all-placed (λ r. before r q ≡ false) p qs (not_after q p (before_is q p e)) a.0, ascends-placed p qs a.1)
-  | false ↦ λ e. ((e, all_map (λ r. before r q ≡ false) (λ r. before r p ≡ false) (λ r h. not_before_trans p q r e h) qs a.0), a)
+  | false ↦ λ e. ((e, all_weaker (λ r. before r q ≡ false) (λ r. before r p ≡ false) (λ r h. not_before_trans p q r e h) qs a.0), a)
 ] refl
 
 pub ascends-in_order : (ps : List Pair) → Ascends (in_order ps)
@@ -87,7 +84,7 @@ here_once : (x : Pair) (ps : List Pair) → 1 ≤ times x (x ∷ ps)
 here_once x ps = rw (same_itself x) (omega arith)
 
 below_all : (x y : Pair) (ys : List Pair) → pair_cmp x y ≡ Less → Ascends (y ∷ ys) → AllByRecursion (λ q. pair_cmp x q ≡ Less) (y ∷ ys)
-below_all x y ys h a = (h, all_map (λ q. before q y ≡ false) (λ q. pair_cmp x q ≡ Less) (λ q k. step q k (pair_cmp y q) refl) ys a.0)
+below_all x y ys h a = (h, all_weaker (λ q. before q y ≡ false) (λ q. pair_cmp x q ≡ Less) (λ q k. step q k (pair_cmp y q) refl) ys a.0)
   where
     step : (q : Pair) → before q y ≡ false → (o : Ordering) → pair_cmp y q ≡ o → pair_cmp x q ≡ Less
     step q k Less o = before_trans x y q h o

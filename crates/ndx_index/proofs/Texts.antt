@@ -2,7 +2,8 @@
 use Rattle.std.proofs.Common.{◌≡◌, ◌≢◌, ℕ, zero, suc, ◌<◌, ◌≤◌, List, [], ◌∷◌, ◌++◌, length, take, drop, reverse, replicate, get_or, refl, ap, sym, ◌∙◌, arith}
 use Rattle.std.specs.List.{AllByRecursion}
 use Rattle.std.proofs.lemmas.Bool.{ne_eqb, eq-eqb}
-use Rattle.std.proofs.lemmas.List.{reverse-append}
+use Rattle.std.proofs.lemmas.List.{reverse-append, reverse-reverse}
+use Rattle.std.proofs.Math.Seq.{take-suc}
 use Rattle.ndx_index.specs.Header.{before_zero, trimmed_end}
 
 -- one more byte that isn't zero
@@ -27,36 +28,21 @@ zero_none [] (suc i) h = refl
 zero_none (x ∷ xs) zero h = absurd (omega arith)
 zero_none (x ∷ xs) (suc i) h = ap (λ (ys : List ℕ). x ∷ ys) (zero_none xs i (omega arith))
 
-take_more : (xs : List ℕ) (n d : ℕ) → n < length xs → take (suc n) xs ≡ take n xs ++ get_or xs n d ∷ []
-take_more [] n d lt = absurd (omega arith)
-take_more (x ∷ xs) zero d lt = refl
-take_more (x ∷ xs) (suc n) d lt = ap (λ (ys : List ℕ). x ∷ ys) (take_more xs n d (omega arith))
-
-reverse_last : (xs : List ℕ) (x : ℕ) → reverse (xs ++ x ∷ []) ≡ x ∷ reverse xs
-reverse_last xs x = reverse-append xs (x ∷ [])
-
-reverse_first : (x : ℕ) (xs : List ℕ) → reverse (x ∷ xs) ≡ reverse xs ++ x ∷ []
-reverse_first x xs = reverse-append (x ∷ []) xs
-
-reverse_twice : (xs : List ℕ) → reverse (reverse xs) ≡ xs
-reverse_twice [] = refl
-reverse_twice (x ∷ xs) = ap (λ (ys : List ℕ). reverse ys) (reverse_first x xs) ∙ reverse_last (reverse xs) x ∙ ap (λ (ys : List ℕ). x ∷ ys) (reverse_twice xs)
-
 -- a blank at the end
 pub trim_step : (xs : List ℕ) (n d : ℕ) → n < length xs → get_or xs n d ≡ 32 → trimmed_end (take n xs) ≡ trimmed_end (take (suc n) xs)
 unfolding trimmed_end
 trim_step xs n d lt e =
-    let more : take (suc n) xs ≡ take n xs ++ get_or xs n d ∷ [] = take_more xs n d lt in
-    rw (more, reverse_last (take n xs) (get_or xs n d), eq-eqb (get_or xs n d) 32 e) refl
+    let more : take (suc n) xs ≡ take n xs ++ get_or xs n d ∷ [] = take-suc xs n d lt in
+    rw (more, reverse-append (take n xs) (get_or xs n d ∷ []), eq-eqb (get_or xs n d) 32 e) refl
 
 -- no blank at the end
 pub trim_stop : (xs : List ℕ) (n d : ℕ) → n < length xs → get_or xs n d ≢ 32 → take (suc n) xs ≡ trimmed_end (take (suc n) xs)
 unfolding trimmed_end
 trim_stop xs n d lt ne =
-    let more : take (suc n) xs ≡ take n xs ++ get_or xs n d ∷ [] = take_more xs n d lt in
+    let more : take (suc n) xs ≡ take n xs ++ get_or xs n d ∷ [] = take-suc xs n d lt in
     let back : reverse (get_or xs n d ∷ reverse (take n xs)) ≡ take n xs ++ get_or xs n d ∷ [] =
-    ap (λ (ys : List ℕ). reverse ys) (sym (reverse_last (take n xs) (get_or xs n d))) ∙ reverse_twice (take n xs ++ get_or xs n d ∷ []) in
-    rw (more, reverse_last (take n xs) (get_or xs n d), ne_eqb (get_or xs n d) 32 ne) (sym back)
+    ap (λ (ys : List ℕ). reverse ys) (sym (reverse-append (take n xs) (get_or xs n d ∷ []))) ∙ reverse-reverse (take n xs ++ get_or xs n d ∷ []) in
+    rw (more, reverse-append (take n xs) (get_or xs n d ∷ []), ne_eqb (get_or xs n d) 32 ne) (sym back)
 
 -- only blanks
 pub trim_none : (xs : List ℕ) (n : ℕ) → n ≤ 0 → take n xs ≡ trimmed_end (take n xs)

@@ -3,6 +3,8 @@ use Rattle.std.proofs.Common.{◌≡◌, ℕ, zero, suc, ◌+◌, ◌<◌, ◌�
 use Rattle.std.specs.Prelude.{flat_map, slice_index}
 use Rattle.std.proofs.lemmas.Bool.{cases_eq}
 use Rattle.std.proofs.lemmas.List.{length-map}
+use Rattle.std.proofs.lemmas.List.Concat.{flat_map-append}
+use Rattle.std.proofs.lemmas.List.Folds.{flat_map-map}
 use Rattle.ndx_index.specs.declared.pair.Pair.{Pair}
 use Rattle.ndx_index.specs.Image.{ChildEntry, child_entries, last_entry_key, last_key, leaves, leaf_page, inner_page, inner_pages, next_level, levels_above, header_page, page_keys, record_size, pages_of, ndx_image}
 use Rattle.ndx_index.specs.Levels.{AreSizes, IsLevel, IsRootLevel, level}
@@ -90,23 +92,11 @@ pages_counted key_len pairs h root sizes two are top =
 
 -- ---- the bytes
 
-joined_map : {X : Type 0} (f : X → List ℕ) (xs : List X) (rest : List (List ℕ)) → flat_map (λ page. page) (map f xs ++ rest) ≡ flat_map f xs ++ flat_map (λ page. page) rest
-joined_map f [] rest = refl
-joined_map f (x ∷ xs) rest = ap (λ (bytes : List ℕ). f x ++ bytes) (joined_map f xs rest) ∙ sym (append_assoc (f x) (flat_map f xs) (flat_map (λ page. page) rest))
-
-joined_only : {X : Type 0} (f : X → List ℕ) (xs : List X) → flat_map (λ page. page) (map f xs) ≡ flat_map f xs
-joined_only f [] = refl
-joined_only f (x ∷ xs) = ap (λ (bytes : List ℕ). f x ++ bytes) (joined_only f xs)
-
-flat_both : {X : Type 0} (f : X → List ℕ) (xs ys : List X) → flat_map f (xs ++ ys) ≡ flat_map f xs ++ flat_map f ys
-flat_both f [] ys = refl
-flat_both f (x ∷ xs) ys = ap (λ (bytes : List ℕ). f x ++ bytes) (flat_both f xs ys) ∙ sym (append_assoc (f x) (flat_map f xs) (flat_map f ys))
-
 -- the pages of the level above, and then those above it
 pub level_and_above : (size k : ℕ) (pairs : List Pair) (l : ℕ) → 2 ≤ k → 2 ≤ length (level k pairs l).pages
     → flat_map (inner_page size) (pages_above k pairs l) ≡ flat_map (inner_page size) (next_level k (level k pairs l).pages) ++ flat_map (inner_page size) (pages_above k pairs (suc l))
 level_and_above size k pairs l two many =
-    ap (λ qs. flat_map (inner_page size) qs) (above_level k pairs l two many) ∙ flat_both (inner_page size) (next_level k (level k pairs l).pages) (pages_above k pairs (suc l))
+    ap (λ qs. flat_map (inner_page size) qs) (above_level k pairs l two many) ∙ flat_map-append (inner_page size) (next_level k (level k pairs l).pages) (pages_above k pairs (suc l))
 
 pub none_above : (size k : ℕ) (pairs : List Pair) (l : ℕ) → length (level k pairs l).pages ≡ 1 → flat_map (inner_page size) (pages_above k pairs l) ≡ []
 none_above size k pairs l one = ap (λ qs. flat_map (inner_page size) qs) (above_root k pairs l one)
@@ -122,6 +112,7 @@ image_parts text key_len pages pairs e =
     let header : List ℕ = header_page text key_len pages in
     let low : List ℕ = flat_map (leaf_page size) gs in
     let high : List ℕ = flat_map (inner_page size) ups in
-    let body : flat_map (λ page. page) (pages_of key_len pairs) ≡ low ++ high = joined_map (leaf_page size) gs (map (inner_page size) ups) ∙ ap (λ bytes. low ++ bytes) (joined_only (inner_page size) ups) in
+    let body : flat_map (λ page. page) (pages_of key_len pairs) ≡ low ++ high = flat_map-append (λ page. page) (map (leaf_page size) gs) (map (inner_page size) ups)
+    ∙ rw (flat_map-map (λ (page : List ℕ). page) (leaf_page size) gs, flat_map-map (λ (page : List ℕ). page) (inner_page size) ups) refl in
     let whole : header ++ (low ++ high) ≡ ndx_image text key_len pairs = ap (λ bytes. header ++ bytes) (sym body) ∙ ap (λ (n : ℕ). header_page text key_len n ++ flat_map (λ page. page) (pages_of key_len pairs)) (sym e) in
     append_assoc header low high ∙ whole

@@ -10,11 +10,6 @@ use Rattle.dbf_image.specs.Writer.{Wanted, more}
 use Rattle.ndx_index.proofs.PageBytes.{length_leaf_record}
 use Rattle.dbf_image.proofs.Sinks.{grown_then}
 
-pub take_zeros : (n m : ℕ) → n ≤ m → take n (replicate {A = ℕ} m 0) ≡ replicate n 0
-take_zeros zero m h = refl
-take_zeros (suc n) zero h = absurd (omega arith)
-take_zeros (suc n) (suc m) h = ap (λ (xs : List ℕ). 0 ∷ xs) (take_zeros n m (omega arith))
-
 pub length_pairs : (size : ℕ) (g : List Pair) → AllByRecursion (λ p. length p.key + 8 ≤ size) g → length (flat_map (leaf_record size) g) ≡ length g * size
 length_pairs size [] h = omega arith
 length_pairs size (p ∷ g) h =
