@@ -4,7 +4,8 @@ use Rattle.std.specs.Prelude.{flat_map}
 use Rattle.std.specs.List.{AllByRecursion}
 use Rattle.std.proofs.lemmas.Bool.{ne_eqb, eq-eqb}
 use Rattle.std.proofs.lemmas.List.{take-append-drop, length-take}
-use Rattle.ndx_index.specs.Image.{groups, leaf_group_size, inner_group_size}
+use Rattle.ndx_index.specs.Image.{ChildEntry, groups, leaf_group_size, inner_group_size, last_of, next_level}
+use Rattle.ndx_index.proofs.Parts.{all_weaker}
 
 abbrev pub joined : {X : Type 0} → List (List X) → List X
 joined gs = flat_map (λ g. g) gs
@@ -66,3 +67,22 @@ all_front P (x ∷ xs) ys h = let r = all_front P xs ys h.1 in ((h.0, r.0), r.1)
 pub all_groups : {X : Type 0} (P : X → Type 0) (gs : List (List X)) → AllByRecursion P (joined gs) → AllByRecursion (AllByRecursion P) gs
 all_groups P [] h = tt
 all_groups P (g ∷ gs) h = let r = all_front P g (joined gs) h in (r.0, all_groups P gs r.1)
+
+-- ---- the pages above a level
+
+pub next-join : (k : ℕ) (ts : List ChildEntry) → 1 ≤ k → joined (next_level k ts) ≡ ts
+next-join k ts some = groups-join (inner_group_size k) (length ts) ts (omega arith) (group_size_some k some)
+
+pub next_half : (k : ℕ) (ts : List ChildEntry) → 2 ≤ k → length ts ≢ 1 → length (next_level k ts) + length (next_level k ts) ≤ length ts
+next_half k ts two many =
+    omega (arith, count_two (k + 1) (next_level k ts) (inner_groups k (length ts) ts two many), ap (λ (xs : List ChildEntry). length xs) (next-join k ts (omega arith)))
+
+-- ---- keys that fit a key record
+
+short_last : {X : Type 0} (f : X → List ℕ) (size : ℕ) → 8 ≤ size → (xs : List X) → AllByRecursion (λ x. length (f x) + 8 ≤ size) xs → length (last_of f [] xs) + 8 ≤ size
+short_last f size room [] h = omega arith
+short_last f size room (x ∷ []) h = h.0
+short_last f size room (x ∷ y ∷ xs) h = short_last f size room (y ∷ xs) h.1
+
+pub short_groups : {X : Type 0} (f : X → List ℕ) (size : ℕ) (gs : List (List X)) → 8 ≤ size → AllByRecursion (λ x. length (f x) + 8 ≤ size) (joined gs) → AllByRecursion (λ g. length (last_of f [] g) + 8 ≤ size) gs
+short_groups f size gs room h = all_weaker _ _ (short_last f size room) gs (all_groups _ gs h)

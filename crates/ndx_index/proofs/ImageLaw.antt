@@ -16,8 +16,9 @@ use Rattle.ndx_index.specs.NdxTree.{Trees, IsTree}
 use Rattle.ndx_index.specs.Header.{header_refusal, header_tests, ndx_header, u16_at, before_zero, trimmed_end, expression, IsIndex}
 use Rattle.ndx_index.proofs.Texts.{before_zeros, no_zero}
 use Rattle.ndx_index.specs.Image.{ChildEntry, child_entries, last_key, leaves, inner_pages, leaf_page, inner_page, filled_page, header_page, pages_of, ndx_image, record_size, page_keys, IsWritable}
-use Rattle.ndx_index.proofs.Grouped.{joined, groups-join, leaf_groups, count_one, HasSize, all_groups}
-use Rattle.ndx_index.proofs.PageBytes.{Fits, length-filled_page}
+use Rattle.ndx_index.proofs.Grouped.{joined, groups-join, leaf_groups, count_one, HasSize, all_groups, short_groups}
+use Rattle.ndx_index.proofs.Parts.{all_weaker}
+use Rattle.ndx_index.proofs.PageBytes.{Fits, length-filled_page, pairs_short}
 use Rattle.ndx_index.proofs.ReadBack.{pages_at, at_append, numbers, length-child_entries, once_distinct, child_entries_run, LevelTrees, levels_tree, levels_long, leaves_long, leaf_trees, all_both, child_entries_fit, last_of_child_entries}
 
 record Sizes (key_len : ℕ) : Type 0 where
@@ -42,13 +43,9 @@ pub leaves_joined : (k : ℕ) (pairs : List Pair) → 1 ≤ k → joined (leaves
 leaves_joined k [] h = refl
 leaves_joined k (p ∷ ps) h = groups-join (λ left. k) (length (p ∷ ps)) (p ∷ ps) (omega arith) (λ n. h)
 
-from_zero : (k : ℕ) (gs : List (List Pair)) → AllByRecursion (HasSize 1 k) gs → AllByRecursion (HasSize 0 k) gs
-from_zero k [] h = tt
-from_zero k (g ∷ gs) h = (record { low = omega arith; high = h.0.high }, from_zero k gs h.1)
-
 leaves_sized : (k : ℕ) (pairs : List Pair) → 1 ≤ k → AllByRecursion (HasSize 0 k) (leaves k pairs)
 leaves_sized k [] h = (record { low = omega arith; high = omega arith }, tt)
-leaves_sized k (p ∷ ps) h = from_zero k (leaves k (p ∷ ps)) (leaf_groups k (length (p ∷ ps)) (p ∷ ps) h)
+leaves_sized k (p ∷ ps) h = all_weaker (HasSize 1 k) (HasSize 0 k) (λ g size. record { low = omega arith; high = size.high }) (leaves k (p ∷ ps)) (leaf_groups k (length (p ∷ ps)) (p ∷ ps) h)
 
 pub leaves_some : (k : ℕ) (pairs : List Pair) → 1 ≤ length (leaves k pairs)
 leaves_some k [] = omega arith
@@ -60,19 +57,6 @@ leaves_few k (p ∷ ps) h =
     let gs : List (List Pair) = leaves k (p ∷ ps) in
     let total : length (joined gs) ≡ length (p ∷ ps) = ap (λ (xs : List Pair). length xs) (leaves_joined k (p ∷ ps) h) in
     omega (arith, count_one k gs (leaf_groups k (length (p ∷ ps)) (p ∷ ps) h))
-
-short_key : (s : PageLayout) (g : List Pair) → s.key_len + 8 ≤ s.size → AllByRecursion (Fits s) g → length (last_key g) + 8 ≤ s.size
-short_key s [] room h = omega arith
-short_key s (p ∷ []) room h = omega (arith, h.0.long)
-short_key s (p ∷ q ∷ g) room h = short_key s (q ∷ g) room h.1
-
-short_keys : (s : PageLayout) (gs : List (List Pair)) → s.key_len + 8 ≤ s.size → AllByRecursion (AllByRecursion (Fits s)) gs → AllByRecursion (λ g. length (last_key g) + 8 ≤ s.size) gs
-short_keys s [] room h = tt
-short_keys s (g ∷ gs) room h = (short_key s g room h.0, short_keys s gs room h.1)
-
-pairs_fit : (s : PageLayout) (pairs : List Pair) → AllByRecursion (λ p. (length p.key ≡ s.key_len) × (p.number < 2 ^ 32)) pairs → AllByRecursion (Fits s) pairs
-pairs_fit s [] h = tt
-pairs_fit s (p ∷ ps) h = (record { long = h.0.0; number = h.0.1 }, pairs_fit s ps h.1)
 
 length-header : (text : List ℕ) (key_len n : ℕ) → length text ≤ 488 → length (header_page text key_len n) ≡ 512
 unfolding header_page
@@ -137,9 +121,10 @@ read_back text key_len pairs w =
     let sized = leaves_sized k pairs one_key in
     let few : m ≤ length pairs + 1 = leaves_few k pairs one_key in
     let some : 1 ≤ m = leaves_some k pairs in
-    let fits = all_groups (Fits s) gs (rw join (pairs_fit s pairs w.each)) in
+    let each_fits = all_weaker _ (Fits s) (λ p h. record { long = h.0; number = h.1 }) pairs w.each in
+    let fits = all_groups (Fits s) gs (rw join each_fits) in
     let long_ts : length ts ≡ m = length-child_entries last_key 1 gs in
-    let children = child_entries_fit s [] last_key 1 gs (omega arith) (omega (arith, w.few)) (short_keys s gs sizes.room fits) in
+    let children = child_entries_fit s last_key 1 gs (omega arith) (omega (arith, w.few)) (short_groups (λ p. p.key) size gs (omega (arith, sizes.room)) (rw join (pairs_short s pairs sizes.room each_fits))) in
     let up = levels_long s m k (m + 1) ts (omega arith) (omega (arith, sizes.least)) (omega (arith, sizes.room)) sizes.fit (omega (arith, w.few)) children in
     let leaf_count : length leaf_pages ≡ m = length-map gs (leaf_page size) in
     let upper_count : length upper_pages ≡ length above = length-map above (inner_page size) in
@@ -151,7 +136,7 @@ read_back text key_len pairs w =
     let run = child_entries_run last_key 1 (m + 1) gs (omega arith) in
     let level : LevelTrees s bytes (m + 1) ts pairs = record { pages = numbers ts; tree = subst (λ ps. Trees s bytes (numbers ts) (numbers ts) ps) join bottom; once = run.once; under = run.over } in
     let rooted = levels_tree s bytes m k (m + 1) (length pages) ts pairs (omega arith) (omega (arith, sizes.least)) (omega (arith, sizes.room)) sizes.fit sizes.most (omega arith) (omega arith)
-    (omega (arith, w.few)) children (last_of_child_entries s bytes last_key 1 gs some ∙ add_one m) (omega arith) parts.1 level in
+    (omega (arith, w.few)) children (last_of_child_entries last_key 1 gs some ∙ add_one m) (omega arith) parts.1 level in
     let reads = header_reads text (joined pages) key_len (1 + length pages) w.text_short w.key_some w.key_short sizes (omega (arith, w.key_short)) (omega (arith, w.few, up.few)) in
     let header_is : ndx_header bytes ≡ record { layout = s; root = length pages } = reads.1 ∙ ap (λ r. record { layout = s; root = r }) (one_less (length pages)) in
     record {

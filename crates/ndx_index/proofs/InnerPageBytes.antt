@@ -5,7 +5,7 @@ use Rattle.ndx_index.specs.declared.pair.Pair.{Pair}
 use Rattle.byteorder.specs.Endian.{little_bytes}
 use Rattle.ndx_index.specs.Image.{ChildEntry, child_entries, last_key, last_entry_key, leaves, next_level, key_record, inner_records, inner_page, filled_page}
 use Rattle.std.specs.List.{AllByRecursion}
-use Rattle.ndx_index.proofs.PageBytes.{length-key_record}
+use Rattle.ndx_index.proofs.PageBytes.{length_children}
 use Rattle.ndx_index.specs.Levels.{level, key_under, no_child, children_from}
 use Rattle.std.specs.Prelude.{flat_map}
 use Rattle.std.proofs.lemmas.List.{drop-drop}
@@ -65,13 +65,6 @@ child_last k pairs l at count i size page last within page_is =
     let long : length g ≡ count = count_is k pairs l at count within in
     let p : (get_or g i no_child).page ≡ page = ap (λ w. w.page) (child_is k pairs l at count i (omega arith)) ∙ level_page k pairs l (at + i) (omega arith) ∙ sym page_is in
     sym (records_last size i g no_child (omega arith) ∙ ap (λ (n : ℕ). little_bytes 4 n) p)
-
-length_children : (size : ℕ) (t : ChildEntry) (g : List ChildEntry) → AllByRecursion (λ u. length u.key + 8 ≤ size) (t ∷ g) → length (inner_records size (t ∷ g)) ≡ length g * size + 4
-unfolding inner_records
-length_children size t [] h = omega arith
-length_children size t (u ∷ g) h =
-    let r : List ℕ = key_record size t.page 0 t.key in
-    omega (arith, length-append r (inner_records size (u ∷ g)), length-key_record size t.page 0 t.key h.0, length_children size u g h.1)
 
 inner_parts_of : (size count : ℕ) (g : List ChildEntry) → length g ≡ count → 1 ≤ count → AllByRecursion (λ u. length u.key + 8 ≤ size) g
     → (little_bytes 4 (count - 1) ++ inner_records size g) ++ replicate (504 - (count - 1) * size) 0 ≡ inner_page size g

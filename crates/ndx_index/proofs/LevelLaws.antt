@@ -3,19 +3,13 @@ use Rattle.std.proofs.Common.{◌≡◌, ℕ, zero, suc, ◌+◌, ◌≤◌, Lis
 use Rattle.std.specs.List.{AllByRecursion}
 use Rattle.ndx_index.specs.declared.pair.Pair.{Pair}
 use Rattle.ndx_index.specs.Levels.{level}
-use Rattle.ndx_index.specs.Image.{ChildEntry, child_entries, last_entry_key, last_key, leaves, inner_group_size, next_level, levels_above}
-use Rattle.ndx_index.proofs.Grouped.{joined, groups-join, inner_groups, group_size_some, count_two, all_groups}
+use Rattle.ndx_index.specs.Image.{ChildEntry, child_entries, last_entry_key, last_key, leaves, next_level, levels_above}
+use Rattle.ndx_index.proofs.Grouped.{joined, next-join, next_half, short_groups}
 use Rattle.ndx_index.proofs.ImageLaw.{leaves_joined}
 use Rattle.ndx_index.proofs.ReadBack.{length-child_entries}
 
 pub half_as_many : (k n : ℕ) (ts : List ChildEntry) → 2 ≤ k → 2 ≤ length ts → length (child_entries last_entry_key n (next_level k ts)) + length (child_entries last_entry_key n (next_level k ts)) ≤ length ts
-half_as_many k n ts two many =
-    let gs : List (List ChildEntry) = next_level k ts in
-    let join : joined gs ≡ ts = groups-join (inner_group_size k) (length ts) ts (omega arith) (group_size_some k (omega arith)) in
-    let half : length gs + length gs ≤ length (joined gs) = count_two (k + 1) gs (inner_groups k (length ts) ts two (λ h. absurd (omega arith))) in
-    let total : length (joined gs) ≡ length ts = ap (λ (xs : List ChildEntry). length xs) join in
-    let long : length (child_entries last_entry_key n gs) ≡ length gs = length-child_entries last_entry_key n gs in
-    omega arith
+half_as_many k n ts two many = omega (arith, next_half k ts two (λ one. absurd (omega arith)), length-child_entries last_entry_key n (next_level k ts))
 
 pub levels-fuel : (f h k n : ℕ) (ts : List ChildEntry) → 2 ≤ k → length ts ≤ f → length ts ≤ h → levels_above f k n ts ≡ levels_above h k n ts
 levels-fuel zero zero k n ts two a b = refl
@@ -43,28 +37,15 @@ levels-next k n (t ∷ u ∷ ts) two many =
 
 -- ---- the greatest keys are keys of pairs
 
-short_last_entry : (size : ℕ) (ts : List ChildEntry) → 8 ≤ size → AllByRecursion (λ t. length t.key + 8 ≤ size) ts → length (last_entry_key ts) + 8 ≤ size
-short_last_entry size [] room h = omega arith
-short_last_entry size (t ∷ []) room h = h.0
-short_last_entry size (t ∷ u ∷ ts) room h = short_last_entry size (u ∷ ts) room h.1
-
-short_pair : (size : ℕ) (g : List Pair) → 8 ≤ size → AllByRecursion (λ p. length p.key + 8 ≤ size) g → length (last_key g) + 8 ≤ size
-short_pair size [] room h = omega arith
-short_pair size (p ∷ []) room h = h.0
-short_pair size (p ∷ q ∷ g) room h = short_pair size (q ∷ g) room h.1
-
-short_child_entries : {X : Type 0} (P : X → Type 0) (f : List X → List ℕ) (size n : ℕ) (gs : List (List X)) → ((g : List X) → AllByRecursion P g → length (f g) + 8 ≤ size)
-    → AllByRecursion (AllByRecursion P) gs → AllByRecursion (λ t. length t.key + 8 ≤ size) (child_entries f n gs)
-short_child_entries P f size n [] each h = tt
-short_child_entries P f size n (g ∷ gs) each h = (each g h.0, short_child_entries P f size (n + 1) gs each h.1)
+short_child_entries : {X : Type 0} (f : List X → List ℕ) (size n : ℕ) (gs : List (List X)) → AllByRecursion (λ g. length (f g) + 8 ≤ size) gs → AllByRecursion (λ t. length t.key + 8 ≤ size) (child_entries f n gs)
+short_child_entries f size n [] h = tt
+short_child_entries f size n (g ∷ gs) h = (h.0, short_child_entries f size (n + 1) gs h.1)
 
 pub level_short : (size k : ℕ) (pairs : List Pair) (l : ℕ) → 1 ≤ k → 8 ≤ size → AllByRecursion (λ p. length p.key + 8 ≤ size) pairs → AllByRecursion (λ t. length t.key + 8 ≤ size) (level k pairs l).pages
 level_short size k pairs zero one room h =
-    let gs : List (List Pair) = leaves k pairs in
-    let join : joined gs ≡ pairs = leaves_joined k pairs one in
-    short_child_entries (λ p. length p.key + 8 ≤ size) last_key size 1 gs (λ g each. short_pair size g room each) (all_groups _ gs (rw join h))
+    let join : joined (leaves k pairs) ≡ pairs = leaves_joined k pairs one in
+    short_child_entries last_key size 1 (leaves k pairs) (short_groups (λ p. p.key) size (leaves k pairs) room (rw join h))
 level_short size k pairs (suc l) one room h =
     let ts : List ChildEntry = (level k pairs l).pages in
-    let gs : List (List ChildEntry) = next_level k ts in
-    let join : joined gs ≡ ts = groups-join (inner_group_size k) (length ts) ts (omega arith) (group_size_some k one) in
-    short_child_entries (λ t. length t.key + 8 ≤ size) last_entry_key size _ gs (λ g each. short_last_entry size g room each) (all_groups _ gs (rw join (level_short size k pairs l one room h)))
+    let join : joined (next_level k ts) ≡ ts = next-join k ts one in
+    short_child_entries last_entry_key size _ (next_level k ts) (short_groups (λ t. t.key) size (next_level k ts) room (rw join (level_short size k pairs l one room h)))

@@ -1,9 +1,9 @@
 -- What a written page reads as.
 use Rattle.std.proofs.Common.{◌≡◌, ℕ, suc, ◌+◌, ◌-◌, ◌*◌, ◌^◌, ◌<◌, ◌≤◌, Bool, true, false, not, List, [], ◌∷◌, ◌++◌, length, map, drop, replicate, refl, ap, sym, ◌∙◌, append_assoc, append-nil, arith, Ok}
-use Rattle.std.proofs.lemmas.Bool.Decides.{nat_tests}
+use Rattle.std.proofs.Math.Nat.{mul-le-mul_right}
 use Rattle.std.specs.Prelude.{flat_map, slice_range, nat_le}
 use Rattle.std.specs.List.{AllByRecursion}
-use Rattle.std.proofs.lemmas.Bool.{ne_eqb}
+use Rattle.std.proofs.lemmas.Bool.{ne_eqb, le-leb}
 use Rattle.std.proofs.lemmas.List.{take_at, drop_at, length-append, length-replicate}
 use Rattle.byteorder.specs.Endian.{little_bytes}
 use Rattle.byteorder.specs.Numbers.{little_number-reads_back}
@@ -11,6 +11,7 @@ use Rattle.ndx_index.specs.declared.pair.Pair.{Pair}
 use Rattle.ndx_index.specs.declared.read.page.PageLayout.{PageLayout}
 use Rattle.ndx_index.specs.Pages.{leaf, inner, node_of, page_tests, page_node, u32_at, child, leaf_pair, children, leaf_pairs, some_child, is_null}
 use Rattle.ndx_index.specs.Image.{ChildEntry, filled_page, key_record, leaf_record, inner_records, leaf_page, inner_page}
+use Rattle.ndx_index.proofs.Parts.{all_weaker}
 
 pub length-filled_page : (xs : List ℕ) → length xs ≤ 512 → length (filled_page xs) ≡ 512
 unfolding filled_page
@@ -82,9 +83,6 @@ leaf_reads s (p ∷ g) front zs page j n room is long e fits before =
     let shift : leaf_pairs s page j ++ p ∷ g ≡ leaf_pairs s page (suc j) ++ g = sym (append_assoc (leaf_pairs s page j) (leaf_pair s page j ∷ []) g ∙ ap (λ q. leaf_pairs s page j ++ q ∷ g) at) in
     (shift ∙ more.0, more.1)
 
-pub leb_true : (a b : ℕ) → a ≤ b → nat_le a b ≡ true
-leb_true a b h = grind (arith, nat_tests)
-
 pub zeros_u32 : (n : ℕ) → u32_at (little_bytes 4 0 ++ replicate (suc (suc (suc (suc n)))) 0) 4 ≡ 0
 unfolding u32_at
 zeros_u32 n = refl
@@ -118,7 +116,7 @@ leaf_node s g room few small fits =
     let count : u32_at page 0 ≡ length g = rw is (u32_reads [] (body ++ zs) (length g) 0 refl small) in
     let reads = leaf_reads s g front zs page 0 (length g) room is (omega arith) (omega arith) fits refl in
     let first : child s page 0 ≡ 0 = first_null s g in
-    let fit : nat_le (4 + length g * s.size) 512 ≡ true = leb_true (4 + length g * s.size) 512 (omega arith) in
+    let fit : nat_le (4 + length g * s.size) 512 ≡ true = le-leb (4 + length g * s.size) 512 (omega arith) in
     rw (first, count, fit, reads.1, ← reads.0) refl
 
 -- a child pointer as it is read
@@ -179,38 +177,41 @@ inner_node s t u g few small fits =
     let reads = inner_reads s t (u ∷ g) front zs page 0 (length g + 1 + 1) is (omega arith) (omega arith) fits refl in
     let first : child s page 0 ≡ t.page = first_child s t u g zs front page is (omega arith) fits.0.small in
     let there : is_null t.page ≡ false = not_null t.page fits.0.some in
-    let fit : nat_le (8 + (length g + 1) * s.size) 512 ≡ true = leb_true (8 + (length g + 1) * s.size) 512 (omega arith) in
+    let fit : nat_le (8 + (length g + 1) * s.size) 512 ≡ true = le-leb (8 + (length g + 1) * s.size) 512 (omega arith) in
     rw (first, there, count, fit, reads.1, ← reads.0) refl
 
 -- ---- lengths
 
-length_records : (s : PageLayout) (g : List Pair) → s.key_len + 8 ≤ s.size → AllByRecursion (Fits s) g → length (flat_map (leaf_record s.size) g) ≡ length g * s.size
-length_records s [] room h = omega arith
-length_records s (p ∷ g) room h =
-    let one : length (leaf_record s.size p) ≡ s.size = length_leaf_record s.size p (omega (arith, h.0.long)) in
-    omega (arith, length-append (leaf_record s.size p) (flat_map (leaf_record s.size) g), length_records s g room h.1)
+pub pairs_short : (s : PageLayout) (g : List Pair) → s.key_len + 8 ≤ s.size → AllByRecursion (Fits s) g → AllByRecursion (λ p. length p.key + 8 ≤ s.size) g
+pairs_short s g room = all_weaker (Fits s) (λ p. length p.key + 8 ≤ s.size) (λ p fits. omega (arith, fits.long)) g
 
-product_le : (a b c : ℕ) → a ≤ b → a * c ≤ b * c
-product_le a b c h = grind arith
+pub entries_short : (s : PageLayout) (g : List ChildEntry) → AllByRecursion (IsChild s) g → AllByRecursion (λ t. length t.key + 8 ≤ s.size) g
+entries_short s = all_weaker (IsChild s) (λ t. length t.key + 8 ≤ s.size) (λ t fits. fits.short)
 
-pub length_leaf_page : (s : PageLayout) (k : ℕ) (g : List Pair) → s.key_len + 8 ≤ s.size → k * s.size ≤ 504 → length g ≤ k → AllByRecursion (Fits s) g → length (leaf_page s.size g) ≡ 512
+pub length_pairs : (size : ℕ) (g : List Pair) → AllByRecursion (λ p. length p.key + 8 ≤ size) g → length (flat_map (leaf_record size) g) ≡ length g * size
+length_pairs size [] h = omega arith
+length_pairs size (p ∷ g) h =
+    omega (arith, length-append (leaf_record size p) (flat_map (leaf_record size) g), length_leaf_record size p h.0, length_pairs size g h.1)
+
+pub length_leaf_page : (size k : ℕ) (g : List Pair) → k * size ≤ 504 → length g ≤ k → AllByRecursion (λ p. length p.key + 8 ≤ size) g → length (leaf_page size g) ≡ 512
 unfolding leaf_page
-length_leaf_page s k g room fit few fits =
+length_leaf_page size k g fit few short =
     let front : List ℕ = little_bytes 4 (length g) in
-    let body : List ℕ = flat_map (leaf_record s.size) g in
-    length-filled_page (front ++ body) (omega (arith, length-append front body, length_records s g room fits, product_le (length g) k s.size few))
+    let body : List ℕ = flat_map (leaf_record size) g in
+    length-filled_page (front ++ body) (omega (arith, length-append front body, length_pairs size g short, mul-le-mul_right size few))
 
-length_inner_records : (s : PageLayout) (t : ChildEntry) (g : List ChildEntry) → AllByRecursion (IsChild s) (t ∷ g) → length (inner_records s.size (t ∷ g)) ≡ length g * s.size + 4
+pub length_children : (size : ℕ) (t : ChildEntry) (g : List ChildEntry) → AllByRecursion (λ u. length u.key + 8 ≤ size) (t ∷ g) → length (inner_records size (t ∷ g)) ≡ length g * size + 4
 unfolding inner_records
-length_inner_records s t [] h = omega arith
-length_inner_records s t (u ∷ g) h =
-    let r : List ℕ = key_record s.size t.page 0 t.key in
-    omega (arith, length-append r (inner_records s.size (u ∷ g)), length-key_record s.size t.page 0 t.key h.0.short, length_inner_records s u g h.1)
+length_children size t [] h = omega arith
+length_children size t (u ∷ g) h =
+    let r : List ℕ = key_record size t.page 0 t.key in
+    omega (arith, length-append r (inner_records size (u ∷ g)), length-key_record size t.page 0 t.key h.0, length_children size u g h.1)
 
-pub length_inner_page : (s : PageLayout) (k : ℕ) (g : List ChildEntry) → k * s.size ≤ 504 → 1 ≤ length g → length g ≤ k + 1 → AllByRecursion (IsChild s) g → length (inner_page s.size g) ≡ 512
+pub length_inner_page : (size k : ℕ) (g : List ChildEntry) → k * size ≤ 504 → 1 ≤ length g → length g ≤ k + 1 → AllByRecursion (λ t. length t.key + 8 ≤ size) g → length (inner_page size g) ≡ 512
 unfolding inner_page
-length_inner_page s k [] fit some few fits = absurd (omega arith)
-length_inner_page s k (t ∷ g) fit some few fits =
+length_inner_page size k [] fit some few short = absurd (omega arith)
+length_inner_page size k (t ∷ g) fit some few short =
     let front : List ℕ = little_bytes 4 (length (t ∷ g) - 1) in
-    let body : List ℕ = inner_records s.size (t ∷ g) in
-    length-filled_page (front ++ body) (omega (arith, length-append front body, length_inner_records s t g fits, product_le (length g) k s.size (omega arith)))
+    let body : List ℕ = inner_records size (t ∷ g) in
+    let within : length g ≤ k = omega arith in
+    length-filled_page (front ++ body) (omega (arith, length-append front body, length_children size t g short, mul-le-mul_right size within))

@@ -1,13 +1,13 @@
 -- How many pages each level has.
 use Rattle.std.proofs.Common.{◌≡◌, ℕ, zero, suc, ◌+◌, ◌-◌, ◌*◌, ◌/◌, ◌^◌, ◌<◌, ◌≤◌, inl, inr, List, [], ◌∷◌, length, set, refl, ap, sym, ◌∙◌, subst, arith, add-one}
 use Rattle.std.specs.List.{AllByRecursion}
-use Rattle.std.proofs.Math.Nat.{le-div_iff_mul-le, div-lt_iff_lt-mul, pow-le-pow_right}
+use Rattle.std.proofs.Math.Nat.{le-div_iff_mul-le, div-lt_iff_lt-mul, pow-le-pow_right, mul-le-mul_right}
 use Rattle.std.proofs.lemmas.Bool.{cases_eq, cases_lt}
 use Rattle.std.proofs.lemmas.List.{length-append, length-set, get_or-set_same, get_or-set_other}
 use Rattle.ndx_index.specs.declared.pair.Pair.{Pair}
-use Rattle.ndx_index.specs.Image.{ChildEntry, child_entries, last_entry_key, last_key, leaves, leaf_group_size, inner_group_size, next_level}
+use Rattle.ndx_index.specs.Image.{ChildEntry, child_entries, last_entry_key, last_key, leaves, leaf_group_size, next_level}
 use Rattle.ndx_index.specs.Levels.{AreSizes, level}
-use Rattle.ndx_index.proofs.Grouped.{joined, groups-join, leaf_groups, inner_groups, group_size_some, HasSize}
+use Rattle.ndx_index.proofs.Grouped.{joined, next-join, groups-join, leaf_groups, inner_groups, HasSize}
 use Rattle.ndx_index.proofs.ReadBack.{length-child_entries}
 use Rattle.ndx_index.proofs.ImageLaw.{leaves_few, leaves_some}
 use Rattle.ndx_index.proofs.GreatestKeys.{leaf_group_start, group_start, leaf_start}
@@ -50,7 +50,7 @@ level_counted k ts two many =
     let gs : List (List ChildEntry) = next_level k ts in
     let n : ℕ = length ts in
     let c : ℕ = length gs - 1 in
-    let total : length (joined gs) ≡ n = ap (λ (xs : List ChildEntry). length xs) (groups-join (inner_group_size k) n ts (omega arith) (group_size_some k (omega arith))) in
+    let total : length (joined gs) ≡ n = ap (λ (xs : List ChildEntry). length xs) (next-join k ts (omega arith)) in
     let high : length (joined gs) ≤ length gs * (k + 1) = count_high 2 (k + 1) gs (inner_groups k n ts two (λ h. absurd (omega arith))) in
     let there : 1 ≤ length gs = some_group gs (k + 1) (omega arith) in
     let low : c * (k + 1) < n = group_start k n c ts two (λ h. absurd (omega arith)) (omega arith) in
@@ -92,9 +92,6 @@ reach_leaves k pairs count sizes one few e long =
       long = long;
     }
 
-times_le : (a b c : ℕ) → a ≤ b → a * c ≤ b * c
-times_le a b c h = grind arith
-
 power : (h : ℕ) → 2 ^ (h + 1) ≡ 2 ^ h + 2 ^ h
 power h = rw (add-one) (omega arith)
 
@@ -102,14 +99,14 @@ halved : (h a c : ℕ) → a + a ≤ c → (h + h) * a ≤ h * c
 halved h a c e =
     let left : (h + h) * a ≡ (a + a) * h = grind arith in
     let right : h * c ≡ c * h = grind arith in
-    rw (left, right) (times_le (a + a) c h e)
+    rw (left, right) (mul-le-mul_right h e)
 
 shallow : (h c : ℕ) → 2 ≤ c → 2 ^ h * c ≤ 2 ^ 30 → h < 30
 shallow h c two narrow = elim (cases_lt h 30) [
   | inl lt ↦ lt
   | inr le ↦
       let high : 2 ^ 30 ≤ 2 ^ h = pow-le-pow_right {n = 2} (omega arith) {i = 30} {j = h} le in
-      let more : (1 + 1) * 2 ^ h ≤ c * 2 ^ h = times_le 2 c (2 ^ h) two in
+      let more : (1 + 1) * 2 ^ h ≤ c * 2 ^ h = mul-le-mul_right (2 ^ h) two in
       let swap : 2 ^ h * c ≡ c * 2 ^ h = grind arith in
       absurd (omega arith)
 ]

@@ -8,10 +8,11 @@ use Rattle.ndx_index.specs.declared.pair.Pair.{Pair}
 use Rattle.ndx_index.specs.declared.read.page.PageLayout.{PageLayout}
 use Rattle.ndx_index.specs.Pages.{inner, page_of, is_page}
 use Rattle.ndx_index.specs.NdxTree.{Trees, none, at_leaf, at_inner, Holds}
-use Rattle.ndx_index.specs.Image.{ChildEntry, child_entries, last_key, last_entry_key, leaf_page, inner_page, inner_group_size, next_level, levels_above}
+use Rattle.ndx_index.specs.Image.{ChildEntry, child_entries, last_of, last_key, last_entry_key, leaf_page, inner_page, next_level, levels_above}
 use Rattle.ndx_index.proofs.Laws.{trees_split}
-use Rattle.ndx_index.proofs.Grouped.{joined, groups-join, HasSize, inner_groups, group_size_some, count_two, all_groups}
-use Rattle.ndx_index.proofs.PageBytes.{Fits, IsChild, leaf_node, inner_node, length_leaf_page, length_inner_page}
+use Rattle.ndx_index.proofs.Grouped.{joined, next-join, next_half, short_groups, HasSize, inner_groups, all_groups}
+use Rattle.ndx_index.proofs.PageBytes.{Fits, IsChild, leaf_node, inner_node, pairs_short, entries_short, length_leaf_page, length_inner_page}
+use Rattle.std.proofs.Math.Nat.{mul-le-mul_right}
 
 -- ---- pages at their places
 
@@ -111,6 +112,23 @@ child_entries_run f n m (g ∷ gs) e =
 
 -- ---- one level above another
 
+abbrev pub last_number : List ChildEntry → ℕ
+last_number ts = last_of (λ t. t.page) 0 ts
+
+pub last_of_child_entries : {X : Type 0} (f : List X → List ℕ) (n : ℕ) (gs : List (List X)) → 1 ≤ length gs → last_number (child_entries f n gs) + 1 ≡ n + length gs
+last_of_child_entries f n [] some = absurd (omega arith)
+last_of_child_entries f n (g ∷ []) some = omega arith
+last_of_child_entries f n (g ∷ h ∷ gs) some = omega (arith, last_of_child_entries f (n + 1) (h ∷ gs) (omega arith))
+
+pub child_entries_fit : {X : Type 0} (s : PageLayout) (f : List X → List ℕ) (n : ℕ) (gs : List (List X)) → 1 ≤ n → n + length gs ≤ 2 ^ 32 → AllByRecursion (λ g. length (f g) + 8 ≤ s.size) gs → AllByRecursion (IsChild s) (child_entries f n gs)
+child_entries_fit s f n [] some small h = tt
+child_entries_fit s f n (g ∷ gs) some small h = (record { some = some; small = omega arith; short = h.0 }, child_entries_fit s f (n + 1) gs (omega arith) (omega arith) h.1)
+
+next_fits : (s : PageLayout) (k n : ℕ) (ts : List ChildEntry) → 1 ≤ n → 1 ≤ k → 8 ≤ s.size → n + length (next_level k ts) ≤ 2 ^ 32 → AllByRecursion (IsChild s) ts → AllByRecursion (IsChild s) (child_entries last_entry_key n (next_level k ts))
+next_fits s k n ts some one eight small fits =
+    let join : joined (next_level k ts) ≡ ts = next-join k ts one in
+    child_entries_fit s last_entry_key n (next_level k ts) some small (short_groups (λ t. t.key) s.size (next_level k ts) eight (rw join (entries_short s ts fits)))
+
 record Up (s : PageLayout) (bytes : List ℕ) (roots pages : List ℕ) (pairs : List Pair) : Type 0 where
   all : List ℕ
   tree : Trees s bytes roots all pairs
@@ -123,11 +141,8 @@ module _ (s : PageLayout) (bytes : List ℕ) where
   holds_inner k n (t ∷ []) some room few size fits is whole = absurd (omega (arith, size.low))
   holds_inner k n (t ∷ u ∷ g) some room few size fits is whole =
       let high : length g + 1 ≤ k = omega (arith, size.high) in
-      let fit : (length g + 1) * s.size ≤ k * s.size = times_le (length g + 1) k s.size high in
+      let fit : (length g + 1) * s.size ≤ k * s.size = mul-le-mul_right s.size high in
       record { whole = page_there bytes n some whole; keeps = rw is (inner_node s t u g (omega arith) (omega arith) fits) }
-    where
-      times_le : (a b c : ℕ) → a ≤ b → a * c ≤ b * c
-      times_le a b c h = grind arith
 
   up_trees : (k n : ℕ) (gs : List (List ChildEntry)) (pages : List ℕ) (pairs : List Pair) → 1 ≤ n → k * s.size ≤ 504 → k ≤ 504
       → AllByRecursion (HasSize 2 (k + 1)) gs → AllByRecursion (AllByRecursion (IsChild s)) gs → AreAt bytes n (map (inner_page s.size) gs)
@@ -165,7 +180,7 @@ module _ (s : PageLayout) (bytes : List ℕ) where
       → n + length (next_level k ts) ≡ m → AreAt bytes n (map (inner_page s.size) (next_level k ts)) → LevelTrees n ts pairs → LevelTrees m (child_entries last_entry_key n (next_level k ts)) pairs
   next k n m ts pairs some two room few many fits e at level =
       let gs : List (List ChildEntry) = next_level k ts in
-      let join : joined gs ≡ ts = groups-join (inner_group_size k) (length ts) ts (omega arith) (group_size_some k (omega arith)) in
+      let join : joined gs ≡ ts = next-join k ts (omega arith) in
       let up = up_trees k n gs level.pages pairs some room few (inner_groups k (length ts) ts two many) (all_groups (IsChild s) gs (rw join fits)) at (rw join level.tree) in
       let run = child_entries_run last_entry_key n m gs e in
       record {
@@ -178,34 +193,9 @@ module _ (s : PageLayout) (bytes : List ℕ) where
         under = λ r le. omega (arith, up.times_are r, level.under r (omega arith), run.over r le);
       }
 
-  pub last_number : List ChildEntry → ℕ
-  last_number [] = 0
-  last_number (t ∷ []) = t.page
-  last_number (t ∷ u ∷ ts) = last_number (u ∷ ts)
-
-  pub last_of_child_entries : {X : Type 0} (f : List X → List ℕ) (n : ℕ) (gs : List (List X)) → 1 ≤ length gs → last_number (child_entries f n gs) + 1 ≡ n + length gs
-  unfolding last_number
-  last_of_child_entries f n [] some = absurd (omega arith)
-  last_of_child_entries f n (g ∷ []) some = omega arith
-  last_of_child_entries f n (g ∷ h ∷ gs) some = omega (arith, last_of_child_entries f (n + 1) (h ∷ gs) (omega arith))
-
-  short_last : (ts : List ChildEntry) → 8 ≤ s.size → AllByRecursion (IsChild s) ts → length (last_entry_key ts) + 8 ≤ s.size
-  short_last [] room h = omega arith
-  short_last (t ∷ []) room h = h.0.short
-  short_last (t ∷ u ∷ ts) room h = short_last (u ∷ ts) room h.1
-
-  pub child_entries_fit : {X : Type 0} (f : List X → List ℕ) (n : ℕ) (gs : List (List X)) → 1 ≤ n → n + length gs ≤ 2 ^ 32 → AllByRecursion (λ g. length (f g) + 8 ≤ s.size) gs → AllByRecursion (IsChild s) (child_entries f n gs)
-  child_entries_fit f n [] some small h = tt
-  child_entries_fit f n (g ∷ gs) some small h = (record { some = some; small = omega arith; short = h.0 }, child_entries_fit f (n + 1) gs (omega arith) (omega arith) h.1)
-
-  all_short : (gs : List (List ChildEntry)) → 8 ≤ s.size → AllByRecursion (AllByRecursion (IsChild s)) gs → AllByRecursion (λ g. length (last_entry_key g) + 8 ≤ s.size) gs
-  all_short [] room h = tt
-  all_short (g ∷ gs) room h = (short_last g room h.0, all_short gs room h.1)
-
   pub levels_tree : (fuel k n root : ℕ) (ts : List ChildEntry) (pairs : List Pair) → 1 ≤ n → 2 ≤ k → 8 ≤ s.size → k * s.size ≤ 504 → k ≤ 504 → 1 ≤ length ts → length ts ≤ fuel
       → n + length ts ≤ 2 ^ 32 → AllByRecursion (IsChild s) ts → last_number ts + 1 ≡ n → n + length (levels_above fuel k n ts) ≡ root + 1
       → AreAt bytes n (map (inner_page s.size) (levels_above fuel k n ts)) → LevelTrees n ts pairs → Rooted root pairs
-  unfolding last_number
   levels_tree zero k n root ts pairs some two eight room few one enough small fits last e at level = absurd (omega arith)
   levels_tree (suc f) k n root [] pairs some two eight room few one enough small fits last e at level = absurd (omega arith)
   levels_tree (suc f) k n root (t ∷ []) pairs some two eight room few one enough small fits last e at level =
@@ -218,22 +208,13 @@ module _ (s : PageLayout) (bytes : List ℕ) where
       let ups : List ChildEntry = child_entries last_entry_key n gs in
       let above : List (List ChildEntry) = levels_above f k m ups in
       let many : length all ≢ 1 = λ h. absurd (omega arith) in
-      let join : joined gs ≡ all = groups-join (inner_group_size k) (length all) all (omega arith) (group_size_some k (omega arith)) in
-      let sizes = inner_groups k (length all) all two many in
-      let half : length gs + length gs ≤ length (joined gs) = count_two (k + 1) gs sizes in
-      let total : length (joined gs) ≡ length all = ap (λ (xs : List ChildEntry). length xs) join in
-      let some_group : 1 ≤ length gs = some_groups gs (omega arith) in
+      let half : length gs + length gs ≤ length all = next_half k all two many in
       let parts = at_append bytes n m (map (inner_page s.size) gs) (map (inner_page s.size) above) (omega (arith, length-map gs (inner_page s.size))) (subst (λ ps. AreAt bytes n ps) (map-append (inner_page s.size) gs above) at) in
-      let fits_groups = all_groups (IsChild s) gs (rw join fits) in
       let up = next k n m all pairs some two room few many fits refl parts.0 level in
       let long : length ups ≡ length gs = length-child_entries last_entry_key n gs in
       levels_tree f k m root ups pairs (omega arith) two eight room few (omega arith) (omega arith) (omega arith)
-      (child_entries_fit last_entry_key n gs some (omega arith) (all_short gs eight fits_groups)) (last_of_child_entries last_entry_key n gs some_group)
+      (next_fits s k n all some (omega arith) eight (omega arith) fits) (last_of_child_entries last_entry_key n gs (omega arith))
       (omega (arith, length-append gs above)) parts.1 up
-    where
-      some_groups : {X : Type 0} (gs : List (List X)) → 1 ≤ length (joined gs) → 1 ≤ length gs
-      some_groups [] h = absurd (omega arith)
-      some_groups (g ∷ gs) h = omega arith
 
   -- ---- the leaves
 
@@ -241,12 +222,9 @@ module _ (s : PageLayout) (bytes : List ℕ) where
       → AreAt bytes n (map (leaf_page s.size) gs) → Trees s bytes (numbers (child_entries last_key n gs)) (numbers (child_entries last_key n gs)) (joined gs)
   leaf_trees k n [] some room fit few sizes fits at = none
   leaf_trees k n (g ∷ gs) some room fit few sizes fits at =
-      let product : length g * s.size ≤ k * s.size = leaf_fits (length g) k s.size sizes.0.high in
+      let product : length g * s.size ≤ k * s.size = mul-le-mul_right s.size sizes.0.high in
       let node = leaf_node s g room (omega arith) (omega (arith, sizes.0.high)) fits.0 in
       at_leaf (record { whole = page_there bytes n some at.1; keeps = rw at.0 node }) (leaf_trees k (n + 1) gs (omega arith) room fit few sizes.1 fits.1 at.2)
-    where
-      leaf_fits : (a b c : ℕ) → a ≤ b → a * c ≤ b * c
-      leaf_fits a b c h = grind arith
 
 -- ---- the pages' lengths
 
@@ -254,12 +232,12 @@ module _ (s : PageLayout) where
   pub leaves_long : (k : ℕ) (gs : List (List Pair)) → s.key_len + 8 ≤ s.size → k * s.size ≤ 504 → AllByRecursion (HasSize 0 k) gs → AllByRecursion (AllByRecursion (Fits s)) gs
       → AllByRecursion (λ p. length p ≡ 512) (map (leaf_page s.size) gs)
   leaves_long k [] room fit sizes fits = tt
-  leaves_long k (g ∷ gs) room fit sizes fits = (length_leaf_page s k g room fit sizes.0.high fits.0, leaves_long k gs room fit sizes.1 fits.1)
+  leaves_long k (g ∷ gs) room fit sizes fits = (length_leaf_page s.size k g fit sizes.0.high (pairs_short s g room fits.0), leaves_long k gs room fit sizes.1 fits.1)
 
   groups_long : (k : ℕ) (gs : List (List ChildEntry)) → k * s.size ≤ 504 → AllByRecursion (HasSize 2 (k + 1)) gs → AllByRecursion (AllByRecursion (IsChild s)) gs
       → AllByRecursion (λ p. length p ≡ 512) (map (inner_page s.size) gs)
   groups_long k [] fit sizes fits = tt
-  groups_long k (g ∷ gs) fit sizes fits = (length_inner_page s k g fit (omega (arith, sizes.0.low)) sizes.0.high fits.0, groups_long k gs fit sizes.1 fits.1)
+  groups_long k (g ∷ gs) fit sizes fits = (length_inner_page s.size k g fit (omega (arith, sizes.0.low)) sizes.0.high (entries_short s g fits.0), groups_long k gs fit sizes.1 fits.1)
 
   pub all_both : (P : List ℕ → Type 0) (ps qs : List (List ℕ)) → AllByRecursion P ps → AllByRecursion P qs → AllByRecursion P (ps ++ qs)
   all_both P [] qs h k = k
@@ -278,14 +256,13 @@ module _ (s : PageLayout) where
       let gs : List (List ChildEntry) = next_level k all in
       let ups : List ChildEntry = child_entries last_entry_key n gs in
       let above : List (List ChildEntry) = levels_above f k (n + length gs) ups in
-      let join : joined gs ≡ all = groups-join (inner_group_size k) (length all) all (omega arith) (group_size_some k (omega arith)) in
-      let sizes = inner_groups k (length all) all two (λ h. absurd (omega arith)) in
-      let half : length gs + length gs ≤ length (joined gs) = count_two (k + 1) gs sizes in
-      let total : length (joined gs) ≡ length all = ap (λ (xs : List ChildEntry). length xs) join in
-      let fits_groups = all_groups (IsChild s) gs (rw join fits) in
+      let many : length all ≢ 1 = λ h. absurd (omega arith) in
+      let join : joined gs ≡ all = next-join k all (omega arith) in
+      let half : length gs + length gs ≤ length all = next_half k all two many in
       let long : length ups ≡ length gs = length-child_entries last_entry_key n gs in
-      let more = levels_long f k (n + length gs) ups (omega arith) two eight fit (omega arith) (child_entries_fit s [] last_entry_key n gs some (omega arith) (all_short s [] gs eight fits_groups)) in
+      let more = levels_long f k (n + length gs) ups (omega arith) two eight fit (omega arith) (next_fits s k n all some (omega arith) eight (omega arith) fits) in
+      let pages = groups_long k gs fit (inner_groups k (length all) all two many) (all_groups (IsChild s) gs (rw join fits)) in
       record {
-        long = subst (λ ps. AllByRecursion (λ p. length p ≡ 512) ps) (sym (map-append (inner_page s.size) gs above)) (all_both (λ p. length p ≡ 512) (map (inner_page s.size) gs) (map (inner_page s.size) above) (groups_long k gs fit sizes fits_groups) more.long);
+        long = subst (λ ps. AllByRecursion (λ p. length p ≡ 512) ps) (sym (map-append (inner_page s.size) gs above)) (all_both (λ p. length p ≡ 512) (map (inner_page s.size) gs) (map (inner_page s.size) above) pages more.long);
         few = omega (arith, length-append gs above, more.few);
       }

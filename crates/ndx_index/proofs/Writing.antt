@@ -7,13 +7,8 @@ use Rattle.byteorder.specs.Endian.{little_bytes}
 use Rattle.ndx_index.specs.Image.{groups, leaf_group_size, header_page, page_keys, record_size, leaf_record, leaf_page, filled_page}
 use Rattle.dbf_image.specs.Sink.{grown}
 use Rattle.dbf_image.specs.Writer.{Wanted, more}
-use Rattle.ndx_index.proofs.PageBytes.{length_leaf_record}
+use Rattle.ndx_index.proofs.PageBytes.{length_pairs}
 use Rattle.dbf_image.proofs.Sinks.{grown_then}
-
-pub length_pairs : (size : ℕ) (g : List Pair) → AllByRecursion (λ p. length p.key + 8 ≤ size) g → length (flat_map (leaf_record size) g) ≡ length g * size
-length_pairs size [] h = omega arith
-length_pairs size (p ∷ g) h =
-    omega (arith, length-append (leaf_record size p) (flat_map (leaf_record size) g), length_leaf_record size p h.0, length_pairs size g h.1)
 
 -- a leaf's parts, one after the other
 pub leaf_parts : (size : ℕ) (g : List Pair) → AllByRecursion (λ p. length p.key + 8 ≤ size) g
