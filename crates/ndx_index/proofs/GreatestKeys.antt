@@ -25,7 +25,7 @@ shifted b i xs d h =
     let e : b + (i - b) ≡ i = omega arith in
     get_or-drop b xs (i - b) d ∙ ap (λ (n : ℕ). get_or xs n d) e
 
-times_suc : (j k : ℕ) → suc j * k ≡ j * k + k
+pub times_suc : (j k : ℕ) → suc j * k ≡ j * k + k
 times_suc j k = grind arith
 
 none_or_more : (j k : ℕ) → j * k < k → j * k ≡ 0

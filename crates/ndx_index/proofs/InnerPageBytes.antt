@@ -11,7 +11,7 @@ use Rattle.std.specs.Prelude.{flat_map}
 use Rattle.std.proofs.lemmas.List.{drop-drop}
 use Rattle.ndx_index.specs.Image.{groups, inner_group_size}
 use Rattle.ndx_index.proofs.Grouped.{group_size_some}
-use Rattle.ndx_index.proofs.Writing.{same_parts, groups-next, all_parts}
+use Rattle.ndx_index.proofs.Writing.{groups_step, all_parts}
 
 records_step : (size i : ℕ) (g : List ChildEntry) (d : ChildEntry) → i + 1 < length g → inner_records size (drop i g) ≡ key_record size (get_or g i d).page 0 (get_or g i d).key ++ inner_records size (drop (suc i) g)
 unfolding inner_records
@@ -90,12 +90,7 @@ pub level_step : (size k at n : ℕ) (ts : List ChildEntry) → n ≡ min (inner
     → flat_map (inner_page size) (groups (inner_group_size k) (length (drop at ts)) (drop at ts))
     ≡ inner_page size (take n (drop at ts)) ++ flat_map (inner_page size) (groups (inner_group_size k) (length (drop (at + n) ts)) (drop (at + n) ts))
 level_step size k at n ts e some one =
-    let rest : List ChildEntry = drop at ts in
-    let b : ℕ = inner_group_size k (length rest) in
-    let same = same_parts n b rest e in
-    let joined_drop : drop (at + n) ts ≡ drop b rest = sym (drop-drop n at ts) ∙ same.1 in
-    let next : groups (inner_group_size k) (length rest) rest ≡ take b rest ∷ groups (inner_group_size k) (length (drop b rest)) (drop b rest) = groups-next (inner_group_size k) rest some (group_size_some k one) in
-    rw (joined_drop, same.0) (ap (λ gs. flat_map (inner_page size) gs) next)
+    rw (sym (drop-drop n at ts)) (groups_step (inner_page size) (inner_group_size k) n (drop at ts) e some (group_size_some k one))
 
 pub children_short : (size at n : ℕ) (ts : List ChildEntry) → AllByRecursion (λ u. length u.key + 8 ≤ size) ts → AllByRecursion (λ u. length u.key + 8 ≤ size) (take n (drop at ts))
 children_short size at n ts h = (all_parts _ n (drop at ts) (all_parts _ at ts h).1).0

@@ -2,13 +2,13 @@
 use Rattle.std.proofs.Common.{◌≡◌, ℕ, zero, suc, ◌<◌, ◌≤◌, Bool, true, false, not, cond, List, [], ◌∷◌, length, get_or, Contains, refl, ap, sym, ◌∙◌, subst, inl, inr, ◌⊎◌, arith}
 use Rattle.std.specs.declared.cmp.Ordering.{Ordering}
 use Rattle.std.specs.declared.cmp.Ordering.TheVariants.{Less, Equal, Greater}
-use Rattle.std.specs.Cmp.{IsTotalOrder}
+use Rattle.std.specs.Cmp.{IsTotalOrder, tied_then}
 use Rattle.std.specs.Cmp.Lexicographic.{slice_cmp, pointwise, texts_ties}
 use Rattle.std.specs.Prelude.{nat_eq, ◌&&◌}
 use Rattle.std.specs.Ordering.{nat_cmp, ordering_then, is_lt, is_eq, ordering_reverse}
 use Rattle.std.specs.List.{insert, remove, filter, AllByRecursion}
 use Rattle.std.specs.List.Sorted.{IsStrictlySortedBy, IsPartitionedBy}
-use Rattle.std.proofs.lemmas.Bool.{cases_eq, cases_lt, false≢true}
+use Rattle.std.proofs.lemmas.Bool.{cases_eq, cases_lt, false≢true, not-true}
 use Rattle.std.proofs.lemmas.Bool.Decides.{nat_tests}
 use Rattle.std.proofs.lemmas.List.{get_or_default}
 use Rattle.std.proofs.lemmas.Cmp.{then_total, on_total, nat_list_cmp_total, nat_cmp_total, tied_itself}
@@ -143,17 +143,9 @@ absent_at p ps i sorted low high ne h = elim (cases_lt h.0 i) [
   ]
 ]
 
-pub false-from_not : (b : Bool) → not b ≡ true → b ≡ false
-false-from_not true h = absurd (false≢true h)
-false-from_not false h = refl
-
-pub true-from_not : (b : Bool) → not b ≡ false → b ≡ true
-true-from_not true h = refl
-true-from_not false h = absurd (false≢true (sym h))
-
 pub parted-after : (p : Pair) (ps : List Pair) → AreInOrder ps → IsPartitionedBy (λ q. not (before p q)) ps
 parted-after p = parted_by (λ q. not (before p q)) (λ a b h k. elim (before p a) as (λ t. before p a ≡ t → not t ≡ true) [
-  | true ↦ λ e. absurd (false≢true (sym (false-from_not _ k) ∙ ap is_lt (before_trans p a b (before_is p a e) h)))
+  | true ↦ λ e. absurd (false≢true (sym (not-true _ k) ∙ ap is_lt (before_trans p a b (before_is p a e) h)))
   | false ↦ λ e. refl
 ] refl)
 
@@ -174,11 +166,6 @@ parted-key prefix = parted_by (λ q. is_lt (slice_cmp nat_cmp q.key prefix)) (λ
       | inr tie ↦ nat_list_cmp_total.congr a.key b.key prefix tie ∙ below
     ]))
 
-is_eq-then : (o r : Ordering) → is_eq (ordering_then o r) ≡ is_eq o && is_eq r
-is_eq-then Less r = refl
-is_eq-then Equal r = refl
-is_eq-then Greater r = refl
-
 is_eq-nat_cmp : (m n : ℕ) → nat_eq m n ≡ is_eq (nat_cmp m n)
 is_eq-nat_cmp m n = grind (arith, nat_tests)
 
@@ -187,7 +174,7 @@ pub same_by_parts : (a b : Pair) → (pointwise nat_eq a.key b.key && nat_eq a.n
 same_by_parts a b =
     ap (λ t. t && nat_eq a.number b.number) (texts_ties a.key b.key)
     ∙ ap (λ t. is_eq (slice_cmp nat_cmp a.key b.key) && t) (is_eq-nat_cmp a.number b.number)
-    ∙ sym (is_eq-then (slice_cmp nat_cmp a.key b.key) (nat_cmp a.number b.number))
+    ∙ tied_then (slice_cmp nat_cmp a.key b.key) (nat_cmp a.number b.number)
 
 kept_step : (f : Pair → Bool) (q : Pair) (rest : List Pair) (d : Pair) (b : Bool) → f q ≡ b → ((k : ℕ) → k < length rest → f (get_or rest k d) ≡ true)
     → (k : ℕ) → k < length (cond b (q ∷ rest) rest) → f (get_or (cond b (q ∷ rest) rest) k d) ≡ true
@@ -203,4 +190,4 @@ kept_pass f (q ∷ qs) d k h = kept_step f q (filter f qs) d (f q) refl (λ j lt
 pub absent_without : (p : Pair) (ps : List Pair) → Contains (without p ps) p → ⊥
 absent_without p ps h =
     let pass : not (same p (get_or (without p ps) h.0 p)) ≡ true = kept_pass (λ q. not (same p q)) ps p h.0 h.1 in
-    false≢true (sym (false-from_not _ (subst (λ q. not (same p q) ≡ true) h.2 pass)) ∙ same_itself p)
+    false≢true (sym (not-true _ (subst (λ q. not (same p q) ≡ true) h.2 pass)) ∙ same_itself p)

@@ -10,7 +10,7 @@ use Rattle.ndx_index.specs.Levels.{AreSizes, level}
 use Rattle.ndx_index.proofs.Grouped.{joined, next-join, groups-join, leaf_groups, inner_groups, HasSize}
 use Rattle.ndx_index.proofs.ReadBack.{length-child_entries}
 use Rattle.ndx_index.proofs.ImageLaw.{leaves_few, leaves_some}
-use Rattle.ndx_index.proofs.GreatestKeys.{leaf_group_start, group_start, leaf_start}
+use Rattle.ndx_index.proofs.GreatestKeys.{times_suc, leaf_group_start, group_start, leaf_start}
 use Rattle.ndx_index.proofs.LevelLaws.{half_as_many}
 
 quotient : (n k c : ℕ) → zero < k → c * k ≤ n → n < (c + 1) * k → n / k ≡ c
@@ -19,15 +19,12 @@ quotient n k c some low high =
     let b : n / k < c + 1 = (div-lt_iff_lt-mul {k = k} {x = n} {y = c + 1} some).1 high in
     omega arith
 
+add_times : (c k : ℕ) → (c + 1) * k ≡ c * k + k
+add_times c k = grind arith
+
 count_high : {X : Type 0} (low high : ℕ) (gs : List (List X)) → AllByRecursion (HasSize low high) gs → length (joined gs) ≤ length gs * high
 count_high low high [] h = omega arith
-count_high low high (g ∷ gs) h = omega (arith, length-append g (joined gs), count_high low high gs h.1, h.0.high, row (length gs) high)
-  where
-    row : (c high : ℕ) → suc c * high ≡ c * high + high
-    row c high = grind arith
-
-one_more : (c k : ℕ) → (c + 1) * k ≡ c * k + k
-one_more c k = grind arith
+count_high low high (g ∷ gs) h = omega (arith, length-append g (joined gs), count_high low high gs h.1, h.0.high, times_suc (length gs) high)
 
 -- the number of leaves
 pub leaves_counted : (k : ℕ) (p : Pair) (ps : List Pair) → 1 ≤ k → length (leaves k (p ∷ ps)) ≡ length ps / k + 1
@@ -55,8 +52,8 @@ level_counted k ts two many =
     let there : 1 ≤ length gs = some_group gs (k + 1) (omega arith) in
     let low : c * (k + 1) < n = group_start k n c ts two (λ h. absurd (omega arith)) (omega arith) in
     let e : length gs ≡ c + 1 = omega arith in
-    let wide : length gs * (k + 1) ≡ c * (k + 1) + (k + 1) = ap (λ (m : ℕ). m * (k + 1)) e ∙ one_more c (k + 1) in
-    let over : (length gs + 1) * (k + 1) ≡ length gs * (k + 1) + (k + 1) = one_more (length gs) (k + 1) in
+    let wide : length gs * (k + 1) ≡ c * (k + 1) + (k + 1) = ap (λ (m : ℕ). m * (k + 1)) e ∙ add_times c (k + 1) in
+    let over : (length gs + 1) * (k + 1) ≡ length gs * (k + 1) + (k + 1) = add_times (length gs) (k + 1) in
     let q : (n + k) / (k + 1) ≡ length gs = quotient (n + k) (k + 1) (length gs) (omega arith) (omega arith) (omega arith) in
     sym q
   where

@@ -4,7 +4,7 @@ use Rattle.std.specs.Prelude.{flat_map}
 use Rattle.std.specs.List.{AllByRecursion}
 use Rattle.ndx_index.specs.declared.pair.Pair.{Pair}
 use Rattle.byteorder.specs.Endian.{little_bytes}
-use Rattle.ndx_index.specs.Image.{groups, leaf_group_size, header_page, page_keys, record_size, leaf_record, leaf_page, filled_page}
+use Rattle.ndx_index.specs.Image.{groups, header_page, page_keys, record_size, leaf_record, leaf_page, filled_page}
 use Rattle.dbf_image.specs.Sink.{grown}
 use Rattle.dbf_image.specs.Writer.{Wanted, more}
 use Rattle.ndx_index.proofs.PageBytes.{length_pairs}
@@ -67,13 +67,12 @@ same_parts n (suc k) (x ∷ xs) e =
     let r = same_parts (min k (length xs)) k xs refl in
     rw e' (ap (λ ys. x ∷ ys) r.0, r.1)
 
-pub leaf_step : (size k n : ℕ) (rest : List Pair) → n ≡ min k (length rest) → 1 ≤ length rest → 1 ≤ k
-    → flat_map (leaf_page size) (groups (leaf_group_size k) (length rest) rest)
-    ≡ leaf_page size (take n rest) ++ flat_map (leaf_page size) (groups (leaf_group_size k) (length (drop n rest)) (drop n rest))
-leaf_step size k n rest e some one =
-    let same = same_parts n k rest e in
-    let next : groups (leaf_group_size k) (length rest) rest ≡ take k rest ∷ groups (leaf_group_size k) (length (drop k rest)) (drop k rest) = groups-next (leaf_group_size k) rest some (λ m. one) in
-    rw (same.0, same.1) (ap (λ gs. flat_map (leaf_page size) gs) next)
+-- the page of the first group, and then those of the rest
+pub groups_step : {X : Type 0} (page : List X → List ℕ) (group_size : ℕ → ℕ) (n : ℕ) (rest : List X) → n ≡ min (group_size (length rest)) (length rest) → 1 ≤ length rest → ((m : ℕ) → 1 ≤ group_size m)
+    → flat_map page (groups group_size (length rest) rest) ≡ page (take n rest) ++ flat_map page (groups group_size (length (drop n rest)) (drop n rest))
+groups_step page group_size n rest e some each =
+    let same = same_parts n (group_size (length rest)) rest e in
+    rw (same.0, same.1) (ap (λ gs. flat_map page gs) (groups-next group_size rest some each))
 
 -- ---- the header
 

@@ -1,12 +1,12 @@
 use Rattle.std.proofs.Common.{◌≡◌, false, true, not, ap, sym, subst, ◌∙◌, Contains, length, ◌<◌, arith}
 use Rattle.std.specs.List.{remove}
-use Rattle.std.proofs.lemmas.Bool.{false≢true}
+use Rattle.std.proofs.lemmas.Bool.{false≢true, not-true, not-false}
 use Rattle.std.proofs.lemmas.List.{get_or_default}
 use Rattle.std.proofs.lemmas.List.Kept.{IsStrictlySortedBy-filter}
 use Rattle.ndx_index.specs.declared.pair.Pair.{Pair}
 use Rattle.ndx_index.specs.Index.{Index, HaveLength}
 use Rattle.ndx_index.specs.Order.{AreInOrder, pair_cmp, same}
-use Rattle.ndx_index.proofs.Order.{all-filter, absent_at, without_absent, without_at, same_is, same_itself, same_by_parts, false-from_not, true-from_not}
+use Rattle.ndx_index.proofs.Order.{all-filter, absent_at, without_absent, without_at, same_is, same_itself, same_by_parts}
 use Rattle.ndx_index.proofs.index.OrderedIndex.remove.Goals as goal
 use Rattle.ndx_index.proofs.index.OrderedIndex.remove.Goals.{Then-at-len, Then-ne, After-remove}
 
@@ -30,7 +30,7 @@ absent_here c =
     let read = rw pairs at c.index.ensures in
     let differs : not (same c.index.result.now c.args.pair) ≡ true = ap not (sym (same_by_parts c.index.result.now c.args.pair)) ∙ sym c.ne.ensures ∙ c.if-ne.true in
     absent_at c.args.pair c.args.self.now.pairs c.pair_index-at.result (subst AreInOrder pairs c.self.invariant.0) (λ k d h. parts.0 k d (omega arith) h) (λ k d le lt. parts.1 k d le lt)
-    (λ lt e. false≢true (sym (false-from_not _ differs) ∙ ap (λ q. same q c.args.pair) (read ∙ get_or_default c.args.self.now.pairs c.pair_index-at.result c.index.result.now c.args.pair lt ∙ e) ∙ same_itself c.args.pair))
+    (λ lt e. false≢true (sym (not-true _ differs) ∙ ap (λ q. same q c.args.pair) (read ∙ get_or_default c.args.self.now.pairs c.pair_index-at.result c.index.result.now c.args.pair lt ∙ e) ∙ same_itself c.args.pair))
 
 pub returns-then-ne-clause-found : goal.returns-then-ne-clause-found
 returns-then-ne-clause-found c = (λ t. absurd (false≢true t), λ h. absurd (absent_here c h))
@@ -47,7 +47,7 @@ returns-clause-pairs c =
     let lt : at < length now = omega (arith, c.self.inside.kept.ok.0) in
     let read = rw pairs at c.index.ensures in
     let is : not (same c.index.result.now c.args.pair) ≡ false = ap not (sym (same_by_parts c.index.result.now c.args.pair)) ∙ sym c.ne.ensures ∙ c.if-ne.false in
-    let found : c.index.result.now ≡ c.args.pair = same_is _ _ (true-from_not _ is) in
+    let found : c.index.result.now ≡ c.args.pair = same_is _ _ (not-false _ is) in
     c.remove.ensures.items ∙ ap (λ xs. remove xs at) pairs ∙ sym (without_at c.args.pair now at (subst AreInOrder pairs c.self.invariant.0) lt (λ d. get_or_default now at d c.index.result.now lt ∙ sym read ∙ found))
 
 pub invariant_of-self : goal.invariant_of-self

@@ -1,7 +1,8 @@
 use Rattle.std.proofs.Common.{◌≡◌, ◌≤◌, ℕ, length, min, ◌∙◌, arith}
 use Rattle.std.proofs.lemmas.List.{take_rest}
 use Rattle.dbf_image.proofs.Puts.{more_left}
-use Rattle.ndx_index.proofs.Writing.{leaf_step, all_parts, all_whole}
+use Rattle.ndx_index.specs.Image.{leaf_page, leaf_group_size}
+use Rattle.ndx_index.proofs.Writing.{groups_step, all_parts, all_whole}
 use Rattle.ndx_index.proofs.write.leaf.put_leaves.Goals as goal
 
 pub loop-rest-preserved : goal.loop-rest-preserved
@@ -14,7 +15,7 @@ loop-rest-preserved g c =
     let e : n ≡ min shape.keys (length rest) = c.min-n.ensures in
     rw (take_rest rest n, c.put_leaf-in-loop-rest.ensures.put.1) (record {
       same = c.put_leaf-in-loop-rest.ensures.put.0 ∙ c.loop-rest.invariant.same;
-      left = more_left _ _ _ _ _ (leaf_step shape.size shape.keys n rest e some one) c.loop-rest.invariant.left;
+      left = more_left _ _ _ _ _ (groups_step (leaf_page shape.size) (leaf_group_size shape.keys) n rest e some (λ m. one)) c.loop-rest.invariant.left;
       keys = (all_parts _ n rest c.loop-rest.invariant.keys).1;
       numbers = λ h. c.loop-rest.invariant.numbers (all_whole _ n rest c.put_leaf-in-loop-rest.ensures.numbers h);
     })
