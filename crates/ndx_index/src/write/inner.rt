@@ -3,7 +3,7 @@
 
 ghost use Rattle.std.specs.Prelude.{◌≡◌, ◌≢◌, min, ◌+◌, ◌-◌, ◌<◌, ◌≤◌, length, flat_map};
 ghost use Rattle.dbf_image.specs.Output.{Puts};
-ghost use Rattle.ndx_index.specs.Image.{inner_group_size, inner_pages, inner_records, inner_page, next_level};
+ghost use Rattle.ndx_index.specs.Image.{inner_group_size, inner_pages, inner_page, next_level};
 ghost use Rattle.ndx_index.specs.Levels.{IsLevel, children_from, level as level_of};
 
 use crate::format::MAX_RECORDS_BYTES;
@@ -12,30 +12,7 @@ use crate::write::plan::{LevelSpan, TreePlan, greatest};
 use crate::write::shape::Shape;
 use dbf_image::{ByteSink, SinkWriter};
 
-// The key records of an inner page's children, from index `at` of their level on. The last child has a
-// pointer alone.
-fn put_children<S: ByteSink>(
-    out: &mut SinkWriter<'_, S>,
-    plan: &TreePlan<'_>,
-    level: LevelSpan,
-    at: usize,
-    count: usize,
-)
-    requires height { level.height < plan.now.height }
-    requires level { IsLevel plan.now.shape.keys plan.now.pairs.now level.height level.first level.count }
-    requires inside { at + count ≤ level.count }
-    requires child { 1 ≤ count }
-    ensures { Puts out.old (inner_records plan.now.shape.size (children_from plan.now.shape.keys plan.now.pairs.now level.height at count)) out.new }
-{
-    for i in 0..count - 1 {
-        let page = level.first + (at + i) as u32;
-        let key = greatest(plan, level.height, at + i).key.as_bytes();
-        put_key_record(out, plan.shape, page, 0, key);
-    }
-    put_u32(out, level.first + (at + count - 1) as u32);
-}
-
-// The page above these children.
+// The page above `count` children, from index `at` of their level on. The last child has a pointer alone.
 fn put_inner<S: ByteSink>(
     out: &mut SinkWriter<'_, S>,
     plan: &TreePlan<'_>,
@@ -51,7 +28,12 @@ fn put_inner<S: ByteSink>(
     ensures { Puts out.old (inner_page plan.now.shape.size (children_from plan.now.shape.keys plan.now.pairs.now level.height at count)) out.new }
 {
     put_u32(out, (count - 1) as u32);
-    put_children(out, plan, level, at, count);
+    for i in 0..count - 1 {
+        let page = level.first + (at + i) as u32;
+        let key = greatest(plan, level.height, at + i).key.as_bytes();
+        put_key_record(out, plan.shape, page, 0, key);
+    }
+    put_u32(out, level.first + (at + count - 1) as u32);
     put_zeros(out, MAX_RECORDS_BYTES - (count - 1) * plan.shape.size);
 }
 
