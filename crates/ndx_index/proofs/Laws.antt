@@ -1,5 +1,5 @@
 -- The walk that breaks no rule is the tree, and there is one walk.
-use Rattle.std.proofs.Common.{◌≡◌, ℕ, Bool, true, false, cond, nat_eq, List, [], ◌∷◌, ◌++◌, Option, Some, None, Result, Ok, Err, refl, ap, sym, ◌∙◌, subst, append_assoc, append-nil}
+use Rattle.std.proofs.Common.{◌≡◌, ℕ, Bool, true, false, cond, nat_eq, List, [], ◌∷◌, ◌++◌, Option, None, Ok, Err, refl, ap, sym, ◌∙◌, subst, append_assoc, append-nil}
 use Rattle.std.specs.List.{IsDistinct, AllByRecursion}
 use Rattle.std.proofs.lemmas.Bool.{or_parts}
 use Rattle.std.proofs.lemmas.Cmp.{nat_eq_equiv}
@@ -53,26 +53,20 @@ module _ (s : PageLayout) (bytes : List ℕ) where
         pairs_are = ap (λ ps. own ++ ps) r.pairs_are ∙ sym (append_assoc own r.own r.others);
       }
 
-  not_none : {e : NdxFault} → Some e ≡ None → ⊥
-  not_none h = cc
-
-  err_not_ok : {e : NdxFault} {node : Node} → Err e ≡ Ok node → ⊥
-  err_not_ok h = cc
-
   looked : (visited : List ℕ) (p : ℕ) (node : Node) → look s bytes visited p ≡ Ok node → Holds s bytes p node × (is_visited p visited ≡ false)
   looked visited p node h = step (is_page bytes p) (is_visited p visited) refl refl h
     where
       step : (a b : Bool) → is_page bytes p ≡ a → is_visited p visited ≡ b → cond a (cond b (Err PageTwice) (node_of s (page_of bytes p))) (Err PageOutside) ≡ Ok node → Holds s bytes p node × (is_visited p visited ≡ false)
-      step true true x y k = absurd (err_not_ok k)
+      step true true x y k = absurd cc
       step true false x y k = (record { whole = x; keeps = k }, y)
-      step false b x y k = absurd (err_not_ok k)
+      step false b x y k = absurd cc
 
   looks_new : (visited : List ℕ) (p : ℕ) (node : Node) → Holds s bytes p node → is_visited p visited ≡ false → look s bytes visited p ≡ Ok node
   looks_new visited p node holds new = rw (holds.whole, new) holds.keeps
 
   pub visits_trees : {visited pending pages : List ℕ} {pairs : List Pair} {r : Option NdxFault} → Visits s bytes visited pending pages pairs r → r ≡ None → Trees s bytes pending pages pairs × Apart visited pages
   visits_trees done e = (none, tt)
-  visits_trees (stops h) e = absurd (not_none e)
+  visits_trees (stops h) e = absurd cc
   visits_trees (visit_leaf {visited = visited} {p = p} {own = own} h v) e =
       let t = visits_trees v e in
       let k = looked visited p (leaf own) h in
@@ -113,36 +107,23 @@ module _ (s : PageLayout) (bytes : List ℕ) where
       subst (λ ps. Visits s bytes visited (p ∷ (rest ++ pending)) (p ∷ ps) ((own ++ pairs) ++ pairs') r) (sym (append_assoc below pages pages'))
       (subst (λ qs. Visits s bytes visited (p ∷ (rest ++ pending)) (p ∷ (below ++ (pages ++ pages'))) qs r) (sym (append_assoc own pairs pairs')) here)
 
-  same_err : {e f : NdxFault} {n : Result Node NdxFault} → n ≡ Err e → n ≡ Err f → e ≡ f
-  same_err h k = cc
-
-  same_leaf : {a b : List Pair} {n : Result Node NdxFault} → n ≡ Ok (leaf a) → n ≡ Ok (leaf b) → a ≡ b
-  same_leaf h k = cc
-
-  same_inner : {a b : List ℕ} {n : Result Node NdxFault} → n ≡ Ok (inner a) → n ≡ Ok (inner b) → a ≡ b
-  same_inner h k = cc
-
-  err_or_ok : {e : NdxFault} {m : Node} {n : Result Node NdxFault} → n ≡ Err e → n ≡ Ok m → ⊥
-  err_or_ok h k = cc
-
-  leaf_or_inner : {a : List Pair} {b : List ℕ} {n : Result Node NdxFault} → n ≡ Ok (leaf a) → n ≡ Ok (inner b) → ⊥
-  leaf_or_inner h k = cc
-
   -- there is one walk
   pub one_walk : {visited pending pages pages' : List ℕ} {pairs pairs' : List Pair} {r r' : Option NdxFault} → Visits s bytes visited pending pages pairs r → Visits s bytes visited pending pages' pairs' r' → (pages ≡ pages') × (pairs ≡ pairs') × (r ≡ r')
   one_walk done done = (refl, refl, refl)
-  one_walk (stops h) (stops k) = (refl, refl, ap Some (same_err h k))
-  one_walk (stops h) (visit_leaf k w) = absurd (err_or_ok h k)
-  one_walk (stops h) (visit_inner k w) = absurd (err_or_ok h k)
-  one_walk (visit_leaf h v) (stops k) = absurd (err_or_ok k h)
+  one_walk (stops h) (stops k) = (refl, refl, cc)
+  one_walk (stops h) (visit_leaf k w) = absurd cc
+  one_walk (stops h) (visit_inner k w) = absurd cc
+  one_walk (visit_leaf h v) (stops k) = absurd cc
   one_walk (visit_leaf {p = p} {own = own} {pairs = pairs} h v) (visit_leaf {own = own'} {pairs = pairs'} k w) =
       let t = one_walk v w in
-      (ap (λ ps. p ∷ ps) t.0, ap (λ ps. own ++ ps) t.1 ∙ ap (λ o. o ++ pairs') (same_leaf h k), t.2)
-  one_walk (visit_leaf h v) (visit_inner k w) = absurd (leaf_or_inner h k)
-  one_walk (visit_inner h v) (stops k) = absurd (err_or_ok k h)
-  one_walk (visit_inner h v) (visit_leaf k w) = absurd (leaf_or_inner k h)
-  one_walk (visit_inner {visited = visited} {pending = pending} {p = p} h v) (visit_inner {pages = pages'} {pairs = pairs'} {r = r'} k w) =
-      let t = one_walk v (subst (λ cs. Visits s bytes (p ∷ visited) (cs ++ pending) pages' pairs' r') (sym (same_inner h k)) w) in
+      let same : own ≡ own' = cc in
+      (ap (λ ps. p ∷ ps) t.0, ap (λ ps. own ++ ps) t.1 ∙ ap (λ o. o ++ pairs') same, t.2)
+  one_walk (visit_leaf h v) (visit_inner k w) = absurd cc
+  one_walk (visit_inner h v) (stops k) = absurd cc
+  one_walk (visit_inner h v) (visit_leaf k w) = absurd cc
+  one_walk (visit_inner {visited = visited} {pending = pending} {children = children} {p = p} h v) (visit_inner {children = children'} {pages = pages'} {pairs = pairs'} {r = r'} k w) =
+      let same : children' ≡ children = cc in
+      let t = one_walk v (subst (λ cs. Visits s bytes (p ∷ visited) (cs ++ pending) pages' pairs' r') same w) in
       (ap (λ ps. p ∷ ps) t.0, t.1, t.2)
 
   -- pages that are new where they come differ

@@ -117,6 +117,7 @@ fn last_child(shape: Shape, count: usize, page: usize) -> usize
 }
 
 /// The last pair under a page of a level: down the levels by arithmetic, and then its leaf's last.
+#[tactic(auto, using(crate::proofs::Planning::leaf_low))]
 pub(crate) fn greatest<'a>(plan: &TreePlan<'a>, height: usize, page: usize) -> &'a Pair
     requires height { height < plan.now.height }
     requires inside { page < length (level_of plan.now.shape.keys plan.now.pairs.now height).pages }

@@ -14,16 +14,6 @@ loop-below-preserved c =
     let step = step_same plan.shape.keys plan.pairs.now plan.height c.loop-below.below c.loop-below.at c.last_child-at.result plan.sizes plan.shape.fits.some plan.below (omega arith) (omega arith) c.loop-below.invariant.inside c.last_child-at.ensures.last in
     record { same = step.0 ∙ c.loop-below.invariant.same; inside = step.1 }
 
-pub overflow_mul-rest : goal.overflow_mul-rest
-overflow_mul-rest c =
-    let plan = c.args.plan.now in
-    omega (arith, plan.few, leaf_low plan.shape.keys plan.pairs.now plan.height plan.sizes c.loop-below.below c.loop-below.at (omega arith) plan.shape.fits.some (omega arith) plan.below c.loop-below.invariant.inside)
-
-pub overflow_sub-rest : goal.overflow_sub-rest
-overflow_sub-rest c =
-    let plan = c.args.plan.now in
-    omega (arith, leaf_low plan.shape.keys plan.pairs.now plan.height plan.sizes c.loop-below.below c.loop-below.at (omega arith) plan.shape.fits.some (omega arith) plan.below c.loop-below.invariant.inside)
-
 pub returns-then-rest-keys : goal.returns-then-rest-keys
 returns-then-rest-keys c =
     let plan = c.args.plan.now in
