@@ -17,7 +17,7 @@ use Rattle.ndx_index.specs.Header.{header_refusal, header_tests, ndx_header, u16
 use Rattle.ndx_index.proofs.Texts.{before_zeros, no_zero}
 use Rattle.ndx_index.specs.Image.{ChildEntry, child_entries, last_key, leaves, inner_pages, leaf_page, inner_page, filled_page, header_page, pages_of, ndx_image, record_size, page_keys, IsWritable}
 use Rattle.ndx_index.proofs.Grouped.{joined, groups-join, leaf_groups, count_one, HasSize, all_groups, short_groups}
-use Rattle.ndx_index.proofs.Parts.{all_weaker}
+use Rattle.ndx_index.proofs.Parts.{all_weaker, all_zip}
 use Rattle.ndx_index.proofs.PageBytes.{Fits, length-filled_page, pairs_short}
 use Rattle.ndx_index.proofs.ReadBack.{pages_at, at_append, numbers, length-child_entries, once_distinct, child_entries_run, LevelTrees, levels_tree, levels_long, leaves_long, leaf_trees, all_both, child_entries_fit, last_of_child_entries}
 
@@ -157,10 +157,6 @@ read_back text key_len pairs w =
 pub read_back_plain : (text : List ℕ) (key_len : ℕ) (pairs : List Pair) → IsWritable text key_len pairs → AllByRecursion (λ b. b ≢ 0) text → IsIndex (ndx_image text key_len pairs) (trimmed_end text) key_len pairs
 read_back_plain text key_len pairs w h = subst (λ read. IsIndex (ndx_image text key_len pairs) (trimmed_end read) key_len pairs) (no_zero text h) (read_back text key_len pairs w)
 
-both : (P Q : Pair → Type 0) (pairs : List Pair) → AllByRecursion P pairs → AllByRecursion Q pairs → AllByRecursion (λ p. P p × Q p) pairs
-both P Q [] h k = tt
-both P Q (p ∷ ps) h k = ((h.0, k.0), both P Q ps h.1 k.1)
-
 pub writable : (text : List ℕ) (key_len : ℕ) (pairs : List Pair) → length text ≤ 488 → 1 ≤ key_len → key_len ≤ 100 → length pairs ≤ 1000000000 → AllByRecursion (λ p. length p.key ≡ key_len) pairs
     → AllByRecursion (λ p. p.number < 2 ^ 32) pairs → IsWritable text key_len pairs
 writable text key_len pairs t some short few keys numbers = record {
@@ -168,7 +164,7 @@ writable text key_len pairs t some short few keys numbers = record {
   key_some = some;
   key_short = short;
   few = few;
-  each = both (λ p. length p.key ≡ key_len) (λ p. p.number < 2 ^ 32) pairs keys numbers;
+  each = all_zip (λ p. length p.key ≡ key_len) (λ p. p.number < 2 ^ 32) pairs keys numbers;
 }
 
 -- what is written of the pairs of a key expression reads back

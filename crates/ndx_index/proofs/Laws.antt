@@ -8,6 +8,7 @@ use Rattle.ndx_index.specs.declared.read.page.PageLayout.{PageLayout}
 use Rattle.ndx_index.specs.declared.fault.NdxFault.{NdxFault}
 use Rattle.ndx_index.specs.declared.fault.NdxFault.TheVariants.{PageOutside, PageTwice}
 use Rattle.ndx_index.specs.Pages.{Node, leaf, inner, node_of, page_of, is_page}
+use Rattle.ndx_index.proofs.Parts.{all_weaker, all_zip}
 use Rattle.ndx_index.specs.NdxTree.{Visits, Trees, IsTree, Holds, is_visited, look, none, at_leaf, at_inner, done, stops, visit_leaf, visit_inner}
 
 -- each page is new where it comes
@@ -132,24 +133,14 @@ module _ (s : PageLayout) (bytes : List ℕ) where
   apart_distinct [] visited h = (tt, tt)
   apart_distinct (p ∷ ps) visited h =
       let r = apart_distinct ps (p ∷ visited) h.1 in
-      ((apart_head p visited ps r.1, r.0), (h.0, apart_tail p visited ps r.1))
-    where
-      apart_head : (p : ℕ) (visited qs : List ℕ) → AllByRecursion (λ q. is_visited q (p ∷ visited) ≡ false) qs → AllByRecursion (λ q. nat_eq p q ≡ false) qs
-      apart_head p visited [] k = tt
-      apart_head p visited (q ∷ qs) k = (nat_eq_equiv.symm p q ∙ (or_parts (nat_eq q p) (is_visited q visited) k.0).0, apart_head p visited qs k.1)
-
-      apart_tail : (p : ℕ) (visited qs : List ℕ) → AllByRecursion (λ q. is_visited q (p ∷ visited) ≡ false) qs → AllByRecursion (λ q. is_visited q visited ≡ false) qs
-      apart_tail p visited [] k = tt
-      apart_tail p visited (q ∷ qs) k = ((or_parts (nat_eq q p) (is_visited q visited) k.0).1, apart_tail p visited qs k.1)
+      let parts = λ (q : ℕ) (e : is_visited q (p ∷ visited) ≡ false). or_parts (nat_eq q p) (is_visited q visited) e in
+      ((all_weaker _ _ (λ q e. nat_eq_equiv.symm p q ∙ (parts q e).0) ps r.1, r.0), (h.0, all_weaker _ _ (λ q e. (parts q e).1) ps r.1))
 
   distinct_apart : (ps visited : List ℕ) → IsDistinct nat_eq ps → AllByRecursion (λ q. is_visited q visited ≡ false) ps → Apart visited ps
   unfolding IsDistinct
   distinct_apart [] visited d h = tt
-  distinct_apart (p ∷ ps) visited d h = (h.0, distinct_apart ps (p ∷ visited) d.1 (both p visited ps d.0 h.1))
-    where
-      both : (p : ℕ) (visited qs : List ℕ) → AllByRecursion (λ q. nat_eq p q ≡ false) qs → AllByRecursion (λ q. is_visited q visited ≡ false) qs → AllByRecursion (λ q. is_visited q (p ∷ visited) ≡ false) qs
-      both p visited [] k l = tt
-      both p visited (q ∷ qs) k l = (rw (nat_eq_equiv.symm q p ∙ k.0, l.0), both p visited qs k.1 l.1)
+  distinct_apart (p ∷ ps) visited d h =
+      (h.0, distinct_apart ps (p ∷ visited) d.1 (all_weaker _ _ (λ (q : ℕ) (k : (nat_eq p q ≡ false) × (is_visited q visited ≡ false)). rw (nat_eq_equiv.symm q p ∙ k.0, k.1) refl) ps (all_zip _ _ ps d.0 h.1)))
 
   all_unvisited : (ps : List ℕ) → AllByRecursion (λ q. is_visited q [] ≡ false) ps
   all_unvisited [] = tt

@@ -1,5 +1,5 @@
 -- The file that is written of an index is an index file with its pairs.
-use Rattle.std.proofs.Common.{◌≡◌, ◌≢◌, ℕ, zero, suc, ◌+◌, ◌-◌, ◌*◌, ◌^◌, ◌<◌, ◌≤◌, true, false, cond, nat_eq, List, [], ◌∷◌, ◌++◌, length, map, drop, refl, ap, sym, ◌∙◌, subst, inl, inr, append_assoc, arith}
+use Rattle.std.proofs.Common.{◌≡◌, ◌≢◌, ℕ, zero, suc, ◌+◌, ◌-◌, ◌*◌, ◌^◌, ◌<◌, ◌≤◌, true, false, cond, nat_eq, List, [], ◌∷◌, ◌++◌, length, map, drop, refl, ap, sym, ◌∙◌, subst, inl, inr, ◌⊎◌, append_assoc, arith}
 use Rattle.std.specs.List.{AllByRecursion, IsDistinct}
 use Rattle.std.proofs.lemmas.Bool.{cases_eq, cases_lt, ne_eqb, eq-eqb}
 use Rattle.std.proofs.lemmas.Bool.Decides.{nat_tests}
@@ -55,25 +55,20 @@ pub times-append : (r : ℕ) (ps qs : List ℕ) → times r (ps ++ qs) ≡ times
 times-append r [] qs = omega arith
 times-append r (p ∷ ps) qs = omega (arith, times-append r ps qs)
 
+hit_cases : (r p : ℕ) → ((r ≡ p) × (hit r p ≡ 1)) ⊎ ((r ≢ p) × (hit r p ≡ 0))
+hit_cases r p = elim (cases_eq r p) [
+  | inl e ↦ inl (e, rw (eq-eqb r p e) refl)
+  | inr ne ↦ inr (ne, rw (ne_eqb r p ne) refl)
+]
+
 not_among : (p : ℕ) (ps : List ℕ) → times p ps ≡ 0 → AllByRecursion (λ q. nat_eq p q ≡ false) ps
 not_among p [] h = tt
-not_among p (q ∷ qs) h = elim (cases_eq p q) [
-  | inl e ↦
-      let same : nat_eq p q ≡ true = eq-eqb p q e in
-      let one : hit p q ≡ 1 = rw same refl in
-      absurd (omega arith)
-  | inr ne ↦
-      (ne_eqb p q ne, not_among p qs (omega arith))
-]
+not_among p (q ∷ qs) h = (ne_eqb p q (λ e. absurd (omega (arith, hit_cases p q))), not_among p qs (omega arith))
 
 pub once_distinct : (ps : List ℕ) → ((r : ℕ) → times r ps ≤ 1) → IsDistinct nat_eq ps
 unfolding IsDistinct
 once_distinct [] h = tt
-once_distinct (p ∷ ps) h =
-    let same : nat_eq p p ≡ true = eq-eqb p p refl in
-    let one : hit p p ≡ 1 = rw same refl in
-    let here : times p (p ∷ ps) ≤ 1 = h p in
-    (not_among p ps (omega arith), once_distinct ps (λ r. let all : times r (p ∷ ps) ≤ 1 = h r in omega arith))
+once_distinct (p ∷ ps) h = (not_among p ps (omega (arith, hit_cases p p, h p)), once_distinct ps (λ r. omega (arith, h r)))
 
 abbrev pub numbers : List ChildEntry → List ℕ
 numbers ts = map (λ t. t.page) ts
@@ -87,26 +82,16 @@ pub record Run (n m : ℕ) (ps : List ℕ) : Type 0 where
   pub over : (r : ℕ) → m ≤ r → times r ps ≡ 0
   pub once : (r : ℕ) → times r ps ≤ 1
 
-delta_zero : (r p : ℕ) → r ≢ p → hit r p ≡ 0
-delta_zero r p ne = rw (ne_eqb r p ne) refl
-
 pub child_entries_run : {X : Type 0} (f : List X → List ℕ) (n m : ℕ) (gs : List (List X)) → n + length gs ≡ m → Run n m (numbers (child_entries f n gs))
 child_entries_run f n m [] e = record { under = λ r lt. refl; over = λ r le. refl; once = λ r. omega arith }
 child_entries_run f n m (g ∷ gs) e =
     let rest = child_entries_run f (n + 1) m gs (omega arith) in
-    let ps : List ℕ = numbers (child_entries f (n + 1) gs) in
     record {
-      under = λ r lt. let d : hit r n ≡ 0 = delta_zero r n (omega arith) in let k : times r ps ≡ 0 = rest.under r (omega arith) in omega arith;
-      over = λ r le. let d : hit r n ≡ 0 = delta_zero r n (omega arith) in let k : times r ps ≡ 0 = rest.over r le in omega arith;
-      once = λ r. elim (cases_eq r n) [
-        | inl same ↦
-            let k : times r ps ≡ 0 = rest.under r (omega arith) in
-            let d : hit r n ≡ 1 = rw (eq-eqb r n same) refl in
-            omega arith
-        | inr ne ↦
-            let k : times r ps ≤ 1 = rest.once r in
-            let d : hit r n ≡ 0 = delta_zero r n ne in
-            omega arith
+      under = λ r lt. omega (arith, hit_cases r n, rest.under r (omega arith));
+      over = λ r le. omega (arith, hit_cases r n, rest.over r le);
+      once = λ r. elim (cases_lt r (n + 1)) [
+        | inl lt ↦ omega (arith, hit_cases r n, rest.under r lt)
+        | inr le ↦ omega (arith, hit_cases r n, rest.once r)
       ];
     }
 

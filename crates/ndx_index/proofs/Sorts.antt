@@ -12,7 +12,7 @@ use Rattle.std.proofs.lemmas.Cmp.{eq_by_cmp_equiv}
 use Rattle.std.proofs.lemmas.List.Sorted.{sum_by-IsPermutation, IsPermutation-refl, IsPermutation-cons, IsPermutation-trans, IsPermutation-insert, sorted_far, ranks_by}
 use Rattle.ndx_index.specs.declared.pair.Pair.{Pair}
 use Rattle.ndx_index.specs.Order.{pair_cmp, before, same, placed, in_order, AreInOrder}
-use Rattle.ndx_index.proofs.Parts.{all_weaker}
+use Rattle.ndx_index.proofs.Parts.{all_weaker, all_zip}
 use Rattle.ndx_index.proofs.Order.{pairs_total, exact_pair, before_is, before_trans, irreflexive, same_itself, before_other, all-placed}
 
 -- no later pair stands before the first
@@ -142,11 +142,8 @@ in_order_from_sort xs ys perm sorted = one_order ys (in_order xs) (ascends_far y
 strict : (ps : List Pair) → Ascends ps → IsDistinct same ps → AreInOrder ps
 unfolding IsStrictlySortedBy IsDistinct
 strict [] a d = tt
-strict (p ∷ ps) a d = (both ps a.0 d.0, strict ps a.1 d.1)
-  where
-    both : (qs : List Pair) → AllByRecursion (λ q. before q p ≡ false) qs → AllByRecursion (λ q. same p q ≡ false) qs → AllByRecursion (λ q. pair_cmp p q ≡ Less) qs
-    both [] h k = tt
-    both (q ∷ qs) h k = (before_other q p h.0 (λ e. false≢true (sym k.0 ∙ ap (same p) e ∙ same_itself p)), both qs h.1 k.1)
+strict (p ∷ ps) a d =
+    (all_weaker _ _ (λ q k. before_other q p k.0 (λ e. false≢true (sym k.1 ∙ ap (same p) e ∙ same_itself p))) ps (all_zip _ _ ps a.0 d.0), strict ps a.1 d.1)
 
 pub order_from_distinct : (ps : List Pair) → IsDistinct same ps → AreInOrder (in_order ps)
 order_from_distinct ps d = strict (in_order ps) (ascends-in_order ps) (IsDistinct-IsPermutation same (eq_by_cmp_equiv pairs_total).symm ps (in_order ps) (IsPermutation-in_order ps) d)

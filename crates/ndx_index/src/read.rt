@@ -50,8 +50,8 @@ fn read_file(alloc: Global, bytes: &[u8]) -> Result<NdxFile, NdxFault>
 /// `UniqueIndex`, `BadKeyLength`, `BadRecordSize`. Then the pages are walked from the root, depth first
 /// and children from left to right, and each is tested for `PageOutside`, `PageTwice`, `TooManyEntries`
 /// and `MixedPage`. The fault is that of the first broken rule. `NoMemory` may come in place of any other
-/// answer, but for the header page's faults, which are found before any memory is taken. Pages that the walk does not reach, and keys and record numbers of inner pages, are
-/// never looked at.
+/// answer, but for the header page's faults, which are found before any memory is taken. Pages that the
+/// walk does not reach, and keys and record numbers of inner pages, are never looked at.
 pub fn read_ndx(alloc: Global, bytes: &[u8]) -> Result<NdxFile, NdxFault>
     ensures found { IfOk result (λ file. IsIndex bytes.now file.expr file.key_len file.pairs.items) }
     ensures only { (text : List ℕ) (key_len : ℕ) (pairs : List PairValue) → IsIndex bytes.now text key_len pairs → IsOnly text key_len pairs result }

@@ -25,8 +25,8 @@ returns g c =
     let at = c.args.level in
     let pages = (level shape.keys plan.pairs.now at.height).pages in
     let inside : c.args.at + c.args.count ≤ length pages = omega (arith, c.requires.inside, c.requires.level.count_is) in
-    let last = child_last shape.keys plan.pairs.now at.height c.args.at c.args.count c.loop-i.i shape.size _ (omega arith) inside (omega (arith, c.requires.level.first_is)) in
-    let children = c.put_u32-2.ensures.1 ∙ ap (λ (bytes : List ℕ). more c.loop-i.out.wanted bytes) last ∙ c.loop-i.invariant.left in
     let short = level_short shape.size shape.keys plan.pairs.now at.height (omega (arith, shape.fits.some)) (omega (arith, shape.fits.room)) plan.keys in
     let whole = inner_parts shape.keys plan.pairs.now at.height c.args.at c.args.count shape.size c.requires.child inside (children_short shape.size c.args.at c.args.count pages short) in
+    let last = child_last shape.keys plan.pairs.now at.height c.args.at c.args.count c.loop-i.i shape.size _ (omega arith) inside (omega (arith, c.requires.level.first_is)) in
+    let children = c.put_u32-2.ensures.1 ∙ ap (λ (bytes : List ℕ). more c.loop-i.out.wanted bytes) last ∙ c.loop-i.invariant.left in
     (c.put_zeros.ensures.0 ∙ c.put_u32-2.ensures.0 ∙ c.loop-i.invariant.same, rw (c.put_zeros.ensures.1, children) (more_all_three _ _ _ _ _ whole))
