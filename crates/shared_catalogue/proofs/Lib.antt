@@ -1,3 +1,2 @@
-pub mod Cases
 pub mod StepLaws
 pub mod ReplayLaws
