@@ -5,5 +5,4 @@ pub mod CellFaults
 pub mod Step
 pub mod Planned
 pub mod Replay
-pub mod Kept
 pub mod Opening

@@ -1,6 +1,7 @@
 -- What was opened, the journal of the commands since, and what they made of it.
-use Rattle.std.specs.Prelude.{◌≡◌, ℕ, List, [], ◌∷◌, ◌++◌, map, None}
+use Rattle.std.specs.Prelude.{◌≡◌, ℕ, ◌≤◌, List, [], ◌∷◌, ◌++◌, length, map, None}
 use Rattle.shared_catalogue.specs.declared.answer.Answer.{Answer}
+use Rattle.shared_catalogue.specs.declared.catalogue.TheConstants.{MAX_ENTRIES}
 use Rattle.shared_catalogue.specs.declared.command.Command.{Command}
 use Rattle.shared_catalogue.specs.declared.entry.Entry.{Entry}
 use Rattle.shared_catalogue.specs.declared.source.TableSource.{TableSource}
@@ -42,6 +43,12 @@ LegalFrom s (e ∷ es) = (e.answer ≡ (step s e.command).1) × LegalFrom (step 
 
 abbrev pub IsLegal : Opened → List Entry → Type 0
 IsLegal opened journal = LegalFrom (start opened) journal
+
+-- what a catalogue keeps: its state is the replay of the journal, which is legal
+pub record IsKept (opened : Opened) (state : State) (journal : List Entry) : Type 0 where
+  pub replayed : state ≡ replay opened journal
+  pub legal : IsLegal opened journal
+  pub few : length journal ≤ MAX_ENTRIES
 
 -- the state now
 abbrev pub state_of : History → State

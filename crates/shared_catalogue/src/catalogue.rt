@@ -53,11 +53,9 @@ pub struct Catalogue {
 
 impl Model for Catalogue {
     ghost use Rattle.std.specs.Prelude.{◌≤◌, length};
-    ghost use Rattle.shared_catalogue.specs.Replay.{History, history, opened_as};
+    ghost use Rattle.shared_catalogue.specs.Replay.{History, history, opened_as, IsKept};
 
     ghost Value = { History };
-
-    ghost use Rattle.shared_catalogue.specs.Kept.{IsKept};
 
     ghost view = { λ c. history (opened_as 1 c.sources.items) c.journal.items };
 
@@ -135,6 +133,7 @@ impl Catalogue {
         self.sources.len()
     }
 
+    #[tactic(auto, using(crate::proofs::ReplayLaws::length_replay))]
     /// The table of a number, from 1, as it stands now. An error where memory is refused.
     pub fn content(&self, alloc: Global, number: u32) -> Result<TableData, AllocError>
         requires counted { 1 ≤ number }

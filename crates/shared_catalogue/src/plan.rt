@@ -60,7 +60,7 @@ fn plan_go(state: &State, number: u64) -> Result<Plan, Refusal>
     ensures can { IfOk result (λ plan. CanChange state.now plan.change) }
 {
     let area = state.area().ok_or(Refusal::NoTableInUse)?;
-    let count = state.table(area).record_count();
+    let count = state.table_at(area.table).record_count();
     if number < 1 || number > u64::from(count) {
         return Err(Refusal::OutOfRange);
     }
@@ -73,7 +73,7 @@ fn plan_append_blank(state: &State) -> Result<Plan, Refusal>
     ensures can { IfOk result (λ plan. CanChange state.now plan.change) }
 {
     let area = state.area().ok_or(Refusal::NoTableInUse)?;
-    if state.table(area).record_count() >= MAX_RECORDS {
+    if state.table_at(area.table).record_count() >= MAX_RECORDS {
         return Err(Refusal::TableFull);
     }
     Ok(Plan::done(Change::AppendBlank(area)))
@@ -90,7 +90,7 @@ fn plan_replace(
     ensures refused { IfErr result (λ fault. IsFaultOf fault (replace state.now name.now value.now)) }
 {
     let target = find_target(state, name)?;
-    let field = &state.table(target.area).schema().fields()[target.field];
+    let field = &state.table_at(target.area.table).schema().fields()[target.field];
     let cell = encode_cell(alloc, field, value)?;
     Ok(Plan::done(Change::Replace { target, cell }))
 }
@@ -101,7 +101,7 @@ fn plan_memo(alloc: Global, state: &State, name: &Bytes, text: &Bytes) -> Result
     ensures refused { IfErr result (λ fault. IsFaultOf fault (memo state.now name.now text.now)) }
 {
     let target = find_target(state, name)?;
-    if state.table(target.area).schema().fields()[target.field].kind != MEMO {
+    if state.table_at(target.area.table).schema().fields()[target.field].kind != MEMO {
         return Err(Refusal::TypeMismatch.into());
     }
     if !is_memo_text(text.as_slice()) {
@@ -119,7 +119,7 @@ fn plan_show(alloc: Global, state: &State, name: &Bytes) -> Result<Plan, Command
     let area = state.area().ok_or(Refusal::NoTableInUse)?;
     let number = area.at.ok_or(Refusal::EndOfFile)?;
     let field = index_of_field(state, area, name).ok_or(Refusal::NoSuchField)?;
-    let table = state.table(area);
+    let table = state.table_at(area.table);
     let text = shown(
         alloc,
         &table.schema().fields()[field],
@@ -161,6 +161,6 @@ fn index_of_field(state: &State, area: Area, name: &Bytes) -> Option<usize>
     ensures value { result ≡ field_named state.now area name.now }
     ensures inside { IfSome result (λ index. index < length (area_table state.now area).schema) }
 {
-    let fields = state.table(area).schema().fields();
+    let fields = state.table_at(area.table).schema().fields();
     fields.iter().position(|field| field.name == *name)
 }

@@ -61,14 +61,6 @@ impl State {
         self.area
     }
 
-    /// The table that is open in an area.
-    pub fn table(&self, area: Area) -> &TableData
-        requires inside { area.table < length self.now.tables }
-        ensures value { result.now ≡ area_table self.now area }
-    {
-        &self.tables[area.table]
-    }
-
     /// The table of an index.
     pub fn table_at(&self, index: usize) -> &TableData
         requires inside { index < length self.now.tables }
