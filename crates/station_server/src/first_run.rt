@@ -14,7 +14,7 @@ ghost use Rattle.shared_catalogue.specs.Replay.{history, IsLegal};
 use dbf_fields::{Bytes, Day};
 use dbf_image::{ByteSink, ImageFault, TableData, WriteFault, read_table, write_dbf};
 use shared_catalogue::{Answer, Catalogue, Command, OpenFault, Stop, TableSource};
-use std::alloc::{AllocError, AllocFailed, Global};
+use std::alloc::{AllocError, Global};
 use thiserror::Error;
 
 /// Why a run did not come to its end. The order is that of the steps.
@@ -45,28 +45,6 @@ impl From<AllocError> for FirstFault {
 
     fn from(_refused: AllocError) -> FirstFault {
         FirstFault::NoMemory
-    }
-}
-
-impl<T: Drop> From<AllocFailed<T>> for FirstFault {
-    ghost use Rattle.std.specs.Prelude.{◌≡◌};
-    ghost use Rattle.station_server.specs.declared.first_run.FirstFault.TheVariants.{NoMemory};
-
-    ghost from_gives = { λ _ fault. fault ≡ NoMemory };
-
-    fn from(_refused: AllocFailed<T>) -> FirstFault {
-        FirstFault::NoMemory
-    }
-}
-
-impl From<Stop> for FirstFault {
-    ghost use Rattle.std.specs.Prelude.{◌≡◌};
-    ghost use Rattle.station_server.specs.declared.first_run.FirstFault.TheVariants.{Stopped};
-
-    ghost from_gives = { λ stop fault. fault ≡ Stopped stop };
-
-    fn from(stop: Stop) -> FirstFault {
-        FirstFault::Stopped(stop)
     }
 }
 
@@ -113,15 +91,13 @@ fn open_table(alloc: Global, table: TableData) -> Result<Catalogue, FirstFault>
     ensures opened { IfOk result (λ catalogue. catalogue ≡ history (table_t table) []) }
     ensures refused { IfErr result IsOpening }
 {
+    let name = Bytes::from_slice(alloc, b"T")?;
     let mut sources = Vec::with_capacity(alloc, 1)?;
-    sources.push(TableSource {
-        name: Bytes::from_slice(alloc, b"T")?,
+    sources.push_reserved(TableSource {
+        name,
         content: table,
-    })?;
-    match Catalogue::open(alloc, sources, 1) {
-        Ok(catalogue) => Ok(catalogue),
-        Err(fault) => Err(FirstFault::Open(fault)),
-    }
+    });
+    Catalogue::open(alloc, sources, 1).map_err(FirstFault::Open)
 }
 
 // Performs the commands of the only station one after another, and collects the answers.
@@ -138,8 +114,10 @@ fn perform_all(
 {
     let mut answers = Vec::new(alloc);
     for command in commands {
-        let (_, answer) = catalogue.perform(alloc, 1, command)?;
-        answers.push(answer)?;
+        answers.reserve(1)?;
+        let performed = catalogue.perform(alloc, 1, command);
+        let (_, answer) = performed.map_err(FirstFault::Stopped)?;
+        answers.push_reserved(answer);
     }
     Ok(answers)
 }
