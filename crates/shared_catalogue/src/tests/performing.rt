@@ -1,77 +1,48 @@
-use super::sample::{answers_of, open_sample, replace, show, text, use_table};
+use super::sample::{Asked, Expected, TABLE, command_of, first_unexpected, open_table};
 use crate::answer::{Answer, Refusal};
 use crate::command::Command;
-use dbf_fields::{Bytes, Literal};
-use std::alloc::Global;
+use dbf_image::read_table;
 use std::test::Fail;
 
-// USE T EXCLUSIVE, GO 2, APPEND BLANK, REPLACE NAME WITH "CYD", ? NAME.
-fn first_commands(alloc: Global) -> Result<Vec<Command>, Fail> {
-    let value = Literal::Text(Bytes::from_slice(alloc, b"CYD")?);
-    let commands = vec![in alloc;
-        use_table(alloc, b"T", true)?,
-        Command::Go(2),
-        Command::AppendBlank,
-        replace(alloc, b"NAME", value)?,
-        show(alloc, b"NAME")?,
-    ]?;
-    Ok(commands)
-}
+// Commands on the sample's table: shared use needs a lock, and then those of the first path.
+const CASES: [(Asked, &[u8], &[u8], Expected); 14] = [
+    (Asked::Go(1), b"", b"", Expected::Refused(2)),
+    (Asked::Use(false), b"NONE", b"", Expected::Refused(1)),
+    (Asked::Use(false), b"T", b"", Expected::Ok),
+    (Asked::ReplaceText, b"NAME", b"X", Expected::Refused(5)),
+    (Asked::Use(true), b"T", b"", Expected::Ok),
+    (Asked::Go(2), b"", b"", Expected::Ok),
+    (Asked::Append, b"", b"", Expected::Ok),
+    (Asked::ReplaceText, b"NAME", b"CYD", Expected::Ok),
+    (Asked::Show, b"NAME", b"", Expected::Text(b"CYD       ")),
+    (Asked::Go(4), b"", b"", Expected::Refused(6)),
+    (Asked::Show, b"NAME", b"", Expected::Text(b"CYD       ")),
+    (Asked::Show, b"ZIP", b"", Expected::Refused(10)),
+    (
+        Asked::ReplaceTruth(true),
+        b"NAME",
+        b"",
+        Expected::Refused(11),
+    ),
+    (Asked::Bad, b"", b"", Expected::Refused(19)),
+];
 
 #[test]
-fn first_path_refusals(rt: HostRuntime) -> Result<(), Fail> {
+fn first_path_and_its_refusals(rt: HostRuntime) -> Result<(), Fail> {
     let alloc = rt.alloc();
-    let mut catalogue = open_sample(alloc)?;
-    let first = first_commands(alloc)?;
-    answers_of(alloc, &mut catalogue, &first)?;
-    let commands = vec![in alloc;
-        Command::Go(4),
-        show(alloc, b"NAME")?,
-        show(alloc, b"ZIP")?,
-        replace(alloc, b"NAME", Literal::Truth(true))?,
-        Command::Bad,
-    ]?;
-    let answers = answers_of(alloc, &mut catalogue, &commands)?;
-    let wanted = vec![in alloc;
-        Answer::Refused(Refusal::OutOfRange),
-        text(alloc, b"CYD       ")?,
-        Answer::Refused(Refusal::NoSuchField),
-        Answer::Refused(Refusal::TypeMismatch),
-        Answer::Refused(Refusal::BadCommand),
-    ]?;
-    assert_eq!(rt; answers.as_slice(), wanted.as_slice());
-    Ok(())
-}
-
-#[test]
-fn shared_use_needs_a_lock(rt: HostRuntime) -> Result<(), Fail> {
-    let alloc = rt.alloc();
-    let mut catalogue = open_sample(alloc)?;
-    let value = Literal::Text(Bytes::from_slice(alloc, b"X")?);
-    let commands = vec![in alloc;
-        Command::Go(1),
-        use_table(alloc, b"NONE", false)?,
-        use_table(alloc, b"T", false)?,
-        replace(alloc, b"NAME", value)?,
-    ]?;
-    let answers = answers_of(alloc, &mut catalogue, &commands)?;
-    let wanted = [
-        Answer::Refused(Refusal::NoTableInUse),
-        Answer::Refused(Refusal::NoTable),
-        Answer::Done,
-        Answer::Refused(Refusal::NotLocked),
-    ];
-    assert_eq!(rt; answers.as_slice(), wanted.as_slice());
+    let mut catalogue = open_table(alloc, read_table(alloc, &TABLE, None)?)?;
+    let unexpected = first_unexpected(alloc, &mut catalogue, &CASES)?;
+    assert_eq!(rt; unexpected, None);
     Ok(())
 }
 
 #[test]
 fn journal_keeps_commands_and_answers(rt: HostRuntime) -> Result<(), Fail> {
     let alloc = rt.alloc();
-    let mut catalogue = open_sample(alloc)?;
+    let mut catalogue = open_table(alloc, read_table(alloc, &TABLE, None)?)?;
     let performed = catalogue.perform(alloc, 1, &Command::Go(1))?;
     assert_eq!(rt; performed, (1, Answer::Refused(Refusal::NoTableInUse)));
-    let use_t = use_table(alloc, b"T", false)?.copy(alloc)?;
+    let use_t = command_of(alloc, Asked::Use(false), b"T", b"")?.copy(alloc)?;
     let performed = catalogue.perform(alloc, 1, &use_t)?;
     assert_eq!(rt; performed, (2, Answer::Done.copy(alloc)?));
     let journal = catalogue.journal();
