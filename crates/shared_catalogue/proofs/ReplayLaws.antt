@@ -27,20 +27,16 @@ schemas_after : (s : State) (es : List Entry) → schemas_of (after s es).tables
 schemas_after s [] = refl
 schemas_after s (e ∷ es) = schemas_after (step s e.command).0 es ∙ schemas_step s e.command
 
--- the tables have the fields with which they were opened
-pub schemas_replay : (opened : Opened) (journal : List Entry) → schemas_of (replay opened journal).tables ≡ schemas_of (map (λ (t : TableSource). t.content) opened.tables)
-schemas_replay opened journal = schemas_after (start opened) journal
-
 -- there are as many tables as were opened
 pub length_replay : (opened : Opened) (journal : List Entry) → length (replay opened journal).tables ≡ length opened.tables
 length_replay opened journal =
-    sym (length-map (replay opened journal).tables (λ (t : Table). t.schema)) ∙ ap (λ (l : List (List Field)). length l) (schemas_replay opened journal)
+    sym (length-map (replay opened journal).tables (λ (t : Table). t.schema)) ∙ ap (λ (l : List (List Field)). length l) (schemas_after (start opened) journal)
     ∙ length-map (map (λ (t : TableSource). t.content) opened.tables) (λ (t : Table). t.schema) ∙ length-map opened.tables (λ (t : TableSource). t.content)
 
 -- a table has the fields with which it was opened
 pub schema_replay : (opened : Opened) (journal : List Entry) (index : ℕ) → (table_at (replay opened journal).tables index).schema ≡ (table_at (map (λ (t : TableSource). t.content) opened.tables) index).schema
 schema_replay opened journal index =
-    same_schema_at (replay opened journal).tables (map (λ (t : TableSource). t.content) opened.tables) index (schemas_replay opened journal)
+    same_schema_at (replay opened journal).tables (map (λ (t : TableSource). t.content) opened.tables) index (schemas_after (start opened) journal)
 
 -- a catalogue that keeps its journal keeps it with the entry of a command that was performed
 pub kept_push : (opened : Opened) (s : State) (journal : List Entry) (e : Entry) → IsKept opened s journal → e.answer ≡ (step s e.command).1 → length journal < MAX_ENTRIES

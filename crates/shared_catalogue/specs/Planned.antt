@@ -14,9 +14,6 @@ use Rattle.shared_catalogue.specs.declared.fault.CommandFault.{CommandFault}
 use Rattle.shared_catalogue.specs.declared.fault.CommandFault.TheVariants.{Refused, NoMemory}
 use Rattle.shared_catalogue.specs.State.{State, area_table, record_count, with_opened, with_cursor_at, with_blank, with_value}
 
-abbrev pub plan_of : Change → Answer → Plan
-plan_of change answer = record { change = change; answer = answer }
-
 -- the state after a change
 abbrev pub changed : State → Change → State
 changed s Nothing = s

@@ -12,7 +12,6 @@ use Rattle.shared_catalogue.specs.declared.answer.Answer.{Answer}
 use Rattle.shared_catalogue.specs.declared.answer.Answer.TheVariants.{Done, Text, Refused}
 use Rattle.shared_catalogue.specs.declared.answer.Refusal.{Refusal}
 use Rattle.shared_catalogue.specs.declared.answer.Refusal.TheVariants.{NoTable, NoTableInUse, OutOfRange, EndOfFile, TableFull, NotLocked, NoSuchField, TypeMismatch, NumberTooWide, BadDate, BadText, BadCommand}
-use Rattle.shared_catalogue.specs.declared.area.Area.{Area}
 use Rattle.shared_catalogue.specs.declared.area.Target.{Target}
 use Rattle.shared_catalogue.specs.declared.command.Command.{Command}
 use Rattle.shared_catalogue.specs.declared.command.Command.TheVariants.{UseTable, Go, AppendBlank, Replace, Memo, Show, Bad}
@@ -41,9 +40,6 @@ kept cell act =
     granted (is_no_bad_date cell) BadDate (
     found (cell_of cell) NumberTooWide act))
 
-abbrev pub target_of : Area → ℕ → ℕ → Target
-target_of area number field = record { area = area; number = number; field = field }
-
 -- the field of a name in the record at the cursor, to be changed. As long as there are no locks, the table
 -- has to be open exclusively
 abbrev pub target : State → List ℕ → Result Target Refusal
@@ -51,7 +47,7 @@ target s name =
     found s.area NoTableInUse (λ area.
     found area.at EndOfFile (λ number.
     granted area.exclusive NotLocked (
-    found (field_named s area name) NoSuchField (λ field. Ok (target_of area number field)))))
+    found (field_named s area name) NoSuchField (λ field. Ok (record { area = area; number = number; field = field })))))
 
 -- USE: the table of the name is open in the area, which lets go of the one that was open there
 abbrev pub use_table : State → List ℕ → Bool → Result (State × Answer) Refusal

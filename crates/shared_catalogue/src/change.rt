@@ -53,13 +53,12 @@ pub struct Plan {
 }
 
 impl Plan {
-    ghost use Rattle.shared_catalogue.specs.Planned.{plan_of};
     ghost use Rattle.shared_catalogue.specs.declared.change.Change.TheVariants.{Nothing};
     ghost use Rattle.shared_catalogue.specs.declared.answer.Answer.TheVariants.{Done};
 
     /// A change that is answered by OK.
     pub fn done(change: Change) -> Plan
-        ensures value { result ≡ plan_of change Done }
+        ensures value { result ≡ record { change = change; answer = Done } }
     {
         Plan {
             change,
@@ -69,7 +68,7 @@ impl Plan {
 
     /// An answer that changes nothing.
     pub fn answered(answer: Answer) -> Plan
-        ensures value { result ≡ plan_of Nothing answer }
+        ensures value { result ≡ record { change = Nothing; answer = answer } }
     {
         Plan {
             change: Change::Nothing,

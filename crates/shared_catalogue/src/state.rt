@@ -99,15 +99,11 @@ impl State {
         requires inside { table < length self.old.tables }
         ensures value { self.new ≡ with_opened self.old table exclusive }
     {
-        let at = if self.tables[table].record_count() > 0 {
-            Some(1)
-        } else {
-            None
-        };
+        let has_records = self.tables[table].record_count() > 0;
         self.area = Some(Area {
             table,
             exclusive,
-            at,
+            at: has_records.then_some(1),
         });
     }
 

@@ -14,10 +14,7 @@ use Rattle.station_server.specs.FirstRun.{table_t}
 
 or_parts : (a b : Bool) → (a || b) ≡ false → (a ≡ false) × (b ≡ false)
 or_parts false b e = (refl, e)
-or_parts true b e = absurd (true_is_false e)
-  where
-    true_is_false : true ≡ false → ⊥
-    true_is_false e = cc
+or_parts true b e = absurd (cc)
 
 no_cell : (f : Field) (cell : List ℕ) → (f.kind == MEMO) ≡ false → cell_blocks f cell ≡ 0
 no_cell f cell e = rw e refl

@@ -2,7 +2,7 @@
 
 use dbf_fields::{Bytes, Literal};
 use shared_catalogue::Command;
-use std::alloc::{AllocError, AllocFailed, Global};
+use std::alloc::{AllocError, Global};
 
 /// The DBF file of a table with one field of characters, NAME, 10 bytes wide, and the records `ADA` and
 /// `BOB`, dated 1987-03-15.
@@ -22,22 +22,16 @@ pub const TABLE: [u8; 88] = [
 
 /// The commands: USE T EXCLUSIVE, GO 2, APPEND BLANK, REPLACE NAME WITH "CYD", ? NAME.
 pub fn commands(alloc: Global) -> Result<Vec<Command>, AllocError> {
-    let name = Bytes::from_slice(alloc, b"NAME")?;
-    let shown = name.copy(alloc)?;
+    let name = Bytes::from_slice(alloc, b"T")?;
+    let field = Bytes::from_slice(alloc, b"NAME")?;
+    let shown = field.copy(alloc)?;
     let value = Literal::Text(Bytes::from_slice(alloc, b"CYD")?);
+    let exclusive = true;
     let mut commands = Vec::new(alloc);
-    commands.push(use_table(alloc, b"T", true)?)?;
+    commands.push(Command::UseTable { name, exclusive })?;
     commands.push(Command::Go(2))?;
     commands.push(Command::AppendBlank)?;
-    commands.push(Command::Replace { field: name, value })?;
+    commands.push(Command::Replace { field, value })?;
     commands.push(Command::Show(shown))?;
     Ok(commands)
-}
-
-/// The command USE with a table's name.
-pub fn use_table(alloc: Global, name: &[u8], exclusive: bool) -> Result<Command, AllocError> {
-    Ok(Command::UseTable {
-        name: Bytes::from_slice(alloc, name)?,
-        exclusive,
-    })
 }

@@ -50,7 +50,7 @@ pub fn open_table(alloc: Global, content: TableData) -> Result<Catalogue, Fail> 
 }
 
 // A kind of command. The name and the text that it takes stand beside it in a table of cases.
-#[derive(Clone, Copy, Debug)]
+#[derive(Clone, Copy)]
 pub enum Asked {
     Use(bool),
     Go(u64),
@@ -67,7 +67,7 @@ pub enum Asked {
 }
 
 // What a command is answered: OK, a refusal by its number, or a text.
-#[derive(Clone, Copy, Debug)]
+#[derive(Clone, Copy)]
 pub enum Expected {
     Ok,
     Refused(u8),
