@@ -1,24 +1,23 @@
 use super::sample::{
-    Asked, Expected, blank_table, cell_of, command_of, first_table, first_unexpected, open_table,
+    Asked, Expected, blank_table, cell_of, command_of, first_table, first_unexpected_in, open_table,
 };
-use crate::catalogue::Catalogue;
 use dbf_fields::{DATE, Field, LOGICAL, NUMBER};
-use dbf_image::read_table;
+use dbf_image::{TableData, read_table};
 use std::alloc::Global;
 use std::test::Fail;
 
-// A table T of one blank record, with the fields AMT, BORN and PAID.
-fn open_blank_table(alloc: Global) -> Result<Catalogue, Fail> {
+// A table of one blank record, with the fields AMT, BORN and PAID.
+fn blank_row(alloc: Global) -> Result<TableData, Fail> {
     let fields = [
         Field::new(alloc, b"AMT", NUMBER, 6, 2)?,
         Field::new(alloc, b"BORN", DATE, 8, 0)?,
         Field::new(alloc, b"PAID", LOGICAL, 1, 0)?,
     ];
-    open_table(alloc, blank_table(alloc, &fields, 1)?)
+    blank_table(alloc, &fields, 1)
 }
 
-// REPLACE of fields, and what they show then.
-const REPLACED: [(Asked, &[u8], &[u8], Expected); 23] = [
+// REPLACE of a number, and what the field shows then.
+const NUMBERS: [(Asked, &[u8], &[u8], Expected); 11] = [
     (Asked::Use(true), b"T", b"", Expected::Ok),
     (Asked::ReplaceNumber(5, 0), b"AMT", b"", Expected::Ok),
     (Asked::Show, b"AMT", b"", Expected::Text(b"  5.00")),
@@ -40,6 +39,11 @@ const REPLACED: [(Asked, &[u8], &[u8], Expected); 23] = [
         Expected::Refused(12),
     ),
     (Asked::Show, b"AMT", b"", Expected::Text(b"999.99")),
+];
+
+// The same of a date.
+const DATES: [(Asked, &[u8], &[u8], Expected); 9] = [
+    (Asked::Use(true), b"T", b"", Expected::Ok),
     (Asked::ReplaceDate(1984, 2, 29), b"BORN", b"", Expected::Ok),
     (Asked::Show, b"BORN", b"", Expected::Text(b"02/29/84")),
     (Asked::ReplaceBadDate, b"BORN", b"", Expected::Refused(13)),
@@ -48,6 +52,11 @@ const REPLACED: [(Asked, &[u8], &[u8], Expected); 23] = [
     (Asked::Show, b"BORN", b"", Expected::Text(b"02/29/84")),
     (Asked::ReplaceBlankDate, b"BORN", b"", Expected::Ok),
     (Asked::Show, b"BORN", b"", Expected::Text(b"  /  /  ")),
+];
+
+// The same of a logical value.
+const TRUTHS: [(Asked, &[u8], &[u8], Expected); 5] = [
+    (Asked::Use(true), b"T", b"", Expected::Ok),
     (Asked::ReplaceTruth(true), b"PAID", b"", Expected::Ok),
     (Asked::Show, b"PAID", b"", Expected::Text(b".T.")),
     (Asked::ReplaceTruth(false), b"PAID", b"", Expected::Ok),
@@ -55,10 +64,25 @@ const REPLACED: [(Asked, &[u8], &[u8], Expected); 23] = [
 ];
 
 #[test]
-fn replaced_cells_are_shown(rt: HostRuntime) -> Result<(), Fail> {
+fn number_cells(rt: HostRuntime) -> Result<(), Fail> {
     let alloc = rt.alloc();
-    let mut catalogue = open_blank_table(alloc)?;
-    let unexpected = first_unexpected(alloc, &mut catalogue, &REPLACED)?;
+    let unexpected = first_unexpected_in(alloc, blank_row(alloc)?, &NUMBERS)?;
+    assert_eq!(rt; unexpected, None);
+    Ok(())
+}
+
+#[test]
+fn date_cells(rt: HostRuntime) -> Result<(), Fail> {
+    let alloc = rt.alloc();
+    let unexpected = first_unexpected_in(alloc, blank_row(alloc)?, &DATES)?;
+    assert_eq!(rt; unexpected, None);
+    Ok(())
+}
+
+#[test]
+fn logical_cells(rt: HostRuntime) -> Result<(), Fail> {
+    let alloc = rt.alloc();
+    let unexpected = first_unexpected_in(alloc, blank_row(alloc)?, &TRUTHS)?;
     assert_eq!(rt; unexpected, None);
     Ok(())
 }
@@ -66,7 +90,7 @@ fn replaced_cells_are_shown(rt: HostRuntime) -> Result<(), Fail> {
 #[test]
 fn dates_are_stored_in_eight_digits(rt: HostRuntime) -> Result<(), Fail> {
     let alloc = rt.alloc();
-    let mut catalogue = open_blank_table(alloc)?;
+    let mut catalogue = open_table(alloc, blank_row(alloc)?)?;
     let cases: [(Asked, &[u8], &[u8]); 5] = [
         (Asked::Use(true), b"T", b"        "),
         (Asked::ReplaceDate(1984, 2, 29), b"BORN", b"19840229"),
@@ -115,8 +139,8 @@ fn odd_and_blank_cells_are_shown(rt: HostRuntime) -> Result<(), Fail> {
     for part in ODD_TABLE {
         bytes.extend_from_slice(part)?;
     }
-    let mut catalogue = open_table(alloc, read_table(alloc, &bytes, None)?)?;
-    let unexpected = first_unexpected(alloc, &mut catalogue, &ODD_CELLS)?;
+    let table = read_table(alloc, &bytes, None)?;
+    let unexpected = first_unexpected_in(alloc, table, &ODD_CELLS)?;
     assert_eq!(rt; unexpected, None);
     Ok(())
 }

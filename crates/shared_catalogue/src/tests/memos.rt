@@ -1,10 +1,10 @@
 use super::sample::{
-    Asked, Expected, blank_table, cell_of, command_of, first_table, first_unexpected, is_answered,
-    open_table,
+    Asked, Expected, blank_table, cell_of, command_of, first_table, first_unexpected_in,
+    is_answered, open_table,
 };
 use crate::answer::Answer;
 use crate::catalogue::Catalogue;
-use dbf_fields::{Bytes, Field, MEMO, day_of};
+use dbf_fields::{Bytes, Field, MEMO, NUMBER, day_of};
 use dbf_image::{MemorySink, TableData, read_table, write_dbf, write_dbt};
 use std::alloc::{AllocError, Global};
 use std::test::Fail;
@@ -110,5 +110,46 @@ fn memos_have_at_most_65_535_bytes(rt: HostRuntime) -> Result<(), Fail> {
         let text = Bytes::from_slice(alloc, &text_of(alloc, kept)?)?;
         assert_eq!(rt; shown, Answer::Text(text));
     }
+    Ok(())
+}
+
+// MEMO of a table with the fields NOTE and AMT.
+const REFUSED_MEMOS: [(Asked, &[u8], &[u8], Expected); 10] = [
+    (Asked::Memo, b"NOTE", b"HELLO", Expected::Refused(2)),
+    (Asked::Use(false), b"T", b"", Expected::Ok),
+    (Asked::Memo, b"NOTE", b"HELLO", Expected::Refused(5)),
+    (Asked::Use(true), b"T", b"", Expected::Ok),
+    (Asked::Memo, b"ZIP", b"HELLO", Expected::Refused(10)),
+    (Asked::Memo, b"AMT", b"HELLO", Expected::Refused(11)),
+    (Asked::ReplaceText, b"NOTE", b"A", Expected::Refused(11)),
+    (Asked::Memo, b"NOTE", b"HELLO", Expected::Ok),
+    (Asked::Memo, b"NOTE", b"A\x1aB", Expected::Refused(14)),
+    (Asked::Show, b"NOTE", b"", Expected::Text(b"HELLO")),
+];
+
+#[test]
+fn memo_refusals(rt: HostRuntime) -> Result<(), Fail> {
+    let alloc = rt.alloc();
+    let fields = [
+        Field::new(alloc, b"NOTE", MEMO, 10, 0)?,
+        Field::new(alloc, b"AMT", NUMBER, 6, 0)?,
+    ];
+    let table = blank_table(alloc, &fields, 1)?;
+    let unexpected = first_unexpected_in(alloc, table, &REFUSED_MEMOS)?;
+    assert_eq!(rt; unexpected, None);
+    Ok(())
+}
+
+#[test]
+fn memo_needs_a_record(rt: HostRuntime) -> Result<(), Fail> {
+    let alloc = rt.alloc();
+    let fields = [Field::new(alloc, b"NOTE", MEMO, 10, 0)?];
+    let cases: [(Asked, &[u8], &[u8], Expected); 2] = [
+        (Asked::Use(true), b"T", b"", Expected::Ok),
+        (Asked::Memo, b"NOTE", b"A", Expected::Refused(7)),
+    ];
+    let table = blank_table(alloc, &fields, 0)?;
+    let unexpected = first_unexpected_in(alloc, table, &cases)?;
+    assert_eq!(rt; unexpected, None);
     Ok(())
 }

@@ -1,15 +1,19 @@
-use super::sample::{Asked, Expected, TABLE, command_of, first_unexpected, open_table};
+use super::sample::{Asked, Expected, TABLE, command_of, first_unexpected_in, open_table};
 use crate::answer::{Answer, Refusal};
 use crate::command::Command;
 use dbf_image::read_table;
 use std::test::Fail;
 
-// Commands on the sample's table: shared use needs a lock, and then those of the first path.
-const CASES: [(Asked, &[u8], &[u8], Expected); 14] = [
+// Commands on the sample's table, which is not open exclusively.
+const SHARED_USE: [(Asked, &[u8], &[u8], Expected); 4] = [
     (Asked::Go(1), b"", b"", Expected::Refused(2)),
     (Asked::Use(false), b"NONE", b"", Expected::Refused(1)),
     (Asked::Use(false), b"T", b"", Expected::Ok),
     (Asked::ReplaceText, b"NAME", b"X", Expected::Refused(5)),
+];
+
+// The commands of the first path on the sample's table, and refused ones.
+const FIRST_PATH: [(Asked, &[u8], &[u8], Expected); 10] = [
     (Asked::Use(true), b"T", b"", Expected::Ok),
     (Asked::Go(2), b"", b"", Expected::Ok),
     (Asked::Append, b"", b"", Expected::Ok),
@@ -28,10 +32,17 @@ const CASES: [(Asked, &[u8], &[u8], Expected); 14] = [
 ];
 
 #[test]
-fn first_path_and_its_refusals(rt: HostRuntime) -> Result<(), Fail> {
+fn shared_use_needs_a_lock(rt: HostRuntime) -> Result<(), Fail> {
     let alloc = rt.alloc();
-    let mut catalogue = open_table(alloc, read_table(alloc, &TABLE, None)?)?;
-    let unexpected = first_unexpected(alloc, &mut catalogue, &CASES)?;
+    let unexpected = first_unexpected_in(alloc, read_table(alloc, &TABLE, None)?, &SHARED_USE)?;
+    assert_eq!(rt; unexpected, None);
+    Ok(())
+}
+
+#[test]
+fn first_path_refusals(rt: HostRuntime) -> Result<(), Fail> {
+    let alloc = rt.alloc();
+    let unexpected = first_unexpected_in(alloc, read_table(alloc, &TABLE, None)?, &FIRST_PATH)?;
     assert_eq!(rt; unexpected, None);
     Ok(())
 }

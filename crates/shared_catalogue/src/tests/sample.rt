@@ -141,6 +141,16 @@ pub fn first_unexpected(
     Ok(None)
 }
 
+// The same in a catalogue of a table T.
+pub fn first_unexpected_in(
+    alloc: Global,
+    content: TableData,
+    cases: &[(Asked, &[u8], &[u8], Expected)],
+) -> Result<Option<usize>, Fail> {
+    let mut catalogue = open_table(alloc, content)?;
+    first_unexpected(alloc, &mut catalogue, cases)
+}
+
 // The first table of a catalogue.
 pub fn first_table(alloc: Global, catalogue: &Catalogue) -> Result<TableData, Fail> {
     if catalogue.table_count() == 0 {
