@@ -41,6 +41,7 @@ impl<S: ByteSink> Model for Wanted<S> {
 }
 
 impl<S: ByteSink> Wanted<S> {
+    /// What the sink has, and how often it has failed, with nothing more wanted.
     pub fn of(sink: &S) -> Wanted<S>
         ensures value { result ≡ record { begun = S.written sink.now; written = S.written sink.now; failures = S.failures sink.now } }
     {
@@ -50,6 +51,7 @@ impl<S: ByteSink> Wanted<S> {
         }
     }
 
+    /// Wants these bytes too, after those before.
     pub fn append(&mut self, bytes: &[u8])
         ensures value { self.new ≡ more self.old bytes.now }
     {
