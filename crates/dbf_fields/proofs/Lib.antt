@@ -7,3 +7,4 @@ pub mod DateLaws
 pub mod FaultLaws
 pub mod LayoutLaws
 pub mod NameLaws
+pub mod SameLaws

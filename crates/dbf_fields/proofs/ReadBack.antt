@@ -20,6 +20,7 @@ use Rattle.dbf_fields.specs.Number.{without_leading, trimmed, is_decimal, scaled
 use Rattle.dbf_fields.specs.NumberText.{sign, point, kept, number_text, is_exact, right_justified, number_cell, IsSameNumber}
 use Rattle.dbf_fields.proofs.Digits.{digits_take}
 use Rattle.dbf_fields.proofs.WrittenDigits.{length-last_digits, zeros_pass}
+use Rattle.dbf_fields.specs.declared.format.TheConstants.{BLANK}
 
 -- ---- digits
 
@@ -88,28 +89,28 @@ kept_number n (b ∷ ds) (suc d) r room zeros =
 
 -- ---- the text between the blanks
 
-digits_full : (ds : List ℕ) → list_all is_ascii_digit ds ≡ true → list_all (λ b. not (b == 32)) ds ≡ true
+digits_full : (ds : List ℕ) → list_all is_ascii_digit ds ≡ true → list_all (λ b. not (b == BLANK)) ds ≡ true
 digits_full [] h = refl
 digits_full (d ∷ ds) h = grind (arith, nat_tests, digits_full ds)
 
-full_append : (a b : List ℕ) → list_all (λ b. not (b == 32)) a ≡ true → list_all (λ b. not (b == 32)) b ≡ true → list_all (λ b. not (b == 32)) (a ++ b) ≡ true
-full_append a b ha hb = rw (list_all-append (λ b. not (b == 32)) a b, ha, hb) refl
+full_append : (a b : List ℕ) → list_all (λ b. not (b == BLANK)) a ≡ true → list_all (λ b. not (b == BLANK)) b ≡ true → list_all (λ b. not (b == BLANK)) (a ++ b) ≡ true
+full_append a b ha hb = rw (list_all-append (λ b. not (b == BLANK)) a b, ha, hb) refl
 
-full_reverse : (text : List ℕ) → list_all (λ b. not (b == 32)) text ≡ true → list_all (λ b. not (b == 32)) (reverse text) ≡ true
+full_reverse : (text : List ℕ) → list_all (λ b. not (b == BLANK)) text ≡ true → list_all (λ b. not (b == BLANK)) (reverse text) ≡ true
 full_reverse [] h = refl
 full_reverse (b ∷ bs) h =
     let turned : reverse (b ∷ bs) ≡ reverse bs ++ (b ∷ []) = reverse-append (b ∷ []) bs in
     rw turned (full_append (reverse bs) (b ∷ []) (full_reverse bs (grind (arith, nat_tests))) (grind (arith, nat_tests)))
 
-nothing_off : (text : List ℕ) → list_all (λ b. not (b == 32)) text ≡ true → without_leading text ≡ text
+nothing_off : (text : List ℕ) → list_all (λ b. not (b == BLANK)) text ≡ true → without_leading text ≡ text
 nothing_off [] h = refl
 nothing_off (b ∷ bs) h = grind (arith, nat_tests)
 
-blanks_off : (k : ℕ) (text : List ℕ) → without_leading (replicate k 32 ++ text) ≡ without_leading text
+blanks_off : (k : ℕ) (text : List ℕ) → without_leading (replicate k BLANK ++ text) ≡ without_leading text
 blanks_off zero text = refl
 blanks_off (suc k) text = blanks_off k text
 
-trimmed_cell : (k : ℕ) (text : List ℕ) → list_all (λ b. not (b == 32)) text ≡ true → trimmed (replicate k 32 ++ text) ≡ text
+trimmed_cell : (k : ℕ) (text : List ℕ) → list_all (λ b. not (b == BLANK)) text ≡ true → trimmed (replicate k BLANK ++ text) ≡ text
 unfolding trimmed
 trimmed_cell k text h = rw (blanks_off k text, nothing_off text h, nothing_off (reverse text) (full_reverse text h)) (reverse-reverse text)
 
@@ -175,13 +176,13 @@ text_signed (pos m) scale decimals exact =
 text_signed (negsuc m) scale decimals exact =
     rw (text_magnitude (suc m) scale decimals) (negative_times _ (10 ^ scale) m (10 ^ decimals) (text_number (suc m) scale decimals exact))
 
-text_full : (z : ℤ) (scale decimals : ℕ) → list_all (λ b. not (b == 32)) (number_text z scale decimals) ≡ true
+text_full : (z : ℤ) (scale decimals : ℕ) → list_all (λ b. not (b == BLANK)) (number_text z scale decimals) ≡ true
 unfolding number_text
 text_full z scale decimals =
     let whole = numeral (unsigned_abs z / 10 ^ scale) in
     let last = last_digits scale (unsigned_abs z) in
-    let sign_full : list_all (λ b. not (b == 32)) (sign z) ≡ true = elim z as (λ k. list_all (λ b. not (b == 32)) (sign k) ≡ true) [ pos m ↦ refl | negsuc m ↦ refl ] in
-    let point_full : list_all (λ b. not (b == 32)) (point decimals) ≡ true = grind (arith, nat_tests) in
+    let sign_full : list_all (λ b. not (b == BLANK)) (sign z) ≡ true = elim z as (λ k. list_all (λ b. not (b == BLANK)) (sign k) ≡ true) [ pos m ↦ refl | negsuc m ↦ refl ] in
+    let point_full : list_all (λ b. not (b == BLANK)) (point decimals) ≡ true = grind (arith, nat_tests) in
     full_append (sign z) _ sign_full
     (full_append whole _ (digits_full whole (numeral_digits (unsigned_abs z / 10 ^ scale)))
     (full_append (point decimals) _ point_full (digits_full (kept decimals last) (kept_digits decimals last (last_digits_digits scale (unsigned_abs z))))))
@@ -196,7 +197,7 @@ pub length-number_cell : (width decimals : ℕ) (z : ℤ) (scale : ℕ) (cell : 
 length-number_cell width decimals z scale cell e =
     let text = number_text z scale decimals in
     let p = cell_parts width decimals z scale cell e in
-    rw p.2 (omega (arith, p.1, length-append (replicate (width - length text) 32) text, length-replicate {A = ℕ} (width - length text) 32))
+    rw p.2 (omega (arith, p.1, length-append (replicate (width - length text) BLANK) text, length-replicate {A = ℕ} (width - length text) BLANK))
 
 -- the number that a cell keeps is read from it again
 pub same_number_again : (width decimals : ℕ) (z : ℤ) (scale : ℕ) (cell : List ℕ) → number_cell width decimals z scale ≡ Some cell → IsSameNumber (number cell decimals) decimals z scale

@@ -13,6 +13,7 @@ use Rattle.dbf_fields.specs.Field.{is_kind, has_width, has_name, folded, widths}
 use Rattle.dbf_fields.specs.Schema.{field_tests, tests_from, refusal, IsSchema}
 use Rattle.dbf_fields.specs.declared.schema.SchemaFault.{SchemaFault}
 use Rattle.dbf_fields.proofs.FaultLaws.{first_then, first_before}
+use Rattle.dbf_fields.specs.declared.format.TheConstants.{MAX_FIELDS, MAX_RECORD_BYTES}
 
 -- a test that let the next ones decide
 pub passed : {F : Type 0} (b : Bool) (x : Option F) (f : F) → cond b x (Some f) ≡ None → (b ≡ true) × (x ≡ None)
@@ -78,19 +79,19 @@ accepted_parts earlier fs f h =
     let d = passed (has_width f) _ _ (passed (is_kind f.kind) _ _ b.1).1 in
     (a.0, d.0, d.1)
 
-widths_of_accepted : (earlier fs : List Field) → first_fault (tests_from earlier fs) ≡ None → widths (earlier ++ map folded fs) ≤ 4000
-widths_of_accepted earlier [] h = rw append-nil (leb-true _ _ (passed (leb (widths earlier) 4000) _ _ h).0)
+widths_of_accepted : (earlier fs : List Field) → first_fault (tests_from earlier fs) ≡ None → widths (earlier ++ map folded fs) ≤ MAX_RECORD_BYTES
+widths_of_accepted earlier [] h = rw append-nil (leb-true _ _ (passed (leb (widths earlier) MAX_RECORD_BYTES) _ _ h).0)
 widths_of_accepted earlier (f ∷ fs) h =
     rw append_assoc at (widths_of_accepted (earlier ++ folded f ∷ []) fs (accepted_parts earlier fs f h).2)
 
-pub accepted_widths : (fs : List Field) → refusal fs ≡ None → widths (map folded fs) ≤ 4000
-accepted_widths fs h = widths_of_accepted [] fs (passed (is_in_range 1 128 (length fs)) _ _ h).1
+pub accepted_widths : (fs : List Field) → refusal fs ≡ None → widths (map folded fs) ≤ MAX_RECORD_BYTES
+accepted_widths fs h = widths_of_accepted [] fs (passed (is_in_range 1 MAX_FIELDS (length fs)) _ _ h).1
 
-pub schema_widths : (fs : List Field) → IsSchema fs → widths fs ≤ 4000
+pub schema_widths : (fs : List Field) → IsSchema fs → widths fs ≤ MAX_RECORD_BYTES
 schema_widths fs s = rw s.kept at (accepted_widths fs s.accepted)
 
-pub schema_count : (fs : List Field) → IsSchema fs → length fs ≤ 128
-schema_count fs s = leb-true _ _ (and_parts _ _ (passed (is_in_range 1 128 (length fs)) _ _ s.accepted).0).1
+pub schema_count : (fs : List Field) → IsSchema fs → length fs ≤ MAX_FIELDS
+schema_count fs s = leb-true _ _ (and_parts _ _ (passed (is_in_range 1 MAX_FIELDS (length fs)) _ _ s.accepted).0).1
 
 each_of_accepted : (P : Field → Type 0) → ((f : Field) → is_name f.name ≡ true → has_width f ≡ true → P f)
     → (earlier fs : List Field) → first_fault (tests_from earlier fs) ≡ None → AllByRecursion P fs
@@ -100,7 +101,7 @@ each_of_accepted P each earlier (f ∷ fs) h =
     (each f t.0 t.1, each_of_accepted P each (earlier ++ folded f ∷ []) fs t.2)
 
 each_of_schema : (P : Field → Type 0) → ((f : Field) → is_name f.name ≡ true → has_width f ≡ true → P f) → (fs : List Field) → IsSchema fs → AllByRecursion P fs
-each_of_schema P each fs s = each_of_accepted P each [] fs (passed (is_in_range 1 128 (length fs)) _ _ s.accepted).1
+each_of_schema P each fs s = each_of_accepted P each [] fs (passed (is_in_range 1 MAX_FIELDS (length fs)) _ _ s.accepted).1
 
 -- each field of a schema has a good name and a width of its kind
 pub schema_names : (fs : List Field) → IsSchema fs → AllByRecursion (λ f. is_name f.name ≡ true) fs

@@ -1,6 +1,6 @@
 //! Values as commands give them.
 
-ghost use Rattle.std.specs.Prelude.{◌≡◌, IfOk};
+ghost use Rattle.std.specs.Prelude.{◌≡◌, ◌↔◌, IsTrue, IfOk};
 
 use crate::bytes::Bytes;
 use crate::day::Day;
@@ -44,5 +44,22 @@ impl Literal {
             Literal::BlankDate => Literal::BlankDate,
             Literal::BadDate => Literal::BadDate,
         })
+    }
+
+    /// Whether the values are the same. It is what `==` answers, said so that contracts can use it.
+    #[tactic(auto, using(crate::proofs::SameLaws::same_bytes, crate::proofs::SameLaws::same_int))]
+    pub fn is_same(&self, other: &Literal) -> bool
+        ensures value { IsTrue result ↔ (self.now ≡ other.now) }
+    {
+        match self {
+            Literal::Text(text) => matches!(other, Literal::Text(its) if text == its),
+            Literal::Number { digits, scale } => {
+                matches!(other, Literal::Number { digits: d, scale: s } if digits == d && scale == s)
+            }
+            Literal::Truth(truth) => matches!(other, Literal::Truth(its) if truth == its),
+            Literal::Date(day) => matches!(other, Literal::Date(its) if day.is_same(*its)),
+            Literal::BlankDate => matches!(other, Literal::BlankDate),
+            Literal::BadDate => matches!(other, Literal::BadDate),
+        }
     }
 }

@@ -17,7 +17,7 @@ use Rattle.dbf_image.specs.Spans.{table_tests}
 use Rattle.dbf_image.proofs.Rows.{chunks_take}
 use Rattle.dbf_fields.proofs.FaultLaws.{first_parts}
 use Rattle.dbf_image.proofs.MemoTests.{rows_ok, ok_rows, some_is}
-use Rattle.dbf_image.specs.declared.format.TheConstants.{HEADER_END, MAX_RECORDS}
+use Rattle.dbf_image.specs.declared.format.TheConstants.{DESCRIPTOR, HEADER, HEADER_END, MAX_RECORDS, VERSION, VERSION_WITH_MEMOS}
 
 -- ---- the first number that passes a test
 
@@ -54,7 +54,7 @@ first_from-is test i (suc n) k low high here before =
 -- ---- what passing the tests says
 
 pub record Passes (bytes : List ℕ) (dbt : Option (List ℕ)) : Type 0 where
-  pub long : 32 ≤ length bytes
+  pub long : HEADER ≤ length bytes
   pub version : has_version bytes ≡ true
   pub inside : header_length bytes ≤ length bytes
   pub ended : is_some (field_count bytes) ≡ true
@@ -70,7 +70,7 @@ passes_all bytes dbt h =
     let p = first_parts (header_tests bytes) (field_tests bytes ++ (record_tests bytes ++ memos_tests bytes dbt)) h in
     let q = first_parts (field_tests bytes) (record_tests bytes ++ memos_tests bytes dbt) p.1 in
     let r = first_parts (record_tests bytes) (memos_tests bytes dbt) q.1 in
-    let a = passed (leb 32 (length bytes)) _ _ p.0 in
+    let a = passed (leb HEADER (length bytes)) _ _ p.0 in
     let b = passed (has_version bytes) _ _ a.1 in
     let c = passed (leb (header_length bytes) (length bytes)) _ _ b.1 in
     let d = passed (is_some (field_count bytes)) _ _ q.0 in
@@ -106,19 +106,19 @@ none_is : {X : Type 0} (o : Option X) → is_none o ≡ true → o ≡ None
 none_is (Some k) h = absurd cc
 none_is None h = refl
 
-version_is : (bytes : List ℕ) → has_version bytes ≡ true → (slice_index bytes 0 ≡ 3) ⊎ (slice_index bytes 0 ≡ 131)
+version_is : (bytes : List ℕ) → has_version bytes ≡ true → (slice_index bytes 0 ≡ VERSION) ⊎ (slice_index bytes 0 ≡ VERSION_WITH_MEMOS)
 version_is bytes h =
-    elim (or_cases (eqb (slice_index bytes 0) 3) (eqb (slice_index bytes 0) 131) h) [ inl a ↦ inl (eqb-true _ _ a) | inr b ↦ inr (eqb-true _ _ b) ]
+    elim (or_cases (eqb (slice_index bytes 0) VERSION) (eqb (slice_index bytes 0) VERSION_WITH_MEMOS) h) [ inl a ↦ inl (eqb-true _ _ a) | inr b ↦ inr (eqb-true _ _ b) ]
 
-is_version : (bytes : List ℕ) → (slice_index bytes 0 ≡ 3) ⊎ (slice_index bytes 0 ≡ 131) → has_version bytes ≡ true
-is_version bytes (inl a) = or_left (eqb (slice_index bytes 0) 3) (eqb (slice_index bytes 0) 131) (eq-eqb _ _ a)
-is_version bytes (inr b) = or_right (eqb (slice_index bytes 0) 3) (eqb (slice_index bytes 0) 131) (eq-eqb _ _ b)
+is_version : (bytes : List ℕ) → (slice_index bytes 0 ≡ VERSION) ⊎ (slice_index bytes 0 ≡ VERSION_WITH_MEMOS) → has_version bytes ≡ true
+is_version bytes (inl a) = or_left (eqb (slice_index bytes 0) VERSION) (eqb (slice_index bytes 0) VERSION_WITH_MEMOS) (eq-eqb _ _ a)
+is_version bytes (inr b) = or_right (eqb (slice_index bytes 0) VERSION) (eqb (slice_index bytes 0) VERSION_WITH_MEMOS) (eq-eqb _ _ b)
 
 abbrev ends_fields : List ℕ → ℕ → Bool
-ends_fields bytes i = eqb (slice_index bytes (32 + 32 * i)) HEADER_END
+ends_fields bytes i = eqb (slice_index bytes (HEADER + DESCRIPTOR * i)) HEADER_END
 
 abbrev most_fields : List ℕ → ℕ
-most_fields bytes = (header_length bytes - 1) / 32
+most_fields bytes = (header_length bytes - 1) / DESCRIPTOR
 
 -- ---- memos
 
@@ -192,7 +192,7 @@ same_table bytes dbt table schema rows =
 pub dbf_is : (bytes : List ℕ) (dbt : Option (List ℕ)) (table : Table) → IsDbf bytes dbt table → (refusal bytes dbt ≡ None) × (table_read bytes dbt ≡ table)
 dbf_is bytes dbt table d =
     let counted : field_count bytes ≡ Some d.field_count = first_from-is (ends_fields bytes) 0 (most_fields bytes) d.field_count (omega arith) (omega (arith, d.in_header)) (eq-eqb _ _ d.last_field) (λ j low lt. ne_eqb _ _ (d.not_before j lt)) in
-    let fields : fields_of bytes ≡ map field_of (chunks 32 d.field_count (drop 32 bytes)) = rw counted refl in
+    let fields : fields_of bytes ≡ map field_of (chunks DESCRIPTOR d.field_count (drop HEADER bytes)) = rw counted refl in
     let schema : schema_of bytes ≡ table.schema = ap (map folded) fields ∙ sym d.schema in
     let none : is_none (schemas.refusal (fields_of bytes)) ≡ true = rw (fields, d.accepted) refl in
     let given : EncodesRows (unwrap_or dbt []) (schema_of bytes) (records_of bytes) table.rows = rw schema d.rows in

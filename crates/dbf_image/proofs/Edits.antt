@@ -1,21 +1,22 @@
 -- What a change of the bytes or of the memos makes of the rows.
-use Rattle.std.proofs.Math.Seq.{take-nil}
+use Rattle.std.proofs.Math.Seq.{take-nil, take-set-lt}
 use Rattle.std.proofs.Common.{◌≡◌, ◌≢◌, ℕ, zero, suc, ◌+◌, ◌-◌, ◌*◌, ◌<◌, ◌≤◌, Bool, true, false, cond, eqb, List, [], ◌∷◌, ◌++◌, length, map, take, drop, replicate, get_or, set, refl, sym, ap, ◌∙◌, arith, inl, inr}
 use Rattle.std.proofs.lemmas.Bool.{eq-eqb, ne_eqb, cases_Bool}
-use Rattle.std.proofs.lemmas.List.{take-append-le, drop-append-le, take_all, take_at, drop_at, take-set-le, drop-set-lt, drop-set-add, drop-drop, length-take-le, length-drop, length-append, take-replicate, drop-replicate}
+use Rattle.std.proofs.lemmas.List.{take-append-le, drop-append-le, take_all, take_at, drop_at, take-set-le, drop-set-lt, drop-set-add, length-set, drop-drop, length-take-le, length-drop, length-append, take-replicate, drop-replicate}
 use Rattle.std.proofs.lemmas.List.Sums.{sum_by-cons}
 use Rattle.std.proofs.lemmas.Slice.{drop-put_mid, take-put_mid_below}
 use borrow.Rule.Slice.PartMut.{put_mid}
 use Rattle.dbf_fields.specs.declared.field.Field.{Field}
 use Rattle.dbf_fields.specs.Field.{widths}
-use Rattle.dbf_image.specs.declared.format.TheConstants.{DELETED, MAX_RECORDS}
+use Rattle.dbf_image.specs.declared.format.TheConstants.{DELETED, KEPT, MAX_RECORDS}
 use Rattle.dbf_fields.specs.Layout.{width_of}
-use Rattle.dbf_image.specs.Table.{Row, kind_at, blank_cell, blank_row, row_with_cell}
+use Rattle.dbf_image.specs.Table.{Row, kind_at, blank_cell, blank_row, row_with_cell, row_marked}
 use Rattle.dbf_image.specs.DbfText.{chunks, AreRecords}
 use Rattle.dbf_image.specs.Store.{first_memo, memo_count, cells_with, row_with, rows_with, rows_of}
+use Rattle.dbf_image.proofs.ReadBack.{flag_again}
 use Rattle.dbf_image.proofs.Rows.{length-chunks}
 use Rattle.dbf_image.proofs.CellOffsets.{chunk_here, row_here, cell_within, memo_within, chunk-inside}
-use Rattle.dbf_fields.specs.declared.format.TheConstants.{MEMO}
+use Rattle.dbf_fields.specs.declared.format.TheConstants.{BLANK, MEMO}
 
 -- ---- one more record
 
@@ -64,29 +65,34 @@ cells_none (f ∷ fs) bytes (suc k) = elim (cases_Bool (eqb f.kind MEMO)) [
   | inr e ↦ rw e (ap (λ (x : List (List ℕ)). take f.width bytes ∷ x) (cells_none fs (drop f.width bytes) (suc k)))
 ]
 
+-- a record with memos of its own
+pub rows_add : (fields : List Field) (n : ℕ) (bytes row : List ℕ) (memos own : List (List ℕ)) → AreRecords fields n bytes → length row ≡ 1 + widths fields → length memos ≡ n * memo_count fields
+    → rows_of fields (n + 1) (bytes ++ row) (memos ++ own) ≡ rows_of fields n bytes memos ++ row_with fields row own ∷ []
+rows_add fields n bytes row memos own records long many =
+    let size : ℕ = 1 + widths fields in
+    let counted : length memos ≡ length (chunks size n bytes) * memo_count fields = rw (length-chunks size n bytes) many in
+    ap (λ (ps : List (List ℕ)). rows_with fields ps (memos ++ own)) (chunks_push size n bytes row records.whole long)
+    ∙ rows_append fields (chunks size n bytes) (row ∷ []) memos own counted
+
 pub rows_push : (fields : List Field) (n : ℕ) (bytes row : List ℕ) (memos : List (List ℕ)) → AreRecords fields n bytes → length row ≡ 1 + widths fields → length memos ≡ n * memo_count fields
     → rows_of fields (n + 1) (bytes ++ row) (memos ++ replicate (memo_count fields) []) ≡ rows_of fields n bytes memos ++ row_with fields row [] ∷ []
 rows_push fields n bytes row memos records long many =
-    let size : ℕ = 1 + widths fields in
-    let more : List (List ℕ) = replicate (memo_count fields) [] in
-    let counted : length memos ≡ length (chunks size n bytes) * memo_count fields = rw (length-chunks size n bytes) many in
-    ap (λ (ps : List (List ℕ)). rows_with fields ps (memos ++ more)) (chunks_push size n bytes row records.whole long)
-    ∙ rows_append fields (chunks size n bytes) (row ∷ []) memos more counted
+    rows_add fields n bytes row memos (replicate (memo_count fields) []) records long many
     ∙ ap (λ (cells : List (List ℕ)). rows_of fields n bytes memos ++ row_of_cells row cells ∷ []) (cells_none fields (drop 1 row) (memo_count fields))
 
-cells_blank : (fields : List Field) → cells_with fields (replicate (widths fields) 32) [] ≡ map blank_cell fields
+cells_blank : (fields : List Field) → cells_with fields (replicate (widths fields) BLANK) [] ≡ map blank_cell fields
 cells_blank [] = refl
 cells_blank (f ∷ fs) =
     let sum : widths (f ∷ fs) ≡ f.width + widths fs = sum_by-cons (λ (g : Field). g.width) f fs in
     let left : f.width + widths fs - f.width ≡ widths fs = omega arith in
-    let here = take-replicate {X = ℕ} f.width (f.width + widths fs) 32 (omega arith) in
-    let there = drop-replicate {X = ℕ} f.width (f.width + widths fs) 32 ∙ ap (λ (k : ℕ). replicate k 32) left in
+    let here = take-replicate {X = ℕ} f.width (f.width + widths fs) BLANK (omega arith) in
+    let there = drop-replicate {X = ℕ} f.width (f.width + widths fs) BLANK ∙ ap (λ (k : ℕ). replicate k BLANK) left in
     elim (cases_Bool (eqb f.kind MEMO)) [
       | inl e ↦ rw (e, sum, there, cells_blank fs) refl
       | inr e ↦ rw (e, sum, there, here, cells_blank fs) refl
     ]
 
-pub row_blank : (fields : List Field) → row_with fields (replicate (1 + widths fields) 32) [] ≡ blank_row fields
+pub row_blank : (fields : List Field) → row_with fields (replicate (1 + widths fields) BLANK) [] ≡ blank_row fields
 row_blank fields =
     let k : 1 + widths fields ≡ suc (widths fields) = omega arith in
     rw k (ap (λ (cells : List (List ℕ)). record { deleted = false; cells = cells }) (cells_blank fields))
@@ -273,3 +279,43 @@ records_put fields n a bytes ys records room =
     let whole : length (put_mid a (length ys) bytes ys) ≡ length bytes =
     omega (arith, front, length-append (take a bytes) (ys ++ rest), length-append ys rest, length-drop (length ys) (drop a bytes), length-drop a bytes) in
     record { whole = whole ∙ records.whole; few = records.few }
+
+-- ---- a flag that is replaced
+
+chunks_set : (size n i b : ℕ) (bytes : List ℕ) → i < n → 0 < size → chunks size n (set bytes (i * size) b) ≡ set (chunks size n bytes) i (set (take size (drop (i * size) bytes)) 0 b)
+chunks_set size zero i b bytes lt some = absurd (omega arith)
+chunks_set size (suc n) zero b bytes lt some =
+    let z : 0 * size ≡ 0 = omega arith in
+    rw (z, take-set-lt size bytes 0 b some, drop-set-lt size bytes 0 b some) refl
+chunks_set size (suc n) (suc i) b bytes lt some =
+    let z : suc i * size ≡ size + i * size = omega arith in
+    rw (
+      z,
+      ← drop-drop (i * size) size bytes,
+      take-set-le size bytes (size + i * size) b (omega arith),
+      drop-set-add size bytes (i * size) b,
+      chunks_set size n i b (drop size bytes) (omega arith) some,
+    ) refl
+
+row_flag : (fields : List Field) (bytes : List ℕ) (memos : List (List ℕ)) (deleted : Bool) → 0 < length bytes → row_with fields (set bytes 0 (cond deleted DELETED KEPT)) memos ≡ row_marked (row_with fields bytes memos) deleted
+row_flag fields [] memos deleted some = absurd (omega arith)
+row_flag fields (b ∷ bs) memos deleted some = rw (flag_again deleted) refl
+
+-- a record's first byte is replaced by a flag
+pub rows_flag : (fields : List Field) (n i : ℕ) (bytes : List ℕ) (memos : List (List ℕ)) (deleted : Bool) (d : Row) → AreRecords fields n bytes → i < n
+    → rows_of fields n (set bytes (i * (1 + widths fields)) (cond deleted DELETED KEPT)) memos
+    ≡ set (rows_of fields n bytes memos) i (row_marked (get_or (rows_of fields n bytes memos) i d) deleted)
+rows_flag fields n i bytes memos deleted d records lt =
+    let size : ℕ = 1 + widths fields in
+    let flag : ℕ = cond deleted DELETED KEPT in
+    let chunk : List ℕ = take size (drop (i * size) bytes) in
+    let within = chunk-inside size n i (length bytes) lt records.whole in
+    let long : length chunk ≡ size = length-take-le size (drop (i * size) bytes) (omega (arith, length-drop (i * size) bytes)) in
+    ap (λ (ps : List (List ℕ)). rows_with fields ps memos) (chunks_set size n i flag bytes lt (omega arith))
+    ∙ rows_set fields (chunks size n bytes) memos i (set chunk 0 flag)
+    ∙ ap (set (rows_of fields n bytes memos) i) (
+    row_flag fields chunk (drop (i * memo_count fields) memos) deleted (omega arith) ∙ ap (λ (r : Row). row_marked r deleted) (sym (row_here fields n i bytes memos d lt))
+    )
+
+pub records_set : (fields : List Field) (n k b : ℕ) (bytes : List ℕ) → AreRecords fields n bytes → AreRecords fields n (set bytes k b)
+records_set fields n k b bytes records = record { whole = length-set bytes k b ∙ records.whole; few = records.few }

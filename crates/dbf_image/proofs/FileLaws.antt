@@ -15,7 +15,8 @@ use Rattle.dbf_image.specs.Blocks.{cells_bytes, cells_blocks, cells_memos, cell_
 use Rattle.dbf_image.specs.Image.{header_bytes, descriptor, row_bytes, rows_bytes, image}
 use Rattle.dbf_image.proofs.ReadBack.{chunks-join, length-join, names_from, descriptors_long, fields_again, not_end, after_header, end_here, not_here, flag_again}
 use Rattle.dbf_image.proofs.BlockLaws.{AreWide, cells_again, length-cell, length-cells_memos}
-use Rattle.dbf_image.specs.declared.format.TheConstants.{BLOCK, END_OF_FILE, HEADER_END}
+use Rattle.dbf_image.specs.declared.format.TheConstants.{BLOCK, DESCRIPTOR, END_OF_FILE, HEADER, HEADER_END}
+use Rattle.dbf_fields.specs.declared.format.TheConstants.{MAX_FIELDS, MAX_RECORD_BYTES}
 
 pub memos_wide : (fs : List Field) → AllByRecursion (λ f. has_width f ≡ true) fs → AreWide fs
 memos_wide [] h = tt
@@ -81,19 +82,19 @@ is_dbf_image table year month day t room =
     let wide_memos : AreWide schema = memos_wide schema (schema_wide schema t.fields) in
     let names = names_from schema (schema_names schema t.fields) in
     let small : next_free table < 10 ^ 10 = omega arith in
-    let few : n ≤ 128 = schema_count schema t.fields in
-    let narrow : widths schema ≤ 4000 = schema_widths schema t.fields in
+    let few : n ≤ MAX_FIELDS = schema_count schema t.fields in
+    let narrow : widths schema ≤ MAX_RECORD_BYTES = schema_widths schema t.fields in
     let count : record_count bytes ≡ length table.rows = little_number-reads_back 4 (length table.rows) [] (omega (arith, t.few)) in
-    let header : header_length bytes ≡ 32 * n + 33 = little_number-reads_back 2 (32 * n + 33) [] (omega arith) in
+    let header : header_length bytes ≡ DESCRIPTOR * n + (HEADER + 1) = little_number-reads_back 2 (DESCRIPTOR * n + (HEADER + 1)) [] (omega arith) in
     let wide : record_length bytes ≡ size = little_number-reads_back 2 size [] (omega arith) in
-    let body_long : length body ≡ n * 32 = length-join 32 descriptor schema (descriptors_long schema names) in
+    let body_long : length body ≡ n * DESCRIPTOR = length-join DESCRIPTOR descriptor schema (descriptors_long schema names) in
     let long = images_long schema table.rows 1 wide_memos t.fit in
     let many : length images ≡ length table.rows = length-images schema table.rows 1 in
     let records_long : length records ≡ length images * size = length-join size (λ (b : List ℕ). b) images long in
     let records_size : length records ≡ length table.rows * size = records_long ∙ ap (λ (k : ℕ). k * size) many in
-    let fields : map field_of (chunks 32 n (drop 32 bytes)) ≡ schema =
-    ap (map field_of) (chunks-join 32 descriptor schema (HEADER_END ∷ (records ++ END_OF_FILE ∷ [])) (descriptors_long schema names)) ∙ fields_again schema names in
-    let rest : drop (32 * n + 33) bytes ≡ records ++ END_OF_FILE ∷ [] = after_header head body (records ++ END_OF_FILE ∷ []) (32 * n + 33) (omega arith) in
+    let fields : map field_of (chunks DESCRIPTOR n (drop HEADER bytes)) ≡ schema =
+    ap (map field_of) (chunks-join DESCRIPTOR descriptor schema (HEADER_END ∷ (records ++ END_OF_FILE ∷ [])) (descriptors_long schema names)) ∙ fields_again schema names in
+    let rest : drop (DESCRIPTOR * n + (HEADER + 1)) bytes ≡ records ++ END_OF_FILE ∷ [] = after_header head body (records ++ END_OF_FILE ∷ []) (DESCRIPTOR * n + (HEADER + 1)) (omega arith) in
     let joined : chunks size (length images) (records ++ END_OF_FILE ∷ []) ≡ map (λ (b : List ℕ). b) images = chunks-join size (λ (b : List ℕ). b) images (END_OF_FILE ∷ []) long in
     let cut : chunks size (length table.rows) (records ++ END_OF_FILE ∷ []) ≡ images = ap (λ (k : ℕ). chunks size k (records ++ END_OF_FILE ∷ [])) (sym many) ∙ joined ∙ map-id images in
     let nothing : List ℕ = [] in
@@ -104,8 +105,8 @@ is_dbf_image table year month day t room =
       long = omega (arith, length-append head (body ++ HEADER_END ∷ (records ++ END_OF_FILE ∷ [])));
       version = elim (cases_Bool (has_memos schema)) [ inl some ↦ inr (rw some refl) | inr none ↦ inl (rw none refl) ];
       field_count = n;
-      last_field = end_here head body (records ++ END_OF_FILE ∷ []) (32 + 32 * n) (omega arith);
-      not_before = λ i lt. not_here head (body ++ HEADER_END ∷ (records ++ END_OF_FILE ∷ [])) 32 (32 * i) refl (not_end schema (HEADER_END ∷ (records ++ END_OF_FILE ∷ [])) names i lt);
+      last_field = end_here head body (records ++ END_OF_FILE ∷ []) (HEADER + DESCRIPTOR * n) (omega arith);
+      not_before = λ i lt. not_here head (body ++ HEADER_END ∷ (records ++ END_OF_FILE ∷ [])) HEADER (DESCRIPTOR * i) refl (not_end schema (HEADER_END ∷ (records ++ END_OF_FILE ∷ [])) names i lt);
       in_header = rw header (omega arith);
       accepted = rw fields t.fields.accepted;
       schema = sym (ap (map folded) fields ∙ t.fields.kept);

@@ -10,9 +10,10 @@ use Rattle.dbf_image.specs.declared.fault.ImageFault.{ImageFault}
 use Rattle.dbf_image.specs.declared.fault.ImageFault.TheVariants.{BadHeaderLength, BadSchema, NoMemory}
 use Rattle.dbf_image.specs.DbfText.{chunks, field_of}
 use Rattle.dbf_image.specs.Reading.{field_count, fields_of, header_tests, field_tests, record_tests, memos_tests, early_refusal, refusal, IsRefusal}
+use Rattle.dbf_image.specs.declared.format.TheConstants.{DESCRIPTOR, HEADER}
 
-pub fields_are : (bytes : List ℕ) (count : ℕ) → Some count ≡ field_count bytes → map field_of (chunks 32 count (take (length bytes - 32) (drop 32 bytes))) ≡ fields_of bytes
-fields_are bytes count e = rw (take_rest bytes 32, ← e) refl
+pub fields_are : (bytes : List ℕ) (count : ℕ) → Some count ≡ field_count bytes → map field_of (chunks DESCRIPTOR count (take (length bytes - HEADER) (drop HEADER bytes))) ≡ fields_of bytes
+fields_are bytes count e = rw (take_rest bytes HEADER, ← e) refl
 
 pub fields_pass : (bytes : List ℕ) (count : ℕ) → Some count ≡ field_count bytes → is_none (schemas.refusal (fields_of bytes)) ≡ true → first_fault (field_tests bytes) ≡ None
 unfolding field_tests

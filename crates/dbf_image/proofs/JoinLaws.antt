@@ -20,7 +20,7 @@ use Rattle.dbf_image.specs.Store.{text_of, texts_of, memo_count, first_memo, cel
 use Rattle.dbf_image.proofs.Rows.{length-chunks}
 use Rattle.dbf_image.specs.Blocks.{blocks_of, block_bytes, cells_memos, rows_blocks, rows_memos}
 use Rattle.dbf_image.specs.declared.format.TheConstants.{MAX_RECORDS, BLOCK}
-use Rattle.dbf_fields.specs.declared.format.TheConstants.{MEMO}
+use Rattle.dbf_fields.specs.declared.format.TheConstants.{MAX_FIELDS, MEMO}
 
 joined_by : (f : Field) (fs : List Field) (cell rest : List ℕ) (memos : List (List ℕ)) (b : Bool) → eqb f.kind MEMO ≡ b
     → ((m : List (List ℕ)) → memo_count fs ≤ length m → cells_memos fs (cells_with fs rest m) ≡ flat_map block_bytes (take (memo_count fs) m))
@@ -84,7 +84,7 @@ memos_read fields rows count bytes texts spans many given = rw given (sym (store
 
 -- ---- how many memos a table has at most
 
-pub memos_each : (fields : List Field) → IsSchema fields → memo_count fields ≤ 128
+pub memos_each : (fields : List Field) → IsSchema fields → memo_count fields ≤ MAX_FIELDS
 memos_each fields schema = omega (arith, memo_count_le fields, schema_count fields schema)
 
 pub memos_all : (fields : List Field) (count : ℕ) → IsSchema fields → count ≤ MAX_RECORDS → count * memo_count fields ≤ 128000000000

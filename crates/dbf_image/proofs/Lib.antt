@@ -7,6 +7,7 @@ pub mod Chunks
 pub mod Ends
 pub mod Edits
 pub mod Spans
+pub mod Packing
 pub mod CellOffsets
 pub mod Rows
 pub mod Sinks

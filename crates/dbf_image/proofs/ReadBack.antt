@@ -12,7 +12,7 @@ use Rattle.dbf_fields.specs.declared.field.Field.{Field}
 use Rattle.dbf_fields.specs.Name.{is_name_char, is_name}
 use Rattle.dbf_image.specs.DbfText.{chunks, field_of}
 use Rattle.dbf_image.specs.Image.{descriptor}
-use Rattle.dbf_image.specs.declared.format.TheConstants.{DELETED, HEADER_END}
+use Rattle.dbf_image.specs.declared.format.TheConstants.{DELETED, DESCRIPTOR, HEADER_END, KEPT, NAME_BYTES}
 
 -- ---- chunks of one size that are joined
 
@@ -30,12 +30,12 @@ length-join size f (x ∷ xs) h = omega (arith, length-append (f x) (flat_map f 
 
 -- the name, and zeros up to eleven bytes
 abbrev name_part : Field → List ℕ
-name_part f = f.name ++ replicate (11 - length f.name) 0
+name_part f = f.name ++ replicate (NAME_BYTES - length f.name) 0
 
-length-name_part : (f : Field) → length f.name ≤ 11 → length (name_part f) ≡ 11
-length-name_part f le = omega (arith, length-append f.name (replicate (11 - length f.name) 0), length-replicate {A = ℕ} (11 - length f.name) 0)
+length-name_part : (f : Field) → length f.name ≤ NAME_BYTES → length (name_part f) ≡ NAME_BYTES
+length-name_part f le = omega (arith, length-append f.name (replicate (NAME_BYTES - length f.name) 0), length-replicate {A = ℕ} (NAME_BYTES - length f.name) 0)
 
-pub length-descriptor : (f : Field) → length f.name ≤ 11 → length (descriptor f) ≡ 32
+pub length-descriptor : (f : Field) → length f.name ≤ NAME_BYTES → length (descriptor f) ≡ DESCRIPTOR
 unfolding descriptor
 length-descriptor f le =
     omega (arith, length-append (name_part f) (f.kind ∷ (replicate 4 0 ++ (f.width ∷ f.decimals ∷ replicate 14 0))), length-name_part f le)
@@ -62,10 +62,10 @@ no_zeros cs h k lt = no_zero _ (true_from_ne_false _ (λ no. true≢false (sym h
 
 name_again : (f : Field) → HasName f → before_first (λ b. eqb b 0) (name_part f) ≡ f.name
 name_again f h =
-    let zeros : List ℕ = replicate (11 - length f.name) 0 in
+    let zeros : List ℕ = replicate (NAME_BYTES - length f.name) 0 in
     let inside : length f.name ≤ length (name_part f) = omega (arith, length-append f.name zeros) in
     let ended : eqb (get_or (name_part f) (length f.name) 0) 0 ≡ true =
-    rw (get_or-append_right f.name zeros (length f.name) (length f.name) 0 refl (omega arith), get_or-replicate {A = ℕ} (11 - length f.name) (length f.name - length f.name) 0 0 (omega (arith, h.short))) refl in
+    rw (get_or-append_right f.name zeros (length f.name) (length f.name) 0 refl (omega arith), get_or-replicate {A = ℕ} (NAME_BYTES - length f.name) (length f.name - length f.name) 0 0 (omega (arith, h.short))) refl in
     let n : position_or_len (λ b. eqb b 0) (name_part f) ≡ length f.name =
     position_or_len_is (λ b. eqb b 0) (name_part f) (length f.name) 0 inside
     (λ k lt. rw (get_or_append_left f.name zeros 0 k lt) (no_zeros f.name h.letters k lt))
@@ -76,8 +76,8 @@ pub field_again : (f : Field) → HasName f → field_of (descriptor f) ≡ f
 unfolding descriptor
 field_again f h =
     let rest : List ℕ = f.kind ∷ (replicate 4 0 ++ (f.width ∷ f.decimals ∷ replicate 14 0)) in
-    let len : length (name_part f) ≡ 11 = length-name_part f (omega (arith, h.short)) in
-    let name : before_first (λ b. eqb b 0) (take 11 (name_part f ++ rest)) ≡ f.name = rw (take_at (name_part f) rest 11 len) (name_again f h) in
+    let len : length (name_part f) ≡ NAME_BYTES = length-name_part f (omega (arith, h.short)) in
+    let name : before_first (λ b. eqb b 0) (take NAME_BYTES (name_part f ++ rest)) ≡ f.name = rw (take_at (name_part f) rest NAME_BYTES len) (name_again f h) in
     let kind : get_or (name_part f ++ rest) 11 0 ≡ f.kind = get_or-append_right (name_part f) rest 11 11 0 len (omega arith) in
     let width : get_or (name_part f ++ rest) 16 0 ≡ f.width = get_or-append_right (name_part f) rest 11 16 0 len (omega arith) in
     let decimals : get_or (name_part f ++ rest) 17 0 ≡ f.decimals = get_or-append_right (name_part f) rest 11 17 0 len (omega arith) in
@@ -90,7 +90,7 @@ letter_no_end (c ∷ cs) rest some letter e = absurd (true≢false (sym (rw e at
 starts : (f : Field) (rest : List ℕ) → HasName f → get_or (descriptor f ++ rest) 0 0 ≢ HEADER_END
 unfolding descriptor
 starts f rest h =
-    let zeros : List ℕ = replicate (11 - length f.name) 0 in
+    let zeros : List ℕ = replicate (NAME_BYTES - length f.name) 0 in
     let more : List ℕ = f.kind ∷ (replicate 4 0 ++ (f.width ∷ f.decimals ∷ replicate 14 0)) in
     let grouped : ((f.name ++ zeros) ++ more) ++ rest ≡ f.name ++ (zeros ++ (more ++ rest)) = simp append_assoc in
     rw grouped (letter_no_end f.name (zeros ++ (more ++ rest)) h.some h.letter)
@@ -103,21 +103,21 @@ pub names_from : (fs : List Field) → AllByRecursion (λ f. is_name f.name ≡ 
 names_from [] h = tt
 names_from (f ∷ fs) h = (has_name_from f h.0, names_from fs h.1)
 
-pub descriptors_long : (fs : List Field) → AllByRecursion HasName fs → AllByRecursion (λ f. length (descriptor f) ≡ 32) fs
+pub descriptors_long : (fs : List Field) → AllByRecursion HasName fs → AllByRecursion (λ f. length (descriptor f) ≡ DESCRIPTOR) fs
 descriptors_long [] h = tt
 descriptors_long (f ∷ fs) h = (length-descriptor f (omega (arith, h.0.short)), descriptors_long fs h.1)
 
-pub not_end : (fs : List Field) (rest : List ℕ) → AllByRecursion HasName fs → (i : ℕ) → i < length fs → get_or (flat_map descriptor fs ++ rest) (32 * i) 0 ≢ HEADER_END
+pub not_end : (fs : List Field) (rest : List ℕ) → AllByRecursion HasName fs → (i : ℕ) → i < length fs → get_or (flat_map descriptor fs ++ rest) (DESCRIPTOR * i) 0 ≢ HEADER_END
 not_end [] rest h i lt = absurd (omega arith)
 not_end (f ∷ fs) rest h zero lt = rw (append_assoc (descriptor f) (flat_map descriptor fs) rest) (starts f (flat_map descriptor fs ++ rest) h.0)
 not_end (f ∷ fs) rest h (suc i) lt =
-    let k : 32 * suc i - 32 ≡ 32 * i = omega arith in
-    rw (append_assoc (descriptor f) (flat_map descriptor fs) rest, get_or-append_right (descriptor f) (flat_map descriptor fs ++ rest) 32 (32 * suc i) 0 (length-descriptor f (omega (arith, h.0.short))) (omega arith), k)
+    let k : DESCRIPTOR * suc i - DESCRIPTOR ≡ DESCRIPTOR * i = omega arith in
+    rw (append_assoc (descriptor f) (flat_map descriptor fs) rest, get_or-append_right (descriptor f) (flat_map descriptor fs ++ rest) DESCRIPTOR (DESCRIPTOR * suc i) 0 (length-descriptor f (omega (arith, h.0.short))) (omega arith), k)
     (not_end fs rest h.1 i (omega arith))
 
 -- ---- the flag of a record
 
-pub flag_again : (b : Bool) → eqb (cond b DELETED 32) DELETED ≡ b
+pub flag_again : (b : Bool) → eqb (cond b DELETED KEPT) DELETED ≡ b
 flag_again true = refl
 flag_again false = refl
 

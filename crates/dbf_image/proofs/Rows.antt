@@ -46,6 +46,11 @@ all_drop P xs zero h = h
 all_drop P [] (suc n) h = tt
 all_drop P (x ∷ xs) (suc n) h = all_drop P xs n h.1
 
+pub all_take : {X : Type 0} (P : X → Type 0) (xs : List X) (n : ℕ) → AllByRecursion P xs → AllByRecursion P (take n xs)
+all_take P xs zero h = tt
+all_take P [] (suc n) h = tt
+all_take P (x ∷ xs) (suc n) h = (h.0, all_take P xs n h.1)
+
 pub cells_fit : (fields : List Field) (bytes : List ℕ) (memos : List (List ℕ)) → widths fields ≤ length bytes → AreTexts memos → AreCells fields (cells_with fields bytes memos)
 cells_fit [] bytes memos room texts = tt
 cells_fit (f ∷ fs) bytes memos room texts =

@@ -82,13 +82,20 @@ texts_push texts spans k = map-append (text_of texts) spans (replicate k no_span
 pub no_span_fits : (texts : List ℕ) → IsSpan texts no_span
 no_span_fits texts = record { inside = omega arith; text = refl }
 
-pub store_push : (fields : List Field) (n : ℕ) (bytes row texts : List ℕ) (spans : List Span) → IsStore fields n bytes texts spans → length row ≡ 1 + widths fields → n < MAX_RECORDS
-    → IsStore fields (n + 1) (bytes ++ row) texts (spans ++ replicate (memo_count fields) no_span)
-store_push fields n bytes row texts spans store long few =
+-- a record with spans of its own
+pub store_add : (fields : List Field) (n : ℕ) (bytes row texts : List ℕ) (spans own : List Span) → IsStore fields n bytes texts spans → length row ≡ 1 + widths fields → length own ≡ memo_count fields → AllByRecursion (IsSpan texts) own → n < MAX_RECORDS
+    → IsStore fields (n + 1) (bytes ++ row) texts (spans ++ own)
+store_add fields n bytes row texts spans own store long many each few =
     let k : ℕ = memo_count fields in
     let wide : (n + 1) * k ≡ n * k + k = omega arith in
     record {
       records = records_push fields n bytes row store.records long few;
-      many = omega (arith, length-append spans (replicate k no_span), length-replicate k no_span, store.many);
-      each = all_append (IsSpan texts) spans (replicate k no_span) store.each (all_replicate (IsSpan texts) k no_span (no_span_fits texts));
+      many = omega (arith, length-append spans own, store.many);
+      each = all_append (IsSpan texts) spans own store.each each;
     }
+
+pub store_push : (fields : List Field) (n : ℕ) (bytes row texts : List ℕ) (spans : List Span) → IsStore fields n bytes texts spans → length row ≡ 1 + widths fields → n < MAX_RECORDS
+    → IsStore fields (n + 1) (bytes ++ row) texts (spans ++ replicate (memo_count fields) no_span)
+store_push fields n bytes row texts spans store long few =
+    let k : ℕ = memo_count fields in
+    store_add fields n bytes row texts spans (replicate k no_span) store long (length-replicate k no_span) (all_replicate (IsSpan texts) k no_span (no_span_fits texts)) few

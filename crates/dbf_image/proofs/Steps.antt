@@ -100,16 +100,24 @@ plain_blocks (f ∷ fs) bytes memos none = elim (cases_Bool (eqb f.kind MEMO)) [
 abbrev pub left_rows : ℕ → List Field → ℕ → ℕ → List ℕ → List ℕ → List Span → List ℕ
 left_rows next fields size n rest texts spans = flat_map (λ bytes. bytes) (rows_bytes next fields (rows_with fields (chunks size n rest) (texts_of texts spans)))
 
-pub rows-next : (fields : List Field) (size n i : ℕ) (rest texts : List ℕ) (spans : List Span) (next : ℕ) → i < n
-    → left_rows next fields size (n - i) rest texts spans
-    ≡ row_bytes next fields (row_with fields (take size rest) (texts_of texts (take (memo_count fields) spans)))
-    ++ left_rows (next + cells_blocks fields (row_with fields (take size rest) (texts_of texts (take (memo_count fields) spans))).cells) fields size (n - (i + 1)) (drop size rest) texts (drop (memo_count fields) spans)
-rows-next fields size n i rest texts spans next lt =
+-- the first of the records that are left, and the others
+pub rows_more : (fields : List Field) (size n i : ℕ) (rest texts : List ℕ) (spans : List Span) → i < n
+    → rows_with fields (chunks size (n - i) rest) (texts_of texts spans)
+    ≡ row_with fields (take size rest) (texts_of texts (take (memo_count fields) spans))
+    ∷ rows_with fields (chunks size (n - (i + 1)) (drop size rest)) (texts_of texts (drop (memo_count fields) spans))
+rows_more fields size n i rest texts spans lt =
     let k : n - i ≡ suc (n - (i + 1)) = omega arith in
     let m : ℕ = memo_count fields in
     let taken : texts_of texts (take m spans) ≡ take m (texts_of texts spans) = sym (take-map (text_of texts) m spans) in
     let left : texts_of texts (drop m spans) ≡ drop m (texts_of texts spans) = sym (drop-map (text_of texts) m spans) in
     rw (k, taken, left, cells_front fields (drop 1 (take size rest)) (texts_of texts spans)) refl
+
+pub rows-next : (fields : List Field) (size n i : ℕ) (rest texts : List ℕ) (spans : List Span) (next : ℕ) → i < n
+    → left_rows next fields size (n - i) rest texts spans
+    ≡ row_bytes next fields (row_with fields (take size rest) (texts_of texts (take (memo_count fields) spans)))
+    ++ left_rows (next + cells_blocks fields (row_with fields (take size rest) (texts_of texts (take (memo_count fields) spans))).cells) fields size (n - (i + 1)) (drop size rest) texts (drop (memo_count fields) spans)
+rows-next fields size n i rest texts spans next lt =
+    ap (λ (rows : List Row). flat_map (λ (b : List ℕ). b) (rows_bytes next fields rows)) (rows_more fields size n i rest texts spans lt)
 
 pub less-next : (n i m : ℕ) → i < n → (n - i) * m ≡ m + (n - (i + 1)) * m
 less-next n i m lt =

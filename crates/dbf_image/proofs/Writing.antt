@@ -11,19 +11,19 @@ use Rattle.dbf_image.specs.Image.{header_bytes, descriptor, rows_bytes, image}
 use Rattle.dbf_image.specs.Writer.{Wanted, more}
 use Rattle.dbf_image.specs.Table.{Table}
 use Rattle.dbf_image.proofs.Sinks.{grown_then}
-use Rattle.dbf_image.specs.declared.format.TheConstants.{END_OF_FILE, HEADER_END}
+use Rattle.dbf_image.specs.declared.format.TheConstants.{DESCRIPTOR, END_OF_FILE, HEADER_END, NAME_BYTES}
 
 -- a descriptor, whose name, letter, width and decimals are written over zeros
-pub descriptor_built : (f : Field) → length f.name ≤ 11 → set (set (set (f.name ++ drop (length f.name) (replicate 32 0)) 11 f.kind) 16 f.width) 17 f.decimals ≡ descriptor f
+pub descriptor_built : (f : Field) → length f.name ≤ NAME_BYTES → set (set (set (f.name ++ drop (length f.name) (replicate DESCRIPTOR 0)) 11 f.kind) 16 f.width) 17 f.decimals ≡ descriptor f
 unfolding descriptor
 descriptor_built f le =
-    let pad : List ℕ = replicate (11 - length f.name) 0 in
+    let pad : List ℕ = replicate (NAME_BYTES - length f.name) 0 in
     let front : List ℕ = f.name ++ pad in
-    let long : length front ≡ 11 = omega (arith, length-append f.name pad, length-replicate {A = ℕ} (11 - length f.name) 0) in
-    let k : 32 - length f.name ≡ (11 - length f.name) + 21 = omega arith in
-    let zeros : drop (length f.name) (replicate 32 0) ≡ pad ++ replicate 21 0 =
-    rw (drop-replicate {X = ℕ} (length f.name) 32 0, k) (sym (replicate-append-replicate (11 - length f.name) 21 0)) in
-    let whole : f.name ++ drop (length f.name) (replicate 32 0) ≡ front ++ replicate 21 0 = ap (λ (xs : List ℕ). f.name ++ xs) zeros ∙ sym (append_assoc f.name pad (replicate 21 0)) in
+    let long : length front ≡ NAME_BYTES = omega (arith, length-append f.name pad, length-replicate {A = ℕ} (NAME_BYTES - length f.name) 0) in
+    let k : DESCRIPTOR - length f.name ≡ (NAME_BYTES - length f.name) + 21 = omega arith in
+    let zeros : drop (length f.name) (replicate DESCRIPTOR 0) ≡ pad ++ replicate 21 0 =
+    rw (drop-replicate {X = ℕ} (length f.name) DESCRIPTOR 0, k) (sym (replicate-append-replicate (NAME_BYTES - length f.name) 21 0)) in
+    let whole : f.name ++ drop (length f.name) (replicate DESCRIPTOR 0) ≡ front ++ replicate 21 0 = ap (λ (xs : List ℕ). f.name ++ xs) zeros ∙ sym (append_assoc f.name pad (replicate 21 0)) in
     let kind : set (front ++ replicate 21 0) 11 f.kind ≡ front ++ (f.kind ∷ replicate 20 0) = set-append_right front (replicate 21 0) 11 11 f.kind long (omega arith) in
     let width : set (front ++ (f.kind ∷ replicate 20 0)) 16 f.width ≡ front ++ (f.kind ∷ (replicate 4 0 ++ (f.width ∷ replicate 15 0))) = set-append_right front (f.kind ∷ replicate 20 0) 11 16 f.width long (omega arith) in
     let decimals : set (front ++ (f.kind ∷ (replicate 4 0 ++ (f.width ∷ replicate 15 0)))) 17 f.decimals ≡ front ++ (f.kind ∷ (replicate 4 0 ++ (f.width ∷ f.decimals ∷ replicate 14 0))) =

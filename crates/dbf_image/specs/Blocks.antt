@@ -3,14 +3,14 @@
 use Rattle.std.specs.Prelude.{ℕ, zero, suc, ◌+◌, ◌-◌, ◌*◌, ◌/◌, ◌%◌, ◌<◌, ◌==◌, List, [], ◌∷◌, ◌++◌, length, replicate, if◌then◌else◌}
 use Rattle.byteorder.specs.Endian.{little_bytes}
 use Rattle.dbf_fields.specs.declared.field.Field.{Field}
-use Rattle.dbf_fields.specs.declared.format.TheConstants.{MEMO}
+use Rattle.dbf_fields.specs.declared.format.TheConstants.{BLANK, MEMO, ZERO_DIGIT}
 use Rattle.dbf_image.specs.Table.{Row, Table}
 use Rattle.dbf_image.specs.declared.format.TheConstants.{BLOCK, MEMO_END, VERSION}
 
 -- a number at the right end of so many places, with blanks before it; 0 is all blanks
 unfoldable pub justified : ℕ → ℕ → List ℕ
 justified zero n = []
-justified (suc k) n = justified k (n / 10) ++ (if n == 0 then 32 else 48 + n % 10) ∷ []
+justified (suc k) n = justified k (n / 10) ++ (if n == 0 then BLANK else ZERO_DIGIT + n % 10) ∷ []
 
 -- how many blocks a text takes, with the two 0x1A after it; no text takes none
 unfoldable pub blocks_of : List ℕ → ℕ

@@ -2,6 +2,7 @@ pub mod Table
 pub mod Memo
 pub mod DbfText
 pub mod Store
+pub mod Growing
 pub mod Reading
 pub mod Spans
 pub mod Blocks

@@ -1,8 +1,8 @@
 -- What a table is, and what a change makes of it. Records count from 1, fields have an index from 0.
-use Rattle.std.specs.Prelude.{◌≡◌, ◌≢◌, ℕ, ◌-◌, ◌≤◌, Bool, true, false, not, ◌&&◌, ◌==◌, nat_le, if◌then◌else◌, List, [], ◌∷◌, ◌++◌, length, map, replicate, slice_index, slice_index_or, slice_set}
+use Rattle.std.specs.Prelude.{◌≡◌, ◌≢◌, ℕ, ◌-◌, ◌≤◌, Bool, true, false, not, ◌&&◌, ◌==◌, nat_le, if◌then◌else◌, List, [], ◌∷◌, ◌++◌, length, map, filter, replicate, slice_index, slice_index_or, slice_set}
 use Rattle.std.specs.List.{list_all, list_any, AllByRecursion}
 use Rattle.dbf_fields.specs.declared.field.Field.{Field}
-use Rattle.dbf_fields.specs.declared.format.TheConstants.{MEMO}
+use Rattle.dbf_fields.specs.declared.format.TheConstants.{BLANK, MEMO}
 use Rattle.dbf_fields.specs.Schema.{IsSchema}
 use Rattle.dbf_image.specs.declared.format.TheConstants.{MAX_MEMO_BYTES, MAX_RECORDS, MEMO_END}
 
@@ -50,7 +50,7 @@ kind_at fields field = slice_index (map (λ f. f.kind) fields) field
 
 -- a field's cell of blanks, or no memo
 abbrev pub blank_cell : Field → List ℕ
-blank_cell f = if f.kind == MEMO then [] else replicate f.width 32
+blank_cell f = if f.kind == MEMO then [] else replicate f.width BLANK
 
 -- a kept record of blanks without memos
 abbrev pub blank_row : List Field → Row
@@ -82,3 +82,22 @@ with_cell table number field cell = record {
   schema = table.schema;
   rows = slice_set table.rows (number - 1) (row_with_cell (row_at table number) field cell);
 }
+
+-- the row with its mark set or taken away
+abbrev pub row_marked : Row → Bool → Row
+row_marked row deleted = record { deleted = deleted; cells = row.cells }
+
+-- the table with the mark of one record set or taken away, and all else as it was
+abbrev pub with_mark : Table → ℕ → Bool → Table
+with_mark table number deleted = record {
+  schema = table.schema;
+  rows = slice_set table.rows (number - 1) (row_marked (row_at table number) deleted);
+}
+
+-- the records that are not marked as deleted, in their order
+abbrev pub kept_rows : List Row → List Row
+kept_rows rows = filter (λ row. not row.deleted) rows
+
+-- the table of these
+abbrev pub packed : Table → Table
+packed table = record { schema = table.schema; rows = kept_rows table.rows }

@@ -3,13 +3,14 @@
 //! [`read_table`] reads the two files, and says why where the bytes are no table: it answers a table
 //! exactly where the bytes are files of that table, and else the fault of the first test that fails.
 //! [`read_memo`] reads the text of one block in the same way. A [`TableData`] keeps the table in memory:
-//! contracts see its fields and its rows, in which the cell of a memo is its text, and every change says
+//! contracts see its fields and its rows, in which the cell of a memo is its text. A [`GrowingTable`] is a
+//! table that is changed in place: room is made first, then no change can fail, and every change says
 //! which rows the table has then. [`write_dbf`] writes the one file that is written of a table into a
 //! [`ByteSink`], and [`write_dbt`] the file of its memos; what they write can be read back as that table.
 //!
 //! Start with specs/Table.antt (what a table is), specs/Memo.antt (what a memo's cell tells) and
-//! specs/DbfText.antt (when bytes are a table's files), then read src/table.rt, src/dbf/read.rt,
-//! src/dbf/write.rt, src/dbt/memo.rt and src/dbt/write.rt.
+//! specs/DbfText.antt (when bytes are a table's files), then read src/table.rt, src/table/growing.rt,
+//! src/dbf/read.rt, src/dbf/write.rt, src/dbt/memo.rt and src/dbt/write.rt.
 #![tactic(auto)]
 
 mod dbf;
@@ -31,6 +32,7 @@ pub use sink::limited::LimitedSink;
 pub use sink::memory::MemorySink;
 pub use sink::writer::SinkWriter;
 pub use sink::{ByteSink, SinkFault, write_all};
+pub use table::growing::GrowingTable;
 pub use table::{TableData, is_memo_text};
 
 #[cfg(test)]

@@ -8,15 +8,19 @@ ghost use Rattle.dbf_image.specs.Table.{IsTable, is_memo_text as may_be_memo, ki
 ghost use Rattle.dbf_image.specs.Store.{texts_of, row_with, rows_of, IsStore};
 ghost use Rattle.dbf_image.specs.declared.format.TheConstants.{MAX_RECORDS, MEMO_END};
 
+pub(crate) mod flag;
+pub(crate) mod growing;
 pub(crate) mod offsets;
+mod packing;
+mod reserved;
 pub(crate) mod span;
 pub(crate) mod store;
 
-use crate::format::{DELETED, MAX_MEMO_BYTES, MAX_RECORDS, MEMO_END};
-use crate::table::offsets::{cell_start, memo_count_of, memo_index, record_start};
-use crate::table::span::{Span, no_span, text_at};
+use crate::format::{MAX_MEMO_BYTES, MAX_RECORDS, MEMO_END};
+use crate::table::growing::GrowingTable;
+use crate::table::span::Span;
 use crate::table::store::Store;
-use dbf_fields::{MAX_RECORD_BYTES, MEMO, Schema};
+use dbf_fields::{MEMO, Schema};
 use std::alloc::{AllocError, Global};
 use std::marker::Model;
 
@@ -34,20 +38,11 @@ fn has_no_end(text: &[u8]) -> bool
     text.iter().all(|byte| *byte != MEMO_END)
 }
 
-/// A table, which contracts see as its fields and its rows in order.
-///
-/// Its records stand in one list of bytes as in a DBF file: a flag of one byte, 0x2A where the record is
-/// marked as deleted, and then the cells without separators, each as wide as its field. The texts of
-/// memos stand in a second list, in which a span tells each memo's text; what the records' list has in the
-/// place of a memo's cell has no meaning. Records count from 1, as RECNO() does; fields have an index from 0
-/// in the schema's list.
+/// A table, which contracts see as its fields and its rows in order. Records count from 1, as RECNO()
+/// does; fields have an index from 0 in the schema's list.
 #[derive(Debug, Drop)]
 pub struct TableData {
-    schema: Schema,
-    count: u32,
-    records: Vec<u8>,
-    texts: Vec<u8>,
-    memos: Vec<Span>,
+    kept: GrowingTable,
 }
 
 impl Model for TableData {
@@ -55,11 +50,7 @@ impl Model for TableData {
 
     ghost Value = { Table };
 
-    ghost use Rattle.dbf_image.specs.Store.{texts_of, rows_of, IsStore};
-
-    ghost view = { λ t. record { schema = t.schema; rows = rows_of t.schema t.count t.records.items (texts_of t.texts.items t.memos.items) } };
-
-    ghost invariant = { λ t. IsStore t.schema t.count t.records.items t.texts.items t.memos.items };
+    ghost view = { λ t. t.kept.table };
 }
 
 impl TableData {
@@ -74,33 +65,35 @@ impl TableData {
         requires { IsStore schema count records.items texts.items memos.items }
         ensures value { result ≡ record { schema = schema; rows = rows_of schema count records.items (texts_of texts.items memos.items) } }
     {
-        TableData {
-            schema,
-            count,
-            records,
-            texts,
-            memos,
-        }
+        TableData::from_growing(GrowingTable::new(schema, count, records, texts, memos))
+    }
+
+    /// The table that was changed in place. It takes no memory.
+    pub(crate) fn from_growing(kept: GrowingTable) -> TableData
+        ensures value { result ≡ kept.table }
+    {
+        TableData { kept }
+    }
+
+    /// The table, to be changed in place. It takes no memory.
+    pub fn into_growing(self) -> GrowingTable
+        ensures value { result.table ≡ self }
+    {
+        self.kept
     }
 
     /// The table of these fields that has no records. It takes no memory.
     pub fn empty(alloc: Global, schema: Schema) -> TableData
         ensures value { result ≡ empty_table schema }
     {
-        TableData {
-            schema,
-            count: 0,
-            records: Vec::new(alloc),
-            texts: Vec::new(alloc),
-            memos: Vec::new(alloc),
-        }
+        TableData::new(schema, 0, Vec::new(alloc), Vec::new(alloc), Vec::new(alloc))
     }
 
     /// The fields, in the order of the descriptors and cells.
     pub fn schema(&self) -> &Schema
         ensures value { result.now ≡ self.now.schema }
     {
-        &self.schema
+        self.kept.schema()
     }
 
     /// How many records there are, at most [`MAX_RECORDS`].
@@ -108,9 +101,7 @@ impl TableData {
         ensures count { result ≡ length self.now.rows }
         ensures each { IsTable self.now }
     {
-        // This call tells contracts that the fields are those of a schema.
-        let _fields = self.schema.fields();
-        self.count
+        self.kept.record_count()
     }
 
     /// What is kept of the records and the memos.
@@ -118,11 +109,7 @@ impl TableData {
         ensures rows { self.now.rows ≡ rows_of self.now.schema (length self.now.rows) result.records.now (texts_of result.texts.now result.memos.now) }
         ensures kept { IsStore self.now.schema (length self.now.rows) result.records.now result.texts.now result.memos.now }
     {
-        Store {
-            records: self.records.as_slice(),
-            texts: self.texts.as_slice(),
-            memos: self.memos.as_slice(),
-        }
+        self.kept.store()
     }
 
     /// Whether a record is marked as deleted. Records count from 1.
@@ -131,8 +118,7 @@ impl TableData {
         requires inside { number ≤ length self.now.rows }
         ensures value { result ≡ (row_at self.now number).deleted }
     {
-        let start = record_start(&self.schema, number);
-        self.store().records[start] == DELETED
+        self.kept.is_deleted(number)
     }
 
     /// A record's cell: as many bytes as its field is wide, or the memo's text. Records count from 1,
@@ -145,14 +131,7 @@ impl TableData {
         ensures wide { kind_at self.now.schema field ≢ MEMO → length result.now ≡ width_of self.now.schema field }
         ensures text { kind_at self.now.schema field ≡ MEMO → may_be_memo result.now ≡ true }
     {
-        let store = self.store();
-        if self.schema.fields()[field].kind == MEMO {
-            let index = memo_index(&self.schema, number, field);
-            return text_at(store.texts, store.memos[index]);
-        }
-        let start = cell_start(&self.schema, number, field);
-        let end = start + self.schema.width(field);
-        &store.records[start..end]
+        self.kept.cell(number, field)
     }
 
     /// An equal table of its own.
@@ -161,16 +140,7 @@ impl TableData {
     pub fn copy(&self, alloc: Global) -> Result<TableData, AllocError>
         ensures ok { IfOk result (λ table. table ≡ self.now) }
     {
-        let records = Vec::from_slice(alloc, self.records.as_slice())?;
-        let texts = Vec::from_slice(alloc, self.texts.as_slice())?;
-        let memos = Vec::from_slice(alloc, self.memos.as_slice())?;
-        Ok(TableData {
-            schema: self.schema.copy(alloc)?,
-            count: self.count,
-            records,
-            texts,
-            memos,
-        })
+        self.kept.content(alloc)
     }
 
     /// Adds a record after the others: its flag and its cells, as they stand in the file. A flag other
@@ -183,11 +153,8 @@ impl TableData {
         ensures ok { OnOk result (self.new ≡ with_row self.old (row_with self.old.schema bytes.now [])) }
         ensures err { OnErr result (self.new ≡ self.old) }
     {
-        let memos = self.memos.len() + memo_count_of(self.schema.fields());
-        self.records.reserve(bytes.len())?;
-        self.memos.resize(memos, no_span())?;
-        self.records.extend_from_slice(bytes)?;
-        self.count += 1;
+        self.kept.reserve_record()?;
+        self.kept.append_record(bytes);
         Ok(())
     }
 
@@ -199,9 +166,9 @@ impl TableData {
         ensures ok { OnOk result (self.new ≡ with_row self.old (blank_row self.old.schema)) }
         ensures err { OnErr result (self.new ≡ self.old) }
     {
-        let blanks = [b' '; 1 + MAX_RECORD_BYTES as usize];
-        let size = self.schema.record_length();
-        self.append_record(&blanks[..size])
+        self.kept.reserve_record()?;
+        self.kept.append_blank();
+        Ok(())
     }
 
     /// Replaces a record's cell by as many bytes; its field is no memo. Records count from 1, fields from
@@ -214,9 +181,7 @@ impl TableData {
         requires wide { length cell.now ≡ width_of self.old.schema field }
         ensures value { self.new ≡ with_cell self.old number field cell.now }
     {
-        let start = cell_start(&self.schema, number, field);
-        let end = start + self.schema.width(field);
-        self.records[start..end].copy_from_slice(cell);
+        self.kept.set_cell(number, field, cell);
     }
 
     /// Replaces the text of a record's memo. Records count from 1, fields from 0. The text is put after
@@ -232,13 +197,8 @@ impl TableData {
         ensures ok { OnOk result (self.new ≡ with_cell self.old number field text.now) }
         ensures err { OnErr result (self.new ≡ self.old) }
     {
-        let index = memo_index(&self.schema, number, field);
-        let start = self.texts.len();
-        self.texts.extend_from_slice(text)?;
-        self.memos[index] = Span {
-            start,
-            length: text.len(),
-        };
+        self.kept.reserve_text(text.len())?;
+        self.kept.set_memo(number, field, text);
         Ok(())
     }
 }

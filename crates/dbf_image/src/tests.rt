@@ -7,6 +7,7 @@ use std::test::*;
 
 mod blocks;
 mod faults;
+mod growing;
 mod memos;
 mod read;
 mod sink;

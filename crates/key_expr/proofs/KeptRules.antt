@@ -16,6 +16,8 @@ use Rattle.key_expr.specs.Rules.{has_kind, can_print, field_tests, tests, refusa
 use Rattle.dbf_fields.proofs.FaultLaws.{first_parts}
 use Rattle.dbf_fields.proofs.LayoutLaws.{width_at}
 use Rattle.std.specs.Int.{is_in_range}
+use Rattle.dbf_fields.specs.declared.format.TheConstants.{CHARACTER, DATE, DATE_WIDTH, LOGICAL, MAX_CHARACTER_WIDTH, MAX_NUMBER_WIDTH, MEMO_WIDTH, NUMBER}
+use Rattle.key_expr.specs.declared.format.TheConstants.{MAX_KEY_BYTES}
 
 -- the parts of an expression that keeps the rules keep them
 pub kept_concat : (fields : List Field) (a b : Expr) → first_fault (tests fields (concat a b)) ≡ None
@@ -41,34 +43,34 @@ pub schema_wide_at : (fields : List Field) (i : ℕ) (d : Field) → IsSchema fi
 schema_wide_at fields i d s h = wide_at fields i d (schema_wide fields s) h
 
 -- the widths and decimals of numbers
-number_width : (kind width decimals : ℕ) (other : Bool) → kind ≡ 78
-    → cond (eqb kind 67) (leb 1 width && leb width 254) (cond (eqb kind 78) ((leb 1 width && leb width 19) && (eqb decimals 0 || ltb decimals width)) other) ≡ true
-    → (width ≤ 19) × (decimals < 19)
+number_width : (kind width decimals : ℕ) (other : Bool) → kind ≡ NUMBER
+    → cond (eqb kind CHARACTER) (leb 1 width && leb width MAX_CHARACTER_WIDTH) (cond (eqb kind NUMBER) ((leb 1 width && leb width MAX_NUMBER_WIDTH) && (eqb decimals 0 || ltb decimals width)) other) ≡ true
+    → (width ≤ MAX_NUMBER_WIDTH) × (decimals < MAX_NUMBER_WIDTH)
 number_width kind width decimals other e h = let k = rw e at h in (grind (arith, nat_tests, k), grind (arith, nat_tests, k))
 
 -- a STR that keeps the rules
 pub record IsStrKept (fields : List Field) (i : ℕ) (n d : Option ℕ) (f : Field) : Type 0 where
   pub there : i < length fields
-  pub narrow : width_of fields i ≤ 19
+  pub narrow : width_of fields i ≤ MAX_NUMBER_WIDTH
   pub fits : width_of fields i ≤ length_given n
-  pub few : f.decimals < 19
+  pub few : f.decimals < MAX_NUMBER_WIDTH
   pub same : decimals_given d ≡ f.decimals
-  pub short : length_given n ≤ 100
+  pub short : length_given n ≤ MAX_KEY_BYTES
 
 pub str_kept : (fields : List Field) (i : ℕ) (n d : Option ℕ) (default : Field) → IsSchema fields
     → first_fault (tests fields (str i n d)) ≡ None → IsStrKept fields i n d (get_or fields i default)
 str_kept fields i n d default s e =
     let p1 = passed (ltb i (length fields)) _ NoSuchField e in
-    let p2 = passed (has_kind fields i 78) _ NotCharacter p1.1 in
+    let p2 = passed (has_kind fields i NUMBER) _ NotCharacter p1.1 in
     let p3 = passed (can_print fields i (length_given n) (decimals_given d)) _ BadArgument p2.1 in
     let first : ltb i (length fields) ≡ true = p1.0 in
     let there : i < length fields = grind (arith, nat_tests, first) in
     let got : slice_get fields i ≡ Some (get_or fields i default) = slice_get-get_or fields i default there in
-    let kind : eqb (get_or fields i default).kind 78 ≡ true = rw (got, has_kind) at p2.0 in
-    let number : (get_or fields i default).kind ≡ 78 = grind (arith, nat_tests, kind) in
+    let kind : eqb (get_or fields i default).kind NUMBER ≡ true = rw (got, has_kind) at p2.0 in
+    let number : (get_or fields i default).kind ≡ NUMBER = grind (arith, nat_tests, kind) in
     let f = get_or fields i default in
-    let prints : (eqb (decimals_given d) f.decimals && (leb f.width (length_given n) && leb (length_given n) 100)) ≡ true = rw (got, can_print) at p3.0 in
-    let wide : (f.width ≤ 19) × (f.decimals < 19) = number_width _ _ _ _ number (schema_wide_at fields i default s there) in
+    let prints : (eqb (decimals_given d) f.decimals && (leb f.width (length_given n) && leb (length_given n) MAX_KEY_BYTES)) ≡ true = rw (got, can_print) at p3.0 in
+    let wide : (f.width ≤ MAX_NUMBER_WIDTH) × (f.decimals < MAX_NUMBER_WIDTH) = number_width _ _ _ _ number (schema_wide_at fields i default s there) in
     record {
       there = there;
       narrow = omega (arith, width_at fields i default there, wide.0);
@@ -80,8 +82,8 @@ str_kept fields i n d default s e =
 
 -- no width is nothing
 some_width : (character number truth date : Bool) (width decimals : ℕ)
-    → cond character (leb 1 width && leb width 254) (cond number ((leb 1 width && leb width 19) && (eqb decimals 0 || ltb decimals width))
-    (cond truth (eqb width 1) (cond date (eqb width 8) (eqb width 10)))) ≡ true
+    → cond character (leb 1 width && leb width MAX_CHARACTER_WIDTH) (cond number ((leb 1 width && leb width MAX_NUMBER_WIDTH) && (eqb decimals 0 || ltb decimals width))
+    (cond truth (eqb width 1) (cond date (eqb width DATE_WIDTH) (eqb width MEMO_WIDTH)))) ≡ true
     → 1 ≤ width
 some_width character number truth date width decimals h = grind (arith, nat_tests)
 
@@ -89,7 +91,7 @@ width_some : (fields : List Field) (i : ℕ) (d : Field) → IsSchema fields →
 width_some fields i d s there =
     let f = get_or fields i d in
     let got : slice_get fields i ≡ Some f = slice_get-get_or fields i d there in
-    let least : 1 ≤ f.width = some_width (eqb f.kind 67) (eqb f.kind 78) (eqb f.kind 76) (eqb f.kind 68) f.width f.decimals (schema_wide_at fields i d s there) in
+    let least : 1 ≤ f.width = some_width (eqb f.kind CHARACTER) (eqb f.kind NUMBER) (eqb f.kind LOGICAL) (eqb f.kind DATE) f.width f.decimals (schema_wide_at fields i d s there) in
     omega (arith, width_at fields i d there, least)
 
 no_field : Field
@@ -100,7 +102,7 @@ substr_some : (long from count : ℕ) → ((leb 1 from && leb from long) && leb 
 substr_some long from count h = grind (arith, nat_tests)
 
 pub key_some : (fields : List Field) (e : Expr) → IsSchema fields → first_fault (tests fields e) ≡ None → 1 ≤ key_length fields e
-key_some fields (field i) s h = width_some fields i no_field s (field_there fields i 67 h)
+key_some fields (field i) s h = width_some fields i no_field s (field_there fields i CHARACTER h)
 key_some fields (concat a b) s h =
     let kept = kept_concat fields a b h in
     let x = key_some fields a s kept.0 in omega (arith, x)
@@ -115,10 +117,10 @@ key_some fields (dtoc i) s h = omega arith
 
 -- what no refusal says
 pub refusal_tests : (fields : List Field) (e : Expr) → refusal fields e ≡ None → first_fault (tests fields e) ≡ None
-refusal_tests fields e h = (first_parts (tests fields e) ((leb (key_length fields e) 100, KeyTooLong) ∷ []) h).0
+refusal_tests fields e h = (first_parts (tests fields e) ((leb (key_length fields e) MAX_KEY_BYTES, KeyTooLong) ∷ []) h).0
 
-pub refusal_short : (fields : List Field) (e : Expr) → refusal fields e ≡ None → key_length fields e ≤ 100
+pub refusal_short : (fields : List Field) (e : Expr) → refusal fields e ≡ None → key_length fields e ≤ MAX_KEY_BYTES
 refusal_short fields e h =
-    let last = (first_parts (tests fields e) ((leb (key_length fields e) 100, KeyTooLong) ∷ []) h).1 in
-    let short : leb (key_length fields e) 100 ≡ true = (passed (leb (key_length fields e) 100) None KeyTooLong last).0 in
+    let last = (first_parts (tests fields e) ((leb (key_length fields e) MAX_KEY_BYTES, KeyTooLong) ∷ []) h).1 in
+    let short : leb (key_length fields e) MAX_KEY_BYTES ≡ true = (passed (leb (key_length fields e) MAX_KEY_BYTES) None KeyTooLong last).0 in
     grind (arith, nat_tests, short)

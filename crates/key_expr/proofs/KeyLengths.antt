@@ -16,16 +16,17 @@ use Rattle.dbf_fields.specs.Layout.{width_of}
 use Rattle.dbf_fields.specs.Layout.{cells_of}
 use Rattle.key_expr.specs.StrText.{text_in_width}
 use Rattle.std.proofs.lemmas.Bool.{and_parts}
+use Rattle.dbf_fields.specs.declared.format.TheConstants.{ASTERISK, BLANK}
 
 fitted_if : (b : Bool) (n : ℕ) (text : List ℕ) → leb (length text) n ≡ b
-    → length (cond b (replicate (n - length text) 32 ++ text) (replicate n 42)) ≡ n
-fitted_if false n text h = length-replicate {A = ℕ} n 42
+    → length (cond b (replicate (n - length text) BLANK ++ text) (replicate n ASTERISK)) ≡ n
+fitted_if false n text h = length-replicate {A = ℕ} n ASTERISK
 fitted_if true n text h =
     let within : length text ≤ n = grind (arith, nat_tests, h) in
     simp (length-append, length-replicate) (omega (arith, within))
 
-number_length : (o : Option ℤ) (n d : ℕ) → length {A = ℕ} (elim o [ None ↦ replicate n 42 | Some v ↦ text_in_width n (number_text v d d) ]) ≡ n
-number_length None n d = length-replicate {A = ℕ} n 42
+number_length : (o : Option ℤ) (n d : ℕ) → length {A = ℕ} (elim o [ None ↦ replicate n ASTERISK | Some v ↦ text_in_width n (number_text v d d) ]) ≡ n
+number_length None n d = length-replicate {A = ℕ} n ASTERISK
 number_length (Some v) n d = fitted_if (leb (length (number_text v d d)) n) n (number_text v d d) refl
 
 -- a date has eight digits

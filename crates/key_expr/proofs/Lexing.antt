@@ -5,6 +5,7 @@ use Rattle.std.specs.List.{position, position_or_len}
 use Rattle.std.specs.Char.{is_ascii_alphabetic, is_ascii_digit}
 use Rattle.std.proofs.lemmas.Bool.Decides.{nat_tests}
 use Rattle.std.proofs.lemmas.List.Sums.{prefix_len-le-length}
+use Rattle.dbf_fields.specs.declared.format.TheConstants.{BLANK}
 use Rattle.dbf_fields.specs.Name.{is_name_char}
 use Rattle.key_expr.specs.declared.token.Token.{Token}
 use Rattle.key_expr.specs.Grammar.{EndsInEnd}
@@ -45,7 +46,7 @@ ends_in_end fields whole (suc n) (b ∷ bs) = ends_in_end fields whole n bs
 ends_in_end fields whole zero (b ∷ bs) =
     let t : Token = record { kind = kind_of fields (b ∷ bs); offset = whole - length (b ∷ bs) } in
     let later = tokens_after fields whole (token_length (b ∷ bs) - 1) bs in
-    either EndsInEnd (eqb b 32) (tokens_after fields whole zero bs) (t ∷ later) (λ blank. ends_in_end fields whole zero bs)
+    either EndsInEnd (eqb b BLANK) (tokens_after fields whole zero bs) (t ∷ later) (λ blank. ends_in_end fields whole zero bs)
     (λ other. ends_after t later (ends_in_end fields whole (token_length (b ∷ bs) - 1) bs))
 
 less_one : (n : ℕ) (b : ℕ) (bs : List ℕ) → 1 ≤ n → drop (n - 1) bs ≡ drop n (b ∷ bs)
@@ -65,7 +66,7 @@ token_inside b bs =
     (prefix_len-le-length (λ x. not (not (is_name_char x))) bs) (prefix_len-le-length (λ x. not (not (is_ascii_digit x))) bs)
 
 -- the first token, and the tokens after its bytes
-pub tokens_next : (fields : List Field) (whole b : ℕ) (bs : List ℕ) → eqb b 32 ≡ false
+pub tokens_next : (fields : List Field) (whole b : ℕ) (bs : List ℕ) → eqb b BLANK ≡ false
     → tokens_after fields whole zero (b ∷ bs)
     ≡ record { kind = kind_of fields (b ∷ bs); offset = whole - length (b ∷ bs) } ∷ tokens_after fields whole zero (drop (token_length (b ∷ bs)) (b ∷ bs))
 tokens_next fields whole b bs h =
@@ -74,7 +75,7 @@ tokens_next fields whole b bs h =
     (tokens_past fields whole (token_length (b ∷ bs) - 1) bs ∙ ap (λ (cs : List ℕ). tokens_after fields whole zero cs) e))
 
 -- the same of bytes that don't begin with a blank
-pub tokens_step : (fields : List Field) (whole : ℕ) (bs : List ℕ) → 1 ≤ length bs → (get_or bs 0 0 ≡ 32 → ⊥)
+pub tokens_step : (fields : List Field) (whole : ℕ) (bs : List ℕ) → 1 ≤ length bs → (get_or bs 0 0 ≡ BLANK → ⊥)
     → tokens_after fields whole zero bs
     ≡ record { kind = kind_of fields bs; offset = whole - length bs } ∷ tokens_after fields whole zero (drop (token_length bs) bs)
 tokens_step fields whole [] h other = absurd (omega (arith, h))

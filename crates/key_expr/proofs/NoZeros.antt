@@ -3,6 +3,7 @@ use Rattle.std.proofs.Common.{◌≡◌, ◌≢◌, ℕ, zero, suc, ◌+◌, ◌
 use Rattle.std.specs.List.{AllByRecursion}
 use Rattle.std.specs.Char.{is_ascii_alphabetic, is_ascii_digit}
 use Rattle.std.proofs.lemmas.Bool.{eqb-true, true≢false}
+use Rattle.dbf_fields.specs.declared.format.TheConstants.{BLANK}
 use Rattle.dbf_fields.specs.declared.field.Field.{Field}
 use Rattle.dbf_fields.specs.Name.{is_name_char}
 use Rattle.key_expr.specs.declared.token.Token.{Token}
@@ -74,13 +75,13 @@ zero_bad : (fields : List Field) (b : ℕ) (bs : List ℕ) → b ≡ 0 → is_of
 unfolding kind_of
 zero_bad fields b bs e = rw e refl
 
-byte_by : (fields : List Field) (whole offset b n : ℕ) (bs : List ℕ) (t : Bool) → eqb b 32 ≡ t
+byte_by : (fields : List Field) (whole offset b n : ℕ) (bs : List ℕ) (t : Bool) → eqb b BLANK ≡ t
     → (AreOfGrammar (tokens_after fields whole zero bs) → NoZero bs)
     → (AreOfGrammar (tokens_after fields whole n bs) → NoZero bs)
     → AreOfGrammar (cond t (tokens_after fields whole zero bs) (record { kind = kind_of fields (b ∷ bs); offset = offset } ∷ tokens_after fields whole n bs))
     → NoZero (b ∷ bs)
 byte_by fields whole offset b n bs true e blank token g =
-    let is : b ≡ 32 = eqb-true b 32 e in
+    let is : b ≡ BLANK = eqb-true b BLANK e in
     (λ k. absurd (omega (arith, is, k)), blank g)
 byte_by fields whole offset b n bs false e blank token g = (λ k. true≢false (sym g.0 ∙ zero_bad fields b bs k), token g.1)
 
@@ -88,7 +89,7 @@ bytes_no_zero : (fields : List Field) (whole n : ℕ) (bs : List ℕ) → NoZero
 bytes_no_zero fields whole n [] h g = tt
 bytes_no_zero fields whole (suc n) (b ∷ bs) h g = (h.0, bytes_no_zero fields whole n bs h.1 g)
 bytes_no_zero fields whole zero (b ∷ bs) h g =
-    byte_by fields whole _ b (token_length (b ∷ bs) - 1) bs (eqb b 32) refl (bytes_no_zero fields whole zero bs tt)
+    byte_by fields whole _ b (token_length (b ∷ bs) - 1) bs (eqb b BLANK) refl (bytes_no_zero fields whole zero bs tt)
     (bytes_no_zero fields whole (token_length (b ∷ bs) - 1) bs (token_no_zero b bs)) g
 
 pub no_zero : (fields : List Field) (text : List ℕ) (e : Expr) → IsKeyText fields text e → AllByRecursion (λ b. b ≢ 0) text

@@ -1,6 +1,7 @@
 -- What the parts of the reader say of a text.
 use Rattle.std.proofs.Common.{◌≡◌, ℕ, ◌≤◌, Bool, true, false, List, [], ◌∷◌, ◌++◌, length, Some, None, refl, sym, ◌∙◌, arith, subst, append_assoc}
 use Rattle.std.specs.List.{AllByRecursion}
+use Rattle.key_expr.specs.declared.format.TheConstants.{MAX_EXPRESSION_BYTES}
 use Rattle.dbf_fields.specs.declared.field.Field.{Field}
 use Rattle.dbf_fields.specs.Faults.{first_fault}
 use Rattle.key_expr.specs.declared.token.Token.{Token}
@@ -42,7 +43,7 @@ rule_first ((true, g) ∷ ts) f a e = rule_first ts f a.1 e
 rule_first ((false, g) ∷ ts) f a e = let same : g ≡ f = cc in subst IsRule same a.0
 
 -- an expression that breaks a rule
-pub fault_of_rule : (fields : List Field) (text : List ℕ) (e : Expr) (f : ExprFault) → length text ≤ 488
+pub fault_of_rule : (fields : List Field) (text : List ℕ) (e : Expr) (f : ExprFault) → length text ≤ MAX_EXPRESSION_BYTES
     → IsText e (tokens_of fields text) → refusal fields e ≡ Some f → IsFault f fields text
 fault_of_rule fields text e f short t h =
     rule_first _ f (rules_both (tests fields e) _ (rules_of fields e) (broken KeyTooLong, tt)) h fields text (short, (e, t, h))

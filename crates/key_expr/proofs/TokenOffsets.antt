@@ -3,6 +3,7 @@ use Rattle.std.proofs.Common.{◌≡◌, ℕ, zero, suc, ◌+◌, ◌-◌, ◌<�
 use borrow.Author.Count.{below_more}
 use Rattle.std.proofs.lemmas.Bool.{eqb-true, true≢false}
 use Rattle.std.proofs.lemmas.List.{drop-drop, drop_all, get_or-drop}
+use Rattle.dbf_fields.specs.declared.format.TheConstants.{BLANK}
 use Rattle.dbf_fields.specs.declared.field.Field.{Field}
 use Rattle.key_expr.specs.declared.token.Token.{Token}
 use Rattle.key_expr.specs.declared.token.Kind.TheVariants.{End}
@@ -17,7 +18,7 @@ end_kind fields bs e = rw e refl
 -- the tokens of the bytes from an offset on, where some of them still belong to the token before
 stand_after : (fields : List Field) (text : List ℕ) (start p n : ℕ) (bs : List ℕ)
     → drop p text ≡ bs → p + length bs ≡ length text → n ≤ length bs → start ≤ p + n
-    → ((i : ℕ) → start ≤ i → i < p + n → get_or text i 0 ≡ 32)
+    → ((i : ℕ) → start ≤ i → i < p + n → get_or text i 0 ≡ BLANK)
     → StandIn fields text start (tokens_after fields (length text) n bs)
 stand_after fields text start p zero [] e l h s gap =
     at_end (record {
@@ -39,19 +40,19 @@ stand_after fields text start p zero (b ∷ bs) e l h s gap =
     let same : drop (length text - length (b ∷ bs)) text ≡ b ∷ bs = ap (λ (k : ℕ). drop k text) at ∙ e in
     let end : end_of text t ≡ p + token_length (b ∷ bs) = rw (same, at) refl in
     let inside = token_inside b bs in
-    either (StandIn fields text start) (eqb b 32) (tokens_after fields (length text) zero bs) (t ∷ tokens_after fields (length text) (token_length (b ∷ bs) - 1) bs)
-    (λ (blank : eqb b 32 ≡ true).
+    either (StandIn fields text start) (eqb b BLANK) (tokens_after fields (length text) zero bs) (t ∷ tokens_after fields (length text) (token_length (b ∷ bs) - 1) bs)
+    (λ (blank : eqb b BLANK ≡ true).
     stand_after fields text start (p + 1) zero bs rest (omega (arith, l)) (omega arith) (omega (arith, s))
-    (λ i a lt. below_more (λ (k : ℕ). start ≤ k → get_or text k 0 ≡ 32) p (λ k below after. gap k after (omega (arith, below)))
-    (λ after. here ∙ eqb-true b 32 blank) i (omega (arith, lt)) a))
-    (λ (other : eqb b 32 ≡ false).
+    (λ i a lt. below_more (λ (k : ℕ). start ≤ k → get_or text k 0 ≡ BLANK) p (λ k below after. gap k after (omega (arith, below)))
+    (λ after. here ∙ eqb-true b BLANK blank) i (omega (arith, lt)) a))
+    (λ (other : eqb b BLANK ≡ false).
     before_end (record {
       later = omega (arith, at, s);
       blanks = λ i a lt. gap i a (omega (arith, at, lt));
       kind = ap (λ (xs : List ℕ). kind_of fields xs) (sym same);
     }) (omega (arith, l))
-    (λ blank. let is : b ≡ 32 = sym here ∙ (ap (λ (k : ℕ). get_or text k 0) (sym at) ∙ blank) in
-    true≢false (sym (ap (λ (x : ℕ). eqb x 32) is) ∙ other))
+    (λ blank. let is : b ≡ BLANK = sym here ∙ (ap (λ (k : ℕ). get_or text k 0) (sym at) ∙ blank) in
+    true≢false (sym (ap (λ (x : ℕ). eqb x BLANK) is) ∙ other))
     (stand_after fields text (end_of text t) (p + 1) (token_length (b ∷ bs) - 1) bs rest (omega (arith, l)) inside.1
     (omega (arith, end, inside.0)) (λ i a lt. absurd (omega (arith, a, lt, end, inside.0)))))
 

@@ -4,6 +4,7 @@ use Rattle.std.specs.Char.{to_ascii_uppercase}
 use Rattle.std.specs.List.{take-map}
 use Rattle.std.proofs.lemmas.Bool.Decides.{nat_tests}
 use Rattle.std.proofs.lemmas.List.{drop-take, drop-drop, drop-map, length-take, length-map, map-append, take_all, append-nil}
+use Rattle.key_expr.specs.declared.format.TheConstants.{MAX_KEY_BYTES, MAX_LENGTH}
 use Rattle.key_expr.specs.declared.evaluate.Window.{Window}
 use Rattle.key_expr.specs.Windows.{upper_if, bytes_in}
 
@@ -71,7 +72,7 @@ length-bytes_in w xs =
 
 -- what two parts put at the end of a key
 pub put_both : (w u : Window) (len : ℕ) (old mid new xs ys : List ℕ)
-    → len ≡ min 1000000 (length xs) → w.from ≤ 200000 → length old + w.count ≤ 100
+    → len ≡ min MAX_LENGTH (length xs) → w.from ≤ 200000 → length old + w.count ≤ MAX_KEY_BYTES
     → u.from ≡ w.from - len → u.count ≡ w.count - (len - w.from) → u.upper ≡ w.upper
     → mid ≡ old ++ bytes_in w xs → new ≡ mid ++ bytes_in u ys
     → new ≡ old ++ bytes_in w (xs ++ ys)
@@ -92,8 +93,8 @@ pub no_more : (u : Window) (ys mid : List ℕ) → u.count ≤ 0 → mid ≡ mid
 no_more u ys mid full = let none : u.count ≡ 0 = omega (arith, full) in rw none (sym (append-nil mid))
 
 pub room_for_second : (w u : Window) (len : ℕ) (old mid xs : List ℕ)
-    → len ≡ min 1000000 (length xs) → w.from ≤ 200000 → length old + w.count ≤ 100
-    → u.count ≡ w.count - (len - w.from) → mid ≡ old ++ bytes_in w xs → length mid + u.count ≤ 100
+    → len ≡ min MAX_LENGTH (length xs) → w.from ≤ 200000 → length old + w.count ≤ MAX_KEY_BYTES
+    → u.count ≡ w.count - (len - w.from) → mid ≡ old ++ bytes_in w xs → length mid + u.count ≤ MAX_KEY_BYTES
 room_for_second w u len old mid xs l near room c m =
     let a = ap length m in
     let b = length-append old (bytes_in w xs) in

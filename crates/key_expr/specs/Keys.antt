@@ -1,7 +1,8 @@
 -- The key of a record, by cases on the expression.
-use Rattle.std.specs.Prelude.{ℕ, ◌+◌, ◌-◌, List, [], ◌++◌, map, take, drop, get_or, min, Option, unwrap_or}
+use Rattle.std.specs.Prelude.{◌≡◌, ◌≢◌, ℕ, ◌+◌, ◌-◌, List, [], ◌++◌, map, take, drop, get_or, min, Option, Some, unwrap_or, slice_get}
 use Rattle.std.specs.Char.{to_ascii_uppercase}
 use Rattle.dbf_fields.specs.declared.field.Field.{Field}
+use Rattle.dbf_fields.specs.declared.format.TheConstants.{MEMO}
 use Rattle.dbf_fields.specs.Date.{date_shown}
 use Rattle.dbf_fields.specs.Layout.{width_of}
 use Rattle.key_expr.specs.Grammar.{Expr, field, concat, upper, substr, str, dtoc}
@@ -32,3 +33,20 @@ key_length fields (upper a) = key_length fields a
 key_length fields (substr a from count) = min count (key_length fields a - (from - 1))
 key_length fields (str i n d) = length_given n
 key_length fields (dtoc i) = DTOC_LENGTH
+
+-- it holds of each field that the expression names
+abbrev pub OfEachField : (ℕ → Type 0) → Expr → Type 0
+OfEachField P (field i) = P i
+OfEachField P (concat a b) = OfEachField P a × OfEachField P b
+OfEachField P (upper a) = OfEachField P a
+OfEachField P (substr a from count) = OfEachField P a
+OfEachField P (str i n d) = P i
+OfEachField P (dtoc i) = P i
+
+-- the field is there, and is no memo
+abbrev pub IsNoMemo : List Field → ℕ → Type 0
+IsNoMemo fields i = (f : Field) × (slice_get fields i ≡ Some f) × (f.kind ≢ MEMO)
+
+-- the cells of two records are the same, but for those of memos
+abbrev pub AgreeButMemos : List Field → List (List ℕ) → List (List ℕ) → Type 0
+AgreeButMemos fields cs ds = (i : ℕ) → IsNoMemo fields i → get_or cs i [] ≡ get_or ds i []

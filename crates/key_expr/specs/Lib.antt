@@ -11,3 +11,4 @@ pub mod Windows
 pub mod ExprCode
 pub mod KeptLengths
 pub mod Expression
+pub mod Laws

@@ -1,6 +1,6 @@
 //! Key expressions: how they are read, and the keys that they give.
 
-ghost use Rattle.std.specs.Prelude.{◌≡◌, ◌≢◌, ◌+◌, ◌≤◌, ◌<◌, length, drop, take, IfOk, IfErr};
+ghost use Rattle.std.specs.Prelude.{◌≡◌, ◌≢◌, ℕ, ◌+◌, ◌≤◌, ◌<◌, List, length, drop, take, IfOk, IfErr};
 ghost use Rattle.std.specs.List.{AllByRecursion};
 ghost use Rattle.dbf_fields.specs.Field.{widths};
 ghost use Rattle.key_expr.specs.declared.fault.ExprFault.TheVariants.{ExpressionTooLong};
@@ -8,7 +8,7 @@ ghost use Rattle.key_expr.specs.declared.format.TheConstants.{MAX_EXPRESSION_BYT
 ghost use Rattle.key_expr.specs.Grammar.{Expr};
 ghost use Rattle.key_expr.specs.TreeExpr.{expr_of};
 ghost use Rattle.key_expr.specs.KeptLengths.{KeepsLengths};
-ghost use Rattle.key_expr.specs.Keys.{key, key_length};
+ghost use Rattle.key_expr.specs.Keys.{key, key_length, AgreeButMemos};
 ghost use Rattle.dbf_fields.specs.Layout.{cells_of};
 ghost use Rattle.key_expr.specs.Rules.{IsKeyText, IsFault};
 ghost use Rattle.key_expr.specs.Expression.{IsAnswer};
@@ -139,11 +139,12 @@ impl KeyExpr {
     }
 
     /// The key of a record, which is lent as its bytes: the flag, then the cells in the order of the fields.
-    /// Takes no memory.
-    #[tactic(auto, using(crate::proofs::KeptRules::refusal_tests, crate::proofs::KeptRules::refusal_short, crate::proofs::KeyLengths::key_length_is, crate::proofs::Windows::whole_window))]
+    /// What stands in the cells of memos doesn't matter. Takes no memory.
+    #[tactic(auto, using(crate::specs::Laws::key_but_memos, crate::proofs::KeptRules::refusal_tests, crate::proofs::KeptRules::refusal_short, crate::proofs::KeyLengths::key_length_is, crate::proofs::Windows::whole_window))]
     pub fn key_of(&self, record_bytes: &[u8]) -> Key
         requires long { length record_bytes.now ≡ 1 + widths self.now.fields }
         ensures key { result ≡ key (cells_of self.now.fields (drop 1 record_bytes.now)) self.now.expr }
+        ensures row { (cells : List (List ℕ)) → AgreeButMemos self.now.fields (cells_of self.now.fields (drop 1 record_bytes.now)) cells → result ≡ key cells self.now.expr }
         ensures long { length result ≡ key_length self.now.fields self.now.expr }
     {
         let whole = Window {

@@ -6,6 +6,7 @@
 //! `specs/Grammar.antt`, `specs/Rules.antt` and `specs/Keys.antt`; the text becomes tokens in `lexer.rt`,
 //! those become a tree in `parser.rt`, which `check.rt` judges and `evaluate.rt` evaluates. That a text has
 //! one list of tokens, each where its bytes stand, and is one expression or none, is said by `one_reading`.
+//! That no key depends on a memo, and what else follows for callers' proofs, stands in `specs/Laws.antt`.
 #![tactic(auto)]
 
 mod check;

@@ -5,7 +5,7 @@ use Rattle.std.specs.List.{AllByRecursion}
 use Rattle.std.proofs.lemmas.Bool.{ne_eqb, eq-eqb}
 use Rattle.std.proofs.lemmas.List.{take-append-drop, length-take}
 use Rattle.ndx_index.specs.Image.{ChildEntry, groups, leaf_group_size, inner_group_size, last_of, next_level}
-use Rattle.ndx_index.proofs.Parts.{all_weaker}
+use Rattle.ndx_index.specs.Laws.Lists.{all_weaker}
 
 abbrev pub joined : {X : Type 0} → List (List X) → List X
 joined gs = flat_map (λ g. g) gs

@@ -7,6 +7,8 @@ use Rattle.ndx_index.specs.declared.read.header.Header.{Header}
 use Rattle.std.specs.List.{AllByRecursion}
 use Rattle.std.proofs.Math.Nat.{div-mul-le_self, le-div_iff_mul-le}
 use Rattle.std.proofs.lemmas.List.{take_at, length-append, length-replicate, length-map}
+use Rattle.key_expr.specs.declared.format.TheConstants.{MAX_EXPRESSION_BYTES, MAX_KEY_BYTES}
+use Rattle.ndx_index.specs.declared.format.TheConstants.{EXPRESSION_OFFSET, KEY_LENGTH_OFFSET, KEY_TYPE_OFFSET, MAX_PAIRS, MAX_RECORDS_BYTES, PAGE, RECORD_SIZE_OFFSET, UNIQUE_FLAG_OFFSET}
 use Rattle.byteorder.specs.Endian.{little_bytes}
 use Rattle.byteorder.specs.Numbers.{little_number-reads_back}
 use Rattle.ndx_index.specs.declared.pair.Pair.{Pair}
@@ -17,26 +19,26 @@ use Rattle.ndx_index.specs.Header.{header_refusal, header_tests, ndx_header, u16
 use Rattle.ndx_index.proofs.Texts.{before_zeros, no_zero}
 use Rattle.ndx_index.specs.Image.{ChildEntry, child_entries, last_key, leaves, inner_pages, leaf_page, inner_page, filled_page, header_page, pages_of, ndx_image, record_size, page_keys, IsWritable}
 use Rattle.ndx_index.proofs.Grouped.{joined, groups-join, leaf_groups, count_one, HasSize, all_groups, short_groups}
-use Rattle.ndx_index.proofs.Parts.{all_weaker, all_zip}
+use Rattle.ndx_index.specs.Laws.Lists.{all_weaker, all_zip}
 use Rattle.ndx_index.proofs.PageBytes.{Fits, length-filled_page, pairs_short}
 use Rattle.ndx_index.proofs.ReadBack.{pages_at, at_append, numbers, length-child_entries, once_distinct, child_entries_run, LevelTrees, levels_tree, levels_long, leaves_long, leaf_trees, all_both, child_entries_fit, last_of_child_entries}
 
 record Sizes (key_len : ℕ) : Type 0 where
   room : key_len + 8 ≤ record_size key_len
   least : 4 ≤ page_keys key_len
-  fit : page_keys key_len * record_size key_len ≤ 504
-  most : page_keys key_len ≤ 504
+  fit : page_keys key_len * record_size key_len ≤ MAX_RECORDS_BYTES
+  most : page_keys key_len ≤ MAX_RECORDS_BYTES
 
-sizes_of : (key_len : ℕ) → key_len ≤ 100 → Sizes key_len
+sizes_of : (key_len : ℕ) → key_len ≤ MAX_KEY_BYTES → Sizes key_len
 sizes_of key_len h =
     let q : ℕ = (key_len + 11) / 4 in
     let low : key_len + 8 ≤ record_size key_len = omega arith in
     let high : record_size key_len ≤ 108 = omega arith in
-    let product : page_keys key_len * record_size key_len ≤ 504 = div-mul-le_self 504 (record_size key_len) in
-    let least : 4 ≤ page_keys key_len = (le-div_iff_mul-le {k = record_size key_len} {x = 4} {y = 504} (omega arith)).1 (omega arith) in
+    let product : page_keys key_len * record_size key_len ≤ MAX_RECORDS_BYTES = div-mul-le_self MAX_RECORDS_BYTES (record_size key_len) in
+    let least : 4 ≤ page_keys key_len = (le-div_iff_mul-le {k = record_size key_len} {x = 4} {y = MAX_RECORDS_BYTES} (omega arith)).1 (omega arith) in
     record { room = low; least = least; fit = product; most = most (page_keys key_len) (record_size key_len) (omega arith) product }
   where
-    most : (a b : ℕ) → 1 ≤ b → a * b ≤ 504 → a ≤ 504
+    most : (a b : ℕ) → 1 ≤ b → a * b ≤ MAX_RECORDS_BYTES → a ≤ MAX_RECORDS_BYTES
     most a b some h = grind arith
 
 pub leaves_joined : (k : ℕ) (pairs : List Pair) → 1 ≤ k → joined (leaves k pairs) ≡ pairs
@@ -58,48 +60,48 @@ leaves_few k (p ∷ ps) h =
     let total : length (joined gs) ≡ length (p ∷ ps) = ap (λ (xs : List Pair). length xs) (leaves_joined k (p ∷ ps) h) in
     omega (arith, count_one k gs (leaf_groups k (length (p ∷ ps)) (p ∷ ps) h))
 
-length-header : (text : List ℕ) (key_len n : ℕ) → length text ≤ 488 → length (header_page text key_len n) ≡ 512
+length-header : (text : List ℕ) (key_len n : ℕ) → length text ≤ MAX_EXPRESSION_BYTES → length (header_page text key_len n) ≡ PAGE
 unfolding header_page
 length-header text key_len n h = length-filled_page _ (omega arith)
 
-header_accepted : (bytes : List ℕ) (key_len size : ℕ) → 512 ≤ length bytes → u16_at bytes 16 ≡ 0 → slice_index bytes 23 ≡ 0 → u16_at bytes 12 ≡ key_len → u16_at bytes 18 ≡ size
-    → 1 ≤ key_len → key_len ≤ 100 → key_len + 8 ≤ size → size ≤ 504 → header_refusal bytes ≡ None
+header_accepted : (bytes : List ℕ) (key_len size : ℕ) → PAGE ≤ length bytes → u16_at bytes KEY_TYPE_OFFSET ≡ 0 → slice_index bytes UNIQUE_FLAG_OFFSET ≡ 0 → u16_at bytes KEY_LENGTH_OFFSET ≡ key_len → u16_at bytes RECORD_SIZE_OFFSET ≡ size
+    → 1 ≤ key_len → key_len ≤ MAX_KEY_BYTES → key_len + 8 ≤ size → size ≤ MAX_RECORDS_BYTES → header_refusal bytes ≡ None
 unfolding header_tests
 header_accepted bytes key_len size long kind unique key_is size_is some few room small =
-    let a : nat_le 512 (length bytes) ≡ true = grind (arith, nat_tests) in
-    let b : is_in_range 1 100 key_len ≡ true = grind (arith, nat_tests) in
-    let c : is_in_range (key_len + 8) 504 size ≡ true = grind (arith, nat_tests) in
+    let a : nat_le PAGE (length bytes) ≡ true = grind (arith, nat_tests) in
+    let b : is_in_range 1 MAX_KEY_BYTES key_len ≡ true = grind (arith, nat_tests) in
+    let c : is_in_range (key_len + 8) MAX_RECORDS_BYTES size ≡ true = grind (arith, nat_tests) in
     rw (a, kind, unique, key_is, size_is, b, c) refl
 
-header_parts : (text rest : List ℕ) (key_len n : ℕ) → key_len ≤ 100 → record_size key_len ≤ 504 → n < 2 ^ 32
+header_parts : (text rest : List ℕ) (key_len n : ℕ) → key_len ≤ MAX_KEY_BYTES → record_size key_len ≤ MAX_RECORDS_BYTES → n < 2 ^ 32
     → (u16_at (header_page text key_len n ++ rest) 16 ≡ 0) × (slice_index (header_page text key_len n ++ rest) 23 ≡ 0) × (u16_at (header_page text key_len n ++ rest) 12 ≡ key_len)
     × (u16_at (header_page text key_len n ++ rest) 18 ≡ record_size key_len) × (u32_at (header_page text key_len n ++ rest) 0 ≡ n - 1)
 unfolding header_page u16_at u32_at filled_page
 header_parts text rest key_len n few small fits =
     (refl, refl, little_number-reads_back 2 key_len [] (omega arith), little_number-reads_back 2 (record_size key_len) [] (omega arith), little_number-reads_back 4 (n - 1) [] (omega arith))
 
-header_reads : (text rest : List ℕ) (key_len n : ℕ) → length text ≤ 488 → 1 ≤ key_len → key_len ≤ 100 → Sizes key_len → record_size key_len ≤ 504 → n < 2 ^ 32
+header_reads : (text rest : List ℕ) (key_len n : ℕ) → length text ≤ MAX_EXPRESSION_BYTES → 1 ≤ key_len → key_len ≤ MAX_KEY_BYTES → Sizes key_len → record_size key_len ≤ MAX_RECORDS_BYTES → n < 2 ^ 32
     → (header_refusal (header_page text key_len n ++ rest) ≡ None) × (ndx_header (header_page text key_len n ++ rest) ≡ record { layout = record { key_len = key_len; size = record_size key_len }; root = n - 1 })
 unfolding ndx_header
 header_reads text rest key_len n short_text some few sizes small fits =
     let bytes : List ℕ = header_page text key_len n ++ rest in
-    let long : 512 ≤ length bytes = omega (arith, length-append (header_page text key_len n) rest, length-header text key_len n short_text) in
+    let long : PAGE ≤ length bytes = omega (arith, length-append (header_page text key_len n) rest, length-header text key_len n short_text) in
     let parts = header_parts text rest key_len n few small fits in
     (header_accepted bytes key_len (record_size key_len) long parts.0 parts.1 parts.2 parts.3 some few sizes.room small, rw (parts.2, parts.3, parts.4) refl)
 
 -- the text and the zeros after it
-text_at : (text rest : List ℕ) (key_len n : ℕ) → length text ≤ 488 → slice_range (header_page text key_len n ++ rest) 24 512 ≡ text ++ replicate (488 - length text) 0
+text_at : (text rest : List ℕ) (key_len n : ℕ) → length text ≤ MAX_EXPRESSION_BYTES → slice_range (header_page text key_len n ++ rest) EXPRESSION_OFFSET PAGE ≡ text ++ replicate (MAX_EXPRESSION_BYTES - length text) 0
 unfolding header_page filled_page
 text_at text rest key_len n few =
     let front : List ℕ = little_bytes 4 (n - 1) ++ (little_bytes 4 n ++ (replicate 4 0 ++ (little_bytes 2 key_len ++ (little_bytes 2 (page_keys key_len) ++ (0 ∷ 0 ∷ (little_bytes 2 (record_size key_len) ++ (0 ∷ 0 ∷ 0 ∷ 0 ∷ text))))))) in
-    let long : 512 - length front ≡ 488 - length text = omega arith in
-    let zs : List ℕ = replicate (488 - length text) 0 in
-    let whole : length (text ++ zs) ≡ 488 = omega (arith, length-append text zs, length-replicate {A = ℕ} (488 - length text) 0) in
-    rw long (take_at (text ++ zs) rest 488 whole)
+    let long : PAGE - length front ≡ MAX_EXPRESSION_BYTES - length text = omega arith in
+    let zs : List ℕ = replicate (MAX_EXPRESSION_BYTES - length text) 0 in
+    let whole : length (text ++ zs) ≡ MAX_EXPRESSION_BYTES = omega (arith, length-append text zs, length-replicate {A = ℕ} (MAX_EXPRESSION_BYTES - length text) 0) in
+    rw long (take_at (text ++ zs) rest MAX_EXPRESSION_BYTES whole)
 
-text_reads : (text rest : List ℕ) (key_len n : ℕ) → length text ≤ 488 → expression (header_page text key_len n ++ rest) ≡ trimmed_end (before_zero text)
+text_reads : (text rest : List ℕ) (key_len n : ℕ) → length text ≤ MAX_EXPRESSION_BYTES → expression (header_page text key_len n ++ rest) ≡ trimmed_end (before_zero text)
 text_reads text rest key_len n few =
-    ap (λ (bytes : List ℕ). trimmed_end (before_zero bytes)) (text_at text rest key_len n few) ∙ ap (λ (bytes : List ℕ). trimmed_end bytes) (before_zeros text (488 - length text))
+    ap (λ (bytes : List ℕ). trimmed_end (before_zero bytes)) (text_at text rest key_len n few) ∙ ap (λ (bytes : List ℕ). trimmed_end bytes) (before_zeros text (MAX_EXPRESSION_BYTES - length text))
 
 pub read_back : (text : List ℕ) (key_len : ℕ) (pairs : List Pair) → IsWritable text key_len pairs → IsIndex (ndx_image text key_len pairs) (trimmed_end (before_zero text)) key_len pairs
 read_back text key_len pairs w =
@@ -129,7 +131,7 @@ read_back text key_len pairs w =
     let leaf_count : length leaf_pages ≡ m = length-map gs (leaf_page size) in
     let upper_count : length upper_pages ≡ length above = length-map above (inner_page size) in
     let count : length pages ≡ m + length above = omega (arith, length-append leaf_pages upper_pages) in
-    let long = all_both s (λ p. length p ≡ 512) leaf_pages upper_pages (leaves_long s k gs sizes.room sizes.fit sized fits) up.long in
+    let long = all_both s (λ p. length p ≡ PAGE) leaf_pages upper_pages (leaves_long s k gs sizes.room sizes.fit sized fits) up.long in
     let at = pages_at bytes header pages 1 refl (length-header text key_len (1 + length pages) w.text_short) long in
     let parts = at_append bytes 1 (m + 1) leaf_pages upper_pages (omega arith) at in
     let bottom = leaf_trees s bytes k 1 gs (omega arith) sizes.room sizes.fit sizes.most sized fits parts.0 in
@@ -157,7 +159,7 @@ read_back text key_len pairs w =
 pub read_back_plain : (text : List ℕ) (key_len : ℕ) (pairs : List Pair) → IsWritable text key_len pairs → AllByRecursion (λ b. b ≢ 0) text → IsIndex (ndx_image text key_len pairs) (trimmed_end text) key_len pairs
 read_back_plain text key_len pairs w h = subst (λ read. IsIndex (ndx_image text key_len pairs) (trimmed_end read) key_len pairs) (no_zero text h) (read_back text key_len pairs w)
 
-pub writable : (text : List ℕ) (key_len : ℕ) (pairs : List Pair) → length text ≤ 488 → 1 ≤ key_len → key_len ≤ 100 → length pairs ≤ 1000000000 → AllByRecursion (λ p. length p.key ≡ key_len) pairs
+pub writable : (text : List ℕ) (key_len : ℕ) (pairs : List Pair) → length text ≤ MAX_EXPRESSION_BYTES → 1 ≤ key_len → key_len ≤ MAX_KEY_BYTES → length pairs ≤ MAX_PAIRS → AllByRecursion (λ p. length p.key ≡ key_len) pairs
     → AllByRecursion (λ p. p.number < 2 ^ 32) pairs → IsWritable text key_len pairs
 writable text key_len pairs t some short few keys numbers = record {
   text_short = t;
@@ -168,7 +170,7 @@ writable text key_len pairs t some short few keys numbers = record {
 }
 
 -- what is written of the pairs of a key expression reads back
-pub written_reads : (text : List ℕ) (key_len n : ℕ) (pairs : List Pair) → key_len ≡ n → length text ≤ 488 → 1 ≤ key_len → key_len ≤ 100 → length pairs ≤ 1000000000 → AllByRecursion (λ p. length p.key ≡ n) pairs
+pub written_reads : (text : List ℕ) (key_len n : ℕ) (pairs : List Pair) → key_len ≡ n → length text ≤ MAX_EXPRESSION_BYTES → 1 ≤ key_len → key_len ≤ MAX_KEY_BYTES → length pairs ≤ MAX_PAIRS → AllByRecursion (λ p. length p.key ≡ n) pairs
     → AllByRecursion (λ p. p.number < 2 ^ 32) pairs → AllByRecursion (λ b. b ≢ 0) text → IsIndex (ndx_image text n pairs) (trimmed_end text) n pairs
 written_reads text key_len n pairs same t some few_bytes few keys numbers plain =
     read_back_plain text n pairs (writable text n pairs t (omega arith) (omega arith) few keys numbers) plain

@@ -9,6 +9,7 @@ use Rattle.ndx_index.proofs.PageBytes.{length_children}
 use Rattle.ndx_index.specs.Levels.{level, key_under, no_child, children_from}
 use Rattle.std.specs.Prelude.{flat_map}
 use Rattle.std.proofs.lemmas.List.{drop-drop}
+use Rattle.ndx_index.specs.declared.format.TheConstants.{MAX_RECORDS_BYTES, PAGE}
 use Rattle.ndx_index.specs.Image.{groups, inner_group_size}
 use Rattle.ndx_index.proofs.Grouped.{group_size_some}
 use Rattle.ndx_index.proofs.Writing.{groups_step, all_parts}
@@ -67,7 +68,7 @@ child_last k pairs l at count i size page last within page_is =
     sym (records_last size i g no_child (omega arith) ∙ ap (λ (n : ℕ). little_bytes 4 n) p)
 
 inner_parts_of : (size count : ℕ) (g : List ChildEntry) → length g ≡ count → 1 ≤ count → AllByRecursion (λ u. length u.key + 8 ≤ size) g
-    → (little_bytes 4 (count - 1) ++ inner_records size g) ++ replicate (504 - (count - 1) * size) 0 ≡ inner_page size g
+    → (little_bytes 4 (count - 1) ++ inner_records size g) ++ replicate (MAX_RECORDS_BYTES - (count - 1) * size) 0 ≡ inner_page size g
 unfolding inner_page filled_page
 inner_parts_of size count [] e some h = absurd (omega arith)
 inner_parts_of size count (t ∷ g) e some h =
@@ -76,12 +77,12 @@ inner_parts_of size count (t ∷ g) e some h =
     let front : List ℕ = little_bytes 4 (length (t ∷ g) - 1) in
     let body : List ℕ = inner_records size (t ∷ g) in
     let product : (length (t ∷ g) - 1) * size ≡ length g * size = ap (λ (n : ℕ). n * size) less in
-    let long : 512 - length (front ++ body) ≡ 504 - (length (t ∷ g) - 1) * size = omega (arith, length-append front body, length_children size t g h) in
+    let long : PAGE - length (front ++ body) ≡ MAX_RECORDS_BYTES - (length (t ∷ g) - 1) * size = omega (arith, length-append front body, length_children size t g h) in
     rw same (ap (λ (n : ℕ). (front ++ body) ++ replicate n 0) (sym long))
 
 pub inner_parts : (k : ℕ) (pairs : List Pair) (l at count size : ℕ) → 1 ≤ count → at + count ≤ length (level k pairs l).pages
     → AllByRecursion (λ u. length u.key + 8 ≤ size) (children_from k pairs l at count)
-    → (little_bytes 4 (count - 1) ++ inner_records size (children_from k pairs l at count)) ++ replicate (504 - (count - 1) * size) 0 ≡ inner_page size (children_from k pairs l at count)
+    → (little_bytes 4 (count - 1) ++ inner_records size (children_from k pairs l at count)) ++ replicate (MAX_RECORDS_BYTES - (count - 1) * size) 0 ≡ inner_page size (children_from k pairs l at count)
 inner_parts k pairs l at count size some within h = inner_parts_of size count (children_from k pairs l at count) (count_is k pairs l at count within) some h
 
 -- ---- all pages above a level

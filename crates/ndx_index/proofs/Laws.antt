@@ -8,7 +8,7 @@ use Rattle.ndx_index.specs.declared.read.page.PageLayout.{PageLayout}
 use Rattle.ndx_index.specs.declared.fault.NdxFault.{NdxFault}
 use Rattle.ndx_index.specs.declared.fault.NdxFault.TheVariants.{PageOutside, PageTwice}
 use Rattle.ndx_index.specs.Pages.{Node, leaf, inner, node_of, page_of, is_page}
-use Rattle.ndx_index.proofs.Parts.{all_weaker, all_zip}
+use Rattle.ndx_index.specs.Laws.Lists.{all_weaker, all_zip}
 use Rattle.ndx_index.specs.NdxTree.{Visits, Trees, IsTree, Holds, is_visited, look, none, at_leaf, at_inner, done, stops, visit_leaf, visit_inner}
 
 -- each page is new where it comes

@@ -1,7 +1,4 @@
 pub mod Order
-pub mod Parts
-pub mod Sorts
-pub mod Edits
 pub mod PageLemmas
 pub mod WalkSteps
 pub mod Laws
@@ -18,4 +15,3 @@ pub mod Planning
 pub mod TreeBytes
 pub mod OneReading
 pub mod Texts
-pub mod TableOrders

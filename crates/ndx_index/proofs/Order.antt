@@ -2,62 +2,21 @@
 use Rattle.std.proofs.Common.{◌≡◌, ℕ, zero, suc, ◌<◌, ◌≤◌, Bool, true, false, not, cond, List, [], ◌∷◌, length, get_or, Contains, refl, ap, sym, ◌∙◌, subst, inl, inr, ◌⊎◌, arith}
 use Rattle.std.specs.declared.cmp.Ordering.{Ordering}
 use Rattle.std.specs.declared.cmp.Ordering.TheVariants.{Less, Equal, Greater}
-use Rattle.std.specs.Cmp.{IsTotalOrder, tied_then}
+use Rattle.std.specs.Cmp.{tied_then}
 use Rattle.std.specs.Cmp.Lexicographic.{slice_cmp, pointwise, texts_ties}
 use Rattle.std.specs.Prelude.{nat_eq, ◌&&◌}
-use Rattle.std.specs.Ordering.{nat_cmp, ordering_then, is_lt, is_eq, ordering_reverse}
-use Rattle.std.specs.List.{insert, remove, filter, AllByRecursion}
+use Rattle.std.specs.Ordering.{nat_cmp, ordering_then, is_lt, is_eq}
+use Rattle.std.specs.List.{insert, remove, filter, AllByRecursion, IsDistinct}
 use Rattle.std.specs.List.Sorted.{IsStrictlySortedBy, IsPartitionedBy}
 use Rattle.std.proofs.lemmas.Bool.{cases_eq, cases_lt, false≢true, not-true}
 use Rattle.std.proofs.lemmas.Bool.Decides.{nat_tests}
-use Rattle.std.proofs.lemmas.List.{get_or_default}
-use Rattle.std.proofs.lemmas.Cmp.{then_total, on_total, nat_list_cmp_total, nat_cmp_total, tied_itself}
-use Rattle.std.proofs.lemmas.Map.Lookups.{CmpEqualImpliesEq, exact_pairs, exact_bytes, exact_unsigned}
+use Rattle.std.proofs.lemmas.Cmp.{nat_list_cmp_total}
 use Rattle.std.proofs.lemmas.Map.Keys.{Less-from_sorted}
 use Rattle.ndx_index.specs.declared.pair.Pair.{Pair}
 use Rattle.ndx_index.specs.Order.{pair_cmp, before, same, placed, in_order, without, AreInOrder}
-use Rattle.ndx_index.proofs.Parts.{filter_all, filter_but, all_weaker}
-
-pub pairs_total : IsTotalOrder pair_cmp
-pairs_total = then_total (on_total (λ (p : Pair). p.key) nat_list_cmp_total) (on_total (λ (p : Pair). p.number) nat_cmp_total)
-
--- pairs that compare alike are one
-pub exact_pair : CmpEqualImpliesEq pair_cmp
-exact_pair a b h = ap (λ (p : List ℕ × ℕ). record { key = p.0; number = p.1 }) (exact_pairs (slice_cmp nat_cmp) nat_cmp exact_bytes exact_unsigned (a.key, a.number) (b.key, b.number) h)
-
-Less-from_is_lt : (o : Ordering) → is_lt o ≡ true → o ≡ Less
-Less-from_is_lt Less h = refl
-Less-from_is_lt Equal h = absurd (false≢true h)
-Less-from_is_lt Greater h = absurd (false≢true h)
-
-Equal-from_is_eq : (o : Ordering) → is_eq o ≡ true → o ≡ Equal
-Equal-from_is_eq Equal h = refl
-Equal-from_is_eq Less h = absurd (false≢true h)
-Equal-from_is_eq Greater h = absurd (false≢true h)
-
-pub before_is : (a b : Pair) → before a b ≡ true → pair_cmp a b ≡ Less
-before_is a b h = Less-from_is_lt (pair_cmp a b) h
-
-pub before_trans : (a b c : Pair) → pair_cmp a b ≡ Less → pair_cmp b c ≡ Less → pair_cmp a c ≡ Less
-before_trans a b c = pairs_total.trans a b c
-
-pub same_is : (a b : Pair) → same a b ≡ true → a ≡ b
-same_is a b h = exact_pair a b (Equal-from_is_eq (pair_cmp a b) h)
-
-pub irreflexive : (p : Pair) → pair_cmp p p ≡ Less → ⊥
-irreflexive p h = let tie = tied_itself pairs_total p in cc
-
-pub same_itself : (a : Pair) → same a a ≡ true
-same_itself a = ap is_eq (tied_itself pairs_total a)
-
--- of two different pairs, one stands before the other
-turned : (o r : Ordering) → r ≡ ordering_reverse o → is_lt o ≡ false → (o ≡ Equal → ⊥) → r ≡ Less
-turned Less r e h ne = absurd (false≢true (sym h))
-turned Equal r e h ne = absurd (ne refl)
-turned Greater r e h ne = e
-
-pub before_other : (q p : Pair) → before q p ≡ false → (q ≡ p → ⊥) → pair_cmp p q ≡ Less
-before_other q p h ne = turned (pair_cmp q p) (pair_cmp p q) (pairs_total.antisymm p q) h (λ e. ne (exact_pair q p e))
+use Rattle.ndx_index.specs.Laws.Lists.{filter_but, all_weaker}
+use Rattle.ndx_index.specs.Laws.Comparing.{Less-from_is_lt, before_is, before_trans, irreflexive, same_itself, before_other, not_same}
+use Rattle.ndx_index.specs.Laws.Sorting.{all-placed, contains_more}
 
 -- a test that holds of each pair before one of which it holds
 pub parted_by : (u : Pair → Bool) → ((a b : Pair) → pair_cmp a b ≡ Less → u b ≡ true → u a ≡ true) → (ps : List Pair) → AreInOrder ps → IsPartitionedBy u ps
@@ -75,16 +34,6 @@ placed_at p [] zero low here le = refl
 placed_at p [] (suc i) low here le = absurd (omega arith)
 placed_at p (q ∷ qs) zero low here le = rw (here q (omega arith))
 placed_at p (q ∷ qs) (suc i) low here le = rw (low 0 q (omega arith)) (ap (λ ys. q ∷ ys) (placed_at p qs i (λ k d h. low (suc k) d (omega arith)) (λ d h. here d (omega arith)) (omega arith)))
-
-pub all-placed : (P : Pair → Type 0) (p : Pair) (ps : List Pair) → P p → AllByRecursion P ps → AllByRecursion P (placed p ps)
-all-placed P p [] h all = (h, tt)
-all-placed P p (q ∷ qs) h all = elim (before q p) as (λ b. AllByRecursion P (cond b (q ∷ placed p qs) (p ∷ q ∷ qs))) [
-  | true ↦ (all.0, all-placed P p qs h all.1)
-  | false ↦ (h, all)
-]
-
-pub contains_more : (q : Pair) (qs : List Pair) (p : Pair) → Contains qs p → Contains (q ∷ qs) p
-contains_more q qs p h = (suc h.0, omega (arith, h.1), h.2)
 
 pub all-in_order : (P : Pair → Type 0) (ps : List Pair) → AllByRecursion P ps → AllByRecursion P (in_order ps)
 all-in_order P [] all = tt
@@ -110,16 +59,6 @@ sorted_placed p (q ∷ qs) sorted absent = elim (before q p) as (λ b. before q 
 pub sorted_none : AreInOrder []
 unfolding IsStrictlySortedBy
 sorted_none = tt
-
-pub not_same : (a b : Pair) → (b ≡ a → ⊥) → not (same a b) ≡ true
-not_same a b ne = elim (same a b) as (λ t. same a b ≡ t → not t ≡ true) [
-  | true ↦ λ e. absurd (ne (sym (same_is a b e)))
-  | false ↦ λ e. refl
-] refl
-
--- a pair that isn't there
-pub without_absent : (p : Pair) (ps : List Pair) → (Contains ps p → ⊥) → without p ps ≡ ps
-without_absent p ps absent = filter_all (λ q. not (same p q)) ps (λ k d lt. not_same p (get_or ps k d) (λ e. absent (k, lt, get_or_default ps k p d lt ∙ e)))
 
 -- the pair at index i taken out
 pub without_at : (p : Pair) (ps : List Pair) (i : ℕ) → AreInOrder ps → i < length ps → ((d : Pair) → get_or ps i d ≡ p) → without p ps ≡ remove ps i
@@ -191,3 +130,7 @@ pub absent_without : (p : Pair) (ps : List Pair) → Contains (without p ps) p �
 absent_without p ps h =
     let pass : not (same p (get_or (without p ps) h.0 p)) ≡ true = kept_pass (λ q. not (same p q)) ps p h.0 h.1 in
     false≢true (sym (not-true _ (subst (λ q. not (same p q) ≡ true) h.2 pass)) ∙ same_itself p)
+
+pub three_apart : (a b c : Pair) → same a b ≡ false → same a c ≡ false → same b c ≡ false → IsDistinct same (a ∷ b ∷ c ∷ [])
+unfolding IsDistinct
+three_apart a b c ab ac bc = ((ab, (ac, tt)), ((bc, tt), (tt, tt)))

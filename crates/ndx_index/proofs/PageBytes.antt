@@ -5,17 +5,18 @@ use Rattle.std.specs.Prelude.{flat_map, slice_range, nat_le}
 use Rattle.std.specs.List.{AllByRecursion}
 use Rattle.std.proofs.lemmas.Bool.{ne_eqb, le-leb}
 use Rattle.std.proofs.lemmas.List.{take_at, drop_at, length-append, length-replicate}
+use Rattle.ndx_index.specs.declared.format.TheConstants.{MAX_RECORDS_BYTES, PAGE}
 use Rattle.byteorder.specs.Endian.{little_bytes}
 use Rattle.byteorder.specs.Numbers.{little_number-reads_back}
 use Rattle.ndx_index.specs.declared.pair.Pair.{Pair}
 use Rattle.ndx_index.specs.declared.read.page.PageLayout.{PageLayout}
 use Rattle.ndx_index.specs.Pages.{leaf, inner, node_of, page_tests, page_node, u32_at, child, leaf_pair, children, leaf_pairs, some_child, is_null}
 use Rattle.ndx_index.specs.Image.{ChildEntry, filled_page, key_record, leaf_record, inner_records, leaf_page, inner_page}
-use Rattle.ndx_index.proofs.Parts.{all_weaker}
+use Rattle.ndx_index.specs.Laws.Lists.{all_weaker}
 
-pub length-filled_page : (xs : List ℕ) → length xs ≤ 512 → length (filled_page xs) ≡ 512
+pub length-filled_page : (xs : List ℕ) → length xs ≤ PAGE → length (filled_page xs) ≡ PAGE
 unfolding filled_page
-length-filled_page xs h = omega (arith, length-append xs (replicate (512 - length xs) 0), length-replicate {A = ℕ} (512 - length xs) 0)
+length-filled_page xs h = omega (arith, length-append xs (replicate (PAGE - length xs) 0), length-replicate {A = ℕ} (PAGE - length xs) 0)
 
 pub length-key_record : (size c n : ℕ) (key : List ℕ) → length key + 8 ≤ size → length (key_record size c n key) ≡ size
 unfolding key_record
@@ -90,33 +91,33 @@ zeros_u32 n = refl
 -- the first child pointer of a leaf, also of an empty one
 pub first_null : (s : PageLayout) (g : List Pair) → child s (leaf_page s.size g) 0 ≡ 0
 unfolding leaf_page filled_page
-first_null s [] = rw at (zeros_508_u32)
+first_null s [] = rw at no_child
   where
     at : 4 + s.size * 0 ≡ 4
     at = omega arith
 
-    zeros_508_u32 : u32_at (little_bytes 4 0 ++ replicate 508 0) 4 ≡ 0
-    zeros_508_u32 = zeros_u32 504
+    no_child : u32_at (little_bytes 4 0 ++ replicate (PAGE - 4) 0) 4 ≡ 0
+    no_child = zeros_u32 MAX_RECORDS_BYTES
 first_null s (p ∷ g) =
     let front : List ℕ = little_bytes 4 (length (p ∷ g)) in
     let r : List ℕ = leaf_record s.size p in
     let more : List ℕ = flat_map (leaf_record s.size) g in
-    let zs : List ℕ = replicate (512 - length (front ++ (r ++ more))) 0 in
+    let zs : List ℕ = replicate (PAGE - length (front ++ (r ++ more))) 0 in
     let is : (front ++ (r ++ more)) ++ zs ≡ front ++ (r ++ (more ++ zs)) = append_assoc front (r ++ more) zs ∙ ap (λ (xs : List ℕ). front ++ xs) (append_assoc r more zs) in
     rw is (null_at s front (more ++ zs) p 0 (omega arith))
 
-pub leaf_node : (s : PageLayout) (g : List Pair) → s.key_len + 8 ≤ s.size → length g * s.size ≤ 504 → length g < 2 ^ 32 → AllByRecursion (Fits s) g → node_of s (leaf_page s.size g) ≡ Ok (leaf g)
+pub leaf_node : (s : PageLayout) (g : List Pair) → s.key_len + 8 ≤ s.size → length g * s.size ≤ MAX_RECORDS_BYTES → length g < 2 ^ 32 → AllByRecursion (Fits s) g → node_of s (leaf_page s.size g) ≡ Ok (leaf g)
 unfolding node_of page_tests page_node leaf_page filled_page
 leaf_node s g room few small fits =
     let front : List ℕ = little_bytes 4 (length g) in
     let body : List ℕ = flat_map (leaf_record s.size) g in
-    let zs : List ℕ = replicate (512 - length (front ++ body)) 0 in
+    let zs : List ℕ = replicate (PAGE - length (front ++ body)) 0 in
     let page : List ℕ = (front ++ body) ++ zs in
     let is : page ≡ front ++ (body ++ zs) = append_assoc front body zs in
     let count : u32_at page 0 ≡ length g = rw is (u32_reads [] (body ++ zs) (length g) 0 refl small) in
     let reads = leaf_reads s g front zs page 0 (length g) room is (omega arith) (omega arith) fits refl in
     let first : child s page 0 ≡ 0 = first_null s g in
-    let fit : nat_le (4 + length g * s.size) 512 ≡ true = le-leb (4 + length g * s.size) 512 (omega arith) in
+    let fit : nat_le (4 + length g * s.size) PAGE ≡ true = le-leb (4 + length g * s.size) PAGE (omega arith) in
     rw (first, count, fit, reads.1, ← reads.0) refl
 
 -- a child pointer as it is read
@@ -163,13 +164,13 @@ first_child s t u g zs front page is long small =
     let rest : List ℕ = inner_records s.size (u ∷ g) in
     rw (is ∙ ap (λ (xs : List ℕ). front ++ xs) (append_assoc r rest zs)) (record_child s front (rest ++ zs) t.page 0 t.key 0 long small)
 
-pub inner_node : (s : PageLayout) (t u : ChildEntry) (g : List ChildEntry) → (length g + 1) * s.size ≤ 504 → length g + 1 < 2 ^ 32 → AllByRecursion (IsChild s) (t ∷ u ∷ g)
+pub inner_node : (s : PageLayout) (t u : ChildEntry) (g : List ChildEntry) → (length g + 1) * s.size ≤ MAX_RECORDS_BYTES → length g + 1 < 2 ^ 32 → AllByRecursion (IsChild s) (t ∷ u ∷ g)
     → node_of s (inner_page s.size (t ∷ u ∷ g)) ≡ Ok (inner (map (λ t. t.page) (t ∷ u ∷ g)))
 unfolding node_of page_tests page_node inner_page filled_page
 inner_node s t u g few small fits =
     let front : List ℕ = little_bytes 4 (length (t ∷ u ∷ g) - 1) in
     let body : List ℕ = inner_records s.size (t ∷ u ∷ g) in
-    let zs : List ℕ = replicate (512 - length (front ++ body)) 0 in
+    let zs : List ℕ = replicate (PAGE - length (front ++ body)) 0 in
     let page : List ℕ = (front ++ body) ++ zs in
     let is : page ≡ front ++ (body ++ zs) = append_assoc front body zs in
     let keys : length (t ∷ u ∷ g) - 1 ≡ length g + 1 = omega arith in
@@ -177,7 +178,7 @@ inner_node s t u g few small fits =
     let reads = inner_reads s t (u ∷ g) front zs page 0 (length g + 1 + 1) is (omega arith) (omega arith) fits refl in
     let first : child s page 0 ≡ t.page = first_child s t u g zs front page is (omega arith) fits.0.small in
     let there : is_null t.page ≡ false = not_null t.page fits.0.some in
-    let fit : nat_le (8 + (length g + 1) * s.size) 512 ≡ true = le-leb (8 + (length g + 1) * s.size) 512 (omega arith) in
+    let fit : nat_le (8 + (length g + 1) * s.size) PAGE ≡ true = le-leb (8 + (length g + 1) * s.size) PAGE (omega arith) in
     rw (first, there, count, fit, reads.1, ← reads.0) refl
 
 -- ---- lengths
@@ -193,7 +194,7 @@ length_pairs size [] h = omega arith
 length_pairs size (p ∷ g) h =
     omega (arith, length-append (leaf_record size p) (flat_map (leaf_record size) g), length_leaf_record size p h.0, length_pairs size g h.1)
 
-pub length_leaf_page : (size k : ℕ) (g : List Pair) → k * size ≤ 504 → length g ≤ k → AllByRecursion (λ p. length p.key + 8 ≤ size) g → length (leaf_page size g) ≡ 512
+pub length_leaf_page : (size k : ℕ) (g : List Pair) → k * size ≤ MAX_RECORDS_BYTES → length g ≤ k → AllByRecursion (λ p. length p.key + 8 ≤ size) g → length (leaf_page size g) ≡ PAGE
 unfolding leaf_page
 length_leaf_page size k g fit few short =
     let front : List ℕ = little_bytes 4 (length g) in
@@ -207,7 +208,7 @@ length_children size t (u ∷ g) h =
     let r : List ℕ = key_record size t.page 0 t.key in
     omega (arith, length-append r (inner_records size (u ∷ g)), length-key_record size t.page 0 t.key h.0, length_children size u g h.1)
 
-pub length_inner_page : (size k : ℕ) (g : List ChildEntry) → k * size ≤ 504 → 1 ≤ length g → length g ≤ k + 1 → AllByRecursion (λ t. length t.key + 8 ≤ size) g → length (inner_page size g) ≡ 512
+pub length_inner_page : (size k : ℕ) (g : List ChildEntry) → k * size ≤ MAX_RECORDS_BYTES → 1 ≤ length g → length g ≤ k + 1 → AllByRecursion (λ t. length t.key + 8 ≤ size) g → length (inner_page size g) ≡ PAGE
 unfolding inner_page
 length_inner_page size k [] fit some few short = absurd (omega arith)
 length_inner_page size k (t ∷ g) fit some few short =

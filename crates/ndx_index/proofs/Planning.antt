@@ -4,6 +4,8 @@ use Rattle.std.specs.List.{AllByRecursion}
 use Rattle.std.proofs.Math.Nat.{le-div_iff_mul-le, div-lt_iff_lt-mul, pow-le-pow_right, mul-le-mul_right}
 use Rattle.std.proofs.lemmas.Bool.{cases_eq, cases_lt}
 use Rattle.std.proofs.lemmas.List.{length-append, length-set, get_or-set_same, get_or-set_other}
+use Rattle.ndx_index.specs.declared.format.TheConstants.{MAX_PAIRS}
+use Rattle.ndx_index.specs.declared.write.plan.TheConstants.{LEVELS}
 use Rattle.ndx_index.specs.declared.pair.Pair.{Pair}
 use Rattle.ndx_index.specs.Image.{ChildEntry, child_entries, last_entry_key, last_key, leaves, leaf_group_size, next_level}
 use Rattle.ndx_index.specs.Levels.{AreSizes, level}
@@ -70,9 +72,9 @@ pub record Reached (k : ℕ) (pairs : List Pair) (height first count : ℕ) (siz
   pub narrow : 2 ^ height * count ≤ 2 ^ 30
   pub depth : height ≤ 30
   pub low : first + 2 * count ≤ 2000000003
-  pub long : length sizes ≡ 32
+  pub long : length sizes ≡ LEVELS
 
-pub reach_leaves : (k : ℕ) (pairs : List Pair) (count : ℕ) (sizes : List ℕ) → 1 ≤ k → length pairs ≤ 1000000000 → count ≡ length (leaves k pairs) → length sizes ≡ 32
+pub reach_leaves : (k : ℕ) (pairs : List Pair) (count : ℕ) (sizes : List ℕ) → 1 ≤ k → length pairs ≤ MAX_PAIRS → count ≡ length (leaves k pairs) → length sizes ≡ LEVELS
     → Reached k pairs 0 1 count sizes
 reach_leaves k pairs count sizes one few e long =
     let most : length (leaves k pairs) ≤ length pairs + 1 = leaves_few k pairs one in

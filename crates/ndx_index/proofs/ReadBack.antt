@@ -13,20 +13,21 @@ use Rattle.ndx_index.proofs.Laws.{trees_split}
 use Rattle.ndx_index.proofs.Grouped.{joined, next-join, next_half, short_groups, HasSize, inner_groups, all_groups}
 use Rattle.ndx_index.proofs.PageBytes.{Fits, IsChild, leaf_node, inner_node, pairs_short, entries_short, length_leaf_page, length_inner_page}
 use Rattle.std.proofs.Math.Nat.{mul-le-mul_right}
+use Rattle.ndx_index.specs.declared.format.TheConstants.{MAX_RECORDS_BYTES, PAGE}
 
 -- ---- pages at their places
 
 -- the pages of the file from number n on begin with these
 abbrev pub AreAt : List ℕ → ℕ → List (List ℕ) → Type 0
 AreAt bytes n [] = Unit {0}
-AreAt bytes n (p ∷ ps) = (page_of bytes n ≡ p) × (512 * n + 512 ≤ length bytes) × AreAt bytes (n + 1) ps
+AreAt bytes n (p ∷ ps) = (page_of bytes n ≡ p) × (PAGE * n + PAGE ≤ length bytes) × AreAt bytes (n + 1) ps
 
-pub pages_at : (bytes front : List ℕ) (ps : List (List ℕ)) (n : ℕ) → bytes ≡ front ++ joined ps → length front ≡ 512 * n → AllByRecursion (λ p. length p ≡ 512) ps → AreAt bytes n ps
+pub pages_at : (bytes front : List ℕ) (ps : List (List ℕ)) (n : ℕ) → bytes ≡ front ++ joined ps → length front ≡ PAGE * n → AllByRecursion (λ p. length p ≡ PAGE) ps → AreAt bytes n ps
 pages_at bytes front [] n is long h = tt
 pages_at bytes front (p ∷ ps) n is long h =
-    let width : 512 * n + 512 - 512 * n ≡ 512 = omega arith in
-    let after : drop (512 * n) bytes ≡ p ++ joined ps = rw is (drop_at front (p ++ joined ps) (512 * n) long) in (
-      rw (width, after) (take_at p (joined ps) 512 h.0),
+    let width : PAGE * n + PAGE - PAGE * n ≡ PAGE = omega arith in
+    let after : drop (PAGE * n) bytes ≡ p ++ joined ps = rw is (drop_at front (p ++ joined ps) (PAGE * n) long) in (
+      rw (width, after) (take_at p (joined ps) PAGE h.0),
       rw is (omega (arith, length-append front (p ++ joined ps), length-append p (joined ps), h.0)),
       pages_at bytes (front ++ p) ps (n + 1) (is ∙ sym (append_assoc front p (joined ps))) (omega (arith, length-append front p, h.0)) h.1,
     )
@@ -39,7 +40,7 @@ at_append bytes n m (p ∷ ps) qs e h =
     let r = at_append bytes (n + 1) m ps qs (omega arith) h.2 in
     ((h.0, h.1, r.0), r.1)
 
-page_there : (bytes : List ℕ) (p : ℕ) → 1 ≤ p → 512 * p + 512 ≤ length bytes → is_page bytes p ≡ true
+page_there : (bytes : List ℕ) (p : ℕ) → 1 ≤ p → PAGE * p + PAGE ≤ length bytes → is_page bytes p ≡ true
 page_there bytes p some whole = grind (arith, nat_tests)
 
 -- ---- how often a page is among pages
@@ -120,8 +121,8 @@ record Up (s : PageLayout) (bytes : List ℕ) (roots pages : List ℕ) (pairs : 
   times_are : (r : ℕ) → times r all ≡ times r pages + times r roots
 
 module _ (s : PageLayout) (bytes : List ℕ) where
-  holds_inner : (k n : ℕ) (g : List ChildEntry) → 1 ≤ n → k * s.size ≤ 504 → k ≤ 504 → HasSize 2 (k + 1) g → AllByRecursion (IsChild s) g
-      → page_of bytes n ≡ inner_page s.size g → 512 * n + 512 ≤ length bytes → Holds s bytes n (inner (numbers g))
+  holds_inner : (k n : ℕ) (g : List ChildEntry) → 1 ≤ n → k * s.size ≤ MAX_RECORDS_BYTES → k ≤ MAX_RECORDS_BYTES → HasSize 2 (k + 1) g → AllByRecursion (IsChild s) g
+      → page_of bytes n ≡ inner_page s.size g → PAGE * n + PAGE ≤ length bytes → Holds s bytes n (inner (numbers g))
   holds_inner k n [] some room few size fits is whole = absurd (omega (arith, size.low))
   holds_inner k n (t ∷ []) some room few size fits is whole = absurd (omega (arith, size.low))
   holds_inner k n (t ∷ u ∷ g) some room few size fits is whole =
@@ -129,7 +130,7 @@ module _ (s : PageLayout) (bytes : List ℕ) where
       let fit : (length g + 1) * s.size ≤ k * s.size = mul-le-mul_right s.size high in
       record { whole = page_there bytes n some whole; keeps = rw is (inner_node s t u g (omega arith) (omega arith) fits) }
 
-  up_trees : (k n : ℕ) (gs : List (List ChildEntry)) (pages : List ℕ) (pairs : List Pair) → 1 ≤ n → k * s.size ≤ 504 → k ≤ 504
+  up_trees : (k n : ℕ) (gs : List (List ChildEntry)) (pages : List ℕ) (pairs : List Pair) → 1 ≤ n → k * s.size ≤ MAX_RECORDS_BYTES → k ≤ MAX_RECORDS_BYTES
       → AllByRecursion (HasSize 2 (k + 1)) gs → AllByRecursion (AllByRecursion (IsChild s)) gs → AreAt bytes n (map (inner_page s.size) gs)
       → Trees s bytes (numbers (joined gs)) pages pairs → Up s bytes (numbers (child_entries last_entry_key n gs)) pages pairs
   up_trees k n [] pages pairs some room few sizes fits at t = record { all = pages; tree = t; times_are = λ r. omega arith }
@@ -161,7 +162,7 @@ module _ (s : PageLayout) (bytes : List ℕ) where
     pub tree : Trees s bytes (root ∷ []) pages pairs
     pub once : (r : ℕ) → times r pages ≤ 1
 
-  next : (k n m : ℕ) (ts : List ChildEntry) (pairs : List Pair) → 1 ≤ n → 2 ≤ k → k * s.size ≤ 504 → k ≤ 504 → length ts ≢ 1 → AllByRecursion (IsChild s) ts
+  next : (k n m : ℕ) (ts : List ChildEntry) (pairs : List Pair) → 1 ≤ n → 2 ≤ k → k * s.size ≤ MAX_RECORDS_BYTES → k ≤ MAX_RECORDS_BYTES → length ts ≢ 1 → AllByRecursion (IsChild s) ts
       → n + length (next_level k ts) ≡ m → AreAt bytes n (map (inner_page s.size) (next_level k ts)) → LevelTrees n ts pairs → LevelTrees m (child_entries last_entry_key n (next_level k ts)) pairs
   next k n m ts pairs some two room few many fits e at level =
       let gs : List (List ChildEntry) = next_level k ts in
@@ -178,7 +179,7 @@ module _ (s : PageLayout) (bytes : List ℕ) where
         under = λ r le. omega (arith, up.times_are r, level.under r (omega arith), run.over r le);
       }
 
-  pub levels_tree : (fuel k n root : ℕ) (ts : List ChildEntry) (pairs : List Pair) → 1 ≤ n → 2 ≤ k → 8 ≤ s.size → k * s.size ≤ 504 → k ≤ 504 → 1 ≤ length ts → length ts ≤ fuel
+  pub levels_tree : (fuel k n root : ℕ) (ts : List ChildEntry) (pairs : List Pair) → 1 ≤ n → 2 ≤ k → 8 ≤ s.size → k * s.size ≤ MAX_RECORDS_BYTES → k ≤ MAX_RECORDS_BYTES → 1 ≤ length ts → length ts ≤ fuel
       → n + length ts ≤ 2 ^ 32 → AllByRecursion (IsChild s) ts → last_number ts + 1 ≡ n → n + length (levels_above fuel k n ts) ≡ root + 1
       → AreAt bytes n (map (inner_page s.size) (levels_above fuel k n ts)) → LevelTrees n ts pairs → Rooted root pairs
   levels_tree zero k n root ts pairs some two eight room few one enough small fits last e at level = absurd (omega arith)
@@ -203,7 +204,7 @@ module _ (s : PageLayout) (bytes : List ℕ) where
 
   -- ---- the leaves
 
-  pub leaf_trees : (k n : ℕ) (gs : List (List Pair)) → 1 ≤ n → s.key_len + 8 ≤ s.size → k * s.size ≤ 504 → k ≤ 504 → AllByRecursion (HasSize 0 k) gs → AllByRecursion (AllByRecursion (Fits s)) gs
+  pub leaf_trees : (k n : ℕ) (gs : List (List Pair)) → 1 ≤ n → s.key_len + 8 ≤ s.size → k * s.size ≤ MAX_RECORDS_BYTES → k ≤ MAX_RECORDS_BYTES → AllByRecursion (HasSize 0 k) gs → AllByRecursion (AllByRecursion (Fits s)) gs
       → AreAt bytes n (map (leaf_page s.size) gs) → Trees s bytes (numbers (child_entries last_key n gs)) (numbers (child_entries last_key n gs)) (joined gs)
   leaf_trees k n [] some room fit few sizes fits at = none
   leaf_trees k n (g ∷ gs) some room fit few sizes fits at =
@@ -214,13 +215,13 @@ module _ (s : PageLayout) (bytes : List ℕ) where
 -- ---- the pages' lengths
 
 module _ (s : PageLayout) where
-  pub leaves_long : (k : ℕ) (gs : List (List Pair)) → s.key_len + 8 ≤ s.size → k * s.size ≤ 504 → AllByRecursion (HasSize 0 k) gs → AllByRecursion (AllByRecursion (Fits s)) gs
-      → AllByRecursion (λ p. length p ≡ 512) (map (leaf_page s.size) gs)
+  pub leaves_long : (k : ℕ) (gs : List (List Pair)) → s.key_len + 8 ≤ s.size → k * s.size ≤ MAX_RECORDS_BYTES → AllByRecursion (HasSize 0 k) gs → AllByRecursion (AllByRecursion (Fits s)) gs
+      → AllByRecursion (λ p. length p ≡ PAGE) (map (leaf_page s.size) gs)
   leaves_long k [] room fit sizes fits = tt
   leaves_long k (g ∷ gs) room fit sizes fits = (length_leaf_page s.size k g fit sizes.0.high (pairs_short s g room fits.0), leaves_long k gs room fit sizes.1 fits.1)
 
-  groups_long : (k : ℕ) (gs : List (List ChildEntry)) → k * s.size ≤ 504 → AllByRecursion (HasSize 2 (k + 1)) gs → AllByRecursion (AllByRecursion (IsChild s)) gs
-      → AllByRecursion (λ p. length p ≡ 512) (map (inner_page s.size) gs)
+  groups_long : (k : ℕ) (gs : List (List ChildEntry)) → k * s.size ≤ MAX_RECORDS_BYTES → AllByRecursion (HasSize 2 (k + 1)) gs → AllByRecursion (AllByRecursion (IsChild s)) gs
+      → AllByRecursion (λ p. length p ≡ PAGE) (map (inner_page s.size) gs)
   groups_long k [] fit sizes fits = tt
   groups_long k (g ∷ gs) fit sizes fits = (length_inner_page s.size k g fit (omega (arith, sizes.0.low)) sizes.0.high (entries_short s g fits.0), groups_long k gs fit sizes.1 fits.1)
 
@@ -229,10 +230,10 @@ module _ (s : PageLayout) where
   all_both P (p ∷ ps) qs h k = (h.0, all_both P ps qs h.1 k)
 
   pub record Above (k : ℕ) (ts : List ChildEntry) (above : List (List ChildEntry)) : Type 0 where
-    pub long : AllByRecursion (λ p. length p ≡ 512) (map (inner_page s.size) above)
+    pub long : AllByRecursion (λ p. length p ≡ PAGE) (map (inner_page s.size) above)
     pub few : length above ≤ length ts
 
-  pub levels_long : (fuel k n : ℕ) (ts : List ChildEntry) → 1 ≤ n → 2 ≤ k → 8 ≤ s.size → k * s.size ≤ 504 → n + length ts ≤ 2 ^ 32 → AllByRecursion (IsChild s) ts → Above k ts (levels_above fuel k n ts)
+  pub levels_long : (fuel k n : ℕ) (ts : List ChildEntry) → 1 ≤ n → 2 ≤ k → 8 ≤ s.size → k * s.size ≤ MAX_RECORDS_BYTES → n + length ts ≤ 2 ^ 32 → AllByRecursion (IsChild s) ts → Above k ts (levels_above fuel k n ts)
   levels_long zero k n ts some two eight fit small fits = record { long = tt; few = omega arith }
   levels_long (suc f) k n [] some two eight fit small fits = record { long = tt; few = omega arith }
   levels_long (suc f) k n (t ∷ []) some two eight fit small fits = record { long = tt; few = omega arith }
@@ -248,6 +249,6 @@ module _ (s : PageLayout) where
       let more = levels_long f k (n + length gs) ups (omega arith) two eight fit (omega arith) (next_fits s k n all some (omega arith) eight (omega arith) fits) in
       let pages = groups_long k gs fit (inner_groups k (length all) all two many) (all_groups (IsChild s) gs (rw join fits)) in
       record {
-        long = subst (λ ps. AllByRecursion (λ p. length p ≡ 512) ps) (sym (map-append (inner_page s.size) gs above)) (all_both (λ p. length p ≡ 512) (map (inner_page s.size) gs) (map (inner_page s.size) above) pages more.long);
+        long = subst (λ ps. AllByRecursion (λ p. length p ≡ PAGE) ps) (sym (map-append (inner_page s.size) gs above)) (all_both (λ p. length p ≡ PAGE) (map (inner_page s.size) gs) (map (inner_page s.size) above) pages more.long);
         few = omega (arith, length-append gs above, more.few);
       }

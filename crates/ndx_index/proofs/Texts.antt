@@ -4,6 +4,7 @@ use Rattle.std.specs.List.{AllByRecursion}
 use Rattle.std.proofs.lemmas.Bool.{ne_eqb, eq-eqb}
 use Rattle.std.proofs.lemmas.List.{reverse-append, reverse-reverse}
 use Rattle.std.proofs.Math.Seq.{take-suc}
+use Rattle.dbf_fields.specs.declared.format.TheConstants.{BLANK}
 use Rattle.ndx_index.specs.Header.{before_zero, trimmed_end}
 
 -- one more byte that isn't zero
@@ -29,20 +30,20 @@ zero_none (x ∷ xs) zero h = absurd (omega arith)
 zero_none (x ∷ xs) (suc i) h = ap (λ (ys : List ℕ). x ∷ ys) (zero_none xs i (omega arith))
 
 -- a blank at the end
-pub trim_step : (xs : List ℕ) (n d : ℕ) → n < length xs → get_or xs n d ≡ 32 → trimmed_end (take n xs) ≡ trimmed_end (take (suc n) xs)
+pub trim_step : (xs : List ℕ) (n d : ℕ) → n < length xs → get_or xs n d ≡ BLANK → trimmed_end (take n xs) ≡ trimmed_end (take (suc n) xs)
 unfolding trimmed_end
 trim_step xs n d lt e =
     let more : take (suc n) xs ≡ take n xs ++ get_or xs n d ∷ [] = take-suc xs n d lt in
-    rw (more, reverse-append (take n xs) (get_or xs n d ∷ []), eq-eqb (get_or xs n d) 32 e) refl
+    rw (more, reverse-append (take n xs) (get_or xs n d ∷ []), eq-eqb (get_or xs n d) BLANK e) refl
 
 -- no blank at the end
-pub trim_stop : (xs : List ℕ) (n d : ℕ) → n < length xs → get_or xs n d ≢ 32 → take (suc n) xs ≡ trimmed_end (take (suc n) xs)
+pub trim_stop : (xs : List ℕ) (n d : ℕ) → n < length xs → get_or xs n d ≢ BLANK → take (suc n) xs ≡ trimmed_end (take (suc n) xs)
 unfolding trimmed_end
 trim_stop xs n d lt ne =
     let more : take (suc n) xs ≡ take n xs ++ get_or xs n d ∷ [] = take-suc xs n d lt in
     let back : reverse (get_or xs n d ∷ reverse (take n xs)) ≡ take n xs ++ get_or xs n d ∷ [] =
     ap (λ (ys : List ℕ). reverse ys) (sym (reverse-append (take n xs) (get_or xs n d ∷ []))) ∙ reverse-reverse (take n xs ++ get_or xs n d ∷ []) in
-    rw (more, reverse-append (take n xs) (get_or xs n d ∷ []), ne_eqb (get_or xs n d) 32 ne) (sym back)
+    rw (more, reverse-append (take n xs) (get_or xs n d ∷ []), ne_eqb (get_or xs n d) BLANK ne) (sym back)
 
 -- only blanks
 pub trim_none : (xs : List ℕ) (n : ℕ) → n ≤ 0 → take n xs ≡ trimmed_end (take n xs)

@@ -3,6 +3,7 @@ use Rattle.std.proofs.Common.{◌≡◌, ◌≢◌, ℕ, ◌+◌, ◌*◌, ◌<�
 use Rattle.std.proofs.lemmas.Bool.{cases_eq, cases_lt, eq-eqb, ne_eqb, false≢true}
 use Rattle.std.proofs.lemmas.Bool.Decides.{nat_tests}
 use Rattle.std.proofs.lemmas.List.{reverse-append, reverse-reverse, append-nil, get_or-set_same, get_or-set_other, get_or_past, length-set}
+use Rattle.ndx_index.specs.declared.format.TheConstants.{PAGE}
 use Rattle.ndx_index.specs.declared.pair.Pair.{Pair}
 use Rattle.ndx_index.specs.declared.read.page.PageLayout.{PageLayout}
 use Rattle.ndx_index.specs.declared.fault.NdxFault.{NdxFault}
@@ -95,5 +96,5 @@ pub state_done : (s : PageLayout) (bytes : List ℕ) (root : ℕ) (visited : Lis
 state_done s bytes root visited pending so_far state none =
     (state.before ++ [], subst (λ ps. Visits s bytes [] (root ∷ []) (state.before ++ []) ps None) (append-nil so_far) (state.completes [] [] None (subst (λ xs. Visits s bytes state.seen (reverse xs) [] [] None) (sym none) done)))
 
-pub is_page_whole : (bytes : List ℕ) (p : ℕ) → is_page bytes p ≡ true → 512 * p + 512 ≤ length bytes
+pub is_page_whole : (bytes : List ℕ) (p : ℕ) → is_page bytes p ≡ true → PAGE * p + PAGE ≤ length bytes
 is_page_whole bytes p h = grind (arith, nat_tests)

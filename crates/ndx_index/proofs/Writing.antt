@@ -2,6 +2,8 @@
 use Rattle.std.proofs.Common.{◌≡◌, ℕ, zero, suc, ◌+◌, ◌-◌, ◌*◌, ◌≤◌, min, List, [], ◌∷◌, ◌++◌, Option, length, take, drop, replicate, refl, ap, sym, arith, length-append, length-drop}
 use Rattle.std.specs.Prelude.{flat_map}
 use Rattle.std.specs.List.{AllByRecursion}
+use Rattle.key_expr.specs.declared.format.TheConstants.{MAX_EXPRESSION_BYTES}
+use Rattle.ndx_index.specs.declared.format.TheConstants.{PAGE}
 use Rattle.ndx_index.specs.declared.pair.Pair.{Pair}
 use Rattle.byteorder.specs.Endian.{little_bytes}
 use Rattle.ndx_index.specs.Image.{groups, header_page, page_keys, record_size, leaf_record, leaf_page, filled_page}
@@ -12,12 +14,12 @@ use Rattle.dbf_image.proofs.Sinks.{grown_then}
 
 -- a leaf's parts, one after the other
 pub leaf_parts : (size : ℕ) (g : List Pair) → AllByRecursion (λ p. length p.key + 8 ≤ size) g
-    → (little_bytes 4 (length g) ++ flat_map (leaf_record size) g) ++ replicate (508 - length g * size) 0 ≡ leaf_page size g
+    → (little_bytes 4 (length g) ++ flat_map (leaf_record size) g) ++ replicate (PAGE - 4 - length g * size) 0 ≡ leaf_page size g
 unfolding leaf_page filled_page
 leaf_parts size g h =
     let front : List ℕ = little_bytes 4 (length g) in
     let body : List ℕ = flat_map (leaf_record size) g in
-    let long : 512 - length (front ++ body) ≡ 508 - length g * size = omega (arith, length-append front body, length_pairs size g h) in
+    let long : PAGE - length (front ++ body) ≡ PAGE - 4 - length g * size = omega (arith, length-append front body, length_pairs size g h) in
     ap (λ (n : ℕ). (front ++ body) ++ replicate n 0) (sym long)
 
 -- more fuel makes no other groups
@@ -77,25 +79,25 @@ groups_step page group_size n rest e some each =
 -- ---- the header
 
 header_parts : (text : List ℕ) (key_len root : ℕ) (o : Option (List ℕ))
-    → grown (grown (grown (grown (grown (grown (grown (grown (grown (grown o (little_bytes 4 root)) (little_bytes 4 (root + 1))) (replicate 4 0)) (little_bytes 2 key_len)) (little_bytes 2 (page_keys key_len))) (replicate 2 0)) (little_bytes 2 (record_size key_len))) (replicate 4 0)) text) (replicate (488 - length text) 0)
+    → grown (grown (grown (grown (grown (grown (grown (grown (grown (grown o (little_bytes 4 root)) (little_bytes 4 (root + 1))) (replicate 4 0)) (little_bytes 2 key_len)) (little_bytes 2 (page_keys key_len))) (replicate 2 0)) (little_bytes 2 (record_size key_len))) (replicate 4 0)) text) (replicate (MAX_EXPRESSION_BYTES - length text) 0)
     ≡ grown o (header_page text key_len (root + 1))
 unfolding header_page filled_page
 header_parts text key_len root o =
     let less : root + 1 - 1 ≡ root = omega arith in
     let n : ℕ = root + 1 in
-    let zs : List ℕ = replicate (488 - length text) 0 in
+    let zs : List ℕ = replicate (MAX_EXPRESSION_BYTES - length text) 0 in
     let a : List ℕ = little_bytes 4 root in
     let b : List ℕ = little_bytes 4 n in
     let c : List ℕ = little_bytes 2 key_len in
     let d : List ℕ = little_bytes 2 (page_keys key_len) in
     let e : List ℕ = little_bytes 2 (record_size key_len) in
     let front : List ℕ = a ++ (b ++ (replicate 4 0 ++ (c ++ (d ++ (0 ∷ 0 ∷ (e ++ (0 ∷ 0 ∷ 0 ∷ 0 ∷ text))))))) in
-    let long : 512 - length front ≡ 488 - length text = omega arith in
-    let whole : grown o (front ++ zs) ≡ grown o (front ++ replicate (512 - length front) 0) = ap (λ (m : ℕ). grown o (front ++ replicate m 0)) (sym long) in
+    let long : PAGE - length front ≡ MAX_EXPRESSION_BYTES - length text = omega arith in
+    let whole : grown o (front ++ zs) ≡ grown o (front ++ replicate (PAGE - length front) 0) = ap (λ (m : ℕ). grown o (front ++ replicate m 0)) (sym long) in
     rw less (simp grown_then whole)
 
 -- the header's parts, put one after the other
 pub header_puts : (w : Wanted) (text : List ℕ) (key_len root : ℕ)
-    → more (more (more (more (more (more (more (more (more (more w (little_bytes 4 root)) (little_bytes 4 (root + 1))) (replicate 4 0)) (little_bytes 2 key_len)) (little_bytes 2 (page_keys key_len))) (replicate 2 0)) (little_bytes 2 (record_size key_len))) (replicate 4 0)) text) (replicate (488 - length text) 0)
+    → more (more (more (more (more (more (more (more (more (more w (little_bytes 4 root)) (little_bytes 4 (root + 1))) (replicate 4 0)) (little_bytes 2 key_len)) (little_bytes 2 (page_keys key_len))) (replicate 2 0)) (little_bytes 2 (record_size key_len))) (replicate 4 0)) text) (replicate (MAX_EXPRESSION_BYTES - length text) 0)
     ≡ more w (header_page text key_len (root + 1))
 header_puts w text key_len root = ap (λ (o : Option (List ℕ)). record { begun = w.begun; written = o; failures = w.failures }) (header_parts text key_len root w.written)

@@ -1,6 +1,7 @@
 -- The header of an index file, and the whole file.
 use Rattle.std.specs.Prelude.{◌≡◌, ◌+◌, ℕ, List, [], ◌∷◌, length, drop, reverse, slice_index, slice_range, nat_le, Bool, ◌==◌, ◌⊎◌, Option, Some, None, if◌then◌else◌}
 use Rattle.std.specs.Int.{is_in_range}
+use Rattle.dbf_fields.specs.declared.format.TheConstants.{BLANK}
 use Rattle.byteorder.specs.Endian.{little_number}
 use Rattle.dbf_fields.specs.Faults.{first_fault}
 use Rattle.ndx_index.specs.declared.pair.Pair.{Pair}
@@ -42,7 +43,7 @@ before_zero (b ∷ bs) = if b == 0 then [] else b ∷ before_zero bs
 -- without the blanks at the front
 abbrev pub after_blanks : List ℕ → List ℕ
 after_blanks [] = []
-after_blanks (b ∷ bs) = if b == 32 then after_blanks bs else b ∷ bs
+after_blanks (b ∷ bs) = if b == BLANK then after_blanks bs else b ∷ bs
 
 -- without the blanks at the end
 unfoldable pub trimmed_end : List ℕ → List ℕ

@@ -1,6 +1,8 @@
 pub mod Index
 pub mod Order
 pub mod TableOrder
+pub mod Places
+pub mod Laws
 pub mod Pages
 pub mod NdxTree
 pub mod Walks

@@ -1,8 +1,9 @@
 -- Pairs of a key and a record number, and lists of them in order.
-use Rattle.std.specs.Prelude.{ℕ, Bool, not, List, [], ◌∷◌, if◌then◌else◌, filter, find, Option, reverse}
+use Rattle.std.specs.Prelude.{ℕ, Bool, not, nat_eq, List, [], ◌∷◌, if◌then◌else◌, filter, find, Option, Some, None, reverse}
 use Rattle.std.specs.Ordering.{nat_cmp, ordering_then, is_lt, is_eq}
 use Rattle.std.specs.declared.cmp.Ordering.{Ordering}
 use Rattle.std.specs.Cmp.Lexicographic.{slice_cmp}
+use Rattle.std.specs.List.{starts_with}
 use Rattle.std.specs.List.Sorted.{IsStrictlySortedBy}
 use Rattle.ndx_index.specs.declared.pair.Pair.{Pair}
 
@@ -42,6 +43,19 @@ reaches prefix p = not (is_lt (slice_cmp nat_cmp p.key prefix))
 -- the least pair whose key isn't below the prefix
 abbrev pub first_from : List ℕ → List Pair → Option Pair
 first_from prefix ps = find (reaches prefix) ps
+
+-- the key begins with the text
+abbrev pub begins_with : List ℕ → Pair → Bool
+begins_with text p = starts_with nat_eq p.key text
+
+-- the pair that there is, where its key begins with the text
+abbrev pub if_begins_with : List ℕ → Option Pair → Option Pair
+if_begins_with text None = None
+if_begins_with text (Some p) = if begins_with text p then Some p else None
+
+-- the first pair whose key begins with the text
+abbrev pub first_with : List ℕ → List Pair → Option Pair
+first_with text ps = find (begins_with text) ps
 
 -- the least pair above p
 abbrev pub next_of : Pair → List Pair → Option Pair

@@ -9,6 +9,10 @@
 //! Start with specs/Order.antt (the order), specs/NdxTree.antt (the tree and its walk), specs/Header.antt
 //! (when bytes are an index file) and specs/Image.antt (the file that is written). Then src/index.rt holds
 //! the ordered index; src/read.rt with src/read/ reads a file, and src/write.rt with src/write/ writes one.
+//!
+//! What follows from the definitions, and callers' proofs may cite, stands in specs/Laws/ with its proofs: a
+//! record's pair put in and taken out, the pair after and the one before, where a record stands, and where
+//! the keys that begin with a text are.
 #![tactic(auto)]
 
 ghost use Rattle.std.specs.Prelude.{◌≡◌, ◌≢◌, ◌↔◌, ℕ, List, [], ◌∷◌, Option, None, IsPermutation, IsSorted};

@@ -1,48 +1,88 @@
 -- The replay and the answers of a journal with one entry more.
-use Rattle.std.proofs.Common.{◌≡◌, ℕ, ◌<◌, List, [], ◌∷◌, ◌++◌, length, map, get_or, refl, sym, ap, ◌∙◌, arith, length-append}
-use Rattle.std.proofs.lemmas.List.{length-map}
+use Rattle.std.proofs.Common.{◌≡◌, ◌≢◌, ℕ, ◌-◌, ◌<◌, ◌≤◌, List, [], ◌∷◌, ◌++◌, length, map, get_or, slice_index_or, Ok, Err, refl, sym, ap, subst, ◌∙◌, arith, length-append}
+use Rattle.std.specs.Prelude.{IfOk}
 use Rattle.std.proofs.Math.ListN.{get_or-map}
 use Rattle.dbf_fields.specs.declared.field.Field.{Field}
-use Rattle.dbf_image.specs.Table.{Table, empty_table}
+use Rattle.table_core.specs.Content.{Content, Indexed}
 use Rattle.shared_catalogue.specs.declared.catalogue.TheConstants.{MAX_ENTRIES}
 use Rattle.shared_catalogue.specs.declared.entry.Entry.{Entry}
+use Rattle.shared_catalogue.specs.Kept.{IsKept}
+use Rattle.shared_catalogue.specs.declared.opening.TheConstants.{MAX_TABLES}
 use Rattle.shared_catalogue.specs.declared.source.TableSource.{TableSource}
-use Rattle.shared_catalogue.specs.State.{State, table_at}
-use Rattle.shared_catalogue.specs.Step.{step}
-use Rattle.shared_catalogue.specs.Replay.{Opened, after, replay, start, LegalFrom, IsKept}
-use Rattle.shared_catalogue.proofs.StepLaws.{schemas_of, schemas_step}
+use Rattle.shared_catalogue.specs.Replay.{NamedTable, Opened, named_table, opened_at, opened_as, after, start, LegalFrom}
+use Rattle.shared_catalogue.specs.declared.command.Command.{Command}
+use Rattle.shared_catalogue.specs.State.{State, new_station, no_content, table_at, shape_of, shapes_of, IsState, HasStation}
+use Rattle.shared_catalogue.specs.Step.{Outcome, outcome, settled, step}
+use Rattle.shared_catalogue.proofs.NextLaws.{IsNext}
+use Rattle.shared_catalogue.proofs.StartLaws.{start_is}
+use Rattle.shared_catalogue.proofs.StepLaws.{next_outcome}
+use Rattle.std.proofs.lemmas.List.{length-map, length-replicate}
 
-same_schema_at : (xs ys : List Table) (index : ℕ) → schemas_of xs ≡ schemas_of ys → (table_at xs index).schema ≡ (table_at ys index).schema
-same_schema_at xs ys index e = sym (get_or-map (λ (t : Table). t.schema) xs index (empty_table [])) ∙ ap (λ (l : List (List Field)). get_or l index []) e ∙ get_or-map (λ (t : Table). t.schema) ys index (empty_table [])
-
-pub after-push : (s : State) (es : List Entry) (e : Entry) → after s (es ++ e ∷ []) ≡ (step (after s es) e.command).0
+pub after-push : (s : State) (es : List Entry) (e : Entry) → after s (es ++ e ∷ []) ≡ (step (after s es) e.station e.command).0
 after-push s [] e = refl
-after-push s (x ∷ xs) e = after-push (step s x.command).0 xs e
+after-push s (x ∷ xs) e = after-push (step s x.station x.command).0 xs e
 
-pub legal-push : (s : State) (es : List Entry) (e : Entry) → LegalFrom s es → e.answer ≡ (step (after s es) e.command).1 → LegalFrom s (es ++ e ∷ [])
+pub legal-push : (s : State) (es : List Entry) (e : Entry) → LegalFrom s es → e.answer ≡ (step (after s es) e.station e.command).1 → LegalFrom s (es ++ e ∷ [])
 legal-push s [] e legal answer = (answer, tt)
-legal-push s (x ∷ xs) e legal answer = (legal.0, legal-push (step s x.command).0 xs e legal.1 answer)
+legal-push s (x ∷ xs) e legal answer = (legal.0, legal-push (step s x.station x.command).0 xs e legal.1 answer)
 
-schemas_after : (s : State) (es : List Entry) → schemas_of (after s es).tables ≡ schemas_of s.tables
-schemas_after s [] = refl
-schemas_after s (e ∷ es) = schemas_after (step s e.command).0 es ∙ schemas_step s e.command
+-- a state has each of its stations
+pub has_station : (s : State) (station : ℕ) → IsState s → 1 ≤ station → station ≤ length s.stations → HasStation s station
+has_station s station ok h i = record { counted = h; inside = i; each = ok.each (station - 1) (omega arith) }
 
--- there are as many tables as were opened
-pub length_replay : (opened : Opened) (journal : List Entry) → length (replay opened journal).tables ≡ length opened.tables
-length_replay opened journal =
-    sym (length-map (replay opened journal).tables (λ (t : Table). t.schema)) ∙ ap (λ (l : List (List Field)). length l) (schemas_after (start opened) journal)
-    ∙ length-map (map (λ (t : TableSource). t.content) opened.tables) (λ (t : Table). t.schema) ∙ length-map opened.tables (λ (t : TableSource). t.content)
+-- what a step keeps
+pub record IsStepped (s t : State) (station : ℕ) : Type 0 where
+  pub state : IsState t
+  pub stations : length t.stations ≡ length s.stations
+  pub shapes : shapes_of t.tables ≡ shapes_of s.tables
+  pub others : (b : ℕ) → b ≢ station - 1 → slice_index_or t.stations b new_station ≡ slice_index_or s.stations b new_station
 
--- a table has the fields with which it was opened
-pub schema_replay : (opened : Opened) (journal : List Entry) (index : ℕ) → (table_at (replay opened journal).tables index).schema ≡ (table_at (map (λ (t : TableSource). t.content) opened.tables) index).schema
-schema_replay opened journal index =
-    same_schema_at (replay opened journal).tables (map (λ (t : TableSource). t.content) opened.tables) index (schemas_after (start opened) journal)
+stepped_settled : (s : State) (station : ℕ) (o : Outcome) → IsState s → IfOk o (IsNext s station) → IsStepped s (settled s o).0 station
+stepped_settled s station (Ok end) ok next = record { state = next.state; stations = next.stations; shapes = next.shapes; others = next.others }
+stepped_settled s station (Err refusal) ok next = record { state = ok; stations = refl; shapes = refl; others = λ b _. refl }
+
+pub is_stepped : (s : State) (station : ℕ) (command : Command) → IsState s → HasStation s station → IsStepped s (step s station command).0 station
+is_stepped s station command ok has = stepped_settled s station (outcome s station command) ok (next_outcome s station command ok has)
 
 -- a catalogue that keeps its journal keeps it with the entry of a command that was performed
-pub kept_push : (opened : Opened) (s : State) (journal : List Entry) (e : Entry) → IsKept opened s journal → e.answer ≡ (step s e.command).1 → length journal < MAX_ENTRIES
-    → IsKept opened (step s e.command).0 (journal ++ e ∷ [])
-kept_push opened s journal e kept answer few = record {
-  replayed = ap (λ (t : State). (step t e.command).0) kept.replayed ∙ sym (after-push (start opened) journal e);
-  legal = legal-push (start opened) journal e kept.legal (answer ∙ ap (λ (t : State). (step t e.command).1) kept.replayed);
-  few = omega (arith, length-append journal (e ∷ []));
-}
+pub kept_push : (opened : Opened) (s : State) (journal : List Entry) (e : Entry) → IsKept opened s journal → HasStation s e.station → e.answer ≡ (step s e.station e.command).1 → length journal < MAX_ENTRIES
+    → IsKept opened (step s e.station e.command).0 (journal ++ e ∷ [])
+kept_push opened s journal e kept has answer few =
+    let next = is_stepped s e.station e.command kept.ok has in
+    record {
+      replayed = ap (λ (t : State). (step t e.station e.command).0) kept.replayed ∙ sym (after-push (start opened) journal e);
+      legal = legal-push (start opened) journal e kept.legal (answer ∙ ap (λ (t : State). (step t e.station e.command).1) kept.replayed);
+      few = omega (arith, length-append journal (e ∷ []));
+      ok = next.state;
+      stations = next.stations ∙ kept.stations;
+      shapes = next.shapes ∙ kept.shapes;
+    }
+
+-- what was just opened is kept by the state at opening
+pub opened_kept : (n : ℕ) (sources : List TableSource) (s : State) → s ≡ start (opened_as n sources) → length sources ≤ MAX_TABLES → IsKept (opened_as n sources) s []
+opened_kept n sources s at few =
+    let opened = opened_as n sources in
+    let P : State → Type 0 = IsState in
+    record {
+      replayed = at;
+      legal = tt;
+      few = omega arith;
+      ok = subst P (sym at) (start_is opened (omega (arith, few, length-map sources named_table)));
+      stations = ap (λ (t : State). length t.stations) at ∙ length-replicate n new_station;
+      shapes = ap (λ (t : State). shapes_of t.tables) at;
+    }
+
+-- there are as many tables as were opened
+pub kept_tables : (opened : Opened) (s : State) (journal : List Entry) → IsKept opened s journal → length s.tables ≡ length opened.tables
+kept_tables opened s journal kept =
+    sym (length-map s.tables shape_of) ∙ ap (λ (shapes : List (List Field × List Indexed)). length shapes) kept.shapes
+    ∙ length-map (map (λ (t : NamedTable). t.content) opened.tables) shape_of ∙ length-map opened.tables (λ (t : NamedTable). t.content)
+
+same_shape_at : (xs ys : List Content) (number : ℕ) → shapes_of xs ≡ shapes_of ys → (table_at xs number).table.schema ≡ (table_at ys number).table.schema
+same_shape_at xs ys number e =
+    ap (λ (shape : List Field × List Indexed). shape.0)
+    (sym (get_or-map shape_of xs (number - 1) no_content) ∙ ap (λ (l : List (List Field × List Indexed)). get_or l (number - 1) (shape_of no_content)) e ∙ get_or-map shape_of ys (number - 1) no_content)
+
+-- a table has the fields with which it was opened
+pub kept_fields : (opened : Opened) (s : State) (journal : List Entry) (number : ℕ) → IsKept opened s journal → (table_at s.tables number).table.schema ≡ (opened_at opened number).table.schema
+kept_fields opened s journal number kept = same_shape_at s.tables (map (λ (t : NamedTable). t.content) opened.tables) number kept.shapes

@@ -1,8 +1,11 @@
-pub mod Refusals
-pub mod Shown
+pub mod Names
 pub mod State
-pub mod CellFaults
 pub mod Step
-pub mod Planned
-pub mod Replay
 pub mod Opening
+pub mod Replay
+pub mod Kept
+pub mod Rooms
+pub mod Planned
+pub mod OwnCalls
+pub mod Seats
+pub mod Status

@@ -8,13 +8,13 @@ use Rattle.shared_catalogue.specs.declared.opening.OpenFault.TheVariants.{NoStat
 use Rattle.shared_catalogue.specs.declared.source.TableSource.{TableSource}
 
 -- one of the tables has the name
-abbrev pub has_name : List TableSource → List ℕ → Bool
-has_name tables name = list_any (λ t. bytes_eq t.name name) tables
+abbrev pub has_table : List TableSource → List ℕ → Bool
+has_table tables name = list_any (λ t. bytes_eq name t.name) tables
 
 -- the tests of the tables from one on, after the earlier ones; tables count from 1
 abbrev pub table_tests : List TableSource → List TableSource → List (Bool × OpenFault)
 table_tests earlier [] = []
-table_tests earlier (t ∷ ts) = (not (has_name earlier t.name), DuplicateTable (length earlier + 1)) ∷ table_tests (earlier ++ t ∷ []) ts
+table_tests earlier (t ∷ ts) = (not (has_table earlier t.name), DuplicateTable (length earlier + 1)) ∷ table_tests (earlier ++ t ∷ []) ts
 
 -- each test beside the fault that it is for: first the counts, then table by table
 abbrev pub open_tests : List TableSource → ℕ → List (Bool × OpenFault)

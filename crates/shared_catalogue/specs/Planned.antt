@@ -1,66 +1,59 @@
--- What a plan makes of a state.
-use Rattle.std.specs.Prelude.{◌≡◌, ◌≢◌, ℕ, true, List, ◌<◌, ◌≤◌, length, Some, Result, Ok, Err, IsOk}
-use Rattle.dbf_fields.specs.declared.format.TheConstants.{MEMO}
-use Rattle.dbf_image.specs.declared.format.TheConstants.{MAX_RECORDS}
-use Rattle.dbf_fields.specs.Layout.{width_of}
-use Rattle.dbf_image.specs.Table.{kind_at, is_memo_text}
+-- What a plan makes of a state, and when it can be carried out.
+use Rattle.std.specs.Prelude.{◌≡◌, ℕ, ◌≤◌, true, Option, Some, None, Result, Ok, Err}
+use Rattle.lock_table.specs.Locks.{free_record, free_whole, with_lock, without_all}
+use Rattle.table_core.specs.declared.refusal.Refusal.{Refusal}
+use Rattle.table_core.specs.declared.edits.planned.Planned.{Planned}
+use Rattle.table_core.specs.Planned.{changed as table_changed, cursor_after, IsPlanned}
 use Rattle.shared_catalogue.specs.declared.answer.Answer.{Answer}
-use Rattle.shared_catalogue.specs.declared.answer.Refusal.{Refusal}
-use Rattle.shared_catalogue.specs.declared.area.Target.{Target}
+use Rattle.shared_catalogue.specs.declared.area.Area.{Area}
 use Rattle.shared_catalogue.specs.declared.change.Change.{Change}
-use Rattle.shared_catalogue.specs.declared.change.Change.TheVariants.{Nothing, Open, GoTo, AppendBlank, Replace, Memo}
+use Rattle.shared_catalogue.specs.declared.change.Change.TheVariants.{Nothing, Select, Close, Open, Move, Edit, Pack, LockRecord, LockFile, Unlock, UnlockAll}
 use Rattle.shared_catalogue.specs.declared.change.Plan.{Plan}
-use Rattle.shared_catalogue.specs.declared.fault.CommandFault.{CommandFault}
-use Rattle.shared_catalogue.specs.declared.fault.CommandFault.TheVariants.{Refused, NoMemory}
-use Rattle.shared_catalogue.specs.State.{State, area_table, record_count, with_opened, with_cursor_at, with_blank, with_value}
+use Rattle.shared_catalogue.specs.Rooms.{WithRoom, seen, held_at}
+use Rattle.shared_catalogue.specs.State.{State, area_of, table_of, with_current, with_area, with_cursor, with_held, without_lock, closed}
+use Rattle.shared_catalogue.specs.Step.{Outcome, with_edit}
 
--- the state after a change
-abbrev pub changed : State → Change → State
-changed s Nothing = s
-changed s (Open table exclusive) = with_opened s table exclusive
-changed s (GoTo area number) = with_cursor_at s area number
-changed s (AppendBlank area) = with_blank s area
-changed s (Replace target cell) = with_value s target.area target.number target.field cell
-changed s (Memo target text) = with_value s target.area target.number target.field text
+-- what becomes of the state by the area, where a table is open in it
+abbrev pub on_area : Option Area → State → (Area → State) → State
+on_area None s act = s
+on_area (Some area) s act = act area
+
+-- the area's table and cursor after a planned edit
+abbrev pub with_planned : State → ℕ → Area → Planned → State
+with_planned s station area planned = with_edit s station area (table_changed (table_of s area) planned, cursor_after (table_of s area) area.cursor planned)
+
+-- the state after a station's change
+abbrev pub changed : State → ℕ → Change → State
+changed s station Nothing = s
+changed s station (Select number) = with_current s station number
+changed s station Close = closed s station
+changed s station (Open area) = with_area (closed s station) station (Some area)
+changed s station (Move cursor) = on_area (area_of s station) s (λ area. with_cursor s station area cursor)
+changed s station (Edit planned) = on_area (area_of s station) s (λ area. with_planned s station area planned)
+changed s station (Pack planned) = on_area (area_of s station) s (λ area. without_lock (with_planned s station area planned) station (Some area))
+changed s station (LockRecord number) = on_area (area_of s station) s (λ area. with_held s (with_lock s.locks.locks station area.table number))
+changed s station LockFile = on_area (area_of s station) s (λ area. with_held s (with_lock s.locks.locks station area.table 0))
+changed s station Unlock = without_lock s station (area_of s station)
+changed s station UnlockAll = with_held s (without_all s.locks.locks station)
 
 -- the state and the answer of a plan
-abbrev pub planned : State → Plan → State × Answer
-planned s plan = (changed s plan.change, plan.answer)
+abbrev pub planned : State → ℕ → Plan → State × Answer
+planned s station plan = (changed s station plan.change, plan.answer)
 
--- the outcome of a plan, or its refusal
-abbrev pub outcome_of : State → Result Plan Refusal → Result (State × Answer) Refusal
-outcome_of s (Ok plan) = Ok (planned s plan)
-outcome_of s (Err refusal) = Err refusal
+-- the outcome of a plan or a refusal
+abbrev pub outcome_of : State → ℕ → Result Plan Refusal → Outcome
+outcome_of s station (Ok plan) = Ok (planned s station plan)
+outcome_of s station (Err refusal) = Err refusal
 
--- a fault is the refusal of the outcome, and want of memory comes only where the outcome is no refusal
-abbrev pub IsFaultOf : CommandFault → Result (State × Answer) Refusal → Type 0
-IsFaultOf (Refused refusal) outcome = outcome ≡ Err refusal
-IsFaultOf NoMemory outcome = IsOk outcome
-
--- a field of a record of the area's table, to be changed
-pub record IsTarget (s : State) (t : Target) : Type 0 where
-  pub current : s.area ≡ Some t.area
-  pub counted : 1 ≤ t.number
-  pub inside : t.number ≤ record_count s t.area
-  pub field_is : t.field < length (area_table s t.area).schema
-
--- a cell that can be replaced by so many bytes
-pub record IsCell (s : State) (t : Target) (width : ℕ) : Type 0 where
-  pub target : IsTarget s t
-  pub kind : kind_at (area_table s t.area).schema t.field ≢ MEMO
-  pub wide : width ≡ width_of (area_table s t.area).schema t.field
-
--- a memo that can be replaced by this text
-pub record IsMemo (s : State) (t : Target) (text : List ℕ) : Type 0 where
-  pub target : IsTarget s t
-  pub kind : kind_at (area_table s t.area).schema t.field ≡ MEMO
-  pub text_is : is_memo_text text ≡ true
+-- a fact of the area with a table in it, and that there is one
+abbrev pub ForArea : Option Area → (Area → Type 0) → Type 0
+ForArea None fact = ⊥
+ForArea (Some area) fact = fact area
 
 -- the change can be made of the state
-abbrev pub CanChange : State → Change → Type 0
-CanChange s Nothing = Unit {0}
-CanChange s (Open table exclusive) = table < length s.tables
-CanChange s (GoTo area number) = (s.area ≡ Some area) × ((1 ≤ number) × (number ≤ record_count s area))
-CanChange s (AppendBlank area) = (s.area ≡ Some area) × (record_count s area < MAX_RECORDS)
-CanChange s (Replace target cell) = IsCell s target (length cell)
-CanChange s (Memo target text) = IsMemo s target text
+abbrev pub CanChange : WithRoom → ℕ → Change → Type 0
+CanChange w station (Edit planned) = ForArea (area_of (seen w) station) (λ area. IsPlanned (held_at w.tables area.table) planned)
+CanChange w station (Pack planned) = ForArea (area_of (seen w) station) (λ area. IsPlanned (held_at w.tables area.table) planned)
+CanChange w station (LockRecord number) = ForArea (area_of (seen w) station) (λ area. (1 ≤ number) × (free_record w.locks.locks station area.table number ≡ true))
+CanChange w station LockFile = ForArea (area_of (seen w) station) (λ area. free_whole w.locks.locks station area.table ≡ true)
+CanChange w station _ = Unit {0}

@@ -1,80 +1,174 @@
--- What commands read and change: the tables, and the area in which one of them may be open.
-use Rattle.std.specs.Prelude.{◌≡◌, ℕ, ◌+◌, ◌<◌, ◌≤◌, Bool, nat_lt, bytes_eq, if◌then◌else◌, List, [], length, slice_index_or, slice_set, Option, Some, None}
-use Rattle.std.specs.List.{position}
+-- What commands read and change: the tables, the locks, and the areas of each station. Tables, stations,
+-- areas and records count from 1.
+use Rattle.std.specs.Prelude.{◌≡◌, ◌≢◌, ℕ, ◌-◌, ◌<◌, ◌≤◌, Bool, false, ◌&&◌, ◌||◌, ◌==◌, List, [], ◌++◌, length, map, take, drop, replicate, slice_index_or, slice_set, Option, Some, None}
+use Rattle.std.specs.List.{list_any}
+use Rattle.dbf_image.specs.Table.{empty_table}
+use Rattle.lock_table.specs.Locks.{Lock, Held, held, without, IsHeld, AreApart}
+use Rattle.table_core.specs.declared.cursor.Cursor.{Cursor}
 use Rattle.dbf_fields.specs.declared.field.Field.{Field}
-use Rattle.dbf_image.specs.Table.{Table, empty_table, with_row, with_cell, blank_row}
+use Rattle.table_core.specs.Content.{Content, Indexed}
+use Rattle.table_core.specs.Cursors.{IsCursor}
 use Rattle.shared_catalogue.specs.declared.area.Area.{Area}
+use Rattle.shared_catalogue.specs.declared.area.Station.{Station}
+use Rattle.shared_catalogue.specs.declared.area.TheConstants.{MAX_AREAS}
+use Rattle.shared_catalogue.specs.declared.opening.TheConstants.{MAX_TABLES}
 
--- the tables by their indexes from 0, each with its name, and the area, where a table is open in it
+-- the tables with their names, the locks that are held, and the areas of each station
 pub record State : Type 0 where
   pub names : List (List ℕ)
-  pub tables : List Table
-  pub area : Option Area
+  pub tables : List Content
+  pub locks : Held
+  pub stations : List Station
 
--- the table of an index
-abbrev pub table_at : List Table → ℕ → Table
-table_at tables index = slice_index_or tables index (empty_table [])
+-- a station at opening: area 1 is the current one, and no table is open in any
+abbrev pub new_station : Station
+new_station = record { current = 1; areas = replicate MAX_AREAS None }
 
--- the index of the table of a name
-abbrev pub index_named : State → List ℕ → Option ℕ
-index_named s name = position (λ n. bytes_eq n name) s.names
+-- the station of a number
+abbrev pub station_in : List Station → ℕ → Station
+station_in stations station = slice_index_or stations (station - 1) new_station
+
+abbrev pub station_at : State → ℕ → Station
+station_at s station = station_in s.stations station
+
+-- the station's current area, where a table is open in it
+abbrev pub area_in : List Station → ℕ → Option Area
+area_in stations station = slice_index_or (station_in stations station).areas ((station_in stations station).current - 1) None
+
+abbrev pub area_of : State → ℕ → Option Area
+area_of s station = area_in s.stations station
+
+-- a table without fields, records and indexes
+abbrev pub no_content : Content
+no_content = record { table = empty_table []; indexes = [] }
+
+-- the table of a number
+abbrev pub table_at : List Content → ℕ → Content
+table_at tables number = slice_index_or tables (number - 1) no_content
 
 -- the table that is open in an area
-abbrev pub area_table : State → Area → Table
-area_table s area = table_at s.tables area.table
+abbrev pub table_of : State → Area → Content
+table_of s area = table_at s.tables area.table
 
--- how many records that table has
-abbrev pub record_count : State → Area → ℕ
-record_count s area = length (area_table s area).rows
+-- the station's areas beside the current one
+abbrev pub other_areas : Station → List (Option Area)
+other_areas st = take (st.current - 1) st.areas ++ drop st.current st.areas
 
--- the index of that table's field of a name
-abbrev pub field_named : State → Area → List ℕ → Option ℕ
-field_named s area name = position (λ f. bytes_eq f.name name) (area_table s area).schema
+-- the stations beside the one of a number
+abbrev pub other_stations : List Station → ℕ → List Station
+other_stations stations station = take (station - 1) stations ++ drop station stations
 
--- the field of an index in that table
-abbrev pub field_at : State → Area → ℕ → Field
-field_at s area index = slice_index_or (area_table s area).schema index (record { name = []; kind = 0; width = 0; decimals = 0 })
+-- the table is open in the area
+abbrev pub has_open : ℕ → Option Area → Bool
+has_open number None = false
+has_open number (Some area) = area.table == number
 
--- the cursor at the top: the first record, or the end where there is none
-abbrev pub top_of : Table → Option ℕ
-top_of table = if nat_lt 0 (length table.rows) then Some 1 else None
+-- the table is open in the area, and one of the two wants it exclusively
+abbrev pub bars : ℕ → Bool → Option Area → Bool
+bars number exclusive None = false
+bars number exclusive (Some area) = area.table == number && (area.exclusive || exclusive)
 
--- the state with this area
-abbrev pub with_area : State → Area → State
-with_area s area = record { names = s.names; tables = s.tables; area = Some area }
+-- the table is open in another area of the station
+abbrev pub is_open_beside : List Station → ℕ → ℕ → Bool
+is_open_beside stations station number = list_any (has_open number) (other_areas (station_in stations station))
 
--- the state with another table at a index
-abbrev pub with_table : State → ℕ → Table → State
-with_table s index table = record { names = s.names; tables = slice_set s.tables index table; area = s.area }
+-- another station has the table open, and one of the two wants it exclusively
+abbrev pub is_in_use : List Station → ℕ → ℕ → Bool → Bool
+is_in_use stations station number exclusive = list_any (λ st. list_any (bars number exclusive) st.areas) (other_stations stations station)
 
--- the table of a index is open in the area, with the cursor at the top
-abbrev pub with_opened : State → ℕ → Bool → State
-with_opened s index exclusive = with_area s (record { table = index; exclusive = exclusive; at = top_of (table_at s.tables index) })
+-- another area is the current one of a station
+abbrev pub with_current_in : List Station → ℕ → ℕ → List Station
+with_current_in stations station number = slice_set stations (station - 1) (record { current = number; areas = (station_in stations station).areas })
 
--- the cursor is at a record
-abbrev pub with_cursor_at : State → Area → ℕ → State
-with_cursor_at s area number = with_area s (record { table = area.table; exclusive = area.exclusive; at = Some number })
+-- this is in the current area of a station
+abbrev pub with_area_in : List Station → ℕ → Option Area → List Station
+with_area_in stations station area =
+    slice_set stations (station - 1) (record {
+      current = (station_in stations station).current;
+      areas = slice_set (station_in stations station).areas ((station_in stations station).current - 1) area;
+    })
 
--- the area's table has one more record, of blanks, and the cursor is at it
-abbrev pub with_blank : State → Area → State
-with_blank s area =
-    with_cursor_at (with_table s area.table (with_row (area_table s area) (blank_row (area_table s area).schema))) area (record_count s area + 1)
+-- the state with another table of a number, with other locks, or with other stations
+abbrev pub with_table : State → ℕ → Content → State
+with_table s number table = record { names = s.names; tables = slice_set s.tables (number - 1) table; locks = s.locks; stations = s.stations }
 
--- a cell of the area's table is replaced, or the text of a memo
-abbrev pub with_value : State → Area → ℕ → ℕ → List ℕ → State
-with_value s area number field cell = with_table s area.table (with_cell (area_table s area) number field cell)
+abbrev pub with_held : State → List Lock → State
+with_held s locks = record { names = s.names; tables = s.tables; locks = held s.locks.stations s.locks.tables locks; stations = s.stations }
 
--- a cursor is at a record of the table, or at the end
-abbrev pub IsCursor : Table → Option ℕ → Type 0
-IsCursor table None = Unit {0}
-IsCursor table (Some number) = (1 ≤ number) × (number ≤ length table.rows)
+abbrev pub with_stations : State → List Station → State
+with_stations s stations = record { names = s.names; tables = s.tables; locks = s.locks; stations = stations }
+
+-- another area is the station's current one
+abbrev pub with_current : State → ℕ → ℕ → State
+with_current s station number = with_stations s (with_current_in s.stations station number)
+
+-- this is in the station's current area
+abbrev pub with_area : State → ℕ → Option Area → State
+with_area s station area = with_stations s (with_area_in s.stations station area)
+
+-- the area with another cursor
+abbrev pub area_with : Area → Cursor → Area
+area_with area cursor = record { table = area.table; exclusive = area.exclusive; cursor = cursor }
+
+abbrev pub with_cursor : State → ℕ → Area → Cursor → State
+with_cursor s station area cursor = with_area s station (Some (area_with area cursor))
+
+-- the station's lock in the area's table is released, where a table is open in the area
+abbrev pub without_lock : State → ℕ → Option Area → State
+without_lock s station None = s
+without_lock s station (Some area) = with_held s (without s.locks.locks station area.table)
+
+-- no table is open in the station's current area, and the lock in the one that was open there is released
+abbrev pub closed : State → ℕ → State
+closed s station = with_area (without_lock s station (area_of s station)) station None
+
+-- what is open in the area of an index at the station of an index, where indexes count from 0
+abbrev pub area_at : State → ℕ → ℕ → Option Area
+area_at s station area = slice_index_or (slice_index_or s.stations station new_station).areas area None
+
+-- the table is open in an area of the station
+abbrev pub IsOpenAt : State → ℕ → ℕ → Type 0
+IsOpenAt s station number = (k : ℕ) × (x : Area) × (area_at s (station - 1) k ≡ Some x) × (x.table ≡ number)
 
 -- an area has a table that there is, and its cursor is in it
-abbrev pub IsArea : List Table → Option Area → Type 0
-IsArea tables None = Unit {0}
-IsArea tables (Some area) = (area.table < length tables) × IsCursor (table_at tables area.table) area.at
+pub record IsArea (tables : List Content) (area : Area) : Type 0 where
+  pub counted : 1 ≤ area.table
+  pub inside : area.table ≤ length tables
+  pub cursor : IsCursor (table_at tables area.table) area.cursor
 
--- each table has a name, and the area is one
-pub record IsState (names : List (List ℕ)) (tables : List Table) (area : Option Area) : Type 0 where
-  pub named : length names ≡ length tables
-  pub area_is : IsArea tables area
+-- a station has its areas, and one of them is the current one
+pub record IsStation (st : Station) : Type 0 where
+  pub areas : length st.areas ≡ MAX_AREAS
+  pub counted : 1 ≤ st.current
+  pub inside : st.current ≤ MAX_AREAS
+
+-- what is true of every state: there are so many tables at most, each with a name; each open area has its cursor in its table; a station
+-- has a table open in one area at most; a table that is open exclusively is open at no other station; no
+-- record is locked by two stations; and a station has locks only in tables that it has open
+pub record IsState (s : State) : Type 0 where
+  pub few : length s.tables ≤ MAX_TABLES
+  pub named : length s.names ≡ length s.tables
+  pub lockable : s.locks.tables ≡ length s.tables
+  pub lockers : s.locks.stations ≡ length s.stations
+  pub each : (a : ℕ) → a < length s.stations → IsStation (slice_index_or s.stations a new_station)
+  pub areas : (a k : ℕ) (x : Area) → area_at s a k ≡ Some x → IsArea s.tables x
+  pub once : (a k l : ℕ) (x y : Area) → k ≢ l → area_at s a k ≡ Some x → area_at s a l ≡ Some y → x.table ≢ y.table
+  pub alone : (a b k l : ℕ) (x y : Area) → a ≢ b → area_at s a k ≡ Some x → area_at s b l ≡ Some y → x.table ≡ y.table → x.exclusive ≡ false
+  pub apart : AreApart s.locks.locks
+  pub open_ : (l : Lock) → IsHeld s.locks.locks l → (1 ≤ l.station) × IsOpenAt s l.station l.table
+
+-- there is a station of this number, and its areas are as those of every station
+pub record HasStationIn (stations : List Station) (station : ℕ) : Type 0 where
+  pub counted : 1 ≤ station
+  pub inside : station ≤ length stations
+  pub each : IsStation (station_in stations station)
+
+abbrev pub HasStation : State → ℕ → Type 0
+HasStation s station = HasStationIn s.stations station
+
+-- a table's fields and indexes, which no command changes
+abbrev pub shape_of : Content → List Field × List Indexed
+shape_of content = (content.table.schema, content.indexes)
+
+abbrev pub shapes_of : List Content → List (List Field × List Indexed)
+shapes_of tables = map shape_of tables

@@ -1,23 +1,26 @@
-//! A work area, in which a station has a table open.
+//! Work areas, in which a station has tables open.
+
+use table_core::Cursor;
+
+/// The number of areas of a station.
+pub const MAX_AREAS: usize = 10;
 
 /// An area with a table in it.
 #[derive(Clone, Copy, Debug, PartialEq, Eq)]
 pub struct Area {
-    /// The index of the table, from 0.
-    pub table: usize,
+    /// The number of the table, from 1.
+    pub table: u32,
     /// Whether no other station may have the table open.
     pub exclusive: bool,
-    /// The record at the cursor, from 1, and none at the end.
-    pub at: Option<u32>,
+    /// Where the area is in the table.
+    pub cursor: Cursor,
 }
 
-/// A field of the record at the cursor, to be changed.
-#[derive(Clone, Copy, Debug, PartialEq, Eq)]
-pub struct Target {
-    /// The area.
-    pub area: Area,
-    /// The record, from 1.
-    pub number: u32,
-    /// The index of the field, from 0.
-    pub field: usize,
+/// The areas of a station.
+#[derive(Clone, Copy, Debug)]
+pub struct Station {
+    /// The number of the current area, from 1.
+    pub current: u32,
+    /// What is open in each area.
+    pub areas: [Option<Area>; MAX_AREAS],
 }

@@ -1,7 +1,6 @@
 //! The catalogue: the tables as they were opened, the journal of the commands since, and their state.
 
-ghost use Rattle.std.specs.Prelude.{◌≡◌, ◌↔◌, ◌-◌, ◌<◌, ◌≤◌, [], length, None, IfOk, IfErr, OnErr, IsErrOf};
-ghost use Rattle.shared_catalogue.specs.State.{table_at as content_at};
+ghost use Rattle.std.specs.Prelude.{◌≡◌, ◌≢◌, ◌↔◌, ℕ, ◌-◌, ◌≤◌, [], length, None, IfOk, IfErr, OnErr, IsErrOf};
 ghost use Rattle.shared_catalogue.specs.declared.catalogue.TheConstants.{MAX_ENTRIES};
 
 use crate::answer::Answer;
@@ -11,6 +10,7 @@ use crate::opening::{OpenFault, check_opening};
 use crate::plan::plan;
 use crate::source::TableSource;
 use crate::state::State;
+use crate::status::StatusRow;
 use dbf_image::TableData;
 use std::alloc::{AllocError, Global};
 use std::marker::Model;
@@ -41,37 +41,48 @@ impl From<AllocError> for Stop {
     }
 }
 
-/// A catalogue, which contracts see as what was opened and the journal since. Every value of this type
-/// has the state that its journal's commands make of the opened tables, one after another, and each
-/// answer in the journal is the one that its command has at its place.
-#[derive(Debug, Drop)]
+/// A catalogue, which contracts see as what was opened and the journal since. Every value of this type has the
+/// state that its journal's commands make of the opened tables, one after another, and each answer in the
+/// journal is the one that its command has at its place. In this state no record is locked by two stations, a
+/// station has locks only in tables that it has open, each in one area at most, and a table that is open
+/// exclusively is open at no other station.
+#[derive(Drop)]
 pub struct Catalogue {
     sources: Vec<TableSource>,
+    stations: u32,
     state: State,
     journal: Vec<Entry>,
 }
 
 impl Model for Catalogue {
-    ghost use Rattle.std.specs.Prelude.{◌≤◌, length};
-    ghost use Rattle.shared_catalogue.specs.Replay.{History, history, opened_as, IsKept};
+    ghost use Rattle.std.specs.Coded.{codes};
+    ghost use Rattle.key_expr.specs.ExprCode.{expr_code};
+    ghost use Rattle.shared_catalogue.specs.Kept.{IsKept};
+    ghost use Rattle.shared_catalogue.specs.Replay.{History, history, opened_as};
+    ghost use Rattle.shared_catalogue.specs.Rooms.{seen};
 
     ghost Value = { History };
 
-    ghost view = { λ c. history (opened_as 1 c.sources.items) c.journal.items };
+    ghost coded = { Prim.hlevel (codes, expr_code) };
 
-    ghost invariant = { λ c. IsKept (opened_as 1 c.sources.items) c.state c.journal.items };
+    ghost view = { λ c. history (opened_as c.stations c.sources.items) c.journal.items };
+
+    ghost invariant = { λ c. IsKept (opened_as c.stations c.sources.items) (seen c.state) c.journal.items };
 }
 
 impl Catalogue {
-    ghost use Rattle.shared_catalogue.specs.declared.answer.Refusal.{Refusal};
+    ghost use Rattle.shared_catalogue.specs.Status.{row};
+    ghost use Rattle.shared_catalogue.specs.declared.answer.Answer.{Answer};
+    ghost use Rattle.table_core.specs.declared.refusal.Refusal.{Refusal};
     ghost use Rattle.shared_catalogue.specs.Opening.{refusal, IsRefusal};
-    ghost use Rattle.shared_catalogue.specs.Replay.{history, opened_as, state_of, answer_of, with_entry, IsLegal};
+    ghost use Rattle.shared_catalogue.specs.Replay.{history, opened_as, state_of, answer_of, with_entry, opened_at, IsLegal};
+    ghost use Rattle.shared_catalogue.specs.State.{table_at as content_at, station_at, IsState};
 
-    /// Opens tables for stations: no table is in use, and the journal is empty.
+    /// Opens tables for stations: no table is open in any area, no lock is held, and the journal is empty.
     ///
-    /// The faults are tested in this order: `NoStation`, `TooManyStations` (more than one, until
-    /// stations share tables under locks), `TooManyTables` (more than 10), and then, table by table,
-    /// `DuplicateTable` (a name used by an earlier table). `NoMemory` comes only where none of these does.
+    /// The faults are tested in this order: `NoStation`, `TooManyStations` (more than 16), `TooManyTables` (more
+    /// than 10), and then, table by table, `DuplicateTable` (a name used by an earlier table). `NoMemory` comes
+    /// only where none of these does.
     pub fn open(
         alloc: Global,
         sources: Vec<TableSource>,
@@ -82,48 +93,76 @@ impl Catalogue {
         ensures refused { IfErr result (λ fault. IsRefusal fault sources.items stations) }
     {
         check_opening(&sources, stations)?;
-        let state = State::new(alloc, &sources)?;
+        let state = State::new(alloc, &sources, stations)?;
         Ok(Catalogue {
             sources,
+            stations,
             state,
             journal: Vec::new(alloc),
         })
     }
 
-    /// Performs a command of a station as one step, and answers its number in the journal, from 1, and
-    /// its answer. A refused command is an entry too, and changes no table.
+    /// Performs a command of a station, from 1, as one step, and answers its number in the journal, from 1, and
+    /// its answer. A refused command is an entry too, and changes nothing. Nothing changes in the areas of other
+    /// stations.
     ///
-    /// `JournalFull` is tested first, and comes exactly where the journal has 4,294,967,295 entries.
-    /// Then the command is planned, and all of its tests come before the plan takes memory. `NoMemory`
-    /// comes from the plan of a command that no test refuses, from the journal's entry, which a refused
-    /// command has too, or from the change. After `JournalFull` and `NoMemory` the catalogue is as it was.
+    /// `JournalFull` is tested first, and comes exactly where the journal has 4,294,967,295 entries. Then the
+    /// command is planned, and all of its tests come before the plan takes memory. `NoMemory` comes from the
+    /// plan of a command that no test refuses, or from the journal's entry, which a refused command has too.
+    /// After `JournalFull` and `NoMemory` the catalogue is as it was.
     pub fn perform(
         &mut self,
         alloc: Global,
         station: u32,
         command: &Command,
     ) -> Result<(u64, Answer), Stop>
+        requires counted { 1 ≤ station }
+        requires inside { station ≤ self.old.opened.stations }
         ensures number { IfOk result (λ done. done.0 ≡ length self.new.journal) }
-        ensures answer { IfOk result (λ done. done.1 ≡ answer_of self.old command.now) }
+        ensures answer { IfOk result (λ done. done.1 ≡ answer_of self.old station command.now) }
         ensures entry { IfOk result (λ _. self.new ≡ with_entry self.old station command.now) }
         ensures refused { IfOk result (λ done. (refusal : Refusal) → done.1 ≡ Answer.Refused refusal → state_of self.new ≡ state_of self.old) }
+        ensures others { IfOk result (λ _. (other : ℕ) → other - 1 ≢ station - 1 → station_at (state_of self.new) other ≡ station_at (state_of self.old) other) }
         ensures full { IsErrOf result Stop.JournalFull ↔ (length self.old.journal ≡ MAX_ENTRIES) }
         ensures stopped { OnErr result (self.new ≡ self.old) }
     {
         if self.journal.len() >= MAX_ENTRIES {
             return Err(Stop::JournalFull);
         }
-        let plan = plan(alloc, &self.state, command)?;
+        let plan = plan(alloc, &mut self.state, station, command)?;
         let answer = plan.answer.copy(alloc)?;
         let command_copy = command.copy(alloc)?;
         self.journal.reserve(1)?;
-        self.state.apply(plan.change)?;
+        self.state.apply(station, plan.change);
         self.journal.push_reserved(Entry {
             station,
             command: command_copy,
             answer: plan.answer,
         });
         Ok((self.journal.len() as u64, answer))
+    }
+
+    /// How many stations there are.
+    pub fn station_count(&self) -> u32
+        ensures value { result ≡ self.now.opened.stations }
+    {
+        self.stations
+    }
+
+    /// The status row: the journal's length, its last entry's station and answer, and who holds which table.
+    pub fn status(&self) -> StatusRow
+        ensures value { result ≡ row self.now }
+    {
+        let (last_station, last_answer) = match self.journal.last() {
+            Some(entry) => (entry.station, entry.answer.code()),
+            None => (0, 0),
+        };
+        StatusRow {
+            journal_length: self.journal.len() as u64,
+            last_station,
+            last_answer,
+            tables: self.state.table_statuses(),
+        }
     }
 
     /// How many tables were opened.
@@ -133,20 +172,25 @@ impl Catalogue {
         self.sources.len()
     }
 
-    #[tactic(auto, using(crate::proofs::ReplayLaws::length_replay))]
-    /// The table of a number, from 1, as it stands now. An error where memory is refused.
+    #[tactic(auto, using(crate::proofs::ReplayLaws::kept_tables))]
+    /// The table of a number, from 1, as it stands now. It has the fields with which it was opened. An error where
+    /// memory is refused.
     pub fn content(&self, alloc: Global, number: u32) -> Result<TableData, AllocError>
         requires counted { 1 ≤ number }
         requires inside { number ≤ length self.now.opened.tables }
-        ensures value { IfOk result (λ table. table ≡ content_at (state_of self.now).tables (number - 1)) }
+        ensures value { IfOk result (λ table. table ≡ (content_at (state_of self.now).tables number).table) }
+        ensures fields { IfOk result (λ table. table.schema ≡ (opened_at self.now.opened number).table.schema) }
     {
-        self.state.table_at(number as usize - 1).copy(alloc)
+        let table = self.state.table(number).content(alloc)?;
+        Ok(table)
     }
 
-    /// The entries of the journal, in order. Each answer is the one that its command has at its place.
+    /// The entries of the journal, in order. Each answer is the one that its command has at its place, and what is
+    /// true of every state is true of the one now.
     pub fn journal(&self) -> &[Entry]
         ensures entries { result.now ≡ self.now.journal }
         ensures legal { IsLegal self.now.opened self.now.journal }
+        ensures state { IsState (state_of self.now) }
         ensures few { length self.now.journal ≤ MAX_ENTRIES }
     {
         &self.journal

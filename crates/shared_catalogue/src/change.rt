@@ -3,48 +3,38 @@
 ghost use Rattle.std.specs.Prelude.{◌≡◌};
 
 use crate::answer::Answer;
-use crate::area::{Area, Target};
-use dbf_fields::Bytes;
+use crate::area::Area;
+use table_core::{Cursor, Planned};
 
-/// A change of the state.
-#[derive(Debug, Drop)]
+/// A change of the state by a station.
+#[derive(Drop)]
 pub enum Change {
     /// None.
     Nothing,
-    /// A table is opened in the area, its cursor at the top.
-    Open {
-        /// The index of the table, from 0.
-        table: usize,
-        /// Whether no other station may have it open.
-        exclusive: bool,
-    },
-    /// The cursor of the area goes to a record.
-    GoTo {
-        /// The area.
-        area: Area,
-        /// The record, from 1.
-        number: u32,
-    },
-    /// The area's table gets a last record of blanks.
-    AppendBlank(Area),
-    /// A cell is replaced.
-    Replace {
-        /// The cell's record and field.
-        target: Target,
-        /// As many bytes as the field is wide.
-        cell: Bytes,
-    },
-    /// A memo is replaced.
-    Memo {
-        /// The memo's record and field.
-        target: Target,
-        /// The memo's text.
-        text: Bytes,
-    },
+    /// The area of this number is the current one.
+    Select(u32),
+    /// The current area's table is closed.
+    Close,
+    /// This is open in the current area, in place of what was open there.
+    Open(Area),
+    /// The current area has this cursor.
+    Move(Cursor),
+    /// The current area's table is edited.
+    Edit(Planned),
+    /// The current area's table is edited, and the station's lock in it is released.
+    Pack(Planned),
+    /// A record of the current area's table is locked.
+    LockRecord(u32),
+    /// The current area's table is locked.
+    LockFile,
+    /// The lock in the current area's table is released.
+    Unlock,
+    /// All locks of the station are released.
+    UnlockAll,
 }
 
 /// A change that a command asks for, and its answer.
-#[derive(Debug, Drop)]
+#[derive(Drop)]
 pub struct Plan {
     /// What will change.
     pub change: Change,

@@ -1,22 +1,53 @@
 //! What a station asks.
 
-ghost use Rattle.std.specs.Prelude.{◌≡◌, IfOk};
+ghost use Rattle.std.specs.Prelude.{◌≡◌, ◌↔◌, IsTrue, IfOk};
 
 use dbf_fields::{Bytes, Literal};
 use std::alloc::{AllocError, Global};
 
+/// A question about the area's table and its cursor.
+#[derive(Clone, Copy, Debug, PartialEq, Eq)]
+pub enum Question {
+    /// EOF(): whether the cursor is past the last record.
+    Eof,
+    /// BOF(): whether the cursor was to go back past the first record.
+    Bof,
+    /// FOUND(): whether the last SEEK found a record.
+    Found,
+    /// DELETED(): whether the record at the cursor is marked as deleted.
+    Deleted,
+    /// RECNO(): the number of the record at the cursor.
+    Recno,
+    /// RECCOUNT(): how many records the table has.
+    Reccount,
+}
+
 /// A command of a station. Names are compared as they stand, so in capitals.
 #[derive(Debug, PartialEq, Eq, Drop)]
 pub enum Command {
-    /// USE: closes the area's table and opens the one of this name, its cursor at the top.
+    /// SELECT: the area of this number is the current one.
+    Select(u64),
+    /// USE with a name: closes the area's table and opens the one of this name, its cursor at the top.
     UseTable {
         /// The table's name.
         name: Bytes,
         /// Whether no other station may have the table open.
         exclusive: bool,
     },
+    /// USE alone: closes the area's table.
+    CloseTable,
     /// GO: the cursor stands at the record of this number.
     Go(u64),
+    /// GO TOP: the cursor stands at the first record in the order.
+    Top,
+    /// GO BOTTOM: the cursor stands at the last record in the order.
+    Bottom,
+    /// SKIP: the cursor moves by so many records in the order, back where the number is below zero.
+    Skip(i64),
+    /// SEEK: the cursor stands at the first record in the order whose key begins with this text.
+    Seek(Bytes),
+    /// SET ORDER TO: the order of this number, 0 for the order of record numbers.
+    Order(u64),
     /// APPEND BLANK: a new last record of blanks, with the cursor at it.
     AppendBlank,
     /// REPLACE: the cell of the record at the cursor keeps a value.
@@ -33,8 +64,24 @@ pub enum Command {
         /// The text.
         text: Bytes,
     },
-    /// ?: the value of a field of the record at the cursor.
+    /// DELETE: the record at the cursor is marked as deleted.
+    Delete,
+    /// RECALL: the record at the cursor is marked as deleted no more.
+    Recall,
+    /// PACK: the records that are marked as deleted go.
+    Pack,
+    /// UNLOCK: the area's lock is released.
+    Unlock,
+    /// UNLOCK ALL: the locks of all areas are released.
+    UnlockAll,
+    /// ? with a field's name: the value of a field of the record at the cursor.
     Show(Bytes),
+    /// ? RLOCK() or ? LOCK(): locks the record at the cursor, where no other station bars it.
+    RecordLock,
+    /// ? FLOCK(): locks the area's table, where no other station bars it.
+    FileLock,
+    /// ? with EOF(), BOF(), FOUND(), DELETED(), RECNO() or RECCOUNT().
+    Ask(Question),
     /// A line that is no command.
     Bad,
 }
@@ -44,23 +91,75 @@ impl Command {
     pub fn copy(&self, alloc: Global) -> Result<Command, AllocError>
         ensures value { IfOk result (λ command. command ≡ self.now) }
     {
-        match self {
-            Command::UseTable { name, exclusive } => Ok(Command::UseTable {
+        Ok(match self {
+            Command::Select(area) => Command::Select(*area),
+            Command::UseTable { name, exclusive } => Command::UseTable {
                 name: name.copy(alloc)?,
                 exclusive: *exclusive,
-            }),
-            Command::Go(record) => Ok(Command::Go(*record)),
-            Command::AppendBlank => Ok(Command::AppendBlank),
-            Command::Replace { field, value } => Ok(Command::Replace {
+            },
+            Command::CloseTable => Command::CloseTable,
+            Command::Go(record) => Command::Go(*record),
+            Command::Top => Command::Top,
+            Command::Bottom => Command::Bottom,
+            Command::Skip(records) => Command::Skip(*records),
+            Command::Seek(text) => Command::Seek(text.copy(alloc)?),
+            Command::Order(order) => Command::Order(*order),
+            Command::AppendBlank => Command::AppendBlank,
+            Command::Replace { field, value } => Command::Replace {
                 field: field.copy(alloc)?,
                 value: value.copy(alloc)?,
-            }),
-            Command::Memo { field, text } => Ok(Command::Memo {
+            },
+            Command::Memo { field, text } => Command::Memo {
                 field: field.copy(alloc)?,
                 text: text.copy(alloc)?,
-            }),
-            Command::Show(field) => Ok(Command::Show(field.copy(alloc)?)),
-            Command::Bad => Ok(Command::Bad),
+            },
+            Command::Delete => Command::Delete,
+            Command::Recall => Command::Recall,
+            Command::Pack => Command::Pack,
+            Command::Unlock => Command::Unlock,
+            Command::UnlockAll => Command::UnlockAll,
+            Command::Show(field) => Command::Show(field.copy(alloc)?),
+            Command::RecordLock => Command::RecordLock,
+            Command::FileLock => Command::FileLock,
+            Command::Ask(question) => Command::Ask(*question),
+            Command::Bad => Command::Bad,
+        })
+    }
+
+    /// Whether the commands are the same. It is what `==` answers, said so that contracts can use it.
+    #[tactic(auto, using(crate::proofs::SameLaws::same_bytes, crate::proofs::SameLaws::same_int))]
+    pub fn is_same(&self, other: &Command) -> bool
+        ensures value { IsTrue result ↔ (self.now ≡ other.now) }
+    {
+        match self {
+            Command::Select(area) => matches!(other, Command::Select(its) if area == its),
+            Command::UseTable { name, exclusive } => {
+                matches!(other, Command::UseTable { name: n, exclusive: e } if name == n && exclusive == e)
+            }
+            Command::CloseTable => matches!(other, Command::CloseTable),
+            Command::Go(record) => matches!(other, Command::Go(its) if record == its),
+            Command::Top => matches!(other, Command::Top),
+            Command::Bottom => matches!(other, Command::Bottom),
+            Command::Skip(records) => matches!(other, Command::Skip(its) if records == its),
+            Command::Seek(text) => matches!(other, Command::Seek(its) if text == its),
+            Command::Order(order) => matches!(other, Command::Order(its) if order == its),
+            Command::AppendBlank => matches!(other, Command::AppendBlank),
+            Command::Replace { field, value } => {
+                matches!(other, Command::Replace { field: f, value: v } if field == f && value.is_same(v))
+            }
+            Command::Memo { field, text } => {
+                matches!(other, Command::Memo { field: f, text: t } if field == f && text == t)
+            }
+            Command::Delete => matches!(other, Command::Delete),
+            Command::Recall => matches!(other, Command::Recall),
+            Command::Pack => matches!(other, Command::Pack),
+            Command::Unlock => matches!(other, Command::Unlock),
+            Command::UnlockAll => matches!(other, Command::UnlockAll),
+            Command::Show(field) => matches!(other, Command::Show(its) if field == its),
+            Command::RecordLock => matches!(other, Command::RecordLock),
+            Command::FileLock => matches!(other, Command::FileLock),
+            Command::Ask(question) => matches!(other, Command::Ask(its) if question == its),
+            Command::Bad => matches!(other, Command::Bad),
         }
     }
 }

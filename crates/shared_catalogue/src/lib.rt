@@ -1,9 +1,13 @@
 //! The tables that stations share, the commands that change them, and the journal of these commands.
 //!
-//! [`Catalogue::open`] takes tables under their names, and [`Catalogue::perform`] performs a command of
-//! a station as one step. What a command does is defined in `specs/Step.antt`. The type [`Catalogue`]
-//! says that its tables are what the journal makes of the opened ones, and that each answer in the
-//! journal is the one that its command has there. Start reading at `catalogue.rt`, then `plan.rt`.
+//! [`Catalogue::open`] takes tables under their names, for up to 16 stations with ten areas each, and
+//! [`Catalogue::perform`] performs a command of a station as one step. What a command does is defined in
+//! `specs/Step.antt`, one short case a command, over the edits and moves of `table_core` and the tests of
+//! `lock_table`. The type [`Catalogue`] says that its state is what the journal makes of the opened tables, and
+//! that each answer in the journal is the one that its command has there; what is true of every state
+//! (`IsState`, in `specs/State.antt`) is true of it.
+//!
+//! Start reading at `specs/Step.antt`; then `catalogue.rt`, `plan.rt` and `state.rt`.
 #![tactic(auto)]
 
 mod answer;
@@ -12,19 +16,30 @@ mod catalogue;
 mod change;
 mod command;
 mod entry;
-mod fault;
+mod names;
 mod opening;
 mod plan;
-mod shown;
+mod shared;
 mod source;
 mod state;
+mod stations;
+mod status;
 
-pub use answer::{Answer, Refusal};
+pub use answer::Answer;
+pub use area::MAX_AREAS;
 pub use catalogue::{Catalogue, MAX_ENTRIES, Stop};
-pub use command::Command;
+pub use command::{Command, Question};
 pub use entry::Entry;
 pub use opening::{MAX_STATIONS, MAX_TABLES, OpenFault};
+pub use shared::Shared;
+pub use shared::closed::Closed;
+pub use shared::lot::{Lot, Naming};
+pub use shared::receipts::{Receipt, Receipts};
+pub use shared::seat::Seat;
+pub use shared::settle::SettleFault;
 pub use source::TableSource;
+pub use table_core::Refusal;
+pub use status::{StatusRow, TableStatus};
 
 #[cfg(test)]
 mod tests;

@@ -2,7 +2,7 @@
 
 ghost use Rattle.std.specs.Prelude.{◌≡◌, ◌≤◌, [], None, Some, length, IfErr, OnOk};
 ghost use Rattle.dbf_fields.specs.Faults.{first_fault};
-ghost use Rattle.shared_catalogue.specs.Opening.{has_name, table_tests, refusal};
+ghost use Rattle.shared_catalogue.specs.Opening.{has_table, table_tests, refusal};
 
 use crate::source::TableSource;
 use dbf_fields::Bytes;
@@ -12,8 +12,8 @@ use thiserror::Error;
 /// The greatest number of tables of a catalogue.
 pub const MAX_TABLES: usize = 10;
 
-/// The greatest number of stations of a catalogue, until stations share tables under locks.
-pub const MAX_STATIONS: u32 = 1;
+/// The greatest number of stations of a catalogue.
+pub const MAX_STATIONS: u32 = 16;
 
 /// Why a catalogue can't be opened: the first fault. Tables count from 1.
 #[derive(Clone, Copy, Debug, PartialEq, Eq, Error)]
@@ -21,7 +21,7 @@ pub enum OpenFault {
     /// There is no station.
     #[error("there is no station")]
     NoStation,
-    /// There is more than one station.
+    /// There are more than 16 stations.
     #[error("there are too many stations")]
     TooManyStations,
     /// There are more than 10 tables.
@@ -51,7 +51,7 @@ impl From<AllocError> for OpenFault {
 pub fn check_opening(sources: &[TableSource], stations: u32) -> Result<(), OpenFault>
     ensures accepted { OnOk result (refusal sources.now stations ≡ None) }
     ensures refused { IfErr result (λ fault. refusal sources.now stations ≡ Some fault) }
-    ensures one { OnOk result (stations ≡ 1) }
+    ensures distinct { OnOk result (first_fault (table_tests [] sources.now) ≡ None) }
     ensures few { OnOk result (length sources.now ≤ MAX_TABLES) }
 {
     if stations < 1 {
@@ -81,7 +81,7 @@ fn check_names(sources: &[TableSource]) -> Result<(), OpenFault>
 }
 
 fn any_has_name(sources: &[TableSource], name: &Bytes) -> bool
-    ensures value { result ≡ has_name sources.now name.now }
+    ensures value { result ≡ has_table sources.now name.now }
 {
-    sources.iter().any(|source| source.name == *name)
+    sources.iter().any(|source| *name == source.name)
 }

@@ -1,158 +1,131 @@
-//! The tables and the area, which commands read and change.
+//! The tables, the locks and the areas of all stations, which commands read and change.
 
-ghost use Rattle.dbf_image.specs.declared.format.TheConstants.{MAX_RECORDS};
-ghost use Rattle.std.specs.Prelude.{◌≡◌, ◌<◌, ◌≤◌, length, map, None, Some, IfSome, IfOk, OnOk, OnErr};
+ghost use Rattle.std.specs.Prelude.{◌≡◌, ◌≤◌, length, IfSome};
+ghost use Rattle.lock_table.specs.Locks.{free_record, free_whole};
+ghost use Rattle.shared_catalogue.specs.Rooms.{seen, held_at};
+ghost use Rattle.shared_catalogue.specs.State.{table_at as content_at, area_of, is_open_beside, is_in_use, IsArea, IsState, HasStation};
+ghost use Rattle.shared_catalogue.specs.Step.{table_named, can_write, can_append};
 
-use crate::area::{Area, Target};
-use crate::change::Change;
-use crate::source::TableSource;
+mod applying;
+mod opening;
+mod planning;
+mod status;
+
+use crate::area::Area;
+use crate::names::Names;
+use crate::stations::Stations;
 use dbf_fields::Bytes;
-use dbf_image::TableData;
-use std::alloc::{AllocError, Global};
+use lock_table::Locks;
 use std::marker::Model;
+use table_core::Table;
 
-/// The tables with their names, and the area.
-#[derive(Debug, Drop)]
+/// The tables with their names, the locks, and the areas of each station. Contracts see the tables' room too.
+#[derive(Drop)]
 pub struct State {
-    names: Vec<Bytes>,
-    tables: Vec<TableData>,
-    area: Option<Area>,
+    names: Names,
+    tables: Vec<Table>,
+    locks: Locks,
+    stations: Stations,
 }
 
 impl Model for State {
-    ghost use Rattle.shared_catalogue.specs.State.{State, IsState};
+    ghost use Rattle.std.specs.Coded.{codes};
+    ghost use Rattle.key_expr.specs.ExprCode.{expr_code};
+    ghost use Rattle.shared_catalogue.specs.Rooms.{WithRoom};
 
-    ghost Value = { State };
+    ghost Value = { WithRoom };
 
-    ghost view = { λ s. record { names = s.names.items; tables = s.tables.items; area = s.area } };
+    ghost coded = { Prim.hlevel (codes, expr_code) };
 
-    ghost invariant = { λ s. IsState s.names.items s.tables.items s.area };
+    ghost view = { λ s. record { names = s.names; tables = s.tables.items; locks = s.locks; stations = s.stations } };
 }
 
 impl State {
-    ghost use Rattle.shared_catalogue.specs.State.{table_at as content_at, index_named, area_table, record_count, IsCursor, with_opened, with_cursor_at, with_blank, with_value};
-    ghost use Rattle.shared_catalogue.specs.Planned.{changed, CanChange, IsCell, IsMemo};
-    ghost use Rattle.shared_catalogue.specs.Replay.{start, opened_as};
-
-    /// The state at opening, which has copies of the tables and none in use. An error where memory is
-    /// refused.
-    pub fn new(alloc: Global, sources: &[TableSource]) -> Result<State, AllocError>
-        ensures value { IfOk result (λ state. state ≡ start (opened_as 1 sources.now)) }
+    /// The station's current area, where a table is open in it.
+    pub fn area(&self, station: u32) -> Option<Area>
+        requires state { IsState (seen self.now) }
+        requires station { HasStation (seen self.now) station }
+        ensures value { result ≡ area_of (seen self.now) station }
+        ensures is_area { IfSome result (IsArea (seen self.now).tables) }
     {
-        let mut names = Vec::new(alloc);
-        let mut tables = Vec::new(alloc);
-        for source in sources {
-            names.push(source.name.copy(alloc)?)?;
-            tables.push(source.content.copy(alloc)?)?;
-        }
-        Ok(State {
-            names,
-            tables,
-            area: None,
-        })
+        self.stations.area(station)
     }
 
-    /// The area, where a table is open in it.
-    pub fn area(&self) -> Option<Area>
-        ensures area { result ≡ self.now.area }
-        ensures inside { IfSome result (λ area. area.table < length self.now.tables) }
-        ensures cursor { IfSome result (λ area. IsCursor (area_table self.now area) area.at) }
-    {
-        self.area
-    }
-
-    /// The table of an index.
-    pub fn table_at(&self, index: usize) -> &TableData
-        requires inside { index < length self.now.tables }
-        ensures value { result.now ≡ content_at self.now.tables index }
-    {
-        &self.tables[index]
-    }
-
-    /// The index of the table of a name, where there is one.
-    pub fn index_of(&self, name: &Bytes) -> Option<usize>
-        ensures value { result ≡ index_named self.now name.now }
-        ensures inside { IfSome result (λ index. index < length self.now.tables) }
-    {
-        self.names.iter().position(|other| *other == *name)
-    }
-
-    /// Applies a change. An error where memory is refused, and then nothing has changed.
-    pub fn apply(&mut self, change: Change) -> Result<(), AllocError>
-        requires can { CanChange self.old change }
-        ensures ok { OnOk result (self.new ≡ changed self.old change) }
-        ensures err { OnErr result (self.new ≡ self.old) }
-    {
-        match change {
-            Change::Nothing => {}
-            Change::Open { table, exclusive } => self.open(table, exclusive),
-            Change::GoTo { area, number } => self.go_to(area, number),
-            Change::AppendBlank(area) => return self.append_blank(area),
-            Change::Replace { target, cell } => self.replace(target, cell),
-            Change::Memo { target, text } => return self.memo(target, text),
-        }
-        Ok(())
-    }
-
-    // Opens a table in the area, which lets go of the one that was open there.
-    fn open(&mut self, table: usize, exclusive: bool)
-        requires inside { table < length self.old.tables }
-        ensures value { self.new ≡ with_opened self.old table exclusive }
-    {
-        let has_records = self.tables[table].record_count() > 0;
-        self.area = Some(Area {
-            table,
-            exclusive,
-            at: has_records.then_some(1),
-        });
-    }
-
-    // Puts the cursor of the area at a record.
-    fn go_to(&mut self, area: Area, number: u32)
-        requires current { self.old.area ≡ Some area }
+    /// The table of a number, from 1.
+    pub fn table(&self, number: u32) -> &Table
         requires counted { 1 ≤ number }
-        requires inside { number ≤ record_count self.old area }
-        ensures value { self.new ≡ with_cursor_at self.old area number }
+        requires inside { number ≤ length (seen self.now).tables }
+        ensures value { result.now.content ≡ content_at (seen self.now).tables number }
     {
-        self.area = Some(Area {
-            at: Some(number),
-            ..area
-        });
+        &self.tables[number as usize - 1]
     }
 
-    // Gives the area's table a last record of blanks, and puts the cursor at it.
-    fn append_blank(&mut self, area: Area) -> Result<(), AllocError>
-        requires current { self.old.area ≡ Some area }
-        requires few { record_count self.old area < MAX_RECORDS }
-        ensures ok { OnOk result (self.new ≡ with_blank self.old area) }
-        ensures err { OnErr result (self.new ≡ self.old) }
+    /// The number of the table of a name, where there is one.
+    pub fn table_named(&self, name: &Bytes) -> Option<u32>
+        requires state { IsState (seen self.now) }
+        ensures value { result ≡ table_named (seen self.now) name.now }
+        ensures counted { IfSome result (λ number. 1 ≤ number) }
+        ensures inside { IfSome result (λ number. number ≤ length (seen self.now).tables) }
     {
-        let table = &mut self.tables[area.table];
-        table.append_blank()?;
-        let last = table.record_count();
-        self.area = Some(Area {
-            at: Some(last),
-            ..area
-        });
-        Ok(())
+        match self.names.index_of(name) {
+            Some(index) => Some(index as u32 + 1),
+            None => None,
+        }
     }
 
-    // Replaces a cell.
-    fn replace(&mut self, target: Target, cell: Bytes)
-        requires can { IsCell self.old target (length cell) }
-        ensures value { self.new ≡ with_value self.old target.area target.number target.field cell }
+    /// Whether the station has the table open in another area than the current one.
+    pub fn is_open_beside(&self, station: u32, table: u32) -> bool
+        requires station { HasStation (seen self.now) station }
+        ensures value { result ≡ is_open_beside (seen self.now).stations station table }
     {
-        let table = &mut self.tables[target.area.table];
-        table.set_cell(target.number, target.field, cell.as_slice());
+        self.stations.is_open_beside(station, table)
     }
 
-    // Replaces the text of a memo.
-    fn memo(&mut self, target: Target, text: Bytes) -> Result<(), AllocError>
-        requires can { IsMemo self.old target text }
-        ensures ok { OnOk result (self.new ≡ with_value self.old target.area target.number target.field text) }
-        ensures err { OnErr result (self.new ≡ self.old) }
+    /// Whether another station has the table open, and one of the two wants it exclusively.
+    pub fn is_in_use(&self, station: u32, table: u32, exclusive: bool) -> bool
+        requires station { HasStation (seen self.now) station }
+        ensures value { result ≡ is_in_use (seen self.now).stations station table exclusive }
     {
-        let table = &mut self.tables[target.area.table];
-        table.set_memo(target.number, target.field, text.as_slice())
+        self.stations.is_in_use(station, table, exclusive)
+    }
+
+    /// Whether the station may write the record: it has the table exclusively, or a lock on the record or the
+    /// table.
+    pub fn can_write(&self, station: u32, area: Area, number: u32) -> bool
+        requires state { IsState (seen self.now) }
+        requires station { HasStation (seen self.now) station }
+        requires area { IsArea (seen self.now).tables area }
+        requires number { 1 ≤ number }
+        ensures value { result ≡ can_write (seen self.now) station area number }
+    {
+        area.exclusive || self.locks.may_write(station, area.table, number)
+    }
+
+    /// Whether no other station has locked the whole table.
+    pub fn can_append(&self, station: u32, area: Area) -> bool
+        requires state { IsState (seen self.now) }
+        requires area { IsArea (seen self.now).tables area }
+        ensures value { result ≡ can_append (seen self.now) station area }
+    {
+        let holder = self.locks.file_holder(area.table);
+        holder == 0 || holder == station
+    }
+
+    /// Whether the station can have a lock on the record.
+    pub fn is_free_record(&self, station: u32, area: Area, number: u32) -> bool
+        requires state { IsState (seen self.now) }
+        requires area { IsArea (seen self.now).tables area }
+        ensures value { result ≡ free_record self.now.locks.locks station area.table number }
+    {
+        self.locks.is_free_record(station, area.table, number)
+    }
+
+    /// Whether the station can have a lock on the table.
+    pub fn is_free_whole(&self, station: u32, area: Area) -> bool
+        requires state { IsState (seen self.now) }
+        requires area { IsArea (seen self.now).tables area }
+        ensures value { result ≡ free_whole self.now.locks.locks station area.table }
+    {
+        self.locks.is_free_whole(station, area.table)
     }
 }

@@ -1,6 +1,3 @@
-mod cells;
-mod memos;
 mod openings;
-mod performing;
-mod refusals;
 mod sample;
+mod stations;

@@ -1,16 +1,11 @@
 -- A table without memos takes no blocks for them, so a run on a table that was read without a file of memos
 -- never has too many.
-use Rattle.std.proofs.Common.{◌≡◌, ℕ, map, None, sym, ap, ◌∙◌, Bool, true, false, ◌||◌, ◌==◌, List, [], ◌∷◌, refl, arith}
+use Rattle.std.proofs.Common.{◌≡◌, ℕ, None, sym, ap, ◌∙◌, Bool, true, false, ◌||◌, ◌==◌, List, [], ◌∷◌, refl, arith}
 use Rattle.dbf_fields.specs.declared.field.Field.{Field}
 use Rattle.dbf_fields.specs.declared.format.TheConstants.{MEMO}
 use Rattle.dbf_image.specs.Blocks.{cell_blocks, cells_blocks, rows_blocks, next_free, HasTooManyBlocks}
 use Rattle.dbf_image.specs.DbfText.{IsDbf}
 use Rattle.dbf_image.specs.Table.{Row, Table, has_memos}
-use Rattle.shared_catalogue.specs.declared.source.TableSource.{TableSource}
-use Rattle.shared_catalogue.specs.Replay.{History, Opened, state_of}
-use Rattle.shared_catalogue.specs.State.{table_at}
-use Rattle.shared_catalogue.proofs.ReplayLaws.{schema_replay}
-use Rattle.station_server.specs.FirstRun.{table_t}
 
 or_parts : (a b : Bool) → (a || b) ≡ false → (a ≡ false) × (b ≡ false)
 or_parts false b e = (refl, e)
@@ -37,13 +32,9 @@ no_memos : (b : Bool) → (b ≡ true → false ≡ true) → b ≡ false
 no_memos false needs = refl
 no_memos true needs = sym (needs refl)
 
--- the table at the end of a run on a table that was read without a file of memos has no memos
-pub few_blocks : (h : History) (table end : Table) (dbf : List ℕ) → IsDbf dbf None table → h.opened ≡ table_t table
-    → end ≡ table_at (state_of h).tables 0 → HasTooManyBlocks end → ⊥
-few_blocks h table end dbf is_dbf opened content many =
-    let fields : end.schema ≡ table.schema =
-    ap (λ (t : Table). t.schema) content ∙ schema_replay h.opened h.journal 0
-    ∙ ap (λ (o : Opened). (table_at (map (λ (t : TableSource). t.content) o.tables) 0).schema) opened in
+-- a table with the fields of one that was read without a file of memos has no memos
+pub few_blocks : (table end : Table) (dbf : List ℕ) → IsDbf dbf None table → end.schema ≡ table.schema → HasTooManyBlocks end → ⊥
+few_blocks table end dbf is_dbf fields many =
     let none : has_memos end.schema ≡ false = ap has_memos fields ∙ no_memos (has_memos table.schema) is_dbf.memos in
     let one : next_free end ≡ 1 = no_blocks end none in
     omega (arith, one, many)

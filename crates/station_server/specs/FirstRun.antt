@@ -18,4 +18,4 @@ pub record IsRun (table : Table) (commands : List Command) (answers : List Answe
   pub legal : IsLegal (table_t table) journal
   pub of_commands : map (λ e. e.command) journal ≡ commands
   pub of_answers : map (λ e. e.answer) journal ≡ answers
-  pub ended : end ≡ table_at (replay (table_t table) journal).tables 0
+  pub ended : end ≡ (table_at (replay (table_t table) journal).tables 1).table

@@ -1,3 +1,4 @@
 pub mod Line
 pub mod FirstFault
 pub mod FirstRun
+pub mod Script

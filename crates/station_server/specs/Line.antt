@@ -3,8 +3,8 @@ use Rattle.std.specs.Prelude.{ℕ, true, false, List, ◌++◌, codes}
 use Rattle.std.specs.Fmt.{decimal}
 use Rattle.shared_catalogue.specs.declared.answer.Answer.{Answer}
 use Rattle.shared_catalogue.specs.declared.answer.Answer.TheVariants.{Done, Number, Truth, Text, Refused}
-use Rattle.shared_catalogue.specs.declared.answer.Refusal.{Refusal}
-use Rattle.shared_catalogue.specs.Refusals.{code_of, name_of}
+use Rattle.table_core.specs.declared.refusal.Refusal.{Refusal}
+use Rattle.table_core.specs.Refusals.{code_of, name_of}
 
 -- a refusal's line: its number and its name
 abbrev pub refusal_text : Refusal → List ℕ

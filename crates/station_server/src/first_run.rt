@@ -107,6 +107,7 @@ fn perform_all(
     commands: &[Command],
 ) -> Result<Vec<Answer>, FirstFault>
     requires fresh { catalogue.old.journal ≡ [] }
+    requires station { catalogue.old.opened.stations ≡ 1 }
     ensures opened { catalogue.new.opened ≡ catalogue.old.opened }
     ensures of_commands { IfOk result (λ _. map (λ e. e.command) catalogue.new.journal ≡ commands.now) }
     ensures of_answers { IfOk result (λ answers. map (λ e. e.answer) catalogue.new.journal ≡ answers.items) }

@@ -8,6 +8,7 @@
 mod first_run;
 mod line;
 mod sample;
+mod script;
 #[cfg(test)]
 mod tests;
 

@@ -1,3 +1,5 @@
+mod script;
+
 use crate::first_run::{FirstFault, first_run};
 use crate::line::answer_line;
 use crate::sample;
@@ -38,6 +40,15 @@ fn open_sample(alloc: Global) -> Result<Catalogue, Fail> {
     Ok(Catalogue::open(alloc, sources, 1)?)
 }
 
+// Performs a command of station 1.
+fn answer_of(alloc: Global, catalogue: &mut Catalogue, command: &Command) -> Result<Answer, Fail> {
+    if catalogue.station_count() < 1 {
+        return Err("there is no station".into());
+    }
+    let (_, answer) = catalogue.perform(alloc, 1, command)?;
+    Ok(answer)
+}
+
 // Performs the commands and collects the answers.
 fn answers_of(
     alloc: Global,
@@ -46,8 +57,7 @@ fn answers_of(
 ) -> Result<Vec<Answer>, Fail> {
     let mut answers = Vec::new(alloc);
     for command in commands {
-        let (_, answer) = catalogue.perform(alloc, 1, command)?;
-        answers.push(answer)?;
+        answers.push(answer_of(alloc, catalogue, command)?)?;
     }
     Ok(answers)
 }

@@ -11,23 +11,18 @@ ghost use Rattle.dbf_image.specs.Store.{texts_of, memo_count, first_memo, cells_
 ghost use Rattle.dbf_image.specs.Blocks.{cell_bytes, cell_blocks, cells_bytes, cells_blocks};
 ghost use Rattle.dbf_image.specs.Image.{row_bytes, rows_bytes};
 ghost use Rattle.dbf_image.specs.Output.{Puts};
-ghost use Rattle.dbf_image.specs.declared.format.TheConstants.{DELETED, KEPT, MAX_MEMO_BYTES, MAX_RECORDS};
+ghost use Rattle.dbf_image.specs.declared.format.TheConstants.{DELETED, MAX_MEMO_BYTES, MAX_RECORDS};
 
 use crate::dbf::header::Header;
 use crate::dbt::blocks::{block_count, block_number_cell, span_text};
-use crate::format::{DELETED, KEPT};
+use crate::format::DELETED;
 use crate::sink::ByteSink;
 use crate::sink::writer::SinkWriter;
+use crate::table::flag::flag_of;
 use crate::table::offsets::memo_count_of;
 use crate::table::span::Span;
 use crate::table::store::Store;
 use dbf_fields::{Field, MEMO};
-
-fn flag_of(deleted: bool) -> u8
-    ensures value { result ≡ (if deleted then DELETED else KEPT) }
-{
-    if deleted { DELETED } else { KEPT }
-}
 
 // How many memos a field has in a record: one or none.
 fn memos_of(field: &Field) -> usize

@@ -2,6 +2,7 @@
 
 ghost use Rattle.std.specs.Prelude.{◌≡◌, ◌+◌, ◌*◌, ◌%◌, ◌≤◌, ◌==◌, ℕ, List, length, nat_le, if◌then◌else◌, Option, Some, None, sum_by};
 ghost use Rattle.std.specs.List.{AllByRecursion};
+ghost use Rattle.dbf_fields.specs.declared.format.TheConstants.{BLANK, ZERO_DIGIT};
 ghost use Rattle.dbf_image.specs.Blocks.{justified, blocks_of, block_number_cell as number_bytes, next_free};
 ghost use Rattle.dbf_image.specs.Store.{text_of, IsSpan};
 ghost use Rattle.dbf_image.specs.declared.format.TheConstants.{MAX_MEMO_BYTES};
@@ -10,6 +11,7 @@ use crate::format::BLOCK;
 use crate::table::TableData;
 use crate::table::span::{Span, text_at};
 use crate::table::store::Store;
+use dbf_fields::{BLANK, ZERO_DIGIT};
 
 /// A memo's text.
 pub(crate) fn span_text<'a>(texts: &'a [u8], span: &Span) -> &'a [u8]
@@ -35,12 +37,12 @@ pub(crate) fn block_count(text: &[u8]) -> u64
 
 // The last digit, or a blank for 0.
 fn last_digit(number: u64) -> u8
-    ensures value { result ≡ (if number == 0 then 32 else 48 + number % 10) }
+    ensures value { result ≡ (if number == 0 then BLANK else ZERO_DIGIT + number % 10) }
 {
     if number == 0 {
-        b' '
+        BLANK
     } else {
-        b'0' + (number % 10) as u8
+        ZERO_DIGIT + (number % 10) as u8
     }
 }
 
@@ -48,7 +50,7 @@ fn last_digit(number: u64) -> u8
 fn justified_number(number: u64) -> [u8; 10]
     ensures value { result ≡ justified 10 number }
 {
-    let mut cell = [b' '; 10];
+    let mut cell = [BLANK; 10];
     let mut rest = number;
     let mut at: usize = 10;
     while at > 0 {

@@ -1,5 +1,5 @@
-use Rattle.ndx_index.proofs.Sorts.{in_order_from_sort, IsPermutation-in_order, IsSorted-in_order}
-use Rattle.ndx_index.proofs.TableOrders.{table_in_order}
+use Rattle.ndx_index.specs.Laws.Sorting.{in_order_from_sort, IsPermutation-in_order, IsSorted-in_order}
+use Rattle.ndx_index.specs.Laws.RecordOrders.{table_in_order}
 use Rattle.ndx_index.specs.TableOrder.{pairs_of}
 use Rattle.ndx_index.proofs.one_order.Goals as goal
 

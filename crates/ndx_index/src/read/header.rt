@@ -11,6 +11,7 @@ use crate::format::{
 };
 use crate::read::page::{PageLayout, u32_at};
 use byteorder::{ByteOrder, LittleEndian};
+use dbf_fields::BLANK;
 use key_expr::MAX_KEY_BYTES;
 
 /// What the header of an index file says of its pages.
@@ -81,7 +82,7 @@ fn trimmed_end(text: &[u8]) -> &[u8]
 {
     let mut end = text.len();
     while end > 0 {
-        if text[end - 1] != b' ' {
+        if text[end - 1] != BLANK {
             return &text[..end];
         }
         end -= 1;

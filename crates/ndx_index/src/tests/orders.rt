@@ -15,7 +15,7 @@ fn named(key: &[u8; 3], number: u32) -> Pair
 }
 
 #[test]
-#[tactic(auto, using(crate::proofs::TableOrders::three_apart))]
+#[tactic(auto, using(crate::proofs::Order::three_apart))]
 fn from_pairs_sorts_by_key_and_record(rt: HostRuntime) -> Result<(), Fail> {
     let alloc = rt.alloc();
     let bob = named(b"BOB", 1);

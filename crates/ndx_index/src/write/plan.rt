@@ -4,6 +4,7 @@ ghost use Rattle.std.specs.Prelude.{◌≡◌, ◌+◌, ◌*◌, ◌/◌, ◌<�
 ghost use Rattle.std.proofs.Props.{props};
 ghost use Rattle.std.specs.List.{AllByRecursion};
 ghost use Rattle.ndx_index.specs.declared.format.TheConstants.{MAX_PAIRS};
+ghost use Rattle.ndx_index.specs.declared.write.plan.TheConstants.{LEVELS};
 ghost use Rattle.ndx_index.specs.Image.{leaves};
 ghost use Rattle.ndx_index.specs.Levels.{IsLast, AreSizes, IsRootLevel, key_under, level as level_of};
 
@@ -88,7 +89,7 @@ fn leaves_of(shape: Shape, pairs: &[Pair]) -> LevelSpan
 // The level above a level of several pages.
 fn above(shape: Shape, level: LevelSpan) -> LevelSpan
     requires numbers { level.first + level.count ≤ 4294967295 }
-    requires height { level.height < 32 }
+    requires height { level.height < LEVELS }
     ensures height { result.height ≡ level.height + 1 }
     ensures first { result.first ≡ level.first + level.count }
     ensures count { result.count ≡ (level.count + shape.keys) / (shape.keys + 1) }

@@ -1,4 +1,5 @@
 use Rattle.std.proofs.Common.{◌≡◌, ◌+◌, ◌≤◌, ℕ, List, length, drop, min, arith, ap, length-drop}
+use Rattle.key_expr.specs.declared.format.TheConstants.{MAX_LENGTH}
 use Rattle.dbf_fields.specs.declared.field.Field.{Field}
 use Rattle.dbf_fields.specs.Field.{widths}
 use Rattle.dbf_fields.specs.Layout.{cells_of}
@@ -13,7 +14,7 @@ use Rattle.key_expr.proofs.evaluate.+put.Goals as goal
 
 -- the length that is kept is that of the first part's key
 long_first : (fields : List Field) (record_bytes : List ℕ) (tree first : Tree) (n : ℕ) → length record_bytes ≡ 1 + widths fields → tree ≡ first
-    → n ≡ min 1000000 (key_length fields (expr_of first)) → n ≡ min 1000000 (length (key (cells_of fields (drop 1 record_bytes)) (expr_of tree)))
+    → n ≡ min MAX_LENGTH (key_length fields (expr_of first)) → n ≡ min MAX_LENGTH (length (key (cells_of fields (drop 1 record_bytes)) (expr_of tree)))
 long_first fields record_bytes tree first n whole same long =
     let rest : widths fields ≤ length (drop 1 record_bytes) = omega (arith, whole, length-drop 1 record_bytes) in
     rw (same, key_length_is fields (drop 1 record_bytes) (expr_of first) rest) long

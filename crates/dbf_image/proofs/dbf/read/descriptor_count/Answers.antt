@@ -3,9 +3,9 @@ use Rattle.std.specs.Prelude.{slice_index}
 use Rattle.std.proofs.lemmas.Bool.{ne_eqb}
 use Rattle.dbf_image.proofs.Chunks.{first_from-next}
 use Rattle.dbf_image.proofs.dbf.read.descriptor_count.Goals as goal
-use Rattle.dbf_image.specs.declared.format.TheConstants.{HEADER_END}
+use Rattle.dbf_image.specs.declared.format.TheConstants.{DESCRIPTOR, HEADER, HEADER_END}
 
 pub loop-i-preserved : goal.loop-i-preserved
 loop-i-preserved c =
-    let test = λ (i : ℕ). eqb (slice_index c.args.bytes.now (32 + 32 * i)) HEADER_END in
-    first_from-next test c.loop-i.i ((c.args.end - 1) / 32) (omega arith) (ne_eqb _ _ c.if-bytes-i-eq-HEADER_END.false) ∙ c.loop-i.invariant
+    let test = λ (i : ℕ). eqb (slice_index c.args.bytes.now (HEADER + DESCRIPTOR * i)) HEADER_END in
+    first_from-next test c.loop-i.i ((c.args.end - 1) / DESCRIPTOR) (omega arith) (ne_eqb _ _ c.if-bytes-i-eq-HEADER_END.false) ∙ c.loop-i.invariant

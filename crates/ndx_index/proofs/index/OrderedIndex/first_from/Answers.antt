@@ -5,7 +5,7 @@ use Rattle.std.proofs.lemmas.Fn.{always_returns_same}
 use Rattle.ndx_index.specs.Index.{Index}
 use Rattle.ndx_index.specs.Order.{reaches}
 use Rattle.ndx_index.proofs.Order.{parted-key}
-use Rattle.ndx_index.proofs.Parts.{find_at}
+use Rattle.ndx_index.specs.Laws.Lists.{find_at}
 use Rattle.ndx_index.proofs.index.OrderedIndex.first_from.Goals as goal
 
 pub returns : goal.returns

@@ -2,7 +2,7 @@ use Rattle.std.proofs.Common.{subst, sym}
 use Rattle.ndx_index.specs.Index.{HaveLength}
 use Rattle.ndx_index.specs.Order.{AreInOrder}
 use Rattle.ndx_index.proofs.Order.{all-in_order}
-use Rattle.ndx_index.proofs.Sorts.{in_order_from_sort, order_from_distinct}
+use Rattle.ndx_index.specs.Laws.Sorting.{in_order_from_sort, order_from_distinct}
 use Rattle.ndx_index.proofs.index.OrderedIndex.from_pairs.Goals as goal
 
 pub returns-clause-pairs : goal.returns-clause-pairs

@@ -3,7 +3,8 @@ use Rattle.std.specs.List.{insert}
 use Rattle.std.specs.Result.{is_ok}
 use Rattle.ndx_index.specs.Index.{Index, HaveLength}
 use Rattle.ndx_index.specs.Order.{AreInOrder}
-use Rattle.ndx_index.proofs.Order.{all-placed, placed_at, sorted_placed}
+use Rattle.ndx_index.specs.Laws.Sorting.{all-placed}
+use Rattle.ndx_index.proofs.Order.{placed_at, sorted_placed}
 use Rattle.ndx_index.proofs.index.OrderedIndex.insert.Goals as goal
 
 pub returns-clause-pairs : goal.returns-clause-pairs

@@ -3,7 +3,7 @@ use Rattle.std.proofs.lemmas.List.{length-reverse}
 use Rattle.ndx_index.specs.Index.{Index}
 use Rattle.ndx_index.specs.Order.{before}
 use Rattle.std.proofs.lemmas.Option.{slice_get_past}
-use Rattle.ndx_index.proofs.Parts.{find_back, slice_get_back}
+use Rattle.ndx_index.specs.Laws.Lists.{find_back, slice_get_back}
 use Rattle.ndx_index.proofs.index.OrderedIndex.previous.Goals as goal
 
 pub returns-then-at-eq0 : goal.returns-then-at-eq0

@@ -6,7 +6,9 @@ use Rattle.std.proofs.lemmas.List.Kept.{IsStrictlySortedBy-filter}
 use Rattle.ndx_index.specs.declared.pair.Pair.{Pair}
 use Rattle.ndx_index.specs.Index.{Index, HaveLength}
 use Rattle.ndx_index.specs.Order.{AreInOrder, pair_cmp, same}
-use Rattle.ndx_index.proofs.Order.{all-filter, absent_at, without_absent, without_at, same_is, same_itself, same_by_parts}
+use Rattle.ndx_index.specs.Laws.Comparing.{same_is, same_itself}
+use Rattle.ndx_index.specs.Laws.Sorting.{without_absent}
+use Rattle.ndx_index.proofs.Order.{all-filter, absent_at, without_at, same_by_parts}
 use Rattle.ndx_index.proofs.index.OrderedIndex.remove.Goals as goal
 use Rattle.ndx_index.proofs.index.OrderedIndex.remove.Goals.{Then-at-len, Then-ne, After-remove}
 

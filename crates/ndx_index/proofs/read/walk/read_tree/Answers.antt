@@ -1,6 +1,7 @@
 use Rattle.std.proofs.Common.{◌≡◌, ◌/◌, ◌<◌, ℕ, true, false, length, get_or, rules, refl, ◌∙◌, ap, arith}
 use Rattle.std.proofs.lemmas.Result.{err_from_is_err_and}
 use Rattle.std.proofs.lemmas.List.{length-set, length-replicate, get_or-replicate, nil_from_length}
+use Rattle.ndx_index.specs.declared.format.TheConstants.{PAGE}
 use Rattle.ndx_index.proofs.WalkSteps.{is_page_whole, state_init, step, step_broken, step_unvisited, state_done}
 use Rattle.ndx_index.proofs.read.walk.read_tree.Goals as goal
 
@@ -8,7 +9,7 @@ pub loop-next-init : goal.loop-next-init
 loop-next-init c =
     let clear : (k : ℕ) → k < length c.in_ok-visited.visited.items → get_or c.in_ok-visited.visited.items k true ≡ false = λ k lt.
     let items = c.in_ok-visited.ensures.items_if_clones_equal (λ y h. h) in
-    rw items (get_or-replicate (length c.args.bytes.now / 512) k false true (omega (arith, ap length items, length-replicate (length c.args.bytes.now / 512) false, lt))) in
+    rw items (get_or-replicate (length c.args.bytes.now / PAGE) k false true (omega (arith, ap length items, length-replicate (length c.args.bytes.now / PAGE) false, lt))) in
     record {
       flags = search rules;
       state = state_init c.args.layout c.args.bytes.now c.args.root c.in_ok-visited.visited.items c.in_ok-pending.pending.items c.new-pairs.result.items clear c.in_ok-pending.ensures.items c.new-pairs.ensures.items;

@@ -1,6 +1,7 @@
 use Rattle.std.proofs.Common.{ℕ}
 use Rattle.std.proofs.lemmas.List.{take-replicate}
+use Rattle.ndx_index.specs.declared.format.TheConstants.{PAGE}
 use Rattle.ndx_index.proofs.write.pieces.put_zeros.Goals as goal
 
 pub returns : goal.returns
-returns g c = (c.put.ensures.0, rw (← take-replicate {X = ℕ} c.args.n 512 0 c.requires) c.put.ensures.1)
+returns g c = (c.put.ensures.0, rw (← take-replicate {X = ℕ} c.args.n PAGE 0 c.requires) c.put.ensures.1)

@@ -1,0 +1,6 @@
+pub mod Indexes
+pub mod Parts
+pub mod Rows
+pub mod Writes
+pub mod Released
+pub mod Orders

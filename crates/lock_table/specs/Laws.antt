@@ -1,0 +1,140 @@
+-- Stations stay out of each other's way.
+use Rattle.std.proofs.Common.{◌≡◌, ◌≢◌, ◌⊎◌, inl, inr, ℕ, ◌<◌, ◌≤◌, Bool, true, false, not, cond, ◌&&◌, ◌||◌, ◌==◌, List, [], ◌∷◌, ◌++◌, refl, sym, ap, ◌∙◌, arith}
+use Rattle.std.specs.List.{filter, list_any}
+use Rattle.std.proofs.lemmas.Bool.Decides.{nat_tests}
+use Rattle.lock_table.specs.Locks.{Lock, lock_of, in_table, covers, free_record, free_whole, is_own, is_before, is_after, with_lock, without, without_all, IsHeld, AreApart}
+
+pub held_append : (xs ys : List Lock) (l : Lock) → IsHeld (xs ++ ys) l → IsHeld xs l ⊎ IsHeld ys l
+held_append [] ys l h = inr h
+held_append (x ∷ xs) ys l (inl e) = inl (inl e)
+held_append (x ∷ xs) ys l (inr h) = elim (held_append xs ys l h) [ inl i ↦ inl (inr i) | inr j ↦ inr j ]
+
+held_cond : (p : Lock → Bool) (b : Bool) (x : Lock) (xs : List Lock) (l : Lock) → p x ≡ b → (IsHeld (filter p xs) l → IsHeld xs l) → IsHeld (cond b (x ∷ filter p xs) (filter p xs)) l → IsHeld (x ∷ xs) l
+held_cond p true x xs l e next (inl i) = inl i
+held_cond p true x xs l e next (inr h) = inr (next h)
+held_cond p false x xs l e next h = inr (next h)
+
+-- what a filter keeps was there
+pub held_filter : (p : Lock → Bool) (xs : List Lock) (l : Lock) → IsHeld (filter p xs) l → IsHeld xs l
+held_filter p [] l h = h
+held_filter p (x ∷ xs) l h = held_cond p (p x) x xs l refl (held_filter p xs l) h
+
+kept_cond : (p : Lock → Bool) (b : Bool) (x : Lock) (xs : List Lock) (l : Lock) → p x ≡ b → p l ≡ true → (IsHeld xs l → IsHeld (filter p xs) l) → IsHeld (x ∷ xs) l → IsHeld (cond b (x ∷ filter p xs) (filter p xs)) l
+kept_cond p true x xs l e t next (inl i) = inl i
+kept_cond p true x xs l e t next (inr h) = inr (next h)
+kept_cond p false x xs l e t next (inl i) = let wrong : true ≡ false = sym t ∙ ap p i ∙ e in cc
+kept_cond p false x xs l e t next (inr h) = next h
+
+-- what passes stays
+held_kept : (p : Lock → Bool) (xs : List Lock) (l : Lock) → p l ≡ true → IsHeld xs l → IsHeld (filter p xs) l
+held_kept p [] l t h = h
+held_kept p (x ∷ xs) l t h = kept_cond p (p x) x xs l refl t (held_kept p xs l t) h
+
+or_left : (a b : Bool) → (a || b) ≡ false → a ≡ false
+or_left true b e = e
+or_left false b e = refl
+
+or_right : (a b : Bool) → (a || b) ≡ false → b ≡ false
+or_right true b e = cc
+or_right false b e = e
+
+-- what no lock passes, none of them does
+none_held : (p : Lock → Bool) (xs : List Lock) (l : Lock) → list_any p xs ≡ false → IsHeld xs l → p l ≡ false
+none_held p [] l e h = absurd h
+none_held p (x ∷ xs) l e (inl i) = ap p i ∙ or_left (p x) (list_any p xs) e
+none_held p (x ∷ xs) l e (inr h) = none_held p xs l (or_right (p x) (list_any p xs) e) h
+
+passes_cond : (p : Lock → Bool) (b : Bool) (x : Lock) (xs : List Lock) (l : Lock) → p x ≡ b → (IsHeld (filter p xs) l → p l ≡ true) → IsHeld (cond b (x ∷ filter p xs) (filter p xs)) l → p l ≡ true
+passes_cond p true x xs l e next (inl i) = ap p i ∙ e
+passes_cond p true x xs l e next (inr h) = next h
+passes_cond p false x xs l e next h = next h
+
+-- what a filter keeps passes its test
+held_passes : (p : Lock → Bool) (xs : List Lock) (l : Lock) → IsHeld (filter p xs) l → p l ≡ true
+held_passes p [] l h = absurd h
+held_passes p (x ∷ xs) l h = passes_cond p (p x) x xs l refl (held_passes p xs l) h
+
+-- of fewer locks
+pub apart_filter : (p : Lock → Bool) (xs : List Lock) → AreApart xs → AreApart (filter p xs)
+apart_filter p xs apart a b h i = apart a b (held_filter p xs a h) (held_filter p xs b i)
+
+-- a lock that is held after a station took one is that one, or was held before
+pub held_with : (xs : List Lock) (s t r : ℕ) (l : Lock) → IsHeld (with_lock xs s t r) l → (l ≡ lock_of t s r) ⊎ IsHeld xs l
+held_with xs s t r l h =
+    elim (held_append (filter (is_before s t) xs) (lock_of t s r ∷ filter (is_after s t) xs) l h) [
+      | inl i ↦ inr (held_filter (is_before s t) xs l i)
+      | inr j ↦ elim j [ inl e ↦ inl e | inr k ↦ inr (held_filter (is_after s t) xs l k) ]
+    ]
+
+apart_new : (xs : List Lock) (s t r : ℕ) → ((l : Lock) → IsHeld xs l → l.table ≡ t → l.station ≢ s → (0 < r) × (0 < l.number) × (l.number ≢ r)) → AreApart xs → AreApart (with_lock xs s t r)
+apart_new xs s t r free apart a b h i =
+    elim (held_with xs s t r a h) [
+      | inl e ↦ elim (held_with xs s t r b i) [
+        | inl f ↦ λ _ other. absurd (other (ap (λ (l : Lock). l.station) e ∙ sym (ap (λ (l : Lock). l.station) f)))
+        | inr k ↦ λ same other.
+            let f = free b k (sym same ∙ ap (λ (l : Lock). l.table) e) (λ g. other (ap (λ (l : Lock). l.station) e ∙ sym g)) in
+            let number : a.number ≡ r = ap (λ (l : Lock). l.number) e in
+            (omega arith, f.1, λ g. f.2 (sym g ∙ number))
+      ]
+      | inr j ↦ elim (held_with xs s t r b i) [
+        | inl f ↦ λ same other.
+            let g = free a j (same ∙ ap (λ (l : Lock). l.table) f) (λ k. other (k ∙ sym (ap (λ (l : Lock). l.station) f))) in
+            let number : b.number ≡ r = ap (λ (l : Lock). l.number) f in
+            (g.1, omega arith, λ k. g.2 (k ∙ number))
+        | inr k ↦ apart a b j k
+      ]
+    ]
+
+not_false : (b : Bool) → not b ≡ true → b ≡ false
+not_false true e = sym e
+not_false false e = refl
+
+not_true : (b : Bool) → not b ≡ true → b ≡ true → ⊥
+not_true true e f = cc
+not_true false e f = cc
+
+same_station : (a s : ℕ) → a ≡ s → (a == s) ≡ true
+same_station a s e = grind (arith, nat_tests)
+
+-- a lock that is left after a station released its own in a table was held before, and is none of these
+pub held_without : (xs : List Lock) (s t : ℕ) (l : Lock) → IsHeld (without xs s t) l → IsHeld xs l × (is_own s t l ≡ false)
+held_without xs s t l h = (held_filter (λ m. not (is_own s t m)) xs l h, not_false (is_own s t l) (held_passes (λ m. not (is_own s t m)) xs l h))
+
+-- a lock that is left after a station released all was held before, and is another station's
+pub held_without_all : (xs : List Lock) (s : ℕ) (l : Lock) → IsHeld (without_all xs s) l → IsHeld xs l × (l.station ≢ s)
+held_without_all xs s l h =
+    (held_filter (λ m. not (m.station == s)) xs l h, λ e. not_true (l.station == s) (held_passes (λ m. not (m.station == s)) xs l h) (same_station l.station s e))
+
+-- of the locks that are left
+pub apart_without : (xs : List Lock) (s t : ℕ) → AreApart xs → AreApart (without xs s t)
+apart_without xs s t apart = apart_filter (λ l. not (is_own s t l)) xs apart
+
+pub apart_without_all : (xs : List Lock) (s : ℕ) → AreApart xs → AreApart (without_all xs s)
+apart_without_all xs s apart = apart_filter (λ l. not (l.station == s)) xs apart
+
+free_number : (station s number r : ℕ) → station ≢ s → 1 ≤ r → (not (station == s) && (number == r || number == 0)) ≡ false → (0 < r) × (0 < number) × (number ≢ r)
+free_number station s number r other h e = (omega arith, grind (arith, nat_tests), grind (arith, nat_tests))
+
+free_station : (station s : ℕ) → station ≢ s → not (station == s) ≡ false → ⊥
+free_station station s other e = grind (arith, nat_tests)
+
+same_table : (a t : ℕ) → a ≡ t → (a == t) ≡ true
+same_table a t e = grind (arith, nat_tests)
+
+-- a free record is locked
+pub apart_record : (xs : List Lock) (s t r : ℕ) → 1 ≤ r → free_record xs s t r ≡ true → AreApart xs → AreApart (with_lock xs s t r)
+apart_record xs s t r h free apart = apart_new xs s t r
+    (λ l held same other.
+    let p : Lock → Bool = λ l. not (l.station == s) && covers r l in
+    let there : IsHeld (in_table xs t) l = held_kept (λ m. m.table == t) xs l (same_table l.table t same) held in
+    free_number l.station s l.number r other h (none_held p (in_table xs t) l (not_false (list_any p (in_table xs t)) free) there))
+    apart
+
+-- a table in which no other station has a lock is locked
+pub apart_whole : (xs : List Lock) (s t : ℕ) → free_whole xs s t ≡ true → AreApart xs → AreApart (with_lock xs s t 0)
+apart_whole xs s t free apart = apart_new xs s t 0
+    (λ l held same other.
+    let p : Lock → Bool = λ l. not (l.station == s) in
+    let there : IsHeld (in_table xs t) l = held_kept (λ m. m.table == t) xs l (same_table l.table t same) held in
+    absurd (free_station l.station s other (none_held p (in_table xs t) l (not_false (list_any p (in_table xs t)) free) there)))
+    apart

@@ -1,0 +1,35 @@
+-- How the locks are kept: a slot for each table and station, table by table.
+use Rattle.std.specs.Prelude.{◌≡◌, ℕ, ◌+◌, ◌-◌, ◌*◌, ◌/◌, ◌%◌, List, [], ◌∷◌, ◌++◌, length, map, Option, Some, None}
+use Rattle.lock_table.specs.Locks.{Lock, lock_of, AreApart}
+
+-- the records that a slot names
+abbrev pub records_of : Option ℕ → List ℕ
+records_of None = []
+records_of (Some number) = number ∷ []
+
+-- the index of the slot of a station and a table, where there are so many stations
+abbrev pub slot_index_of : ℕ → ℕ → ℕ → ℕ
+slot_index_of stations station table = (table - 1) * stations + (station - 1)
+
+-- a lock of the slot of an index
+abbrev pub lock_at : ℕ → ℕ → ℕ → Lock
+lock_at stations index number = lock_of (index / stations + 1) (index % stations + 1) number
+
+-- the locks of the slots from an index on
+abbrev pub locks_from : ℕ → ℕ → List (List ℕ) → List Lock
+locks_from stations index [] = []
+locks_from stations index (numbers ∷ rest) = map (lock_at stations index) numbers ++ locks_from stations (index + 1) rest
+
+-- the locks of a table's slots from a station on
+abbrev pub row_from : ℕ → ℕ → List (List ℕ) → List Lock
+row_from table station [] = []
+row_from table station (numbers ∷ rest) = map (lock_of table station) numbers ++ row_from table (station + 1) rest
+
+-- the locks of all slots
+abbrev pub locks_of : ℕ → List (Option ℕ) → List Lock
+locks_of stations slots = locks_from stations 0 (map records_of slots)
+
+-- there is a slot for each table and station, and no two stations are in each other's way
+pub record AreSlots (stations tables : ℕ) (slots : List (Option ℕ)) : Type 0 where
+  pub whole : length slots ≡ tables * stations
+  pub apart : AreApart (locks_of stations slots)

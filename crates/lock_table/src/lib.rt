@@ -1,0 +1,33 @@
+//! Locks of stations on records and on whole tables.
+//!
+//! [`Locks`] is seen by contracts as the list of the locks that are held (`specs/Locks.antt`). A station has
+//! one lock at most in a table, on a record or on the whole table. A lock is given exactly where no lock of
+//! another station bars it, and then it replaces the one that the station had in that table; so no record is
+//! locked by two stations. Start reading at `specs/Locks.antt`, then `locks.rt`.
+#![tactic(auto)]
+
+ghost use Rattle.std.specs.Prelude.{◌≡◌, ◌≢◌, ◌⊎◌, ℕ, ◌≤◌, true, false, List};
+ghost use Rattle.lock_table.specs.Locks.{Lock, lock_of, free_record, free_whole, is_own, with_lock, without, without_all, IsHeld, AreApart};
+
+mod locks;
+
+pub use locks::Locks;
+
+/// Whatever free record or table is locked and whatever is released, stations stay apart: no record is locked by
+/// two of them, and no table in which another has a lock.
+pub fn stations_stay_apart()
+    ensures records { (locks : List Lock) (station table number : ℕ) → 1 ≤ number → free_record locks station table number ≡ true → AreApart locks → AreApart (with_lock locks station table number) }
+    ensures file { (locks : List Lock) (station table : ℕ) → free_whole locks station table ≡ true → AreApart locks → AreApart (with_lock locks station table 0) }
+    ensures released { (locks : List Lock) (station table : ℕ) → AreApart locks → AreApart (without locks station table) }
+    ensures all_released { (locks : List Lock) (station : ℕ) → AreApart locks → AreApart (without_all locks station) }
+{}
+
+/// Which locks are held after one was taken or some were released: the new one and former ones, and no others.
+pub fn other_locks_stay()
+    ensures taken { (locks : List Lock) (station table number : ℕ) (l : Lock) → IsHeld (with_lock locks station table number) l → (l ≡ lock_of table station number) ⊎ IsHeld locks l }
+    ensures released { (locks : List Lock) (station table : ℕ) (l : Lock) → IsHeld (without locks station table) l → IsHeld locks l × (is_own station table l ≡ false) }
+    ensures all_released { (locks : List Lock) (station : ℕ) (l : Lock) → IsHeld (without_all locks station) l → IsHeld locks l × (l.station ≢ station) }
+{}
+
+#[cfg(test)]
+mod tests;

@@ -1,0 +1,289 @@
+//! The locks that are held.
+
+ghost use Rattle.std.specs.Prelude.{◌≡◌, ℕ, nat_lt, ◌+◌, ◌*◌, ◌<◌, ◌≤◌, ◌&&◌, ◌||◌, ◌==◌, not, is_some, true, false, List, [], length, map, IfOk};
+ghost use Rattle.std.specs.List.{list_any, filter};
+ghost use Rattle.lock_table.specs.Locks.{held, in_table, free_record, free_whole, may_write, holder, record_locks, with_lock, without, without_all, AreApart, AreInOrder};
+ghost use Rattle.lock_table.specs.Slots.{slot_index_of, records_of, row_from};
+
+use std::alloc::{AllocError, Global};
+use std::marker::Model;
+
+// The record number of a lock on the whole table.
+const WHOLE_TABLE: u32 = 0;
+
+/// The locks that stations hold in tables, which contracts see as a list in order of table and station.
+/// Stations, tables and records count from 1, and a lock on record 0 is one on the whole table.
+///
+/// After [`Locks::new`] no call takes memory. A call looks at the locks of one table, so it costs at most the
+/// number of stations; only [`Locks::release_all`] goes through the tables.
+#[derive(Debug, Drop)]
+pub struct Locks {
+    stations: u32,
+    tables: u32,
+    // A slot for each table and station, table by table: the record that the station has locked there, or 0
+    // for the whole table.
+    slots: Vec<Option<u32>>,
+}
+
+impl Model for Locks {
+    ghost use Rattle.lock_table.specs.Locks.{Held, held};
+
+    ghost Value = { Held };
+
+    ghost use Rattle.lock_table.specs.Slots.{AreSlots, locks_of};
+
+    ghost view = { λ l. held l.stations l.tables (locks_of l.stations l.slots.items) };
+
+    ghost invariant = { λ l. AreSlots l.stations l.tables l.slots.items };
+}
+
+impl Locks {
+    /// No locks, for a number of stations and of tables. An error where memory is refused, and only then.
+    pub fn new(alloc: Global, stations: u32, tables: u32) -> Result<Locks, AllocError>
+        ensures value { IfOk result (λ locks. locks ≡ held stations tables []) }
+    {
+        let mut slots = Vec::new(alloc);
+        slots.resize(tables as usize * stations as usize, None)?;
+        Ok(Locks {
+            stations,
+            tables,
+            slots,
+        })
+    }
+
+    /// How many stations there are.
+    pub fn station_count(&self) -> u32
+        ensures value { result ≡ self.now.stations }
+    {
+        self.stations
+    }
+
+    /// Locks a record for a station, and answers whether it did: not where another station has a lock on the
+    /// record or on the whole table. The lock replaces the one that the station had in the table; where the
+    /// answer is false nothing has changed.
+    pub fn try_record(&mut self, station: u32, table: u32, number: u32) -> bool
+        requires station { 1 ≤ station }
+        requires stations { station ≤ self.old.stations }
+        requires table { 1 ≤ table }
+        requires tables { table ≤ self.old.tables }
+        requires number { 1 ≤ number }
+        ensures free { result ≡ free_record self.old.locks station table number }
+        ensures taken { result ≡ true → self.new ≡ held self.old.stations self.old.tables (with_lock self.old.locks station table number) }
+        ensures kept { result ≡ false → self.new ≡ self.old }
+    {
+        if !self.is_free_record(station, table, number) {
+            return false;
+        }
+        let index = self.slot_index(station, table);
+        self.slots[index] = Some(number);
+        true
+    }
+
+    /// Locks a whole table for a station, and answers whether it did: not where another station has a lock
+    /// in it. The lock replaces the one that the station had in the table; where the answer is false nothing
+    /// has changed.
+    pub fn try_file(&mut self, station: u32, table: u32) -> bool
+        requires station { 1 ≤ station }
+        requires stations { station ≤ self.old.stations }
+        requires table { 1 ≤ table }
+        requires tables { table ≤ self.old.tables }
+        ensures free { result ≡ free_whole self.old.locks station table }
+        ensures taken { result ≡ true → self.new ≡ held self.old.stations self.old.tables (with_lock self.old.locks station table 0) }
+        ensures kept { result ≡ false → self.new ≡ self.old }
+    {
+        if !self.is_free_whole(station, table) {
+            return false;
+        }
+        let index = self.slot_index(station, table);
+        self.slots[index] = Some(WHOLE_TABLE);
+        true
+    }
+
+    /// Releases the station's lock in a table, if it has one.
+    pub fn release(&mut self, station: u32, table: u32)
+        requires station { 1 ≤ station }
+        requires stations { station ≤ self.old.stations }
+        requires table { 1 ≤ table }
+        requires tables { table ≤ self.old.tables }
+        ensures value { self.new ≡ held self.old.stations self.old.tables (without self.old.locks station table) }
+    {
+        let index = self.slot_index(station, table);
+        self.slots[index] = None;
+    }
+
+    /// Releases all locks of the station.
+    pub fn release_all(&mut self, station: u32)
+        requires station { 1 ≤ station }
+        requires stations { station ≤ self.old.stations }
+        ensures value { self.new ≡ held self.old.stations self.old.tables (without_all self.old.locks station) }
+    {
+        for table in 0..self.tables {
+            self.release(station, table + 1);
+        }
+    }
+
+    /// The station whose lock is on just this record, and 0 where there is none. A lock on the whole table
+    /// doesn't count.
+    pub fn holder_of_record(&self, table: u32, number: u32) -> u32
+        requires table { 1 ≤ table }
+        requires tables { table ≤ self.now.tables }
+        requires number { 1 ≤ number }
+        ensures value { result ≡ holder self.now.locks table number }
+    {
+        self.holder(table, number)
+    }
+
+    /// The station whose lock is on the whole table, and 0 where there is none.
+    pub fn file_holder(&self, table: u32) -> u32
+        requires table { 1 ≤ table }
+        requires tables { table ≤ self.now.tables }
+        ensures value { result ≡ holder self.now.locks table 0 }
+    {
+        self.holder(table, WHOLE_TABLE)
+    }
+
+    /// Whether the station has a lock on the record or on the whole table.
+    pub fn may_write(&self, station: u32, table: u32, number: u32) -> bool
+        requires station { 1 ≤ station }
+        requires stations { station ≤ self.now.stations }
+        requires table { 1 ≤ table }
+        requires tables { table ≤ self.now.tables }
+        requires number { 1 ≤ number }
+        ensures value { result ≡ may_write self.now.locks station table number }
+        ensures apart { AreApart self.now.locks }
+        ensures order { AreInOrder self.now.locks }
+    {
+        covers(self.row(table)[station as usize - 1], number)
+    }
+
+    /// How many locks there are on records of a table. A lock on the whole table doesn't count.
+    pub fn record_locks(&self, table: u32) -> u32
+        requires table { 1 ≤ table }
+        requires tables { table ≤ self.now.tables }
+        ensures value { result ≡ record_locks self.now.locks table }
+        ensures apart { AreApart self.now.locks }
+        ensures order { AreInOrder self.now.locks }
+    {
+        let row = self.row(table);
+        let mut count = 0;
+        for other in 0..self.stations {
+            count += record_count(row[other as usize]);
+        }
+        count
+    }
+
+    /// Whether the station may lock the record: no other station has a lock on it or on the whole table.
+    pub fn is_free_record(&self, station: u32, table: u32, number: u32) -> bool
+        requires table { 1 ≤ table }
+        requires tables { table ≤ self.now.tables }
+        ensures value { result ≡ free_record self.now.locks station table number }
+    {
+        let row = self.row(table);
+        for other in 0..self.stations {
+            if bars(row[other as usize], other + 1, station, number) {
+                return false;
+            }
+        }
+        true
+    }
+
+    /// Whether the station may lock the whole table: no other station has a lock in it.
+    pub fn is_free_whole(&self, station: u32, table: u32) -> bool
+        requires table { 1 ≤ table }
+        requires tables { table ≤ self.now.tables }
+        ensures value { result ≡ free_whole self.now.locks station table }
+    {
+        let row = self.row(table);
+        for other in 0..self.stations {
+            if bars_table(row[other as usize], other + 1, station) {
+                return false;
+            }
+        }
+        true
+    }
+
+    // The station whose lock is on just this record, where 0 is the whole table.
+    fn holder(&self, table: u32, number: u32) -> u32
+        requires table { 1 ≤ table }
+        requires tables { table ≤ self.now.tables }
+        ensures value { result ≡ holder self.now.locks table number }
+    {
+        let row = self.row(table);
+        for other in 0..self.stations {
+            if is_on(row[other as usize], number) {
+                return other + 1;
+            }
+        }
+        0
+    }
+
+    // The index of the slot of a station and a table.
+    fn slot_index(&self, station: u32, table: u32) -> usize
+        requires station { 1 ≤ station }
+        requires stations { station ≤ self.now.stations }
+        requires table { 1 ≤ table }
+        requires tables { table ≤ self.now.tables }
+        ensures value { result ≡ slot_index_of self.now.stations station table }
+        ensures inside { result < self.now.tables * self.now.stations }
+    {
+        (table as usize - 1) * self.stations as usize + (station as usize - 1)
+    }
+
+    // The slots of a table, in order of station.
+    fn row(&self, table: u32) -> &[Option<u32>]
+        requires table { 1 ≤ table }
+        requires tables { table ≤ self.now.tables }
+        ensures length { length result.now ≡ self.now.stations }
+        ensures locks { in_table self.now.locks table ≡ row_from table 1 (map records_of result.now) }
+        ensures apart { AreApart self.now.locks }
+        ensures order { AreInOrder self.now.locks }
+    {
+        let start = (table as usize - 1) * self.stations as usize;
+        &self.slots[start..start + self.stations as usize]
+    }
+}
+
+// Whether a slot's lock is on the record or on the whole table.
+fn covers(slot: Option<u32>, number: u32) -> bool
+    ensures value { result ≡ list_any (λ n. n == number || n == 0) (records_of slot) }
+{
+    match slot {
+        Some(held) => held == number || held == WHOLE_TABLE,
+        None => false,
+    }
+}
+
+// Whether the lock in the slot of a holder bars the station from the record.
+fn bars(slot: Option<u32>, holder: u32, station: u32, number: u32) -> bool
+    ensures value { result ≡ (not (holder == station) && list_any (λ n. n == number || n == 0) (records_of slot)) }
+{
+    holder != station && covers(slot, number)
+}
+
+// Whether the lock in the slot of a holder bars the station from the whole table.
+fn bars_table(slot: Option<u32>, holder: u32, station: u32) -> bool
+    ensures value { result ≡ (not (holder == station) && is_some slot) }
+{
+    holder != station && slot.is_some()
+}
+
+// Whether a slot's lock is on just this record, where 0 is the whole table.
+fn is_on(slot: Option<u32>, number: u32) -> bool
+    ensures value { result ≡ list_any (λ n. n == number) (records_of slot) }
+{
+    match slot {
+        Some(held) => held == number,
+        None => false,
+    }
+}
+
+// How many records a slot has locked: one at most.
+fn record_count(slot: Option<u32>) -> u32
+    ensures value { result ≡ length (filter (λ n. nat_lt 0 n) (records_of slot)) }
+    ensures few { result ≤ 1 }
+{
+    match slot {
+        None | Some(WHOLE_TABLE) => 0,
+        Some(_) => 1,
+    }
+}

@@ -1,0 +1,10 @@
+use Rattle.std.proofs.Common.{◌≡◌, ◌+◌}
+use Rattle.shared_catalogue.specs.Seats.{new_seats}
+use Rattle.shared_catalogue.proofs.shared.Shared.new.Given as goal
+
+abbrev pub invariant-loop-index : goal.invariant-loop-index
+invariant-loop-index g l = record {
+  parts : l.whole.parts + l.index ≡ l.stations;
+  amount : l.whole.amount ≡ 0;
+  seats : l.seats.items ≡ new_seats l.index;
+}

@@ -1,0 +1,59 @@
+//! A catalogue at its end.
+
+ghost use Rattle.std.specs.Prelude.{◌≡◌, ◌-◌, ◌≤◌, length, slice_get, Some};
+ghost use Rattle.shared_catalogue.specs.Replay.{state_of};
+
+use crate::catalogue::Catalogue;
+use crate::entry::Entry;
+use std::marker::Model;
+
+/// A catalogue that is closed: its tables and its journal can be read, and no command is performed any
+/// more.
+#[derive(Drop)]
+pub struct Closed {
+    catalogue: Catalogue,
+}
+
+impl Model for Closed {
+    ghost use Rattle.std.specs.Coded.{codes};
+    ghost use Rattle.key_expr.specs.ExprCode.{expr_code};
+    ghost use Rattle.shared_catalogue.specs.Replay.{History};
+
+    ghost Value = { History };
+
+    ghost coded = { Prim.hlevel (codes, expr_code) };
+
+    ghost view = { λ c. c.catalogue };
+}
+
+impl Closed {
+    pub(crate) fn new(catalogue: Catalogue) -> Closed
+        ensures value { result ≡ catalogue }
+    {
+        Closed { catalogue }
+    }
+
+    /// How many tables were opened.
+    pub fn table_count(&self) -> usize
+        ensures value { result ≡ length self.now.opened.tables }
+    {
+        self.catalogue.table_count()
+    }
+
+    /// How many entries the journal has.
+    pub fn entry_count(&self) -> u64
+        ensures value { result ≡ length self.now.journal }
+    {
+        self.catalogue.journal().len() as u64
+    }
+
+    /// An entry of the journal. Entries count from 1.
+    pub fn entry(&self, number: u64) -> &Entry
+        requires counted { 1 ≤ number }
+        requires inside { number ≤ length self.now.journal }
+        ensures value { slice_get self.now.journal (number - 1) ≡ Some result.now }
+    {
+        let index = number as usize - 1;
+        &self.catalogue.journal()[index]
+    }
+}

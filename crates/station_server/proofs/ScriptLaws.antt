@@ -1,0 +1,11 @@
+pub mod Dates
+pub mod LineLaws
+pub mod CuttingLaws
+pub mod WordLaws
+pub mod PartLaws
+pub mod TextLaws
+pub mod LiteralLaws
+pub mod VerbLaws
+pub mod SoundLaws
+pub mod FoundLaws
+pub mod MeaningLaws

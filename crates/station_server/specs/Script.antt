@@ -1,0 +1,7 @@
+pub mod Words
+pub mod Parts
+pub mod Literals
+pub mod Meaning
+pub mod Days
+pub mod Reading
+pub mod Lines

@@ -1,0 +1,4 @@
+mod Keys
+mod Follows
+mod Seeking
+mod Turned

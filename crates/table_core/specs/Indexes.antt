@@ -1,0 +1,49 @@
+-- What the indexes of a table keep.
+use Rattle.std.specs.Prelude.{◌≡◌, ℕ, ◌<◌, Bool, true, ◌&&◌, nat_lt, None, List, [], ◌∷◌}
+use Rattle.dbf_image.specs.Table.{Table}
+use Rattle.key_expr.specs.Expression.{Expression}
+use Rattle.key_expr.specs.Keys.{key_length}
+use Rattle.key_expr.specs.Rules.{refusal}
+use Rattle.ndx_index.specs.declared.pair.Pair.{Pair}
+use Rattle.ndx_index.specs.TableOrder.{order, order_but}
+use Rattle.table_core.specs.declared.indexes.TableIndex.{TableIndex}
+use Rattle.table_core.specs.Content.{Indexed}
+
+-- the expression was read for these fields, and the keys have its length
+pub record IsFor (table : Table) (index : TableIndex) : Type 0 where
+  pub fields : index.expr.fields ≡ table.schema
+  pub kept : refusal table.schema index.expr.expr ≡ None
+  pub long : index.order.key_len ≡ key_length index.expr.fields index.expr.expr
+
+-- the index has the order of the table
+pub record Follows (table : Table) (index : TableIndex) : Type 0 where
+  pub is_for : IsFor table index
+  pub pairs : index.order.pairs ≡ order table index.expr.expr
+
+-- the index has the order of all records but one
+pub record FollowsBut (number : ℕ) (table : Table) (index : TableIndex) : Type 0 where
+  pub is_for : IsFor table index
+  pub pairs : index.order.pairs ≡ order_but number table index.expr.expr
+
+-- one more pair has room
+abbrev pub HasRoom : TableIndex → Type 0
+HasRoom index = 0 < index.order.spare
+
+-- what callers see of an index
+abbrev pub indexed : TableIndex → Indexed
+indexed index = record { name = index.name; expr = index.expr }
+
+-- an index but for its room
+pub record Seen : Type 0 where
+  pub name : List ℕ
+  pub expr : Expression
+  pub key_len : ℕ
+  pub pairs : List Pair
+
+abbrev pub seen : TableIndex → Seen
+seen index = record { name = index.name; expr = index.expr; key_len = index.order.key_len; pairs = index.order.pairs }
+
+-- each index has room for one more pair
+abbrev pub have_room : List TableIndex → Bool
+have_room [] = true
+have_room (index ∷ indexes) = nat_lt 0 index.order.spare && have_room indexes

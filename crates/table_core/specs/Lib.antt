@@ -1,0 +1,11 @@
+pub mod Refusals
+pub mod Outcomes
+pub mod Content
+pub mod Cursors
+pub mod Moves
+pub mod CellFaults
+pub mod Edits
+pub mod Shown
+pub mod Indexes
+pub mod Planned
+pub mod Laws

@@ -1,0 +1,94 @@
+-- What a plan makes of a table and of the cursor, and when it can be carried out.
+use Rattle.std.specs.Prelude.{◌≡◌, ◌≢◌, ℕ, ◌+◌, ◌<◌, ◌≤◌, true, List, map, length}
+use Rattle.std.specs.List.{AllByRecursion}
+use Rattle.dbf_fields.specs.declared.format.TheConstants.{MEMO}
+use Rattle.dbf_fields.specs.Layout.{width_of}
+use Rattle.dbf_image.specs.declared.format.TheConstants.{MAX_RECORDS}
+use Rattle.dbf_image.specs.Growing.{Growing}
+use Rattle.dbf_image.specs.Table.{Table, kind_at, is_memo_text, packed}
+use Rattle.table_core.specs.declared.cursor.Cursor.{Cursor}
+use Rattle.table_core.specs.declared.edits.planned.Change.{Change}
+use Rattle.table_core.specs.declared.edits.planned.Change.TheVariants.{AddBlank, SetCell, SetMemo, SetMark, Pack}
+use Rattle.table_core.specs.declared.edits.planned.Planned.{Planned}
+use Rattle.table_core.specs.declared.edits.planned.Target.{Target}
+use Rattle.table_core.specs.declared.indexes.TableIndex.{TableIndex}
+use Rattle.table_core.specs.Content.{Content, Held, record_count, with_table}
+use Rattle.table_core.specs.Edits.{with_blank, with_value, with_deleted}
+use Rattle.table_core.specs.Indexes.{Follows, indexed}
+use Rattle.table_core.specs.Moves.{at_record, at_top}
+
+abbrev pub changed_by : Content → Change → Content
+changed_by content AddBlank = with_blank content
+changed_by content (SetCell target cell) = with_value content target cell
+changed_by content (SetMemo target text) = with_value content target text
+changed_by content (SetMark number deleted) = with_deleted content number deleted
+changed_by content (Pack records indexes) = with_table content records.table
+
+abbrev pub moved_by : Content → Cursor → Change → Cursor
+moved_by content cursor AddBlank = at_record cursor (record_count content + 1)
+moved_by content cursor (SetCell target cell) = cursor
+moved_by content cursor (SetMemo target text) = cursor
+moved_by content cursor (SetMark number deleted) = cursor
+moved_by content cursor (Pack records indexes) = at_top (with_table content records.table) cursor
+
+-- the table, and the cursor, after the plan is carried out
+abbrev pub changed : Content → Planned → Content
+changed content planned = changed_by content planned.change
+
+abbrev pub cursor_after : Content → Cursor → Planned → Cursor
+cursor_after content cursor planned = moved_by content cursor planned.change
+
+-- a record of the table
+pub record IsRecordOf (table : Table) (number : ℕ) : Type 0 where
+  pub one : 1 ≤ number
+  pub inside : number ≤ length table.rows
+
+-- a field of a record of the table
+pub record IsTarget (table : Table) (t : Target) : Type 0 where
+  pub record_is : IsRecordOf table t.number
+  pub field_is : t.field < length table.schema
+
+-- a cell that can be replaced by so many bytes
+pub record IsCellOf (table : Table) (t : Target) (width : ℕ) : Type 0 where
+  pub target_is : IsTarget table t
+  pub kind : kind_at table.schema t.field ≢ MEMO
+  pub wide : width ≡ width_of table.schema t.field
+
+-- a memo that can have this text
+pub record IsMemoOf (table : Table) (t : Target) (text : List ℕ) : Type 0 where
+  pub target_is : IsTarget table t
+  pub kind : kind_at table.schema t.field ≡ MEMO
+  pub text_is : is_memo_text text ≡ true
+
+-- one more record has room, in the table and in each index
+pub record CanAdd (held : Held) : Type 0 where
+  pub few : record_count held.content < MAX_RECORDS
+  pub for_record : held.room.for_record ≡ true
+  pub for_pairs : held.room.for_pairs ≡ true
+
+-- the cell is one of the table, and each index has room for its new key
+pub record CanSetCell (held : Held) (t : Target) (width : ℕ) : Type 0 where
+  pub cell : IsCellOf held.content.table t width
+  pub for_pairs : held.room.for_pairs ≡ true
+
+-- the memo is one of the table, and there is room for its text
+pub record CanSetMemo (held : Held) (t : Target) (text : List ℕ) : Type 0 where
+  pub memo : IsMemoOf held.content.table t text
+  pub for_text : length text ≤ held.room.for_text
+
+-- the records are those that are not marked, and the indexes are theirs
+pub record CanPack (held : Held) (records : Growing) (indexes : List TableIndex) : Type 0 where
+  pub table : records.table ≡ packed held.content.table
+  pub follow : AllByRecursion (Follows records.table) indexes
+  pub same : map indexed indexes ≡ held.content.indexes
+
+abbrev pub CanMake : Held → Change → Type 0
+CanMake held AddBlank = CanAdd held
+CanMake held (SetCell target cell) = CanSetCell held target (length cell)
+CanMake held (SetMemo target text) = CanSetMemo held target text
+CanMake held (SetMark number deleted) = IsRecordOf held.content.table number
+CanMake held (Pack records indexes) = CanPack held records indexes.items
+
+-- planned for the table as it stands
+abbrev pub IsPlanned : Held → Planned → Type 0
+IsPlanned held planned = CanMake held planned.change

@@ -1,0 +1,39 @@
+//! Where a station is in a table.
+
+ghost use Rattle.std.specs.Prelude.{◌≡◌, false};
+ghost use Rattle.table_core.specs.Moves.{at_record};
+
+/// Where a station is in a table: at a record or at the end, what its last move found, and the order in
+/// which it moves.
+#[derive(Clone, Copy, Debug, PartialEq, Eq)]
+pub struct Cursor {
+    /// The record, from 1; `None` at the end.
+    pub at: Option<u32>,
+    /// Whether the last move went back past the first record, or to the top or bottom of an empty table.
+    pub bof: bool,
+    /// Whether the last SEEK found a record, and no move came since.
+    pub found: bool,
+    /// 0 for the order of the record numbers, or the number of an index, from 1.
+    pub order: usize,
+}
+
+impl Cursor {
+    /// The cursor at a record, from 1, in the same order.
+    pub(crate) fn at_record(self, number: u32) -> Cursor
+        ensures value { result ≡ at_record self number }
+    {
+        self.moved(Some(number), false)
+    }
+
+    /// The cursor at a record, from 1, or at the end, in the same order.
+    pub(crate) fn moved(self, at: Option<u32>, bof: bool) -> Cursor
+        ensures value { result ≡ record { at = at; bof = bof; found = false; order = self.order } }
+    {
+        Cursor {
+            at,
+            bof,
+            found: false,
+            order: self.order,
+        }
+    }
+}

@@ -1,0 +1,33 @@
+//! Edits: what a command asks for, what is planned for it, and the changes of a table and its indexes.
+
+pub(crate) mod changes;
+pub(crate) mod planned;
+
+use dbf_fields::{Bytes, Literal};
+
+/// A change of a table that a command asks for.
+#[derive(Debug, Drop)]
+pub enum Edit {
+    /// A last record of blanks, at which the cursor is then.
+    AppendBlank,
+    /// The field's cell of the record at the cursor keeps a value.
+    Replace {
+        /// The field's name, in capitals.
+        field: Bytes,
+        /// The value.
+        value: Literal,
+    },
+    /// The field's memo of the record at the cursor has a text.
+    PutMemo {
+        /// The field's name, in capitals.
+        field: Bytes,
+        /// The text.
+        text: Bytes,
+    },
+    /// The record at the cursor is marked as deleted.
+    Delete,
+    /// The mark of the record at the cursor is taken away.
+    Recall,
+    /// The marked records go, the others are numbered anew, and the cursor goes to the top.
+    Pack,
+}

@@ -1,0 +1,56 @@
+//! Plans of edits.
+
+use crate::indexes::TableIndex;
+use dbf_fields::Bytes;
+use dbf_image::GrowingTable;
+
+/// A field of a record, to be changed or shown.
+#[derive(Clone, Copy, Debug, PartialEq, Eq)]
+pub(crate) struct Target {
+    /// The record, from 1.
+    pub(crate) number: u32,
+    /// The index of the field, from 0.
+    pub(crate) field: usize,
+}
+
+/// A change of a table that takes no memory.
+#[derive(Drop)]
+pub(crate) enum Change {
+    /// A last record of blanks.
+    AddBlank,
+    /// A cell is replaced.
+    SetCell {
+        /// The field of a record.
+        target: Target,
+        /// As many bytes as the field is wide.
+        cell: Bytes,
+    },
+    /// The text of a memo is replaced.
+    SetMemo {
+        /// The field of a record.
+        target: Target,
+        /// The text.
+        text: Bytes,
+    },
+    /// The mark of a record is set or taken away.
+    SetMark {
+        /// The record, from 1.
+        number: u32,
+        /// Whether it is marked as deleted then.
+        deleted: bool,
+    },
+    /// The records that are not marked, and the indexes of them.
+    Pack {
+        /// The records.
+        records: GrowingTable,
+        /// The indexes.
+        indexes: Vec<TableIndex>,
+    },
+}
+
+/// An edit that was tested, with all memory that it needs: [`Table::carry_out`](crate::Table::carry_out)
+/// makes the change.
+#[derive(Drop)]
+pub struct Planned {
+    pub(crate) change: Change,
+}

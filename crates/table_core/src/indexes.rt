@@ -1,0 +1,123 @@
+//! One index of a table.
+
+ghost use Rattle.std.specs.Prelude.{◌≡◌, ℕ, ◌+◌, ◌<◌, ◌≤◌, length, slice_get, slice_index_or, IfOk, OnOk};
+ghost use Rattle.ndx_index.specs.Order.{AreInOrder};
+ghost use Rattle.ndx_index.specs.Places.{back_from};
+ghost use Rattle.table_core.specs.Indexes.{Follows, FollowsBut, HasRoom, IsFor, indexed, seen};
+
+pub(crate) mod all;
+pub(crate) mod sort;
+
+use crate::indexes::sort::sorted;
+use dbf_fields::Bytes;
+use dbf_image::GrowingTable;
+use key_expr::KeyExpr;
+use ndx_index::{OrderedIndex, Pair};
+use std::alloc::{AllocError, Global};
+
+/// An index: its name, its key expression, and the pairs of the table's records in order.
+#[derive(Drop)]
+pub(crate) struct TableIndex {
+    pub(crate) name: Bytes,
+    pub(crate) expr: KeyExpr,
+    pub(crate) order: OrderedIndex,
+}
+
+impl TableIndex {
+    /// An index of a table. An `Err` says that there was no memory.
+    pub(crate) fn new(
+        alloc: Global,
+        records: &GrowingTable,
+        name: Bytes,
+        expr: KeyExpr,
+    ) -> Result<TableIndex, AllocError>
+        requires fields { expr.fields ≡ records.now.table.schema }
+        ensures follows { IfOk result (λ made. Follows records.now.table made) }
+        ensures same { IfOk result (λ made. indexed made ≡ record { name = name; expr = expr }) }
+    {
+        // This call tells contracts that the expression keeps the rules on fields.
+        let _text = expr.text();
+        let order = sorted(alloc, records, &expr)?;
+        Ok(TableIndex { name, expr, order })
+    }
+
+    /// The same index for other rows of the same fields. An `Err` says that there was no memory.
+    pub(crate) fn sorted_anew(
+        &self,
+        alloc: Global,
+        records: &GrowingTable,
+    ) -> Result<TableIndex, AllocError>
+        requires is_for { IsFor records.now.table self.now }
+        ensures follows { IfOk result (λ made. Follows records.now.table made) }
+        ensures same { IfOk result (λ made. indexed made ≡ indexed self.now) }
+    {
+        let order = sorted(alloc, records, &self.expr)?;
+        let name = self.name.copy(alloc)?;
+        let expr = self.expr.copy(alloc)?;
+        Ok(TableIndex { name, expr, order })
+    }
+
+    /// Makes room for one more pair. An `Err` says that there was no memory.
+    pub(crate) fn reserve(&mut self) -> Result<(), AllocError>
+        ensures ok { OnOk result (HasRoom self.new) }
+        ensures same { seen self.new ≡ seen self.old }
+    {
+        self.order.reserve()
+    }
+
+    /// Takes a record's pair out. It takes no memory.
+    pub(crate) fn take_out(&mut self, records: &GrowingTable, number: u32)
+        requires one { 1 ≤ number }
+        requires inside { number ≤ length records.now.table.rows }
+        requires follows { Follows records.now.table self.old }
+        ensures rest { FollowsBut number records.now.table self.new }
+        ensures same { indexed self.new ≡ indexed self.old }
+        ensures room { HasRoom self.old → HasRoom self.new }
+    {
+        let key = self.expr.key_of(records.record(number));
+        self.order.remove(Pair { key, number });
+    }
+
+    /// Puts a record's pair in. It takes no memory.
+    pub(crate) fn put_in(&mut self, records: &GrowingTable, number: u32)
+        requires one { 1 ≤ number }
+        requires inside { number ≤ length records.now.table.rows }
+        requires rest { FollowsBut number records.now.table self.old }
+        requires room { HasRoom self.old }
+        ensures follows { Follows records.now.table self.new }
+        ensures same { indexed self.new ≡ indexed self.old }
+    {
+        let key = self.expr.key_of(records.record(number));
+        self.order.insert(Pair { key, number });
+    }
+
+    /// The pair so many places after one that is there.
+    pub(crate) fn after(&self, pair: Pair, steps: u64) -> Option<Pair>
+        requires sorted { AreInOrder self.now.order.pairs }
+        ensures value { (i : ℕ) → i < length self.now.order.pairs → slice_index_or self.now.order.pairs i pair ≡ pair → result ≡ slice_get self.now.order.pairs (i + steps) }
+    {
+        let mut here = Some(pair);
+        for _ in 0..steps {
+            let Some(at) = here else {
+                return None;
+            };
+            here = self.order.next(at);
+        }
+        here
+    }
+
+    /// The pair so many places before one that is there; `None` before the first.
+    pub(crate) fn back(&self, pair: Pair, steps: u64) -> Option<Pair>
+        requires sorted { AreInOrder self.now.order.pairs }
+        ensures value { (i : ℕ) → i < length self.now.order.pairs → slice_index_or self.now.order.pairs i pair ≡ pair → result ≡ back_from self.now.order.pairs i steps }
+    {
+        let mut here = Some(pair);
+        for _ in 0..steps {
+            let Some(at) = here else {
+                return None;
+            };
+            here = self.order.previous(at);
+        }
+        here
+    }
+}

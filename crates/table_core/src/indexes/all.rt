@@ -1,0 +1,49 @@
+//! All indexes of a table.
+
+ghost use Rattle.std.specs.Prelude.{◌≡◌, ◌≤◌, length, map, OnOk};
+ghost use Rattle.std.specs.List.{AllByRecursion};
+ghost use Rattle.table_core.specs.Indexes.{Follows, FollowsBut, HasRoom, indexed, seen};
+
+use crate::indexes::TableIndex;
+use dbf_image::GrowingTable;
+use std::alloc::AllocError;
+
+/// Takes a record's pair out of each index. It takes no memory.
+pub(crate) fn take_out_all(indexes: &mut Vec<TableIndex>, records: &GrowingTable, number: u32)
+    requires one { 1 ≤ number }
+    requires inside { number ≤ length records.now.table.rows }
+    requires follow { AllByRecursion (Follows records.now.table) indexes.old.items }
+    requires room { AllByRecursion HasRoom indexes.old.items }
+    ensures rest { AllByRecursion (FollowsBut number records.now.table) indexes.new.items }
+    ensures room { AllByRecursion HasRoom indexes.new.items }
+    ensures same { map indexed indexes.new.items ≡ map indexed indexes.old.items }
+{
+    for index in indexes.iter_mut() {
+        index.take_out(records, number);
+    }
+}
+
+/// Puts a record's pair into each index. It takes no memory.
+pub(crate) fn put_in_all(indexes: &mut Vec<TableIndex>, records: &GrowingTable, number: u32)
+    requires one { 1 ≤ number }
+    requires inside { number ≤ length records.now.table.rows }
+    requires rest { AllByRecursion (FollowsBut number records.now.table) indexes.old.items }
+    requires room { AllByRecursion HasRoom indexes.old.items }
+    ensures follow { AllByRecursion (Follows records.now.table) indexes.new.items }
+    ensures same { map indexed indexes.new.items ≡ map indexed indexes.old.items }
+{
+    for index in indexes.iter_mut() {
+        index.put_in(records, number);
+    }
+}
+
+/// Makes room for one more pair in each index. An `Err` says that there was no memory.
+pub(crate) fn reserve_all(indexes: &mut Vec<TableIndex>) -> Result<(), AllocError>
+    ensures ok { OnOk result (AllByRecursion HasRoom indexes.new.items) }
+    ensures same { map seen indexes.new.items ≡ map seen indexes.old.items }
+{
+    for index in indexes.iter_mut() {
+        index.reserve()?;
+    }
+    Ok(())
+}

@@ -1,0 +1,169 @@
+//! Plans of edits: their refusals, in order, and the memory that they need.
+
+ghost use Rattle.std.specs.Prelude.{◌≡◌, ◌≤◌, true, Ok, length, IfOk, IfErr, OnOk};
+ghost use Rattle.table_core.specs.declared.cursor.Cursor.{Cursor as CursorValue};
+ghost use Rattle.dbf_image.specs.Table.{packed};
+ghost use Rattle.table_core.specs.Content.{with_table};
+ghost use Rattle.table_core.specs.Cursors.{IsCursor};
+ghost use Rattle.table_core.specs.Edits.{edited, append_blank, replace, put_memo, mark, pack};
+ghost use Rattle.table_core.specs.Outcomes.{IsFaultOf};
+ghost use Rattle.table_core.specs.Planned.{changed, cursor_after, IsPlanned};
+
+use crate::cursor::Cursor;
+use crate::edits::Edit;
+use crate::edits::planned::{Change, Planned};
+use crate::fault::TableFault;
+use crate::indexes::all::reserve_all;
+use crate::indexes::sort::sorted_all;
+use crate::refusal::Refusal;
+use crate::table::Table;
+use dbf_fields::{Bytes, Literal, MEMO, encode_cell};
+use dbf_image::{MAX_RECORDS, is_memo_text};
+use std::alloc::{AllocError, Global};
+
+impl Table {
+    /// Tests an edit, and takes all memory that it needs, in the table and in each index. It changes no row,
+    /// no memo and no order, whatever it answers.
+    ///
+    /// The refusals, each edit's in order: of AppendBlank `TableFull`; of Replace `EndOfFile`, `NoSuchField`,
+    /// `TypeMismatch`, `BadDate`, `NumberTooWide`; of PutMemo `EndOfFile`, `NoSuchField`, `TypeMismatch`, `BadText`; of
+    /// Delete and Recall `EndOfFile`; of Pack none. All of them are tested before memory is taken, so
+    /// `NoMemory` comes only for an edit that is not refused.
+    pub fn plan(
+        &mut self,
+        alloc: Global,
+        cursor: &Cursor,
+        edit: &Edit,
+    ) -> Result<Planned, TableFault>
+        requires cursor { IsCursor self.old.content cursor.now }
+        ensures outcome { IfOk result (λ planned. edited self.old.content cursor.now edit.now ≡ Ok (changed self.old.content planned, cursor_after self.old.content cursor.now planned)) }
+        ensures planned { IfOk result (λ planned. IsPlanned self.new planned) }
+        ensures refused { IfErr result (λ fault. IsFaultOf fault (edited self.old.content cursor.now edit.now)) }
+        ensures same { self.new.content ≡ self.old.content }
+    {
+        match edit {
+            Edit::AppendBlank => self.plan_append_blank(),
+            Edit::Replace { field, value } => self.plan_replace(alloc, cursor, field, value),
+            Edit::PutMemo { field, text } => self.plan_memo(alloc, cursor, field, text),
+            Edit::Delete => self.plan_mark(cursor, true),
+            Edit::Recall => self.plan_mark(cursor, false),
+            Edit::Pack => Ok(self.plan_pack(alloc)?),
+        }
+    }
+
+    fn plan_append_blank(&mut self) -> Result<Planned, TableFault>
+        ensures outcome { IfOk result (λ planned. (cursor : CursorValue) → append_blank self.old.content cursor ≡ Ok (changed self.old.content planned, cursor_after self.old.content cursor planned)) }
+        ensures planned { IfOk result (λ planned. IsPlanned self.new planned) }
+        ensures refused { IfErr result (λ fault. (cursor : CursorValue) → IsFaultOf fault (append_blank self.old.content cursor)) }
+        ensures same { self.new.content ≡ self.old.content }
+    {
+        if self.record_count() >= MAX_RECORDS {
+            return Err(Refusal::TableFull.into());
+        }
+        self.reserve_record()?;
+        self.reserve_pairs()?;
+        Ok(Planned {
+            change: Change::AddBlank,
+        })
+    }
+
+    /// The plan of a Replace, as that of [`Table::plan`], by the name of the field and the value.
+    pub fn plan_replace(
+        &mut self,
+        alloc: Global,
+        cursor: &Cursor,
+        name: &Bytes,
+        value: &Literal,
+    ) -> Result<Planned, TableFault>
+        requires cursor { IsCursor self.old.content cursor.now }
+        ensures outcome { IfOk result (λ planned. replace self.old.content cursor.now name.now value.now ≡ Ok (changed self.old.content planned, cursor_after self.old.content cursor.now planned)) }
+        ensures planned { IfOk result (λ planned. IsPlanned self.new planned) }
+        ensures refused { IfErr result (λ fault. IsFaultOf fault (replace self.old.content cursor.now name.now value.now)) }
+        ensures same { self.new.content ≡ self.old.content }
+    {
+        let target = self.find_target(cursor, name)?;
+        let cell = encode_cell(alloc, &self.schema().fields()[target.field], value)?;
+        self.reserve_pairs()?;
+        Ok(Planned {
+            change: Change::SetCell { target, cell },
+        })
+    }
+
+    /// The plan of a PutMemo, as that of [`Table::plan`], by the name of the field and the text.
+    pub fn plan_memo(
+        &mut self,
+        alloc: Global,
+        cursor: &Cursor,
+        name: &Bytes,
+        text: &Bytes,
+    ) -> Result<Planned, TableFault>
+        requires cursor { IsCursor self.old.content cursor.now }
+        ensures outcome { IfOk result (λ planned. put_memo self.old.content cursor.now name.now text.now ≡ Ok (changed self.old.content planned, cursor_after self.old.content cursor.now planned)) }
+        ensures planned { IfOk result (λ planned. IsPlanned self.new planned) }
+        ensures refused { IfErr result (λ fault. IsFaultOf fault (put_memo self.old.content cursor.now name.now text.now)) }
+        ensures same { self.new.content ≡ self.old.content }
+    {
+        let target = self.find_target(cursor, name)?;
+        if self.schema().fields()[target.field].kind != MEMO {
+            return Err(Refusal::TypeMismatch.into());
+        }
+        if !is_memo_text(text.as_slice()) {
+            return Err(Refusal::BadText.into());
+        }
+        let text = text.copy(alloc)?;
+        self.reserve_text(text.as_slice().len())?;
+        Ok(Planned {
+            change: Change::SetMemo { target, text },
+        })
+    }
+
+    fn plan_mark(&mut self, cursor: &Cursor, deleted: bool) -> Result<Planned, TableFault>
+        requires cursor { IsCursor self.old.content cursor.now }
+        ensures outcome { IfOk result (λ planned. mark self.old.content cursor.now deleted ≡ Ok (changed self.old.content planned, cursor_after self.old.content cursor.now planned)) }
+        ensures planned { IfOk result (λ planned. IsPlanned self.new planned) }
+        ensures refused { IfErr result (λ fault. IsFaultOf fault (mark self.old.content cursor.now deleted)) }
+        ensures same { self.new.content ≡ self.old.content }
+    {
+        let number = cursor.at.ok_or(Refusal::EndOfFile)?;
+        Ok(Planned {
+            change: Change::SetMark { number, deleted },
+        })
+    }
+
+    // The new rows, and the new indexes in order.
+    fn plan_pack(&self, alloc: Global) -> Result<Planned, AllocError>
+        ensures outcome { IfOk result (λ planned. (cursor : CursorValue) → pack self.now.content cursor ≡ Ok (changed self.now.content planned, cursor_after self.now.content cursor planned)) }
+        ensures planned { IfOk result (λ planned. IsPlanned self.now planned) }
+    {
+        let records = self.records.packed(alloc)?;
+        let indexes = sorted_all(alloc, &self.indexes, &records)?;
+        Ok(Planned {
+            change: Change::Pack { records, indexes },
+        })
+    }
+
+    // Makes room for so many bytes of memos.
+    fn reserve_text(&mut self, length: usize) -> Result<(), AllocError>
+        ensures ok { OnOk result (length ≤ self.new.room.for_text) }
+        ensures same { self.new.content ≡ self.old.content }
+    {
+        self.records.reserve_text(length)
+    }
+
+    // Makes room for one more record.
+    fn reserve_record(&mut self) -> Result<(), AllocError>
+        ensures ok { OnOk result (self.new.room.for_record ≡ true) }
+        ensures same { self.new.content ≡ self.old.content }
+    {
+        self.records.reserve_record()
+    }
+
+    // Makes room for one more pair in each index.
+    fn reserve_pairs(&mut self) -> Result<(), AllocError>
+        ensures ok { OnOk result (self.new.room.for_pairs ≡ true) }
+        ensures same { self.new.content ≡ self.old.content }
+        ensures for_record { self.new.room.for_record ≡ self.old.room.for_record }
+    {
+        reserve_all(&mut self.indexes)
+    }
+}

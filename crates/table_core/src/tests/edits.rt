@@ -1,0 +1,175 @@
+//! Edits, and what a refused one leaves.
+
+use super::*;
+use dbf_fields::{DATE, LOGICAL, MEMO, NUMBER};
+
+#[test]
+fn pack_renumbers_the_index(rt: HostRuntime) -> Result<(), Fail> {
+    let alloc = rt.alloc();
+    let mut table = names(alloc, 1, &[b"B", b"A", b"A"])?;
+    let mut cursor = start(1);
+    cursor.at = Some(2);
+    let edits = [Asked::Delete, Asked::Pack];
+    all_edited(alloc, &mut table, &mut cursor, &edits)?;
+    let pairs = pairs_of(alloc, &table, 1)?;
+    let numbers = pairs.iter().map(|pair| pair.number);
+    assert!(rt; numbers.eq([2, 1]));
+    let cases = [
+        (Move::Seek(b""), (0, 2, false, true)),
+        (Move::Seek(b"AB"), (0, 3, false, false)),
+        (Move::Go(3), (6, 3, false, false)),
+    ];
+    assert_eq!(rt; first_unlike(&table, &mut cursor, &cases)?, None);
+    Ok(())
+}
+
+// A table of one record, with a field of each kind and an index on the first.
+fn kinds(alloc: Global) -> Result<Table, Fail> {
+    let fields = [
+        Field::new(alloc, b"NAME", CHARACTER, 3, 0)?,
+        Field::new(alloc, b"AMT", NUMBER, 3, 0)?,
+        Field::new(alloc, b"PAID", LOGICAL, 1, 0)?,
+        Field::new(alloc, b"BORN", DATE, 8, 0)?,
+        Field::new(alloc, b"NOTE", MEMO, 10, 0)?,
+    ];
+    let mut table = table_of(alloc, &fields, &[b"NAME"])?;
+    all_edited(alloc, &mut table, &mut start(1), &[Asked::Append])?;
+    Ok(table)
+}
+
+// The first of the edits, each with the cursor at the record or at the end, that is refused otherwise; 0
+// stands for an edit that is carried out.
+fn first_other_refusal(
+    alloc: Global,
+    table: &mut Table,
+    cases: &[(Option<u32>, Asked, u8)],
+) -> Result<Option<usize>, Fail> {
+    for (index, case) in cases.iter().enumerate() {
+        let mut cursor = start(1);
+        cursor.at = case.0;
+        if edited(alloc, table, &mut cursor, case.1)? != case.2 {
+            return Ok(Some(index));
+        }
+    }
+    Ok(None)
+}
+
+#[test]
+fn edits_are_refused_in_order(rt: HostRuntime) -> Result<(), Fail> {
+    let alloc = rt.alloc();
+    let mut table = kinds(alloc)?;
+    let cases = [
+        // At the end, which is found before the field is missed.
+        (None, Asked::Text(b"ZIP", b"A"), 7),
+        (None, Asked::Memo(b"ZIP", b"A"), 7),
+        (None, Asked::Delete, 7),
+        (None, Asked::Recall, 7),
+        (Some(1), Asked::Text(b"ZIP", b"A"), 10),
+        (Some(1), Asked::Memo(b"ZIP", b"\x1a"), 10),
+        (Some(1), Asked::Text(b"AMT", b"A"), 11),
+        (Some(1), Asked::Text(b"NOTE", b"A"), 11),
+        (Some(1), Asked::Memo(b"NAME", b"\x1a"), 11),
+        (Some(1), Asked::BadDate(b"AMT"), 11),
+        (Some(1), Asked::BadDate(b"BORN"), 13),
+        (Some(1), Asked::Number(b"AMT", 1000), 12),
+        (Some(1), Asked::Memo(b"NOTE", b"A\x1a"), 14),
+        (Some(1), Asked::Number(b"AMT", 999), 0),
+        (Some(1), Asked::Memo(b"NOTE", b"HELLO"), 0),
+        (Some(1), Asked::Delete, 0),
+        (Some(1), Asked::Recall, 0),
+        (None, Asked::Pack, 0),
+    ];
+    assert_eq!(rt; first_other_refusal(alloc, &mut table, &cases)?, None);
+    Ok(())
+}
+
+// What `?` shows of a field at the cursor: a text, or a refusal's number.
+fn shows(
+    alloc: Global,
+    table: &Table,
+    cursor: &Cursor,
+    name: &[u8],
+) -> Result<Result<Bytes, u8>, Fail> {
+    if !is_cursor(table, cursor) {
+        return Err("no cursor of the table".into());
+    }
+    let name = Bytes::from_slice(alloc, name)?;
+    match table.show(alloc, cursor, &name) {
+        Ok(text) => Ok(Ok(text)),
+        Err(TableFault::Refused(refusal)) => Ok(Err(refusal.code())),
+        Err(TableFault::NoMemory) => Err("out of memory".into()),
+    }
+}
+
+// The first of the fields that shows something else at record 1.
+fn first_other_text(
+    alloc: Global,
+    table: &Table,
+    cases: &[(&[u8], &[u8])],
+) -> Result<Option<usize>, Fail> {
+    let mut cursor = start(0);
+    cursor.at = Some(1);
+    for (index, case) in cases.iter().enumerate() {
+        match shows(alloc, table, &cursor, case.0)? {
+            Ok(text) if text.as_slice() == case.1 => {}
+            _ => return Ok(Some(index)),
+        }
+    }
+    Ok(None)
+}
+
+#[test]
+fn fields_are_shown(rt: HostRuntime) -> Result<(), Fail> {
+    let alloc = rt.alloc();
+    let mut table = kinds(alloc)?;
+    let mut cursor = start(1);
+    cursor.at = Some(1);
+    let edits = [
+        Asked::Text(b"NAME", b"ADA"),
+        Asked::Number(b"AMT", 42),
+        Asked::Memo(b"NOTE", b"HELLO"),
+    ];
+    all_edited(alloc, &mut table, &mut cursor, &edits)?;
+    let cases: [(&[u8], &[u8]); 5] = [
+        (b"NAME", b"ADA"),
+        (b"AMT", b" 42"),
+        (b"PAID", b".F."),
+        (b"BORN", b"  /  /  "),
+        (b"NOTE", b"HELLO"),
+    ];
+    assert_eq!(rt; first_other_text(alloc, &table, &cases)?, None);
+    assert!(rt; matches!(shows(alloc, &table, &cursor, b"ZIP")?, Err(10)));
+    assert!(rt; matches!(shows(alloc, &table, &start(0), b"ZIP")?, Err(7)));
+    Ok(())
+}
+
+#[test]
+fn refused_plan_changes_nothing(rt: HostRuntime) -> Result<(), Fail> {
+    let alloc = rt.alloc();
+    let mut table = kinds(alloc)?;
+    let mut cursor = start(1);
+    cursor.at = Some(1);
+    let edits = [
+        Asked::Text(b"NAME", b"ADA"),
+        Asked::Number(b"AMT", 42),
+        Asked::Memo(b"NOTE", b"HELLO"),
+    ];
+    all_edited(alloc, &mut table, &mut cursor, &edits)?;
+    let before = pairs_of(alloc, &table, 1)?;
+    assert_eq!(rt;
+        edited(alloc, &mut table, &mut cursor, Asked::Number(b"AMT", 4321))?,
+        12
+    );
+    let cases: [(&[u8], &[u8]); 5] = [
+        (b"NAME", b"ADA"),
+        (b"AMT", b" 42"),
+        (b"PAID", b".F."),
+        (b"BORN", b"  /  /  "),
+        (b"NOTE", b"HELLO"),
+    ];
+    assert_eq!(rt; first_other_text(alloc, &table, &cases)?, None);
+    assert_eq!(rt; table.content(alloc)?.record_count(), 1);
+    assert!(rt; pairs_of(alloc, &table, 1)?.as_slice() == before.as_slice());
+    assert_eq!(rt; cursor.at, Some(1));
+    Ok(())
+}

@@ -1,0 +1,146 @@
+//! Indexes that are kept by every change.
+
+ghost use Rattle.std.specs.Prelude.{◌<◌};
+
+use super::*;
+use dbf_fields::{MEMO, NUMBER};
+use key_expr::Key;
+
+const UPPER: &[u8] = b"UPPER(NAME)";
+
+const SUM: &[u8] = b"NAME+STR(AMT,5,0)";
+
+fn three(alloc: Global) -> Result<Table, Fail> {
+    let fields = [
+        Field::new(alloc, b"NAME", CHARACTER, 4, 0)?,
+        Field::new(alloc, b"AMT", NUMBER, 5, 0)?,
+        Field::new(alloc, b"NOTE", MEMO, 10, 0)?,
+    ];
+    table_of(alloc, &fields, &[b"NAME", UPPER, SUM])
+}
+
+const NAMES: [&[u8]; 7] = [b"ada", b"BOB", b"Ada", b"", b"cy", b"bob", b"Z"];
+
+// The edit of a number: every kind comes again and again.
+fn asked(number: u32) -> Asked
+    requires { number < 50 }
+{
+    let name = NAMES[(number * 3 % 7) as usize];
+    match number % 10 {
+        0 | 3 | 5 => Asked::Append,
+        1 | 6 => Asked::Text(b"NAME", name),
+        2 | 7 => Asked::Number(b"AMT", i128::from(number * 17 % 120)),
+        4 => Asked::Delete,
+        8 if number % 20 == 8 => Asked::Recall,
+        8 => Asked::Memo(b"NOTE", name),
+        _ => Asked::Pack,
+    }
+}
+
+// The bytes of a cell, of the record of a number.
+fn cell_of(data: &TableData, number: u32, field: usize) -> &[u8] {
+    if number < 1 || number > data.record_count() || field >= data.schema().fields().len() {
+        return b"";
+    }
+    data.cell(number, field)
+}
+
+// The key of a record by the index of a number, worked out of its cells.
+fn key_by(data: &TableData, number: u32, index: usize) -> Key {
+    let mut bytes = [0; 9];
+    let name = cell_of(data, number, 0);
+    let amount = cell_of(data, number, 1);
+    if name.len() != 4 || amount.len() != 5 {
+        return Key::default();
+    }
+    bytes[..4].copy_from_slice(name);
+    bytes[4..].copy_from_slice(amount);
+    if amount == b"     ".as_slice() {
+        // A blank number is 0.
+        bytes[8] = b'0';
+    }
+    if index == 2 {
+        bytes.make_ascii_uppercase();
+    }
+    if index == 3 {
+        return Key::new(&bytes);
+    }
+    Key::new(&bytes[..4])
+}
+
+// The pairs of the index of a number, worked out by sorting.
+fn sorted_by(alloc: Global, data: &TableData, index: usize) -> Result<Vec<Pair>, Fail> {
+    let mut pairs = Vec::new(alloc);
+    for before in 0..data.record_count() {
+        let number = before + 1;
+        let key = key_by(data, number, index);
+        pairs.push(Pair { key, number })?;
+    }
+    pairs.sort_unstable();
+    Ok(pairs)
+}
+
+// The number of the first index whose pairs are not those of the records.
+fn first_stale(alloc: Global, table: &Table) -> Result<Option<usize>, Fail> {
+    let data = table.content(alloc)?;
+    for index in 1..4 {
+        let pairs = pairs_of(alloc, table, index)?;
+        if pairs.as_slice() != sorted_by(alloc, &data, index)?.as_slice() {
+            return Ok(Some(index));
+        }
+    }
+    Ok(None)
+}
+
+// Fifty edits; the number of the first after which an index is stale.
+fn first_stale_edit(alloc: Global, table: &mut Table) -> Result<Option<u32>, Fail> {
+    for number in 0..50 {
+        let mut cursor = start(1);
+        let count = table.record_count();
+        if count > 0 {
+            cursor.at = Some(1 + number * 7 % count);
+        }
+        edited(alloc, table, &mut cursor, asked(number))?;
+        if first_stale(alloc, table)?.is_some() {
+            return Ok(Some(number));
+        }
+    }
+    Ok(None)
+}
+
+#[test]
+fn three_indexes_at_once(rt: HostRuntime) -> Result<(), Fail> {
+    let alloc = rt.alloc();
+    let mut table = three(alloc)?;
+    assert_eq!(rt; first_stale_edit(alloc, &mut table)?, None);
+    assert!(rt; table.record_count() > 3);
+    Ok(())
+}
+
+// Whether the record at the cursor is marked.
+fn is_marked(table: &Table, cursor: &Cursor) -> bool {
+    is_cursor(table, cursor) && table.is_deleted(cursor)
+}
+
+#[test]
+fn table_tells_its_indexes(rt: HostRuntime) -> Result<(), Fail> {
+    let alloc = rt.alloc();
+    let mut table = three(alloc)?;
+    let mut cursor = start(3);
+    all_edited(
+        alloc,
+        &mut table,
+        &mut cursor,
+        &[Asked::Append, Asked::Delete],
+    )?;
+    assert_eq!(rt; table.record_count(), 1);
+    assert_eq!(rt; table.index_count(), 3);
+    assert_eq!(rt; table.schema().fields().len(), 3);
+    assert!(rt; is_marked(&table, &cursor));
+    assert!(rt; !is_marked(&table, &start(0)));
+    if table.index_count() == 3 {
+        assert!(rt; table.expr(3).text() == SUM);
+        assert!(rt; table.index_name(2).as_slice() == UPPER);
+    }
+    Ok(())
+}
