@@ -46,12 +46,12 @@ take_out (z ∷ zs) s h =
       sums = λ f. sum_by-cons (λ (y : Seated). f y.station) z zs ∙ ap (λ n. f n + sum_by (λ (y : Seated). f y.station) zs) here;
     } in w)
     (λ (there : HasSeat zs s). let o = take_out zs s there in
-      let w : Without (z ∷ zs) s = record {
-        rest = z ∷ o.rest;
-        shorter = ap suc o.shorter;
-        others = λ t ne had. ⊎_elim (λ (e : z.station ≡ t). any_here (λ (y : Seated). y.station ≡ t) z o.rest e) (λ r. any_there (λ (y : Seated). y.station ≡ t) z o.rest (o.others t ne r)) (any_split (λ (y : Seated). y.station ≡ t) z zs had);
-        sums = λ f. let r = o.sums f in omega (arith, sum_by-cons (λ (y : Seated). f y.station) z zs, sum_by-cons (λ (y : Seated). f y.station) z o.rest);
-      } in w)
+    let w : Without (z ∷ zs) s = record {
+      rest = z ∷ o.rest;
+      shorter = ap suc o.shorter;
+      others = λ t ne had. ⊎_elim (λ (e : z.station ≡ t). any_here (λ (y : Seated). y.station ≡ t) z o.rest e) (λ r. any_there (λ (y : Seated). y.station ≡ t) z o.rest (o.others t ne r)) (any_split (λ (y : Seated). y.station ≡ t) z zs had);
+      sums = λ f. let r = o.sums f in omega (arith, sum_by-cons (λ (y : Seated). f y.station) z zs, sum_by-cons (λ (y : Seated). f y.station) z o.rest);
+    } in w)
     (any_split (λ (y : Seated). y.station ≡ s) z zs h)
 
 -- f 1 + .. + f n

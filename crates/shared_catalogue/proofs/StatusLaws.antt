@@ -20,11 +20,11 @@ put_two : (front : List ℕ) (rest i : ℕ) (a b : ℕ) → length front ≡ i
     → set (set (front ++ replicate (suc (suc rest)) 0) i a) (i + 1) b ≡ (front ++ (a ∷ b ∷ [])) ++ replicate rest 0
 put_two front rest i a b e =
     let first : set (front ++ replicate (suc (suc rest)) 0) i a ≡ front ++ a ∷ replicate (suc rest) 0 =
-      subst (λ n. set (front ++ replicate (suc (suc rest)) 0) n a ≡ front ++ a ∷ replicate (suc rest) 0) e (set-append_seam front 0 (replicate (suc rest) 0) a) in
+    subst (λ n. set (front ++ replicate (suc (suc rest)) 0) n a ≡ front ++ a ∷ replicate (suc rest) 0) e (set-append_seam front 0 (replicate (suc rest) 0) a) in
     let joined : front ++ a ∷ replicate (suc rest) 0 ≡ (front ++ a ∷ []) ++ replicate (suc rest) 0 = sym (append_assoc front (a ∷ []) (replicate (suc rest) 0)) in
     let long : length (front ++ a ∷ []) ≡ i + 1 = omega (arith, e, length-append front (a ∷ [])) in
     let second : set ((front ++ a ∷ []) ++ replicate (suc rest) 0) (i + 1) b ≡ (front ++ a ∷ []) ++ b ∷ replicate rest 0 =
-      subst (λ n. set ((front ++ a ∷ []) ++ replicate (suc rest) 0) n b ≡ (front ++ a ∷ []) ++ b ∷ replicate rest 0) long (set-append_seam (front ++ a ∷ []) 0 (replicate rest 0) b) in
+    subst (λ n. set ((front ++ a ∷ []) ++ replicate (suc rest) 0) n b ≡ (front ++ a ∷ []) ++ b ∷ replicate rest 0) long (set-append_seam (front ++ a ∷ []) 0 (replicate rest 0) b) in
     ap (λ (l : List ℕ). set l (i + 1) b) (first ∙ joined) ∙ second ∙ append_assoc front (a ∷ []) (b ∷ replicate rest 0) ∙ sym (append_assoc front (a ∷ b ∷ []) (replicate rest 0))
 
 -- one table more

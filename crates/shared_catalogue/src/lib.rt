@@ -38,8 +38,8 @@ pub use shared::receipts::{Receipt, Receipts};
 pub use shared::seat::Seat;
 pub use shared::settle::SettleFault;
 pub use source::TableSource;
-pub use table_core::Refusal;
 pub use status::{StatusRow, TableStatus};
+pub use table_core::Refusal;
 
 #[cfg(test)]
 mod tests;

@@ -94,11 +94,7 @@ impl<J: Naming> Shared<J> {
     /// `SeatMissing` comes first, for the lowest station that has no seat in the list; then
     /// `ReceiptMismatch`, for the lowest station whose receipts are not its entries of the journal. It
     /// takes no memory.
-    pub fn settle(
-        self,
-        seats: Vec<Seat<J>>,
-        receipts: Vec<Receipts>,
-    ) -> Result<Closed, SettleFault>
+    pub fn settle(self, seats: Vec<Seat<J>>, receipts: Vec<Receipts>) -> Result<Closed, SettleFault>
         requires parts { J.parts ≡ J.opened.stations }
         requires lists { vec_len receipts ≡ J.opened.stations }
         ensures opened { IfOk result (λ closed. closed.opened ≡ J.opened) }
