@@ -35,7 +35,7 @@ pub use format::{
 };
 pub use literal::Literal;
 pub use logical::read_truth;
-pub use number::read_number;
+pub use number::{number_parts, read_number};
 pub use number_text::{MAX_NUMBER_TEXT, NumberText};
 pub use schema::{Schema, SchemaFault};
 pub use trim::trimmed;

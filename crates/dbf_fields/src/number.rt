@@ -13,8 +13,9 @@ fn point_in(text: &[u8]) -> Option<usize>
     text.iter().position(|byte| *byte == POINT)
 }
 
-// The digits before and after the point.
-fn parts(text: &[u8]) -> (&[u8], &[u8])
+/// What stands before and after the first point of a text, without the sign of a number; a text without a point
+/// stands before it. Takes no memory.
+pub fn number_parts(text: &[u8]) -> (&[u8], &[u8])
     ensures whole { result.0.now ≡ whole_part text.now }
     ensures fraction { result.1.now ≡ fraction_part text.now }
     ensures short { length result.0.now + length result.1.now ≤ length text.now }
@@ -34,7 +35,7 @@ fn magnitude_of(text: &[u8], decimals: u8) -> Option<u128>
     ensures small { IfSome result (λ n. n < 10 ^ 37) }
 {
     let decimals = usize::from(decimals);
-    let (whole, fraction) = parts(text);
+    let (whole, fraction) = number_parts(text);
     if !are_digits(whole) {
         return None;
     }

@@ -1,11 +1,9 @@
 //! The values that commands give.
 
-ghost use Rattle.std.specs.Prelude.{◌≡◌, ◌+◌, ◌++◌, ◌==◌, ◌≤◌, true, length, take, position, option_map, IfOk};
+ghost use Rattle.std.specs.Prelude.{◌≡◌, ◌+◌, ◌++◌, ◌≤◌, true, length, take, option_map, IfOk};
 ghost use Rattle.std.specs.List.{list_all};
 ghost use Rattle.std.specs.Char.{is_ascii_digit};
 ghost use Rattle.dbf_fields.specs.Digits.{digits_after};
-ghost use Rattle.dbf_fields.specs.Number.{whole_part, fraction_part};
-ghost use Rattle.dbf_fields.specs.declared.format.TheConstants.{POINT};
 ghost use Rattle.station_server.specs.declared.script.format.TheConstants.{MAX_LITERAL_DIGITS};
 ghost use Rattle.station_server.specs.Script.Literals.{is_decimal as decimal_is, decimal_in as decimal_of, has_slashes as slashes_in, year_first as cell_in, is_negative as negative, without_sign as unsigned, number_in as number_of, truth_in as truth_of};
 ghost use Rattle.station_server.specs.Script.Reading.{date_of as cell_date, date_literal as date_of, before_close as part_before_close, date_text_in as date_text_of, literal_in as literal_of};
@@ -13,34 +11,17 @@ ghost use Rattle.station_server.specs.Script.Reading.{date_of as cell_date, date
 use crate::script::format::MAX_LITERAL_DIGITS;
 use crate::script::value::text_in;
 use dbf_fields::{
-    Bytes, DateCell, Literal, MINUS, PLUS, POINT, SLASH, ZERO_DIGIT, are_digits, number_of_digits,
-    read_date,
+    Bytes, DateCell, Literal, MINUS, PLUS, SLASH, ZERO_DIGIT, are_digits, number_of_digits,
+    number_parts, read_date,
 };
 use std::alloc::{AllocError, Global};
-
-fn point_in(text: &[u8]) -> Option<usize>
-    ensures value { result ≡ position (λ b. b == POINT) text.now }
-{
-    text.iter().position(|byte| *byte == POINT)
-}
-
-// The digits before and after the point.
-fn parts(text: &[u8]) -> (&[u8], &[u8])
-    ensures whole { result.0.now ≡ whole_part text.now }
-    ensures fraction { result.1.now ≡ fraction_part text.now }
-{
-    match point_in(text) {
-        Some(point) => (&text[..point], &text[point + 1..]),
-        None => (text, &[]),
-    }
-}
 
 // Whether both parts are digits, 1 to 19 together.
 #[tactic(auto, unfolding(crate::specs::Script::Literals::is_decimal))]
 fn is_decimal(text: &[u8]) -> bool
     ensures value { result ≡ decimal_is text.now }
 {
-    let (whole, fraction) = parts(text);
+    let (whole, fraction) = number_parts(text);
     if !are_digits(whole) {
         return false;
     }
@@ -82,7 +63,7 @@ fn decimal_in(text: &[u8]) -> Option<(u64, u8)>
     if !is_decimal(text) {
         return None;
     }
-    let (whole, fraction) = parts(text);
+    let (whole, fraction) = number_parts(text);
     Some((number_of_parts(whole, fraction), fraction.len() as u8))
 }
 

@@ -6,7 +6,7 @@ use Rattle.dbf_fields.proofs.Digits.{digits_take, below_cap}
 use Rattle.dbf_fields.proofs.number.magnitude_of.Goals as goal
 
 pub push_digits-number-requires-2-clause-digits : goal.push_digits-number-requires-2-clause-digits
-push_digits-number-requires-2-clause-digits c = digits_take c.min-kept.result c.parts.result.1.now (sym c.if-not-are_digits-2.ensures.value)
+push_digits-number-requires-2-clause-digits c = digits_take c.min-kept.result c.number_parts.result.1.now (sym c.if-not-are_digits-2.ensures.value)
 
 pub push_digits-requires-clause-digits : goal.push_digits-requires-clause-digits
 push_digits-requires-clause-digits c = digits_take (c.from-decimals.result - c.min-kept.result) (replicate 19 48) refl
@@ -20,4 +20,4 @@ returns-clause-value c =
     grind (arith, common_steps, value)
 
 pub returns-clause-small : goal.returns-clause-small
-returns-clause-small c = below_cap _ _ c.push_digits.ensures.small (omega (arith, length-take-le {A = ℕ} (c.from-decimals.result - c.min-kept.result) (replicate 19 48), c.requires.few, c.requires.decimals, c.parts.ensures.short, c.min-kept.ensures, c.from-decimals.ensures))
+returns-clause-small c = below_cap _ _ c.push_digits.ensures.small (omega (arith, length-take-le {A = ℕ} (c.from-decimals.result - c.min-kept.result) (replicate 19 48), c.requires.few, c.requires.decimals, c.number_parts.ensures.short, c.min-kept.ensures, c.from-decimals.ensures))
