@@ -122,14 +122,50 @@ four_alone v b c d rest h = chosen (is_empty (first_word rest)) (four v b c d) _
 abbrev IsCutPart : Part → Type 0
 IsCutPart p = (word : List ℕ) → IsPart p word → IsCutWord word
 
+-- ---- line after line, word by word
+
+-- a line is read as what is made of what follows its first words, which has the other words
+record IsReadTo (line : List ℕ) (made : List ℕ → Line) (words : List (List ℕ)) : Type 0 where
+  after : List ℕ
+  others : HasWords words after
+  reading : read line ≡ made after
+
+to_verb : (line a : List ℕ) (words : List (List ℕ)) (v : Verb) → HasWords (a ∷ words) line → IsPart (spelling v) a → IsReadTo line (λ rest. after_verb v rest) words
+to_verb line a words v w h = record {
+  after = w.1;
+  others = w.5;
+  reading = read_verb line a w.1 v (cut_off line w.0 a w.1 w.2 w.3 w.4 (verb_word v a h).cut) h;
+}
+
+to_second : (line b : List ℕ) (words : List (List ℕ)) (v : Verb) → IsReadTo line (λ rest. after_verb v rest) (b ∷ words) → IsCutWord b → IsReadTo line (λ rest. after_one v b rest) words
+to_second line b words v x cut = let w = x.others in record {
+  after = w.1;
+  others = w.5;
+  reading = x.reading ∙ verb_more v x.after b w.1 (cut_off x.after w.0 b w.1 w.2 w.3 w.4 cut) cut.start;
+}
+
+to_third : (line b c : List ℕ) (words : List (List ℕ)) (v : Verb) → IsReadTo line (λ rest. after_one v b rest) (c ∷ words) → IsCutWord c → IsReadTo line (λ rest. after_two v b c rest) words
+to_third line b c words v x cut = let w = x.others in record {
+  after = w.1;
+  others = w.5;
+  reading = x.reading ∙ two_more v b x.after c w.1 (cut_off x.after w.0 c w.1 w.2 w.3 w.4 cut) cut.start;
+}
+
+to_fourth : (line b c d : List ℕ) (words : List (List ℕ)) (v : Verb) → IsReadTo line (λ rest. after_two v b c rest) (d ∷ words) → IsCutWord d → IsReadTo line (λ rest. after_three v b c d rest) words
+to_fourth line b c d words v x cut = let w = x.others in record {
+  after = w.1;
+  others = w.5;
+  reading = x.reading ∙ three_more v b c x.after d w.1 (cut_off x.after w.0 d w.1 w.2 w.3 w.4 cut) cut.start;
+}
+
 -- ---- lines of one to four words
 
 pub line_one : (line : List ℕ) (words : List (List ℕ)) (v : Verb) → HasWords words line → Are (spelling v ∷ []) words → read line ≡ one v
 line_one line [] v w h = absurd h
 line_one line (a ∷ b ∷ ws) v w h = absurd h.1
 line_one line (a ∷ []) v w h =
-    let c = cut_off line w.0 a w.1 w.2 w.3 w.4 (verb_word v a h.0).cut in
-    read_verb line a w.1 v c h.0 ∙ verb_alone v w.1 w.5
+    let x = to_verb line a [] v w h.0 in
+    x.reading ∙ verb_alone v x.after x.others
 
 pub record IsTwo (line : List ℕ) (v : Verb) (p : Part) : Type 0 where
   pub second : List ℕ
@@ -141,15 +177,8 @@ line_two line [] v p cut w h = absurd h
 line_two line (a ∷ []) v p cut w h = absurd h.1
 line_two line (a ∷ b ∷ c ∷ ws) v p cut w h = absurd h.1.1
 line_two line (a ∷ b ∷ []) v p cut w h =
-    let c1 = cut_off line w.0 a w.1 w.2 w.3 w.4 (verb_word v a h.0).cut in
-    let x = w.5 in
-    let wb = cut b h.1.0 in
-    let c2 = cut_off w.1 x.0 b x.1 x.2 x.3 x.4 wb in
-    record {
-      second = b;
-      is = h.1.0;
-      as_two = read_verb line a w.1 v c1 h.0 ∙ (verb_more v w.1 b x.1 c2 wb.start ∙ two_alone v b x.1 x.5);
-    }
+    let x = to_second line b [] v (to_verb line a (b ∷ []) v w h.0) (cut b h.1.0) in
+    record { second = b; is = h.1.0; as_two = x.reading ∙ two_alone v b x.after x.others }
 
 pub record IsThree (line : List ℕ) (v : Verb) (p q : Part) : Type 0 where
   pub second : List ℕ
@@ -165,20 +194,9 @@ line_three line (a ∷ []) v p q cp cq w h = absurd h.1
 line_three line (a ∷ b ∷ []) v p q cp cq w h = absurd h.1.1
 line_three line (a ∷ b ∷ c ∷ d ∷ ws) v p q cp cq w h = absurd h.1.1.1
 line_three line (a ∷ b ∷ c ∷ []) v p q cp cq w h =
-    let c1 = cut_off line w.0 a w.1 w.2 w.3 w.4 (verb_word v a h.0).cut in
-    let x = w.5 in
-    let wb = cp b h.1.0 in
-    let c2 = cut_off w.1 x.0 b x.1 x.2 x.3 x.4 wb in
-    let y = x.5 in
-    let wc = cq c h.1.1.0 in
-    let c3 = cut_off x.1 y.0 c y.1 y.2 y.3 y.4 wc in
-    record {
-      second = b;
-      third = c;
-      is_second = h.1.0;
-      is_third = h.1.1.0;
-      as_three = read_verb line a w.1 v c1 h.0 ∙ (verb_more v w.1 b x.1 c2 wb.start ∙ (two_more v b x.1 c y.1 c3 wc.start ∙ three_alone v b c y.1 y.5));
-    }
+    let x = to_second line b (c ∷ []) v (to_verb line a (b ∷ c ∷ []) v w h.0) (cp b h.1.0) in
+    let y = to_third line b c [] v x (cq c h.1.1.0) in
+    record { second = b; third = c; is_second = h.1.0; is_third = h.1.1.0; as_three = y.reading ∙ three_alone v b c y.after y.others }
 
 pub record IsFour (line : List ℕ) (v : Verb) (p q r : Part) : Type 0 where
   pub second : List ℕ
@@ -197,16 +215,9 @@ line_four line (a ∷ b ∷ []) v p q r cp cq cr w h = absurd h.1.1
 line_four line (a ∷ b ∷ c ∷ []) v p q r cp cq cr w h = absurd h.1.1.1
 line_four line (a ∷ b ∷ c ∷ d ∷ e ∷ ws) v p q r cp cq cr w h = absurd h.1.1.1.1
 line_four line (a ∷ b ∷ c ∷ d ∷ []) v p q r cp cq cr w h =
-    let c1 = cut_off line w.0 a w.1 w.2 w.3 w.4 (verb_word v a h.0).cut in
-    let x = w.5 in
-    let wb = cp b h.1.0 in
-    let c2 = cut_off w.1 x.0 b x.1 x.2 x.3 x.4 wb in
-    let y = x.5 in
-    let wc = cq c h.1.1.0 in
-    let c3 = cut_off x.1 y.0 c y.1 y.2 y.3 y.4 wc in
-    let z = y.5 in
-    let wd = cr d h.1.1.1.0 in
-    let c4 = cut_off y.1 z.0 d z.1 z.2 z.3 z.4 wd in
+    let x = to_second line b (c ∷ d ∷ []) v (to_verb line a (b ∷ c ∷ d ∷ []) v w h.0) (cp b h.1.0) in
+    let y = to_third line b c (d ∷ []) v x (cq c h.1.1.0) in
+    let z = to_fourth line b c d [] v y (cr d h.1.1.1.0) in
     record {
       second = b;
       third = c;
@@ -214,6 +225,5 @@ line_four line (a ∷ b ∷ c ∷ d ∷ []) v p q r cp cq cr w h =
       is_second = h.1.0;
       is_third = h.1.1.0;
       is_fourth = h.1.1.1.0;
-      as_four = read_verb line a w.1 v c1 h.0 ∙ (verb_more v w.1 b x.1 c2 wb.start ∙ (two_more v b x.1 c y.1 c3 wc.start
-          ∙ (three_more v b c y.1 d z.1 c4 wd.start ∙ four_alone v b c d z.1 z.5)));
+      as_four = z.reading ∙ four_alone v b c d z.after z.others;
     }
