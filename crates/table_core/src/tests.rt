@@ -16,6 +16,7 @@ use std::test::*;
 mod edits;
 mod indexes;
 mod moves;
+mod refusals;
 
 // A move, as a table of cases names it.
 #[derive(Clone, Copy)]
@@ -75,6 +76,14 @@ fn start(order: usize) -> Cursor {
         bof: false,
         found: false,
         order,
+    }
+}
+
+// A cursor at the record of a number.
+fn at(order: usize, number: u32) -> Cursor {
+    Cursor {
+        at: Some(number),
+        ..start(order)
     }
 }
 
