@@ -1,4 +1,4 @@
-use Rattle.std.proofs.Common.{◌≡◌, ℕ, List, drop, sym, ap, subst, ◌∙◌}
+use Rattle.std.proofs.Common.{ℕ, List, drop, sym, ap, subst, ◌∙◌}
 use Rattle.dbf_fields.specs.declared.field.Field.{Field}
 use Rattle.dbf_fields.specs.Layout.{cells_of}
 use Rattle.dbf_image.specs.Store.{cells_with}

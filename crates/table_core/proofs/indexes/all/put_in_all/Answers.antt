@@ -1,4 +1,4 @@
-use Rattle.std.proofs.Common.{◌<◌, drop, length, sym, subst, ◌∙◌, arith}
+use Rattle.std.proofs.Common.{◌<◌, drop, length, ◌∙◌, arith}
 use Rattle.std.proofs.Math.Seq.{map-set_same}
 use Rattle.table_core.specs.Indexes.{Follows, FollowsBut, HasRoom, indexed}
 use Rattle.table_core.proofs.Turned.{turned-here, turned-set, whole-turned}

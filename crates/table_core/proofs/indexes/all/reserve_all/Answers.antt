@@ -1,4 +1,4 @@
-use Rattle.std.proofs.Common.{◌<◌, drop, length, map, set, sym, subst, ap, ◌∙◌, arith}
+use Rattle.std.proofs.Common.{◌<◌, drop, length, map, set, ap, ◌∙◌, arith}
 use Rattle.std.proofs.lemmas.List.{length-set}
 use Rattle.std.proofs.Math.Seq.{map-set_same}
 use Rattle.table_core.specs.Indexes.{HasRoom, seen}
