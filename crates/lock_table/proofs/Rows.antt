@@ -7,7 +7,7 @@ use Rattle.std.proofs.Math.Bool.{and-false, and-true, or-false}
 use Rattle.std.proofs.lemmas.Bool.Decides.{nat_tests}
 use Rattle.std.proofs.lemmas.List.Folds.{list_any-append, find-append}
 use Rattle.std.proofs.lemmas.List.{take_more, append-nil, map-append, length-map, length-take, take-append-drop, take_all}
-use Rattle.lock_table.specs.Locks.{Lock, lock_of}
+use Rattle.lock_table.specs.Locks.{Lock, lock_of, bars, lets_write, is_others}
 use Rattle.lock_table.specs.Slots.{records_of, row_from}
 use Rattle.lock_table.proofs.Numbered.{numbered-append}
 
@@ -52,35 +52,35 @@ both_covers : (a b : Bool) → (a && b || false) ≡ (a && (b || false))
 both_covers a b = or-false (a && b) ∙ ap (λ (x : Bool). a && x) (sym (or-false b))
 
 -- the tests of a lock, for the lock of a slot
-pub other_covers : (t k s number : ℕ) (slot : Option ℕ) → list_any (λ l. not (l.station == s) && (l.number == number || l.number == 0)) (map (lock_of t k) (records_of slot)) ≡ (not (k == s) && list_any (λ n. n == number || n == 0) (records_of slot))
+pub other_covers : (t k s number : ℕ) (slot : Option ℕ) → list_any (bars s number) (map (lock_of t k) (records_of slot)) ≡ (not (k == s) && list_any (λ n. n == number || n == 0) (records_of slot))
 other_covers t k s number None = sym (and-false (not (k == s)))
 other_covers t k s number (Some n) = both_covers (not (k == s)) (n == number || n == 0)
 
-pub own_covers : (t k s number : ℕ) (slot : Option ℕ) → list_any (λ l. l.station == s && (l.number == number || l.number == 0)) (map (lock_of t k) (records_of slot)) ≡ (k == s && list_any (λ n. n == number || n == 0) (records_of slot))
+pub own_covers : (t k s number : ℕ) (slot : Option ℕ) → list_any (lets_write s number) (map (lock_of t k) (records_of slot)) ≡ (k == s && list_any (λ n. n == number || n == 0) (records_of slot))
 own_covers t k s number None = sym (and-false (k == s))
 own_covers t k s number (Some n) = both_covers (k == s) (n == number || n == 0)
 
-pub other_holds : (t k s : ℕ) (slot : Option ℕ) → list_any (λ l. not (l.station == s)) (map (lock_of t k) (records_of slot)) ≡ (not (k == s) && is_some slot)
+pub other_holds : (t k s : ℕ) (slot : Option ℕ) → list_any (is_others s) (map (lock_of t k) (records_of slot)) ≡ (not (k == s) && is_some slot)
 other_holds t k s None = sym (and-false (not (k == s)))
 other_holds t k s (Some n) = or-false (not (k == s)) ∙ sym (and-true (not (k == s)))
 
 -- one slot more that keeps no station away, or keeps the station away
 pub free_step : (t s number i : ℕ) (row : List (Option ℕ)) (b : Bool) → i < length row
     → b ≡ (not (i + 1 == s) && list_any (λ n. n == number || n == 0) (records_of (get_or row i None)))
-    → list_any (λ l. not (l.station == s) && (l.number == number || l.number == 0)) (rowed t row i) ≡ false
-    → list_any (λ l. not (l.station == s) && (l.number == number || l.number == 0)) (rowed t row (i + 1)) ≡ b
+    → list_any (bars s number) (rowed t row i) ≡ false
+    → list_any (bars s number) (rowed t row (i + 1)) ≡ b
 free_step t s number i row b h e so_far =
-    let p : Lock → Bool = λ l. not (l.station == s) && (l.number == number || l.number == 0) in
+    let p : Lock → Bool = bars s number in
     any_more p t row i h
     ∙ ap (λ (x : Bool). x || list_any p (map (lock_of t (i + 1)) (records_of (get_or row i None)))) so_far
     ∙ other_covers t (i + 1) s number (get_or row i None) ∙ sym e
 
 pub whole_step : (t s i : ℕ) (row : List (Option ℕ)) (b : Bool) → i < length row
     → b ≡ (not (i + 1 == s) && is_some (get_or row i None))
-    → list_any (λ l. not (l.station == s)) (rowed t row i) ≡ false
-    → list_any (λ l. not (l.station == s)) (rowed t row (i + 1)) ≡ b
+    → list_any (is_others s) (rowed t row i) ≡ false
+    → list_any (is_others s) (rowed t row (i + 1)) ≡ b
 whole_step t s i row b h e so_far =
-    let p : Lock → Bool = λ l. not (l.station == s) in
+    let p : Lock → Bool = is_others s in
     any_more p t row i h
     ∙ ap (λ (x : Bool). x || list_any p (map (lock_of t (i + 1)) (records_of (get_or row i None)))) so_far
     ∙ other_holds t (i + 1) s (get_or row i None) ∙ sym e
@@ -131,27 +131,27 @@ count_step t i row h =
     ∙ ap (λ (n : ℕ). length (filter p (rowed t row i)) + n) (counted_in t (i + 1) (get_or row i None))
 
 -- the station's own lock stands in its own slot
-own_none : (t s number k : ℕ) (row : List (Option ℕ)) → s < k → list_any (λ l. l.station == s && (l.number == number || l.number == 0)) (row_from t k (map records_of row)) ≡ false
+own_none : (t s number k : ℕ) (row : List (Option ℕ)) → s < k → list_any (lets_write s number) (row_from t k (map records_of row)) ≡ false
 own_none t s number k [] h = refl
 own_none t s number k (x ∷ xs) h =
-    let p : Lock → Bool = λ l. l.station == s && (l.number == number || l.number == 0) in
+    let p : Lock → Bool = lets_write s number in
     let other : (k == s) ≡ false = grind (arith, nat_tests) in
     list_any-append p (map (lock_of t k) (records_of x)) (row_from t (k + 1) (map records_of xs))
     ∙ ap (λ (b : Bool). b || list_any p (row_from t (k + 1) (map records_of xs))) (own_covers t k s number x ∙ ap (λ (b : Bool). b && list_any (λ n. n == number || n == 0) (records_of x)) other)
     ∙ own_none t s number (k + 1) xs (omega arith)
 
 pub own_row : (t s number k j : ℕ) (row : List (Option ℕ)) → k + j ≡ s → j < length row
-    → list_any (λ l. l.station == s && (l.number == number || l.number == 0)) (row_from t k (map records_of row)) ≡ list_any (λ n. n == number || n == 0) (records_of (get_or row j None))
+    → list_any (lets_write s number) (row_from t k (map records_of row)) ≡ list_any (λ n. n == number || n == 0) (records_of (get_or row j None))
 own_row t s number k j [] e h = absurd (omega arith)
 own_row t s number k zero (x ∷ xs) e h =
-    let p : Lock → Bool = λ l. l.station == s && (l.number == number || l.number == 0) in
+    let p : Lock → Bool = lets_write s number in
     let same : (k == s) ≡ true = grind (arith, nat_tests) in
     list_any-append p (map (lock_of t k) (records_of x)) (row_from t (k + 1) (map records_of xs))
     ∙ ap (λ (b : Bool). list_any p (map (lock_of t k) (records_of x)) || b) (own_none t s number (k + 1) xs (omega arith))
     ∙ or-false (list_any p (map (lock_of t k) (records_of x)))
     ∙ own_covers t k s number x ∙ ap (λ (b : Bool). b && list_any (λ n. n == number || n == 0) (records_of x)) same
 own_row t s number k (suc j) (x ∷ xs) e h =
-    let p : Lock → Bool = λ l. l.station == s && (l.number == number || l.number == 0) in
+    let p : Lock → Bool = lets_write s number in
     let other : (k == s) ≡ false = grind (arith, nat_tests) in
     list_any-append p (map (lock_of t k) (records_of x)) (row_from t (k + 1) (map records_of xs))
     ∙ ap (λ (b : Bool). b || list_any p (row_from t (k + 1) (map records_of xs))) (own_covers t k s number x ∙ ap (λ (b : Bool). b && list_any (λ n. n == number || n == 0) (records_of x)) other)

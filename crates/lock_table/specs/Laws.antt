@@ -3,7 +3,7 @@ use Rattle.std.proofs.Common.{◌≡◌, ◌≢◌, ◌⊎◌, inl, inr, ℕ, �
 use Rattle.std.specs.List.{filter, list_any}
 use Rattle.std.proofs.lemmas.Bool.{or_parts, not-true, not_from_false}
 use Rattle.std.proofs.lemmas.Bool.Decides.{nat_tests}
-use Rattle.lock_table.specs.Locks.{Lock, lock_of, in_table, covers, free_record, free_whole, is_own, is_before, is_after, with_lock, without, without_all, IsHeld, AreApart}
+use Rattle.lock_table.specs.Locks.{Lock, lock_of, in_table, free_record, free_whole, is_own, is_before, is_after, with_lock, without, without_all, IsHeld, AreApart, bars, is_others}
 
 pub held_append : (xs ys : List Lock) (l : Lock) → IsHeld (xs ++ ys) l → IsHeld xs l ⊎ IsHeld ys l
 held_append [] ys l h = inr h
@@ -126,7 +126,7 @@ other_station a s e = grind (arith, nat_tests)
 -- a lock that is left after a station released all was held before, and is another station's
 pub held_without_all : (xs : List Lock) (s : ℕ) (l : Lock) → IsHeld (without_all xs s) l → IsHeld xs l × (l.station ≢ s)
 held_without_all xs s l h =
-    (held_filter (λ m. not (m.station == s)) xs l h, other_station l.station s (held_passes (λ m. not (m.station == s)) xs l h))
+    (held_filter (is_others s) xs l h, other_station l.station s (held_passes (is_others s) xs l h))
 
 -- and each other lock is left
 pub left_without : (xs : List Lock) (s t : ℕ) (l : Lock) → IsHeld xs l → is_own s t l ≡ false → IsHeld (without xs s t) l
@@ -136,14 +136,14 @@ no_station : (a s : ℕ) → a ≢ s → not (a == s) ≡ true
 no_station a s other = grind (arith, nat_tests)
 
 pub left_without_all : (xs : List Lock) (s : ℕ) (l : Lock) → IsHeld xs l → l.station ≢ s → IsHeld (without_all xs s) l
-left_without_all xs s l h other = held_kept (λ m. not (m.station == s)) xs l (no_station l.station s other) h
+left_without_all xs s l h other = held_kept (is_others s) xs l (no_station l.station s other) h
 
 -- of the locks that are left
 pub apart_without : (xs : List Lock) (s t : ℕ) → AreApart xs → AreApart (without xs s t)
 apart_without xs s t apart = apart_filter (λ l. not (is_own s t l)) xs apart
 
 pub apart_without_all : (xs : List Lock) (s : ℕ) → AreApart xs → AreApart (without_all xs s)
-apart_without_all xs s apart = apart_filter (λ l. not (l.station == s)) xs apart
+apart_without_all xs s apart = apart_filter (is_others s) xs apart
 
 free_number : (station s number r : ℕ) → station ≢ s → 1 ≤ r → (not (station == s) && (number == r || number == 0)) ≡ false → (0 < r) × (0 < number) × (number ≢ r)
 free_number station s number r other h e = (omega arith, grind (arith, nat_tests), grind (arith, nat_tests))
@@ -158,7 +158,7 @@ same_table a t e = grind (arith, nat_tests)
 pub apart_record : (xs : List Lock) (s t r : ℕ) → 1 ≤ r → free_record xs s t r ≡ true → AreApart xs → AreApart (with_lock xs s t r)
 apart_record xs s t r h free apart = apart_new xs s t r
     (λ l held same other.
-    let p : Lock → Bool = λ l. not (l.station == s) && covers r l in
+    let p : Lock → Bool = bars s r in
     let there : IsHeld (in_table xs t) l = held_kept (λ m. m.table == t) xs l (same_table l.table t same) held in
     free_number l.station s l.number r other h (none_held p (in_table xs t) l (not-true (list_any p (in_table xs t)) free) there))
     apart
@@ -167,7 +167,7 @@ apart_record xs s t r h free apart = apart_new xs s t r
 pub apart_whole : (xs : List Lock) (s t : ℕ) → free_whole xs s t ≡ true → AreApart xs → AreApart (with_lock xs s t 0)
 apart_whole xs s t free apart = apart_new xs s t 0
     (λ l held same other.
-    let p : Lock → Bool = λ l. not (l.station == s) in
+    let p : Lock → Bool = is_others s in
     let there : IsHeld (in_table xs t) l = held_kept (λ m. m.table == t) xs l (same_table l.table t same) held in
     absurd (free_station l.station s other (none_held p (in_table xs t) l (not-true (list_any p (in_table xs t)) free) there)))
     apart
