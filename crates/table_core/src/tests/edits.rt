@@ -123,12 +123,14 @@ fn first_other_text(
     Ok(None)
 }
 
-// The table of a field of each kind, with a name, a number and a memo in its record.
+// The table of a field of each kind, with a value in each field of its record.
 fn filled(alloc: Global) -> Result<Table, Fail> {
     let mut table = kinds(alloc)?;
     let edits = [
         Asked::Text(b"NAME", b"ADA"),
         Asked::Number(b"AMT", 42),
+        Asked::Truth(b"PAID", true),
+        Asked::Date(b"BORN", 1985, 12, 31),
         Asked::Memo(b"NOTE", b"HELLO"),
     ];
     all_edited(alloc, &mut table, &mut at(1, 1), &edits)?;
@@ -139,15 +141,25 @@ fn filled(alloc: Global) -> Result<Table, Fail> {
 const FILLED: [(&[u8], &[u8]); 5] = [
     (b"NAME", b"ADA"),
     (b"AMT", b" 42"),
+    (b"PAID", b".T."),
+    (b"BORN", b"12/31/85"),
+    (b"NOTE", b"HELLO"),
+];
+
+// What a record of blanks shows.
+const BLANK: [(&[u8], &[u8]); 5] = [
+    (b"NAME", b"   "),
+    (b"AMT", b"   "),
     (b"PAID", b".F."),
     (b"BORN", b"  /  /  "),
-    (b"NOTE", b"HELLO"),
+    (b"NOTE", b""),
 ];
 
 #[test]
 fn fields_are_shown(rt: HostRuntime) -> Result<(), Fail> {
     let alloc = rt.alloc();
     let table = filled(alloc)?;
+    assert_eq!(rt; first_other_text(alloc, &kinds(alloc)?, &BLANK)?, None);
     assert_eq!(rt; first_other_text(alloc, &table, &FILLED)?, None);
     assert!(rt; matches!(shows(alloc, &table, &at(0, 1), b"ZIP")?, Err(10)));
     assert!(rt; matches!(shows(alloc, &table, &start(0), b"ZIP")?, Err(7)));
