@@ -1,4 +1,5 @@
 pub mod Indexes
+pub mod Numbered
 pub mod Parts
 pub mod Rows
 pub mod Writes

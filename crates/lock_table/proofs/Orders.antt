@@ -2,10 +2,10 @@
 use Rattle.std.proofs.Common.{◌≡◌, inl, inr, ℕ, zero, suc, ◌+◌, ◌-◌, ◌*◌, ◌/◌, ◌%◌, ◌<◌, ◌≤◌, true, nat_lt, List, [], ◌∷◌, length, map, Option, Some, None, sym, ap, subst, ◌∙◌, arith}
 use Rattle.std.proofs.Math.Nat.{mod-lt, div-add-mod'}
 use Rattle.std.proofs.lemmas.Bool.Decides.{nat_tests}
+use Rattle.std.proofs.lemmas.List.{nil_from_length}
 use Rattle.lock_table.specs.Locks.{Lock, Held, held, IsHeld, is_before, AreInOrder}
 use Rattle.lock_table.specs.Slots.{records_of, slot_index_of, lock_at, locks_from, locks_of, AreSlots}
 use Rattle.lock_table.proofs.Indexes.{before_index}
-use Rattle.lock_table.proofs.Parts.{eq-nil}
 
 -- a lock of the slots from an index on is of one of these indexes
 held_from : (n p : ℕ) (slots : List (Option ℕ)) (m : Lock) → IsHeld (locks_from n p (map records_of slots)) m → (q : ℕ) × (r : ℕ) × (p ≤ q) × (m ≡ lock_at n q r)
@@ -41,7 +41,7 @@ in_order_slots : (n tables : ℕ) (slots : List (Option ℕ)) → length slots �
 in_order_slots zero tables slots e =
     let none : length slots ≡ 0 = omega arith in
     let P : List (Option ℕ) → Type 0 = λ xs. AreInOrder (locks_of 0 xs) in
-    subst P (sym (eq-nil slots none)) tt
+    subst P (sym (nil_from_length slots none)) tt
 in_order_slots (suc m) tables slots e = in_order_from (suc m) 0 slots (omega arith)
 
 pub in_order : (n tables : ℕ) (slots : List (Option ℕ)) (h : Held) → held n tables (locks_of n slots) ≡ h → AreSlots n tables slots → AreInOrder h.locks

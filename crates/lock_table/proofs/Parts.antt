@@ -1,20 +1,13 @@
 -- The list of locks by parts of the slots: what a filter keeps, and what another slot makes of it.
-use Rattle.std.proofs.Common.{◌≡◌, ℕ, zero, suc, ◌+◌, ◌-◌, ◌*◌, ◌<◌, ◌≤◌, Bool, true, false, not, ◌==◌, List, [], ◌∷◌, ◌++◌, length, map, take, drop, replicate, get_or, slice_set, slice_range, Option, None, refl, sym, ap, ◌∙◌, arith, append_assoc, length-drop}
+use Rattle.std.proofs.Common.{◌≡◌, ℕ, zero, suc, ◌+◌, ◌-◌, ◌*◌, ◌<◌, ◌≤◌, Bool, true, false, not, ◌==◌, List, [], ◌∷◌, ◌++◌, length, map, take, drop, replicate, get_or, slice_set, slice_range, Option, None, refl, sym, ap, ◌∙◌, arith, length-drop}
 use Rattle.std.specs.List.{filter}
-use Rattle.std.proofs.lemmas.List.{append-nil, set_split, set-get_or, map-append, length-map, length-take, take-append-drop}
+use Rattle.std.proofs.lemmas.List.{append-nil, nil_from_length, set_split, set-get_or, map-append, length-map, length-take, take-append-drop}
 use Rattle.std.proofs.lemmas.List.Elements.{filter-append}
 use Rattle.std.proofs.lemmas.Bool.Decides.{nat_tests}
 use Rattle.lock_table.specs.Locks.{Lock, lock_of, in_table, is_before, is_after, is_own, with_locks, without}
 use Rattle.lock_table.specs.Slots.{slot_index_of, records_of, lock_at, locks_from, locks_of, row_from}
+use Rattle.lock_table.proofs.Numbered.{numbered-append}
 use Rattle.lock_table.proofs.Indexes.{before_index, after_index, own_index, table_index, rows_rise, lock_in_row, lock_at_index}
-
-pub locks-append : (n p : ℕ) (xs ys : List (List ℕ)) → locks_from n p (xs ++ ys) ≡ locks_from n p xs ++ locks_from n (p + length xs) ys
-locks-append n p [] ys = let e : p + 0 ≡ p = omega arith in ap (λ (k : ℕ). locks_from n k ys) (sym e)
-locks-append n p (x ∷ xs) ys =
-    let e : p + 1 + length xs ≡ p + length (x ∷ xs) = omega arith in
-    ap (λ (z : List Lock). map (lock_at n p) x ++ z) (locks-append n (p + 1) xs ys)
-    ∙ sym (append_assoc (map (lock_at n p) x) (locks_from n (p + 1) xs) (locks_from n (p + 1 + length xs) ys))
-    ∙ ap (λ (k : ℕ). (map (lock_at n p) x ++ locks_from n (p + 1) xs) ++ locks_from n k ys) e
 
 filter_all : (test : Lock → Bool) (f : ℕ → Lock) (xs : List ℕ) → ((r : ℕ) → test (f r) ≡ true) → filter test (map f xs) ≡ map f xs
 filter_all test f [] h = refl
@@ -43,10 +36,22 @@ kept_none n p test (x ∷ xs) h =
 split_slots : (n p : ℕ) (a : List (List ℕ)) (x : List ℕ) (b : List (List ℕ)) → length a ≡ p → locks_from n 0 (a ++ x ∷ b) ≡ locks_from n 0 a ++ (map (lock_at n p) x ++ locks_from n (p + 1) b)
 split_slots n p a x b e =
     let at : 0 + length a ≡ p = omega arith in
-    locks-append n 0 a (x ∷ b) ∙ ap (λ (k : ℕ). locks_from n 0 a ++ (map (lock_at n k) x ++ locks_from n (k + 1) b)) at
+    numbered-append (lock_at n) 0 a (x ∷ b) ∙ ap (λ (k : ℕ). locks_from n 0 a ++ (map (lock_at n k) x ++ locks_from n (k + 1) b)) at
 
-filter_split : (test : Lock → Bool) (xs ys zs : List Lock) → filter test (xs ++ (ys ++ zs)) ≡ filter test xs ++ (filter test ys ++ filter test zs)
-filter_split test xs ys zs = filter-append test xs (ys ++ zs) ∙ ap (λ (z : List Lock). filter test xs ++ z) (filter-append test ys zs)
+-- what a filter keeps of three parts
+three_kept : (test : Lock → Bool) (xs ys zs us vs ws : List Lock) → filter test xs ≡ us → filter test ys ≡ vs → filter test zs ≡ ws → filter test (xs ++ (ys ++ zs)) ≡ us ++ (vs ++ ws)
+three_kept test xs ys zs us vs ws e f g =
+    filter-append test xs (ys ++ zs) ∙ ap (λ (z : List Lock). filter test xs ++ z) (filter-append test ys zs)
+    ∙ ap (λ (z : List Lock). z ++ (filter test ys ++ filter test zs)) e
+    ∙ ap (λ (z : List Lock). us ++ (z ++ filter test zs)) f
+    ∙ ap (λ (z : List Lock). us ++ (vs ++ z)) g
+
+-- what a filter keeps of the slots before an index, of its own, and of those after it
+slots_kept : (n p : ℕ) (test : Lock → Bool) (a : List (List ℕ)) (x : List ℕ) (b : List (List ℕ)) (us vs ws : List Lock) → length a ≡ p
+    → filter test (locks_from n 0 a) ≡ us → filter test (map (lock_at n p) x) ≡ vs → filter test (locks_from n (p + 1) b) ≡ ws
+    → filter test (locks_from n 0 (a ++ x ∷ b)) ≡ us ++ (vs ++ ws)
+slots_kept n p test a x b us vs ws h e f g =
+    ap (filter test) (split_slots n p a x b h) ∙ three_kept test (locks_from n 0 a) (map (lock_at n p) x) (locks_from n (p + 1) b) us vs ws e f g
 
 map_same : (f g : ℕ → Lock) (xs : List ℕ) → ((r : ℕ) → f r ≡ g r) → map f xs ≡ map g xs
 map_same f g [] h = refl
@@ -58,23 +63,16 @@ pub slot_replaced : (n s t : ℕ) (a : List (List ℕ)) (x v : List ℕ) (b : Li
 slot_replaced n s t a x v b h i j e =
     let p = slot_index_of n s t in
     let front : filter (is_before s t) (locks_from n 0 (a ++ x ∷ b)) ≡ locks_from n 0 a =
-    ap (filter (is_before s t)) (split_slots n p a x b e)
-    ∙ filter_split (is_before s t) (locks_from n 0 a) (map (lock_at n p) x) (locks_from n (p + 1) b)
-    ∙ ap (λ (z : List Lock). z ++ (filter (is_before s t) (map (lock_at n p) x) ++ filter (is_before s t) (locks_from n (p + 1) b)))
+    slots_kept n p (is_before s t) a x b (locks_from n 0 a) [] [] e
     (kept_all n 0 (is_before s t) a (λ q r c d. before_index n s t q r h i j ∙ grind (arith, nat_tests)))
-    ∙ ap (λ (z : List Lock). locks_from n 0 a ++ (z ++ filter (is_before s t) (locks_from n (p + 1) b)))
     (filter_none (is_before s t) (lock_at n p) x (λ r. before_index n s t p r h i j ∙ grind (arith, nat_tests)))
-    ∙ ap (λ (z : List Lock). locks_from n 0 a ++ z)
     (kept_none n (p + 1) (is_before s t) b (λ q r c d. before_index n s t q r h i j ∙ grind (arith, nat_tests)))
     ∙ append-nil (locks_from n 0 a) in
     let back : filter (is_after s t) (locks_from n 0 (a ++ x ∷ b)) ≡ locks_from n (p + 1) b =
-    ap (filter (is_after s t)) (split_slots n p a x b e)
-    ∙ filter_split (is_after s t) (locks_from n 0 a) (map (lock_at n p) x) (locks_from n (p + 1) b)
-    ∙ ap (λ (z : List Lock). z ++ (filter (is_after s t) (map (lock_at n p) x) ++ filter (is_after s t) (locks_from n (p + 1) b)))
+    slots_kept n p (is_after s t) a x b [] [] (locks_from n (p + 1) b) e
     (kept_none n 0 (is_after s t) a (λ q r c d. after_index n s t q r h i j ∙ grind (arith, nat_tests)))
-    ∙ ap (λ (z : List Lock). z ++ filter (is_after s t) (locks_from n (p + 1) b))
     (filter_none (is_after s t) (lock_at n p) x (λ r. after_index n s t p r h i j ∙ grind (arith, nat_tests)))
-    ∙ kept_all n (p + 1) (is_after s t) b (λ q r c d. after_index n s t q r h i j ∙ grind (arith, nat_tests)) in
+    (kept_all n (p + 1) (is_after s t) b (λ q r c d. after_index n s t q r h i j ∙ grind (arith, nat_tests))) in
     split_slots n p a v b e
     ∙ ap (λ (z : List Lock). locks_from n 0 a ++ (z ++ locks_from n (p + 1) b)) (map_same (lock_at n p) (lock_of t s) v (λ r. lock_at_index n s t r h i j))
     ∙ ap (λ (z : List Lock). z ++ (map (lock_of t s) v ++ locks_from n (p + 1) b)) (sym front)
@@ -87,13 +85,9 @@ slot_emptied n s t a x b h i j e =
     let p = slot_index_of n s t in
     let test : Lock → Bool = λ l. not (is_own s t l) in
     split_slots n p a [] b e
-    ∙ sym (ap (filter test) (split_slots n p a x b e)
-    ∙ filter_split test (locks_from n 0 a) (map (lock_at n p) x) (locks_from n (p + 1) b)
-    ∙ ap (λ (z : List Lock). z ++ (filter test (map (lock_at n p) x) ++ filter test (locks_from n (p + 1) b)))
+    ∙ sym (slots_kept n p test a x b (locks_from n 0 a) [] (locks_from n (p + 1) b) e
     (kept_all n 0 test a (λ q r c d. ap not (own_index n s t q r h i j) ∙ grind (arith, nat_tests)))
-    ∙ ap (λ (z : List Lock). locks_from n 0 a ++ (z ++ filter test (locks_from n (p + 1) b)))
     (filter_none test (lock_at n p) x (λ r. ap not (own_index n s t p r h i j) ∙ grind (arith, nat_tests)))
-    ∙ ap (λ (z : List Lock). locks_from n 0 a ++ z)
     (kept_all n (p + 1) test b (λ q r c d. ap not (own_index n s t q r h i j) ∙ grind (arith, nat_tests))))
 
 -- the slots of one table
@@ -113,17 +107,14 @@ row_of_table n t a row b h i e f =
     let at : 0 + length a ≡ (t - 1) * n + 0 = omega arith in
     let after : (t - 1) * n + 0 + length row ≡ (t - 1) * n + n = omega arith in
     let parts : locks_from n 0 (a ++ (row ++ b)) ≡ locks_from n 0 a ++ (locks_from n ((t - 1) * n + 0) row ++ locks_from n ((t - 1) * n + n) b) =
-    locks-append n 0 a (row ++ b)
+    numbered-append (lock_at n) 0 a (row ++ b)
     ∙ ap (λ (k : ℕ). locks_from n 0 a ++ locks_from n k (row ++ b)) at
-    ∙ ap (λ (z : List Lock). locks_from n 0 a ++ z) (locks-append n ((t - 1) * n + 0) row b)
+    ∙ ap (λ (z : List Lock). locks_from n 0 a ++ z) (numbered-append (lock_at n) ((t - 1) * n + 0) row b)
     ∙ ap (λ (k : ℕ). locks_from n 0 a ++ (locks_from n ((t - 1) * n + 0) row ++ locks_from n k b)) after in
     ap (filter test) parts
-    ∙ filter_split test (locks_from n 0 a) (locks_from n ((t - 1) * n + 0) row) (locks_from n ((t - 1) * n + n) b)
-    ∙ ap (λ (z : List Lock). z ++ (filter test (locks_from n ((t - 1) * n + 0) row) ++ filter test (locks_from n ((t - 1) * n + n) b)))
+    ∙ three_kept test (locks_from n 0 a) (locks_from n ((t - 1) * n + 0) row) (locks_from n ((t - 1) * n + n) b) [] (locks_from n ((t - 1) * n + 0) row) []
     (kept_none n 0 test a (λ q r c d. table_index n t q r h i ∙ grind (arith, nat_tests)))
-    ∙ ap (λ (z : List Lock). z ++ filter test (locks_from n ((t - 1) * n + n) b))
     (kept_all n ((t - 1) * n + 0) test row (λ q r c d. table_index n t q r h i ∙ grind (arith, nat_tests)))
-    ∙ ap (λ (z : List Lock). locks_from n ((t - 1) * n + 0) row ++ z)
     (kept_none n ((t - 1) * n + n) test b (λ q r c d. table_index n t q r h i ∙ grind (arith, nat_tests)))
     ∙ append-nil (locks_from n ((t - 1) * n + 0) row)
     ∙ row_is n t 0 row i (omega arith)
@@ -139,35 +130,28 @@ slots_parts slots p v h = ap (map records_of) (set_split slots p v h) ∙ map-ap
 length-before : (slots : List (Option ℕ)) (p : ℕ) → p < length slots → length (map records_of (take p slots)) ≡ p
 length-before slots p h = omega (arith, length-map (take p slots) records_of, length-take p slots)
 
--- a write into the slot of a station and a table
-pub set_slot : (n s t : ℕ) (slots : List (Option ℕ)) (v : Option ℕ) → 1 ≤ t → 1 ≤ s → s ≤ n → slot_index_of n s t < length slots
-    → locks_of n (slice_set slots (slot_index_of n s t) v) ≡ with_locks (locks_of n slots) s t (records_of v)
-set_slot n s t slots v h i j k =
-    let p = slot_index_of n s t in
+-- what other records in one slot make of the locks
+slot_changed : (n p : ℕ) (slots : List (Option ℕ)) (v : Option ℕ) (change : List Lock → List Lock) → p < length slots
+    → ((a : List (List ℕ)) (x : List ℕ) (b : List (List ℕ)) → length a ≡ p → locks_from n 0 (a ++ records_of v ∷ b) ≡ change (locks_from n 0 (a ++ x ∷ b)))
+    → locks_of n (slice_set slots p v) ≡ change (locks_of n slots)
+slot_changed n p slots v change k changes =
     let old = get_or slots p None in
     let before = map records_of (take p slots) in
     let after = map records_of (drop (suc p) slots) in
     let was : map records_of slots ≡ before ++ records_of old ∷ after = ap (map records_of) (sym (set-get_or slots p None)) ∙ slots_parts slots p old k in
     ap (locks_from n 0) (slots_parts slots p v k)
-    ∙ slot_replaced n s t before (records_of old) (records_of v) after h i j (length-before slots p k)
-    ∙ ap (λ (xs : List (List ℕ)). with_locks (locks_from n 0 xs) s t (records_of v)) (sym was)
+    ∙ changes before (records_of old) after (length-before slots p k)
+    ∙ ap (λ (xs : List (List ℕ)). change (locks_from n 0 xs)) (sym was)
+
+-- a write into the slot of a station and a table
+pub set_slot : (n s t : ℕ) (slots : List (Option ℕ)) (v : Option ℕ) → 1 ≤ t → 1 ≤ s → s ≤ n → slot_index_of n s t < length slots
+    → locks_of n (slice_set slots (slot_index_of n s t) v) ≡ with_locks (locks_of n slots) s t (records_of v)
+set_slot n s t slots v h i j k = slot_changed n (slot_index_of n s t) slots v (λ ls. with_locks ls s t (records_of v)) k (λ a x b e. slot_replaced n s t a x (records_of v) b h i j e)
 
 -- a slot is emptied
 pub clear_slot : (n s t : ℕ) (slots : List (Option ℕ)) → 1 ≤ t → 1 ≤ s → s ≤ n → slot_index_of n s t < length slots
     → locks_of n (slice_set slots (slot_index_of n s t) None) ≡ without (locks_of n slots) s t
-clear_slot n s t slots h i j k =
-    let p = slot_index_of n s t in
-    let old = get_or slots p None in
-    let before = map records_of (take p slots) in
-    let after = map records_of (drop (suc p) slots) in
-    let was : map records_of slots ≡ before ++ records_of old ∷ after = ap (map records_of) (sym (set-get_or slots p None)) ∙ slots_parts slots p old k in
-    ap (locks_from n 0) (slots_parts slots p None k)
-    ∙ slot_emptied n s t before (records_of old) after h i j (length-before slots p k)
-    ∙ ap (λ (xs : List (List ℕ)). without (locks_from n 0 xs) s t) (sym was)
-
-pub eq-nil : (slots : List (Option ℕ)) → length slots ≡ 0 → slots ≡ []
-eq-nil [] e = refl
-eq-nil (x ∷ xs) e = absurd (omega arith)
+clear_slot n s t slots h i j k = slot_changed n (slot_index_of n s t) slots None (λ ls. without ls s t) k (λ a x b e. slot_emptied n s t a x b h i j e)
 
 -- the slots of a table tell its locks
 pub table_slots : (n t tables : ℕ) (slots : List (Option ℕ)) → 1 ≤ t → t ≤ tables → length slots ≡ tables * n
@@ -176,7 +160,7 @@ table_slots zero t tables slots h i e =
     let none : length slots ≡ 0 = omega arith in
     let row = slice_range slots ((t - 1) * 0) ((t - 1) * 0 + 0) in
     let few : length row ≡ 0 = omega (arith, length-take ((t - 1) * 0 + 0 - (t - 1) * 0) (drop ((t - 1) * 0) slots), length-drop ((t - 1) * 0) slots) in
-    ap (λ (xs : List (Option ℕ)). in_table (locks_of 0 xs) t) (eq-nil slots none) ∙ sym (ap (λ (xs : List (Option ℕ)). row_from t 1 (map records_of xs)) (eq-nil row few))
+    ap (λ (xs : List (Option ℕ)). in_table (locks_of 0 xs) t) (nil_from_length slots none) ∙ sym (ap (λ (xs : List (Option ℕ)). row_from t 1 (map records_of xs)) (nil_from_length row few))
 table_slots (suc m) t tables slots h i e =
     let n = suc m in
     let start = (t - 1) * n in

@@ -4,7 +4,7 @@ use Rattle.std.specs.List.{filter}
 use Rattle.std.proofs.lemmas.List.{length-map}
 use Rattle.std.proofs.Math.Nat.{div-lt_iff_lt-mul}
 use Rattle.std.proofs.lemmas.Bool.Decides.{nat_tests}
-use Rattle.lock_table.specs.Locks.{Lock, Held, held, is_own, without, without_all, IsHeld}
+use Rattle.lock_table.specs.Locks.{Lock, Held, held, is_own, without, without_all, IsHeld, is_others}
 use Rattle.lock_table.specs.Slots.{lock_at, locks_from, locks_of, records_of, AreSlots}
 use Rattle.lock_table.specs.Laws.{held_append}
 
@@ -78,4 +78,4 @@ without_first-more locks station i =
     ∙ filter_same (λ l. not (nat_le l.table i && l.station == station) && not (is_own station (i + 1) l)) (λ l. not (nat_le l.table (i + 1) && l.station == station)) locks (λ l _. one_more l.table i (l.station == station))
 
 pub without_first-all : (locks : List Lock) (station tables : ℕ) → ((l : Lock) → IsHeld locks l → (1 ≤ l.table) × (l.table ≤ tables)) → without_first locks station tables ≡ without_all locks station
-without_first-all locks station tables inside = filter_same (λ l. not (nat_le l.table tables && l.station == station)) (λ l. not (l.station == station)) locks (λ l i. all_gone l.table tables (l.station == station) (inside l i).1)
+without_first-all locks station tables inside = filter_same (λ l. not (nat_le l.table tables && l.station == station)) (is_others station) locks (λ l i. all_gone l.table tables (l.station == station) (inside l i).1)

@@ -1,33 +1,15 @@
 -- The locks of one table, slot by slot.
-use Rattle.std.proofs.Common.{◌≡◌, ℕ, zero, suc, cond, length-append, ◌+◌, ◌<◌, ◌≤◌, Bool, true, false, not, ◌&&◌, ◌||◌, ◌==◌, nat_lt, List, [], ◌∷◌, ◌++◌, length, map, take, drop, get_or, Option, Some, None, is_some, refl, sym, ap, ◌∙◌, arith, append_assoc}
+use Rattle.std.proofs.Common.{◌≡◌, ℕ, zero, suc, cond, length-append, ◌+◌, ◌<◌, ◌≤◌, Bool, true, false, not, ◌&&◌, ◌||◌, ◌==◌, nat_lt, List, [], ◌∷◌, ◌++◌, length, map, take, drop, get_or, Option, Some, None, is_some, refl, sym, ap, ◌∙◌, arith}
 use Rattle.std.specs.List.{list_any, filter, find}
 use Rattle.std.specs.Option.{option_or}
 use Rattle.std.proofs.lemmas.List.Elements.{filter-append}
+use Rattle.std.proofs.Math.Bool.{and-false, and-true, or-false}
 use Rattle.std.proofs.lemmas.Bool.Decides.{nat_tests}
 use Rattle.std.proofs.lemmas.List.Folds.{list_any-append, find-append}
 use Rattle.std.proofs.lemmas.List.{take_more, append-nil, map-append, length-map, length-take, take-append-drop, take_all}
-use Rattle.lock_table.specs.Locks.{Lock, lock_of}
+use Rattle.lock_table.specs.Locks.{Lock, lock_of, bars, lets_write, is_others}
 use Rattle.lock_table.specs.Slots.{records_of, row_from}
-
-and_false : (a : Bool) → false ≡ (a && false)
-and_false true = refl
-and_false false = refl
-
-and_or : (a b : Bool) → (a && b || false) ≡ (a && (b || false))
-and_or true b = refl
-and_or false b = refl
-
-or_and_true : (a : Bool) → (a || false) ≡ (a && true)
-or_and_true true = refl
-or_and_true false = refl
-
-pub row-append : (t s : ℕ) (xs ys : List (List ℕ)) → row_from t s (xs ++ ys) ≡ row_from t s xs ++ row_from t (s + length xs) ys
-row-append t s [] ys = let e : s + 0 ≡ s = omega arith in ap (λ (k : ℕ). row_from t k ys) (sym e)
-row-append t s (x ∷ xs) ys =
-    let e : s + 1 + length xs ≡ s + length (x ∷ xs) = omega arith in
-    ap (λ (z : List Lock). map (lock_of t s) x ++ z) (row-append t (s + 1) xs ys)
-    ∙ sym (append_assoc (map (lock_of t s) x) (row_from t (s + 1) xs) (row_from t (s + 1 + length xs) ys))
-    ∙ ap (λ (k : ℕ). (map (lock_of t s) x ++ row_from t (s + 1) xs) ++ row_from t k ys) e
+use Rattle.lock_table.proofs.Numbered.{numbered-append}
 
 -- the locks of a row's first slots
 abbrev pub rowed : ℕ → List (Option ℕ) → ℕ → List Lock
@@ -41,7 +23,7 @@ pub rowed_more : (t : ℕ) (row : List (Option ℕ)) (i : ℕ) → i < length ro
 rowed_more t row i h =
     let at : 1 + length (map records_of (take i row)) ≡ i + 1 = omega (arith, length-map (take i row) records_of, length-take i row) in
     ap (row_from t 1) (more_slots row i h)
-    ∙ row-append t 1 (map records_of (take i row)) (records_of (get_or row i None) ∷ [])
+    ∙ numbered-append (lock_of t) 1 (map records_of (take i row)) (records_of (get_or row i None) ∷ [])
     ∙ ap (λ (k : ℕ). rowed t row i ++ row_from t k (records_of (get_or row i None) ∷ [])) at
     ∙ ap (λ (z : List Lock). rowed t row i ++ z) (append-nil (map (lock_of t (i + 1)) (records_of (get_or row i None))))
 
@@ -50,7 +32,7 @@ pub rowed_rest : (t : ℕ) (row : List (Option ℕ)) (i : ℕ) → row_from t 1 
 rowed_rest t row i =
     ap (λ (xs : List (Option ℕ)). row_from t 1 (map records_of xs)) (sym (take-append-drop i row))
     ∙ ap (row_from t 1) (map-append records_of (take i row) (drop i row))
-    ∙ row-append t 1 (map records_of (take i row)) (map records_of (drop i row))
+    ∙ numbered-append (lock_of t) 1 (map records_of (take i row)) (map records_of (drop i row))
 
 -- all slots
 pub rowed_all : (t : ℕ) (row : List (Option ℕ)) (i : ℕ) → length row ≤ i → rowed t row i ≡ row_from t 1 (map records_of row)
@@ -66,36 +48,39 @@ any_kept p t row i e =
     ap (list_any p) (rowed_rest t row i) ∙ list_any-append p (rowed t row i) (row_from t (1 + length (map records_of (take i row))) (map records_of (drop i row)))
     ∙ ap (λ (b : Bool). b || list_any p (row_from t (1 + length (map records_of (take i row))) (map records_of (drop i row)))) e
 
+both_covers : (a b : Bool) → (a && b || false) ≡ (a && (b || false))
+both_covers a b = or-false (a && b) ∙ ap (λ (x : Bool). a && x) (sym (or-false b))
+
 -- the tests of a lock, for the lock of a slot
-pub other_covers : (t k s number : ℕ) (slot : Option ℕ) → list_any (λ l. not (l.station == s) && (l.number == number || l.number == 0)) (map (lock_of t k) (records_of slot)) ≡ (not (k == s) && list_any (λ n. n == number || n == 0) (records_of slot))
-other_covers t k s number None = and_false (not (k == s))
-other_covers t k s number (Some n) = and_or (not (k == s)) (n == number || n == 0)
+pub other_covers : (t k s number : ℕ) (slot : Option ℕ) → list_any (bars s number) (map (lock_of t k) (records_of slot)) ≡ (not (k == s) && list_any (λ n. n == number || n == 0) (records_of slot))
+other_covers t k s number None = sym (and-false (not (k == s)))
+other_covers t k s number (Some n) = both_covers (not (k == s)) (n == number || n == 0)
 
-pub own_covers : (t k s number : ℕ) (slot : Option ℕ) → list_any (λ l. l.station == s && (l.number == number || l.number == 0)) (map (lock_of t k) (records_of slot)) ≡ (k == s && list_any (λ n. n == number || n == 0) (records_of slot))
-own_covers t k s number None = and_false (k == s)
-own_covers t k s number (Some n) = and_or (k == s) (n == number || n == 0)
+pub own_covers : (t k s number : ℕ) (slot : Option ℕ) → list_any (lets_write s number) (map (lock_of t k) (records_of slot)) ≡ (k == s && list_any (λ n. n == number || n == 0) (records_of slot))
+own_covers t k s number None = sym (and-false (k == s))
+own_covers t k s number (Some n) = both_covers (k == s) (n == number || n == 0)
 
-pub other_holds : (t k s : ℕ) (slot : Option ℕ) → list_any (λ l. not (l.station == s)) (map (lock_of t k) (records_of slot)) ≡ (not (k == s) && is_some slot)
-other_holds t k s None = and_false (not (k == s))
-other_holds t k s (Some n) = or_and_true (not (k == s))
+pub other_holds : (t k s : ℕ) (slot : Option ℕ) → list_any (is_others s) (map (lock_of t k) (records_of slot)) ≡ (not (k == s) && is_some slot)
+other_holds t k s None = sym (and-false (not (k == s)))
+other_holds t k s (Some n) = or-false (not (k == s)) ∙ sym (and-true (not (k == s)))
 
 -- one slot more that keeps no station away, or keeps the station away
 pub free_step : (t s number i : ℕ) (row : List (Option ℕ)) (b : Bool) → i < length row
     → b ≡ (not (i + 1 == s) && list_any (λ n. n == number || n == 0) (records_of (get_or row i None)))
-    → list_any (λ l. not (l.station == s) && (l.number == number || l.number == 0)) (rowed t row i) ≡ false
-    → list_any (λ l. not (l.station == s) && (l.number == number || l.number == 0)) (rowed t row (i + 1)) ≡ b
+    → list_any (bars s number) (rowed t row i) ≡ false
+    → list_any (bars s number) (rowed t row (i + 1)) ≡ b
 free_step t s number i row b h e so_far =
-    let p : Lock → Bool = λ l. not (l.station == s) && (l.number == number || l.number == 0) in
+    let p : Lock → Bool = bars s number in
     any_more p t row i h
     ∙ ap (λ (x : Bool). x || list_any p (map (lock_of t (i + 1)) (records_of (get_or row i None)))) so_far
     ∙ other_covers t (i + 1) s number (get_or row i None) ∙ sym e
 
 pub whole_step : (t s i : ℕ) (row : List (Option ℕ)) (b : Bool) → i < length row
     → b ≡ (not (i + 1 == s) && is_some (get_or row i None))
-    → list_any (λ l. not (l.station == s)) (rowed t row i) ≡ false
-    → list_any (λ l. not (l.station == s)) (rowed t row (i + 1)) ≡ b
+    → list_any (is_others s) (rowed t row i) ≡ false
+    → list_any (is_others s) (rowed t row (i + 1)) ≡ b
 whole_step t s i row b h e so_far =
-    let p : Lock → Bool = λ l. not (l.station == s) in
+    let p : Lock → Bool = is_others s in
     any_more p t row i h
     ∙ ap (λ (x : Bool). x || list_any p (map (lock_of t (i + 1)) (records_of (get_or row i None)))) so_far
     ∙ other_holds t (i + 1) s (get_or row i None) ∙ sym e
@@ -146,31 +131,27 @@ count_step t i row h =
     ∙ ap (λ (n : ℕ). length (filter p (rowed t row i)) + n) (counted_in t (i + 1) (get_or row i None))
 
 -- the station's own lock stands in its own slot
-own_none : (t s number k : ℕ) (row : List (Option ℕ)) → s < k → list_any (λ l. l.station == s && (l.number == number || l.number == 0)) (row_from t k (map records_of row)) ≡ false
+own_none : (t s number k : ℕ) (row : List (Option ℕ)) → s < k → list_any (lets_write s number) (row_from t k (map records_of row)) ≡ false
 own_none t s number k [] h = refl
 own_none t s number k (x ∷ xs) h =
-    let p : Lock → Bool = λ l. l.station == s && (l.number == number || l.number == 0) in
+    let p : Lock → Bool = lets_write s number in
     let other : (k == s) ≡ false = grind (arith, nat_tests) in
     list_any-append p (map (lock_of t k) (records_of x)) (row_from t (k + 1) (map records_of xs))
     ∙ ap (λ (b : Bool). b || list_any p (row_from t (k + 1) (map records_of xs))) (own_covers t k s number x ∙ ap (λ (b : Bool). b && list_any (λ n. n == number || n == 0) (records_of x)) other)
     ∙ own_none t s number (k + 1) xs (omega arith)
 
-or_false : (b : Bool) → (b || false) ≡ b
-or_false true = refl
-or_false false = refl
-
 pub own_row : (t s number k j : ℕ) (row : List (Option ℕ)) → k + j ≡ s → j < length row
-    → list_any (λ l. l.station == s && (l.number == number || l.number == 0)) (row_from t k (map records_of row)) ≡ list_any (λ n. n == number || n == 0) (records_of (get_or row j None))
+    → list_any (lets_write s number) (row_from t k (map records_of row)) ≡ list_any (λ n. n == number || n == 0) (records_of (get_or row j None))
 own_row t s number k j [] e h = absurd (omega arith)
 own_row t s number k zero (x ∷ xs) e h =
-    let p : Lock → Bool = λ l. l.station == s && (l.number == number || l.number == 0) in
+    let p : Lock → Bool = lets_write s number in
     let same : (k == s) ≡ true = grind (arith, nat_tests) in
     list_any-append p (map (lock_of t k) (records_of x)) (row_from t (k + 1) (map records_of xs))
     ∙ ap (λ (b : Bool). list_any p (map (lock_of t k) (records_of x)) || b) (own_none t s number (k + 1) xs (omega arith))
-    ∙ or_false (list_any p (map (lock_of t k) (records_of x)))
+    ∙ or-false (list_any p (map (lock_of t k) (records_of x)))
     ∙ own_covers t k s number x ∙ ap (λ (b : Bool). b && list_any (λ n. n == number || n == 0) (records_of x)) same
 own_row t s number k (suc j) (x ∷ xs) e h =
-    let p : Lock → Bool = λ l. l.station == s && (l.number == number || l.number == 0) in
+    let p : Lock → Bool = lets_write s number in
     let other : (k == s) ≡ false = grind (arith, nat_tests) in
     list_any-append p (map (lock_of t k) (records_of x)) (row_from t (k + 1) (map records_of xs))
     ∙ ap (λ (b : Bool). b || list_any p (row_from t (k + 1) (map records_of xs))) (own_covers t k s number x ∙ ap (λ (b : Bool). b && list_any (λ n. n == number || n == 0) (records_of x)) other)

@@ -1,13 +1,23 @@
 -- Stations stay out of each other's way.
 use Rattle.std.proofs.Common.{◌≡◌, ◌≢◌, ◌⊎◌, inl, inr, ℕ, ◌<◌, ◌≤◌, Bool, true, false, not, cond, ◌&&◌, ◌||◌, ◌==◌, List, [], ◌∷◌, ◌++◌, refl, sym, ap, ◌∙◌, arith}
 use Rattle.std.specs.List.{filter, list_any}
+use Rattle.std.proofs.lemmas.Bool.{or_parts, not-true, not_from_false}
 use Rattle.std.proofs.lemmas.Bool.Decides.{nat_tests}
-use Rattle.lock_table.specs.Locks.{Lock, lock_of, in_table, covers, free_record, free_whole, is_own, is_before, is_after, with_lock, without, without_all, IsHeld, AreApart}
+use Rattle.lock_table.specs.Locks.{Lock, lock_of, in_table, free_record, free_whole, is_own, is_before, is_after, with_lock, without, without_all, IsHeld, AreApart, bars, is_others}
 
 pub held_append : (xs ys : List Lock) (l : Lock) → IsHeld (xs ++ ys) l → IsHeld xs l ⊎ IsHeld ys l
 held_append [] ys l h = inr h
 held_append (x ∷ xs) ys l (inl e) = inl (inl e)
 held_append (x ∷ xs) ys l (inr h) = elim (held_append xs ys l h) [ inl i ↦ inl (inr i) | inr j ↦ inr j ]
+
+held_left : (xs ys : List Lock) (l : Lock) → IsHeld xs l → IsHeld (xs ++ ys) l
+held_left [] ys l h = absurd h
+held_left (x ∷ xs) ys l (inl e) = inl e
+held_left (x ∷ xs) ys l (inr h) = inr (held_left xs ys l h)
+
+held_right : (xs ys : List Lock) (l : Lock) → IsHeld ys l → IsHeld (xs ++ ys) l
+held_right [] ys l h = h
+held_right (x ∷ xs) ys l h = inr (held_right xs ys l h)
 
 held_cond : (p : Lock → Bool) (b : Bool) (x : Lock) (xs : List Lock) (l : Lock) → p x ≡ b → (IsHeld (filter p xs) l → IsHeld xs l) → IsHeld (cond b (x ∷ filter p xs) (filter p xs)) l → IsHeld (x ∷ xs) l
 held_cond p true x xs l e next (inl i) = inl i
@@ -30,19 +40,11 @@ held_kept : (p : Lock → Bool) (xs : List Lock) (l : Lock) → p l ≡ true →
 held_kept p [] l t h = h
 held_kept p (x ∷ xs) l t h = kept_cond p (p x) x xs l refl t (held_kept p xs l t) h
 
-or_left : (a b : Bool) → (a || b) ≡ false → a ≡ false
-or_left true b e = e
-or_left false b e = refl
-
-or_right : (a b : Bool) → (a || b) ≡ false → b ≡ false
-or_right true b e = cc
-or_right false b e = e
-
 -- what no lock passes, none of them does
 none_held : (p : Lock → Bool) (xs : List Lock) (l : Lock) → list_any p xs ≡ false → IsHeld xs l → p l ≡ false
 none_held p [] l e h = absurd h
-none_held p (x ∷ xs) l e (inl i) = ap p i ∙ or_left (p x) (list_any p xs) e
-none_held p (x ∷ xs) l e (inr h) = none_held p xs l (or_right (p x) (list_any p xs) e) h
+none_held p (x ∷ xs) l e (inl i) = ap p i ∙ (or_parts (p x) (list_any p xs) e).0
+none_held p (x ∷ xs) l e (inr h) = none_held p xs l (or_parts (p x) (list_any p xs) e).1 h
 
 passes_cond : (p : Lock → Bool) (b : Bool) (x : Lock) (xs : List Lock) (l : Lock) → p x ≡ b → (IsHeld (filter p xs) l → p l ≡ true) → IsHeld (cond b (x ∷ filter p xs) (filter p xs)) l → p l ≡ true
 passes_cond p true x xs l e next (inl i) = ap p i ∙ e
@@ -66,6 +68,35 @@ held_with xs s t r l h =
       | inr j ↦ elim j [ inl e ↦ inl e | inr k ↦ inr (held_filter (is_after s t) xs l k) ]
     ]
 
+-- the lock that a station took is held
+pub held_new : (xs : List Lock) (s t r : ℕ) → IsHeld (with_lock xs s t r) (lock_of t s r)
+held_new xs s t r = held_right (filter (is_before s t) xs) (lock_of t s r ∷ filter (is_after s t) xs) (lock_of t s r) (inl refl)
+
+not_before : (s t : ℕ) (l : Lock) → is_own s t l ≡ true → is_before s t l ≡ true → ⊥
+not_before s t l own e = grind (arith, nat_tests)
+
+not_after : (s t : ℕ) (l : Lock) → is_own s t l ≡ true → is_after s t l ≡ true → ⊥
+not_after s t l own e = grind (arith, nat_tests)
+
+-- and it is the only one that the station has in the table
+pub held_own : (xs : List Lock) (s t r : ℕ) (l : Lock) → IsHeld (with_lock xs s t r) l → is_own s t l ≡ true → l ≡ lock_of t s r
+held_own xs s t r l h own =
+    elim (held_append (filter (is_before s t) xs) (lock_of t s r ∷ filter (is_after s t) xs) l h) [
+      | inl i ↦ absurd (not_before s t l own (held_passes (is_before s t) xs l i))
+      | inr j ↦ elim j [ inl e ↦ e | inr k ↦ absurd (not_after s t l own (held_passes (is_after s t) xs l k)) ]
+    ]
+
+after_other : (s t : ℕ) (l : Lock) → is_own s t l ≡ false → is_before s t l ≡ false → is_after s t l ≡ true
+after_other s t l other e = grind (arith, nat_tests)
+
+-- the locks that aren't the station's in the table are held as before
+pub held_others : (xs : List Lock) (s t r : ℕ) (l : Lock) → IsHeld xs l → is_own s t l ≡ false → IsHeld (with_lock xs s t r) l
+held_others xs s t r l h other = by (is_before s t l) refl
+  where
+    by : (b : Bool) → is_before s t l ≡ b → IsHeld (with_lock xs s t r) l
+    by true e = held_left (filter (is_before s t) xs) (lock_of t s r ∷ filter (is_after s t) xs) l (held_kept (is_before s t) xs l e h)
+    by false e = held_right (filter (is_before s t) xs) (lock_of t s r ∷ filter (is_after s t) xs) l (inr (held_kept (is_after s t) xs l (after_other s t l other e) h))
+
 apart_new : (xs : List Lock) (s t r : ℕ) → ((l : Lock) → IsHeld xs l → l.table ≡ t → l.station ≢ s → (0 < r) × (0 < l.number) × (l.number ≢ r)) → AreApart xs → AreApart (with_lock xs s t r)
 apart_new xs s t r free apart a b h i =
     elim (held_with xs s t r a h) [
@@ -85,32 +116,34 @@ apart_new xs s t r free apart a b h i =
       ]
     ]
 
-not_false : (b : Bool) → not b ≡ true → b ≡ false
-not_false true e = sym e
-not_false false e = refl
-
-not_true : (b : Bool) → not b ≡ true → b ≡ true → ⊥
-not_true true e f = cc
-not_true false e f = cc
-
-same_station : (a s : ℕ) → a ≡ s → (a == s) ≡ true
-same_station a s e = grind (arith, nat_tests)
-
 -- a lock that is left after a station released its own in a table was held before, and is none of these
 pub held_without : (xs : List Lock) (s t : ℕ) (l : Lock) → IsHeld (without xs s t) l → IsHeld xs l × (is_own s t l ≡ false)
-held_without xs s t l h = (held_filter (λ m. not (is_own s t m)) xs l h, not_false (is_own s t l) (held_passes (λ m. not (is_own s t m)) xs l h))
+held_without xs s t l h = (held_filter (λ m. not (is_own s t m)) xs l h, not-true (is_own s t l) (held_passes (λ m. not (is_own s t m)) xs l h))
+
+other_station : (a s : ℕ) → not (a == s) ≡ true → a ≢ s
+other_station a s e = grind (arith, nat_tests)
 
 -- a lock that is left after a station released all was held before, and is another station's
 pub held_without_all : (xs : List Lock) (s : ℕ) (l : Lock) → IsHeld (without_all xs s) l → IsHeld xs l × (l.station ≢ s)
 held_without_all xs s l h =
-    (held_filter (λ m. not (m.station == s)) xs l h, λ e. not_true (l.station == s) (held_passes (λ m. not (m.station == s)) xs l h) (same_station l.station s e))
+    (held_filter (is_others s) xs l h, other_station l.station s (held_passes (is_others s) xs l h))
+
+-- and each other lock is left
+pub left_without : (xs : List Lock) (s t : ℕ) (l : Lock) → IsHeld xs l → is_own s t l ≡ false → IsHeld (without xs s t) l
+left_without xs s t l h other = held_kept (λ m. not (is_own s t m)) xs l (not_from_false (is_own s t l) other) h
+
+no_station : (a s : ℕ) → a ≢ s → not (a == s) ≡ true
+no_station a s other = grind (arith, nat_tests)
+
+pub left_without_all : (xs : List Lock) (s : ℕ) (l : Lock) → IsHeld xs l → l.station ≢ s → IsHeld (without_all xs s) l
+left_without_all xs s l h other = held_kept (is_others s) xs l (no_station l.station s other) h
 
 -- of the locks that are left
 pub apart_without : (xs : List Lock) (s t : ℕ) → AreApart xs → AreApart (without xs s t)
 apart_without xs s t apart = apart_filter (λ l. not (is_own s t l)) xs apart
 
 pub apart_without_all : (xs : List Lock) (s : ℕ) → AreApart xs → AreApart (without_all xs s)
-apart_without_all xs s apart = apart_filter (λ l. not (l.station == s)) xs apart
+apart_without_all xs s apart = apart_filter (is_others s) xs apart
 
 free_number : (station s number r : ℕ) → station ≢ s → 1 ≤ r → (not (station == s) && (number == r || number == 0)) ≡ false → (0 < r) × (0 < number) × (number ≢ r)
 free_number station s number r other h e = (omega arith, grind (arith, nat_tests), grind (arith, nat_tests))
@@ -125,16 +158,16 @@ same_table a t e = grind (arith, nat_tests)
 pub apart_record : (xs : List Lock) (s t r : ℕ) → 1 ≤ r → free_record xs s t r ≡ true → AreApart xs → AreApart (with_lock xs s t r)
 apart_record xs s t r h free apart = apart_new xs s t r
     (λ l held same other.
-    let p : Lock → Bool = λ l. not (l.station == s) && covers r l in
+    let p : Lock → Bool = bars s r in
     let there : IsHeld (in_table xs t) l = held_kept (λ m. m.table == t) xs l (same_table l.table t same) held in
-    free_number l.station s l.number r other h (none_held p (in_table xs t) l (not_false (list_any p (in_table xs t)) free) there))
+    free_number l.station s l.number r other h (none_held p (in_table xs t) l (not-true (list_any p (in_table xs t)) free) there))
     apart
 
 -- a table in which no other station has a lock is locked
 pub apart_whole : (xs : List Lock) (s t : ℕ) → free_whole xs s t ≡ true → AreApart xs → AreApart (with_lock xs s t 0)
 apart_whole xs s t free apart = apart_new xs s t 0
     (λ l held same other.
-    let p : Lock → Bool = λ l. not (l.station == s) in
+    let p : Lock → Bool = is_others s in
     let there : IsHeld (in_table xs t) l = held_kept (λ m. m.table == t) xs l (same_table l.table t same) held in
-    absurd (free_station l.station s other (none_held p (in_table xs t) l (not_false (list_any p (in_table xs t)) free) there)))
+    absurd (free_station l.station s other (none_held p (in_table xs t) l (not-true (list_any p (in_table xs t)) free) there)))
     apart

@@ -30,17 +30,29 @@ in_table locks table = filter (λ l. l.table == table) locks
 abbrev pub covers : ℕ → Lock → Bool
 covers number l = l.number == number || l.number == 0
 
+-- the lock is another station's
+abbrev pub is_others : ℕ → Lock → Bool
+is_others station l = not (l.station == station)
+
+-- another station's lock is on the record or on the whole table
+abbrev pub bars : ℕ → ℕ → Lock → Bool
+bars station number l = is_others station l && covers number l
+
+-- the station's own lock is on the record or on the whole table
+abbrev pub lets_write : ℕ → ℕ → Lock → Bool
+lets_write station number l = l.station == station && covers number l
+
 -- no other station's lock in the table is on the record or on the whole table
 abbrev pub free_record : List Lock → ℕ → ℕ → ℕ → Bool
-free_record locks station table number = not (list_any (λ l. not (l.station == station) && covers number l) (in_table locks table))
+free_record locks station table number = not (list_any (bars station number) (in_table locks table))
 
 -- no other station has a lock in the table
 abbrev pub free_whole : List Lock → ℕ → ℕ → Bool
-free_whole locks station table = not (list_any (λ l. not (l.station == station)) (in_table locks table))
+free_whole locks station table = not (list_any (is_others station) (in_table locks table))
 
 -- the station has a lock in the table that is on the record or on the whole table
 abbrev pub may_write : List Lock → ℕ → ℕ → ℕ → Bool
-may_write locks station table number = list_any (λ l. l.station == station && covers number l) (in_table locks table)
+may_write locks station table number = list_any (lets_write station number) (in_table locks table)
 
 abbrev pub station_of : Option Lock → ℕ
 station_of None = 0
@@ -82,7 +94,7 @@ without locks station table = filter (λ l. not (is_own station table l)) locks
 
 -- the station has no lock at all
 abbrev pub without_all : List Lock → ℕ → List Lock
-without_all locks station = filter (λ l. not (l.station == station)) locks
+without_all locks station = filter (is_others station) locks
 
 -- the lock is one of the list
 abbrev pub IsHeld : List Lock → Lock → Type 0

@@ -15,15 +15,18 @@ slot_index_of stations station table = (table - 1) * stations + (station - 1)
 abbrev pub lock_at : ℕ → ℕ → ℕ → Lock
 lock_at stations index number = lock_of (index / stations + 1) (index % stations + 1) number
 
+-- the locks on the records of slots that are numbered from one on, by a slot's number and a record
+abbrev pub numbered : (ℕ → ℕ → Lock) → ℕ → List (List ℕ) → List Lock
+numbered lock first [] = []
+numbered lock first (records ∷ rest) = map (lock first) records ++ numbered lock (first + 1) rest
+
 -- the locks of the slots from an index on
 abbrev pub locks_from : ℕ → ℕ → List (List ℕ) → List Lock
-locks_from stations index [] = []
-locks_from stations index (numbers ∷ rest) = map (lock_at stations index) numbers ++ locks_from stations (index + 1) rest
+locks_from stations index slots = numbered (lock_at stations) index slots
 
 -- the locks of a table's slots from a station on
 abbrev pub row_from : ℕ → ℕ → List (List ℕ) → List Lock
-row_from table station [] = []
-row_from table station (numbers ∷ rest) = map (lock_of table station) numbers ++ row_from table (station + 1) rest
+row_from table station slots = numbered (lock_of table) station slots
 
 -- the locks of all slots
 abbrev pub locks_of : ℕ → List (Option ℕ) → List Lock

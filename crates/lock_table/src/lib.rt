@@ -22,11 +22,17 @@ pub fn stations_stay_apart()
     ensures all_released { (locks : List Lock) (station : ℕ) → AreApart locks → AreApart (without_all locks station) }
 {}
 
-/// Which locks are held after one was taken or some were released: the new one and former ones, and no others.
+/// Which locks are held after one was taken or some were released: the new one in place of the station's former
+/// one in that table, and each that is none of the station's there; and no others.
 pub fn other_locks_stay()
+    ensures new_is_held { (locks : List Lock) (station table number : ℕ) → IsHeld (with_lock locks station table number) (lock_of table station number) }
+    ensures alone { (locks : List Lock) (station table number : ℕ) (l : Lock) → IsHeld (with_lock locks station table number) l → is_own station table l ≡ true → l ≡ lock_of table station number }
+    ensures others_stay { (locks : List Lock) (station table number : ℕ) (l : Lock) → IsHeld locks l → is_own station table l ≡ false → IsHeld (with_lock locks station table number) l }
     ensures taken { (locks : List Lock) (station table number : ℕ) (l : Lock) → IsHeld (with_lock locks station table number) l → (l ≡ lock_of table station number) ⊎ IsHeld locks l }
     ensures released { (locks : List Lock) (station table : ℕ) (l : Lock) → IsHeld (without locks station table) l → IsHeld locks l × (is_own station table l ≡ false) }
+    ensures others_left { (locks : List Lock) (station table : ℕ) (l : Lock) → IsHeld locks l → is_own station table l ≡ false → IsHeld (without locks station table) l }
     ensures all_released { (locks : List Lock) (station : ℕ) (l : Lock) → IsHeld (without_all locks station) l → IsHeld locks l × (l.station ≢ station) }
+    ensures all_others_left { (locks : List Lock) (station : ℕ) (l : Lock) → IsHeld locks l → l.station ≢ station → IsHeld (without_all locks station) l }
 {}
 
 #[cfg(test)]

@@ -1,5 +1,5 @@
 -- Indexes beside a table that is changed.
-use Rattle.std.proofs.Common.{◌≡◌, ℕ, ◌+◌, ◌-◌, ◌<◌, ◌≤◌, Bool, true, false, List, [], ◌∷◌, length, map, refl, ap, sym, ◌∙◌, arith}
+use Rattle.std.proofs.Common.{◌≡◌, ℕ, ◌+◌, ◌-◌, ◌<◌, ◌≤◌, Bool, true, false, List, [], ◌∷◌, length, map, refl, ap, sym, subst, ◌∙◌, arith}
 use Rattle.std.specs.Prelude.{◌&&◌, nat_lt, slice_set}
 use Rattle.std.specs.List.{AllByRecursion}
 use Rattle.std.proofs.lemmas.Bool.{false≢true}
@@ -8,9 +8,13 @@ use Rattle.dbf_fields.specs.declared.format.TheConstants.{MEMO}
 use Rattle.dbf_image.specs.Table.{Row, Table, row_at, row_with_cell, row_marked, kind_at, with_row, with_cell, with_mark}
 use Rattle.table_core.specs.declared.indexes.TableIndex.{TableIndex}
 use Rattle.table_core.specs.Indexes.{Follows, FollowsBut, HasRoom, Seen, seen, indexed, have_room}
-use Rattle.ndx_index.specs.Laws.RecordOrders.{but_row, but_last, order_row}
+use Rattle.ndx_index.specs.Order.{AreInOrder}
+use Rattle.ndx_index.specs.Laws.RecordOrders.{but_row, but_last, order_row, table_in_order}
 use Rattle.key_expr.specs.Keys.{key}
 use Rattle.ndx_index.specs.Laws.RecordKeys.{key_of_memo}
+
+pub follows_in_order : (table : Table) (index : TableIndex) → Follows table index → AreInOrder index.order.pairs
+follows_in_order table index h = subst AreInOrder (sym h.pairs) (table_in_order table index.expr.expr)
 
 pub follows_but_cell : (table : Table) (number field : ℕ) (cell : List ℕ) (index : TableIndex) → FollowsBut number table index → FollowsBut number (with_cell table number field cell) index
 follows_but_cell table number field cell index h = record {

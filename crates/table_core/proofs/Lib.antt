@@ -1,4 +1,4 @@
-mod Keys
 mod Follows
+mod Numbers
 mod Seeking
 mod Turned

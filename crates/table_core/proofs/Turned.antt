@@ -1,5 +1,5 @@
 -- Lists whose elements are changed one after the other.
-use Rattle.std.proofs.Common.{◌≡◌, ℕ, zero, suc, ◌+◌, ◌<◌, ◌≤◌, List, [], ◌∷◌, ◌++◌, length, map, take, get_or, set, refl, ap, add-one, arith}
+use Rattle.std.proofs.Common.{◌≡◌, ℕ, zero, suc, ◌+◌, ◌<◌, ◌≤◌, List, [], ◌∷◌, ◌++◌, length, take, get_or, set, sym, subst, add-one, arith}
 use Rattle.std.specs.List.{AllByRecursion}
 use Rattle.std.proofs.lemmas.List.{take-append-le, take_all}
 
@@ -25,23 +25,21 @@ pub turned-set : {X : Type 0} (P Q : X → Type 0) (n : ℕ) (xs : List X) (x : 
 turned-set P Q n xs x lt q h = rw add-one (turned-suc P Q n xs x lt q h)
 
 -- all are changed
-pub turned-all : {X : Type 0} (P Q : X → Type 0) (n : ℕ) (xs : List X) → length xs ≤ n → Turned P Q n xs → AllByRecursion Q xs
+turned-all : {X : Type 0} (P Q : X → Type 0) (n : ℕ) (xs : List X) → length xs ≤ n → Turned P Q n xs → AllByRecursion Q xs
 turned-all P Q zero [] le h = tt
 turned-all P Q zero (x ∷ xs) le h = absurd (omega arith)
 turned-all P Q (suc n) [] le h = tt
 turned-all P Q (suc n) (x ∷ xs) le h = (h.0, turned-all P Q n xs (omega arith) h.1)
-
--- what a change leaves as it was
-pub same-set : {X Y : Type 0} (f : X → Y) (xs : List X) (n : ℕ) (x d : X) → f x ≡ f (get_or xs n d) → map f (set xs n x) ≡ map f xs
-same-set f [] n x d e = refl
-same-set f (y ∷ xs) zero x d e = ap (λ z. z ∷ map f xs) e
-same-set f (y ∷ xs) (suc n) x d e = ap (λ zs. f y ∷ zs) (same-set f xs n x d e)
 
 -- what a loop over a vector's elements leaves
 pub whole : {X : Type 0} (xs zs : List X) (n : ℕ) → n ≡ length xs → take n (xs ++ zs) ≡ xs
 whole xs zs n e =
     let le : n ≤ length xs = omega arith in
     rw (take-append-le n xs zs le) (take_all n xs (omega arith))
+
+-- a loop over a vector's elements leaves all changed
+pub whole-turned : {X : Type 0} (P Q : X → Type 0) (i : ℕ) (xs zs : List X) (n : ℕ) → length xs ≤ i → n ≡ length xs → Turned P Q i xs → AllByRecursion Q (take n (xs ++ zs))
+whole-turned P Q i xs zs n le e h = subst (AllByRecursion Q) (sym (whole xs zs n e)) (turned-all P Q i xs le h)
 
 -- one more element
 pub all_push : {X : Type 0} (P : X → Type 0) (xs : List X) (x : X) → AllByRecursion P xs → P x → AllByRecursion P (xs ++ x ∷ [])

@@ -1,5 +1,6 @@
 -- What the indexes of a table keep.
-use Rattle.std.specs.Prelude.{◌≡◌, ℕ, ◌<◌, Bool, true, ◌&&◌, nat_lt, None, List, [], ◌∷◌}
+use Rattle.std.specs.Prelude.{◌≡◌, ℕ, ◌<◌, Bool, nat_lt, None, List}
+use Rattle.std.specs.List.{list_all}
 use Rattle.dbf_image.specs.Table.{Table}
 use Rattle.key_expr.specs.Expression.{Expression}
 use Rattle.key_expr.specs.Keys.{key_length}
@@ -45,5 +46,4 @@ seen index = record { name = index.name; expr = index.expr; key_len = index.orde
 
 -- each index has room for one more pair
 abbrev pub have_room : List TableIndex → Bool
-have_room [] = true
-have_room (index ∷ indexes) = nat_lt 0 index.order.spare && have_room indexes
+have_room indexes = list_all (λ index. nat_lt 0 index.order.spare) indexes

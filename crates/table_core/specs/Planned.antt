@@ -1,5 +1,5 @@
 -- What a plan makes of a table and of the cursor, and when it can be carried out.
-use Rattle.std.specs.Prelude.{◌≡◌, ◌≢◌, ℕ, ◌+◌, ◌<◌, ◌≤◌, true, List, map, length}
+use Rattle.std.specs.Prelude.{◌≡◌, ◌≢◌, ℕ, ◌+◌, ◌<◌, ◌≤◌, true, List, map, length, Result, Ok}
 use Rattle.std.specs.List.{AllByRecursion}
 use Rattle.dbf_fields.specs.declared.format.TheConstants.{MEMO}
 use Rattle.dbf_fields.specs.Layout.{width_of}
@@ -12,6 +12,7 @@ use Rattle.table_core.specs.declared.edits.planned.Change.TheVariants.{AddBlank,
 use Rattle.table_core.specs.declared.edits.planned.Planned.{Planned}
 use Rattle.table_core.specs.declared.edits.planned.Target.{Target}
 use Rattle.table_core.specs.declared.indexes.TableIndex.{TableIndex}
+use Rattle.table_core.specs.declared.refusal.Refusal.{Refusal}
 use Rattle.table_core.specs.Content.{Content, Held, record_count, with_table}
 use Rattle.table_core.specs.Edits.{with_blank, with_value, with_deleted}
 use Rattle.table_core.specs.Indexes.{Follows, indexed}
@@ -37,6 +38,10 @@ changed content planned = changed_by content planned.change
 
 abbrev pub cursor_after : Content → Cursor → Planned → Cursor
 cursor_after content cursor planned = moved_by content cursor planned.change
+
+-- what the plan makes of both, as the outcome of an edit
+abbrev pub carried_out : Content → Cursor → Planned → Result (Content × Cursor) Refusal
+carried_out content cursor planned = Ok (changed content planned, cursor_after content cursor planned)
 
 -- a record of the table
 pub record IsRecordOf (table : Table) (number : ℕ) : Type 0 where

@@ -5,6 +5,10 @@ ghost use Rattle.table_core.specs.Moves.{at_record};
 
 /// Where a station is in a table: at a record or at the end, what its last move found, and the order in
 /// which it moves.
+///
+/// The calls of a table want a cursor of that table: at one of its records or at the end, in one of its orders.
+/// A move leads from such a cursor to another, and so does an edit; after a Pack all other cursors may be past
+/// the last record.
 #[derive(Clone, Copy, Debug, PartialEq, Eq)]
 pub struct Cursor {
     /// The record, from 1; `None` at the end.

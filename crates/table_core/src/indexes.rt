@@ -1,8 +1,10 @@
 //! One index of a table.
 
 ghost use Rattle.std.specs.Prelude.{◌≡◌, ℕ, ◌+◌, ◌<◌, ◌≤◌, length, slice_get, slice_index_or, IfOk, OnOk};
+ghost use Rattle.key_expr.specs.Keys.{key_length};
 ghost use Rattle.ndx_index.specs.Order.{AreInOrder};
 ghost use Rattle.ndx_index.specs.Places.{back_from};
+ghost use Rattle.ndx_index.specs.TableOrder.{pair_at};
 ghost use Rattle.table_core.specs.Indexes.{Follows, FollowsBut, HasRoom, IsFor, indexed, seen};
 
 pub(crate) mod all;
@@ -74,8 +76,7 @@ impl TableIndex {
         ensures same { indexed self.new ≡ indexed self.old }
         ensures room { HasRoom self.old → HasRoom self.new }
     {
-        let key = self.expr.key_of(records.record(number));
-        self.order.remove(Pair { key, number });
+        self.order.remove(pair_of(&self.expr, records, number));
     }
 
     /// Puts a record's pair in. It takes no memory.
@@ -87,8 +88,7 @@ impl TableIndex {
         ensures follows { Follows records.now.table self.new }
         ensures same { indexed self.new ≡ indexed self.old }
     {
-        let key = self.expr.key_of(records.record(number));
-        self.order.insert(Pair { key, number });
+        self.order.insert(pair_of(&self.expr, records, number));
     }
 
     /// The pair so many places after one that is there.
@@ -120,4 +120,16 @@ impl TableIndex {
         }
         here
     }
+}
+
+/// The pair of a record, from 1, by an expression that was read for the table's fields. It takes no memory.
+pub(crate) fn pair_of(expr: &KeyExpr, records: &GrowingTable, number: u32) -> Pair
+    requires one { 1 ≤ number }
+    requires inside { number ≤ length records.now.table.rows }
+    requires fields { expr.now.fields ≡ records.now.table.schema }
+    ensures value { result ≡ pair_at records.now.table number expr.now.expr }
+    ensures long { length result.key ≡ key_length expr.now.fields expr.now.expr }
+{
+    let key = expr.key_of(records.record(number));
+    Pair { key, number }
 }

@@ -100,7 +100,7 @@ impl Table {
         self.indexes.len()
     }
 
-    /// The name of the index of a number, from 1.
+    /// The name of the index of a number, from 1 to [`Table::index_count`].
     pub fn index_name(&self, number: usize) -> &Bytes
         requires one { 1 ≤ number }
         requires inside { number ≤ length self.now.content.indexes }
@@ -109,7 +109,7 @@ impl Table {
         &self.indexes[number - 1].name
     }
 
-    /// The key expression of the index of a number, from 1.
+    /// The key expression of the index of a number, from 1 to [`Table::index_count`].
     pub fn expr(&self, number: usize) -> &KeyExpr
         requires one { 1 ≤ number }
         requires inside { number ≤ length self.now.content.indexes }
@@ -118,7 +118,7 @@ impl Table {
         &self.indexes[number - 1].expr
     }
 
-    /// The pairs of the index of a number, from 1, in order.
+    /// The pairs of the index of a number, from 1 to [`Table::index_count`], in order.
     ///
     /// An `Err` says that there was no memory.
     pub fn index_pairs(&self, alloc: Global, number: usize) -> Result<Vec<Pair>, AllocError>

@@ -6,7 +6,7 @@ ghost use Rattle.table_core.specs.Content.{IsReadFor};
 ghost use Rattle.table_core.specs.Cursors.{IsCursor};
 
 use super::*;
-use dbf_fields::{Bytes, CHARACTER, Field, Literal, Schema};
+use dbf_fields::{Bytes, CHARACTER, Field, Literal, Schema, day_of};
 use dbf_image::TableData;
 use key_expr::KeyExpr;
 use ndx_index::Pair;
@@ -16,6 +16,7 @@ use std::test::*;
 mod edits;
 mod indexes;
 mod moves;
+mod refusals;
 
 // A move, as a table of cases names it.
 #[derive(Clone, Copy)]
@@ -38,6 +39,8 @@ enum Asked {
     Append,
     Text(&'static [u8], &'static [u8]),
     Number(&'static [u8], i128),
+    Truth(&'static [u8], bool),
+    Date(&'static [u8], u16, u8, u8),
     BadDate(&'static [u8]),
     Memo(&'static [u8], &'static [u8]),
     Delete,
@@ -75,6 +78,14 @@ fn start(order: usize) -> Cursor {
         bof: false,
         found: false,
         order,
+    }
+}
+
+// A cursor at the record of a number.
+fn at(order: usize, number: u32) -> Cursor {
+    Cursor {
+        at: Some(number),
+        ..start(order)
     }
 }
 
@@ -146,6 +157,11 @@ fn edit_of(alloc: Global, asked: Asked) -> Result<Edit, Fail> {
             replace(alloc, name, value)
         }
         Asked::Number(name, digits) => replace(alloc, name, Literal::Number { digits, scale: 0 }),
+        Asked::Truth(name, truth) => replace(alloc, name, Literal::Truth(truth)),
+        Asked::Date(name, year, month, day) => {
+            let day = day_of(year, month, day).ok_or("no such date")?;
+            replace(alloc, name, Literal::Date(day))
+        }
         Asked::BadDate(name) => replace(alloc, name, Literal::BadDate),
         Asked::Memo(name, text) => Ok(Edit::PutMemo {
             field: Bytes::from_slice(alloc, name)?,
@@ -199,6 +215,11 @@ fn pairs_of(alloc: Global, table: &Table, number: usize) -> Result<Vec<Pair>, Fa
     }
     Ok(table.index_pairs(alloc, number)?)
 }
+
+// The names of records 1 to 7, and their numbers by their names: A, AB, AB, B, BA, C, D.
+const SEVEN: [&[u8]; 7] = [b"C", b"AB", b"B", b"A", b"BA", b"AB", b"D"];
+
+const BY_NAME: [u32; 7] = [4, 2, 6, 3, 5, 1, 7];
 
 // A table of one field NAME of characters, so wide, with an index on it and a record for each name.
 fn names(alloc: Global, width: u8, all: &[&'static [u8]]) -> Result<Table, Fail> {

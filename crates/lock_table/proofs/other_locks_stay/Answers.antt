@@ -1,5 +1,14 @@
-use Rattle.lock_table.specs.Laws.{held_with, held_without, held_without_all}
+use Rattle.lock_table.specs.Laws.{held_new, held_own, held_others, held_with, held_without, left_without, held_without_all, left_without_all}
 use Rattle.lock_table.proofs.other_locks_stay.Goals as goal
 
 pub returns : goal.returns
-returns c = record { taken = held_with; released = held_without; all_released = held_without_all }
+returns c = record {
+  new_is_held = held_new;
+  alone = held_own;
+  others_stay = held_others;
+  taken = held_with;
+  released = held_without;
+  others_left = left_without;
+  all_released = held_without_all;
+  all_others_left = left_without_all;
+}

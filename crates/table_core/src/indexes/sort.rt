@@ -8,7 +8,7 @@ ghost use Rattle.key_expr.specs.Keys.{key_length};
 ghost use Rattle.ndx_index.specs.Index.{HaveLength};
 ghost use Rattle.ndx_index.specs.TableOrder.{order, pairs_of};
 
-use crate::indexes::TableIndex;
+use crate::indexes::{TableIndex, pair_of};
 use dbf_fields::Bytes;
 use dbf_image::GrowingTable;
 use key_expr::KeyExpr;
@@ -41,9 +41,7 @@ fn record_pairs(
 {
     let mut pairs = Vec::new(alloc);
     for index in 0..records.record_count() {
-        let number = index + 1;
-        let key = expr.key_of(records.record(number));
-        pairs.push(Pair { key, number })?;
+        pairs.push(pair_of(expr, records, index + 1))?;
     }
     Ok(pairs)
 }

@@ -7,7 +7,7 @@ ghost use Rattle.std.specs.Option.{option_map};
 ghost use Rattle.ndx_index.specs.Order.{first_with as first_with_text};
 ghost use Rattle.ndx_index.specs.Places.{place_in, back_from};
 
-use crate::indexes::TableIndex;
+use crate::indexes::{TableIndex, pair_of};
 use dbf_image::GrowingTable;
 use ndx_index::Pair;
 
@@ -46,8 +46,7 @@ pub(crate) fn record_after(
     requires follows { Follows records.now.table index.now }
     ensures value { result ≡ slice_get (ordered records.now.table index.now.expr.expr) (place_in number (ordered records.now.table index.now.expr.expr) + steps) }
 {
-    let key = index.expr.key_of(records.record(number));
-    number_of(index.after(Pair { key, number }, steps))
+    number_of(index.after(pair_of(&index.expr, records, number), steps))
 }
 
 /// The record so many places before one.
@@ -62,8 +61,7 @@ pub(crate) fn record_before(
     requires follows { Follows records.now.table index.now }
     ensures value { result ≡ back_from (ordered records.now.table index.now.expr.expr) (place_in number (ordered records.now.table index.now.expr.expr)) steps }
 {
-    let key = index.expr.key_of(records.record(number));
-    number_of(index.back(Pair { key, number }, steps))
+    number_of(index.back(pair_of(&index.expr, records, number), steps))
 }
 
 /// The record so many places before the end.

@@ -1,13 +1,11 @@
 //! Plans of edits: their refusals, in order, and the memory that they need.
 
-ghost use Rattle.std.specs.Prelude.{◌≡◌, ◌≤◌, true, Ok, length, IfOk, IfErr, OnOk};
+ghost use Rattle.std.specs.Prelude.{◌≡◌, ◌≤◌, true, length, IfOk, IfErr, OnOk};
 ghost use Rattle.table_core.specs.declared.cursor.Cursor.{Cursor as CursorValue};
-ghost use Rattle.dbf_image.specs.Table.{packed};
-ghost use Rattle.table_core.specs.Content.{with_table};
 ghost use Rattle.table_core.specs.Cursors.{IsCursor};
 ghost use Rattle.table_core.specs.Edits.{edited, append_blank, replace, put_memo, mark, pack};
 ghost use Rattle.table_core.specs.Outcomes.{IsFaultOf};
-ghost use Rattle.table_core.specs.Planned.{changed, cursor_after, IsPlanned};
+ghost use Rattle.table_core.specs.Planned.{carried_out, IsPlanned};
 
 use crate::cursor::Cursor;
 use crate::edits::Edit;
@@ -36,7 +34,7 @@ impl Table {
         edit: &Edit,
     ) -> Result<Planned, TableFault>
         requires cursor { IsCursor self.old.content cursor.now }
-        ensures outcome { IfOk result (λ planned. edited self.old.content cursor.now edit.now ≡ Ok (changed self.old.content planned, cursor_after self.old.content cursor.now planned)) }
+        ensures outcome { IfOk result (λ planned. edited self.old.content cursor.now edit.now ≡ carried_out self.old.content cursor.now planned) }
         ensures planned { IfOk result (λ planned. IsPlanned self.new planned) }
         ensures refused { IfErr result (λ fault. IsFaultOf fault (edited self.old.content cursor.now edit.now)) }
         ensures same { self.new.content ≡ self.old.content }
@@ -52,7 +50,7 @@ impl Table {
     }
 
     fn plan_append_blank(&mut self) -> Result<Planned, TableFault>
-        ensures outcome { IfOk result (λ planned. (cursor : CursorValue) → append_blank self.old.content cursor ≡ Ok (changed self.old.content planned, cursor_after self.old.content cursor planned)) }
+        ensures outcome { IfOk result (λ planned. (cursor : CursorValue) → append_blank self.old.content cursor ≡ carried_out self.old.content cursor planned) }
         ensures planned { IfOk result (λ planned. IsPlanned self.new planned) }
         ensures refused { IfErr result (λ fault. (cursor : CursorValue) → IsFaultOf fault (append_blank self.old.content cursor)) }
         ensures same { self.new.content ≡ self.old.content }
@@ -67,7 +65,10 @@ impl Table {
         })
     }
 
-    /// The plan of a Replace, as that of [`Table::plan`], by the name of the field and the value.
+    /// The plan of a Replace, as that of [`Table::plan`], by the name of the field, in capitals, and the value.
+    ///
+    /// The refusals, in order: `EndOfFile`, `NoSuchField`, `TypeMismatch`, `BadDate`, `NumberTooWide`. `NoMemory`
+    /// comes only where there is none.
     pub fn plan_replace(
         &mut self,
         alloc: Global,
@@ -76,7 +77,7 @@ impl Table {
         value: &Literal,
     ) -> Result<Planned, TableFault>
         requires cursor { IsCursor self.old.content cursor.now }
-        ensures outcome { IfOk result (λ planned. replace self.old.content cursor.now name.now value.now ≡ Ok (changed self.old.content planned, cursor_after self.old.content cursor.now planned)) }
+        ensures outcome { IfOk result (λ planned. replace self.old.content cursor.now name.now value.now ≡ carried_out self.old.content cursor.now planned) }
         ensures planned { IfOk result (λ planned. IsPlanned self.new planned) }
         ensures refused { IfErr result (λ fault. IsFaultOf fault (replace self.old.content cursor.now name.now value.now)) }
         ensures same { self.new.content ≡ self.old.content }
@@ -89,7 +90,10 @@ impl Table {
         })
     }
 
-    /// The plan of a PutMemo, as that of [`Table::plan`], by the name of the field and the text.
+    /// The plan of a PutMemo, as that of [`Table::plan`], by the name of the field, in capitals, and the text.
+    ///
+    /// The refusals, in order: `EndOfFile`, `NoSuchField`, `TypeMismatch`, `BadText`. `NoMemory` comes only where
+    /// there is none.
     pub fn plan_memo(
         &mut self,
         alloc: Global,
@@ -98,7 +102,7 @@ impl Table {
         text: &Bytes,
     ) -> Result<Planned, TableFault>
         requires cursor { IsCursor self.old.content cursor.now }
-        ensures outcome { IfOk result (λ planned. put_memo self.old.content cursor.now name.now text.now ≡ Ok (changed self.old.content planned, cursor_after self.old.content cursor.now planned)) }
+        ensures outcome { IfOk result (λ planned. put_memo self.old.content cursor.now name.now text.now ≡ carried_out self.old.content cursor.now planned) }
         ensures planned { IfOk result (λ planned. IsPlanned self.new planned) }
         ensures refused { IfErr result (λ fault. IsFaultOf fault (put_memo self.old.content cursor.now name.now text.now)) }
         ensures same { self.new.content ≡ self.old.content }
@@ -119,7 +123,7 @@ impl Table {
 
     fn plan_mark(&mut self, cursor: &Cursor, deleted: bool) -> Result<Planned, TableFault>
         requires cursor { IsCursor self.old.content cursor.now }
-        ensures outcome { IfOk result (λ planned. mark self.old.content cursor.now deleted ≡ Ok (changed self.old.content planned, cursor_after self.old.content cursor.now planned)) }
+        ensures outcome { IfOk result (λ planned. mark self.old.content cursor.now deleted ≡ carried_out self.old.content cursor.now planned) }
         ensures planned { IfOk result (λ planned. IsPlanned self.new planned) }
         ensures refused { IfErr result (λ fault. IsFaultOf fault (mark self.old.content cursor.now deleted)) }
         ensures same { self.new.content ≡ self.old.content }
@@ -132,7 +136,7 @@ impl Table {
 
     // The new rows, and the new indexes in order.
     fn plan_pack(&self, alloc: Global) -> Result<Planned, AllocError>
-        ensures outcome { IfOk result (λ planned. (cursor : CursorValue) → pack self.now.content cursor ≡ Ok (changed self.now.content planned, cursor_after self.now.content cursor planned)) }
+        ensures outcome { IfOk result (λ planned. (cursor : CursorValue) → pack self.now.content cursor ≡ carried_out self.now.content cursor planned) }
         ensures planned { IfOk result (λ planned. IsPlanned self.now planned) }
     {
         let records = self.records.packed(alloc)?;

@@ -2,18 +2,24 @@
 
 use super::*;
 use dbf_fields::{DATE, LOGICAL, MEMO, NUMBER};
+use key_expr::Key;
+
+fn pair(key: &[u8; 1], number: u32) -> Pair {
+    Pair {
+        key: Key::new(key),
+        number,
+    }
+}
 
 #[test]
 fn pack_renumbers_the_index(rt: HostRuntime) -> Result<(), Fail> {
     let alloc = rt.alloc();
     let mut table = names(alloc, 1, &[b"B", b"A", b"A"])?;
-    let mut cursor = start(1);
-    cursor.at = Some(2);
+    let mut cursor = at(1, 2);
     let edits = [Asked::Delete, Asked::Pack];
     all_edited(alloc, &mut table, &mut cursor, &edits)?;
-    let pairs = pairs_of(alloc, &table, 1)?;
-    let numbers = pairs.iter().map(|pair| pair.number);
-    assert!(rt; numbers.eq([2, 1]));
+    let order = [pair(b"A", 2), pair(b"B", 1)];
+    assert!(rt; pairs_of(alloc, &table, 1)?.as_slice() == order.as_slice());
     let cases = [
         (Move::Seek(b""), (0, 2, false, true)),
         (Move::Seek(b"AB"), (0, 3, false, false)),
@@ -107,8 +113,7 @@ fn first_other_text(
     table: &Table,
     cases: &[(&[u8], &[u8])],
 ) -> Result<Option<usize>, Fail> {
-    let mut cursor = start(0);
-    cursor.at = Some(1);
+    let cursor = at(0, 1);
     for (index, case) in cases.iter().enumerate() {
         match shows(alloc, table, &cursor, case.0)? {
             Ok(text) if text.as_slice() == case.1 => {}
@@ -118,27 +123,45 @@ fn first_other_text(
     Ok(None)
 }
 
-#[test]
-fn fields_are_shown(rt: HostRuntime) -> Result<(), Fail> {
-    let alloc = rt.alloc();
+// The table of a field of each kind, with a value in each field of its record.
+fn filled(alloc: Global) -> Result<Table, Fail> {
     let mut table = kinds(alloc)?;
-    let mut cursor = start(1);
-    cursor.at = Some(1);
     let edits = [
         Asked::Text(b"NAME", b"ADA"),
         Asked::Number(b"AMT", 42),
+        Asked::Truth(b"PAID", true),
+        Asked::Date(b"BORN", 1985, 12, 31),
         Asked::Memo(b"NOTE", b"HELLO"),
     ];
-    all_edited(alloc, &mut table, &mut cursor, &edits)?;
-    let cases: [(&[u8], &[u8]); 5] = [
-        (b"NAME", b"ADA"),
-        (b"AMT", b" 42"),
-        (b"PAID", b".F."),
-        (b"BORN", b"  /  /  "),
-        (b"NOTE", b"HELLO"),
-    ];
-    assert_eq!(rt; first_other_text(alloc, &table, &cases)?, None);
-    assert!(rt; matches!(shows(alloc, &table, &cursor, b"ZIP")?, Err(10)));
+    all_edited(alloc, &mut table, &mut at(1, 1), &edits)?;
+    Ok(table)
+}
+
+// What its record shows.
+const FILLED: [(&[u8], &[u8]); 5] = [
+    (b"NAME", b"ADA"),
+    (b"AMT", b" 42"),
+    (b"PAID", b".T."),
+    (b"BORN", b"12/31/85"),
+    (b"NOTE", b"HELLO"),
+];
+
+// What a record of blanks shows.
+const BLANK: [(&[u8], &[u8]); 5] = [
+    (b"NAME", b"   "),
+    (b"AMT", b"   "),
+    (b"PAID", b".F."),
+    (b"BORN", b"  /  /  "),
+    (b"NOTE", b""),
+];
+
+#[test]
+fn fields_are_shown(rt: HostRuntime) -> Result<(), Fail> {
+    let alloc = rt.alloc();
+    let table = filled(alloc)?;
+    assert_eq!(rt; first_other_text(alloc, &kinds(alloc)?, &BLANK)?, None);
+    assert_eq!(rt; first_other_text(alloc, &table, &FILLED)?, None);
+    assert!(rt; matches!(shows(alloc, &table, &at(0, 1), b"ZIP")?, Err(10)));
     assert!(rt; matches!(shows(alloc, &table, &start(0), b"ZIP")?, Err(7)));
     Ok(())
 }
@@ -146,28 +169,14 @@ fn fields_are_shown(rt: HostRuntime) -> Result<(), Fail> {
 #[test]
 fn refused_plan_changes_nothing(rt: HostRuntime) -> Result<(), Fail> {
     let alloc = rt.alloc();
-    let mut table = kinds(alloc)?;
-    let mut cursor = start(1);
-    cursor.at = Some(1);
-    let edits = [
-        Asked::Text(b"NAME", b"ADA"),
-        Asked::Number(b"AMT", 42),
-        Asked::Memo(b"NOTE", b"HELLO"),
-    ];
-    all_edited(alloc, &mut table, &mut cursor, &edits)?;
+    let mut table = filled(alloc)?;
+    let mut cursor = at(1, 1);
     let before = pairs_of(alloc, &table, 1)?;
     assert_eq!(rt;
         edited(alloc, &mut table, &mut cursor, Asked::Number(b"AMT", 4321))?,
         12
     );
-    let cases: [(&[u8], &[u8]); 5] = [
-        (b"NAME", b"ADA"),
-        (b"AMT", b" 42"),
-        (b"PAID", b".F."),
-        (b"BORN", b"  /  /  "),
-        (b"NOTE", b"HELLO"),
-    ];
-    assert_eq!(rt; first_other_text(alloc, &table, &cases)?, None);
+    assert_eq!(rt; first_other_text(alloc, &table, &FILLED)?, None);
     assert_eq!(rt; table.content(alloc)?.record_count(), 1);
     assert!(rt; pairs_of(alloc, &table, 1)?.as_slice() == before.as_slice());
     assert_eq!(rt; cursor.at, Some(1));

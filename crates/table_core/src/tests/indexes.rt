@@ -117,6 +117,19 @@ fn three_indexes_at_once(rt: HostRuntime) -> Result<(), Fail> {
     Ok(())
 }
 
+#[test]
+fn new_table_sorts_its_indexes(rt: HostRuntime) -> Result<(), Fail> {
+    let alloc = rt.alloc();
+    let source = names(alloc, 3, &SEVEN)?.content(alloc)?;
+    let indexes = indexes_of(alloc, source.schema(), &[b"NAME"])?;
+    let table = Table::new(alloc, source, indexes)?;
+    let pairs = pairs_of(alloc, &table, 1)?;
+    let numbers = pairs.iter().map(|pair| pair.number);
+    assert!(rt; numbers.eq(BY_NAME));
+    assert_eq!(rt; table.record_count(), 7);
+    Ok(())
+}
+
 // Whether the record at the cursor is marked.
 fn is_marked(table: &Table, cursor: &Cursor) -> bool {
     is_cursor(table, cursor) && table.is_deleted(cursor)

@@ -42,12 +42,7 @@ fn append_is_seen_at_the_end(rt: HostRuntime) -> Result<(), Fail> {
     Ok(())
 }
 
-// Records 1 to 7 by their numbers, and by their names: A, AB, AB, B, BA, C, D.
-const SEVEN: [&[u8]; 7] = [b"C", b"AB", b"B", b"A", b"BA", b"AB", b"D"];
-
 const BY_NUMBER: [u32; 7] = [1, 2, 3, 4, 5, 6, 7];
-
-const BY_NAME: [u32; 7] = [4, 2, 6, 3, 5, 1, 7];
 
 // What SKIP leads to from a place, of which 7 is the end.
 fn skipped(list: &[u32; 7], place: i64, steps: i64) -> Said {

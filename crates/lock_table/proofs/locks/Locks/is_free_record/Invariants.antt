@@ -1,8 +1,8 @@
-use Rattle.std.proofs.Common.{◌≡◌, false, not, ◌&&◌, ◌==◌}
+use Rattle.std.proofs.Common.{◌≡◌, false}
 use Rattle.std.specs.List.{list_any}
-use Rattle.lock_table.specs.Locks.{covers}
+use Rattle.lock_table.specs.Locks.{bars}
 use Rattle.lock_table.proofs.Rows.{rowed}
 use Rattle.lock_table.proofs.locks.Locks.is_free_record.Given as goal
 
 abbrev pub invariant-loop-other : goal.invariant-loop-other
-invariant-loop-other l = list_any (λ m. not (m.station == l.station) && covers l.number m) (rowed l.table l.row l.other) ≡ false
+invariant-loop-other l = list_any (bars l.station l.number) (rowed l.table l.row l.other) ≡ false

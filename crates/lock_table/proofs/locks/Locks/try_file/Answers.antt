@@ -1,10 +1,13 @@
 use Rattle.std.proofs.Common.{◌∙◌, sym}
-use Rattle.lock_table.proofs.Writes.{taken, whole_taken}
+use Rattle.lock_table.specs.Laws.{apart_whole}
+use Rattle.lock_table.proofs.Writes.{taken, slots_taken}
 use Rattle.lock_table.proofs.locks.Locks.try_file.Goals as goal
 
 pub invariant_of-self : goal.invariant_of-self
 invariant_of-self c =
-    whole_taken c.self.inside.stations c.self.inside.tables c.args.station c.args.table c.slot_index-index.result c.self.inside.slots.items c.args.self.now c.self.view_is c.self.invariant c.requires.table c.requires.station c.requires.stations c.slot_index-index.ensures.value c.slot_index-index.ensures.inside (sym c.is_free_whole.ensures.value ∙ c.if-not-is_free_whole.false)
+    slots_taken c.self.inside.stations c.self.inside.tables c.args.station c.args.table 0 c.slot_index-index.result c.self.inside.slots.items c.args.self.now c.self.view_is c.self.invariant
+    (taken c.self.inside.stations c.self.inside.tables c.args.station c.args.table 0 c.slot_index-index.result c.self.inside.slots.items c.args.self.now c.self.view_is c.self.invariant.whole c.requires.table c.requires.station c.requires.stations c.slot_index-index.ensures.value c.slot_index-index.ensures.inside)
+    (apart_whole c.args.self.now.locks c.args.station c.args.table (sym c.is_free_whole.ensures.value ∙ c.if-not-is_free_whole.false))
 
 pub returns-clause-taken : goal.returns-clause-taken
 returns-clause-taken c =

@@ -2,7 +2,6 @@ use Rattle.std.proofs.Common.{ap, ◌∙◌}
 use Rattle.ndx_index.specs.declared.pair.Pair.{Pair}
 use Rattle.ndx_index.specs.Order.{without}
 use Rattle.ndx_index.specs.TableOrder.{pair_at}
-use Rattle.table_core.proofs.Keys.{own_pair}
 use Rattle.ndx_index.specs.Laws.RecordOrders.{order_take}
 use Rattle.table_core.proofs.indexes.TableIndex.take_out.Goals as goal
 
@@ -11,10 +10,9 @@ returns-clause-rest c =
     let table = c.args.records.now.table in
     let index = c.args.self.now in
     let follows = c.requires.follows in
-    let own = own_pair table c.args.number index.expr.fields index.expr.expr c.record.result.now c.key_of-key.result follows.is_for.fields c.record.ensures.value c.key_of-key.ensures.row in
     record {
       is_for = record { fields = follows.is_for.fields; kept = follows.is_for.kept; long = c.remove.ensures.key_len ∙ follows.is_for.long };
-      pairs = c.remove.ensures.pairs ∙ ap (λ (p : Pair). without p index.order.pairs) own
+      pairs = c.remove.ensures.pairs ∙ ap (λ (p : Pair). without p index.order.pairs) c.pair_of.ensures.value
           ∙ ap (without (pair_at table c.args.number index.expr.expr)) follows.pairs
           ∙ order_take table index.expr.expr c.args.number c.requires.one c.requires.inside;
     }

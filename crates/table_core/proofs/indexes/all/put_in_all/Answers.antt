@@ -1,7 +1,7 @@
-use Rattle.std.proofs.Common.{◌<◌, drop, length, sym, subst, ◌∙◌, arith}
-use Rattle.std.specs.List.{AllByRecursion}
+use Rattle.std.proofs.Common.{◌<◌, drop, length, ◌∙◌, arith}
+use Rattle.std.proofs.Math.Seq.{map-set_same}
 use Rattle.table_core.specs.Indexes.{Follows, FollowsBut, HasRoom, indexed}
-use Rattle.table_core.proofs.Turned.{turned-here, turned-set, turned-all, same-set, whole}
+use Rattle.table_core.proofs.Turned.{turned-here, turned-set, whole-turned}
 use Rattle.table_core.proofs.indexes.all.put_in_all.Goals as goal
 
 pub put_in-requires-clause-rest : goal.put_in-requires-clause-rest
@@ -22,12 +22,11 @@ loop-index-preserved c =
     let lt : i < length items = omega arith in
     record {
       turned = turned-set (λ ix. FollowsBut c.args.number t ix × HasRoom ix) (Follows t) i items c.put_in.new.self lt c.put_in.ensures.follows c.loop-index.invariant.turned;
-      same = same-set indexed items i c.put_in.new.self c.index-item.result c.put_in.ensures.same ∙ c.loop-index.invariant.same;
+      same = map-set_same indexed items i c.put_in.new.self c.index-item.result c.put_in.ensures.same ∙ c.loop-index.invariant.same;
     }
 
 pub returns-clause-follow : goal.returns-clause-follow
 returns-clause-follow c =
     let t = c.args.records.now.table in
     let items = c.loop-index.index-items in
-    subst (AllByRecursion (Follows t)) (sym (whole items (drop (length items) c.args.indexes.now.items) c.args.indexes.now.len (omega arith)))
-    (turned-all (λ ix. FollowsBut c.args.number t ix × HasRoom ix) (Follows t) c.loop-index.index-index items (omega arith) c.loop-index.invariant.turned)
+    whole-turned (λ ix. FollowsBut c.args.number t ix × HasRoom ix) (Follows t) c.loop-index.index-index items (drop (length items) c.args.indexes.now.items) c.args.indexes.now.len (omega arith) (omega arith) c.loop-index.invariant.turned

@@ -1,7 +1,7 @@
-use Rattle.std.proofs.Common.{◌<◌, drop, length, sym, subst, ◌∙◌, arith}
-use Rattle.std.specs.List.{AllByRecursion}
+use Rattle.std.proofs.Common.{◌<◌, drop, length, ◌∙◌, arith}
+use Rattle.std.proofs.Math.Seq.{map-set_same}
 use Rattle.table_core.specs.Indexes.{Follows, FollowsBut, HasRoom, indexed}
-use Rattle.table_core.proofs.Turned.{turned-here, turned-set, turned-all, same-set, whole}
+use Rattle.table_core.proofs.Turned.{turned-here, turned-set, whole-turned}
 use Rattle.table_core.proofs.indexes.all.take_out_all.Goals as goal
 
 pub take_out-requires-clause-follows : goal.take_out-requires-clause-follows
@@ -20,18 +20,16 @@ loop-index-preserved c =
     record {
       turned = turned-set (Follows t) (FollowsBut c.args.number t) i items c.take_out.new.self lt c.take_out.ensures.rest c.loop-index.invariant.turned;
       room = turned-set HasRoom HasRoom i items c.take_out.new.self lt (c.take_out.ensures.room room) c.loop-index.invariant.room;
-      same = same-set indexed items i c.take_out.new.self d c.take_out.ensures.same ∙ c.loop-index.invariant.same;
+      same = map-set_same indexed items i c.take_out.new.self d c.take_out.ensures.same ∙ c.loop-index.invariant.same;
     }
 
 pub returns-clause-rest : goal.returns-clause-rest
 returns-clause-rest c =
     let t = c.args.records.now.table in
     let items = c.loop-index.index-items in
-    subst (AllByRecursion (FollowsBut c.args.number t)) (sym (whole items (drop (length items) c.args.indexes.now.items) c.args.indexes.now.len (omega arith)))
-    (turned-all (Follows t) (FollowsBut c.args.number t) c.loop-index.index-index items (omega arith) c.loop-index.invariant.turned)
+    whole-turned (Follows t) (FollowsBut c.args.number t) c.loop-index.index-index items (drop (length items) c.args.indexes.now.items) c.args.indexes.now.len (omega arith) (omega arith) c.loop-index.invariant.turned
 
 pub returns-clause-room : goal.returns-clause-room
 returns-clause-room c =
     let items = c.loop-index.index-items in
-    subst (AllByRecursion HasRoom) (sym (whole items (drop (length items) c.args.indexes.now.items) c.args.indexes.now.len (omega arith)))
-    (turned-all HasRoom HasRoom c.loop-index.index-index items (omega arith) c.loop-index.invariant.room)
+    whole-turned HasRoom HasRoom c.loop-index.index-index items (drop (length items) c.args.indexes.now.items) c.args.indexes.now.len (omega arith) (omega arith) c.loop-index.invariant.room

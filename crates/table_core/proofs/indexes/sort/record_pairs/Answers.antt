@@ -6,8 +6,6 @@ use Rattle.table_core.proofs.Turned.{all_push}
 use Rattle.dbf_image.specs.Table.{blank_row}
 use Rattle.ndx_index.specs.declared.pair.Pair.{Pair}
 use Rattle.ndx_index.specs.TableOrder.{pairs_of}
-use Rattle.ndx_index.specs.TableOrder.{pair_at}
-use Rattle.table_core.proofs.Keys.{own_pair}
 use Rattle.ndx_index.specs.Laws.RecordPairs.{get-pairs, length-pairs, pair}
 use Rattle.table_core.proofs.indexes.sort.record_pairs.Goals as goal
 
@@ -20,15 +18,14 @@ loop-index-preserved c =
     let i = c.loop-index.index in
     let m : 1 + i ≡ i + 1 = omega arith in
     let n : i ≡ i + 1 - 1 = omega arith in
-    let p : Pair = record { key = c.key_of-key.result; number = i + 1 } in
-    let own : p ≡ pair_at t (i + 1) expr.expr = own_pair t (i + 1) expr.fields expr.expr c.record.result.now c.key_of-key.result c.requires.fields c.record.ensures.value c.key_of-key.ensures.row in
+    let p = c.pair_of.result in
     let lt : i < length ps = omega (arith, length-pairs t.rows expr.expr 1, c.record_count-index-end.ensures.count) in
     let at : get_or ps i p ≡ p = get-pairs t.rows expr.expr 1 i p (blank_row t.schema) (omega (arith, c.record_count-index-end.ensures.count)) ∙ ap (λ (x : ℕ). pair x (get_or t.rows i (blank_row t.schema)) expr.expr) m
-    ∙ ap (λ (x : ℕ). pair (i + 1) (get_or t.rows x (blank_row t.schema)) expr.expr) n ∙ sym own in
+    ∙ ap (λ (x : ℕ). pair (i + 1) (get_or t.rows x (blank_row t.schema)) expr.expr) n ∙ sym c.pair_of.ensures.value in
     record {
       pairs = c.in_ok-push.ensures.items ∙ ap (λ (xs : List Pair). xs ++ p ∷ []) c.loop-index.invariant.pairs
           ∙ sym (take_more ps i p lt ∙ ap (λ (q : Pair). take i ps ++ q ∷ []) at);
-      keys = subst (HaveLength long) (sym c.in_ok-push.ensures.items) (all_push (λ (q : Pair). length q.key ≡ long) c.loop-index.pairs.items p c.loop-index.invariant.keys c.key_of-key.ensures.long);
+      keys = subst (HaveLength long) (sym c.in_ok-push.ensures.items) (all_push (λ (q : Pair). length q.key ≡ long) c.loop-index.pairs.items p c.loop-index.invariant.keys c.pair_of.ensures.long);
     }
 
 pub returns : goal.returns

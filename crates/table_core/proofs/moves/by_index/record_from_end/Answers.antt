@@ -1,11 +1,10 @@
-use Rattle.std.proofs.Common.{sym, subst, ◌∙◌}
-use Rattle.ndx_index.specs.Order.{AreInOrder}
-use Rattle.ndx_index.specs.Laws.RecordOrders.{table_in_order}
+use Rattle.std.proofs.Common.{sym, ◌∙◌}
 use Rattle.ndx_index.specs.Laws.Places.{before_end, before_end_none}
+use Rattle.table_core.proofs.Follows.{follows_in_order}
 use Rattle.table_core.proofs.moves.by_index.record_from_end.Goals as goal
 
 pub back-requires : goal.back-requires
-back-requires c = record { sorted = subst AreInOrder (sym c.requires.follows.pairs) (table_in_order c.args.records.now.table c.args.index.now.expr.expr) }
+back-requires c = record { sorted = follows_in_order c.args.records.now.table c.args.index.now c.requires.follows }
 
 pub returns-in-Some : goal.returns-in-Some
 returns-in-Some c =
