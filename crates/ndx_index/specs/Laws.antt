@@ -9,3 +9,4 @@ pub mod Steps
 pub mod Seeking
 pub mod Places
 pub mod Counting
+pub mod Given

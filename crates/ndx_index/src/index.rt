@@ -64,6 +64,19 @@ impl OrderedIndex {
         })
     }
 
+    /// The index of these pairs, which stand in order. It takes no memory.
+    pub fn from_ordered(key_len: usize, pairs: Vec<Pair>) -> Self
+        requires keys { HaveLength key_len pairs.items }
+        requires ordered { AreInOrder pairs.items }
+        ensures key_len { result.key_len ≡ key_len }
+        ensures pairs { result.pairs ≡ pairs.items }
+    {
+        OrderedIndex {
+            key_len,
+            kept: pairs,
+        }
+    }
+
     /// The length of the keys.
     pub fn key_len(&self) -> usize
         ensures key_len { result ≡ self.now.key_len }

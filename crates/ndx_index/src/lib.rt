@@ -11,8 +11,8 @@
 //! the ordered index; src/read.rt with src/read/ reads a file, and src/write.rt with src/write/ writes one.
 //!
 //! What follows from the definitions, and callers' proofs may cite, stands in specs/Laws/ with its proofs: a
-//! record's pair put in and taken out, the pair after and the one before, where a record stands, and where
-//! the keys that begin with a text are.
+//! record's pair put in and taken out, the pair after and the one before, where a record stands, where
+//! the keys that begin with a text are, and when given pairs are the order of a table.
 #![tactic(auto)]
 
 ghost use Rattle.std.specs.Prelude.{◌≡◌, ◌≢◌, ◌↔◌, ℕ, List, [], ◌∷◌, Option, None, IsPermutation, IsSorted};
@@ -33,6 +33,7 @@ mod format;
 mod index;
 mod pair;
 mod read;
+mod sorting;
 mod write;
 
 pub use crate::fault::NdxFault;
@@ -40,6 +41,7 @@ pub use crate::format::MAX_PAIRS;
 pub use crate::index::OrderedIndex;
 pub use crate::pair::Pair;
 pub use crate::read::{NdxFile, read_ndx};
+pub use crate::sorting::{are_in_order, sort_pairs};
 pub use crate::write::write_ndx;
 
 /// The order of pairs is their sorted permutation, and they have no other.

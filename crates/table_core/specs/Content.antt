@@ -1,5 +1,6 @@
 -- A table with its indexes, as commands see it.
-use Rattle.std.specs.Prelude.{◌≡◌, ℕ, ◌-◌, Bool, ◌==◌, List, [], length, slice_get, Option, Some, None}
+use Rattle.std.specs.Prelude.{◌≡◌, ℕ, ◌-◌, Bool, ◌==◌, bytes_eq, List, [], ◌∷◌, ◌++◌, length, slice_get, Option, Some, None}
+use Rattle.std.specs.List.{list_any}
 use Rattle.std.specs.Option.{option_map}
 use Rattle.dbf_fields.specs.declared.field.Field.{Field}
 use Rattle.dbf_image.specs.Table.{Table}
@@ -46,6 +47,14 @@ has_no_records content = record_count content == 0
 -- another table with the same indexes
 abbrev pub with_table : Content → Table → Content
 with_table content table = record { table = table; indexes = content.indexes }
+
+-- the same table with one more index
+abbrev pub with_index : Content → Indexed → Content
+with_index content index = record { table = content.table; indexes = content.indexes ++ index ∷ [] }
+
+-- one of the indexes has the name
+abbrev pub has_index : Content → List ℕ → Bool
+has_index content name = list_any (λ index. bytes_eq name index.name) content.indexes
 
 -- the index of a number, where there is one
 abbrev pub index_at : Content → ℕ → Option Indexed

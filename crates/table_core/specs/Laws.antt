@@ -3,3 +3,4 @@ pub mod Outcomes
 pub mod Numbers
 pub mod Moves
 pub mod Edits
+pub mod Lists

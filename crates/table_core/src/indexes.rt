@@ -8,6 +8,7 @@ ghost use Rattle.ndx_index.specs.TableOrder.{pair_at};
 ghost use Rattle.table_core.specs.Indexes.{Follows, FollowsBut, HasRoom, IsFor, indexed, seen};
 
 pub(crate) mod all;
+pub(crate) mod kept;
 pub(crate) mod sort;
 
 use crate::indexes::sort::sorted;

@@ -13,6 +13,7 @@ ghost use Rattle.ndx_index.specs.Order.{AreInOrder};
 ghost use Rattle.dbf_image.specs.Table.{IsTable};
 
 pub(crate) mod carrying;
+pub(crate) mod indexing;
 pub(crate) mod moving;
 pub(crate) mod planning;
 pub(crate) mod shown;

@@ -15,6 +15,7 @@ use std::test::*;
 
 mod edits;
 mod indexes;
+mod kept;
 mod moves;
 mod refusals;
 

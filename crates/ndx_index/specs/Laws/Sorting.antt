@@ -59,7 +59,7 @@ times-sum_by p (q ∷ qs) = sum_by-cons (λ q. cond (same p q) 1 0) q qs ∙ ap 
 times-IsPermutation : (p : Pair) (xs ys : List Pair) → IsPermutation xs ys → times p ys ≡ times p xs
 times-IsPermutation p xs ys h = sym (times-sum_by p ys) ∙ sum_by-IsPermutation (λ q. cond (same p q) 1 0) xs ys h ∙ times-sum_by p xs
 
-not_after : (a b : Pair) → pair_cmp a b ≡ Less → before b a ≡ false
+pub not_after : (a b : Pair) → pair_cmp a b ≡ Less → before b a ≡ false
 not_after a b h = elim (before b a) as (λ t. before b a ≡ t → t ≡ false) [
   | true ↦ λ e. absurd (irreflexive a (before_trans a b a h (before_is b a e)))
   | false ↦ λ e. refl

@@ -1,0 +1,84 @@
+//! Indexes that are made of pairs that were kept, as an index file's.
+
+ghost use Rattle.std.specs.Prelude.{◌≡◌, ◌↔◌, length, IfSome, IsSome, IsTrue, IsPermutation};
+ghost use Rattle.std.specs.List.{AllByRecursion};
+ghost use Rattle.key_expr.specs.Keys.{key_length};
+ghost use Rattle.ndx_index.specs.Index.{HaveLength};
+ghost use Rattle.ndx_index.specs.TableOrder.{order, pairs_of, IsRecordPair};
+ghost use Rattle.table_core.specs.Indexes.{Follows, indexed};
+
+use crate::indexes::TableIndex;
+use dbf_fields::Bytes;
+use dbf_image::GrowingTable;
+use key_expr::KeyExpr;
+use ndx_index::{OrderedIndex, Pair, are_in_order, sort_pairs};
+
+impl TableIndex {
+    /// An index of a table, of pairs that stand in any order; `None` where they are not the pairs of the
+    /// table's records, each as often. It takes no memory, and no order is built to compare with.
+    pub(crate) fn kept(
+        records: &GrowingTable,
+        name: Bytes,
+        expr: KeyExpr,
+        mut pairs: Vec<Pair>,
+    ) -> Option<TableIndex>
+        requires fields { expr.fields ≡ records.now.table.schema }
+        ensures whole { IsSome result ↔ IsPermutation (pairs_of records.now.table expr.expr) pairs.items }
+        ensures follows { IfSome result (λ made. Follows records.now.table made) }
+        ensures same { IfSome result (λ made. indexed made ≡ record { name = name; expr = expr }) }
+    {
+        // This call tells contracts that the expression keeps the rules on fields.
+        let _text = expr.text();
+        sort_pairs(&mut pairs);
+        if !is_order_of(records, &expr, &pairs) {
+            return None;
+        }
+        let order = OrderedIndex::from_ordered(expr.key_len(), pairs);
+        Some(TableIndex { name, expr, order })
+    }
+}
+
+// Whether the pairs are the order of the table: as many as there are records, each before the next, and each that
+// of its record.
+fn is_order_of(records: &GrowingTable, expr: &KeyExpr, pairs: &[Pair]) -> bool
+    requires fields { expr.now.fields ≡ records.now.table.schema }
+    ensures value { IsTrue result ↔ (pairs.now ≡ order records.now.table expr.now.expr) }
+    ensures keys { IsTrue result → HaveLength (key_length expr.now.fields expr.now.expr) pairs.now }
+{
+    if pairs.len() != records.record_count() as usize {
+        return false;
+    }
+    if !are_in_order(pairs) {
+        return false;
+    }
+    are_record_pairs(records, expr, pairs)
+}
+
+// Whether each pair is that of its record.
+fn are_record_pairs(records: &GrowingTable, expr: &KeyExpr, pairs: &[Pair]) -> bool
+    requires fields { expr.now.fields ≡ records.now.table.schema }
+    ensures value { IsTrue result ↔ AllByRecursion (IsRecordPair records.now.table expr.now.expr) pairs.now }
+    ensures keys { IsTrue result → HaveLength (key_length expr.now.fields expr.now.expr) pairs.now }
+{
+    for i in 0..pairs.len() {
+        if !is_record_pair(records, expr, &pairs[i]) {
+            return false;
+        }
+    }
+    true
+}
+
+// Whether there is a record of the pair's number, and the key is its key.
+fn is_record_pair(records: &GrowingTable, expr: &KeyExpr, pair: &Pair) -> bool
+    requires fields { expr.now.fields ≡ records.now.table.schema }
+    ensures value { IsTrue result ↔ IsRecordPair records.now.table expr.now.expr pair.now }
+    ensures key { IsTrue result → length pair.now.key ≡ key_length expr.now.fields expr.now.expr }
+{
+    if pair.number < 1 {
+        return false;
+    }
+    if pair.number > records.record_count() {
+        return false;
+    }
+    expr.key_of(records.record(pair.number)) == pair.key
+}

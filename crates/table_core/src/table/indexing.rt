@@ -1,0 +1,77 @@
+//! Indexes that are added to a table.
+
+ghost use Rattle.std.specs.Prelude.{◌≡◌, ◌↔◌, bytes_eq, [], if◌then◌else◌, IfOk, IsTrue, IsPermutation, OnErr, OnOk};
+ghost use Rattle.std.specs.List.{list_any};
+ghost use Rattle.ndx_index.specs.TableOrder.{pairs_of};
+ghost use Rattle.table_core.specs.Content.{has_index, with_index};
+
+use crate::indexes::TableIndex;
+use crate::table::Table;
+use dbf_fields::Bytes;
+use dbf_image::TableData;
+use key_expr::KeyExpr;
+use ndx_index::Pair;
+use std::alloc::{AllocError, Global};
+
+impl Table {
+    /// The table without indexes. It takes no memory.
+    pub fn without_indexes(alloc: Global, source: TableData) -> Table
+        ensures content { result.content ≡ record { table = source; indexes = [] } }
+    {
+        Table {
+            records: source.into_growing(),
+            indexes: Vec::new(alloc),
+        }
+    }
+
+    /// Whether one of the indexes has the name.
+    pub fn has_index(&self, name: &Bytes) -> bool
+        ensures value { result ≡ has_index self.now.content name.now }
+    {
+        any_has_name(&self.indexes, name)
+    }
+
+    /// Adds an index after the others, by its name and its expression, which was read for the table's fields. The
+    /// pairs of all records are sorted for it.
+    ///
+    /// An `Err` says that there was no memory. It changes nothing.
+    pub fn add_index(&mut self, alloc: Global, name: Bytes, expr: KeyExpr) -> Result<(), AllocError>
+        requires read { expr.fields ≡ self.old.content.table.schema }
+        ensures added { OnOk result (self.new.content ≡ with_index self.old.content (record { name = name; expr = expr })) }
+        ensures err { OnErr result (self.new.content ≡ self.old.content) }
+    {
+        let index = TableIndex::new(alloc, &self.records, name, expr)?;
+        self.indexes.push(index)?;
+        Ok(())
+    }
+
+    /// Adds an index after the others, made of the pairs that an index file has, in any order, and answers whether
+    /// it is added: it is where these are the pairs of the table's records, each as often. Else nothing changes.
+    /// The pairs are put in order where they are not, and compared in one pass; nothing is sorted or built beside
+    /// them.
+    ///
+    /// An `Err` says that there was no memory. It changes nothing.
+    pub fn add_kept_index(
+        &mut self,
+        name: Bytes,
+        expr: KeyExpr,
+        pairs: Vec<Pair>,
+    ) -> Result<bool, AllocError>
+        requires read { expr.fields ≡ self.old.content.table.schema }
+        ensures whole { IfOk result (λ added. IsTrue added ↔ IsPermutation (pairs_of self.old.content.table expr.expr) pairs.items) }
+        ensures added { IfOk result (λ added. self.new.content ≡ (if added then with_index self.old.content (record { name = name; expr = expr }) else self.old.content)) }
+        ensures err { OnErr result (self.new.content ≡ self.old.content) }
+    {
+        let Some(index) = TableIndex::kept(&self.records, name, expr, pairs) else {
+            return Ok(false);
+        };
+        self.indexes.push(index)?;
+        Ok(true)
+    }
+}
+
+fn any_has_name(indexes: &[TableIndex], name: &Bytes) -> bool
+    ensures value { result ≡ list_any (λ index. bytes_eq name.now index.name) indexes.now }
+{
+    indexes.iter().any(|index| *name == index.name)
+}
