@@ -2,3 +2,4 @@ pub mod Line
 pub mod FirstFault
 pub mod FirstRun
 pub mod Script
+pub mod Reports

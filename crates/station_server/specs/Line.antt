@@ -1,8 +1,10 @@
 -- An answer as a line of an answer file.
-use Rattle.std.specs.Prelude.{ℕ, true, false, List, ◌++◌, codes}
+use Rattle.std.specs.Prelude.{ℕ, true, false, List, [], ◌∷◌, ◌++◌, codes}
 use Rattle.std.specs.Fmt.{decimal}
 use Rattle.shared_catalogue.specs.declared.answer.Answer.{Answer}
 use Rattle.shared_catalogue.specs.declared.answer.Answer.TheVariants.{Done, Number, Truth, Text, Refused}
+use Rattle.shared_catalogue.specs.Status.{row_words}
+use Rattle.shared_catalogue.specs.declared.status.StatusRow.{StatusRow}
 use Rattle.table_core.specs.declared.refusal.Refusal.{Refusal}
 use Rattle.table_core.specs.Refusals.{code_of, name_of}
 
@@ -18,3 +20,12 @@ line_of (Truth true) = codes ".T."
 line_of (Truth false) = codes ".F."
 line_of (Text text) = text
 line_of (Refused refusal) = refusal_text refusal
+
+-- numbers, each after one blank
+abbrev pub numbers_text : List ℕ → List ℕ
+numbers_text [] = []
+numbers_text (n ∷ ns) = codes " " ++ (decimal n ++ numbers_text ns)
+
+-- the line of a status row, without the LF that ends it
+abbrev pub status_text : StatusRow → List ℕ
+status_text row = codes "STATUS" ++ numbers_text (row_words row)

@@ -2,10 +2,10 @@
 
 ghost use Rattle.std.specs.Prelude.{◌≡◌, IfOk};
 ghost use Rattle.std.specs.Fmt.{decimal};
-ghost use Rattle.station_server.specs.Line.{line_of, refusal_text};
+ghost use Rattle.station_server.specs.Line.{line_of, refusal_text, status_text};
 
 use dbf_fields::Bytes;
-use shared_catalogue::{Answer, Refusal};
+use shared_catalogue::{Answer, Refusal, StatusRow};
 use std::alloc::{AllocError, Global};
 
 /// The text of an answer in an answer file, without the LF that ends its line: `OK`, a number in
@@ -38,4 +38,17 @@ fn refusal_line(alloc: Global, refusal: Refusal) -> Result<Bytes, AllocError>
     let name = refusal.name();
     let text = format!(in alloc; "REFUSED {code} {name}")?;
     Bytes::from_slice(alloc, text.as_bytes())
+}
+
+/// The text of DISPLAY STATUS in an answer file, without the LF that ends its line: `STATUS` and the 23
+/// numbers of the row, each after one blank. An error where memory is refused.
+pub fn status_line(alloc: Global, row: &StatusRow) -> Result<Bytes, AllocError>
+    ensures value { IfOk result (λ line. line ≡ status_text row.now) }
+{
+    let mut line = Vec::from_slice(alloc, b"STATUS")?;
+    for word in row.words() {
+        let text = format!(in alloc; " {word}")?;
+        line.extend_from_slice(text.as_bytes())?;
+    }
+    Ok(Bytes::from_vec(line))
 }

@@ -7,6 +7,7 @@
 
 mod first_run;
 mod line;
+mod run;
 mod sample;
 mod script;
 #[cfg(test)]

@@ -4,7 +4,7 @@
 //! `specs/Script/Meaning.antt`. Start reading there, then at `script/line.rt`.
 
 mod command;
-mod format;
+pub(crate) mod format;
 mod keyword;
 mod line;
 mod literal;
