@@ -2,3 +2,5 @@ pub mod Line
 pub mod FirstFault
 pub mod FirstRun
 pub mod Script
+pub mod Setup
+pub mod SetupReading

@@ -9,6 +9,7 @@ mod first_run;
 mod line;
 mod sample;
 mod script;
+mod setup;
 #[cfg(test)]
 mod tests;
 
