@@ -1,3 +1,4 @@
+pub mod FilesLaws
 pub mod NoMemos
 pub mod ScriptLaws
 pub mod SetupLaws

@@ -4,3 +4,4 @@ pub mod FirstRun
 pub mod Script
 pub mod Setup
 pub mod SetupReading
+pub mod Files

@@ -5,6 +5,7 @@
 //! reading at `first_run.rt`.
 #![tactic(auto)]
 
+mod files;
 mod first_run;
 mod line;
 mod sample;
