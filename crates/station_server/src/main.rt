@@ -5,11 +5,13 @@
 //! reading at `first_run.rt`.
 #![tactic(auto)]
 
+mod files;
 mod first_run;
 mod line;
 mod run;
 mod sample;
 mod script;
+mod setup;
 #[cfg(test)]
 mod tests;
 

@@ -13,5 +13,8 @@ mod value;
 mod verb;
 mod word;
 
+pub(crate) use line::is_remark;
 pub use line::{Line, one_meaning, parse_line};
 pub use script_lines::{LineCursor, lines, one_cutting};
+pub(crate) use value::name_in;
+pub(crate) use word::{is_gap, without_gaps};

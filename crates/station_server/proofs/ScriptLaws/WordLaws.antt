@@ -84,7 +84,7 @@ pub past_gaps : (gap xs : List ℕ) → are_gaps gap ≡ true → without_gaps (
 past_gaps [] xs h = refl
 past_gaps (b ∷ gap) xs h = let p = and_parts (is_gap b) (are_gaps gap) h in rw p.0 (past_gaps gap xs p.1)
 
-no_gaps : (word ys : List ℕ) → starts word ≡ true → without_gaps (word ++ ys) ≡ word ++ ys
+pub no_gaps : (word ys : List ℕ) → starts word ≡ true → without_gaps (word ++ ys) ≡ word ++ ys
 no_gaps [] ys h = absurd (false≢true h)
 no_gaps (b ∷ bs) ys h = rw (not_true (is_gap b) h) refl
 
@@ -115,7 +115,7 @@ cut_off line gap word rest is gaps ends w =
       after = rw (left, long) (drop_front word rest);
     }
 
-no_word : (line : List ℕ) → are_gaps line ≡ true → without_gaps line ≡ []
+pub no_word : (line : List ℕ) → are_gaps line ≡ true → without_gaps line ≡ []
 no_word [] h = refl
 no_word (b ∷ bs) h = let p = and_parts (is_gap b) (are_gaps bs) h in rw p.0 (no_word bs p.1)
 
@@ -130,19 +130,19 @@ pub record IsCut (line : List ℕ) : Type 0 where
   pub gaps : are_gaps gap ≡ true
   pub ends : ends_word (after_word line) ≡ true
 
-record IsGapSplitOf (line left : List ℕ) : Type 0 where
-  gap : List ℕ
-  whole : line ≡ gap ++ left
-  gaps : are_gaps gap ≡ true
+pub record IsGapSplitOf (line left : List ℕ) : Type 0 where
+  pub gap : List ℕ
+  pub whole : line ≡ gap ++ left
+  pub gaps : are_gaps gap ≡ true
 
-abbrev IsGapSplit : List ℕ → Type 0
+abbrev pub IsGapSplit : List ℕ → Type 0
 IsGapSplit line = IsGapSplitOf line (without_gaps line)
 
 gap_or : (b : ℕ) (bs : List ℕ) (q : Bool) → is_gap b ≡ q → IsGapSplit bs → IsGapSplitOf (b ∷ bs) (cond q (without_gaps bs) (b ∷ bs))
 gap_or b bs true e s = record { gap = b ∷ s.gap; whole = ap (λ (xs : List ℕ). b ∷ xs) s.whole; gaps = rw e s.gaps }
 gap_or b bs false e s = record { gap = []; whole = refl; gaps = refl }
 
-gap_split : (line : List ℕ) → IsGapSplit line
+pub gap_split : (line : List ℕ) → IsGapSplit line
 gap_split [] = record { gap = []; whole = refl; gaps = refl }
 gap_split (b ∷ bs) = gap_or b bs (is_gap b) refl (gap_split bs)
 
@@ -172,7 +172,7 @@ left_or : (b : ℕ) (bs : List ℕ) (q : Bool) → is_gap b ≡ q → (without_g
 left_or b bs true e others = others
 left_or b bs false e others = inr (rw e refl)
 
-left_starts : (line : List ℕ) → (without_gaps line ≡ []) ⊎ (starts (without_gaps line) ≡ true)
+pub left_starts : (line : List ℕ) → (without_gaps line ≡ []) ⊎ (starts (without_gaps line) ≡ true)
 left_starts [] = inl refl
 left_starts (b ∷ bs) = left_or b bs (is_gap b) refl (left_starts bs)
 

@@ -23,8 +23,8 @@ pub enum Line {
     Blank,
 }
 
-// Whether a word begins with `*`.
-fn is_remark(word: &[u8]) -> bool
+/// Whether a word begins with `*`. Takes no memory.
+pub(crate) fn is_remark(word: &[u8]) -> bool
     ensures value { result ≡ begins_with_asterisk word.now }
 {
     match word {

@@ -8,8 +8,8 @@ ghost use Rattle.station_server.specs.Script.Reading.{without_gaps as rest_of, q
 use crate::script::format::{APOSTROPHE, QUOTE, TAB};
 use dbf_fields::BLANK;
 
-// A blank or a tab.
-fn is_gap(byte: u8) -> bool
+/// A blank or a tab.
+pub(crate) fn is_gap(byte: u8) -> bool
     ensures value { result ≡ gap byte }
 {
     byte == BLANK || byte == TAB
@@ -22,8 +22,8 @@ pub(crate) fn is_quote(byte: u8) -> bool
     byte == QUOTE || byte == APOSTROPHE
 }
 
-// What is left after the blanks and tabs at the front.
-fn without_gaps(text: &[u8]) -> &[u8]
+/// What is left after the blanks and tabs at the front. Takes no memory.
+pub(crate) fn without_gaps(text: &[u8]) -> &[u8]
     ensures value { result.now ≡ rest_of text.now }
 {
     let mut rest = text;

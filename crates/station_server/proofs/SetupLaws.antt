@@ -1,0 +1,3 @@
+pub mod WordCutting
+pub mod LineLaws
+pub mod TextLaws

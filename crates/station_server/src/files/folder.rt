@@ -1,0 +1,20 @@
+//! Where files are written to.
+
+ghost use Rattle.std.specs.Prelude.{◌≡◌, OnOk, OnErr};
+ghost use Rattle.dbf_image.specs.Sink.{grown, Rises};
+ghost use Rattle.station_server.specs.Files.{opening};
+
+use dbf_image::{ByteSink, SinkFault};
+
+/// A folder that files are written to, one after the other. It is a sink of the file begun last.
+///
+/// Contracts see it as one list, `written`: of each file 256, the name's bytes, 257 and the file's bytes.
+/// No byte is 256 or 257, so the list says which files there are and what they hold.
+pub trait Folder: ByteSink {
+    /// Begins an empty file, to which what is written from now on goes. An `Err` says that none was begun.
+    fn begin(&mut self, name: &[u8]) -> Result<(), SinkFault>
+        ensures begun { OnOk result (Self.written self.new ≡ grown (Self.written self.old) (opening name.now)) }
+        ensures fine { OnOk result (Self.failures self.new ≡ Self.failures self.old) }
+        ensures unbegun { OnErr result (Self.written self.new ≡ Self.written self.old) }
+        ensures failed { OnErr result (Rises (Self.failures self.old) (Self.failures self.new)) };
+}
