@@ -14,6 +14,7 @@ use crate::status::StatusRow;
 use dbf_image::TableData;
 use std::alloc::{AllocError, Global};
 use std::marker::Model;
+use table_core::Table;
 use thiserror::Error;
 
 /// The greatest number of entries of a journal.
@@ -170,6 +171,16 @@ impl Catalogue {
         ensures value { result ≡ length self.now.opened.tables }
     {
         self.sources.len()
+    }
+
+    #[tactic(auto, using(crate::proofs::ReplayLaws::kept_tables))]
+    /// The table of a number, from 1, with its indexes, as it stands now.
+    pub fn table(&self, number: u32) -> &Table
+        requires counted { 1 ≤ number }
+        requires inside { number ≤ length self.now.opened.tables }
+        ensures value { result.now.content ≡ content_at (state_of self.now).tables number }
+    {
+        self.state.table(number)
     }
 
     #[tactic(auto, using(crate::proofs::ReplayLaws::kept_tables))]

@@ -2,10 +2,12 @@
 
 ghost use Rattle.std.specs.Prelude.{◌≡◌, ◌-◌, ◌≤◌, length, slice_get, Some};
 ghost use Rattle.shared_catalogue.specs.Replay.{state_of};
+ghost use Rattle.shared_catalogue.specs.State.{table_at};
 
 use crate::catalogue::Catalogue;
 use crate::entry::Entry;
 use std::marker::Model;
+use table_core::Table;
 
 /// A catalogue that is closed: its tables and its journal can be read, and no command is performed any
 /// more.
@@ -38,6 +40,15 @@ impl Closed {
         ensures value { result ≡ length self.now.opened.tables }
     {
         self.catalogue.table_count()
+    }
+
+    /// A table at the end, with its indexes. Tables count from 1.
+    pub fn table(&self, number: u32) -> &Table
+        requires counted { 1 ≤ number }
+        requires inside { number ≤ length self.now.opened.tables }
+        ensures value { result.now.content ≡ table_at (state_of self.now).tables number }
+    {
+        self.catalogue.table(number)
     }
 
     /// How many entries the journal has.
