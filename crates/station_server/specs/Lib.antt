@@ -5,3 +5,6 @@ pub mod Script
 pub mod Setup
 pub mod SetupReading
 pub mod Files
+pub mod ClosedIndex
+pub mod Writable
+pub mod Closing
