@@ -1,1 +1,2 @@
 pub mod FolderLaws
+pub mod PlanLaws

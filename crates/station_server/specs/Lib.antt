@@ -6,3 +6,6 @@ pub mod Reports
 pub mod Setup
 pub mod SetupReading
 pub mod Files
+pub mod ClosedIndex
+pub mod Writable
+pub mod Closing

@@ -7,6 +7,8 @@ use std::alloc::{AllocError, Global};
 use std::fs;
 use std::test::Fail;
 
+mod close;
+
 fn file(alloc: Global, name: &[u8], bytes: &[u8]) -> Result<NamedFile, AllocError> {
     Ok(NamedFile {
         name: Bytes::from_slice(alloc, name)?,
