@@ -1,5 +1,3 @@
-use Rattle.std.proofs.Common.{◌≡◌, List}
-use Rattle.station_server.specs.Reports.{SessionValue}
 use Rattle.station_server.proofs.RunLaws.{reports}
 use Rattle.station_server.proofs.run.run_stations.Goals as goal
 

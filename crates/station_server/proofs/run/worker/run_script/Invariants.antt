@@ -1,4 +1,4 @@
-use Rattle.std.proofs.Common.{◌≡◌, length}
+use Rattle.std.proofs.Common.{length}
 use Rattle.station_server.proofs.RunLaws.{IsUpTo}
 use Rattle.station_server.proofs.run.worker.run_script.Given as goal
 
