@@ -1,6 +1,6 @@
 //! Indexes that are added to a table.
 
-ghost use Rattle.std.specs.Prelude.{◌≡◌, ◌↔◌, bytes_eq, [], if◌then◌else◌, IfOk, IsTrue, IsPermutation, OnErr, OnOk};
+ghost use Rattle.std.specs.Prelude.{◌≡◌, ◌↔◌, bytes_eq, [], if◌then◌else◌, IfOk, IfErr, IsTrue, IsPermutation, OnErr, OnOk};
 ghost use Rattle.std.specs.List.{list_any};
 ghost use Rattle.ndx_index.specs.TableOrder.{pairs_of};
 ghost use Rattle.table_core.specs.Content.{has_index, with_index};
@@ -50,7 +50,7 @@ impl Table {
     /// The pairs are put in order where they are not, and compared in one pass; nothing is sorted or built beside
     /// them.
     ///
-    /// An `Err` says that there was no memory. It changes nothing.
+    /// An `Err` says that there was no memory for the pairs, which are the table's. It changes nothing.
     pub fn add_kept_index(
         &mut self,
         name: Bytes,
@@ -61,6 +61,7 @@ impl Table {
         ensures whole { IfOk result (λ added. IsTrue added ↔ IsPermutation (pairs_of self.old.content.table expr.expr) pairs.items) }
         ensures added { IfOk result (λ added. self.new.content ≡ (if added then with_index self.old.content (record { name = name; expr = expr }) else self.old.content)) }
         ensures err { OnErr result (self.new.content ≡ self.old.content) }
+        ensures tested { IfErr result (λ _. IsPermutation (pairs_of self.old.content.table expr.expr) pairs.items) }
     {
         let Some(index) = TableIndex::kept(&self.records, name, expr, pairs) else {
             return Ok(false);
