@@ -59,8 +59,9 @@ pub fn parse_setup(alloc: Global, text: &[u8]) -> Result<Vec<SetupEntry>, SetupF
     Ok(entries)
 }
 
-/// A text says one thing as a setup: no text gives these entries and others, or entries and a bad line, or two
-/// first bad lines.
+/// A text says one thing as a setup: each text gives some entries or a first bad line, and no text gives these
+/// and others.
 pub fn one_setup()
+    ensures some { (text : List ℕ) → (said : Result (List Entry) ℕ) × IsSetup text said }
     ensures one { (text : List ℕ) (a b : Result (List Entry) ℕ) → IsSetup text a → IsSetup text b → a ≡ b }
 {}

@@ -11,7 +11,7 @@ use Rattle.station_server.specs.declared.setup.judged.Judged.TheVariants.{Skippe
 use Rattle.station_server.specs.Setup.{AreWords, skips, short_name, Says, IsSkipped, IsEntry, IsJudged, IsBadAfter, may_follow}
 use Rattle.station_server.specs.SetupReading.{index_by, entry_in, judged_entry, judged_words}
 use Rattle.station_server.proofs.ScriptLaws.PartLaws.{same_text}
-use Rattle.station_server.proofs.SetupLaws.WordCutting.{one_words}
+use Rattle.station_server.proofs.SetupLaws.WordCutting.{one_words, some_words}
 
 -- what is said by words is read from them
 pub says_read : (words : List (List ℕ)) (entry : SetupEntry) → Says words entry → entry_in words ≡ Some entry
@@ -127,3 +127,7 @@ unplaced before line told entry j e barred =
       λ s. entry_not_skipped line entry s h,
       λ other k can. true_or_false (may_follow before other) can (subst (λ (x : SetupEntry). may_follow before x ≡ false) (one_entry line entry other h k) barred),
     )
+
+-- each line is skipped, bad, or says something
+pub some_judged : (line : List ℕ) → (told : Judged) × IsJudged line told
+some_judged line = let words = some_words line in (judged_words line words.0, is_judged line words.0 words.1)

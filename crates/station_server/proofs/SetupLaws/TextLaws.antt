@@ -5,9 +5,11 @@ use mathlib.Core.Logic.{inl, inr}
 use Rattle.std.proofs.lemmas.List.{append-nil, length-append}
 use Rattle.station_server.specs.declared.setup.entry.SetupEntry.{SetupEntry}
 use Rattle.station_server.specs.Script.Lines.{BeginsWithLine, AreLines}
-use Rattle.station_server.specs.Setup.{IsEntry, may_follow, Adds, IsBadAfter, AddAll, HasBadLine, IsSetup}
-use Rattle.station_server.proofs.ScriptLaws.CuttingLaws.{some_lines, one_cutting}
-use Rattle.station_server.proofs.SetupLaws.LineLaws.{entry_not_skipped, one_entry}
+use Rattle.station_server.specs.declared.setup.judged.Judged.{Judged}
+use Rattle.station_server.specs.declared.setup.judged.Judged.TheVariants.{Skipped, Bad, Good}
+use Rattle.station_server.specs.Setup.{IsEntry, IsJudged, may_follow, Adds, IsBadAfter, AddAll, HasBadLine, IsSetup}
+use Rattle.station_server.proofs.ScriptLaws.CuttingLaws.{line_before, some_lines, one_cutting}
+use Rattle.station_server.proofs.SetupLaws.LineLaws.{entry_not_skipped, one_entry, bad_after, unplaced, some_judged}
 
 -- ---- what has been read
 
@@ -62,6 +64,42 @@ read_bad text number entries rest line behind r next is_bad n at =
 pub read_whole : (text : List ℕ) (number : ℕ) (entries : List SetupEntry) (rest : List ℕ) → IsReadTo text number entries rest → rest ≡ [] → IsSetup text (Ok entries)
 read_whole text number entries rest r none =
     (r.lines, subst (λ (ls : List (List ℕ)). AreLines ls text) (append-nil r.lines) (r.cut [] none), r.said)
+
+-- ---- a text says something
+
+by_place : (text : List ℕ) (number : ℕ) (entries : List SetupEntry) (rest line behind : List ℕ)
+    → IsReadTo text number entries rest → ((others : List (List ℕ)) → AreLines others behind → AreLines (line ∷ others) rest)
+    → ((after : List SetupEntry) → IsReadTo text (number + 1) after behind → (said : Result (List SetupEntry) ℕ) × IsSetup text said)
+    → (entry : SetupEntry) → IsEntry line entry → (b : Bool) → may_follow entries entry ≡ b
+    → (said : Result (List SetupEntry) ℕ) × IsSetup text said
+by_place text number entries rest line behind r next more entry h true can =
+    more (entries ++ entry ∷ []) (read_more text number entries rest line behind (entries ++ entry ∷ []) r next (inr (entry, h, can, refl)))
+by_place text number entries rest line behind r next more entry h false barred =
+    (Err (number + 1), read_bad text number entries rest line behind r next (unplaced entries line (Good entry) entry h refl barred) (number + 1) refl)
+
+by_told : (text : List ℕ) (number : ℕ) (entries : List SetupEntry) (rest line behind : List ℕ)
+    → IsReadTo text number entries rest → ((others : List (List ℕ)) → AreLines others behind → AreLines (line ∷ others) rest)
+    → ((after : List SetupEntry) → IsReadTo text (number + 1) after behind → (said : Result (List SetupEntry) ℕ) × IsSetup text said)
+    → (told : Judged) → IsJudged line told → (placed : (entry : SetupEntry) → (b : Bool) × (may_follow entries entry ≡ b))
+    → (said : Result (List SetupEntry) ℕ) × IsSetup text said
+by_told text number entries rest line behind r next more Skipped j placed =
+    more entries (read_more text number entries rest line behind entries r next (inl (j, refl)))
+by_told text number entries rest line behind r next more Bad j placed =
+    (Err (number + 1), read_bad text number entries rest line behind r next (bad_after entries line Bad j refl) (number + 1) refl)
+by_told text number entries rest line behind r next more (Good entry) j placed =
+    by_place text number entries rest line behind r next more entry j (placed entry).0 (placed entry).1
+
+some_said : (text : List ℕ) (number : ℕ) (entries : List SetupEntry) (rest : List ℕ) (lines : List (List ℕ))
+    → IsReadTo text number entries rest → AreLines lines rest → (said : Result (List SetupEntry) ℕ) × IsSetup text said
+some_said text number entries rest [] r are = (Ok entries, read_whole text number entries rest r are)
+some_said text number entries rest (line ∷ lines) r are =
+    let told = some_judged line in
+    by_told text number entries rest line are.0 r (line_before rest line are.0 are.1)
+    (λ after k. some_said text (number + 1) after are.0 lines k are.2) told.0 told.1 (λ entry. (may_follow entries entry, refl))
+
+-- each text is a setup of some entries, or has a first bad line
+pub some_setup : (text : List ℕ) → (said : Result (List SetupEntry) ℕ) × IsSetup text said
+some_setup text = let lines = some_lines text in some_said text 0 [] text lines.0 (none_read text) lines.1
 
 -- ---- a text says one thing
 

@@ -114,6 +114,25 @@ without_words line text is none =
     let s = gap_split line in
     (only_gaps line s.gap text (s.whole ∙ ap (λ (x : List ℕ). s.gap ++ x) (sym is)) s.gaps none, refl)
 
+cut_more : (n : ℕ) (line text : List ℕ) → text ≡ without_gaps line → length line ≤ suc n
+    → ((rest : List ℕ) → length rest ≤ n → (words : List (List ℕ)) × AreWords words rest) → (words : List (List ℕ)) × AreWords words line
+cut_more n line [] is short more = ([], without_words line [] is refl)
+cut_more n line (b ∷ bs) is short more =
+    let end : ℕ = gap_at (b ∷ bs) in
+    let some : 0 < length (b ∷ bs) = omega arith in
+    let less : length (drop end (b ∷ bs)) < length line = shorter_after line (b ∷ bs) end is some refl in
+    let others = more (drop end (b ∷ bs)) (omega (arith, less, short)) in
+    (take end (b ∷ bs) ∷ others.0, first_of_words line (b ∷ bs) end is some refl others.0 others.1)
+
+words_within : (n : ℕ) (line : List ℕ) → length line ≤ n → (words : List (List ℕ)) × AreWords words line
+words_within n [] h = ([], (refl, refl))
+words_within zero (b ∷ bs) h = absurd (omega (arith, h))
+words_within (suc n) (b ∷ bs) h = cut_more n (b ∷ bs) (without_gaps (b ∷ bs)) refl h (words_within n)
+
+-- a line has words
+pub some_words : (line : List ℕ) → (words : List (List ℕ)) × AreWords words line
+some_words line = words_within (length line) line (omega arith)
+
 -- ---- the words of a line are one list
 
 not_both : (b : Bool) → b ≡ true → not b ≡ true → ⊥

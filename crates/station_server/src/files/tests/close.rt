@@ -2,6 +2,7 @@ use crate::files::{CloseFault, ClosedIndex, ClosedTable, MemoryFolder, close_fil
 use dbf_fields::{Bytes, CHARACTER, Field, MEMO, Schema, day_of};
 use dbf_image::{TableData, read_table};
 use key_expr::KeyExpr;
+use ndx_index::{MAX_PAIRS, OrderedIndex};
 use std::alloc::Global;
 use std::test::Fail;
 
@@ -47,7 +48,12 @@ fn schema_of(alloc: Global, name: &[u8], kind: u8) -> Result<Schema, Fail> {
 fn index_of(alloc: Global) -> Result<ClosedIndex, Fail> {
     let name = Bytes::from_slice(alloc, b"NAMES")?;
     let expr = KeyExpr::parse(alloc, b"NAME", &schema_of(alloc, b"NAME", CHARACTER)?)?;
-    Ok(ClosedIndex::new(name, expr, Vec::new(alloc)))
+    let index = OrderedIndex::new(alloc, 10);
+    let pairs = index.pairs(alloc)?;
+    if pairs.len() > MAX_PAIRS || index.key_len() != expr.key_len() {
+        return Err("keys of another length".into());
+    }
+    Ok(ClosedIndex::new(name, expr, pairs))
 }
 
 // The table T with an index, and the table M with memos.
