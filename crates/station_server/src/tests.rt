@@ -1,3 +1,4 @@
+mod run;
 mod script;
 
 use crate::first_run::{FirstFault, first_run};
