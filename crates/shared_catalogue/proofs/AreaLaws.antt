@@ -1,17 +1,11 @@
 -- What is open where, after another area was put in place of a station's current one.
-use Rattle.std.proofs.Common.{◌≡◌, ◌≢◌, ◌⊎◌, inl, inr, ℕ, zero, suc, ◌+◌, ◌-◌, Bool, true, false, ◌||◌, List, [], ◌∷◌, ◌++◌, take, drop, get_or, slice_set, slice_index_or, Option, Some, None, refl, sym, ap, subst, ◌∙◌, arith, length-set}
+use Rattle.std.proofs.Common.{◌≡◌, ◌≢◌, ◌⊎◌, inl, inr, ℕ, zero, suc, ◌+◌, ◌-◌, Bool, false, List, [], ◌∷◌, ◌++◌, take, drop, get_or, slice_set, slice_index_or, Option, Some, None, refl, sym, ap, subst, ◌∙◌, arith, length-set}
 use Rattle.std.specs.List.{list_any}
+use Rattle.std.proofs.lemmas.Bool.{cases_eq, or_parts}
 use Rattle.std.proofs.lemmas.List.{get_or-set_same, get_or-set_other}
 use Rattle.shared_catalogue.specs.declared.area.Area.{Area}
 use Rattle.shared_catalogue.specs.declared.area.Station.{Station}
 use Rattle.shared_catalogue.specs.State.{State, new_station, station_at, area_of, area_at, with_area, IsOpenAt, IsStation, HasStation}
-
--- two numbers are the same or not
-pub same_or : (a b : ℕ) → (a ≡ b) ⊎ (a ≢ b)
-same_or zero zero = inl refl
-same_or zero (suc b) = inr (λ e. absurd (omega arith))
-same_or (suc a) zero = inr (λ e. absurd (omega arith))
-same_or (suc a) (suc b) = elim (same_or a b) [ inl e ↦ inl (ap suc e) | inr n ↦ inr (λ e. n (omega arith)) ]
 
 -- the index of the station's current area
 abbrev pub current_index : State → ℕ → ℕ
@@ -55,7 +49,7 @@ put_here s station x h =
 pub area_elsewhere : (s : State) (station : ℕ) (x : Option Area) (a k : ℕ) → HasStation s station → (a ≢ station - 1) ⊎ (k ≢ current_index s station) → area_at (with_area s station x) a k ≡ area_at s a k
 area_elsewhere s station x a k h (inl n) = ap (λ (st : Station). slice_index_or st.areas k None) (get_or-set_other s.stations (station - 1) a (put s station x) new_station n)
 area_elsewhere s station x a k h (inr n) =
-    elim (same_or a (station - 1)) [
+    elim (cases_eq a (station - 1)) [
       | inl e ↦
           ap (λ (b : ℕ). area_at (with_area s station x) b k) e
           ∙ ap (λ (st : Station). slice_index_or st.areas k None) (station_put s station x h)
@@ -69,9 +63,9 @@ pub still_open : (s : State) (station : ℕ) (x : Option Area) (other number : �
     → ((y : Area) → other - 1 ≡ station - 1 → area_of s station ≡ Some y → y.table ≡ number → (z : Area) × (x ≡ Some z) × (z.table ≡ number))
     → IsOpenAt (with_area s station x) other number
 still_open s station x other number h was stays =
-    elim (same_or (other - 1) (station - 1)) [
+    elim (cases_eq (other - 1) (station - 1)) [
       | inr n ↦ (was.0, was.1, area_elsewhere s station x (other - 1) was.0 h (inl n) ∙ was.2, was.3)
-      | inl here ↦ elim (same_or was.0 (current_index s station)) [
+      | inl here ↦ elim (cases_eq was.0 (current_index s station)) [
         | inr n ↦ (was.0, was.1, area_elsewhere s station x (other - 1) was.0 h (inr n) ∙ was.2, was.3)
         | inl there ↦
             let current : area_of s station ≡ Some was.1 =
@@ -85,8 +79,8 @@ still_open s station x other number h was stays =
 pub open_cases : (s : State) (station : ℕ) (x : Option Area) (a k : ℕ) (y : Area) → HasStation s station → area_at (with_area s station x) a k ≡ Some y
     → ((a ≡ station - 1) × (k ≡ current_index s station) × (x ≡ Some y)) ⊎ (((a ≢ station - 1) ⊎ (k ≢ current_index s station)) × (area_at s a k ≡ Some y))
 open_cases s station x a k y h e =
-    elim (same_or a (station - 1)) [
-      | inl same ↦ elim (same_or k (current_index s station)) [
+    elim (cases_eq a (station - 1)) [
+      | inl same ↦ elim (cases_eq k (current_index s station)) [
         | inl there ↦
             let here : area_at (with_area s station x) a k ≡ x =
             ap (λ (b : ℕ). area_at (with_area s station x) b k) same
@@ -99,19 +93,11 @@ open_cases s station x a k y h e =
       | inr other ↦ inr (inl other, sym (area_elsewhere s station x a k h (inl other)) ∙ e)
     ]
 
-first_no : (a b : Bool) → (a || b) ≡ false → a ≡ false
-first_no true b e = e
-first_no false b e = refl
-
-rest_no : (a b : Bool) → (a || b) ≡ false → b ≡ false
-rest_no true b e = cc
-rest_no false b e = e
-
 -- a test that nothing in a list passes
 pub none_at : {X : Type 0} (p : X → Bool) (xs : List X) (k : ℕ) (d : X) → p d ≡ false → list_any p xs ≡ false → p (get_or xs k d) ≡ false
 none_at p [] k d fails e = fails
-none_at p (x ∷ xs) zero d fails e = first_no (p x) (list_any p xs) e
-none_at p (x ∷ xs) (suc k) d fails e = none_at p xs k d fails (rest_no (p x) (list_any p xs) e)
+none_at p (x ∷ xs) zero d fails e = (or_parts (p x) (list_any p xs) e).0
+none_at p (x ∷ xs) (suc k) d fails e = none_at p xs k d fails ((or_parts (p x) (list_any p xs) e).1)
 
 -- a test that nothing beside an index passes
 pub none_beside : {X : Type 0} (p : X → Bool) (xs : List X) (i j k : ℕ) (d : X) → p d ≡ false → j ≡ i + 1 → list_any p (take i xs ++ drop j xs) ≡ false → k ≢ i → p (get_or xs k d) ≡ false
@@ -122,5 +108,5 @@ none_beside p (x ∷ xs) zero (suc j) (suc k) d fails e f n =
     let start : j ≡ 0 = omega arith in
     none_at p xs k d fails (ap (λ (m : ℕ). list_any p (drop m xs)) (sym start) ∙ f)
 none_beside p (x ∷ xs) (suc i) zero k d fails e f n = absurd (omega arith)
-none_beside p (x ∷ xs) (suc i) (suc j) zero d fails e f n = first_no (p x) (list_any p (take i xs ++ drop j xs)) f
-none_beside p (x ∷ xs) (suc i) (suc j) (suc k) d fails e f n = none_beside p xs i j k d fails (omega arith) (rest_no (p x) (list_any p (take i xs ++ drop j xs)) f) (λ g. n (ap suc g))
+none_beside p (x ∷ xs) (suc i) (suc j) zero d fails e f n = (or_parts (p x) (list_any p (take i xs ++ drop j xs)) f).0
+none_beside p (x ∷ xs) (suc i) (suc j) (suc k) d fails e f n = none_beside p xs i j k d fails (omega arith) ((or_parts (p x) (list_any p (take i xs ++ drop j xs)) f).1) (λ g. n (ap suc g))

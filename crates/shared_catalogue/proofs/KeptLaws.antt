@@ -1,5 +1,6 @@
 -- Each command keeps what is true of every state.
 use Rattle.std.proofs.Common.{◌≡◌, ◌≢◌, ◌⊎◌, inl, inr, ℕ, zero, suc, ◌-◌, ◌<◌, ◌≤◌, true, false, List, [], ◌∷◌, length, slice_set, slice_index_or, Option, Some, None, refl, sym, ap, subst, ◌∙◌, arith, length-set}
+use Rattle.std.proofs.lemmas.Bool.{cases_eq}
 use Rattle.std.proofs.lemmas.List.{get_or-set_same, get_or-set_other}
 use Rattle.table_core.specs.declared.cursor.Cursor.{Cursor}
 use Rattle.table_core.specs.Content.{Content}
@@ -10,7 +11,7 @@ use Rattle.shared_catalogue.specs.declared.area.Station.{Station}
 use Rattle.shared_catalogue.specs.declared.opening.TheConstants.{MAX_TABLES}
 use Rattle.shared_catalogue.specs.State.{State, new_station, area_of, area_at, no_content, table_at, table_of, area_with, with_area, with_cursor, with_held, IsStation, HasStation, IsOpenAt, IsArea, IsState}
 use Rattle.shared_catalogue.specs.Step.{with_edit}
-use Rattle.shared_catalogue.proofs.AreaLaws.{current_index, put, open_cases, still_station, still_open, same_or}
+use Rattle.shared_catalogue.proofs.AreaLaws.{current_index, put, open_cases, still_station, still_open}
 
 -- an area that may be open as the current one of a station
 pub record Fits (s : State) (station : ℕ) (y : Area) : Type 0 where
@@ -122,7 +123,7 @@ no_other s station area ok is only a k z (inl n) f same =
     let shared : area.exclusive ≡ false = ok.alone (station - 1) a (current_index s station) k area z (λ g. n (sym g)) is f (sym same) in
     true_false (sym only ∙ shared)
 no_other s station area ok is only a k z (inr n) f same =
-    elim (same_or a (station - 1)) [
+    elim (cases_eq a (station - 1)) [
       | inl here ↦ ok.once (station - 1) k (current_index s station) z area n (ap (λ (b : ℕ). area_at s b k) (sym here) ∙ f) is same
       | inr there ↦ true_false (sym only ∙ ok.alone (station - 1) a (current_index s station) k area z (λ g. there (sym g)) is f (sym same))
     ]
@@ -154,7 +155,7 @@ keep_edit s station area e ok h is at kept =
     (λ a k z n f.
     let was = ok.areas a k z f in
     let S : Content → Type 0 = λ t. IsCursor t z.cursor in
-    elim (same_or z.table area.table) [
+    elim (cases_eq z.table area.table) [
       | inl same ↦ elim kept [
         | inl more ↦
             let T : ℕ → Type 0 = λ m. IsCursor (table_at s.tables m) z.cursor in

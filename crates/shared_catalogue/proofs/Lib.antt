@@ -10,5 +10,4 @@ pub mod Mapped
 pub mod RoomLaws
 pub mod OpeningLaws
 pub mod SeatLaws
-pub mod SameLaws
 pub mod StatusLaws

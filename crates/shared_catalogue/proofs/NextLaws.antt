@@ -1,6 +1,7 @@
 -- What a command's outcome keeps: it is a state of as many stations and the same tables, all other stations have
 -- the areas that they had, and the answer is no refusal. Here for the commands on locks, moves and edits.
 use Rattle.std.proofs.Common.{◌≡◌, ◌≢◌, inl, inr, ℕ, ◌-◌, ◌≤◌, Bool, true, false, List, length, slice_set, slice_index_or, Option, Some, None, Result, Ok, refl, sym, ap, subst, ◌∙◌, arith, length-set}
+use Rattle.std.proofs.lemmas.Bool.{cases_eq}
 use Rattle.std.specs.Prelude.{IfOk}
 use Rattle.std.specs.Int.{is_in_range}
 use Rattle.std.proofs.Math.Seq.{map-set_same}
@@ -27,7 +28,7 @@ use Rattle.shared_catalogue.specs.State.{State, new_station, no_content, station
 use Rattle.shared_catalogue.specs.Step.{with_edit, can_write, can_append, select, move, append_blank, target, change_record, pack, unlock, unlock_all, lock, lock_record, lock_file}
 use Rattle.table_core.specs.Laws.Outcomes.{of_found, of_granted, of_passed}
 use Rattle.shared_catalogue.proofs.Cases.{when_ok}
-use Rattle.shared_catalogue.proofs.AreaLaws.{current_index, same_or}
+use Rattle.shared_catalogue.proofs.AreaLaws.{current_index}
 use Rattle.shared_catalogue.proofs.KeptLaws.{keep_locks, keep_cursor, keep_edit, each_set}
 
 abbrev pub NoRefusal : Answer → Type 0
@@ -72,7 +73,7 @@ held_next s t station locks answer next ok = record {
 current_same : (s : State) (station number a k : ℕ) → HasStation s station → area_at (with_current s station number) a k ≡ area_at s a k
 current_same s station number a k h =
     let st : Station = record { current = number; areas = (station_at s station).areas } in
-    elim (same_or a (station - 1)) [
+    elim (cases_eq a (station - 1)) [
       | inl e ↦
           ap (λ (b : ℕ). area_at (with_current s station number) b k) e
           ∙ ap (λ (t : Station). slice_index_or t.areas k None) (get_or-set_same s.stations (station - 1) st new_station (omega (arith, h.counted, h.inside)))

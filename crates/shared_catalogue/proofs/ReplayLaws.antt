@@ -9,7 +9,9 @@ use Rattle.shared_catalogue.specs.declared.entry.Entry.{Entry}
 use Rattle.shared_catalogue.specs.Kept.{IsKept}
 use Rattle.shared_catalogue.specs.declared.opening.TheConstants.{MAX_TABLES}
 use Rattle.shared_catalogue.specs.declared.source.TableSource.{TableSource}
-use Rattle.shared_catalogue.specs.Replay.{NamedTable, Opened, named_table, opened_at, opened_as, after, start, LegalFrom}
+use Rattle.shared_catalogue.specs.declared.change.Plan.{Plan}
+use Rattle.shared_catalogue.specs.Planned.{planned, changed}
+use Rattle.shared_catalogue.specs.Replay.{NamedTable, Opened, History, history, named_table, opened_at, opened_as, after, start, LegalFrom}
 use Rattle.shared_catalogue.specs.declared.command.Command.{Command}
 use Rattle.shared_catalogue.specs.State.{State, new_station, no_content, table_at, shape_of, shapes_of, IsState, HasStation}
 use Rattle.shared_catalogue.specs.Step.{Outcome, outcome, settled, step}
@@ -43,6 +45,18 @@ stepped_settled s station (Err refusal) ok next = record { state = ok; stations 
 
 pub is_stepped : (s : State) (station : ℕ) (command : Command) → IsState s → HasStation s station → IsStepped s (step s station command).0 station
 is_stepped s station command ok has = stepped_settled s station (outcome s station command) ok (next_outcome s station command ok has)
+
+-- a command that was planned and carried out, in a state that is seen as it was, is its step
+pub carried_out : {s now next : State} (station : ℕ) (plan : Plan) {asked command : Command} → planned s station plan ≡ step s station asked → command ≡ asked → now ≡ s → next ≡ changed now station plan.change
+    → (next, plan.answer) ≡ step s station command
+carried_out {s} {now} {next} station plan {asked} {command} stepped same seen_same applied =
+    ap (λ (t : State). (t, plan.answer)) (applied ∙ ap (λ (t : State). changed t station plan.change) seen_same) ∙ stepped ∙ ap (step s station) (sym same)
+
+-- a catalogue has each station of what was opened
+pub may_perform : {opened : Opened} {s : State} {journal : List Entry} {h : History} {station : ℕ} → IsKept opened s journal → history opened journal ≡ h → 1 ≤ station → station ≤ h.opened.stations → HasStation s station
+may_perform {opened} {s} {journal} {h} {station} kept is counted inside =
+    let stations : opened.stations ≡ h.opened.stations = ap (λ (g : History). g.opened.stations) is in
+    has_station s station kept.ok counted (omega (arith, kept.stations, stations, inside))
 
 -- a catalogue that keeps its journal keeps it with the entry of a command that was performed
 pub kept_push : (opened : Opened) (s : State) (journal : List Entry) (e : Entry) → IsKept opened s journal → HasStation s e.station → e.answer ≡ (step s e.station e.command).1 → length journal < MAX_ENTRIES

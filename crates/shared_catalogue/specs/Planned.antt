@@ -1,17 +1,41 @@
 -- What a plan makes of a state, and when it can be carried out.
 use Rattle.std.specs.Prelude.{◌≡◌, ℕ, ◌≤◌, true, Option, Some, None, Result, Ok, Err}
 use Rattle.lock_table.specs.Locks.{free_record, free_whole, with_lock, without_all}
+use Rattle.table_core.specs.declared.cursor.Cursor.{Cursor}
+use Rattle.table_core.specs.declared.edits.Edit.{Edit as EditValue}
+use Rattle.table_core.specs.declared.edits.Edit.TheVariants as edit_of
 use Rattle.table_core.specs.declared.refusal.Refusal.{Refusal}
 use Rattle.table_core.specs.declared.edits.planned.Planned.{Planned}
+use Rattle.table_core.specs.Content.{Content}
+use Rattle.table_core.specs.Moves.{top, bottom, go, skip, seek, set_order}
 use Rattle.table_core.specs.Planned.{changed as table_changed, cursor_after, IsPlanned}
 use Rattle.shared_catalogue.specs.declared.answer.Answer.{Answer}
 use Rattle.shared_catalogue.specs.declared.area.Area.{Area}
 use Rattle.shared_catalogue.specs.declared.change.Change.{Change}
 use Rattle.shared_catalogue.specs.declared.change.Change.TheVariants.{Nothing, Select, Close, Open, Move, Edit, Pack, LockRecord, LockFile, Unlock, UnlockAll}
 use Rattle.shared_catalogue.specs.declared.change.Plan.{Plan}
+use Rattle.shared_catalogue.specs.declared.plan.moves.Move.{Move as MoveTo}
+use Rattle.shared_catalogue.specs.declared.plan.moves.Move.TheVariants as move_to
+use Rattle.shared_catalogue.specs.declared.state.planning.AskedEdit.{AskedEdit}
+use Rattle.shared_catalogue.specs.declared.state.planning.AskedEdit.TheVariants as asked
 use Rattle.shared_catalogue.specs.Rooms.{WithRoom, seen, held_at}
 use Rattle.shared_catalogue.specs.State.{State, area_of, table_of, with_current, with_area, with_cursor, with_held, without_lock, closed}
 use Rattle.shared_catalogue.specs.Step.{Outcome, with_edit}
+
+-- what a move makes of a table's cursor
+abbrev pub moved_by : MoveTo → Content → Cursor → Result Cursor Refusal
+moved_by (move_to.Go number) = λ content cursor. go content cursor number
+moved_by move_to.Top = top
+moved_by move_to.Bottom = bottom
+moved_by (move_to.Skip steps) = λ content cursor. skip content cursor steps
+moved_by (move_to.Seek text) = λ content cursor. seek content cursor text.now
+moved_by (move_to.Order number) = λ content cursor. set_order content cursor number
+
+-- the edit that is asked for
+abbrev pub edit_by : AskedEdit → EditValue
+edit_by (asked.Whole edit) = edit.now
+edit_by (asked.Replace field value) = edit_of.Replace field.now value.now
+edit_by (asked.Memo field text) = edit_of.PutMemo field.now text.now
 
 -- what becomes of the state by the area, where a table is open in it
 abbrev pub on_area : Option Area → State → (Area → State) → State

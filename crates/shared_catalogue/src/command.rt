@@ -127,7 +127,7 @@ impl Command {
     }
 
     /// Whether the commands are the same. It is what `==` answers, said so that contracts can use it.
-    #[tactic(auto, using(crate::proofs::SameLaws::same_bytes, crate::proofs::SameLaws::same_int))]
+    #[tactic(auto, using(dbf_fields::proofs::SameLaws::same_bytes, dbf_fields::proofs::SameLaws::same_int))]
     pub fn is_same(&self, other: &Command) -> bool
         ensures value { IsTrue result ↔ (self.now ≡ other.now) }
     {

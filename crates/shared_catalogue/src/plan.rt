@@ -15,13 +15,14 @@ use crate::answer::Answer;
 use crate::change::{Change, Plan};
 use crate::command::Command;
 use crate::state::State;
+use crate::state::planning::AskedEdit;
 use areas::{
     plan_ask, plan_file_lock, plan_record_lock, plan_select, plan_show, plan_unlock, plan_use_table,
 };
-use edits::{plan_append_blank, plan_delete, plan_memo, plan_pack, plan_recall, plan_replace};
-use moves::{plan_bottom, plan_go, plan_order, plan_seek, plan_skip, plan_top};
+use edits::{plan_append_blank, plan_change, plan_pack};
+use moves::{Move, plan_move};
 use std::alloc::{AllocError, Global};
-use table_core::{Refusal, TableFault};
+use table_core::{Edit, Refusal, TableFault};
 
 /// The plan of a station's command, with all memory that it needs; a refused command has the plan to answer its
 /// refusal. Nothing changes yet, but for room that is made. An error where memory is refused, and only after all
@@ -66,17 +67,21 @@ fn plan_command(
             Ok(plan_use_table(state, station, name, *exclusive)?)
         }
         Command::CloseTable => Ok(Plan::done(Change::Close)),
-        Command::Go(number) => Ok(plan_go(state, station, *number)?),
-        Command::Top => Ok(plan_top(state, station)?),
-        Command::Bottom => Ok(plan_bottom(state, station)?),
-        Command::Skip(steps) => plan_skip(state, station, *steps),
-        Command::Seek(text) => Ok(plan_seek(state, station, text)?),
-        Command::Order(number) => Ok(plan_order(state, station, *number)?),
+        Command::Go(number) => Ok(plan_move(state, station, Move::Go(*number))?),
+        Command::Top => Ok(plan_move(state, station, Move::Top)?),
+        Command::Bottom => Ok(plan_move(state, station, Move::Bottom)?),
+        Command::Skip(steps) => Ok(plan_move(state, station, Move::Skip(*steps))?),
+        Command::Seek(text) => Ok(plan_move(state, station, Move::Seek(text))?),
+        Command::Order(number) => Ok(plan_move(state, station, Move::Order(*number))?),
         Command::AppendBlank => plan_append_blank(alloc, state, station),
-        Command::Replace { field, value } => plan_replace(alloc, state, station, field, value),
-        Command::Memo { field, text } => plan_memo(alloc, state, station, field, text),
-        Command::Delete => plan_delete(alloc, state, station),
-        Command::Recall => plan_recall(alloc, state, station),
+        Command::Replace { field, value } => {
+            plan_change(alloc, state, station, AskedEdit::Replace(field, value))
+        },
+        Command::Memo { field, text } => {
+            plan_change(alloc, state, station, AskedEdit::Memo(field, text))
+        },
+        Command::Delete => plan_change(alloc, state, station, AskedEdit::Whole(&Edit::Delete)),
+        Command::Recall => plan_change(alloc, state, station, AskedEdit::Whole(&Edit::Recall)),
         Command::Pack => plan_pack(alloc, state, station),
         Command::Unlock => Ok(plan_unlock(state, station)?),
         Command::UnlockAll => Ok(Plan::done(Change::UnlockAll)),

@@ -8,7 +8,7 @@ ghost use Rattle.shared_catalogue.specs.Step.{table_named, can_write, can_append
 
 mod applying;
 mod opening;
-mod planning;
+pub mod planning;
 mod status;
 
 use crate::area::Area;

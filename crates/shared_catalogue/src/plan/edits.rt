@@ -1,9 +1,8 @@
 //! Plans of the commands that edit a table: the refusals of areas and locks, and then the table's own.
 
 ghost use Rattle.std.specs.Prelude.{◌≡◌, Ok, Some, IfOk, IfErr};
-ghost use Rattle.table_core.specs.declared.edits.Edit.TheVariants as edit_of;
 ghost use Rattle.table_core.specs.Outcomes.{IsFaultOf};
-ghost use Rattle.shared_catalogue.specs.Planned.{planned, CanChange};
+ghost use Rattle.shared_catalogue.specs.Planned.{edit_by, planned, CanChange};
 ghost use Rattle.shared_catalogue.specs.Rooms.{seen};
 ghost use Rattle.shared_catalogue.specs.State.{area_of, IsState, HasStation, IsArea};
 ghost use Rattle.shared_catalogue.specs.Step.{append_blank, change_record, pack, target};
@@ -11,7 +10,7 @@ ghost use Rattle.shared_catalogue.specs.Step.{append_blank, change_record, pack,
 use crate::area::Area;
 use crate::change::{Change, Plan};
 use crate::state::State;
-use dbf_fields::{Bytes, Literal};
+use crate::state::planning::AskedEdit;
 use std::alloc::Global;
 use table_core::{Edit, Refusal, TableFault};
 
@@ -27,71 +26,26 @@ pub fn plan_append_blank(alloc: Global, state: &mut State, station: u32) -> Resu
     if !state.can_append(station, area) {
         return Err(Refusal::TableInUse.into());
     }
-    let edit = state.plan_edit(alloc, area, &Edit::AppendBlank)?;
+    let edit = state.plan_edit(alloc, area, AskedEdit::Whole(&Edit::AppendBlank))?;
     Ok(Plan::done(Change::Edit(edit)))
 }
 
-pub fn plan_replace(
+/// The plan of an edit of the record at the cursor: of REPLACE, MEMO, DELETE and RECALL.
+pub fn plan_change(
     alloc: Global,
     state: &mut State,
     station: u32,
-    field: &Bytes,
-    value: &Literal,
+    edit: AskedEdit<'_>,
 ) -> Result<Plan, TableFault>
     requires state { IsState (seen state.old) }
     requires station { HasStation (seen state.old) station }
-    ensures planned { IfOk result (λ plan. change_record (seen state.old) station (edit_of.Replace field.now value.now) ≡ Ok (planned (seen state.old) station plan)) }
+    ensures planned { IfOk result (λ plan. change_record (seen state.old) station (edit_by edit.entry) ≡ Ok (planned (seen state.old) station plan)) }
     ensures can { IfOk result (λ plan. CanChange state.new station plan.change) }
-    ensures refused { IfErr result (λ fault. IsFaultOf fault (change_record (seen state.old) station (edit_of.Replace field.now value.now))) }
+    ensures refused { IfErr result (λ fault. IsFaultOf fault (change_record (seen state.old) station (edit_by edit.entry))) }
     ensures same { seen state.new ≡ seen state.old }
 {
     let area = find_target(state, station)?;
-    let edit = state.plan_replace(alloc, area, field, value)?;
-    Ok(Plan::done(Change::Edit(edit)))
-}
-
-pub fn plan_memo(
-    alloc: Global,
-    state: &mut State,
-    station: u32,
-    field: &Bytes,
-    text: &Bytes,
-) -> Result<Plan, TableFault>
-    requires state { IsState (seen state.old) }
-    requires station { HasStation (seen state.old) station }
-    ensures planned { IfOk result (λ plan. change_record (seen state.old) station (edit_of.PutMemo field.now text.now) ≡ Ok (planned (seen state.old) station plan)) }
-    ensures can { IfOk result (λ plan. CanChange state.new station plan.change) }
-    ensures refused { IfErr result (λ fault. IsFaultOf fault (change_record (seen state.old) station (edit_of.PutMemo field.now text.now))) }
-    ensures same { seen state.new ≡ seen state.old }
-{
-    let area = find_target(state, station)?;
-    let edit = state.plan_memo(alloc, area, field, text)?;
-    Ok(Plan::done(Change::Edit(edit)))
-}
-
-pub fn plan_delete(alloc: Global, state: &mut State, station: u32) -> Result<Plan, TableFault>
-    requires state { IsState (seen state.old) }
-    requires station { HasStation (seen state.old) station }
-    ensures planned { IfOk result (λ plan. change_record (seen state.old) station edit_of.Delete ≡ Ok (planned (seen state.old) station plan)) }
-    ensures can { IfOk result (λ plan. CanChange state.new station plan.change) }
-    ensures refused { IfErr result (λ fault. IsFaultOf fault (change_record (seen state.old) station edit_of.Delete)) }
-    ensures same { seen state.new ≡ seen state.old }
-{
-    let area = find_target(state, station)?;
-    let edit = state.plan_edit(alloc, area, &Edit::Delete)?;
-    Ok(Plan::done(Change::Edit(edit)))
-}
-
-pub fn plan_recall(alloc: Global, state: &mut State, station: u32) -> Result<Plan, TableFault>
-    requires state { IsState (seen state.old) }
-    requires station { HasStation (seen state.old) station }
-    ensures planned { IfOk result (λ plan. change_record (seen state.old) station edit_of.Recall ≡ Ok (planned (seen state.old) station plan)) }
-    ensures can { IfOk result (λ plan. CanChange state.new station plan.change) }
-    ensures refused { IfErr result (λ fault. IsFaultOf fault (change_record (seen state.old) station edit_of.Recall)) }
-    ensures same { seen state.new ≡ seen state.old }
-{
-    let area = find_target(state, station)?;
-    let edit = state.plan_edit(alloc, area, &Edit::Recall)?;
+    let edit = state.plan_edit(alloc, area, edit)?;
     Ok(Plan::done(Change::Edit(edit)))
 }
 
@@ -107,7 +61,7 @@ pub fn plan_pack(alloc: Global, state: &mut State, station: u32) -> Result<Plan,
     if !area.exclusive {
         return Err(Refusal::NeedsExclusive.into());
     }
-    let edit = state.plan_edit(alloc, area, &Edit::Pack)?;
+    let edit = state.plan_edit(alloc, area, AskedEdit::Whole(&Edit::Pack))?;
     Ok(Plan::done(Change::Pack(edit)))
 }
 

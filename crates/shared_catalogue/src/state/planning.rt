@@ -1,9 +1,11 @@
 //! Plans of edits of the current area's table.
 
 ghost use Rattle.std.specs.Prelude.{◌≡◌, Ok, IfOk, IfErr};
-ghost use Rattle.table_core.specs.Edits.{edited, replace, put_memo};
+ghost use Rattle.table_core.specs.Cursors.{IsCursor};
+ghost use Rattle.table_core.specs.Edits.{edited};
 ghost use Rattle.table_core.specs.Outcomes.{IsFaultOf};
 ghost use Rattle.table_core.specs.Planned.{changed, cursor_after, IsPlanned};
+ghost use Rattle.shared_catalogue.specs.Planned.{edit_by};
 ghost use Rattle.shared_catalogue.specs.Rooms.{seen, held_at};
 ghost use Rattle.shared_catalogue.specs.State.{table_of, IsArea};
 
@@ -11,7 +13,19 @@ use crate::area::Area;
 use crate::state::State;
 use dbf_fields::{Bytes, Literal};
 use std::alloc::Global;
-use table_core::{Edit, Planned, TableFault};
+use table_core::{Cursor, Edit, Planned, Table, TableFault};
+
+/// An edit that a command asks for. What REPLACE and MEMO take stays the command's own, so that a refused
+/// edit has copied nothing.
+#[derive(Clone, Copy)]
+pub enum AskedEdit<'a> {
+    /// Any edit as a whole.
+    Whole(&'a Edit),
+    /// REPLACE of a field by its name, and the value.
+    Replace(&'a Bytes, &'a Literal),
+    /// MEMO of a field by its name, and the text.
+    Memo(&'a Bytes, &'a Bytes),
+}
 
 impl State {
     /// The plan of an edit of the area's table, with all memory that it needs. Whatever it answers, the state is as
@@ -20,51 +34,35 @@ impl State {
         &mut self,
         alloc: Global,
         area: Area,
-        edit: &Edit,
+        edit: AskedEdit<'_>,
     ) -> Result<Planned, TableFault>
         requires area { IsArea (seen self.old).tables area }
-        ensures outcome { IfOk result (λ planned. edited (table_of (seen self.old) area) area.cursor edit.now ≡ Ok (changed (table_of (seen self.old) area) planned, cursor_after (table_of (seen self.old) area) area.cursor planned)) }
+        ensures outcome { IfOk result (λ planned. edited (table_of (seen self.old) area) area.cursor (edit_by edit.entry) ≡ Ok (changed (table_of (seen self.old) area) planned, cursor_after (table_of (seen self.old) area) area.cursor planned)) }
         ensures planned { IfOk result (λ planned. IsPlanned (held_at self.new.tables area.table) planned) }
-        ensures refused { IfErr result (λ fault. IsFaultOf fault (edited (table_of (seen self.old) area) area.cursor edit.now)) }
+        ensures refused { IfErr result (λ fault. IsFaultOf fault (edited (table_of (seen self.old) area) area.cursor (edit_by edit.entry))) }
         ensures same { seen self.new ≡ seen self.old }
     {
         let table = &mut self.tables[area.table as usize - 1];
-        table.plan(alloc, &area.cursor, edit)
+        plan_in(alloc, table, &area.cursor, edit)
     }
+}
 
-    /// The plan of REPLACE in the area's table, as that of [`State::plan_edit`].
-    pub fn plan_replace(
-        &mut self,
-        alloc: Global,
-        area: Area,
-        field: &Bytes,
-        value: &Literal,
-    ) -> Result<Planned, TableFault>
-        requires area { IsArea (seen self.old).tables area }
-        ensures outcome { IfOk result (λ planned. replace (table_of (seen self.old) area) area.cursor field.now value.now ≡ Ok (changed (table_of (seen self.old) area) planned, cursor_after (table_of (seen self.old) area) area.cursor planned)) }
-        ensures planned { IfOk result (λ planned. IsPlanned (held_at self.new.tables area.table) planned) }
-        ensures refused { IfErr result (λ fault. IsFaultOf fault (replace (table_of (seen self.old) area) area.cursor field.now value.now)) }
-        ensures same { seen self.new ≡ seen self.old }
-    {
-        let table = &mut self.tables[area.table as usize - 1];
-        table.plan_replace(alloc, &area.cursor, field, value)
-    }
-
-    /// The plan of MEMO in the area's table, as that of [`State::plan_edit`].
-    pub fn plan_memo(
-        &mut self,
-        alloc: Global,
-        area: Area,
-        field: &Bytes,
-        text: &Bytes,
-    ) -> Result<Planned, TableFault>
-        requires area { IsArea (seen self.old).tables area }
-        ensures outcome { IfOk result (λ planned. put_memo (table_of (seen self.old) area) area.cursor field.now text.now ≡ Ok (changed (table_of (seen self.old) area) planned, cursor_after (table_of (seen self.old) area) area.cursor planned)) }
-        ensures planned { IfOk result (λ planned. IsPlanned (held_at self.new.tables area.table) planned) }
-        ensures refused { IfErr result (λ fault. IsFaultOf fault (put_memo (table_of (seen self.old) area) area.cursor field.now text.now)) }
-        ensures same { seen self.new ≡ seen self.old }
-    {
-        let table = &mut self.tables[area.table as usize - 1];
-        table.plan_memo(alloc, &area.cursor, field, text)
+// The plan of an edit of a table.
+fn plan_in(
+    alloc: Global,
+    table: &mut Table,
+    cursor: &Cursor,
+    edit: AskedEdit<'_>,
+) -> Result<Planned, TableFault>
+    requires cursor { IsCursor table.old.content cursor.now }
+    ensures outcome { IfOk result (λ planned. edited table.old.content cursor.now (edit_by edit.entry) ≡ Ok (changed table.old.content planned, cursor_after table.old.content cursor.now planned)) }
+    ensures planned { IfOk result (λ planned. IsPlanned table.new planned) }
+    ensures refused { IfErr result (λ fault. IsFaultOf fault (edited table.old.content cursor.now (edit_by edit.entry))) }
+    ensures same { table.new.content ≡ table.old.content }
+{
+    match edit {
+        AskedEdit::Whole(edit) => table.plan(alloc, cursor, edit),
+        AskedEdit::Replace(field, value) => table.plan_replace(alloc, cursor, field, value),
+        AskedEdit::Memo(field, text) => table.plan_memo(alloc, cursor, field, text),
     }
 }
