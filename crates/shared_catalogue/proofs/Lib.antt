@@ -9,6 +9,7 @@ pub mod ReplayLaws
 pub mod Mapped
 pub mod RoomLaws
 pub mod OpeningLaws
+pub mod IndexLaws
 pub mod SeatLaws
 pub mod SameLaws
 pub mod StatusLaws

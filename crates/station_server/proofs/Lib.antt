@@ -1,3 +1,4 @@
 pub mod NoMemos
 pub mod ScriptLaws
 pub mod Unwritten
+mod PlainOpening

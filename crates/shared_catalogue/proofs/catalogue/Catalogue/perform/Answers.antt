@@ -1,8 +1,9 @@
-use Rattle.std.proofs.Common.{◌≡◌, ◌-◌, List, [], ◌∷◌, ◌++◌, sym, ap, ◌∙◌, arith}
+use Rattle.std.proofs.Common.{map, ◌≡◌, ◌-◌, List, [], ◌∷◌, ◌++◌, sym, ap, ◌∙◌, arith}
 use Rattle.shared_catalogue.specs.declared.entry.Entry.{Entry}
 use Rattle.shared_catalogue.specs.Planned.{planned, changed}
 use Rattle.shared_catalogue.specs.Replay.{History, opened_as, state_of, entry}
 use Rattle.shared_catalogue.specs.Rooms.{seen}
+use Rattle.shared_catalogue.specs.Tables.{kept_table}
 use Rattle.shared_catalogue.specs.State.{State, station_at, HasStation}
 use Rattle.shared_catalogue.specs.Step.{step}
 use Rattle.shared_catalogue.proofs.StepLaws.{refused_step}
@@ -21,7 +22,7 @@ invariant_of-self-2 c =
     let applied : seen c.apply.new.self ≡ (step s station e.command).0 = c.apply.ensures.value ∙ ap (λ (t : State). changed t station plan.change) c.in_ok-plan.ensures.same ∙ ap (λ r. r.0) stepped in
     let stations : c.self.inside.stations ≡ c.args.self.now.opened.stations = ap (λ (h : History). h.opened.stations) c.self.view_is in
     let has : HasStation s station = has_station s station c.self.invariant.ok c.requires.counted (omega (arith, c.self.invariant.stations, stations, c.requires.inside)) in
-    let kept = kept_push (opened_as c.self.inside.stations c.self.inside.sources.items) s journal e c.self.invariant has (ap (λ r. r.1) stepped) (omega arith) in
+    let kept = kept_push (opened_as c.self.inside.stations (map kept_table c.self.inside.opened.items)) s journal e c.self.invariant has (ap (λ r. r.1) stepped) (omega arith) in
     rw (grown, applied) kept
 
 pub returns-clause-refused : goal.returns-clause-refused
