@@ -98,7 +98,10 @@ fn open_table(alloc: Global, table: TableData) -> Result<Catalogue, FirstFault>
         content: table,
         indexes: Vec::new(alloc),
     });
-    Catalogue::open(alloc, sources, 1, false).map_err(FirstFault::Open)
+    match Catalogue::open(alloc, sources, 1, false) {
+        Ok(catalogue) => Ok(catalogue),
+        Err(fault) => Err(FirstFault::Open(fault)),
+    }
 }
 
 // Performs the commands of the only station one after another, and collects the answers.
