@@ -1,4 +1,3 @@
 pub mod NoMemos
 pub mod ScriptLaws
 pub mod Unwritten
-mod PlainOpening
