@@ -9,5 +9,6 @@ pub mod ReplayLaws
 pub mod Mapped
 pub mod RoomLaws
 pub mod OpeningLaws
+pub mod IndexLaws
 pub mod SeatLaws
 pub mod StatusLaws

@@ -8,10 +8,10 @@ use Rattle.shared_catalogue.specs.declared.catalogue.TheConstants.{MAX_ENTRIES}
 use Rattle.shared_catalogue.specs.declared.entry.Entry.{Entry}
 use Rattle.shared_catalogue.specs.Kept.{IsKept}
 use Rattle.shared_catalogue.specs.declared.opening.TheConstants.{MAX_TABLES}
-use Rattle.shared_catalogue.specs.declared.source.TableSource.{TableSource}
 use Rattle.shared_catalogue.specs.declared.change.Plan.{Plan}
 use Rattle.shared_catalogue.specs.Planned.{planned, changed}
-use Rattle.shared_catalogue.specs.Replay.{NamedTable, Opened, History, history, named_table, opened_at, opened_as, after, start, LegalFrom}
+use Rattle.shared_catalogue.specs.Tables.{NamedTable}
+use Rattle.shared_catalogue.specs.Replay.{Opened, History, history, opened_at, opened_as, after, start, LegalFrom}
 use Rattle.shared_catalogue.specs.declared.command.Command.{Command}
 use Rattle.shared_catalogue.specs.State.{State, new_station, no_content, table_at, shape_of, shapes_of, IsState, HasStation}
 use Rattle.shared_catalogue.specs.Step.{Outcome, outcome, settled, step}
@@ -73,15 +73,15 @@ kept_push opened s journal e kept has answer few =
     }
 
 -- what was just opened is kept by the state at opening
-pub opened_kept : (n : ℕ) (sources : List TableSource) (s : State) → s ≡ start (opened_as n sources) → length sources ≤ MAX_TABLES → IsKept (opened_as n sources) s []
-opened_kept n sources s at few =
-    let opened = opened_as n sources in
+pub opened_kept : (n : ℕ) (tables : List NamedTable) (s : State) → s ≡ start (opened_as n tables) → length tables ≤ MAX_TABLES → IsKept (opened_as n tables) s []
+opened_kept n tables s at few =
+    let opened = opened_as n tables in
     let P : State → Type 0 = IsState in
     record {
       replayed = at;
       legal = tt;
       few = omega arith;
-      ok = subst P (sym at) (start_is opened (omega (arith, few, length-map sources named_table)));
+      ok = subst P (sym at) (start_is opened few);
       stations = ap (λ (t : State). length t.stations) at ∙ length-replicate n new_station;
       shapes = ap (λ (t : State). shapes_of t.tables) at;
     }

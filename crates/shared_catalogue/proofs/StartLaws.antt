@@ -6,7 +6,8 @@ use Rattle.shared_catalogue.specs.declared.area.Station.{Station}
 use Rattle.shared_catalogue.specs.declared.area.TheConstants.{MAX_AREAS}
 use Rattle.shared_catalogue.specs.declared.opening.TheConstants.{MAX_TABLES}
 use Rattle.shared_catalogue.specs.State.{new_station, area_at, IsStation, IsState}
-use Rattle.shared_catalogue.specs.Replay.{NamedTable, Opened, start}
+use Rattle.shared_catalogue.specs.Replay.{Opened, start}
+use Rattle.shared_catalogue.specs.Tables.{NamedTable}
 use Rattle.shared_catalogue.proofs.KeptLaws.{none_some}
 
 -- stations that are new

@@ -1,6 +1,7 @@
 pub mod Names
 pub mod State
 pub mod Step
+pub mod Tables
 pub mod Opening
 pub mod Replay
 pub mod Kept

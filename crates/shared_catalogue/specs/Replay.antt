@@ -5,14 +5,9 @@ use Rattle.table_core.specs.Content.{Content}
 use Rattle.shared_catalogue.specs.declared.answer.Answer.{Answer}
 use Rattle.shared_catalogue.specs.declared.command.Command.{Command}
 use Rattle.shared_catalogue.specs.declared.entry.Entry.{Entry}
-use Rattle.shared_catalogue.specs.declared.source.TableSource.{TableSource}
 use Rattle.shared_catalogue.specs.State.{State, new_station, table_at}
 use Rattle.shared_catalogue.specs.Step.{step}
-
--- a table with its indexes under its name
-pub record NamedTable : Type 0 where
-  pub name : List ℕ
-  pub content : Content
+use Rattle.shared_catalogue.specs.Tables.{NamedTable}
 
 -- the number of stations, and the tables as they were opened
 pub record Opened : Type 0 where
@@ -24,12 +19,8 @@ pub record History : Type 0 where
   pub opened : Opened
   pub journal : List Entry
 
--- a table as it was handed over
-abbrev pub named_table : TableSource → NamedTable
-named_table t = record { name = t.name; content = record { table = t.content; indexes = [] } }
-
-abbrev pub opened_as : ℕ → List TableSource → Opened
-opened_as stations tables = record { stations = stations; tables = map named_table tables }
+abbrev pub opened_as : ℕ → List NamedTable → Opened
+opened_as stations tables = record { stations = stations; tables = tables }
 
 abbrev pub history : Opened → List Entry → History
 history opened journal = record { opened = opened; journal = journal }

@@ -1,12 +1,13 @@
 //! The catalogue: the tables as they were opened, the journal of the commands since, and their state.
 
-ghost use Rattle.std.specs.Prelude.{◌≡◌, ◌≢◌, ◌↔◌, ℕ, ◌-◌, ◌≤◌, [], length, None, IfOk, IfErr, OnErr, IsErrOf};
+ghost use Rattle.std.specs.Prelude.{◌≡◌, ◌≢◌, ◌↔◌, ℕ, ◌-◌, ◌≤◌, [], length, Ok, Err, IfOk, IfErr, OnErr, IsErrOf};
 ghost use Rattle.shared_catalogue.specs.declared.catalogue.TheConstants.{MAX_ENTRIES};
 
 use crate::answer::Answer;
 use crate::command::Command;
 use crate::entry::Entry;
-use crate::opening::{OpenFault, check_opening};
+use crate::kept_table::{KeptTable, kept_tables};
+use crate::opening::{OpenFault, check_counts, open_tables};
 use crate::plan::plan;
 use crate::source::TableSource;
 use crate::state::State;
@@ -49,7 +50,7 @@ impl From<AllocError> for Stop {
 /// exclusively is open at no other station.
 #[derive(Drop)]
 pub struct Catalogue {
-    sources: Vec<TableSource>,
+    opened: Vec<KeptTable>,
     stations: u32,
     state: State,
     journal: Vec<Entry>,
@@ -61,42 +62,56 @@ impl Model for Catalogue {
     ghost use Rattle.shared_catalogue.specs.Kept.{IsKept};
     ghost use Rattle.shared_catalogue.specs.Replay.{History, history, opened_as};
     ghost use Rattle.shared_catalogue.specs.Rooms.{seen};
+    ghost use Rattle.shared_catalogue.specs.Tables.{kept_table};
+    ghost use Rattle.std.specs.Prelude.{map};
 
     ghost Value = { History };
 
     ghost coded = { Prim.hlevel (codes, expr_code) };
 
-    ghost view = { λ c. history (opened_as c.stations c.sources.items) c.journal.items };
+    ghost view = { λ c. history (opened_as c.stations (map kept_table c.opened.items)) c.journal.items };
 
-    ghost invariant = { λ c. IsKept (opened_as c.stations c.sources.items) (seen c.state) c.journal.items };
+    ghost invariant = { λ c. IsKept (opened_as c.stations (map kept_table c.opened.items)) (seen c.state) c.journal.items };
 }
 
 impl Catalogue {
     ghost use Rattle.shared_catalogue.specs.Status.{row};
     ghost use Rattle.shared_catalogue.specs.declared.answer.Answer.{Answer};
     ghost use Rattle.table_core.specs.declared.refusal.Refusal.{Refusal};
-    ghost use Rattle.shared_catalogue.specs.Opening.{refusal, IsRefusal};
-    ghost use Rattle.shared_catalogue.specs.Replay.{history, opened_as, state_of, answer_of, with_entry, opened_at, IsLegal};
+    ghost use Rattle.shared_catalogue.specs.Opening.{Opening};
+    ghost use Rattle.shared_catalogue.specs.Replay.{state_of, answer_of, with_entry, opened_at, IsLegal};
     ghost use Rattle.shared_catalogue.specs.State.{table_at as content_at, station_at, IsState};
 
     /// Opens tables for stations: no table is open in any area, no lock is held, and the journal is empty.
     ///
     /// The faults are tested in this order: `NoStation`, `TooManyStations` (more than 16), `TooManyTables` (more
-    /// than 10), and then, table by table, `DuplicateTable` (a name used by an earlier table). `NoMemory` comes
-    /// only where none of these does.
+    /// than 10); then, table by table, `DuplicateTable` (a name used by an earlier table), `TooManyIndexes` (more
+    /// than 7), and for each of its indexes `DuplicateIndex` (a name used by any earlier index), `BadExpression`
+    /// and `IndexStale`. An index is stale where its keys have another length than the expression's, or its pairs
+    /// are not those of the table's records, each as often; in which order they stand doesn't matter. With
+    /// `reindex` that is not asked, and the order is built from the records. `NoMemory` comes only where all tests
+    /// before it pass.
     pub fn open(
         alloc: Global,
         sources: Vec<TableSource>,
         stations: u32,
+        reindex: bool,
     ) -> Result<Catalogue, OpenFault>
-        ensures accepted { IfOk result (λ _. refusal sources.items stations ≡ None) }
-        ensures opened { IfOk result (λ catalogue. catalogue ≡ history (opened_as stations sources.items) []) }
-        ensures refused { IfErr result (λ fault. IsRefusal fault sources.items stations) }
+        ensures opened { IfOk result (λ catalogue. Opening reindex stations sources.items (Ok catalogue.opened.tables)) }
+        ensures stations { IfOk result (λ catalogue. catalogue.opened.stations ≡ stations) }
+        ensures empty { IfOk result (λ catalogue. catalogue.journal ≡ []) }
+        ensures refused { IfErr result (λ fault. Opening reindex stations sources.items (Err fault)) }
     {
-        check_opening(&sources, stations)?;
-        let state = State::new(alloc, &sources, stations)?;
+        check_counts(sources.len(), stations)?;
+        let tables = open_tables(alloc, sources, reindex)?;
+        let Ok(opened) = kept_tables(alloc, &tables) else {
+            return Err(OpenFault::NoMemory);
+        };
+        let Ok(state) = State::new(alloc, tables, stations) else {
+            return Err(OpenFault::NoMemory);
+        };
         Ok(Catalogue {
-            sources,
+            opened,
             stations,
             state,
             journal: Vec::new(alloc),
@@ -170,7 +185,7 @@ impl Catalogue {
     pub fn table_count(&self) -> usize
         ensures value { result ≡ length self.now.opened.tables }
     {
-        self.sources.len()
+        self.opened.len()
     }
 
     #[tactic(auto, using(crate::proofs::ReplayLaws::kept_tables))]

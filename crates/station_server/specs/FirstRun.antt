@@ -4,12 +4,13 @@ use Rattle.dbf_image.specs.Table.{Table}
 use Rattle.shared_catalogue.specs.declared.answer.Answer.{Answer}
 use Rattle.shared_catalogue.specs.declared.command.Command.{Command}
 use Rattle.shared_catalogue.specs.declared.entry.Entry.{Entry}
+use Rattle.shared_catalogue.specs.Opening.{without_indexes}
 use Rattle.shared_catalogue.specs.Replay.{Opened, opened_as, replay, IsLegal}
 use Rattle.shared_catalogue.specs.State.{table_at}
 
 -- the table T, opened for one station
 abbrev pub table_t : Table → Opened
-table_t table = opened_as 1 (record { name = codes "T"; content = table } ∷ [])
+table_t table = opened_as 1 (record { name = codes "T"; content = without_indexes table } ∷ [])
 
 -- the commands were performed on the table one after another, these are their answers, and the table
 -- stands so at the end

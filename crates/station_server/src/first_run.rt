@@ -96,8 +96,12 @@ fn open_table(alloc: Global, table: TableData) -> Result<Catalogue, FirstFault>
     sources.push_reserved(TableSource {
         name,
         content: table,
+        indexes: Vec::new(alloc),
     });
-    Catalogue::open(alloc, sources, 1).map_err(FirstFault::Open)
+    match Catalogue::open(alloc, sources, 1, false) {
+        Ok(catalogue) => Ok(catalogue),
+        Err(fault) => Err(FirstFault::Open(fault)),
+    }
 }
 
 // Performs the commands of the only station one after another, and collects the answers.

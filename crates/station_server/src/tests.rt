@@ -33,12 +33,13 @@ fn source(alloc: Global, name: &[u8]) -> Result<TableSource, Fail> {
     Ok(TableSource {
         name: Bytes::from_slice(alloc, name)?,
         content: read_table(alloc, &sample::TABLE, None)?,
+        indexes: Vec::new(alloc),
     })
 }
 
 fn open_sample(alloc: Global) -> Result<Catalogue, Fail> {
     let sources = vec![in alloc; source(alloc, b"T")?]?;
-    Ok(Catalogue::open(alloc, sources, 1)?)
+    Ok(Catalogue::open(alloc, sources, 1, false)?)
 }
 
 // Performs a command of station 1.

@@ -28,6 +28,7 @@ pub fn source(alloc: Global, name: &[u8]) -> Result<TableSource, Fail> {
     Ok(TableSource {
         name: Bytes::from_slice(alloc, name)?,
         content: read_table(alloc, &TABLE, None)?,
+        indexes: Vec::new(alloc),
     })
 }
 
@@ -138,7 +139,16 @@ fn is_expected(answer: &Answer, expected: Expected) -> bool {
 // answer or number is not the expected one.
 pub fn first_unexpected(alloc: Global, cases: &[Case]) -> Result<Option<usize>, Fail> {
     let sources = vec![in alloc; source(alloc, b"T")?, source(alloc, b"U")?]?;
-    let mut catalogue = Catalogue::open(alloc, sources, 2)?;
+    first_unexpected_of(alloc, sources, cases)
+}
+
+// The same on a catalogue of two stations with these tables.
+pub fn first_unexpected_of(
+    alloc: Global,
+    sources: Vec<TableSource>,
+    cases: &[Case],
+) -> Result<Option<usize>, Fail> {
+    let mut catalogue = Catalogue::open(alloc, sources, 2, false)?;
     for i in 0..cases.len() {
         if !is_answered(alloc, &mut catalogue, i, cases[i])? {
             return Ok(Some(i));

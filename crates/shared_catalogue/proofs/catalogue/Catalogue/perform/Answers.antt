@@ -1,7 +1,8 @@
-use Rattle.std.proofs.Common.{◌≡◌, ◌-◌, List, [], ◌∷◌, ◌++◌, sym, ap, ◌∙◌, arith}
+use Rattle.std.proofs.Common.{map, ◌≡◌, ◌-◌, List, [], ◌∷◌, ◌++◌, sym, ap, ◌∙◌, arith}
 use Rattle.shared_catalogue.specs.declared.entry.Entry.{Entry}
 use Rattle.shared_catalogue.specs.Replay.{opened_as, state_of, entry}
 use Rattle.shared_catalogue.specs.Rooms.{seen}
+use Rattle.shared_catalogue.specs.Tables.{kept_table}
 use Rattle.shared_catalogue.specs.State.{State, station_at}
 use Rattle.shared_catalogue.specs.Step.{step}
 use Rattle.shared_catalogue.proofs.StepLaws.{refused_step}
@@ -17,7 +18,7 @@ invariant_of-self-2 c =
     let done : (seen c.apply.new.self, e.answer) ≡ step s e.station e.command = carried_out c.args.station c.in_ok-plan.plan c.in_ok-plan.ensures.stepped c.in_ok-command_copy.ensures.value c.in_ok-plan.ensures.same c.apply.ensures.value in
     let applied : seen c.apply.new.self ≡ (step s e.station e.command).0 = ap (λ r. r.0) done in
     let has = may_perform c.self.invariant c.self.view_is c.requires.counted c.requires.inside in
-    let kept = kept_push (opened_as c.self.inside.stations c.self.inside.sources.items) s journal e c.self.invariant has (ap (λ r. r.1) done) (omega arith) in
+    let kept = kept_push (opened_as c.self.inside.stations (map kept_table c.self.inside.opened.items)) s journal e c.self.invariant has (ap (λ r. r.1) done) (omega arith) in
     rw (grown, applied) kept
 
 pub returns-clause-refused : goal.returns-clause-refused

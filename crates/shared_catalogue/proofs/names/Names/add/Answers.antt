@@ -1,7 +1,8 @@
 use Rattle.std.proofs.Common.{◌≡◌, ℕ, Bool, not, List, [], ◌∷◌, ◌++◌, bytes_eq, map, cond, ap, sym, ◌∙◌}
 use Rattle.std.specs.List.{list_any}
 use Rattle.shared_catalogue.specs.Names.{has_name, with_name}
-use Rattle.shared_catalogue.proofs.Mapped.{any_mapped, mapped_if}
+use Rattle.table_core.specs.Laws.Lists.{any_mapped}
+use Rattle.shared_catalogue.proofs.Mapped.{mapped_if}
 use Rattle.shared_catalogue.proofs.names.Names.add.Goals as goal
 
 pub returns-clause-value : goal.returns-clause-value
