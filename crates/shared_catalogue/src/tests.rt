@@ -1,3 +1,9 @@
+mod asked;
+mod cells;
+mod memos;
 mod openings;
+mod performing;
+mod refusals;
 mod sample;
+mod shared;
 mod stations;

@@ -1,6 +1,7 @@
 //! The faults of opening, in order, and the indexes that are taken over.
 
-use super::sample::{Asked, Case, Expected, first_unexpected_of};
+use super::asked::{Asked, Case, Expected, first_other};
+use super::sample::open;
 use crate::catalogue::Catalogue;
 use crate::command::Question;
 use crate::opening::OpenFault;
@@ -205,7 +206,7 @@ fn reversed_equal_keys(rt: HostRuntime) -> Result<(), Fail> {
     let index = index_of(alloc, (b"X", b"NAME", 1, REVERSED))?;
     source.indexes.push(index)?;
     let sources = vec![in alloc; source]?;
-    assert_eq!(rt; first_unexpected_of(alloc, sources, &BY_NUMBER)?, None);
+    assert_eq!(rt; first_other(alloc, &mut open(alloc, sources, 2)?, &BY_NUMBER)?, None);
     Ok(())
 }
 
@@ -265,6 +266,6 @@ fn pack_renumbers_the_index(rt: HostRuntime) -> Result<(), Fail> {
     let mut source = source_of(alloc, T)?;
     source.indexes.push(index_of(alloc, X)?)?;
     let sources = vec![in alloc; source]?;
-    assert_eq!(rt; first_unexpected_of(alloc, sources, &PACKED_INDEX)?, None);
+    assert_eq!(rt; first_other(alloc, &mut open(alloc, sources, 2)?, &PACKED_INDEX)?, None);
     Ok(())
 }

@@ -1,9 +1,11 @@
-use crate::answer::Answer;
+//! The tables and the catalogues that the tests open.
+
+ghost use Rattle.std.specs.Prelude.{◌≡◌, [], IfOk};
+
 use crate::catalogue::Catalogue;
-use crate::command::{Command, Question};
 use crate::source::TableSource;
-use dbf_fields::{Bytes, Literal};
-use dbf_image::read_table;
+use dbf_fields::{Bytes, Field, Schema};
+use dbf_image::{TableData, read_table};
 use std::alloc::Global;
 use std::test::Fail;
 
@@ -25,150 +27,60 @@ const TABLE: [u8; 88] = [
 
 // The sample's table under a name.
 pub fn source(alloc: Global, name: &[u8]) -> Result<TableSource, Fail> {
+    named(alloc, name, read_table(alloc, &TABLE, None)?)
+}
+
+// A table under a name.
+pub fn named(alloc: Global, name: &[u8], content: TableData) -> Result<TableSource, Fail> {
+    let name = Bytes::from_slice(alloc, name)?;
     Ok(TableSource {
-        name: Bytes::from_slice(alloc, name)?,
-        content: read_table(alloc, &TABLE, None)?,
+        name,
+        content,
         indexes: Vec::new(alloc),
     })
 }
 
-// A kind of command. The name or text that it takes stands beside it in a table of cases.
-#[derive(Clone, Copy)]
-pub enum Asked {
-    Select(u64),
-    Use,
-    UseExclusive,
-    Close,
-    Go(u64),
-    Top,
-    Bottom,
-    Skip(i64),
-    Seek,
-    Order(u64),
-    Append,
-    ReplaceName,
-    ReplaceTruth,
-    Memo,
-    Delete,
-    Recall,
-    Pack,
-    Unlock,
-    UnlockAll,
-    Show,
-    RecordLock,
-    FileLock,
-    Ask(Question),
-    Bad,
-}
-
-// What a command is answered: OK, a refusal by its number, yes or no, a number, or a text.
-#[derive(Clone, Copy)]
-pub enum Expected {
-    Ok,
-    Refused(u8),
-    Truth(bool),
-    Number(u64),
-    Text(&'static [u8]),
-}
-
-// A station, its command with a name or text, and the answer.
-pub type Case = (u32, Asked, &'static [u8], Expected);
-
-fn command_of(alloc: Global, asked: Asked, text: &[u8]) -> Result<Command, Fail> {
-    let text = Bytes::from_slice(alloc, text)?;
-    match asked {
-        Asked::Use => Ok(use_table(text, false)),
-        Asked::UseExclusive => Ok(use_table(text, true)),
-        Asked::Seek => Ok(Command::Seek(text)),
-        Asked::Show => Ok(Command::Show(text)),
-        Asked::ReplaceName => Ok(Command::Replace {
-            field: Bytes::from_slice(alloc, b"NAME")?,
-            value: Literal::Text(text),
-        }),
-        Asked::ReplaceTruth => Ok(Command::Replace {
-            field: text,
-            value: Literal::Truth(true),
-        }),
-        Asked::Memo => Ok(Command::Memo {
-            field: Bytes::from_slice(alloc, b"NAME")?,
-            text,
-        }),
-        other => Ok(plain(other)),
-    }
-}
-
-fn use_table(name: Bytes, exclusive: bool) -> Command {
-    Command::UseTable { name, exclusive }
-}
-
-// A command without a name or text.
-fn plain(asked: Asked) -> Command {
-    match asked {
-        Asked::Select(number) => Command::Select(number),
-        Asked::Close => Command::CloseTable,
-        Asked::Go(number) => Command::Go(number),
-        Asked::Top => Command::Top,
-        Asked::Bottom => Command::Bottom,
-        Asked::Skip(steps) => Command::Skip(steps),
-        Asked::Order(number) => Command::Order(number),
-        Asked::Append => Command::AppendBlank,
-        Asked::Delete => Command::Delete,
-        Asked::Recall => Command::Recall,
-        Asked::Pack => Command::Pack,
-        Asked::Unlock => Command::Unlock,
-        Asked::UnlockAll => Command::UnlockAll,
-        Asked::RecordLock => Command::RecordLock,
-        Asked::FileLock => Command::FileLock,
-        Asked::Ask(question) => Command::Ask(question),
-        _ => Command::Bad,
-    }
-}
-
-fn is_expected(answer: &Answer, expected: Expected) -> bool {
-    match (answer, expected) {
-        (Answer::Done, Expected::Ok) => true,
-        (Answer::Refused(refusal), Expected::Refused(code)) => refusal.code() == code,
-        (Answer::Truth(truth), Expected::Truth(wanted)) => *truth == wanted,
-        (Answer::Number(number), Expected::Number(wanted)) => *number == wanted,
-        (Answer::Text(text), Expected::Text(bytes)) => text.as_slice() == bytes,
-        _ => false,
-    }
-}
-
-// Performs the cases on a catalogue of two stations with the tables T and U, and tells the index of the first whose
-// answer or number is not the expected one.
-pub fn first_unexpected(alloc: Global, cases: &[Case]) -> Result<Option<usize>, Fail> {
-    let sources = vec![in alloc; source(alloc, b"T")?, source(alloc, b"U")?]?;
-    first_unexpected_of(alloc, sources, cases)
-}
-
-// The same on a catalogue of two stations with these tables.
-pub fn first_unexpected_of(
-    alloc: Global,
-    sources: Vec<TableSource>,
-    cases: &[Case],
-) -> Result<Option<usize>, Fail> {
-    let mut catalogue = Catalogue::open(alloc, sources, 2, false)?;
-    for i in 0..cases.len() {
-        if !is_answered(alloc, &mut catalogue, i, cases[i])? {
-            return Ok(Some(i));
+// A table of up to three blank records, with the fields.
+pub fn blank_table(alloc: Global, fields: &[Field], count: u32) -> Result<TableData, Fail> {
+    let mut content = TableData::empty(alloc, Schema::new(alloc, fields)?);
+    for _ in 0..count {
+        if content.record_count() < 3 {
+            content.append_blank()?;
         }
     }
-    Ok(None)
+    Ok(content)
 }
 
-// Performs a case, and tells whether its answer is the expected one and its number the next.
-fn is_answered(
-    alloc: Global,
-    catalogue: &mut Catalogue,
-    index: usize,
-    case: Case,
-) -> Result<bool, Fail> {
-    let (station, asked, text, expected) = case;
-    if station < 1 || station > catalogue.station_count() {
-        return Err("no such station".into());
+// The catalogue of these tables for so many stations.
+pub fn open(alloc: Global, sources: Vec<TableSource>, stations: u32) -> Result<Catalogue, Fail>
+    ensures stations { IfOk result (λ catalogue. catalogue.opened.stations ≡ stations) }
+    ensures empty { IfOk result (λ catalogue. catalogue.journal ≡ []) }
+{
+    Ok(Catalogue::open(alloc, sources, stations, false)?)
+}
+
+// The catalogue of the sample's tables T and U for so many stations.
+pub fn open_sample(alloc: Global, stations: u32) -> Result<Catalogue, Fail>
+    ensures stations { IfOk result (λ catalogue. catalogue.opened.stations ≡ stations) }
+    ensures empty { IfOk result (λ catalogue. catalogue.journal ≡ []) }
+{
+    let sources = vec![in alloc; source(alloc, b"T")?, source(alloc, b"U")?]?;
+    open(alloc, sources, stations)
+}
+
+// The first table of a catalogue.
+pub fn first_table(alloc: Global, catalogue: &Catalogue) -> Result<TableData, Fail> {
+    if catalogue.table_count() == 0 {
+        return Err("there is no table".into());
     }
-    let command = command_of(alloc, asked, text)?;
-    let (number, answer) = catalogue.perform(alloc, station, &command)?;
-    Ok(number > index as u64 && number - 1 == index as u64 && is_expected(&answer, expected))
+    Ok(catalogue.content(alloc, 1)?)
+}
+
+// The cell of a record and a field, or nothing where there is none.
+pub fn cell_of(table: &TableData, number: u32, field: usize) -> &[u8] {
+    let fields = table.schema().fields().len();
+    if number < 1 || number > table.record_count() || field >= fields {
+        return &[];
+    }
+    table.cell(number, field)
 }

@@ -96,7 +96,7 @@ fn run_on<G: Gate + Sync, R: Threads + Wait + Sync>(
     gate: &G,
 ) -> Result<Result<Outcome, RunFault>, Fail> {
     let sources = vec![in alloc; table]?;
-    let catalogue = Catalogue::open(alloc, sources, stations)?;
+    let catalogue = Catalogue::open(alloc, sources, stations, false)?;
     Ok(run_catalogue(rt, alloc, catalogue, scripts, gate))
 }
 

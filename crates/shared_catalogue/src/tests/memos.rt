@@ -1,0 +1,190 @@
+//! Memos: what is kept, refused and written.
+
+use super::asked::{
+    Asked, Case, Expected, Text, Value, first_unexpected_in, long_text, table_after,
+};
+use super::sample::{blank_table, cell_of};
+use dbf_fields::{Field, MEMO, NUMBER, day_of};
+use dbf_image::{MemorySink, TableData, read_table, write_dbf, write_dbt};
+use std::alloc::Global;
+use std::test::Fail;
+
+// A table of blank records with the field NOTE.
+fn notes(alloc: Global, count: u32) -> Result<TableData, Fail> {
+    let fields = [Field::new(alloc, b"NOTE", MEMO, 10, 0)?];
+    blank_table(alloc, &fields, count)
+}
+
+// The bytes from an offset to another one, or none where there are fewer.
+fn part(bytes: &[u8], from: usize, to: usize) -> &[u8] {
+    match bytes.get(from..to) {
+        Some(found) => found,
+        None => &[],
+    }
+}
+
+// Memos of 510, 511 and 0 bytes at the records 1 to 3.
+const NOTED: [Case; 6] = [
+    (1, Asked::UseExclusive, b"T", Expected::Ok),
+    (1, Asked::Memo(Text::Long(510)), b"NOTE", Expected::Ok),
+    (1, Asked::Go(2), b"", Expected::Ok),
+    (1, Asked::Memo(Text::Long(511)), b"NOTE", Expected::Ok),
+    (1, Asked::Go(3), b"", Expected::Ok),
+    (1, Asked::Memo(Text::Long(0)), b"NOTE", Expected::Ok),
+];
+
+fn noted(alloc: Global) -> Result<TableData, Fail> {
+    table_after(alloc, notes(alloc, 3)?, &NOTED)
+}
+
+fn dbf_of(alloc: Global, table: &TableData) -> Result<Vec<u8>, Fail> {
+    let day = day_of(1987, 3, 15).ok_or("a date")?;
+    let mut dbf = MemorySink::new(alloc);
+    write_dbf(&mut dbf, table, day)?;
+    Ok(dbf.bytes)
+}
+
+fn dbt_of(alloc: Global, table: &TableData) -> Result<Vec<u8>, Fail> {
+    let mut dbt = MemorySink::new(alloc);
+    write_dbt(&mut dbt, table)?;
+    Ok(dbt.bytes)
+}
+
+#[test]
+fn memo_blocks(rt: HostRuntime) -> Result<(), Fail> {
+    let alloc = rt.alloc();
+    let table = noted(alloc)?;
+    let dbf = dbf_of(alloc, &table)?;
+    let dbt = dbt_of(alloc, &table)?;
+    assert_eq!(rt; dbt.len(), 2048);
+    let cases: [(&[u8], usize, &[u8]); 7] = [
+        (&dbf, 0, b"\x83"),
+        (&dbf, 66, b"         1"),
+        (&dbf, 77, b"         2"),
+        (&dbf, 88, b"          "),
+        (&dbt, 0, b"\x04\0\0\0"),
+        (&dbt, 1021, b"x\x1a\x1ax"),
+        (&dbt, 1534, b"x\x1a\x1a\0"),
+    ];
+    for (file, offset, bytes) in cases {
+        assert_eq!(rt; part(file, offset, offset.wrapping_add(bytes.len())), bytes);
+    }
+    Ok(())
+}
+
+#[test]
+fn written_memos_are_read_again(rt: HostRuntime) -> Result<(), Fail> {
+    let alloc = rt.alloc();
+    let table = noted(alloc)?;
+    let dbf = dbf_of(alloc, &table)?;
+    let dbt = dbt_of(alloc, &table)?;
+    let again = read_table(alloc, &dbf, Some(&dbt))?;
+    for (number, length) in [(1, 510), (2, 511), (3, 0)] {
+        assert_eq!(rt;
+            cell_of(&again, number, 0),
+            long_text(alloc, length)?.as_slice()
+        );
+    }
+    Ok(())
+}
+
+const LENGTHS: [Case; 7] = [
+    (1, Asked::UseExclusive, b"T", Expected::Ok),
+    (1, Asked::Memo(Text::Long(5)), b"NOTE", Expected::Ok),
+    (1, Asked::Show, b"NOTE", Expected::LongText(5)),
+    (
+        1,
+        Asked::Memo(Text::Long(65_536)),
+        b"NOTE",
+        Expected::Refused(14),
+    ),
+    (1, Asked::Show, b"NOTE", Expected::LongText(5)),
+    (1, Asked::Memo(Text::Long(65_535)), b"NOTE", Expected::Ok),
+    (1, Asked::Show, b"NOTE", Expected::LongText(65_535)),
+];
+
+#[test]
+fn memos_have_at_most_65_535_bytes(rt: HostRuntime) -> Result<(), Fail> {
+    let alloc = rt.alloc();
+    assert_eq!(rt;
+        first_unexpected_in(alloc, notes(alloc, 3)?, &LENGTHS)?,
+        None
+    );
+    Ok(())
+}
+
+// MEMO of a table with the fields NOTE and AMT.
+const REFUSED_MEMOS: [Case; 10] = [
+    (
+        1,
+        Asked::Memo(Text::Is(b"HELLO")),
+        b"NOTE",
+        Expected::Refused(2),
+    ),
+    (1, Asked::Use, b"T", Expected::Ok),
+    (
+        1,
+        Asked::Memo(Text::Is(b"HELLO")),
+        b"NOTE",
+        Expected::Refused(5),
+    ),
+    (1, Asked::UseExclusive, b"T", Expected::Ok),
+    (
+        1,
+        Asked::Memo(Text::Is(b"HELLO")),
+        b"ZIP",
+        Expected::Refused(10),
+    ),
+    (
+        1,
+        Asked::Memo(Text::Is(b"HELLO")),
+        b"AMT",
+        Expected::Refused(11),
+    ),
+    (
+        1,
+        Asked::Replace(Value::Text(b"A")),
+        b"NOTE",
+        Expected::Refused(11),
+    ),
+    (1, Asked::Memo(Text::Is(b"HELLO")), b"NOTE", Expected::Ok),
+    (
+        1,
+        Asked::Memo(Text::Is(b"A\x1aB")),
+        b"NOTE",
+        Expected::Refused(14),
+    ),
+    (1, Asked::Show, b"NOTE", Expected::Text(b"HELLO")),
+];
+
+#[test]
+fn memo_refusals(rt: HostRuntime) -> Result<(), Fail> {
+    let alloc = rt.alloc();
+    let fields = [
+        Field::new(alloc, b"NOTE", MEMO, 10, 0)?,
+        Field::new(alloc, b"AMT", NUMBER, 6, 0)?,
+    ];
+    let table = blank_table(alloc, &fields, 1)?;
+    assert_eq!(rt; first_unexpected_in(alloc, table, &REFUSED_MEMOS)?, None);
+    Ok(())
+}
+
+const WITHOUT_RECORD: [Case; 2] = [
+    (1, Asked::UseExclusive, b"T", Expected::Ok),
+    (
+        1,
+        Asked::Memo(Text::Is(b"A")),
+        b"NOTE",
+        Expected::Refused(7),
+    ),
+];
+
+#[test]
+fn memo_needs_a_record(rt: HostRuntime) -> Result<(), Fail> {
+    let alloc = rt.alloc();
+    assert_eq!(rt;
+        first_unexpected_in(alloc, notes(alloc, 0)?, &WITHOUT_RECORD)?,
+        None
+    );
+    Ok(())
+}
