@@ -6,6 +6,7 @@ use crate::line::answer_line;
 use crate::sample;
 use dbf_fields::{Bytes, day_of};
 use dbf_image::{ImageFault, MemorySink, WriteFault, read_table, write_dbf};
+use key_expr::ExprFault;
 use shared_catalogue::{Answer, Catalogue, Command, OpenFault, Refusal, Stop, TableSource};
 use std::alloc::{AllocError, Global};
 use std::test::Fail;
@@ -181,7 +182,7 @@ fn refusals_have_their_lines(rt: HostRuntime) -> Result<(), Fail> {
 #[test]
 fn faults_have_their_texts(rt: HostRuntime) -> Result<(), Fail> {
     let alloc = rt.alloc();
-    let cases: [(FirstFault, &str); 10] = [
+    let cases: [(FirstFault, &str); 14] = [
         (
             FirstFault::Image(ImageFault::Truncated),
             "the table can't be read: the file is too short",
@@ -201,6 +202,22 @@ fn faults_have_their_texts(rt: HostRuntime) -> Result<(), Fail> {
         (
             FirstFault::Open(OpenFault::DuplicateTable(3)),
             "the catalogue can't be opened: table 3 has the name of an earlier one",
+        ),
+        (
+            FirstFault::Open(OpenFault::TooManyIndexes(2)),
+            "the catalogue can't be opened: table 2 has too many indexes",
+        ),
+        (
+            FirstFault::Open(OpenFault::DuplicateIndex(2, 1)),
+            "the catalogue can't be opened: index 1 of table 2 has the name of an earlier one",
+        ),
+        (
+            FirstFault::Open(OpenFault::BadExpression(1, 2, ExprFault::NoSuchField)),
+            "the catalogue can't be opened: index 2 of table 1 has no good key expression: there is no such field",
+        ),
+        (
+            FirstFault::Open(OpenFault::IndexStale(1, 7)),
+            "the catalogue can't be opened: index 7 of table 1 is stale",
         ),
         (
             FirstFault::Open(OpenFault::NoMemory),

@@ -206,7 +206,10 @@ fn reversed_equal_keys(rt: HostRuntime) -> Result<(), Fail> {
     let index = index_of(alloc, (b"X", b"NAME", 1, REVERSED))?;
     source.indexes.push(index)?;
     let sources = vec![in alloc; source]?;
-    assert_eq!(rt; first_other(alloc, &mut open(alloc, sources, 2)?, &BY_NUMBER)?, None);
+    assert_eq!(rt;
+        first_other(alloc, &mut open(alloc, sources, 2)?, &BY_NUMBER)?,
+        None
+    );
     Ok(())
 }
 
@@ -266,6 +269,9 @@ fn pack_renumbers_the_index(rt: HostRuntime) -> Result<(), Fail> {
     let mut source = source_of(alloc, T)?;
     source.indexes.push(index_of(alloc, X)?)?;
     let sources = vec![in alloc; source]?;
-    assert_eq!(rt; first_other(alloc, &mut open(alloc, sources, 2)?, &PACKED_INDEX)?, None);
+    assert_eq!(rt;
+        first_other(alloc, &mut open(alloc, sources, 2)?, &PACKED_INDEX)?,
+        None
+    );
     Ok(())
 }

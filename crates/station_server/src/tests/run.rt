@@ -295,6 +295,7 @@ fn sixteen_stations_count_together(rt: HostRuntime) -> Result<(), Fail> {
     let table = TableSource {
         name: Bytes::from_slice(alloc, b"L")?,
         content: read_table(alloc, &EMPTY, None)?,
+        indexes: Vec::new(alloc),
     };
     let gate = AfterAll {
         done: AtomicU64::new(0),
