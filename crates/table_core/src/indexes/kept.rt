@@ -7,7 +7,7 @@ ghost use Rattle.ndx_index.specs.Index.{HaveLength};
 ghost use Rattle.ndx_index.specs.TableOrder.{order, pairs_of, IsRecordPair};
 ghost use Rattle.table_core.specs.Indexes.{Follows, indexed};
 
-use crate::indexes::TableIndex;
+use crate::indexes::{TableIndex, pair_of};
 use dbf_fields::Bytes;
 use dbf_image::GrowingTable;
 use key_expr::KeyExpr;
@@ -80,5 +80,5 @@ fn is_record_pair(records: &GrowingTable, expr: &KeyExpr, pair: &Pair) -> bool
     if pair.number > records.record_count() {
         return false;
     }
-    expr.key_of(records.record(pair.number)) == pair.key
+    pair_of(expr, records, pair.number).key == pair.key
 }

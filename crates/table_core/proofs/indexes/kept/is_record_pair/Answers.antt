@@ -1,7 +1,7 @@
-use Rattle.std.proofs.Common.{ℕ, List, sym, ap, ◌∙◌, arith}
+use Rattle.std.proofs.Common.{◌≡◌, ℕ, List, sym, ap, ◌∙◌, arith}
 use Rattle.std.proofs.lemmas.Slice.Eq.{bytes_eq-Decides}
 use Rattle.ndx_index.specs.declared.pair.Pair.{Pair}
-use Rattle.table_core.proofs.Keys.{own_pair}
+use Rattle.ndx_index.specs.TableOrder.{pair_at}
 use Rattle.table_core.proofs.indexes.kept.is_record_pair.Goals as goal
 
 pub returns-clause-value : goal.returns-clause-value
@@ -9,8 +9,8 @@ returns-clause-value c =
     let t = c.args.records.now.table in
     let e = c.args.expr.now in
     let p = c.args.pair.now in
-    let k = c.key_of.result in
-    let own = own_pair t p.number e.fields e.expr c.record.result.now k c.requires.fields c.record.ensures.value c.key_of.ensures.row in
+    let k = c.pair_of.result.key in
+    let own : record { key = k; number = p.number } ≡ pair_at t p.number e.expr = ap (λ (q : Pair). record { key = q.key; number = p.number }) c.pair_of.ensures.value in
     let test = bytes_eq-Decides k p.key in (
       λ h. record {
         some = omega (arith, c.if-pair-lt1.false);
