@@ -16,6 +16,7 @@ use Rattle.std.proofs.sync.ledger.Share.TheSendSync as share
 use Rattle.dbf_fields.proofs.bytes.Bytes.TheSendSync as bytes
 use Rattle.dbf_fields.proofs.schema.Schema.TheSendSync as schema
 use Rattle.dbf_image.proofs.table.growing.GrowingTable.TheSendSync as growing
+use Rattle.dbf_image.proofs.table.TableData.TheSendSync as table_data
 use Rattle.key_expr.proofs.tree.Tree.TheLaws.TheKnot.{send-Tree}
 use Rattle.key_expr.specs.contracts.tree.Tree
 use Rattle.key_expr.specs.contracts.expr.KeyExpr
@@ -25,8 +26,8 @@ use Rattle.table_core.specs.contracts.table.Table
 use Rattle.lock_table.proofs.locks.Locks.TheSendSync as locks
 use Rattle.shared_catalogue.proofs.names.Names.TheSendSync as names
 use Rattle.shared_catalogue.proofs.stations.Stations.TheSendSync as stations
-use Rattle.shared_catalogue.proofs.source.TableSource.TheSendSync as source
 use Rattle.shared_catalogue.proofs.entry.Entry.TheSendSync as entry
+use Rattle.shared_catalogue.specs.contracts.kept_table.KeptTable
 use Rattle.shared_catalogue.specs.contracts.state.State
 use Rattle.shared_catalogue.specs.contracts.catalogue.Catalogue
 use Rattle.shared_catalogue.specs.contracts.shared.locked.LockedCatalogue
@@ -57,8 +58,11 @@ table_send = search (sendable, crosses, growing.the_send, index_send) depth 20
 state_send : IsSend State.the_row
 state_send = search (sendable, crosses, names.the_send, table_send, locks.the_send, stations.the_send) depth 20
 
+kept_send : IsSend KeptTable.the_row
+kept_send = search (sendable, crosses, bytes.the_send, table_data.the_send, expr_send) depth 20
+
 catalogue_send : IsSend Catalogue.the_row
-catalogue_send = search (sendable, crosses, source.the_send, state_send, entry.the_send) depth 20
+catalogue_send = search (sendable, crosses, kept_send, state_send, entry.the_send) depth 20
 
 module _ (J : RattleType) (n : Naming.Ghosts J.Denot) (l : Ledger.Ghosts J.Denot) where
   locked_send : IsSend (LockedCatalogue.the_row J n l)
