@@ -160,7 +160,7 @@ pub fn first_other(
     cases: &[Case],
 ) -> Result<Option<usize>, Fail> {
     for i in 0..cases.len() {
-        if !is_answered(alloc, catalogue, i, cases[i])? {
+        if !is_answered(alloc, catalogue, cases[i])? {
             return Ok(Some(i));
         }
     }
@@ -168,19 +168,15 @@ pub fn first_other(
 }
 
 // Performs a case, and tells whether its answer is the expected one and its number the next.
-fn is_answered(
-    alloc: Global,
-    catalogue: &mut Catalogue,
-    index: usize,
-    case: Case,
-) -> Result<bool, Fail> {
+fn is_answered(alloc: Global, catalogue: &mut Catalogue, case: Case) -> Result<bool, Fail> {
     let (station, asked, name, expected) = case;
     if station < 1 || station > catalogue.station_count() {
         return Err("there is no such station".into());
     }
+    let before = catalogue.journal().len() as u64;
     let command = command_of(alloc, asked, name)?;
     let (number, answer) = catalogue.perform(alloc, station, &command)?;
-    Ok(number > index as u64 && number - 1 == index as u64 && is_expected(&answer, expected))
+    Ok(number > before && number - 1 == before && is_expected(&answer, expected))
 }
 
 // The same on a catalogue of two stations with the sample's tables T and U.
