@@ -3,7 +3,6 @@ mod cells;
 mod memos;
 mod openings;
 mod performing;
-mod refusals;
 mod sample;
 mod shared;
 mod stations;
