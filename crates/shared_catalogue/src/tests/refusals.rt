@@ -9,6 +9,9 @@ use dbf_fields::{DATE, Field, MEMO, NUMBER};
 use std::alloc::Global;
 use std::test::Fail;
 
+// The first case that is answered otherwise.
+type FirstOther = Result<Option<usize>, Fail>;
+
 // The table of a name, with the fields AMT, BORN and NOTE and so many blank records.
 fn table(alloc: Global, name: &[u8], count: u32) -> Result<TableSource, Fail> {
     let fields = [
@@ -190,31 +193,31 @@ const AT_THE_ENDS: [Case; 13] = [
     (1, Asked::Append, b"", Expected::Ok),
 ];
 
-fn without_table(alloc: Global, catalogue: &mut Catalogue) -> Result<Option<usize>, Fail> {
+fn without_table(alloc: Global, catalogue: &mut Catalogue) -> FirstOther {
     first_other(alloc, catalogue, &WITHOUT_TABLE)
 }
 
-fn asked_without_table(alloc: Global, catalogue: &mut Catalogue) -> Result<Option<usize>, Fail> {
+fn asked_without_table(alloc: Global, catalogue: &mut Catalogue) -> FirstOther {
     first_other(alloc, catalogue, &ASKED_WITHOUT_TABLE)
 }
 
-fn without_record(alloc: Global, catalogue: &mut Catalogue) -> Result<Option<usize>, Fail> {
+fn without_record(alloc: Global, catalogue: &mut Catalogue) -> FirstOther {
     first_other(alloc, catalogue, &WITHOUT_RECORD)
 }
 
-fn without_lock(alloc: Global, catalogue: &mut Catalogue) -> Result<Option<usize>, Fail> {
+fn without_lock(alloc: Global, catalogue: &mut Catalogue) -> FirstOther {
     first_other(alloc, catalogue, &WITHOUT_LOCK)
 }
 
-fn open_elsewhere(alloc: Global, catalogue: &mut Catalogue) -> Result<Option<usize>, Fail> {
+fn open_elsewhere(alloc: Global, catalogue: &mut Catalogue) -> FirstOther {
     first_other(alloc, catalogue, &OPEN_ELSEWHERE)
 }
 
-fn bad_values(alloc: Global, catalogue: &mut Catalogue) -> Result<Option<usize>, Fail> {
+fn bad_values(alloc: Global, catalogue: &mut Catalogue) -> FirstOther {
     first_other(alloc, catalogue, &BAD_VALUES)
 }
 
-fn at_the_ends(alloc: Global, catalogue: &mut Catalogue) -> Result<Option<usize>, Fail> {
+fn at_the_ends(alloc: Global, catalogue: &mut Catalogue) -> FirstOther {
     first_other(alloc, catalogue, &AT_THE_ENDS)
 }
 

@@ -1,23 +1,11 @@
 use crate::files::{CloseFault, ClosedIndex, ClosedTable, MemoryFolder, close_files};
+use crate::sample::TABLE;
 use dbf_fields::{Bytes, CHARACTER, Field, MEMO, Schema, day_of};
 use dbf_image::{TableData, read_table};
 use key_expr::KeyExpr;
 use ndx_index::{MAX_PAIRS, OrderedIndex};
 use std::alloc::Global;
 use std::test::Fail;
-
-// The file of a table of one field, NAME of 10 characters, and the records ADA and BOB, of 1987-03-15.
-#[rattlefmt::skip]
-const TABLE: [u8; 88] = [
-    0x03, 0x57, 0x03, 0x0f, 0x02, 0x00, 0x00, 0x00, 0x41, 0x00, 0x0b, 0x00, 0, 0, 0, 0,
-    0, 0, 0, 0, 0, 0, 0, 0, 0, 0, 0, 0, 0, 0, 0, 0,
-    0x4e, 0x41, 0x4d, 0x45, 0, 0, 0, 0, 0, 0, 0, 0x43, 0, 0, 0, 0,
-    0x0a, 0x00, 0, 0, 0, 0, 0, 0, 0, 0, 0, 0, 0, 0, 0, 0,
-    0x0d,
-    0x20, 0x41, 0x44, 0x41, 0x20, 0x20, 0x20, 0x20, 0x20, 0x20, 0x20,
-    0x20, 0x42, 0x4f, 0x42, 0x20, 0x20, 0x20, 0x20, 0x20, 0x20, 0x20,
-    0x1a,
-];
 
 // The first bytes of the file of an empty index on NAME; zeros follow.
 #[rattlefmt::skip]
