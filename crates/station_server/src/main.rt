@@ -3,6 +3,9 @@
 //! Its first path: a table is read from a DBF file, opened for one station, changed by the station's
 //! commands, and written as a DBF file. Commands and their journal are `shared_catalogue`'s. Start
 //! reading at `first_run.rt`.
+//!
+//! The run of all stations (`run.rt`), setups (`setup.rt`) and the files of a run (`files.rt`) stand beside
+//! it, and the program does not call them yet.
 #![tactic(auto)]
 
 mod files;
