@@ -92,6 +92,10 @@ kept_tables opened s journal kept =
     sym (length-map s.tables shape_of) ∙ ap (λ (shapes : List (List Field × List Indexed)). length shapes) kept.shapes
     ∙ length-map (map (λ (t : NamedTable). t.content) opened.tables) shape_of ∙ length-map opened.tables (λ (t : NamedTable). t.content)
 
+-- at most ten tables were opened
+pub few_tables : (opened : Opened) (s : State) (journal : List Entry) → IsKept opened s journal → length opened.tables ≤ MAX_TABLES
+few_tables opened s journal kept = omega (arith, kept_tables opened s journal kept, kept.ok.few)
+
 same_shape_at : (xs ys : List Content) (number : ℕ) → shapes_of xs ≡ shapes_of ys → (table_at xs number).table.schema ≡ (table_at ys number).table.schema
 same_shape_at xs ys number e =
     ap (λ (shape : List Field × List Indexed). shape.0)

@@ -29,10 +29,14 @@ history opened journal = record { opened = opened; journal = journal }
 abbrev pub opened_at : Opened → ℕ → Content
 opened_at opened number = table_at (map (λ t. t.content) opened.tables) number
 
+-- the names under which the tables were opened
+abbrev pub names_of : Opened → List (List ℕ)
+names_of opened = map (λ t. t.name) opened.tables
+
 -- the state at opening: the tables, no lock, and no table open in any area
 abbrev pub start : Opened → State
 start opened = record {
-  names = map (λ t. t.name) opened.tables;
+  names = names_of opened;
   tables = map (λ t. t.content) opened.tables;
   locks = held opened.stations (length opened.tables) [];
   stations = replicate opened.stations new_station;

@@ -1,7 +1,8 @@
 //! The catalogue: the tables as they were opened, the journal of the commands since, and their state.
 
-ghost use Rattle.std.specs.Prelude.{◌≡◌, ◌≢◌, ◌↔◌, ℕ, ◌-◌, ◌≤◌, [], length, Ok, Err, IfOk, IfErr, OnErr, IsErrOf};
+ghost use Rattle.std.specs.Prelude.{◌≡◌, ◌≢◌, ◌↔◌, ℕ, ◌-◌, ◌≤◌, [], length, slice_get, Some, Ok, Err, IfOk, IfErr, OnErr, IsErrOf};
 ghost use Rattle.shared_catalogue.specs.declared.catalogue.TheConstants.{MAX_ENTRIES};
+ghost use Rattle.shared_catalogue.specs.declared.opening.TheConstants.{MAX_TABLES};
 
 use crate::answer::Answer;
 use crate::command::Command;
@@ -12,6 +13,7 @@ use crate::plan::plan;
 use crate::source::TableSource;
 use crate::state::State;
 use crate::status::StatusRow;
+use dbf_fields::Bytes;
 use dbf_image::TableData;
 use std::alloc::{AllocError, Global};
 use std::marker::Model;
@@ -79,7 +81,7 @@ impl Catalogue {
     ghost use Rattle.shared_catalogue.specs.declared.answer.Answer.{Answer};
     ghost use Rattle.table_core.specs.declared.refusal.Refusal.{Refusal};
     ghost use Rattle.shared_catalogue.specs.Opening.{Opening};
-    ghost use Rattle.shared_catalogue.specs.Replay.{state_of, answer_of, with_entry, opened_at, IsLegal};
+    ghost use Rattle.shared_catalogue.specs.Replay.{state_of, answer_of, with_entry, opened_at, names_of, IsLegal};
     ghost use Rattle.shared_catalogue.specs.State.{table_at as content_at, station_at, IsState};
 
     /// Opens tables for stations: no table is open in any area, no lock is held, and the journal is empty.
@@ -181,11 +183,22 @@ impl Catalogue {
         }
     }
 
-    /// How many tables were opened.
+    #[tactic(auto, using(crate::proofs::ReplayLaws::few_tables))]
+    /// How many tables were opened: 10 at most.
     pub fn table_count(&self) -> usize
         ensures value { result ≡ length self.now.opened.tables }
+        ensures few { length self.now.opened.tables ≤ MAX_TABLES }
     {
         self.opened.len()
+    }
+
+    /// The name under which the table of a number, from 1, was opened.
+    pub fn table_name(&self, number: u32) -> &Bytes
+        requires counted { 1 ≤ number }
+        requires inside { number ≤ length self.now.opened.tables }
+        ensures value { slice_get (names_of self.now.opened) (number - 1) ≡ Some result.now }
+    {
+        &self.opened[number as usize - 1].name
     }
 
     #[tactic(auto, using(crate::proofs::ReplayLaws::kept_tables))]

@@ -1,11 +1,13 @@
 //! A catalogue at its end.
 
 ghost use Rattle.std.specs.Prelude.{◌≡◌, ◌-◌, ◌≤◌, length, slice_get, Some};
-ghost use Rattle.shared_catalogue.specs.Replay.{state_of};
+ghost use Rattle.shared_catalogue.specs.declared.opening.TheConstants.{MAX_TABLES};
+ghost use Rattle.shared_catalogue.specs.Replay.{state_of, names_of, IsLegal};
 ghost use Rattle.shared_catalogue.specs.State.{table_at};
 
 use crate::catalogue::Catalogue;
 use crate::entry::Entry;
+use dbf_fields::Bytes;
 use std::marker::Model;
 use table_core::Table;
 
@@ -35,11 +37,21 @@ impl Closed {
         Closed { catalogue }
     }
 
-    /// How many tables were opened.
+    /// How many tables were opened: 10 at most.
     pub fn table_count(&self) -> usize
         ensures value { result ≡ length self.now.opened.tables }
+        ensures few { length self.now.opened.tables ≤ MAX_TABLES }
     {
         self.catalogue.table_count()
+    }
+
+    /// The name under which a table was opened. Tables count from 1.
+    pub fn table_name(&self, number: u32) -> &Bytes
+        requires counted { 1 ≤ number }
+        requires inside { number ≤ length self.now.opened.tables }
+        ensures value { slice_get (names_of self.now.opened) (number - 1) ≡ Some result.now }
+    {
+        self.catalogue.table_name(number)
     }
 
     /// A table at the end, with its indexes. Tables count from 1.
@@ -51,9 +63,10 @@ impl Closed {
         self.catalogue.table(number)
     }
 
-    /// How many entries the journal has.
+    /// How many entries the journal has. Each answer in it is the one that its command has at its place.
     pub fn entry_count(&self) -> u64
         ensures value { result ≡ length self.now.journal }
+        ensures legal { IsLegal self.now.opened self.now.journal }
     {
         self.catalogue.journal().len() as u64
     }
