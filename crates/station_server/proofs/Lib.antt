@@ -1,7 +1,9 @@
 pub mod FilesLaws
-pub mod NoMemos
 pub mod ScriptLaws
 pub mod SetupLaws
-pub mod Unwritten
 pub mod RunLaws
 pub mod Crossing
+pub mod LoadLaws
+pub mod HandingLaws
+pub mod Printing
+pub mod WholeRunLaws

@@ -66,12 +66,12 @@ at_push [] x y (suc i) e = absurd (cc)
 at_push (z ∷ zs) x y zero e = inl (omega arith, e)
 at_push (z ∷ zs) x y (suc i) e = ⊎_elim (λ h. inl (let l = h.0 in omega arith, h.1)) (λ h. inr (ap suc h.0, h.1)) (at_push zs x y i e)
 
-get_front : {A : Type 0} (xs ys : List A) (i : ℕ) (x : A) → slice_get xs i ≡ Some x → slice_get (xs ++ ys) i ≡ Some x
+pub get_front : {A : Type 0} (xs ys : List A) (i : ℕ) (x : A) → slice_get xs i ≡ Some x → slice_get (xs ++ ys) i ≡ Some x
 get_front [] ys i x e = absurd (cc)
 get_front (z ∷ zs) ys zero x e = e
 get_front (z ∷ zs) ys (suc i) x e = get_front zs ys i x e
 
-get_last : {A : Type 0} (xs : List A) (x : A) (i : ℕ) → i ≡ length xs → slice_get (xs ++ x ∷ []) i ≡ Some x
+pub get_last : {A : Type 0} (xs : List A) (x : A) (i : ℕ) → i ≡ length xs → slice_get (xs ++ x ∷ []) i ≡ Some x
 get_last [] x zero e = refl
 get_last [] x (suc i) e = absurd (omega arith)
 get_last (z ∷ zs) x zero e = absurd (omega arith)

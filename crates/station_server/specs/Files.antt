@@ -1,8 +1,12 @@
 -- Files by their names.
-use Rattle.std.specs.Prelude.{◌≡◌, ℕ, ◌<◌, Bool, List, [], ◌∷◌, ◌++◌, length, Option, Some, None, bytes_eq, flat_map, if◌then◌else◌}
+use Rattle.std.specs.Prelude.{◌≡◌, ℕ, ◌<◌, nat_lt, ◌==◌, Bool, true, List, [], ◌∷◌, ◌++◌, length, Option, Some, None, bytes_eq, flat_map, if◌then◌else◌}
+use Rattle.std.specs.List.{list_all}
 use Rattle.station_server.specs.declared.files.memory_folder.OpenFile.{OpenFile}
 use Rattle.station_server.specs.declared.files.named.NamedFile.{NamedFile}
 use Rattle.station_server.specs.declared.files.source.TheConstants.{MAX_FILE_BYTES}
+
+abbrev pub is_byte : ℕ → Bool
+is_byte b = nat_lt b 256
 
 -- the file has the path
 abbrev pub is_at : List ℕ → NamedFile → Bool
@@ -34,3 +38,29 @@ told files = flat_map (λ file. opening file.name ++ file.bytes) files
 -- the files of a folder in memory as one list
 abbrev pub told_open : List OpenFile → List ℕ
 told_open files = flat_map (λ file. opening file.name.items ++ file.bytes.items) files
+
+-- such a list, read from its end: what stands before the next 256 or 257, the bytes of the file that it belongs to,
+-- and the files after that
+pub record FilesRead : Type 0 where
+  pub text : List ℕ
+  pub bytes : List ℕ
+  pub files : List NamedFile
+
+abbrev pub with_one_more : ℕ → FilesRead → FilesRead
+with_one_more b r =
+    if b == 256 then record { text = []; bytes = []; files = record { name = r.text; bytes = r.bytes } ∷ r.files }
+    else if b == 257 then record { text = []; bytes = r.text; files = r.files }
+    else record { text = b ∷ r.text; bytes = r.bytes; files = r.files }
+
+abbrev pub files_read : List ℕ → FilesRead
+files_read [] = record { text = []; bytes = []; files = [] }
+files_read (b ∷ bs) = with_one_more b (files_read bs)
+
+-- the files that such a list tells of
+abbrev pub files_told : List ℕ → List NamedFile
+files_told list = (files_read list).files
+
+-- the name and the bytes are below 256
+pub record IsOfBytes (file : NamedFile) : Type 0 where
+  pub name : list_all is_byte file.name ≡ true
+  pub bytes : list_all is_byte file.bytes ≡ true

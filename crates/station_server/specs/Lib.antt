@@ -1,6 +1,4 @@
 pub mod Line
-pub mod FirstFault
-pub mod FirstRun
 pub mod Script
 pub mod Reports
 pub mod Setup
@@ -9,3 +7,9 @@ pub mod Files
 pub mod ClosedIndex
 pub mod Writable
 pub mod Closing
+pub mod HandedOver
+pub mod Loading
+pub mod WholeRun
+pub mod Program
+pub mod FaultNames
+pub mod Failures

@@ -1,52 +1,101 @@
 //! A server for dBASE III PLUS tables.
 //!
-//! Its first path: a table is read from a DBF file, opened for one station, changed by the station's
-//! commands, and written as a DBF file. Commands and their journal are `shared_catalogue`'s. Start
-//! reading at `first_run.rt`.
-//!
-//! The run of all stations (`run.rt`), setups (`setup.rt`) and the files of a run (`files.rt`) stand beside
-//! it, and the program does not call them yet.
+//! The program reads a setup and the files that it names, runs a script for each station, and writes the tables
+//! as they were left and the stations' answers. This file has `main`: it reads the command line, has the run
+//! served, and says how it ended. What the program says of a failure is in `program.rt`, the run of all stations
+//! in `run.rt`, setups in `setup.rt` and the files in `files.rt`.
 #![tactic(auto)]
 
 mod files;
-mod first_run;
 mod line;
+mod program;
 mod run;
-mod sample;
 mod script;
 mod setup;
 #[cfg(test)]
 mod tests;
+mod whole_run;
 
-use crate::first_run::first_run;
-use crate::line::answer_line;
-use anyhow::{Context, Result};
-use dbf_fields::day_of;
-use dbf_image::MemorySink;
-use shared_catalogue::Answer;
-use std::alloc::Global;
-use std::io;
-use std::io::Write;
+use crate::files::{DiskFolder, DiskSource};
+use crate::program::{
+    Ending, Failure, Options, command, mistake_status, options_of, print_failure, status_of,
+};
+use crate::run::gate::OpenGate;
+use crate::whole_run::{ServeFault, serve};
+use clap::error::ErrorKind;
+use dbf_fields::Bytes;
+use std::process::ExitCode;
+use std::rt::{Env, Runtime};
+use std::sync::Wait;
+use std::thread::Threads;
+use std::{env, io};
 
-/// Runs the sample's commands on the sample's table, and prints the answers and the length of the
-/// table's file.
-fn main(rt: HostRuntime) -> Result<()> {
-    let alloc = rt.alloc();
-    let today = day_of(1987, 3, 15).context("no such day")?;
-    let commands = sample::commands(alloc)?;
-    let mut sink = MemorySink::new(alloc);
-    let answers = first_run(alloc, &sample::TABLE, &commands, today, &mut sink)?;
-    print_answers(&rt, alloc, &answers)?;
-    println!(rt; "T.DBF {}", sink.bytes.len())?;
-    Ok(())
+/// Runs the program. The exit statuses are those of [`status_of`] and [`mistake_status`], 1 for an argument that
+/// is no UTF-8 text, and 0 where all files are written. An error where standard output takes no text, or where
+/// standard error takes none of a mistake in the command line.
+fn main(rt: HostRuntime) -> io::Result<ExitCode> {
+    match run_program(&rt) {
+        Ok(count) => {
+            println!(rt; "station_server: {count} commands")?;
+            Ok(ExitCode::SUCCESS)
+        }
+        Err(Ending::NoText) => {
+            eprintln!(rt; "error: an argument is no UTF-8 text")?;
+            Ok(ExitCode::from(1))
+        }
+        Err(Ending::CommandLine(error)) => tell_mistake(&rt, &error),
+        Err(Ending::Failed(failure)) => Ok(fail(&rt, &failure)),
+    }
 }
 
-fn print_answers(rt: &impl Print, alloc: Global, answers: &[Answer]) -> Result<()> {
-    let mut out = io::writer(rt);
-    for answer in answers {
-        let line = answer_line(alloc, answer)?;
-        out.write_all(line.as_slice())?;
-        out.write_all(b"\n")?;
+// Reads the command line and serves the run. The answer is how many commands were performed.
+fn run_program<R: Runtime + AllocGlobal + Threads + Wait + Sync>(rt: &R) -> Result<u64, Ending> {
+    let words = read_words(rt)?;
+    let matches = command(rt.alloc())?.try_get_matches_from(words.as_slice())?;
+    let Some(options) = options_of(&matches) else {
+        return Err(Ending::Failed(Failure::BadDate));
+    };
+    Ok(serve_files(rt, &options)?)
+}
+
+// The words of the command line, the program's name too.
+fn read_words<R: Env + AllocGlobal>(rt: &R) -> Result<Vec<String>, Ending> {
+    Ok(env::args(rt)?.collect(rt.alloc())?)
+}
+
+// Serves the run over files of the system.
+fn serve_files<R: Runtime + AllocGlobal + Threads + Wait + Sync>(
+    rt: &R,
+    options: &Options<'_>,
+) -> Result<u64, ServeFault> {
+    let alloc = rt.alloc();
+    let setup = Bytes::from_slice(alloc, options.setup.as_bytes())?;
+    let out = String::from_str(alloc, options.out)?;
+    let mut source = DiskSource::new(rt.clone()?);
+    let mut folder = DiskFolder::new(rt.clone()?, alloc, out);
+    serve(
+        rt,
+        alloc,
+        &setup,
+        options.today,
+        options.reindex,
+        &mut source,
+        &mut folder,
+        &OpenGate,
+    )
+}
+
+// Prints what `clap` says of a command line: the help on standard output, a mistake on standard error.
+fn tell_mistake(rt: &HostRuntime, error: &clap::Error) -> io::Result<ExitCode> {
+    if error.kind() == ErrorKind::OutOfMemory {
+        return Ok(fail(rt, &Failure::Serve(ServeFault::NoMemory)));
     }
-    Ok(())
+    error.print(rt)?;
+    Ok(ExitCode::from(mistake_status(error)))
+}
+
+// Says on standard error why the program failed. Where standard error takes no text, the status alone tells it.
+fn fail(rt: &HostRuntime, failure: &Failure) -> ExitCode {
+    let _printed = print_failure(&mut rt.stderr(), failure);
+    ExitCode::from(status_of(failure))
 }

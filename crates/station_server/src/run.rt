@@ -46,6 +46,7 @@ pub fn run_stations<J: Naming + Send + Sync, G: Gate + Sync, R: Threads + Wait +
     requires parts { J.parts ≡ J.opened.stations }
     requires seats { AreInOrder J.opened.stations seats.items }
     ensures opened { IfOk result (λ outcome. outcome.closed.opened ≡ J.opened) }
+    ensures scripts { IfOk result (λ _. length scripts.now ≡ J.opened.stations) }
     ensures reports { IfOk result (λ outcome. AreReports J.opened.stations outcome.closed.journal scripts.now outcome.answers.items) }
     ensures count { IsErrOf result RunFault.ScriptCount ↔ (length scripts.now ≢ J.opened.stations) }
 {

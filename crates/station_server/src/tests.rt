@@ -1,29 +1,17 @@
 mod run;
+pub mod sample;
 mod script;
 
-use crate::first_run::{FirstFault, first_run};
 use crate::line::answer_line;
-use crate::sample;
-use dbf_fields::{Bytes, day_of};
-use dbf_image::{ImageFault, MemorySink, WriteFault, read_table, write_dbf};
+use crate::run::fault::RunFault;
+use dbf_fields::Bytes;
+use dbf_image::read_table;
 use key_expr::ExprFault;
-use shared_catalogue::{Answer, Catalogue, Command, OpenFault, Refusal, Stop, TableSource};
+use shared_catalogue::{
+    Answer, Catalogue, Command, OpenFault, Refusal, SettleFault, Stop, TableSource,
+};
 use std::alloc::{AllocError, Global};
 use std::test::Fail;
-
-// The sample's file with the record `CYD` after the others.
-#[rattlefmt::skip]
-const WITH_CYD: [u8; 99] = [
-    0x03, 0x57, 0x03, 0x0f, 0x03, 0x00, 0x00, 0x00, 0x41, 0x00, 0x0b, 0x00, 0, 0, 0, 0,
-    0, 0, 0, 0, 0, 0, 0, 0, 0, 0, 0, 0, 0, 0, 0, 0,
-    0x4e, 0x41, 0x4d, 0x45, 0, 0, 0, 0, 0, 0, 0, 0x43, 0, 0, 0, 0,
-    0x0a, 0x00, 0, 0, 0, 0, 0, 0, 0, 0, 0, 0, 0, 0, 0, 0,
-    0x0d,
-    0x20, 0x41, 0x44, 0x41, 0x20, 0x20, 0x20, 0x20, 0x20, 0x20, 0x20,
-    0x20, 0x42, 0x4f, 0x42, 0x20, 0x20, 0x20, 0x20, 0x20, 0x20, 0x20,
-    0x20, 0x43, 0x59, 0x44, 0x20, 0x20, 0x20, 0x20, 0x20, 0x20, 0x20,
-    0x1a,
-];
 
 fn text(alloc: Global, bytes: &[u8]) -> Result<Answer, AllocError> {
     Ok(Answer::Text(Bytes::from_slice(alloc, bytes)?))
@@ -50,85 +38,6 @@ fn answer_of(alloc: Global, catalogue: &mut Catalogue, command: &Command) -> Res
     }
     let (_, answer) = catalogue.perform(alloc, 1, command)?;
     Ok(answer)
-}
-
-// Performs the commands and collects the answers.
-fn answers_of(
-    alloc: Global,
-    catalogue: &mut Catalogue,
-    commands: &[Command],
-) -> Result<Vec<Answer>, Fail> {
-    let mut answers = Vec::new(alloc);
-    for command in commands {
-        answers.push(answer_of(alloc, catalogue, command)?)?;
-    }
-    Ok(answers)
-}
-
-#[test]
-fn first_path(rt: HostRuntime) -> Result<(), Fail> {
-    let alloc = rt.alloc();
-    let day = day_of(1987, 3, 15).ok_or("a date")?;
-    let commands = sample::commands(alloc)?;
-    let mut sink = MemorySink::new(alloc);
-    let answers = first_run(alloc, &sample::TABLE, &commands, day, &mut sink)?;
-    let wanted = vec![in alloc;
-        Answer::Done,
-        Answer::Done,
-        Answer::Done,
-        Answer::Done,
-        text(alloc, b"CYD       ")?,
-    ]?;
-    assert_eq!(rt; answers.as_slice(), wanted.as_slice());
-    assert_eq!(rt; sink.bytes.as_slice(), WITH_CYD.as_slice());
-    Ok(())
-}
-
-#[test]
-fn written_table_is_the_catalogues(rt: HostRuntime) -> Result<(), Fail> {
-    let alloc = rt.alloc();
-    let day = day_of(1987, 3, 15).ok_or("a date")?;
-    let mut catalogue = open_sample(alloc)?;
-    let commands = sample::commands(alloc)?;
-    answers_of(alloc, &mut catalogue, &commands)?;
-    assert_eq!(rt; catalogue.table_count(), 1);
-    for table in [
-        catalogue.content(alloc, 1)?,
-        read_table(alloc, &WITH_CYD, None)?,
-    ] {
-        assert_eq!(rt; table.record_count(), 3);
-        let mut sink = MemorySink::new(alloc);
-        write_dbf(&mut sink, &table, day)?;
-        assert_eq!(rt; sink.bytes.as_slice(), WITH_CYD.as_slice());
-    }
-    Ok(())
-}
-
-#[test]
-fn runs_that_fail_write_nothing(rt: HostRuntime) -> Result<(), Fail> {
-    let alloc = rt.alloc();
-    let day = day_of(1987, 3, 15).ok_or("a date")?;
-    let late = day_of(2156, 1, 1).ok_or("a date")?;
-    let commands = sample::commands(alloc)?;
-    let cases: [(&[u8], _, FirstFault); 2] = [
-        (
-            &sample::TABLE[..86],
-            day,
-            FirstFault::Image(ImageFault::Truncated),
-        ),
-        (
-            &sample::TABLE,
-            late,
-            FirstFault::Write(WriteFault::DateOutside),
-        ),
-    ];
-    for (dbf, day, fault) in cases {
-        let mut sink = MemorySink::new(alloc);
-        let run = first_run(alloc, dbf, &commands, day, &mut sink);
-        assert_eq!(rt; run.err(), Some(fault));
-        assert_eq!(rt; sink.bytes.len(), 0);
-    }
-    Ok(())
 }
 
 #[test]
@@ -180,62 +89,61 @@ fn refusals_have_their_lines(rt: HostRuntime) -> Result<(), Fail> {
 }
 
 #[test]
-fn faults_have_their_texts(rt: HostRuntime) -> Result<(), Fail> {
+fn faults_of_opening_have_their_texts(rt: HostRuntime) -> Result<(), Fail> {
     let alloc = rt.alloc();
-    let cases: [(FirstFault, &str); 14] = [
+    let cases: [(OpenFault, &str); 9] = [
+        (OpenFault::NoStation, "there is no station"),
+        (OpenFault::TooManyStations, "there are too many stations"),
+        (OpenFault::TooManyTables, "there are too many tables"),
         (
-            FirstFault::Image(ImageFault::Truncated),
-            "the table can't be read: the file is too short",
+            OpenFault::DuplicateTable(3),
+            "table 3 has the name of an earlier one",
+        ),
+        (OpenFault::TooManyIndexes(2), "table 2 has too many indexes"),
+        (
+            OpenFault::DuplicateIndex(2, 1),
+            "index 1 of table 2 has the name of an earlier one",
         ),
         (
-            FirstFault::Open(OpenFault::NoStation),
-            "the catalogue can't be opened: there is no station",
+            OpenFault::BadExpression(1, 2, ExprFault::NoSuchField),
+            "index 2 of table 1 has no good key expression: there is no such field",
+        ),
+        (OpenFault::IndexStale(1, 7), "index 7 of table 1 is stale"),
+        (OpenFault::NoMemory, "out of memory"),
+    ];
+    for (fault, text) in cases {
+        let shown = format!(in alloc; "{fault}")?;
+        assert_eq!(rt; shown.as_str(), text);
+    }
+    Ok(())
+}
+
+#[test]
+fn faults_of_a_run_have_their_texts(rt: HostRuntime) -> Result<(), Fail> {
+    let alloc = rt.alloc();
+    let cases: [(RunFault, &str); 7] = [
+        (
+            RunFault::ScriptCount,
+            "there are not as many scripts as stations",
+        ),
+        (RunFault::NoThread(3), "no thread for station 3"),
+        (
+            RunFault::Stopped(2, Stop::JournalFull),
+            "station 2 was stopped: the journal is full",
         ),
         (
-            FirstFault::Open(OpenFault::TooManyStations),
-            "the catalogue can't be opened: there are too many stations",
+            RunFault::Stopped(2, Stop::NoMemory),
+            "station 2 was stopped: out of memory",
         ),
         (
-            FirstFault::Open(OpenFault::TooManyTables),
-            "the catalogue can't be opened: there are too many tables",
+            RunFault::Settle(SettleFault::SeatMissing(1)),
+            "not settled: the seat of station 1 is missing",
         ),
         (
-            FirstFault::Open(OpenFault::DuplicateTable(3)),
-            "the catalogue can't be opened: table 3 has the name of an earlier one",
+            RunFault::Settle(SettleFault::ReceiptMismatch(16)),
+            "not settled: the receipts of station 16 are not those of the journal",
         ),
-        (
-            FirstFault::Open(OpenFault::TooManyIndexes(2)),
-            "the catalogue can't be opened: table 2 has too many indexes",
-        ),
-        (
-            FirstFault::Open(OpenFault::DuplicateIndex(2, 1)),
-            "the catalogue can't be opened: index 1 of table 2 has the name of an earlier one",
-        ),
-        (
-            FirstFault::Open(OpenFault::BadExpression(1, 2, ExprFault::NoSuchField)),
-            "the catalogue can't be opened: index 2 of table 1 has no good key expression: there is no such field",
-        ),
-        (
-            FirstFault::Open(OpenFault::IndexStale(1, 7)),
-            "the catalogue can't be opened: index 7 of table 1 is stale",
-        ),
-        (
-            FirstFault::Open(OpenFault::NoMemory),
-            "the catalogue can't be opened: out of memory",
-        ),
-        (
-            FirstFault::Stopped(Stop::JournalFull),
-            "the run was stopped: the journal is full",
-        ),
-        (
-            FirstFault::Stopped(Stop::NoMemory),
-            "the run was stopped: out of memory",
-        ),
-        (
-            FirstFault::Write(WriteFault::DateOutside),
-            "the table can't be written: the year is not one of 1900 to 2155",
-        ),
-        (FirstFault::NoMemory, "out of memory"),
+        (RunFault::NoMemory, "out of memory"),
     ];
     for (fault, text) in cases {
         let shown = format!(in alloc; "{fault}")?;

@@ -10,7 +10,6 @@ use Rattle.station_server.specs.Writable.{has_too_many}
 use Rattle.station_server.specs.declared.files.named.NamedFile.{NamedFile}
 use Rattle.station_server.specs.declared.files.closed.ClosedTable.{ClosedTable}
 use Rattle.dbf_image.specs.Table.{has_memos}
-use Rattle.dbf_image.specs.Image.{image}
 use Rattle.dbf_image.specs.Blocks.{memo_image}
 use Rattle.station_server.specs.declared.files.planned.Planned.{Planned}
 use Rattle.station_server.specs.Closing.{file_of, bytes_of, IsCutAt, answer_files, answer_name, tables_files, table_files, memo_files, index_file, first_blocked}

@@ -1,13 +1,12 @@
 -- What a text says as a setup: its lines one after another, and that it says one thing.
 use Rattle.std.proofs.Common.{◌≡◌, ℕ, List, [], ◌∷◌, ◌++◌, Bool, true, false, ◌+◌, length, Result, Ok, Err, refl, ap, ◌∙◌, sym, subst, arith, append_assoc}
-use Rattle.std.specs.Prelude.{◌⊎◌}
 use mathlib.Core.Logic.{inl, inr}
 use Rattle.std.proofs.lemmas.List.{append-nil, length-append}
 use Rattle.station_server.specs.declared.setup.entry.SetupEntry.{SetupEntry}
-use Rattle.station_server.specs.Script.Lines.{BeginsWithLine, AreLines}
+use Rattle.station_server.specs.Script.Lines.{AreLines}
 use Rattle.station_server.specs.declared.setup.judged.Judged.{Judged}
 use Rattle.station_server.specs.declared.setup.judged.Judged.TheVariants.{Skipped, Bad, Good}
-use Rattle.station_server.specs.Setup.{IsEntry, IsJudged, may_follow, Adds, IsBadAfter, AddAll, HasBadLine, IsSetup}
+use Rattle.station_server.specs.Setup.{IsEntry, IsJudged, may_follow, Adds, IsBadAfter, AddAll, IsSetup}
 use Rattle.station_server.proofs.ScriptLaws.CuttingLaws.{line_before, some_lines, one_cutting}
 use Rattle.station_server.proofs.SetupLaws.LineLaws.{entry_not_skipped, one_entry, bad_after, unplaced, some_judged}
 

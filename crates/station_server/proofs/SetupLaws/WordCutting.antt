@@ -1,5 +1,5 @@
 -- How a line of a setup is cut into words, and that it has no others.
-use Rattle.std.proofs.Common.{◌≡◌, ◌≢◌, ℕ, zero, suc, List, [], ◌∷◌, ◌++◌, Bool, true, false, not, cond, ◌+◌, ◌<◌, ◌≤◌, length, take, drop, Some, None, refl, ap, ◌∙◌, sym, subst, arith, ltb}
+use Rattle.std.proofs.Common.{◌≡◌, ℕ, zero, suc, List, [], ◌∷◌, ◌++◌, Bool, true, false, not, cond, ◌+◌, ◌<◌, ◌≤◌, length, take, drop, Some, None, refl, ap, ◌∙◌, sym, subst, arith, ltb}
 use Rattle.std.specs.List.{list_all, position, position_or_len}
 use Rattle.std.specs.Prelude.{◌⊎◌}
 use mathlib.Core.Logic.{inl, inr}
@@ -10,7 +10,7 @@ use Rattle.std.proofs.lemmas.List.Sums.{prefix_len-le-length}
 use Rattle.station_server.specs.Script.Words.{is_gap, are_gaps, ends_word, HasWords}
 use Rattle.station_server.specs.Script.Reading.{without_gaps}
 use Rattle.station_server.specs.Setup.{has_no_gap, is_word, AreWords}
-use Rattle.station_server.proofs.ScriptLaws.WordLaws.{not_true, starts, past_gaps, no_gaps, no_word, gap_split, left_starts}
+use Rattle.station_server.proofs.ScriptLaws.WordLaws.{starts, past_gaps, no_gaps, no_word, gap_split, left_starts}
 
 not_below : (b : Bool) (n : ℕ) → cond b (Some n) None ≡ None → b ≡ false
 not_below true n e = absurd cc

@@ -1,8 +1,10 @@
 //! Where files are written to.
 
-ghost use Rattle.std.specs.Prelude.{◌≡◌, OnOk, OnErr};
+ghost use Rattle.std.specs.Prelude.{◌≡◌, List, OnOk, OnErr};
+ghost use Rattle.std.specs.List.{AllByRecursion};
 ghost use Rattle.dbf_image.specs.Sink.{grown, Rises};
-ghost use Rattle.station_server.specs.Files.{opening};
+ghost use Rattle.station_server.specs.declared.files.named.NamedFile.{NamedFile};
+ghost use Rattle.station_server.specs.Files.{opening, told, files_told, IsOfBytes};
 
 use dbf_image::{ByteSink, SinkFault};
 
@@ -18,3 +20,9 @@ pub trait Folder: ByteSink {
         ensures unbegun { OnErr result (Self.written self.new ≡ Self.written self.old) }
         ensures failed { OnErr result (Rises (Self.failures self.old) (Self.failures self.new)) };
 }
+
+/// A folder's list tells its files: where names and bytes are below 256, no other files have the same list.
+pub fn one_folder()
+    ensures told { (files : List NamedFile) → AllByRecursion IsOfBytes files → files_told (told files) ≡ files }
+    ensures one { (a b : List NamedFile) → AllByRecursion IsOfBytes a → AllByRecursion IsOfBytes b → told a ≡ told b → a ≡ b }
+{}

@@ -1,6 +1,6 @@
 //! A station at work.
 
-ghost use Rattle.std.specs.Prelude.{◌≡◌, ◌≢◌, [], ◌∷◌, ◌++◌, OnOk};
+ghost use Rattle.std.specs.Prelude.{◌≡◌, ◌≢◌, [], ◌∷◌, ◌++◌, OnOk, IsErrOf};
 ghost use Rattle.shared_catalogue.specs.declared.answer.Answer.{Answer as AnswerValue};
 ghost use Rattle.shared_catalogue.specs.declared.status.StatusRow.{StatusRow as RowValue};
 ghost use Rattle.station_server.specs.Reports.{Shown, answered, status, meaning_of, session, new_session, IsWithShown};
@@ -44,7 +44,8 @@ impl<J: Naming> Session<J> {
     }
 
     /// Runs one line that is not blank: performs its command, or looks at the status row, and keeps what
-    /// is shown for it. A `Stop` is the catalogue's, or want of memory of the session itself.
+    /// is shown for it. A `Stop` is the catalogue's, or want of memory of the session itself; a status row is
+    /// never stopped because the journal is full.
     pub(crate) fn run_line(
         &mut self,
         alloc: Global,
@@ -54,6 +55,7 @@ impl<J: Naming> Session<J> {
     ) -> Result<(), Stop>
         requires some { line ≢ Line.Blank }
         ensures shown { OnOk result ((shown : Shown) × (meaning_of shown ≡ line) × IsWithShown self.old shown self.new) }
+        ensures status { line ≡ Line.Status → ¬ IsErrOf result Stop.JournalFull }
     {
         match line {
             Line::Run(command) => self.run_command(alloc, rt, shared, command),
@@ -82,6 +84,7 @@ impl<J: Naming> Session<J> {
     // Looks at the status row, and keeps its line.
     fn show_status(&mut self, alloc: Global, rt: &impl Wait, shared: &Shared<J>) -> Result<(), Stop>
         ensures shown { OnOk result ((row : RowValue) × IsWithShown self.old (status row) self.new) }
+        ensures other { ¬ IsErrOf result Stop.JournalFull }
     {
         let row = shared.look(rt, &mut self.seat);
         let text = status_line(alloc, &row)?;

@@ -24,6 +24,7 @@ pub fn run_catalogue<G: Gate + Sync, R: Threads + Wait + Sync>(
 ) -> Result<Outcome, RunFault>
     requires empty { catalogue.journal ≡ [] }
     ensures opened { IfOk result (λ outcome. outcome.closed.opened ≡ catalogue.opened) }
+    ensures scripts { IfOk result (λ _. length scripts.now ≡ catalogue.opened.stations) }
     ensures reports { IfOk result (λ outcome. AreReports catalogue.opened.stations outcome.closed.journal scripts.now outcome.answers.items) }
     ensures count { IsErrOf result RunFault.ScriptCount → length scripts.now ≢ catalogue.opened.stations }
 {
@@ -45,6 +46,7 @@ fn run_as<J: Naming + Send + Sync, G: Gate + Sync, R: Threads + Wait + Sync>(
     requires ledger { (lot.ledger ≡ J.name) × (lot.parts ≡ J.parts) }
     requires parts { lot.parts ≡ catalogue.opened.stations }
     ensures opened { IfOk result (λ outcome. outcome.closed.opened ≡ J.opened) }
+    ensures scripts { IfOk result (λ _. length scripts.now ≡ J.opened.stations) }
     ensures reports { IfOk result (λ outcome. AreReports J.opened.stations outcome.closed.journal scripts.now outcome.answers.items) }
     ensures count { IsErrOf result RunFault.ScriptCount → length scripts.now ≢ J.opened.stations }
 {

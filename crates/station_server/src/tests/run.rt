@@ -1,5 +1,6 @@
 //! Stations at work, each in a thread of its own. The answers are those of dBASE's rules on areas and locks.
 
+use super::sample::EMPTY;
 use super::source;
 use crate::run::Outcome;
 use crate::run::fault::RunFault;
@@ -13,7 +14,6 @@ use std::alloc::{AllocError, Global};
 use std::sync::Wait;
 use std::sync::atomic::{AtomicU64, Ordering};
 use std::test::Fail;
-use std::thread;
 use std::thread::Threads;
 
 // How often a gate looks before it gives up waiting.
@@ -207,60 +207,26 @@ fn script_count(rt: HostRuntime) -> Result<(), Fail> {
     Ok(())
 }
 
-// The DBF file of the sample's table without records.
-#[rattlefmt::skip]
-const EMPTY: [u8; 66] = [
-    0x03, 0x57, 0x03, 0x0f, 0x00, 0x00, 0x00, 0x00, 0x41, 0x00, 0x0b, 0x00, 0, 0, 0, 0,
-    0, 0, 0, 0, 0, 0, 0, 0, 0, 0, 0, 0, 0, 0, 0, 0,
-    0x4e, 0x41, 0x4d, 0x45, 0, 0, 0, 0, 0, 0, 0, 0x43, 0, 0, 0, 0,
-    0x0a, 0x00, 0, 0, 0, 0, 0, 0, 0, 0, 0, 0, 0, 0, 0, 0,
-    0x0d,
-    0x1a,
-];
-
 // How often each of the 16 stations goes through its four lines.
 const ROUNDS: usize = 2_000;
 
 // How many lines that is.
 const LINES: u64 = 8_000;
 
-// Lets a line after the rounds be run when all stations have gone through theirs.
-#[derive(Drop)]
-struct AfterAll {
-    // How many lines were run.
-    done: AtomicU64,
-}
-
-impl Gate for AfterAll {
-    fn before(&self, _station: u32, line: u64) {
-        for _ in 0..TURNS {
-            if line <= LINES || self.done.load(Ordering::SeqCst) >= 16 * LINES {
-                return;
-            }
-            thread::yield_now();
-        }
-    }
-
-    fn after(&self, _station: u32, _line: u64) {
-        self.done.fetch_add(1, Ordering::SeqCst);
-    }
-}
-
-// A script of the rounds and a last line.
-fn rounds(alloc: Global, last: &[u8]) -> Result<Bytes, AllocError> {
+// A script of the rounds.
+fn rounds(alloc: Global) -> Result<Bytes, AllocError> {
     let mut text = Vec::new(alloc);
     for _ in 0..ROUNDS {
         text.extend_from_slice(b"USE L\n? FLOCK()\nAPPEND BLANK\nUNLOCK\n")?;
     }
-    text.extend_from_slice(last)?;
     Ok(Bytes::from_vec(text))
 }
 
-// The scripts of 16 stations; the first asks for the number of records at the end.
+// The scripts of 16 stations.
 fn sixteen_scripts(alloc: Global) -> Result<Vec<Bytes>, AllocError> {
-    let mut scripts = vec![in alloc; rounds(alloc, b"? RECCOUNT()\n")?]?;
-    for _ in 1..16 {
-        scripts.push(rounds(alloc, b"")?)?;
+    let mut scripts = Vec::new(alloc);
+    for _ in 0..16 {
+        scripts.push(rounds(alloc)?)?;
     }
     Ok(scripts)
 }
@@ -297,15 +263,14 @@ fn sixteen_stations_count_together(rt: HostRuntime) -> Result<(), Fail> {
         content: read_table(alloc, &EMPTY, None)?,
         indexes: Vec::new(alloc),
     };
-    let gate = AfterAll {
-        done: AtomicU64::new(0),
-    };
-    let outcome = run_on(&rt, alloc, table, 16, &scripts, &gate)??;
-    assert_eq!(rt; outcome.closed.entry_count(), 16 * LINES + 1);
+    let outcome = run_on(&rt, alloc, table, 16, &scripts, &OpenGate)??;
+    let closed = &outcome.closed;
+    assert_eq!(rt; closed.entry_count(), 16 * LINES);
+    if closed.table_count() == 0 {
+        return Err(Fail::from("no table"));
+    }
     let count = appended_by_all(&outcome.answers);
-    let asked = outcome.answers.first().ok_or("an answer")?;
-    let told = format!(in alloc; "\n{count}\n")?;
     assert!(rt; count > 0);
-    assert!(rt; asked.as_slice().ends_with(told.as_bytes()));
+    assert_eq!(rt; closed.table(1).record_count(), count);
     Ok(())
 }

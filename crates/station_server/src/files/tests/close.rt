@@ -1,18 +1,11 @@
 use crate::files::{CloseFault, ClosedIndex, ClosedTable, MemoryFolder, close_files};
-use crate::sample::TABLE;
+use crate::tests::sample::{EMPTY_INDEX, TABLE};
 use dbf_fields::{Bytes, CHARACTER, Field, MEMO, Schema, day_of};
 use dbf_image::{TableData, read_table};
 use key_expr::KeyExpr;
 use ndx_index::{MAX_PAIRS, OrderedIndex};
 use std::alloc::Global;
 use std::test::Fail;
-
-// The first bytes of the file of an empty index on NAME; zeros follow.
-#[rattlefmt::skip]
-const EMPTY_INDEX: [u8; 28] = [
-    1, 0, 0, 0, 2, 0, 0, 0, 0, 0, 0, 0, 10, 0, 25, 0, 0, 0, 20, 0, 0, 0, 0, 0, 0x4e, 0x41, 0x4d,
-    0x45,
-];
 
 // What stands before the 0x1A in the file of a table with the memo NOTE and without records.
 #[rattlefmt::skip]

@@ -1,4 +1,4 @@
-use Rattle.std.proofs.Common.{◌≡◌, ◌<◌, length, arith, refl}
+use Rattle.std.proofs.Common.{◌≡◌, ◌<◌, length, arith}
 use Rattle.std.proofs.lemmas.Bool.Decides.{nat_tests}
 use Rattle.station_server.proofs.SetupLaws.WordCutting.{first_of_words, shorter_after, without_words}
 use Rattle.station_server.proofs.setup.words.cut_first.Goals as goal

@@ -1,0 +1,18 @@
+use Rattle.std.proofs.Common.{◌≡◌, ℕ, suc, ◌+◌, ◌-◌, List, [], ◌∷◌, ◌++◌, map, take, ap, sym, ◌∙◌, arith}
+use Rattle.std.specs.List.{slice_get}
+use Rattle.std.specs.Option.{option_map}
+use Rattle.station_server.specs.ClosedIndex.{IndexContent}
+use Rattle.station_server.specs.HandedOver.{index_of}
+use Rattle.station_server.proofs.HandingLaws.{mapped_next}
+use Rattle.station_server.proofs.whole_run.closing.closed_indexes.Goals as goal
+
+pub loop-i-preserved : goal.loop-i-preserved
+loop-i-preserved c =
+    let content = c.args.table.now.content in
+    let i = c.loop-i.i in
+    let index = c.in_ok-closed_index.field-0 in
+    let back : i + 1 - 1 ≡ i = omega arith in
+    let more : suc i ≡ i + 1 = omega arith in
+    let there = c.in_ok-closed_index.ensures.value ∙ ap (λ (k : ℕ). option_map (index_of content.table) (slice_get content.indexes k)) back in
+    c.in_ok-push.ensures.items ∙ ap (λ (l : List IndexContent). l ++ index ∷ []) c.loop-i.invariant
+    ∙ sym (mapped_next (index_of content.table) content.indexes i index there) ∙ ap (λ (k : ℕ). map (index_of content.table) (take k content.indexes)) more

@@ -1,0 +1,6 @@
+use Rattle.std.proofs.Common.{◌≡◌, map, take}
+use Rattle.station_server.specs.HandedOver.{index_of}
+use Rattle.station_server.proofs.whole_run.closing.closed_indexes.Given as goal
+
+abbrev pub invariant-loop-i : goal.invariant-loop-i
+invariant-loop-i l = l.indexes.items ≡ map (index_of l.table.content.table) (take l.i l.table.content.indexes)

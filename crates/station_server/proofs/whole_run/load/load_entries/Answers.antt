@@ -1,0 +1,18 @@
+use Rattle.std.proofs.Common.{Some, ap, sym, ◌∙◌}
+use Rattle.std.proofs.lemmas.Option.{slice_get-get_or}
+use Rattle.station_server.specs.declared.setup.entry.SetupEntry.{SetupEntry}
+use Rattle.station_server.proofs.LoadLaws.{err_exit, loaded_more}
+use Rattle.station_server.proofs.whole_run.load.load_entries.Goals as goal
+
+pub returns-in_err-load_entry-clause-fault : goal.returns-in_err-load_entry-clause-fault
+returns-in_err-load_entry-clause-fault g c =
+    let i = c.loop-entry.entry-index in
+    let entry = c.entry-item.result in
+    err_exit _ _ c.from_residual.ensures.1
+    (i, entry, slice_get-get_or c.args.entries.now i entry c.loop-entry-test.true ∙ ap (λ (e : SetupEntry). Some e) (sym c.entry-item.is), rw c.loop-entry.invariant.kept at c.in_err-load_entry.ensures.fault)
+
+pub loop-entry-preserved : goal.loop-entry-preserved
+loop-entry-preserved g c = record {
+  read = loaded_more _ c.args.entries.now c.loop-entry.entry-index c.entry-item.result _ _ c.loop-entry-test.true c.entry-item.is c.loop-entry.invariant.read (rw c.loop-entry.invariant.kept at c.in_ok-load_entry.ensures.read);
+  kept = c.in_ok-load_entry.ensures.kept ∙ c.loop-entry.invariant.kept;
+}

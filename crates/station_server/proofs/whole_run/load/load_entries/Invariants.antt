@@ -1,0 +1,11 @@
+use Rattle.std.proofs.Common.{◌≡◌, take}
+use Rattle.station_server.specs.Loading.{nothing, read_of, LoadAll}
+use Rattle.station_server.proofs.whole_run.load.load_entries.Given as goal
+
+abbrev pub invariant-loop-entry : goal.invariant-loop-entry
+invariant-loop-entry g l =
+    let files = g.S.Source.files in
+    record {
+      read : LoadAll (files l.fn.source) (take l.entry-index l.entries) nothing (read_of l.loaded);
+      kept : files l.source ≡ files l.fn.source;
+    }

@@ -1,0 +1,28 @@
+-- The tables of a closed catalogue, as their files are written.
+use Rattle.std.specs.Prelude.{◌≡◌, ℕ, ◌+◌, ◌-◌, ◌<◌, List, length, map, slice_get, Some}
+use Rattle.dbf_image.specs.Table.{Table}
+use Rattle.ndx_index.specs.TableOrder.{order}
+use Rattle.table_core.specs.Content.{Content, Indexed}
+use Rattle.shared_catalogue.specs.Replay.{History, names_of, state_of}
+use Rattle.shared_catalogue.specs.State.{table_at}
+use Rattle.station_server.specs.declared.files.closed.ClosedTable.{ClosedTable}
+use Rattle.station_server.specs.ClosedIndex.{IndexContent, index_with}
+
+-- an index of a table: its pairs are the table's in order
+abbrev pub index_of : Table → Indexed → IndexContent
+index_of table index = index_with index.name index.expr (order table index.expr.expr)
+
+-- a table with its indexes at the end of a history
+abbrev pub end_of : History → ℕ → Content
+end_of h number = table_at (state_of h).tables number
+
+-- the table of this number is handed over as it is at the history's end, under the name with which it was opened
+pub record IsHandedOver (h : History) (number : ℕ) (closed : ClosedTable) : Type 0 where
+  pub named : slice_get (names_of h.opened) (number - 1) ≡ Some closed.name
+  pub content : closed.content ≡ (end_of h number).table
+  pub indexes : closed.indexes.items ≡ map (index_of (end_of h number).table) (end_of h number).indexes
+
+-- the tables are all of the catalogue's, in their order
+pub record AreHandedOver (h : History) (tables : List ClosedTable) : Type 0 where
+  pub count : length tables ≡ length h.opened.tables
+  pub each : (i : ℕ) → i < length h.opened.tables → (closed : ClosedTable) × (slice_get tables i ≡ Some closed) × IsHandedOver h (i + 1) closed

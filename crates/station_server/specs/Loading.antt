@@ -1,0 +1,113 @@
+-- What is read for a run: the files that the entries of a setup name.
+use Rattle.std.specs.Prelude.{◌≡◌, ◌≢◌, ◌⊎◌, ℕ, List, [], ◌∷◌, ◌++◌, Option, Some, None, bytes_eq, slice_get, slice_set}
+use Rattle.std.specs.List.{position}
+use Rattle.dbf_image.specs.declared.fault.ImageFault.TheVariants.{NoMemory as NoRoomForImage}
+use Rattle.dbf_image.specs.DbfText.{IsDbf}
+use Rattle.dbf_image.specs.Reading.{IsRefusal}
+use Rattle.ndx_index.specs.declared.fault.NdxFault.TheVariants.{NoMemory as NoRoomForIndex}
+use Rattle.ndx_index.specs.Header.{IsIndex, Breaks}
+use Rattle.shared_catalogue.specs.declared.source.IndexSource.{IndexSource}
+use Rattle.shared_catalogue.specs.declared.source.TableSource.{TableSource}
+use Rattle.station_server.specs.declared.files.named.NamedFile.{NamedFile}
+use Rattle.station_server.specs.declared.setup.entry.SetupEntry.{SetupEntry}
+use Rattle.station_server.specs.declared.setup.entry.SetupEntry.TheVariants.{Table, Index, Station}
+use Rattle.station_server.specs.declared.whole_run.fault.FileFault.{FileFault}
+use Rattle.station_server.specs.declared.whole_run.fault.FileFault.TheVariants.{CannotRead, Image, Ndx}
+use Rattle.station_server.specs.declared.whole_run.fault.ServeFault.{ServeFault}
+use Rattle.station_server.specs.declared.whole_run.fault.ServeFault.TheVariants.{File, NoMemory}
+use Rattle.station_server.specs.declared.whole_run.loaded.Loaded.{Loaded}
+use Rattle.station_server.specs.Files.{IsFileOf}
+
+-- ---- what is read
+
+-- the tables with their indexes, and the scripts
+pub record Read : Type 0 where
+  pub tables : List TableSource
+  pub scripts : List (List ℕ)
+
+abbrev pub read_as : List TableSource → List (List ℕ) → Read
+read_as tables scripts = record { tables = tables; scripts = scripts }
+
+abbrev pub nothing : Read
+nothing = read_as [] []
+
+abbrev pub read_of : Loaded → Read
+read_of loaded = read_as loaded.tables.items loaded.scripts.items
+
+-- the bytes of a memo file, where one is named
+abbrev pub IsMemoFileOf : Option (List NamedFile) → Option (List ℕ) → Option (List ℕ) → Type 0
+IsMemoFileOf files None memo = memo ≡ None
+IsMemoFileOf files (Some path) memo = (bytes : List ℕ) × IsFileOf files path bytes × (memo ≡ Some bytes)
+
+-- the table is that of its two files, under its name and without indexes
+pub record IsTableRead (files : Option (List NamedFile)) (name dbf : List ℕ) (dbt : Option (List ℕ)) (table : TableSource) : Type 0 where
+  pub bytes : List ℕ
+  pub memo : Option (List ℕ)
+  pub found : IsFileOf files dbf bytes
+  pub memo_found : IsMemoFileOf files dbt memo
+  pub content : IsDbf bytes memo table.content
+  pub named : table.name ≡ name
+  pub plain : table.indexes.items ≡ []
+
+-- the index is that of its file, under its name
+pub record IsIndexRead (files : Option (List NamedFile)) (name ndx : List ℕ) (index : IndexSource) : Type 0 where
+  pub bytes : List ℕ
+  pub found : IsFileOf files ndx bytes
+  pub content : IsIndex bytes index.file.expr index.file.key_len index.file.pairs.items
+  pub named : index.name ≡ name
+
+-- the same table with one more index
+pub record HasOneMore (index : IndexSource) (old new : TableSource) : Type 0 where
+  pub named : new.name ≡ old.name
+  pub content : new.content ≡ old.content
+  pub indexes : new.indexes.items ≡ old.indexes.items ++ index ∷ []
+
+-- the table at this place, where there is one, has got one more index
+abbrev pub HasIndexAt : Option ℕ → IndexSource → List TableSource → List TableSource → Type 0
+HasIndexAt None index old new = new ≡ old
+HasIndexAt (Some place) index old new =
+    (table : TableSource) × (changed : TableSource) × (slice_get old place ≡ Some table) × HasOneMore index table changed × (new ≡ slice_set old place changed)
+
+-- The first table of the name has got one more index. (Where no table has the name nothing changes; in a setup
+-- an index stands after its table.)
+abbrev pub HasIndex : List ℕ → IndexSource → List TableSource → List TableSource → Type 0
+HasIndex name index old new = HasIndexAt (position (λ t. bytes_eq name t.name) old) index old new
+
+-- what an entry adds to what was read
+abbrev pub Loads : Option (List NamedFile) → SetupEntry → Read → Read → Type 0
+Loads files (Table name dbf dbt) old new = (table : TableSource) × IsTableRead files name dbf dbt table × (new ≡ read_as (old.tables ++ table ∷ []) old.scripts)
+Loads files (Index table name ndx) old new = (index : IndexSource) × IsIndexRead files name ndx index × HasIndex table index old.tables new.tables × (new.scripts ≡ old.scripts)
+Loads files (Station script) old new = (bytes : List ℕ) × IsFileOf files script bytes × (new ≡ read_as old.tables (old.scripts ++ bytes ∷ []))
+
+-- what entries add, one after the other
+abbrev pub LoadAll : Option (List NamedFile) → List SetupEntry → Read → Read → Type 0
+LoadAll files [] old new = new ≡ old
+LoadAll files (entry ∷ entries) old new = (next : Read) × Loads files entry old next × LoadAll files entries next new
+
+-- ---- why an entry's files are not read
+
+-- the entry names the path
+abbrev pub IsPathIn : SetupEntry → List ℕ → Type 0
+IsPathIn (Table name dbf None) path = path ≡ dbf
+IsPathIn (Table name dbf (Some dbt)) path = (path ≡ dbf) ⊎ (path ≡ dbt)
+IsPathIn (Index table name ndx) path = path ≡ ndx
+IsPathIn (Station script) path = path ≡ script
+
+-- the reader of the entry's files refuses them, or a file that the entry names can't be read
+abbrev pub IsUnread : Option (List NamedFile) → SetupEntry → List ℕ → FileFault → Type 0
+IsUnread files entry path CannotRead = IsPathIn entry path
+IsUnread files (Table name dbf dbt) path (Image fault) =
+    (path ≡ dbf) × (fault ≢ NoRoomForImage) × (bytes : List ℕ) × (memo : Option (List ℕ)) × IsFileOf files dbf bytes × IsMemoFileOf files dbt memo × IsRefusal fault bytes memo
+IsUnread files (Index table name ndx) path (Ndx fault) =
+    (path ≡ ndx) × (fault ≢ NoRoomForIndex) × (bytes : List ℕ) × IsFileOf files ndx bytes × Breaks bytes fault
+IsUnread files entry path fault = ⊥
+
+-- why an entry is not loaded: a file that is not read, or want of memory
+abbrev pub IsEntryFault : Option (List NamedFile) → SetupEntry → ServeFault → Type 0
+IsEntryFault files entry NoMemory = Unit {0}
+IsEntryFault files entry (File path fault) = IsUnread files entry path fault
+IsEntryFault files entry fault = ⊥
+
+-- the fault is that of one of the entries
+abbrev pub IsFaultIn : Option (List NamedFile) → List SetupEntry → ServeFault → Type 0
+IsFaultIn files entries fault = (i : ℕ) × (entry : SetupEntry) × (slice_get entries i ≡ Some entry) × IsEntryFault files entry fault

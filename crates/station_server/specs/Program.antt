@@ -1,0 +1,15 @@
+-- The command line: which texts are the date of a run, and which values its options have.
+use Rattle.std.specs.Prelude.{◌≡◌, ℕ, true, List, Option}
+use Rattle.std.specs.Int.{IsInRange}
+use Rattle.clap.specs.Words.{first_value, found_of}
+use Rattle.clap.specs.declared.parser.matches.ArgMatches.{ArgMatches}
+use Rattle.dbf_fields.specs.Date.{is_date, year_in}
+
+-- eight digits that are a calendar date of the years 1900 to 2155
+pub record IsRunDate (text : List ℕ) : Type 0 where
+  pub real : is_date text ≡ true
+  pub years : IsInRange 1900 2155 (year_in text)
+
+-- the value of the option of a name
+abbrev pub value_of : ArgMatches → List ℕ → Option (List ℕ)
+value_of matches name = first_value (found_of matches) name

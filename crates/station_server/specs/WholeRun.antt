@@ -1,0 +1,103 @@
+-- A whole run, from a setup and its files to the files that are written.
+use Rattle.std.specs.Prelude.{◌≡◌, ◌≢◌, ◌⊎◌, ℕ, Bool, nat_le, List, length, Option, Some, Result, Ok, Err, if◌then◌else◌}
+use Rattle.dbf_image.specs.Image.{IsOutside}
+use Rattle.shared_catalogue.specs.declared.opening.OpenFault.TheVariants.{NoMemory as NoRoomToOpen}
+use Rattle.shared_catalogue.specs.Opening.{Opening}
+use Rattle.shared_catalogue.specs.Replay.{History, IsLegal}
+use Rattle.station_server.specs.declared.files.close_fault.CloseFault.TheVariants.{DateOutside, TooManyBlocks, Write}
+use Rattle.station_server.specs.declared.files.closed.ClosedTable.{ClosedTable}
+use Rattle.station_server.specs.declared.files.named.NamedFile.{NamedFile}
+use Rattle.station_server.specs.declared.run.fault.RunFault.TheVariants.{ScriptCount}
+use Rattle.station_server.specs.declared.setup.entry.SetupEntry.{SetupEntry}
+use Rattle.station_server.specs.declared.whole_run.fault.FileFault.{FileFault}
+use Rattle.station_server.specs.declared.whole_run.fault.FileFault.TheVariants.{CannotRead}
+use Rattle.station_server.specs.declared.whole_run.fault.ServeFault.{ServeFault}
+use Rattle.station_server.specs.declared.whole_run.fault.ServeFault.TheVariants.{Setup, File, Refused, Run, Close, NoMemory}
+use Rattle.station_server.specs.Closing.{first_blocked}
+use Rattle.station_server.specs.Files.{IsFileOf}
+use Rattle.station_server.specs.HandedOver.{AreHandedOver}
+use Rattle.station_server.specs.Loading.{Read, nothing, LoadAll, IsFaultIn}
+use Rattle.station_server.specs.Reports.{AreReports}
+use Rattle.station_server.specs.Setup.{IsSetup}
+
+-- ---- reading
+
+-- what the setup of this path says
+pub record IsSaid (files : Option (List NamedFile)) (setup : List ℕ) (said : Result (List SetupEntry) ℕ) : Type 0 where
+  pub text : List ℕ
+  pub found : IsFileOf files setup text
+  pub says : IsSetup text said
+
+-- what is read: the files that the setup of this path names
+pub record IsAllRead (files : Option (List NamedFile)) (setup : List ℕ) (read : Read) : Type 0 where
+  pub entries : List SetupEntry
+  pub said : IsSaid files setup (Ok entries)
+  pub loaded : LoadAll files entries nothing read
+
+-- the setup can't be read, or a file that it names is not read
+abbrev pub IsUnreadFile : Option (List NamedFile) → List ℕ → List ℕ → FileFault → Type 0
+IsUnreadFile files setup path fault =
+    ((path ≡ setup) × (fault ≡ CannotRead))
+    ⊎ ((entries : List SetupEntry) × IsSaid files setup (Ok entries) × IsFaultIn files entries (File path fault))
+
+-- why not all is read
+abbrev pub IsReadFault : Option (List NamedFile) → List ℕ → ServeFault → Type 0
+IsReadFault files setup NoMemory = Unit {0}
+IsReadFault files setup (Setup number) = IsSaid files setup (Err number)
+IsReadFault files setup (File path fault) = IsUnreadFile files setup path fault
+IsReadFault files setup fault = ⊥
+
+-- ---- running
+
+abbrev MAX_COUNT : ℕ
+MAX_COUNT = 4294967295
+
+-- a station for each script; more than 32 bits count are too many in any case
+abbrev pub stations_for : List (List ℕ) → ℕ
+stations_for scripts = if nat_le (length scripts) MAX_COUNT then length scripts else MAX_COUNT
+
+-- the tables were opened and the scripts run: this is the history at the end, and these are the stations' answers
+pub record IsRun (reindex : Bool) (read : Read) (h : History) (answers : List (List ℕ)) : Type 0 where
+  pub opened : Opening reindex (length read.scripts) read.tables (Ok h.opened.tables)
+  pub stations : h.opened.stations ≡ length read.scripts
+  pub reports : AreReports (length read.scripts) h.journal read.scripts answers
+
+-- why there is no end
+abbrev pub IsRunFault : Bool → Read → ServeFault → Type 0
+IsRunFault reindex read NoMemory = Unit {0}
+IsRunFault reindex read (Refused fault) = (fault ≢ NoRoomToOpen) × Opening reindex (stations_for read.scripts) read.tables (Err fault)
+IsRunFault reindex read (Run fault) = fault ≢ ScriptCount
+IsRunFault reindex read fault = ⊥
+
+-- ---- writing
+
+-- why the files of these tables are not written, or not all
+abbrev pub IsWriteFault : ℕ → List ClosedTable → ServeFault → Type 0
+IsWriteFault year tables NoMemory = Unit {0}
+IsWriteFault year tables (Close DateOutside) = IsOutside year
+IsWriteFault year tables (Close (TooManyBlocks number)) = first_blocked 1 tables ≡ Some number
+IsWriteFault year tables (Close (Write name)) = Unit {0}
+IsWriteFault year tables fault = ⊥
+
+-- ---- the whole
+
+-- what the setup names was read, the scripts were run, and these are the tables and answers whose files are to be
+-- written, and the number of commands
+pub record IsWholeRun (files : Option (List NamedFile)) (setup : List ℕ) (reindex : Bool) (tables : List ClosedTable) (answers : List (List ℕ)) (count : ℕ) : Type 0 where
+  pub read : Read
+  pub history : History
+  pub all : IsAllRead files setup read
+  pub run : IsRun reindex read history answers
+  pub legal : IsLegal history.opened history.journal
+  pub handed : AreHandedOver history tables
+  pub counted : count ≡ length history.journal
+
+-- why a whole run does not come to its end
+abbrev pub IsServeFault : Option (List NamedFile) → List ℕ → Bool → ℕ → ServeFault → Type 0
+IsServeFault files setup reindex year NoMemory = Unit {0}
+IsServeFault files setup reindex year (Setup number) = IsReadFault files setup (Setup number)
+IsServeFault files setup reindex year (File path fault) = IsReadFault files setup (File path fault)
+IsServeFault files setup reindex year (Refused fault) = (read : Read) × IsAllRead files setup read × IsRunFault reindex read (Refused fault)
+IsServeFault files setup reindex year (Run fault) = (read : Read) × IsAllRead files setup read × IsRunFault reindex read (Run fault)
+IsServeFault files setup reindex year (Close fault) =
+    (tables : List ClosedTable) × (answers : List (List ℕ)) × (count : ℕ) × IsWholeRun files setup reindex tables answers count × IsWriteFault year tables (Close fault)

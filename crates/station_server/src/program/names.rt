@@ -1,0 +1,89 @@
+//! The names of faults, without what they carry.
+
+ghost use Rattle.std.specs.Prelude.{◌≡◌};
+ghost use Rattle.station_server.specs.FaultNames.{close_name as name_of_close, image_name as name_of_image, ndx_name as name_of_ndx, open_name as name_of_opening, run_name as name_of_run};
+
+use crate::files::CloseFault;
+use crate::run::fault::RunFault;
+use dbf_image::ImageFault;
+use ndx_index::NdxFault;
+use shared_catalogue::OpenFault;
+
+/// The name of the fault for which bytes are no table.
+pub(crate) fn image_name(fault: ImageFault) -> &'static str
+    ensures value { result.now ≡ name_of_image fault }
+{
+    match fault {
+        ImageFault::Truncated => "Truncated",
+        ImageFault::BadVersion => "BadVersion",
+        ImageFault::BadHeaderLength => "BadHeaderLength",
+        ImageFault::BadSchema => "BadSchema",
+        ImageFault::BadRecordLength => "BadRecordLength",
+        ImageFault::TooManyRecords => "TooManyRecords",
+        ImageFault::MemoFileMissing => "MemoFileMissing",
+        ImageFault::BadMemoNumber => "BadMemoNumber",
+        ImageFault::MemoOutside => "MemoOutside",
+        ImageFault::MemoTooLong => "MemoTooLong",
+        ImageFault::NoMemory => "NoMemory",
+    }
+}
+
+/// The name of the fault for which an index file is refused.
+pub(crate) fn ndx_name(fault: NdxFault) -> &'static str
+    ensures value { result.now ≡ name_of_ndx fault }
+{
+    match fault {
+        NdxFault::Truncated => "Truncated",
+        NdxFault::NumericIndex => "NumericIndex",
+        NdxFault::UniqueIndex => "UniqueIndex",
+        NdxFault::BadKeyLength => "BadKeyLength",
+        NdxFault::BadRecordSize => "BadRecordSize",
+        NdxFault::PageOutside => "PageOutside",
+        NdxFault::PageTwice => "PageTwice",
+        NdxFault::TooManyEntries => "TooManyEntries",
+        NdxFault::MixedPage => "MixedPage",
+        NdxFault::NoMemory => "NoMemory",
+    }
+}
+
+/// The name of the fault for which a catalogue can't be opened.
+pub(crate) fn open_name(fault: OpenFault) -> &'static str
+    ensures value { result.now ≡ name_of_opening fault }
+{
+    match fault {
+        OpenFault::NoStation => "NoStation",
+        OpenFault::TooManyStations => "TooManyStations",
+        OpenFault::TooManyTables => "TooManyTables",
+        OpenFault::DuplicateTable(_) => "DuplicateTable",
+        OpenFault::TooManyIndexes(_) => "TooManyIndexes",
+        OpenFault::DuplicateIndex(_, _) => "DuplicateIndex",
+        OpenFault::BadExpression(_, _, _) => "BadExpression",
+        OpenFault::IndexStale(_, _) => "IndexStale",
+        OpenFault::NoMemory => "NoMemory",
+    }
+}
+
+/// The name of the fault for which the stations' run did not come to its end.
+pub(crate) fn run_name(fault: RunFault) -> &'static str
+    ensures value { result.now ≡ name_of_run fault }
+{
+    match fault {
+        RunFault::ScriptCount => "ScriptCount",
+        RunFault::NoThread(_) => "NoThread",
+        RunFault::Stopped(_, _) => "Stopped",
+        RunFault::Settle(_) => "Settle",
+        RunFault::NoMemory => "NoMemory",
+    }
+}
+
+/// The name of the fault for which the files were not written.
+pub(crate) fn close_name(fault: &CloseFault) -> &'static str
+    ensures value { result.now ≡ name_of_close fault.now }
+{
+    match fault {
+        CloseFault::DateOutside => "DateOutside",
+        CloseFault::TooManyBlocks(_) => "TooManyBlocks",
+        CloseFault::NoMemory => "NoMemory",
+        CloseFault::Write(_) => "Write",
+    }
+}

@@ -1,0 +1,133 @@
+//! The command line.
+
+ghost use Rattle.std.specs.Prelude.{◌≡◌, ◌≢◌, ◌↔◌, codes, Some, None, IsSome, IfSome};
+ghost use Rattle.std.specs.Int.{IsInRange};
+ghost use Rattle.clap.specs.Words.{kind_of};
+ghost use Rattle.dbf_fields.specs.Date.{SaysDay};
+ghost use Rattle.station_server.specs.Program.{IsRunDate, value_of};
+
+use clap::error::ErrorKind;
+use clap::{Arg, ArgAction, ArgMatches, Command};
+use dbf_fields::{DateCell, Day, read_date};
+use std::alloc::{AllocError, Global};
+
+// What the help tells after the options.
+const STATUSES: &str = "Exit status:
+  0  all files are written
+  1  the command line, the date or a line of the setup is bad
+  2  a file is refused or can't be read, or the tables can't be opened together
+  3  the run did not come to its end, or memory was refused
+  4  the files are not written, or not all";
+
+/// What the command line says.
+#[derive(Clone, Copy, Debug)]
+pub struct Options<'a> {
+    /// The path of the setup.
+    pub setup: &'a str,
+    /// The path of the folder that files are written to.
+    pub out: &'a str,
+    /// The date of the run, of the years 1900 to 2155.
+    pub today: Day,
+    /// Whether the indexes are made anew from the records, in place of being read.
+    pub reindex: bool,
+}
+
+/// The command line as `clap` is to read it. An error where memory is refused.
+pub fn command<'a>(alloc: Global) -> Result<Command<'a>, AllocError> {
+    Command::new(alloc, "station_server")
+        .about("Runs the scripts of stations on shared dBASE III PLUS tables")
+        .after_help(STATUSES)
+        .arg(required_option(
+            alloc,
+            "setup",
+            "FILE",
+            "The setup: its tables, indexes and scripts",
+        ))?
+        .arg(required_option(
+            alloc,
+            "out",
+            "DIR",
+            "The folder for the written files, which has to exist",
+        ))?
+        .arg(required_option(
+            alloc,
+            "today",
+            "YYYYMMDD",
+            "The date that the written tables tell, of 1900 to 2155",
+        ))?
+        .arg(
+            Arg::new(alloc, "reindex")
+                .long("reindex")
+                .help("Make the indexes anew from the records")
+                .action(ArgAction::SetTrue),
+        )
+}
+
+// An option that has to be given once, with a value.
+fn required_option<'a>(
+    alloc: Global,
+    name: &'a str,
+    value_name: &'a str,
+    help: &'a str,
+) -> Arg<'a> {
+    Arg::new(alloc, name)
+        .long(name)
+        .value_name(value_name)
+        .help(help)
+        .required(true)
+        .action(ArgAction::Set)
+}
+
+/// The exit status after a command line of which `clap` gave no options: 0 where it asks for the help, 3 where
+/// memory was refused, and else 1.
+pub fn mistake_status(error: &clap::Error) -> u8
+    ensures help { kind_of error.now ≡ ErrorKind.DisplayHelp → result ≡ 0 }
+    ensures memory { kind_of error.now ≡ ErrorKind.OutOfMemory → result ≡ 3 }
+    ensures mistake { kind_of error.now ≢ ErrorKind.DisplayHelp → kind_of error.now ≢ ErrorKind.OutOfMemory → result ≡ 1 }
+{
+    match error.kind() {
+        ErrorKind::DisplayHelp => 0,
+        ErrorKind::OutOfMemory => 3,
+        _ => 1,
+    }
+}
+
+/// The date that a text is: eight digits `YYYYMMDD` of a calendar date of the years 1900 to 2155. `None` for
+/// every other text. Takes no memory.
+pub(crate) fn date_of(text: &[u8]) -> Option<Day>
+    ensures some { IsSome result ↔ IsRunDate text.now }
+    ensures said { IfSome result (λ day. SaysDay text.now day) }
+    ensures years { IfSome result (λ day. IsInRange 1900 2155 day.year) }
+{
+    match read_date(text) {
+        DateCell::Is(day) => {
+            if day.year < 1900 || day.year > 2155 {
+                return None;
+            }
+            Some(day)
+        }
+        DateCell::Blank => None,
+        DateCell::Odd => None,
+    }
+}
+
+/// What a command line says that `clap` has read. `None` where the date is no calendar date of the years 1900
+/// to 2155. Takes no memory.
+pub fn options_of<'a>(matches: &ArgMatches<'a>) -> Option<Options<'a>>
+    ensures setup { IfSome result (λ options. value_of matches.now (codes "setup") ≡ Some options.setup.now) }
+    ensures out { IfSome result (λ options. value_of matches.now (codes "out") ≡ Some options.out.now) }
+    ensures today { IfSome result (λ options. IfSome (value_of matches.now (codes "today")) (λ text. SaysDay text options.today)) }
+    ensures years { IfSome result (λ options. IsInRange 1900 2155 options.today.year) }
+    ensures bad { result ≡ None → IsSome (value_of matches.now (codes "setup")) → IsSome (value_of matches.now (codes "out")) → IfSome (value_of matches.now (codes "today")) (λ text. IsRunDate text → ⊥) }
+{
+    let setup = matches.get_str("setup")?;
+    let out = matches.get_str("out")?;
+    let today = date_of(matches.get_str("today")?.as_bytes())?;
+    let reindex = matches.get_flag("reindex");
+    Some(Options {
+        setup,
+        out,
+        today,
+        reindex,
+    })
+}

@@ -1,0 +1,170 @@
+//! The whole run: from a setup and its files to the written files.
+
+ghost use Rattle.std.specs.Prelude.{◌≡◌, ◌≢◌, ◌⊎◌, ℕ, List, [], Ok, Err, IfOk, IfErr, OnOk};
+ghost use Rattle.dbf_image.specs.Sink.{grown, Rises};
+ghost use Rattle.shared_catalogue.specs.Opening.{Opening};
+ghost use Rattle.station_server.specs.declared.files.closed.ClosedTable.{ClosedTable as Table};
+ghost use Rattle.station_server.specs.Closing.{run_files, IsCutAt};
+ghost use Rattle.station_server.specs.Files.{told};
+ghost use Rattle.station_server.specs.Loading.{read_of};
+ghost use Rattle.station_server.specs.WholeRun.{stations_for, IsAllRead, IsReadFault, IsRun, IsRunFault, IsWholeRun, IsServeFault, IsSaid, IsWriteFault};
+
+mod closing;
+mod fault;
+mod load;
+mod loaded;
+#[cfg(test)]
+mod tests;
+
+use crate::files::{CloseFault, ClosedTable, Folder, Source, close_files};
+use crate::run::Outcome;
+use crate::run::gate::Gate;
+use crate::run::whole::run_catalogue;
+use crate::setup::{SetupEntry, SetupFault, parse_setup};
+use crate::whole_run::closing::closed_tables;
+use crate::whole_run::load::{load_entries, load_file};
+use crate::whole_run::loaded::Loaded;
+use dbf_fields::{Bytes, Day};
+pub use fault::{FileFault, ServeFault};
+use shared_catalogue::{Catalogue, OpenFault, TableSource};
+use std::alloc::Global;
+use std::sync::Wait;
+use std::thread::Threads;
+
+// What the setup of a path says.
+fn read_setup<S: Source>(
+    alloc: Global,
+    source: &mut S,
+    setup: &Bytes,
+) -> Result<Vec<SetupEntry>, ServeFault>
+    ensures said { IfOk result (λ entries. IsSaid (S.files source.old) setup.now (Ok entries.items)) }
+    ensures kept { S.files source.new ≡ S.files source.old }
+    ensures fault { IfErr result (IsReadFault (S.files source.old) setup.now) }
+{
+    let text = load_file(alloc, source, setup)?;
+    match parse_setup(alloc, text.as_slice()) {
+        Ok(entries) => Ok(entries),
+        Err(SetupFault::Bad(number)) => Err(ServeFault::Setup(number)),
+        Err(SetupFault::NoMemory) => Err(ServeFault::NoMemory),
+    }
+}
+
+// Reads the setup of a path, and then what it names.
+fn read_all<S: Source>(alloc: Global, source: &mut S, setup: &Bytes) -> Result<Loaded, ServeFault>
+    ensures read { IfOk result (λ loaded. IsAllRead (S.files source.old) setup.now (read_of loaded)) }
+    ensures kept { S.files source.new ≡ S.files source.old }
+    ensures fault { IfErr result (IsReadFault (S.files source.old) setup.now) }
+{
+    let entries = read_setup(alloc, source, setup)?;
+    load_entries(alloc, source, &entries)
+}
+
+// How many stations the scripts are for.
+fn station_count(scripts: &[Bytes]) -> u32
+    ensures value { result ≡ stations_for scripts.now }
+{
+    if scripts.len() <= u32::MAX as usize {
+        scripts.len() as u32
+    } else {
+        u32::MAX
+    }
+}
+
+// Opens the tables.
+fn open_tables(
+    alloc: Global,
+    tables: Vec<TableSource>,
+    stations: u32,
+    reindex: bool,
+) -> Result<Catalogue, ServeFault>
+    ensures opened { IfOk result (λ catalogue. Opening reindex stations tables.items (Ok catalogue.opened.tables)) }
+    ensures stations { IfOk result (λ catalogue. catalogue.opened.stations ≡ stations) }
+    ensures empty { IfOk result (λ catalogue. catalogue.journal ≡ []) }
+    ensures fault { IfErr result (λ fault. (fault ≡ ServeFault.NoMemory) ⊎ ((why : OpenFault) × (why ≢ OpenFault.NoMemory) × Opening reindex stations tables.items (Err why) × (fault ≡ ServeFault.Refused why))) }
+{
+    match Catalogue::open(alloc, tables, stations, reindex) {
+        Ok(catalogue) => Ok(catalogue),
+        Err(OpenFault::NoMemory) => Err(ServeFault::NoMemory),
+        Err(fault) => Err(ServeFault::Refused(fault)),
+    }
+}
+
+// Opens the tables and runs the scripts.
+fn run_loaded<G: Gate + Sync, R: Threads + Wait + Sync>(
+    rt: &R,
+    alloc: Global,
+    loaded: Loaded,
+    reindex: bool,
+    gate: &G,
+) -> Result<Outcome, ServeFault>
+    ensures ran { IfOk result (λ outcome. IsRun reindex (read_of loaded) outcome.closed outcome.answers.items) }
+    ensures fault { IfErr result (IsRunFault reindex (read_of loaded)) }
+{
+    let Loaded { tables, scripts } = loaded;
+    let stations = station_count(&scripts);
+    let catalogue = open_tables(alloc, tables, stations, reindex)?;
+    match run_catalogue(rt, alloc, catalogue, &scripts, gate) {
+        Ok(outcome) => Ok(outcome),
+        Err(fault) => Err(ServeFault::Run(fault)),
+    }
+}
+
+// Writes the files of tables and answers.
+fn write_files<F: Folder>(
+    alloc: Global,
+    tables: &[ClosedTable],
+    answers: &[Bytes],
+    today: Day,
+    folder: &mut F,
+) -> Result<(), ServeFault>
+    ensures wrote { OnOk result (F.written folder.new ≡ grown (F.written folder.old) (told (run_files today.year today.month today.day tables.now answers.now))) }
+    ensures fine { OnOk result (F.failures folder.new ≡ F.failures folder.old) }
+    ensures fault { IfErr result (λ fault. IsWriteFault today.year tables.now fault) }
+    ensures unbegun { IfErr result (λ fault. ((name : List ℕ) → fault ≢ ServeFault.Close (CloseFault.Write name)) → folder.new ≡ folder.old) }
+    ensures failed { (name : List ℕ) → result ≡ Err (ServeFault.Close (CloseFault.Write name)) → Rises (F.failures folder.old) (F.failures folder.new) }
+    ensures cut { (name : List ℕ) → result ≡ Err (ServeFault.Close (CloseFault.Write name)) → IsCutAt name (F.written folder.old) (F.written folder.new) (run_files today.year today.month today.day tables.now answers.now) }
+{
+    match close_files(alloc, tables, answers, today, folder) {
+        Ok(()) => Ok(()),
+        Err(CloseFault::NoMemory) => Err(ServeFault::NoMemory),
+        Err(CloseFault::DateOutside) => Err(ServeFault::Close(CloseFault::DateOutside)),
+        Err(CloseFault::TooManyBlocks(number)) => {
+            Err(ServeFault::Close(CloseFault::TooManyBlocks(number)))
+        }
+        Err(CloseFault::Write(name)) => Err(ServeFault::Close(CloseFault::Write(name))),
+    }
+}
+
+/// A whole run: reads the setup of a path and the files that it names, opens the tables for a station a script, runs
+/// the scripts, each in a thread of its own, and writes the tables, indexes and answers into the folder, dated. It
+/// answers the number of commands.
+///
+/// The setup is read whole first. Then, entry by entry, an entry's files are loaded and read; then the catalogue is
+/// opened, run and closed. The faults come in this order: see [`ServeFault`]. Before files are written nothing is
+/// begun in the folder; of a fault in writing see [`close_files`].
+pub fn serve<S: Source, F: Folder, G: Gate + Sync, R: Threads + Wait + Sync>(
+    rt: &R,
+    alloc: Global,
+    setup: &Bytes,
+    today: Day,
+    reindex: bool,
+    source: &mut S,
+    folder: &mut F,
+    gate: &G,
+) -> Result<u64, ServeFault>
+    // The files of the replay of a legal journal, whose commands are the scripts' lines, on what the setup names.
+    ensures ran { IfOk result (λ count. (tables : List Table) × (answers : List (List ℕ)) × IsWholeRun (S.files source.old) setup.now reindex tables answers count × (F.written folder.new ≡ grown (F.written folder.old) (told (run_files today.year today.month today.day tables answers)))) }
+    ensures fine { OnOk result (F.failures folder.new ≡ F.failures folder.old) }
+    ensures kept { S.files source.new ≡ S.files source.old }
+    ensures fault { IfErr result (IsServeFault (S.files source.old) setup.now reindex today.year) }
+    ensures unbegun { IfErr result (λ fault. ((name : List ℕ) → fault ≢ ServeFault.Close (CloseFault.Write name)) → folder.new ≡ folder.old) }
+    ensures failed { (name : List ℕ) → result ≡ Err (ServeFault.Close (CloseFault.Write name)) → Rises (F.failures folder.old) (F.failures folder.new) }
+    ensures cut { (name : List ℕ) → result ≡ Err (ServeFault.Close (CloseFault.Write name)) → (tables : List Table) × (answers : List (List ℕ)) × (count : ℕ) × IsWholeRun (S.files source.old) setup.now reindex tables answers count × IsCutAt name (F.written folder.old) (F.written folder.new) (run_files today.year today.month today.day tables answers) }
+{
+    let loaded = read_all(alloc, source, setup)?;
+    let outcome = run_loaded(rt, alloc, loaded, reindex, gate)?;
+    let count = outcome.closed.entry_count();
+    let tables = closed_tables(alloc, &outcome.closed)?;
+    write_files(alloc, &tables, &outcome.answers, today, folder)?;
+    Ok(count)
+}

@@ -1,0 +1,59 @@
+//! Why a whole run did not come to its end.
+
+use crate::files::CloseFault;
+use crate::run::fault::RunFault;
+use dbf_fields::Bytes;
+use dbf_image::ImageFault;
+use ndx_index::NdxFault;
+use shared_catalogue::OpenFault;
+use std::alloc::{AllocError, AllocFailed};
+
+/// Why a file was not read.
+#[derive(Clone, Copy, Debug, PartialEq, Eq)]
+pub enum FileFault {
+    /// It can't be read, or is over 1,073,741,824 bytes.
+    CannotRead,
+    /// Its bytes are no table.
+    Image(ImageFault),
+    /// Its bytes are no index.
+    Ndx(NdxFault),
+}
+
+/// Why a whole run did not come to its end. The order is that of its steps.
+#[derive(Debug, PartialEq, Eq, Drop)]
+pub enum ServeFault {
+    /// The setup's line of this number, from 1, is bad.
+    Setup(usize),
+    /// The file of this path was not read. Of a table's two files the reader's fault names the DBF.
+    File(Bytes, FileFault),
+    /// The catalogue was not opened.
+    Refused(OpenFault),
+    /// The stations' run did not come to its end, for want of memory too.
+    Run(RunFault),
+    /// The files were not written, or not all.
+    Close(CloseFault),
+    /// Memory was refused in reading, opening or closing.
+    NoMemory,
+}
+
+impl From<AllocError> for ServeFault {
+    ghost use Rattle.std.specs.Prelude.{◌≡◌};
+    ghost use Rattle.station_server.specs.declared.whole_run.fault.ServeFault.TheVariants.{NoMemory};
+
+    ghost from_gives = { λ _ fault. fault ≡ NoMemory };
+
+    fn from(_refused: AllocError) -> ServeFault {
+        ServeFault::NoMemory
+    }
+}
+
+impl<T: Drop> From<AllocFailed<T>> for ServeFault {
+    ghost use Rattle.std.specs.Prelude.{◌≡◌};
+    ghost use Rattle.station_server.specs.declared.whole_run.fault.ServeFault.TheVariants.{NoMemory};
+
+    ghost from_gives = { λ _ fault. fault ≡ NoMemory };
+
+    fn from(_refused: AllocFailed<T>) -> ServeFault {
+        ServeFault::NoMemory
+    }
+}

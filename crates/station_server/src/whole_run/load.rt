@@ -1,0 +1,212 @@
+//! Reading what the entries of a setup name.
+
+ghost use Rattle.std.specs.Prelude.{◌≡◌, ◌≢◌, ◌⊎◌, ◌<◌, ℕ, List, length, Some, IfOk, IfErr, IfSome, OnOk, bytes_eq};
+ghost use Rattle.std.specs.List.{position};
+ghost use Rattle.dbf_image.specs.DbfText.{IsDbf};
+ghost use Rattle.dbf_image.specs.Reading.{IsRefusal};
+ghost use Rattle.ndx_index.specs.Header.{IsIndex, Breaks};
+ghost use Rattle.station_server.specs.declared.setup.entry.SetupEntry.TheVariants.{Table, Index};
+ghost use Rattle.station_server.specs.Files.{IsFileOf};
+ghost use Rattle.station_server.specs.Loading.{nothing, read_of, IsMemoFileOf, IsTableRead, IsIndexRead, HasIndex, Loads, LoadAll, IsEntryFault, IsFaultIn};
+
+use crate::files::{LoadFault, Source};
+use crate::setup::SetupEntry;
+use crate::whole_run::fault::{FileFault, ServeFault};
+use crate::whole_run::loaded::Loaded;
+use dbf_fields::Bytes;
+use dbf_image::{ImageFault, TableData, read_table};
+use ndx_index::{NdxFault, NdxFile, read_ndx};
+use shared_catalogue::{IndexSource, TableSource};
+use std::alloc::{AllocError, Global};
+
+// The fault of a file that was not read.
+fn unread(alloc: Global, path: &Bytes, fault: FileFault) -> ServeFault
+    ensures value { (result ≡ ServeFault.NoMemory) ⊎ (result ≡ ServeFault.File path.now fault) }
+{
+    match path.copy(alloc) {
+        Ok(path) => ServeFault::File(path, fault),
+        Err(_) => ServeFault::NoMemory,
+    }
+}
+
+/// The bytes of the file of a path.
+pub(crate) fn load_file<S: Source>(
+    alloc: Global,
+    source: &mut S,
+    path: &Bytes,
+) -> Result<Bytes, ServeFault>
+    ensures found { IfOk result (λ bytes. IsFileOf (S.files source.old) path.now bytes) }
+    ensures kept { S.files source.new ≡ S.files source.old }
+    ensures fault { IfErr result (λ fault. (fault ≡ ServeFault.NoMemory) ⊎ (fault ≡ ServeFault.File path.now FileFault.CannotRead)) }
+{
+    match source.load(alloc, path.as_slice()) {
+        Ok(bytes) => Ok(bytes),
+        Err(LoadFault::NoMemory) => Err(ServeFault::NoMemory),
+        Err(LoadFault::CannotRead) => Err(unread(alloc, path, FileFault::CannotRead)),
+    }
+}
+
+// The bytes of a memo file, where one is named.
+fn load_memos<S: Source>(
+    alloc: Global,
+    source: &mut S,
+    dbt: &Option<Bytes>,
+) -> Result<Option<Bytes>, ServeFault>
+    ensures found { IfOk result (λ memo. IsMemoFileOf (S.files source.old) dbt.now memo) }
+    ensures kept { S.files source.new ≡ S.files source.old }
+    ensures fault { IfErr result (λ fault. (fault ≡ ServeFault.NoMemory) ⊎ ((path : List ℕ) × (dbt.now ≡ Some path) × (fault ≡ ServeFault.File path FileFault.CannotRead))) }
+{
+    match dbt {
+        None => Ok(None),
+        Some(path) => Ok(Some(load_file(alloc, source, path)?)),
+    }
+}
+
+// The table of the bytes of its files. A fault names the path of the DBF file.
+fn read_content(
+    alloc: Global,
+    path: &Bytes,
+    dbf: &Bytes,
+    dbt: &Option<Bytes>,
+) -> Result<TableData, ServeFault>
+    ensures read { IfOk result (IsDbf dbf.now dbt.now) }
+    ensures fault { IfErr result (λ fault. (fault ≡ ServeFault.NoMemory) ⊎ ((why : ImageFault) × (why ≢ ImageFault.NoMemory) × IsRefusal why dbf.now dbt.now × (fault ≡ ServeFault.File path.now (FileFault.Image why)))) }
+{
+    let memos = match dbt {
+        None => None,
+        Some(bytes) => Some(bytes.as_slice()),
+    };
+    match read_table(alloc, dbf.as_slice(), memos) {
+        Ok(content) => Ok(content),
+        Err(ImageFault::NoMemory) => Err(ServeFault::NoMemory),
+        Err(fault) => Err(unread(alloc, path, FileFault::Image(fault))),
+    }
+}
+
+// The index of the bytes of its file.
+fn read_index(alloc: Global, path: &Bytes, bytes: &Bytes) -> Result<NdxFile, ServeFault>
+    ensures read { IfOk result (λ file. IsIndex bytes.now file.expr file.key_len file.pairs.items) }
+    ensures fault { IfErr result (λ fault. (fault ≡ ServeFault.NoMemory) ⊎ ((why : NdxFault) × (why ≢ NdxFault.NoMemory) × Breaks bytes.now why × (fault ≡ ServeFault.File path.now (FileFault.Ndx why)))) }
+{
+    match read_ndx(alloc, bytes.as_slice()) {
+        Ok(file) => Ok(file),
+        Err(NdxFault::NoMemory) => Err(ServeFault::NoMemory),
+        Err(fault) => Err(unread(alloc, path, FileFault::Ndx(fault))),
+    }
+}
+
+// Loads and reads the files of a table.
+fn load_table<S: Source>(
+    alloc: Global,
+    source: &mut S,
+    name: &Bytes,
+    dbf: &Bytes,
+    dbt: &Option<Bytes>,
+) -> Result<TableSource, ServeFault>
+    ensures read { IfOk result (IsTableRead (S.files source.old) name.now dbf.now dbt.now) }
+    ensures kept { S.files source.new ≡ S.files source.old }
+    ensures fault { IfErr result (IsEntryFault (S.files source.old) (Table name.now dbf.now dbt.now)) }
+{
+    let bytes = load_file(alloc, source, dbf)?;
+    let memo = load_memos(alloc, source, dbt)?;
+    let content = read_content(alloc, dbf, &bytes, &memo)?;
+    let name = name.copy(alloc)?;
+    Ok(TableSource {
+        name,
+        content,
+        indexes: Vec::new(alloc),
+    })
+}
+
+// Loads and reads the file of an index of a table.
+fn load_index<S: Source>(
+    alloc: Global,
+    source: &mut S,
+    name: &Bytes,
+    ndx: &Bytes,
+) -> Result<IndexSource, ServeFault>
+    ensures read { IfOk result (IsIndexRead (S.files source.old) name.now ndx.now) }
+    ensures kept { S.files source.new ≡ S.files source.old }
+    ensures fault { (table : List ℕ) → IfErr result (IsEntryFault (S.files source.old) (Index table name.now ndx.now)) }
+{
+    let bytes = load_file(alloc, source, ndx)?;
+    let file = read_index(alloc, ndx, &bytes)?;
+    let name = name.copy(alloc)?;
+    Ok(IndexSource { name, file })
+}
+
+// The place of the first table of a name.
+fn place_of(tables: &[TableSource], name: &Bytes) -> Option<usize>
+    ensures value { result ≡ position (λ t. bytes_eq name.now t.name) tables.now }
+    ensures inside { IfSome result (λ place. place < length tables.now) }
+{
+    tables.iter().position(|table| *name == table.name)
+}
+
+// Adds an index to the first table of a name.
+fn add_index(
+    tables: &mut Vec<TableSource>,
+    table: &Bytes,
+    index: IndexSource,
+) -> Result<(), AllocError>
+    ensures added { OnOk result (HasIndex table.now index tables.old.items tables.new.items) }
+{
+    match place_of(tables, table) {
+        Some(place) => {
+            tables[place].indexes.push(index)?;
+            Ok(())
+        }
+        None => Ok(()),
+    }
+}
+
+// Loads and reads what an entry names.
+fn load_entry<S: Source>(
+    alloc: Global,
+    source: &mut S,
+    entry: &SetupEntry,
+    loaded: &mut Loaded,
+) -> Result<(), ServeFault>
+    ensures read { OnOk result (Loads (S.files source.old) entry.now (read_of loaded.old) (read_of loaded.new)) }
+    ensures kept { S.files source.new ≡ S.files source.old }
+    ensures fault { IfErr result (IsEntryFault (S.files source.old) entry.now) }
+{
+    match entry {
+        SetupEntry::Table { name, dbf, dbt } => {
+            loaded
+                .tables
+                .push(load_table(alloc, source, name, dbf, dbt)?)?;
+            Ok(())
+        }
+        SetupEntry::Index { table, name, ndx } => {
+            let index = load_index(alloc, source, name, ndx)?;
+            add_index(&mut loaded.tables, table, index)?;
+            Ok(())
+        }
+        SetupEntry::Station { script } => {
+            loaded.scripts.push(load_file(alloc, source, script)?)?;
+            Ok(())
+        }
+    }
+}
+
+/// Loads and reads what the entries of a setup name, entry by entry. The fault is that of the first entry whose
+/// files are not read.
+pub(crate) fn load_entries<S: Source>(
+    alloc: Global,
+    source: &mut S,
+    entries: &[SetupEntry],
+) -> Result<Loaded, ServeFault>
+    ensures read { IfOk result (λ loaded. LoadAll (S.files source.old) entries.now nothing (read_of loaded)) }
+    ensures kept { S.files source.new ≡ S.files source.old }
+    ensures fault { IfErr result (IsFaultIn (S.files source.old) entries.now) }
+{
+    let mut loaded = Loaded {
+        tables: Vec::new(alloc),
+        scripts: Vec::new(alloc),
+    };
+    for entry in entries {
+        load_entry(alloc, source, entry, &mut loaded)?;
+    }
+    Ok(loaded)
+}

@@ -1,0 +1,302 @@
+//! Whole runs over files in memory. What is expected is written down from the published layouts and dBASE's rules.
+
+mod day;
+
+use crate::files::{CloseFault, MemoryFolder, MemorySource, NamedFile};
+use crate::run::gate::OpenGate;
+use crate::tests::sample::{EMPTY, EMPTY_INDEX, TABLE, WITH_CYD};
+use crate::whole_run::{FileFault, ServeFault, serve};
+use dbf_fields::{Bytes, day_of};
+use dbf_image::{Failures, ImageFault};
+use ndx_index::NdxFault;
+use shared_catalogue::OpenFault;
+use std::alloc::{AllocError, Global};
+use std::sync::Wait;
+use std::test::Fail;
+use std::thread::Threads;
+
+// The path of each setup here.
+const SETUP: &[u8] = b"S.SET";
+
+pub(crate) fn named(alloc: Global, name: &[u8], bytes: &[u8]) -> Result<NamedFile, AllocError> {
+    Ok(NamedFile {
+        name: Bytes::from_slice(alloc, name)?,
+        bytes: Bytes::from_slice(alloc, bytes)?,
+    })
+}
+
+// The bytes and zeros after them: a file of two pages.
+pub(crate) fn two_pages(alloc: Global, bytes: &[u8]) -> Result<Vec<u8>, AllocError> {
+    let mut all = Vec::from_slice(alloc, bytes)?;
+    all.resize(1_024, 0)?;
+    Ok(all)
+}
+
+// A setup and an office's files: the tables t.dbf and empty.dbf, the empty index x.ndx, and the script s.prg.
+pub(crate) fn office(
+    alloc: Global,
+    setup: &[u8],
+    script: &[u8],
+) -> Result<MemorySource, AllocError> {
+    let index = two_pages(alloc, &EMPTY_INDEX)?;
+    let files = vec![in alloc;
+        named(alloc, SETUP, setup)?,
+        named(alloc, b"t.dbf", &TABLE)?,
+        named(alloc, b"empty.dbf", &EMPTY)?,
+        named(alloc, b"x.ndx", index.as_slice())?,
+        named(alloc, b"s.prg", script)?,
+        named(alloc, b"nothing", b"")?,
+    ]?;
+    Ok(MemorySource {
+        files,
+        loads: u64::MAX,
+        failures: Failures::none(),
+    })
+}
+
+// Serves the office on a day of this year.
+pub(crate) fn serve_in<R: Threads + Wait + Sync>(
+    rt: &R,
+    alloc: Global,
+    source: &mut MemorySource,
+    year: u16,
+    reindex: bool,
+    folder: &mut MemoryFolder,
+) -> Result<Result<u64, ServeFault>, Fail> {
+    let today = day_of(year, 3, 15).ok_or("a date")?;
+    let setup = Bytes::from_slice(alloc, SETUP)?;
+    Ok(serve(rt, alloc, &setup, today, reindex, source, folder, &OpenGate))
+}
+
+// Serves a setup with a script, in 1987.
+fn serve_setup<R: Threads + Wait + Sync>(
+    rt: &R,
+    alloc: Global,
+    setup: &[u8],
+    script: &[u8],
+    folder: &mut MemoryFolder,
+) -> Result<Result<u64, ServeFault>, Fail> {
+    let mut source = office(alloc, setup, script)?;
+    serve_in(rt, alloc, &mut source, 1987, false, folder)
+}
+
+// Whether the folder's file at this place has the name and the bytes.
+pub(crate) fn has_file(folder: &MemoryFolder, place: usize, name: &[u8], bytes: &[u8]) -> bool {
+    match folder.files.get(place) {
+        Some(file) => file.name.as_slice() == name && file.bytes.as_slice() == bytes,
+        None => false,
+    }
+}
+
+#[test]
+fn empty_script_writes_the_table(rt: HostRuntime) -> Result<(), Fail> {
+    let alloc = rt.alloc();
+    let mut folder = MemoryFolder::new(alloc);
+    let setup = b"TABLE T t.dbf\r\nSTATION s.prg\r\n";
+    assert_eq!(rt; serve_setup(&rt, alloc, setup, b"", &mut folder)?, Ok(0));
+    assert_eq!(rt; folder.files.len(), 2);
+    assert!(rt; has_file(&folder, 0, b"T.DBF", &TABLE));
+    assert!(rt; has_file(&folder, 1, b"STATION1.TXT", b""));
+    Ok(())
+}
+
+#[test]
+fn first_path(rt: HostRuntime) -> Result<(), Fail> {
+    let alloc = rt.alloc();
+    let mut folder = MemoryFolder::new(alloc);
+    let setup = b"TABLE T t.dbf\nSTATION s.prg\n";
+    let script = b"USE T EXCLUSIVE\nGO 2\nAPPEND BLANK\nREPLACE NAME WITH \"CYD\"\n? NAME";
+    let answers = b"OK\nOK\nOK\nOK\nCYD       \n";
+    assert_eq!(rt; serve_setup(&rt, alloc, setup, script, &mut folder)?, Ok(5));
+    assert!(rt; has_file(&folder, 0, b"T.DBF", &WITH_CYD));
+    assert!(rt; has_file(&folder, 1, b"STATION1.TXT", answers));
+    Ok(())
+}
+
+// The written table is read and written again as it is.
+#[test]
+fn written_table_reads_back(rt: HostRuntime) -> Result<(), Fail> {
+    let alloc = rt.alloc();
+    let mut folder = MemoryFolder::new(alloc);
+    let mut source = office(
+        alloc,
+        b"TABLE T new.dbf\nSTATION s.prg",
+        b"USE T\nGO 3\n? NAME",
+    )?;
+    source.files.push(named(alloc, b"new.dbf", &WITH_CYD)?)?;
+    assert_eq!(rt;
+        serve_in(&rt, alloc, &mut source, 1987, false, &mut folder)?,
+        Ok(3)
+    );
+    assert!(rt; has_file(&folder, 0, b"T.DBF", &WITH_CYD));
+    assert!(rt; has_file(&folder, 1, b"STATION1.TXT", b"OK\nOK\nCYD       \n"));
+    Ok(())
+}
+
+#[test]
+fn empty_indexed_table(rt: HostRuntime) -> Result<(), Fail> {
+    let alloc = rt.alloc();
+    let mut folder = MemoryFolder::new(alloc);
+    let setup = b"TABLE T empty.dbf\nINDEX T X x.ndx\nSTATION s.prg\n";
+    let script = b"USE T\n? EOF()\n? BOF()\n? RECNO()\nSKIP\nSKIP -1\nSEEK \"\"\n? FOUND()\n";
+    let answers = b"OK\n.T.\n.T.\n1\nREFUSED 7 EndOfFile\nREFUSED 8 BeginOfFile\nOK\n.F.\n";
+    assert_eq!(rt; serve_setup(&rt, alloc, setup, script, &mut folder)?, Ok(8));
+    let index = two_pages(alloc, &EMPTY_INDEX)?;
+    assert!(rt; has_file(&folder, 0, b"T.DBF", &EMPTY));
+    assert!(rt; has_file(&folder, 1, b"X.NDX", index.as_slice()));
+    assert!(rt; has_file(&folder, 2, b"STATION1.TXT", answers));
+    Ok(())
+}
+
+// A table named twice is read twice; two stations have a file of answers each.
+#[test]
+fn two_tables_of_one_file(rt: HostRuntime) -> Result<(), Fail> {
+    let alloc = rt.alloc();
+    let mut folder = MemoryFolder::new(alloc);
+    let setup = b"TABLE T t.dbf\nTABLE U t.dbf\nSTATION s.prg\nSTATION nothing\n";
+    let script = b"USE U EXCLUSIVE\nGO 2\nDELETE\nPACK\n? RECCOUNT()\n";
+    assert_eq!(rt; serve_setup(&rt, alloc, setup, script, &mut folder)?, Ok(5));
+    assert_eq!(rt; folder.files.len(), 4);
+    assert!(rt; has_file(&folder, 0, b"T.DBF", &TABLE));
+    assert!(rt; has_file(&folder, 2, b"STATION1.TXT", b"OK\nOK\nOK\nOK\n1\n"));
+    assert!(rt; has_file(&folder, 3, b"STATION2.TXT", b""));
+    assert_eq!(rt; folder.files[1].bytes.len(), 77);
+    Ok(())
+}
+
+#[test]
+fn setup_faults(rt: HostRuntime) -> Result<(), Fail> {
+    let alloc = rt.alloc();
+    let cases: [(&[u8], ServeFault); 9] = [
+        (b"TABLE T", ServeFault::Setup(1)),
+        (b"* x\nINDEX T X x.ndx", ServeFault::Setup(2)),
+        (b"table T t.dbf", ServeFault::Setup(1)),
+        (b"\0", ServeFault::Setup(1)),
+        (b"TABLE T my table.dbf x", ServeFault::Setup(1)),
+        (b"TABLE T t.dbf", ServeFault::Refused(OpenFault::NoStation)),
+        (b"", ServeFault::Refused(OpenFault::NoStation)),
+        (
+            b"TABLE T t.dbf\nTABLE T t.dbf\nSTATION s.prg",
+            ServeFault::Refused(OpenFault::DuplicateTable(2)),
+        ),
+        (
+            b"TABLE T t.dbf\nINDEX T X x.ndx\nSTATION s.prg",
+            ServeFault::Refused(OpenFault::IndexStale(1, 1)),
+        ),
+    ];
+    for (setup, fault) in cases {
+        let mut folder = MemoryFolder::new(alloc);
+        assert_eq!(rt;
+            serve_setup(&rt, alloc, setup, b"USE T", &mut folder)?,
+            Err(fault)
+        );
+        assert_eq!(rt; folder.files.len(), 0);
+    }
+    Ok(())
+}
+
+#[test]
+fn files_that_are_not_read(rt: HostRuntime) -> Result<(), Fail> {
+    let alloc = rt.alloc();
+    let truncated = FileFault::Image(ImageFault::Truncated);
+    let cases: [(&[u8], &[u8], FileFault); 7] = [
+        (b"TABLE T none", b"none", FileFault::CannotRead),
+        (b"TABLE T t.dbf none", b"none", FileFault::CannotRead),
+        (b"TABLE T nothing none", b"none", FileFault::CannotRead),
+        (
+            b"TABLE T t.dbf\nINDEX T X none",
+            b"none",
+            FileFault::CannotRead,
+        ),
+        (
+            b"STATION s.prg\nSTATION none",
+            b"none",
+            FileFault::CannotRead,
+        ),
+        (b"TABLE T nothing t.dbf", b"nothing", truncated),
+        (
+            b"TABLE T t.dbf\nINDEX T X t.dbf",
+            b"t.dbf",
+            FileFault::Ndx(NdxFault::Truncated),
+        ),
+    ];
+    for (setup, path, fault) in cases {
+        let mut folder = MemoryFolder::new(alloc);
+        let wanted = ServeFault::File(Bytes::from_slice(alloc, path)?, fault);
+        assert_eq!(rt;
+            serve_setup(&rt, alloc, setup, b"", &mut folder)?,
+            Err(wanted)
+        );
+        assert_eq!(rt; folder.files.len(), 0);
+    }
+    Ok(())
+}
+
+#[test]
+fn each_load_fails_in_turn(rt: HostRuntime) -> Result<(), Fail> {
+    let alloc = rt.alloc();
+    let setup = b"TABLE T empty.dbf nothing\nINDEX T X x.ndx\nSTATION s.prg\n";
+    let cases: [(u64, &[u8]); 5] = [
+        (0, SETUP),
+        (1, b"empty.dbf"),
+        (2, b"nothing"),
+        (3, b"x.ndx"),
+        (4, b"s.prg"),
+    ];
+    for (loads, path) in cases {
+        let mut folder = MemoryFolder::new(alloc);
+        let mut source = office(alloc, setup, b"")?;
+        source.loads = loads;
+        let wanted = ServeFault::File(Bytes::from_slice(alloc, path)?, FileFault::CannotRead);
+        let served = serve_in(&rt, alloc, &mut source, 1987, false, &mut folder)?;
+        assert_eq!(rt; served, Err(wanted));
+        assert_eq!(rt; folder.files.len(), 0);
+    }
+    Ok(())
+}
+
+#[test]
+fn index_is_made_anew_where_it_is_asked(rt: HostRuntime) -> Result<(), Fail> {
+    let alloc = rt.alloc();
+    let setup = b"TABLE T t.dbf\nINDEX T X x.ndx\nSTATION s.prg\n";
+    let mut source = office(alloc, setup, b"USE T\nSEEK \"BO\"\n? RECNO()\n")?;
+    let mut folder = MemoryFolder::new(alloc);
+    assert_eq!(rt;
+        serve_in(&rt, alloc, &mut source, 1987, true, &mut folder)?,
+        Ok(3)
+    );
+    assert!(rt; has_file(&folder, 2, b"STATION1.TXT", b"OK\nOK\n2\n"));
+    Ok(())
+}
+
+#[test]
+fn folder_fails_at_first_write(rt: HostRuntime) -> Result<(), Fail> {
+    let alloc = rt.alloc();
+    let setup = b"TABLE T empty.dbf\nINDEX T X x.ndx\nSTATION s.prg\n";
+    // The calls are: begin and write of T.DBF, begin and write of X.NDX.
+    let cases: [(u64, &[u8], usize); 3] = [(0, b"T.DBF", 0), (1, b"T.DBF", 1), (2, b"X.NDX", 1)];
+    for (calls, name, files) in cases {
+        let mut folder = MemoryFolder::new(alloc);
+        folder.calls = calls;
+        let wanted = ServeFault::Close(CloseFault::Write(Bytes::from_slice(alloc, name)?));
+        assert_eq!(rt;
+            serve_setup(&rt, alloc, setup, b"", &mut folder)?,
+            Err(wanted)
+        );
+        assert_eq!(rt; folder.files.len(), files);
+        assert!(rt; calls < 2 || has_file(&folder, 0, b"T.DBF", &EMPTY));
+        assert!(rt; calls != 1 || has_file(&folder, 0, b"T.DBF", b""));
+    }
+    Ok(())
+}
+
+#[test]
+fn year_2156_begins_no_file(rt: HostRuntime) -> Result<(), Fail> {
+    let alloc = rt.alloc();
+    let mut folder = MemoryFolder::new(alloc);
+    let mut source = office(alloc, b"TABLE T t.dbf\nSTATION s.prg", b"")?;
+    let served = serve_in(&rt, alloc, &mut source, 2156, false, &mut folder)?;
+    assert_eq!(rt; served, Err(ServeFault::Close(CloseFault::DateOutside)));
+    assert_eq!(rt; folder.files.len(), 0);
+    Ok(())
+}
