@@ -2,8 +2,9 @@
 //!
 //! The program reads a setup and the files that it names, runs a script for each station, and writes the tables
 //! as they were left and the stations' answers. This file has `main`: it reads the command line, has the run
-//! served, and says how it ended. What the program says of a failure is in `program.rt`, the run of all stations
-//! in `run.rt`, setups in `setup.rt` and the files in `files.rt`.
+//! served, and says how it ended. Start reading at `specs/WholeRun.antt` and `whole_run.rt`, where `serve` makes the
+//! whole run. What the program says of a failure is in `program.rt`, the run of all stations in `run.rt`, setups in
+//! `setup.rt` and the files in `files.rt`.
 #![tactic(auto)]
 
 mod files;
