@@ -107,7 +107,7 @@ fn print_unwritten<W: Write>(out: &mut W, name: &Bytes) -> io::Result<()>
     Ok(())
 }
 
-// Prints a text and a name behind it.
+// Prints a text and a name after it.
 fn print_both<W: Write>(out: &mut W, before: &[u8], name: &str) -> io::Result<()>
     ensures text { OnOk result (Appends (W.contents out.old) (W.contents out.new) (before.now ++ name.now)) }
 {

@@ -1,45 +1,27 @@
-use Rattle.std.proofs.Common.{◌≡◌, Err, ap, sym, subst}
+use Rattle.std.proofs.Common.{◌≡◌, Err, ap, length, sym, subst}
 use Rattle.std.specs.Prelude.{IsErrAnd}
 use Rattle.station_server.specs.declared.files.close_fault.CloseFault.TheVariants.{Write}
 use Rattle.station_server.specs.declared.whole_run.fault.ServeFault.TheVariants.{Close}
-use Rattle.station_server.specs.Loading.{read_of}
-use Rattle.station_server.specs.WholeRun.{IsWholeRun}
 use Rattle.station_server.proofs.LoadLaws.{err_exit}
-use Rattle.station_server.proofs.WholeRunLaws.{of_writing}
+use Rattle.station_server.proofs.WholeRunLaws.{of_writing, whole_run}
 use Rattle.station_server.proofs.whole_run.serve.Goals as goal
 
 pub returns-in_err-write_files-clause-fault : goal.returns-in_err-write_files-clause-fault
 returns-in_err-write_files-clause-fault g c =
-    let tables = c.in_ok-tables.tables.items in
-    let answers = c.in_ok-outcome.outcome.answers.items in
-    let whole : IsWholeRun (g.S.Source.files c.args.source.now) c.args.setup.now c.args.reindex tables answers c.entry_count-count.result = record {
-      read = read_of c.in_ok-loaded.loaded;
-      history = c.in_ok-outcome.outcome.closed;
-      all = c.in_ok-loaded.ensures.read;
-      run = c.in_ok-outcome.ensures.ran;
-      legal = c.entry_count-count.ensures.legal;
-      handed = c.in_ok-tables.ensures.value;
-      counted = c.entry_count-count.ensures.value;
-    } in
-    err_exit _ _ c.from_residual-in_err-write_files.ensures.1
-    (of_writing _ _ _ _ _ tables answers c.entry_count-count.result whole (rw c.deref.ensures.value at c.in_err-write_files.ensures.fault))
+    let whole = whole_run _ _ _ _ _ _ _ c.in_ok-loaded.ensures.read c.in_ok-outcome.ensures.ran c.entry_count-count.ensures.legal c.in_ok-tables.ensures.value in
+    err_exit _ _ c.from_residual-in_err-write_files.ensures.1 (of_writing _ _ _ _ _ _ _ _ whole (rw c.deref.ensures.value at c.in_err-write_files.ensures.fault))
 
 pub returns-in_err-write_files-clause-unbegun : goal.returns-in_err-write_files-clause-unbegun
 returns-in_err-write_files-clause-unbegun g c = err_exit _ _ c.from_residual-in_err-write_files.ensures.1 c.in_err-write_files.ensures.unbegun
 
 pub returns-in_err-write_files-clause-cut : goal.returns-in_err-write_files-clause-cut
 returns-in_err-write_files-clause-cut g c name e =
-    let tables = c.in_ok-tables.tables.items in
-    let answers = c.in_ok-outcome.outcome.answers.items in
     let fault = c.in_err-write_files.field-0.0 in
-    let whole : IsWholeRun (g.S.Source.files c.args.source.now) c.args.setup.now c.args.reindex tables answers c.entry_count-count.result = record {
-      read = read_of c.in_ok-loaded.loaded;
-      history = c.in_ok-outcome.outcome.closed;
-      all = c.in_ok-loaded.ensures.read;
-      run = c.in_ok-outcome.ensures.ran;
-      legal = c.entry_count-count.ensures.legal;
-      handed = c.in_ok-tables.ensures.value;
-      counted = c.entry_count-count.ensures.value;
-    } in
-    let same : Close (Write name) ≡ fault = subst (λ r. IsErrAnd r (λ y. y ≡ fault)) e c.from_residual-in_err-write_files.ensures.1 in
-    (tables, answers, c.entry_count-count.result, whole, rw c.deref.ensures.value at (rw c.deref-2.ensures.value at (c.in_err-write_files.ensures.cut name (ap Err (sym same)))))
+    let whole = whole_run _ _ _ _ _ _ _ c.in_ok-loaded.ensures.read c.in_ok-outcome.ensures.ran c.entry_count-count.ensures.legal c.in_ok-tables.ensures.value in
+    let same : Close (Write name) ≡ fault = subst (λ r. IsErrAnd r (λ y. y ≡ fault)) e c.from_residual-in_err-write_files.ensures.1 in (
+      c.in_ok-tables.tables.items,
+      c.in_ok-outcome.outcome.answers.items,
+      length c.in_ok-outcome.outcome.closed.journal,
+      whole,
+      rw c.deref.ensures.value at (rw c.deref-2.ensures.value at (c.in_err-write_files.ensures.cut name (ap Err (sym same)))),
+    )
