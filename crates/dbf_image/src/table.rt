@@ -69,7 +69,7 @@ impl TableData {
     }
 
     /// The table that was changed in place. It takes no memory.
-    pub(crate) fn from_growing(kept: GrowingTable) -> TableData
+    pub fn from_growing(kept: GrowingTable) -> TableData
         ensures value { result ≡ kept.table }
     {
         TableData { kept }

@@ -1,6 +1,6 @@
 //! The catalogue: the tables as they were opened, the journal of the commands since, and their state.
 
-ghost use Rattle.std.specs.Prelude.{◌≡◌, ◌≢◌, ◌↔◌, ℕ, ◌-◌, ◌≤◌, [], length, slice_get, Some, Ok, Err, IfOk, IfErr, OnErr, IsErrOf};
+ghost use Rattle.std.specs.Prelude.{◌≡◌, ◌≢◌, ◌↔◌, ℕ, ◌-◌, ◌≤◌, [], length, map, slice_get, Some, Ok, Err, IfOk, IfErr, OnErr, IsErrOf};
 ghost use Rattle.shared_catalogue.specs.declared.catalogue.TheConstants.{MAX_ENTRIES};
 ghost use Rattle.shared_catalogue.specs.declared.opening.TheConstants.{MAX_TABLES};
 
@@ -209,6 +209,13 @@ impl Catalogue {
         ensures value { result.now.content ≡ content_at (state_of self.now).tables number }
     {
         self.state.table(number)
+    }
+
+    /// All tables with their indexes, as they stand now, in order. It takes no memory.
+    pub fn into_tables(self) -> Vec<Table>
+        ensures value { map (λ t. t.content) result.items ≡ (state_of self).tables }
+    {
+        self.state.into_tables()
     }
 
     #[tactic(auto, using(crate::proofs::ReplayLaws::kept_tables))]

@@ -1,6 +1,6 @@
 //! The tables, the locks and the areas of all stations, which commands read and change.
 
-ghost use Rattle.std.specs.Prelude.{◌≡◌, ◌≤◌, length, IfSome};
+ghost use Rattle.std.specs.Prelude.{◌≡◌, ◌≤◌, length, map, IfSome};
 ghost use Rattle.lock_table.specs.Locks.{free_record, free_whole};
 ghost use Rattle.shared_catalogue.specs.Rooms.{seen, held_at};
 ghost use Rattle.shared_catalogue.specs.State.{table_at as content_at, area_of, is_open_beside, is_in_use, IsArea, IsState, HasStation};
@@ -58,6 +58,13 @@ impl State {
         ensures value { result.now.content ≡ content_at (seen self.now).tables number }
     {
         &self.tables[number as usize - 1]
+    }
+
+    /// All tables, in order. It takes no memory.
+    pub fn into_tables(self) -> Vec<Table>
+        ensures value { map (λ t. t.content) result.items ≡ (seen self).tables }
+    {
+        self.tables
     }
 
     /// The number of the table of a name, where there is one.

@@ -1,14 +1,17 @@
 -- What is handed over of an index, and one more of it.
-use Rattle.std.proofs.Common.{◌≡◌, ℕ, zero, suc, ◌≤◌, List, [], ◌∷◌, ◌++◌, Option, Some, None, length, map, take, refl, ap, sym, arith}
+use Rattle.std.proofs.Common.{◌≡◌, ℕ, zero, suc, ◌+◌, ◌-◌, ◌<◌, ◌≤◌, List, [], ◌∷◌, ◌++◌, Option, Some, None, length, get_or, map, take, refl, ap, sym, ◌∙◌, length-append, arith}
+use Rattle.std.proofs.lemmas.List.{get_or-map, get_or_at, length-map}
 use Rattle.std.specs.List.{slice_get}
 use Rattle.std.specs.Option.{option_map}
 use Rattle.key_expr.specs.Expression.{Expression}
 use Rattle.key_expr.specs.Keys.{key_length}
 use Rattle.ndx_index.specs.declared.pair.Pair.{Pair}
 use Rattle.ndx_index.specs.Laws.RecordOrders.{length-order}
-use Rattle.table_core.specs.Content.{Content, Indexed, pairs_by, key_length_by}
+use Rattle.table_core.specs.Content.{Content, Held, Indexed, pairs_by, key_length_by}
+use Rattle.shared_catalogue.specs.Replay.{History, state_of}
+use Rattle.shared_catalogue.specs.State.{no_content, table_at}
 use Rattle.station_server.specs.ClosedIndex.{index_with}
-use Rattle.station_server.specs.HandedOver.{index_of}
+use Rattle.station_server.specs.HandedOver.{end_of, index_of}
 
 -- there are not more pairs than records
 pub few_pairs : (content : Content) (at : Option Indexed) → length (pairs_by content at) ≤ length content.table.rows
@@ -33,3 +36,19 @@ pub mapped_next : {X Y : Type 0} (f : X → Y) (xs : List X) (i : ℕ) (y : Y) �
 mapped_next f [] i y e = absurd cc
 mapped_next f (x ∷ xs) zero y e = let same : f x ≡ y = cc in ap (λ z. z ∷ []) same
 mapped_next f (x ∷ xs) (suc i) y e = ap (λ l. f x ∷ l) (mapped_next f xs i y e)
+
+-- ---- tables that are taken out one after another
+
+-- the table that is taken out after others is the one of its number
+pub taken_table : (h : History) (before : List Held) (t : Held) (rest : List Held) → map (λ (x : Held). x.content) (before ++ t ∷ rest) ≡ (state_of h).tables → end_of h (length before + 1) ≡ t.content
+taken_table h before t rest e =
+    let back : length before + 1 - 1 ≡ length before = omega arith in
+    let there : length before < length (before ++ t ∷ rest) = omega (arith, length-append before (t ∷ rest)) in
+    ap (λ (k : ℕ). table_at (state_of h).tables (k + 1)) refl
+    ∙ ap (λ (k : ℕ). get_or (state_of h).tables k no_content) back
+    ∙ ap (λ (l : List Content). get_or l (length before) no_content) (sym e)
+    ∙ get_or-map (λ (x : Held). x.content) (before ++ t ∷ rest) (length before) t no_content there
+    ∙ ap (λ (x : Held). x.content) (get_or_at before t rest t (length before) refl)
+
+pub taken_count : (h : History) (before : List Held) (t : Held) (rest : List Held) → map (λ (x : Held). x.content) (before ++ t ∷ rest) ≡ (state_of h).tables → length (before ++ t ∷ rest) ≡ length (state_of h).tables
+taken_count h before t rest e = sym (length-map (before ++ t ∷ rest) (λ (x : Held). x.content)) ∙ ap length e

@@ -164,7 +164,7 @@ pub fn serve<S: Source, F: Folder, G: Gate + Sync, R: Threads + Wait + Sync>(
     let loaded = read_all(alloc, source, setup)?;
     let outcome = run_loaded(rt, alloc, loaded, reindex, gate)?;
     let count = outcome.closed.entry_count();
-    let tables = closed_tables(alloc, &outcome.closed)?;
+    let tables = closed_tables(alloc, outcome.closed)?;
     write_files(alloc, &tables, &outcome.answers, today, folder)?;
     Ok(count)
 }

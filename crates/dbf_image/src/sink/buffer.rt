@@ -7,8 +7,8 @@ ghost use Rattle.dbf_image.specs.Sink.{grown, IsFront, Rises};
 use crate::sink::{ByteSink, SinkFault, write_all};
 use arrayvec::ArrayVec;
 
-/// The bytes that wait for a sink, in their order: at most 4,096.
-pub(crate) type Waiting = ArrayVec<u8, 4096>;
+/// The bytes that wait for a sink, in their order: at most 65,536, so that a file of the system is written in few calls.
+pub(crate) type Waiting = ArrayVec<u8, 65536>;
 
 /// Sends all that waits to the sink. An error where the sink fails, which has then a front part of it.
 pub(crate) fn send<S: ByteSink>(sink: &mut S, waiting: &mut Waiting) -> Result<(), SinkFault>

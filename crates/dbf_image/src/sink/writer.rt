@@ -11,7 +11,7 @@ use crate::sink::{ByteSink, SinkFault};
 
 /// A buffered writer over a sink. Once the sink has failed it drops what comes, and `flush` tells.
 ///
-/// It takes no memory: up to 4,096 bytes wait in it. Format functions put bytes, and cannot fail; what their
+/// It takes no memory: up to 65,536 bytes wait in it. Format functions put bytes, and cannot fail; what their
 /// contracts say is `Puts`. The writer of a file makes one, puts the file's bytes, and calls `flush`.
 pub struct SinkWriter<'s, S: ByteSink> {
     /// Where the bytes go.

@@ -1,6 +1,6 @@
 //! A catalogue at its end.
 
-ghost use Rattle.std.specs.Prelude.{◌≡◌, ◌-◌, ◌≤◌, length, slice_get, Some};
+ghost use Rattle.std.specs.Prelude.{◌≡◌, ◌-◌, ◌≤◌, length, map, slice_get, Some};
 ghost use Rattle.shared_catalogue.specs.declared.opening.TheConstants.{MAX_TABLES};
 ghost use Rattle.shared_catalogue.specs.Replay.{state_of, names_of, IsLegal};
 ghost use Rattle.shared_catalogue.specs.State.{table_at};
@@ -61,6 +61,14 @@ impl Closed {
         ensures value { result.now.content ≡ table_at (state_of self.now).tables number }
     {
         self.catalogue.table(number)
+    }
+
+    /// All tables at the end, with their indexes, in order. It takes no memory.
+    pub fn into_tables(self) -> Vec<Table>
+        ensures value { map (λ t. t.content) result.items ≡ (state_of self).tables }
+        ensures count { length result.items ≡ length self.opened.tables }
+    {
+        self.catalogue.into_tables()
     }
 
     /// How many entries the journal has. Each answer in it is the one that its command has at its place.

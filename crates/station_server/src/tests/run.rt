@@ -272,5 +272,8 @@ fn sixteen_stations_count_together(rt: HostRuntime) -> Result<(), Fail> {
     let count = appended_by_all(&outcome.answers);
     assert!(rt; count > 0);
     assert_eq!(rt; closed.table(1).record_count(), count);
+    let tables = outcome.closed.into_tables();
+    let counts = tables.iter().map(|table| table.record_count());
+    assert!(rt; counts.eq([count]));
     Ok(())
 }

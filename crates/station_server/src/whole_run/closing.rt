@@ -3,10 +3,11 @@
 ghost use Rattle.std.specs.Prelude.{◌≡◌, ◌+◌, ◌<◌, ◌≤◌, length, map, Some, IfOk};
 ghost use Rattle.std.specs.Option.{option_map};
 ghost use Rattle.table_core.specs.Content.{index_at};
-ghost use Rattle.shared_catalogue.specs.declared.opening.TheConstants.{MAX_TABLES};
-ghost use Rattle.station_server.specs.HandedOver.{index_of, AreHandedOver, IsHandedOver};
+ghost use Rattle.shared_catalogue.specs.Replay.{names_of};
+ghost use Rattle.station_server.specs.HandedOver.{index_of, AreHandedOver};
 
 use crate::files::{ClosedIndex, ClosedTable};
+use dbf_fields::Bytes;
 use shared_catalogue::Closed;
 use std::alloc::{AllocError, Global};
 use table_core::Table;
@@ -36,31 +37,41 @@ fn closed_indexes(alloc: Global, table: &Table) -> Result<Vec<ClosedIndex>, Allo
     Ok(indexes)
 }
 
-// The table of an index, from 0, copied out with its indexes.
-fn closed_table(alloc: Global, closed: &Closed, index: usize) -> Result<ClosedTable, AllocError>
-    requires inside { index < length closed.now.opened.tables }
-    requires few { length closed.now.opened.tables ≤ MAX_TABLES }
-    ensures value { IfOk result (IsHandedOver closed.now (index + 1)) }
+// A table under its name, as it is to be written.
+fn closed_table(alloc: Global, name: Bytes, table: Table) -> Result<ClosedTable, AllocError>
+    ensures named { IfOk result (λ closed. closed.name ≡ name) }
+    ensures content { IfOk result (λ closed. closed.content ≡ table.content.table) }
+    ensures indexes { IfOk result (λ closed. closed.indexes.items ≡ map (index_of table.content.table) table.content.indexes) }
 {
-    let number = index as u32 + 1;
-    let name = closed.table_name(number).copy(alloc)?;
-    let table = closed.table(number);
-    let content = table.content(alloc)?;
-    let indexes = closed_indexes(alloc, table)?;
+    let indexes = closed_indexes(alloc, &table)?;
     Ok(ClosedTable {
         name,
-        content,
+        content: table.into_data(),
         indexes,
     })
 }
 
-/// The tables of a closed catalogue with their indexes, copied out. An error where memory is refused.
-pub(crate) fn closed_tables(alloc: Global, closed: &Closed) -> Result<Vec<ClosedTable>, AllocError>
-    ensures value { IfOk result (λ tables. AreHandedOver closed.now tables.items) }
+// The names of the tables, in order.
+fn table_names(alloc: Global, closed: &Closed) -> Result<Vec<Bytes>, AllocError>
+    ensures value { IfOk result (λ names. names.items ≡ names_of closed.now.opened) }
 {
-    let mut tables = Vec::new(alloc);
+    let mut names = Vec::new(alloc);
     for i in 0..closed.table_count() {
-        tables.push(closed_table(alloc, closed, i)?)?;
+        names.push(closed.table_name(i as u32 + 1).copy(alloc)?)?;
+    }
+    Ok(names)
+}
+
+/// The tables of a closed catalogue with their indexes. The tables' records are not copied, the pairs of indexes are. An
+/// error where memory is refused.
+pub(crate) fn closed_tables(alloc: Global, closed: Closed) -> Result<Vec<ClosedTable>, AllocError>
+    ensures value { IfOk result (λ tables. AreHandedOver closed tables.items) }
+{
+    let names = table_names(alloc, &closed)?;
+    let mut tables = Vec::new(alloc);
+    for table in closed.into_tables() {
+        let name = names[tables.len()].copy(alloc)?;
+        tables.push(closed_table(alloc, name, table)?)?;
     }
     Ok(tables)
 }

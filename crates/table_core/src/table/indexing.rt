@@ -24,6 +24,13 @@ impl Table {
         }
     }
 
+    /// The table's fields and rows, without the indexes. It takes no memory.
+    pub fn into_data(self) -> TableData
+        ensures value { result ≡ self.content.table }
+    {
+        TableData::from_growing(self.records)
+    }
+
     /// Whether one of the indexes has the name.
     pub fn has_index(&self, name: &Bytes) -> bool
         ensures value { result ≡ has_index self.now.content name.now }

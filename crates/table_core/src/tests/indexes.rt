@@ -113,7 +113,9 @@ fn three_indexes_at_once(rt: HostRuntime) -> Result<(), Fail> {
     let alloc = rt.alloc();
     let mut table = three(alloc)?;
     assert_eq!(rt; first_stale_edit(alloc, &mut table)?, None);
-    assert!(rt; table.record_count() > 3);
+    let count = table.record_count();
+    assert!(rt; count > 3);
+    assert_eq!(rt; table.into_data().record_count(), count);
     Ok(())
 }
 

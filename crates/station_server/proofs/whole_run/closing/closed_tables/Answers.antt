@@ -1,34 +1,70 @@
-use Rattle.std.proofs.Common.{◌≡◌, ℕ, ◌+◌, ◌≤◌, ◌<◌, List, [], ◌∷◌, ◌++◌, length, Some, ap, sym, subst, ◌∙◌, ⊎_elim, arith, length-append}
+use Rattle.std.proofs.Common.{◌≡◌, ℕ, ◌+◌, ◌-◌, ◌≤◌, ◌<◌, List, [], ◌∷◌, ◌++◌, length, map, Some, refl, ap, sym, subst, ◌∙◌, ⊎_elim, append_assoc, arith, rules, length-append}
 use Rattle.std.specs.List.{slice_get}
+use Rattle.std.specs.Vec.Iter.{into_iter_items}
 use Rattle.std.proofs.lemmas.Bool.{cases_lt}
+use Rattle.std.proofs.lemmas.List.{length-map}
+use Rattle.std.proofs.lemmas.Option.{slice_get_read}
+use Rattle.table_core.specs.Content.{Content, Held}
+use Rattle.shared_catalogue.specs.Replay.{names_of, state_of}
 use Rattle.station_server.specs.declared.files.closed.ClosedTable.{ClosedTable}
-use Rattle.station_server.specs.HandedOver.{IsHandedOver}
+use Rattle.station_server.specs.HandedOver.{index_of, IsHandedOver}
+use Rattle.station_server.proofs.HandingLaws.{taken_count, taken_table}
 use Rattle.station_server.proofs.RunLaws.{get_front, get_last}
 use Rattle.station_server.proofs.whole_run.closing.closed_tables.Goals as goal
 
-pub loop-i-preserved : goal.loop-i-preserved
-loop-i-preserved c =
-    let h = c.args.closed.now in
-    let i = c.loop-i.i in
-    let old = c.loop-i.tables.items in
-    let table = c.in_ok-closed_table.field-0 in
-    let have = c.loop-i.invariant in
+pub loop-table-preserved : goal.loop-table-preserved
+loop-table-preserved c =
+    let h = c.args.closed in
+    let ys = c.loop-table.yielded in
+    let t = c.in-Some.table in
+    let rest = into_iter_items c.next.new.self in
+    let i = length ys in
+    let old = c.loop-table.tables.items in
+    let closed = c.in_ok-closed_table.field-0 in
+    let have = c.loop-table.invariant in
     let grown = c.in_ok-push.ensures.items in
+    let f = λ (x : Held). x.content in
+    let items : into_iter_items c.loop-table.table-iterator ≡ t ∷ rest = search rules in
+    let all : map f (ys ++ t ∷ rest) ≡ (state_of h).tables = subst (λ (l : List Held). map f (ys ++ l) ≡ (state_of h).tables) items have.all in
+    let content = taken_table h ys t rest all in
+    let more : length (ys ++ t ∷ []) ≡ i + 1 = length-append ys (t ∷ []) in
+    let here : c.len.result ≡ i + 1 - 1 = omega (arith, c.len.ensures, c.loop-table.tables.ok.0, have.count) in
+    let names = c.in_ok-names.names.items in
+    let named : length names ≡ length h.opened.tables = ap length c.in_ok-names.ensures.value ∙ length-map h.opened.tables (λ x. x.name) in
+    let taken : length c.into_tables-table-items.result.items ≡ length (state_of h).tables = sym (length-map c.into_tables-table-items.result.items f) ∙ ap length c.into_tables-table-items.ensures.value in
+    let inside : c.len.result < length names = omega (arith, here, named, taken, taken_count h ys t rest all, length-append ys (t ∷ rest), c.into_tables-table-items.ensures.count) in
+    let read : slice_get names c.len.result ≡ Some c.index.result.now = slice_get_read names (length names) c.len.result c.index.result.now refl inside c.index.ensures in
+    let same : closed.name ≡ c.index.result.now = c.in_ok-closed_table.ensures.named ∙ c.in_ok-name.ensures.value in
+    let name : slice_get (names_of h.opened) (i + 1 - 1) ≡ Some closed.name =
+    ap (λ (l : List (List ℕ)). slice_get l (i + 1 - 1)) (sym c.in_ok-names.ensures.value) ∙ ap (λ (k : ℕ). slice_get names k) (sym here) ∙ read ∙ ap Some (sym same) in
+    let own : IsHandedOver h (i + 1) closed = record {
+      named = name;
+      content = c.in_ok-closed_table.ensures.content ∙ ap (λ (x : Content). x.table) (sym content);
+      indexes = c.in_ok-closed_table.ensures.indexes ∙ ap (λ (x : Content). map (index_of x.table) x.indexes) (sym content);
+    } in
     record {
-      count = omega (arith, ap length grown, length-append old (table ∷ []), have.count);
-      each = λ j low. subst (λ (l : List ClosedTable). (t : ClosedTable) × (slice_get l j ≡ Some t) × IsHandedOver h (j + 1) t) (sym grown) (⊎_elim
-          (λ (below : j < i). let r = have.each j below in let there : (t : ClosedTable) × (slice_get (old ++ table ∷ []) j ≡ Some t) × IsHandedOver h (j + 1) t = (r.0, get_front old (table ∷ []) j r.0 r.1, r.2) in there)
+      count = ap length grown ∙ length-append old (closed ∷ []) ∙ ap (λ (k : ℕ). k + 1) have.count ∙ sym more;
+      all = ap (λ (l : List Held). map f l) (append_assoc ys (t ∷ []) rest) ∙ all;
+      each = λ j low. subst (λ (l : List ClosedTable). (x : ClosedTable) × (slice_get l j ≡ Some x) × IsHandedOver h (j + 1) x) (sym grown) (⊎_elim
+          (λ (below : j < i). let r = have.each j below in let there : (x : ClosedTable) × (slice_get (old ++ closed ∷ []) j ≡ Some x) × IsHandedOver h (j + 1) x = (r.0, get_front old (closed ∷ []) j r.0 r.1, r.2) in there)
           (λ (above : i ≤ j).
-          let here : i ≡ j = omega (arith, low, above) in
-          let last : j ≡ length old = omega (arith, here, have.count) in
-          let there : (t : ClosedTable) × (slice_get (old ++ table ∷ []) j ≡ Some t) × IsHandedOver h (j + 1) t =
-          (table, get_last old table j last, subst (λ (k : ℕ). IsHandedOver h (k + 1) table) here c.in_ok-closed_table.ensures.value) in
+          let at : i ≡ j = omega (arith, low, above, more) in
+          let last : j ≡ length old = omega (arith, at, have.count) in
+          let there : (x : ClosedTable) × (slice_get (old ++ closed ∷ []) j ≡ Some x) × IsHandedOver h (j + 1) x =
+          (closed, get_last old closed j last, subst (λ (k : ℕ). IsHandedOver h (k + 1) closed) at own) in
           there)
           (cases_lt j i));
     }
 
 pub returns : goal.returns
 returns c =
-    let have = c.loop-i.invariant in
-    let all : c.loop-i.i ≡ length c.args.closed.now.opened.tables = omega (arith, c.loop-i-test.false, c.loop-i.auto.i-end, c.table_count-i-end.ensures.value) in
-    record { value = record { count = have.count ∙ all; each = λ j low. have.each j (omega (arith, low, all)) } }
+    let h = c.args.closed in
+    let ys = c.loop-table.yielded in
+    let have = c.loop-table.invariant in
+    let f = λ (x : Held). x.content in
+    let it = c.loop-table.table-iterator in
+    let none : length (into_iter_items it) ≡ 0 = omega (arith, c.in-None.ensures.steps.0, it.rest.ok.0) in
+    let all : length ys ≡ length (state_of h).tables = omega (arith, none, length-append ys (into_iter_items it), length-map (ys ++ into_iter_items it) f, ap length have.all) in
+    let taken : length c.into_tables-table-items.result.items ≡ length (state_of h).tables = sym (length-map c.into_tables-table-items.result.items f) ∙ ap length c.into_tables-table-items.ensures.value in
+    let count : length ys ≡ length h.opened.tables = all ∙ sym taken ∙ c.into_tables-table-items.ensures.count in
+    record { value = record { count = have.count ∙ count; each = λ j low. have.each j (omega (arith, low, count)) } }
