@@ -52,10 +52,10 @@ fn failing_sink_keeps_the_file_before(rt: HostRuntime) -> Result<(), Fail> {
 #[test]
 fn small_chunks_are_gathered(rt: HostRuntime) -> Result<(), Fail> {
     let mut table = read_table(rt.alloc(), &TWO_NAMES, None)?;
-    // 500 records
-    let mut image = Vec::from_slice(rt.alloc(), &changed(&[(4, 0xf4), (5, 0x01)]))?;
+    // 6,000 records, which are more bytes than wait at once
+    let mut image = Vec::from_slice(rt.alloc(), &changed(&[(4, 0x70), (5, 0x17)]))?;
     image.truncate(87);
-    for _ in 0..498 {
+    for _ in 0..5998 {
         add_blank(&mut table)?;
         image.extend_from_slice(b"           ")?;
     }

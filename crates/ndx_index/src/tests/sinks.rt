@@ -29,7 +29,7 @@ fn small_pieces_are_gathered(rt: HostRuntime) -> Result<(), Fail> {
     let index = index_of(alloc, 21, 100)?;
     let mut sink = LimitedSink::new(alloc, usize::MAX, u64::MAX);
     write_into(&mut sink, alloc, &index, 100)??;
-    assert_eq!(rt; sink.writes, 2);
+    assert_eq!(rt; sink.writes, 1);
     assert_eq!(rt; sink.taken.bytes, written(alloc, &index, 100)?);
     Ok(())
 }
