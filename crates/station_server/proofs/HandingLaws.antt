@@ -1,4 +1,4 @@
--- What is handed over of an index, and one more of it.
+-- What is handed over of an index and of a table, and one more of it.
 use Rattle.std.proofs.Common.{◌≡◌, ℕ, zero, suc, ◌+◌, ◌-◌, ◌<◌, ◌≤◌, List, [], ◌∷◌, ◌++◌, Option, Some, None, length, get_or, map, take, refl, ap, sym, ◌∙◌, length-append, arith}
 use Rattle.std.proofs.lemmas.List.{get_or-map, get_or_at, length-map}
 use Rattle.std.specs.List.{slice_get}
@@ -9,7 +9,7 @@ use Rattle.ndx_index.specs.declared.pair.Pair.{Pair}
 use Rattle.ndx_index.specs.Laws.RecordOrders.{length-order}
 use Rattle.table_core.specs.Content.{Content, Held, Indexed, pairs_by, key_length_by}
 use Rattle.shared_catalogue.specs.Replay.{History, state_of}
-use Rattle.shared_catalogue.specs.State.{no_content, table_at}
+use Rattle.shared_catalogue.specs.State.{no_content}
 use Rattle.station_server.specs.ClosedIndex.{index_with}
 use Rattle.station_server.specs.HandedOver.{end_of, index_of}
 
@@ -44,8 +44,7 @@ pub taken_table : (h : History) (before : List Held) (t : Held) (rest : List Hel
 taken_table h before t rest e =
     let back : length before + 1 - 1 ≡ length before = omega arith in
     let there : length before < length (before ++ t ∷ rest) = omega (arith, length-append before (t ∷ rest)) in
-    ap (λ (k : ℕ). table_at (state_of h).tables (k + 1)) refl
-    ∙ ap (λ (k : ℕ). get_or (state_of h).tables k no_content) back
+    ap (λ (k : ℕ). get_or (state_of h).tables k no_content) back
     ∙ ap (λ (l : List Content). get_or l (length before) no_content) (sym e)
     ∙ get_or-map (λ (x : Held). x.content) (before ++ t ∷ rest) (length before) t no_content there
     ∙ ap (λ (x : Held). x.content) (get_or_at before t rest t (length before) refl)
