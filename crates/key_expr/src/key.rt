@@ -39,9 +39,7 @@ impl Key {
         ensures bytes { result ≡ bytes.now }
     {
         let mut kept = [0; MAX_KEY_BYTES];
-        for (i, byte) in bytes.iter().enumerate() {
-            kept[i] = *byte;
-        }
+        kept[..bytes.len()].copy_from_slice(bytes);
         Key {
             bytes: kept,
             len: bytes.len(),

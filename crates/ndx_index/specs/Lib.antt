@@ -11,3 +11,11 @@ pub mod Image
 pub mod Levels
 pub mod Shapes
 pub mod Reading
+pub mod Slots
+pub mod PairPages
+pub mod PageStore
+pub mod Bounds
+pub mod LeafPlaces
+pub mod IndexTree
+pub mod TreeSteps
+pub mod PagedIndex

@@ -1,35 +1,47 @@
 //! Pairs in order.
 
-ghost use Rattle.std.specs.Prelude.{◌≡◌, ◌+◌, ◌-◌, ◌<◌, ◌≤◌, ◌↔◌, [], length, slice_get, Contains, IsTrue, OnOk, OnErr, IfOk, true, false};
+ghost use Rattle.std.specs.Prelude.{◌≡◌, ◌+◌, ◌-◌, ◌<◌, ◌≤◌, ◌↔◌, [], length, slice_get, find, Contains, IsTrue, OnOk, OnErr, IfOk, true, false};
 ghost use Rattle.std.specs.List.{IsDistinct};
-ghost use Rattle.std.specs.List.Sorted.{IsPartitionPoint};
 ghost use Rattle.key_expr.specs.declared.format.TheConstants.{MAX_KEY_BYTES};
+ghost use Rattle.ndx_index.specs.Bounds.{passes};
 ghost use Rattle.ndx_index.specs.Index.{HaveLength};
 ghost use Rattle.ndx_index.specs.Order.{before, same, in_order, placed, without, first_from, next_of, previous_of, reaches, AreInOrder};
 
+use crate::pages::bound::Bound;
+use crate::pages::free::{FreeList, make_free};
+use crate::pages::insert::insert_in;
+use crate::pages::remove::remove_in;
+use crate::pages::root::{Root, append_all};
+use crate::pages::search::{first_passing, first_under, last_failing, last_under, push_pairs};
+use crate::pages::store::PageStore;
 use crate::pair::Pair;
 use std::alloc::{AllocError, Global};
 use std::marker::Model;
 
+#[cfg(test)]
+mod tests;
+
 /// The pairs of an index in order, none of them twice, whose keys all have one length. Contracts see that
-/// length, the list of pairs, and how many inserts have room. The searches go by bisection, and take no
-/// memory.
+/// length, the list of pairs, and how many inserts have room.
+///
+/// The pairs stand in pages of sixteen places, which make a tree: an insert and a removal change a page a level,
+/// and a search reads one a level. A search and a removal take no memory.
 #[derive(Drop)]
 pub struct OrderedIndex {
-    key_len: usize,
-    kept: Vec<Pair>,
+    store: PageStore,
+    free: FreeList,
+    root: Root,
 }
 
 impl Model for OrderedIndex {
-    ghost use Rattle.std.specs.Prelude.{◌-◌, vec_len, vec_capacity};
-    ghost use Rattle.ndx_index.specs.Index.{Index, HaveLength};
-    ghost use Rattle.ndx_index.specs.Order.{AreInOrder};
+    ghost use Rattle.ndx_index.specs.Index.{Index};
+    ghost use Rattle.ndx_index.specs.PagedIndex.{view_of, IsPaged};
 
     ghost Value = { Index };
 
-    ghost view = { λ a. record { key_len = a.key_len; pairs = a.kept.items; spare = vec_capacity a.kept - vec_len a.kept } };
+    ghost view = { view_of };
 
-    ghost invariant = { λ a. AreInOrder a.kept.items × HaveLength a.key_len a.kept.items };
+    ghost invariant = { IsPaged };
 }
 
 impl OrderedIndex {
@@ -40,14 +52,16 @@ impl OrderedIndex {
         ensures pairs { result.pairs ≡ [] }
     {
         OrderedIndex {
-            key_len,
-            kept: Vec::new(alloc),
+            store: PageStore::new(alloc, key_len),
+            free: FreeList { head: 0, count: 0 },
+            root: Root { page: 0, levels: 0 },
         }
     }
 
-    /// The index of these pairs, put in order. `AllocError` where there is no memory for it.
+    /// The index of these pairs, put in order. `AllocError` where there is no memory for it, or more pairs than its
+    /// pages can be numbered for.
     pub fn from_pairs(
-        _alloc: Global,
+        alloc: Global,
         key_len: usize,
         mut pairs: Vec<Pair>,
     ) -> Result<Self, AllocError>
@@ -58,23 +72,25 @@ impl OrderedIndex {
         ensures pairs { IfOk result (λ index. index.pairs ≡ in_order pairs.items) }
     {
         pairs.sort_unstable();
-        Ok(OrderedIndex {
-            key_len,
-            kept: pairs,
-        })
+        OrderedIndex::from_sorted(alloc, key_len, pairs.as_slice())
     }
 
-    /// The index of these pairs, which stand in order. It takes no memory.
-    pub fn from_ordered(key_len: usize, pairs: Vec<Pair>) -> Self
-        requires keys { HaveLength key_len pairs.items }
-        requires ordered { AreInOrder pairs.items }
-        ensures key_len { result.key_len ≡ key_len }
-        ensures pairs { result.pairs ≡ pairs.items }
+    /// The index of these pairs, which stand in order; its pages are filled from the left. `AllocError` where there is
+    /// no memory for it, or more pairs than its pages can be numbered for.
+    pub fn from_sorted(alloc: Global, key_len: usize, pairs: &[Pair]) -> Result<Self, AllocError>
+        requires short { key_len ≤ MAX_KEY_BYTES }
+        requires keys { HaveLength key_len pairs.now }
+        requires ordered { AreInOrder pairs.now }
+        ensures key_len { IfOk result (λ index. index.key_len ≡ key_len) }
+        ensures pairs { IfOk result (λ index. index.pairs ≡ pairs.now) }
     {
-        OrderedIndex {
-            key_len,
-            kept: pairs,
-        }
+        let mut store = PageStore::new(alloc, key_len);
+        let root = append_all(&mut store, pairs)?;
+        Ok(OrderedIndex {
+            store,
+            free: FreeList { head: 0, count: 0 },
+            root,
+        })
     }
 
     /// The length of the keys.
@@ -82,7 +98,7 @@ impl OrderedIndex {
         ensures key_len { result ≡ self.now.key_len }
         ensures keys { HaveLength self.now.key_len self.now.pairs }
     {
-        self.key_len
+        self.store.key_len()
     }
 
     /// Makes room for one insert at least. `AllocError` where there is no memory for it; the pairs are the
@@ -93,7 +109,7 @@ impl OrderedIndex {
         ensures pairs { self.new.pairs ≡ self.old.pairs }
         ensures spare { self.old.spare ≤ self.new.spare }
     {
-        self.kept.reserve(1)
+        make_free(&mut self.store, &mut self.free, self.root.levels + 1)
     }
 
     /// Puts an absent pair where it belongs. It takes one insert's room, no memory, and can't fail.
@@ -105,10 +121,7 @@ impl OrderedIndex {
         ensures pairs { self.new.pairs ≡ placed pair self.old.pairs }
         ensures spare { self.old.spare ≤ self.new.spare + 1 }
     {
-        let at = self.pair_index(&pair);
-        let done = self.kept.insert(at, pair);
-        prove!(done.is_ok());
-        let _ = done;
+        insert_in(&mut self.store, &mut self.free, &mut self.root, &pair);
     }
 
     /// Takes the pair out, and says whether it was there. It takes no memory, and no room is lost.
@@ -118,14 +131,13 @@ impl OrderedIndex {
         ensures pairs { self.new.pairs ≡ without pair self.old.pairs }
         ensures spare { self.old.spare ≤ self.new.spare }
     {
-        let at = self.pair_index(&pair);
-        if at == self.kept.len() {
+        let Some(found) = self.first_passing(Bound::AtLeast(&pair)) else {
+            return false;
+        };
+        if found != pair {
             return false;
         }
-        if self.kept[at] != pair {
-            return false;
-        }
-        self.kept.remove(at);
+        remove_in(&mut self.store, &mut self.free, &mut self.root, &pair);
         true
     }
 
@@ -134,42 +146,49 @@ impl OrderedIndex {
         ensures pair { result ≡ slice_get self.now.pairs 0 }
         ensures ordered { AreInOrder self.now.pairs }
     {
-        self.kept.first().copied()
+        if self.root.levels == 0 {
+            return None;
+        }
+        Some(first_under(&self.store, self.root.levels - 1, self.root.page))
     }
 
     /// The greatest pair; `None` of an index without pairs.
     pub fn last(&self) -> Option<Pair>
         ensures pair { result ≡ slice_get self.now.pairs (length self.now.pairs - 1) }
     {
-        self.kept.last().copied()
+        if self.root.levels == 0 {
+            return None;
+        }
+        Some(last_under(&self.store, self.root.levels - 1, self.root.page))
     }
 
     /// The least pair whose key isn't below the prefix.
     pub fn first_from(&self, prefix: &[u8]) -> Option<Pair>
         ensures pair { result ≡ first_from prefix.now self.now.pairs }
     {
-        let at = self.kept.partition_point(|p| p.is_below(prefix));
-        self.pair_at(at)
+        self.first_passing(Bound::Reaching(prefix))
     }
 
     /// The least pair above the given one, which may be absent.
     pub fn next(&self, pair: Pair) -> Option<Pair>
         ensures pair { result ≡ next_of pair self.now.pairs }
     {
-        let at = self.kept.partition_point(|q| !pair.is_before(q));
-        self.pair_at(at)
+        self.first_passing(Bound::Above(&pair))
     }
 
     /// The greatest pair below the given one, which may be absent.
     pub fn previous(&self, pair: Pair) -> Option<Pair>
         ensures pair { result ≡ previous_of pair self.now.pairs }
     {
-        let at = self.pair_index(&pair);
-        if at == 0 {
-            None
-        } else {
-            Some(self.kept[at - 1])
+        if self.root.levels == 0 {
+            return None;
         }
+        last_failing(
+            &self.store,
+            self.root.levels - 1,
+            self.root.page,
+            Bound::AtLeast(&pair),
+        )
     }
 
     /// All pairs in order, copied out. `AllocError` where there is no memory for them.
@@ -178,20 +197,25 @@ impl OrderedIndex {
         ensures ordered { AreInOrder self.now.pairs }
         ensures keys { HaveLength self.now.key_len self.now.pairs }
     {
-        self.kept.as_slice().to_vec(alloc)
+        let mut pairs = Vec::new(alloc);
+        if self.root.levels > 0 {
+            push_pairs(
+                &self.store,
+                self.root.levels - 1,
+                self.root.page,
+                &mut pairs,
+            )?;
+        }
+        Ok(pairs)
     }
 
-    fn pair_at(&self, at: usize) -> Option<Pair>
-        ensures value { result ≡ slice_get self.now.pairs at }
+    // The least pair that passes a search's test.
+    fn first_passing(&self, bound: Bound<'_>) -> Option<Pair>
+        ensures pair { result ≡ find (passes bound.entry) self.now.pairs }
     {
-        self.kept.get(at).copied()
-    }
-
-    // Where the pair is, or where it would go.
-    fn pair_index(&self, pair: &Pair) -> usize
-        ensures within { result ≤ length self.now.pairs }
-        ensures parted { IsPartitionPoint (λ q. before q pair.now ≡ true) (λ q. before q pair.now ≡ false) self.now.pairs result }
-    {
-        self.kept.partition_point(|q| q.is_before(pair))
+        if self.root.levels == 0 {
+            return None;
+        }
+        first_passing(&self.store, self.root.levels - 1, self.root.page, bound)
     }
 }

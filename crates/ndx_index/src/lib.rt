@@ -8,7 +8,8 @@
 //!
 //! Start with specs/Order.antt (the order), specs/NdxTree.antt (the tree and its walk), specs/Header.antt
 //! (when bytes are an index file) and specs/Image.antt (the file that is written). Then src/index.rt holds
-//! the ordered index; src/read.rt with src/read/ reads a file, and src/write.rt with src/write/ writes one.
+//! the ordered index, over the tree of pages in src/pages/ (specs/IndexTree.antt says when pages make a tree);
+//! src/read.rt with src/read/ reads a file, and src/write.rt with src/write/ writes one.
 //!
 //! What follows from the definitions, and callers' proofs may cite, stands in specs/Laws/ with its proofs: a
 //! record's pair put in and taken out, the pair after and the one before, where a record stands, where
@@ -31,6 +32,7 @@ ghost use Rattle.ndx_index.specs.TableOrder.{order, pairs_of};
 mod fault;
 mod format;
 mod index;
+mod pages;
 mod pair;
 mod read;
 mod sorting;

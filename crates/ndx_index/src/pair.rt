@@ -14,8 +14,6 @@ pub struct Pair {
 
 impl Pair {
     ghost use Rattle.std.specs.Prelude.{◌≡◌};
-    ghost use Rattle.std.specs.Cmp.Lexicographic.{slice_cmp};
-    ghost use Rattle.std.specs.Ordering.{is_lt, nat_cmp};
     ghost use Rattle.ndx_index.specs.Order.{before};
 
     /// Whether the pair stands before another one in an index.
@@ -23,12 +21,5 @@ impl Pair {
         ensures value { result ≡ before self.now other.now }
     {
         self.cmp(other).is_lt()
-    }
-
-    /// Whether the key stands before these bytes.
-    pub(crate) fn is_below(&self, prefix: &[u8]) -> bool
-        ensures value { result ≡ is_lt (slice_cmp nat_cmp self.now.key prefix.now) }
-    {
-        self.key.as_bytes().cmp(&prefix).is_lt()
     }
 }

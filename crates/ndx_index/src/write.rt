@@ -58,7 +58,7 @@ fn put_image<S: ByteSink>(out: &mut SinkWriter<'_, S>, text: &[u8], plan: &TreeP
 
 /// Writes the index file of these pairs into the sink: a header page, the leaves, and the inner pages
 /// level by level up to the root, each page of 512 bytes. It takes no memory: pieces are gathered, up to
-/// 4,096 bytes, before the sink is called.
+/// 65,536 bytes, before the sink is called.
 ///
 /// The pairs are those of the key expression: each key has its length. They stand in order,
 /// [`MAX_PAIRS`] at most. The one fault is `Sink`: the sink failed, and has then taken a front part of the

@@ -21,15 +21,24 @@ fn parenthesized(alloc: Global) -> Result<Vec<u8>, Fail> {
     Ok(text)
 }
 
+// The file of an index of so many records, whose keys have ten bytes.
+fn file_of(alloc: Global, count: u32) -> Result<Vec<u8>, Fail> {
+    let index = index_of(alloc, count, 10)?;
+    written(alloc, &index, 10)
+}
+
+#[test]
+fn twenty_five_entries_fill_a_leaf(rt: HostRuntime) -> Result<(), Fail> {
+    let full = file_of(rt.alloc(), 25)?;
+    assert_eq!(rt; full.len(), 1_024);
+    assert_eq!(rt; part(&full, 0, 8), [1, 0, 0, 0, 2, 0, 0, 0].as_slice());
+    Ok(())
+}
+
 #[test]
 fn twenty_six_entries_make_three_pages(rt: HostRuntime) -> Result<(), Fail> {
     let alloc = rt.alloc();
-    let full = written(alloc, &index_of(alloc, 25, 10)?, 10)?;
-    assert_eq!(rt; full.len(), 1_024);
-    assert_eq!(rt; part(&full, 0, 8), [1, 0, 0, 0, 2, 0, 0, 0].as_slice());
-
-    let index = index_of(alloc, 26, 10)?;
-    let bytes = written(alloc, &index, 10)?;
+    let bytes = file_of(alloc, 26)?;
     assert_eq!(rt; bytes.len(), 2_048);
     assert_eq!(rt; part(&bytes, 0, 8), [3, 0, 0, 0, 4, 0, 0, 0].as_slice());
     assert_eq!(rt;
@@ -45,8 +54,14 @@ fn twenty_six_entries_make_three_pages(rt: HostRuntime) -> Result<(), Fail> {
         root.push(0)?;
     }
     assert_eq!(rt; part(&bytes, 1_536, 2_048), root.as_slice());
+    Ok(())
+}
 
-    let read = read_ndx(alloc, &bytes)?;
+#[test]
+fn twenty_six_entries_read_back(rt: HostRuntime) -> Result<(), Fail> {
+    let alloc = rt.alloc();
+    let index = index_of(alloc, 26, 10)?;
+    let read = read_ndx(alloc, &written(alloc, &index, 10)?)?;
     assert_eq!(rt; read.expr.as_slice(), b"NAME".as_slice());
     assert_eq!(rt; read.key_len, 10);
     assert!(rt; read.pairs == index.pairs(alloc)?);

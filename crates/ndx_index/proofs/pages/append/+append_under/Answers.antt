@@ -1,0 +1,88 @@
+use Rattle.std.proofs.Common.{◌≡◌, ◌+◌, ◌-◌, ℕ, suc, Option, length, ap, sym, subst, arith}
+use Rattle.ndx_index.specs.PageStore.{Page}
+use Rattle.ndx_index.specs.IndexTree.{IsTree}
+use Rattle.ndx_index.specs.TreeSteps.{CanAppend, Appends, AppendsUnder, AppendsBeside, AddsLink}
+use Rattle.ndx_index.proofs.TreeLists.{links_length}
+use Rattle.ndx_index.proofs.Appending.{can_append_below, under_last, child_more, ok_weaker}
+use Rattle.ndx_index.proofs.pages.append.+append_under.Goals as goal
+
+pub overflow_sub-link_count : goal.overflow_sub-link_count
+overflow_sub-link_count t c =
+    let a = c.args.store.now.pages in
+    let e : c.args.level ≡ suc (c.args.level - 1) = omega arith in
+    omega (arith, c.link_count.ensures.count, links_length (c.args.level - 1) a c.args.page (subst (λ d. IsTree d a c.args.page) e c.requires.can.tree))
+
+pub link-last-requires-clause-place : goal.link-last-requires-clause-place
+link-last-requires-clause-place t c =
+    let a = c.args.store.now.pages in
+    let e : c.args.level ≡ suc (c.args.level - 1) = omega arith in
+    omega (arith, c.link_count.ensures.count, links_length (c.args.level - 1) a c.args.page (subst (λ d. IsTree d a c.args.page) e c.requires.can.tree))
+
+pub append_under-requires : goal.append_under-requires
+append_under-requires t c =
+    let a = c.args.store.now.pages in
+    let p = c.args.page in
+    let pair = c.args.pair.now in
+    let d = c.args.level - 1 in
+    let e : c.args.level ≡ suc d = omega arith in
+    let can : CanAppend (suc d) a p pair = subst (λ k. CanAppend k a p pair) e c.requires.can in (
+      omega (arith, c.decreases),
+      (
+        subst (λ x. CanAppend d a x pair) (sym c.link-last.ensures.link)
+            (can_append_below d a p pair (c.link_count.result - 1) can (omega (arith, c.link_count.ensures.count, links_length d a p can.tree))),
+        c.requires.key,
+      ),
+    )
+
+pub add_child-requires-clause-some : goal.add_child-requires-clause-some
+add_child-requires-clause-some t c =
+    let a = c.args.store.now.pages in
+    let b = c.append_under.new.store.pages in
+    let p = c.args.page in
+    let pair = c.args.pair.now in
+    let d = c.args.level - 1 in
+    let e : c.args.level ≡ suc d = omega arith in
+    let tree : IsTree (suc d) a p = subst (λ k. IsTree k a p) e c.requires.can.tree in
+    let done : AppendsBeside d a b c.link-last.result pair c.in-Some.beside = subst (λ s. Appends d a b c.link-last.result pair s) c.in-Some.is c.in_ok-append_under.ensures.appended in
+    omega (arith, ap (λ (g : Page). length g.links) (done.frame p tree.0), links_length d a p tree)
+
+pub add_child-requires-clause-keys : goal.add_child-requires-clause-keys
+add_child-requires-clause-keys t c =
+    let a = c.args.store.now.pages in
+    let b = c.append_under.new.store.pages in
+    let p = c.args.page in
+    let pair = c.args.pair.now in
+    let d = c.args.level - 1 in
+    let e : c.args.level ≡ suc d = omega arith in
+    let tree : IsTree (suc d) a p = subst (λ k. IsTree k a p) e c.requires.can.tree in
+    let done : AppendsBeside d a b c.link-last.result pair c.in-Some.beside = subst (λ s. Appends d a b c.link-last.result pair s) c.in-Some.is c.in_ok-append_under.ensures.appended in
+    subst (λ (g : Page). length g.links ≡ length g.pairs + 1) (sym (done.frame p tree.0)) (links_length d a p tree)
+
+pub returns-in-None-clause-appended : goal.returns-in-None-clause-appended
+returns-in-None-clause-appended t c =
+    let a = c.args.store.now.pages in
+    let b = c.append_under.new.store.pages in
+    let p = c.args.page in
+    let pair = c.args.pair.now in
+    let d = c.args.level - 1 in
+    let e : c.args.level ≡ suc d = omega arith in
+    let can : CanAppend (suc d) a p pair = subst (λ k. CanAppend k a p pair) e c.requires.can in
+    let done : AppendsUnder d a b c.link-last.result pair = subst (λ s. Appends d a b c.link-last.result pair s) c.in-None.is c.in_ok-append_under.ensures.appended in
+    subst (λ k. AppendsUnder k a b p pair) (sym e)
+    (under_last d a b p pair (c.link_count.result - 1) can (omega (arith, c.link_count.ensures.count, links_length d a p can.tree))
+    (subst (λ x. AppendsUnder d a b x pair) c.link-last.ensures.link done))
+
+pub returns-in-Some-clause-appended : goal.returns-in-Some-clause-appended
+returns-in-Some-clause-appended t c =
+    let a = c.args.store.now.pages in
+    let b = c.append_under.new.store.pages in
+    let b1 = c.add_child.new.store.pages in
+    let p = c.args.page in
+    let pair = c.args.pair.now in
+    let d = c.args.level - 1 in
+    let e : c.args.level ≡ suc d = omega arith in
+    let can : CanAppend (suc d) a p pair = subst (λ k. CanAppend k a p pair) e c.requires.can in
+    let done : AppendsBeside d a b c.link-last.result pair c.in-Some.beside = subst (λ s. Appends d a b c.link-last.result pair s) c.in-Some.is c.in_ok-append_under.ensures.appended in
+    ok_weaker (AddsLink b b1 p c.in-Some.beside pair) (Appends c.args.level a b1 p pair)
+    (λ (s : Option ℕ) h. subst (λ k. Appends k a b1 p pair s) (sym e) (child_more d a b b1 p c.link-last.result pair c.in-Some.beside can done s h))
+    c.add_child.result c.add_child.ensures.added

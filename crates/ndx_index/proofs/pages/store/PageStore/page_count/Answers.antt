@@ -1,0 +1,6 @@
+use Rattle.std.proofs.Common.{sym, ◌∙◌}
+use Rattle.ndx_index.proofs.TwinLaws.{store_count}
+use Rattle.ndx_index.proofs.pages.store.PageStore.page_count.Goals as goal
+
+pub returns : goal.returns
+returns c = record { value = c.page_count.ensures.value ∙ sym (store_count c.self.inside c.args.self.now c.self.view_is c.self.invariant) }

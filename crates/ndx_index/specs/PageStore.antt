@@ -1,0 +1,50 @@
+-- Pages of a tree: the pairs of a leaf, or the links of an inner page and the pairs between them.
+use Rattle.std.specs.Prelude.{◌≡◌, ℕ, zero, suc, List, [], ◌∷◌, length, map, slice_index_or}
+use Rattle.std.specs.List.{remove}
+use Rattle.ndx_index.specs.declared.pair.Pair.{Pair}
+use Rattle.ndx_index.specs.declared.pages.store.PageStore.TheInside.{Inside}
+
+pub record Page : Type 0 where
+  pub pairs : List Pair
+  pub links : List ℕ
+
+pub record Store : Type 0 where
+  pub key_len : ℕ
+  pub pages : List Page
+
+abbrev pub no_page : Page
+no_page = record { pairs = []; links = [] }
+
+abbrev pub page_in : List Page → ℕ → Page
+page_in pages p = slice_index_or pages p no_page
+
+-- links are kept as pairs without a key
+abbrev pub links_of : List Pair → List ℕ
+links_of ls = map (λ q. q.number) ls
+
+abbrev pub zipped : List (List Pair) → List (List Pair) → List Page
+zipped [] lss = []
+zipped (ps ∷ pss) [] = []
+zipped (ps ∷ pss) (ls ∷ lss) = record { pairs = ps; links = links_of ls } ∷ zipped pss lss
+
+-- a page with other pairs, and with other links
+abbrev pub with_pairs : List Pair → Page → Page
+with_pairs ps g = record { pairs = ps; links = g.links }
+
+abbrev pub with_links : List ℕ → Page → Page
+with_links ls g = record { pairs = g.pairs; links = ls }
+
+abbrev pub view_of : Inside → Store
+view_of x = record { key_len = x.pair_pages.key_len; pages = zipped x.pair_pages.pages x.link_pages.pages }
+
+pub record AreTwins (x : Inside) : Type 0 where
+  pub same : length x.pair_pages.pages ≡ length x.link_pages.pages
+  pub bare : x.link_pages.key_len ≡ 0
+
+-- the keys of a page whose i-th child goes: one beside it goes too, where there is one
+abbrev pub keys_without : ℕ → List Pair → List Pair
+keys_without zero ks = remove ks 0
+keys_without (suc i) ks = remove ks i
+
+abbrev pub without_child : ℕ → Page → Page
+without_child i g = record { pairs = keys_without i g.pairs; links = remove g.links i }

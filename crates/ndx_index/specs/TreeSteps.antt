@@ -1,0 +1,238 @@
+-- What changes a tree of pages and the free pages beside it.
+use Rattle.std.specs.Prelude.{true, false, Option, None, Some, ◌++◌, Contains, slice_index, ◌≡◌, ℕ, zero, suc, ◌+◌, ◌^◌, ◌<◌, ◌≤◌, List, [], ◌∷◌, length, slice_set}
+use Rattle.std.specs.List.{insert}
+use Rattle.ndx_index.specs.Order.{before, placed, without, AreInOrder}
+use Rattle.ndx_index.specs.Slots.{slot_at}
+use Rattle.ndx_index.specs.declared.pair.Pair.{Pair}
+use Rattle.ndx_index.specs.declared.pages.free.FreeList.{FreeList}
+use Rattle.ndx_index.specs.declared.pages.root.Root.{Root}
+use Rattle.ndx_index.specs.PageStore.{Page, page_in, no_page}
+use Rattle.ndx_index.specs.IndexTree.{pairs_under, here, uses, uses_free, uses_both, AllBefore, AllFrom, IsTree, IsFreeList, width, pairs_in, uses_in, IsTreeIn}
+
+-- Pages a with free list f became b with free list g, and there are more free pages by new ones alone.
+pub record MakesFree (a b : List Page) (f g : FreeList) : Type 0 where
+  pub longer : length a ≤ length b
+  pub few : length a < 2 ^ 32 → length b < 2 ^ 32
+  pub more : f.count ≤ g.count
+  pub list : IsFreeList b g
+  pub apart : (r : ℕ) → uses_free b g r ≤ 1
+  -- the old pages are free as before, and the others stay as they are
+  pub same : (r : ℕ) → r < length a → uses_free b g r ≡ uses_free a f r
+  pub frame : (r : ℕ) → r < length a → uses_free a f r ≡ 0 → page_in b r ≡ page_in a r
+
+-- ---- what each step of a tree says of the pages: a, f before and b, g after
+
+-- The pages under p and the free ones are the same together, each once, and no others changed.
+pub record Keeps (d : ℕ) (a b : List Page) (f g : FreeList) (p : ℕ) : Type 0 where
+  pub tree : IsTree d b p
+  pub list : IsFreeList b g
+  pub uses_stay : (r : ℕ) → uses_both d b g p r ≡ uses_both d a f p r
+  pub frame : (r : ℕ) → uses_both d a f p r ≡ 0 → page_in b r ≡ page_in a r
+  pub same_length : length b ≡ length a
+
+-- a tree and a free list that share no page, in order
+pub record IsApart (d : ℕ) (a : List Page) (f : FreeList) (p : ℕ) : Type 0 where
+  pub tree : IsTree d a p
+  pub order : AreInOrder (pairs_under d a p)
+  pub list : IsFreeList a f
+  pub apart : (r : ℕ) → uses_both d a f p r ≤ 1
+
+-- ---- a full page is cut in two
+
+-- c is a full page this many levels above the leaves, and q an empty page outside
+pub record CanHalve (d : ℕ) (a : List Page) (c q : ℕ) : Type 0 where
+  pub tree : IsTree d a c
+  pub order : AreInOrder (pairs_under d a c)
+  pub full : width d (page_in a c) ≡ 16
+  pub there : q < length a
+  pub empty : page_in a q ≡ no_page
+  pub apart : (r : ℕ) → uses d a c r + here q r ≤ 1
+
+-- c's upper half is under q, and m parts them
+pub record Halves (d : ℕ) (a b : List Page) (c q : ℕ) (m : Pair) : Type 0 where
+  pub pairs : pairs_under d b c ++ pairs_under d b q ≡ pairs_under d a c
+  pub lower_tree : IsTree d b c
+  pub upper_tree : IsTree d b q
+  pub below : AllBefore m (pairs_under d b c)
+  pub from : AllFrom m (pairs_under d b q)
+  pub lower_room : width d (page_in b c) < 16
+  pub upper_room : width d (page_in b q) < 16
+  pub uses_stay : (r : ℕ) → uses d b c r + uses d b q r ≡ uses d a c r + here q r
+  pub frame : (r : ℕ) → (r ≡ c → ⊥) → (r ≡ q → ⊥) → page_in b r ≡ page_in a r
+  pub same_length : length b ≡ length a
+
+-- the i-th child of p is full, and p has room
+pub record CanSplit (d : ℕ) (a : List Page) (f : FreeList) (p i : ℕ) : Type 0 where
+  pub whole : IsApart (suc d) a f p
+  pub some : 0 < f.count
+  pub in_range : i < length (page_in a p).links
+  pub room : length (page_in a p).links < 16
+  pub full : width d (page_in a (slice_index (page_in a p).links i)) ≡ 16
+
+-- the i-th child of p is cut in two, parted by the i-th key
+pub record Splits (d : ℕ) (a b : List Page) (f g : FreeList) (p i : ℕ) : Type 0 where
+  pub pairs : pairs_under (suc d) b p ≡ pairs_under (suc d) a p
+  pub keeps : Keeps (suc d) a b f g p
+  pub count : g.count + 1 ≡ f.count
+  pub keys : (page_in b p).pairs ≡ insert (page_in a p).pairs i (slot_at (page_in b p).pairs i)
+  pub links : length (page_in b p).links ≡ length (page_in a p).links + 1
+  pub lower_room : width d (page_in b (slice_index (page_in b p).links i)) < 16
+  pub upper_room : width d (page_in b (slice_index (page_in b p).links (i + 1))) < 16
+
+-- ---- a pair is put in
+
+-- i keys are not above the pair, and the next one is
+abbrev pub Chosen : Pair → ℕ → List Pair → Type 0
+Chosen p zero [] = Unit {0}
+Chosen p (suc i) [] = ⊥
+Chosen p zero (k ∷ ks) = before p k ≡ true
+Chosen p (suc i) (k ∷ ks) = (before p k ≡ false) × Chosen p i ks
+
+-- c is the child under which the pair belongs
+pub record IsChildFor (p : Pair) (g : Page) (c : ℕ) : Type 0 where
+  pub place : ℕ
+  pub in_range : place < length g.links
+  pub is : slice_index g.links place ≡ c
+  pub chosen : Chosen p place g.pairs
+
+-- page p has room, and there is a free page for each level below it
+pub record CanInsert (d : ℕ) (a : List Page) (f : FreeList) (p : ℕ) (pair : Pair) : Type 0 where
+  pub whole : IsApart d a f p
+  pub room : width d (page_in a p) < 16
+  pub enough : d ≤ f.count
+  pub absent : Contains (pairs_under d a p) pair → ⊥
+
+pub record Inserts (d : ℕ) (a b : List Page) (f g : FreeList) (p : ℕ) (pair : Pair) : Type 0 where
+  pub pairs : pairs_under d b p ≡ placed pair (pairs_under d a p)
+  pub keeps : Keeps d a b f g p
+
+-- the child for the pair has room, after it was split where it was full
+pub record ChildWithRoom (d : ℕ) (a b : List Page) (f g : FreeList) (p : ℕ) (pair : Pair) (c : ℕ) : Type 0 where
+  pub pairs : pairs_under (suc d) b p ≡ pairs_under (suc d) a p
+  pub keeps : Keeps (suc d) a b f g p
+  pub enough : f.count ≤ g.count + 1
+  pub child : IsChildFor pair (page_in b p) c
+  pub room : width d (page_in b c) < 16
+
+-- ---- a pair is taken out
+
+pub record CanRemove (d : ℕ) (a : List Page) (f : FreeList) (p : ℕ) (pair : Pair) : Type 0 where
+  pub whole : IsApart d a f p
+  pub few : length a < 2 ^ 32
+  pub held : Contains (pairs_under d a p) pair
+
+pub record Removes (d : ℕ) (a b : List Page) (f g : FreeList) (p : ℕ) (pair : Pair) : Type 0 where
+  pub pairs : pairs_under d b p ≡ without pair (pairs_under d a p)
+  pub keeps : Keeps d a b f g p
+  pub more : f.count ≤ g.count
+
+-- the pair was the only one; the pages under p but p itself are free
+pub record Empties (d : ℕ) (a b : List Page) (f g : FreeList) (p : ℕ) (pair : Pair) : Type 0 where
+  pub only : pairs_under d a p ≡ pair ∷ []
+  pub there : p < length b
+  pub list : IsFreeList b g
+  pub uses_stay : (r : ℕ) → here p r + uses_free b g r ≡ uses_both d a f p r
+  pub frame : (r : ℕ) → uses_both d a f p r ≡ 0 → page_in b r ≡ page_in a r
+  pub more : f.count ≤ g.count
+  pub same_length : length b ≡ length a
+
+-- ---- a pair is put after all others
+
+pub record CanAppend (d : ℕ) (a : List Page) (p : ℕ) (pair : Pair) : Type 0 where
+  pub tree : IsTree d a p
+  pub order : AreInOrder (pairs_under d a p)
+  pub apart : (r : ℕ) → uses d a p r ≤ 1
+  pub above : AllBefore pair (pairs_under d a p)
+
+-- the old pages but those under p stay, and new pages come after them
+pub record Extends (d : ℕ) (a b : List Page) (p : ℕ) : Type 0 where
+  pub longer : length a ≤ length b
+  pub few : length a < 2 ^ 32 → length b < 2 ^ 32
+  pub frame : (r : ℕ) → r < length a → uses d a p r ≡ 0 → page_in b r ≡ page_in a r
+
+pub record AppendsUnder (d : ℕ) (a b : List Page) (p : ℕ) (pair : Pair) : Type 0 where
+  pub extends : Extends d a b p
+  pub pairs : pairs_under d b p ≡ pairs_under d a p ++ pair ∷ []
+  pub tree : IsTree d b p
+  -- the tree has the pages that it had, and new ones
+  pub uses_stay : (r : ℕ) → r < length a → uses d b p r ≡ uses d a p r
+  pub apart : (r : ℕ) → uses d b p r ≤ 1
+
+-- no old page changes, and q's are new
+pub record AppendsBeside (d : ℕ) (a b : List Page) (p : ℕ) (pair : Pair) (q : ℕ) : Type 0 where
+  pub longer : length a ≤ length b
+  pub few : length a < 2 ^ 32 → length b < 2 ^ 32
+  pub frame : (r : ℕ) → r < length a → page_in b r ≡ page_in a r
+  pub pairs : pairs_under d b q ≡ pair ∷ []
+  pub tree : IsTree d b q
+  pub fresh : (r : ℕ) → r < length a → uses d b q r ≡ 0
+  pub apart : (r : ℕ) → uses d b q r ≤ 1
+
+-- the pair is under p, or alone under a new page
+abbrev pub Appends : ℕ → List Page → List Page → ℕ → Pair → Option ℕ → Type 0
+Appends d a b p pair None = AppendsUnder d a b p pair
+Appends d a b p pair (Some q) = AppendsBeside d a b p pair q
+
+-- a link after the others of an inner page and a key before it, or alone on a new page
+abbrev pub AddsLink : List Page → List Page → ℕ → ℕ → Pair → Option ℕ → Type 0
+AddsLink a b p c k None = b ≡ slice_set a p (record { pairs = (page_in a p).pairs ++ k ∷ []; links = (page_in a p).links ++ c ∷ [] })
+AddsLink a b p c k (Some q) = (q ≡ length a) × (length b < 2 ^ 32) × (b ≡ a ++ record { pairs = []; links = c ∷ [] } ∷ [])
+
+-- a new page over the top of a tree and a page beside it, parted by a key
+pub record IsOver (a b : List Page) (t : Root) (q : ℕ) (k : Pair) (new : Root) : Type 0 where
+  pub levels : new.levels ≡ t.levels + 1
+  pub page : new.page ≡ length a
+  pub few : length b < 2 ^ 32
+  pub pages : b ≡ a ++ record { pairs = k ∷ []; links = t.page ∷ q ∷ [] } ∷ []
+
+-- ---- steps of a tree by its top
+
+-- a tree in order and a free list that share no page
+pub record AreApart (a : List Page) (f : FreeList) (t : Root) : Type 0 where
+  pub tree : IsTreeIn a t
+  pub order : AreInOrder (pairs_in a t)
+  pub list : IsFreeList a f
+  pub apart : (r : ℕ) → uses_in a t r + uses_free a f r ≤ 1
+
+pub record CanInsertIn (a : List Page) (f : FreeList) (t : Root) (pair : Pair) : Type 0 where
+  pub whole : AreApart a f t
+  pub enough : t.levels < f.count
+  pub few : length a < 2 ^ 32
+  pub absent : Contains (pairs_in a t) pair → ⊥
+
+pub record InsertsIn (a b : List Page) (f g : FreeList) (t u : Root) (pair : Pair) : Type 0 where
+  pub pairs : pairs_in b u ≡ placed pair (pairs_in a t)
+  pub tree : IsTreeIn b u
+  pub list : IsFreeList b g
+  pub apart : (r : ℕ) → uses_in b u r + uses_free b g r ≤ 1
+  pub same_length : length b ≡ length a
+  pub deep : u.levels ≤ length b
+
+-- a tree with a full top, which a new one is put above
+pub record CanRaise (a : List Page) (f : FreeList) (t : Root) : Type 0 where
+  pub whole : AreApart a f t
+  pub levels : 0 < t.levels
+  pub few : t.levels < 2 ^ 32
+  pub some : 0 < f.count
+
+pub record Raises (a b : List Page) (f g : FreeList) (t u : Root) : Type 0 where
+  pub pairs : pairs_in b u ≡ pairs_in a t
+  pub levels : u.levels ≡ t.levels + 1
+  pub whole : AreApart b g u
+  pub room : length (page_in b u.page).links ≡ 1
+  pub count : g.count + 1 ≡ f.count
+  pub same_length : length b ≡ length a
+
+pub record CanRemoveIn (a : List Page) (f : FreeList) (t : Root) (pair : Pair) : Type 0 where
+  pub whole : AreApart a f t
+  pub few : length a < 2 ^ 32
+  pub held : Contains (pairs_in a t) pair
+
+pub record RemovesIn (a b : List Page) (f g : FreeList) (t u : Root) (pair : Pair) : Type 0 where
+  pub pairs : pairs_in b u ≡ without pair (pairs_in a t)
+  pub tree : IsTreeIn b u
+  pub list : IsFreeList b g
+  pub apart : (r : ℕ) → uses_in b u r + uses_free b g r ≤ 1
+  pub same_length : length b ≡ length a
+  pub lower : u.levels ≤ t.levels
+  pub more : f.count ≤ g.count

@@ -1,0 +1,223 @@
+//! Pages of sixteen pairs.
+
+ghost use Rattle.std.specs.Prelude.{◌≡◌, ◌≢◌, ◌+◌, ◌<◌, ◌≤◌, ◌++◌, ℕ, [], ◌∷◌, length, take, drop, slice_set, OnOk, ◌^◌, true, false};
+ghost use Rattle.std.specs.List.{insert, remove};
+ghost use Rattle.key_expr.specs.declared.format.TheConstants.{MAX_KEY_BYTES};
+ghost use Rattle.ndx_index.specs.Bounds.{passes};
+ghost use Rattle.ndx_index.specs.Order.{AreInOrder};
+ghost use Rattle.ndx_index.specs.Slots.{slot_at};
+ghost use Rattle.ndx_index.specs.PairPages.{page_at};
+
+use crate::pages::bound::Bound;
+use crate::pages::slots::PairSlots;
+use crate::pair::Pair;
+use std::alloc::{AllocError, Global};
+use std::marker::Model;
+
+/// The places of a page.
+pub(crate) const PLACES: usize = 16;
+
+/// The most pages, which are named by four bytes.
+pub(crate) const PAGES_MAX: usize = 0xffff_ffff;
+
+/// Pages of at most sixteen pairs, whose keys have one length. Contracts see the list of pages, each the list
+/// of its pairs, and how many pages can be put after them without taking memory.
+#[derive(Drop)]
+pub(crate) struct PairPages {
+    slots: PairSlots,
+    counts: Vec<u8>,
+    spare: usize,
+}
+
+impl Model for PairPages {
+    ghost use Rattle.ndx_index.specs.PairPages.{Pages, view_of, ArePages};
+
+    ghost Value = { Pages };
+
+    ghost view = { view_of };
+
+    ghost invariant = { ArePages };
+}
+
+impl PairPages {
+    /// No pages, for keys of this length. It takes no memory.
+    pub(crate) fn new(alloc: Global, key_len: usize) -> Self
+        requires short { key_len ≤ MAX_KEY_BYTES }
+        ensures key_len { result.key_len ≡ key_len }
+        ensures pages { result.pages ≡ [] }
+    {
+        PairPages {
+            slots: PairSlots::new(alloc, key_len),
+            counts: Vec::new(alloc),
+            spare: 0,
+        }
+    }
+
+    /// The length of each key.
+    pub(crate) fn key_len(&self) -> usize
+        ensures value { result ≡ self.now.key_len }
+    {
+        self.slots.key_len()
+    }
+
+    /// How many pages there are, which four bytes can count.
+    pub(crate) fn page_count(&self) -> u32
+        ensures value { result ≡ length self.now.pages }
+        ensures few { length self.now.pages + self.now.spare < 2 ^ 32 }
+    {
+        self.counts.len() as u32
+    }
+
+    /// How many pairs a page has.
+    pub(crate) fn count(&self, page: usize) -> usize
+        requires page { page < length self.now.pages }
+        ensures count { result ≡ length (page_at self.now.pages page) }
+        ensures small { result ≤ 16 }
+    {
+        usize::from(self.counts[page])
+    }
+
+    /// A page's pair.
+    pub(crate) fn get(&self, page: usize, at: usize) -> Pair
+        requires page { page < length self.now.pages }
+        requires place { at < length (page_at self.now.pages page) }
+        ensures pair { result ≡ slot_at (page_at self.now.pages page) at }
+        ensures key { length result.key ≡ self.now.key_len }
+    {
+        self.slots.get(page * PLACES + at)
+    }
+
+    /// The record number of a page's pair.
+    pub(crate) fn number(&self, page: usize, at: usize) -> u32
+        requires page { page < length self.now.pages }
+        requires place { at < length (page_at self.now.pages page) }
+        ensures number { result ≡ (slot_at (page_at self.now.pages page) at).number }
+    {
+        self.slots.number(page * PLACES + at)
+    }
+
+    /// Whether a page's pair passes a search's test. It copies no key.
+    pub(crate) fn passes(&self, page: usize, at: usize, bound: Bound<'_>) -> bool
+        requires page { page < length self.now.pages }
+        requires place { at < length (page_at self.now.pages page) }
+        ensures value { result ≡ passes bound.entry (slot_at (page_at self.now.pages page) at) }
+    {
+        self.slots.passes(page * PLACES + at, bound)
+    }
+
+    /// Puts a pair into a page that has room, before the pairs from a place on. It takes no memory.
+    pub(crate) fn insert(&mut self, page: usize, at: usize, pair: &Pair)
+        requires page { page < length self.old.pages }
+        requires room { length (page_at self.old.pages page) < 16 }
+        requires place { at ≤ length (page_at self.old.pages page) }
+        requires key { length pair.now.key ≡ self.old.key_len }
+        ensures pages { self.new.pages ≡ slice_set self.old.pages page (insert (page_at self.old.pages page) at pair.now) }
+        ensures key_len { self.new.key_len ≡ self.old.key_len }
+        ensures spare { self.new.spare ≡ self.old.spare }
+    {
+        let count = self.counts[page];
+        let low = page * PLACES;
+        let place = low + at;
+        self.slots
+            .copy_within(place, low + usize::from(count), place + 1);
+        self.slots.set(place, pair);
+        self.counts[page] = count + 1;
+    }
+
+    /// Takes a pair out of a page. It takes no memory.
+    pub(crate) fn remove(&mut self, page: usize, at: usize)
+        requires page { page < length self.old.pages }
+        requires place { at < length (page_at self.old.pages page) }
+        ensures pages { self.new.pages ≡ slice_set self.old.pages page (remove (page_at self.old.pages page) at) }
+        ensures key_len { self.new.key_len ≡ self.old.key_len }
+        ensures spare { self.new.spare ≡ self.old.spare }
+    {
+        let count = self.counts[page];
+        let low = page * PLACES;
+        let place = low + at;
+        self.slots
+            .copy_within(place + 1, low + usize::from(count), place);
+        self.counts[page] = count - 1;
+    }
+
+    /// Moves the pairs of a page from a place on to another page, in place of what is there. It takes no memory.
+    pub(crate) fn split(&mut self, page: usize, at: u8, to: usize)
+        requires page { page < length self.old.pages }
+        requires place { at ≤ length (page_at self.old.pages page) }
+        requires to { to < length self.old.pages }
+        requires apart { to ≢ page }
+        ensures pages { self.new.pages ≡ slice_set (slice_set self.old.pages to (drop at (page_at self.old.pages page))) page (take at (page_at self.old.pages page)) }
+        ensures key_len { self.new.key_len ≡ self.old.key_len }
+        ensures spare { self.new.spare ≡ self.old.spare }
+    {
+        let count = self.counts[page];
+        let low = page * PLACES;
+        self.slots.copy_within(low + usize::from(at), low + usize::from(count), to * PLACES);
+        self.counts[to] = count - at;
+        self.counts[page] = at;
+    }
+
+    /// Makes room for n pages more. `AllocError` where there is no memory or no page number for them; no room is lost then.
+    pub(crate) fn reserve(&mut self, n: usize) -> Result<(), AllocError>
+        ensures ok { OnOk result (n ≤ self.new.spare) }
+        ensures pages { self.new.pages ≡ self.old.pages }
+        ensures key_len { self.new.key_len ≡ self.old.key_len }
+        ensures spare { self.old.spare ≤ self.new.spare }
+    {
+        if n <= self.spare {
+            return Ok(());
+        }
+        if n > PAGES_MAX - self.counts.len() {
+            return Err(AllocError);
+        }
+        self.slots.reserve(n * PLACES)?;
+        self.counts.reserve(n)?;
+        self.spare = n;
+        Ok(())
+    }
+
+    /// Puts an empty page after the others. It takes the room that was reserved, and no memory.
+    pub(crate) fn push_page(&mut self)
+        requires room { 0 < self.old.spare }
+        ensures pages { self.new.pages ≡ self.old.pages ++ [] ∷ [] }
+        ensures key_len { self.new.key_len ≡ self.old.key_len }
+        ensures spare { self.new.spare + 1 ≡ self.old.spare }
+    {
+        self.slots.push_blank(PLACES);
+        self.counts.push_reserved(0);
+        self.spare -= 1;
+    }
+
+    /// Empties a page. It takes no memory.
+    pub(crate) fn clear(&mut self, page: usize)
+        requires page { page < length self.old.pages }
+        ensures pages { self.new.pages ≡ slice_set self.old.pages page [] }
+        ensures key_len { self.new.key_len ≡ self.old.key_len }
+        ensures spare { self.new.spare ≡ self.old.spare }
+    {
+        self.counts[page] = 0;
+    }
+
+    /// How many of a page's pairs, which stand in order, stand before where a search begins. It goes by bisection,
+    /// and copies no key.
+    #[tactic(auto, using(crate::proofs::Bisection::below_mid, crate::proofs::Bisection::above_mid))]
+    pub(crate) fn place(&self, page: usize, bound: Bound<'_>) -> usize
+        requires page { page < length self.now.pages }
+        requires order { AreInOrder (page_at self.now.pages page) }
+        ensures within { result ≤ length (page_at self.now.pages page) }
+        ensures below { (k : ℕ) → k < result → passes bound.entry (slot_at (page_at self.now.pages page) k) ≡ false }
+        ensures above { (k : ℕ) → result ≤ k → k < length (page_at self.now.pages page) → passes bound.entry (slot_at (page_at self.now.pages page) k) ≡ true }
+    {
+        let mut low = 0;
+        let mut high = self.count(page);
+        'halves: while low < high {
+            let mid = low + (high - low) / 2;
+            if self.passes(page, mid, bound) {
+                high = mid;
+            } else {
+                low = mid + 1;
+            }
+        }
+        low
+    }
+}

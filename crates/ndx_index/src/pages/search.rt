@@ -1,0 +1,182 @@
+//! Searches in a tree.
+
+ghost use Rattle.std.specs.Prelude.{◌≡◌, ◌++◌, ◌-◌, not, find, reverse, slice_get, Some, length, OnOk, IfSome};
+ghost use Rattle.std.specs.Option.{option_map};
+ghost use Rattle.ndx_index.specs.Bounds.{passes};
+ghost use Rattle.ndx_index.specs.IndexTree.{pairs_under, IsTree};
+ghost use Rattle.ndx_index.specs.Order.{AreInOrder};
+ghost use Rattle.ndx_index.specs.PageStore.{page_in};
+ghost use Rattle.ndx_index.specs.LeafPlaces.{pair_at, IsPlace};
+ghost use Rattle.ndx_index.specs.Slots.{slot_at};
+
+use crate::pages::bound::Bound;
+use crate::pages::place::Place;
+use crate::pages::store::PageStore;
+use crate::pair::Pair;
+use std::alloc::AllocError;
+
+/// The least pair under a page, this many levels above the leaves.
+pub(crate) fn first_under(store: &PageStore, level: usize, page: u32) -> Pair
+    requires tree { IsTree level store.now.pages page }
+    ensures pair { slice_get (pairs_under level store.now.pages page) 0 ≡ Some result }
+{
+    store.pair(first_leaf(store, level, page), 0)
+}
+
+// The leaf of the least pair under a page, which stands first there.
+fn first_leaf(store: &PageStore, level: usize, page: u32) -> u32
+    requires tree { IsTree level store.now.pages page }
+    ensures place { IsPlace store.now.pages (record { page = result; at = 0 }) }
+    ensures pair { slice_get (pairs_under level store.now.pages page) 0 ≡ Some (slot_at (page_in store.now.pages result).pairs 0) }
+{
+    if level == 0 {
+        page
+    } else {
+        first_leaf(store, level - 1, store.link(page, 0))
+    }
+}
+
+/// The greatest pair under a page.
+pub(crate) fn last_under(store: &PageStore, level: usize, page: u32) -> Pair
+    requires tree { IsTree level store.now.pages page }
+    ensures pair { slice_get (pairs_under level store.now.pages page) (length (pairs_under level store.now.pages page) - 1) ≡ Some result }
+{
+    let leaf = last_leaf(store, level, page);
+    store.pair(leaf, store.pair_count(leaf) - 1)
+}
+
+// The leaf of the greatest pair under a page, which stands last there.
+fn last_leaf(store: &PageStore, level: usize, page: u32) -> u32
+    requires tree { IsTree level store.now.pages page }
+    ensures place { IsPlace store.now.pages (record { page = result; at = length (page_in store.now.pages result).pairs - 1 }) }
+    ensures pair { slice_get (pairs_under level store.now.pages page) (length (pairs_under level store.now.pages page) - 1) ≡ Some (slot_at (page_in store.now.pages result).pairs (length (page_in store.now.pages result).pairs - 1)) }
+{
+    if level == 0 {
+        page
+    } else {
+        last_leaf(
+            store,
+            level - 1,
+            store.link(page, store.link_count(page) - 1),
+        )
+    }
+}
+
+/// The least pair under a page that passes a search's test.
+pub(crate) fn first_passing(
+    store: &PageStore,
+    level: usize,
+    page: u32,
+    bound: Bound<'_>,
+) -> Option<Pair>
+    requires tree { IsTree level store.now.pages page }
+    requires order { AreInOrder (pairs_under level store.now.pages page) }
+    ensures pair { result ≡ find (passes bound.entry) (pairs_under level store.now.pages page) }
+{
+    match first_place(store, level, page, bound) {
+        Some(place) => Some(store.pair(place.page, place.at)),
+        None => None,
+    }
+}
+
+// Where the least pair under a page that passes a search's test stands. No pair is copied on the way.
+fn first_place(store: &PageStore, level: usize, page: u32, bound: Bound<'_>) -> Option<Place>
+    requires tree { IsTree level store.now.pages page }
+    requires order { AreInOrder (pairs_under level store.now.pages page) }
+    ensures place { IfSome result (IsPlace store.now.pages) }
+    ensures pair { option_map (pair_at store.now.pages) result ≡ find (passes bound.entry) (pairs_under level store.now.pages page) }
+{
+    let at = store.place(page, bound);
+    if level == 0 {
+        return if at < store.pair_count(page) {
+            Some(Place { page, at })
+        } else {
+            None
+        };
+    }
+    if let Some(found) = first_place(store, level - 1, store.link(page, at), bound) {
+        return Some(found);
+    }
+    if store.link_count(page) > at + 1 {
+        let page = first_leaf(store, level - 1, store.link(page, at + 1));
+        Some(Place { page, at: 0 })
+    } else {
+        None
+    }
+}
+
+/// The greatest pair under a page that doesn't pass a search's test.
+pub(crate) fn last_failing(
+    store: &PageStore,
+    level: usize,
+    page: u32,
+    bound: Bound<'_>,
+) -> Option<Pair>
+    requires tree { IsTree level store.now.pages page }
+    requires order { AreInOrder (pairs_under level store.now.pages page) }
+    ensures pair { result ≡ find (λ q. not (passes bound.entry q)) (reverse (pairs_under level store.now.pages page)) }
+{
+    match last_place(store, level, page, bound) {
+        Some(place) => Some(store.pair(place.page, place.at)),
+        None => None,
+    }
+}
+
+// Where the greatest pair under a page that doesn't pass a search's test stands. No pair is copied on the way.
+fn last_place(store: &PageStore, level: usize, page: u32, bound: Bound<'_>) -> Option<Place>
+    requires tree { IsTree level store.now.pages page }
+    requires order { AreInOrder (pairs_under level store.now.pages page) }
+    ensures place { IfSome result (IsPlace store.now.pages) }
+    ensures pair { option_map (pair_at store.now.pages) result ≡ find (λ q. not (passes bound.entry q)) (reverse (pairs_under level store.now.pages page)) }
+{
+    let at = store.place(page, bound);
+    if level == 0 {
+        return if at > 0 {
+            Some(Place { page, at: at - 1 })
+        } else {
+            None
+        };
+    }
+    if let Some(found) = last_place(store, level - 1, store.link(page, at), bound) {
+        return Some(found);
+    }
+    if at > 0 {
+        let leaf = last_leaf(store, level - 1, store.link(page, at - 1));
+        Some(Place {
+            page: leaf,
+            at: store.pair_count(leaf) - 1,
+        })
+    } else {
+        None
+    }
+}
+
+/// Puts the pairs under a page after others. An `Err` says that there was no memory.
+pub(crate) fn push_pairs(
+    store: &PageStore,
+    level: usize,
+    page: u32,
+    pairs: &mut Vec<Pair>,
+) -> Result<(), AllocError>
+    requires tree { IsTree level store.now.pages page }
+    ensures pairs { OnOk result (pairs.new.items ≡ pairs.old.items ++ pairs_under level store.now.pages page) }
+{
+    if level == 0 {
+        return push_leaf(store, page, pairs);
+    }
+    for at in 0..store.link_count(page) {
+        push_pairs(store, level - 1, store.link(page, at), pairs)?;
+    }
+    Ok(())
+}
+
+// Puts the pairs of a leaf after others.
+fn push_leaf(store: &PageStore, page: u32, pairs: &mut Vec<Pair>) -> Result<(), AllocError>
+    requires tree { IsTree 0 store.now.pages page }
+    ensures pairs { OnOk result (pairs.new.items ≡ pairs.old.items ++ pairs_under 0 store.now.pages page) }
+{
+    for at in 0..store.pair_count(page) {
+        pairs.push(store.pair(page, at))?;
+    }
+    Ok(())
+}

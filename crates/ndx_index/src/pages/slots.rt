@@ -1,0 +1,189 @@
+//! Pairs whose keys have one length, in runs of bytes.
+
+ghost use Rattle.std.specs.Prelude.{◌≡◌, ◌+◌, ◌-◌, ◌<◌, ◌≤◌, ◌++◌, ℕ, [], length, replicate, slice_set, OnOk};
+ghost use Rattle.std.specs.List.{copy_within};
+ghost use Rattle.key_expr.specs.declared.format.TheConstants.{MAX_KEY_BYTES};
+ghost use Rattle.ndx_index.specs.Bounds.{passes};
+ghost use Rattle.ndx_index.specs.Order.{before, reaches};
+ghost use Rattle.ndx_index.specs.Slots.{slot_at, blank};
+
+use crate::pages::bound::Bound;
+use crate::pages::runs::{copy_parts, part, push_copies, write_part};
+use crate::pair::Pair;
+use key_expr::Key;
+use std::alloc::{AllocError, Global};
+use std::cmp::Ordering;
+use std::marker::Model;
+
+/// Pairs whose keys have one length, in numbered slots. A slot takes the key's bytes and four more.
+/// Contracts see the list of pairs, and how many slots can be put after it without taking memory.
+#[derive(Drop)]
+pub(crate) struct PairSlots {
+    key_len: usize,
+    keys: Vec<u8>,
+    numbers: Vec<u32>,
+    spare: usize,
+}
+
+impl Model for PairSlots {
+    ghost use Rattle.ndx_index.specs.Slots.{Slots, view_of, AreRuns};
+
+    ghost Value = { Slots };
+
+    ghost view = { view_of };
+
+    ghost invariant = { AreRuns };
+}
+
+impl PairSlots {
+    /// No slots, for keys of this length. It takes no memory.
+    pub(crate) fn new(alloc: Global, key_len: usize) -> Self
+        requires short { key_len ≤ MAX_KEY_BYTES }
+        ensures key_len { result.key_len ≡ key_len }
+        ensures pairs { result.pairs ≡ [] }
+        ensures spare { result.spare ≡ 0 }
+    {
+        PairSlots {
+            key_len,
+            keys: Vec::new(alloc),
+            numbers: Vec::new(alloc),
+            spare: 0,
+        }
+    }
+
+    /// The length of each key.
+    pub(crate) fn key_len(&self) -> usize
+        ensures value { result ≡ self.now.key_len }
+        ensures short { self.now.key_len ≤ MAX_KEY_BYTES }
+    {
+        self.key_len
+    }
+
+    /// The bytes of a slot's key.
+    pub(crate) fn key(&self, at: usize) -> &[u8]
+        requires place { at < length self.now.pairs }
+        ensures bytes { result.now ≡ (slot_at self.now.pairs at).key }
+        ensures len { length result.now ≡ self.now.key_len }
+        ensures short { length result.now ≤ 100 }
+    {
+        part(self.keys.as_slice(), self.key_len, at)
+    }
+
+    /// A slot's record number.
+    pub(crate) fn number(&self, at: usize) -> u32
+        requires place { at < length self.now.pairs }
+        ensures { result ≡ (slot_at self.now.pairs at).number }
+    {
+        self.numbers[at]
+    }
+
+    /// A slot's pair.
+    pub(crate) fn get(&self, at: usize) -> Pair
+        requires place { at < length self.now.pairs }
+        ensures pair { result ≡ slot_at self.now.pairs at }
+        ensures key { length result.key ≡ self.now.key_len }
+    {
+        Pair {
+            key: Key::new(self.key(at)),
+            number: self.number(at),
+        }
+    }
+
+    /// Whether a slot's pair passes a search's test. It copies no key.
+    pub(crate) fn passes(&self, at: usize, bound: Bound<'_>) -> bool
+        requires place { at < length self.now.pairs }
+        ensures value { result ≡ passes bound.entry (slot_at self.now.pairs at) }
+    {
+        match bound {
+            Bound::AtLeast(pair) => !self.is_before(at, pair),
+            Bound::Above(pair) => self.is_after(at, pair),
+            Bound::Reaching(prefix) => self.reaches(at, prefix),
+        }
+    }
+
+    // Whether a slot's pair stands before another one.
+    fn is_before(&self, at: usize, pair: &Pair) -> bool
+        requires place { at < length self.now.pairs }
+        ensures value { result ≡ before (slot_at self.now.pairs at) pair.now }
+    {
+        match self.key(at).cmp(&pair.key.as_bytes()) {
+            Ordering::Equal => self.number(at) < pair.number,
+            order => order.is_lt(),
+        }
+    }
+
+    // Whether a slot's pair stands after another one.
+    fn is_after(&self, at: usize, pair: &Pair) -> bool
+        requires place { at < length self.now.pairs }
+        ensures value { result ≡ before pair.now (slot_at self.now.pairs at) }
+    {
+        match pair.key.as_bytes().cmp(&self.key(at)) {
+            Ordering::Equal => pair.number < self.number(at),
+            order => order.is_lt(),
+        }
+    }
+
+    // Whether a slot's key isn't below these bytes.
+    fn reaches(&self, at: usize, prefix: &[u8]) -> bool
+        requires place { at < length self.now.pairs }
+        ensures value { result ≡ reaches prefix.now (slot_at self.now.pairs at) }
+    {
+        !self.key(at).cmp(&prefix).is_lt()
+    }
+
+    /// Puts a pair into a slot, in place of what is there. It takes no memory.
+    pub(crate) fn set(&mut self, at: usize, pair: &Pair)
+        requires place { at < length self.old.pairs }
+        requires key { length pair.now.key ≡ self.old.key_len }
+        ensures pairs { self.new.pairs ≡ slice_set self.old.pairs at pair.now }
+        ensures len { length self.new.pairs ≡ length self.old.pairs }
+        ensures key_len { self.new.key_len ≡ self.old.key_len }
+        ensures spare { self.new.spare ≡ self.old.spare }
+    {
+        write_part(&mut self.keys, self.key_len, at, pair.key.as_bytes());
+        self.numbers[at] = pair.number;
+    }
+
+    /// Copies the slots from `start` up to `end` to those from `dest` on, also where they overlap. It takes no memory.
+    pub(crate) fn copy_within(&mut self, start: usize, end: usize, dest: usize)
+        requires order { start ≤ end }
+        requires inside { end ≤ length self.old.pairs }
+        requires room { dest + (end - start) ≤ length self.old.pairs }
+        ensures pairs { self.new.pairs ≡ copy_within self.old.pairs start end dest }
+        ensures len { length self.new.pairs ≡ length self.old.pairs }
+        ensures key_len { self.new.key_len ≡ self.old.key_len }
+        ensures spare { self.new.spare ≡ self.old.spare }
+    {
+        copy_parts(&mut self.keys, self.key_len, start, end, dest);
+        self.numbers.copy_within(start..end, dest);
+    }
+
+    /// Makes room for n slots more. `AllocError` where there is no memory; no room is lost then.
+    pub(crate) fn reserve(&mut self, n: usize) -> Result<(), AllocError>
+        ensures ok { OnOk result (n ≤ self.new.spare) }
+        ensures pairs { self.new.pairs ≡ self.old.pairs }
+        ensures key_len { self.new.key_len ≡ self.old.key_len }
+        ensures spare { self.old.spare ≤ self.new.spare }
+    {
+        if n <= self.spare {
+            return Ok(());
+        }
+        let bytes = n.checked_mul(self.key_len).ok_or(AllocError)?;
+        self.keys.reserve(bytes)?;
+        self.numbers.reserve(n)?;
+        self.spare = n;
+        Ok(())
+    }
+
+    /// Puts n blank slots after the others. It takes the room that was reserved, and no memory.
+    pub(crate) fn push_blank(&mut self, n: usize)
+        requires room { n ≤ self.old.spare }
+        ensures pairs { self.new.pairs ≡ self.old.pairs ++ replicate n (blank self.old.key_len) }
+        ensures key_len { self.new.key_len ≡ self.old.key_len }
+        ensures spare { self.new.spare + n ≡ self.old.spare }
+    {
+        push_copies(&mut self.keys, n * self.key_len, 0);
+        push_copies(&mut self.numbers, n, 0);
+        self.spare -= n;
+    }
+}
