@@ -1,6 +1,6 @@
 -- The memos that are written are read.
 use Rattle.std.proofs.lemmas.List.Folds.{list_all_at}
-use Rattle.std.proofs.Common.{◌≡◌, ℕ, ◌+◌, ◌-◌, ◌*◌, ◌/◌, ◌^◌, ◌<◌, ◌≤◌, true, false, eqb, leb, not, List, [], ◌∷◌, ◌++◌, length, take, replicate, get_or, refl, sym, ap, ◌∙◌, inl, inr, append_assoc, lit<, arith}
+use Rattle.std.proofs.Common.{◌≡◌, ◌≢◌, ℕ, ◌+◌, ◌-◌, ◌*◌, ◌/◌, ◌^◌, ◌<◌, ◌≤◌, true, false, eqb, leb, not, List, [], ◌∷◌, ◌++◌, length, take, replicate, get_or, refl, sym, ap, ◌∙◌, inl, inr, append_assoc, lit<, arith}
 use Rattle.std.specs.List.{AllByRecursion, before_first, position_or_len, list_all}
 use Rattle.std.proofs.lemmas.Bool.{and_parts, leb-true, ne_eqb, not-true, cases_eq, cases_Bool, true_from_ne_false, true≢false}
 use Rattle.std.proofs.lemmas.List.{take_at, drop_at, get_or_at, get_or_append_left, length-append, length-replicate, take-replicate, nil_from_length}
@@ -120,23 +120,25 @@ length-cells_memos (f ∷ fs) (c ∷ cs) = omega (arith, length-append (cell_mem
 
 -- ---- the blocks of a text as they are written
 
-pub block_put : (text : List ℕ) (fill : ℕ) → 0 < length text → fill ≡ (length text + (BLOCK + 1)) / BLOCK * BLOCK - (length text + 2) → fill ≤ BLOCK
+pub block_put : (text : List ℕ) (n fill : ℕ) → n ≡ length text → n ≢ 0 → fill ≡ (n + (BLOCK + 1)) / BLOCK * BLOCK - (n + 2) → fill ≤ BLOCK
     → (text ++ (MEMO_END ∷ MEMO_END ∷ [])) ++ take fill (replicate BLOCK 0) ≡ block_bytes text
 unfolding block_bytes blocks_of
-block_put [] fill some is small = absurd (omega arith)
-block_put (b ∷ bs) fill some is small =
-    let k : fill ≡ BLOCK * ((length (b ∷ bs) + (BLOCK + 1)) / BLOCK) - (length (b ∷ bs) + 2) = omega arith in
+block_put [] n fill len some is small = absurd (some len)
+block_put (b ∷ bs) n fill len some is small =
+    let given : fill ≡ (length (b ∷ bs) + (BLOCK + 1)) / BLOCK * BLOCK - (length (b ∷ bs) + 2) = rw len at is in
+    let k : fill ≡ BLOCK * ((length (b ∷ bs) + (BLOCK + 1)) / BLOCK) - (length (b ∷ bs) + 2) = omega (arith, given) in
     rw (take-replicate {X = ℕ} fill BLOCK 0 small, k) (append_assoc (b ∷ bs) (MEMO_END ∷ MEMO_END ∷ []) (replicate (BLOCK * ((length (b ∷ bs) + (BLOCK + 1)) / BLOCK) - (length (b ∷ bs) + 2)) 0))
 
 pub block_none : (text : List ℕ) → length text ≡ 0 → block_bytes text ≡ []
 unfolding block_bytes
 block_none text e = rw (nil_from_length text e) refl
 
-pub blocks_none : (text : List ℕ) → length text ≡ 0 → 0 ≡ blocks_of text
+-- what a text's length tells
+pub blocks_none : (n : ℕ) → n ≡ 0 → (text : List ℕ) → length text ≡ n → 0 ≡ blocks_of text
 unfolding blocks_of
-blocks_none text e = rw (nil_from_length text e) refl
+blocks_none n none text e = rw (nil_from_length text (e ∙ none)) refl
 
-pub blocks_some : (text : List ℕ) → 0 < length text → (length text + (BLOCK + 1)) / BLOCK ≡ blocks_of text
+pub blocks_some : (n : ℕ) → 0 < n → (text : List ℕ) → length text ≡ n → (n + (BLOCK + 1)) / BLOCK ≡ blocks_of text
 unfolding blocks_of
-blocks_some [] some = absurd (omega arith)
-blocks_some (b ∷ bs) some = refl
+blocks_some n some [] e = absurd (omega arith)
+blocks_some n some (b ∷ bs) e = ap (λ (m : ℕ). (m + (BLOCK + 1)) / BLOCK) (sym e)

@@ -1,5 +1,5 @@
 -- Where records, cells and memos stand.
-use Rattle.std.proofs.Common.{◌≡◌, ◌≢◌, ℕ, zero, suc, ◌+◌, ◌-◌, ◌*◌, ◌<◌, ◌≤◌, eqb, List, [], ◌∷◌, length, take, drop, get_or, refl, sym, ap, ◌∙◌, arith, inl, inr}
+use Rattle.std.proofs.Common.{◌≡◌, ◌≢◌, ℕ, zero, suc, ◌+◌, ◌-◌, ◌*◌, ◌<◌, ◌≤◌, eqb, List, [], ◌∷◌, length, take, drop, get_or, refl, ap, ◌∙◌, arith, inl, inr}
 use Rattle.std.proofs.lemmas.Bool.{eq-eqb, ne_eqb, cases_Bool}
 use Rattle.std.proofs.lemmas.List.{drop-drop, drop-take, take-take, get_or-take, get_or-drop}
 use Rattle.std.proofs.lemmas.List.Sums.{sum_by-cons}
@@ -104,12 +104,6 @@ memo_count_le [] = omega arith
 memo_count_le (f ∷ fs) =
     let there = memo_count_le fs in
     elim (cases_Bool (eqb f.kind MEMO)) [ inl e ↦ rw e (omega (arith, there)) | inr e ↦ rw e (omega (arith, there)) ]
-
--- the kind that a field of the list tells
-pub kind_is : (fields : List Field) (j : ℕ) (f : Field) → j < length fields → f ≡ get_or fields j f → kind_at fields j ≡ f.kind
-kind_is [] j f lt is = absurd (omega arith)
-kind_is (g ∷ fs) zero f lt is = ap (λ (h : Field). h.kind) (sym is)
-kind_is (g ∷ fs) (suc j) f lt is = kind_is fs j f (omega arith) is
 
 -- the cell of a record and a field that is no memo
 pub cell_read : (fields : List Field) (n i j : ℕ) (bytes : List ℕ) (memos : List (List ℕ)) (d : Row) → i < n → j < length fields → kind_at fields j ≢ MEMO

@@ -13,7 +13,7 @@ use Rattle.dbf_fields.specs.declared.field.Field.{Field}
 use Rattle.dbf_fields.specs.Field.{widths}
 use Rattle.dbf_fields.specs.Schema.{IsSchema}
 use Rattle.dbf_fields.proofs.SchemaLaws.{schema_count}
-use Rattle.dbf_image.specs.declared.table.span.Span.{Span}
+use Rattle.dbf_image.specs.MemoStore.{Texts}
 use Rattle.dbf_image.specs.Table.{Row}
 use Rattle.dbf_image.specs.DbfText.{chunks}
 use Rattle.dbf_image.specs.Store.{text_of, texts_of, memo_count, first_memo, cells_with, rows_with, rows_of}
@@ -43,34 +43,34 @@ rows_joined fields (p ∷ ps) memos e =
     let there = rows_joined fields ps (drop n memos) (omega (arith, length-drop n memos)) in
     rw (here, there) (sym (flat_map-append block_bytes (take n memos) (drop n memos)) ∙ ap (flat_map block_bytes) (take-append-drop n memos))
 
--- ---- texts by their spans
+-- ---- texts by their numbers
 
-pub store_memos : (fields : List Field) (count : ℕ) (bytes texts : List ℕ) (spans : List Span) → length spans ≡ count * memo_count fields
-    → rows_memos fields (rows_of fields count bytes (texts_of texts spans)) ≡ flat_map (λ s. block_bytes (text_of texts s)) spans
-store_memos fields count bytes texts spans many =
-    rows_joined fields (chunks (1 + widths fields) count bytes) (texts_of texts spans) (rw (length-map spans (text_of texts), length-chunks (1 + widths fields) count bytes) many)
-    ∙ flat_map-map block_bytes (text_of texts) spans
+pub store_memos : (fields : List Field) (count : ℕ) (bytes : List ℕ) (texts : Texts) (numbers : List ℕ) → length numbers ≡ count * memo_count fields
+    → rows_memos fields (rows_of fields count bytes (texts_of texts numbers)) ≡ flat_map (λ number. block_bytes (text_of texts number)) numbers
+store_memos fields count bytes texts numbers many =
+    rows_joined fields (chunks (1 + widths fields) count bytes) (texts_of texts numbers) (rw (length-map numbers (text_of texts), length-chunks (1 + widths fields) count bytes) many)
+    ∙ flat_map-map block_bytes (text_of texts) numbers
 
 length-rows_memos : (fields : List Field) (rows : List Row) → length (rows_memos fields rows) ≡ BLOCK * rows_blocks fields rows
 length-rows_memos fields [] = refl
 length-rows_memos fields (r ∷ rs) = omega (arith, length-append (cells_memos fields r.cells) (rows_memos fields rs), length-cells_memos fields r.cells, length-rows_memos fields rs)
 
-length-blocks : (texts : List ℕ) (spans : List Span) → length (flat_map (λ s. block_bytes (text_of texts s)) spans) ≡ BLOCK * sum_by (λ s. blocks_of (text_of texts s)) spans
+length-blocks : (texts : Texts) (numbers : List ℕ) → length (flat_map (λ number. block_bytes (text_of texts number)) numbers) ≡ BLOCK * sum_by (λ number. blocks_of (text_of texts number)) numbers
 length-blocks texts [] = refl
-length-blocks texts (s ∷ ss) =
-    let later : List ℕ = flat_map (λ (x : Span). block_bytes (text_of texts x)) ss in
-    let sum = sum_by-cons (λ (x : Span). blocks_of (text_of texts x)) s ss in
-    omega (arith, sum, length-append (block_bytes (text_of texts s)) later, length-block (text_of texts s), length-blocks texts ss)
+length-blocks texts (n ∷ ns) =
+    let later : List ℕ = flat_map (λ (x : ℕ). block_bytes (text_of texts x)) ns in
+    let sum = sum_by-cons (λ (x : ℕ). blocks_of (text_of texts x)) n ns in
+    omega (arith, sum, length-append (block_bytes (text_of texts n)) later, length-block (text_of texts n), length-blocks texts ns)
 
-pub store_blocks : (fields : List Field) (count : ℕ) (bytes texts : List ℕ) (spans : List Span) → length spans ≡ count * memo_count fields
-    → rows_blocks fields (rows_of fields count bytes (texts_of texts spans)) ≡ sum_by (λ s. blocks_of (text_of texts s)) spans
-store_blocks fields count bytes texts spans many =
-    let same = ap (length {A = ℕ}) (store_memos fields count bytes texts spans many) in
-    omega (arith, same, length-rows_memos fields (rows_of fields count bytes (texts_of texts spans)), length-blocks texts spans)
+pub store_blocks : (fields : List Field) (count : ℕ) (bytes : List ℕ) (texts : Texts) (numbers : List ℕ) → length numbers ≡ count * memo_count fields
+    → rows_blocks fields (rows_of fields count bytes (texts_of texts numbers)) ≡ sum_by (λ number. blocks_of (text_of texts number)) numbers
+store_blocks fields count bytes texts numbers many =
+    let same = ap (length {A = ℕ}) (store_memos fields count bytes texts numbers many) in
+    omega (arith, same, length-rows_memos fields (rows_of fields count bytes (texts_of texts numbers)), length-blocks texts numbers)
 
-pub next_read : (next : ℕ) (fields : List Field) (rows : List Row) (count : ℕ) (bytes texts : List ℕ) (spans : List Span) → length spans ≡ count * memo_count fields
-    → rows ≡ rows_of fields count bytes (texts_of texts spans) → next ≡ 1 + sum_by (λ s. blocks_of (text_of texts s)) spans → next ≡ 1 + rows_blocks fields rows
-next_read next fields rows count bytes texts spans many given is = rw (given, store_blocks fields count bytes texts spans many) is
+pub next_read : (next : ℕ) (fields : List Field) (rows : List Row) (count : ℕ) (bytes : List ℕ) (texts : Texts) (numbers : List ℕ) → length numbers ≡ count * memo_count fields
+    → rows ≡ rows_of fields count bytes (texts_of texts numbers) → next ≡ 1 + sum_by (λ number. blocks_of (text_of texts number)) numbers → next ≡ 1 + rows_blocks fields rows
+next_read next fields rows count bytes texts numbers many given is = rw (given, store_blocks fields count bytes texts numbers many) is
 
 pub free_some : (next free : ℕ) → next ≡ free → next ≤ 4294967295 → Some next ≡ cond (leb free 4294967295) (Some free) None
 free_some next free is le = rw (← is, le-leb next 4294967295 le) refl
@@ -78,9 +78,9 @@ free_some next free is le = rw (← is, le-leb next 4294967295 le) refl
 pub free_none : (next free : ℕ) → next ≡ free → 4294967295 < next → None ≡ cond (leb free 4294967295) (Some free) None
 free_none next free is over = rw (← is, lt-leb next 4294967295 over) refl
 
-pub memos_read : (fields : List Field) (rows : List Row) (count : ℕ) (bytes texts : List ℕ) (spans : List Span) → length spans ≡ count * memo_count fields
-    → rows ≡ rows_of fields count bytes (texts_of texts spans) → flat_map (λ s. block_bytes (text_of texts s)) spans ≡ rows_memos fields rows
-memos_read fields rows count bytes texts spans many given = rw given (sym (store_memos fields count bytes texts spans many))
+pub memos_read : (fields : List Field) (rows : List Row) (count : ℕ) (bytes : List ℕ) (texts : Texts) (numbers : List ℕ) → length numbers ≡ count * memo_count fields
+    → rows ≡ rows_of fields count bytes (texts_of texts numbers) → flat_map (λ number. block_bytes (text_of texts number)) numbers ≡ rows_memos fields rows
+memos_read fields rows count bytes texts numbers many given = rw given (sym (store_memos fields count bytes texts numbers many))
 
 -- ---- how many memos a table has at most
 

@@ -10,9 +10,8 @@ use Rattle.dbf_fields.specs.Schema.{IsSchema}
 use Rattle.dbf_fields.proofs.SchemaLaws.{schema_wide}
 use Rattle.dbf_image.specs.declared.fault.ImageFault.{ImageFault}
 use Rattle.dbf_image.specs.declared.fault.ImageFault.TheVariants.{NoMemory}
-use Rattle.dbf_image.specs.declared.table.span.Span.{Span}
 use Rattle.dbf_image.specs.Reading.{cell_tests, cells_tests}
-use Rattle.dbf_image.specs.Spans.{cell_spans, cells_spans}
+use Rattle.dbf_image.specs.MemoNumbers.{cell_texts, cells_texts}
 use Rattle.dbf_fields.proofs.FaultLaws.{first_then, first_before}
 use Rattle.dbf_fields.specs.declared.format.TheConstants.{MEMO}
 
@@ -30,9 +29,9 @@ pub tests-stop : (dbt bytes : List ℕ) (fields : List Field) (i : ℕ) (f : Fie
     → (fault ≡ NoMemory) ⊎ (first_fault (cells_tests dbt (drop i fields) bytes) ≡ Some fault)
 tests-stop dbt bytes fields i f fault lt is h = rw (here fields i f lt is) (group_stop (cell_tests dbt f (take f.width bytes)) (cells_tests dbt (drop (i + 1) fields) (drop f.width bytes)) fault h)
 
-pub spans-next : (dbt bytes : List ℕ) (fields : List Field) (i : ℕ) (f : Field) (front : List Span) → i < length fields → f ≡ get_or fields i f
-    → (front ++ cell_spans dbt f (take f.width bytes)) ++ cells_spans dbt (drop (i + 1) fields) (drop f.width bytes) ≡ front ++ cells_spans dbt (drop i fields) bytes
-spans-next dbt bytes fields i f front lt is = rw (here fields i f lt is, append_assoc) refl
+pub texts-next : (dbt bytes : List ℕ) (fields : List Field) (i : ℕ) (f : Field) (front : List (List ℕ)) → i < length fields → f ≡ get_or fields i f
+    → (front ++ cell_texts dbt f (take f.width bytes)) ++ cells_texts dbt (drop (i + 1) fields) (drop f.width bytes) ≡ front ++ cells_texts dbt (drop i fields) bytes
+texts-next dbt bytes fields i f front lt is = rw (here fields i f lt is, append_assoc) refl
 
 -- a memo's cell is ten bytes wide
 pub memo_fits : (fs : List Field) → IsSchema fs → All (λ f. f.kind ≡ MEMO → f.width ≡ 10) fs

@@ -96,11 +96,12 @@ pub digit-done : (at n : ℕ) (cell whole : List ℕ) → at ≡ 0 → justified
 unfolding justified
 digit-done at n cell whole e given = rw e at given
 
-pub number_none : (next : ℕ) (text : List ℕ) → length text ≡ 0 → justified 10 0 ≡ block_number_cell next text
+-- what a text's length tells
+pub number_none : (next n : ℕ) → n ≡ 0 → (text : List ℕ) → length text ≡ n → justified 10 0 ≡ block_number_cell next text
 unfolding block_number_cell
-number_none next text e = rw (nil_from_length text e) refl
+number_none next n none text e = rw (nil_from_length text (e ∙ none)) refl
 
-pub number_some : (next : ℕ) (text : List ℕ) → 0 < length text → justified 10 next ≡ block_number_cell next text
+pub number_some : (next n : ℕ) → 0 < n → (text : List ℕ) → length text ≡ n → justified 10 next ≡ block_number_cell next text
 unfolding block_number_cell
-number_some next [] some = absurd (omega arith)
-number_some next (t ∷ ts) some = refl
+number_some next n some [] e = absurd (omega arith)
+number_some next n some (t ∷ ts) e = refl

@@ -7,10 +7,10 @@ use Rattle.std.proofs.lemmas.List.Sums.{sum_by-cons}
 use Rattle.dbf_fields.specs.declared.field.Field.{Field}
 use Rattle.dbf_fields.specs.Field.{widths}
 use Rattle.dbf_fields.specs.Schema.{IsSchema}
-use Rattle.dbf_image.specs.declared.table.span.Span.{Span}
+use Rattle.dbf_image.specs.MemoStore.{Texts}
 use Rattle.dbf_image.specs.Table.{IsRow, AreCells, IsTable, is_memo_text}
 use Rattle.dbf_image.specs.DbfText.{chunks}
-use Rattle.dbf_image.specs.Store.{texts_of, IsSpan, first_memo, memo_count, cells_with, rows_with, rows_of, IsStore}
+use Rattle.dbf_image.specs.Store.{texts_of, IsMemo, first_memo, memo_count, cells_with, rows_with, rows_of, IsStore}
 use Rattle.dbf_fields.specs.declared.format.TheConstants.{MEMO}
 
 pub length-chunks : (size n : ℕ) (bytes : List ℕ) → length (chunks size n bytes) ≡ n
@@ -72,15 +72,15 @@ rows_fit fields size (suc n) bytes memos wide room texts =
     let here = cells_fit fields (drop 1 (take size bytes)) memos (omega (arith, length-drop 1 (take size bytes))) texts in
     (here, rows_fit fields size n (drop size bytes) (drop (memo_count fields) memos) wide (omega arith) (all_drop _ memos (memo_count fields) texts))
 
-pub store_texts : (texts : List ℕ) (spans : List Span) → AllByRecursion (IsSpan texts) spans → AreTexts (texts_of texts spans)
+pub store_texts : (texts : Texts) (numbers : List ℕ) → AllByRecursion (IsMemo texts) numbers → AreTexts (texts_of texts numbers)
 store_texts texts [] h = tt
-store_texts texts (s ∷ ss) h = (h.0.text, store_texts texts ss h.1)
+store_texts texts (n ∷ ns) h = (h.0.text, store_texts texts ns h.1)
 
 -- the rows of a store are those of a table
-pub store_table : (fields : List Field) (n : ℕ) (bytes texts : List ℕ) (spans : List Span) → IsSchema fields → IsStore fields n bytes texts spans
-    → IsTable (record { schema = fields; rows = rows_of fields n bytes (texts_of texts spans) })
-store_table fields n bytes texts spans schema store = record {
+pub store_table : (fields : List Field) (n : ℕ) (bytes : List ℕ) (texts : Texts) (numbers : List ℕ) → IsSchema fields → IsStore fields n bytes texts numbers
+    → IsTable (record { schema = fields; rows = rows_of fields n bytes (texts_of texts numbers) })
+store_table fields n bytes texts numbers schema store = record {
   fields = schema;
-  few = rw (length-rows_of fields n bytes (texts_of texts spans)) store.records.few;
-  fit = rows_fit fields (1 + widths fields) n bytes (texts_of texts spans) refl (omega (arith, store.records.whole)) (store_texts texts spans store.each);
+  few = rw (length-rows_of fields n bytes (texts_of texts numbers)) store.records.few;
+  fit = rows_fit fields (1 + widths fields) n bytes (texts_of texts numbers) refl (omega (arith, store.records.whole)) (store_texts texts numbers store.each);
 }

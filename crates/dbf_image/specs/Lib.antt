@@ -14,3 +14,8 @@ pub use Rattle.dbf_fields.specs.Field
 pub use Rattle.dbf_fields.specs.Schema
 pub mod Writer
 pub mod Output
+pub mod MemoChains
+pub mod MemoSteps
+pub mod MemoStore
+pub mod MemoNumbers
+pub mod Packing

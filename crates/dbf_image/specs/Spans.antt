@@ -1,13 +1,11 @@
 -- Where the texts of memos stand in their file, as the reader finds them.
-use Rattle.std.specs.Prelude.{◌≡◌, ℕ, ◌+◌, ◌*◌, ◌/◌, ◌<◌, Bool, not, ◌||◌, ◌==◌, List, [], ◌∷◌, ◌++◌, length, flat_map, take, drop, slice_index, Option, is_some, unwrap_or, if◌then◌else◌}
+use Rattle.std.specs.Prelude.{◌≡◌, ℕ, ◌+◌, ◌*◌, ◌/◌, ◌<◌, Bool, not, ◌||◌, ◌==◌, List, [], ◌∷◌, length, flat_map, drop, slice_index, Option, is_some, unwrap_or}
 use Rattle.std.specs.List.{position_or_len}
 use Rattle.dbf_fields.specs.declared.field.Field.{Field}
-use Rattle.dbf_fields.specs.declared.format.TheConstants.{MEMO}
 use Rattle.dbf_image.specs.declared.fault.ImageFault.{ImageFault}
 use Rattle.dbf_image.specs.declared.fault.ImageFault.TheVariants.{MemoFileMissing}
-use Rattle.dbf_image.specs.declared.table.span.Span.{Span}
+use Rattle.dbf_image.specs.declared.dbt.span.Span.{Span}
 use Rattle.dbf_image.specs.Table.{has_memos}
-use Rattle.dbf_image.specs.Memo.{memo_number}
 use Rattle.dbf_image.specs.Reading.{row_tests}
 use Rattle.dbf_image.specs.declared.format.TheConstants.{BLOCK, MEMO_END}
 
@@ -23,26 +21,6 @@ pub record AreEnds (dbt ends : List ℕ) : Type 0 where
 -- where the text of a block stands
 abbrev pub span_of : List ℕ → ℕ → Span
 span_of dbt block = record { start = BLOCK * block; length = position_or_len (λ b. b == MEMO_END) (drop (BLOCK * block) dbt) }
-
--- where no text stands
-abbrev pub no_span : Span
-no_span = record { start = 0; length = 0 }
-
--- where the text of a memo's cell stands
-unfoldable pub memo_span : List ℕ → List ℕ → Span
-memo_span dbt cell = if unwrap_or (memo_number cell) 0 == 0 then no_span else span_of dbt (unwrap_or (memo_number cell) 0)
-
--- the same of the memos among the cells of a record,
-unfoldable pub cell_spans : List ℕ → Field → List ℕ → List Span
-cell_spans dbt f cell = if f.kind == MEMO then memo_span dbt cell ∷ [] else []
-
-abbrev pub cells_spans : List ℕ → List Field → List ℕ → List Span
-cells_spans dbt [] bytes = []
-cells_spans dbt (f ∷ fs) bytes = cell_spans dbt f (take f.width bytes) ++ cells_spans dbt fs (drop f.width bytes)
-
--- and of a record
-abbrev pub row_spans : List ℕ → List Field → List ℕ → List Span
-row_spans dbt fields bytes = cells_spans dbt fields (drop 1 bytes)
 
 -- the tests of all memos of a table, whose records are known
 unfoldable pub table_tests : Option (List ℕ) → List Field → List (List ℕ) → List (Bool × ImageFault)

@@ -1,25 +1,25 @@
--- The rows of a table whose records stand in one list of bytes and its memos' texts in another.
-use Rattle.std.specs.Prelude.{◌≡◌, ℕ, suc, ◌+◌, ◌*◌, ◌≤◌, true, ◌==◌, List, [], ◌∷◌, length, map, take, drop, slice_index, if◌then◌else◌}
+-- The rows of a table whose records stand in one list of bytes and its memos' texts in a store.
+use Rattle.std.specs.Prelude.{◌≡◌, ◌≢◌, ℕ, suc, ◌+◌, ◌*◌, true, ◌==◌, List, [], ◌∷◌, length, map, take, drop, slice_index, IsSome, unwrap_or, if◌then◌else◌}
 use Rattle.std.specs.List.{AllByRecursion}
 use Rattle.dbf_fields.specs.declared.field.Field.{Field}
 use Rattle.dbf_fields.specs.declared.format.TheConstants.{MEMO}
 use Rattle.dbf_fields.specs.Field.{widths}
-use Rattle.dbf_image.specs.declared.table.span.Span.{Span}
+use Rattle.dbf_image.specs.MemoStore.{Texts, get_text}
 use Rattle.dbf_image.specs.Table.{Row, is_memo_text}
 use Rattle.dbf_image.specs.DbfText.{chunks, AreRecords}
-use Rattle.dbf_image.specs.declared.format.TheConstants.{DELETED}
+use Rattle.dbf_image.specs.declared.format.TheConstants.{DELETED, KEPT}
 
--- a part of the texts
-abbrev pub text_of : List ℕ → Span → List ℕ
-text_of texts span = take span.length (drop span.start texts)
+-- the text of a memo's number, 0 for none
+abbrev pub text_of : Texts → ℕ → List ℕ
+text_of texts number = if number == 0 then [] else unwrap_or (get_text texts number) []
 
-abbrev pub texts_of : List ℕ → List Span → List (List ℕ)
-texts_of texts spans = map (text_of texts) spans
+abbrev pub texts_of : Texts → List ℕ → List (List ℕ)
+texts_of texts numbers = map (text_of texts) numbers
 
--- the part is there, and a memo may have it
-pub record IsSpan (texts : List ℕ) (span : Span) : Type 0 where
-  pub inside : span.start + span.length ≤ length texts
-  pub text : is_memo_text (text_of texts span) ≡ true
+-- the number is 0 or has a text, and a memo may have it
+pub record IsMemo (texts : Texts) (number : ℕ) : Type 0 where
+  pub held : number ≢ 0 → IsSome (get_text texts number)
+  pub text : is_memo_text (text_of texts number) ≡ true
 
 -- how many memos a record has
 abbrev pub memo_count : List Field → ℕ
@@ -43,6 +43,10 @@ cells_with (f ∷ fs) bytes memos =
 abbrev pub row_with : List Field → List ℕ → List (List ℕ) → Row
 row_with fields bytes memos = record { deleted = slice_index bytes 0 == DELETED; cells = cells_with fields (drop 1 bytes) memos }
 
+-- the flag of a record is the one that is written of it
+abbrev pub HasWrittenFlag : List ℕ → Type 0
+HasWrittenFlag bytes = (if slice_index bytes 0 == DELETED then DELETED else KEPT) ≡ slice_index bytes 0
+
 -- one record after the other, each with its memos
 abbrev pub rows_with : List Field → List (List ℕ) → List (List ℕ) → List Row
 rows_with fields [] memos = []
@@ -53,7 +57,7 @@ abbrev pub rows_of : List Field → ℕ → List ℕ → List (List ℕ) → Lis
 rows_of fields count bytes memos = rows_with fields (chunks (1 + widths fields) count bytes) memos
 
 -- the lists have so many records, and a text for each memo
-pub record IsStore (fields : List Field) (count : ℕ) (bytes texts : List ℕ) (spans : List Span) : Type 0 where
+pub record IsStore (fields : List Field) (count : ℕ) (bytes : List ℕ) (texts : Texts) (numbers : List ℕ) : Type 0 where
   pub records : AreRecords fields count bytes
-  pub many : length spans ≡ count * memo_count fields
-  pub each : AllByRecursion (IsSpan texts) spans
+  pub many : length numbers ≡ count * memo_count fields
+  pub each : AllByRecursion (IsMemo texts) numbers

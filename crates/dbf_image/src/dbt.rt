@@ -3,4 +3,5 @@
 pub(crate) mod blocks;
 pub(crate) mod memo;
 pub(crate) mod memos;
+pub(crate) mod span;
 pub(crate) mod write;

@@ -5,18 +5,21 @@
 //! [`read_memo`] reads the text of one block in the same way. A [`TableData`] keeps the table in memory:
 //! contracts see its fields and its rows, in which the cell of a memo is its text. A [`GrowingTable`] is a
 //! table that is changed in place: room is made first, then no change can fail, and every change says
-//! which rows the table has then. [`write_dbf`] writes the one file that is written of a table into a
-//! [`ByteSink`], and [`write_dbt`] the file of its memos; what they write can be read back as that table.
+//! which rows the table has then. A [`MemoStore`] keeps texts under numbers, in blocks that are used again.
+//! [`write_dbf`] writes the one file that is written of a table into a [`ByteSink`], and [`write_dbt`] the
+//! file of its memos; what they write can be read back as that table.
 //!
 //! Start with specs/Table.antt (what a table is), specs/Memo.antt (what a memo's cell tells) and
 //! specs/DbfText.antt (when bytes are a table's files), then read src/table.rt, src/table/growing.rt,
-//! src/dbf/read.rt, src/dbf/write.rt, src/dbt/memo.rt and src/dbt/write.rt.
+//! src/dbf/read.rt, src/dbf/write.rt, src/dbt/memo.rt and src/dbt/write.rt. For the store of texts start with
+//! specs/MemoStore.antt and src/memo_store.rt.
 #![tactic(auto)]
 
 mod dbf;
 mod dbt;
 mod fault;
 mod format;
+mod memo_store;
 mod sink;
 mod table;
 
@@ -27,6 +30,7 @@ pub use dbt::memo::read_memo;
 pub use dbt::write::write_dbt;
 pub use fault::ImageFault;
 pub use format::{MAX_MEMO_BYTES, MAX_RECORDS};
+pub use memo_store::MemoStore;
 pub use sink::failures::Failures;
 pub use sink::limited::LimitedSink;
 pub use sink::memory::MemorySink;

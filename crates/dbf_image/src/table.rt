@@ -10,17 +10,17 @@ ghost use Rattle.dbf_image.specs.declared.format.TheConstants.{MAX_RECORDS, MEMO
 
 pub(crate) mod flag;
 pub(crate) mod growing;
+pub(crate) mod memo;
 pub(crate) mod offsets;
 mod packing;
-mod reserved;
-pub(crate) mod span;
+pub(crate) mod reserved;
 pub(crate) mod store;
 
 use crate::format::{MAX_MEMO_BYTES, MAX_RECORDS, MEMO_END};
+use crate::memo_store::MemoStore;
 use crate::table::growing::GrowingTable;
-use crate::table::span::Span;
 use crate::table::store::Store;
-use dbf_fields::{MEMO, Schema};
+use dbf_fields::{Bytes, MEMO, Schema};
 use std::alloc::{AllocError, Global};
 use std::marker::Model;
 
@@ -54,16 +54,16 @@ impl Model for TableData {
 }
 
 impl TableData {
-    /// The table of so many records that stand in a list of bytes, and of memos that stand in another.
+    /// The table of so many records that stand in a list of bytes, and of memos whose texts stand in a store.
     pub(crate) fn new(
         schema: Schema,
         count: u32,
         records: Vec<u8>,
-        texts: Vec<u8>,
-        memos: Vec<Span>,
+        texts: MemoStore,
+        memos: Vec<u32>,
     ) -> TableData
-        requires { IsStore schema count records.items texts.items memos.items }
-        ensures value { result ≡ record { schema = schema; rows = rows_of schema count records.items (texts_of texts.items memos.items) } }
+        requires { IsStore schema count records.items texts.texts memos.items }
+        ensures value { result ≡ record { schema = schema; rows = rows_of schema count records.items (texts_of texts.texts memos.items) } }
     {
         TableData::from_growing(GrowingTable::new(schema, count, records, texts, memos))
     }
@@ -86,7 +86,13 @@ impl TableData {
     pub fn empty(alloc: Global, schema: Schema) -> TableData
         ensures value { result ≡ empty_table schema }
     {
-        TableData::new(schema, 0, Vec::new(alloc), Vec::new(alloc), Vec::new(alloc))
+        TableData::new(
+            schema,
+            0,
+            Vec::new(alloc),
+            MemoStore::new(alloc),
+            Vec::new(alloc),
+        )
     }
 
     /// The fields, in the order of the descriptors and cells.
@@ -106,8 +112,8 @@ impl TableData {
 
     /// What is kept of the records and the memos.
     pub(crate) fn store(&self) -> Store<'_>
-        ensures rows { self.now.rows ≡ rows_of self.now.schema (length self.now.rows) result.records.now (texts_of result.texts.now result.memos.now) }
-        ensures kept { IsStore self.now.schema (length self.now.rows) result.records.now result.texts.now result.memos.now }
+        ensures rows { self.now.rows ≡ rows_of self.now.schema (length self.now.rows) result.records.now (texts_of result.texts.now.texts result.memos.now) }
+        ensures kept { IsStore self.now.schema (length self.now.rows) result.records.now result.texts.now.texts result.memos.now }
     {
         self.kept.store()
     }
@@ -121,17 +127,31 @@ impl TableData {
         self.kept.is_deleted(number)
     }
 
-    /// A record's cell: as many bytes as its field is wide, or the memo's text. Records count from 1,
-    /// fields from 0.
+    /// A record's cell, as many bytes as its field is wide; its field is no memo. Records count from 1, fields
+    /// from 0.
     pub fn cell(&self, number: u32, field: usize) -> &[u8]
         requires number { 1 ≤ number }
         requires inside { number ≤ length self.now.rows }
         requires field { field < length self.now.schema }
+        requires kind { kind_at self.now.schema field ≢ MEMO }
         ensures value { result.now ≡ cell_at self.now number field }
-        ensures wide { kind_at self.now.schema field ≢ MEMO → length result.now ≡ width_of self.now.schema field }
-        ensures text { kind_at self.now.schema field ≡ MEMO → may_be_memo result.now ≡ true }
+        ensures wide { length result.now ≡ width_of self.now.schema field }
     {
         self.kept.cell(number, field)
+    }
+
+    /// The text of a record's memo, copied out; empty where there is none. Records count from 1, fields from 0.
+    ///
+    /// An `Err` says that there was no memory.
+    pub fn memo(&self, alloc: Global, number: u32, field: usize) -> Result<Bytes, AllocError>
+        requires number { 1 ≤ number }
+        requires inside { number ≤ length self.now.rows }
+        requires field { field < length self.now.schema }
+        requires kind { kind_at self.now.schema field ≡ MEMO }
+        ensures value { IfOk result (λ text. text ≡ cell_at self.now number field) }
+        ensures text { IfOk result (λ text. may_be_memo text ≡ true) }
+    {
+        self.kept.memo(alloc, number, field)
     }
 
     /// An equal table of its own.
@@ -184,8 +204,8 @@ impl TableData {
         self.kept.set_cell(number, field, cell);
     }
 
-    /// Replaces the text of a record's memo. Records count from 1, fields from 0. The text is put after
-    /// all texts that the table has had, so its cost is its own length.
+    /// Replaces the text of a record's memo. Records count from 1, fields from 0. The old text stays in its blocks
+    /// until the table is packed, so the cost is the new text's length.
     ///
     /// An `Err` says that there was no memory. It changes nothing.
     pub fn set_memo(&mut self, number: u32, field: usize, text: &[u8]) -> Result<(), AllocError>

@@ -77,10 +77,16 @@ fn one_name(alloc: Global) -> Result<Schema, Fail> {
     Ok(Schema::new(alloc, &[name])?)
 }
 
-// Whether a table has a cell, and it is this one.
-fn has_cell(table: &TableData, number: u32, field: usize, cell: &[u8]) -> bool {
+// Whether a table has a cell or a memo, and it is this one.
+fn has_cell(alloc: Global, table: &TableData, number: u32, field: usize, cell: &[u8]) -> bool {
     if number < 1 || number > table.record_count() || field >= table.schema().fields().len() {
         return false;
+    }
+    if table.schema().fields()[field].kind == MEMO {
+        return match table.memo(alloc, number, field) {
+            Ok(text) => text.as_slice() == cell,
+            Err(_) => false,
+        };
     }
     table.cell(number, field) == cell
 }

@@ -1,26 +1,27 @@
 //! Writing the records of a table.
 #![tactic(auto, using(crate::proofs::Sinks::sinks))]
 
-ghost use Rattle.std.specs.Prelude.{◌≡◌, ◌+◌, ◌≤◌, ◌*◌, ◌==◌, ◌∷◌, [], ◌++◌, length, flat_map, if◌then◌else◌};
+ghost use Rattle.std.specs.Prelude.{◌≡◌, ◌≢◌, ℕ, List, ◌+◌, ◌≤◌, ◌*◌, ◌==◌, ◌∷◌, [], ◌++◌, length, flat_map, if◌then◌else◌, IsTrue};
 ghost use Rattle.std.specs.List.{AllByRecursion};
 ghost use Rattle.dbf_fields.specs.Field.{widths};
 ghost use Rattle.dbf_fields.specs.Schema.{IsSchema};
 ghost use Rattle.dbf_fields.specs.declared.format.TheConstants.{MEMO as MEMO_KIND};
 ghost use Rattle.dbf_image.specs.DbfText.{chunks};
-ghost use Rattle.dbf_image.specs.Store.{texts_of, memo_count, first_memo, cells_with, row_with, rows_with, IsSpan};
+ghost use Rattle.dbf_image.specs.Store.{texts_of, memo_count, first_memo, cells_with, row_with, rows_with, HasWrittenFlag, IsMemo};
 ghost use Rattle.dbf_image.specs.Blocks.{cell_bytes, cell_blocks, cells_bytes, cells_blocks};
 ghost use Rattle.dbf_image.specs.Image.{row_bytes, rows_bytes};
 ghost use Rattle.dbf_image.specs.Output.{Puts};
 ghost use Rattle.dbf_image.specs.declared.format.TheConstants.{DELETED, MAX_MEMO_BYTES, MAX_RECORDS};
 
 use crate::dbf::header::Header;
-use crate::dbt::blocks::{block_count, block_number_cell, span_text};
+use crate::dbt::blocks::{block_count, block_number_cell};
 use crate::format::DELETED;
+use crate::memo_store::MemoStore;
 use crate::sink::ByteSink;
 use crate::sink::writer::SinkWriter;
 use crate::table::flag::flag_of;
+use crate::table::memo::memo_length;
 use crate::table::offsets::memo_count_of;
-use crate::table::span::Span;
 use crate::table::store::Store;
 use dbf_fields::{Field, MEMO};
 
@@ -32,41 +33,48 @@ fn memos_of(field: &Field) -> usize
     if field.kind == MEMO { 1 } else { 0 }
 }
 
-// The cell of a field: the memo's text, or the bytes as they are.
-fn cell_of<'a>(field: &Field, bytes: &'a [u8], texts: &'a [u8], memos: &[Span]) -> &'a [u8]
+// How many bytes the text of a field's memo has; 0 where the field is none.
+fn memo_length_of(field: &Field, texts: &MemoStore, memos: &[u32]) -> usize
     requires many { memo_count (field.now ∷ []) ≤ length memos.now }
-    requires each { AllByRecursion (IsSpan texts.now) memos.now }
-    ensures value { result.now ≡ (if field.now.kind == MEMO_KIND then first_memo (texts_of texts.now memos.now) else bytes.now) }
-    ensures short { field.now.kind ≡ MEMO_KIND → length result.now ≤ MAX_MEMO_BYTES }
+    requires each { AllByRecursion (IsMemo texts.now.texts) memos.now }
+    ensures value { field.now.kind ≡ MEMO_KIND → result ≡ length (first_memo (texts_of texts.now.texts memos.now)) }
+    ensures none { field.now.kind ≢ MEMO_KIND → result ≡ 0 }
+    ensures short { result ≤ MAX_MEMO_BYTES }
 {
     if field.kind == MEMO {
-        span_text(texts, &memos[0])
-    } else {
-        bytes
-    }
-}
-
-// How many blocks a cell takes.
-fn blocks_at(field: &Field, cell: &[u8]) -> u64
-    requires { field.now.kind ≡ MEMO_KIND → length cell.now ≤ MAX_MEMO_BYTES }
-    ensures value { result ≡ cell_blocks field.now cell.now }
-    ensures small { result ≤ 129 * memo_count (field.now ∷ []) }
-{
-    if field.kind == MEMO {
-        block_count(cell)
+        memo_length(texts, memos[0])
     } else {
         0
     }
 }
 
-// A cell, where the next free block is known.
-fn put_cell<S: ByteSink>(out: &mut SinkWriter<'_, S>, field: &Field, cell: &[u8], next: u64)
-    ensures { Puts out.old (cell_bytes next field.now cell.now) out.new }
+// How many blocks a field's cell takes, whose memo has a text of this length.
+fn blocks_at(field: &Field, text_length: usize) -> u64
+    requires { text_length ≤ MAX_MEMO_BYTES }
+    ensures value { (cell : List ℕ) → (field.now.kind ≡ MEMO_KIND → length cell ≡ text_length) → result ≡ cell_blocks field.now cell }
+    ensures small { result ≤ 129 * memo_count (field.now ∷ []) }
 {
     if field.kind == MEMO {
-        out.put(&block_number_cell(next, cell));
+        block_count(text_length)
     } else {
-        out.put(cell);
+        0
+    }
+}
+
+// A field's cell, where the next free block is known: the bytes as they are, or a memo's, whose text has this length.
+fn put_cell<S: ByteSink>(
+    out: &mut SinkWriter<'_, S>,
+    field: &Field,
+    bytes: &[u8],
+    text_length: usize,
+    next: u64,
+)
+    ensures { (text : List ℕ) → (field.now.kind ≡ MEMO_KIND → length text ≡ text_length) → Puts out.old (cell_bytes next field.now (if field.now.kind == MEMO_KIND then text else bytes.now)) out.new }
+{
+    if field.kind == MEMO {
+        out.put(&block_number_cell(next, text_length));
+    } else {
+        out.put(bytes);
     }
 }
 
@@ -79,10 +87,10 @@ fn put_cells<S: ByteSink>(
 ) -> u64
     requires room { widths fields.now ≤ length cells.records.now }
     requires many { memo_count fields.now ≤ length cells.memos.now }
-    requires each { AllByRecursion (IsSpan cells.texts.now) cells.memos.now }
+    requires each { AllByRecursion (IsMemo cells.texts.now.texts) cells.memos.now }
     requires few { first + 129 * memo_count fields.now ≤ 18446744073709551615 }
-    ensures put { Puts out.old (cells_bytes first fields.now (cells_with fields.now cells.entry.records.now (texts_of cells.entry.texts.now cells.entry.memos.now))) out.new }
-    ensures next { result ≡ first + cells_blocks fields.now (cells_with fields.now cells.entry.records.now (texts_of cells.entry.texts.now cells.entry.memos.now)) }
+    ensures put { Puts out.old (cells_bytes first fields.now (cells_with fields.now cells.entry.records.now (texts_of cells.entry.texts.now.texts cells.entry.memos.now))) out.new }
+    ensures next { result ≡ first + cells_blocks fields.now (cells_with fields.now cells.entry.records.now (texts_of cells.entry.texts.now.texts cells.entry.memos.now)) }
     ensures small { result ≤ first + 129 * memo_count fields.now }
 {
     let mut rest = cells.records;
@@ -91,9 +99,9 @@ fn put_cells<S: ByteSink>(
     for field in fields {
         let (bytes, after) = rest.split_at(usize::from(field.width));
         let (mine, others) = memos.split_at(memos_of(field));
-        let cell = cell_of(field, bytes, cells.texts, mine);
-        put_cell(out, field, cell, next);
-        next += blocks_at(field, cell);
+        let text_length = memo_length_of(field, cells.texts, mine);
+        put_cell(out, field, bytes, text_length, next);
+        next += blocks_at(field, text_length);
         rest = after;
         memos = others;
     }
@@ -109,10 +117,10 @@ fn put_record<S: ByteSink>(
 ) -> u64
     requires whole { length parts.records.now ≡ 1 + widths fields.now }
     requires many { memo_count fields.now ≤ length parts.memos.now }
-    requires each { AllByRecursion (IsSpan parts.texts.now) parts.memos.now }
+    requires each { AllByRecursion (IsMemo parts.texts.now.texts) parts.memos.now }
     requires few { first + 129 * memo_count fields.now ≤ 18446744073709551615 }
-    ensures put { Puts out.old (row_bytes first fields.now (row_with fields.now parts.entry.records.now (texts_of parts.entry.texts.now parts.entry.memos.now))) out.new }
-    ensures next { result ≡ first + cells_blocks fields.now (row_with fields.now parts.entry.records.now (texts_of parts.entry.texts.now parts.entry.memos.now)).cells }
+    ensures put { Puts out.old (row_bytes first fields.now (row_with fields.now parts.entry.records.now (texts_of parts.entry.texts.now.texts parts.entry.memos.now))) out.new }
+    ensures next { result ≡ first + cells_blocks fields.now (row_with fields.now parts.entry.records.now (texts_of parts.entry.texts.now.texts parts.entry.memos.now)).cells }
     ensures small { result ≤ first + 129 * memo_count fields.now }
 {
     let (_, bytes) = parts.records.split_at(1);
@@ -128,8 +136,8 @@ fn put_record<S: ByteSink>(
     put_cells(out, fields, cells, first)
 }
 
-/// All records of a table, with the cells of memos counting from block 1.
-pub(crate) fn put_records<S: ByteSink>(
+// The records of a table one by one, with the cells of memos counting from block 1.
+fn put_each_record<S: ByteSink>(
     out: &mut SinkWriter<'_, S>,
     fields: &[Field],
     header: Header,
@@ -140,8 +148,8 @@ pub(crate) fn put_records<S: ByteSink>(
     requires few { header.record_count ≤ MAX_RECORDS }
     requires room { header.record_count * header.record_length ≤ length store.records.now }
     requires many { length store.memos.now ≡ header.record_count * memo_count fields.now }
-    requires each { AllByRecursion (IsSpan store.texts.now) store.memos.now }
-    ensures { Puts out.old (flat_map (λ bytes. bytes) (rows_bytes 1 fields.now (rows_with fields.now (chunks header.record_length header.record_count store.entry.records.now) (texts_of store.entry.texts.now store.entry.memos.now)))) out.new }
+    requires each { AllByRecursion (IsMemo store.texts.now.texts) store.memos.now }
+    ensures { Puts out.old (flat_map (λ bytes. bytes) (rows_bytes 1 fields.now (rows_with fields.now (chunks header.record_length header.record_count store.entry.records.now) (texts_of store.entry.texts.now.texts store.entry.memos.now)))) out.new }
 {
     let size = usize::from(header.record_length);
     let memos_each = memo_count_of(fields);
@@ -159,5 +167,47 @@ pub(crate) fn put_records<S: ByteSink>(
         next = put_record(out, fields, record, next);
         rest = after;
         memos = others;
+    }
+}
+
+// Whether each record's flag is the one that is written of it.
+fn are_written_flags(records: &[u8], size: usize, count: u32) -> bool
+    requires size { 1 ≤ size }
+    requires room { count * size ≤ length records.now }
+    ensures value { IsTrue result → AllByRecursion HasWrittenFlag (chunks size count records.now) }
+{
+    let mut rest = records;
+    for _ in 0..count {
+        let (record, after) = rest.split_at(size);
+        if flag_of(record[0] == DELETED) != record[0] {
+            return false;
+        }
+        rest = after;
+    }
+    true
+}
+
+/// All records of a table, with the cells of memos counting from block 1: all at once where none has a memo and
+/// they are written as they stand.
+pub(crate) fn put_records<S: ByteSink>(
+    out: &mut SinkWriter<'_, S>,
+    fields: &[Field],
+    header: Header,
+    store: Store<'_>,
+)
+    requires schema { IsSchema fields.now }
+    requires wide { header.record_length ≡ 1 + widths fields.now }
+    requires few { header.record_count ≤ MAX_RECORDS }
+    requires room { header.record_count * header.record_length ≤ length store.records.now }
+    requires many { length store.memos.now ≡ header.record_count * memo_count fields.now }
+    requires each { AllByRecursion (IsMemo store.texts.now.texts) store.memos.now }
+    ensures { Puts out.old (flat_map (λ bytes. bytes) (rows_bytes 1 fields.now (rows_with fields.now (chunks header.record_length header.record_count store.entry.records.now) (texts_of store.entry.texts.now.texts store.entry.memos.now)))) out.new }
+{
+    let size = usize::from(header.record_length);
+    let (records, _) = store.records.split_at(header.record_count as usize * size);
+    if memo_count_of(fields) == 0 && are_written_flags(records, size, header.record_count) {
+        out.put(records);
+    } else {
+        put_each_record(out, fields, header, store);
     }
 }

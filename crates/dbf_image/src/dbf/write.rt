@@ -112,8 +112,8 @@ fn put_image<S: ByteSink>(out: &mut SinkWriter<'_, S>, table: &TableData, header
 /// Writes the DBF file of a table into a sink, with the date of its last change, of the years 1900 to
 /// 2155: the header, a descriptor of 32 bytes for each field, 0x0D, the records, 0x1A. A memo's cell is
 /// the number of the block at which its text stands in the file that `write_dbt` writes of the same
-/// table, or blanks. It takes no memory: chunks are gathered, up to 4,096 bytes, before the sink is
-/// called.
+/// table, or blanks. It takes no memory: chunks are gathered, up to 65,536 bytes, before the sink is
+/// called; what is longer, as the records of a large table without memos, goes to it as it stands.
 ///
 /// `DateOutside` says that the header cannot tell the year, and `TooManyBlocks` that the memos take more
 /// blocks than 32 bits count; nothing was written. `Sink` says that the sink failed; it has then taken a

@@ -4,34 +4,25 @@ ghost use Rattle.std.specs.Prelude.{◌≡◌, ◌+◌, ◌*◌, ◌%◌, ◌≤
 ghost use Rattle.std.specs.List.{AllByRecursion};
 ghost use Rattle.dbf_fields.specs.declared.format.TheConstants.{BLANK, ZERO_DIGIT};
 ghost use Rattle.dbf_image.specs.Blocks.{justified, blocks_of, block_number_cell as number_bytes, next_free};
-ghost use Rattle.dbf_image.specs.Store.{text_of, IsSpan};
+ghost use Rattle.dbf_image.specs.Store.{text_of, IsMemo};
 ghost use Rattle.dbf_image.specs.declared.format.TheConstants.{MAX_MEMO_BYTES};
 
 use crate::format::BLOCK;
 use crate::table::TableData;
-use crate::table::span::{Span, text_at};
+use crate::table::memo::memo_length;
 use crate::table::store::Store;
 use dbf_fields::{BLANK, ZERO_DIGIT};
 
-/// A memo's text.
-pub(crate) fn span_text<'a>(texts: &'a [u8], span: &Span) -> &'a [u8]
-    requires { IsSpan texts.now span.now }
-    ensures value { result.now ≡ text_of texts.now span.now }
-    ensures short { length result.now ≤ MAX_MEMO_BYTES }
-{
-    text_at(texts, *span)
-}
-
-/// How many blocks a text takes.
-pub(crate) fn block_count(text: &[u8]) -> u64
-    requires { length text.now ≤ MAX_MEMO_BYTES }
-    ensures value { result ≡ blocks_of text.now }
+/// How many blocks a text of this length takes.
+pub(crate) fn block_count(text_length: usize) -> u64
+    requires { text_length ≤ MAX_MEMO_BYTES }
+    ensures value { (text : List ℕ) → length text ≡ text_length → result ≡ blocks_of text }
     ensures small { result ≤ 129 }
 {
-    if text.is_empty() {
+    if text_length == 0 {
         0
     } else {
-        ((text.len() + (BLOCK + 1)) / BLOCK) as u64
+        ((text_length + (BLOCK + 1)) / BLOCK) as u64
     }
 }
 
@@ -61,12 +52,12 @@ fn justified_number(number: u64) -> [u8; 10]
     cell
 }
 
-/// The cell of a memo whose text is to stand at the next free block: that number, or blanks where there
-/// is no text.
-pub(crate) fn block_number_cell(next: u64, text: &[u8]) -> [u8; 10]
-    ensures value { result ≡ number_bytes next text.now }
+/// The cell of a memo whose text has this length and is to stand at the next free block: that number, or
+/// blanks where there is no text.
+pub(crate) fn block_number_cell(next: u64, text_length: usize) -> [u8; 10]
+    ensures value { (text : List ℕ) → length text ≡ text_length → result ≡ number_bytes next text }
 {
-    if text.is_empty() {
+    if text_length == 0 {
         justified_number(0)
     } else {
         justified_number(next)
@@ -76,12 +67,12 @@ pub(crate) fn block_number_cell(next: u64, text: &[u8]) -> [u8; 10]
 // The next free block after those of all texts.
 fn blocks_after(store: Store<'_>) -> u64
     requires few { length store.memos.now ≤ 128000000000 }
-    requires each { AllByRecursion (IsSpan store.texts.now) store.memos.now }
-    ensures value { result ≡ 1 + sum_by (λ span. blocks_of (text_of store.entry.texts.now span)) store.entry.memos.now }
+    requires each { AllByRecursion (IsMemo store.texts.now.texts) store.memos.now }
+    ensures value { result ≡ 1 + sum_by (λ number. blocks_of (text_of store.entry.texts.now.texts number)) store.entry.memos.now }
 {
     let mut next: u64 = 1;
-    for span in store.memos {
-        next += block_count(span_text(store.texts, span));
+    for number in store.memos {
+        next += block_count(memo_length(store.texts, *number));
     }
     next
 }

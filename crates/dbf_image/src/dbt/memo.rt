@@ -9,9 +9,9 @@ ghost use Rattle.dbf_image.specs.declared.fault.ImageFault.{ImageFault};
 ghost use Rattle.dbf_image.specs.Spans.{end_at, AreEnds, span_of};
 ghost use Rattle.dbf_image.specs.declared.format.TheConstants.{MEMO_END};
 
+use crate::dbt::span::Span;
 use crate::fault::ImageFault;
 use crate::format::{BLOCK, MAX_MEMO_BYTES, MEMO_END};
-use crate::table::span::Span;
 use dbf_fields::{Bytes, are_digits, number_of_digits, trimmed};
 use memchr::memchr;
 use std::alloc::{AllocError, Global};

@@ -1,110 +1,181 @@
-//! Where the texts of a table's memos stand in their file.
+//! The texts of a table's memos, read from their file.
 
-ghost use Rattle.std.specs.Prelude.{◌≡◌, ◌+◌, ◌*◌, ◌≤◌, ◌⊎◌, ◌++◌, [], length, map, flat_map, Some, None, unwrap_or, IfOk, IfErr, OnOk};
+ghost use Rattle.std.specs.Prelude.{◌≡◌, ◌≢◌, ◌+◌, ◌*◌, ◌≤◌, ◌⊎◌, ◌++◌, [], length, map, flat_map, slice_index, Some, None, unwrap_or, IfOk, IfErr, OnOk};
 ghost use Rattle.std.specs.Option.{option_copied};
 ghost use Rattle.dbf_fields.specs.Faults.{first_fault};
 ghost use Rattle.dbf_fields.specs.Field.{widths};
 ghost use Rattle.dbf_fields.specs.Schema.{IsSchema};
 ghost use Rattle.dbf_image.specs.Table.{has_memos as some_memo};
 ghost use Rattle.dbf_image.specs.DbfText.{chunks, AreRecords};
-ghost use Rattle.dbf_image.specs.Store.{texts_of, rows_of, IsStore};
-ghost use Rattle.dbf_image.specs.Reading.{memo_tests, cell_tests, cells_tests, row_tests, row_read};
-ghost use Rattle.dbf_image.specs.Spans.{AreEnds, memo_span, cell_spans, cells_spans, row_spans, table_tests};
+ghost use Rattle.dbf_image.specs.Memo.{memo_at};
+ghost use Rattle.dbf_image.specs.MemoNumbers.{KeepsMemos, cell_texts, cells_texts, row_texts, IsReading};
+ghost use Rattle.dbf_image.specs.Store.{text_of, texts_of, rows_of, IsMemo, IsStore};
+ghost use Rattle.dbf_image.specs.Reading.{text_tests, memo_tests, memo_text, cell_tests, cells_tests, row_tests, row_read};
+ghost use Rattle.dbf_image.specs.Spans.{AreEnds, table_tests};
 
 use crate::dbt::memo::{block_ends, number_of, span_at};
 use crate::fault::ImageFault;
-use crate::table::span::{Span, no_span};
+use crate::format::BLOCK;
+use crate::memo_store::MemoStore;
+use crate::table::memo::keep_memo;
 use dbf_fields::{Field, MEMO, Schema};
-use std::alloc::Global;
+use std::alloc::{AllocError, Global};
 
-// Where the text of a memo's cell stands.
-#[tactic(auto, unfolding(crate::specs::Reading::memo_tests, crate::specs::Spans::memo_span))]
-fn span_of_cell(dbt: &[u8], ends: &[usize], cell: &[u8]) -> Result<Span, ImageFault>
+/// What was read of a file of memos: the texts, each block's number in them (0 where it has not been read, or
+/// has no text), and the numbers of the memos in order of record and field.
+#[derive(Drop)]
+pub(crate) struct ReadMemos {
+    pub(crate) texts: MemoStore,
+    pub(crate) of_block: Vec<u32>,
+    pub(crate) numbers: Vec<u32>,
+}
+
+// Nothing is read yet.
+fn nothing_read(alloc: Global, dbt: &[u8]) -> Result<ReadMemos, AllocError>
+    ensures reading { IfOk result (IsReading dbt.now) }
+    ensures none { IfOk result (λ memos. memos.numbers.items ≡ []) }
+{
+    let mut of_block = Vec::new(alloc);
+    of_block.resize(dbt.len() / BLOCK + 1, 0)?;
+    Ok(ReadMemos {
+        texts: MemoStore::new(alloc),
+        of_block,
+        numbers: Vec::new(alloc),
+    })
+}
+
+// The number of a block's text, which is read where it has not been.
+#[tactic(auto, unfolding(crate::specs::Reading::text_tests))]
+fn number_of_block(
+    dbt: &[u8],
+    ends: &[usize],
+    block: u64,
+    memos: &mut ReadMemos,
+) -> Result<u32, ImageFault>
     requires ends { AreEnds dbt.now ends.now }
+    requires reading { IsReading dbt.now memos.old }
+    ensures accepted { OnOk result (first_fault (text_tests dbt.now block) ≡ None) }
+    ensures reading { OnOk result (IsReading dbt.now memos.new) }
+    ensures kept { OnOk result (KeepsMemos memos.old.texts.texts memos.new.texts.texts) }
+    ensures same { OnOk result (memos.new.numbers ≡ memos.old.numbers) }
+    ensures memo { IfOk result (λ number. IsMemo memos.new.texts.texts number) }
+    ensures text { IfOk result (λ number. text_of memos.new.texts.texts number ≡ memo_at dbt.now block) }
+    ensures refused { IfErr result (λ fault. (fault ≡ ImageFault.NoMemory) ⊎ (first_fault (text_tests dbt.now block) ≡ Some fault)) }
+{
+    let span = span_at(dbt, ends, block)?;
+    let known = memos.of_block[block as usize];
+    if known != 0 {
+        return Ok(known);
+    }
+    let text = &dbt[span.start..span.start + span.length];
+    let number = keep_memo(&mut memos.texts, text)?;
+    memos.of_block[block as usize] = number;
+    Ok(number)
+}
+
+// The number of the text that a memo's cell tells.
+#[tactic(auto, unfolding(crate::specs::Reading::memo_tests, crate::specs::Reading::memo_text))]
+fn number_of_cell(
+    dbt: &[u8],
+    ends: &[usize],
+    cell: &[u8],
+    memos: &mut ReadMemos,
+) -> Result<u32, ImageFault>
+    requires ends { AreEnds dbt.now ends.now }
+    requires reading { IsReading dbt.now memos.old }
     requires few { length cell.now ≤ 10 }
     ensures accepted { OnOk result (first_fault (memo_tests dbt.now cell.now) ≡ None) }
-    ensures value { IfOk result (λ span. span ≡ memo_span dbt.now cell.now) }
-    ensures refused { IfErr result (λ fault. first_fault (memo_tests dbt.now cell.now) ≡ Some fault) }
+    ensures reading { OnOk result (IsReading dbt.now memos.new) }
+    ensures kept { OnOk result (KeepsMemos memos.old.texts.texts memos.new.texts.texts) }
+    ensures same { OnOk result (memos.new.numbers ≡ memos.old.numbers) }
+    ensures memo { IfOk result (λ number. IsMemo memos.new.texts.texts number) }
+    ensures text { IfOk result (λ number. text_of memos.new.texts.texts number ≡ memo_text dbt.now cell.now) }
+    ensures refused { IfErr result (λ fault. (fault ≡ ImageFault.NoMemory) ⊎ (first_fault (memo_tests dbt.now cell.now) ≡ Some fault)) }
 {
     match number_of(cell) {
         None => Err(ImageFault::BadMemoNumber),
-        Some(0) => Ok(no_span()),
-        Some(block) => span_at(dbt, ends, block),
+        Some(0) => Ok(0),
+        Some(block) => number_of_block(dbt, ends, block, memos),
     }
 }
 
-// Adds where the text of a cell stands, where its field is a memo.
-#[tactic(auto, unfolding(crate::specs::Reading::cell_tests, crate::specs::Spans::cell_spans))]
-fn push_span(
+// Reads a cell, where its field is a memo.
+#[tactic(auto, unfolding(crate::specs::Reading::cell_tests, crate::specs::MemoNumbers::cell_texts))]
+fn read_cell(
     dbt: &[u8],
     ends: &[usize],
     field: &Field,
     cell: &[u8],
-    spans: &mut Vec<Span>,
+    memos: &mut ReadMemos,
 ) -> Result<(), ImageFault>
     requires ends { AreEnds dbt.now ends.now }
+    requires reading { IsReading dbt.now memos.old }
     requires few { field.now.kind ≡ MEMO → length cell.now ≤ 10 }
     ensures accepted { OnOk result (first_fault (cell_tests dbt.now field.now cell.now) ≡ None) }
-    ensures value { OnOk result (spans.new.items ≡ spans.old.items ++ cell_spans dbt.now field.now cell.now) }
+    ensures reading { OnOk result (IsReading dbt.now memos.new) }
+    ensures texts { OnOk result (texts_of memos.new.texts.texts memos.new.numbers.items ≡ texts_of memos.old.texts.texts memos.old.numbers.items ++ cell_texts dbt.now field.now cell.now) }
     ensures refused { IfErr result (λ fault. (fault ≡ ImageFault.NoMemory) ⊎ (first_fault (cell_tests dbt.now field.now cell.now) ≡ Some fault)) }
 {
     if field.kind == MEMO {
-        let span = span_of_cell(dbt, ends, cell)?;
-        spans.push(span)?;
+        let number = number_of_cell(dbt, ends, cell, memos)?;
+        memos.numbers.push(number)?;
     }
     Ok(())
 }
 
-// Adds where the texts of a record's memos stand.
-fn push_spans(
+// Reads the memos of a record.
+fn read_cells(
     dbt: &[u8],
     ends: &[usize],
     fields: &[Field],
     bytes: &[u8],
-    spans: &mut Vec<Span>,
+    memos: &mut ReadMemos,
 ) -> Result<(), ImageFault>
     requires ends { AreEnds dbt.now ends.now }
+    requires reading { IsReading dbt.now memos.old }
     requires schema { IsSchema fields.now }
     requires room { widths fields.now ≤ length bytes.now }
     ensures accepted { OnOk result (first_fault (cells_tests dbt.now fields.now bytes.now) ≡ None) }
-    ensures value { OnOk result (spans.new.items ≡ spans.old.items ++ cells_spans dbt.now fields.now bytes.now) }
+    ensures reading { OnOk result (IsReading dbt.now memos.new) }
+    ensures texts { OnOk result (texts_of memos.new.texts.texts memos.new.numbers.items ≡ texts_of memos.old.texts.texts memos.old.numbers.items ++ cells_texts dbt.now fields.now bytes.now) }
     ensures refused { IfErr result (λ fault. (fault ≡ ImageFault.NoMemory) ⊎ (first_fault (cells_tests dbt.now fields.now bytes.now) ≡ Some fault)) }
 {
     let mut rest = bytes;
     for field in fields {
         let (cell, after) = rest.split_at(usize::from(field.width));
-        push_span(dbt, ends, field, cell, spans)?;
+        read_cell(dbt, ends, field, cell, memos)?;
         rest = after;
     }
     Ok(())
 }
 
-// Where the texts of all memos stand, in order of record and field.
-fn all_spans(
+// Reads the memos of all records, in order of record and field.
+fn read_all(
     alloc: Global,
     dbt: &[u8],
     fields: &[Field],
     size: usize,
     count: u32,
     bytes: &[u8],
-) -> Result<Vec<Span>, ImageFault>
+) -> Result<ReadMemos, ImageFault>
     requires schema { IsSchema fields.now }
     requires size { size ≡ 1 + widths fields.now }
     requires room { count * size ≤ length bytes.now }
     ensures accepted { IfOk result (λ _. first_fault (flat_map (row_tests dbt.now fields.now) (chunks size count bytes.now)) ≡ None) }
-    ensures value { IfOk result (λ spans. spans.items ≡ flat_map (row_spans dbt.now fields.now) (chunks size count bytes.now)) }
+    ensures reading { IfOk result (IsReading dbt.now) }
+    ensures texts { IfOk result (λ memos. texts_of memos.texts.texts memos.numbers.items ≡ flat_map (row_texts dbt.now fields.now) (chunks size count bytes.now)) }
     ensures refused { IfErr result (λ fault. (fault ≡ ImageFault.NoMemory) ⊎ (first_fault (flat_map (row_tests dbt.now fields.now) (chunks size count bytes.now)) ≡ Some fault)) }
 {
     let ends = block_ends(alloc, dbt)?;
-    let mut spans = Vec::new(alloc);
+    let mut memos = nothing_read(alloc, dbt)?;
     let mut rest = bytes;
     for _ in 0..count {
         let (front, after) = rest.split_at(size);
         let (_, cells) = front.split_at(1);
-        push_spans(dbt, &ends, fields, cells, &mut spans)?;
+        read_cells(dbt, &ends, fields, cells, &mut memos)?;
         rest = after;
     }
-    Ok(spans)
+    Ok(memos)
 }
 
 /// Whether some field is a memo.
@@ -114,43 +185,42 @@ pub(crate) fn has_memos(fields: &[Field]) -> bool
     fields.iter().any(|field| field.kind == MEMO)
 }
 
-// The texts of all memos, and where each of them stands.
+// The texts of all memos, and the number of each of them.
 fn memos_in(
     alloc: Global,
     dbt: &[u8],
     schema: &Schema,
     count: u32,
     bytes: &[u8],
-) -> Result<(Vec<u8>, Vec<Span>), ImageFault>
+) -> Result<(MemoStore, Vec<u32>), ImageFault>
     requires { AreRecords schema.now count bytes.now }
     ensures accepted { IfOk result (λ _. first_fault (flat_map (row_tests dbt.now schema.now) (chunks (1 + widths schema.now) count bytes.now)) ≡ None) }
-    ensures value { IfOk result (λ memos. rows_of schema.now count bytes.now (texts_of memos.0.items memos.1.items) ≡ map (row_read dbt.now schema.now) (chunks (1 + widths schema.now) count bytes.now)) }
-    ensures kept { IfOk result (λ memos. IsStore schema.now count bytes.now memos.0.items memos.1.items) }
+    ensures value { IfOk result (λ memos. rows_of schema.now count bytes.now (texts_of memos.0.texts memos.1.items) ≡ map (row_read dbt.now schema.now) (chunks (1 + widths schema.now) count bytes.now)) }
+    ensures kept { IfOk result (λ memos. IsStore schema.now count bytes.now memos.0.texts memos.1.items) }
     ensures refused { IfErr result (λ fault. (fault ≡ ImageFault.NoMemory) ⊎ (first_fault (flat_map (row_tests dbt.now schema.now) (chunks (1 + widths schema.now) count bytes.now)) ≡ Some fault)) }
 {
     let size = schema.record_length();
-    let spans = all_spans(alloc, dbt, schema.fields(), size, count, bytes)?;
-    let texts = Vec::from_slice(alloc, dbt)?;
-    Ok((texts, spans))
+    let memos = read_all(alloc, dbt, schema.fields(), size, count, bytes)?;
+    Ok((memos.texts, memos.numbers))
 }
 
-/// The texts of all memos of a table's records, and where each of them stands. The texts are a copy of
-/// the file of memos, where some field is a memo, and else nothing.
+/// The texts of all memos of a table's records, and the number of each of them in order of record and field. A
+/// block's text is kept once, also where many cells name the block.
 pub(crate) fn memos_at(
     alloc: Global,
     dbt: Option<&[u8]>,
     schema: &Schema,
     count: u32,
     bytes: &[u8],
-) -> Result<(Vec<u8>, Vec<Span>), ImageFault>
+) -> Result<(MemoStore, Vec<u32>), ImageFault>
     requires { AreRecords schema.now count bytes.now }
     ensures accepted { IfOk result (λ _. first_fault (table_tests (option_copied dbt.entry) schema.now (chunks (1 + widths schema.now) count bytes.now)) ≡ None) }
-    ensures value { IfOk result (λ memos. rows_of schema.now count bytes.now (texts_of memos.0.items memos.1.items) ≡ map (row_read (unwrap_or (option_copied dbt.entry) []) schema.now) (chunks (1 + widths schema.now) count bytes.now)) }
-    ensures kept { IfOk result (λ memos. IsStore schema.now count bytes.now memos.0.items memos.1.items) }
+    ensures value { IfOk result (λ memos. rows_of schema.now count bytes.now (texts_of memos.0.texts memos.1.items) ≡ map (row_read (unwrap_or (option_copied dbt.entry) []) schema.now) (chunks (1 + widths schema.now) count bytes.now)) }
+    ensures kept { IfOk result (λ memos. IsStore schema.now count bytes.now memos.0.texts memos.1.items) }
     ensures refused { IfErr result (λ fault. (fault ≡ ImageFault.NoMemory) ⊎ (first_fault (table_tests (option_copied dbt.entry) schema.now (chunks (1 + widths schema.now) count bytes.now)) ≡ Some fault)) }
 {
     if !has_memos(schema.fields()) {
-        return Ok((Vec::new(alloc), Vec::new(alloc)));
+        return Ok((MemoStore::new(alloc), Vec::new(alloc)));
     }
     let Some(dbt) = dbt else {
         return Err(ImageFault::MemoFileMissing);

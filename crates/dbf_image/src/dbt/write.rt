@@ -3,19 +3,20 @@
 
 ghost use Rattle.std.specs.Prelude.{◌≡◌, ◌+◌, ◌-◌, ◌*◌, ◌/◌, ◌≤◌, ◌↔◌, length, flat_map, OnOk, OnErr};
 ghost use Rattle.std.specs.List.{AllByRecursion};
-ghost use Rattle.dbf_image.specs.Store.{text_of, IsSpan};
+ghost use Rattle.dbf_image.specs.Store.{text_of, IsMemo};
 ghost use Rattle.dbf_image.specs.Blocks.{block_bytes, memo_header, memo_image, next_free, HasTooManyBlocks};
 ghost use Rattle.dbf_image.specs.Output.{Puts};
 ghost use Rattle.dbf_image.specs.Sink.{grown, IsFront, Rises};
 ghost use Rattle.dbf_image.specs.declared.format.TheConstants.{BLOCK, MAX_MEMO_BYTES};
 
 use crate::dbf::write::WriteFault;
-use crate::dbt::blocks::{next_free_block, span_text};
+use crate::dbt::blocks::next_free_block;
 use crate::format::{BLOCK, MEMO_END, VERSION};
+use crate::memo_store::MemoStore;
 use crate::sink::writer::SinkWriter;
 use crate::sink::{ByteSink, SinkFault};
 use crate::table::TableData;
-use crate::table::span::Span;
+use crate::table::memo::memo_length;
 use byteorder::{ByteOrder, LittleEndian};
 
 // The 512 bytes before the blocks of texts.
@@ -29,35 +30,36 @@ fn header_block(next: u32) -> [u8; BLOCK]
 }
 
 // The zeros after a text and the two 0x1A.
-fn fill_of(text: &[u8]) -> usize
-    requires { length text.now ≤ MAX_MEMO_BYTES }
-    ensures value { result ≡ (length text.now + (BLOCK + 1)) / BLOCK * BLOCK - (length text.now + 2) }
+fn fill_of(text_length: usize) -> usize
+    requires { text_length ≤ MAX_MEMO_BYTES }
+    ensures value { result ≡ (text_length + (BLOCK + 1)) / BLOCK * BLOCK - (text_length + 2) }
     ensures small { result ≤ BLOCK }
 {
-    (text.len() + (BLOCK + 1)) / BLOCK * BLOCK - (text.len() + 2)
+    (text_length + (BLOCK + 1)) / BLOCK * BLOCK - (text_length + 2)
 }
 
-// The blocks of a text, of which there are none where it is empty.
-fn put_block<S: ByteSink>(out: &mut SinkWriter<'_, S>, text: &[u8])
-    requires { length text.now ≤ MAX_MEMO_BYTES }
-    ensures { Puts out.old (block_bytes text.now) out.new }
+// The blocks of a memo's text, of which there are none where it is empty.
+fn put_block<S: ByteSink>(out: &mut SinkWriter<'_, S>, texts: &MemoStore, number: u32)
+    requires { IsMemo texts.now.texts number }
+    ensures { Puts out.old (block_bytes (text_of texts.now.texts number)) out.new }
 {
-    if text.is_empty() {
+    let length = memo_length(texts, number);
+    if length == 0 {
         return;
     }
-    let (zeros, _) = [0; BLOCK].split_at(fill_of(text));
-    out.put(text);
+    let (zeros, _) = [0; BLOCK].split_at(fill_of(length));
+    texts.put_text(number, out);
     out.put(&[MEMO_END, MEMO_END]);
     out.put(zeros);
 }
 
 // The blocks of all texts, one after the other.
-fn put_blocks<S: ByteSink>(out: &mut SinkWriter<'_, S>, texts: &[u8], memos: &[Span])
-    requires { AllByRecursion (IsSpan texts.now) memos.now }
-    ensures { Puts out.old (flat_map (λ span. block_bytes (text_of texts.now span)) memos.now) out.new }
+fn put_blocks<S: ByteSink>(out: &mut SinkWriter<'_, S>, texts: &MemoStore, memos: &[u32])
+    requires { AllByRecursion (IsMemo texts.now.texts) memos.now }
+    ensures { Puts out.old (flat_map (λ number. block_bytes (text_of texts.now.texts number)) memos.now) out.new }
 {
-    for span in memos {
-        put_block(out, span_text(texts, span));
+    for number in memos {
+        put_block(out, texts, *number);
     }
 }
 
@@ -74,7 +76,7 @@ fn put_memo_image<S: ByteSink>(out: &mut SinkWriter<'_, S>, table: &TableData, n
 /// Writes the file of a table's memos into a sink, to stand beside the file that `write_dbf` writes of the
 /// same table: a header of 512 bytes with the next free block, then each text that is not empty, in the
 /// order of records and fields, with 0x1A 0x1A after it and zeros to the end of its last block of 512
-/// bytes. It takes no memory: chunks are gathered, up to 4,096 bytes, before the sink is called.
+/// bytes. It takes no memory: chunks are gathered, up to 65,536 bytes, before the sink is called.
 ///
 /// `TooManyBlocks` says that the memos take more blocks than 32 bits count, and that nothing was written.
 /// `Sink` says that the sink failed; it has then taken a front part of the file, which may be all of it or

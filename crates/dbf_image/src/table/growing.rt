@@ -3,19 +3,22 @@
 ghost use Rattle.std.specs.Prelude.{◌≡◌, ◌≢◌, ◌<◌, ◌≤◌, ◌+◌, true, [], length, IfOk, OnOk};
 ghost use Rattle.dbf_fields.specs.Field.{widths};
 ghost use Rattle.dbf_fields.specs.Layout.{width_of};
-ghost use Rattle.dbf_image.specs.Table.{IsTable, is_memo_text as may_be_memo, kind_at, blank_row, row_at, cell_at, with_row, with_cell, with_mark};
+ghost use Rattle.dbf_fields.specs.declared.format.TheConstants.{MEMO};
+ghost use Rattle.dbf_image.specs.Table.{IsTable, is_memo_text as may_be_memo, kind_at, blank_row, row_at, cell_at, with_row, with_cell, with_mark, packed};
 ghost use Rattle.dbf_image.specs.Store.{texts_of, row_with, rows_of, IsStore};
 ghost use Rattle.dbf_image.specs.Growing.{IsRecord};
 ghost use Rattle.dbf_image.specs.declared.format.TheConstants.{MAX_RECORDS};
 
 use crate::format::{DELETED, MAX_RECORDS};
+use crate::memo_store::MemoStore;
 use crate::table::TableData;
 use crate::table::flag::flag_of;
+use crate::table::memo::{memo_text, put_memo};
 use crate::table::offsets::{cell_start, memo_count_of, memo_index, record_start};
+use crate::table::packing::keep_records;
 use crate::table::reserved::{extend_reserved, push_no_memos};
-use crate::table::span::{Span, text_at};
 use crate::table::store::Store;
-use dbf_fields::{BLANK, MAX_RECORD_BYTES, MEMO, Schema};
+use dbf_fields::{BLANK, Bytes, MAX_RECORD_BYTES, Schema};
 use std::alloc::{AllocError, Global};
 use std::marker::Model;
 
@@ -24,16 +27,16 @@ use std::marker::Model;
 ///
 /// Its records stand in one list of bytes as in a DBF file: a flag of one byte, 0x2A where the record is
 /// marked as deleted, and then the cells without separators, each as wide as its field. The texts of
-/// memos stand in a second list, in which a span tells each memo's text; what the records' list has in the
-/// place of a memo's cell has no meaning. Records count from 1, as RECNO() does; fields have an index from 0
-/// in the schema's list.
+/// memos stand in a [`MemoStore`], and each memo is a number in it, 0 for none; what the records' list has in
+/// the place of a memo's cell has no meaning. Records count from 1, as RECNO() does; fields have an index from
+/// 0 in the schema's list.
 #[derive(Debug, Drop)]
 pub struct GrowingTable {
     schema: Schema,
     count: u32,
     records: Vec<u8>,
-    texts: Vec<u8>,
-    memos: Vec<Span>,
+    texts: MemoStore,
+    memos: Vec<u32>,
 }
 
 impl Model for GrowingTable {
@@ -46,25 +49,25 @@ impl Model for GrowingTable {
     ghost use Rattle.dbf_image.specs.Store.{memo_count, texts_of, rows_of, IsStore};
 
     ghost view = { λ t. record {
-      table = record { schema = t.schema; rows = rows_of t.schema t.count t.records.items (texts_of t.texts.items t.memos.items) };
+      table = record { schema = t.schema; rows = rows_of t.schema t.count t.records.items (texts_of t.texts.texts t.memos.items) };
       record_room = nat_le (vec_len t.records + (1 + widths t.schema)) (vec_capacity t.records) && nat_le (vec_len t.memos + memo_count t.schema) (vec_capacity t.memos);
-      text_room = vec_capacity t.texts - vec_len t.texts;
+      text_room = t.texts.spare;
     } };
 
-    ghost invariant = { λ t. IsStore t.schema t.count t.records.items t.texts.items t.memos.items };
+    ghost invariant = { λ t. IsStore t.schema t.count t.records.items t.texts.texts t.memos.items };
 }
 
 impl GrowingTable {
-    /// The table of so many records that stand in a list of bytes, and of memos that stand in another.
+    /// The table of so many records that stand in a list of bytes, and of memos whose texts stand in a store.
     pub(crate) fn new(
         schema: Schema,
         count: u32,
         records: Vec<u8>,
-        texts: Vec<u8>,
-        memos: Vec<Span>,
+        texts: MemoStore,
+        memos: Vec<u32>,
     ) -> GrowingTable
-        requires { IsStore schema count records.items texts.items memos.items }
-        ensures value { result.table ≡ record { schema = schema; rows = rows_of schema count records.items (texts_of texts.items memos.items) } }
+        requires { IsStore schema count records.items texts.texts memos.items }
+        ensures value { result.table ≡ record { schema = schema; rows = rows_of schema count records.items (texts_of texts.texts memos.items) } }
     {
         GrowingTable {
             schema,
@@ -94,12 +97,12 @@ impl GrowingTable {
 
     /// What is kept of the records and the memos.
     pub(crate) fn store(&self) -> Store<'_>
-        ensures rows { self.now.table.rows ≡ rows_of self.now.table.schema (length self.now.table.rows) result.records.now (texts_of result.texts.now result.memos.now) }
-        ensures kept { IsStore self.now.table.schema (length self.now.table.rows) result.records.now result.texts.now result.memos.now }
+        ensures rows { self.now.table.rows ≡ rows_of self.now.table.schema (length self.now.table.rows) result.records.now (texts_of result.texts.now.texts result.memos.now) }
+        ensures kept { IsStore self.now.table.schema (length self.now.table.rows) result.records.now result.texts.now.texts result.memos.now }
     {
         Store {
             records: self.records.as_slice(),
-            texts: self.texts.as_slice(),
+            texts: &self.texts,
             memos: self.memos.as_slice(),
         }
     }
@@ -114,24 +117,36 @@ impl GrowingTable {
         self.store().records[start] == DELETED
     }
 
-    /// A record's cell: as many bytes as its field is wide, or the memo's text. Records count from 1,
-    /// fields from 0.
+    /// A record's cell, as many bytes as its field is wide; its field is no memo. Records count from 1, fields
+    /// from 0.
     pub fn cell(&self, number: u32, field: usize) -> &[u8]
         requires number { 1 ≤ number }
         requires inside { number ≤ length self.now.table.rows }
         requires field { field < length self.now.table.schema }
+        requires kind { kind_at self.now.table.schema field ≢ MEMO }
         ensures value { result.now ≡ cell_at self.now.table number field }
-        ensures wide { kind_at self.now.table.schema field ≢ MEMO → length result.now ≡ width_of self.now.table.schema field }
-        ensures text { kind_at self.now.table.schema field ≡ MEMO → may_be_memo result.now ≡ true }
+        ensures wide { length result.now ≡ width_of self.now.table.schema field }
     {
         let store = self.store();
-        if self.schema.fields()[field].kind == MEMO {
-            let index = memo_index(&self.schema, number, field);
-            return text_at(store.texts, store.memos[index]);
-        }
         let start = cell_start(&self.schema, number, field);
         let end = start + self.schema.width(field);
         &store.records[start..end]
+    }
+
+    /// The text of a record's memo, copied out; empty where there is none. Records count from 1, fields from 0.
+    ///
+    /// An `Err` says that there was no memory.
+    pub fn memo(&self, alloc: Global, number: u32, field: usize) -> Result<Bytes, AllocError>
+        requires number { 1 ≤ number }
+        requires inside { number ≤ length self.now.table.rows }
+        requires field { field < length self.now.table.schema }
+        requires kind { kind_at self.now.table.schema field ≡ MEMO }
+        ensures value { IfOk result (λ text. text ≡ cell_at self.now.table number field) }
+        ensures text { IfOk result (λ text. may_be_memo text ≡ true) }
+    {
+        let store = self.store();
+        let index = memo_index(&self.schema, number, field);
+        memo_text(alloc, store.texts, store.memos[index])
     }
 
     /// A record's bytes: its flag and its cells, in which the place of a memo has no meaning. Records
@@ -159,7 +174,7 @@ impl GrowingTable {
         self.records.reserve(length)
     }
 
-    /// Makes room for so many bytes of memos.
+    /// Makes room for a memo of at most so many bytes.
     ///
     /// An `Err` says that there was no memory. The table is the same in either case.
     pub fn reserve_text(&mut self, length: usize) -> Result<(), AllocError>
@@ -208,8 +223,8 @@ impl GrowingTable {
         self.records[start..end].copy_from_slice(cell);
     }
 
-    /// Replaces the text of a record's memo. Records count from 1, fields from 0. The text is put after
-    /// all texts that the table has had, so its cost is its own length. It takes no memory.
+    /// Replaces the text of a record's memo. Records count from 1, fields from 0. The old text stays in its blocks
+    /// until the table is packed, so the cost is the new text's length. It takes no memory.
     pub fn set_memo(&mut self, number: u32, field: usize, text: &[u8])
         requires number { 1 ≤ number }
         requires inside { number ≤ length self.old.table.rows }
@@ -220,12 +235,7 @@ impl GrowingTable {
         ensures value { self.new.table ≡ with_cell self.old.table number field text.now }
     {
         let index = memo_index(&self.schema, number, field);
-        let start = self.texts.len();
-        extend_reserved(&mut self.texts, text);
-        self.memos[index] = Span {
-            start,
-            length: text.len(),
-        };
+        self.memos[index] = put_memo(&mut self.texts, text);
     }
 
     /// Marks a record as deleted, or takes its mark away. Records count from 1. It takes no memory.
@@ -238,6 +248,15 @@ impl GrowingTable {
         self.records[start] = flag_of(deleted);
     }
 
+    /// Takes out the records that are marked as deleted. The others keep their order, and the blocks of all texts that no
+    /// memo of theirs has are free. It takes no memory.
+    pub fn pack(&mut self)
+        ensures value { self.new.table ≡ packed self.old.table }
+    {
+        self.count = keep_records(&self.schema, self.count, &mut self.records, &mut self.memos);
+        self.texts.drop_unused(&self.memos);
+    }
+
     /// An equal table of its own; how much room it has is not said.
     ///
     /// An `Err` says that there was no memory.
@@ -245,7 +264,7 @@ impl GrowingTable {
         ensures ok { IfOk result (λ copied. copied.table ≡ self.now.table) }
     {
         let records = Vec::from_slice(alloc, self.records.as_slice())?;
-        let texts = Vec::from_slice(alloc, self.texts.as_slice())?;
+        let texts = self.texts.copy(alloc)?;
         let memos = Vec::from_slice(alloc, self.memos.as_slice())?;
         Ok(GrowingTable {
             schema: self.schema.copy(alloc)?,

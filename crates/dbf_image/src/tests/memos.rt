@@ -50,7 +50,7 @@ fn cut_block_is_read_to_the_files_end(rt: HostRuntime) -> Result<(), Fail> {
     let read = read_memo(rt.alloc(), front(&dbt, 512), 1);
     assert_eq!(rt; read.err(), Some(ImageFault::MemoOutside));
     let table = read_table(rt.alloc(), &one_memo(b"         1"), Some(cut))?;
-    assert!(rt; has_cell(&table, 1, 0, b"HELL"));
+    assert!(rt; has_cell(rt.alloc(), &table, 1, 0, b"HELL"));
     Ok(())
 }
 
@@ -70,7 +70,7 @@ fn cells_number_blocks(rt: HostRuntime) -> Result<(), Fail> {
     ];
     for (cell, text) in cases {
         let table = read_table(rt.alloc(), &one_memo(cell), Some(dbt.as_slice()))?;
-        assert!(rt; has_cell(&table, 1, 0, text));
+        assert!(rt; has_cell(rt.alloc(), &table, 1, 0, text));
     }
     Ok(())
 }
@@ -102,7 +102,7 @@ fn text_has_65535_bytes_at_most(rt: HostRuntime) -> Result<(), Fail> {
     assert_eq!(rt; read.err(), Some(ImageFault::MemoTooLong));
     let shorter = front(&dbt, 512 + 65_535);
     let table = read_table(rt.alloc(), &dbf, Some(shorter))?;
-    assert!(rt; has_cell(&table, 1, 0, front(&dbt, 65_535)));
+    assert!(rt; has_cell(rt.alloc(), &table, 1, 0, front(&dbt, 65_535)));
     Ok(())
 }
 
@@ -128,7 +128,7 @@ fn missing_file_is_refused(rt: HostRuntime) -> Result<(), Fail> {
     let read = read_table(rt.alloc(), &dbf, None);
     assert_eq!(rt; read.err(), Some(ImageFault::MemoFileMissing));
     let table = read_table(rt.alloc(), &dbf, Some(hello().as_slice()))?;
-    assert!(rt; has_cell(&table, 1, 0, b"HELLO"));
+    assert!(rt; has_cell(rt.alloc(), &table, 1, 0, b"HELLO"));
     Ok(())
 }
 
@@ -137,10 +137,10 @@ fn appended_records_have_no_memos(rt: HostRuntime) -> Result<(), Fail> {
     let mut table = named(rt.alloc())?;
     add_blank(&mut table)?;
     assert_eq!(rt; table.record_count(), 2);
-    assert!(rt; has_cell(&table, 1, 0, b"ADA"));
-    assert!(rt; has_cell(&table, 1, 1, b""));
-    assert!(rt; has_cell(&table, 2, 0, b"   "));
-    assert!(rt; has_cell(&table, 2, 1, b""));
+    assert!(rt; has_cell(rt.alloc(), &table, 1, 0, b"ADA"));
+    assert!(rt; has_cell(rt.alloc(), &table, 1, 1, b""));
+    assert!(rt; has_cell(rt.alloc(), &table, 2, 0, b"   "));
+    assert!(rt; has_cell(rt.alloc(), &table, 2, 1, b""));
     Ok(())
 }
 
@@ -152,11 +152,11 @@ fn memo_is_replaced_in_one_table(rt: HostRuntime) -> Result<(), Fail> {
     let other = table.copy(rt.alloc())?;
     put_memo(&mut table, 2, 1, b"BYE")?;
     put_memo(&mut table, 1, 1, b"")?;
-    assert!(rt; has_cell(&table, 1, 0, b"ADA"));
-    assert!(rt; has_cell(&table, 1, 1, b""));
-    assert!(rt; has_cell(&table, 2, 1, b"BYE"));
-    assert!(rt; has_cell(&other, 1, 1, b"HELLO"));
-    assert!(rt; has_cell(&other, 2, 1, b""));
+    assert!(rt; has_cell(rt.alloc(), &table, 1, 0, b"ADA"));
+    assert!(rt; has_cell(rt.alloc(), &table, 1, 1, b""));
+    assert!(rt; has_cell(rt.alloc(), &table, 2, 1, b"BYE"));
+    assert!(rt; has_cell(rt.alloc(), &other, 1, 1, b"HELLO"));
+    assert!(rt; has_cell(rt.alloc(), &other, 2, 1, b""));
     Ok(())
 }
 
@@ -165,7 +165,7 @@ fn cell_beside_a_memo_is_replaced(rt: HostRuntime) -> Result<(), Fail> {
     let mut table = named(rt.alloc())?;
     put_memo(&mut table, 1, 1, b"HELLO")?;
     put_cell(&mut table, 1, 0, b"BOB")?;
-    assert!(rt; has_cell(&table, 1, 0, b"BOB"));
-    assert!(rt; has_cell(&table, 1, 1, b"HELLO"));
+    assert!(rt; has_cell(rt.alloc(), &table, 1, 0, b"BOB"));
+    assert!(rt; has_cell(rt.alloc(), &table, 1, 1, b"HELLO"));
     Ok(())
 }

@@ -19,8 +19,8 @@ fn first_image(rt: HostRuntime) -> Result<(), Fail> {
     assert_eq!(rt; table.schema().fields().len(), 1);
     assert!(rt; !table.is_deleted(1));
     assert!(rt; !table.is_deleted(2));
-    assert_eq!(rt; table.cell(1, 0), b"ADA       ".as_slice());
-    assert_eq!(rt; table.cell(2, 0), b"BOB       ".as_slice());
+    assert!(rt; has_cell(rt.alloc(), &table, 1, 0, b"ADA       "));
+    assert!(rt; has_cell(rt.alloc(), &table, 2, 0, b"BOB       "));
     assert_eq!(rt;
         written(rt.alloc(), &table)?.as_slice(),
         TWO_NAMES.as_slice()

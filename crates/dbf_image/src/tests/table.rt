@@ -33,6 +33,7 @@ fn cell_is_replaced_in_one_table(rt: HostRuntime) -> Result<(), Fail> {
     let table = read_table(rt.alloc(), &TWO_NAMES, None)?;
     assert_eq!(rt; table.record_count(), 2);
     assert_eq!(rt; table.schema().fields().len(), 1);
+    assert!(rt; table.schema().fields()[0].kind != MEMO);
     assert_eq!(rt; table.cell(1, 0).len(), 10);
     let mut other = table.copy(rt.alloc())?;
     other.set_cell(2, 0, b"EVE       ");

@@ -43,6 +43,6 @@ pub returns-clause-value : goal.returns-clause-value
 returns-clause-value c =
     let schema = c.in_ok-schema.schema in
     let header = c.in_ok-header.header in
-    let rows = ap (λ (bs : List ℕ). rows_of schema header.record_count bs (texts_of c.in_ok-texts.texts.items c.in_ok-texts.memos.items)) c.in_ok-records.ensures.items ∙ c.in_ok-texts.ensures.value in
+    let rows = ap (λ (bs : List ℕ). rows_of schema header.record_count bs (texts_of c.in_ok-texts.texts.texts c.in_ok-texts.memos.items)) c.in_ok-records.ensures.items ∙ c.in_ok-texts.ensures.value in
     c.new.ensures.value
     ∙ rows_read c.args.dbf.now (option_copied c.args.dbt) schema header c.records_at-bytes.result.now _ c.in_ok-header.ensures.value c.in_ok-schema.ensures.value (c.in_ok-check_records.ensures.wide ∙ c.record_length-size.ensures.value) c.records_at-bytes.ensures.value rows

@@ -1,31 +1,17 @@
-use Rattle.dbf_image.proofs.Rows.{all_drop}
-use Rattle.std.proofs.Common.{◌∙◌, arith}
-use Rattle.dbf_image.specs.Store.{IsSpan}
-use Rattle.dbf_image.proofs.Chunks.{room-next}
-use Rattle.dbf_image.proofs.Puts.{more_left}
-use Rattle.dbf_image.proofs.Steps.{rows-next, less-next}
+use Rattle.std.proofs.Common.{◌≡◌, refl, sym, ◌∙◌}
+use Rattle.dbf_image.specs.Store.{texts_of, memo_count}
+use Rattle.dbf_image.proofs.Rows.{chunks_take}
+use Rattle.dbf_image.proofs.PlainRows.{plain_rows}
 use Rattle.dbf_image.proofs.dbf.rows.put_records.Goals as goal
 
-pub loop-preserved : goal.loop-preserved
-loop-preserved g c =
+pub returns-then-are_written_flags : goal.returns-then-are_written_flags
+returns-then-are_written_flags g c =
     let fields = c.args.fields.now in
+    let store = c.args.store in
+    let bytes = store.records.now in
+    let size = c.args.header.record_length in
     let count = c.args.header.record_count in
-    let i = c.loop.counter in
-    let lt = c.loop-test.true in
-    let rest = c.loop.rest.now in
-    let texts = c.args.store.texts.now in
-    let memos = c.loop.memos.now in
-    let next = c.loop.next in
-    let size = c.from-size.result in
-    let each = c.memo_count_of-memos_each.result in
-    let less = less-next count i each lt in
-    let step = rows-next fields size count i rest texts memos next lt in
-    record {
-      room = room-next size count i _ _ lt c.loop.invariant.room c.split_at.ensures.back_len;
-      many = room-next each count i _ _ lt c.loop.invariant.many c.split_at-in-loop.ensures.back_len;
-      each = rw c.split_at-in-loop.ensures.back (all_drop (IsSpan texts) memos _ c.loop.invariant.each);
-      few = omega (arith, less, c.loop.invariant.few, c.put_record-next.ensures.small, c.memo_count_of-memos_each.ensures.value);
-      same = c.put_record-next.ensures.put.0 ∙ c.loop.invariant.same;
-      left = rw (c.put_record-next.ensures.next, c.put_record-next.ensures.put.1, c.split_at.ensures.front, c.split_at-in-loop.ensures.front, c.split_at.ensures.back, c.split_at-in-loop.ensures.back, c.memo_count_of-memos_each.ensures.value)
-          (more_left _ _ _ _ _ step c.loop.invariant.left);
-    }
+    let none : memo_count fields ≡ 0 = sym c.memo_count_of.ensures.value ∙ c.if-memo_count_of-eq0.true in
+    let flags = rw (c.split_at.ensures.front, c.from-size.ensures, chunks_take size count bytes) at (c.if-are_written_flags.ensures.value refl) in
+    let same = plain_rows fields size count bytes (texts_of store.texts.now.texts store.memos.now) 1 none c.requires.wide c.requires.room flags in
+    (c.put.ensures.0, rw (same, c.put.ensures.1, c.split_at.ensures.front, c.from-size.ensures) refl)

@@ -4,8 +4,8 @@ use Rattle.dbf_image.specs.Blocks.{blocks_of}
 use Rattle.dbf_image.specs.Store.{text_of}
 use Rattle.dbf_image.proofs.dbt.blocks.blocks_after.Given as goal
 
-abbrev pub invariant-loop-span : goal.invariant-loop-span
-invariant-loop-span l = record {
-  counted : l.next ≡ 1 + sum_by (λ s. blocks_of (text_of l.fn.store.texts.now s)) (take l.span-index l.fn.store.memos.now);
-  small : l.next ≤ 1 + 129 * l.span-index;
+abbrev pub invariant-loop-number : goal.invariant-loop-number
+invariant-loop-number l = record {
+  counted : l.next ≡ 1 + sum_by (λ n. blocks_of (text_of l.fn.store.texts.now.texts n)) (take l.number-index l.fn.store.memos.now);
+  small : l.next ≤ 1 + 129 * l.number-index;
 }

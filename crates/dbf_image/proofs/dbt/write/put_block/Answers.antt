@@ -1,17 +1,27 @@
-use Rattle.std.proofs.Common.{length, refl, sym, ◌∙◌, arith}
-use Rattle.std.proofs.lemmas.Bool.{eqb-true, eqb-false}
+use Rattle.std.proofs.Common.{refl, sym, ◌∙◌}
+use Rattle.dbf_image.specs.Store.{text_of}
 use Rattle.dbf_image.proofs.BlockLaws.{block_put, block_none}
+use Rattle.dbf_image.proofs.MemoNumbers.{some_number, text_held}
 use Rattle.dbf_image.proofs.Puts.{more_nil, more_all_three}
 use Rattle.dbf_image.proofs.dbt.write.put_block.Goals as goal
 
-pub returns-then-is_empty : goal.returns-then-is_empty
-returns-then-is_empty g c = (refl, rw (block_none c.args.text.now (eqb-true _ _ (sym c.if-is_empty.ensures))) (sym (more_nil c.args.out.now.wanted)))
+pub returns-then-length-eq0 : goal.returns-then-length-eq0
+returns-then-length-eq0 g c =
+    let text = text_of c.args.texts.now.texts c.args.number in
+    let none = sym c.memo_length-length.ensures.value ∙ c.if-length-eq0.true in
+    (refl, rw (block_none text none) (sym (more_nil c.args.out.now.wanted)))
+
+pub put_text-requires : goal.put_text-requires
+put_text-requires g c =
+    let some = some_number c.args.texts.now.texts c.args.number (rw c.memo_length-length.ensures.value at c.if-length-eq0.false) in
+    record { held = c.requires.held some }
 
 pub returns : goal.returns
 returns g c =
-    let text = c.args.text.now in
-    let none = eqb-false (length text) 0 (sym c.if-is_empty.ensures) in
-    let whole = block_put text c.fill_of.result (omega (arith, none)) c.fill_of.ensures.value c.fill_of.ensures.small in (
-      c.put-3.ensures.0 ∙ (c.put-2.ensures.0 ∙ c.put.ensures.0),
-      rw (c.put-3.ensures.1, c.put-2.ensures.1, c.put.ensures.1, c.split_at.ensures.front) (more_all_three _ _ _ _ _ whole),
+    let texts = c.args.texts.now.texts in
+    let some = some_number texts c.args.number (rw c.memo_length-length.ensures.value at c.if-length-eq0.false) in
+    let text = rw (text_held texts c.args.number some) at c.put_text.ensures.put.1 in
+    let whole = block_put (text_of texts c.args.number) c.memo_length-length.result c.fill_of.result c.memo_length-length.ensures.value c.if-length-eq0.false c.fill_of.ensures.value c.fill_of.ensures.small in (
+      c.put-2.ensures.0 ∙ (c.put.ensures.0 ∙ c.put_text.ensures.put.0),
+      rw (c.put-2.ensures.1, c.put.ensures.1, text, c.split_at.ensures.front) (more_all_three _ _ _ _ _ whole),
     )

@@ -5,5 +5,5 @@ use Rattle.dbf_image.specs.Output.{Puts}
 use Rattle.dbf_image.specs.Store.{text_of}
 use Rattle.dbf_image.proofs.dbt.write.put_blocks.Given as goal
 
-abbrev pub invariant-loop-span : goal.invariant-loop-span
-invariant-loop-span g l = Puts l.fn.out (flat_map (λ s. block_bytes (text_of l.texts s)) (take l.span-index l.memos)) l.out
+abbrev pub invariant-loop-number : goal.invariant-loop-number
+invariant-loop-number g l = Puts l.fn.out (flat_map (λ n. block_bytes (text_of l.texts.texts n)) (take l.number-index l.memos)) l.out

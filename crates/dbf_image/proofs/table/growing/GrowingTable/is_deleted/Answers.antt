@@ -24,5 +24,5 @@ returns c =
     record {
       value = ap (λ (m : ℕ). eqb (get_or store.records.now m 0) DELETED) start
           ∙ sym (ap (λ (rows : List Row). (get_or rows (c.args.number - 1) blank).deleted) c.store.ensures.rows
-          ∙ flag_read table.schema (length table.rows) (c.args.number - 1) store.records.now (texts_of store.texts.now store.memos.now) blank (omega arith));
+          ∙ flag_read table.schema (length table.rows) (c.args.number - 1) store.records.now (texts_of store.texts.now.texts store.memos.now) blank (omega arith));
     }

@@ -14,7 +14,7 @@ use Rattle.dbf_fields.specs.declared.format.TheConstants.{MEMO}
 pub slice_bounds-copy_from_slice-end : goal.slice_bounds-copy_from_slice-end
 slice_bounds-copy_from_slice-end c =
     let inside = c.self.inside in
-    let n : length c.args.self.now.table.rows ≡ inside.count = rw (← c.self.view_is) (length-rows_of inside.schema inside.count inside.records.items (texts_of inside.texts.items inside.memos.items)) in
+    let n : length c.args.self.now.table.rows ≡ inside.count = rw (← c.self.view_is) (length-rows_of inside.schema inside.count inside.records.items (texts_of inside.texts.texts inside.memos.items)) in
     let field : c.args.field < length inside.schema = rw (← c.self.view_is) at c.requires.field in
     let wide : length c.args.cell.now ≡ width_of inside.schema c.args.field = rw (← c.self.view_is) at c.requires.wide in
     let room = cell-inside inside.schema inside.count (c.args.number - 1) c.args.field _ inside.records.items c.self.invariant.records (omega arith) field c.cell_start-start.ensures.value in
@@ -25,7 +25,7 @@ pub returns : goal.returns
 returns c =
     let inside = c.self.inside in
     let items = inside.records.items in
-    let memos = texts_of inside.texts.items inside.memos.items in
+    let memos = texts_of inside.texts.texts inside.memos.items in
     let other : kind_at inside.schema c.args.field ≢ MEMO = rw (← c.self.view_is) at c.requires.kind in
     let cell = c.args.cell.now in
     let start = c.cell_start-start.result in

@@ -10,7 +10,7 @@ use Rattle.dbf_image.proofs.table.growing.GrowingTable.set_deleted.Goals as goal
 pub index_mut-requires : goal.index_mut-requires
 index_mut-requires c =
     let inside = c.self.inside in
-    let n : length c.args.self.now.table.rows ≡ inside.count = rw (← c.self.view_is) (length-rows_of inside.schema inside.count inside.records.items (texts_of inside.texts.items inside.memos.items)) in
+    let n : length c.args.self.now.table.rows ≡ inside.count = rw (← c.self.view_is) (length-rows_of inside.schema inside.count inside.records.items (texts_of inside.texts.texts inside.memos.items)) in
     omega (arith, chunk-inside (1 + widths inside.schema) inside.count (c.args.number - 1) (length inside.records.items) (omega arith) c.self.invariant.records.whole, c.record_start-start.ensures.value, inside.records.ok.0)
 
 pub invariant_of-self : goal.invariant_of-self
@@ -26,7 +26,7 @@ pub returns : goal.returns
 returns c =
     let inside = c.self.inside in
     let items = inside.records.items in
-    let memos = texts_of inside.texts.items inside.memos.items in
+    let memos = texts_of inside.texts.texts inside.memos.items in
     let i = c.args.number - 1 in
     let n : length c.args.self.now.table.rows ≡ inside.count = rw (← c.self.view_is) (length-rows_of inside.schema inside.count items memos) in
     let rows = ap (λ (k : ℕ). rows_of inside.schema inside.count (set items k c.flag_of.result) memos) c.record_start-start.ensures.value

@@ -1,0 +1,50 @@
+use Rattle.std.proofs.Common.{◌≡◌, ◌+◌, ◌<◌, ◌≤◌, List, length, ap, sym, subst, ◌∙◌, arith}
+use Rattle.std.proofs.lemmas.List.{with_items_is}
+use Rattle.std.specs.FinMap as map
+use Rattle.dbf_image.specs.declared.memo_store.block.MemoBlock.{MemoBlock}
+use Rattle.dbf_image.specs.MemoChains.{IsChain, AreHeld}
+use Rattle.dbf_image.specs.MemoSteps.{Fills}
+use Rattle.dbf_image.specs.MemoStore.{Memos, texts_of}
+use Rattle.dbf_image.proofs.MemoPutting.{Puts, put_grown}
+use Rattle.dbf_image.proofs.memo_store.MemoStore.put.Goals as goal
+
+done : (c : goal.After-self-3-1) → Puts c.self.inside.blocks.items c.fill-self-inside.new.blocks (c.push_free-self-inside.result.head + 1) c.args.text.now
+done c =
+    let free = c.push_free-self-inside.result in
+    let pushed = c.push_free-self-inside.ensures in
+    let count = c.blocks_for-count.result in
+    let some : 0 < count = omega (arith, c.requires.some, c.blocks_for-count.ensures.enough) in
+    let room : 0 < free.count = omega (arith, some, pushed.count, c.saturating_sub-more.ensures) in
+    put_grown count c.self.inside.blocks.items c.push_free-self-inside.new.blocks.items c.fill-self-inside.new.blocks free c.fill-self-inside.result c.args.text.now c.self.invariant.held pushed.grown some room pushed.chain
+    (subst (λ (l : List MemoBlock). Fills l c.fill-self-inside.new.blocks free c.fill-self-inside.result (free.head + 1) count c.args.text.now) c.deref_mut.ensures.value c.fill-self-inside.ensures)
+
+-- the blocks after the call
+after : (c : goal.After-self-3-1) → length c.fill-self-inside.new.blocks ≡ c.push_free-self-inside.new.blocks.len
+after c = c.fill-self-inside.ensures.same_length ∙ c.deref_mut.ensures.len
+
+pub invariant_of-self : goal.invariant_of-self
+invariant_of-self c =
+    let e = c.fill-self-inside.ensures in
+    let pushed = c.push_free-self-inside.ensures in
+    let v = c.push_free-self-inside.new.blocks in
+    let ys = c.fill-self-inside.new.blocks in
+    let is = sym (with_items_is v ys (after c)) in
+    let long = ap (length {A = MemoBlock}) is in
+    let inside = c.self.invariant in
+    let more : c.saturating_sub-more.result ≤ c.self.inside.ready = omega (arith, c.saturating_sub-more.ensures, c.blocks_for-count.ensures.least, c.requires.room, ap (λ (v : Memos). v.spare) c.self.view_is) in
+    let whole : length c.self.inside.blocks.items + c.saturating_sub-more.result ≡ length ys = sym pushed.longer ∙ sym v.ok.0 ∙ sym (after c) in
+    record {
+      free = subst (λ (l : List MemoBlock). IsChain 0 c.fill-self-inside.result.count l c.fill-self-inside.result.head) is e.still_free;
+      held = subst (λ (l : List MemoBlock). AreHeld l) is (done c).held;
+      few = omega (arith, sym long, whole, e.left, pushed.count, inside.few);
+      room = omega (arith, sym long, whole, more, pushed.capacity, inside.room);
+      numbers = omega (arith, sym long, whole, more, inside.numbers);
+    }
+
+pub returns-clause-fresh : goal.returns-clause-fresh
+returns-clause-fresh c = ap (λ (v : Memos). map.get v.texts (c.push_free-self-inside.result.head + 1)) (sym c.self.view_is) ∙ (done c).fresh
+
+pub returns-clause-texts : goal.returns-clause-texts
+returns-clause-texts c =
+    ap texts_of (with_items_is c.push_free-self-inside.new.blocks c.fill-self-inside.new.blocks (after c)) ∙ (done c).texts
+    ∙ ap (λ (v : Memos). map.insert v.texts (c.push_free-self-inside.result.head + 1) c.args.text.now) c.self.view_is

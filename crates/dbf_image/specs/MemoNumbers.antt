@@ -1,0 +1,34 @@
+-- The numbers of memos in a store of texts, and how they are read from a file.
+use Rattle.std.specs.Prelude.{◌≡◌, ◌≢◌, ℕ, ◌+◌, ◌/◌, List, [], ◌∷◌, ◌++◌, length, drop, take, ◌==◌, slice_index, if◌then◌else◌}
+use Rattle.std.specs.List.{AllByRecursion}
+use Rattle.dbf_fields.specs.declared.field.Field.{Field}
+use Rattle.dbf_fields.specs.declared.format.TheConstants.{MEMO}
+use Rattle.dbf_image.specs.declared.dbt.memos.ReadMemos.{ReadMemos}
+use Rattle.dbf_image.specs.declared.format.TheConstants.{BLOCK}
+use Rattle.dbf_image.specs.Memo.{memo_at}
+use Rattle.dbf_image.specs.MemoStore.{Texts}
+use Rattle.dbf_image.specs.Reading.{memo_text}
+use Rattle.dbf_image.specs.Store.{text_of, IsMemo}
+
+-- a number that has a text keeps it
+abbrev pub KeepsMemos : Texts → Texts → Type 0
+KeepsMemos old new = (number : ℕ) → IsMemo old number → IsMemo new number × (text_of new number ≡ text_of old number)
+
+-- the texts of the memos among the cells of a record,
+unfoldable pub cell_texts : List ℕ → Field → List ℕ → List (List ℕ)
+cell_texts dbt f cell = if f.kind == MEMO then memo_text dbt cell ∷ [] else []
+
+abbrev pub cells_texts : List ℕ → List Field → List ℕ → List (List ℕ)
+cells_texts dbt [] bytes = []
+cells_texts dbt (f ∷ fs) bytes = cell_texts dbt f (take f.width bytes) ++ cells_texts dbt fs (drop f.width bytes)
+
+-- and of a record
+abbrev pub row_texts : List ℕ → List Field → List ℕ → List (List ℕ)
+row_texts dbt fields bytes = cells_texts dbt fields (drop 1 bytes)
+
+-- a block whose number is known has that text, and all memos that were read have theirs
+pub record IsReading (dbt : List ℕ) (memos : ReadMemos) : Type 0 where
+  pub many : length memos.of_block.items ≡ length dbt / BLOCK + 1
+  pub known : (block : ℕ) → slice_index memos.of_block.items block ≢ 0
+      → IsMemo memos.texts.texts (slice_index memos.of_block.items block) × (text_of memos.texts.texts (slice_index memos.of_block.items block) ≡ memo_at dbt block)
+  pub each : AllByRecursion (IsMemo memos.texts.texts) memos.numbers.items

@@ -1,0 +1,118 @@
+//! Texts in and out, and how many blocks they take.
+
+ghost use Rattle.std.specs.Prelude.{◌≡◌, ◌<◌, length, IfOk, None};
+ghost use Rattle.std.specs.FinMap as map;
+
+use super::*;
+use std::test::*;
+
+// So many bytes of one value.
+fn run(alloc: Global, byte: u8, count: usize) -> Result<Vec<u8>, Fail>
+    ensures long { IfOk result (λ bytes. length bytes.items ≡ count) }
+{
+    let mut bytes = Vec::new(alloc);
+    bytes.resize(count, byte)?;
+    Ok(bytes)
+}
+
+// Makes room for a text, and keeps it.
+fn keep(store: &mut MemoStore, text: &[u8]) -> Result<u32, Fail>
+    requires some { 0 < length text.now }
+    ensures fresh { IfOk result (λ number. map.get store.old.texts number ≡ None) }
+    ensures texts { IfOk result (λ number. store.new.texts ≡ map.insert store.old.texts number text.now) }
+{
+    store.reserve(text.len())?;
+    Ok(store.put(text))
+}
+
+// Keeps texts of so many bytes each, and answers how many blocks there are then.
+fn keep_runs(alloc: Global, store: &mut MemoStore, lengths: &[usize]) -> Result<usize, Fail> {
+    for length in lengths {
+        let text = run(alloc, b'M', *length)?;
+        if !text.is_empty() {
+            keep(store, &text)?;
+        }
+    }
+    Ok(store.blocks.len())
+}
+
+// A dropped text leaves its blocks to the next one.
+#[test]
+fn memo_blocks_used_again(rt: HostRuntime) -> Result<(), Fail> {
+    let alloc = rt.alloc();
+    let first = run(alloc, b'A', 600)?;
+    let last = run(alloc, b'B', 512)?;
+    let mut store = MemoStore::new(alloc);
+    let a = keep(&mut store, &first)?;
+    let b = keep(&mut store, b"XYZ")?;
+    store.drop_unused(&[b]);
+    let kept = store.text(alloc, b)?;
+    let c = keep(&mut store, &last)?;
+    assert!(rt; a != b && b != c);
+    assert!(rt; kept.as_slice() == b"XYZ".as_slice());
+    assert!(rt; store.text(alloc, b)? == kept);
+    assert!(rt; store.text(alloc, c)?.as_slice() == last.as_slice());
+    assert_eq!(rt; store.blocks.len(), 3);
+    Ok(())
+}
+
+#[test]
+fn hello_is_read_back(rt: HostRuntime) -> Result<(), Fail> {
+    let mut store = MemoStore::new(rt.alloc());
+    let number = keep(&mut store, b"HELLO")?;
+    let text = store.text(rt.alloc(), number)?;
+    assert_eq!(rt; text.as_slice(), b"HELLO".as_slice());
+    Ok(())
+}
+
+// Room that was not used up: a block that held a text is taken before one that never did.
+#[test]
+fn unused_reserve(rt: HostRuntime) -> Result<(), Fail> {
+    let alloc = rt.alloc();
+    let mut store = MemoStore::new(alloc);
+    store.reserve(5120)?;
+    assert_eq!(rt; keep_runs(alloc, &mut store, &[1])?, 1);
+    store.drop_unused(&[]);
+    assert_eq!(rt; keep_runs(alloc, &mut store, &[512])?, 1);
+    assert_eq!(rt; keep_runs(alloc, &mut store, &[513])?, 3);
+    store.drop_unused(&[]);
+    assert_eq!(rt; keep_runs(alloc, &mut store, &[1024, 1, 1])?, 4);
+    Ok(())
+}
+
+// Filled and emptied a thousand times, the store has the blocks of the fullest moment.
+#[test]
+fn a_thousand_rounds(rt: HostRuntime) -> Result<(), Fail> {
+    let mut store = MemoStore::new(rt.alloc());
+    for _ in 0..500 {
+        let fullest = keep_runs(rt.alloc(), &mut store, &[600, 1, 1500])?;
+        store.drop_unused(&[]);
+        let fewer = keep_runs(rt.alloc(), &mut store, &[513, 512])?;
+        store.drop_unused(&[]);
+        assert!(rt; fullest == 6 && fewer == 6);
+    }
+    Ok(())
+}
+
+// The longest text that a memo has stands in 128 blocks.
+#[test]
+fn longest_memo_is_read_back(rt: HostRuntime) -> Result<(), Fail> {
+    let mut store = MemoStore::new(rt.alloc());
+    let longest = run(rt.alloc(), b'L', 65_535)?;
+    let number = keep(&mut store, &longest)?;
+    let text = store.text(rt.alloc(), number)?;
+    assert!(rt; text.as_slice() == longest.as_slice());
+    assert_eq!(rt; store.blocks.len(), 128);
+    Ok(())
+}
+
+// More blocks than a u32 can number are refused, and what is kept stays.
+#[test]
+fn too_many_blocks_are_refused(rt: HostRuntime) -> Result<(), Fail> {
+    let mut store = MemoStore::new(rt.alloc());
+    let number = keep(&mut store, b"HELLO")?;
+    let reserved = store.reserve(usize::MAX);
+    let text = store.text(rt.alloc(), number)?;
+    assert!(rt; reserved.is_err() && text.as_slice() == b"HELLO".as_slice());
+    Ok(())
+}
