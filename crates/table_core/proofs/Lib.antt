@@ -1,4 +1,5 @@
 mod Follows
+mod KeptPairs
 mod Numbers
 mod Seeking
 mod Turned

@@ -4,7 +4,6 @@ use Rattle.std.specs.List.{AllByRecursion}
 use Rattle.dbf_fields.specs.declared.format.TheConstants.{MEMO}
 use Rattle.dbf_fields.specs.Layout.{width_of}
 use Rattle.dbf_image.specs.declared.format.TheConstants.{MAX_RECORDS}
-use Rattle.dbf_image.specs.Growing.{Growing}
 use Rattle.dbf_image.specs.Table.{Table, kind_at, is_memo_text, packed}
 use Rattle.table_core.specs.declared.cursor.Cursor.{Cursor}
 use Rattle.table_core.specs.declared.edits.planned.Change.{Change}
@@ -23,14 +22,14 @@ changed_by content AddBlank = with_blank content
 changed_by content (SetCell target cell) = with_value content target cell
 changed_by content (SetMemo target text) = with_value content target text
 changed_by content (SetMark number deleted) = with_deleted content number deleted
-changed_by content (Pack records indexes) = with_table content records.table
+changed_by content (Pack indexes) = with_table content (packed content.table)
 
 abbrev pub moved_by : Content → Cursor → Change → Cursor
 moved_by content cursor AddBlank = at_record cursor (record_count content + 1)
 moved_by content cursor (SetCell target cell) = cursor
 moved_by content cursor (SetMemo target text) = cursor
 moved_by content cursor (SetMark number deleted) = cursor
-moved_by content cursor (Pack records indexes) = at_top (with_table content records.table) cursor
+moved_by content cursor (Pack indexes) = at_top (with_table content (packed content.table)) cursor
 
 -- the table, and the cursor, after the plan is carried out
 abbrev pub changed : Content → Planned → Content
@@ -81,10 +80,9 @@ pub record CanSetMemo (held : Held) (t : Target) (text : List ℕ) : Type 0 wher
   pub memo : IsMemoOf held.content.table t text
   pub for_text : length text ≤ held.room.for_text
 
--- the records are those that are not marked, and the indexes are theirs
-pub record CanPack (held : Held) (records : Growing) (indexes : List TableIndex) : Type 0 where
-  pub table : records.table ≡ packed held.content.table
-  pub follow : AllByRecursion (Follows records.table) indexes
+-- the indexes are those of the records that are not marked
+pub record CanPack (held : Held) (indexes : List TableIndex) : Type 0 where
+  pub follow : AllByRecursion (Follows (packed held.content.table)) indexes
   pub same : map indexed indexes ≡ held.content.indexes
 
 abbrev pub CanMake : Held → Change → Type 0
@@ -92,7 +90,7 @@ CanMake held AddBlank = CanAdd held
 CanMake held (SetCell target cell) = CanSetCell held target (length cell)
 CanMake held (SetMemo target text) = CanSetMemo held target text
 CanMake held (SetMark number deleted) = IsRecordOf held.content.table number
-CanMake held (Pack records indexes) = CanPack held records indexes.items
+CanMake held (Pack indexes) = CanPack held indexes.items
 
 -- planned for the table as it stands
 abbrev pub IsPlanned : Held → Planned → Type 0

@@ -1,6 +1,7 @@
 //! One index of a table.
 
 ghost use Rattle.std.specs.Prelude.{◌≡◌, ℕ, ◌+◌, ◌<◌, ◌≤◌, length, slice_get, slice_index_or, IfOk, OnOk};
+ghost use Rattle.dbf_image.specs.Table.{packed};
 ghost use Rattle.key_expr.specs.Keys.{key_length};
 ghost use Rattle.ndx_index.specs.Order.{AreInOrder};
 ghost use Rattle.ndx_index.specs.Places.{back_from};
@@ -11,7 +12,7 @@ pub(crate) mod all;
 pub(crate) mod kept;
 pub(crate) mod sort;
 
-use crate::indexes::sort::sorted;
+use crate::indexes::sort::{sorted, sorted_kept};
 use dbf_fields::Bytes;
 use dbf_image::GrowingTable;
 use key_expr::KeyExpr;
@@ -44,17 +45,18 @@ impl TableIndex {
         Ok(TableIndex { name, expr, order })
     }
 
-    /// The same index for other rows of the same fields. An `Err` says that there was no memory.
-    pub(crate) fn sorted_anew(
+    /// The same index for the table without the records that are marked as deleted. An `Err` says that there was no
+    /// memory.
+    pub(crate) fn packed(
         &self,
         alloc: Global,
         records: &GrowingTable,
     ) -> Result<TableIndex, AllocError>
         requires is_for { IsFor records.now.table self.now }
-        ensures follows { IfOk result (λ made. Follows records.now.table made) }
+        ensures follows { IfOk result (λ made. Follows (packed records.now.table) made) }
         ensures same { IfOk result (λ made. indexed made ≡ indexed self.now) }
     {
-        let order = sorted(alloc, records, &self.expr)?;
+        let order = sorted_kept(alloc, records, &self.expr)?;
         let name = self.name.copy(alloc)?;
         let expr = self.expr.copy(alloc)?;
         Ok(TableIndex { name, expr, order })

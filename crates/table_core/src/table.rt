@@ -25,7 +25,7 @@ use crate::indexes::TableIndex;
 use crate::indexes::sort::made_all;
 use crate::refusal::Refusal;
 use crate::table::shown::shown;
-use dbf_fields::{Bytes, Schema};
+use dbf_fields::{Bytes, MEMO, Schema};
 use dbf_image::{GrowingTable, TableData};
 use key_expr::KeyExpr;
 use ndx_index::Pair;
@@ -164,8 +164,12 @@ impl Table {
         ensures refused { IfErr result (λ fault. IsFaultOf fault (shown_field self.now.content cursor.now field.now)) }
     {
         let target = self.find_target(cursor, field)?;
+        let field = &self.schema().fields()[target.field];
+        if field.kind == MEMO {
+            return Ok(self.records.memo(alloc, target.number, target.field)?);
+        }
         let cell = self.records.cell(target.number, target.field);
-        Ok(shown(alloc, &self.schema().fields()[target.field], cell)?)
+        Ok(shown(alloc, field, cell)?)
     }
 
     // The field of a name in the record at the cursor.

@@ -2,7 +2,6 @@
 
 use crate::indexes::TableIndex;
 use dbf_fields::Bytes;
-use dbf_image::GrowingTable;
 
 /// A field of a record, to be changed or shown.
 #[derive(Clone, Copy, Debug, PartialEq, Eq)]
@@ -39,11 +38,9 @@ pub(crate) enum Change {
         /// Whether it is marked as deleted then.
         deleted: bool,
     },
-    /// The records that are not marked, and the indexes of them.
+    /// The records that are marked as deleted are taken out.
     Pack {
-        /// The records.
-        records: GrowingTable,
-        /// The indexes.
+        /// The indexes of the others.
         indexes: Vec<TableIndex>,
     },
 }

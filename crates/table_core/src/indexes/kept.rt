@@ -1,6 +1,6 @@
 //! Indexes that are made of pairs that were kept, as an index file's.
 
-ghost use Rattle.std.specs.Prelude.{◌≡◌, ◌↔◌, length, IfSome, IsSome, IsTrue, IsPermutation};
+ghost use Rattle.std.specs.Prelude.{◌≡◌, ◌↔◌, length, IfOk, IfSome, IsSome, IsTrue, IsPermutation, OnErr};
 ghost use Rattle.std.specs.List.{AllByRecursion};
 ghost use Rattle.key_expr.specs.Keys.{key_length};
 ghost use Rattle.ndx_index.specs.Index.{HaveLength};
@@ -12,29 +12,35 @@ use dbf_fields::Bytes;
 use dbf_image::GrowingTable;
 use key_expr::KeyExpr;
 use ndx_index::{OrderedIndex, Pair, are_in_order, sort_pairs};
+use std::alloc::{AllocError, Global};
 
 impl TableIndex {
     /// An index of a table, of pairs that stand in any order; `None` where they are not the pairs of the
-    /// table's records, each as often. It takes no memory, and no order is built to compare with.
+    /// table's records, each as often. No order is built to compare with. An `Err` says that there was no memory
+    /// for the pages of the pairs, which are the table's.
     pub(crate) fn kept(
+        alloc: Global,
         records: &GrowingTable,
         name: Bytes,
         expr: KeyExpr,
         mut pairs: Vec<Pair>,
-    ) -> Option<TableIndex>
+    ) -> Result<Option<TableIndex>, AllocError>
         requires fields { expr.fields ≡ records.now.table.schema }
-        ensures whole { IsSome result ↔ IsPermutation (pairs_of records.now.table expr.expr) pairs.items }
-        ensures follows { IfSome result (λ made. Follows records.now.table made) }
-        ensures same { IfSome result (λ made. indexed made ≡ record { name = name; expr = expr }) }
+        ensures whole { IfOk result (λ made. IsSome made ↔ IsPermutation (pairs_of records.now.table expr.expr) pairs.items) }
+        ensures tested { OnErr result (IsPermutation (pairs_of records.now.table expr.expr) pairs.items) }
+        ensures follows { IfOk result (λ made. IfSome made (λ index. Follows records.now.table index)) }
+        ensures same { IfOk result (λ made. IfSome made (λ index. indexed index ≡ record { name = name; expr = expr })) }
     {
         // This call tells contracts that the expression keeps the rules on fields.
         let _text = expr.text();
         sort_pairs(&mut pairs);
         if !is_order_of(records, &expr, &pairs) {
-            return None;
+            return Ok(None);
         }
-        let order = OrderedIndex::from_ordered(expr.key_len(), pairs);
-        Some(TableIndex { name, expr, order })
+        match OrderedIndex::from_sorted(alloc, expr.key_len(), &pairs) {
+            Ok(order) => Ok(Some(TableIndex { name, expr, order })),
+            Err(refused) => Err(refused),
+        }
     }
 }
 

@@ -4,6 +4,7 @@ ghost use Rattle.std.specs.Prelude.{◌≡◌, map, IfOk};
 ghost use Rattle.std.specs.List.{AllByRecursion};
 ghost use Rattle.table_core.specs.Content.{named, IsReadFor};
 ghost use Rattle.table_core.specs.Indexes.{Follows, IsFor, indexed};
+ghost use Rattle.dbf_image.specs.Table.{packed};
 ghost use Rattle.key_expr.specs.Keys.{key_length};
 ghost use Rattle.ndx_index.specs.Index.{HaveLength};
 ghost use Rattle.ndx_index.specs.TableOrder.{order, pairs_of};
@@ -46,19 +47,57 @@ fn record_pairs(
     Ok(pairs)
 }
 
-/// Each index of a table, for other rows of the same fields. An `Err` says that there was no memory.
-pub(crate) fn sorted_all(
+/// The pairs of the records that are not marked as deleted, in order, by the numbers that these have without the
+/// others. An `Err` says that there was no memory.
+pub(crate) fn sorted_kept(
+    alloc: Global,
+    records: &GrowingTable,
+    expr: &KeyExpr,
+) -> Result<OrderedIndex, AllocError>
+    requires fields { expr.now.fields ≡ records.now.table.schema }
+    ensures pairs { IfOk result (λ index. index.pairs ≡ order (packed records.now.table) expr.now.expr) }
+    ensures key_len { IfOk result (λ index. index.key_len ≡ key_length expr.now.fields expr.now.expr) }
+{
+    let pairs = kept_pairs(alloc, records, expr)?;
+    OrderedIndex::from_pairs(alloc, expr.key_len(), pairs)
+}
+
+// The same pairs, in the order of their numbers.
+fn kept_pairs(
+    alloc: Global,
+    records: &GrowingTable,
+    expr: &KeyExpr,
+) -> Result<Vec<Pair>, AllocError>
+    requires fields { expr.now.fields ≡ records.now.table.schema }
+    ensures pairs { IfOk result (λ pairs. pairs.items ≡ pairs_of (packed records.now.table) expr.now.expr) }
+    ensures keys { IfOk result (λ pairs. HaveLength (key_length expr.now.fields expr.now.expr) pairs.items) }
+{
+    let mut pairs = Vec::new(alloc);
+    let mut number = 1;
+    for index in 0..records.record_count() {
+        if !records.is_deleted(index + 1) {
+            let key = pair_of(expr, records, index + 1).key;
+            pairs.push(Pair { key, number })?;
+            number += 1;
+        }
+    }
+    Ok(pairs)
+}
+
+/// Each index of a table, for the table without the records that are marked as deleted. An `Err` says that there
+/// was no memory.
+pub(crate) fn packed_all(
     alloc: Global,
     indexes: &Vec<TableIndex>,
     records: &GrowingTable,
 ) -> Result<Vec<TableIndex>, AllocError>
     requires are_for { AllByRecursion (IsFor records.now.table) indexes.now.items }
-    ensures follow { IfOk result (λ made. AllByRecursion (Follows records.now.table) made.items) }
+    ensures follow { IfOk result (λ made. AllByRecursion (Follows (packed records.now.table)) made.items) }
     ensures same { IfOk result (λ made. map indexed made.items ≡ map indexed indexes.now.items) }
 {
     let mut made = Vec::new(alloc);
     for index in indexes {
-        made.push(index.sorted_anew(alloc, records)?)?;
+        made.push(index.packed(alloc, records)?)?;
     }
     Ok(made)
 }

@@ -36,8 +36,8 @@ impl Table {
             Change::SetMark { number, deleted } => {
                 set_mark(&mut self.records, &self.indexes, number, deleted);
             }
-            Change::Pack { records, indexes } => {
-                self.records = records;
+            Change::Pack { indexes } => {
+                self.records.pack();
                 self.indexes = indexes;
                 *cursor = self.at_top(cursor);
             }

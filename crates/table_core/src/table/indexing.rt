@@ -55,11 +55,12 @@ impl Table {
     /// Adds an index after the others, made of the pairs that an index file has, in any order, and answers whether
     /// it is added: it is where these are the pairs of the table's records, each as often. Else nothing changes.
     /// The pairs are put in order where they are not, and compared in one pass; nothing is sorted or built beside
-    /// them.
+    /// them to compare with.
     ///
     /// An `Err` says that there was no memory for the pairs, which are the table's. It changes nothing.
     pub fn add_kept_index(
         &mut self,
+        alloc: Global,
         name: Bytes,
         expr: KeyExpr,
         pairs: Vec<Pair>,
@@ -70,7 +71,7 @@ impl Table {
         ensures err { OnErr result (self.new.content ≡ self.old.content) }
         ensures tested { IfErr result (λ _. IsPermutation (pairs_of self.old.content.table expr.expr) pairs.items) }
     {
-        let Some(index) = TableIndex::kept(&self.records, name, expr, pairs) else {
+        let Some(index) = TableIndex::kept(alloc, &self.records, name, expr, pairs)? else {
             return Ok(false);
         };
         self.indexes.push(index)?;

@@ -12,7 +12,7 @@ use crate::edits::Edit;
 use crate::edits::planned::{Change, Planned};
 use crate::fault::TableFault;
 use crate::indexes::all::reserve_all;
-use crate::indexes::sort::sorted_all;
+use crate::indexes::sort::packed_all;
 use crate::refusal::Refusal;
 use crate::table::Table;
 use dbf_fields::{Bytes, Literal, MEMO, encode_cell};
@@ -134,19 +134,18 @@ impl Table {
         })
     }
 
-    // The new rows, and the new indexes in order.
+    // The new indexes in order. The rows are packed in place when the plan is carried out.
     fn plan_pack(&self, alloc: Global) -> Result<Planned, AllocError>
         ensures outcome { IfOk result (λ planned. (cursor : CursorValue) → pack self.now.content cursor ≡ carried_out self.now.content cursor planned) }
         ensures planned { IfOk result (λ planned. IsPlanned self.now planned) }
     {
-        let records = self.records.packed(alloc)?;
-        let indexes = sorted_all(alloc, &self.indexes, &records)?;
+        let indexes = packed_all(alloc, &self.indexes, &self.records)?;
         Ok(Planned {
-            change: Change::Pack { records, indexes },
+            change: Change::Pack { indexes },
         })
     }
 
-    // Makes room for so many bytes of memos.
+    // Makes room for a memo of at most so many bytes.
     fn reserve_text(&mut self, length: usize) -> Result<(), AllocError>
         ensures ok { OnOk result (length ≤ self.new.room.for_text) }
         ensures same { self.new.content ≡ self.old.content }

@@ -37,9 +37,12 @@ fn asked(number: u32) -> Asked
     }
 }
 
-// The bytes of a cell, of the record of a number.
+// The bytes of a cell that is no memo, of the record of a number.
 fn cell_of(data: &TableData, number: u32, field: usize) -> &[u8] {
     if number < 1 || number > data.record_count() || field >= data.schema().fields().len() {
+        return b"";
+    }
+    if data.schema().fields()[field].kind == MEMO {
         return b"";
     }
     data.cell(number, field)

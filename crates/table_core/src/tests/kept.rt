@@ -28,7 +28,7 @@ fn is_kept(alloc: Global, pairs: &[Pair]) -> Result<bool, Fail> {
     let mut table = three_records(alloc)?;
     let name = Bytes::from_slice(alloc, b"X")?;
     let expr = KeyExpr::parse(alloc, b"NAME", table.schema())?;
-    let kept = table.add_kept_index(name, expr, pairs.to_vec(alloc)?)?;
+    let kept = table.add_kept_index(alloc, name, expr, pairs.to_vec(alloc)?)?;
     if !kept {
         return Ok(table.index_count() > 0);
     }
