@@ -1,6 +1,6 @@
 -- The tables of a catalogue that can be opened have different names, so each gets the number that it has in order.
-use Rattle.std.proofs.Common.{◌≡◌, ℕ, zero, suc, ◌+◌, ◌<◌, length-append, Bool, true, false, not, cond, ◌&&◌, List, [], ◌∷◌, ◌++◌, length, map, take, replicate, get_or, Ok, Err, refl, sym, ap, subst, inl, inr, ◌∙◌, arith}
-use Rattle.std.specs.Prelude.{Result, Option, Some, None, ◌⊎◌, nat_le, ◌≤◌}
+use Rattle.std.proofs.Common.{◌≡◌, ℕ, zero, suc, ◌+◌, ◌<◌, length-append, Bool, true, false, not, cond, List, [], ◌∷◌, ◌++◌, length, map, take, replicate, get_or, Ok, Err, refl, sym, ap, subst, inl, inr, ◌∙◌, arith}
+use Rattle.std.specs.Prelude.{Result, Option, Some, None, nat_le, ◌≤◌}
 use Rattle.std.proofs.lemmas.Bool.Decides.{nat_tests}
 use Rattle.shared_catalogue.specs.declared.opening.TheConstants.{MAX_INDEXES}
 use Rattle.shared_catalogue.specs.declared.opening.OpenFault.TheVariants.{DuplicateTable, TooManyIndexes, NoMemory}

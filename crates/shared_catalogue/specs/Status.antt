@@ -1,5 +1,5 @@
 -- The status row: how long the journal is, its last entry, and who holds which table.
-use Rattle.std.specs.Prelude.{ℕ, ◌+◌, ◌-◌, Bool, true, false, ◌&&◌, ◌==◌, nat_le, if◌then◌else◌, List, [], ◌∷◌, ◌++◌, length, map, slice_get, Option, Some, None}
+use Rattle.std.specs.Prelude.{ℕ, ◌+◌, ◌-◌, Bool, true, false, ◌&&◌, ◌==◌, nat_le, if◌then◌else◌, List, [], ◌∷◌, length, map, slice_get, Option, Some, None}
 use Rattle.std.specs.List.{list_any, position}
 use Rattle.lock_table.specs.Locks.{Lock, holder, record_locks}
 use Rattle.ndx_index.specs.Places.{counted}

@@ -1,6 +1,6 @@
 -- Tables under their names.
-use Rattle.std.specs.Prelude.{ℕ, List, map}
-use Rattle.table_core.specs.Content.{Content, named}
+use Rattle.std.specs.Prelude.{ℕ, List}
+use Rattle.table_core.specs.Content.{Content}
 use Rattle.shared_catalogue.specs.declared.opening.OpenedTable.{OpenedTable}
 use Rattle.shared_catalogue.specs.declared.kept_table.KeptTable.{KeptTable}
 
@@ -15,4 +15,4 @@ named_table t = record { name = t.name; content = t.table.content }
 
 -- a table as it was opened
 abbrev pub kept_table : KeptTable → NamedTable
-kept_table t = record { name = t.name; content = record { table = t.content; indexes = map named t.indexes.items } }
+kept_table t = record { name = t.name; content = t.table.value.content }

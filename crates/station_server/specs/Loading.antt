@@ -4,6 +4,7 @@ use Rattle.std.specs.List.{position}
 use Rattle.dbf_image.specs.declared.fault.ImageFault.TheVariants.{NoMemory as NoRoomForImage}
 use Rattle.dbf_image.specs.DbfText.{IsDbf}
 use Rattle.dbf_image.specs.Reading.{IsRefusal}
+use Rattle.dbf_image.specs.Sink.{Rises}
 use Rattle.ndx_index.specs.declared.fault.NdxFault.TheVariants.{NoMemory as NoRoomForIndex}
 use Rattle.ndx_index.specs.Header.{IsIndex, Breaks}
 use Rattle.shared_catalogue.specs.declared.source.IndexSource.{IndexSource}
@@ -16,7 +17,7 @@ use Rattle.station_server.specs.declared.whole_run.fault.FileFault.TheVariants.{
 use Rattle.station_server.specs.declared.whole_run.fault.ServeFault.{ServeFault}
 use Rattle.station_server.specs.declared.whole_run.fault.ServeFault.TheVariants.{File, NoMemory}
 use Rattle.station_server.specs.declared.whole_run.loaded.Loaded.{Loaded}
-use Rattle.station_server.specs.Files.{IsFileOf}
+use Rattle.station_server.specs.Files.{IsFileOf, IsTooLong}
 
 -- ---- what is read
 
@@ -111,3 +112,10 @@ IsEntryFault files entry fault = ⊥
 -- the fault is that of one of the entries
 abbrev pub IsFaultIn : Option (List NamedFile) → List SetupEntry → ServeFault → Type 0
 IsFaultIn files entries fault = (i : ℕ) × (entry : SetupEntry) × (slice_get entries i ≡ Some entry) × IsEntryFault files entry fault
+
+-- what a fault says of the count of loads that failed: a file can't be read where a load failed or the file is over the
+-- limit; of want of memory nothing is said; at any other fault no load has failed
+abbrev pub IsFailure : Option (List NamedFile) → Option ℕ → Option ℕ → ServeFault → Type 0
+IsFailure files before after NoMemory = Unit {0}
+IsFailure files before after (File path CannotRead) = Rises before after ⊎ IsTooLong files path
+IsFailure files before after fault = after ≡ before

@@ -6,7 +6,7 @@ ghost use Rattle.shared_catalogue.specs.Opening.{Opening};
 ghost use Rattle.station_server.specs.declared.files.closed.ClosedTable.{ClosedTable as Table};
 ghost use Rattle.station_server.specs.Closing.{run_files, IsCutAt};
 ghost use Rattle.station_server.specs.Files.{told};
-ghost use Rattle.station_server.specs.Loading.{read_of};
+ghost use Rattle.station_server.specs.Loading.{read_of, IsFailure};
 ghost use Rattle.station_server.specs.WholeRun.{stations_for, IsAllRead, IsReadFault, IsRun, IsRunFault, IsWholeRun, IsServeFault, IsSaid, IsWriteFault};
 
 mod closing;
@@ -40,6 +40,8 @@ fn read_setup<S: Source>(
     ensures said { IfOk result (λ entries. IsSaid (S.files source.old) setup.now (Ok entries.items)) }
     ensures kept { S.files source.new ≡ S.files source.old }
     ensures fault { IfErr result (IsReadFault (S.files source.old) setup.now) }
+    ensures loads { OnOk result (S.failures source.new ≡ S.failures source.old) }
+    ensures failure { IfErr result (IsFailure (S.files source.old) (S.failures source.old) (S.failures source.new)) }
 {
     let text = load_file(alloc, source, setup)?;
     match parse_setup(alloc, text.as_slice()) {
@@ -54,6 +56,8 @@ fn read_all<S: Source>(alloc: Global, source: &mut S, setup: &Bytes) -> Result<L
     ensures read { IfOk result (λ loaded. IsAllRead (S.files source.old) setup.now (read_of loaded)) }
     ensures kept { S.files source.new ≡ S.files source.old }
     ensures fault { IfErr result (IsReadFault (S.files source.old) setup.now) }
+    ensures loads { OnOk result (S.failures source.new ≡ S.failures source.old) }
+    ensures failure { IfErr result (IsFailure (S.files source.old) (S.failures source.old) (S.failures source.new)) }
 {
     let entries = read_setup(alloc, source, setup)?;
     load_entries(alloc, source, &entries)
@@ -157,6 +161,9 @@ pub fn serve<S: Source, F: Folder, G: Gate + Sync, R: Threads + Wait + Sync>(
     ensures fine { OnOk result (F.failures folder.new ≡ F.failures folder.old) }
     ensures kept { S.files source.new ≡ S.files source.old }
     ensures fault { IfErr result (IsServeFault (S.files source.old) setup.now reindex today.year) }
+    // A file can't be read only where a load has failed, or where it is over the limit.
+    ensures loads { OnOk result (S.failures source.new ≡ S.failures source.old) }
+    ensures failure { IfErr result (IsFailure (S.files source.old) (S.failures source.old) (S.failures source.new)) }
     ensures unbegun { IfErr result (λ fault. ((name : List ℕ) → fault ≢ ServeFault.Close (CloseFault.Write name)) → folder.new ≡ folder.old) }
     ensures failed { (name : List ℕ) → result ≡ Err (ServeFault.Close (CloseFault.Write name)) → Rises (F.failures folder.old) (F.failures folder.new) }
     ensures cut { (name : List ℕ) → result ≡ Err (ServeFault.Close (CloseFault.Write name)) → (tables : List Table) × (answers : List (List ℕ)) × (count : ℕ) × IsWholeRun (S.files source.old) setup.now reindex tables answers count × IsCutAt name (F.written folder.old) (F.written folder.new) (run_files today.year today.month today.day tables answers) }

@@ -106,11 +106,12 @@ fn keep_index(
         table.add_index(alloc, source.name, expr)?;
         return Ok(());
     }
-    keep_file(table, source.name, expr, source.file, at)
+    keep_file(alloc, table, source.name, expr, source.file, at)
 }
 
 // Adds the index by its file's pairs, where the file is of the table as it is.
 fn keep_file(
+    alloc: Global,
     table: &mut Table,
     name: Bytes,
     expr: KeyExpr,
@@ -125,7 +126,7 @@ fn keep_file(
     if file.key_len != expr.key_len() {
         return Err(OpenFault::IndexStale(at.table, at.index));
     }
-    match table.add_kept_index(name, expr, file.pairs) {
+    match table.add_kept_index(alloc, name, expr, file.pairs) {
         Ok(true) => Ok(()),
         Ok(false) => Err(OpenFault::IndexStale(at.table, at.index)),
         Err(_) => Err(OpenFault::NoMemory),

@@ -3,7 +3,7 @@
 use super::asked::{
     Asked, Case, Expected, Text, Value, first_unexpected_in, long_text, table_after,
 };
-use super::sample::{blank_table, cell_of};
+use super::sample::{blank_table, memo_of};
 use dbf_fields::{Field, MEMO, NUMBER, day_of};
 use dbf_image::{MemorySink, TableData, read_table, write_dbf, write_dbt};
 use std::alloc::Global;
@@ -81,7 +81,7 @@ fn written_memos_are_read_again(rt: HostRuntime) -> Result<(), Fail> {
     let again = read_table(alloc, &dbf, Some(&dbt))?;
     for (number, length) in [(1, 510), (2, 511), (3, 0)] {
         assert_eq!(rt;
-            cell_of(&again, number, 0),
+            memo_of(alloc, &again, number, 0)?.as_slice(),
             long_text(alloc, length)?.as_slice()
         );
     }

@@ -4,7 +4,7 @@ ghost use Rattle.std.specs.Prelude.{◌≡◌, [], IfOk};
 
 use crate::catalogue::Catalogue;
 use crate::source::TableSource;
-use dbf_fields::{Bytes, Field, Schema};
+use dbf_fields::{Bytes, Field, MEMO, Schema};
 use dbf_image::{TableData, read_table};
 use std::alloc::Global;
 use std::test::Fail;
@@ -76,11 +76,26 @@ pub fn first_table(alloc: Global, catalogue: &Catalogue) -> Result<TableData, Fa
     Ok(catalogue.content(alloc, 1)?)
 }
 
-// The cell of a record and a field, or nothing where there is none.
+// The cell of a record and a field that is no memo, or nothing where there is none.
 pub fn cell_of(table: &TableData, number: u32, field: usize) -> &[u8] {
     let fields = table.schema().fields().len();
     if number < 1 || number > table.record_count() || field >= fields {
         return &[];
     }
+    if table.schema().fields()[field].kind == MEMO {
+        return &[];
+    }
     table.cell(number, field)
+}
+
+// The text of a record's memo, where there is one.
+pub fn memo_of(alloc: Global, table: &TableData, number: u32, field: usize) -> Result<Bytes, Fail> {
+    let fields = table.schema().fields().len();
+    if number < 1 || number > table.record_count() || field >= fields {
+        return Err("there is no such cell".into());
+    }
+    if table.schema().fields()[field].kind != MEMO {
+        return Err("the field is no memo".into());
+    }
+    Ok(table.memo(alloc, number, field)?)
 }

@@ -7,7 +7,7 @@ ghost use Rattle.dbf_image.specs.Reading.{IsRefusal};
 ghost use Rattle.ndx_index.specs.Header.{IsIndex, Breaks};
 ghost use Rattle.station_server.specs.declared.setup.entry.SetupEntry.TheVariants.{Table, Index};
 ghost use Rattle.station_server.specs.Files.{IsFileOf};
-ghost use Rattle.station_server.specs.Loading.{nothing, read_of, IsMemoFileOf, IsTableRead, IsIndexRead, HasIndex, Loads, LoadAll, IsEntryFault, IsFaultIn};
+ghost use Rattle.station_server.specs.Loading.{nothing, read_of, IsMemoFileOf, IsTableRead, IsIndexRead, HasIndex, Loads, LoadAll, IsEntryFault, IsFailure, IsFaultIn};
 
 use crate::files::{LoadFault, Source};
 use crate::setup::SetupEntry;
@@ -38,6 +38,8 @@ pub(crate) fn load_file<S: Source>(
     ensures found { IfOk result (λ bytes. IsFileOf (S.files source.old) path.now bytes) }
     ensures kept { S.files source.new ≡ S.files source.old }
     ensures fault { IfErr result (λ fault. (fault ≡ ServeFault.NoMemory) ⊎ (fault ≡ ServeFault.File path.now FileFault.CannotRead)) }
+    ensures loads { OnOk result (S.failures source.new ≡ S.failures source.old) }
+    ensures failure { IfErr result (IsFailure (S.files source.old) (S.failures source.old) (S.failures source.new)) }
 {
     match source.load(alloc, path.as_slice()) {
         Ok(bytes) => Ok(bytes),
@@ -55,6 +57,8 @@ fn load_memos<S: Source>(
     ensures found { IfOk result (λ memo. IsMemoFileOf (S.files source.old) dbt.now memo) }
     ensures kept { S.files source.new ≡ S.files source.old }
     ensures fault { IfErr result (λ fault. (fault ≡ ServeFault.NoMemory) ⊎ ((path : List ℕ) × (dbt.now ≡ Some path) × (fault ≡ ServeFault.File path FileFault.CannotRead))) }
+    ensures loads { OnOk result (S.failures source.new ≡ S.failures source.old) }
+    ensures failure { IfErr result (IsFailure (S.files source.old) (S.failures source.old) (S.failures source.new)) }
 {
     match dbt {
         None => Ok(None),
@@ -106,6 +110,8 @@ fn load_table<S: Source>(
     ensures read { IfOk result (IsTableRead (S.files source.old) name.now dbf.now dbt.now) }
     ensures kept { S.files source.new ≡ S.files source.old }
     ensures fault { IfErr result (IsEntryFault (S.files source.old) (Table name.now dbf.now dbt.now)) }
+    ensures loads { OnOk result (S.failures source.new ≡ S.failures source.old) }
+    ensures failure { IfErr result (IsFailure (S.files source.old) (S.failures source.old) (S.failures source.new)) }
 {
     let bytes = load_file(alloc, source, dbf)?;
     let memo = load_memos(alloc, source, dbt)?;
@@ -128,6 +134,8 @@ fn load_index<S: Source>(
     ensures read { IfOk result (IsIndexRead (S.files source.old) name.now ndx.now) }
     ensures kept { S.files source.new ≡ S.files source.old }
     ensures fault { (table : List ℕ) → IfErr result (IsEntryFault (S.files source.old) (Index table name.now ndx.now)) }
+    ensures loads { OnOk result (S.failures source.new ≡ S.failures source.old) }
+    ensures failure { IfErr result (IsFailure (S.files source.old) (S.failures source.old) (S.failures source.new)) }
 {
     let bytes = load_file(alloc, source, ndx)?;
     let file = read_index(alloc, ndx, &bytes)?;
@@ -170,6 +178,8 @@ fn load_entry<S: Source>(
     ensures read { OnOk result (Loads (S.files source.old) entry.now (read_of loaded.old) (read_of loaded.new)) }
     ensures kept { S.files source.new ≡ S.files source.old }
     ensures fault { IfErr result (IsEntryFault (S.files source.old) entry.now) }
+    ensures loads { OnOk result (S.failures source.new ≡ S.failures source.old) }
+    ensures failure { IfErr result (IsFailure (S.files source.old) (S.failures source.old) (S.failures source.new)) }
 {
     match entry {
         SetupEntry::Table { name, dbf, dbt } => {
@@ -200,6 +210,8 @@ pub(crate) fn load_entries<S: Source>(
     ensures read { IfOk result (λ loaded. LoadAll (S.files source.old) entries.now nothing (read_of loaded)) }
     ensures kept { S.files source.new ≡ S.files source.old }
     ensures fault { IfErr result (IsFaultIn (S.files source.old) entries.now) }
+    ensures loads { OnOk result (S.failures source.new ≡ S.failures source.old) }
+    ensures failure { IfErr result (IsFailure (S.files source.old) (S.failures source.old) (S.failures source.new)) }
 {
     let mut loaded = Loaded {
         tables: Vec::new(alloc),

@@ -6,7 +6,6 @@ use Rattle.shared_catalogue.specs.Opening.{count_tests, TablesOpening}
 use Rattle.std.proofs.lemmas.List.{length-map}
 use Rattle.shared_catalogue.specs.declared.entry.Entry.{Entry}
 use Rattle.shared_catalogue.specs.declared.opening.TheConstants.{MAX_TABLES}
-use Rattle.shared_catalogue.specs.declared.opening.OpenedTable.{OpenedTable}
 use Rattle.shared_catalogue.specs.Kept.{IsKept}
 use Rattle.shared_catalogue.specs.Replay.{opened_as, start}
 use Rattle.shared_catalogue.specs.Rooms.{seen}

@@ -1,4 +1,4 @@
-use Rattle.std.proofs.Common.{ℕ, List, [], length, map, ap, sym, ◌∙◌}
+use Rattle.std.proofs.Common.{ℕ, [], length, map, ap, sym, ◌∙◌}
 use Rattle.lock_table.specs.Locks.{held}
 use Rattle.shared_catalogue.specs.declared.opening.OpenedTable.{OpenedTable}
 use Rattle.shared_catalogue.proofs.OpeningLaws.{opened_start}

@@ -1,4 +1,4 @@
-use Rattle.std.proofs.Common.{◌≡◌, List, ℕ, ◌+◌, set, ap, ◌∙◌}
+use Rattle.std.proofs.Common.{set, ap, ◌∙◌}
 use Rattle.shared_catalogue.specs.declared.status.TableStatus.{TableStatus}
 use Rattle.shared_catalogue.specs.Rooms.{seen}
 use Rattle.shared_catalogue.specs.Status.{table_status}

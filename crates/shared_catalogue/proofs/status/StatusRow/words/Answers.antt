@@ -1,4 +1,4 @@
-use Rattle.std.proofs.Common.{◌≡◌, ℕ, ◌+◌, ◌*◌, List, length, get_or, set, ap, sym, ◌∙◌, rules}
+use Rattle.std.proofs.Common.{◌≡◌, ◌+◌, ◌*◌, length, get_or, set, ap, ◌∙◌, rules}
 use Rattle.shared_catalogue.specs.declared.status.TableStatus.{TableStatus}
 use Rattle.shared_catalogue.proofs.StatusLaws.{row_more}
 use Rattle.shared_catalogue.proofs.status.StatusRow.words.Goals as goal

@@ -15,4 +15,5 @@ pub loop-entry-preserved : goal.loop-entry-preserved
 loop-entry-preserved g c = record {
   read = loaded_more _ c.args.entries.now c.loop-entry.entry-index c.entry-item.result _ _ c.loop-entry-test.true c.entry-item.is c.loop-entry.invariant.read (rw c.loop-entry.invariant.kept at c.in_ok-load_entry.ensures.read);
   kept = c.in_ok-load_entry.ensures.kept ∙ c.loop-entry.invariant.kept;
+  loads = c.in_ok-load_entry.ensures.loads ∙ c.loop-entry.invariant.loads;
 }

@@ -8,4 +8,5 @@ invariant-loop-entry g l =
     record {
       read : LoadAll (files l.fn.source) (take l.entry-index l.entries) nothing (read_of l.loaded);
       kept : files l.source ≡ files l.fn.source;
+      loads : g.S.Source.failures l.source ≡ g.S.Source.failures l.fn.source;
     }

@@ -1,7 +1,7 @@
-use Rattle.std.proofs.Common.{◌≡◌, ℕ, ◌≤◌, List, length, vec_len, Ok, Err, sym, ap, ◌∙◌, subst, arith, rules}
+use Rattle.std.proofs.Common.{◌≡◌, ◌≤◌, List, length, vec_len, Ok, Err, sym, ap, ◌∙◌, subst, arith, rules}
 use Rattle.shared_catalogue.specs.Replay.{History}
 use Rattle.shared_catalogue.specs.Seats.{Seated, IsLowestMissing}
-use Rattle.shared_catalogue.specs.declared.shared.settle.SettleFault.TheVariants.{SeatMissing, ReceiptMismatch}
+use Rattle.shared_catalogue.specs.declared.shared.settle.SettleFault.TheVariants.{ReceiptMismatch}
 use Rattle.shared_catalogue.proofs.SeatLaws.{Covers, enough, missing_here, missing_nowhere}
 use Rattle.shared_catalogue.proofs.shared.locked.LockedCatalogue.settle.Goals as goal
 
