@@ -17,6 +17,7 @@ pub mod OneReading
 pub mod Texts
 pub mod RunLaws
 pub mod PageLaws
+pub mod KeyNumbers
 pub mod BoundLaws
 pub mod Bisection
 pub mod TwinLaws

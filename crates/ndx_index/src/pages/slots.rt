@@ -8,6 +8,7 @@ ghost use Rattle.ndx_index.specs.Order.{before, reaches};
 ghost use Rattle.ndx_index.specs.Slots.{slot_at, blank};
 
 use crate::pages::bound::Bound;
+use crate::pages::compare::compare_keys;
 use crate::pages::runs::{copy_parts, part, push_copies, write_part};
 use crate::pair::Pair;
 use key_expr::Key;
@@ -106,7 +107,7 @@ impl PairSlots {
         requires place { at < length self.now.pairs }
         ensures value { result ≡ before (slot_at self.now.pairs at) pair.now }
     {
-        match self.key(at).cmp(&pair.key.as_bytes()) {
+        match compare_keys(self.key(at), pair.key.as_bytes()) {
             Ordering::Equal => self.number(at) < pair.number,
             order => order.is_lt(),
         }
@@ -117,7 +118,7 @@ impl PairSlots {
         requires place { at < length self.now.pairs }
         ensures value { result ≡ before pair.now (slot_at self.now.pairs at) }
     {
-        match pair.key.as_bytes().cmp(&self.key(at)) {
+        match compare_keys(pair.key.as_bytes(), self.key(at)) {
             Ordering::Equal => pair.number < self.number(at),
             order => order.is_lt(),
         }
@@ -128,7 +129,7 @@ impl PairSlots {
         requires place { at < length self.now.pairs }
         ensures value { result ≡ reaches prefix.now (slot_at self.now.pairs at) }
     {
-        !self.key(at).cmp(&prefix).is_lt()
+        !compare_keys(self.key(at), prefix).is_lt()
     }
 
     /// Puts a pair into a slot, in place of what is there. It takes no memory.

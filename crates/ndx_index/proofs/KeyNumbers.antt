@@ -1,0 +1,62 @@
+-- Bytes compare as the numbers that they are, the highest first.
+use Rattle.std.proofs.Common.{◌≡◌, ℕ, zero, suc, ◌+◌, ◌*◌, ◌^◌, ◌<◌, ◌≤◌, List, ◌∷◌, [], length, drop, slice_index, refl, sym, ap, ◌∙◌, inl, inr, arith}
+use Rattle.std.proofs.Math.Nat.{add-mul, mul-le-mul_right}
+use Rattle.std.proofs.lemmas.Bool.{cases_eq, cases_lt}
+use Rattle.std.specs.declared.cmp.Ordering.{Ordering}
+use Rattle.std.specs.declared.cmp.Ordering.TheVariants.{Less, Equal, Greater}
+use Rattle.std.specs.Cmp.{nat_cmp_is}
+use Rattle.std.specs.Cmp.Lexicographic.{slice_cmp}
+use Rattle.std.specs.Ordering.{nat_cmp, ordering_then}
+use Rattle.byteorder.specs.Endian.{big_from}
+use Rattle.byteorder.specs.Numbers.{big_from-cons, big_from-lt}
+
+moved : (a r s : ℕ) → nat_cmp (a + r) (a + s) ≡ nat_cmp r s
+moved a r s = elim (cases_lt r s) [
+  | inl lt ↦ sym (nat_cmp_is (a + r) (a + s) Less (omega arith)) ∙ nat_cmp_is r s Less lt
+  | inr le ↦ elim (cases_eq r s) [
+    | inl e ↦ sym (nat_cmp_is (a + r) (a + s) Equal (omega arith)) ∙ nat_cmp_is r s Equal e
+    | inr ne ↦ sym (nat_cmp_is (a + r) (a + s) Greater (omega arith)) ∙ nat_cmp_is r s Greater (omega arith)
+  ]
+]
+
+-- a greater first digit makes a greater number
+ahead : (p x y r s : ℕ) → x < y → r < p → x * p + r < y * p + s
+ahead p x y r s lt low =
+    let next : (x + 1) * p ≤ y * p = mul-le-mul_right p (omega arith) in
+    let parts : (x + 1) * p ≡ x * p + 1 * p = add-mul x 1 p in
+    omega arith
+
+-- numbers compare by their first digits, and then by the others
+digits : (p x y r s : ℕ) → r < p → s < p → nat_cmp (x * p + r) (y * p + s) ≡ ordering_then (nat_cmp x y) (nat_cmp r s)
+digits p x y r s rlow slow = elim (cases_lt x y) [
+  | inl lt ↦ sym (nat_cmp_is (x * p + r) (y * p + s) Less (ahead p x y r s lt rlow)) ∙ ap (λ o. ordering_then o (nat_cmp r s)) (nat_cmp_is x y Less lt)
+  | inr le ↦ elim (cases_eq x y) [
+    | inl e ↦ ap (λ z. nat_cmp (z * p + r) (y * p + s)) e ∙ moved (y * p) r s ∙ ap (λ o. ordering_then o (nat_cmp r s)) (nat_cmp_is x y Equal e)
+    | inr ne ↦ sym (nat_cmp_is (x * p + r) (y * p + s) Greater (ahead p y x s r (omega arith) slow)) ∙ ap (λ o. ordering_then o (nat_cmp r s)) (nat_cmp_is x y Greater (omega arith))
+  ]
+]
+
+then-then : (a b c : Ordering) → ordering_then (ordering_then a b) c ≡ ordering_then a (ordering_then b c)
+then-then Less b c = refl
+then-then Equal b c = refl
+then-then Greater b c = refl
+
+-- lists of bytes compare by the numbers in their first n bytes, and then by what stands after them
+pub by_numbers : (n : ℕ) (xs ys : List ℕ) → n ≤ length xs → n ≤ length ys → ((k : ℕ) → slice_index xs k < 256) → ((k : ℕ) → slice_index ys k < 256)
+    → slice_cmp nat_cmp xs ys ≡ ordering_then (nat_cmp (big_from 0 n xs) (big_from 0 n ys)) (slice_cmp nat_cmp (drop n xs) (drop n ys))
+by_numbers zero xs ys first second fit sit = refl
+by_numbers (suc n) [] ys first second fit sit = absurd (omega (arith, first))
+by_numbers (suc n) (x ∷ xs) [] first second fit sit = absurd (omega (arith, second))
+by_numbers (suc n) (x ∷ xs) (y ∷ ys) first second fit sit =
+    let p : ℕ = 256 ^ n in
+    let fits : (k : ℕ) → slice_index xs k < 256 = λ k. fit (suc k) in
+    let sits : (k : ℕ) → slice_index ys k < 256 = λ k. sit (suc k) in
+    let rest = by_numbers n xs ys (omega (arith, first)) (omega (arith, second)) fits sits in
+    let r : ℕ = big_from 0 n xs in
+    let s : ℕ = big_from 0 n ys in
+    let after : Ordering = slice_cmp nat_cmp (drop n xs) (drop n ys) in
+    ap (ordering_then (nat_cmp x y)) rest
+    ∙ sym (then-then (nat_cmp x y) (nat_cmp r s) after)
+    ∙ ap (λ o. ordering_then o after) (sym (digits p x y r s (big_from-lt 0 n xs fits) (big_from-lt 0 n ys sits))
+    ∙ ap (λ m. nat_cmp (x * p + m) (y * p + s)) (sym (big_from-cons 0 n x xs))
+    ∙ ap (λ m. nat_cmp (x * p + big_from 1 n (x ∷ xs)) (y * p + m)) (sym (big_from-cons 0 n y ys)))
