@@ -1,5 +1,5 @@
 -- Files by their names.
-use Rattle.std.specs.Prelude.{◌≡◌, ℕ, ◌<◌, nat_lt, ◌==◌, Bool, true, List, [], ◌∷◌, ◌++◌, length, Option, Some, None, bytes_eq, flat_map, if◌then◌else◌}
+use Rattle.std.specs.Prelude.{◌≡◌, ◌⊎◌, ℕ, ◌<◌, nat_lt, ◌==◌, Bool, true, List, [], ◌∷◌, ◌++◌, length, Option, Some, None, bytes_eq, flat_map, if◌then◌else◌}
 use Rattle.std.specs.List.{list_all}
 use Rattle.station_server.specs.declared.files.memory_folder.OpenFile.{OpenFile}
 use Rattle.station_server.specs.declared.files.named.NamedFile.{NamedFile}
@@ -26,6 +26,11 @@ IsFileOf (Some files) path bytes = file_at files path ≡ Some bytes
 abbrev pub IsTooLong : Option (List NamedFile) → List ℕ → Type 0
 IsTooLong None path = Unit {0}
 IsTooLong (Some files) path = (bytes : List ℕ) × (file_at files path ≡ Some bytes) × (MAX_FILE_BYTES < length bytes)
+
+-- no load can give the file of a path, where the files are known: there is none, or it is over the limit
+abbrev pub IsUnreadable : Option (List NamedFile) → List ℕ → Type 0
+IsUnreadable None path = ⊥
+IsUnreadable (Some files) path = (file_at files path ≡ None) ⊎ IsTooLong (Some files) path
 
 -- what stands before a file's bytes: 256, the name, 257
 abbrev pub opening : List ℕ → List ℕ

@@ -3,7 +3,7 @@
 ghost use Rattle.std.specs.Prelude.{◌≡◌, ◌⊎◌, Err, IfOk, OnOk, List, ℕ, Option};
 ghost use Rattle.dbf_image.specs.Sink.{Rises};
 ghost use Rattle.station_server.specs.declared.files.named.NamedFile.{NamedFile};
-ghost use Rattle.station_server.specs.Files.{IsFileOf, IsTooLong};
+ghost use Rattle.station_server.specs.Files.{IsFileOf, IsTooLong, IsUnreadable};
 
 use dbf_fields::Bytes;
 use std::alloc::Global;
@@ -34,11 +34,12 @@ pub trait Source {
     ghost failures: { Self → Option ℕ };
 
     /// The bytes of the file of a path. `CannotRead` says that the load failed, or that the file is over
-    /// 1,073,741,824 bytes.
+    /// 1,073,741,824 bytes. `NoMemory` says that the room for its bytes was refused, which is asked for after that.
     fn load(&mut self, alloc: Global, path: &[u8]) -> Result<Bytes, LoadFault>
         ensures found { IfOk result (λ bytes. IsFileOf (files self.old) path.now bytes) }
         ensures kept { files self.new ≡ files self.old }
         ensures fine { OnOk result (failures self.new ≡ failures self.old) }
+        ensures early { IsUnreadable (files self.old) path.now → result ≡ Err LoadFault.CannotRead }
         ensures memory { result ≡ Err LoadFault.NoMemory → failures self.new ≡ failures self.old }
         ensures unread { result ≡ Err LoadFault.CannotRead → Rises (failures self.old) (failures self.new) ⊎ IsTooLong (files self.old) path.now };
 }
