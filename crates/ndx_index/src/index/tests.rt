@@ -4,6 +4,7 @@ ghost use Rattle.std.specs.Prelude.{◌≡◌, length};
 
 use super::*;
 use key_expr::Key;
+use std::process::Abort;
 use std::test::*;
 
 // The key of three digits and the record of a number: key 000 has record 1.
@@ -88,21 +89,31 @@ fn all_removed(index: &mut OrderedIndex, first: u32) -> bool {
     true
 }
 
-#[test]
-fn even_records_and_then_all_removed(rt: HostRuntime) -> Result<(), Fail> {
-    let alloc = rt.alloc();
-    let mut index = thousand(alloc)?;
-    assert!(rt; all_removed(&mut index, 2));
+// The even records are taken out, and odd ones are found.
+fn even_records_removed(rt: &impl Abort, index: &mut OrderedIndex) -> Result<(), Fail> {
+    assert!(rt; all_removed(index, 2));
     let Some(found) = index.first_from(b"99") else {
         return Err("nothing is found".into());
     };
     assert_eq!(rt; found.number, 991);
     assert_eq!(rt; index.next(found).map(|pair| pair.number), Some(993));
-    assert!(rt; all_removed(&mut index, 1));
+    Ok(())
+}
+
+// The odd records are taken out, and no page is left.
+fn odd_records_removed(rt: &impl Abort, index: &mut OrderedIndex) {
+    assert!(rt; all_removed(index, 1));
     assert!(rt; index.first().is_none());
-    assert_eq!(rt; pages_in_use(&index), Some(0));
+    assert_eq!(rt; pages_in_use(index), Some(0));
+}
+
+#[test]
+fn even_records_and_then_all_removed(rt: HostRuntime) -> Result<(), Fail> {
+    let mut index = thousand(rt.alloc())?;
+    even_records_removed(&rt, &mut index)?;
+    odd_records_removed(&rt, &mut index);
     put(&mut index, &numbered(7))?;
-    assert!(rt; numbers(&index, alloc)?.iter().copied().eq([7]));
+    assert!(rt; numbers(&index, rt.alloc())?.iter().copied().eq([7]));
     Ok(())
 }
 
