@@ -61,7 +61,7 @@ fn small_chunks_are_gathered(rt: HostRuntime) -> Result<(), Fail> {
     image.push(0x1a)?;
     let day = day_of(1987, 3, 15).ok_or("no such day")?;
     for (flag, writes) in [(0x20, 3), (0, 2)] {
-        let mut table = read_table(rt.alloc(), &changed(&[(66, flag)]), None)?;
+        let mut table = read_table(rt.alloc(), &changed(&[(65, flag)]), None)?;
         for _ in 0..5998 {
             add_blank(&mut table)?;
         }
