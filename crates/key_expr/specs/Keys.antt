@@ -1,5 +1,5 @@
 -- The key of a record, by cases on the expression.
-use Rattle.std.specs.Prelude.{◌≡◌, ◌≢◌, ℕ, ◌+◌, ◌-◌, List, [], ◌++◌, map, take, drop, get_or, min, Option, Some, unwrap_or, slice_get}
+use Rattle.std.specs.Prelude.{◌≡◌, ◌≢◌, ℕ, ◌+◌, ◌-◌, Bool, ◌||◌, ◌==◌, List, [], ◌++◌, map, take, drop, get_or, min, Option, Some, unwrap_or, slice_get}
 use Rattle.std.specs.Char.{to_ascii_uppercase}
 use Rattle.dbf_fields.specs.declared.field.Field.{Field}
 use Rattle.dbf_fields.specs.declared.format.TheConstants.{MEMO}
@@ -33,6 +33,15 @@ key_length fields (upper a) = key_length fields a
 key_length fields (substr a from count) = min count (key_length fields a - (from - 1))
 key_length fields (str i n d) = length_given n
 key_length fields (dtoc i) = DTOC_LENGTH
+
+-- whether the expression names this field
+abbrev pub names : ℕ → Expr → Bool
+names f (field i) = i == f
+names f (concat a b) = names f a || names f b
+names f (upper a) = names f a
+names f (substr a from count) = names f a
+names f (str i n d) = i == f
+names f (dtoc i) = i == f
 
 -- it holds of each field that the expression names
 abbrev pub OfEachField : (ℕ → Type 0) → Expr → Type 0

@@ -1,11 +1,11 @@
 -- What follows from the definitions, with its proofs: laws that any crate may cite. The key of a record depends
 -- on its cells of the expression's fields alone, and none of these is a memo.
-use Rattle.std.proofs.Common.{◌≡◌, ◌≢◌, ℕ, ◌-◌, Bool, true, false, eqb, List, [], ◌∷◌, ◌++◌, map, take, drop, get_or, Option, Some, None, refl, sym, ap, ◌∙◌, arith, length}
+use Rattle.std.proofs.Common.{◌≡◌, ◌≢◌, ℕ, ◌-◌, Bool, true, false, eqb, List, [], ◌∷◌, ◌++◌, map, take, drop, get_or, set, get_or-set_other, Option, Some, None, refl, sym, ap, ◌∙◌, arith, length}
 use Rattle.std.specs.List.{slice_get}
 use Rattle.std.specs.Char.{to_ascii_uppercase}
 use Rattle.std.specs.Int.{is_in_range}
 use Rattle.std.specs.Prelude.{◌&&◌, nat_le, nat_lt}
-use Rattle.std.proofs.lemmas.Bool.{eqb-true, false≢true}
+use Rattle.std.proofs.lemmas.Bool.{eqb-true, eqb-false, or_parts, false≢true}
 use Rattle.dbf_fields.specs.declared.field.Field.{Field}
 use Rattle.dbf_fields.specs.declared.format.TheConstants.{CHARACTER, NUMBER, DATE, MEMO}
 use Rattle.dbf_fields.specs.Date.{date_shown}
@@ -16,7 +16,7 @@ use Rattle.key_expr.specs.declared.fault.ExprFault.{ExprFault}
 use Rattle.key_expr.specs.declared.fault.ExprFault.TheVariants.{NoSuchField, NotCharacter, BadArgument, KeyTooLong}
 use Rattle.key_expr.specs.declared.format.TheConstants.{MAX_KEY_BYTES}
 use Rattle.key_expr.specs.Grammar.{Expr, field, concat, upper, substr, str, dtoc}
-use Rattle.key_expr.specs.Keys.{key, key_length, length_given, decimals_given, OfEachField, IsNoMemo, AgreeButMemos}
+use Rattle.key_expr.specs.Keys.{key, key_length, names, length_given, decimals_given, OfEachField, IsNoMemo, AgreeButMemos}
 use Rattle.key_expr.specs.Rules.{refusal, tests, field_tests, has_kind, can_print}
 use Rattle.key_expr.specs.StrText.{str_text}
 
@@ -28,6 +28,21 @@ same_key cs ds (upper a) h = ap (map to_ascii_uppercase) (same_key cs ds a h)
 same_key cs ds (substr a from count) h = ap (λ ks. take count (drop (from - 1) ks)) (same_key cs ds a h)
 same_key cs ds (str i n d) h = ap (str_text (length_given n) (decimals_given d)) h
 same_key cs ds (dtoc i) h = ap date_shown h
+
+-- the cells that an expression names stay as they are where that of another field is replaced
+cells_unnamed : (cells : List (List ℕ)) (f : ℕ) (cell : List ℕ) (e : Expr) → names f e ≡ false → OfEachField (λ i. get_or (set cells f cell) i [] ≡ get_or cells i []) e
+cells_unnamed cells f cell (field i) h = get_or-set_other cells f i cell [] (eqb-false i f h)
+cells_unnamed cells f cell (concat a b) h =
+    let parts = or_parts (names f a) (names f b) h in
+    (cells_unnamed cells f cell a parts.0, cells_unnamed cells f cell b parts.1)
+cells_unnamed cells f cell (upper a) h = cells_unnamed cells f cell a h
+cells_unnamed cells f cell (substr a from count) h = cells_unnamed cells f cell a h
+cells_unnamed cells f cell (str i n d) h = get_or-set_other cells f i cell [] (eqb-false i f h)
+cells_unnamed cells f cell (dtoc i) h = get_or-set_other cells f i cell [] (eqb-false i f h)
+
+-- so the key stays
+pub key_unnamed : (cells : List (List ℕ)) (f : ℕ) (cell : List ℕ) (e : Expr) → names f e ≡ false → key (set cells f cell) e ≡ key cells e
+key_unnamed cells f cell e h = same_key (set cells f cell) cells e (cells_unnamed cells f cell e h)
 
 of_each_weaker : (P Q : ℕ → Type 0) → ((i : ℕ) → P i → Q i) → (e : Expr) → OfEachField P e → OfEachField Q e
 of_each_weaker P Q f (field i) h = f i h

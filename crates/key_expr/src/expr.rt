@@ -8,7 +8,7 @@ ghost use Rattle.key_expr.specs.declared.format.TheConstants.{MAX_EXPRESSION_BYT
 ghost use Rattle.key_expr.specs.Grammar.{Expr};
 ghost use Rattle.key_expr.specs.TreeExpr.{expr_of};
 ghost use Rattle.key_expr.specs.KeptLengths.{KeepsLengths};
-ghost use Rattle.key_expr.specs.Keys.{key, key_length, AgreeButMemos};
+ghost use Rattle.key_expr.specs.Keys.{key, key_length, names, AgreeButMemos};
 ghost use Rattle.dbf_fields.specs.Layout.{cells_of};
 ghost use Rattle.key_expr.specs.Rules.{IsKeyText, IsFault};
 ghost use Rattle.key_expr.specs.Expression.{IsAnswer};
@@ -155,6 +155,13 @@ impl KeyExpr {
         let mut out = Key::default();
         put(&mut out, &self.tree, &self.schema, record_bytes, whole);
         out
+    }
+
+    /// Whether the expression names a field, which is given by its index from 0. Takes no memory.
+    pub fn names(&self, field: usize) -> bool
+        ensures value { result ≡ names field self.now.expr }
+    {
+        self.tree.names(field)
     }
 
     /// The same expression once more, or an error where memory is refused.

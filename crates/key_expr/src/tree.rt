@@ -3,6 +3,7 @@
 ghost use Rattle.std.specs.Prelude.{◌≡◌, List, IfOk};
 ghost use Rattle.dbf_fields.specs.declared.field.Field.{Field};
 ghost use Rattle.key_expr.specs.TreeExpr.{expr_of};
+ghost use Rattle.key_expr.specs.Keys.{names};
 ghost use Rattle.key_expr.specs.KeptLengths.{KeepsLengths};
 
 use std::alloc::{AllocError, Global};
@@ -47,6 +48,20 @@ impl Tree {
             }
             Tree::Str(index, length, decimals) => Ok(Tree::Str(*index, *length, *decimals)),
             Tree::Dtoc(index) => Ok(Tree::Dtoc(*index)),
+        }
+    }
+
+    /// Whether it names a field, which is given by its index from 0. Takes no memory.
+    pub(crate) fn names(&self, field: usize) -> bool
+        ensures value { result ≡ names field (expr_of self.now) }
+    {
+        match self {
+            Tree::Field(index) => *index == field,
+            Tree::Concat(first, second, _) => first.names(field) || second.names(field),
+            Tree::Upper(inner) => inner.names(field),
+            Tree::Substr(inner, _, _) => inner.names(field),
+            Tree::Str(index, _, _) => *index == field,
+            Tree::Dtoc(index) => *index == field,
         }
     }
 }

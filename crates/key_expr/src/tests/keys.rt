@@ -1,6 +1,7 @@
 use super::{key_by, people};
 use crate::*;
 use dbf_fields::{CHARACTER, DATE, Field, NUMBER, Schema};
+use std::alloc::Global;
 use std::test::Fail;
 
 #[test]
@@ -80,6 +81,32 @@ fn keys_are_compared_byte_by_byte(rt: HostRuntime) -> Result<(), Fail> {
     assert!(rt; Key::default() < short);
     assert!(rt; Key::new(b"AB") == short);
     assert_eq!(rt; Key::new(&[b'x'; MAX_KEY_BYTES]).as_bytes().len(), 100);
+    Ok(())
+}
+
+// Whether the expression of a text names NAME, AGE and BORN.
+fn names_of(alloc: Global, text: &[u8]) -> Result<[bool; 3], Fail> {
+    let expr = KeyExpr::parse(alloc, text, &people(alloc)?)?;
+    Ok([expr.names(0), expr.names(1), expr.names(2)])
+}
+
+#[test]
+fn fields_in_each_form_are_named(rt: HostRuntime) -> Result<(), Fail> {
+    let alloc = rt.alloc();
+    let cases: [(&[u8], [bool; 3]); 6] = [
+        (b"NAME", [true, false, false]),
+        (b"STR(AGE,5)", [false, true, false]),
+        (b"SUBSTR(DTOC(BORN),1,5)", [false, false, true]),
+        (b"UPPER(SUBSTR(NAME,1,3))+DTOC(BORN)", [true, false, true]),
+        (
+            b"DTOC(BORN)+(STR(AGE)+UPPER(SUBSTR(NAME,1,3)))",
+            [true, true, true],
+        ),
+        (b"STR(AGE)+STR(AGE)", [false, true, false]),
+    ];
+    for (text, named) in cases {
+        assert_eq!(rt; names_of(alloc, text)?, named);
+    }
     Ok(())
 }
 
