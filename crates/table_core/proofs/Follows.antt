@@ -6,11 +6,13 @@ use Rattle.std.proofs.lemmas.Bool.{false≢true}
 use Rattle.std.proofs.lemmas.Bool.Decides.{nat_tests}
 use Rattle.dbf_fields.specs.declared.format.TheConstants.{MEMO}
 use Rattle.dbf_image.specs.Table.{Row, Table, row_at, row_with_cell, row_marked, kind_at, with_row, with_cell, with_mark}
+use Rattle.table_core.specs.declared.edits.planned.Target.{Target}
 use Rattle.table_core.specs.declared.indexes.TableIndex.{TableIndex}
-use Rattle.table_core.specs.Indexes.{Follows, FollowsBut, HasRoom, Seen, seen, indexed, have_room}
+use Rattle.table_core.specs.Indexes.{Follows, FollowsAside, FollowsBut, HasRoom, Seen, seen, indexed, have_room}
 use Rattle.ndx_index.specs.Order.{AreInOrder}
 use Rattle.ndx_index.specs.Laws.RecordOrders.{but_row, but_last, order_row, table_in_order}
-use Rattle.key_expr.specs.Keys.{key}
+use Rattle.key_expr.specs.Keys.{key, names}
+use Rattle.key_expr.specs.Laws.{key_unnamed}
 use Rattle.ndx_index.specs.Laws.RecordKeys.{key_of_memo}
 
 pub follows_in_order : (table : Table) (index : TableIndex) → Follows table index → AreInOrder index.order.pairs
@@ -99,6 +101,20 @@ pub follows_memo : (table : Table) (number field : ℕ) (text : List ℕ) → 1 
 follows_memo table number field text one inside memo index h =
     follows_row table number (row_with_cell (row_at table number) field text) one inside index
     (key_of_memo table.schema index.expr.expr (row_at table number).cells field text h.is_for.kept memo) h
+
+follows_unnamed : (table : Table) (number field : ℕ) (cell : List ℕ) → 1 ≤ number → number ≤ length table.rows
+    → (index : TableIndex) → names field index.expr.expr ≡ false → Follows table index → Follows (with_cell table number field cell) index
+follows_unnamed table number field cell one inside index other h =
+    follows_row table number (row_with_cell (row_at table number) field cell) one inside index
+    (key_unnamed (row_at table number).cells field cell index.expr.expr other) h
+
+-- the cell is replaced
+pub aside_cell : (table : Table) (target : Target) (cell : List ℕ) → 1 ≤ target.number → target.number ≤ length table.rows
+    → (index : TableIndex) → FollowsAside target table index → FollowsAside target (with_cell table target.number target.field cell) index
+aside_cell table target cell one inside index h = record {
+  named = λ own. follows_but_cell table target.number target.field cell index (h.named own);
+  unnamed = λ other. follows_unnamed table target.number target.field cell one inside index other (h.unnamed other);
+}
 
 pub follows_mark : (table : Table) (number : ℕ) (deleted : Bool) → 1 ≤ number → number ≤ length table.rows → (index : TableIndex) → Follows table index → Follows (with_mark table number deleted) index
 follows_mark table number deleted one inside index h = follows_row table number (row_marked (row_at table number) deleted) one inside index refl h

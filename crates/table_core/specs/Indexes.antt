@@ -1,12 +1,13 @@
 -- What the indexes of a table keep.
-use Rattle.std.specs.Prelude.{◌≡◌, ℕ, ◌<◌, Bool, nat_lt, None, List}
+use Rattle.std.specs.Prelude.{◌≡◌, ℕ, ◌<◌, Bool, true, false, nat_lt, None, List}
 use Rattle.std.specs.List.{list_all}
 use Rattle.dbf_image.specs.Table.{Table}
 use Rattle.key_expr.specs.Expression.{Expression}
-use Rattle.key_expr.specs.Keys.{key_length}
+use Rattle.key_expr.specs.Keys.{key_length, names}
 use Rattle.key_expr.specs.Rules.{refusal}
 use Rattle.ndx_index.specs.declared.pair.Pair.{Pair}
 use Rattle.ndx_index.specs.TableOrder.{order, order_but}
+use Rattle.table_core.specs.declared.edits.planned.Target.{Target}
 use Rattle.table_core.specs.declared.indexes.TableIndex.{TableIndex}
 use Rattle.table_core.specs.Content.{Indexed}
 
@@ -25,6 +26,11 @@ pub record Follows (table : Table) (index : TableIndex) : Type 0 where
 pub record FollowsBut (number : ℕ) (table : Table) (index : TableIndex) : Type 0 where
   pub is_for : IsFor table index
   pub pairs : index.order.pairs ≡ order_but number table index.expr.expr
+
+-- the index has the order of the table, but for the record's pair where its key names the field
+pub record FollowsAside (target : Target) (table : Table) (index : TableIndex) : Type 0 where
+  pub named : names target.field index.expr.expr ≡ true → FollowsBut target.number table index
+  pub unnamed : names target.field index.expr.expr ≡ false → Follows table index
 
 -- one more pair has room
 abbrev pub HasRoom : TableIndex → Type 0

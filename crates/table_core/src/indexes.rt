@@ -6,12 +6,13 @@ ghost use Rattle.key_expr.specs.Keys.{key_length};
 ghost use Rattle.ndx_index.specs.Order.{AreInOrder};
 ghost use Rattle.ndx_index.specs.Places.{back_from};
 ghost use Rattle.ndx_index.specs.TableOrder.{pair_at};
-ghost use Rattle.table_core.specs.Indexes.{Follows, FollowsBut, HasRoom, IsFor, indexed, seen};
+ghost use Rattle.table_core.specs.Indexes.{Follows, FollowsAside, FollowsBut, HasRoom, IsFor, indexed, seen};
 
 pub(crate) mod all;
 pub(crate) mod kept;
 pub(crate) mod sort;
 
+use crate::edits::planned::Target;
 use crate::indexes::sort::{sorted, sorted_kept};
 use dbf_fields::Bytes;
 use dbf_image::GrowingTable;
@@ -92,6 +93,34 @@ impl TableIndex {
         ensures same { indexed self.new ≡ indexed self.old }
     {
         self.order.insert(pair_of(&self.expr, records, number));
+    }
+
+    /// Takes a record's pair out where the key names the field that is to change. It takes no memory.
+    pub(crate) fn take_out_named(&mut self, records: &GrowingTable, target: Target)
+        requires one { 1 ≤ target.number }
+        requires inside { target.number ≤ length records.now.table.rows }
+        requires follows { Follows records.now.table self.old }
+        ensures aside { FollowsAside target records.now.table self.new }
+        ensures same { indexed self.new ≡ indexed self.old }
+        ensures room { HasRoom self.old → HasRoom self.new }
+    {
+        if self.expr.names(target.field) {
+            self.take_out(records, target.number);
+        }
+    }
+
+    /// Puts a record's pair in where the key names the field that changed. It takes no memory.
+    pub(crate) fn put_in_named(&mut self, records: &GrowingTable, target: Target)
+        requires one { 1 ≤ target.number }
+        requires inside { target.number ≤ length records.now.table.rows }
+        requires aside { FollowsAside target records.now.table self.old }
+        requires room { HasRoom self.old }
+        ensures follows { Follows records.now.table self.new }
+        ensures same { indexed self.new ≡ indexed self.old }
+    {
+        if self.expr.names(target.field) {
+            self.put_in(records, target.number);
+        }
     }
 
     /// The pair so many places after one that is there.

@@ -9,10 +9,10 @@ ghost use Rattle.table_core.specs.Planned.{IsCellOf, IsMemoOf, IsRecordOf};
 
 use crate::edits::planned::Target;
 use crate::indexes::TableIndex;
-use crate::indexes::all::{put_in_all, take_out_all};
+use crate::indexes::all::{put_in_all, put_in_named, take_out_named};
 use dbf_image::GrowingTable;
 
-/// Replaces a cell.
+/// Replaces a cell. An index whose key doesn't name the field is left alone.
 pub(crate) fn set_cell(
     records: &mut GrowingTable,
     indexes: &mut Vec<TableIndex>,
@@ -26,9 +26,9 @@ pub(crate) fn set_cell(
     ensures follow { AllByRecursion (Follows records.new.table) indexes.new.items }
     ensures same { map indexed indexes.new.items ≡ map indexed indexes.old.items }
 {
-    take_out_all(indexes, records, target.number);
+    take_out_named(indexes, records, target);
     records.set_cell(target.number, target.field, cell);
-    put_in_all(indexes, records, target.number);
+    put_in_named(indexes, records, target);
 }
 
 /// Adds a record of blanks after the others, and answers its number.

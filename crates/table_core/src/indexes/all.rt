@@ -2,24 +2,39 @@
 
 ghost use Rattle.std.specs.Prelude.{◌≡◌, ◌≤◌, length, map, OnOk};
 ghost use Rattle.std.specs.List.{AllByRecursion};
-ghost use Rattle.table_core.specs.Indexes.{Follows, FollowsBut, HasRoom, indexed, seen};
+ghost use Rattle.table_core.specs.Indexes.{Follows, FollowsAside, FollowsBut, HasRoom, indexed, seen};
 
+use crate::edits::planned::Target;
 use crate::indexes::TableIndex;
 use dbf_image::GrowingTable;
 use std::alloc::AllocError;
 
-/// Takes a record's pair out of each index. It takes no memory.
-pub(crate) fn take_out_all(indexes: &mut Vec<TableIndex>, records: &GrowingTable, number: u32)
-    requires one { 1 ≤ number }
-    requires inside { number ≤ length records.now.table.rows }
+/// Takes a record's pair out of each index whose key names the field that is to change. It takes no memory.
+pub(crate) fn take_out_named(indexes: &mut Vec<TableIndex>, records: &GrowingTable, target: Target)
+    requires one { 1 ≤ target.number }
+    requires inside { target.number ≤ length records.now.table.rows }
     requires follow { AllByRecursion (Follows records.now.table) indexes.old.items }
     requires room { AllByRecursion HasRoom indexes.old.items }
-    ensures rest { AllByRecursion (FollowsBut number records.now.table) indexes.new.items }
+    ensures aside { AllByRecursion (FollowsAside target records.now.table) indexes.new.items }
     ensures room { AllByRecursion HasRoom indexes.new.items }
     ensures same { map indexed indexes.new.items ≡ map indexed indexes.old.items }
 {
     for index in indexes.iter_mut() {
-        index.take_out(records, number);
+        index.take_out_named(records, target);
+    }
+}
+
+/// Puts a record's pair into each index whose key names the field that changed. It takes no memory.
+pub(crate) fn put_in_named(indexes: &mut Vec<TableIndex>, records: &GrowingTable, target: Target)
+    requires one { 1 ≤ target.number }
+    requires inside { target.number ≤ length records.now.table.rows }
+    requires aside { AllByRecursion (FollowsAside target records.now.table) indexes.old.items }
+    requires room { AllByRecursion HasRoom indexes.old.items }
+    ensures follow { AllByRecursion (Follows records.now.table) indexes.new.items }
+    ensures same { map indexed indexes.new.items ≡ map indexed indexes.old.items }
+{
+    for index in indexes.iter_mut() {
+        index.put_in_named(records, target);
     }
 }
 

@@ -29,6 +29,70 @@ fn pack_renumbers_the_index(rt: HostRuntime) -> Result<(), Fail> {
     Ok(())
 }
 
+// The first of the edits of record 2, one after another, after which one of two indexes has other pairs.
+fn first_other_order(
+    alloc: Global,
+    table: &mut Table,
+    cases: &[(Asked, [Pair; 2], [Pair; 2])],
+) -> Result<Option<usize>, Fail> {
+    for (index, case) in cases.iter().enumerate() {
+        all_edited(alloc, table, &mut at(1, 2), &[case.0])?;
+        let is_first = pairs_of(alloc, table, 1)?.as_slice() == case.1.as_slice();
+        if !is_first || pairs_of(alloc, table, 2)?.as_slice() != case.2.as_slice() {
+            return Ok(Some(index));
+        }
+    }
+    Ok(None)
+}
+
+// A table of two records, with an index on each of two fields and a third field.
+fn indexed_twice(alloc: Global) -> Result<Table, Fail> {
+    let fields = [
+        Field::new(alloc, b"NAME", CHARACTER, 1, 0)?,
+        Field::new(alloc, b"CODE", CHARACTER, 1, 0)?,
+        Field::new(alloc, b"REST", CHARACTER, 1, 0)?,
+    ];
+    let mut table = table_of(alloc, &fields, &[b"NAME", b"CODE"])?;
+    let edits = [
+        Asked::Append,
+        Asked::Text(b"NAME", b"B"),
+        Asked::Text(b"CODE", b"X"),
+        Asked::Append,
+    ];
+    all_edited(alloc, &mut table, &mut start(1), &edits)?;
+    Ok(table)
+}
+
+#[test]
+fn replace_moves_the_pairs_of_its_field(rt: HostRuntime) -> Result<(), Fail> {
+    let alloc = rt.alloc();
+    let mut table = indexed_twice(alloc)?;
+    let cases = [
+        (
+            Asked::Text(b"NAME", b"A"),
+            [pair(b"A", 2), pair(b"B", 1)],
+            [pair(b" ", 2), pair(b"X", 1)],
+        ),
+        (
+            Asked::Text(b"REST", b"R"),
+            [pair(b"A", 2), pair(b"B", 1)],
+            [pair(b" ", 2), pair(b"X", 1)],
+        ),
+        (
+            Asked::Text(b"CODE", b"Y"),
+            [pair(b"A", 2), pair(b"B", 1)],
+            [pair(b"X", 1), pair(b"Y", 2)],
+        ),
+        (
+            Asked::Text(b"NAME", b"C"),
+            [pair(b"B", 1), pair(b"C", 2)],
+            [pair(b"X", 1), pair(b"Y", 2)],
+        ),
+    ];
+    assert_eq!(rt; first_other_order(alloc, &mut table, &cases)?, None);
+    Ok(())
+}
+
 // A table of one record, with a field of each kind and an index on the first.
 fn kinds(alloc: Global) -> Result<Table, Fail> {
     let fields = [

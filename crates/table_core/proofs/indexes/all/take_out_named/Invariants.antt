@@ -1,11 +1,11 @@
 use Rattle.std.proofs.Common.{◌≡◌, map}
-use Rattle.table_core.specs.Indexes.{Follows, FollowsBut, HasRoom, indexed}
+use Rattle.table_core.specs.Indexes.{Follows, FollowsAside, HasRoom, indexed}
 use Rattle.table_core.proofs.Turned.{Turned}
-use Rattle.table_core.proofs.indexes.all.take_out_all.Given as goal
+use Rattle.table_core.proofs.indexes.all.take_out_named.Given as goal
 
 abbrev pub invariant-loop-index : goal.invariant-loop-index
 invariant-loop-index l = record {
-  turned : Turned (Follows l.records.table) (FollowsBut l.number l.records.table) l.index-index l.index-items;
+  turned : Turned (Follows l.records.table) (FollowsAside l.target l.records.table) l.index-index l.index-items;
   room : Turned HasRoom HasRoom l.index-index l.index-items;
   same : map indexed l.index-items ≡ map indexed l.fn.indexes.items;
 }
