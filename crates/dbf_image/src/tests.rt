@@ -3,6 +3,7 @@
 use super::*;
 use dbf_fields::{Field, MEMO, Schema, day_of};
 use std::alloc::Global;
+use std::process::Abort;
 use std::test::*;
 
 mod blocks;
@@ -71,6 +72,17 @@ fn written(alloc: Global, table: &TableData) -> Result<Vec<u8>, Fail> {
     Ok(sink.bytes)
 }
 
+// A table is written as that image.
+fn assert_written(
+    alloc: Global,
+    rt: &impl Abort,
+    table: &TableData,
+    image: &[u8],
+) -> Result<(), Fail> {
+    assert_eq!(*rt; written(alloc, table)?.as_slice(), image);
+    Ok(())
+}
+
 // The schema of one field NAME, C, 10 wide.
 fn one_name(alloc: Global) -> Result<Schema, Fail> {
     let name = Field::new(alloc, b"NAME", b'C', 10, 0)?;
@@ -89,6 +101,16 @@ fn has_cell(alloc: Global, table: &TableData, number: u32, field: usize, cell: &
         };
     }
     table.cell(number, field) == cell
+}
+
+// A table has each of those cells and memos.
+fn assert_cells(alloc: Global, rt: &impl Abort, table: &TableData, cells: &[(u32, usize, &[u8])]) {
+    for (number, field, cell) in cells {
+        assert!(*rt;
+            has_cell(alloc, table, *number, *field, cell),
+            "at {number}, {field}"
+        );
+    }
 }
 
 // Replaces a memo, where there is one.

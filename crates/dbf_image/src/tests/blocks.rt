@@ -3,6 +3,7 @@
 use super::*;
 use dbf_fields::{Field, MEMO, Schema, day_of};
 use std::alloc::Global;
+use std::process::Abort;
 use std::test::*;
 
 // The table of one memo NOTE with three records, the first two of which have a text of 510 and of 511
@@ -50,37 +51,44 @@ pub(super) fn blocks(alloc: Global) -> Result<Vec<u8>, Fail> {
     Ok(dbt)
 }
 
+// What is written of a table's memos.
+fn memos_written(alloc: Global, table: &TableData) -> Result<Vec<u8>, Fail> {
+    let mut sink = MemorySink::new(alloc);
+    write_dbt(&mut sink, table)?;
+    Ok(sink.bytes)
+}
+
+// A table's memos are written as those blocks.
+fn assert_memos_written(
+    alloc: Global,
+    rt: &impl Abort,
+    table: &TableData,
+    dbt: &[u8],
+) -> Result<(), Fail> {
+    assert_eq!(*rt; memos_written(alloc, table)?.as_slice(), dbt);
+    Ok(())
+}
+
 #[test]
 fn memo_cells_tell_their_blocks(rt: HostRuntime) -> Result<(), Fail> {
     let table = notes(rt.alloc())?;
-    let day = day_of(1987, 3, 15).ok_or("no such day")?;
-    let mut sink = MemorySink::new(rt.alloc());
-    write_dbf(&mut sink, &table, day)?;
-    assert_eq!(rt; sink.bytes.as_slice(), NOTES.as_slice());
-    Ok(())
+    assert_written(rt.alloc(), &rt, &table, &NOTES)
 }
 
 #[test]
 fn memos_take_whole_blocks(rt: HostRuntime) -> Result<(), Fail> {
     let table = notes(rt.alloc())?;
     assert_eq!(rt; next_free_block(&table), Some(4));
-    let mut sink = MemorySink::new(rt.alloc());
-    write_dbt(&mut sink, &table)?;
-    assert_eq!(rt; sink.bytes, blocks(rt.alloc())?);
-    Ok(())
+    assert_memos_written(rt.alloc(), &rt, &table, &blocks(rt.alloc())?)
 }
 
 #[test]
 fn table_without_memos_has_a_memo_header(rt: HostRuntime) -> Result<(), Fail> {
     let table = TableData::empty(rt.alloc(), one_name(rt.alloc())?);
-    let mut sink = MemorySink::new(rt.alloc());
-    write_dbt(&mut sink, &table)?;
-    let mut header = Vec::from_slice(rt.alloc(), &[1, 0, 0, 0])?;
-    header.resize(16, 0)?;
-    header.push(3)?;
-    header.resize(512, 0)?;
-    assert_eq!(rt; sink.bytes, header);
-    Ok(())
+    let mut header = [0; 512];
+    header[0] = 1;
+    header[16] = 3;
+    assert_memos_written(rt.alloc(), &rt, &table, &header)
 }
 
 #[test]

@@ -2,6 +2,7 @@
 
 use super::*;
 use dbf_fields::{Field, MEMO, Schema};
+use std::process::Abort;
 use std::test::*;
 
 // A table of the fields NAME, C, 3 wide, AGE, N, 2 wide, and NOTE, M, without records.
@@ -90,14 +91,32 @@ fn three_people(alloc: Global) -> Result<GrowingTable, Fail> {
     Ok(table)
 }
 
+// The records show those rows.
+fn assert_rows(
+    alloc: Global,
+    rt: &impl Abort,
+    table: &GrowingTable,
+    rows: &[&[u8]],
+) -> Result<(), Fail> {
+    for (index, row) in rows.iter().enumerate() {
+        let line = shown(alloc, table, index as u32 + 1)?;
+        assert_eq!(*rt; line.as_slice(), *row);
+    }
+    Ok(())
+}
+
+// A fourth record, a text for the third, and a mark that is taken away again.
+fn change(table: &mut GrowingTable) -> Result<(), Fail> {
+    add_record(table)?;
+    put(table, 3, 2, b"LATER")?;
+    mark(table, 1, true)?;
+    mark(table, 1, false)
+}
+
 #[test]
 fn changes_are_seen_in_place(rt: HostRuntime) -> Result<(), Fail> {
-    let alloc = rt.alloc();
-    let mut table = three_people(alloc)?;
-    add_record(&mut table)?;
-    put(&mut table, 3, 2, b"LATER")?;
-    mark(&mut table, 1, true)?;
-    mark(&mut table, 1, false)?;
+    let mut table = three_people(rt.alloc())?;
+    change(&mut table)?;
     let rows = [
         b" |ADA|36|HELLO".as_slice(),
         b"*|BOB| 7|GONE".as_slice(),
@@ -105,11 +124,7 @@ fn changes_are_seen_in_place(rt: HostRuntime) -> Result<(), Fail> {
         b" |   |  |".as_slice(),
         b"".as_slice(),
     ];
-    for (index, row) in rows.iter().enumerate() {
-        let line = shown(alloc, &table, index as u32 + 1)?;
-        assert_eq!(rt; line.as_slice(), *row);
-    }
-    Ok(())
+    assert_rows(rt.alloc(), &rt, &table, &rows)
 }
 
 #[test]
@@ -124,34 +139,33 @@ fn record_is_flag_and_cells(rt: HostRuntime) -> Result<(), Fail> {
 
 #[test]
 fn packed_table_has_the_records_that_are_kept(rt: HostRuntime) -> Result<(), Fail> {
-    let alloc = rt.alloc();
-    let mut table = three_people(alloc)?;
+    let mut table = three_people(rt.alloc())?;
     table.pack();
+    assert_eq!(rt; table.record_count(), 2);
     let rows = [
         b" |ADA|36|HELLO".as_slice(),
         b" |CYD|12|".as_slice(),
         b"".as_slice(),
     ];
-    for (index, row) in rows.iter().enumerate() {
-        let line = shown(alloc, &table, index as u32 + 1)?;
-        assert_eq!(rt; line.as_slice(), *row);
-    }
-    assert_eq!(rt; table.record_count(), 2);
-    Ok(())
+    assert_rows(rt.alloc(), &rt, &table, &rows)
+}
+
+// Another name for the first record, and no text.
+fn rename_first(table: &mut GrowingTable) -> Result<(), Fail> {
+    put(table, 1, 0, b"EVE")?;
+    put(table, 1, 2, b"")
 }
 
 #[test]
 fn content_is_a_table_of_its_own(rt: HostRuntime) -> Result<(), Fail> {
-    let alloc = rt.alloc();
-    let mut table = three_people(alloc)?;
-    let content = table.content(alloc)?;
-    put(&mut table, 1, 0, b"EVE")?;
-    put(&mut table, 1, 2, b"")?;
-    assert!(rt; has_cell(rt.alloc(), &content, 1, 0, b"ADA"));
-    assert!(rt; has_cell(rt.alloc(), &content, 1, 2, b"HELLO"));
-    assert_eq!(rt;
-        shown(alloc, &table, 1)?.as_slice(),
-        b" |EVE|36|".as_slice()
+    let mut table = three_people(rt.alloc())?;
+    let content = table.content(rt.alloc())?;
+    rename_first(&mut table)?;
+    assert_cells(
+        rt.alloc(),
+        &rt,
+        &content,
+        &[(1, 0, b"ADA"), (1, 2, b"HELLO")],
     );
-    Ok(())
+    assert_rows(rt.alloc(), &rt, &table, &[b" |EVE|36|"])
 }

@@ -137,26 +137,42 @@ fn appended_records_have_no_memos(rt: HostRuntime) -> Result<(), Fail> {
     let mut table = named(rt.alloc())?;
     add_blank(&mut table)?;
     assert_eq!(rt; table.record_count(), 2);
-    assert!(rt; has_cell(rt.alloc(), &table, 1, 0, b"ADA"));
-    assert!(rt; has_cell(rt.alloc(), &table, 1, 1, b""));
-    assert!(rt; has_cell(rt.alloc(), &table, 2, 0, b"   "));
-    assert!(rt; has_cell(rt.alloc(), &table, 2, 1, b""));
+    let cells = [
+        (1, 0, b"ADA".as_slice()),
+        (1, 1, b"".as_slice()),
+        (2, 0, b"   ".as_slice()),
+        (2, 1, b"".as_slice()),
+    ];
+    assert_cells(rt.alloc(), &rt, &table, &cells);
     Ok(())
+}
+
+// The same with the memo HELLO, and a blank record after it.
+fn greeted(alloc: Global) -> Result<TableData, Fail> {
+    let mut table = named(alloc)?;
+    put_memo(&mut table, 1, 1, b"HELLO")?;
+    add_blank(&mut table)?;
+    Ok(table)
+}
+
+// The memo BYE in the second record, and none in the first.
+fn part(table: &mut TableData) -> Result<(), Fail> {
+    put_memo(table, 2, 1, b"BYE")?;
+    put_memo(table, 1, 1, b"")
 }
 
 #[test]
 fn memo_is_replaced_in_one_table(rt: HostRuntime) -> Result<(), Fail> {
-    let mut table = named(rt.alloc())?;
-    put_memo(&mut table, 1, 1, b"HELLO")?;
-    add_blank(&mut table)?;
+    let mut table = greeted(rt.alloc())?;
     let other = table.copy(rt.alloc())?;
-    put_memo(&mut table, 2, 1, b"BYE")?;
-    put_memo(&mut table, 1, 1, b"")?;
-    assert!(rt; has_cell(rt.alloc(), &table, 1, 0, b"ADA"));
-    assert!(rt; has_cell(rt.alloc(), &table, 1, 1, b""));
-    assert!(rt; has_cell(rt.alloc(), &table, 2, 1, b"BYE"));
-    assert!(rt; has_cell(rt.alloc(), &other, 1, 1, b"HELLO"));
-    assert!(rt; has_cell(rt.alloc(), &other, 2, 1, b""));
+    part(&mut table)?;
+    let cells = [
+        (1, 0, b"ADA".as_slice()),
+        (1, 1, b"".as_slice()),
+        (2, 1, b"BYE".as_slice()),
+    ];
+    assert_cells(rt.alloc(), &rt, &table, &cells);
+    assert_cells(rt.alloc(), &rt, &other, &[(1, 1, b"HELLO"), (2, 1, b"")]);
     Ok(())
 }
 
@@ -165,7 +181,6 @@ fn cell_beside_a_memo_is_replaced(rt: HostRuntime) -> Result<(), Fail> {
     let mut table = named(rt.alloc())?;
     put_memo(&mut table, 1, 1, b"HELLO")?;
     put_cell(&mut table, 1, 0, b"BOB")?;
-    assert!(rt; has_cell(rt.alloc(), &table, 1, 0, b"BOB"));
-    assert!(rt; has_cell(rt.alloc(), &table, 1, 1, b"HELLO"));
+    assert_cells(rt.alloc(), &rt, &table, &[(1, 0, b"BOB"), (1, 1, b"HELLO")]);
     Ok(())
 }

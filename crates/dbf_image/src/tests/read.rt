@@ -1,6 +1,7 @@
 //! Reading table files.
 
 use super::*;
+use std::process::Abort;
 use std::test::*;
 
 // The same table by another program: a longer header, bytes after the name, and no 0x1A at the end.
@@ -12,30 +13,31 @@ const TOLERATED: [u8; 88] = [
     0x20,
 ];
 
+// The two records of TWO_NAMES, neither of which is marked as deleted.
+fn assert_two_names(alloc: Global, rt: &impl Abort, table: &TableData) {
+    assert_eq!(*rt; table.record_count(), 2);
+    assert_eq!(*rt; table.schema().fields().len(), 1);
+    assert!(*rt; !table.is_deleted(1));
+    assert!(*rt; !table.is_deleted(2));
+    assert_cells(
+        alloc,
+        rt,
+        table,
+        &[(1, 0, b"ADA       "), (2, 0, b"BOB       ")],
+    );
+}
+
 #[test]
 fn first_image(rt: HostRuntime) -> Result<(), Fail> {
     let table = read_table(rt.alloc(), &TWO_NAMES, None)?;
-    assert_eq!(rt; table.record_count(), 2);
-    assert_eq!(rt; table.schema().fields().len(), 1);
-    assert!(rt; !table.is_deleted(1));
-    assert!(rt; !table.is_deleted(2));
-    assert!(rt; has_cell(rt.alloc(), &table, 1, 0, b"ADA       "));
-    assert!(rt; has_cell(rt.alloc(), &table, 2, 0, b"BOB       "));
-    assert_eq!(rt;
-        written(rt.alloc(), &table)?.as_slice(),
-        TWO_NAMES.as_slice()
-    );
-    Ok(())
+    assert_two_names(rt.alloc(), &rt, &table);
+    assert_written(rt.alloc(), &rt, &table, &TWO_NAMES)
 }
 
 #[test]
 fn tolerant_header(rt: HostRuntime) -> Result<(), Fail> {
     let table = read_table(rt.alloc(), &TOLERATED, None)?;
-    assert_eq!(rt;
-        written(rt.alloc(), &table)?.as_slice(),
-        TWO_NAMES.as_slice()
-    );
-    Ok(())
+    assert_written(rt.alloc(), &rt, &table, &TWO_NAMES)
 }
 
 #[test]

@@ -49,24 +49,41 @@ fn failing_sink_keeps_the_file_before(rt: HostRuntime) -> Result<(), Fail> {
     Ok(())
 }
 
-// 6,000 records, which are more bytes than wait at once. Where they stand as they are written, they go out as they are,
-// between the header and the mark; a first flag that is written as another makes them small chunks, which are gathered.
-#[test]
-fn small_chunks_are_gathered(rt: HostRuntime) -> Result<(), Fail> {
-    let mut image = Vec::from_slice(rt.alloc(), &changed(&[(4, 0x70), (5, 0x17)]))?;
+// TWO_NAMES with that first flag, and 5,998 blank records after it.
+fn long_table(alloc: Global, flag: u8) -> Result<TableData, Fail> {
+    let mut table = read_table(alloc, &changed(&[(65, flag)]), None)?;
+    for _ in 0..5998 {
+        add_blank(&mut table)?;
+    }
+    Ok(table)
+}
+
+// The file of those 6,000 records.
+fn long_image(alloc: Global) -> Result<Vec<u8>, Fail> {
+    let mut image = Vec::from_slice(alloc, &changed(&[(4, 0x70), (5, 0x17)]))?;
     image.truncate(87);
     for _ in 0..5998 {
         image.extend_from_slice(b"           ")?;
     }
     image.push(0x1a)?;
+    Ok(image)
+}
+
+// What a sink has that takes a whole table of 1987-03-15.
+fn taken(alloc: Global, table: &TableData) -> Result<LimitedSink, Fail> {
     let day = day_of(1987, 3, 15).ok_or("no such day")?;
+    let mut sink = LimitedSink::new(alloc, usize::MAX, u64::MAX);
+    write_dbf(&mut sink, table, day)?;
+    Ok(sink)
+}
+
+// 6,000 records, which are more bytes than wait at once. Where they stand as they are written, they go out as they are,
+// between the header and the mark; a first flag that is written as another makes them small chunks, which are gathered.
+#[test]
+fn small_chunks_are_gathered(rt: HostRuntime) -> Result<(), Fail> {
+    let image = long_image(rt.alloc())?;
     for (flag, writes) in [(0x20, 3), (0, 2)] {
-        let mut table = read_table(rt.alloc(), &changed(&[(65, flag)]), None)?;
-        for _ in 0..5998 {
-            add_blank(&mut table)?;
-        }
-        let mut sink = LimitedSink::new(rt.alloc(), usize::MAX, u64::MAX);
-        write_dbf(&mut sink, &table, day)?;
+        let sink = taken(rt.alloc(), &long_table(rt.alloc(), flag)?)?;
         assert_eq!(rt; sink.writes, writes, "first flag {flag}");
         assert_eq!(rt; sink.taken.bytes, image, "first flag {flag}");
     }
