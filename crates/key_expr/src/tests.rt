@@ -2,6 +2,7 @@
 use super::*;
 use dbf_fields::{CHARACTER, DATE, Field, NUMBER, Schema};
 use std::alloc::Global;
+use std::process::Abort;
 use std::test::Fail;
 
 mod keys;
@@ -32,26 +33,64 @@ pub(super) fn key_by(
     Ok(expr.key_of(record))
 }
 
+// A record has that key by the expression of a text.
+pub(super) fn assert_key(
+    alloc: Global,
+    rt: &impl Abort,
+    schema: &Schema,
+    text: &[u8],
+    record: &[u8],
+    key: &[u8],
+) -> Result<(), Fail> {
+    assert_eq!(rt; key_by(alloc, schema, text, record)?.as_bytes(), key);
+    Ok(())
+}
+
+// Each text is refused with that fault.
+pub(super) fn assert_faults(
+    alloc: Global,
+    rt: &impl Abort,
+    schema: &Schema,
+    cases: &[(&[u8], ExprFault)],
+) {
+    for (text, fault) in cases {
+        assert_eq!(rt; KeyExpr::parse(alloc, text, schema).err(), Some(*fault));
+    }
+}
+
+// An expression keeps its text and knows the length of its keys.
+pub(super) fn assert_length(
+    alloc: Global,
+    rt: &impl Abort,
+    schema: &Schema,
+    text: &[u8],
+    key_len: usize,
+) -> Result<(), Fail> {
+    let expr = KeyExpr::parse(alloc, text, schema)?;
+    assert_eq!(rt; expr.text(), text);
+    assert_eq!(rt; expr.key_len(), key_len);
+    Ok(())
+}
+
 #[test]
 fn key_expression_forms(rt: HostRuntime) -> Result<(), Fail> {
     let alloc = rt.alloc();
     let schema = people(alloc)?;
     let text = b"UPPER(SUBSTR(NAME,1,3))+STR(AGE,5)+DTOC(BORN)".as_slice();
-    let expr = KeyExpr::parse(alloc, text, &schema)?;
-    assert_eq!(rt; expr.text(), text);
-    assert_eq!(rt; expr.key_len(), 16);
-    let key = key_by(alloc, &schema, text, b" Ada Lovela 3618151210")?;
-    assert_eq!(rt; key.as_bytes(), b"ADA   3612/10/15".as_slice());
-    let key = key_by(alloc, &schema, text, b"*Ada Lovelax3618151210")?;
-    assert_eq!(rt; key.as_bytes(), b"ADA*****12/10/15".as_slice());
-    let cases: [(&[u8], ExprFault); 4] = [
+    assert_length(alloc, &rt, &schema, text, 16)?;
+    let records: [(&[u8], &[u8]); 2] = [
+        (b" Ada Lovela 3618151210", b"ADA   3612/10/15"),
+        (b"*Ada Lovelax3618151210", b"ADA*****12/10/15"),
+    ];
+    for (record, key) in records {
+        assert_key(alloc, &rt, &schema, text, record, key)?;
+    }
+    let faults: [(&[u8], ExprFault); 4] = [
         (b"AGE", ExprFault::NotCharacter),
         (b"SUBSTR(NAME,11,1)", ExprFault::BadArgument),
         (b"NAME+", ExprFault::BadSyntax(5)),
         (b"ZIP", ExprFault::NoSuchField),
     ];
-    for (text, fault) in cases {
-        assert_eq!(rt; KeyExpr::parse(alloc, text, &schema).err(), Some(fault));
-    }
+    assert_faults(alloc, &rt, &schema, &faults);
     Ok(())
 }

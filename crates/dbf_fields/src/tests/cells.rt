@@ -1,6 +1,7 @@
 use super::characters;
 use crate::*;
 use std::alloc::{AllocError, Global};
+use std::process::Abort;
 use std::test::Fail;
 
 #[test]
@@ -31,48 +32,70 @@ fn cell_of(
     Ok(encode_cell(alloc, field, &value))
 }
 
-#[test]
-fn other_values_are_of_another_type(rt: HostRuntime) -> Result<(), Fail> {
-    let alloc = rt.alloc();
-    let day = day_of(1984, 2, 29).ok_or("a date")?;
-    let fields = [
+// A field of each kind.
+fn field_of_each_kind(alloc: Global) -> Result<[Field; 5], Fail> {
+    Ok([
         characters(alloc, b"NAME", 10)?,
         Field::new(alloc, b"AMT", NUMBER, 6, 2)?,
         Field::new(alloc, b"PAID", LOGICAL, 1, 0)?,
         Field::new(alloc, b"BORN", DATE, 8, 0)?,
         Field::new(alloc, b"NOTE", MEMO, 10, 0)?,
-    ];
-    let values = [
-        (Literal::Text(Bytes::from_slice(alloc, b"T")?), CHARACTER),
-        (
-            Literal::Number {
-                digits: 5,
-                scale: 0,
-            },
-            NUMBER,
-        ),
+    ])
+}
+
+// Values with the kind of field that keeps them.
+fn value_of_each_kind(alloc: Global) -> Result<[(Literal, u8); 5], Fail> {
+    let day = day_of(1984, 2, 29).ok_or("a date")?;
+    let text = Bytes::from_slice(alloc, b"T")?;
+    let number = Literal::Number {
+        digits: 5,
+        scale: 0,
+    };
+    Ok([
+        (Literal::Text(text), CHARACTER),
+        (number, NUMBER),
         (Literal::Truth(true), LOGICAL),
         (Literal::Date(day), DATE),
         (Literal::BlankDate, DATE),
-    ];
-    for field in &fields {
+    ])
+}
+
+// The field keeps the value where it is of this kind alone.
+fn assert_kept(
+    alloc: Global,
+    rt: &impl Abort,
+    field: &Field,
+    value: &Literal,
+    kind: u8,
+) -> Result<(), Fail> {
+    let cell = cell_of(alloc, field, value.copy(alloc)?)?;
+    if field.kind == kind {
+        assert_eq!(rt;
+            cell.map(|bytes| bytes.as_slice().len()),
+            Ok(usize::from(field.width))
+        );
+    } else {
+        assert_eq!(rt; cell.err(), Some(CellFault::TypeMismatch));
+    }
+    Ok(())
+}
+
+#[test]
+fn other_values_are_of_another_type(rt: HostRuntime) -> Result<(), Fail> {
+    let values = value_of_each_kind(rt.alloc())?;
+    for field in &field_of_each_kind(rt.alloc())? {
         for (value, kind) in &values {
-            let cell = cell_of(alloc, field, value.copy(alloc)?)?;
-            if field.kind == *kind {
-                assert_eq!(rt;
-                    cell.map(|bytes| bytes.as_slice().len()),
-                    Ok(usize::from(field.width))
-                );
-            } else {
-                assert_eq!(rt; cell.err(), Some(CellFault::TypeMismatch));
-            }
+            assert_kept(rt.alloc(), &rt, field, value, *kind)?;
         }
         let fault = if field.kind == DATE {
             CellFault::BadDate
         } else {
             CellFault::TypeMismatch
         };
-        assert_eq!(rt; cell_of(alloc, field, Literal::BadDate)?.err(), Some(fault));
+        assert_eq!(rt;
+            cell_of(rt.alloc(), field, Literal::BadDate)?.err(),
+            Some(fault)
+        );
     }
     Ok(())
 }

@@ -1,4 +1,54 @@
 use crate::*;
+use std::process::Abort;
+
+// What cells of truths say.
+fn assert_truths(rt: &impl Abort) {
+    let truths: [(&[u8], bool); 14] = [
+        (b"T", true),
+        (b"t", true),
+        (b"Y", true),
+        (b"y", true),
+        (b"F", false),
+        (b"f", false),
+        (b"N", false),
+        (b"n", false),
+        (b"?", false),
+        (b" ", false),
+        (b"1", false),
+        (b"", false),
+        (b"T ", false),
+        (b"TT", false),
+    ];
+    for (cell, truth) in truths {
+        assert_eq!(rt; read_truth(cell), truth);
+    }
+}
+
+// What cells of dates say.
+fn assert_dates(rt: &impl Abort) {
+    assert_eq!(rt; read_date(b"        "), DateCell::Blank);
+    let odd: [&[u8]; 16] = [
+        b"00000101",
+        b"19870000",
+        b"19870100",
+        b"19870132",
+        b"19870431",
+        b"19871301",
+        b"19850229",
+        b"19000229",
+        b"1987 101",
+        b"1987010 ",
+        b" 9870101",
+        b"198701",
+        b"",
+        b"       ",
+        b"         ",
+        b"19870101 ",
+    ];
+    for cell in odd {
+        assert_eq!(rt; read_date(cell), DateCell::Odd);
+    }
+}
 
 #[test]
 fn odd_blank_and_largest_cells(rt: HostRuntime) {
@@ -49,47 +99,8 @@ fn odd_blank_and_largest_cells(rt: HostRuntime) {
         read_number(b".123456789012345678", 18),
         Some(123_456_789_012_345_678)
     );
-    let truths: [(&[u8], bool); 14] = [
-        (b"T", true),
-        (b"t", true),
-        (b"Y", true),
-        (b"y", true),
-        (b"F", false),
-        (b"f", false),
-        (b"N", false),
-        (b"n", false),
-        (b"?", false),
-        (b" ", false),
-        (b"1", false),
-        (b"", false),
-        (b"T ", false),
-        (b"TT", false),
-    ];
-    for (cell, truth) in truths {
-        assert_eq!(rt; read_truth(cell), truth);
-    }
-    assert_eq!(rt; read_date(b"        "), DateCell::Blank);
-    let odd: [&[u8]; 16] = [
-        b"00000101",
-        b"19870000",
-        b"19870100",
-        b"19870132",
-        b"19870431",
-        b"19871301",
-        b"19850229",
-        b"19000229",
-        b"1987 101",
-        b"1987010 ",
-        b" 9870101",
-        b"198701",
-        b"",
-        b"       ",
-        b"         ",
-        b"19870101 ",
-    ];
-    for cell in odd {
-        assert_eq!(rt; read_date(cell), DateCell::Odd);
-    }
+    assert_truths(&rt);
+    assert_dates(&rt);
 }
 
 #[test]

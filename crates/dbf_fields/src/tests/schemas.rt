@@ -1,13 +1,19 @@
 use super::characters;
 use crate::*;
+use std::alloc::Global;
 use std::test::Fail;
+
+// A schema of two fields, the first with a name in small letters, and decimals that its kind has not.
+fn members(alloc: Global) -> Result<Schema, Fail> {
+    let mut member = characters(alloc, b"Member_1", 10)?;
+    member.decimals = 3;
+    let fields = vec![in alloc; member, characters(alloc, b"town", 254)?]?;
+    Ok(Schema::new(alloc, &fields)?.copy(alloc)?)
+}
 
 #[test]
 fn schema_folds_names(rt: HostRuntime) -> Result<(), Fail> {
-    let mut member = characters(rt.alloc(), b"Member_1", 10)?;
-    member.decimals = 3;
-    let fields = vec![in rt.alloc(); member, characters(rt.alloc(), b"town", 254)?]?;
-    let schema = Schema::new(rt.alloc(), &fields)?.copy(rt.alloc())?;
+    let schema = members(rt.alloc())?;
     assert_eq!(rt; schema.record_length(), 265);
     assert_eq!(rt; schema.fields().len(), 2);
     let first = &schema.fields()[0];
@@ -16,15 +22,19 @@ fn schema_folds_names(rt: HostRuntime) -> Result<(), Fail> {
     Ok(())
 }
 
-#[test]
-fn schemas_tell_where_cells_stand(rt: HostRuntime) -> Result<(), Fail> {
-    let alloc = rt.alloc();
+// A schema of a text, a number and a truth.
+fn payments(alloc: Global) -> Result<Schema, Fail> {
     let fields = vec![in alloc;
         characters(alloc, b"NAME", 4)?,
         Field::new(alloc, b"AMT", NUMBER, 5, 2)?,
         Field::new(alloc, b"PAID", LOGICAL, 1, 0)?,
     ]?;
-    let schema = Schema::new(alloc, &fields)?.copy(alloc)?;
+    Ok(Schema::new(alloc, &fields)?.copy(alloc)?)
+}
+
+#[test]
+fn schemas_tell_where_cells_stand(rt: HostRuntime) -> Result<(), Fail> {
+    let schema = payments(rt.alloc())?;
     let cells: [(usize, usize, &[u8]); 3] = [(1, 4, b"Anna"), (5, 5, b" 1.50"), (10, 1, b"T")];
     for (i, (offset, width, cell)) in cells.iter().enumerate() {
         if i < schema.fields().len() && schema.record_length() == 11 {

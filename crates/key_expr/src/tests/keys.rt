@@ -1,36 +1,41 @@
-use super::{key_by, people};
+use super::{assert_faults, assert_key, assert_length, key_by, people};
 use crate::*;
 use dbf_fields::{CHARACTER, DATE, Field, NUMBER, Schema};
 use std::alloc::Global;
 use std::test::Fail;
 
+// A schema of one field A, as wide as this.
+fn only_a(alloc: Global, width: u8) -> Result<Schema, Fail> {
+    let fields = vec![in alloc; Field::new(alloc, b"A", CHARACTER, width, 0)?]?;
+    Ok(Schema::new(alloc, &fields)?)
+}
+
+// The field A between 243 parentheses on each side.
+fn nested() -> [u8; 487] {
+    let mut text = [b'('; 487];
+    text[243] = b'A';
+    for offset in 244..487 {
+        text[offset] = b')';
+    }
+    text
+}
+
 #[test]
 fn hostile_expressions(rt: HostRuntime) -> Result<(), Fail> {
-    let alloc = rt.alloc();
-    let fields = vec![in alloc; Field::new(alloc, b"A", CHARACTER, 2, 0)?]?;
-    let schema = Schema::new(alloc, &fields)?;
-    let mut nested = [b'('; 487];
-    nested[243] = b'A';
-    for offset in 244..487 {
-        nested[offset] = b')';
-    }
-    let key = key_by(alloc, &schema, &nested, b" xy")?;
-    assert_eq!(rt; key.as_bytes(), b"xy".as_slice());
-    assert_eq!(rt;
-        KeyExpr::parse(alloc, &[b'+'; 489], &schema).err(),
-        Some(ExprFault::ExpressionTooLong)
-    );
-    assert_eq!(rt;
-        KeyExpr::parse(alloc, b"((A", &schema).err(),
-        Some(ExprFault::BadSyntax(3))
-    );
+    let schema = only_a(rt.alloc(), 2)?;
+    assert_key(rt.alloc(), &rt, &schema, &nested(), b" xy", b"xy")?;
+    let pluses = [b'+'; 489];
+    let faults: [(&[u8], ExprFault); 2] = [
+        (&pluses, ExprFault::ExpressionTooLong),
+        (b"((A", ExprFault::BadSyntax(3)),
+    ];
+    assert_faults(rt.alloc(), &rt, &schema, &faults);
     Ok(())
 }
 
 #[test]
 fn parts_of_long_parts_are_cut(rt: HostRuntime) -> Result<(), Fail> {
-    let alloc = rt.alloc();
-    let schema = people(alloc)?;
+    let schema = people(rt.alloc())?;
     let cases: [(&[u8], &[u8]); 6] = [
         (b" upper ( Name ) ", b"ADA LOVELA"),
         (b"SUBSTR(NAME+NAME,9,4)", b"laAd"),
@@ -40,10 +45,9 @@ fn parts_of_long_parts_are_cut(rt: HostRuntime) -> Result<(), Fail> {
         (b"STR(AGE)", b"        36"),
     ];
     for (text, key) in cases {
-        let expr = KeyExpr::parse(alloc, text, &schema)?;
-        assert_eq!(rt; expr.key_len(), key.len());
-        let made = key_by(alloc, &schema, text, b" Ada Lovela 3618151210")?;
-        assert_eq!(rt; made.as_bytes(), key);
+        assert_length(rt.alloc(), &rt, &schema, text, key.len())?;
+        let record = b" Ada Lovela 3618151210";
+        assert_key(rt.alloc(), &rt, &schema, text, record, key)?;
     }
     Ok(())
 }
@@ -126,10 +130,8 @@ fn left_nested() -> [u8; 397] {
 
 #[test]
 fn left_nested_parentheses_stay_cheap(rt: HostRuntime) -> Result<(), Fail> {
-    let alloc = rt.alloc();
-    let fields = vec![in alloc; Field::new(alloc, b"A", CHARACTER, 1, 0)?]?;
-    let schema = Schema::new(alloc, &fields)?;
-    let expr = KeyExpr::parse(alloc, &left_nested(), &schema)?;
+    let schema = only_a(rt.alloc(), 1)?;
+    let expr = KeyExpr::parse(rt.alloc(), &left_nested(), &schema)?;
     assert_eq!(rt; expr.key_len(), 100);
     if schema.record_length() != 2 {
         return Err("a record of A has two bytes".into());

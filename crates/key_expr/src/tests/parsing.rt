@@ -1,4 +1,4 @@
-use super::people;
+use super::{assert_faults, people};
 use crate::*;
 use std::alloc::Global;
 use std::test::Fail;
@@ -52,9 +52,7 @@ fn rules_are_judged_from_left_to_right(rt: HostRuntime) -> Result<(), Fail> {
         (b"STR(AGE,100)+NAME", ExprFault::KeyTooLong),
         (b"STR(AGE,100)+NAME+BORN", ExprFault::NotCharacter),
     ];
-    for (text, fault) in cases {
-        assert_eq!(rt; KeyExpr::parse(alloc, text, &schema).err(), Some(fault));
-    }
+    assert_faults(alloc, &rt, &schema, &cases);
     Ok(())
 }
 
