@@ -79,7 +79,7 @@ fn assert_written(
     table: &TableData,
     image: &[u8],
 ) -> Result<(), Fail> {
-    assert_eq!(*rt; written(alloc, table)?.as_slice(), image);
+    assert_eq!(rt; written(alloc, table)?.as_slice(), image);
     Ok(())
 }
 
@@ -106,7 +106,7 @@ fn has_cell(alloc: Global, table: &TableData, number: u32, field: usize, cell: &
 // A table has each of those cells and memos.
 fn assert_cells(alloc: Global, rt: &impl Abort, table: &TableData, cells: &[(u32, usize, &[u8])]) {
     for (number, field, cell) in cells {
-        assert!(*rt;
+        assert!(rt;
             has_cell(alloc, table, *number, *field, cell),
             "at {number}, {field}"
         );

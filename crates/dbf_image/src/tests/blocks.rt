@@ -1,7 +1,7 @@
 //! Blocks of memos that are written.
 
 use super::*;
-use dbf_fields::{Field, MEMO, Schema, day_of};
+use dbf_fields::{Field, MEMO, Schema};
 use std::alloc::Global;
 use std::process::Abort;
 use std::test::*;
@@ -65,7 +65,7 @@ fn assert_memos_written(
     table: &TableData,
     dbt: &[u8],
 ) -> Result<(), Fail> {
-    assert_eq!(*rt; memos_written(alloc, table)?.as_slice(), dbt);
+    assert_eq!(rt; memos_written(alloc, table)?.as_slice(), dbt);
     Ok(())
 }
 
@@ -91,41 +91,51 @@ fn table_without_memos_has_a_memo_header(rt: HostRuntime) -> Result<(), Fail> {
     assert_memos_written(rt.alloc(), &rt, &table, &header)
 }
 
+// The fields NAME, NOTE and MORE, of which the last two are memos.
+fn two_memos(alloc: Global) -> Result<Schema, Fail> {
+    let name = Field::new(alloc, b"NAME", b'C', 3, 0)?;
+    let note = Field::new(alloc, b"NOTE", MEMO, 10, 0)?;
+    let more = Field::new(alloc, b"MORE", MEMO, 10, 0)?;
+    Ok(Schema::new(alloc, &[name, note, more])?)
+}
+
+// Two records of those fields, whose memos are put from the last to the first.
+fn fill(table: &mut TableData) -> Result<(), Fail> {
+    append(table, b"*ADA                    ")?;
+    append(table, b" BOB                    ")?;
+    put_memo(table, 2, 2, b"LAST")?;
+    put_memo(table, 2, 1, b"")?;
+    put_memo(table, 1, 2, b"SECOND")?;
+    put_memo(table, 1, 1, b"FIRST")
+}
+
+// The bytes from one offset up to another, or none where they aren't there.
+fn part(bytes: &[u8], from: usize, to: usize) -> &[u8] {
+    match bytes.get(from..to) {
+        Some(part) => part,
+        None => &[],
+    }
+}
+
+fn filled(alloc: Global) -> Result<TableData, Fail> {
+    let mut table = TableData::empty(alloc, two_memos(alloc)?);
+    fill(&mut table)?;
+    Ok(table)
+}
+
 #[test]
 fn memos_are_numbered_by_record_and_field(rt: HostRuntime) -> Result<(), Fail> {
-    let fields = [
-        Field::new(rt.alloc(), b"NAME", b'C', 3, 0)?,
-        Field::new(rt.alloc(), b"NOTE", MEMO, 10, 0)?,
-        Field::new(rt.alloc(), b"MORE", MEMO, 10, 0)?,
-    ];
-    let mut table = TableData::empty(rt.alloc(), Schema::new(rt.alloc(), &fields)?);
-    append(&mut table, b"*ADA                    ")?;
-    append(&mut table, b" BOB                    ")?;
-    put_memo(&mut table, 2, 2, b"LAST")?;
-    put_memo(&mut table, 2, 1, b"")?;
-    put_memo(&mut table, 1, 2, b"SECOND")?;
-    put_memo(&mut table, 1, 1, b"FIRST")?;
-    let day = day_of(1987, 3, 15).ok_or("no such day")?;
-    let mut dbf = MemorySink::new(rt.alloc());
-    write_dbf(&mut dbf, &table, day)?;
+    let table = filled(rt.alloc())?;
+    let dbf = written(rt.alloc(), &table)?;
+    let dbt = memos_written(rt.alloc(), &table)?;
     assert_eq!(rt;
-        dbf.bytes.get(129..),
-        Some(b"*ADA         1         2 BOB                   3\x1a".as_slice())
+        part(&dbf, 129, 178),
+        b"*ADA         1         2 BOB                   3\x1a".as_slice()
     );
-    let mut dbt = MemorySink::new(rt.alloc());
-    write_dbt(&mut dbt, &table)?;
-    assert_eq!(rt; dbt.bytes.len(), 2048);
-    assert_eq!(rt;
-        dbt.bytes.get(512..520),
-        Some(b"FIRST\x1a\x1a\0".as_slice())
-    );
-    assert_eq!(rt;
-        dbt.bytes.get(1024..1033),
-        Some(b"SECOND\x1a\x1a\0".as_slice())
-    );
-    assert_eq!(rt;
-        dbt.bytes.get(1536..1543),
-        Some(b"LAST\x1a\x1a\0".as_slice())
-    );
+    assert_eq!(rt; dbf.len(), 178);
+    assert_eq!(rt; dbt.len(), 2048);
+    assert_eq!(rt; part(&dbt, 512, 520), b"FIRST\x1a\x1a\0".as_slice());
+    assert_eq!(rt; part(&dbt, 1024, 1033), b"SECOND\x1a\x1a\0".as_slice());
+    assert_eq!(rt; part(&dbt, 1536, 1543), b"LAST\x1a\x1a\0".as_slice());
     Ok(())
 }

@@ -156,7 +156,7 @@ fn greeted(alloc: Global) -> Result<TableData, Fail> {
 }
 
 // The memo BYE in the second record, and none in the first.
-fn part(table: &mut TableData) -> Result<(), Fail> {
+fn change_memos(table: &mut TableData) -> Result<(), Fail> {
     put_memo(table, 2, 1, b"BYE")?;
     put_memo(table, 1, 1, b"")
 }
@@ -165,7 +165,7 @@ fn part(table: &mut TableData) -> Result<(), Fail> {
 fn memo_is_replaced_in_one_table(rt: HostRuntime) -> Result<(), Fail> {
     let mut table = greeted(rt.alloc())?;
     let other = table.copy(rt.alloc())?;
-    part(&mut table)?;
+    change_memos(&mut table)?;
     let cells = [
         (1, 0, b"ADA".as_slice()),
         (1, 1, b"".as_slice()),

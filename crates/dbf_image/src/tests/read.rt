@@ -15,10 +15,10 @@ const TOLERATED: [u8; 88] = [
 
 // The two records of TWO_NAMES, neither of which is marked as deleted.
 fn assert_two_names(alloc: Global, rt: &impl Abort, table: &TableData) {
-    assert_eq!(*rt; table.record_count(), 2);
-    assert_eq!(*rt; table.schema().fields().len(), 1);
-    assert!(*rt; !table.is_deleted(1));
-    assert!(*rt; !table.is_deleted(2));
+    assert_eq!(rt; table.record_count(), 2);
+    assert_eq!(rt; table.schema().fields().len(), 1);
+    assert!(rt; !table.is_deleted(1));
+    assert!(rt; !table.is_deleted(2));
     assert_cells(
         alloc,
         rt,
