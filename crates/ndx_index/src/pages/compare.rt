@@ -1,4 +1,4 @@
-//! Comparing keys eight bytes at once.
+//! Comparing keys, the first eight bytes at once.
 
 ghost use Rattle.std.specs.Prelude.{◌≡◌, ◌≤◌, drop, length};
 ghost use Rattle.std.specs.Cmp.Lexicographic.{slice_cmp};
