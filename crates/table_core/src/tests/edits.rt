@@ -19,14 +19,20 @@ fn pack_renumbers_the_index(rt: HostRuntime) -> Result<(), Fail> {
     let edits = [Asked::Delete, Asked::Pack];
     all_edited(alloc, &mut table, &mut cursor, &edits)?;
     let order = [pair(b"A", 2), pair(b"B", 1)];
-    assert!(rt; pairs_of(alloc, &table, 1)?.as_slice() == order.as_slice());
     let cases = [
         (Move::Seek(b""), (0, 2, false, true)),
         (Move::Seek(b"AB"), (0, 3, false, false)),
         (Move::Go(3), (6, 3, false, false)),
     ];
-    assert_eq!(rt; first_unlike(&table, &mut cursor, &cases)?, None);
+    let is_packed = has_pairs(alloc, &table, &order)?;
+    let unlike = first_unlike(&table, &mut cursor, &cases)?;
+    assert_eq!(rt; (is_packed, unlike), (true, None));
     Ok(())
+}
+
+// Whether the first index has these pairs, in this order.
+fn has_pairs(alloc: Global, table: &Table, pairs: &[Pair]) -> Result<bool, Fail> {
+    Ok(pairs_of(alloc, table, 1)?.as_slice() == pairs)
 }
 
 // The first of the edits of record 2, one after another, after which one of two indexes has other pairs.
@@ -219,15 +225,29 @@ const BLANK: [(&[u8], &[u8]); 5] = [
     (b"NOTE", b""),
 ];
 
+// The refusal of a field that isn't there, or nothing where a text is shown.
+fn refusal_of_zip(alloc: Global, table: &Table, cursor: &Cursor) -> Result<Option<u8>, Fail> {
+    Ok(shows(alloc, table, cursor, b"ZIP")?.err())
+}
+
 #[test]
 fn fields_are_shown(rt: HostRuntime) -> Result<(), Fail> {
     let alloc = rt.alloc();
+    let blank = first_other_text(alloc, &kinds(alloc)?, &BLANK)?;
+    assert_eq!(rt; blank, None);
     let table = filled(alloc)?;
-    assert_eq!(rt; first_other_text(alloc, &kinds(alloc)?, &BLANK)?, None);
-    assert_eq!(rt; first_other_text(alloc, &table, &FILLED)?, None);
-    assert!(rt; matches!(shows(alloc, &table, &at(0, 1), b"ZIP")?, Err(10)));
-    assert!(rt; matches!(shows(alloc, &table, &start(0), b"ZIP")?, Err(7)));
+    let seen = (
+        first_other_text(alloc, &table, &FILLED)?,
+        refusal_of_zip(alloc, &table, &at(0, 1))?,
+        refusal_of_zip(alloc, &table, &start(0))?,
+    );
+    assert_eq!(rt; seen, (None, Some(10), Some(7)));
     Ok(())
+}
+
+// How many records a table has as it is written.
+fn content_count(alloc: Global, table: &Table) -> Result<u32, Fail> {
+    Ok(table.content(alloc)?.record_count())
 }
 
 #[test]
@@ -235,14 +255,18 @@ fn refused_plan_changes_nothing(rt: HostRuntime) -> Result<(), Fail> {
     let alloc = rt.alloc();
     let mut table = filled(alloc)?;
     let mut cursor = at(1, 1);
-    let before = pairs_of(alloc, &table, 1)?;
-    assert_eq!(rt;
-        edited(alloc, &mut table, &mut cursor, Asked::Number(b"AMT", 4321))?,
-        12
+    let code = edited(alloc, &mut table, &mut cursor, Asked::Number(b"AMT", 4321))?;
+    let ada = Pair {
+        key: Key::new(b"ADA"),
+        number: 1,
+    };
+    let seen = (
+        first_other_text(alloc, &table, &FILLED)?,
+        content_count(alloc, &table)?,
+        has_pairs(alloc, &table, &[ada])?,
     );
-    assert_eq!(rt; first_other_text(alloc, &table, &FILLED)?, None);
-    assert_eq!(rt; table.content(alloc)?.record_count(), 1);
-    assert!(rt; pairs_of(alloc, &table, 1)?.as_slice() == before.as_slice());
+    assert_eq!(rt; code, 12);
+    assert_eq!(rt; seen, (None, 1, true));
     assert_eq!(rt; cursor.at, Some(1));
     Ok(())
 }

@@ -136,30 +136,35 @@ fn first_wrong_seek(table: &Table) -> Result<Option<usize>, Fail> {
     Ok(None)
 }
 
+// Moves one after another, and what the cursor says after each.
+const MOVES: [(Move, Said); 15] = [
+    (Move::Top, (0, 4, false, false)),
+    (Move::Skip(-1), (0, 4, true, false)),
+    (Move::Skip(0), (0, 4, true, false)),
+    (Move::Skip(-1), (8, 4, true, false)),
+    (Move::Seek(b"AB"), (0, 2, false, true)),
+    (Move::Order(0), (0, 2, false, true)),
+    (Move::Skip(0), (0, 2, false, false)),
+    (Move::Bottom, (0, 7, false, false)),
+    (Move::Go(8), (6, 7, false, false)),
+    (Move::Go(0), (6, 7, false, false)),
+    (Move::Go(5), (0, 5, false, false)),
+    (Move::Order(1), (0, 5, false, false)),
+    (Move::Skip(9_999_999_999), (0, 8, false, false)),
+    (Move::Skip(-9_999_999_999), (0, 4, true, false)),
+    (Move::Bottom, (0, 7, false, false)),
+];
+
 #[test]
 fn every_move(rt: HostRuntime) -> Result<(), Fail> {
     let alloc = rt.alloc();
     let table = names(alloc, 3, &SEVEN)?;
-    assert_eq!(rt; first_wrong_place(&table, 0, &BY_NUMBER)?, None);
-    assert_eq!(rt; first_wrong_place(&table, 1, &BY_NAME)?, None);
-    assert_eq!(rt; first_wrong_seek(&table)?, None);
-    let cases = [
-        (Move::Top, (0, 4, false, false)),
-        (Move::Skip(-1), (0, 4, true, false)),
-        (Move::Skip(0), (0, 4, true, false)),
-        (Move::Skip(-1), (8, 4, true, false)),
-        (Move::Seek(b"AB"), (0, 2, false, true)),
-        (Move::Order(0), (0, 2, false, true)),
-        (Move::Skip(0), (0, 2, false, false)),
-        (Move::Bottom, (0, 7, false, false)),
-        (Move::Go(8), (6, 7, false, false)),
-        (Move::Go(0), (6, 7, false, false)),
-        (Move::Go(5), (0, 5, false, false)),
-        (Move::Order(1), (0, 5, false, false)),
-        (Move::Skip(9_999_999_999), (0, 8, false, false)),
-        (Move::Skip(-9_999_999_999), (0, 4, true, false)),
-        (Move::Bottom, (0, 7, false, false)),
-    ];
-    assert_eq!(rt; first_unlike(&table, &mut start(1), &cases)?, None);
+    let wrong = (
+        first_wrong_place(&table, 0, &BY_NUMBER)?,
+        first_wrong_place(&table, 1, &BY_NAME)?,
+        first_wrong_seek(&table)?,
+    );
+    assert_eq!(rt; wrong, (None, None, None));
+    assert_eq!(rt; first_unlike(&table, &mut start(1), &MOVES)?, None);
     Ok(())
 }
