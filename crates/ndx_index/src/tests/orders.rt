@@ -3,6 +3,7 @@
 ghost use Rattle.std.specs.Prelude.{◌≡◌, length};
 
 use super::*;
+use std::process::Abort;
 
 // The pair of a key and a record.
 fn named(key: &[u8; 3], number: u32) -> Pair
@@ -32,32 +33,54 @@ fn from_pairs_sorts_by_key_and_record(rt: HostRuntime) -> Result<(), Fail> {
     Ok(())
 }
 
-#[test]
-fn index_finds_its_neighbours(rt: HostRuntime) -> Result<(), Fail> {
-    let alloc = rt.alloc();
-    let mut index = index_of(alloc, 12, 10)?;
-    let pair = |number: u32, text: &[u8; 2]| Pair {
-        key: Key::new(text),
+// A pair with a shorter key than those of the index.
+fn short(key: &[u8; 2], number: u32) -> Pair {
+    Pair {
+        key: Key::new(key),
         number,
-    };
-    let number = |found: Option<Pair>| found.map(|pair| pair.number);
+    }
+}
+
+fn number(found: Option<Pair>) -> Option<u32> {
+    found.map(|pair| pair.number)
+}
+
+// What an index of records 1 to 12 finds.
+fn assert_neighbours(rt: &impl Abort, index: &OrderedIndex) {
     assert_eq!(rt; number(index.first()), Some(1));
     assert_eq!(rt; number(index.last()), Some(12));
     assert_eq!(rt; number(index.first_from(b"")), Some(1));
     assert_eq!(rt; number(index.first_from(b"1")), Some(10));
     assert_eq!(rt; number(index.first_from(b"13")), None);
     // These pairs are absent: their keys are shorter.
-    assert_eq!(rt; number(index.next(pair(1, b"11"))), Some(11));
-    assert_eq!(rt; number(index.previous(pair(1, b"11"))), Some(10));
-    assert_eq!(rt; number(index.previous(pair(1, b"01"))), None);
-    assert!(rt; !index.remove(pair(11, b"11")));
+    assert_eq!(rt; number(index.next(short(b"11", 1))), Some(11));
+    assert_eq!(rt; number(index.previous(short(b"11", 1))), Some(10));
+    assert_eq!(rt; number(index.previous(short(b"01", 1))), None);
+}
+
+#[test]
+fn index_finds_its_neighbours(rt: HostRuntime) -> Result<(), Fail> {
+    let index = index_of(rt.alloc(), 12, 10)?;
+    assert_neighbours(&rt, &index);
+    Ok(())
+}
+
+#[test]
+fn removed_pair_is_gone(rt: HostRuntime) -> Result<(), Fail> {
+    let alloc = rt.alloc();
+    let mut index = index_of(alloc, 12, 10)?;
     let eleventh = Pair {
         key: key(11, 10),
         number: 11,
     };
-    assert!(rt; index.remove(eleventh));
-    assert!(rt; !index.remove(eleventh));
-    assert_eq!(rt; number(index.next(eleventh)), Some(12));
-    assert_eq!(rt; index.pairs(alloc)?.len(), 11);
+    let removed = [
+        index.remove(short(b"11", 11)),
+        index.remove(eleventh),
+        index.remove(eleventh),
+    ];
+    let next = number(index.next(eleventh));
+    let count = index.pairs(alloc)?.len();
+    assert_eq!(rt; removed, [false, true, false]);
+    assert_eq!(rt; (next, count), (Some(12), 11));
     Ok(())
 }

@@ -1,6 +1,7 @@
 //! The files that are written of an index.
 
 use super::*;
+use std::process::Abort;
 
 // The four bytes at an offset.
 fn four_at(bytes: &[u8], offset: usize) -> &[u8] {
@@ -19,6 +20,30 @@ fn parenthesized(alloc: Global) -> Result<Vec<u8>, Fail> {
     }
     text.extend_from_slice(b"  ")?;
     Ok(text)
+}
+
+// The first of the offsets at which four other bytes stand.
+fn first_other(bytes: &[u8], cases: &[(usize, [u8; 4])]) -> Option<usize> {
+    for (offset, expected) in cases {
+        if four_at(bytes, *offset) != expected.as_slice() {
+            return Some(*offset);
+        }
+    }
+    None
+}
+
+// The pairs of an index, and what is read of its file.
+fn read_back(alloc: Global, index: &OrderedIndex, len: u8) -> Result<(Vec<Pair>, NdxFile), Fail> {
+    let read = read_ndx(alloc, &written(alloc, index, len)?)?;
+    let pairs = index.pairs(alloc)?;
+    Ok((pairs, read))
+}
+
+// What is read is the field NAME, the length of the keys, and the pairs.
+fn assert_read(rt: &impl Abort, read: &NdxFile, key_len: usize, pairs: &[Pair]) {
+    assert_eq!(rt; read.expr.as_slice(), b"NAME".as_slice());
+    assert_eq!(rt; read.key_len, key_len);
+    assert!(rt; read.pairs.as_slice() == pairs);
 }
 
 // The file of an index of so many records, whose keys have ten bytes.
@@ -60,12 +85,9 @@ fn twenty_six_entries_make_three_pages(rt: HostRuntime) -> Result<(), Fail> {
 #[test]
 fn twenty_six_entries_read_back(rt: HostRuntime) -> Result<(), Fail> {
     let alloc = rt.alloc();
-    let index = index_of(alloc, 26, 10)?;
-    let read = read_ndx(alloc, &written(alloc, &index, 10)?)?;
-    assert_eq!(rt; read.expr.as_slice(), b"NAME".as_slice());
-    assert_eq!(rt; read.key_len, 10);
-    assert!(rt; read.pairs == index.pairs(alloc)?);
-    assert_eq!(rt; read.pairs.len(), 26);
+    let (pairs, read) = read_back(alloc, &index_of(alloc, 26, 10)?, 10)?;
+    assert_read(&rt, &read, 10, &pairs);
+    assert_eq!(rt; pairs.len(), 26);
     Ok(())
 }
 
@@ -88,17 +110,14 @@ fn wide_keys_make_inner_pages(rt: HostRuntime) -> Result<(), Fail> {
         (3_400, [4, 0, 0, 0]),
         (3_508, [5, 0, 0, 0]),
     ];
-    for (offset, expected) in cases {
-        assert_eq!(rt; four_at(&bytes, offset), expected.as_slice());
-    }
+    assert_eq!(rt; first_other(&bytes, &cases), None);
     Ok(())
 }
 
 #[test]
 fn twenty_one_wide_keys_make_three_levels(rt: HostRuntime) -> Result<(), Fail> {
     let alloc = rt.alloc();
-    let index = index_of(alloc, 21, 100)?;
-    let bytes = written(alloc, &index, 100)?;
+    let bytes = written(alloc, &index_of(alloc, 21, 100)?, 100)?;
     assert_eq!(rt; bytes.len(), 5_120);
     // Page 7 has four children, page 8 two, and the root, page 9, these two pages.
     let cases = [
@@ -114,13 +133,16 @@ fn twenty_one_wide_keys_make_three_levels(rt: HostRuntime) -> Result<(), Fail> {
         (4_620, [b'1', b'6', b' ', b' ']),
         (4_720, [8, 0, 0, 0]),
     ];
-    for (offset, expected) in cases {
-        assert_eq!(rt; four_at(&bytes, offset), expected.as_slice());
-    }
-    let read = read_ndx(alloc, &bytes)?;
-    assert_eq!(rt; read.key_len, 100);
-    assert!(rt; read.pairs == index.pairs(alloc)?);
-    assert_eq!(rt; read.pairs.len(), 21);
+    assert_eq!(rt; first_other(&bytes, &cases), None);
+    Ok(())
+}
+
+#[test]
+fn twenty_one_wide_keys_read_back(rt: HostRuntime) -> Result<(), Fail> {
+    let alloc = rt.alloc();
+    let (pairs, read) = read_back(alloc, &index_of(alloc, 21, 100)?, 100)?;
+    assert_read(&rt, &read, 100, &pairs);
+    assert_eq!(rt; pairs.len(), 21);
     Ok(())
 }
 
@@ -136,22 +158,34 @@ fn empty_index_file(rt: HostRuntime) -> Result<(), Fail> {
     Ok(())
 }
 
-#[test]
+// The file of an index on this text without records.
 #[tactic(auto, using(crate::proofs::Order::sorted_none))]
-fn expression_ends_at_zero_without_blanks(rt: HostRuntime) -> Result<(), Fail> {
+fn file_of_text(alloc: Global, text: &[u8]) -> Result<Vec<u8>, Fail> {
+    let expr = KeyExpr::parse(alloc, text, &schema_of_name(alloc, 10)?)?;
+    let mut sink = MemorySink::new(alloc);
+    write_ndx(&mut sink, &expr, &[])?;
+    Ok(sink.bytes)
+}
+
+// Whether this is the expression's text that is read of a file.
+fn is_expr_of(alloc: Global, file: &[u8], text: &[u8]) -> Result<bool, Fail> {
+    Ok(read_ndx(alloc, file)?.expr.as_slice() == text)
+}
+
+#[test]
+fn expression_ends_at_zero(rt: HostRuntime) -> Result<(), Fail> {
     let alloc = rt.alloc();
     let bytes = file(alloc, 1_024, &[(28, b' '), (29, b' '), (31, b'X')])?;
-    assert_eq!(rt;
-        read_ndx(alloc, &bytes)?.expr.as_slice(),
-        b"NAME".as_slice()
-    );
-    let mut sink = MemorySink::new(alloc);
+    assert!(rt; is_expr_of(alloc, &bytes, b"NAME")?);
+    Ok(())
+}
+
+#[test]
+fn expression_is_written_without_blanks(rt: HostRuntime) -> Result<(), Fail> {
+    let alloc = rt.alloc();
     let text = parenthesized(alloc)?;
-    let expr = KeyExpr::parse(alloc, &text, &schema_of_name(alloc, 10)?)?;
-    write_ndx(&mut sink, &expr, &[])?;
-    assert_eq!(rt; sink.bytes.len(), 1_024);
-    let read = read_ndx(alloc, &sink.bytes)?;
-    assert_eq!(rt; read.expr.as_slice().len(), 486);
-    assert_eq!(rt; read.expr.as_slice(), part(&text, 0, 486));
+    let bytes = file_of_text(alloc, &text)?;
+    assert_eq!(rt; (text.len(), bytes.len()), (488, 1_024));
+    assert!(rt; is_expr_of(alloc, &bytes, part(&text, 0, 486))?);
     Ok(())
 }
