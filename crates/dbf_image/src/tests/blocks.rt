@@ -20,7 +20,7 @@ pub(super) fn notes(alloc: Global) -> Result<TableData, Fail> {
 }
 
 // Adds a record.
-fn append(table: &mut TableData, record: &[u8]) -> Result<(), Fail> {
+pub(super) fn append(table: &mut TableData, record: &[u8]) -> Result<(), Fail> {
     if table.record_count() >= MAX_RECORDS || record.len() != table.schema().record_length() {
         return Err("no room or no record".into());
     }
@@ -123,19 +123,27 @@ fn filled(alloc: Global) -> Result<TableData, Fail> {
     Ok(table)
 }
 
-#[test]
-fn memos_are_numbered_by_record_and_field(rt: HostRuntime) -> Result<(), Fail> {
-    let table = filled(rt.alloc())?;
-    let dbf = written(rt.alloc(), &table)?;
-    let dbt = memos_written(rt.alloc(), &table)?;
+// The records name the blocks of their memos in the order of records and fields.
+fn assert_records(rt: &impl Abort, dbf: &[u8]) {
     assert_eq!(rt;
-        part(&dbf, 129, 178),
+        part(dbf, 129, 178),
         b"*ADA         1         2 BOB                   3\x1a".as_slice()
     );
     assert_eq!(rt; dbf.len(), 178);
+}
+
+// The texts stand in that order.
+fn assert_texts(rt: &impl Abort, dbt: &[u8]) {
     assert_eq!(rt; dbt.len(), 2048);
-    assert_eq!(rt; part(&dbt, 512, 520), b"FIRST\x1a\x1a\0".as_slice());
-    assert_eq!(rt; part(&dbt, 1024, 1033), b"SECOND\x1a\x1a\0".as_slice());
-    assert_eq!(rt; part(&dbt, 1536, 1543), b"LAST\x1a\x1a\0".as_slice());
+    assert_eq!(rt; part(dbt, 512, 520), b"FIRST\x1a\x1a\0".as_slice());
+    assert_eq!(rt; part(dbt, 1024, 1033), b"SECOND\x1a\x1a\0".as_slice());
+    assert_eq!(rt; part(dbt, 1536, 1543), b"LAST\x1a\x1a\0".as_slice());
+}
+
+#[test]
+fn memos_are_numbered_by_record_and_field(rt: HostRuntime) -> Result<(), Fail> {
+    let table = filled(rt.alloc())?;
+    assert_records(&rt, &written(rt.alloc(), &table)?);
+    assert_texts(&rt, &memos_written(rt.alloc(), &table)?);
     Ok(())
 }

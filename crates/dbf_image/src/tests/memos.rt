@@ -5,7 +5,12 @@ use dbf_fields::{Field, MEMO, Schema};
 use std::test::*;
 
 // Replaces a cell, where there is one.
-fn put_cell(table: &mut TableData, number: u32, field: usize, cell: &[u8]) -> Result<(), Fail> {
+pub(super) fn put_cell(
+    table: &mut TableData,
+    number: u32,
+    field: usize,
+    cell: &[u8],
+) -> Result<(), Fail> {
     if number < 1 || number > table.record_count() || field >= table.schema().fields().len() {
         return Err("no such cell".into());
     }

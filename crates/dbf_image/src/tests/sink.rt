@@ -3,6 +3,7 @@
 use super::blocks::{NOTES, blocks, notes};
 use super::*;
 use dbf_fields::day_of;
+use std::process::Abort;
 use std::test::*;
 
 #[test]
@@ -26,25 +27,59 @@ fn failing_sink_has_the_front(rt: HostRuntime) -> Result<(), Fail> {
     Ok(())
 }
 
-// What both files of `notes` are, in a sink that takes them one after the other until it fails.
+// Both files of `notes`.
+fn both_files(alloc: Global) -> Result<Vec<u8>, Fail> {
+    let mut both = Vec::from_slice(alloc, &NOTES)?;
+    both.extend_from_slice(blocks(alloc)?.as_slice())?;
+    Ok(both)
+}
+
+// Whether a file is written, or a fault of the sink.
+fn answer(is_written: bool) -> Result<(), WriteFault> {
+    if is_written {
+        Ok(())
+    } else {
+        Err(WriteFault::Sink)
+    }
+}
+
+// A sink that takes so many bytes of both files of a table, of which it is said whether they are written, has these.
+fn assert_taken(
+    alloc: Global,
+    rt: &impl Abort,
+    table: &TableData,
+    writes: u64,
+    are_written: (bool, bool),
+    bytes: &[u8],
+) -> Result<(), Fail> {
+    let day = day_of(1987, 3, 15).ok_or("no such day")?;
+    let mut sink = LimitedSink::new(alloc, 1, writes);
+    let dbf = write_dbf(&mut sink, table, day);
+    let dbt = write_dbt(&mut sink, table);
+    assert_eq!(rt;
+        (dbf, dbt),
+        (answer(are_written.0), answer(are_written.1)),
+        "after {writes}"
+    );
+    assert_eq!(rt; sink.taken.bytes.as_slice(), bytes, "after {writes}");
+    Ok(())
+}
+
+// In a sink that takes one file after the other until it fails.
 #[test]
 fn failing_sink_keeps_the_file_before(rt: HostRuntime) -> Result<(), Fail> {
     let table = notes(rt.alloc())?;
-    let day = day_of(1987, 3, 15).ok_or("no such day")?;
-    let mut both = Vec::from_slice(rt.alloc(), &NOTES)?;
-    both.extend_from_slice(blocks(rt.alloc())?.as_slice())?;
+    let both = both_files(rt.alloc())?;
     for (writes, dbf, dbt) in [
-        (0, Err(WriteFault::Sink), Err(WriteFault::Sink)),
-        (98, Err(WriteFault::Sink), Err(WriteFault::Sink)),
-        (99, Ok(()), Err(WriteFault::Sink)),
-        (100, Ok(()), Err(WriteFault::Sink)),
-        (2_146, Ok(()), Err(WriteFault::Sink)),
-        (2_147, Ok(()), Ok(())),
+        (0, false, false),
+        (98, false, false),
+        (99, true, false),
+        (100, true, false),
+        (2_146, true, false),
+        (2_147, true, true),
     ] {
-        let mut sink = LimitedSink::new(rt.alloc(), 1, writes);
-        assert_eq!(rt; write_dbf(&mut sink, &table, day), dbf, "after {writes}");
-        assert_eq!(rt; write_dbt(&mut sink, &table), dbt, "after {writes}");
-        assert_eq!(rt; sink.taken.bytes.as_slice(), front(&both, writes as usize));
+        let bytes = front(&both, writes as usize);
+        assert_taken(rt.alloc(), &rt, &table, writes, (dbf, dbt), bytes)?;
     }
     Ok(())
 }

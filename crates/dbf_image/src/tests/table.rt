@@ -1,5 +1,7 @@
 //! Tables in memory.
 
+use super::blocks::append;
+use super::memos::put_cell;
 use super::*;
 use std::test::*;
 
@@ -14,34 +16,29 @@ fn empty_table_is_header_and_mark(rt: HostRuntime) -> Result<(), Fail> {
     Ok(())
 }
 
+// TWO_NAMES with a marked record and a blank one after it.
+fn four_names() -> [u8; 110] {
+    let mut image = [0; 110];
+    image[..87].copy_from_slice(&TWO_NAMES[..87]);
+    image[4] = 4;
+    image[87..].copy_from_slice(b"*CYD                  \x1a");
+    image
+}
+
 #[test]
 fn appended_records_stand_last(rt: HostRuntime) -> Result<(), Fail> {
     let mut table = read_table(rt.alloc(), &TWO_NAMES, None)?;
-    assert_eq!(rt; table.schema().record_length(), 11);
-    assert_eq!(rt; table.record_count(), 2);
-    table.append_record(b"*CYD       ")?;
-    table.append_blank()?;
-    let mut image = Vec::from_slice(rt.alloc(), &changed(&[(4, 4)]))?;
-    image.truncate(87);
-    image.extend_from_slice(b"*CYD                  \x1a")?;
-    assert_eq!(rt; written(rt.alloc(), &table)?, image);
-    Ok(())
+    append(&mut table, b"*CYD       ")?;
+    add_blank(&mut table)?;
+    assert_written(rt.alloc(), &rt, &table, &four_names())
 }
 
 #[test]
 fn cell_is_replaced_in_one_table(rt: HostRuntime) -> Result<(), Fail> {
     let table = read_table(rt.alloc(), &TWO_NAMES, None)?;
-    assert_eq!(rt; table.record_count(), 2);
-    assert_eq!(rt; table.schema().fields().len(), 1);
-    assert!(rt; table.schema().fields()[0].kind != MEMO);
-    assert_eq!(rt; table.cell(1, 0).len(), 10);
     let mut other = table.copy(rt.alloc())?;
-    other.set_cell(2, 0, b"EVE       ");
+    put_cell(&mut other, 2, 0, b"EVE       ")?;
     let image = changed(&[(77, b'E'), (78, b'V'), (79, b'E')]);
-    assert_eq!(rt; written(rt.alloc(), &other)?.as_slice(), image.as_slice());
-    assert_eq!(rt;
-        written(rt.alloc(), &table)?.as_slice(),
-        TWO_NAMES.as_slice()
-    );
-    Ok(())
+    assert_written(rt.alloc(), &rt, &other, &image)?;
+    assert_written(rt.alloc(), &rt, &table, &TWO_NAMES)
 }
