@@ -70,7 +70,7 @@ pub enum Expected {
 pub type Case = (u32, Asked, &'static [u8], Expected);
 
 // So many bytes `x`.
-pub fn long_text(alloc: Global, length: usize) -> Result<Bytes, Fail> {
+fn long_text(alloc: Global, length: usize) -> Result<Bytes, Fail> {
     let mut text = Vec::new(alloc);
     text.resize(length, b'x')?;
     Ok(Bytes::from_vec(text))
@@ -149,7 +149,7 @@ pub fn is_expected(answer: &Answer, expected: Expected) -> bool {
 }
 
 // Whether a text is so many bytes `x`.
-fn is_long(text: &[u8], length: usize) -> bool {
+pub fn is_long(text: &[u8], length: usize) -> bool {
     text.len() == length && text.iter().all(|byte| *byte == b'x')
 }
 

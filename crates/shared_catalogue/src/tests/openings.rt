@@ -100,7 +100,17 @@ fn fault_of(
     Ok(Catalogue::open(alloc, sources, 1, reindex).err())
 }
 
+// The first case that is answered otherwise by two stations' catalogue of one table.
+fn first_other_over(alloc: Global, source: Source, cases: &[Case]) -> Result<Option<usize>, Fail> {
+    let mut catalogue = open(alloc, sources_of(alloc, &[source])?, 2)?;
+    first_other(alloc, &mut catalogue, cases)
+}
+
 const T: Source = (b"T", &[]);
+
+const INDEXED: Source = (b"T", &[X]);
+
+const REVERSED_KEYS: Source = (b"T", &[(b"X", b"NAME", 1, REVERSED)]);
 
 const TEN: [Source; 10] = [
     T,
@@ -201,15 +211,8 @@ const BY_NUMBER: [Case; 7] = [
 
 #[test]
 fn reversed_equal_keys(rt: HostRuntime) -> Result<(), Fail> {
-    let alloc = rt.alloc();
-    let mut source = source_of(alloc, T)?;
-    let index = index_of(alloc, (b"X", b"NAME", 1, REVERSED))?;
-    source.indexes.push(index)?;
-    let sources = vec![in alloc; source]?;
-    assert_eq!(rt;
-        first_other(alloc, &mut open(alloc, sources, 2)?, &BY_NUMBER)?,
-        None
-    );
+    let other = first_other_over(rt.alloc(), REVERSED_KEYS, &BY_NUMBER)?;
+    assert_eq!(rt; other, None);
     Ok(())
 }
 
@@ -265,13 +268,7 @@ const PACKED_INDEX: [Case; 17] = [
 
 #[test]
 fn pack_renumbers_the_index(rt: HostRuntime) -> Result<(), Fail> {
-    let alloc = rt.alloc();
-    let mut source = source_of(alloc, T)?;
-    source.indexes.push(index_of(alloc, X)?)?;
-    let sources = vec![in alloc; source]?;
-    assert_eq!(rt;
-        first_other(alloc, &mut open(alloc, sources, 2)?, &PACKED_INDEX)?,
-        None
-    );
+    let other = first_other_over(rt.alloc(), INDEXED, &PACKED_INDEX)?;
+    assert_eq!(rt; other, None);
     Ok(())
 }

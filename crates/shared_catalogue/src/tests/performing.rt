@@ -5,6 +5,8 @@ use super::sample::open_sample;
 use crate::answer::Answer;
 use crate::catalogue::Catalogue;
 use crate::command::Command;
+use std::alloc::Global;
+use std::process::Abort;
 use std::test::Fail;
 use table_core::Refusal;
 
@@ -50,6 +52,15 @@ const JOURNALLED: [Case; 2] = [
     (1, Asked::Use, b"T", Expected::Ok),
 ];
 
+// The catalogue that has performed JOURNALLED.
+fn journalled(alloc: Global) -> Result<Catalogue, Fail> {
+    let mut catalogue = open_sample(alloc, 1)?;
+    match first_other(alloc, &mut catalogue, &JOURNALLED)? {
+        None => Ok(catalogue),
+        Some(_) => Err("another answer".into()),
+    }
+}
+
 // Whether the journal's entry of an index, from 0, is station 1's and has this command and this answer.
 fn is_entry(catalogue: &Catalogue, index: usize, command: &Command, answer: &Answer) -> bool {
     match catalogue.journal().get(index) {
@@ -72,15 +83,18 @@ fn first_path_refusals(rt: HostRuntime) -> Result<(), Fail> {
     Ok(())
 }
 
-#[test]
-fn journal_keeps_commands_and_answers(rt: HostRuntime) -> Result<(), Fail> {
-    let alloc = rt.alloc();
-    let use_t = command_of(alloc, Asked::Use, b"T")?;
-    let mut catalogue = open_sample(alloc, 1)?;
-    assert_eq!(rt; first_other(alloc, &mut catalogue, &JOURNALLED)?, None);
+// The journal has JOURNALLED's two commands with their answers.
+fn assert_journalled(rt: &impl Abort, catalogue: &Catalogue, use_t: &Command) {
     assert_eq!(rt; catalogue.journal().len(), 2);
     let refused = Answer::Refused(Refusal::NoTableInUse);
-    assert!(rt; is_entry(&catalogue, 0, &Command::Go(1), &refused));
-    assert!(rt; is_entry(&catalogue, 1, &use_t, &Answer::Done));
+    assert!(rt; is_entry(catalogue, 0, &Command::Go(1), &refused));
+    assert!(rt; is_entry(catalogue, 1, use_t, &Answer::Done));
+}
+
+#[test]
+fn journal_keeps_commands_and_answers(rt: HostRuntime) -> Result<(), Fail> {
+    let use_t = command_of(rt.alloc(), Asked::Use, b"T")?;
+    let catalogue = journalled(rt.alloc())?;
+    assert_journalled(&rt, &catalogue, &use_t);
     Ok(())
 }
