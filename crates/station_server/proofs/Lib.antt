@@ -1,6 +1,4 @@
 pub mod FilesLaws
-pub mod ScriptLaws
-pub mod SetupLaws
 pub mod RunLaws
 pub mod Crossing
 pub mod LoadLaws

@@ -3,8 +3,8 @@ use Rattle.std.proofs.Common.{◌≡◌, ◌⊎◌, ℕ, List, [], ◌∷◌, �
 use Rattle.std.specs.Prelude.{IfErr, IsErrAnd}
 use Rattle.std.proofs.lemmas.List.{take_more}
 use Rattle.station_server.specs.declared.files.named.NamedFile.{NamedFile}
-use Rattle.station_server.specs.declared.setup.entry.SetupEntry.{SetupEntry}
-use Rattle.station_server.specs.declared.setup.entry.SetupEntry.TheVariants.{Table}
+use Rattle.station_lines.specs.declared.setup.entry.SetupEntry.{SetupEntry}
+use Rattle.station_lines.specs.declared.setup.entry.SetupEntry.TheVariants.{Table}
 use Rattle.station_server.specs.declared.whole_run.fault.FileFault.TheVariants.{CannotRead}
 use Rattle.station_server.specs.declared.whole_run.fault.ServeFault.{ServeFault}
 use Rattle.station_server.specs.declared.whole_run.fault.ServeFault.TheVariants.{File, NoMemory}

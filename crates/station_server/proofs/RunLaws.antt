@@ -1,7 +1,6 @@
 -- What workers do line by line, and one worker more.
 use Rattle.std.proofs.Common.{◌≡◌, ◌⊎◌, ℕ, zero, suc, ◌+◌, ◌<◌, ◌≤◌, List, [], ◌∷◌, ◌++◌, length, map, Some, refl, ap, sym, subst, ◌∙◌, inl, inr, ⊎_elim, arith, length-append}
-use Rattle.std.specs.Prelude.{slice_get, option_map, codes}
-use Rattle.std.specs.Fmt.{decimal}
+use Rattle.std.specs.Prelude.{slice_get, option_map}
 use Rattle.std.proofs.lemmas.Bool.{cases_lt}
 use Rattle.std.proofs.lemmas.List.{append-nil, append_assoc}
 use Rattle.std.proofs.lemmas.Option.{slice_get-map}
@@ -9,11 +8,10 @@ use Rattle.shared_catalogue.specs.declared.entry.Entry.{Entry}
 use Rattle.shared_catalogue.specs.declared.shared.receipts.Receipt.{Receipt}
 use Rattle.shared_catalogue.specs.OwnCalls.{of_station, AreOwn}
 use Rattle.shared_catalogue.specs.Seats.{Seated, seated, new_seats}
-use Rattle.station_server.specs.declared.script.line.Line.TheVariants.{Blank}
+use Rattle.station_lines.specs.declared.script.line.Line.TheVariants.{Blank}
 use Rattle.station_server.specs.Reports.{Shown, SessionValue, new_session, meaning_of, shown_line, receipt_in, receipts_of, answers_of, IsShownFor, IsWithShown, HasShown, HasRun, HaveRun, AreInOrder, AreReports}
-use Rattle.station_server.specs.Line.{numbers_text}
-use Rattle.station_server.specs.Script.Lines.{BeginsWithLine}
-use Rattle.station_server.specs.Script.Meaning.{Means}
+use Rattle.station_lines.specs.Script.Lines.{BeginsWithLine}
+use Rattle.station_lines.specs.Script.Meaning.{Means}
 
 -- ---- line by line
 
@@ -113,8 +111,3 @@ in_order (suc n) =
           (λ (l : n ≤ i). let k : i ≡ length (new_seats n) = omega arith in let e : n + 1 ≡ i + 1 = omega arith in let r : (z : Seated) × (slice_get (new_seats (suc n)) i ≡ Some z) × (z.station ≡ i + 1) = (last, get_last (new_seats n) last i k, e) in r)
           (cases_lt i n),
     )
-
--- one number more in a status row's line
-pub numbers_text-push : (ns : List ℕ) (n : ℕ) → numbers_text (ns ++ n ∷ []) ≡ numbers_text ns ++ (codes " " ++ decimal n)
-numbers_text-push [] n = ap (λ (l : List ℕ). codes " " ++ l) (append-nil (decimal n))
-numbers_text-push (m ∷ ns) n = ap (λ (l : List ℕ). codes " " ++ (decimal m ++ l)) (numbers_text-push ns n) ∙ ap (λ (l : List ℕ). codes " " ++ l) (sym (append_assoc (decimal m) (numbers_text ns) (codes " " ++ decimal n)))

@@ -1,8 +1,4 @@
-pub mod Line
-pub mod Script
 pub mod Reports
-pub mod Setup
-pub mod SetupReading
 pub mod Files
 pub mod ClosedIndex
 pub mod Writable

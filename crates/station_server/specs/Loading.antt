@@ -10,8 +10,8 @@ use Rattle.ndx_index.specs.Header.{IsIndex, Breaks}
 use Rattle.shared_catalogue.specs.declared.source.IndexSource.{IndexSource}
 use Rattle.shared_catalogue.specs.declared.source.TableSource.{TableSource}
 use Rattle.station_server.specs.declared.files.named.NamedFile.{NamedFile}
-use Rattle.station_server.specs.declared.setup.entry.SetupEntry.{SetupEntry}
-use Rattle.station_server.specs.declared.setup.entry.SetupEntry.TheVariants.{Table, Index, Station}
+use Rattle.station_lines.specs.declared.setup.entry.SetupEntry.{SetupEntry}
+use Rattle.station_lines.specs.declared.setup.entry.SetupEntry.TheVariants.{Table, Index, Station}
 use Rattle.station_server.specs.declared.whole_run.fault.FileFault.{FileFault}
 use Rattle.station_server.specs.declared.whole_run.fault.FileFault.TheVariants.{CannotRead, Image, Ndx}
 use Rattle.station_server.specs.declared.whole_run.fault.ServeFault.{ServeFault}

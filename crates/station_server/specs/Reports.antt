@@ -5,12 +5,12 @@ use Rattle.shared_catalogue.specs.declared.shared.receipts.Receipt.{Receipt}
 use Rattle.shared_catalogue.specs.declared.status.StatusRow.{StatusRow}
 use Rattle.shared_catalogue.specs.OwnCalls.{of_station}
 use Rattle.shared_catalogue.specs.Seats.{Seated}
-use Rattle.station_server.specs.declared.script.format.TheConstants.{LF}
-use Rattle.station_server.specs.declared.script.line.Line.{Line}
-use Rattle.station_server.specs.declared.script.line.Line.TheVariants.{Run, Status, Blank}
-use Rattle.station_server.specs.Line.{line_of, status_text}
-use Rattle.station_server.specs.Script.Lines.{AreLines}
-use Rattle.station_server.specs.Script.Meaning.{Means}
+use Rattle.station_lines.specs.declared.script.format.TheConstants.{LF}
+use Rattle.station_lines.specs.declared.script.line.Line.{Line}
+use Rattle.station_lines.specs.declared.script.line.Line.TheVariants.{Run, Status, Blank}
+use Rattle.station_lines.specs.AnswerLines.{line_of, status_text}
+use Rattle.station_lines.specs.Script.Lines.{AreLines}
+use Rattle.station_lines.specs.Script.Meaning.{Means}
 
 -- what a station is shown for a line: what its command was answered, or a status row
 pub data Shown : Type 0 where

@@ -8,7 +8,7 @@ use Rattle.station_server.specs.declared.files.close_fault.CloseFault.TheVariant
 use Rattle.station_server.specs.declared.files.closed.ClosedTable.{ClosedTable}
 use Rattle.station_server.specs.declared.files.named.NamedFile.{NamedFile}
 use Rattle.station_server.specs.declared.run.fault.RunFault.TheVariants.{ScriptCount}
-use Rattle.station_server.specs.declared.setup.entry.SetupEntry.{SetupEntry}
+use Rattle.station_lines.specs.declared.setup.entry.SetupEntry.{SetupEntry}
 use Rattle.station_server.specs.declared.whole_run.fault.FileFault.{FileFault}
 use Rattle.station_server.specs.declared.whole_run.fault.FileFault.TheVariants.{CannotRead}
 use Rattle.station_server.specs.declared.whole_run.fault.ServeFault.{ServeFault}
@@ -18,7 +18,7 @@ use Rattle.station_server.specs.Files.{IsFileOf}
 use Rattle.station_server.specs.HandedOver.{AreHandedOver}
 use Rattle.station_server.specs.Loading.{Read, nothing, LoadAll, IsFaultIn}
 use Rattle.station_server.specs.Reports.{AreReports}
-use Rattle.station_server.specs.Setup.{IsSetup}
+use Rattle.station_lines.specs.Setup.{IsSetup}
 
 -- ---- reading
 

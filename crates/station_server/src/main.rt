@@ -8,11 +8,8 @@
 #![tactic(auto)]
 
 mod files;
-mod line;
 mod program;
 mod run;
-mod script;
-mod setup;
 #[cfg(test)]
 mod tests;
 mod whole_run;

@@ -4,13 +4,11 @@ ghost use Rattle.std.specs.Prelude.{◌≡◌, ◌≢◌, [], ◌∷◌, ◌++�
 ghost use Rattle.shared_catalogue.specs.declared.answer.Answer.{Answer as AnswerValue};
 ghost use Rattle.shared_catalogue.specs.declared.status.StatusRow.{StatusRow as RowValue};
 ghost use Rattle.station_server.specs.Reports.{Shown, answered, status, meaning_of, session, new_session, IsWithShown};
-ghost use Rattle.station_server.specs.declared.script.format.TheConstants.{LF as LINE_END};
+ghost use Rattle.station_lines.specs.declared.script.format.TheConstants.{LF as LINE_END};
 
-use crate::line::{answer_line, status_line};
-use crate::script::Line;
-use crate::script::format::LF;
 use dbf_fields::Bytes;
 use shared_catalogue::{Answer, Command, Naming, Receipt, Receipts, Seat, Shared, Stop};
+use station_lines::{LF, Line, answer_line, status_line};
 use std::alloc::{AllocError, Global};
 use std::marker::Model;
 use std::sync::Wait;

@@ -1,16 +1,16 @@
 //! The worker of a station, which goes down its script.
 
 ghost use Rattle.std.specs.Prelude.{◌≡◌, ◌≢◌, Ok, Some, None, IfOk, IsErrOf};
-ghost use Rattle.station_server.specs.declared.script.line.Line.{Line as LineValue};
-ghost use Rattle.station_server.specs.Script.Meaning.{Means};
+ghost use Rattle.station_lines.specs.declared.script.line.Line.{Line as LineValue};
+ghost use Rattle.station_lines.specs.Script.Meaning.{Means};
 ghost use Rattle.station_server.specs.Reports.{HasRun};
 
 use crate::run::fault::RunFault;
 use crate::run::gate::Gate;
 use crate::run::session::Session;
-use crate::script::{Line, lines, parse_line};
 use dbf_fields::Bytes;
 use shared_catalogue::{Naming, Seat, Shared, Stop};
+use station_lines::{Line, lines, parse_line};
 use std::alloc::{AllocError, Global};
 use std::snapshot::Snapshot;
 use std::sync::Wait;

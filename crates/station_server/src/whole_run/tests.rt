@@ -25,6 +25,17 @@ pub(crate) fn named(alloc: Global, name: &[u8], bytes: &[u8]) -> Result<NamedFil
     })
 }
 
+// Puts a file after others.
+fn add(
+    alloc: Global,
+    files: &mut Vec<NamedFile>,
+    name: &[u8],
+    bytes: &[u8],
+) -> Result<(), AllocError> {
+    files.push(named(alloc, name, bytes)?)?;
+    Ok(())
+}
+
 // The bytes and zeros after them: a file of two pages.
 pub(crate) fn two_pages(alloc: Global, bytes: &[u8]) -> Result<Vec<u8>, AllocError> {
     let mut all = Vec::from_slice(alloc, bytes)?;
@@ -39,14 +50,13 @@ pub(crate) fn office(
     script: &[u8],
 ) -> Result<MemorySource, AllocError> {
     let index = two_pages(alloc, &EMPTY_INDEX)?;
-    let files = vec![in alloc;
-        named(alloc, SETUP, setup)?,
-        named(alloc, b"t.dbf", &TABLE)?,
-        named(alloc, b"empty.dbf", &EMPTY)?,
-        named(alloc, b"x.ndx", index.as_slice())?,
-        named(alloc, b"s.prg", script)?,
-        named(alloc, b"nothing", b"")?,
-    ]?;
+    let mut files = Vec::new(alloc);
+    add(alloc, &mut files, SETUP, setup)?;
+    add(alloc, &mut files, b"t.dbf", &TABLE)?;
+    add(alloc, &mut files, b"empty.dbf", &EMPTY)?;
+    add(alloc, &mut files, b"x.ndx", index.as_slice())?;
+    add(alloc, &mut files, b"s.prg", script)?;
+    add(alloc, &mut files, b"nothing", b"")?;
     Ok(MemorySource {
         files,
         loads: u64::MAX,
@@ -88,28 +98,62 @@ pub(crate) fn has_file(folder: &MemoryFolder, place: usize, name: &[u8], bytes: 
     }
 }
 
+// Whether the folder's files are these: their names and their bytes.
+fn has_files(folder: &MemoryFolder, files: &[(&[u8], &[u8])]) -> bool {
+    for i in 0..files.len() {
+        if !has_file(folder, i, files[i].0, files[i].1) {
+            return false;
+        }
+    }
+    folder.files.len() == files.len()
+}
+
+// What a folder has after a run of so many commands.
+fn folder_of<R: Threads + Wait + Sync>(
+    rt: &R,
+    alloc: Global,
+    setup: &[u8],
+    script: &[u8],
+    count: u64,
+) -> Result<MemoryFolder, Fail> {
+    let mut folder = MemoryFolder::new(alloc);
+    match serve_setup(rt, alloc, setup, script, &mut folder)? {
+        Ok(performed) if performed == count => Ok(folder),
+        _ => Err("another count of commands".into()),
+    }
+}
+
+// The fault of a run that begins no file.
+fn fault_of<R: Threads + Wait + Sync>(
+    rt: &R,
+    alloc: Global,
+    setup: &[u8],
+) -> Result<Option<ServeFault>, Fail> {
+    let mut folder = MemoryFolder::new(alloc);
+    let served = serve_setup(rt, alloc, setup, b"", &mut folder)?;
+    if !folder.files.is_empty() {
+        return Err("a file is begun".into());
+    }
+    Ok(served.err())
+}
+
 #[test]
 fn empty_script_writes_the_table(rt: HostRuntime) -> Result<(), Fail> {
-    let alloc = rt.alloc();
-    let mut folder = MemoryFolder::new(alloc);
     let setup = b"TABLE T t.dbf\r\nSTATION s.prg\r\n";
-    assert_eq!(rt; serve_setup(&rt, alloc, setup, b"", &mut folder)?, Ok(0));
-    assert_eq!(rt; folder.files.len(), 2);
-    assert!(rt; has_file(&folder, 0, b"T.DBF", &TABLE));
-    assert!(rt; has_file(&folder, 1, b"STATION1.TXT", b""));
+    let folder = folder_of(&rt, rt.alloc(), setup, b"", 0)?;
+    let files: [(&[u8], &[u8]); 2] = [(b"T.DBF", &TABLE), (b"STATION1.TXT", b"")];
+    assert!(rt; has_files(&folder, &files));
     Ok(())
 }
 
 #[test]
 fn first_path(rt: HostRuntime) -> Result<(), Fail> {
-    let alloc = rt.alloc();
-    let mut folder = MemoryFolder::new(alloc);
     let setup = b"TABLE T t.dbf\nSTATION s.prg\n";
     let script = b"USE T EXCLUSIVE\nGO 2\nAPPEND BLANK\nREPLACE NAME WITH \"CYD\"\n? NAME";
     let answers = b"OK\nOK\nOK\nOK\nCYD       \n";
-    assert_eq!(rt; serve_setup(&rt, alloc, setup, script, &mut folder)?, Ok(5));
-    assert!(rt; has_file(&folder, 0, b"T.DBF", &WITH_CYD));
-    assert!(rt; has_file(&folder, 1, b"STATION1.TXT", answers));
+    let folder = folder_of(&rt, rt.alloc(), setup, script, 5)?;
+    let files: [(&[u8], &[u8]); 2] = [(b"T.DBF", &WITH_CYD), (b"STATION1.TXT", answers)];
+    assert!(rt; has_files(&folder, &files));
     Ok(())
 }
 
@@ -136,26 +180,26 @@ fn written_table_reads_back(rt: HostRuntime) -> Result<(), Fail> {
 #[test]
 fn empty_indexed_table(rt: HostRuntime) -> Result<(), Fail> {
     let alloc = rt.alloc();
-    let mut folder = MemoryFolder::new(alloc);
     let setup = b"TABLE T empty.dbf\nINDEX T X x.ndx\nSTATION s.prg\n";
     let script = b"USE T\n? EOF()\n? BOF()\n? RECNO()\nSKIP\nSKIP -1\nSEEK \"\"\n? FOUND()\n";
     let answers = b"OK\n.T.\n.T.\n1\nREFUSED 7 EndOfFile\nREFUSED 8 BeginOfFile\nOK\n.F.\n";
-    assert_eq!(rt; serve_setup(&rt, alloc, setup, script, &mut folder)?, Ok(8));
     let index = two_pages(alloc, &EMPTY_INDEX)?;
-    assert!(rt; has_file(&folder, 0, b"T.DBF", &EMPTY));
-    assert!(rt; has_file(&folder, 1, b"X.NDX", index.as_slice()));
-    assert!(rt; has_file(&folder, 2, b"STATION1.TXT", answers));
+    let folder = folder_of(&rt, alloc, setup, script, 8)?;
+    let files: [(&[u8], &[u8]); 3] = [
+        (b"T.DBF", &EMPTY),
+        (b"X.NDX", index.as_slice()),
+        (b"STATION1.TXT", answers),
+    ];
+    assert!(rt; has_files(&folder, &files));
     Ok(())
 }
 
 // A table named twice is read twice; two stations have a file of answers each.
 #[test]
 fn two_tables_of_one_file(rt: HostRuntime) -> Result<(), Fail> {
-    let alloc = rt.alloc();
-    let mut folder = MemoryFolder::new(alloc);
     let setup = b"TABLE T t.dbf\nTABLE U t.dbf\nSTATION s.prg\nSTATION nothing\n";
     let script = b"USE U EXCLUSIVE\nGO 2\nDELETE\nPACK\n? RECCOUNT()\n";
-    assert_eq!(rt; serve_setup(&rt, alloc, setup, script, &mut folder)?, Ok(5));
+    let folder = folder_of(&rt, rt.alloc(), setup, script, 5)?;
     assert_eq!(rt; folder.files.len(), 4);
     assert!(rt; has_file(&folder, 0, b"T.DBF", &TABLE));
     assert!(rt; has_file(&folder, 2, b"STATION1.TXT", b"OK\nOK\nOK\nOK\n1\n"));
@@ -195,9 +239,16 @@ fn setup_faults(rt: HostRuntime) -> Result<(), Fail> {
     Ok(())
 }
 
+// Whether a run ends with this fault of the file of this path.
+fn is_file_fault(fault: &Option<ServeFault>, path: &[u8], wanted: &FileFault) -> bool {
+    match fault {
+        Some(ServeFault::File(file, found)) => file.as_slice() == path && *found == *wanted,
+        _ => false,
+    }
+}
+
 #[test]
 fn files_that_are_not_read(rt: HostRuntime) -> Result<(), Fail> {
-    let alloc = rt.alloc();
     let truncated = FileFault::Image(ImageFault::Truncated);
     let cases: [(&[u8], &[u8], FileFault); 7] = [
         (b"TABLE T none", b"none", FileFault::CannotRead),
@@ -221,13 +272,8 @@ fn files_that_are_not_read(rt: HostRuntime) -> Result<(), Fail> {
         ),
     ];
     for (setup, path, fault) in cases {
-        let mut folder = MemoryFolder::new(alloc);
-        let wanted = ServeFault::File(Bytes::from_slice(alloc, path)?, fault);
-        assert_eq!(rt;
-            serve_setup(&rt, alloc, setup, b"", &mut folder)?,
-            Err(wanted)
-        );
-        assert_eq!(rt; folder.files.len(), 0);
+        let found = fault_of(&rt, rt.alloc(), setup)?;
+        assert!(rt; is_file_fault(&found, path, &fault));
     }
     Ok(())
 }
@@ -269,23 +315,42 @@ fn index_is_made_anew_where_it_is_asked(rt: HostRuntime) -> Result<(), Fail> {
     Ok(())
 }
 
+// Whether a run ends since this file can't be written.
+fn is_unwritten(served: Result<u64, ServeFault>, name: &[u8]) -> bool {
+    match served {
+        Err(ServeFault::Close(CloseFault::Write(file))) => file.as_slice() == name,
+        _ => false,
+    }
+}
+
+// What a folder has that takes so many calls, where this file can't be written.
+fn folder_before<R: Threads + Wait + Sync>(
+    rt: &R,
+    alloc: Global,
+    calls: u64,
+    name: &[u8],
+) -> Result<MemoryFolder, Fail> {
+    let setup = b"TABLE T empty.dbf\nINDEX T X x.ndx\nSTATION s.prg\n";
+    let mut folder = MemoryFolder::new(alloc);
+    folder.calls = calls;
+    if is_unwritten(serve_setup(rt, alloc, setup, b"", &mut folder)?, name) {
+        Ok(folder)
+    } else {
+        Err("another ending".into())
+    }
+}
+
+// The calls are: begin and write of T.DBF, begin and write of X.NDX.
 #[test]
 fn folder_fails_at_first_write(rt: HostRuntime) -> Result<(), Fail> {
-    let alloc = rt.alloc();
-    let setup = b"TABLE T empty.dbf\nINDEX T X x.ndx\nSTATION s.prg\n";
-    // The calls are: begin and write of T.DBF, begin and write of X.NDX.
-    let cases: [(u64, &[u8], usize); 3] = [(0, b"T.DBF", 0), (1, b"T.DBF", 1), (2, b"X.NDX", 1)];
+    let cases: [(u64, &[u8], &[(&[u8], &[u8])]); 3] = [
+        (0, b"T.DBF", &[]),
+        (1, b"T.DBF", &[(b"T.DBF", b"")]),
+        (2, b"X.NDX", &[(b"T.DBF", &EMPTY)]),
+    ];
     for (calls, name, files) in cases {
-        let mut folder = MemoryFolder::new(alloc);
-        folder.calls = calls;
-        let wanted = ServeFault::Close(CloseFault::Write(Bytes::from_slice(alloc, name)?));
-        assert_eq!(rt;
-            serve_setup(&rt, alloc, setup, b"", &mut folder)?,
-            Err(wanted)
-        );
-        assert_eq!(rt; folder.files.len(), files);
-        assert!(rt; calls < 2 || has_file(&folder, 0, b"T.DBF", &EMPTY));
-        assert!(rt; calls != 1 || has_file(&folder, 0, b"T.DBF", b""));
+        let folder = folder_before(&rt, rt.alloc(), calls, name)?;
+        assert!(rt; has_files(&folder, files));
     }
     Ok(())
 }

@@ -1,6 +1,6 @@
 use Rattle.std.proofs.Common.{◌≡◌, List, ℕ, [], sym, subst}
 use Rattle.station_server.specs.Reports.{meaning_of, HasRun}
-use Rattle.station_server.specs.Script.Meaning.{Means}
+use Rattle.station_lines.specs.Script.Meaning.{Means}
 use Rattle.station_server.proofs.RunLaws.{IsUpTo, up_to_blank, up_to_shown, up_to_end}
 use Rattle.station_server.proofs.run.worker.run_script.Goals as goal
 

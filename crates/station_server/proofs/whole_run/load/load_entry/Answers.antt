@@ -1,5 +1,5 @@
 use Rattle.std.proofs.Common.{ap, refl, subst, sym}
-use Rattle.station_server.specs.declared.setup.entry.SetupEntry.{SetupEntry}
+use Rattle.station_lines.specs.declared.setup.entry.SetupEntry.{SetupEntry}
 use Rattle.station_server.specs.Loading.{read_as, IsEntryFault}
 use Rattle.station_server.proofs.LoadLaws.{err_exit}
 use Rattle.station_server.proofs.whole_run.load.load_entry.Goals as goal

@@ -1,0 +1,3 @@
+pub mod ScriptLaws
+pub mod SetupLaws
+pub mod StatusLaws

@@ -1,0 +1,320 @@
+-- Each line means one thing, which is what the reader makes of it.
+use Rattle.std.proofs.Common.{◌≡◌, ℕ, List, [], ◌∷◌, ◌++◌, Bool, true, false, cond, ◌&&◌, ◌||◌, ◌≤◌, length, take, drop, Option, Some, None, refl, ap, ◌∙◌, sym, subst, arith, ℤ}
+use Rattle.std.specs.Prelude.{◌⊎◌, codes, pos, bytes_eq, slice_index}
+use mathlib.Core.Logic.{inl, inr}
+use Rattle.std.specs.List.{list_all}
+use Rattle.std.proofs.lemmas.List.{append-nil}
+use Rattle.std.specs.Char.{to_ascii_lowercase, is_ascii_digit, is_ascii_alphabetic}
+use Rattle.std.specs.Str.{str_eq_ignore_ascii_case}
+use Rattle.std.proofs.lemmas.Bool.{false≢true, and_parts, and_from, and_left, and_right}
+use Rattle.std.proofs.lemmas.Bool.Decides.{nat_tests}
+use Rattle.dbf_fields.specs.Name.{is_name_char}
+use Rattle.dbf_fields.specs.declared.literal.Literal.{Literal}
+use Rattle.shared_catalogue.specs.declared.command.Command.{Command}
+use Rattle.shared_catalogue.specs.declared.command.Command.TheVariants as command
+use Rattle.shared_catalogue.specs.declared.command.Question.TheVariants as question
+use Rattle.station_lines.specs.declared.script.format.TheConstants.{KEYWORD_LETTERS}
+use Rattle.station_lines.specs.declared.script.line.Line.{Line}
+use Rattle.station_lines.specs.declared.script.line.Line.TheVariants.{Run, Status, Blank}
+use Rattle.station_lines.specs.declared.script.verb.Verb.{Verb}
+use Rattle.station_lines.specs.declared.script.verb.Verb.TheVariants as verb
+use Rattle.station_lines.specs.Script.Words.{is_gap, are_gaps, HasWords, begins_with_asterisk, IsBlankLine}
+use Rattle.station_lines.specs.Script.Parts.{is_keyword, is_call, is_name, name_in, count_in}
+use Rattle.station_lines.specs.Script.Meaning.{keyword, call, name, count, distance, text, literal, or_, IsPart, Are, Says, IsReadable, Means}
+use Rattle.station_lines.specs.Script.Reading.{without_gaps, first_word, after_word, text_in, literal_in, bad, verb_in, with_, one, go, ask_of, ask, two, three, four, is_empty, after_verb, after_one, after_two, read}
+use Rattle.station_lines.proofs.ScriptLaws.WordLaws.{is_solid, IsCutWord, is_cut, no_words, no_first, past_gaps}
+use Rattle.station_lines.proofs.ScriptLaws.PartLaws.{lower, same_text, all_lower, all_front, digits_of, keyword_word, call_word, name_word, count_word}
+use Rattle.station_lines.proofs.ScriptLaws.TextLaws.{text_found, chosen, passed}
+use Rattle.station_lines.proofs.ScriptLaws.LiteralLaws.{literal_found, literal_word, distance_word}
+use Rattle.station_lines.proofs.ScriptLaws.WordLaws.{text_whole}
+use Rattle.station_lines.proofs.ScriptLaws.VerbLaws.{spelling, verb_is}
+use Rattle.station_lines.proofs.ScriptLaws.SoundLaws.{IsSaid, one_said, two_said, three_said, four_said}
+use Rattle.station_lines.proofs.ScriptLaws.FoundLaws.{line_one, line_two, line_three, line_four}
+
+-- ---- what is made of a line is readable, or Bad
+
+abbrev IsRead : List ℕ → Line → Type 0
+IsRead line l = (l ≡ bad) ⊎ IsReadable line l
+
+-- what the words of a line say
+said : (line : List ℕ) (words : List (List ℕ)) (l : Line) → HasWords words line → Says words l → IsReadable line l
+said line words (Run c) w h = (words, w, h)
+said line words Status w h = (words, w, h)
+said line words Blank w h = absurd h
+
+read_said : (line : List ℕ) (words : List (List ℕ)) (l : Line) → HasWords words line → IsSaid words l → IsRead line l
+read_said line words l w (inl e) = inl e
+read_said line words l w (inr h) = inr (said line words l w h)
+
+-- the first word before other words
+front_word : (line : List ℕ) (words : List (List ℕ)) → HasWords words (after_word line) → HasWords (first_word line ∷ words) line
+front_word line words w = let c = is_cut line in (c.gap, after_word line, c.whole, c.gaps, c.ends, w)
+
+by_empty : (line : List ℕ) (q : Bool) (x y : Line) → (q ≡ true → IsRead line x) → (q ≡ false → IsRead line y) → IsRead line (cond q x y)
+by_empty line true x y f g = f refl
+by_empty line false x y f g = g refl
+
+read_three : (line : List ℕ) (v : Verb) (a b c rest : List ℕ) → IsPart (spelling v) a
+    → ((words : List (List ℕ)) → HasWords words rest → HasWords (a ∷ b ∷ c ∷ words) line) → IsRead line (after_two v b c rest)
+read_three line v a b c rest h front =
+    by_empty line (is_empty (first_word rest)) (three v b c) _
+    (λ e. read_said line (a ∷ b ∷ c ∷ []) (three v b c) (front [] (no_words rest e)) (three_said v a b c h))
+    (λ e. by_empty line (is_empty (first_word (after_word rest))) (four v b c (first_word rest)) bad
+    (λ f. read_said line (a ∷ b ∷ c ∷ first_word rest ∷ []) (four v b c (first_word rest)) (front (first_word rest ∷ []) (front_word rest [] (no_words (after_word rest) f))) (four_said v a b c (first_word rest) h))
+    (λ f. inl refl))
+
+read_two : (line : List ℕ) (v : Verb) (a b rest : List ℕ) → IsPart (spelling v) a
+    → ((words : List (List ℕ)) → HasWords words rest → HasWords (a ∷ b ∷ words) line) → IsRead line (after_one v b rest)
+read_two line v a b rest h front =
+    by_empty line (is_empty (first_word rest)) (two v b) _
+    (λ e. read_said line (a ∷ b ∷ []) (two v b) (front [] (no_words rest e)) (two_said v a b h))
+    (λ e. read_three line v a b (first_word rest) (after_word rest) h (λ words w. front (first_word rest ∷ words) (front_word rest words w)))
+
+read_one : (line : List ℕ) (v : Verb) (a rest : List ℕ) → IsPart (spelling v) a
+    → ((words : List (List ℕ)) → HasWords words rest → HasWords (a ∷ words) line) → IsRead line (after_verb v rest)
+read_one line v a rest h front =
+    by_empty line (is_empty (first_word rest)) (one v) _
+    (λ e. read_said line (a ∷ []) (one v) (front [] (no_words rest e)) (one_said v a h))
+    (λ e. read_two line v a (first_word rest) (after_word rest) h (λ words w. front (first_word rest ∷ words) (front_word rest words w)))
+
+by_verb : (line : List ℕ) (o : Option Verb) → verb_in (first_word line) ≡ o → IsRead line (with_ o (λ v. after_verb v (after_word line)))
+by_verb line None e = inl refl
+by_verb line (Some v) e = read_one line v (first_word line) (after_word line) (verb_is (first_word line) v e) (λ words w. front_word line words w)
+
+star_front : (word rest : List ℕ) → begins_with_asterisk word ≡ true → begins_with_asterisk (word ++ rest) ≡ true
+star_front [] rest h = absurd (false≢true h)
+star_front (b ∷ bs) rest h = h
+
+remark : (line : List ℕ) (p q : Bool) → is_empty (first_word line) ≡ p → begins_with_asterisk (first_word line) ≡ q → (p || q) ≡ true → IsBlankLine line
+remark line true q e f h = (line, [], sym (append-nil line), no_words line e, inl refl)
+remark line false true e f h = let c = is_cut line in (c.gap, first_word line ++ after_word line, c.whole, c.gaps, inr (star_front (first_word line) (after_word line) f))
+remark line false false e f h = absurd (false≢true h)
+
+pub is_read : (line : List ℕ) → IsRead line (read line)
+is_read line =
+    by_empty line (is_empty (first_word line) || begins_with_asterisk (first_word line)) Blank _
+    (λ e. inr (remark line (is_empty (first_word line)) (begins_with_asterisk (first_word line)) refl refl e))
+    (λ e. by_verb line (verb_in (first_word line)) refl)
+
+-- ---- what is readable is what is made of the line
+
+other_keyword : (k j word : List ℕ) → bytes_eq (lower (take KEYWORD_LETTERS k)) (lower (take KEYWORD_LETTERS j)) ≡ false → is_keyword k word ≡ true → is_keyword j word ≡ false
+other_keyword k j word differ e =
+    let p = and_parts (str_eq_ignore_ascii_case (take KEYWORD_LETTERS word) (take KEYWORD_LETTERS k)) _ e in
+    let head : lower (take KEYWORD_LETTERS word) ≡ lower (take KEYWORD_LETTERS k) = same_text _ _ p.0 in
+    and_left (str_eq_ignore_ascii_case (take KEYWORD_LETTERS word) (take KEYWORD_LETTERS j)) _ (ap (λ (xs : List ℕ). bytes_eq xs (lower (take KEYWORD_LETTERS j))) head ∙ differ)
+
+digit_lower : (c : ℕ) → is_ascii_digit (to_ascii_lowercase c) ≡ is_ascii_digit c
+digit_lower c = grind (arith, nat_tests)
+
+digits_no_keyword : (k word : List ℕ) → list_all is_ascii_digit (lower (take KEYWORD_LETTERS k)) ≡ false → list_all is_ascii_digit word ≡ true
+    → (q : Bool) → is_keyword k word ≡ q → q ≡ false
+digits_no_keyword k word letters digits true e =
+    let p = and_parts (str_eq_ignore_ascii_case (take KEYWORD_LETTERS word) (take KEYWORD_LETTERS k)) _ e in
+    let head : lower (take KEYWORD_LETTERS word) ≡ lower (take KEYWORD_LETTERS k) = same_text _ _ p.0 in
+    absurd (false≢true (sym letters ∙ (ap (list_all is_ascii_digit) (sym head) ∙ (all_lower is_ascii_digit digit_lower (take KEYWORD_LETTERS word) ∙ all_front is_ascii_digit KEYWORD_LETTERS word digits))))
+digits_no_keyword k word letters digits false e = refl
+
+go_count : (word : List ℕ) (n : ℕ) → count_in word ≡ Some n → go word ≡ Run (command.Go n)
+go_count word n e =
+    let digits = digits_of word n e in
+    passed (is_keyword (codes "TOP") word) _ _ (digits_no_keyword (codes "TOP") word refl digits (is_keyword (codes "TOP") word) refl)
+    ∙ (passed (is_keyword (codes "BOTTOM") word) _ _ (digits_no_keyword (codes "BOTTOM") word refl digits (is_keyword (codes "BOTTOM") word) refl)
+    ∙ ap (λ (o : Option ℕ). with_ o (λ n. Run (command.Go n))) e)
+
+go_bottom : (word : List ℕ) → is_keyword (codes "BOTTOM") word ≡ true → go word ≡ Run command.Bottom
+go_bottom word e =
+    passed (is_keyword (codes "TOP") word) _ _ (other_keyword (codes "BOTTOM") (codes "TOP") word refl e)
+    ∙ chosen (is_keyword (codes "BOTTOM") word) _ _ e
+
+-- the line of a function, by its name in small letters
+abbrev call_at : List ℕ → Line
+call_at small =
+    cond (bytes_eq small (lower (codes "RLOCK()"))) (Run command.RecordLock) (
+    cond (bytes_eq small (lower (codes "LOCK()"))) (Run command.RecordLock) (
+    cond (bytes_eq small (lower (codes "FLOCK()"))) (Run command.FileLock) (
+    cond (bytes_eq small (lower (codes "EOF()"))) (Run (command.Ask question.Eof)) (
+    cond (bytes_eq small (lower (codes "BOF()"))) (Run (command.Ask question.Bof)) (
+    cond (bytes_eq small (lower (codes "FOUND()"))) (Run (command.Ask question.Found)) (
+    cond (bytes_eq small (lower (codes "DELETED()"))) (Run (command.Ask question.Deleted)) (
+    cond (bytes_eq small (lower (codes "RECNO()"))) (Run (command.Ask question.Recno)) (
+    cond (bytes_eq small (lower (codes "RECCOUNT()"))) (Run (command.Ask question.Reccount)) bad))))))))
+
+name_lower : (c : ℕ) → is_name_char (to_ascii_lowercase c) ≡ is_name_char c
+name_lower c = grind (arith, nat_tests)
+
+ask_call : (f word : List ℕ) → list_all is_name_char (lower f) ≡ false → is_call f word ≡ true → ask word ≡ call_at (lower f)
+ask_call f word other e =
+    let same : lower word ≡ lower f = same_text _ _ e in
+    let no_name : list_all is_name_char word ≡ false = sym (all_lower is_name_char name_lower word) ∙ (ap (list_all is_name_char) same ∙ other) in
+    let none : name_in word ≡ None = passed (is_name word) _ None (and_right (is_ascii_alphabetic (slice_index word 0)) (list_all is_name_char word) no_name) in
+    ap (λ (o : Option (List ℕ)). ask_of o word) none ∙ ap call_at same
+
+call_cut : (f : List ℕ) → 1 ≤ length f → list_all is_solid f ≡ true → (word : List ℕ) → is_call f word ≡ true → IsCutWord word
+call_cut f some solid word e = call_word f word some solid e
+
+keyword_cut : (k : List ℕ) → 1 ≤ length (take KEYWORD_LETTERS k) → list_all is_solid (take KEYWORD_LETTERS k) ≡ true → list_all is_solid (drop KEYWORD_LETTERS k) ≡ true
+    → (word : List ℕ) → is_keyword k word ≡ true → IsCutWord word
+keyword_cut k some first others word e = keyword_word k word some first others e
+
+lock_cut : (word : List ℕ) → IsPart (or_ (call (codes "RLOCK()")) (call (codes "LOCK()"))) word → IsCutWord word
+lock_cut word (inl e) = call_word (codes "RLOCK()") word (omega arith) refl e
+lock_cut word (inr e) = call_word (codes "LOCK()") word (omega arith) refl e
+
+ask_lock : (word : List ℕ) → IsPart (or_ (call (codes "RLOCK()")) (call (codes "LOCK()"))) word → ask word ≡ Run command.RecordLock
+ask_lock word (inl e) = ask_call (codes "RLOCK()") word refl e
+ask_lock word (inr e) = ask_call (codes "LOCK()") word refl e
+
+ask_read : (line : List ℕ) (words : List (List ℕ)) (f : List ℕ) → 1 ≤ length f → list_all is_solid f ≡ true → list_all is_name_char (lower f) ≡ false
+    → HasWords words line → Are (keyword (codes "?") ∷ call f ∷ []) words → read line ≡ call_at (lower f)
+ask_read line words f some solid other w h =
+    let r = line_two line words verb.Ask (call f) (call_cut f some solid) w h in
+    r.as_two ∙ ask_call f r.second other r.is
+
+skip_read : (line : List ℕ) (words : List (List ℕ)) (n : ℤ) → HasWords words line
+    → (Are (keyword (codes "SKIP") ∷ distance n ∷ []) words ⊎ (Are (keyword (codes "SKIP") ∷ []) words × (n ≡ pos 1))) → read line ≡ Run (command.Skip n)
+skip_read line words n w (inl h) =
+    let r = line_two line words verb.Skip (distance n) (λ x e. distance_word x n e) w h in
+    r.as_two ∙ ap (λ (o : Option ℤ). with_ o (λ n. Run (command.Skip n))) r.is
+skip_read line words n w (inr h) = line_one line words verb.Skip w h.0 ∙ ap (λ (m : ℤ). Run (command.Skip m)) (sym h.1)
+
+with_cut : (word : List ℕ) → is_keyword (codes "WITH") word ≡ true → IsCutWord word
+with_cut word e = keyword_word (codes "WITH") word (omega arith) refl refl e
+
+run_read : (line : List ℕ) (words : List (List ℕ)) (c : Command) → HasWords words line → Says words (Run c) → read line ≡ Run c
+run_read line words (command.Select n) w h =
+    let r = line_two line words verb.Select (count n) (λ x e. count_word x n e) w h in
+    r.as_two ∙ ap (λ (o : Option ℕ). with_ o (λ n. Run (command.Select n))) r.is
+run_read line words (command.UseTable n false) w h =
+    let r = line_two line words verb.Use (name n) (λ x e. name_word x n e) w h in
+    r.as_two ∙ ap (λ (o : Option (List ℕ)). with_ o (λ n. Run (command.UseTable n false))) r.is
+run_read line words (command.UseTable n true) w h =
+    let r = line_three line words verb.Use (name n) (keyword (codes "EXCLUSIVE")) (λ x e. name_word x n e) (keyword_cut (codes "EXCLUSIVE") (omega arith) refl refl) w h in
+    r.as_three ∙ (chosen (is_keyword (codes "EXCLUSIVE") r.third) _ bad r.is_third ∙ ap (λ (o : Option (List ℕ)). with_ o (λ n. Run (command.UseTable n true))) r.is_second)
+run_read line words command.CloseTable w h = line_one line words verb.Use w h
+run_read line words (command.Go n) w h =
+    let r = line_two line words verb.Go (count n) (λ x e. count_word x n e) w h in
+    r.as_two ∙ go_count r.second n r.is
+run_read line words command.Top w h =
+    let r = line_two line words verb.Go (keyword (codes "TOP")) (keyword_cut (codes "TOP") (omega arith) refl refl) w h in
+    r.as_two ∙ chosen (is_keyword (codes "TOP") r.second) _ _ r.is
+run_read line words command.Bottom w h =
+    let r = line_two line words verb.Go (keyword (codes "BOTTOM")) (keyword_cut (codes "BOTTOM") (omega arith) refl refl) w h in
+    r.as_two ∙ go_bottom r.second r.is
+run_read line words (command.Skip n) w h = skip_read line words n w h
+run_read line words (command.Seek t) w h =
+    let r = line_two line words verb.Seek (text t) (λ x e. text_whole x t e) w h in
+    r.as_two ∙ ap (λ (o : Option (List ℕ)). with_ o (λ t. Run (command.Seek t))) (text_found r.second t r.is)
+run_read line words (command.Order n) w h =
+    let r = line_four line words verb.Set (keyword (codes "ORDER")) (keyword (codes "TO")) (count n) (keyword_cut (codes "ORDER") (omega arith) refl refl)
+    (keyword_cut (codes "TO") (omega arith) refl refl) (λ x e. count_word x n e) w h in
+    r.as_four ∙ (chosen (is_keyword (codes "ORDER") r.second && is_keyword (codes "TO") r.third) _ bad (and_from _ _ r.is_second r.is_third)
+    ∙ ap (λ (o : Option ℕ). with_ o (λ n. Run (command.Order n))) r.is_fourth)
+run_read line words command.AppendBlank w h =
+    let r = line_two line words verb.Append (keyword (codes "BLANK")) (keyword_cut (codes "BLANK") (omega arith) refl refl) w h in
+    r.as_two ∙ chosen (is_keyword (codes "BLANK") r.second) _ bad r.is
+run_read line words (command.Replace f l) w h =
+    let r = line_four line words verb.Replace (name f) (keyword (codes "WITH")) (literal l) (λ x e. name_word x f e) with_cut (λ x e. literal_word x l e) w h in
+    r.as_four ∙ (chosen (is_keyword (codes "WITH") r.third) _ bad r.is_third
+    ∙ (ap (λ (o : Option (List ℕ)). with_ o (λ f. with_ (literal_in r.fourth) (λ l. Run (command.Replace f l)))) r.is_second
+    ∙ ap (λ (o : Option Literal). with_ o (λ l. Run (command.Replace f l))) (literal_found r.fourth l r.is_fourth)))
+run_read line words (command.Memo f t) w h =
+    let r = line_four line words verb.Memo (name f) (keyword (codes "WITH")) (text t) (λ x e. name_word x f e) with_cut (λ x e. text_whole x t e) w h in
+    r.as_four ∙ (chosen (is_keyword (codes "WITH") r.third) _ bad r.is_third
+    ∙ (ap (λ (o : Option (List ℕ)). with_ o (λ f. with_ (text_in r.fourth) (λ t. Run (command.Memo f t)))) r.is_second
+    ∙ ap (λ (o : Option (List ℕ)). with_ o (λ t. Run (command.Memo f t))) (text_found r.fourth t r.is_fourth)))
+run_read line words command.Delete w h = line_one line words verb.Delete w h
+run_read line words command.Recall w h = line_one line words verb.Recall w h
+run_read line words command.Pack w h = line_one line words verb.Pack w h
+run_read line words command.Unlock w h = line_one line words verb.Unlock w h
+run_read line words command.UnlockAll w h =
+    let r = line_two line words verb.Unlock (keyword (codes "ALL")) (keyword_cut (codes "ALL") (omega arith) refl refl) w h in
+    r.as_two ∙ chosen (is_keyword (codes "ALL") r.second) _ bad r.is
+run_read line words (command.Show f) w h =
+    let r = line_two line words verb.Ask (name f) (λ x e. name_word x f e) w h in
+    r.as_two ∙ ap (λ (o : Option (List ℕ)). ask_of o r.second) r.is
+run_read line words command.RecordLock w h =
+    let r = line_two line words verb.Ask (or_ (call (codes "RLOCK()")) (call (codes "LOCK()"))) lock_cut w h in
+    r.as_two ∙ ask_lock r.second r.is
+run_read line words command.FileLock w h = ask_read line words (codes "FLOCK()") (omega arith) refl refl w h
+run_read line words (command.Ask question.Eof) w h = ask_read line words (codes "EOF()") (omega arith) refl refl w h
+run_read line words (command.Ask question.Bof) w h = ask_read line words (codes "BOF()") (omega arith) refl refl w h
+run_read line words (command.Ask question.Found) w h = ask_read line words (codes "FOUND()") (omega arith) refl refl w h
+run_read line words (command.Ask question.Deleted) w h = ask_read line words (codes "DELETED()") (omega arith) refl refl w h
+run_read line words (command.Ask question.Recno) w h = ask_read line words (codes "RECNO()") (omega arith) refl refl w h
+run_read line words (command.Ask question.Reccount) w h = ask_read line words (codes "RECCOUNT()") (omega arith) refl refl w h
+run_read line words command.Bad w h = absurd h
+
+status_read : (line : List ℕ) (words : List (List ℕ)) → HasWords words line → Says words Status → read line ≡ Status
+status_read line words w h =
+    let r = line_two line words verb.Display (keyword (codes "STATUS")) (keyword_cut (codes "STATUS") (omega arith) refl refl) w h in
+    r.as_two ∙ chosen (is_keyword (codes "STATUS") r.second) _ bad r.is
+
+star_first : (line gap rest : List ℕ) → line ≡ gap ++ rest → are_gaps gap ≡ true → begins_with_asterisk rest ≡ true → begins_with_asterisk (first_word line) ≡ true
+star_first line gap [] e g h = absurd (false≢true h)
+star_first line gap (b ∷ bs) e g h =
+    let solid : is_gap b ≡ false = grind (arith, nat_tests, h) in
+    let left : without_gaps line ≡ b ∷ bs = ap without_gaps e ∙ (past_gaps gap (b ∷ bs) g ∙ passed (is_gap b) _ _ solid) in
+    rw (left, solid) h
+
+or_second : (p q : Bool) → q ≡ true → (p || q) ≡ true
+or_second true q e = refl
+or_second false q e = e
+
+or_first : (p q : Bool) → p ≡ true → (p || q) ≡ true
+or_first true q e = refl
+or_first false q e = absurd (false≢true e)
+
+blank_read : (line : List ℕ) → IsBlankLine line → read line ≡ Blank
+blank_read line (gap, rest, e, g, inl none) =
+    let all : are_gaps line ≡ true = ap are_gaps (e ∙ (ap (λ (xs : List ℕ). gap ++ xs) none ∙ append-nil gap)) ∙ g in
+    chosen (is_empty (first_word line) || begins_with_asterisk (first_word line)) Blank _ (or_first _ _ (ap is_empty (no_first line all)))
+blank_read line (gap, rest, e, g, inr star) =
+    chosen (is_empty (first_word line) || begins_with_asterisk (first_word line)) Blank _ (or_second _ _ (star_first line gap rest e g star))
+
+pub readable_read : (line : List ℕ) (l : Line) → IsReadable line l → read line ≡ l
+readable_read line (Run c) r = run_read line r.0 c r.1 r.2
+readable_read line Status r = status_read line r.0 r.1 r.2
+readable_read line Blank r = blank_read line r
+
+-- ---- one meaning
+
+no_bad : (line : List ℕ) → IsReadable line bad → ⊥
+no_bad line r = r.2
+
+means_of : (line : List ℕ) (l : Line) → IsReadable line l → Means line l
+means_of line (Run command.Bad) r = absurd (no_bad line r)
+means_of line l r = r
+
+readable_of : (line : List ℕ) (l : Line) → Means line l → (l ≡ bad) ⊎ IsReadable line l
+readable_of line (Run command.Bad) m = inl refl
+readable_of line l m = inr m
+
+bad_means : (line : List ℕ) → read line ≡ bad → Means line bad
+bad_means line e l r = no_bad line (subst (λ (x : Line). IsReadable line x) (sym (readable_read line l r) ∙ e) r)
+
+means_read : (line : List ℕ) (l : Line) → read line ≡ l → IsRead line l → Means line l
+means_read line l e (inl b) = subst (λ (x : Line). Means line x) (sym b) (bad_means line (e ∙ b))
+means_read line l e (inr r) = means_of line l r
+
+-- each line means what is made of it
+pub read_means : (line : List ℕ) → Means line (read line)
+read_means line = means_read line (read line) refl (is_read line)
+
+bad_read : (line : List ℕ) (l : Line) → read line ≡ l → IsRead line l → Means line bad → l ≡ bad
+bad_read line l e (inl b) m = b
+bad_read line l e (inr r) m = absurd (m l r)
+
+means_one : (line : List ℕ) (l : Line) → Means line l → (l ≡ bad) ⊎ IsReadable line l → read line ≡ l
+means_one line l m (inl b) = bad_read line (read line) refl (is_read line) (subst (λ (x : Line). Means line x) b m) ∙ sym b
+means_one line l m (inr r) = readable_read line l r
+
+-- a line means nothing else
+pub means_alone : (line : List ℕ) (l : Line) → Means line l → read line ≡ l
+means_alone line l m = means_one line l m (readable_of line l m)
+
+pub one_meaning : (line : List ℕ) (a b : Line) → Means line a → Means line b → a ≡ b
+one_meaning line a b m n = sym (means_alone line a m) ∙ means_alone line b n
+
+pub other_means : (line : List ℕ) (l : Line) → Means line l → l ≡ read line
+other_means line l m = sym (means_alone line l m)

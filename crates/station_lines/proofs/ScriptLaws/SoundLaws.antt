@@ -1,0 +1,90 @@
+-- What the reader makes of words is what they say, or Bad.
+use Rattle.std.proofs.Common.{◌≡◌, ℕ, List, [], ◌∷◌, Bool, true, false, cond, ◌&&◌, Option, Some, None, refl}
+use Rattle.std.specs.Prelude.{◌⊎◌, codes}
+use mathlib.Core.Logic.{inl, inr}
+use Rattle.std.proofs.lemmas.Bool.{and_parts}
+use Rattle.station_lines.specs.declared.script.line.Line.{Line}
+use Rattle.station_lines.specs.declared.script.verb.Verb.{Verb}
+use Rattle.station_lines.specs.declared.script.verb.Verb.TheVariants as verb
+use Rattle.station_lines.specs.Script.Parts.{is_keyword, is_call, name_in, count_in, distance_in}
+use Rattle.station_lines.specs.Script.Meaning.{IsPart, Says}
+use Rattle.station_lines.specs.Script.Reading.{text_in, literal_in, bad, with_, one, go, call_line, ask_of, two, three, four}
+use Rattle.station_lines.proofs.ScriptLaws.TextLaws.{text_is}
+use Rattle.station_lines.proofs.ScriptLaws.LiteralLaws.{literal_is}
+use Rattle.station_lines.proofs.ScriptLaws.VerbLaws.{spelling}
+
+-- a line that is Bad, or what the words say
+abbrev pub IsSaid : List (List ℕ) → Line → Type 0
+IsSaid words line = (line ≡ bad) ⊎ Says words line
+
+of_value : {X : Type 0} (words : List (List ℕ)) (o : Option X) (make : X → Line) → ((x : X) → o ≡ Some x → IsSaid words (make x)) → IsSaid words (with_ o make)
+of_value words None make h = inl refl
+of_value words (Some x) make h = h x refl
+
+of_test : (words : List (List ℕ)) (q : Bool) (x y : Line) → (q ≡ true → IsSaid words x) → IsSaid words y → IsSaid words (cond q x y)
+of_test words true x y f g = f refl
+of_test words false x y f g = g
+
+pub one_said : (v : Verb) (a : List ℕ) → IsPart (spelling v) a → IsSaid (a ∷ []) (one v)
+one_said verb.Use a h = inr (h, tt)
+one_said verb.Skip a h = inr (inr ((h, tt), refl))
+one_said verb.Delete a h = inr (h, tt)
+one_said verb.Recall a h = inr (h, tt)
+one_said verb.Pack a h = inr (h, tt)
+one_said verb.Unlock a h = inr (h, tt)
+one_said v a h = inl refl
+
+go_said : (a b : List ℕ) → IsPart (spelling verb.Go) a → IsSaid (a ∷ b ∷ []) (go b)
+go_said a b h =
+    of_test (a ∷ b ∷ []) (is_keyword (codes "TOP") b) _ _ (λ e. inr (h, (e, tt))) (
+    of_test (a ∷ b ∷ []) (is_keyword (codes "BOTTOM") b) _ _ (λ e. inr (h, (e, tt))) (
+    of_value (a ∷ b ∷ []) (count_in b) _ (λ n e. inr (h, (e, tt)))))
+
+call_said : (a b : List ℕ) → IsPart (spelling verb.Ask) a → IsSaid (a ∷ b ∷ []) (call_line b)
+call_said a b h =
+    of_test (a ∷ b ∷ []) (is_call (codes "RLOCK()") b) _ _ (λ e. inr (h, (inl e, tt))) (
+    of_test (a ∷ b ∷ []) (is_call (codes "LOCK()") b) _ _ (λ e. inr (h, (inr e, tt))) (
+    of_test (a ∷ b ∷ []) (is_call (codes "FLOCK()") b) _ _ (λ e. inr (h, (e, tt))) (
+    of_test (a ∷ b ∷ []) (is_call (codes "EOF()") b) _ _ (λ e. inr (h, (e, tt))) (
+    of_test (a ∷ b ∷ []) (is_call (codes "BOF()") b) _ _ (λ e. inr (h, (e, tt))) (
+    of_test (a ∷ b ∷ []) (is_call (codes "FOUND()") b) _ _ (λ e. inr (h, (e, tt))) (
+    of_test (a ∷ b ∷ []) (is_call (codes "DELETED()") b) _ _ (λ e. inr (h, (e, tt))) (
+    of_test (a ∷ b ∷ []) (is_call (codes "RECNO()") b) _ _ (λ e. inr (h, (e, tt))) (
+    of_test (a ∷ b ∷ []) (is_call (codes "RECCOUNT()") b) _ _ (λ e. inr (h, (e, tt))) (inl refl)))))))))
+
+ask_said : (a b : List ℕ) → IsPart (spelling verb.Ask) a → (o : Option (List ℕ)) → name_in b ≡ o → IsSaid (a ∷ b ∷ []) (ask_of o b)
+ask_said a b h None e = call_said a b h
+ask_said a b h (Some name) e = inr (h, (e, tt))
+
+pub two_said : (v : Verb) (a b : List ℕ) → IsPart (spelling v) a → IsSaid (a ∷ b ∷ []) (two v b)
+two_said verb.Select a b h = of_value (a ∷ b ∷ []) (count_in b) _ (λ n e. inr (h, (e, tt)))
+two_said verb.Use a b h = of_value (a ∷ b ∷ []) (name_in b) _ (λ n e. inr (h, (e, tt)))
+two_said verb.Go a b h = go_said a b h
+two_said verb.Skip a b h = of_value (a ∷ b ∷ []) (distance_in b) _ (λ n e. inr (inl (h, (e, tt))))
+two_said verb.Seek a b h = of_value (a ∷ b ∷ []) (text_in b) _ (λ t e. inr (h, (text_is b t e, tt)))
+two_said verb.Append a b h = of_test (a ∷ b ∷ []) (is_keyword (codes "BLANK") b) _ _ (λ e. inr (h, (e, tt))) (inl refl)
+two_said verb.Unlock a b h = of_test (a ∷ b ∷ []) (is_keyword (codes "ALL") b) _ _ (λ e. inr (h, (e, tt))) (inl refl)
+two_said verb.Ask a b h = ask_said a b h (name_in b) refl
+two_said verb.Display a b h = of_test (a ∷ b ∷ []) (is_keyword (codes "STATUS") b) _ _ (λ e. inr (h, (e, tt))) (inl refl)
+two_said v a b h = inl refl
+
+pub three_said : (v : Verb) (a b c : List ℕ) → IsPart (spelling v) a → IsSaid (a ∷ b ∷ c ∷ []) (three v b c)
+three_said verb.Use a b c h =
+    of_test (a ∷ b ∷ c ∷ []) (is_keyword (codes "EXCLUSIVE") c) _ _ (λ e.
+    of_value (a ∷ b ∷ c ∷ []) (name_in b) _ (λ n f. inr (h, (f, (e, tt))))) (inl refl)
+three_said v a b c h = inl refl
+
+pub four_said : (v : Verb) (a b c d : List ℕ) → IsPart (spelling v) a → IsSaid (a ∷ b ∷ c ∷ d ∷ []) (four v b c d)
+four_said verb.Set a b c d h =
+    of_test (a ∷ b ∷ c ∷ d ∷ []) (is_keyword (codes "ORDER") b && is_keyword (codes "TO") c) _ _ (λ e.
+    let p = and_parts (is_keyword (codes "ORDER") b) (is_keyword (codes "TO") c) e in
+    of_value (a ∷ b ∷ c ∷ d ∷ []) (count_in d) _ (λ n f. inr (h, (p.0, (p.1, (f, tt)))))) (inl refl)
+four_said verb.Replace a b c d h =
+    of_test (a ∷ b ∷ c ∷ d ∷ []) (is_keyword (codes "WITH") c) _ _ (λ e.
+    of_value (a ∷ b ∷ c ∷ d ∷ []) (name_in b) _ (λ n f.
+    of_value (a ∷ b ∷ c ∷ d ∷ []) (literal_in d) _ (λ l g. inr (h, (f, (e, (literal_is d l g, tt))))))) (inl refl)
+four_said verb.Memo a b c d h =
+    of_test (a ∷ b ∷ c ∷ d ∷ []) (is_keyword (codes "WITH") c) _ _ (λ e.
+    of_value (a ∷ b ∷ c ∷ d ∷ []) (name_in b) _ (λ n f.
+    of_value (a ∷ b ∷ c ∷ d ∷ []) (text_in d) _ (λ t g. inr (h, (f, (e, (text_is d t g, tt))))))) (inl refl)
+four_said v a b c d h = inl refl

@@ -1,0 +1,4 @@
+pub mod AnswerLines
+pub mod Script
+pub mod Setup
+pub mod SetupReading

@@ -1,0 +1,55 @@
+-- What a word of a command is: a keyword, a name, a number, a text.
+use Rattle.std.specs.Prelude.{◌≡◌, ℕ, ◌-◌, Bool, true, not, ◌&&◌, ◌||◌, ◌==◌, List, [], ◌∷◌, ◌++◌, length, map, take, drop, slice_index, Option, Some, None, option_map, ℤ, pos, neg_ℤ, if◌then◌else◌}
+use Rattle.std.specs.List.{list_all}
+use Rattle.std.specs.Int.{is_in_range}
+use Rattle.std.specs.Char.{is_ascii_digit, is_ascii_alphabetic, to_ascii_uppercase}
+use Rattle.std.specs.Str.{str_eq_ignore_ascii_case}
+use Rattle.dbf_fields.specs.declared.format.TheConstants.{MINUS}
+use Rattle.dbf_fields.specs.Digits.{digits_after}
+use Rattle.dbf_fields.specs.Name.{is_name_char}
+use Rattle.station_lines.specs.declared.script.format.TheConstants.{KEYWORD_LETTERS, MAX_COUNT_DIGITS, QUOTE, APOSTROPHE}
+
+-- A keyword in any case: its first four letters, or all of one that has fewer, and as many of the others as one
+-- likes.
+abbrev pub is_keyword : List ℕ → List ℕ → Bool
+is_keyword keyword word =
+    str_eq_ignore_ascii_case (take KEYWORD_LETTERS word) (take KEYWORD_LETTERS keyword)
+    && str_eq_ignore_ascii_case (drop KEYWORD_LETTERS word) (take (length word - KEYWORD_LETTERS) (drop KEYWORD_LETTERS keyword))
+
+-- a function's name with its parentheses, in any case
+abbrev pub is_call : List ℕ → List ℕ → Bool
+is_call function word = str_eq_ignore_ascii_case word function
+
+-- in capitals
+abbrev pub capitals : List ℕ → List ℕ
+capitals word = map to_ascii_uppercase word
+
+-- a letter, then letters, digits or `_`, of any length
+abbrev pub is_name : List ℕ → Bool
+is_name word = is_ascii_alphabetic (slice_index word 0) && list_all is_name_char word
+
+-- the name that a word is, folded to capitals
+abbrev pub name_in : List ℕ → Option (List ℕ)
+name_in word = if is_name word then Some (capitals word) else None
+
+-- 1 to 10 digits
+abbrev pub is_count : List ℕ → Bool
+is_count word = is_in_range 1 MAX_COUNT_DIGITS (length word) && list_all is_ascii_digit word
+
+-- the number that a word is
+abbrev pub count_in : List ℕ → Option ℕ
+count_in word = if is_count word then Some (digits_after 0 word) else None
+
+-- the number that a word is, below zero after a `-`
+abbrev pub distance_in : List ℕ → Option ℤ
+distance_in [] = None
+distance_in (b ∷ bs) =
+    if b == MINUS then option_map (λ n. neg_ℤ (pos n)) (count_in bs) else option_map pos (count_in (b ∷ bs))
+
+abbrev pub is_quote : ℕ → Bool
+is_quote b = b == QUOTE || b == APOSTROPHE
+
+-- a text between two quotes of one kind, with any bytes but this quote
+abbrev pub IsText : List ℕ → List ℕ → Type 0
+IsText word text =
+    (quote : ℕ) × (is_quote quote ≡ true) × (word ≡ quote ∷ (text ++ quote ∷ [])) × (list_all (λ b. not (b == quote)) text ≡ true)

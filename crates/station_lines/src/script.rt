@@ -1,0 +1,22 @@
+//! Scripts: their lines, and what each line means.
+//!
+//! [`lines`] goes over a script's lines, and [`parse_line`] tells what a line means, which is defined in
+//! `specs/Script/Meaning.antt`. Start reading there, then at `script/line.rt`.
+
+mod command;
+pub(crate) mod format;
+mod keyword;
+mod line;
+mod literal;
+mod script_lines;
+#[cfg(test)]
+mod tests;
+mod value;
+mod verb;
+mod word;
+
+pub(crate) use line::is_remark;
+pub use line::{Line, one_meaning, parse_line};
+pub use script_lines::{LineCursor, lines, one_cutting};
+pub(crate) use value::{in_capitals, is_name};
+pub(crate) use word::{is_gap, without_gaps};

@@ -1,0 +1,213 @@
+//! Commands, by how many words they have.
+
+ghost use Rattle.std.specs.Prelude.{◌≡◌, IfOk};
+ghost use Rattle.station_lines.specs.Script.Parts.{name_in as name_in_word};
+ghost use Rattle.station_lines.specs.Script.Reading.{with_, one, two, three, four, go, call_line, ask as ask_line, set_order as set_order_line, replace as replace_line, memo as memo_line};
+
+use crate::script::keyword::{is_call, is_keyword};
+use crate::script::line::Line;
+use crate::script::literal::literal_in;
+use crate::script::value::{count_in, distance_in, name_in, text_in};
+use crate::script::verb::Verb;
+use dbf_fields::Bytes;
+use shared_catalogue::{Command, Question};
+use std::alloc::{AllocError, Global};
+
+/// The line of a verb alone. Takes no memory.
+pub(crate) fn one_word(verb: Verb) -> Line
+    ensures value { result ≡ one verb }
+{
+    match verb {
+        Verb::Use => Line::Run(Command::CloseTable),
+        Verb::Skip => Line::Run(Command::Skip(1)),
+        Verb::Delete => Line::Run(Command::Delete),
+        Verb::Recall => Line::Run(Command::Recall),
+        Verb::Pack => Line::Run(Command::Pack),
+        Verb::Unlock => Line::Run(Command::Unlock),
+        _ => Line::Run(Command::Bad),
+    }
+}
+
+// The line of SELECT and a word.
+fn select(word: &[u8]) -> Line
+    ensures value { result ≡ two Verb.Select word.now }
+{
+    match count_in(word) {
+        Some(number) => Line::Run(Command::Select(number)),
+        None => Line::Run(Command::Bad),
+    }
+}
+
+// The line of USE, a word and nothing or EXCLUSIVE.
+fn use_table(alloc: Global, word: &[u8], exclusive: bool) -> Result<Line, AllocError>
+    ensures value { IfOk result (λ line. line ≡ with_ (name_in_word word.now) (λ n. Line.Run (Command.UseTable n exclusive))) }
+{
+    match name_in(alloc, word)? {
+        Some(name) => Ok(Line::Run(Command::UseTable { name, exclusive })),
+        None => Ok(Line::Run(Command::Bad)),
+    }
+}
+
+// The line of GO and a word.
+fn go_to(word: &[u8]) -> Line
+    ensures value { result ≡ go word.now }
+{
+    if is_keyword(word, b"TOP") {
+        Line::Run(Command::Top)
+    } else if is_keyword(word, b"BOTTOM") {
+        Line::Run(Command::Bottom)
+    } else {
+        match count_in(word) {
+            Some(number) => Line::Run(Command::Go(number)),
+            None => Line::Run(Command::Bad),
+        }
+    }
+}
+
+// The line of SKIP and a word.
+fn skip(word: &[u8]) -> Line
+    ensures value { result ≡ two Verb.Skip word.now }
+{
+    match distance_in(word) {
+        Some(records) => Line::Run(Command::Skip(records)),
+        None => Line::Run(Command::Bad),
+    }
+}
+
+// The line of SEEK and a word.
+fn seek(alloc: Global, word: &[u8]) -> Result<Line, AllocError>
+    ensures value { IfOk result (λ line. line ≡ two Verb.Seek word.now) }
+{
+    match text_in(word) {
+        Some(text) => Ok(Line::Run(Command::Seek(Bytes::from_slice(alloc, text)?))),
+        None => Ok(Line::Run(Command::Bad)),
+    }
+}
+
+// The line of a function that `?` asks.
+fn call(word: &[u8]) -> Line
+    ensures value { result ≡ call_line word.now }
+{
+    if is_call(word, b"RLOCK()") {
+        Line::Run(Command::RecordLock)
+    } else if is_call(word, b"LOCK()") {
+        Line::Run(Command::RecordLock)
+    } else if is_call(word, b"FLOCK()") {
+        Line::Run(Command::FileLock)
+    } else if is_call(word, b"EOF()") {
+        Line::Run(Command::Ask(Question::Eof))
+    } else if is_call(word, b"BOF()") {
+        Line::Run(Command::Ask(Question::Bof))
+    } else if is_call(word, b"FOUND()") {
+        Line::Run(Command::Ask(Question::Found))
+    } else if is_call(word, b"DELETED()") {
+        Line::Run(Command::Ask(Question::Deleted))
+    } else if is_call(word, b"RECNO()") {
+        Line::Run(Command::Ask(Question::Recno))
+    } else if is_call(word, b"RECCOUNT()") {
+        Line::Run(Command::Ask(Question::Reccount))
+    } else {
+        Line::Run(Command::Bad)
+    }
+}
+
+// The line of `?` and a word.
+fn ask(alloc: Global, word: &[u8]) -> Result<Line, AllocError>
+    ensures value { IfOk result (λ line. line ≡ ask_line word.now) }
+{
+    match name_in(alloc, word)? {
+        Some(name) => Ok(Line::Run(Command::Show(name))),
+        None => Ok(call(word)),
+    }
+}
+
+/// The line of a verb and a word. An error where memory is refused.
+pub(crate) fn two_words(alloc: Global, verb: Verb, word: &[u8]) -> Result<Line, AllocError>
+    ensures value { IfOk result (λ line. line ≡ two verb word.now) }
+{
+    match verb {
+        Verb::Select => Ok(select(word)),
+        Verb::Use => use_table(alloc, word, false),
+        Verb::Go => Ok(go_to(word)),
+        Verb::Skip => Ok(skip(word)),
+        Verb::Seek => seek(alloc, word),
+        Verb::Append if is_keyword(word, b"BLANK") => Ok(Line::Run(Command::AppendBlank)),
+        Verb::Unlock if is_keyword(word, b"ALL") => Ok(Line::Run(Command::UnlockAll)),
+        Verb::Ask => ask(alloc, word),
+        Verb::Display if is_keyword(word, b"STATUS") => Ok(Line::Status),
+        _ => Ok(Line::Run(Command::Bad)),
+    }
+}
+
+/// The line of a verb and two words. An error where memory is refused.
+pub(crate) fn three_words(
+    alloc: Global,
+    verb: Verb,
+    second: &[u8],
+    third: &[u8],
+) -> Result<Line, AllocError>
+    ensures value { IfOk result (λ line. line ≡ three verb second.now third.now) }
+{
+    match verb {
+        Verb::Use if is_keyword(third, b"EXCLUSIVE") => use_table(alloc, second, true),
+        _ => Ok(Line::Run(Command::Bad)),
+    }
+}
+
+// The line of SET and three words.
+fn set_order(second: &[u8], third: &[u8], fourth: &[u8]) -> Line
+    ensures value { result ≡ set_order_line second.now third.now fourth.now }
+{
+    if !is_keyword(second, b"ORDER") || !is_keyword(third, b"TO") {
+        return Line::Run(Command::Bad);
+    }
+    match count_in(fourth) {
+        Some(number) => Line::Run(Command::Order(number)),
+        None => Line::Run(Command::Bad),
+    }
+}
+
+// The line of REPLACE, a field, WITH and a value.
+fn replace(alloc: Global, field: &[u8], value: &[u8]) -> Result<Line, AllocError>
+    ensures value { IfOk result (λ line. line ≡ replace_line field.now value.now) }
+{
+    let Some(field) = name_in(alloc, field)? else {
+        return Ok(Line::Run(Command::Bad));
+    };
+    match literal_in(alloc, value)? {
+        Some(value) => Ok(Line::Run(Command::Replace { field, value })),
+        None => Ok(Line::Run(Command::Bad)),
+    }
+}
+
+// The line of MEMO, a field, WITH and a text.
+fn memo(alloc: Global, field: &[u8], text: &[u8]) -> Result<Line, AllocError>
+    ensures value { IfOk result (λ line. line ≡ memo_line field.now text.now) }
+{
+    let Some(field) = name_in(alloc, field)? else {
+        return Ok(Line::Run(Command::Bad));
+    };
+    let Some(text) = text_in(text) else {
+        return Ok(Line::Run(Command::Bad));
+    };
+    let text = Bytes::from_slice(alloc, text)?;
+    Ok(Line::Run(Command::Memo { field, text }))
+}
+
+/// The line of a verb and three words. An error where memory is refused.
+pub(crate) fn four_words(
+    alloc: Global,
+    verb: Verb,
+    second: &[u8],
+    third: &[u8],
+    fourth: &[u8],
+) -> Result<Line, AllocError>
+    ensures value { IfOk result (λ line. line ≡ four verb second.now third.now fourth.now) }
+{
+    match verb {
+        Verb::Set => Ok(set_order(second, third, fourth)),
+        Verb::Replace if is_keyword(third, b"WITH") => replace(alloc, second, fourth),
+        Verb::Memo if is_keyword(third, b"WITH") => memo(alloc, second, fourth),
+        _ => Ok(Line::Run(Command::Bad)),
+    }
+}
