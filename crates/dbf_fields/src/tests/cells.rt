@@ -4,6 +4,25 @@ use std::alloc::{AllocError, Global};
 use std::process::Abort;
 use std::test::Fail;
 
+// Whether a field keeps a value as this cell.
+fn keeps(alloc: Global, field: &Field, value: &Literal, cell: &[u8]) -> bool {
+    match encode_cell(alloc, field, value) {
+        Ok(stored) => stored.as_slice() == cell,
+        Err(_) => false,
+    }
+}
+
+// Whether a field keeps no such value, for this reason.
+fn refuses(alloc: Global, field: &Field, value: &Literal, fault: CellFault) -> bool {
+    encode_cell(alloc, field, value).err() == Some(fault)
+}
+
+// Whether a field keeps a text as this cell.
+fn keeps_text(alloc: Global, field: &Field, bytes: &[u8], cell: &[u8]) -> Result<bool, AllocError> {
+    let text = Literal::Text(Bytes::from_slice(alloc, bytes)?);
+    Ok(keeps(alloc, field, &text.copy(alloc)?, cell))
+}
+
 #[test]
 fn texts_fill_their_cells(rt: HostRuntime) -> Result<(), Fail> {
     let alloc = rt.alloc();
@@ -15,9 +34,7 @@ fn texts_fill_their_cells(rt: HostRuntime) -> Result<(), Fail> {
         (b"Ada Lovelace", b"Ada Lovela"),
     ];
     for (text, cell) in cases {
-        let value = Literal::Text(Bytes::from_slice(alloc, text)?).copy(alloc)?;
-        let stored = encode_cell(alloc, &name, &value)?;
-        assert_eq!(rt; stored.as_slice(), cell);
+        assert!(rt; keeps_text(alloc, &name, text, cell)?);
     }
     Ok(())
 }
@@ -120,8 +137,7 @@ fn number_cells(rt: HostRuntime) -> Result<(), Fail> {
         (100, 0, b"100.00"),
     ];
     for (digits, scale, cell) in cases {
-        let stored = encode_cell(alloc, &amount, &Literal::Number { digits, scale })?;
-        assert_eq!(rt; stored.as_slice(), cell);
+        assert!(rt; keeps(alloc, &amount, &Literal::Number { digits, scale }, cell));
     }
     let too_wide = [
         (1000, 0),
@@ -137,12 +153,23 @@ fn number_cells(rt: HostRuntime) -> Result<(), Fail> {
     ];
     for (digits, scale) in too_wide {
         let value = Literal::Number { digits, scale };
-        assert_eq!(rt;
-            encode_cell(alloc, &amount, &value),
-            Err(CellFault::NumberTooWide)
-        );
+        assert!(rt; refuses(alloc, &amount, &value, CellFault::NumberTooWide));
     }
     Ok(())
+}
+
+// Whether a number field keeps a number as this cell, or finds it too wide where the cell is empty.
+fn is_number_cell(
+    alloc: Global,
+    (width, decimals): (u8, u8),
+    number: &Literal,
+    cell: &[u8],
+) -> Result<bool, AllocError> {
+    let field = Field::new(alloc, b"X", NUMBER, width, decimals)?;
+    if cell.is_empty() {
+        return Ok(refuses(alloc, &field, number, CellFault::NumberTooWide));
+    }
+    Ok(keeps(alloc, &field, number, cell))
 }
 
 #[test]
@@ -160,15 +187,20 @@ fn wide_and_narrow_number_cells(rt: HostRuntime) -> Result<(), Fail> {
         (19, 18, 0, 0, b""),
     ];
     for (width, decimals, digits, scale, cell) in cases {
-        let number = Field::new(alloc, b"X", NUMBER, width, decimals)?;
-        let stored = encode_cell(alloc, &number, &Literal::Number { digits, scale });
-        if cell.is_empty() {
-            assert_eq!(rt; stored, Err(CellFault::NumberTooWide));
-        } else {
-            assert_eq!(rt; stored?.as_slice(), cell);
-        }
+        let number = Literal::Number { digits, scale };
+        assert!(rt; is_number_cell(alloc, (width, decimals), &number, cell)?);
     }
     Ok(())
+}
+
+// Whether a date field keeps a day as this cell, which reads back.
+fn is_date_cell(alloc: Global, field: &Field, day: Option<Day>, cell: &[u8]) -> bool {
+    match day {
+        Some(day) => {
+            keeps(alloc, field, &Literal::Date(day), cell) && read_date(cell) == DateCell::Is(day)
+        }
+        None => false,
+    }
 }
 
 #[test]
@@ -182,26 +214,12 @@ fn date_cells(rt: HostRuntime) -> Result<(), Fail> {
         (1987, 10, 5, b"19871005"),
     ];
     for (year, month, day, cell) in days {
-        let date = day_of(year, month, day).ok_or("a date")?;
-        assert_eq!(rt;
-            encode_cell(alloc, &born, &Literal::Date(date))?.as_slice(),
-            cell
-        );
-        assert_eq!(rt; read_date(cell), DateCell::Is(date));
+        assert!(rt; is_date_cell(alloc, &born, day_of(year, month, day), cell));
     }
-    assert_eq!(rt;
-        encode_cell(alloc, &born, &Literal::BlankDate)?.as_slice(),
-        b"        ".as_slice()
-    );
-    assert_eq!(rt;
-        encode_cell(alloc, &born, &Literal::BadDate),
-        Err(CellFault::BadDate)
-    );
     let text = Literal::Text(Bytes::from_slice(alloc, b"19840229")?);
-    assert_eq!(rt;
-        encode_cell(alloc, &born, &text),
-        Err(CellFault::TypeMismatch)
-    );
+    assert!(rt; keeps(alloc, &born, &Literal::BlankDate, b"        "));
+    assert!(rt; refuses(alloc, &born, &Literal::BadDate, CellFault::BadDate));
+    assert!(rt; refuses(alloc, &born, &text, CellFault::TypeMismatch));
     Ok(())
 }
 
@@ -209,15 +227,20 @@ fn date_cells(rt: HostRuntime) -> Result<(), Fail> {
 fn truth_cells(rt: HostRuntime) -> Result<(), Fail> {
     let alloc = rt.alloc();
     let paid = Field::new(alloc, b"PAID", LOGICAL, 1, 0)?;
-    assert_eq!(rt;
-        encode_cell(alloc, &paid, &Literal::Truth(true))?.as_slice(),
-        b"T".as_slice()
-    );
-    assert_eq!(rt;
-        encode_cell(alloc, &paid, &Literal::Truth(false))?.as_slice(),
-        b"F".as_slice()
-    );
+    assert!(rt; keeps(alloc, &paid, &Literal::Truth(true), b"T"));
+    assert!(rt; keeps(alloc, &paid, &Literal::Truth(false), b"F"));
     Ok(())
+}
+
+// Whether a field of this kind, width and decimals keeps no such value, for this reason.
+fn kind_refuses(
+    alloc: Global,
+    (kind, width, decimals): (u8, u8, u8),
+    value: &Literal,
+    fault: CellFault,
+) -> Result<bool, AllocError> {
+    let field = Field::new(alloc, b"X", kind, width, decimals)?;
+    Ok(refuses(alloc, &field, value, fault))
 }
 
 #[test]
@@ -233,9 +256,8 @@ fn cells_refuse_values_in_order(rt: HostRuntime) -> Result<(), Fail> {
         (NUMBER, 4, 2, -100, 2, CellFault::NumberTooWide),
     ];
     for (kind, width, decimals, digits, scale, fault) in numbers {
-        let field = Field::new(alloc, b"X", kind, width, decimals)?;
         let value = Literal::Number { digits, scale };
-        assert_eq!(rt; encode_cell(alloc, &field, &value), Err(fault));
+        assert!(rt; kind_refuses(alloc, (kind, width, decimals), &value, fault)?);
     }
     let dates = [
         (DATE, 8, CellFault::BadDate),
@@ -243,8 +265,7 @@ fn cells_refuse_values_in_order(rt: HostRuntime) -> Result<(), Fail> {
         (MEMO, 10, CellFault::TypeMismatch),
     ];
     for (kind, width, fault) in dates {
-        let field = Field::new(alloc, b"X", kind, width, 0)?;
-        assert_eq!(rt; encode_cell(alloc, &field, &Literal::BadDate), Err(fault));
+        assert!(rt; kind_refuses(alloc, (kind, width, 0), &Literal::BadDate, fault)?);
     }
     Ok(())
 }

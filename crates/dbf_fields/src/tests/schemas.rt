@@ -1,6 +1,6 @@
 use super::characters;
 use crate::*;
-use std::alloc::Global;
+use std::alloc::{AllocError, Global};
 use std::test::Fail;
 
 // A schema of two fields, the first with a name in small letters, and decimals that its kind has not.
@@ -48,6 +48,19 @@ fn schemas_tell_where_cells_stand(rt: HostRuntime) -> Result<(), Fail> {
     Ok(())
 }
 
+// The fault of a schema with this field after a field NAME.
+fn fault_of_second(
+    alloc: Global,
+    name: &[u8],
+    kind: u8,
+    width: u8,
+    decimals: u8,
+) -> Result<Option<SchemaFault>, AllocError> {
+    let second = Field::new(alloc, name, kind, width, decimals)?;
+    let fields = vec![in alloc; characters(alloc, b"NAME", 10)?, second]?;
+    Ok(Schema::new(alloc, &fields).err())
+}
+
 #[test]
 fn schema_faults_come_in_order(rt: HostRuntime) -> Result<(), Fail> {
     let alloc = rt.alloc();
@@ -80,11 +93,22 @@ fn schema_faults_come_in_order(rt: HostRuntime) -> Result<(), Fail> {
         (b"NOTE", b'M', 11, 0, SchemaFault::BadWidth),
     ];
     for (name, kind, width, decimals, fault) in cases {
-        let second = Field::new(alloc, name, kind, width, decimals)?;
-        let fields = vec![in alloc; characters(alloc, b"NAME", 10)?, second]?;
-        assert_eq!(rt; Schema::new(alloc, &fields).err(), Some(fault));
+        let found = fault_of_second(alloc, name, kind, width, decimals)?;
+        assert_eq!(rt; found, Some(fault));
     }
     Ok(())
+}
+
+// Whether a schema keeps a field of this kind and width with so many decimals.
+fn keeps_decimals(
+    alloc: Global,
+    (kind, width, decimals): (u8, u8, u8),
+    kept: u8,
+) -> Result<bool, Fail> {
+    let fields = vec![in alloc; Field::new(alloc, b"ONE", kind, width, decimals)?]?;
+    let schema = Schema::new(alloc, &fields)?;
+    let field = &schema.fields()[0];
+    Ok(field.kind == kind && field.width == width && field.decimals == kept)
 }
 
 #[test]
@@ -103,13 +127,14 @@ fn schemas_have_five_kinds(rt: HostRuntime) -> Result<(), Fail> {
         (MEMO, 10, 1, 0),
     ];
     for (kind, width, decimals, kept) in cases {
-        let fields = vec![in alloc; Field::new(alloc, b"ONE", kind, width, decimals)?]?;
-        let schema = Schema::new(alloc, &fields)?;
-        assert_eq!(rt; schema.fields()[0].kind, kind);
-        assert_eq!(rt; schema.fields()[0].width, width);
-        assert_eq!(rt; schema.fields()[0].decimals, kept);
+        assert!(rt; keeps_decimals(alloc, (kind, width, decimals), kept)?);
     }
     Ok(())
+}
+
+// The record length of a schema of these fields.
+fn length_of(alloc: Global, fields: &[Field]) -> Result<usize, SchemaFault> {
+    Ok(Schema::new(alloc, fields)?.record_length())
 }
 
 #[test]
@@ -119,12 +144,9 @@ fn records_have_at_most_4000_bytes(rt: HostRuntime) -> Result<(), Fail> {
     for letter in b'A'..b'Q' {
         fields.push(characters(alloc, &[letter], 250)?)?;
     }
-    assert_eq!(rt; Schema::new(alloc, &fields)?.record_length(), 4001);
+    assert_eq!(rt; length_of(alloc, &fields), Ok(4001));
     fields.push(characters(alloc, b"MORE", 1)?)?;
-    assert_eq!(rt;
-        Schema::new(alloc, &fields).err(),
-        Some(SchemaFault::RecordTooLong)
-    );
+    assert_eq!(rt; length_of(alloc, &fields), Err(SchemaFault::RecordTooLong));
     Ok(())
 }
 
@@ -138,12 +160,9 @@ fn tables_have_at_most_128_fields(rt: HostRuntime) -> Result<(), Fail> {
         }
     }
     assert_eq!(rt; fields.len(), 128);
-    assert_eq!(rt; Schema::new(alloc, &fields)?.record_length(), 129);
+    assert_eq!(rt; length_of(alloc, &fields), Ok(129));
     // The count is tested before the names and all else.
     fields.push(Field::new(alloc, b"", b'X', 0, 0)?)?;
-    assert_eq!(rt;
-        Schema::new(alloc, &fields).err(),
-        Some(SchemaFault::BadFieldCount)
-    );
+    assert_eq!(rt; length_of(alloc, &fields), Err(SchemaFault::BadFieldCount));
     Ok(())
 }
