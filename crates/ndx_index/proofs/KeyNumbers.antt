@@ -1,12 +1,13 @@
 -- Bytes compare as the numbers that they are, the highest first.
-use Rattle.std.proofs.Common.{◌≡◌, ℕ, zero, suc, ◌+◌, ◌*◌, ◌^◌, ◌<◌, ◌≤◌, List, ◌∷◌, [], length, drop, slice_index, refl, sym, ap, ◌∙◌, inl, inr, arith}
+use Rattle.std.proofs.Common.{nat_lt, true, false, ◌≡◌, ℕ, zero, suc, ◌+◌, ◌*◌, ◌^◌, ◌<◌, ◌≤◌, List, ◌∷◌, [], length, drop, slice_index, refl, sym, ap, ◌∙◌, inl, inr, arith}
 use Rattle.std.proofs.Math.Nat.{add-mul, mul-le-mul_right}
 use Rattle.std.proofs.lemmas.Bool.{cases_eq, cases_lt}
 use Rattle.std.specs.declared.cmp.Ordering.{Ordering}
 use Rattle.std.specs.declared.cmp.Ordering.TheVariants.{Less, Equal, Greater}
 use Rattle.std.specs.Cmp.{nat_cmp_is}
 use Rattle.std.specs.Cmp.Lexicographic.{slice_cmp}
-use Rattle.std.specs.Ordering.{nat_cmp, ordering_then}
+use Rattle.std.proofs.lemmas.Bool.Decides.{nat_tests}
+use Rattle.std.specs.Ordering.{nat_cmp, is_lt, ordering_then}
 use Rattle.byteorder.specs.Endian.{big_from}
 use Rattle.byteorder.specs.Numbers.{big_from-cons, big_from-lt}
 
@@ -60,3 +61,21 @@ by_numbers (suc n) (x ∷ xs) (y ∷ ys) first second fit sit =
     ∙ ap (λ o. ordering_then o after) (sym (digits p x y r s (big_from-lt 0 n xs fits) (big_from-lt 0 n ys sits))
     ∙ ap (λ m. nat_cmp (x * p + m) (y * p + s)) (sym (big_from-cons 0 n x xs))
     ∙ ap (λ m. nat_cmp (x * p + big_from 1 n (x ∷ xs)) (y * p + m)) (sym (big_from-cons 0 n y ys)))
+
+-- where the first eight bytes of two lists are not one number, the lists stand in the order of these numbers
+pub by_fronts : (xs ys : List ℕ) (x y : ℕ) → 8 ≤ length xs → 8 ≤ length ys → ((k : ℕ) → slice_index xs k < 256) → ((k : ℕ) → slice_index ys k < 256)
+    → x ≡ big_from 0 8 xs → y ≡ big_from 0 8 ys → (x ≡ y → ⊥) → (then : Ordering) → is_lt (ordering_then (slice_cmp nat_cmp xs ys) then) ≡ nat_lt x y
+by_fronts xs ys x y first second fit sit one two apart then =
+    let rest : Ordering = slice_cmp nat_cmp (drop 8 xs) (drop 8 ys) in
+    let whole : slice_cmp nat_cmp xs ys ≡ ordering_then (nat_cmp x y) rest = rw (one, two) (by_numbers 8 xs ys first second fit sit) in
+    elim (cases_lt x y) [
+      | inl lt ↦
+          let told : nat_lt x y ≡ true = grind (arith, nat_tests, lt) in
+          let less : slice_cmp nat_cmp xs ys ≡ Less = whole ∙ ap (λ o. ordering_then o rest) (sym (nat_cmp_is x y Less lt)) in
+          ap (λ o. is_lt (ordering_then o then)) less ∙ sym told
+      | inr le ↦
+          let more : y < x = elim (cases_eq x y) [ inl e ↦ absurd (apart e) | inr ne ↦ omega (arith, le, ne) ] in
+          let told : nat_lt x y ≡ false = grind (arith, nat_tests, le) in
+          let greater : slice_cmp nat_cmp xs ys ≡ Greater = whole ∙ ap (λ o. ordering_then o rest) (sym (nat_cmp_is x y Greater more)) in
+          ap (λ o. is_lt (ordering_then o then)) greater ∙ sym told
+    ]

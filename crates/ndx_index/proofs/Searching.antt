@@ -1,5 +1,5 @@
 -- Searches in lists in order, and in lists that keys part.
-use Rattle.std.proofs.Common.{◌≡◌, ℕ, zero, suc, ◌+◌, ◌-◌, ◌<◌, ◌≤◌, Bool, true, false, not, cond, List, [], ◌∷◌, ◌++◌, map, reverse, take, length, get_or, find, slice_get, Option, Some, None, refl, ap, sym, ◌∙◌, subst, arith, length-append}
+use Rattle.std.proofs.Common.{◌≡◌, ℕ, zero, suc, ◌+◌, ◌-◌, ◌<◌, ◌≤◌, Bool, true, false, not, cond, List, [], ◌∷◌, ◌++◌, map, reverse, take, length, get_or, find, slice_get, Option, Some, None, IfSome, refl, ap, sym, ◌∙◌, subst, arith, length-append}
 use Rattle.std.specs.Option.{option_or}
 use Rattle.std.specs.Ordering.{is_lt, ordering_reverse}
 use Rattle.std.specs.List.{AllByRecursion}
@@ -10,13 +10,14 @@ use Rattle.std.proofs.lemmas.Option.{slice_get-get_or, slice_get_past}
 use Rattle.std.proofs.lemmas.List.{append-nil, append_assoc, take_more, reverse-append, get_or-map, get_or_past, length-map}
 use Rattle.std.proofs.lemmas.List.Folds.{find-append}
 use Rattle.ndx_index.specs.declared.pair.Pair.{Pair}
-use Rattle.ndx_index.specs.Order.{pair_cmp, before}
+use Rattle.ndx_index.specs.declared.pages.place.Branch.{Branch}
+use Rattle.ndx_index.specs.Order.{pair_cmp, before, AreInOrder}
 use Rattle.ndx_index.specs.Slots.{slot_at, no_pair}
 use Rattle.ndx_index.specs.PageStore.{Page, page_in}
 use Rattle.ndx_index.specs.IndexTree.{pairs_under, joined, AllBefore, AllFrom, Parted, IsTree}
 use Rattle.ndx_index.specs.Laws.Lists.{all_weaker}
 use Rattle.ndx_index.specs.Laws.Comparing.{pairs_total, exact_pair, before_is}
-use Rattle.ndx_index.proofs.TreeLists.{NoneEmpty, all_at, none_empty, parted_length, links_length}
+use Rattle.ndx_index.proofs.TreeLists.{NoneEmpty, all_at, none_empty, parted_length, links_length, child_order, tree_some}
 
 -- a test that all pairs after one that passes it pass
 abbrev pub GoesUp : (Pair → Bool) → Type 0
@@ -244,25 +245,6 @@ find_under t up d a p i tree turn =
     find_parted t up pss (page_in a p).pairs i tree.1 (none_empty d a links tree.3) turn
     ∙ ap (λ ps. option_or (find t ps) (slice_get (get_or pss (suc i) []) 0)) (child_pairs d a p i (omega (arith, links_length d a p tree, turn.within)))
 
-pub found_in_child : (t : Pair → Bool) → GoesUp t → (d : ℕ) (a : List Page) (p i : ℕ) (x : Pair) → IsTree (suc d) a p → Turns t (page_in a p).pairs i → find t (pairs_under d a (get_or (page_in a p).links i 0)) ≡ Some x → find t (pairs_under (suc d) a p) ≡ Some x
-found_in_child t up d a p i x tree turn found =
-    find_under t up d a p i tree turn ∙ ap (λ o. option_or o (slice_get (get_or (map (λ c. pairs_under d a c) (page_in a p).links) (suc i) []) 0)) found
-
-pub found_in_next : (t : Pair → Bool) → GoesUp t → (d : ℕ) (a : List Page) (p i : ℕ) (x : Pair) → IsTree (suc d) a p → Turns t (page_in a p).pairs i → find t (pairs_under d a (get_or (page_in a p).links i 0)) ≡ None → i + 1 < length (page_in a p).links → slice_get (pairs_under d a (get_or (page_in a p).links (i + 1) 0)) 0 ≡ Some x → find t (pairs_under (suc d) a p) ≡ Some x
-found_in_next t up d a p i x tree turn missed lt first =
-    let e : suc i ≡ i + 1 = omega arith in
-    let links = (page_in a p).links in
-    find_under t up d a p i tree turn ∙ ap (λ o. option_or o (slice_get (get_or (map (λ c. pairs_under d a c) links) (suc i) []) 0)) missed
-    ∙ ap (λ ps. slice_get ps 0) (child_pairs d a p (suc i) (omega arith))
-    ∙ ap (λ k. slice_get (pairs_under d a (get_or links k 0)) 0) e ∙ first
-
-pub found_nowhere : (t : Pair → Bool) → GoesUp t → (d : ℕ) (a : List Page) (p i : ℕ) → IsTree (suc d) a p → Turns t (page_in a p).pairs i → find t (pairs_under d a (get_or (page_in a p).links i 0)) ≡ None → length (page_in a p).links ≤ i + 1 → find t (pairs_under (suc d) a p) ≡ None
-found_nowhere t up d a p i tree turn missed le =
-    let pss = map (λ c. pairs_under d a c) (page_in a p).links in
-    let n = length-map (page_in a p).links (λ c. pairs_under d a c) in
-    find_under t up d a p i tree turn ∙ ap (λ o. option_or o (slice_get (get_or pss (suc i) []) 0)) missed
-    ∙ ap (λ ps. slice_get ps 0) (get_or_past pss (suc i) [] (omega (arith, n)))
-
 back_under : (t : Pair → Bool) → GoesUp t → (d : ℕ) (a : List Page) (p i : ℕ) → IsTree (suc d) a p → Turns t (page_in a p).pairs i → last_failing_of t (pairs_under (suc d) a p) ≡ option_or (last_failing_of t (pairs_under d a (get_or (page_in a p).links i 0))) (last_in_before (map (λ c. pairs_under d a c) (page_in a p).links) i)
 back_under t up d a p i tree turn =
     let links = (page_in a p).links in
@@ -270,21 +252,103 @@ back_under t up d a p i tree turn =
     back_parted t up pss (page_in a p).pairs i tree.1 (none_empty d a links tree.3) turn
     ∙ ap (λ ps. option_or (last_failing_of t ps) (last_in_before pss i)) (child_pairs d a p i (omega (arith, links_length d a p tree, turn.within)))
 
-pub back_in_child : (t : Pair → Bool) → GoesUp t → (d : ℕ) (a : List Page) (p i : ℕ) (x : Pair) → IsTree (suc d) a p → Turns t (page_in a p).pairs i → last_failing_of t (pairs_under d a (get_or (page_in a p).links i 0)) ≡ Some x → last_failing_of t (pairs_under (suc d) a p) ≡ Some x
-back_in_child t up d a p i x tree turn found =
-    back_under t up d a p i tree turn ∙ ap (λ o. option_or o (last_in_before (map (λ c. pairs_under d a c) (page_in a p).links) i)) found
+-- ---- the way down: what is looked for is under a page, or else at the edge of the branch beside it
+abbrev pub edge_of : (List Pair → Option Pair) → List Page → Option Branch → Option Pair
+edge_of edge a None = None
+edge_of edge a (Some b) = edge (pairs_under b.level a b.page)
 
-pub back_in_previous : (t : Pair → Bool) → GoesUp t → (d : ℕ) (a : List Page) (p i : ℕ) (x : Pair) → IsTree (suc d) a p → Turns t (page_in a p).pairs i → last_failing_of t (pairs_under d a (get_or (page_in a p).links i 0)) ≡ None → 0 < i → last_of (pairs_under d a (get_or (page_in a p).links (i - 1) 0)) ≡ Some x → last_failing_of t (pairs_under (suc d) a p) ≡ Some x
-back_in_previous t up d a p zero x tree turn missed some last = absurd (omega arith)
-back_in_previous t up d a p (suc i) x tree turn missed some last =
-    let e : i ≡ suc i - 1 = omega arith in
+pub record GoesDown (search edge : List Pair → Option Pair) (a : List Page) (level page : ℕ) (here : Branch) (beside : Option Branch) : Type 0 where
+  pub tree : IsTree here.level a here.page
+  pub order : AreInOrder (pairs_under here.level a here.page)
+  pub there : IfSome beside (λ b. IsTree b.level a b.page)
+  pub found : search (pairs_under level a page) ≡ option_or (search (pairs_under here.level a here.page)) (edge_of edge a beside)
+
+abbrev pub first_of : List Pair → Option Pair
+first_of ps = slice_get ps 0
+
+first_found : (d : ℕ) (a : List Page) (p : ℕ) → IsTree d a p → first_of (pairs_under d a p) ≡ Some (slot_at (pairs_under d a p) 0)
+first_found d a p t = slice_get-get_or (pairs_under d a p) 0 no_pair (tree_some d a p t)
+
+last_found : (d : ℕ) (a : List Page) (p : ℕ) → IsTree d a p → last_of (pairs_under d a p) ≡ Some (slot_at (pairs_under d a p) (length (pairs_under d a p) - 1))
+last_found d a p t = last_some (pairs_under d a p) (tree_some d a p t)
+
+module _ (search edge : List Pair → Option Pair) (a : List Page) (level page : ℕ) where
+  down_alone : (d p c : ℕ) (beside : Option Branch) → GoesDown search edge a level page (record { level = suc d; page = p }) beside → IsTree d a c → AreInOrder (pairs_under d a c)
+      → search (pairs_under (suc d) a p) ≡ option_or (search (pairs_under d a c)) None
+      → GoesDown search edge a level page (record { level = d; page = c }) beside
+  down_alone d p c beside way tree order step = record {
+    tree = tree;
+    order = order;
+    there = way.there;
+    found = way.found ∙ ap (λ o. option_or o (edge_of edge a beside)) (step ∙ or_none (search (pairs_under d a c)));
+  }
+
+  down_beside : (d p c b : ℕ) (beside : Option Branch) (x : Pair) → GoesDown search edge a level page (record { level = suc d; page = p }) beside → IsTree d a c → AreInOrder (pairs_under d a c) → IsTree d a b
+      → edge (pairs_under d a b) ≡ Some x
+      → search (pairs_under (suc d) a p) ≡ option_or (search (pairs_under d a c)) (edge (pairs_under d a b))
+      → GoesDown search edge a level page (record { level = d; page = c }) (Some (record { level = d; page = b }))
+  down_beside d p c b beside x way tree order other some step = record {
+    tree = tree;
+    order = order;
+    there = other;
+    found =
+        way.found ∙ ap (λ o. option_or o (edge_of edge a beside)) step
+        ∙ first_of_three (search (pairs_under d a c)) (edge (pairs_under d a b)) (edge_of edge a beside) x some;
+  }
+
+-- the way, by the level that it has come to
+pub at_level : (search edge : List Pair → Option Pair) (a : List Page) (level page : ℕ) (here : Branch) (beside : Option Branch) (d : ℕ) → here.level ≡ d → GoesDown search edge a level page here beside → GoesDown search edge a level page (record { level = d; page = here.page }) beside
+at_level search edge a level page here beside d is way = subst (λ n. GoesDown search edge a level page (record { level = n; page = here.page }) beside) is way
+
+-- what a leaf says
+pub at_leaf : (search edge : List Pair → Option Pair) (a : List Page) (level page : ℕ) (here : Branch) (beside : Option Branch) (o : Option Pair) → GoesDown search edge a level page here beside → here.level ≡ 0
+    → search (page_in a here.page).pairs ≡ o → search (pairs_under level a page) ≡ option_or o (edge_of edge a beside)
+at_leaf search edge a level page here beside o way leaf says = (at_level search edge a level page here beside 0 leaf way).found ∙ ap (λ x. option_or x (edge_of edge a beside)) says
+
+pub down_first_alone : (t : Pair → Bool) → GoesUp t → (a : List Page) (level page d p i : ℕ) (next : Option Branch) → GoesDown (find t) first_of a level page (record { level = suc d; page = p }) next → Turns t (page_in a p).pairs i
+    → length (page_in a p).links ≤ i + 1 → GoesDown (find t) first_of a level page (record { level = d; page = get_or (page_in a p).links i 0 }) next
+down_first_alone t up a level page d p i next way turn le =
     let links = (page_in a p).links in
-    back_under t up d a p (suc i) tree turn ∙ ap (λ o. option_or o (last_of (get_or (map (λ c. pairs_under d a c) links) i []))) missed
-    ∙ ap last_of (child_pairs d a p i (omega (arith, links_length d a p tree, turn.within)))
-    ∙ ap (λ k. last_of (pairs_under d a (get_or links k 0))) e ∙ last
+    let pss = map (λ c. pairs_under d a c) links in
+    let c = get_or links i 0 in
+    let lt : i < length links = omega (arith, links_length d a p way.tree, turn.within) in
+    down_alone (find t) first_of a level page d p c next way (child_tree d a p i way.tree lt) (child_order (λ q. pairs_under d a q) links i lt way.order)
+    (find_under t up d a p i way.tree turn ∙ ap (λ ps. option_or (find t (pairs_under d a c)) (first_of ps)) (get_or_past pss (suc i) [] (omega (arith, le, length-map links (λ c. pairs_under d a c)))))
 
-pub back_nowhere : (t : Pair → Bool) → GoesUp t → (d : ℕ) (a : List Page) (p : ℕ) → IsTree (suc d) a p → Turns t (page_in a p).pairs 0 → last_failing_of t (pairs_under d a (get_or (page_in a p).links 0 0)) ≡ None → last_failing_of t (pairs_under (suc d) a p) ≡ None
-back_nowhere t up d a p tree turn missed = back_under t up d a p 0 tree turn ∙ ap (λ o. option_or o None) missed
+pub down_first_beside : (t : Pair → Bool) → GoesUp t → (a : List Page) (level page d p i : ℕ) (next : Option Branch) → GoesDown (find t) first_of a level page (record { level = suc d; page = p }) next → Turns t (page_in a p).pairs i
+    → i + 1 < length (page_in a p).links → GoesDown (find t) first_of a level page (record { level = d; page = get_or (page_in a p).links i 0 }) (Some (record { level = d; page = get_or (page_in a p).links (i + 1) 0 }))
+down_first_beside t up a level page d p i next way turn lt =
+    let links = (page_in a p).links in
+    let c = get_or links i 0 in
+    let b = get_or links (i + 1) 0 in
+    let e : suc i ≡ i + 1 = omega arith in
+    let here : i < length links = omega (arith, lt) in
+    let other = child_tree d a p (i + 1) way.tree lt in
+    down_beside (find t) first_of a level page d p c b next (slot_at (pairs_under d a b) 0) way (child_tree d a p i way.tree here) (child_order (λ q. pairs_under d a q) links i here way.order) other (first_found d a b other)
+    (find_under t up d a p i way.tree turn ∙ ap (λ ps. option_or (find t (pairs_under d a c)) (first_of ps)) (child_pairs d a p (suc i) (omega (arith, lt)) ∙ ap (λ k. pairs_under d a (get_or links k 0)) e))
+
+pub down_last_alone : (t : Pair → Bool) → GoesUp t → (a : List Page) (level page d p i : ℕ) (previous : Option Branch) → GoesDown (last_failing_of t) last_of a level page (record { level = suc d; page = p }) previous → Turns t (page_in a p).pairs i
+    → i ≡ 0 → GoesDown (last_failing_of t) last_of a level page (record { level = d; page = get_or (page_in a p).links i 0 }) previous
+down_last_alone t up a level page d p i previous way turn none =
+    let links = (page_in a p).links in
+    let pss = map (λ c. pairs_under d a c) links in
+    let c = get_or links i 0 in
+    let lt : i < length links = omega (arith, links_length d a p way.tree, turn.within) in
+    down_alone (last_failing_of t) last_of a level page d p c previous way (child_tree d a p i way.tree lt) (child_order (λ q. pairs_under d a q) links i lt way.order)
+    (back_under t up d a p i way.tree turn ∙ ap (λ k. option_or (last_failing_of t (pairs_under d a c)) (last_in_before pss k)) none)
+
+pub down_last_beside : (t : Pair → Bool) → GoesUp t → (a : List Page) (level page d p i : ℕ) (previous : Option Branch) → GoesDown (last_failing_of t) last_of a level page (record { level = suc d; page = p }) previous → Turns t (page_in a p).pairs i
+    → 0 < i → GoesDown (last_failing_of t) last_of a level page (record { level = d; page = get_or (page_in a p).links i 0 }) (Some (record { level = d; page = get_or (page_in a p).links (i - 1) 0 }))
+down_last_beside t up a level page d p i previous way turn some =
+    let links = (page_in a p).links in
+    let pss = map (λ c. pairs_under d a c) links in
+    let c = get_or links i 0 in
+    let b = get_or links (i - 1) 0 in
+    let e : i ≡ suc (i - 1) = omega (arith, some) in
+    let here : i < length links = omega (arith, links_length d a p way.tree, turn.within) in
+    let other = child_tree d a p (i - 1) way.tree (omega (arith, here)) in
+    down_beside (last_failing_of t) last_of a level page d p c b previous (slot_at (pairs_under d a b) (length (pairs_under d a b) - 1)) way (child_tree d a p i way.tree here) (child_order (λ q. pairs_under d a q) links i here way.order) other (last_found d a b other)
+    (back_under t up d a p i way.tree turn ∙ ap (λ k. option_or (last_failing_of t (pairs_under d a c)) (last_in_before pss k)) e ∙ ap (λ ps. option_or (last_failing_of t (pairs_under d a c)) (last_of ps)) (child_pairs d a p (i - 1) (omega (arith, here))))
 
 -- ---- a leaf
 pub found_at : (t : Pair → Bool) (ps : List Pair) (i : ℕ) → Turns t ps i → i < length ps → find t ps ≡ Some (slot_at ps i)

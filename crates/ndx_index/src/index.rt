@@ -1,6 +1,6 @@
 //! Pairs in order.
 
-ghost use Rattle.std.specs.Prelude.{◌≡◌, ◌+◌, ◌-◌, ◌<◌, ◌≤◌, ◌↔◌, [], length, slice_get, find, Contains, IsTrue, OnOk, OnErr, IfOk, true, false};
+ghost use Rattle.std.specs.Prelude.{◌≡◌, ◌+◌, ◌-◌, ◌<◌, ◌≤◌, ◌↔◌, [], length, slice_get, not, find, reverse, Contains, IsTrue, OnOk, OnErr, IfOk, true, false};
 ghost use Rattle.std.specs.List.{IsDistinct};
 ghost use Rattle.key_expr.specs.declared.format.TheConstants.{MAX_KEY_BYTES};
 ghost use Rattle.ndx_index.specs.Bounds.{passes};
@@ -131,7 +131,7 @@ impl OrderedIndex {
         ensures pairs { self.new.pairs ≡ without pair self.old.pairs }
         ensures spare { self.old.spare ≤ self.new.spare }
     {
-        let Some(found) = self.first_passing(Bound::AtLeast(&pair)) else {
+        let Some(found) = self.first_passing(Bound::at_least(&pair)) else {
             return false;
         };
         if found != pair {
@@ -166,29 +166,21 @@ impl OrderedIndex {
     pub fn first_from(&self, prefix: &[u8]) -> Option<Pair>
         ensures pair { result ≡ first_from prefix.now self.now.pairs }
     {
-        self.first_passing(Bound::Reaching(prefix))
+        self.first_passing(Bound::reaching(prefix))
     }
 
     /// The least pair above the given one, which may be absent.
     pub fn next(&self, pair: Pair) -> Option<Pair>
         ensures pair { result ≡ next_of pair self.now.pairs }
     {
-        self.first_passing(Bound::Above(&pair))
+        self.first_passing(Bound::above(&pair))
     }
 
     /// The greatest pair below the given one, which may be absent.
     pub fn previous(&self, pair: Pair) -> Option<Pair>
         ensures pair { result ≡ previous_of pair self.now.pairs }
     {
-        if self.root.levels == 0 {
-            return None;
-        }
-        last_failing(
-            &self.store,
-            self.root.levels - 1,
-            self.root.page,
-            Bound::AtLeast(&pair),
-        )
+        self.last_failing(Bound::at_least(&pair))
     }
 
     /// All pairs in order, copied out. `AllocError` where there is no memory for them.
@@ -217,5 +209,15 @@ impl OrderedIndex {
             return None;
         }
         first_passing(&self.store, self.root.levels - 1, self.root.page, bound)
+    }
+
+    // The greatest pair that doesn't pass a search's test.
+    fn last_failing(&self, bound: Bound<'_>) -> Option<Pair>
+        ensures pair { result ≡ find (λ q. not (passes bound.entry q)) (reverse self.now.pairs) }
+    {
+        if self.root.levels == 0 {
+            return None;
+        }
+        last_failing(&self.store, self.root.levels - 1, self.root.page, bound)
     }
 }

@@ -1,30 +1,25 @@
-//! Comparing keys, the first eight bytes at once.
+//! Comparing keys by their first eight bytes at once.
 
-ghost use Rattle.std.specs.Prelude.{◌≡◌, ◌≤◌, drop, length};
+ghost use Rattle.std.specs.Prelude.{◌≡◌, IfSome};
 ghost use Rattle.std.specs.Cmp.Lexicographic.{slice_cmp};
-ghost use Rattle.std.specs.Ordering.{nat_cmp, ordering_then};
+ghost use Rattle.std.specs.Ordering.{is_lt, nat_cmp, ordering_then};
+ghost use Rattle.std.specs.declared.cmp.Ordering.{Ordering as Order};
 
 use byteorder::{BigEndian, ByteOrder};
-use std::cmp::Ordering;
 
-// How the first eight bytes of two keys compare, each read as one number.
-fn compare_fronts(a: &[u8], b: &[u8]) -> Ordering
-    requires first { 8 ≤ length a.now }
-    requires second { 8 ≤ length b.now }
-    ensures then { slice_cmp nat_cmp a.now b.now ≡ ordering_then result (slice_cmp nat_cmp (drop 8 a.now) (drop 8 b.now)) }
-{
-    BigEndian::read_u64(a).cmp(&BigEndian::read_u64(b))
-}
-
-/// How two keys compare, byte by byte; where one is the beginning of the other, the shorter is less.
-pub(crate) fn compare_keys(a: &[u8], b: &[u8]) -> Ordering
-    ensures value { result ≡ slice_cmp nat_cmp a.now b.now }
+/// Whether a key stands before another one by the first eight bytes of both, each read as one number. `None` where these
+/// don't tell: where they are the same, or a key has fewer.
+pub(crate) fn front_is_before(a: &[u8], b: &[u8]) -> Option<bool>
+    ensures told { IfSome result (λ before. (then : Order) → is_lt (ordering_then (slice_cmp nat_cmp a.now b.now) then) ≡ before) }
 {
     if a.len() < 8 || b.len() < 8 {
-        return a.cmp(&b);
+        return None;
     }
-    match compare_fronts(a, b) {
-        Ordering::Equal => a[8..].cmp(&&b[8..]),
-        order => order,
+    let front = BigEndian::read_u64(a);
+    let other = BigEndian::read_u64(b);
+    if front == other {
+        None
+    } else {
+        Some(front < other)
     }
 }

@@ -3,7 +3,6 @@
 ghost use Rattle.std.specs.Prelude.{◌≡◌, length};
 ghost use Rattle.ndx_index.specs.TreeSteps.{CanInsert, CanInsertIn, CanRaise, Inserts, InsertsIn, Raises};
 
-use crate::pages::bound::Bound;
 use crate::pages::free::{FreeList, take_free};
 use crate::pages::root::Root;
 use crate::pages::split::{child_with_room, has_room};
@@ -61,7 +60,7 @@ fn insert_under(store: &mut PageStore, free: &mut FreeList, level: usize, page: 
     ensures key_len { store.new.key_len ≡ store.old.key_len }
 {
     if level == 0 {
-        let at = store.place(page, Bound::Above(pair));
+        let at = store.place_after(page, pair);
         store.put_pair(page, at, pair);
         return;
     }

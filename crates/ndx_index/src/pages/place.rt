@@ -8,3 +8,12 @@ pub(crate) struct Place {
     /// The place in the leaf, from 0.
     pub(crate) at: usize,
 }
+
+/// A page and what is under it.
+#[derive(Clone, Copy)]
+pub(crate) struct Branch {
+    /// How many levels the page is above the leaves; a leaf is at level 0.
+    pub(crate) level: usize,
+    /// The page number.
+    pub(crate) page: u32,
+}

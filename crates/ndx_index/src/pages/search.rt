@@ -10,7 +10,7 @@ ghost use Rattle.ndx_index.specs.LeafPlaces.{pair_at, IsPlace};
 ghost use Rattle.ndx_index.specs.Slots.{slot_at};
 
 use crate::pages::bound::Bound;
-use crate::pages::place::Place;
+use crate::pages::place::{Branch, Place};
 use crate::pages::store::PageStore;
 use crate::pair::Pair;
 use std::alloc::AllocError;
@@ -79,30 +79,34 @@ pub(crate) fn first_passing(
     }
 }
 
-// Where the least pair under a page that passes a search's test stands. No pair is copied on the way.
+// Where the least pair under a page that passes a search's test stands: in the leaf that the search goes down to, or
+// else first in the branch after it. No pair is copied on the way.
 fn first_place(store: &PageStore, level: usize, page: u32, bound: Bound<'_>) -> Option<Place>
     requires tree { IsTree level store.now.pages page }
     requires order { AreInOrder (pairs_under level store.now.pages page) }
     ensures place { IfSome result (IsPlace store.now.pages) }
     ensures pair { option_map (pair_at store.now.pages) result ≡ find (passes bound.entry) (pairs_under level store.now.pages page) }
 {
-    let at = store.place(page, bound);
-    if level == 0 {
-        return if at < store.pair_count(page) {
-            Some(Place { page, at })
-        } else {
-            None
-        };
+    let mut here = Branch { level, page };
+    let mut next = None;
+    'levels: while here.level > 0 {
+        let level = here.level - 1;
+        let at = store.place(here.page, bound);
+        if store.link_count(here.page) > at + 1 {
+            let page = store.link(here.page, at + 1);
+            next = Some(Branch { level, page });
+        }
+        let page = store.link(here.page, at);
+        here = Branch { level, page };
     }
-    if let Some(found) = first_place(store, level - 1, store.link(page, at), bound) {
-        return Some(found);
+    let at = store.place(here.page, bound);
+    if at < store.pair_count(here.page) {
+        let page = here.page;
+        return Some(Place { page, at });
     }
-    if store.link_count(page) > at + 1 {
-        let page = first_leaf(store, level - 1, store.link(page, at + 1));
-        Some(Place { page, at: 0 })
-    } else {
-        None
-    }
+    let branch: Branch = next?;
+    let page = first_leaf(store, branch.level, branch.page);
+    Some(Place { page, at: 0 })
 }
 
 /// The greatest pair under a page that doesn't pass a search's test.
@@ -122,33 +126,37 @@ pub(crate) fn last_failing(
     }
 }
 
-// Where the greatest pair under a page that doesn't pass a search's test stands. No pair is copied on the way.
+// Where the greatest pair under a page that doesn't pass a search's test stands: in the leaf that the search goes down
+// to, or else last in the branch before it. No pair is copied on the way.
 fn last_place(store: &PageStore, level: usize, page: u32, bound: Bound<'_>) -> Option<Place>
     requires tree { IsTree level store.now.pages page }
     requires order { AreInOrder (pairs_under level store.now.pages page) }
     ensures place { IfSome result (IsPlace store.now.pages) }
     ensures pair { option_map (pair_at store.now.pages) result ≡ find (λ q. not (passes bound.entry q)) (reverse (pairs_under level store.now.pages page)) }
 {
-    let at = store.place(page, bound);
-    if level == 0 {
-        return if at > 0 {
-            Some(Place { page, at: at - 1 })
-        } else {
-            None
-        };
+    let mut here = Branch { level, page };
+    let mut previous = None;
+    'levels: while here.level > 0 {
+        let level = here.level - 1;
+        let at = store.place(here.page, bound);
+        if at > 0 {
+            let page = store.link(here.page, at - 1);
+            previous = Some(Branch { level, page });
+        }
+        let page = store.link(here.page, at);
+        here = Branch { level, page };
     }
-    if let Some(found) = last_place(store, level - 1, store.link(page, at), bound) {
-        return Some(found);
-    }
+    let at = store.place(here.page, bound);
     if at > 0 {
-        let leaf = last_leaf(store, level - 1, store.link(page, at - 1));
-        Some(Place {
-            page: leaf,
-            at: store.pair_count(leaf) - 1,
-        })
-    } else {
-        None
+        let page = here.page;
+        return Some(Place { page, at: at - 1 });
     }
+    let branch: Branch = previous?;
+    let page = last_leaf(store, branch.level, branch.page);
+    Some(Place {
+        page,
+        at: store.pair_count(page) - 1,
+    })
 }
 
 /// Puts the pairs under a page after others. An `Err` says that there was no memory.

@@ -4,11 +4,10 @@ ghost use Rattle.std.specs.Prelude.{◌≡◌, ◌+◌, ◌-◌, ◌<◌, ◌≤
 ghost use Rattle.std.specs.List.{copy_within};
 ghost use Rattle.key_expr.specs.declared.format.TheConstants.{MAX_KEY_BYTES};
 ghost use Rattle.ndx_index.specs.Bounds.{passes};
-ghost use Rattle.ndx_index.specs.Order.{before, reaches};
 ghost use Rattle.ndx_index.specs.Slots.{slot_at, blank};
 
 use crate::pages::bound::Bound;
-use crate::pages::compare::compare_keys;
+use crate::pages::compare::front_is_before;
 use crate::pages::runs::{copy_parts, part, push_copies, write_part};
 use crate::pair::Pair;
 use key_expr::Key;
@@ -95,41 +94,14 @@ impl PairSlots {
         requires place { at < length self.now.pairs }
         ensures value { result ≡ passes bound.entry (slot_at self.now.pairs at) }
     {
-        match bound {
-            Bound::AtLeast(pair) => !self.is_before(at, pair),
-            Bound::Above(pair) => self.is_after(at, pair),
-            Bound::Reaching(prefix) => self.reaches(at, prefix),
+        let key = self.key(at);
+        if let Some(is_before) = front_is_before(key, bound.key) {
+            return !is_before;
         }
-    }
-
-    // Whether a slot's pair stands before another one.
-    fn is_before(&self, at: usize, pair: &Pair) -> bool
-        requires place { at < length self.now.pairs }
-        ensures value { result ≡ before (slot_at self.now.pairs at) pair.now }
-    {
-        match compare_keys(self.key(at), pair.key.as_bytes()) {
-            Ordering::Equal => self.number(at) < pair.number,
-            order => order.is_lt(),
+        match key.cmp(&bound.key) {
+            Ordering::Equal => u64::from(self.number(at)) >= bound.number,
+            order => !order.is_lt(),
         }
-    }
-
-    // Whether a slot's pair stands after another one.
-    fn is_after(&self, at: usize, pair: &Pair) -> bool
-        requires place { at < length self.now.pairs }
-        ensures value { result ≡ before pair.now (slot_at self.now.pairs at) }
-    {
-        match compare_keys(pair.key.as_bytes(), self.key(at)) {
-            Ordering::Equal => pair.number < self.number(at),
-            order => order.is_lt(),
-        }
-    }
-
-    // Whether a slot's key isn't below these bytes.
-    fn reaches(&self, at: usize, prefix: &[u8]) -> bool
-        requires place { at < length self.now.pairs }
-        ensures value { result ≡ reaches prefix.now (slot_at self.now.pairs at) }
-    {
-        !compare_keys(self.key(at), prefix).is_lt()
     }
 
     /// Puts a pair into a slot, in place of what is there. It takes no memory.

@@ -5,7 +5,6 @@ ghost use Rattle.ndx_index.specs.IndexTree.{width};
 ghost use Rattle.ndx_index.specs.PageStore.{page_in};
 ghost use Rattle.ndx_index.specs.TreeSteps.{CanInsert, CanSplit, ChildWithRoom, Splits};
 
-use crate::pages::bound::Bound;
 use crate::pages::free::{FreeList, take_free};
 use crate::pages::halve::halve;
 use crate::pages::pair_pages::PLACES;
@@ -51,7 +50,7 @@ pub(crate) fn child_with_room(
     ensures child { ChildWithRoom (level - 1) store.old.pages store.new.pages free.old free.new page pair.now result }
     ensures key_len { store.new.key_len ≡ store.old.key_len }
 {
-    let at = store.place(page, Bound::Above(pair));
+    let at = store.place_after(page, pair);
     let child = store.link(page, at);
     if has_room(store, level - 1, child) {
         return child;

@@ -4,7 +4,7 @@ ghost use Rattle.std.specs.Prelude.{◌≡◌, ◌≢◌, ◌+◌, ◌<◌, ◌�
 ghost use Rattle.std.specs.List.{insert, remove};
 ghost use Rattle.key_expr.specs.declared.format.TheConstants.{MAX_KEY_BYTES};
 ghost use Rattle.ndx_index.specs.Bounds.{passes};
-ghost use Rattle.ndx_index.specs.Order.{AreInOrder};
+ghost use Rattle.ndx_index.specs.Order.{before, AreInOrder};
 ghost use Rattle.ndx_index.specs.Slots.{slot_at};
 ghost use Rattle.ndx_index.specs.PageStore.{page_in, no_page, with_pairs, with_links};
 
@@ -108,6 +108,17 @@ impl PageStore {
         ensures above { (k : ℕ) → result ≤ k → k < length (page_in self.now.pages page).pairs → passes bound.entry (slot_at (page_in self.now.pages page).pairs k) ≡ true }
     {
         self.pair_pages.place(page as usize, bound)
+    }
+
+    /// How many of a page's pairs, which stand in order, don't stand after a pair.
+    pub(crate) fn place_after(&self, page: u32, pair: &Pair) -> usize
+        requires page { page < length self.now.pages }
+        requires order { AreInOrder (page_in self.now.pages page).pairs }
+        ensures within { result ≤ length (page_in self.now.pages page).pairs }
+        ensures below { (k : ℕ) → k < result → before pair.now (slot_at (page_in self.now.pages page).pairs k) ≡ false }
+        ensures above { (k : ℕ) → result ≤ k → k < length (page_in self.now.pages page).pairs → before pair.now (slot_at (page_in self.now.pages page).pairs k) ≡ true }
+    {
+        self.place(page, Bound::above(pair))
     }
 
     /// Puts a pair before a page's pairs from a place on. It takes no memory.

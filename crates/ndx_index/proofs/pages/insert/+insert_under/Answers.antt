@@ -13,9 +13,9 @@ returns-then-level-eq0-clause-inserted t c =
     let pair = c.args.pair.now in
     let e = c.if-level-eq0.true in
     let can = subst (λ d. CanInsert d a f p pair) e c.requires.can in
-    let found = c.place-at.ensures in
+    let found = c.place_after-at.ensures in
     subst (λ d. Inserts d a c.put_pair.new.self.pages f f p pair) (sym e)
-    (insert_leaf a c.put_pair.new.self.pages f p pair (with_pairs (insert (page_in a p).pairs c.place-at.result pair) (page_in a p)) can c.put_pair.ensures.pages (placed_above pair (page_in a p).pairs c.place-at.result found.within can.absent found.below found.above))
+    (insert_leaf a c.put_pair.new.self.pages f p pair (with_pairs (insert (page_in a p).pairs c.place_after-at.result pair) (page_in a p)) can c.put_pair.ensures.pages (placed_above pair (page_in a p).pairs c.place_after-at.result found.within can.absent found.below found.above))
 
 pub insert_under-requires : goal.insert_under-requires
 insert_under-requires t c =

@@ -19,7 +19,7 @@ link-child-requires-clause-place c =
     let pair = c.args.pair.now in
     let e : c.args.level ≡ suc (c.args.level - 1) = omega (arith, c.requires.above) in
     let can = subst (λ x. CanInsert x a f p pair) e c.requires.can in
-    let lt : c.place-at.result < length (page_in a p).links = omega (arith, c.place-at.ensures.within, links_length d a p can.whole.tree) in
+    let lt : c.place_after-at.result < length (page_in a p).links = omega (arith, c.place_after-at.ensures.within, links_length d a p can.whole.tree) in
     lt
 
 pub has_room-requires : goal.has_room-requires
@@ -31,8 +31,8 @@ has_room-requires c =
     let pair = c.args.pair.now in
     let e : c.args.level ≡ suc (c.args.level - 1) = omega (arith, c.requires.above) in
     let can = subst (λ x. CanInsert x a f p pair) e c.requires.can in
-    let lt : c.place-at.result < length (page_in a p).links = omega (arith, c.place-at.ensures.within, links_length d a p can.whole.tree) in
-    record { there = tree_in d a c.link-child.result (subst (λ x. IsTree d a x) (sym c.link-child.ensures.link) (all_at (λ x. IsTree d a x) (page_in a p).links c.place-at.result lt can.whole.tree.3)) }
+    let lt : c.place_after-at.result < length (page_in a p).links = omega (arith, c.place_after-at.ensures.within, links_length d a p can.whole.tree) in
+    record { there = tree_in d a c.link-child.result (subst (λ x. IsTree d a x) (sym c.link-child.ensures.link) (all_at (λ x. IsTree d a x) (page_in a p).links c.place_after-at.result lt can.whole.tree.3)) }
 
 pub returns-then-has_room-clause-child : goal.returns-then-has_room-clause-child
 returns-then-has_room-clause-child c =
@@ -43,9 +43,9 @@ returns-then-has_room-clause-child c =
     let pair = c.args.pair.now in
     let e : c.args.level ≡ suc (c.args.level - 1) = omega (arith, c.requires.above) in
     let can = subst (λ x. CanInsert x a f p pair) e c.requires.can in
-    let lt : c.place-at.result < length (page_in a p).links = omega (arith, c.place-at.ensures.within, links_length d a p can.whole.tree) in
-    let chosen = chosen_there pair c.place-at.result (page_in a p).pairs c.place-at.ensures.within c.place-at.ensures.below c.place-at.ensures.above in
-    child_there d a f p c.place-at.result c.link-child.result pair can lt (sym c.link-child.ensures.link) chosen (c.has_room.ensures.value.0 c.if-has_room.true)
+    let lt : c.place_after-at.result < length (page_in a p).links = omega (arith, c.place_after-at.ensures.within, links_length d a p can.whole.tree) in
+    let chosen = chosen_there pair c.place_after-at.result (page_in a p).pairs c.place_after-at.ensures.within c.place_after-at.ensures.below c.place_after-at.ensures.above in
+    child_there d a f p c.place_after-at.result c.link-child.result pair can lt (sym c.link-child.ensures.link) chosen (c.has_room.ensures.value.0 c.if-has_room.true)
 
 pub split_child-requires : goal.split_child-requires
 split_child-requires c =
@@ -56,12 +56,12 @@ split_child-requires c =
     let pair = c.args.pair.now in
     let e : c.args.level ≡ suc (c.args.level - 1) = omega (arith, c.requires.above) in
     let can = subst (λ x. CanInsert x a f p pair) e c.requires.can in
-    let lt : c.place-at.result < length (page_in a p).links = omega (arith, c.place-at.ensures.within, links_length d a p can.whole.tree) in
+    let lt : c.place_after-at.result < length (page_in a p).links = omega (arith, c.place_after-at.ensures.within, links_length d a p can.whole.tree) in
     let full : width d (page_in a c.link-child.result) ≡ 16 = elim (cases_lt (width d (page_in a c.link-child.result)) 16) [
       | inl less ↦ absurd (false≢true (sym c.if-has_room.false ∙ c.has_room.ensures.value.1 less))
       | inr more ↦ omega (arith, more, c.has_room.ensures.small)
     ] in
-    record { can = can_split d a f p c.place-at.result c.link-child.result pair can lt (sym c.link-child.ensures.link) full }
+    record { can = can_split d a f p c.place_after-at.result c.link-child.result pair can lt (sym c.link-child.ensures.link) full }
 
 pub overflow_add-half : goal.overflow_add-half
 overflow_add-half c =
@@ -72,7 +72,7 @@ overflow_add-half c =
     let pair = c.args.pair.now in
     let e : c.args.level ≡ suc (c.args.level - 1) = omega (arith, c.requires.above) in
     let can = subst (λ x. CanInsert x a f p pair) e c.requires.can in
-    let lt : c.place-at.result < length (page_in a p).links = omega (arith, c.place-at.ensures.within, links_length d a p can.whole.tree) in
+    let lt : c.place_after-at.result < length (page_in a p).links = omega (arith, c.place_after-at.ensures.within, links_length d a p can.whole.tree) in
     omega (arith, lt, can.room)
 
 pub link-requires-clause-place : goal.link-requires-clause-place
@@ -84,7 +84,7 @@ link-requires-clause-place c =
     let pair = c.args.pair.now in
     let e : c.args.level ≡ suc (c.args.level - 1) = omega (arith, c.requires.above) in
     let can = subst (λ x. CanInsert x a f p pair) e c.requires.can in
-    let lt : c.place-at.result < length (page_in a p).links = omega (arith, c.place-at.ensures.within, links_length d a p can.whole.tree) in
+    let lt : c.place_after-at.result < length (page_in a p).links = omega (arith, c.place_after-at.ensures.within, links_length d a p can.whole.tree) in
     elim c.if-is_before.branch [
       | then-is_before w ↦ omega (arith, lt, w.half-is, c.split_child.ensures.split.links)
       | else-is_before w ↦ omega (arith, lt, w.half-is, c.split_child.ensures.split.links)
@@ -99,13 +99,13 @@ returns-clause-child c =
     let pair = c.args.pair.now in
     let e : c.args.level ≡ suc (c.args.level - 1) = omega (arith, c.requires.above) in
     let can = subst (λ x. CanInsert x a f p pair) e c.requires.can in
-    let lt : c.place-at.result < length (page_in a p).links = omega (arith, c.place-at.ensures.within, links_length d a p can.whole.tree) in
-    let chosen = chosen_there pair c.place-at.result (page_in a p).pairs c.place-at.ensures.within c.place-at.ensures.below c.place-at.ensures.above in
+    let lt : c.place_after-at.result < length (page_in a p).links = omega (arith, c.place_after-at.ensures.within, links_length d a p can.whole.tree) in
+    let chosen = chosen_there pair c.place_after-at.result (page_in a p).pairs c.place_after-at.ensures.within c.place_after-at.ensures.below c.place_after-at.ensures.above in
     let b = c.split_child.new.store.pages in
     let g = c.split_child.new.free in
     let links = (page_in b p).links in
-    let test : c.is_before.result ≡ before pair (slot_at (page_in b p).pairs c.place-at.result) = c.is_before.ensures.value ∙ ap (before pair) c.pair.ensures.pair in
+    let test : c.is_before.result ≡ before pair (slot_at (page_in b p).pairs c.place_after-at.result) = c.is_before.ensures.value ∙ ap (before pair) c.pair.ensures.pair in
     elim c.if-is_before.branch [
-      | then-is_before w ↦ child_lower d a b f g p c.place-at.result c.link.result pair c.split_child.ensures.split lt chosen (sym test ∙ w.if-is_before.true) (ap (λ k. get_or links k 0) (sym w.half-is) ∙ sym c.link.ensures.link)
-      | else-is_before w ↦ child_upper d a b f g p c.place-at.result c.link.result pair c.split_child.ensures.split lt chosen (sym test ∙ w.if-is_before.false) (ap (λ k. get_or links k 0) (sym w.half-is) ∙ sym c.link.ensures.link)
+      | then-is_before w ↦ child_lower d a b f g p c.place_after-at.result c.link.result pair c.split_child.ensures.split lt chosen (sym test ∙ w.if-is_before.true) (ap (λ k. get_or links k 0) (sym w.half-is) ∙ sym c.link.ensures.link)
+      | else-is_before w ↦ child_upper d a b f g p c.place_after-at.result c.link.result pair c.split_child.ensures.split lt chosen (sym test ∙ w.if-is_before.false) (ap (λ k. get_or links k 0) (sym w.half-is) ∙ sym c.link.ensures.link)
     ]
