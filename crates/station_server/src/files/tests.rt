@@ -16,22 +16,40 @@ fn file(alloc: Global, name: &[u8], bytes: &[u8]) -> Result<NamedFile, AllocErro
     })
 }
 
+// Whether a path's file has these bytes.
+fn loads<S: Source>(alloc: Global, source: &mut S, path: &[u8], bytes: &[u8]) -> bool {
+    match source.load(alloc, path) {
+        Ok(loaded) => loaded.as_slice() == bytes,
+        Err(_) => false,
+    }
+}
+
+fn cannot_load<S: Source>(alloc: Global, source: &mut S, path: &[u8]) -> bool {
+    matches!(source.load(alloc, path), Err(LoadFault::CannotRead))
+}
+
+// Three files, two of one path, which may be read three times.
+fn three_files(alloc: Global) -> Result<MemorySource, AllocError> {
+    let files = vec![in alloc;
+        file(alloc, b"a", b"one")?,
+        file(alloc, b"b", b"")?,
+        file(alloc, b"a", b"two")?,
+    ]?;
+    Ok(MemorySource {
+        files,
+        loads: 3,
+        failures: Failures::none(),
+    })
+}
+
 #[test]
 fn source_finds_the_first_file_of_a_path(rt: HostRuntime) -> Result<(), Fail> {
     let alloc = rt.alloc();
-    let mut source = MemorySource {
-        files: vec![in alloc;
-            file(alloc, b"a", b"one")?,
-            file(alloc, b"b", b"")?,
-            file(alloc, b"a", b"two")?,
-        ]?,
-        loads: 3,
-        failures: Failures::none(),
-    };
-    assert_eq!(rt; source.load(alloc, b"a")?.as_slice(), b"one".as_slice());
-    assert_eq!(rt; source.load(alloc, b"b")?.as_slice(), b"".as_slice());
-    assert_eq!(rt; source.load(alloc, b"A").err(), Some(LoadFault::CannotRead));
-    assert_eq!(rt; source.load(alloc, b"a").err(), Some(LoadFault::CannotRead));
+    let mut source = three_files(alloc)?;
+    assert!(rt; loads(alloc, &mut source, b"a", b"one"));
+    assert!(rt; loads(alloc, &mut source, b"b", b""));
+    assert!(rt; cannot_load(alloc, &mut source, b"A"));
+    assert!(rt; cannot_load(alloc, &mut source, b"a"));
     Ok(())
 }
 
@@ -78,26 +96,34 @@ fn folder_fails_where_it_is_told_to(rt: HostRuntime) -> Result<(), Fail> {
     Ok(())
 }
 
+// Writes two files into the folder that the test runs in.
+fn write_here(rt: &HostRuntime, alloc: Global) -> Result<bool, Fail> {
+    let path = String::from_str(alloc, ".")?;
+    let mut folder = DiskFolder::new(rt.clone()?, alloc, path);
+    Ok(write_two(&mut folder).is_ok())
+}
+
+// The place of the first path that is not answered by `CannotRead`.
+fn first_loaded<S: Source>(alloc: Global, source: &mut S, paths: &[&[u8]]) -> Option<usize> {
+    for i in 0..paths.len() {
+        if !cannot_load(alloc, source, paths[i]) {
+            return Some(i);
+        }
+    }
+    None
+}
+
 #[test]
 fn files_of_the_system_are_written_and_read(rt: HostRuntime) -> Result<(), Fail> {
     let alloc = rt.alloc();
-    let mut folder = DiskFolder::new(rt.clone()?, alloc, String::from_str(alloc, ".")?);
-    assert_eq!(rt; write_two(&mut folder), Ok(()));
+    assert!(rt; write_here(&rt, alloc)?);
     let mut source = DiskSource::new(rt.clone()?);
-    assert_eq!(rt;
-        source.load(alloc, b"T.DBF")?.as_slice(),
-        b"first".as_slice()
-    );
-    assert_eq!(rt;
-        source.load(alloc, b"T.DBT")?.as_slice(),
-        b"second".as_slice()
-    );
-    for path in [b"no_such_file".as_slice(), b".", b"", b"a\0b", b"\xff"] {
-        assert_eq!(rt; source.load(alloc, path).err(), Some(LoadFault::CannotRead));
-    }
-    for name in ["T.DBF", "T.DBT"] {
-        fs::remove_file(&rt, name)?;
-    }
+    assert!(rt; loads(alloc, &mut source, b"T.DBF", b"first"));
+    assert!(rt; loads(alloc, &mut source, b"T.DBT", b"second"));
+    let unread: [&[u8]; 5] = [b"no_such_file", b".", b"", b"a\0b", b"\xff"];
+    assert_eq!(rt; first_loaded(alloc, &mut source, &unread), None);
+    fs::remove_file(&rt, "T.DBF")?;
+    fs::remove_file(&rt, "T.DBT")?;
     Ok(())
 }
 

@@ -254,24 +254,33 @@ fn appended_by_all(answers: &[Bytes]) -> u32 {
     count
 }
 
-#[test]
-fn sixteen_stations_count_together(rt: HostRuntime) -> Result<(), Fail> {
-    let alloc = rt.alloc();
+// Sixteen stations that append to one table together.
+fn run_sixteen<R: Threads + Wait + Sync>(rt: &R, alloc: Global) -> Result<Outcome, Fail> {
     let scripts = sixteen_scripts(alloc)?;
     let table = TableSource {
         name: Bytes::from_slice(alloc, b"L")?,
         content: read_table(alloc, &EMPTY, None)?,
         indexes: Vec::new(alloc),
     };
-    let outcome = run_on(&rt, alloc, table, 16, &scripts, &OpenGate)??;
+    Ok(run_on(rt, alloc, table, 16, &scripts, &OpenGate)??)
+}
+
+// Whether the journal has every line, and the table as many records as were appended.
+fn has_all(outcome: &Outcome) -> bool {
     let closed = &outcome.closed;
-    assert_eq!(rt; closed.entry_count(), 16 * LINES);
-    if closed.table_count() == 0 {
-        return Err(Fail::from("no table"));
-    }
     let count = appended_by_all(&outcome.answers);
-    assert!(rt; count > 0);
-    assert_eq!(rt; closed.table(1).record_count(), count);
+    closed.entry_count() == 16 * LINES
+        && closed.table_count() > 0
+        && count > 0
+        && closed.table(1).record_count() == count
+}
+
+#[test]
+fn sixteen_stations_count_together(rt: HostRuntime) -> Result<(), Fail> {
+    let alloc = rt.alloc();
+    let outcome = run_sixteen(&rt, alloc)?;
+    assert!(rt; has_all(&outcome));
+    let count = appended_by_all(&outcome.answers);
     let tables = outcome.closed.into_tables();
     let counts = tables.iter().map(|table| table.record_count());
     assert!(rt; counts.eq([count]));
