@@ -1,6 +1,6 @@
 //! The key of a record, part by part.
 
-ghost use Rattle.std.specs.Prelude.{◌≡◌, ◌+◌, ◌-◌, ◌<◌, ◌≤◌, ◌++◌, [], length, take, drop, map, get_or, min, None};
+ghost use Rattle.std.specs.Prelude.{◌≡◌, ◌+◌, ◌-◌, ◌<◌, ◌≤◌, ◌++◌, [], length, take, drop, map, get_or, min, None, true};
 ghost use Rattle.dbf_fields.specs.Faults.{first_fault};
 ghost use Rattle.key_expr.specs.TreeExpr.{expr_of};
 ghost use Rattle.key_expr.specs.KeptLengths.{KeepsLengths};
@@ -60,24 +60,26 @@ impl Window {
     }
 }
 
-// A byte, in capitals if so asked.
-fn upper_byte(byte: u8, upper: bool) -> u8
-    ensures value { result ≡ upper_if upper byte }
+// Puts bytes at the end of a key, in capitals.
+fn put_in_capitals(out: &mut Key, bytes: &[u8])
+    requires room { length out.old + length bytes.now ≤ MAX_KEY_BYTES }
+    ensures value { out.new ≡ out.old ++ map (upper_if true) bytes.now }
 {
-    if upper {
-        byte.to_ascii_uppercase()
-    } else {
-        byte
+    for byte in bytes {
+        out.push(byte.to_ascii_uppercase());
     }
 }
 
-// Puts bytes at the end of a key.
+// Puts bytes at the end of a key, in capitals if so asked.
+#[tactic(auto, using(crate::proofs::Windows::as_they_are))]
 fn put_bytes(out: &mut Key, bytes: &[u8], upper: bool)
     requires room { length out.old + length bytes.now ≤ MAX_KEY_BYTES }
     ensures value { out.new ≡ out.old ++ map (upper_if upper) bytes.now }
 {
-    for byte in bytes {
-        out.push(upper_byte(*byte, upper));
+    if upper {
+        put_in_capitals(out, bytes);
+    } else {
+        out.push_bytes(bytes);
     }
 }
 

@@ -1,6 +1,6 @@
 //! The bytes that a record is sorted by.
 
-ghost use Rattle.std.specs.Prelude.{◌≡◌, ◌<◌, ◌≤◌, ◌∷◌, ◌++◌, [], length};
+ghost use Rattle.std.specs.Prelude.{◌≡◌, ◌+◌, ◌<◌, ◌≤◌, ◌∷◌, ◌++◌, [], length};
 ghost use Rattle.key_expr.specs.declared.format.TheConstants.{MAX_KEY_BYTES};
 
 use crate::format::MAX_KEY_BYTES;
@@ -53,6 +53,16 @@ impl Key {
     {
         self.bytes[self.len] = byte;
         self.len += 1;
+    }
+
+    /// Puts bytes after the others, copied at once.
+    pub(crate) fn push_bytes(&mut self, bytes: &[u8])
+        requires room { length self.old + length bytes.now ≤ MAX_KEY_BYTES }
+        ensures value { self.new ≡ self.old ++ bytes.now }
+    {
+        let end = self.len + bytes.len();
+        self.bytes[self.len..end].copy_from_slice(bytes);
+        self.len = end;
     }
 
     /// The bytes of the key.

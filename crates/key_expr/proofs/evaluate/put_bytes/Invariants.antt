@@ -1,6 +1,0 @@
-use Rattle.std.proofs.Common.{◌≡◌, ◌++◌, map, take}
-use Rattle.key_expr.specs.Windows.{upper_if}
-use Rattle.key_expr.proofs.evaluate.put_bytes.Given as goal
-
-abbrev pub invariant-loop-byte : goal.invariant-loop-byte
-invariant-loop-byte l = l.out ≡ l.initial.out ++ map (upper_if l.upper) (take l.byte-index l.bytes)
