@@ -39,6 +39,3 @@ pub use number::{number_parts, read_number};
 pub use number_text::{MAX_NUMBER_TEXT, NumberText};
 pub use schema::{Schema, SchemaFault};
 pub use trim::trimmed;
-
-#[cfg(test)]
-mod tests;

@@ -27,6 +27,3 @@ pub use format::{MAX_EXPRESSION_BYTES, MAX_KEY_BYTES};
 pub use key::Key;
 pub use parser::one_reading;
 pub use token::{Kind, Token};
-
-#[cfg(test)]
-mod tests;

@@ -41,6 +41,3 @@ pub use shared::settle::SettleFault;
 pub use source::{IndexSource, TableSource};
 pub use status::{StatusRow, TableStatus};
 pub use table_core::Refusal;
-
-#[cfg(test)]
-mod tests;

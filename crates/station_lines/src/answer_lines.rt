@@ -4,9 +4,6 @@ ghost use Rattle.std.specs.Prelude.{◌≡◌, IfOk};
 ghost use Rattle.std.specs.Fmt.{decimal};
 ghost use Rattle.station_lines.specs.AnswerLines.{line_of, refusal_text, status_text};
 
-#[cfg(test)]
-mod tests;
-
 use dbf_fields::Bytes;
 use shared_catalogue::{Answer, Refusal, StatusRow};
 use std::alloc::{AllocError, Global};

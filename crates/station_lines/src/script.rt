@@ -9,8 +9,6 @@ mod keyword;
 mod line;
 mod literal;
 mod script_lines;
-#[cfg(test)]
-mod tests;
 mod value;
 mod verb;
 mod word;

@@ -12,8 +12,6 @@ mod fault;
 mod judged;
 mod line;
 mod said;
-#[cfg(test)]
-mod tests;
 mod words;
 
 use crate::script::lines;

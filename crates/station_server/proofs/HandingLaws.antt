@@ -10,7 +10,7 @@ use Rattle.ndx_index.specs.Laws.RecordOrders.{length-order}
 use Rattle.table_core.specs.Content.{Content, Held, Indexed, pairs_by, key_length_by}
 use Rattle.shared_catalogue.specs.Replay.{History, state_of}
 use Rattle.shared_catalogue.specs.State.{no_content}
-use Rattle.station_server.specs.ClosedIndex.{index_with}
+use Rattle.station_files.specs.ClosedIndex.{index_with}
 use Rattle.station_server.specs.HandedOver.{end_of, index_of}
 
 -- there are not more pairs than records

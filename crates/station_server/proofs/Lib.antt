@@ -1,6 +1,3 @@
-pub mod FilesLaws
-pub mod RunLaws
-pub mod Crossing
 pub mod LoadLaws
 pub mod HandingLaws
 pub mod Printing

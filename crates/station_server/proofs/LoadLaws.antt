@@ -2,7 +2,7 @@
 use Rattle.std.proofs.Common.{◌≡◌, ◌⊎◌, ℕ, List, [], ◌∷◌, ◌++◌, Option, Some, None, refl, subst, sym, ap, ◌∙◌, ◌+◌, ◌<◌, take, get_or, length, inl, inr, ⊎_elim, Result, Ok, Err}
 use Rattle.std.specs.Prelude.{IfErr, IsErrAnd}
 use Rattle.std.proofs.lemmas.List.{take_more}
-use Rattle.station_server.specs.declared.files.named.NamedFile.{NamedFile}
+use Rattle.station_files.specs.declared.named.NamedFile.{NamedFile}
 use Rattle.station_lines.specs.declared.setup.entry.SetupEntry.{SetupEntry}
 use Rattle.station_lines.specs.declared.setup.entry.SetupEntry.TheVariants.{Table}
 use Rattle.station_server.specs.declared.whole_run.fault.FileFault.TheVariants.{CannotRead}

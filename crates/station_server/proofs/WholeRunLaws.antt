@@ -1,8 +1,8 @@
 -- A whole run by its parts, and the faults of its writing.
 use Rattle.std.proofs.Common.{ℕ, Bool, List, Option, length, refl}
 use Rattle.shared_catalogue.specs.Replay.{History, IsLegal}
-use Rattle.station_server.specs.declared.files.closed.ClosedTable.{ClosedTable}
-use Rattle.station_server.specs.declared.files.named.NamedFile.{NamedFile}
+use Rattle.station_files.specs.declared.closed.ClosedTable.{ClosedTable}
+use Rattle.station_files.specs.declared.named.NamedFile.{NamedFile}
 use Rattle.station_server.specs.declared.whole_run.fault.ServeFault.{ServeFault}
 use Rattle.station_server.specs.declared.whole_run.fault.ServeFault.TheVariants.{Setup, File, Refused, Run, Close, NoMemory}
 use Rattle.station_server.specs.HandedOver.{AreHandedOver}

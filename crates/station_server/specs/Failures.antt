@@ -1,8 +1,8 @@
 -- What the program says of a call that failed: a line on standard error, and an exit status.
 use Rattle.std.specs.Prelude.{ℕ, List, ◌++◌, ◌∷◌, [], codes}
 use Rattle.std.specs.Fmt.{decimal}
-use Rattle.station_server.specs.declared.files.close_fault.CloseFault.{CloseFault}
-use Rattle.station_server.specs.declared.files.close_fault.CloseFault.TheVariants as close
+use Rattle.station_files.specs.declared.close_fault.CloseFault.{CloseFault}
+use Rattle.station_files.specs.declared.close_fault.CloseFault.TheVariants as close
 use Rattle.station_server.specs.declared.whole_run.fault.FileFault.{FileFault}
 use Rattle.station_server.specs.declared.whole_run.fault.FileFault.TheVariants as file
 use Rattle.station_server.specs.declared.whole_run.fault.ServeFault.{ServeFault}

@@ -6,10 +6,10 @@ use Rattle.ndx_index.specs.declared.fault.NdxFault.{NdxFault}
 use Rattle.ndx_index.specs.declared.fault.NdxFault.TheVariants as ndx
 use Rattle.shared_catalogue.specs.declared.opening.OpenFault.{OpenFault}
 use Rattle.shared_catalogue.specs.declared.opening.OpenFault.TheVariants as opening
-use Rattle.station_server.specs.declared.run.fault.RunFault.{RunFault}
-use Rattle.station_server.specs.declared.run.fault.RunFault.TheVariants as run
-use Rattle.station_server.specs.declared.files.close_fault.CloseFault.{CloseFault}
-use Rattle.station_server.specs.declared.files.close_fault.CloseFault.TheVariants as close
+use Rattle.station_run.specs.declared.fault.RunFault.{RunFault}
+use Rattle.station_run.specs.declared.fault.RunFault.TheVariants as run
+use Rattle.station_files.specs.declared.close_fault.CloseFault.{CloseFault}
+use Rattle.station_files.specs.declared.close_fault.CloseFault.TheVariants as close
 
 abbrev pub image_name : ImageFault → List ℕ
 image_name image.Truncated = codes "Truncated"

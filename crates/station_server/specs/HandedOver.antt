@@ -5,8 +5,8 @@ use Rattle.ndx_index.specs.TableOrder.{order}
 use Rattle.table_core.specs.Content.{Content, Indexed}
 use Rattle.shared_catalogue.specs.Replay.{History, names_of, state_of}
 use Rattle.shared_catalogue.specs.State.{table_at}
-use Rattle.station_server.specs.declared.files.closed.ClosedTable.{ClosedTable}
-use Rattle.station_server.specs.ClosedIndex.{IndexContent, index_with}
+use Rattle.station_files.specs.declared.closed.ClosedTable.{ClosedTable}
+use Rattle.station_files.specs.ClosedIndex.{IndexContent, index_with}
 
 -- an index of a table: its pairs are the table's in order
 abbrev pub index_of : Table → Indexed → IndexContent

@@ -1,8 +1,3 @@
-pub mod Reports
-pub mod Files
-pub mod ClosedIndex
-pub mod Writable
-pub mod Closing
 pub mod HandedOver
 pub mod Loading
 pub mod WholeRun

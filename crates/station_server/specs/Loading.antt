@@ -9,7 +9,7 @@ use Rattle.ndx_index.specs.declared.fault.NdxFault.TheVariants.{NoMemory as NoRo
 use Rattle.ndx_index.specs.Header.{IsIndex, Breaks}
 use Rattle.shared_catalogue.specs.declared.source.IndexSource.{IndexSource}
 use Rattle.shared_catalogue.specs.declared.source.TableSource.{TableSource}
-use Rattle.station_server.specs.declared.files.named.NamedFile.{NamedFile}
+use Rattle.station_files.specs.declared.named.NamedFile.{NamedFile}
 use Rattle.station_lines.specs.declared.setup.entry.SetupEntry.{SetupEntry}
 use Rattle.station_lines.specs.declared.setup.entry.SetupEntry.TheVariants.{Table, Index, Station}
 use Rattle.station_server.specs.declared.whole_run.fault.FileFault.{FileFault}
@@ -17,7 +17,7 @@ use Rattle.station_server.specs.declared.whole_run.fault.FileFault.TheVariants.{
 use Rattle.station_server.specs.declared.whole_run.fault.ServeFault.{ServeFault}
 use Rattle.station_server.specs.declared.whole_run.fault.ServeFault.TheVariants.{File, NoMemory}
 use Rattle.station_server.specs.declared.whole_run.loaded.Loaded.{Loaded}
-use Rattle.station_server.specs.Files.{IsFileOf, IsTooLong}
+use Rattle.station_files.specs.Files.{IsFileOf, IsTooLong}
 
 -- ---- what is read
 

@@ -4,20 +4,20 @@ use Rattle.dbf_image.specs.Image.{IsOutside}
 use Rattle.shared_catalogue.specs.declared.opening.OpenFault.TheVariants.{NoMemory as NoRoomToOpen}
 use Rattle.shared_catalogue.specs.Opening.{Opening}
 use Rattle.shared_catalogue.specs.Replay.{History, IsLegal}
-use Rattle.station_server.specs.declared.files.close_fault.CloseFault.TheVariants.{DateOutside, TooManyBlocks, Write}
-use Rattle.station_server.specs.declared.files.closed.ClosedTable.{ClosedTable}
-use Rattle.station_server.specs.declared.files.named.NamedFile.{NamedFile}
-use Rattle.station_server.specs.declared.run.fault.RunFault.TheVariants.{ScriptCount}
+use Rattle.station_files.specs.declared.close_fault.CloseFault.TheVariants.{DateOutside, TooManyBlocks, Write}
+use Rattle.station_files.specs.declared.closed.ClosedTable.{ClosedTable}
+use Rattle.station_files.specs.declared.named.NamedFile.{NamedFile}
+use Rattle.station_run.specs.declared.fault.RunFault.TheVariants.{ScriptCount}
 use Rattle.station_lines.specs.declared.setup.entry.SetupEntry.{SetupEntry}
 use Rattle.station_server.specs.declared.whole_run.fault.FileFault.{FileFault}
 use Rattle.station_server.specs.declared.whole_run.fault.FileFault.TheVariants.{CannotRead}
 use Rattle.station_server.specs.declared.whole_run.fault.ServeFault.{ServeFault}
 use Rattle.station_server.specs.declared.whole_run.fault.ServeFault.TheVariants.{Setup, File, Refused, Run, Close, NoMemory}
-use Rattle.station_server.specs.Closing.{first_blocked}
-use Rattle.station_server.specs.Files.{IsFileOf}
+use Rattle.station_files.specs.Closing.{first_blocked}
+use Rattle.station_files.specs.Files.{IsFileOf}
 use Rattle.station_server.specs.HandedOver.{AreHandedOver}
 use Rattle.station_server.specs.Loading.{Read, nothing, LoadAll, IsFaultIn}
-use Rattle.station_server.specs.Reports.{AreReports}
+use Rattle.station_run.specs.Reports.{AreReports}
 use Rattle.station_lines.specs.Setup.{IsSetup}
 
 -- ---- reading

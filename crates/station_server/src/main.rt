@@ -3,25 +3,21 @@
 //! The program reads a setup and the files that it names, runs a script for each station, and writes the tables
 //! as they were left and the stations' answers. This file has `main`: it reads the command line, has the run
 //! served, and says how it ended. Start reading at `specs/WholeRun.antt` and `whole_run.rt`, where `serve` makes the
-//! whole run. What the program says of a failure is in `program.rt`, the run of all stations in `run.rt`, setups in
-//! `setup.rt` and the files in `files.rt`.
+//! whole run. What the program says of a failure is in `program.rt`. Setups, files and the run of all stations are
+//! crates of their own.
 #![tactic(auto)]
 
-mod files;
 mod program;
-mod run;
-#[cfg(test)]
-mod tests;
 mod whole_run;
 
-use crate::files::{DiskFolder, DiskSource};
 use crate::program::{
     Ending, Failure, Options, command, mistake_status, options_of, print_failure, status_of,
 };
-use crate::run::gate::OpenGate;
 use crate::whole_run::{ServeFault, serve};
 use clap::error::ErrorKind;
 use dbf_fields::Bytes;
+use station_files::{DiskFolder, DiskSource};
+use station_run::OpenGate;
 use std::process::ExitCode;
 use std::rt::{Env, Runtime};
 use std::sync::Wait;

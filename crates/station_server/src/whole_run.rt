@@ -3,9 +3,9 @@
 ghost use Rattle.std.specs.Prelude.{◌≡◌, ◌≢◌, ◌⊎◌, ℕ, List, [], Ok, Err, IfOk, IfErr, OnOk};
 ghost use Rattle.dbf_image.specs.Sink.{grown, Rises};
 ghost use Rattle.shared_catalogue.specs.Opening.{Opening};
-ghost use Rattle.station_server.specs.declared.files.closed.ClosedTable.{ClosedTable as Table};
-ghost use Rattle.station_server.specs.Closing.{run_files, IsCutAt};
-ghost use Rattle.station_server.specs.Files.{told};
+ghost use Rattle.station_files.specs.declared.closed.ClosedTable.{ClosedTable as Table};
+ghost use Rattle.station_files.specs.Closing.{run_files, IsCutAt};
+ghost use Rattle.station_files.specs.Files.{told};
 ghost use Rattle.station_server.specs.Loading.{read_of, IsFailure};
 ghost use Rattle.station_server.specs.WholeRun.{stations_for, IsAllRead, IsReadFault, IsRun, IsRunFault, IsWholeRun, IsServeFault, IsSaid, IsWriteFault};
 
@@ -16,17 +16,15 @@ mod loaded;
 #[cfg(test)]
 mod tests;
 
-use crate::files::{CloseFault, ClosedTable, Folder, Source, close_files};
-use crate::run::Outcome;
-use crate::run::gate::Gate;
-use crate::run::whole::run_catalogue;
 use crate::whole_run::closing::closed_tables;
 use crate::whole_run::load::{load_entries, load_file};
 use crate::whole_run::loaded::Loaded;
 use dbf_fields::{Bytes, Day};
 pub use fault::{FileFault, ServeFault};
 use shared_catalogue::{Catalogue, OpenFault, TableSource};
+use station_files::{CloseFault, ClosedTable, Folder, Source, close_files};
 use station_lines::{SetupEntry, SetupFault, parse_setup};
+use station_run::{Gate, Outcome, run_catalogue};
 use std::alloc::Global;
 use std::sync::Wait;
 use std::thread::Threads;

@@ -23,6 +23,3 @@ pub use edits::planned::Planned;
 pub use fault::TableFault;
 pub use refusal::Refusal;
 pub use table::Table;
-
-#[cfg(test)]
-mod tests;

@@ -3,11 +3,11 @@
 ghost use Rattle.std.specs.Prelude.{◌≡◌};
 ghost use Rattle.station_server.specs.FaultNames.{close_name as name_of_close, image_name as name_of_image, ndx_name as name_of_ndx, open_name as name_of_opening, run_name as name_of_run};
 
-use crate::files::CloseFault;
-use crate::run::fault::RunFault;
 use dbf_image::ImageFault;
 use ndx_index::NdxFault;
 use shared_catalogue::OpenFault;
+use station_files::CloseFault;
+use station_run::RunFault;
 
 /// The name of the fault for which bytes are no table.
 pub(crate) fn image_name(fault: ImageFault) -> &'static str

@@ -1,13 +1,13 @@
-use crate::files::CloseFault;
 use crate::program::options::date_of;
 use crate::program::{Failure, command, mistake_status, options_of, print_failure, status_of};
-use crate::run::fault::RunFault;
 use crate::whole_run::{FileFault, ServeFault};
 use dbf_fields::{Bytes, day_of};
 use dbf_image::ImageFault;
 use key_expr::ExprFault;
 use ndx_index::NdxFault;
 use shared_catalogue::{OpenFault, SettleFault, Stop};
+use station_files::CloseFault;
+use station_run::RunFault;
 use std::alloc::{AllocError, Global};
 use std::test::Fail;
 

@@ -6,9 +6,9 @@ ghost use Rattle.table_core.specs.Content.{index_at};
 ghost use Rattle.shared_catalogue.specs.Replay.{names_of};
 ghost use Rattle.station_server.specs.HandedOver.{index_of, AreHandedOver};
 
-use crate::files::{ClosedIndex, ClosedTable};
 use dbf_fields::Bytes;
 use shared_catalogue::Closed;
+use station_files::{ClosedIndex, ClosedTable};
 use std::alloc::{AllocError, Global};
 use table_core::Table;
 

@@ -1,11 +1,11 @@
 //! Why a whole run did not come to its end.
 
-use crate::files::CloseFault;
-use crate::run::fault::RunFault;
 use dbf_fields::Bytes;
 use dbf_image::ImageFault;
 use ndx_index::NdxFault;
 use shared_catalogue::OpenFault;
+use station_files::CloseFault;
+use station_run::RunFault;
 use std::alloc::{AllocError, AllocFailed};
 
 /// Why a file was not read.

@@ -6,16 +6,16 @@ ghost use Rattle.dbf_image.specs.DbfText.{IsDbf};
 ghost use Rattle.dbf_image.specs.Reading.{IsRefusal};
 ghost use Rattle.ndx_index.specs.Header.{IsIndex, Breaks};
 ghost use Rattle.station_lines.specs.declared.setup.entry.SetupEntry.TheVariants.{Table, Index};
-ghost use Rattle.station_server.specs.Files.{IsFileOf};
+ghost use Rattle.station_files.specs.Files.{IsFileOf};
 ghost use Rattle.station_server.specs.Loading.{nothing, read_of, IsMemoFileOf, IsTableRead, IsIndexRead, HasIndex, Loads, LoadAll, IsEntryFault, IsFailure, IsFaultIn};
 
-use crate::files::{LoadFault, Source};
 use crate::whole_run::fault::{FileFault, ServeFault};
 use crate::whole_run::loaded::Loaded;
 use dbf_fields::Bytes;
 use dbf_image::{ImageFault, TableData, read_table};
 use ndx_index::{NdxFault, NdxFile, read_ndx};
 use shared_catalogue::{IndexSource, TableSource};
+use station_files::{LoadFault, Source};
 use station_lines::SetupEntry;
 use std::alloc::{AllocError, Global};
 

@@ -1,15 +1,16 @@
 //! Whole runs over files in memory. What is expected is written down from the published layouts and dBASE's rules.
 
 mod day;
+mod sample;
 
-use crate::files::{CloseFault, MemoryFolder, MemorySource, NamedFile};
-use crate::run::gate::OpenGate;
-use crate::tests::sample::{EMPTY, EMPTY_INDEX, TABLE, WITH_CYD};
+use crate::whole_run::tests::sample::{EMPTY, EMPTY_INDEX, TABLE, WITH_CYD};
 use crate::whole_run::{FileFault, ServeFault, serve};
 use dbf_fields::{Bytes, day_of};
 use dbf_image::{Failures, ImageFault};
 use ndx_index::NdxFault;
 use shared_catalogue::OpenFault;
+use station_files::{CloseFault, MemoryFolder, MemorySource, NamedFile};
+use station_run::OpenGate;
 use std::alloc::{AllocError, Global};
 use std::sync::Wait;
 use std::test::Fail;

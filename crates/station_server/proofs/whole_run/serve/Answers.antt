@@ -1,6 +1,6 @@
 use Rattle.std.proofs.Common.{◌≡◌, Err, ap, length, sym, subst}
 use Rattle.std.specs.Prelude.{IsErrAnd}
-use Rattle.station_server.specs.declared.files.close_fault.CloseFault.TheVariants.{Write}
+use Rattle.station_files.specs.declared.close_fault.CloseFault.TheVariants.{Write}
 use Rattle.station_server.specs.declared.whole_run.fault.ServeFault.TheVariants.{Close}
 use Rattle.station_server.proofs.LoadLaws.{err_exit}
 use Rattle.station_server.proofs.WholeRunLaws.{of_writing, whole_run}

@@ -1,7 +1,7 @@
 //! A day of the demo office, as its station 1 sees it: the vouchers of the ledger that its script meets.
 
-use crate::files::MemoryFolder;
 use crate::whole_run::tests::{has_file, named, office, serve_in, two_pages};
+use station_files::MemoryFolder;
 use std::alloc::{AllocError, Global};
 use std::test::Fail;
 

@@ -1,7 +1,7 @@
 use Rattle.std.proofs.Common.{◌≡◌, ℕ, suc, ◌+◌, ◌-◌, List, [], ◌∷◌, ◌++◌, map, take, ap, sym, ◌∙◌, arith}
 use Rattle.std.specs.List.{slice_get}
 use Rattle.std.specs.Option.{option_map}
-use Rattle.station_server.specs.ClosedIndex.{IndexContent}
+use Rattle.station_files.specs.ClosedIndex.{IndexContent}
 use Rattle.station_server.specs.HandedOver.{index_of}
 use Rattle.station_server.proofs.HandingLaws.{mapped_next}
 use Rattle.station_server.proofs.whole_run.closing.closed_indexes.Goals as goal

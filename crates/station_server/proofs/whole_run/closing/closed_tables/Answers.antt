@@ -6,10 +6,10 @@ use Rattle.std.proofs.lemmas.List.{length-map}
 use Rattle.std.proofs.lemmas.Option.{slice_get_read}
 use Rattle.table_core.specs.Content.{Content, Held}
 use Rattle.shared_catalogue.specs.Replay.{names_of, state_of}
-use Rattle.station_server.specs.declared.files.closed.ClosedTable.{ClosedTable}
+use Rattle.station_files.specs.declared.closed.ClosedTable.{ClosedTable}
 use Rattle.station_server.specs.HandedOver.{index_of, IsHandedOver}
 use Rattle.station_server.proofs.HandingLaws.{taken_count, taken_table}
-use Rattle.station_server.proofs.RunLaws.{get_front, get_last}
+use Rattle.station_run.proofs.RunLaws.{get_front, get_last}
 use Rattle.station_server.proofs.whole_run.closing.closed_tables.Goals as goal
 
 pub loop-table-preserved : goal.loop-table-preserved

@@ -3,7 +3,7 @@ use Rattle.std.specs.List.{slice_get}
 use Rattle.std.specs.Vec.Iter.{into_iter_items}
 use Rattle.table_core.specs.Content.{Held}
 use Rattle.shared_catalogue.specs.Replay.{state_of}
-use Rattle.station_server.specs.declared.files.closed.ClosedTable.{ClosedTable}
+use Rattle.station_files.specs.declared.closed.ClosedTable.{ClosedTable}
 use Rattle.station_server.specs.HandedOver.{IsHandedOver}
 use Rattle.station_server.proofs.whole_run.closing.closed_tables.Given as goal
 

@@ -1,0 +1,207 @@
+//! Tables of commands with their answers, and the walk through such a table.
+
+use super::sample::{first_table, named, open, open_sample};
+use dbf_fields::{Bytes, Literal, day_of};
+use dbf_image::TableData;
+use shared_catalogue::{Answer, Catalogue, Command, Question};
+use std::alloc::Global;
+use std::test::Fail;
+
+// A kind of command. The name or text that it takes first stands beside it in a table of cases.
+#[derive(Clone, Copy)]
+pub enum Asked {
+    Select(u64),
+    Use,
+    UseExclusive,
+    Close,
+    Go(u64),
+    Top,
+    Bottom,
+    Skip(i64),
+    Seek,
+    Order(u64),
+    Append,
+    Replace(Value),
+    Memo(Text),
+    Delete,
+    Recall,
+    Pack,
+    Unlock,
+    UnlockAll,
+    Show,
+    RecordLock,
+    FileLock,
+    Ask(Question),
+    Bad,
+}
+
+// The value of REPLACE.
+#[derive(Clone, Copy)]
+pub enum Value {
+    Text(&'static [u8]),
+    Number(i128, u8),
+    Truth(bool),
+    Date(u16, u8, u8),
+    BlankDate,
+    BadDate,
+}
+
+// The text of a memo: these bytes, or so many bytes `x`.
+#[derive(Clone, Copy)]
+pub enum Text {
+    Is(&'static [u8]),
+    Long(usize),
+}
+
+// What a command is answered: OK, a refusal by its number, yes or no, a number, or a text.
+#[derive(Clone, Copy)]
+pub enum Expected {
+    Ok,
+    Refused(u8),
+    Truth(bool),
+    Number(u64),
+    Text(&'static [u8]),
+    LongText(usize),
+}
+
+// A station, its command with a name or text, and the answer.
+pub type Case = (u32, Asked, &'static [u8], Expected);
+
+// So many bytes `x`.
+fn long_text(alloc: Global, length: usize) -> Result<Bytes, Fail> {
+    let mut text = Vec::new(alloc);
+    text.resize(length, b'x')?;
+    Ok(Bytes::from_vec(text))
+}
+
+pub fn command_of(alloc: Global, asked: Asked, name: &[u8]) -> Result<Command, Fail> {
+    let name = Bytes::from_slice(alloc, name)?;
+    match asked {
+        Asked::Use => Ok(use_table(name, false)),
+        Asked::UseExclusive => Ok(use_table(name, true)),
+        Asked::Seek => Ok(Command::Seek(name)),
+        Asked::Show => Ok(Command::Show(name)),
+        Asked::Replace(value) => replace(alloc, name, value),
+        Asked::Memo(text) => memo(alloc, name, text),
+        other => Ok(plain(other)),
+    }
+}
+
+fn use_table(name: Bytes, exclusive: bool) -> Command {
+    Command::UseTable { name, exclusive }
+}
+
+fn replace(alloc: Global, field: Bytes, value: Value) -> Result<Command, Fail> {
+    let value = match value {
+        Value::Text(text) => Literal::Text(Bytes::from_slice(alloc, text)?),
+        Value::Number(digits, scale) => Literal::Number { digits, scale },
+        Value::Truth(truth) => Literal::Truth(truth),
+        Value::Date(year, month, day) => Literal::Date(day_of(year, month, day).ok_or("a date")?),
+        Value::BlankDate => Literal::BlankDate,
+        Value::BadDate => Literal::BadDate,
+    };
+    Ok(Command::Replace { field, value })
+}
+
+fn memo(alloc: Global, field: Bytes, text: Text) -> Result<Command, Fail> {
+    let text = match text {
+        Text::Is(bytes) => Bytes::from_slice(alloc, bytes)?,
+        Text::Long(length) => long_text(alloc, length)?,
+    };
+    Ok(Command::Memo { field, text })
+}
+
+// A command without a name or text.
+fn plain(asked: Asked) -> Command {
+    match asked {
+        Asked::Select(number) => Command::Select(number),
+        Asked::Close => Command::CloseTable,
+        Asked::Go(number) => Command::Go(number),
+        Asked::Top => Command::Top,
+        Asked::Bottom => Command::Bottom,
+        Asked::Skip(steps) => Command::Skip(steps),
+        Asked::Order(number) => Command::Order(number),
+        Asked::Append => Command::AppendBlank,
+        Asked::Delete => Command::Delete,
+        Asked::Recall => Command::Recall,
+        Asked::Pack => Command::Pack,
+        Asked::Unlock => Command::Unlock,
+        Asked::UnlockAll => Command::UnlockAll,
+        Asked::RecordLock => Command::RecordLock,
+        Asked::FileLock => Command::FileLock,
+        Asked::Ask(question) => Command::Ask(question),
+        _ => Command::Bad,
+    }
+}
+
+pub fn is_expected(answer: &Answer, expected: Expected) -> bool {
+    match (answer, expected) {
+        (Answer::Done, Expected::Ok) => true,
+        (Answer::Refused(refusal), Expected::Refused(code)) => refusal.code() == code,
+        (Answer::Truth(truth), Expected::Truth(wanted)) => *truth == wanted,
+        (Answer::Number(number), Expected::Number(wanted)) => *number == wanted,
+        (Answer::Text(text), Expected::Text(bytes)) => text.as_slice() == bytes,
+        (Answer::Text(text), Expected::LongText(length)) => is_long(text.as_slice(), length),
+        _ => false,
+    }
+}
+
+// Whether a text is so many bytes `x`.
+pub fn is_long(text: &[u8], length: usize) -> bool {
+    text.len() == length && text.iter().all(|byte| *byte == b'x')
+}
+
+// Performs the cases, and tells the index of the first whose answer or number is not the expected one.
+pub fn first_other(
+    alloc: Global,
+    catalogue: &mut Catalogue,
+    cases: &[Case],
+) -> Result<Option<usize>, Fail> {
+    for i in 0..cases.len() {
+        if !is_answered(alloc, catalogue, cases[i])? {
+            return Ok(Some(i));
+        }
+    }
+    Ok(None)
+}
+
+// Performs a case, and tells whether its answer is the expected one and its number the next.
+fn is_answered(alloc: Global, catalogue: &mut Catalogue, case: Case) -> Result<bool, Fail> {
+    let (station, asked, name, expected) = case;
+    if station < 1 || station > catalogue.station_count() {
+        return Err("there is no such station".into());
+    }
+    let before = catalogue.journal().len() as u64;
+    let command = command_of(alloc, asked, name)?;
+    let (number, answer) = catalogue.perform(alloc, station, &command)?;
+    Ok(number > before && number - 1 == before && is_expected(&answer, expected))
+}
+
+// The same on a catalogue of two stations with the sample's tables T and U.
+pub fn first_unexpected(alloc: Global, cases: &[Case]) -> Result<Option<usize>, Fail> {
+    first_other(alloc, &mut open_sample(alloc, 2)?, cases)
+}
+
+// The same on a catalogue of one station with a table T.
+pub fn first_unexpected_in(
+    alloc: Global,
+    content: TableData,
+    cases: &[Case],
+) -> Result<Option<usize>, Fail> {
+    first_other(alloc, &mut open_alone(alloc, content)?, cases)
+}
+
+// The table T as it stands after the cases, each of which is answered as expected.
+pub fn table_after(alloc: Global, content: TableData, cases: &[Case]) -> Result<TableData, Fail> {
+    let mut catalogue = open_alone(alloc, content)?;
+    if first_other(alloc, &mut catalogue, cases)?.is_some() {
+        return Err("another answer".into());
+    }
+    first_table(alloc, &catalogue)
+}
+
+// A catalogue of one station with a table T.
+fn open_alone(alloc: Global, content: TableData) -> Result<Catalogue, Fail> {
+    let sources = vec![in alloc; named(alloc, b"T", content)?]?;
+    open(alloc, sources, 1)
+}

@@ -1,0 +1,271 @@
+//! The faults of opening, in order, and the indexes that are taken over.
+
+use super::asked::{Asked, Case, Expected, first_other};
+use super::sample::open;
+use dbf_fields::{Bytes, CHARACTER, Field, Schema};
+use dbf_image::TableData;
+use key_expr::{ExprFault, Key};
+use ndx_index::{NdxFile, Pair};
+use shared_catalogue::{Catalogue, IndexSource, OpenFault, Question, TableSource};
+use std::alloc::Global;
+use std::test::Fail;
+
+// An index: its name, its expression, the length of its keys, and its pairs, each a letter and a record number.
+type Index = (&'static [u8], &'static [u8], usize, &'static [(u8, u32)]);
+
+// A table: its name and its indexes.
+type Source = (&'static [u8], &'static [Index]);
+
+// Tables, stations, whether indexes are built anew, and the fault.
+type Opened = (&'static [Source], u32, bool, Option<OpenFault>);
+
+// The pairs of the table of the records B, A, A by its only field.
+const PAIRS: &[(u8, u32)] = &[(b'A', 2), (b'A', 3), (b'B', 1)];
+
+const REVERSED: &[(u8, u32)] = &[(b'A', 3), (b'A', 2), (b'B', 1)];
+
+const X: Index = (b"X", b"NAME", 1, PAIRS);
+
+const LONG: Index = (b"Y", b"NAME", 2, PAIRS);
+
+const BAD: Index = (b"Z", b"NAME+", 1, PAIRS);
+
+// A table with the field NAME of one character, and the records B, A, A.
+fn three_records(alloc: Global) -> Result<TableData, Fail> {
+    let fields = [Field::new(alloc, b"NAME", CHARACTER, 1, 0)?];
+    let mut table = TableData::empty(alloc, Schema::new(alloc, &fields)?);
+    for record in [b" B", b" A", b" A"] {
+        if table.record_count() > 2 || table.schema().record_length() != 2 {
+            return Err("no such table".into());
+        }
+        table.append_record(record)?;
+    }
+    Ok(table)
+}
+
+fn index_of(alloc: Global, index: Index) -> Result<IndexSource, Fail> {
+    let (name, expr, key_len, letters) = index;
+    let mut pairs = Vec::new(alloc);
+    for (letter, number) in letters {
+        let key = Key::new(&[*letter]);
+        let number = *number;
+        pairs.push(Pair { key, number })?;
+    }
+    let name = Bytes::from_slice(alloc, name)?;
+    let expr = Bytes::from_slice(alloc, expr)?;
+    let file = NdxFile {
+        expr,
+        key_len,
+        pairs,
+    };
+    Ok(IndexSource { name, file })
+}
+
+fn source_of(alloc: Global, source: Source) -> Result<TableSource, Fail> {
+    let (name, all) = source;
+    let mut indexes = Vec::new(alloc);
+    for index in all {
+        indexes.push(index_of(alloc, *index)?)?;
+    }
+    Ok(TableSource {
+        name: Bytes::from_slice(alloc, name)?,
+        content: three_records(alloc)?,
+        indexes,
+    })
+}
+
+fn sources_of(alloc: Global, all: &[Source]) -> Result<Vec<TableSource>, Fail> {
+    let mut sources = Vec::new(alloc);
+    for source in all {
+        sources.push(source_of(alloc, *source)?)?;
+    }
+    Ok(sources)
+}
+
+// The fault of opening a table T with an index on NAME of these pairs.
+fn fault_of(
+    alloc: Global,
+    key_len: usize,
+    pairs: &'static [(u8, u32)],
+    reindex: bool,
+) -> Result<Option<OpenFault>, Fail> {
+    let mut source = source_of(alloc, (b"T", &[]))?;
+    source
+        .indexes
+        .push(index_of(alloc, (b"X", b"NAME", key_len, pairs))?)?;
+    let sources = vec![in alloc; source]?;
+    Ok(Catalogue::open(alloc, sources, 1, reindex).err())
+}
+
+// The first case that is answered otherwise by two stations' catalogue of one table.
+fn first_other_over(alloc: Global, source: Source, cases: &[Case]) -> Result<Option<usize>, Fail> {
+    let mut catalogue = open(alloc, sources_of(alloc, &[source])?, 2)?;
+    first_other(alloc, &mut catalogue, cases)
+}
+
+const T: Source = (b"T", &[]);
+
+const INDEXED: Source = (b"T", &[X]);
+
+const REVERSED_KEYS: Source = (b"T", &[(b"X", b"NAME", 1, REVERSED)]);
+
+const TEN: [Source; 10] = [
+    T,
+    (b"A", &[]),
+    (b"B", &[]),
+    (b"C", &[]),
+    (b"D", &[]),
+    (b"E", &[]),
+    (b"F", &[]),
+    (b"G", &[]),
+    (b"H", &[]),
+    (b"I", &[]),
+];
+
+const ELEVEN: [Source; 11] = [T, T, T, T, T, T, T, T, T, T, T];
+
+const EIGHT: [Index; 8] = [BAD, X, X, X, X, X, X, X];
+
+const OPENINGS: [Opened; 15] = [
+    (&ELEVEN, 0, false, Some(OpenFault::NoStation)),
+    (&ELEVEN, 17, false, Some(OpenFault::TooManyStations)),
+    (&ELEVEN, 16, false, Some(OpenFault::TooManyTables)),
+    (&[], 1, false, None),
+    (&TEN, 16, false, None),
+    (&[(b"T", &[X]), (b"U", &[])], 1, false, None),
+    (
+        &[T, (b"U", &[]), (b"T", &EIGHT)],
+        1,
+        false,
+        Some(OpenFault::DuplicateTable(3)),
+    ),
+    (
+        &[T, (b"U", &EIGHT), T],
+        1,
+        false,
+        Some(OpenFault::TooManyIndexes(2)),
+    ),
+    (
+        &[(b"T", &[X]), (b"U", &[(b"X", b"NAME+", 2, PAIRS)]), T],
+        1,
+        false,
+        Some(OpenFault::DuplicateIndex(2, 1)),
+    ),
+    (
+        &[(b"T", &[X, X])],
+        1,
+        true,
+        Some(OpenFault::DuplicateIndex(1, 2)),
+    ),
+    (
+        &[T, (b"U", &[X, BAD]), T],
+        1,
+        true,
+        Some(OpenFault::BadExpression(2, 2, ExprFault::BadSyntax(5))),
+    ),
+    (
+        &[(b"T", &[(b"X", b"ZIP", 2, PAIRS)])],
+        1,
+        false,
+        Some(OpenFault::BadExpression(1, 1, ExprFault::NoSuchField)),
+    ),
+    (
+        &[(b"T", &[X, LONG, BAD]), T],
+        1,
+        false,
+        Some(OpenFault::IndexStale(1, 2)),
+    ),
+    (
+        &[(b"T", &[X, LONG, BAD]), T],
+        1,
+        true,
+        Some(OpenFault::BadExpression(1, 3, ExprFault::BadSyntax(5))),
+    ),
+    (&[(b"T", &[X, LONG])], 1, true, None),
+];
+
+#[test]
+fn openings_are_refused_in_order(rt: HostRuntime) -> Result<(), Fail> {
+    let alloc = rt.alloc();
+    for (sources, stations, reindex, fault) in OPENINGS {
+        let sources = sources_of(alloc, sources)?;
+        let opened = Catalogue::open(alloc, sources, stations, reindex);
+        assert_eq!(rt; opened.err(), fault);
+    }
+    Ok(())
+}
+
+// Equal keys stand in reverse order of record number: the index is good, and its order is by number.
+const BY_NUMBER: [Case; 7] = [
+    (1, Asked::Use, b"T", Expected::Ok),
+    (1, Asked::Ask(Question::Recno), b"", Expected::Number(2)),
+    (1, Asked::Skip(1), b"", Expected::Ok),
+    (1, Asked::Ask(Question::Recno), b"", Expected::Number(3)),
+    (1, Asked::Skip(1), b"", Expected::Ok),
+    (1, Asked::Ask(Question::Recno), b"", Expected::Number(1)),
+    (1, Asked::Show, b"NAME", Expected::Text(b"B")),
+];
+
+#[test]
+fn reversed_equal_keys(rt: HostRuntime) -> Result<(), Fail> {
+    let other = first_other_over(rt.alloc(), REVERSED_KEYS, &BY_NUMBER)?;
+    assert_eq!(rt; other, None);
+    Ok(())
+}
+
+#[test]
+fn stale_indexes_are_refused(rt: HostRuntime) -> Result<(), Fail> {
+    let alloc = rt.alloc();
+    let cases: [(usize, &'static [(u8, u32)], bool); 8] = [
+        (1, PAIRS, false),
+        (1, REVERSED, false),
+        // One pair is missing.
+        (1, &[(b'A', 2), (b'B', 1)], true),
+        // One pair twice, and one missing.
+        (1, &[(b'A', 2), (b'A', 2), (b'B', 1)], true),
+        // Record number 0.
+        (1, &[(b'A', 0), (b'A', 3), (b'B', 1)], true),
+        // Another key length, and no record.
+        (2, PAIRS, true),
+        (1, &[], true),
+        // The key of another record.
+        (1, &[(b'A', 2), (b'B', 3), (b'B', 1)], true),
+    ];
+    for (key_len, pairs, stale) in cases {
+        let wanted = if stale {
+            Some(OpenFault::IndexStale(1, 1))
+        } else {
+            None
+        };
+        assert_eq!(rt; fault_of(alloc, key_len, pairs, false)?, wanted);
+        assert_eq!(rt; fault_of(alloc, key_len, pairs, true)?, None);
+    }
+    Ok(())
+}
+
+const PACKED_INDEX: [Case; 17] = [
+    (1, Asked::UseExclusive, b"T", Expected::Ok),
+    (1, Asked::Go(2), b"", Expected::Ok),
+    (1, Asked::Delete, b"", Expected::Ok),
+    (1, Asked::Pack, b"", Expected::Ok),
+    (1, Asked::Top, b"", Expected::Ok),
+    (1, Asked::Ask(Question::Recno), b"", Expected::Number(2)),
+    (1, Asked::Show, b"NAME", Expected::Text(b"A")),
+    (1, Asked::Skip(1), b"", Expected::Ok),
+    (1, Asked::Ask(Question::Recno), b"", Expected::Number(1)),
+    (1, Asked::Show, b"NAME", Expected::Text(b"B")),
+    (1, Asked::Skip(1), b"", Expected::Ok),
+    (1, Asked::Seek, b"", Expected::Ok),
+    (1, Asked::Ask(Question::Recno), b"", Expected::Number(2)),
+    (1, Asked::Seek, b"AB", Expected::Ok),
+    (1, Asked::Ask(Question::Found), b"", Expected::Truth(false)),
+    (1, Asked::Ask(Question::Recno), b"", Expected::Number(3)),
+    (1, Asked::Go(3), b"", Expected::Refused(6)),
+];
+
+#[test]
+fn pack_renumbers_the_index(rt: HostRuntime) -> Result<(), Fail> {
+    let other = first_other_over(rt.alloc(), INDEXED, &PACKED_INDEX)?;
+    assert_eq!(rt; other, None);
+    Ok(())
+}

@@ -1,0 +1,137 @@
+//! Stations that share tables. The answers are those of dBASE's rules on areas and locks.
+
+use super::asked::{Asked, Case, Expected, Value, first_unexpected};
+use shared_catalogue::Question;
+use std::test::Fail;
+
+pub const TWO_STATIONS: [Case; 7] = [
+    (1, Asked::Use, b"T", Expected::Ok),
+    (2, Asked::Use, b"T", Expected::Ok),
+    (1, Asked::RecordLock, b"", Expected::Truth(true)),
+    (2, Asked::RecordLock, b"", Expected::Truth(false)),
+    (
+        2,
+        Asked::Replace(Value::Text(b"X")),
+        b"NAME",
+        Expected::Refused(5),
+    ),
+    (1, Asked::Unlock, b"", Expected::Ok),
+    (2, Asked::RecordLock, b"", Expected::Truth(true)),
+];
+
+const FILE_LOCK: [Case; 7] = [
+    (1, Asked::Use, b"T", Expected::Ok),
+    (1, Asked::FileLock, b"", Expected::Truth(true)),
+    (2, Asked::Use, b"T", Expected::Ok),
+    (2, Asked::Append, b"", Expected::Refused(3)),
+    (2, Asked::UseExclusive, b"T", Expected::Refused(3)),
+    (2, Asked::Pack, b"", Expected::Refused(4)),
+    (2, Asked::Show, b"NAME", Expected::Text(b"ADA       ")),
+];
+
+const RECORD_FOR_TABLE: [Case; 6] = [
+    (1, Asked::Use, b"T", Expected::Ok),
+    (1, Asked::FileLock, b"", Expected::Truth(true)),
+    (1, Asked::RecordLock, b"", Expected::Truth(true)),
+    (2, Asked::Use, b"T", Expected::Ok),
+    (2, Asked::Go(2), b"", Expected::Ok),
+    (2, Asked::RecordLock, b"", Expected::Truth(true)),
+];
+
+const REFUSED_USE: [Case; 10] = [
+    (1, Asked::UseExclusive, b"T", Expected::Ok),
+    (2, Asked::Use, b"T", Expected::Refused(3)),
+    (1, Asked::Close, b"", Expected::Ok),
+    (2, Asked::Use, b"T", Expected::Ok),
+    (2, Asked::FileLock, b"", Expected::Truth(true)),
+    (2, Asked::Use, b"NONE", Expected::Refused(1)),
+    (1, Asked::Use, b"T", Expected::Ok),
+    (1, Asked::RecordLock, b"", Expected::Truth(false)),
+    (2, Asked::Close, b"", Expected::Ok),
+    (1, Asked::RecordLock, b"", Expected::Truth(true)),
+];
+
+// The cursor of station 1 is at the end when station 2 appends.
+const APPENDED: [Case; 12] = [
+    (1, Asked::Use, b"T", Expected::Ok),
+    (1, Asked::Bottom, b"", Expected::Ok),
+    (1, Asked::Skip(1), b"", Expected::Ok),
+    (1, Asked::Ask(Question::Recno), b"", Expected::Number(3)),
+    (2, Asked::Use, b"T", Expected::Ok),
+    (2, Asked::Append, b"", Expected::Ok),
+    (1, Asked::Ask(Question::Eof), b"", Expected::Truth(true)),
+    (1, Asked::Ask(Question::Recno), b"", Expected::Number(4)),
+    (1, Asked::Skip(1), b"", Expected::Refused(7)),
+    (1, Asked::Skip(-1), b"", Expected::Ok),
+    (1, Asked::Ask(Question::Recno), b"", Expected::Number(3)),
+    (1, Asked::Ask(Question::Reccount), b"", Expected::Number(3)),
+];
+
+const AREAS: [Case; 9] = [
+    (1, Asked::Select(11), b"", Expected::Refused(15)),
+    (1, Asked::Select(0), b"", Expected::Refused(15)),
+    (1, Asked::Use, b"NONE", Expected::Refused(1)),
+    (1, Asked::Top, b"", Expected::Refused(2)),
+    (1, Asked::Use, b"T", Expected::Ok),
+    (1, Asked::Seek, b"A", Expected::Refused(9)),
+    (1, Asked::Order(1), b"", Expected::Refused(18)),
+    (1, Asked::Select(2), b"", Expected::Ok),
+    (1, Asked::Use, b"T", Expected::Refused(16)),
+];
+
+// A PACK of the only station: the marked record is gone, and the lock with it.
+const PACKED: [Case; 11] = [
+    (1, Asked::UseExclusive, b"T", Expected::Ok),
+    (1, Asked::RecordLock, b"", Expected::Truth(true)),
+    (1, Asked::Delete, b"", Expected::Ok),
+    (1, Asked::Pack, b"", Expected::Ok),
+    (1, Asked::Ask(Question::Reccount), b"", Expected::Number(1)),
+    (1, Asked::Ask(Question::Recno), b"", Expected::Number(1)),
+    (1, Asked::Show, b"NAME", Expected::Text(b"BOB       ")),
+    (1, Asked::Use, b"T", Expected::Ok),
+    (1, Asked::Delete, b"", Expected::Refused(5)),
+    (1, Asked::Ask(Question::Found), b"", Expected::Truth(false)),
+    (1, Asked::Select(10), b"", Expected::Ok),
+];
+
+#[test]
+fn two_stations_one_record(rt: HostRuntime) -> Result<(), Fail> {
+    assert_eq!(rt; first_unexpected(rt.alloc(), &TWO_STATIONS)?, None);
+    Ok(())
+}
+
+#[test]
+fn file_lock_bars_the_others(rt: HostRuntime) -> Result<(), Fail> {
+    assert_eq!(rt; first_unexpected(rt.alloc(), &FILE_LOCK)?, None);
+    Ok(())
+}
+
+#[test]
+fn record_lock_replaces_table_lock(rt: HostRuntime) -> Result<(), Fail> {
+    assert_eq!(rt; first_unexpected(rt.alloc(), &RECORD_FOR_TABLE)?, None);
+    Ok(())
+}
+
+#[test]
+fn refused_use_keeps_the_table(rt: HostRuntime) -> Result<(), Fail> {
+    assert_eq!(rt; first_unexpected(rt.alloc(), &REFUSED_USE)?, None);
+    Ok(())
+}
+
+#[test]
+fn append_is_seen_at_the_end(rt: HostRuntime) -> Result<(), Fail> {
+    assert_eq!(rt; first_unexpected(rt.alloc(), &APPENDED)?, None);
+    Ok(())
+}
+
+#[test]
+fn area_refusals(rt: HostRuntime) -> Result<(), Fail> {
+    assert_eq!(rt; first_unexpected(rt.alloc(), &AREAS)?, None);
+    Ok(())
+}
+
+#[test]
+fn pack_removes_the_marked_record(rt: HostRuntime) -> Result<(), Fail> {
+    assert_eq!(rt; first_unexpected(rt.alloc(), &PACKED)?, None);
+    Ok(())
+}

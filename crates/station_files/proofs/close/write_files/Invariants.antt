@@ -1,0 +1,14 @@
+use Rattle.std.proofs.Common.{◌≡◌, take, map}
+use Rattle.dbf_image.specs.Sink.{grown}
+use Rattle.station_files.specs.Files.{told}
+use Rattle.station_files.specs.Closing.{file_of}
+use Rattle.station_files.proofs.close.write_files.Given as goal
+
+abbrev pub invariant-loop-file : goal.invariant-loop-file
+invariant-loop-file g l =
+    let written = g.F.ByteSink.written in
+    record {
+      counted : l.place ≡ l.file-index;
+      wrote : written l.folder ≡ grown (written l.fn.folder) (told (map file_of (take l.file-index l.planned)));
+      fine : g.F.ByteSink.failures l.folder ≡ g.F.ByteSink.failures l.fn.folder;
+    }

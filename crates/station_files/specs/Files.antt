@@ -1,0 +1,71 @@
+-- Files by their names.
+use Rattle.std.specs.Prelude.{◌≡◌, ◌⊎◌, ℕ, ◌<◌, nat_lt, ◌==◌, Bool, true, List, [], ◌∷◌, ◌++◌, length, Option, Some, None, bytes_eq, flat_map, if◌then◌else◌}
+use Rattle.std.specs.List.{list_all}
+use Rattle.station_files.specs.declared.memory_folder.OpenFile.{OpenFile}
+use Rattle.station_files.specs.declared.named.NamedFile.{NamedFile}
+use Rattle.station_files.specs.declared.source.TheConstants.{MAX_FILE_BYTES}
+
+abbrev pub is_byte : ℕ → Bool
+is_byte b = nat_lt b 256
+
+-- the file has the path
+abbrev pub is_at : List ℕ → NamedFile → Bool
+is_at path file = bytes_eq file.name path
+
+-- the bytes of the first file of a path
+abbrev pub file_at : List NamedFile → List ℕ → Option (List ℕ)
+file_at [] path = None
+file_at (file ∷ files) path = if is_at path file then Some file.bytes else file_at files path
+
+-- the bytes are those of the file of a path, where the files are known
+abbrev pub IsFileOf : Option (List NamedFile) → List ℕ → List ℕ → Type 0
+IsFileOf None path bytes = Unit {0}
+IsFileOf (Some files) path bytes = file_at files path ≡ Some bytes
+
+-- the file of a path is over the limit, where the files are known
+abbrev pub IsTooLong : Option (List NamedFile) → List ℕ → Type 0
+IsTooLong None path = Unit {0}
+IsTooLong (Some files) path = (bytes : List ℕ) × (file_at files path ≡ Some bytes) × (MAX_FILE_BYTES < length bytes)
+
+-- no load can give the file of a path, where the files are known: there is none, or it is over the limit
+abbrev pub IsUnreadable : Option (List NamedFile) → List ℕ → Type 0
+IsUnreadable None path = ⊥
+IsUnreadable (Some files) path = (file_at files path ≡ None) ⊎ IsTooLong (Some files) path
+
+-- what stands before a file's bytes: 256, the name, 257
+abbrev pub opening : List ℕ → List ℕ
+opening name = 256 ∷ (name ++ 257 ∷ [])
+
+-- files as one list: of each 256, the name, 257 and the bytes
+abbrev pub told : List NamedFile → List ℕ
+told files = flat_map (λ file. opening file.name ++ file.bytes) files
+
+-- the files of a folder in memory as one list
+abbrev pub told_open : List OpenFile → List ℕ
+told_open files = flat_map (λ file. opening file.name.items ++ file.bytes.items) files
+
+-- such a list, read from its end: what stands before the next 256 or 257, the bytes of the file that it belongs to,
+-- and the files after that
+pub record FilesRead : Type 0 where
+  pub text : List ℕ
+  pub bytes : List ℕ
+  pub files : List NamedFile
+
+abbrev pub with_one_more : ℕ → FilesRead → FilesRead
+with_one_more b r =
+    if b == 256 then record { text = []; bytes = []; files = record { name = r.text; bytes = r.bytes } ∷ r.files }
+    else if b == 257 then record { text = []; bytes = r.text; files = r.files }
+    else record { text = b ∷ r.text; bytes = r.bytes; files = r.files }
+
+abbrev pub files_read : List ℕ → FilesRead
+files_read [] = record { text = []; bytes = []; files = [] }
+files_read (b ∷ bs) = with_one_more b (files_read bs)
+
+-- the files that such a list tells of
+abbrev pub files_told : List ℕ → List NamedFile
+files_told list = (files_read list).files
+
+-- the name and the bytes are below 256
+pub record IsOfBytes (file : NamedFile) : Type 0 where
+  pub name : list_all is_byte file.name ≡ true
+  pub bytes : list_all is_byte file.bytes ≡ true

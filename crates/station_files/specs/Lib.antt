@@ -1,0 +1,4 @@
+pub mod Files
+pub mod ClosedIndex
+pub mod Writable
+pub mod Closing

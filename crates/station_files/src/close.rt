@@ -1,0 +1,155 @@
+//! Writing the files of a run.
+#![tactic(auto, using(dbf_image::proofs::Sinks::sinks))]
+
+ghost use Rattle.std.specs.Prelude.{◌≡◌, ◌≢◌, ◌+◌, ◌<◌, ◌≤◌, ◌↔◌, ◌∷◌, [], ℕ, List, Err, length, map, Some, None, true, false, OnOk, OnErr, IfErr, take};
+ghost use Rattle.dbf_image.specs.Blocks.{memo_image};
+ghost use Rattle.dbf_image.specs.Image.{image, IsOutside};
+ghost use Rattle.dbf_image.specs.Sink.{grown, IsFront, Rises};
+ghost use Rattle.station_files.specs.Files.{told};
+ghost use Rattle.station_files.specs.Closing.{bytes_of, file_of, run_files, first_blocked, IsCutAt};
+ghost use Rattle.station_files.specs.Writable.{has_too_many as has_too_many_blocks, is_writable};
+
+use crate::close_fault::CloseFault;
+use crate::closed::ClosedTable;
+use crate::content::Content;
+use crate::folder::Folder;
+use crate::plan::plan_files;
+use crate::planned::Planned;
+use dbf_fields::{Bytes, Day};
+use dbf_image::{SinkFault, TableData, next_free_block, write_all, write_dbf, write_dbt};
+use std::alloc::Global;
+
+// Whether the memos take more blocks than 32 bits count.
+fn has_too_many(table: &TableData) -> bool
+    ensures value { result ≡ has_too_many_blocks table.now }
+{
+    next_free_block(table).is_none()
+}
+
+// The number of the first table whose memos take too many blocks. Takes no memory.
+fn first_too_many(tables: &[ClosedTable]) -> Option<usize>
+    ensures value { result ≡ first_blocked 1 tables.now }
+{
+    let mut number = 0;
+    for closed in tables {
+        number += 1;
+        if has_too_many(&closed.content) {
+            return Some(number);
+        }
+    }
+    None
+}
+
+// Writes the file of a table.
+fn write_table<F: Folder>(folder: &mut F, table: &TableData, day: Day) -> Result<(), SinkFault>
+    requires low { 1900 ≤ day.year }
+    requires high { day.year ≤ 2155 }
+    requires few { has_too_many_blocks table.now ≡ false }
+    ensures wrote { OnOk result (F.written folder.new ≡ grown (F.written folder.old) (image table.now day.year day.month day.day)) }
+    ensures fine { OnOk result (F.failures folder.new ≡ F.failures folder.old) }
+    ensures failed { OnErr result (Rises (F.failures folder.old) (F.failures folder.new)) }
+    ensures kept { IsFront (F.written folder.old) (F.written folder.new) }
+    ensures front { OnErr result (IsFront (F.written folder.new) (grown (F.written folder.old) (image table.now day.year day.month day.day))) }
+{
+    match write_dbf(folder, table, day) {
+        Ok(()) => Ok(()),
+        Err(_) => Err(SinkFault),
+    }
+}
+
+// Writes the file of a table's memos.
+fn write_memos<F: Folder>(folder: &mut F, table: &TableData) -> Result<(), SinkFault>
+    requires few { has_too_many_blocks table.now ≡ false }
+    ensures wrote { OnOk result (F.written folder.new ≡ grown (F.written folder.old) (memo_image table.now)) }
+    ensures fine { OnOk result (F.failures folder.new ≡ F.failures folder.old) }
+    ensures failed { OnErr result (Rises (F.failures folder.old) (F.failures folder.new)) }
+    ensures kept { IsFront (F.written folder.old) (F.written folder.new) }
+    ensures front { OnErr result (IsFront (F.written folder.new) (grown (F.written folder.old) (memo_image table.now))) }
+{
+    match write_dbt(folder, table) {
+        Ok(()) => Ok(()),
+        Err(_) => Err(SinkFault),
+    }
+}
+
+// Writes what a file is to hold.
+fn write_content<F: Folder>(folder: &mut F, content: &Content<'_>) -> Result<(), SinkFault>
+    requires can { is_writable content.now ≡ true }
+    ensures wrote { OnOk result (F.written folder.new ≡ grown (F.written folder.old) (bytes_of content.now)) }
+    ensures fine { OnOk result (F.failures folder.new ≡ F.failures folder.old) }
+    ensures failed { OnErr result (Rises (F.failures folder.old) (F.failures folder.new)) }
+    ensures kept { IsFront (F.written folder.old) (F.written folder.new) }
+    ensures front { OnErr result (IsFront (F.written folder.new) (grown (F.written folder.old) (bytes_of content.now))) }
+{
+    match content {
+        Content::Table(table, day) => write_table(folder, *table, *day),
+        Content::Memos(table) => write_memos(folder, *table),
+        Content::Index(index) => index.write(folder),
+        Content::Text(text) => write_all(folder, text.as_slice()),
+    }
+}
+
+// Writes a file.
+fn write_file<F: Folder>(folder: &mut F, planned: &Planned<'_>) -> Result<(), SinkFault>
+    ensures wrote { OnOk result (F.written folder.new ≡ grown (F.written folder.old) (told (file_of planned.now ∷ []))) }
+    ensures fine { OnOk result (F.failures folder.new ≡ F.failures folder.old) }
+    ensures failed { OnErr result (Rises (F.failures folder.old) (F.failures folder.new)) }
+    ensures kept { IsFront (F.written folder.old) (F.written folder.new) }
+    ensures front { OnErr result (IsFront (F.written folder.new) (grown (F.written folder.old) (told (file_of planned.now ∷ [])))) }
+{
+    folder.begin(planned.name.as_slice())?;
+    write_content(folder, &planned.content)
+}
+
+// Writes the files in their order. An error tells the place of the one that was not written, or not whole.
+fn write_files<F: Folder>(folder: &mut F, planned: &[Planned<'_>]) -> Result<(), usize>
+    ensures wrote { OnOk result (F.written folder.new ≡ grown (F.written folder.old) (told (map file_of planned.now))) }
+    ensures fine { OnOk result (F.failures folder.new ≡ F.failures folder.old) }
+    ensures failed { OnErr result (Rises (F.failures folder.old) (F.failures folder.new)) }
+    ensures inside { IfErr result (λ place. place < length planned.now) }
+    ensures whole { IfErr result (λ place. IsFront (grown (F.written folder.old) (told (map file_of (take place planned.now)))) (F.written folder.new)) }
+    ensures front { IfErr result (λ place. IsFront (F.written folder.new) (grown (F.written folder.old) (told (map file_of (take (place + 1) planned.now))))) }
+{
+    let mut place = 0;
+    for file in planned {
+        if write_file(folder, file).is_err() {
+            return Err(place);
+        }
+        place += 1;
+    }
+    Ok(())
+}
+
+/// Writes the files of a run into a folder: of each table `NAME.DBF`, `NAME.DBT` where a field is a memo, and
+/// `INDEX.NDX` of each index; then `STATION1.TXT` and so on with the stations' answers.
+///
+/// `DateOutside`, `TooManyBlocks` of the first such table, and `NoMemory` come before any file is begun, and
+/// the first two whatever memory there is. `Write` tells the name of a file: those before it are whole, and of
+/// it, if it was begun, a front part was written.
+pub fn close_files<F: Folder>(
+    alloc: Global,
+    tables: &[ClosedTable],
+    answers: &[Bytes],
+    day: Day,
+    folder: &mut F,
+) -> Result<(), CloseFault>
+    ensures wrote { OnOk result (F.written folder.new ≡ grown (F.written folder.old) (told (run_files day.year day.month day.day tables.now answers.now))) }
+    ensures fine { OnOk result (F.failures folder.new ≡ F.failures folder.old) }
+    ensures outside { (result ≡ Err CloseFault.DateOutside) ↔ IsOutside day.year }
+    ensures blocks { (number : ℕ) → ((result ≡ Err (CloseFault.TooManyBlocks number)) ↔ ((IsOutside day.year → ⊥) × (first_blocked 1 tables.now ≡ Some number))) }
+    ensures unbegun { IfErr result (λ fault. ((name : List ℕ) → fault ≢ CloseFault.Write name) → folder.new ≡ folder.old) }
+    ensures failed { (name : List ℕ) → result ≡ Err (CloseFault.Write name) → Rises (F.failures folder.old) (F.failures folder.new) }
+    ensures cut { (name : List ℕ) → result ≡ Err (CloseFault.Write name) → IsCutAt name (F.written folder.old) (F.written folder.new) (run_files day.year day.month day.day tables.now answers.now) }
+{
+    if day.year < 1900 || day.year > 2155 {
+        return Err(CloseFault::DateOutside);
+    }
+    if let Some(number) = first_too_many(tables) {
+        return Err(CloseFault::TooManyBlocks(number));
+    }
+    let mut planned = plan_files(alloc, tables, answers, day)?;
+    match write_files(folder, &planned) {
+        Ok(()) => Ok(()),
+        Err(place) => Err(CloseFault::Write(planned.remove(place).name)),
+    }
+}

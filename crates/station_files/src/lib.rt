@@ -1,0 +1,36 @@
+//! Files, by their paths and names: where they are read from and where they are written to.
+//!
+//! A [`Source`] is read from and a [`Folder`] is written to. [`MemorySource`] and [`MemoryFolder`] keep files in
+//! memory, and contracts know them whole; [`DiskSource`] and [`DiskFolder`] are files of the system, of which no
+//! contract says what they hold. [`close_files`] writes the files of a run into a folder; which they are is
+//! defined in `specs/Closing.antt`. Start reading there.
+#![tactic(auto)]
+
+mod close;
+mod close_fault;
+mod closed;
+mod closed_index;
+mod content;
+mod disk_folder;
+mod disk_source;
+mod folder;
+mod memory_folder;
+mod memory_source;
+mod named;
+mod plan;
+mod planned;
+mod source;
+#[cfg(test)]
+mod tests;
+
+pub use close::close_files;
+pub use close_fault::CloseFault;
+pub use closed::ClosedTable;
+pub use closed_index::ClosedIndex;
+pub use disk_folder::DiskFolder;
+pub use disk_source::DiskSource;
+pub use folder::Folder;
+pub use memory_folder::{MemoryFolder, OpenFile};
+pub use memory_source::MemorySource;
+pub use named::NamedFile;
+pub use source::{LoadFault, MAX_FILE_BYTES, Source};

@@ -1,0 +1,17 @@
+//! A file that is to be written.
+
+ghost use Rattle.std.specs.Prelude.{◌≡◌, true};
+ghost use Rattle.station_files.specs.Writable.{is_writable};
+
+use crate::content::Content;
+use dbf_fields::Bytes;
+
+/// A file that is to be written, and can be.
+#[derive(Drop)]
+pub(crate) struct Planned<'a> {
+    /// Its name.
+    pub name: Bytes,
+    /// What it is to hold.
+    pub content: Content<'a>,
+    ghost writable: { is_writable content ≡ true },
+}

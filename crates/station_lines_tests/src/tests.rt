@@ -1,0 +1,3 @@
+mod answer_lines;
+mod script;
+mod setup;

@@ -1,0 +1,386 @@
+use dbf_fields::{Bytes, Literal, day_of};
+use shared_catalogue::{Command, Question};
+use station_lines::{Line, lines, parse_line};
+use std::alloc::{AllocError, Global};
+use std::test::Fail;
+
+// Whether each line of a script has this meaning.
+fn are_read(alloc: Global, script: &[u8], wanted: &Line) -> Result<bool, AllocError> {
+    let mut rest = lines(script);
+    for _ in 0..script.len() {
+        let Some(line) = rest.next_line() else {
+            return Ok(true);
+        };
+        let read = parse_line(alloc, line)?;
+        if read != *wanted {
+            return Ok(false);
+        }
+    }
+    Ok(true)
+}
+
+// The index of the first case with a line that is not read as its command.
+fn first_misread(alloc: Global, cases: &[(&[u8], Line)]) -> Result<Option<usize>, AllocError> {
+    for i in 0..cases.len() {
+        let (script, wanted) = &cases[i];
+        if !are_read(alloc, script, wanted)? {
+            return Ok(Some(i));
+        }
+    }
+    Ok(None)
+}
+
+// A command that keeps a name or a text, which stand beside it in a table of cases.
+#[derive(Clone, Copy)]
+enum Keeps {
+    Use(bool),
+    Seek,
+    Show,
+    Memo,
+    ReplaceText,
+    ReplaceNumber(i128, u8),
+    ReplaceTruth(bool),
+    ReplaceDate(u16, u8, u8),
+    ReplaceBlankDate,
+    ReplaceBadDate,
+}
+
+fn value_of(keeps: Keeps, text: Bytes) -> Result<Literal, Fail> {
+    Ok(match keeps {
+        Keeps::ReplaceNumber(digits, scale) => Literal::Number { digits, scale },
+        Keeps::ReplaceTruth(truth) => Literal::Truth(truth),
+        Keeps::ReplaceDate(year, month, day) => {
+            Literal::Date(day_of(year, month, day).ok_or("a date")?)
+        }
+        Keeps::ReplaceBlankDate => Literal::BlankDate,
+        Keeps::ReplaceBadDate => Literal::BadDate,
+        _ => Literal::Text(text),
+    })
+}
+
+fn line_of(alloc: Global, keeps: Keeps, name: &[u8], text: &[u8]) -> Result<Line, Fail> {
+    let field = Bytes::from_slice(alloc, name)?;
+    let text = Bytes::from_slice(alloc, text)?;
+    match keeps {
+        Keeps::Use(exclusive) => Ok(Line::Run(Command::UseTable {
+            name: field,
+            exclusive,
+        })),
+        Keeps::Seek => Ok(Line::Run(Command::Seek(text))),
+        Keeps::Show => Ok(Line::Run(Command::Show(field))),
+        Keeps::Memo => Ok(Line::Run(Command::Memo { field, text })),
+        _ => {
+            let value = value_of(keeps, text)?;
+            Ok(Line::Run(Command::Replace { field, value }))
+        }
+    }
+}
+
+// The same for commands that keep a name or a text.
+fn first_misread_of_names(
+    alloc: Global,
+    cases: &[(&[u8], Keeps, &[u8], &[u8])],
+) -> Result<Option<usize>, Fail> {
+    for i in 0..cases.len() {
+        let (script, keeps, name, text) = cases[i];
+        let wanted = line_of(alloc, keeps, name, text)?;
+        if !are_read(alloc, script, &wanted)? {
+            return Ok(Some(i));
+        }
+    }
+    Ok(None)
+}
+
+// The commands of the table, each in three spellings, a line each: whole, shortened as far as it goes, and in
+// small letters with blanks and tabs around its words.
+fn commands_of_keywords() -> [(&'static [u8], Line); 16] {
+    [
+        (
+            b"SELECT 10\nSELE 10\n\tselect \t 10 ",
+            Line::Run(Command::Select(10)),
+        ),
+        (b"USE\nUse\n use\t", Line::Run(Command::CloseTable)),
+        (
+            b"GOTO 7\nGO 7\n goto\t0000000007 ",
+            Line::Run(Command::Go(7)),
+        ),
+        (b"GO TOP\nGOTO TOP\n go  top", Line::Run(Command::Top)),
+        (
+            b"GO BOTTOM\nGO BOTT\n goto  bottom ",
+            Line::Run(Command::Bottom),
+        ),
+        (b"SKIP 2\nSKIP 02\n\tskip  2\t", Line::Run(Command::Skip(2))),
+        (b"SKIP\nSkip\n skip ", Line::Run(Command::Skip(1))),
+        (
+            b"SET ORDER TO 1\nSET ORDE TO 1\nset\torder  to\t1",
+            Line::Run(Command::Order(1)),
+        ),
+        (
+            b"APPEND BLANK\nAPPE BLAN\n append\t\tblank",
+            Line::Run(Command::AppendBlank),
+        ),
+        (b"DELETE\nDELE\n delet ", Line::Run(Command::Delete)),
+        (b"RECALL\nRECA\n\trecall", Line::Run(Command::Recall)),
+        (b"PACK\nPack\n pack ", Line::Run(Command::Pack)),
+        (b"UNLOCK\nUNLO\n\tunlock\t", Line::Run(Command::Unlock)),
+        (
+            b"UNLOCK ALL\nUNLO ALL\n unlock   all ",
+            Line::Run(Command::UnlockAll),
+        ),
+        (
+            b"GO 9999999999\nGOTO 9999999999\n go 9999999999 ",
+            Line::Run(Command::Go(9_999_999_999)),
+        ),
+        (
+            b"DISPLAY STATUS\nDISP STAT\n\t display \t status ",
+            Line::Status,
+        ),
+    ]
+}
+
+fn commands_of_functions() -> [(&'static [u8], Line); 9] {
+    [
+        (
+            b"? RLOCK()\n?\tRlock()\n ? rlock() ",
+            Line::Run(Command::RecordLock),
+        ),
+        (
+            b"? LOCK()\n?\tLock()\n ? lock() ",
+            Line::Run(Command::RecordLock),
+        ),
+        (
+            b"? FLOCK()\n?\tFlock()\n ? flock() ",
+            Line::Run(Command::FileLock),
+        ),
+        (
+            b"? EOF()\n?\tEof()\n ? eof() ",
+            Line::Run(Command::Ask(Question::Eof)),
+        ),
+        (
+            b"? BOF()\n?\tBof()\n ? bof() ",
+            Line::Run(Command::Ask(Question::Bof)),
+        ),
+        (
+            b"? FOUND()\n?\tFound()\n ? found() ",
+            Line::Run(Command::Ask(Question::Found)),
+        ),
+        (
+            b"? DELETED()\n?\tDeleted()\n ? deleted() ",
+            Line::Run(Command::Ask(Question::Deleted)),
+        ),
+        (
+            b"? RECNO()\n?\tRecno()\n ? recno() ",
+            Line::Run(Command::Ask(Question::Recno)),
+        ),
+        (
+            b"? RECCOUNT()\n?\tReccount()\n ? reccount() ",
+            Line::Run(Command::Ask(Question::Reccount)),
+        ),
+    ]
+}
+
+const COMMANDS_OF_NAMES: [(&[u8], Keeps, &[u8], &[u8]); 6] = [
+    (
+        b"USE PEOPLE\nUSE people\n\tuse  People ",
+        Keeps::Use(false),
+        b"PEOPLE",
+        b"",
+    ),
+    (
+        b"USE T EXCLUSIVE\nUSE T EXCL\n use\tt  exclusive ",
+        Keeps::Use(true),
+        b"T",
+        b"",
+    ),
+    (
+        b"SEEK \"A B\"\nSEEK 'A B'\n\tseek  \"A B\" ",
+        Keeps::Seek,
+        b"",
+        b"A B",
+    ),
+    (
+        b"REPLACE NAME WITH \"it's\"\nREPL NAME WITH \"it's\"\n replace\tname with  \"it's\"",
+        Keeps::ReplaceText,
+        b"NAME",
+        b"it's",
+    ),
+    (
+        b"MEMO NOTE WITH ''\nMEMO NOTE WITH \"\"\n\tmemo note\twith '' ",
+        Keeps::Memo,
+        b"NOTE",
+        b"",
+    ),
+    (
+        b"? NAME_2\n?\tName_2\n ? name_2 ",
+        Keeps::Show,
+        b"NAME_2",
+        b"",
+    ),
+];
+
+// Each command once with one thing wrong, a line each.
+const WRONG_LINES: &[u8] = b"SELECT\nSELECT 1 2\nSEL 1\nSELECT -1\nSELECT A\nUSE 1T\nUSE T EXC\n\
+    USE T EXCLUSIVE X\nUSE T U\nGO\nGOT 1\nGO +1\nGO 1 2\nGO TO\nGO BOT\n\
+    GO TOP 1\nSKI\nSKIP +1\nSKIP -\nSKIP 1 2\nSKIP --1\nSEEK\nSEEK A\n\
+    SEEK\"A\"\nSEEK \"A\nSEEK \"A'\nSEEK \"A\"\"B\"\nSET ORDER 1\n\
+    SET ORD TO 1\nSET ORDER TO\nSET ORDER TO -1\nSET ORDER TO 1 2\nAPPEND\n\
+    APPEND BLA\nAPPEND BLANK X\nAPPENDS BLANK\nREP F WITH 1\n\
+    REPLACE F WITH\nREPLACE F 1\nREPLACE F WITH 1 2\nREPLACE F WITH 1.2.3\n\
+    REPLACE F WITH .\nREPLACE F WITH 12345678901234567890\n\
+    REPLACE F WITH .X.\nREPLACE F WITH CTOD( \"01/01/84\")\n\
+    REPLACE F WITH CTOD(\"01/01/84\"\nMEM F WITH 'A'\nMEMO F WITH A\n\
+    MEMO F WITH 'A\nDEL\nDELETE 1\nREC\nPAC\nUNL\nUNLOCK 1\n?NAME\n\
+    ? RLOCK(\nDISPLAY\n";
+
+#[test]
+fn shortened_keywords(rt: HostRuntime) -> Result<(), Fail> {
+    let alloc = rt.alloc();
+    let cases: [(&[u8], Line); 4] = [
+        (b"appe blan", Line::Run(Command::AppendBlank)),
+        (b"APP BLANK\nREPLACE NAME WITH \"A", Line::Run(Command::Bad)),
+        (b"* x\n  \t* remark\n*\n\n \t ", Line::Blank),
+        (b"DISP STAT", Line::Status),
+    ];
+    assert_eq!(rt; first_misread(alloc, &cases)?, None);
+    Ok(())
+}
+
+#[test]
+fn script_line_forms(rt: HostRuntime) -> Result<(), Fail> {
+    let alloc = rt.alloc();
+    let cases: [(&[u8], Line); 4] = [
+        (
+            b"GO 10000000000\n? LOCK ()\nSEEK \"A\" B\nunlo al",
+            Line::Run(Command::Bad),
+        ),
+        (b"? Lock()", Line::Run(Command::RecordLock)),
+        (b"skip -3", Line::Run(Command::Skip(-3))),
+        (b"unlo all", Line::Run(Command::UnlockAll)),
+    ];
+    let names: [(&[u8], Keeps, &[u8], &[u8]); 5] = [
+        (
+            b"repl name with -.5",
+            Keeps::ReplaceNumber(-5, 1),
+            b"NAME",
+            b"",
+        ),
+        (
+            b"REPLACE AMT WITH 007.50",
+            Keeps::ReplaceNumber(750, 2),
+            b"AMT",
+            b"",
+        ),
+        (b"use t excl", Keeps::Use(true), b"T", b""),
+        (b"MEMO NOTE WITH 'a\"b'", Keeps::Memo, b"NOTE", b"a\"b"),
+        (
+            b"REPL B WITH CTOD(\"13/01/84\")",
+            Keeps::ReplaceBadDate,
+            b"B",
+            b"",
+        ),
+    ];
+    assert_eq!(rt; first_misread(alloc, &cases)?, None);
+    assert_eq!(rt; first_misread_of_names(alloc, &names)?, None);
+    Ok(())
+}
+
+#[test]
+fn every_command_in_three_spellings(rt: HostRuntime) -> Result<(), Fail> {
+    let alloc = rt.alloc();
+    assert_eq!(rt; first_misread(alloc, &commands_of_keywords())?, None);
+    assert_eq!(rt; first_misread(alloc, &commands_of_functions())?, None);
+    assert_eq!(rt; first_misread_of_names(alloc, &COMMANDS_OF_NAMES)?, None);
+    assert!(rt; are_read(alloc, WRONG_LINES, &Line::Run(Command::Bad))?);
+    Ok(())
+}
+
+#[test]
+fn values_of_each_kind(rt: HostRuntime) -> Result<(), Fail> {
+    let alloc = rt.alloc();
+    let cases: [(&[u8], Keeps, &[u8], &[u8]); 7] = [
+        (
+            b"REPL F WITH .t.\nREPL F WITH .Y.",
+            Keeps::ReplaceTruth(true),
+            b"F",
+            b"",
+        ),
+        (
+            b"REPL F WITH .F.\nREPL F WITH .n.",
+            Keeps::ReplaceTruth(false),
+            b"F",
+            b"",
+        ),
+        (b"REPL F WITH +5.", Keeps::ReplaceNumber(5, 0), b"F", b""),
+        (
+            b"REPL F WITH 9.999999999999999999",
+            Keeps::ReplaceNumber(9_999_999_999_999_999_999, 18),
+            b"F",
+            b"",
+        ),
+        (
+            b"REPL F WITH ctod('02/29/84')",
+            Keeps::ReplaceDate(1984, 2, 29),
+            b"F",
+            b"",
+        ),
+        (
+            b"REPL F WITH CTOD(\"  /  /  \")",
+            Keeps::ReplaceBlankDate,
+            b"F",
+            b"",
+        ),
+        (
+            b"REPL F WITH CTOD(\"2/29/84\")",
+            Keeps::ReplaceBadDate,
+            b"F",
+            b"",
+        ),
+    ];
+    assert_eq!(rt; first_misread_of_names(alloc, &cases)?, None);
+    Ok(())
+}
+
+#[test]
+fn odd_bytes_are_bytes(rt: HostRuntime) -> Result<(), Fail> {
+    let alloc = rt.alloc();
+    let text = b"\0\x1a\x80\xff\r";
+    let wanted = Line::Run(Command::Seek(Bytes::from_slice(alloc, text)?));
+    assert!(rt; are_read(alloc, b"SEEK \"\0\x1a\x80\xff\r\"", &wanted)?);
+    assert!(rt;
+        are_read(
+            alloc,
+            b"SEEK\0 'A'\nUSE \x80T\nPACK\r",
+            &Line::Run(Command::Bad)
+        )?
+    );
+    Ok(())
+}
+
+// Whether the lines of a script are these.
+fn are_lines(script: &[u8], wanted: &[&[u8]]) -> bool {
+    let mut rest = lines(script);
+    for line in wanted {
+        if rest.next_line() != Some(*line) {
+            return false;
+        }
+    }
+    rest.next_line() == None && rest.next_line() == None
+}
+
+#[test]
+fn script_endings(rt: HostRuntime) {
+    let cases: [(&[u8], &[&[u8]]); 9] = [
+        (b"USE T\nGO 2\n", &[b"USE T", b"GO 2"]),
+        (b"USE T\r\nGO 2\r\n", &[b"USE T", b"GO 2"]),
+        (b"USE T\n\nGO 2", &[b"USE T", b"", b"GO 2"]),
+        (b"A\rB\nC", &[b"A\rB", b"C"]),
+        (b"A\nB\r", &[b"A", b"B\r"]),
+        (b"A\r\r\n", &[b"A\r"]),
+        (b"", &[]),
+        (b"\n", &[b""]),
+        (b"\r\n", &[b""]),
+    ];
+    for (script, wanted) in cases {
+        assert!(rt; are_lines(script, wanted));
+    }
+}

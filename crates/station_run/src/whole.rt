@@ -1,0 +1,55 @@
+//! The run of a catalogue, from its opening to its end.
+
+ghost use Rattle.std.specs.Prelude.{◌≡◌, ◌≢◌, [], IfOk, IsErrOf, length};
+ghost use Rattle.station_run.specs.Reports.{AreReports};
+
+use crate::fault::RunFault;
+use crate::gate::Gate;
+use crate::run::{Outcome, run_stations};
+use dbf_fields::Bytes;
+use shared_catalogue::{Catalogue, Lot, Naming, Shared};
+use std::alloc::Global;
+use std::marker::Brand;
+use std::sync::Wait;
+use std::thread::Threads;
+
+/// Runs a script for each station of a catalogue that has performed no command: see
+/// [`crate::run::run_stations`].
+pub fn run_catalogue<G: Gate + Sync, R: Threads + Wait + Sync>(
+    rt: &R,
+    alloc: Global,
+    catalogue: Catalogue,
+    scripts: &[Bytes],
+    gate: &G,
+) -> Result<Outcome, RunFault>
+    requires empty { catalogue.journal ≡ [] }
+    ensures opened { IfOk result (λ outcome. outcome.closed.opened ≡ catalogue.opened) }
+    ensures scripts { IfOk result (λ _. length scripts.now ≡ catalogue.opened.stations) }
+    ensures reports { IfOk result (λ outcome. AreReports catalogue.opened.stations outcome.closed.journal scripts.now outcome.answers.items) }
+    ensures count { IsErrOf result RunFault.ScriptCount → length scripts.now ≢ catalogue.opened.stations }
+{
+    let lot = Lot::new(catalogue.station_count());
+    run_as::<Brand, G, R>(rt, alloc, lot, catalogue, scripts, gate)
+}
+
+// The same for the ledger and the opened tables of a name.
+fn run_as<J: Naming + Send + Sync, G: Gate + Sync, R: Threads + Wait + Sync>(
+    rt: &R,
+    alloc: Global,
+    lot: Lot,
+    catalogue: Catalogue,
+    scripts: &[Bytes],
+    gate: &G,
+) -> Result<Outcome, RunFault>
+    requires empty { catalogue.journal ≡ [] }
+    requires opened { catalogue.opened ≡ J.opened }
+    requires ledger { (lot.ledger ≡ J.name) × (lot.parts ≡ J.parts) }
+    requires parts { lot.parts ≡ catalogue.opened.stations }
+    ensures opened { IfOk result (λ outcome. outcome.closed.opened ≡ J.opened) }
+    ensures scripts { IfOk result (λ _. length scripts.now ≡ J.opened.stations) }
+    ensures reports { IfOk result (λ outcome. AreReports J.opened.stations outcome.closed.journal scripts.now outcome.answers.items) }
+    ensures count { IsErrOf result RunFault.ScriptCount → length scripts.now ≢ J.opened.stations }
+{
+    let (shared, seats) = Shared::<J>::new(alloc, catalogue, lot)?;
+    run_stations(rt, alloc, shared, seats, scripts, gate)
+}

@@ -1,0 +1,108 @@
+pub mod sample;
+mod stations;
+
+use dbf_fields::Bytes;
+use dbf_image::read_table;
+use key_expr::ExprFault;
+use shared_catalogue::{
+    Answer, Catalogue, Command, OpenFault, Refusal, SettleFault, Stop, TableSource,
+};
+use station_run::RunFault;
+use std::alloc::{AllocError, Global};
+use std::test::Fail;
+
+// The sample's table under a name.
+fn source(alloc: Global, name: &[u8]) -> Result<TableSource, Fail> {
+    Ok(TableSource {
+        name: Bytes::from_slice(alloc, name)?,
+        content: read_table(alloc, &sample::TABLE, None)?,
+        indexes: Vec::new(alloc),
+    })
+}
+
+fn open_sample(alloc: Global) -> Result<Catalogue, Fail> {
+    let sources = vec![in alloc; source(alloc, b"T")?]?;
+    Ok(Catalogue::open(alloc, sources, 1, false)?)
+}
+
+// Performs a command of station 1.
+fn answer_of(alloc: Global, catalogue: &mut Catalogue, command: &Command) -> Result<Answer, Fail> {
+    if catalogue.station_count() < 1 {
+        return Err("there is no station".into());
+    }
+    let (_, answer) = catalogue.perform(alloc, 1, command)?;
+    Ok(answer)
+}
+
+#[test]
+fn bad_command_is_refused(rt: HostRuntime) -> Result<(), Fail> {
+    let alloc = rt.alloc();
+    let mut catalogue = open_sample(alloc)?;
+    let answer = answer_of(alloc, &mut catalogue, &Command::Bad)?;
+    assert_eq!(rt; answer, Answer::Refused(Refusal::BadCommand));
+    Ok(())
+}
+
+#[test]
+fn faults_of_opening_have_their_texts(rt: HostRuntime) -> Result<(), Fail> {
+    let alloc = rt.alloc();
+    let cases: [(OpenFault, &str); 9] = [
+        (OpenFault::NoStation, "there is no station"),
+        (OpenFault::TooManyStations, "there are too many stations"),
+        (OpenFault::TooManyTables, "there are too many tables"),
+        (
+            OpenFault::DuplicateTable(3),
+            "table 3 has the name of an earlier one",
+        ),
+        (OpenFault::TooManyIndexes(2), "table 2 has too many indexes"),
+        (
+            OpenFault::DuplicateIndex(2, 1),
+            "index 1 of table 2 has the name of an earlier one",
+        ),
+        (
+            OpenFault::BadExpression(1, 2, ExprFault::NoSuchField),
+            "index 2 of table 1 has no good key expression: there is no such field",
+        ),
+        (OpenFault::IndexStale(1, 7), "index 7 of table 1 is stale"),
+        (OpenFault::NoMemory, "out of memory"),
+    ];
+    for (fault, text) in cases {
+        let shown = format!(in alloc; "{fault}")?;
+        assert_eq!(rt; shown.as_str(), text);
+    }
+    Ok(())
+}
+
+#[test]
+fn faults_of_a_run_have_their_texts(rt: HostRuntime) -> Result<(), Fail> {
+    let alloc = rt.alloc();
+    let cases: [(RunFault, &str); 7] = [
+        (
+            RunFault::ScriptCount,
+            "there are not as many scripts as stations",
+        ),
+        (RunFault::NoThread(3), "no thread for station 3"),
+        (
+            RunFault::Stopped(2, Stop::JournalFull),
+            "station 2 was stopped: the journal is full",
+        ),
+        (
+            RunFault::Stopped(2, Stop::NoMemory),
+            "station 2 was stopped: out of memory",
+        ),
+        (
+            RunFault::Settle(SettleFault::SeatMissing(1)),
+            "not settled: the seat of station 1 is missing",
+        ),
+        (
+            RunFault::Settle(SettleFault::ReceiptMismatch(16)),
+            "not settled: the receipts of station 16 are not those of the journal",
+        ),
+        (RunFault::NoMemory, "out of memory"),
+    ];
+    for (fault, text) in cases {
+        let shown = format!(in alloc; "{fault}")?;
+        assert_eq!(rt; shown.as_str(), text);
+    }
+    Ok(())
+}

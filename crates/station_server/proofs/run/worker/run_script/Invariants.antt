@@ -1,9 +1,0 @@
-use Rattle.std.proofs.Common.{length}
-use Rattle.station_server.proofs.RunLaws.{IsUpTo}
-use Rattle.station_server.proofs.run.worker.run_script.Given as goal
-
-abbrev pub invariant-loop-text : goal.invariant-loop-text
-invariant-loop-text g l = IsUpTo l.cursor l.station l.script l.session
-
-abbrev pub decreases-loop-text : goal.decreases-loop-text
-decreases-loop-text g l = length l.cursor
