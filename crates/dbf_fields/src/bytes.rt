@@ -45,6 +45,14 @@ impl Bytes {
         Bytes { bytes }
     }
 
+    /// The bytes as a vector, which is the one that was kept. Takes no memory.
+    pub fn into_vec(self) -> Vec<u8>
+        ensures items { result.items ≡ self }
+    {
+        let Bytes { bytes } = self;
+        bytes
+    }
+
     /// The bytes as a slice.
     pub fn as_slice(&self) -> &[u8]
         ensures value { result.now ≡ self.now }

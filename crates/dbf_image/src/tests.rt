@@ -1,7 +1,7 @@
 //! Tests of the whole crate, and what they share.
 
 use super::*;
-use dbf_fields::{Field, MEMO, Schema, day_of};
+use dbf_fields::{Bytes, Field, MEMO, Schema, day_of};
 use std::alloc::Global;
 use std::process::Abort;
 use std::test::*;
@@ -62,6 +62,11 @@ fn front(bytes: &[u8], length: usize) -> &[u8] {
         return &bytes[..length];
     }
     bytes
+}
+
+// The table of a copy of these bytes.
+fn read_copy(alloc: Global, dbf: &[u8], dbt: Option<&[u8]>) -> Result<TableData, ImageFault> {
+    read_table(alloc, Bytes::from_slice(alloc, dbf)?, dbt)
 }
 
 // What is written of a table on 1987-03-15.

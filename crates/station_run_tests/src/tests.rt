@@ -15,7 +15,7 @@ use std::test::Fail;
 fn source(alloc: Global, name: &[u8]) -> Result<TableSource, Fail> {
     Ok(TableSource {
         name: Bytes::from_slice(alloc, name)?,
-        content: read_table(alloc, &sample::TABLE, None)?,
+        content: read_table(alloc, Bytes::from_slice(alloc, &sample::TABLE)?, None)?,
         indexes: Vec::new(alloc),
     })
 }

@@ -175,21 +175,35 @@ fn records_at(dbf: &[u8], header: Header) -> &[u8]
     records
 }
 
-// The table that the bytes tell, or the first test that fails.
-fn table_at(alloc: Global, dbf: &[u8], dbt: Option<&[u8]>) -> Result<TableData, ImageFault>
-    ensures accepted { IfOk result (λ _. refusal dbf.now (option_copied dbt.entry) ≡ None) }
-    ensures value { IfOk result (λ table. table ≡ table_read dbf.now (option_copied dbt.entry)) }
-    ensures refused { IfErr result (λ fault. IsRefusal fault dbf.now (option_copied dbt.entry)) }
-    ensures early { IfErr result (λ fault. (first : ImageFault) → early_refusal dbf.now ≡ Some first → fault ≡ first) }
+// The bytes of all records, moved to the front of the file's own. It takes no memory.
+fn records_of(dbf: Bytes, header: Header) -> Vec<u8>
+    requires whole { header.header_length + header.record_count * header.record_length ≤ length dbf }
+    ensures items { result.items ≡ take (header.record_count * header.record_length) (drop header.header_length dbf) }
 {
-    let header = header_at(dbf)?;
     let start = usize::from(header.header_length);
-    let schema = schema_at(alloc, dbf, start)?;
+    let size = u64::from(header.record_count) * u64::from(header.record_length);
+    let mut records = dbf.into_vec();
+    records.copy_within(start..start + size as usize, 0);
+    records.truncate(size as usize);
+    records
+}
+
+// The table that the bytes tell, or the first test that fails.
+fn table_at(alloc: Global, dbf: Bytes, dbt: Option<&[u8]>) -> Result<TableData, ImageFault>
+    ensures accepted { IfOk result (λ _. refusal dbf (option_copied dbt.entry) ≡ None) }
+    ensures value { IfOk result (λ table. table ≡ table_read dbf (option_copied dbt.entry)) }
+    ensures refused { IfErr result (λ fault. IsRefusal fault dbf (option_copied dbt.entry)) }
+    ensures early { IfErr result (λ fault. (first : ImageFault) → early_refusal dbf ≡ Some first → fault ≡ first) }
+{
+    let file = dbf.as_slice();
+    let header = header_at(file)?;
+    let start = usize::from(header.header_length);
+    let schema = schema_at(alloc, file, start)?;
     let size = schema.record_length();
-    check_records(dbf, header, size)?;
-    let bytes = records_at(dbf, header);
+    check_records(file, header, size)?;
+    let bytes = records_at(file, header);
     let (texts, memos) = memos_at(alloc, dbt, &schema, header.record_count, bytes)?;
-    let records = Vec::from_slice(alloc, bytes)?;
+    let records = records_of(dbf, header);
     Ok(TableData::new(schema, header.record_count, records, texts, memos))
 }
 
@@ -208,21 +222,23 @@ fn table_at(alloc: Global, dbf: &[u8], dbt: Option<&[u8]>) -> Result<TableData, 
 /// with memos or without. What is read costs time and memory in proportion to the two files, also where
 /// many cells name one block.
 ///
+/// The bytes of the DBF file become those of the table, which has its records in them.
+///
 /// An `Err` is the fault of the first test that fails: see [`ImageFault`]. `NoMemory` may stand in its place
 /// where memory was refused before that test, and so never in place of a fault of the header.
-pub fn read_table(alloc: Global, dbf: &[u8], dbt: Option<&[u8]>) -> Result<TableData, ImageFault>
+pub fn read_table(alloc: Global, dbf: Bytes, dbt: Option<&[u8]>) -> Result<TableData, ImageFault>
     // What is read is the files' table.
-    ensures found { IfOk result (IsDbf dbf.now (option_copied dbt.entry)) }
+    ensures found { IfOk result (IsDbf dbf (option_copied dbt.entry)) }
     // No test fails where a table is read.
-    ensures accepted { IfOk result (λ _. refusal dbf.now (option_copied dbt.entry) ≡ None) }
+    ensures accepted { IfOk result (λ _. refusal dbf (option_copied dbt.entry) ≡ None) }
     // Files of a table are read, unless memory is refused.
-    ensures only { (table : Table) → IsDbf dbf.now (option_copied dbt.entry) table → MatchResult result (λ t. t ≡ table) (λ fault. fault ≡ ImageFault.NoMemory) }
+    ensures only { (table : Table) → IsDbf dbf (option_copied dbt.entry) table → MatchResult result (λ t. t ≡ table) (λ fault. fault ≡ ImageFault.NoMemory) }
     // Which fault it is.
-    ensures refused { IfErr result (λ fault. IsRefusal fault dbf.now (option_copied dbt.entry)) }
+    ensures refused { IfErr result (λ fault. IsRefusal fault dbf (option_copied dbt.entry)) }
     // What is tested before memory is taken is answered as it is, and never as `NoMemory`.
-    ensures early { IfErr result (λ fault. (first : ImageFault) → early_refusal dbf.now ≡ Some first → fault ≡ first) }
+    ensures early { IfErr result (λ fault. (first : ImageFault) → early_refusal dbf ≡ Some first → fault ≡ first) }
     // Two files are those of one table at most.
-    ensures one { (a b : Table) → IsDbf dbf.now (option_copied dbt.entry) a → IsDbf dbf.now (option_copied dbt.entry) b → a ≡ b }
+    ensures one { (a b : Table) → IsDbf dbf (option_copied dbt.entry) a → IsDbf dbf (option_copied dbt.entry) b → a ≡ b }
 {
     table_at(alloc, dbf, dbt)
 }

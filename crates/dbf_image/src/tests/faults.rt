@@ -28,10 +28,10 @@ fn read_table_answers_each_refusal(rt: HostRuntime) -> Result<(), Fail> {
         ),
         (88, changed(&[(4, 3)]), ImageFault::Truncated),
     ] {
-        let read = read_table(rt.alloc(), front(&dbf, length), None);
+        let read = read_copy(rt.alloc(), front(&dbf, length), None);
         assert_eq!(rt; read.err(), Some(fault));
     }
-    let read = read_table(rt.alloc(), &one_memo(b"         1"), None);
+    let read = read_copy(rt.alloc(), &one_memo(b"         1"), None);
     assert_eq!(rt; read.err(), Some(ImageFault::MemoFileMissing));
     let dbt = long_memo(rt.alloc())?;
     for (cell, fault) in [
@@ -39,7 +39,7 @@ fn read_table_answers_each_refusal(rt: HostRuntime) -> Result<(), Fail> {
         (b"       130", ImageFault::MemoOutside),
         (b"         1", ImageFault::MemoTooLong),
     ] {
-        let read = read_table(rt.alloc(), &one_memo(cell), Some(dbt.as_slice()));
+        let read = read_copy(rt.alloc(), &one_memo(cell), Some(dbt.as_slice()));
         assert_eq!(rt; read.err(), Some(fault));
     }
     Ok(())

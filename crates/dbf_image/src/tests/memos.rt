@@ -54,7 +54,7 @@ fn cut_block_is_read_to_the_files_end(rt: HostRuntime) -> Result<(), Fail> {
     assert_eq!(rt; text.as_slice(), b"HELL".as_slice());
     let read = read_memo(rt.alloc(), front(&dbt, 512), 1);
     assert_eq!(rt; read.err(), Some(ImageFault::MemoOutside));
-    let table = read_table(rt.alloc(), &one_memo(b"         1"), Some(cut))?;
+    let table = read_copy(rt.alloc(), &one_memo(b"         1"), Some(cut))?;
     assert!(rt; has_cell(rt.alloc(), &table, 1, 0, b"HELL"));
     Ok(())
 }
@@ -74,7 +74,7 @@ fn cells_number_blocks(rt: HostRuntime) -> Result<(), Fail> {
         (b"0000000002", b"".as_slice()),
     ];
     for (cell, text) in cases {
-        let table = read_table(rt.alloc(), &one_memo(cell), Some(dbt.as_slice()))?;
+        let table = read_copy(rt.alloc(), &one_memo(cell), Some(dbt.as_slice()))?;
         assert!(rt; has_cell(rt.alloc(), &table, 1, 0, text));
     }
     Ok(())
@@ -91,7 +91,7 @@ fn bad_cells_are_refused(rt: HostRuntime) {
         (b"         2", ImageFault::MemoOutside),
     ];
     for (cell, fault) in cases {
-        let read = read_table(rt.alloc(), &one_memo(cell), Some(dbt.as_slice()));
+        let read = read_copy(rt.alloc(), &one_memo(cell), Some(dbt.as_slice()));
         assert_eq!(rt; read.err(), Some(fault));
     }
 }
@@ -101,12 +101,12 @@ fn text_has_65535_bytes_at_most(rt: HostRuntime) -> Result<(), Fail> {
     let dbf = one_memo(b"         1");
     let mut dbt = Vec::new(rt.alloc());
     dbt.resize(512 + 65_536, b'a')?;
-    let read = read_table(rt.alloc(), &dbf, Some(dbt.as_slice()));
+    let read = read_copy(rt.alloc(), &dbf, Some(dbt.as_slice()));
     assert_eq!(rt; read.err(), Some(ImageFault::MemoTooLong));
     let read = read_memo(rt.alloc(), &dbt, 1);
     assert_eq!(rt; read.err(), Some(ImageFault::MemoTooLong));
     let shorter = front(&dbt, 512 + 65_535);
-    let table = read_table(rt.alloc(), &dbf, Some(shorter))?;
+    let table = read_copy(rt.alloc(), &dbf, Some(shorter))?;
     assert!(rt; has_cell(rt.alloc(), &table, 1, 0, front(&dbt, 65_535)));
     Ok(())
 }
@@ -125,14 +125,14 @@ fn memo_texts_are_short_and_have_no_end(rt: HostRuntime) -> Result<(), Fail> {
 
 #[test]
 fn missing_file_is_refused(rt: HostRuntime) -> Result<(), Fail> {
-    let read = read_table(rt.alloc(), &one_memo(b"ABC       "), None);
+    let read = read_copy(rt.alloc(), &one_memo(b"ABC       "), None);
     assert_eq!(rt; read.err(), Some(ImageFault::MemoFileMissing));
     // The first byte does not say whether there are memos.
     let mut dbf = one_memo(b"         1");
     dbf[0] = 0x03;
-    let read = read_table(rt.alloc(), &dbf, None);
+    let read = read_copy(rt.alloc(), &dbf, None);
     assert_eq!(rt; read.err(), Some(ImageFault::MemoFileMissing));
-    let table = read_table(rt.alloc(), &dbf, Some(hello().as_slice()))?;
+    let table = read_copy(rt.alloc(), &dbf, Some(hello().as_slice()))?;
     assert!(rt; has_cell(rt.alloc(), &table, 1, 0, b"HELLO"));
     Ok(())
 }

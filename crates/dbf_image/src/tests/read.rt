@@ -29,14 +29,14 @@ fn assert_two_names(alloc: Global, rt: &impl Abort, table: &TableData) {
 
 #[test]
 fn first_image(rt: HostRuntime) -> Result<(), Fail> {
-    let table = read_table(rt.alloc(), &TWO_NAMES, None)?;
+    let table = read_copy(rt.alloc(), &TWO_NAMES, None)?;
     assert_two_names(rt.alloc(), &rt, &table);
     assert_written(rt.alloc(), &rt, &table, &TWO_NAMES)
 }
 
 #[test]
 fn tolerant_header(rt: HostRuntime) -> Result<(), Fail> {
-    let table = read_table(rt.alloc(), &TOLERATED, None)?;
+    let table = read_copy(rt.alloc(), &TOLERATED, None)?;
     assert_written(rt.alloc(), &rt, &table, &TWO_NAMES)
 }
 
@@ -44,7 +44,7 @@ fn tolerant_header(rt: HostRuntime) -> Result<(), Fail> {
 fn missing_record_is_truncated(rt: HostRuntime) {
     let dbf = changed(&[(4, 3)]);
     assert_eq!(rt;
-        read_table(rt.alloc(), &dbf, None).err(),
+        read_copy(rt.alloc(), &dbf, None).err(),
         Some(ImageFault::Truncated)
     );
 }
@@ -52,10 +52,10 @@ fn missing_record_is_truncated(rt: HostRuntime) {
 #[test]
 fn cut_short_is_truncated(rt: HostRuntime) {
     for length in 0..87usize {
-        let read = read_table(rt.alloc(), &TWO_NAMES[..length], None);
+        let read = read_copy(rt.alloc(), &TWO_NAMES[..length], None);
         assert_eq!(rt; read.err(), Some(ImageFault::Truncated), "at {length}");
     }
-    assert!(rt; read_table(rt.alloc(), &TWO_NAMES[..87], None).is_ok());
+    assert!(rt; read_copy(rt.alloc(), &TWO_NAMES[..87], None).is_ok());
 }
 
 #[test]
@@ -74,6 +74,6 @@ fn bad_header_is_refused(rt: HostRuntime) {
         ),
     ];
     for (dbf, fault) in cases {
-        assert_eq!(rt; read_table(rt.alloc(), &dbf, None).err(), Some(fault));
+        assert_eq!(rt; read_copy(rt.alloc(), &dbf, None).err(), Some(fault));
     }
 }

@@ -8,7 +8,7 @@ use std::test::*;
 
 #[test]
 fn failing_sink_has_the_front(rt: HostRuntime) -> Result<(), Fail> {
-    let table = read_table(rt.alloc(), &TWO_NAMES, None)?;
+    let table = read_copy(rt.alloc(), &TWO_NAMES, None)?;
     let day = day_of(1987, 3, 15).ok_or("no such day")?;
     for writes in 0..89usize {
         let mut sink = LimitedSink::new(rt.alloc(), 1, writes as u64);
@@ -86,7 +86,7 @@ fn failing_sink_keeps_the_file_before(rt: HostRuntime) -> Result<(), Fail> {
 
 // TWO_NAMES with that first flag, and 5,998 blank records after it.
 fn long_table(alloc: Global, flag: u8) -> Result<TableData, Fail> {
-    let mut table = read_table(alloc, &changed(&[(65, flag)]), None)?;
+    let mut table = read_copy(alloc, &changed(&[(65, flag)]), None)?;
     for _ in 0..5998 {
         add_blank(&mut table)?;
     }

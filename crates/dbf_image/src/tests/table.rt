@@ -27,7 +27,7 @@ fn four_names() -> [u8; 110] {
 
 #[test]
 fn appended_records_stand_last(rt: HostRuntime) -> Result<(), Fail> {
-    let mut table = read_table(rt.alloc(), &TWO_NAMES, None)?;
+    let mut table = read_copy(rt.alloc(), &TWO_NAMES, None)?;
     append(&mut table, b"*CYD       ")?;
     add_blank(&mut table)?;
     assert_written(rt.alloc(), &rt, &table, &four_names())
@@ -35,7 +35,7 @@ fn appended_records_stand_last(rt: HostRuntime) -> Result<(), Fail> {
 
 #[test]
 fn cell_is_replaced_in_one_table(rt: HostRuntime) -> Result<(), Fail> {
-    let table = read_table(rt.alloc(), &TWO_NAMES, None)?;
+    let table = read_copy(rt.alloc(), &TWO_NAMES, None)?;
     let mut other = table.copy(rt.alloc())?;
     put_cell(&mut other, 2, 0, b"EVE       ")?;
     let image = changed(&[(77, b'E'), (78, b'V'), (79, b'E')]);

@@ -6,7 +6,7 @@ use std::test::*;
 
 #[test]
 fn years_from_1900_to_2155_are_written(rt: HostRuntime) -> Result<(), Fail> {
-    let table = read_table(rt.alloc(), &TWO_NAMES, None)?;
+    let table = read_copy(rt.alloc(), &TWO_NAMES, None)?;
     for (year, byte) in [
         (1899, None),
         (1900, Some(0)),

@@ -2,7 +2,7 @@
 
 use super::asked::{Asked, Case, Expected, Value, first_unexpected_in, table_after};
 use super::sample::{blank_table, cell_of};
-use dbf_fields::{DATE, Field, LOGICAL, NUMBER};
+use dbf_fields::{Bytes, DATE, Field, LOGICAL, NUMBER};
 use dbf_image::{TableData, read_table};
 use std::alloc::Global;
 use std::test::Fail;
@@ -176,7 +176,7 @@ fn odd_and_blank_cells_are_shown(rt: HostRuntime) -> Result<(), Fail> {
     for part in ODD_TABLE {
         bytes.extend_from_slice(part)?;
     }
-    let table = read_table(alloc, &bytes, None)?;
+    let table = read_table(alloc, Bytes::from_vec(bytes), None)?;
     assert_eq!(rt; first_unexpected_in(alloc, table, &ODD_CELLS)?, None);
     Ok(())
 }

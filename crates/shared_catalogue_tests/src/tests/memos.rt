@@ -2,7 +2,7 @@
 
 use super::asked::{Asked, Case, Expected, Text, Value, first_unexpected_in, is_long, table_after};
 use super::sample::{blank_table, memo_of};
-use dbf_fields::{Field, MEMO, NUMBER, day_of};
+use dbf_fields::{Bytes, Field, MEMO, NUMBER, day_of};
 use dbf_image::{MemorySink, TableData, read_table, write_dbf, write_dbt};
 use std::alloc::Global;
 use std::test::Fail;
@@ -74,7 +74,7 @@ fn memo_blocks(rt: HostRuntime) -> Result<(), Fail> {
 fn read_again(alloc: Global, table: &TableData) -> Result<TableData, Fail> {
     let dbf = dbf_of(alloc, table)?;
     let dbt = dbt_of(alloc, table)?;
-    Ok(read_table(alloc, &dbf, Some(&dbt))?)
+    Ok(read_table(alloc, Bytes::from_vec(dbf), Some(&dbt))?)
 }
 
 // Whether a record's memo is so many bytes `x`.

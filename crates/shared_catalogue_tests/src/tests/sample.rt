@@ -26,7 +26,11 @@ const TABLE: [u8; 88] = [
 
 // The sample's table under a name.
 pub fn source(alloc: Global, name: &[u8]) -> Result<TableSource, Fail> {
-    named(alloc, name, read_table(alloc, &TABLE, None)?)
+    named(
+        alloc,
+        name,
+        read_table(alloc, Bytes::from_slice(alloc, &TABLE)?, None)?,
+    )
 }
 
 // A table under a name.

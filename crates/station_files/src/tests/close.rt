@@ -41,7 +41,7 @@ fn index_of(alloc: Global) -> Result<ClosedIndex, Fail> {
 fn tables_of(alloc: Global) -> Result<Vec<ClosedTable>, Fail> {
     let first = ClosedTable {
         name: Bytes::from_slice(alloc, b"T")?,
-        content: read_table(alloc, &TABLE, None)?,
+        content: read_table(alloc, Bytes::from_slice(alloc, &TABLE)?, None)?,
         indexes: vec![in alloc; index_of(alloc)?]?,
     };
     let second = ClosedTable {

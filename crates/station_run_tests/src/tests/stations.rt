@@ -256,7 +256,7 @@ fn run_sixteen<R: Threads + Wait + Sync>(rt: &R, alloc: Global) -> Result<Outcom
     let scripts = sixteen_scripts(alloc)?;
     let table = TableSource {
         name: Bytes::from_slice(alloc, b"L")?,
-        content: read_table(alloc, &EMPTY, None)?,
+        content: read_table(alloc, Bytes::from_slice(alloc, &EMPTY)?, None)?,
         indexes: Vec::new(alloc),
     };
     Ok(run_on(rt, alloc, table, 16, &scripts, &OpenGate)??)

@@ -70,17 +70,17 @@ fn load_memos<S: Source>(
 fn read_content(
     alloc: Global,
     path: &Bytes,
-    dbf: &Bytes,
+    dbf: Bytes,
     dbt: &Option<Bytes>,
 ) -> Result<TableData, ServeFault>
-    ensures read { IfOk result (IsDbf dbf.now dbt.now) }
-    ensures fault { IfErr result (λ fault. (fault ≡ ServeFault.NoMemory) ⊎ ((why : ImageFault) × (why ≢ ImageFault.NoMemory) × IsRefusal why dbf.now dbt.now × (fault ≡ ServeFault.File path.now (FileFault.Image why)))) }
+    ensures read { IfOk result (IsDbf dbf dbt.now) }
+    ensures fault { IfErr result (λ fault. (fault ≡ ServeFault.NoMemory) ⊎ ((why : ImageFault) × (why ≢ ImageFault.NoMemory) × IsRefusal why dbf dbt.now × (fault ≡ ServeFault.File path.now (FileFault.Image why)))) }
 {
     let memos = match dbt {
         None => None,
         Some(bytes) => Some(bytes.as_slice()),
     };
-    match read_table(alloc, dbf.as_slice(), memos) {
+    match read_table(alloc, dbf, memos) {
         Ok(content) => Ok(content),
         Err(ImageFault::NoMemory) => Err(ServeFault::NoMemory),
         Err(fault) => Err(unread(alloc, path, FileFault::Image(fault))),
@@ -115,7 +115,7 @@ fn load_table<S: Source>(
 {
     let bytes = load_file(alloc, source, dbf)?;
     let memo = load_memos(alloc, source, dbt)?;
-    let content = read_content(alloc, dbf, &bytes, &memo)?;
+    let content = read_content(alloc, dbf, bytes, &memo)?;
     let name = name.copy(alloc)?;
     Ok(TableSource {
         name,

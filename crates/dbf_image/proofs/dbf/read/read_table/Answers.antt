@@ -5,12 +5,12 @@ use Rattle.dbf_image.proofs.Groups.{found_by, only_by}
 use Rattle.dbf_image.proofs.dbf.read.read_table.Goals as goal
 
 pub returns-clause-found : goal.returns-clause-found
-returns-clause-found c = found_by _ _ _ _ c.table_at.ensures.accepted c.table_at.ensures.value (is_dbf c.args.dbf.now (option_copied c.args.dbt))
+returns-clause-found c = found_by _ _ _ _ c.table_at.ensures.accepted c.table_at.ensures.value (is_dbf c.args.dbf (option_copied c.args.dbt))
 
 pub returns-clause-only : goal.returns-clause-only
 returns-clause-only c = λ table d.
-    let is = dbf_is c.args.dbf.now (option_copied c.args.dbt) table d in
+    let is = dbf_is c.args.dbf (option_copied c.args.dbt) table d in
     only_by _ _ _ _ c.table_at.ensures.value c.table_at.ensures.refused is.0 is.1
 
 pub returns-clause-one : goal.returns-clause-one
-returns-clause-one c = λ a b p q. sym (dbf_is c.args.dbf.now (option_copied c.args.dbt) a p).1 ∙ (dbf_is c.args.dbf.now (option_copied c.args.dbt) b q).1
+returns-clause-one c = λ a b p q. sym (dbf_is c.args.dbf (option_copied c.args.dbt) a p).1 ∙ (dbf_is c.args.dbf (option_copied c.args.dbt) b q).1
