@@ -1,5 +1,4 @@
-use Rattle.std.proofs.Common.{◌≡◌, ◌+◌, ◌-◌, ◌≤◌, ℕ, List, length, take, drop, replicate, arith, length-take-le, sym, ap, ◌∙◌, subst}
-use borrow.Rule.Slice.PartMut.{put_mid}
+use Rattle.std.proofs.Common.{◌≡◌, ◌+◌, ◌-◌, ◌≤◌, ℕ, length, take, arith, length-take-le, ap}
 use Rattle.key_expr.specs.KeyBytes.{HasZerosAfter, bytes_of}
 use Rattle.key_expr.specs.declared.format.TheConstants.{MAX_KEY_BYTES}
 use Rattle.key_expr.proofs.KeyPadding.{zeros_after_copy}
