@@ -12,6 +12,8 @@ pub mod Levels
 pub mod Shapes
 pub mod Reading
 pub mod Slots
+pub mod KeyedPairs
+pub mod ListParts
 pub mod PairPages
 pub mod PageStore
 pub mod Bounds

@@ -15,6 +15,7 @@ use crate::pages::root::{Root, append_all};
 use crate::pages::search::{first_passing, first_under, last_failing, last_under, push_pairs};
 use crate::pages::store::PageStore;
 use crate::pair::Pair;
+use crate::pair_list::PairList;
 use std::alloc::{AllocError, Global};
 use std::marker::Model;
 
@@ -184,12 +185,12 @@ impl OrderedIndex {
     }
 
     /// All pairs in order, copied out. `AllocError` where there is no memory for them.
-    pub fn pairs(&self, alloc: Global) -> Result<Vec<Pair>, AllocError>
-        ensures pairs { IfOk result (λ v. v.items ≡ self.now.pairs) }
+    pub fn pairs(&self, alloc: Global) -> Result<PairList, AllocError>
+        ensures pairs { IfOk result (λ list. list.pairs ≡ self.now.pairs) }
         ensures ordered { AreInOrder self.now.pairs }
         ensures keys { HaveLength self.now.key_len self.now.pairs }
     {
-        let mut pairs = Vec::new(alloc);
+        let mut pairs = PairList::new(alloc, self.store.key_len());
         if self.root.levels > 0 {
             push_pairs(
                 &self.store,

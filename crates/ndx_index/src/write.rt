@@ -9,6 +9,7 @@ ghost use Rattle.key_expr.specs.Keys.{key_length};
 ghost use Rattle.ndx_index.specs.Header.{IsIndex, trimmed_end};
 ghost use Rattle.ndx_index.specs.Image.{header_page, ndx_image};
 ghost use Rattle.ndx_index.specs.Index.{HaveLength};
+ghost use Rattle.ndx_index.specs.ListParts.{listed};
 ghost use Rattle.ndx_index.specs.Order.{AreInOrder};
 
 mod inner;
@@ -18,7 +19,7 @@ mod plan;
 mod shape;
 
 use crate::format::MAX_PAIRS;
-use crate::pair::Pair;
+use crate::pair_list::PairList;
 use crate::write::inner::put_inner_pages;
 use crate::write::leaf::put_leaves;
 use crate::write::pieces::{put_u16, put_u32, put_zeros};
@@ -48,8 +49,8 @@ fn put_header<S: ByteSink>(out: &mut SinkWriter<'_, S>, text: &[u8], shape: Shap
 // The bytes of the file.
 fn put_image<S: ByteSink>(out: &mut SinkWriter<'_, S>, text: &[u8], plan: &TreePlan<'_>)
     requires { length text.now ≤ MAX_EXPRESSION_BYTES }
-    ensures put { Puts out.old (ndx_image text.now plan.now.shape.key_len plan.now.pairs.now) out.new }
-    ensures numbers { AllByRecursion (λ p. p.number < 2 ^ 32) plan.now.pairs.now }
+    ensures put { Puts out.old (ndx_image text.now plan.now.shape.key_len (listed plan.now.pairs)) out.new }
+    ensures numbers { AllByRecursion (λ p. p.number < 2 ^ 32) (listed plan.now.pairs) }
 {
     put_header(out, text, plan.shape, plan.root);
     put_leaves(out, plan.shape, plan.pairs);
@@ -69,12 +70,12 @@ fn put_image<S: ByteSink>(out: &mut SinkWriter<'_, S>, text: &[u8], plan: &TreeP
 pub fn write_ndx<S: ByteSink>(
     sink: &mut S,
     expr: &KeyExpr,
-    pairs: &[Pair],
+    pairs: &PairList,
 ) -> Result<(), WriteFault>
-    requires few { length pairs.now ≤ MAX_PAIRS }
-    requires keys { HaveLength (key_length expr.now.fields expr.now.expr) pairs.now }
-    requires ordered { AreInOrder pairs.now }
-    ensures wrote { OnOk result (S.written sink.new ≡ grown (S.written sink.old) (ndx_image expr.now.text (key_length expr.now.fields expr.now.expr) pairs.now)) }
+    requires few { length pairs.now.pairs ≤ MAX_PAIRS }
+    requires keys { HaveLength (key_length expr.now.fields expr.now.expr) pairs.now.pairs }
+    requires ordered { AreInOrder pairs.now.pairs }
+    ensures wrote { OnOk result (S.written sink.new ≡ grown (S.written sink.old) (ndx_image expr.now.text (key_length expr.now.fields expr.now.expr) pairs.now.pairs)) }
     ensures fine { OnOk result (S.failures sink.new ≡ S.failures sink.old) }
     ensures dated { result ≡ Err WriteFault.DateOutside → ⊥ }
     ensures blocks { result ≡ Err WriteFault.TooManyBlocks → ⊥ }
@@ -82,11 +83,11 @@ pub fn write_ndx<S: ByteSink>(
     // What the sink held before the call it still holds.
     ensures kept { IsFront (S.written sink.old) (S.written sink.new) }
     // What a sink that failed has taken is a front part of the file.
-    ensures front { result ≡ Err WriteFault.Sink → IsFront (S.written sink.new) (grown (S.written sink.old) (ndx_image expr.now.text (key_length expr.now.fields expr.now.expr) pairs.now)) }
+    ensures front { result ≡ Err WriteFault.Sink → IsFront (S.written sink.new) (grown (S.written sink.old) (ndx_image expr.now.text (key_length expr.now.fields expr.now.expr) pairs.now.pairs)) }
     // What is written can be read.
-    ensures reads_back { IsIndex (ndx_image expr.now.text (key_length expr.now.fields expr.now.expr) pairs.now) (trimmed_end expr.now.text) (key_length expr.now.fields expr.now.expr) pairs.now }
+    ensures reads_back { IsIndex (ndx_image expr.now.text (key_length expr.now.fields expr.now.expr) pairs.now.pairs) (trimmed_end expr.now.text) (key_length expr.now.fields expr.now.expr) pairs.now.pairs }
 {
-    let plan = TreePlan::new(Shape::new(expr.key_len()), pairs);
+    let plan = TreePlan::new(Shape::new(expr.key_len()), pairs.all());
     let mut out = SinkWriter::new(sink);
     put_image(&mut out, expr.text(), &plan);
     match out.flush() {

@@ -13,7 +13,7 @@ ghost use Rattle.station_files.specs.ClosedIndex.{index_with};
 use dbf_fields::Bytes;
 use dbf_image::{ByteSink, SinkFault};
 use key_expr::KeyExpr;
-use ndx_index::{Pair, write_ndx};
+use ndx_index::{PairList, write_ndx};
 use std::marker::Model;
 
 /// An index of a table as a run left it: its name, its key expression and its pairs, which stand in order.
@@ -21,7 +21,7 @@ use std::marker::Model;
 pub struct ClosedIndex {
     name: Bytes,
     expr: KeyExpr,
-    pairs: Vec<Pair>,
+    pairs: PairList,
 }
 
 impl Model for ClosedIndex {
@@ -29,19 +29,19 @@ impl Model for ClosedIndex {
 
     ghost Value = { IndexContent };
 
-    ghost view = { λ i. index_with i.name i.expr i.pairs.items };
+    ghost view = { λ i. index_with i.name i.expr i.pairs.pairs };
 
-    ghost invariant = { λ i. IsHeldIndex i.expr i.pairs.items };
+    ghost invariant = { λ i. IsHeldIndex i.expr i.pairs.pairs };
 }
 
 impl ClosedIndex {
     /// The index of a name, a key expression and its pairs: each key has its length, and they stand in order,
     /// 1,000,000,000 at most. Takes no memory.
-    pub fn new(name: Bytes, expr: KeyExpr, pairs: Vec<Pair>) -> ClosedIndex
-        requires few { length pairs.items ≤ MAX_PAIRS }
-        requires keys { HaveLength (key_length expr.fields expr.expr) pairs.items }
-        requires ordered { AreInOrder pairs.items }
-        ensures value { result ≡ index_with name expr pairs.items }
+    pub fn new(name: Bytes, expr: KeyExpr, pairs: PairList) -> ClosedIndex
+        requires few { length pairs.pairs ≤ MAX_PAIRS }
+        requires keys { HaveLength (key_length expr.fields expr.expr) pairs.pairs }
+        requires ordered { AreInOrder pairs.pairs }
+        ensures value { result ≡ index_with name expr pairs.pairs }
     {
         ClosedIndex { name, expr, pairs }
     }

@@ -28,7 +28,7 @@ use crate::table::shown::shown;
 use dbf_fields::{Bytes, MEMO, Schema};
 use dbf_image::{GrowingTable, TableData};
 use key_expr::KeyExpr;
-use ndx_index::Pair;
+use ndx_index::PairList;
 use std::alloc::{AllocError, Global};
 use std::marker::Model;
 
@@ -122,10 +122,10 @@ impl Table {
     /// The pairs of the index of a number, from 1 to [`Table::index_count`], in order.
     ///
     /// An `Err` says that there was no memory.
-    pub fn index_pairs(&self, alloc: Global, number: usize) -> Result<Vec<Pair>, AllocError>
+    pub fn index_pairs(&self, alloc: Global, number: usize) -> Result<PairList, AllocError>
         requires one { 1 ≤ number }
         requires inside { number ≤ length self.now.content.indexes }
-        ensures value { IfOk result (λ pairs. pairs.items ≡ order_at self.now.content number) }
+        ensures value { IfOk result (λ list. list.pairs ≡ order_at self.now.content number) }
         ensures ordered { AreInOrder (order_at self.now.content number) }
         ensures keys { HaveLength (key_length_at self.now.content number) (order_at self.now.content number) }
     {

@@ -214,7 +214,12 @@ fn pairs_of(alloc: Global, table: &Table, number: usize) -> Result<Vec<Pair>, Fa
     if number < 1 || number > table.index_count() {
         return Err("no such index".into());
     }
-    Ok(table.index_pairs(alloc, number)?)
+    let pairs = table.index_pairs(alloc, number)?;
+    let mut all = Vec::new(alloc);
+    for at in 0..pairs.len() {
+        all.push(pairs.get(at))?;
+    }
+    Ok(all)
 }
 
 // The names of records 1 to 7, and their numbers by their names: A, AB, AB, B, BA, C, D.

@@ -1,6 +1,6 @@
 //! An index with many pairs, and its pages read from inside.
 
-ghost use Rattle.std.specs.Prelude.{◌≡◌, length};
+ghost use Rattle.std.specs.Prelude.{◌≡◌, length, IfOk};
 
 use super::*;
 use key_expr::Key;
@@ -38,20 +38,32 @@ fn thousand(alloc: Global) -> Result<OrderedIndex, Fail> {
     Ok(index)
 }
 
+// The pairs of a list, copied.
+fn copied(alloc: Global, pairs: &PairList) -> Result<Vec<Pair>, Fail>
+    ensures pairs { IfOk result (λ all. all.items ≡ pairs.now.pairs) }
+{
+    let mut all = Vec::new(alloc);
+    for at in 0..pairs.len() {
+        all.push(pairs.get(at))?;
+    }
+    Ok(all)
+}
+
 // The same pairs in pages that are filled from the left.
 fn built_again(alloc: Global, index: &OrderedIndex) -> Result<OrderedIndex, Fail> {
     if index.key_len() != 3 {
         return Err("an index of other keys".into());
     }
-    let pairs = index.pairs(alloc)?;
+    let pairs = copied(alloc, &index.pairs(alloc)?)?;
     Ok(OrderedIndex::from_sorted(alloc, 3, &pairs)?)
 }
 
 // The record numbers of all pairs, in order.
 fn numbers(index: &OrderedIndex, alloc: Global) -> Result<Vec<u32>, Fail> {
     let mut numbers = Vec::new(alloc);
-    for pair in &index.pairs(alloc)? {
-        numbers.push(pair.number)?;
+    let pairs = index.pairs(alloc)?;
+    for at in 0..pairs.len() {
+        numbers.push(pairs.get(at).number)?;
     }
     Ok(numbers)
 }

@@ -56,6 +56,7 @@ impl PairPages {
     /// The length of each key.
     pub(crate) fn key_len(&self) -> usize
         ensures value { result ≡ self.now.key_len }
+        ensures short { self.now.key_len ≤ MAX_KEY_BYTES }
     {
         self.slots.key_len()
     }

@@ -13,6 +13,7 @@ use crate::pages::bound::Bound;
 use crate::pages::place::{Branch, Place};
 use crate::pages::store::PageStore;
 use crate::pair::Pair;
+use crate::pair_list::PairList;
 use std::alloc::AllocError;
 
 /// The least pair under a page, this many levels above the leaves.
@@ -164,10 +165,12 @@ pub(crate) fn push_pairs(
     store: &PageStore,
     level: usize,
     page: u32,
-    pairs: &mut Vec<Pair>,
+    pairs: &mut PairList,
 ) -> Result<(), AllocError>
     requires tree { IsTree level store.now.pages page }
-    ensures pairs { OnOk result (pairs.new.items ≡ pairs.old.items ++ pairs_under level store.now.pages page) }
+    requires keys { pairs.old.key_len ≡ store.now.key_len }
+    ensures pairs { OnOk result (pairs.new.pairs ≡ pairs.old.pairs ++ pairs_under level store.now.pages page) }
+    ensures key_len { pairs.new.key_len ≡ pairs.old.key_len }
 {
     if level == 0 {
         return push_leaf(store, page, pairs);
@@ -179,12 +182,14 @@ pub(crate) fn push_pairs(
 }
 
 // Puts the pairs of a leaf after others.
-fn push_leaf(store: &PageStore, page: u32, pairs: &mut Vec<Pair>) -> Result<(), AllocError>
+fn push_leaf(store: &PageStore, page: u32, pairs: &mut PairList) -> Result<(), AllocError>
     requires tree { IsTree 0 store.now.pages page }
-    ensures pairs { OnOk result (pairs.new.items ≡ pairs.old.items ++ pairs_under 0 store.now.pages page) }
+    requires keys { pairs.old.key_len ≡ store.now.key_len }
+    ensures pairs { OnOk result (pairs.new.pairs ≡ pairs.old.pairs ++ pairs_under 0 store.now.pages page) }
+    ensures key_len { pairs.new.key_len ≡ pairs.old.key_len }
 {
     for at in 0..store.pair_count(page) {
-        pairs.push(store.pair(page, at))?;
+        pairs.push(&store.pair(page, at))?;
     }
     Ok(())
 }

@@ -4,12 +4,14 @@ ghost use Rattle.std.specs.Prelude.{◌≡◌, ◌+◌, ◌-◌, ◌<◌, ◌≤
 ghost use Rattle.std.specs.List.{copy_within};
 ghost use Rattle.key_expr.specs.declared.format.TheConstants.{MAX_KEY_BYTES};
 ghost use Rattle.ndx_index.specs.Bounds.{passes};
+ghost use Rattle.ndx_index.specs.ListParts.{listed};
 ghost use Rattle.ndx_index.specs.Slots.{slot_at, blank};
 
 use crate::pages::bound::Bound;
 use crate::pages::compare::front_is_before;
 use crate::pages::runs::{copy_parts, part, push_copies, write_part};
 use crate::pair::Pair;
+use crate::pair_list::part::ListPart;
 use key_expr::Key;
 use std::alloc::{AllocError, Global};
 use std::cmp::Ordering;
@@ -57,6 +59,24 @@ impl PairSlots {
         ensures short { self.now.key_len ≤ MAX_KEY_BYTES }
     {
         self.key_len
+    }
+
+    /// How many slots there are.
+    pub(crate) fn len(&self) -> usize
+        ensures count { result ≡ length self.now.pairs }
+    {
+        self.numbers.len()
+    }
+
+    /// All slots, lent.
+    pub(crate) fn all(&self) -> ListPart<'_>
+        ensures pairs { listed result ≡ self.now.pairs }
+    {
+        ListPart {
+            key_len: self.key_len,
+            keys: self.keys.as_slice(),
+            numbers: self.numbers.as_slice(),
+        }
     }
 
     /// The bytes of a slot's key.

@@ -50,6 +50,7 @@ impl PageStore {
     /// The length of each key.
     pub(crate) fn key_len(&self) -> usize
         ensures value { result ≡ self.now.key_len }
+        ensures short { self.now.key_len ≤ MAX_KEY_BYTES }
     {
         self.pair_pages.key_len()
     }

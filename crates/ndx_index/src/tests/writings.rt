@@ -33,17 +33,30 @@ fn first_other(bytes: &[u8], cases: &[(usize, [u8; 4])]) -> Option<usize> {
 }
 
 // The pairs of an index, and what is read of its file.
-fn read_back(alloc: Global, index: &OrderedIndex, len: u8) -> Result<(Vec<Pair>, NdxFile), Fail> {
+fn read_back(alloc: Global, index: &OrderedIndex, len: u8) -> Result<(PairList, NdxFile), Fail> {
     let read = read_ndx(alloc, &written(alloc, index, len)?)?;
     let pairs = index.pairs(alloc)?;
     Ok((pairs, read))
 }
 
+// Whether they are the same pairs in the same order.
+fn are_same(read: &[Pair], pairs: &PairList) -> bool {
+    if read.len() != pairs.len() {
+        return false;
+    }
+    for at in 0..pairs.len() {
+        if read[at] != pairs.get(at) {
+            return false;
+        }
+    }
+    true
+}
+
 // What is read is the field NAME, the length of the keys, and the pairs.
-fn assert_read(rt: &impl Abort, read: &NdxFile, key_len: usize, pairs: &[Pair]) {
+fn assert_read(rt: &impl Abort, read: &NdxFile, key_len: usize, pairs: &PairList) {
     assert_eq!(rt; read.expr.as_slice(), b"NAME".as_slice());
     assert_eq!(rt; read.key_len, key_len);
-    assert!(rt; read.pairs.as_slice() == pairs);
+    assert!(rt; are_same(&read.pairs, pairs));
 }
 
 // The file of an index of so many records, whose keys have ten bytes.
@@ -163,7 +176,7 @@ fn empty_index_file(rt: HostRuntime) -> Result<(), Fail> {
 fn file_of_text(alloc: Global, text: &[u8]) -> Result<Vec<u8>, Fail> {
     let expr = KeyExpr::parse(alloc, text, &schema_of_name(alloc, 10)?)?;
     let mut sink = MemorySink::new(alloc);
-    write_ndx(&mut sink, &expr, &[])?;
+    write_ndx(&mut sink, &expr, &PairList::new(alloc, 10))?;
     Ok(sink.bytes)
 }
 

@@ -4,6 +4,7 @@
 ghost use Rattle.std.specs.Prelude.{◌≡◌, ◌≢◌, min, ◌+◌, ◌-◌, ◌<◌, ◌≤◌, length, flat_map};
 ghost use Rattle.dbf_image.specs.Output.{Puts};
 ghost use Rattle.ndx_index.specs.Image.{inner_group_size, inner_pages, inner_page, next_level};
+ghost use Rattle.ndx_index.specs.ListParts.{listed};
 ghost use Rattle.ndx_index.specs.Levels.{IsLevel, children_from, level as level_of};
 
 use crate::format::MAX_RECORDS_BYTES;
@@ -21,16 +22,16 @@ fn put_inner<S: ByteSink>(
     count: usize,
 )
     requires height { level.height < plan.now.height }
-    requires level { IsLevel plan.now.shape.keys plan.now.pairs.now level.height level.first level.count }
+    requires level { IsLevel plan.now.shape.keys (listed plan.now.pairs) level.height level.first level.count }
     requires inside { at + count ≤ level.count }
     requires child { 1 ≤ count }
     requires few { count ≤ plan.now.shape.keys + 1 }
-    ensures { Puts out.old (inner_page plan.now.shape.size (children_from plan.now.shape.keys plan.now.pairs.now level.height at count)) out.new }
+    ensures { Puts out.old (inner_page plan.now.shape.size (children_from plan.now.shape.keys (listed plan.now.pairs) level.height at count)) out.new }
 {
     put_u32(out, (count - 1) as u32);
     for i in 0..count - 1 {
         let page = level.first + (at + i) as u32;
-        let key = greatest(plan, level.height, at + i).key.as_bytes();
+        let key = greatest(plan, level.height, at + i);
         put_key_record(out, plan.shape, page, 0, key);
     }
     put_u32(out, level.first + (at + count - 1) as u32);
@@ -58,8 +59,8 @@ fn next_count(shape: Shape, left: usize) -> usize
 // The pages above a level.
 fn put_level<S: ByteSink>(out: &mut SinkWriter<'_, S>, plan: &TreePlan<'_>, level: LevelSpan)
     requires height { level.height < plan.now.height }
-    requires level { IsLevel plan.now.shape.keys plan.now.pairs.now level.height level.first level.count }
-    ensures { Puts out.old (flat_map (inner_page plan.now.shape.size) (next_level plan.now.shape.keys (level_of plan.now.shape.keys plan.now.pairs.now level.height).pages)) out.new }
+    requires level { IsLevel plan.now.shape.keys (listed plan.now.pairs) level.height level.first level.count }
+    ensures { Puts out.old (flat_map (inner_page plan.now.shape.size) (next_level plan.now.shape.keys (level_of plan.now.shape.keys (listed plan.now.pairs) level.height).pages)) out.new }
 {
     let mut at = 0;
     while at < level.count {
@@ -71,7 +72,7 @@ fn put_level<S: ByteSink>(out: &mut SinkWriter<'_, S>, plan: &TreePlan<'_>, leve
 
 /// All inner pages, level by level up to the root.
 pub(crate) fn put_inner_pages<S: ByteSink>(out: &mut SinkWriter<'_, S>, plan: &TreePlan<'_>)
-    ensures { Puts out.old (flat_map (inner_page plan.now.shape.size) (inner_pages plan.now.shape.keys plan.now.pairs.now)) out.new }
+    ensures { Puts out.old (flat_map (inner_page plan.now.shape.size) (inner_pages plan.now.shape.keys (listed plan.now.pairs))) out.new }
 {
     let mut first = 1;
     for height in 0..plan.height {

@@ -5,11 +5,13 @@ ghost use Rattle.std.proofs.Props.{props};
 ghost use Rattle.std.specs.List.{AllByRecursion};
 ghost use Rattle.ndx_index.specs.declared.format.TheConstants.{MAX_PAIRS};
 ghost use Rattle.ndx_index.specs.declared.write.plan.TheConstants.{LEVELS};
+ghost use Rattle.key_expr.specs.declared.format.TheConstants.{MAX_KEY_BYTES};
 ghost use Rattle.ndx_index.specs.Image.{leaves};
+ghost use Rattle.ndx_index.specs.ListParts.{listed};
 ghost use Rattle.ndx_index.specs.Levels.{IsLast, AreSizes, IsRootLevel, key_under, level as level_of};
 
 use crate::format::MAX_PAIRS;
-use crate::pair::Pair;
+use crate::pair_list::part::ListPart;
 use crate::write::shape::Shape;
 
 // No tree of that many pairs has as many levels.
@@ -30,27 +32,27 @@ pub(crate) struct LevelSpan {
 #[derive(Clone, Copy)]
 pub(crate) struct TreePlan<'a> {
     pub shape: Shape,
-    pub pairs: &'a [Pair],
+    pub pairs: ListPart<'a>,
     /// How many pages each level below the root has, from the leaves on.
     pub sizes: [usize; LEVELS],
     /// How many levels are below the root.
     pub height: usize,
     /// The number of the root page, which is the last of the file.
     pub root: u32,
-    ghost few: { length pairs.now ≤ MAX_PAIRS },
-    ghost keys: { AllByRecursion (λ p. length p.key + 8 ≤ shape.size) pairs.now } by { Prim.hlevel props },
+    ghost few: { length (listed pairs) ≤ MAX_PAIRS },
+    ghost keys: { AllByRecursion (λ p. length p.key + 8 ≤ shape.size) (listed pairs) } by { Prim.hlevel props },
     ghost depth: { height ≤ length sizes },
-    ghost below: { AreSizes shape.keys pairs.now height sizes },
-    ghost top: { IsRootLevel shape.keys pairs.now height root },
+    ghost below: { AreSizes shape.keys (listed pairs) height sizes },
+    ghost top: { IsRootLevel shape.keys (listed pairs) height root },
 }
 
 impl<'a> TreePlan<'a> {
     /// The plan of these pairs' tree.
-    pub(crate) fn new(shape: Shape, pairs: &'a [Pair]) -> TreePlan<'a>
-        requires few { length pairs.now ≤ MAX_PAIRS }
-        requires keys { AllByRecursion (λ p. length p.key + 8 ≤ shape.size) pairs.now }
+    pub(crate) fn new(shape: Shape, pairs: ListPart<'a>) -> TreePlan<'a>
+        requires few { length (listed pairs) ≤ MAX_PAIRS }
+        requires keys { AllByRecursion (λ p. length p.key + 8 ≤ shape.size) (listed pairs) }
         ensures shape { result.shape ≡ shape }
-        ensures pairs { result.pairs.now ≡ pairs.now }
+        ensures pairs { listed result.pairs ≡ listed pairs.entry }
     {
         let mut sizes = [0; LEVELS];
         let mut level = leaves_of(shape, pairs);
@@ -69,16 +71,16 @@ impl<'a> TreePlan<'a> {
 }
 
 // The level of the leaves.
-fn leaves_of(shape: Shape, pairs: &[Pair]) -> LevelSpan
-    requires { length pairs.now ≤ MAX_PAIRS }
+fn leaves_of(shape: Shape, pairs: ListPart<'_>) -> LevelSpan
+    requires { length (listed pairs) ≤ MAX_PAIRS }
     ensures height { result.height ≡ 0 }
     ensures first { result.first ≡ 1 }
-    ensures count { result.count ≡ length (leaves shape.keys pairs.now) }
+    ensures count { result.count ≡ length (leaves shape.keys (listed pairs.entry)) }
 {
     LevelSpan {
         height: 0,
         first: 1,
-        count: if pairs.is_empty() {
+        count: if pairs.len() == 0 {
             1
         } else {
             (pairs.len() - 1) / shape.keys + 1
@@ -117,12 +119,13 @@ fn last_child(shape: Shape, count: usize, page: usize) -> usize
     }
 }
 
-/// The last pair under a page of a level: down the levels by arithmetic, and then its leaf's last.
+/// The last key under a page of a level: down the levels by arithmetic, and then its leaf's last.
 #[tactic(auto, using(crate::proofs::Planning::leaf_low))]
-pub(crate) fn greatest<'a>(plan: &TreePlan<'a>, height: usize, page: usize) -> &'a Pair
+pub(crate) fn greatest<'a>(plan: &TreePlan<'a>, height: usize, page: usize) -> &'a [u8]
     requires height { height < plan.now.height }
-    requires inside { page < length (level_of plan.now.shape.keys plan.now.pairs.now height).pages }
-    ensures key { result.now.key ≡ key_under plan.now.shape.keys plan.now.pairs.now height page }
+    requires inside { page < length (level_of plan.now.shape.keys (listed plan.now.pairs) height).pages }
+    ensures key { result.now ≡ key_under plan.now.shape.keys (listed plan.now.pairs) height page }
+    ensures short { length result.now ≤ MAX_KEY_BYTES }
 {
     let pairs = plan.pairs;
     let keys = plan.shape.keys;
@@ -132,8 +135,8 @@ pub(crate) fn greatest<'a>(plan: &TreePlan<'a>, height: usize, page: usize) -> &
     }
     let rest = pairs.len() - at * keys;
     if rest <= keys {
-        &pairs[pairs.len() - 1]
+        pairs.key(pairs.len() - 1)
     } else {
-        &pairs[at * keys + keys - 1]
+        pairs.key(at * keys + keys - 1)
     }
 }

@@ -3,6 +3,7 @@ use Rattle.dbf_image.proofs.Puts.{more_left}
 use Rattle.ndx_index.specs.Image.{ChildEntry, inner_group_size}
 use Rattle.ndx_index.specs.Levels.{level}
 use Rattle.ndx_index.proofs.InnerPageBytes.{level_step}
+use Rattle.ndx_index.specs.ListParts.{listed}
 use Rattle.ndx_index.proofs.write.inner.put_level.Goals as goal
 
 pub loop-at-preserved : goal.loop-at-preserved
@@ -12,7 +13,7 @@ loop-at-preserved g c =
     let m : ℕ = c.args.level.count in
     let at : ℕ = c.loop-at.at in
     let n : ℕ = c.next_count-n.result in
-    let ts : List ChildEntry = (level k c.args.plan.now.pairs.now c.args.level.height).pages in
+    let ts : List ChildEntry = (level k (listed c.args.plan.now.pairs) c.args.level.height).pages in
     let left : length (drop at ts) ≡ m - at = length-drop at ts ∙ ap (λ (m : ℕ). m - at) (sym c.requires.level.count_is) in
     let e : n ≡ min (inner_group_size k (length (drop at ts))) (length (drop at ts)) = c.next_count-n.ensures.is ∙ ap (λ (m : ℕ). min (inner_group_size k m) m) (sym left) in
     let inside : n ≤ m - at = c.next_count-n.ensures.inside in

@@ -1,10 +1,11 @@
 use Rattle.std.proofs.Common.{◌∙◌}
 use Rattle.dbf_image.proofs.Puts.{more_all_three}
+use Rattle.ndx_index.specs.ListParts.{listed}
 use Rattle.ndx_index.proofs.Writing.{leaf_parts}
 use Rattle.ndx_index.proofs.write.leaf.put_leaf.Goals as goal
 
 pub returns-clause-put : goal.returns-clause-put
 returns-clause-put g c = (
   c.put_zeros.ensures.0 ∙ (c.put_pairs.ensures.put.0 ∙ c.put_u32.ensures.0),
-  rw (c.put_zeros.ensures.1, c.put_pairs.ensures.put.1, c.put_u32.ensures.1) (more_all_three _ _ _ _ _ (leaf_parts c.args.shape.size c.args.group.now c.requires.keys)),
+  rw (c.put_zeros.ensures.1, c.put_pairs.ensures.put.1, c.put_u32.ensures.1, c.len-count.ensures.count) (more_all_three _ _ _ _ _ (leaf_parts c.args.shape.size (listed c.args.group) c.requires.keys)),
 )

@@ -1,0 +1,7 @@
+-- What contracts see of a list of pairs whose keys have one length.
+use Rattle.std.specs.Prelude.{ℕ, List}
+use Rattle.ndx_index.specs.declared.pair.Pair.{Pair}
+
+pub record KeyedPairs : Type 0 where
+  pub key_len : ℕ
+  pub pairs : List Pair
