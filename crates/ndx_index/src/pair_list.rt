@@ -1,6 +1,6 @@
 //! A list of pairs whose keys have one length.
 
-ghost use Rattle.std.specs.Prelude.{◌≡◌, ◌<◌, ◌≤◌, ◌∷◌, ◌++◌, [], length, OnOk};
+ghost use Rattle.std.specs.Prelude.{◌≡◌, ◌<◌, ◌≤◌, ◌++◌, [], length, OnOk};
 ghost use Rattle.key_expr.specs.declared.format.TheConstants.{MAX_KEY_BYTES};
 ghost use Rattle.ndx_index.specs.ListParts.{listed};
 ghost use Rattle.ndx_index.specs.Slots.{slot_at};
@@ -56,16 +56,14 @@ impl PairList {
         self.slots.get(at)
     }
 
-    /// Puts a pair after the others. `AllocError` where there is no memory for it; the pairs are the same then.
-    pub(crate) fn push(&mut self, pair: &Pair) -> Result<(), AllocError>
-        requires key { length pair.now.key ≡ self.old.key_len }
-        ensures pairs { OnOk result (self.new.pairs ≡ self.old.pairs ++ pair.now ∷ []) }
+    /// Puts pairs after the others. `AllocError` where there is no memory for them; the pairs are the same then.
+    pub(crate) fn extend(&mut self, part: ListPart<'_>) -> Result<(), AllocError>
+        requires key { part.key_len ≡ self.old.key_len }
+        ensures pairs { OnOk result (self.new.pairs ≡ self.old.pairs ++ listed part.entry) }
         ensures key_len { self.new.key_len ≡ self.old.key_len }
     {
-        let at = self.slots.len();
-        self.slots.reserve(1)?;
-        self.slots.push_blank(1);
-        self.slots.set(at, pair);
+        self.slots.reserve(part.len())?;
+        self.slots.push_part(part);
         Ok(())
     }
 

@@ -5,12 +5,14 @@ ghost use Rattle.std.specs.List.{insert, remove};
 ghost use Rattle.key_expr.specs.declared.format.TheConstants.{MAX_KEY_BYTES};
 ghost use Rattle.ndx_index.specs.Bounds.{passes};
 ghost use Rattle.ndx_index.specs.Order.{AreInOrder};
+ghost use Rattle.ndx_index.specs.ListParts.{listed};
 ghost use Rattle.ndx_index.specs.Slots.{slot_at};
 ghost use Rattle.ndx_index.specs.PairPages.{page_at};
 
 use crate::pages::bound::Bound;
 use crate::pages::slots::PairSlots;
 use crate::pair::Pair;
+use crate::pair_list::part::ListPart;
 use std::alloc::{AllocError, Global};
 use std::marker::Model;
 
@@ -76,6 +78,16 @@ impl PairPages {
         ensures small { result ≤ 16 }
     {
         usize::from(self.counts[page])
+    }
+
+    /// All pairs of a page, lent.
+    pub(crate) fn part(&self, page: usize) -> ListPart<'_>
+        requires page { page < length self.now.pages }
+        ensures pairs { listed result ≡ page_at self.now.pages page }
+        ensures key_len { result.key_len ≡ self.now.key_len }
+    {
+        self.slots
+            .part(page * PLACES, usize::from(self.counts[page]))
     }
 
     /// A page's pair.

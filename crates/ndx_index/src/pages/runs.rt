@@ -48,3 +48,14 @@ pub(crate) fn push_copies<T: Copy>(run: &mut Vec<T>, n: usize, value: T)
         run.push_reserved(value);
     }
 }
+
+/// Puts elements after the others, copied at once.
+pub(crate) fn push_run<T: Copy>(run: &mut Vec<T>, more: &[T])
+    requires room { vec_len run.old + length more.now ≤ vec_capacity run.old }
+    ensures items { run.new.items ≡ run.old.items ++ more.now }
+    ensures capacity { vec_capacity run.old ≤ vec_capacity run.new }
+{
+    let extended = run.extend_from_slice(more);
+    prove!(extended.is_ok());
+    let _ = extended;
+}

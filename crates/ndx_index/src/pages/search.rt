@@ -188,8 +188,5 @@ fn push_leaf(store: &PageStore, page: u32, pairs: &mut PairList) -> Result<(), A
     ensures pairs { OnOk result (pairs.new.pairs ≡ pairs.old.pairs ++ pairs_under 0 store.now.pages page) }
     ensures key_len { pairs.new.key_len ≡ pairs.old.key_len }
 {
-    for at in 0..store.pair_count(page) {
-        pairs.push(&store.pair(page, at))?;
-    }
-    Ok(())
+    pairs.extend(store.part(page))
 }

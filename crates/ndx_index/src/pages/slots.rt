@@ -1,6 +1,6 @@
 //! Pairs whose keys have one length, in runs of bytes.
 
-ghost use Rattle.std.specs.Prelude.{◌≡◌, ◌+◌, ◌-◌, ◌<◌, ◌≤◌, ◌++◌, ℕ, [], length, replicate, slice_set, OnOk};
+ghost use Rattle.std.specs.Prelude.{◌≡◌, ◌+◌, ◌-◌, ◌<◌, ◌≤◌, ◌++◌, ℕ, [], length, take, drop, replicate, slice_set, OnOk};
 ghost use Rattle.std.specs.List.{copy_within};
 ghost use Rattle.key_expr.specs.declared.format.TheConstants.{MAX_KEY_BYTES};
 ghost use Rattle.ndx_index.specs.Bounds.{passes};
@@ -9,7 +9,7 @@ ghost use Rattle.ndx_index.specs.Slots.{slot_at, blank};
 
 use crate::pages::bound::Bound;
 use crate::pages::compare::front_is_before;
-use crate::pages::runs::{copy_parts, part, push_copies, write_part};
+use crate::pages::runs::{copy_parts, part, push_copies, push_run, write_part};
 use crate::pair::Pair;
 use crate::pair_list::part::ListPart;
 use key_expr::Key;
@@ -71,12 +71,24 @@ impl PairSlots {
     /// All slots, lent.
     pub(crate) fn all(&self) -> ListPart<'_>
         ensures pairs { listed result ≡ self.now.pairs }
+        ensures key_len { result.key_len ≡ self.now.key_len }
     {
         ListPart {
             key_len: self.key_len,
             keys: self.keys.as_slice(),
             numbers: self.numbers.as_slice(),
         }
+    }
+
+    /// So many slots from one on, lent.
+    pub(crate) fn part(&self, at: usize, count: usize) -> ListPart<'_>
+        requires inside { at + count ≤ length self.now.pairs }
+        ensures pairs { listed result ≡ take count (drop at self.now.pairs) }
+        ensures key_len { result.key_len ≡ self.now.key_len }
+    {
+        let (_, rest) = self.all().split_at(at);
+        let (here, _) = rest.split_at(count);
+        here
     }
 
     /// The bytes of a slot's key.
@@ -166,6 +178,18 @@ impl PairSlots {
         self.numbers.reserve(n)?;
         self.spare = n;
         Ok(())
+    }
+
+    /// Puts pairs after the others. It takes the room that was reserved, and no memory.
+    pub(crate) fn push_part(&mut self, part: ListPart<'_>)
+        requires key { part.key_len ≡ self.old.key_len }
+        requires room { length (listed part) ≤ self.old.spare }
+        ensures pairs { self.new.pairs ≡ self.old.pairs ++ listed part.entry }
+        ensures key_len { self.new.key_len ≡ self.old.key_len }
+    {
+        push_run(&mut self.keys, part.keys);
+        push_run(&mut self.numbers, part.numbers);
+        self.spare -= part.numbers.len();
     }
 
     /// Puts n blank slots after the others. It takes the room that was reserved, and no memory.

@@ -5,12 +5,14 @@ ghost use Rattle.std.specs.List.{insert, remove};
 ghost use Rattle.key_expr.specs.declared.format.TheConstants.{MAX_KEY_BYTES};
 ghost use Rattle.ndx_index.specs.Bounds.{passes};
 ghost use Rattle.ndx_index.specs.Order.{before, AreInOrder};
+ghost use Rattle.ndx_index.specs.ListParts.{listed};
 ghost use Rattle.ndx_index.specs.Slots.{slot_at};
 ghost use Rattle.ndx_index.specs.PageStore.{page_in, no_page, with_pairs, with_links};
 
 use crate::pages::bound::Bound;
 use crate::pages::pair_pages::PairPages;
 use crate::pair::Pair;
+use crate::pair_list::part::ListPart;
 use key_expr::Key;
 use std::alloc::{AllocError, Global};
 use std::marker::Model;
@@ -69,6 +71,15 @@ impl PageStore {
         ensures small { result ≤ 16 }
     {
         self.pair_pages.count(page as usize)
+    }
+
+    /// All pairs of a page, lent.
+    pub(crate) fn part(&self, page: u32) -> ListPart<'_>
+        requires page { page < length self.now.pages }
+        ensures pairs { listed result ≡ (page_in self.now.pages page).pairs }
+        ensures key_len { result.key_len ≡ self.now.key_len }
+    {
+        self.pair_pages.part(page as usize)
     }
 
     /// How many links a page has.

@@ -38,6 +38,7 @@ impl<'a> ListPart<'a> {
         requires inside { count ≤ length (listed self) }
         ensures front { listed result.0 ≡ take count (listed self.entry) }
         ensures rest { listed result.1 ≡ drop count (listed self.entry) }
+        ensures key_len { (result.0.key_len ≡ self.entry.key_len) × (result.1.key_len ≡ self.entry.key_len) }
     {
         let (keys, other_keys) = self.keys.split_at(count * self.key_len);
         let (numbers, other_numbers) = self.numbers.split_at(count);
