@@ -33,8 +33,7 @@ impl TableIndex {
     {
         // This call tells contracts that the expression keeps the rules on fields.
         let _text = expr.text();
-        sort_pairs(&mut pairs);
-        if !is_order_of(records, &expr, &pairs) {
+        if !put_in_order(records, &expr, &mut pairs) {
             return Ok(None);
         }
         match OrderedIndex::from_sorted(alloc, expr.key_len(), &pairs) {
@@ -42,6 +41,21 @@ impl TableIndex {
             Err(refused) => Err(refused),
         }
     }
+}
+
+// Puts the pairs in the order of the table; `false` where they are not the pairs of its records, each as often. Those of
+// an index file mostly stand in that order, and are then looked over once.
+fn put_in_order(records: &GrowingTable, expr: &KeyExpr, pairs: &mut Vec<Pair>) -> bool
+    requires fields { expr.now.fields ≡ records.now.table.schema }
+    ensures whole { IsTrue result ↔ IsPermutation (pairs_of records.now.table expr.now.expr) pairs.old.items }
+    ensures order { IsTrue result → (pairs.new.items ≡ order records.now.table expr.now.expr) }
+    ensures keys { IsTrue result → HaveLength (key_length expr.now.fields expr.now.expr) pairs.new.items }
+{
+    if is_order_of(records, expr, pairs) {
+        return true;
+    }
+    sort_pairs(pairs);
+    is_order_of(records, expr, pairs)
 }
 
 // Whether the pairs are the order of the table: as many as there are records, each before the next, and each that
