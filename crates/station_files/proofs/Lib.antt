@@ -1,3 +1,3 @@
 pub mod FolderLaws
 pub mod PlanLaws
-pub mod ToldLaws
+pub mod ListingLaws

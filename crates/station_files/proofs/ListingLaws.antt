@@ -5,7 +5,7 @@ use Rattle.std.proofs.lemmas.Bool.{and_parts}
 use Rattle.std.proofs.lemmas.Bool.Decides.{nat_tests}
 use Rattle.std.proofs.lemmas.List.{append-nil}
 use Rattle.station_files.specs.declared.named.NamedFile.{NamedFile}
-use Rattle.station_files.specs.Files.{is_byte, told, FilesRead, with_one_more, files_read, files_told, IsOfBytes}
+use Rattle.station_files.specs.Files.{is_byte, listing, FilesRead, with_one_more, files_read, files_in, IsOfBytes}
 
 -- read after such a text
 abbrev before : List ℕ → FilesRead → FilesRead
@@ -26,21 +26,21 @@ text_read (b ∷ bs) rest low =
     let parts = and_parts (is_byte b) (list_all is_byte bs) low in
     ap (with_one_more b) (text_read bs rest parts.1) ∙ one_byte b (before bs (files_read rest)) parts.0
 
-pub told_read : (files : List NamedFile) → AllByRecursion IsOfBytes files → files_read (told files) ≡ at_mark files
-told_read [] all = refl
-told_read (f ∷ fs) all =
-    let rest : files_read (told fs) ≡ at_mark fs = told_read fs all.1 in
-    let bytes : files_read (f.bytes ++ told fs) ≡ before f.bytes (at_mark fs) = text_read f.bytes (told fs) all.0.bytes ∙ ap (before f.bytes) rest in
-    let named : files_read (f.name ++ 257 ∷ (f.bytes ++ told fs)) ≡ before f.name (with_one_more 257 (before f.bytes (at_mark fs))) =
-    text_read f.name (257 ∷ (f.bytes ++ told fs)) all.0.name ∙ ap (λ (r : FilesRead). before f.name (with_one_more 257 r)) bytes in
-    let cut : told (f ∷ fs) ≡ 256 ∷ (f.name ++ 257 ∷ (f.bytes ++ told fs)) =
-    ap (λ (l : List ℕ). 256 ∷ l) (append_assoc (f.name ++ 257 ∷ []) f.bytes (told fs) ∙ append_assoc f.name (257 ∷ []) (f.bytes ++ told fs)) in
+pub listing_read : (files : List NamedFile) → AllByRecursion IsOfBytes files → files_read (listing files) ≡ at_mark files
+listing_read [] all = refl
+listing_read (f ∷ fs) all =
+    let rest : files_read (listing fs) ≡ at_mark fs = listing_read fs all.1 in
+    let bytes : files_read (f.bytes ++ listing fs) ≡ before f.bytes (at_mark fs) = text_read f.bytes (listing fs) all.0.bytes ∙ ap (before f.bytes) rest in
+    let named : files_read (f.name ++ 257 ∷ (f.bytes ++ listing fs)) ≡ before f.name (with_one_more 257 (before f.bytes (at_mark fs))) =
+    text_read f.name (257 ∷ (f.bytes ++ listing fs)) all.0.name ∙ ap (λ (r : FilesRead). before f.name (with_one_more 257 r)) bytes in
+    let cut : listing (f ∷ fs) ≡ 256 ∷ (f.name ++ 257 ∷ (f.bytes ++ listing fs)) =
+    ap (λ (l : List ℕ). 256 ∷ l) (append_assoc (f.name ++ 257 ∷ []) f.bytes (listing fs) ∙ append_assoc f.name (257 ∷ []) (f.bytes ++ listing fs)) in
     ap files_read cut ∙ ap (with_one_more 256) named
     ∙ ap (λ (name : List ℕ). at_mark (record { name = name; bytes = f.bytes ++ [] } ∷ fs)) (append-nil f.name)
     ∙ ap (λ (text : List ℕ). at_mark (record { name = f.name; bytes = text } ∷ fs)) (append-nil f.bytes)
 
-pub told_again : (files : List NamedFile) → AllByRecursion IsOfBytes files → files_told (told files) ≡ files
-told_again files all = ap (λ (r : FilesRead). r.files) (told_read files all)
+pub files_again : (files : List NamedFile) → AllByRecursion IsOfBytes files → files_in (listing files) ≡ files
+files_again files all = ap (λ (r : FilesRead). r.files) (listing_read files all)
 
-pub one_list : (a b : List NamedFile) → AllByRecursion IsOfBytes a → AllByRecursion IsOfBytes b → told a ≡ told b → a ≡ b
-one_list a b all_a all_b same = sym (told_again a all_a) ∙ ap files_told same ∙ told_again b all_b
+pub one_list : (a b : List NamedFile) → AllByRecursion IsOfBytes a → AllByRecursion IsOfBytes b → listing a ≡ listing b → a ≡ b
+one_list a b all_a all_b same = sym (files_again a all_a) ∙ ap files_in same ∙ files_again b all_b

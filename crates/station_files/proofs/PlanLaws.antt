@@ -4,7 +4,7 @@ use Rattle.std.specs.Prelude.{codes}
 use Rattle.std.proofs.lemmas.Grind.{common_steps}
 use Rattle.std.proofs.lemmas.List.{append-nil, take_more, drop_more, take-append-drop}
 use Rattle.dbf_image.specs.Sink.{grown, IsFront}
-use Rattle.station_files.specs.Files.{told}
+use Rattle.station_files.specs.Files.{listing}
 use Rattle.station_files.specs.ClosedIndex.{IndexContent}
 use Rattle.station_files.specs.Writable.{has_too_many}
 use Rattle.station_files.specs.declared.named.NamedFile.{NamedFile}
@@ -92,8 +92,8 @@ map_behind (p ∷ ps) qs = ap (λ (fs : List NamedFile). file_of p ∷ fs) (map_
 -- what a run that failed at a place has written
 pub cut_at : (ps : List Planned) (files : List NamedFile) (old new : Option (List ℕ)) (i : ℕ) (p : Planned) (name : List ℕ)
     → map file_of ps ≡ files → i < length ps → p ≡ get_or ps i p → p.name ≡ name
-    → IsFront (grown old (told (map file_of (take i ps)))) new
-    → IsFront new (grown old (told (map file_of (take (i + 1) ps)))) → IsCutAt name old new files
+    → IsFront (grown old (listing (map file_of (take i ps)))) new
+    → IsFront new (grown old (listing (map file_of (take (i + 1) ps)))) → IsCutAt name old new files
 cut_at ps files old new i p name all lt is e whole front =
     let here : take (i + 1) ps ≡ take i ps ++ p ∷ [] = take_more ps i p lt ∙ ap (λ (q : Planned). take i ps ++ q ∷ []) (sym is) in
     let left : drop i ps ≡ p ∷ drop (i + 1) ps = drop_more ps i p lt ∙ ap (λ (q : Planned). q ∷ drop (i + 1) ps) (sym is) in
@@ -107,7 +107,7 @@ cut_at ps files old new i p name all lt is e whole front =
       others = map file_of (drop (i + 1) ps);
       order = order;
       whole = whole;
-      front = subst (λ (fs : List NamedFile). IsFront new (grown old (told fs))) upto front;
+      front = subst (λ (fs : List NamedFile). IsFront new (grown old (listing fs))) upto front;
     } in
     subst (λ (n : List ℕ). IsCutAt n old new files) e cut
 

@@ -12,7 +12,7 @@ use Rattle.station_files.specs.declared.planned.Planned.{Planned}
 use Rattle.station_files.specs.declared.content.Content.{Content}
 use Rattle.station_files.specs.declared.content.Content.TheVariants.{Table as OfTable, Memos, Index as OfIndex, Text}
 use Rattle.station_files.specs.ClosedIndex.{IndexContent}
-use Rattle.station_files.specs.Files.{told}
+use Rattle.station_files.specs.Files.{listing}
 use Rattle.station_files.specs.Writable.{has_too_many}
 
 abbrev pub index_bytes : IndexContent → List ℕ
@@ -73,5 +73,5 @@ pub record IsCutAt (name : List ℕ) (old new : Option (List ℕ)) (files : List
   pub bytes : List ℕ
   pub others : List NamedFile
   pub order : files ≡ before ++ record { name = name; bytes = bytes } ∷ others
-  pub whole : IsFront (grown old (told before)) new
-  pub front : IsFront new (grown old (told (before ++ record { name = name; bytes = bytes } ∷ [])))
+  pub whole : IsFront (grown old (listing before)) new
+  pub front : IsFront new (grown old (listing (before ++ record { name = name; bytes = bytes } ∷ [])))

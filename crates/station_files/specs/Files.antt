@@ -37,12 +37,12 @@ abbrev pub opening : List ℕ → List ℕ
 opening name = 256 ∷ (name ++ 257 ∷ [])
 
 -- files as one list: of each 256, the name, 257 and the bytes
-abbrev pub told : List NamedFile → List ℕ
-told files = flat_map (λ file. opening file.name ++ file.bytes) files
+abbrev pub listing : List NamedFile → List ℕ
+listing files = flat_map (λ file. opening file.name ++ file.bytes) files
 
 -- the files of a folder in memory as one list
-abbrev pub told_open : List OpenFile → List ℕ
-told_open files = flat_map (λ file. opening file.name.items ++ file.bytes.items) files
+abbrev pub open_listing : List OpenFile → List ℕ
+open_listing files = flat_map (λ file. opening file.name.items ++ file.bytes.items) files
 
 -- such a list, read from its end: what stands before the next 256 or 257, the bytes of the file that it belongs to,
 -- and the files after that
@@ -62,8 +62,8 @@ files_read [] = record { text = []; bytes = []; files = [] }
 files_read (b ∷ bs) = with_one_more b (files_read bs)
 
 -- the files that such a list tells of
-abbrev pub files_told : List ℕ → List NamedFile
-files_told list = (files_read list).files
+abbrev pub files_in : List ℕ → List NamedFile
+files_in list = (files_read list).files
 
 -- the name and the bytes are below 256
 pub record IsOfBytes (file : NamedFile) : Type 0 where

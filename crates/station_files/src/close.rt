@@ -5,7 +5,7 @@ ghost use Rattle.std.specs.Prelude.{◌≡◌, ◌≢◌, ◌+◌, ◌<◌, ◌�
 ghost use Rattle.dbf_image.specs.Blocks.{memo_image};
 ghost use Rattle.dbf_image.specs.Image.{image, IsOutside};
 ghost use Rattle.dbf_image.specs.Sink.{grown, IsFront, Rises};
-ghost use Rattle.station_files.specs.Files.{told};
+ghost use Rattle.station_files.specs.Files.{listing};
 ghost use Rattle.station_files.specs.Closing.{bytes_of, file_of, run_files, first_blocked, IsCutAt};
 ghost use Rattle.station_files.specs.Writable.{has_too_many as has_too_many_blocks, is_writable};
 
@@ -91,11 +91,11 @@ fn write_content<F: Folder>(folder: &mut F, content: &Content<'_>) -> Result<(),
 
 // Writes a file.
 fn write_file<F: Folder>(folder: &mut F, planned: &Planned<'_>) -> Result<(), SinkFault>
-    ensures wrote { OnOk result (F.written folder.new ≡ grown (F.written folder.old) (told (file_of planned.now ∷ []))) }
+    ensures wrote { OnOk result (F.written folder.new ≡ grown (F.written folder.old) (listing (file_of planned.now ∷ []))) }
     ensures fine { OnOk result (F.failures folder.new ≡ F.failures folder.old) }
     ensures failed { OnErr result (Rises (F.failures folder.old) (F.failures folder.new)) }
     ensures kept { IsFront (F.written folder.old) (F.written folder.new) }
-    ensures front { OnErr result (IsFront (F.written folder.new) (grown (F.written folder.old) (told (file_of planned.now ∷ [])))) }
+    ensures front { OnErr result (IsFront (F.written folder.new) (grown (F.written folder.old) (listing (file_of planned.now ∷ [])))) }
 {
     folder.begin(planned.name.as_slice())?;
     write_content(folder, &planned.content)
@@ -103,12 +103,12 @@ fn write_file<F: Folder>(folder: &mut F, planned: &Planned<'_>) -> Result<(), Si
 
 // Writes the files in their order. An error tells the place of the one that was not written, or not whole.
 fn write_files<F: Folder>(folder: &mut F, planned: &[Planned<'_>]) -> Result<(), usize>
-    ensures wrote { OnOk result (F.written folder.new ≡ grown (F.written folder.old) (told (map file_of planned.now))) }
+    ensures wrote { OnOk result (F.written folder.new ≡ grown (F.written folder.old) (listing (map file_of planned.now))) }
     ensures fine { OnOk result (F.failures folder.new ≡ F.failures folder.old) }
     ensures failed { OnErr result (Rises (F.failures folder.old) (F.failures folder.new)) }
     ensures inside { IfErr result (λ place. place < length planned.now) }
-    ensures whole { IfErr result (λ place. IsFront (grown (F.written folder.old) (told (map file_of (take place planned.now)))) (F.written folder.new)) }
-    ensures front { IfErr result (λ place. IsFront (F.written folder.new) (grown (F.written folder.old) (told (map file_of (take (place + 1) planned.now))))) }
+    ensures whole { IfErr result (λ place. IsFront (grown (F.written folder.old) (listing (map file_of (take place planned.now)))) (F.written folder.new)) }
+    ensures front { IfErr result (λ place. IsFront (F.written folder.new) (grown (F.written folder.old) (listing (map file_of (take (place + 1) planned.now))))) }
 {
     let mut place = 0;
     for file in planned {
@@ -133,7 +133,7 @@ pub fn close_files<F: Folder>(
     day: Day,
     folder: &mut F,
 ) -> Result<(), CloseFault>
-    ensures wrote { OnOk result (F.written folder.new ≡ grown (F.written folder.old) (told (run_files day.year day.month day.day tables.now answers.now))) }
+    ensures wrote { OnOk result (F.written folder.new ≡ grown (F.written folder.old) (listing (run_files day.year day.month day.day tables.now answers.now))) }
     ensures fine { OnOk result (F.failures folder.new ≡ F.failures folder.old) }
     ensures outside { (result ≡ Err CloseFault.DateOutside) ↔ IsOutside day.year }
     ensures blocks { (number : ℕ) → ((result ≡ Err (CloseFault.TooManyBlocks number)) ↔ ((IsOutside day.year → ⊥) × (first_blocked 1 tables.now ≡ Some number))) }

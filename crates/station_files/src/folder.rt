@@ -4,7 +4,7 @@ ghost use Rattle.std.specs.Prelude.{◌≡◌, List, OnOk, OnErr};
 ghost use Rattle.std.specs.List.{AllByRecursion};
 ghost use Rattle.dbf_image.specs.Sink.{grown, Rises};
 ghost use Rattle.station_files.specs.declared.named.NamedFile.{NamedFile};
-ghost use Rattle.station_files.specs.Files.{opening, told, files_told, IsOfBytes};
+ghost use Rattle.station_files.specs.Files.{opening, listing, files_in, IsOfBytes};
 
 use dbf_image::{ByteSink, SinkFault};
 
@@ -23,6 +23,6 @@ pub trait Folder: ByteSink {
 
 /// A folder's list tells its files: where names and bytes are below 256, no other files have the same list.
 pub fn one_folder()
-    ensures told { (files : List NamedFile) → AllByRecursion IsOfBytes files → files_told (told files) ≡ files }
-    ensures one { (a b : List NamedFile) → AllByRecursion IsOfBytes a → AllByRecursion IsOfBytes b → told a ≡ told b → a ≡ b }
+    ensures files { (files : List NamedFile) → AllByRecursion IsOfBytes files → files_in (listing files) ≡ files }
+    ensures one { (a b : List NamedFile) → AllByRecursion IsOfBytes a → AllByRecursion IsOfBytes b → listing a ≡ listing b → a ≡ b }
 {}

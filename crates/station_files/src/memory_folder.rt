@@ -21,7 +21,7 @@ pub struct MemoryFolder {
     alloc: Global,
     /// The files, in the order in which they were begun.
     pub files: Vec<OpenFile>,
-    /// How many more calls of `begin` and `write` succeed; the one behind them fails.
+    /// How many more calls of `begin` and `write` succeed; the one after them fails.
     pub calls: u64,
     /// The most bytes that one call of `write` takes.
     pub most: usize,
@@ -57,9 +57,9 @@ impl MemoryFolder {
 
 impl ByteSink for MemoryFolder {
     ghost use Rattle.std.specs.Prelude.{Some};
-    ghost use Rattle.station_files.specs.Files.{told_open};
+    ghost use Rattle.station_files.specs.Files.{open_listing};
 
-    ghost written = { λ s. Some (told_open s.files.items) };
+    ghost written = { λ s. Some (open_listing s.files.items) };
 
     ghost failures = { λ s. Some s.failures };
 
@@ -72,9 +72,9 @@ impl ByteSink for MemoryFolder {
         let Some(mut file) = self.files.pop() else {
             return Err(self.fail());
         };
-        let told = file.bytes.extend_from_slice(&bytes[..count]);
+        let taken = file.bytes.extend_from_slice(&bytes[..count]);
         self.files.push_reserved(file);
-        match told {
+        match taken {
             Ok(()) => {
                 self.calls -= 1;
                 Ok(count)

@@ -14,7 +14,7 @@ use std::alloc::Global;
 pub struct MemorySource {
     /// The files.
     pub files: Vec<NamedFile>,
-    /// How many more loads come to the file; the one behind them fails.
+    /// How many more loads come to the file; the one after them fails.
     pub loads: u64,
     /// How often a load has failed.
     pub failures: Failures,

@@ -5,7 +5,7 @@ ghost use Rattle.dbf_image.specs.Sink.{grown, Rises};
 ghost use Rattle.shared_catalogue.specs.Opening.{Opening};
 ghost use Rattle.station_files.specs.declared.closed.ClosedTable.{ClosedTable as Table};
 ghost use Rattle.station_files.specs.Closing.{run_files, IsCutAt};
-ghost use Rattle.station_files.specs.Files.{told};
+ghost use Rattle.station_files.specs.Files.{listing};
 ghost use Rattle.station_server.specs.Loading.{read_of, IsFailure};
 ghost use Rattle.station_server.specs.WholeRun.{stations_for, IsAllRead, IsReadFault, IsRun, IsRunFault, IsWholeRun, IsServeFault, IsSaid, IsWriteFault};
 
@@ -119,7 +119,7 @@ fn write_files<F: Folder>(
     today: Day,
     folder: &mut F,
 ) -> Result<(), ServeFault>
-    ensures wrote { OnOk result (F.written folder.new ≡ grown (F.written folder.old) (told (run_files today.year today.month today.day tables.now answers.now))) }
+    ensures wrote { OnOk result (F.written folder.new ≡ grown (F.written folder.old) (listing (run_files today.year today.month today.day tables.now answers.now))) }
     ensures fine { OnOk result (F.failures folder.new ≡ F.failures folder.old) }
     ensures fault { IfErr result (λ fault. IsWriteFault today.year tables.now fault) }
     ensures unbegun { IfErr result (λ fault. ((name : List ℕ) → fault ≢ ServeFault.Close (CloseFault.Write name)) → folder.new ≡ folder.old) }
@@ -155,7 +155,7 @@ pub fn serve<S: Source, F: Folder, G: Gate + Sync, R: Threads + Wait + Sync>(
     gate: &G,
 ) -> Result<u64, ServeFault>
     // The files of the replay of a legal journal, whose commands are the scripts' lines, on what the setup names.
-    ensures ran { IfOk result (λ count. (tables : List Table) × (answers : List (List ℕ)) × IsWholeRun (S.files source.old) setup.now reindex tables answers count × (F.written folder.new ≡ grown (F.written folder.old) (told (run_files today.year today.month today.day tables answers)))) }
+    ensures ran { IfOk result (λ count. (tables : List Table) × (answers : List (List ℕ)) × IsWholeRun (S.files source.old) setup.now reindex tables answers count × (F.written folder.new ≡ grown (F.written folder.old) (listing (run_files today.year today.month today.day tables answers)))) }
     ensures fine { OnOk result (F.failures folder.new ≡ F.failures folder.old) }
     ensures kept { S.files source.new ≡ S.files source.old }
     ensures fault { IfErr result (IsServeFault (S.files source.old) setup.now reindex today.year) }
