@@ -15,7 +15,7 @@ set_same xs i b lt = get_or-set_same xs i b no_block lt
 pub set_other : (xs : List MemoBlock) (i j : ℕ) (b : MemoBlock) → j ≢ i → block_at (set xs i b) j ≡ block_at xs j
 set_other xs i j b ne = get_or-set_other xs i j b no_block ne
 
--- the chain behind the first block
+-- the chain after the first block
 pub rest_of : (k : ℕ) (xs ys : List MemoBlock) (free : FreeList) (b : MemoBlock) → free.count ≡ suc k → ys ≡ set xs free.head b → IsChain 0 free.count xs free.head → IsChain 0 k ys (block_at xs free.head).next
 rest_of k xs ys free b e is c =
     let all : IsChain 0 (suc k) xs free.head = subst (λ n. IsChain 0 n xs free.head) e c in

@@ -22,7 +22,7 @@ framed o (suc k) xs ys i le same c =
       text = ap₂ (λ (p q : List ℕ). p ++ q) at.piece (ap (λ n. text_from k ys n) at.next ∙ rest.text);
     }
 
--- a free block pushed behind the others, which links to the first free one
+-- a free block pushed after the others, which links to the first free one
 pub pushed : (k : ℕ) (xs ys : List MemoBlock) (head : ℕ) (b : MemoBlock) → ys ≡ xs ++ b ∷ [] → b.owner ≡ 0 → b.count ≡ k + 1 → b.next ≡ head → IsChain 0 k xs head → IsChain 0 (k + 1) ys (length xs)
 pushed k xs ys head b e own count next c =
     let long : length ys ≡ length xs + 1 = ap length e ∙ length_push xs b in

@@ -76,7 +76,7 @@ text_stays xs ys (suc i) held le same back =
 pub chain_stays : (xs ys : List MemoBlock) (i : ℕ) → AreHeld xs → length xs ≤ length ys → ((j : ℕ) → (block_at xs j).owner ≡ suc i → Alike (block_at ys j) (block_at xs j)) → (block_at xs i).owner ≡ suc i → IsChain (suc i) (block_at ys i).count ys i
 chain_stays xs ys i held le same e = subst (λ k. IsChain (suc i) k ys i) (sym (same i e).count) (framed (suc i) (block_at xs i).count xs ys i le (λ j lt o n. same j o) (held i e)).chain
 
--- free blocks behind the others
+-- free blocks after the others
 pub grown_self : (xs : List MemoBlock) → Grown xs xs
 grown_self xs = record { longer = omega arith; stay = λ j lt. refl; free = λ j le. ap (λ (b : MemoBlock). b.owner) (get_or_past xs j no_block le) }
 
@@ -87,7 +87,7 @@ grown_twice xs ys zs a b = record {
   free = λ j le. ⊎_elim (λ lt. ap (λ (x : MemoBlock). x.owner) (b.stay j lt) ∙ a.free j le) (λ ge. b.free j ge) (Rattle.std.proofs.lemmas.Bool.cases_lt j (length ys));
 }
 
--- one more free block behind the others
+-- one more free block after the others
 pub grown_push : (xs ys zs : List MemoBlock) (b : MemoBlock) → zs ≡ ys ++ b ∷ [] → b.owner ≡ 0 → Grown xs ys → Grown xs zs
 grown_push xs ys zs b e own g =
     let long : length zs ≡ length ys + 1 = ap length e ∙ length_push ys b in

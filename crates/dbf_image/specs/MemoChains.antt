@@ -45,7 +45,7 @@ pub record Alike (b a : MemoBlock) : Type 0 where
   pub count : b.count ≡ a.count
   pub next : b.next ≡ a.next
 
--- ys has the blocks of xs, and free ones behind them
+-- ys has the blocks of xs, and free ones after them
 pub record Grown (xs ys : List MemoBlock) : Type 0 where
   pub longer : length xs ≤ length ys
   pub stay : (j : ℕ) → j < length xs → block_at ys j ≡ block_at xs j

@@ -70,12 +70,12 @@ by_fronts xs ys x y first second fit sit one two apart then =
     let whole : slice_cmp nat_cmp xs ys ≡ ordering_then (nat_cmp x y) rest = rw (one, two) (by_numbers 8 xs ys first second fit sit) in
     elim (cases_lt x y) [
       | inl lt ↦
-          let told : nat_lt x y ≡ true = grind (arith, nat_tests, lt) in
+          let less_is : nat_lt x y ≡ true = grind (arith, nat_tests, lt) in
           let less : slice_cmp nat_cmp xs ys ≡ Less = whole ∙ ap (λ o. ordering_then o rest) (sym (nat_cmp_is x y Less lt)) in
-          ap (λ o. is_lt (ordering_then o then)) less ∙ sym told
+          ap (λ o. is_lt (ordering_then o then)) less ∙ sym less_is
       | inr le ↦
           let more : y < x = elim (cases_eq x y) [ inl e ↦ absurd (apart e) | inr ne ↦ omega (arith, le, ne) ] in
-          let told : nat_lt x y ≡ false = grind (arith, nat_tests, le) in
+          let less_is : nat_lt x y ≡ false = grind (arith, nat_tests, le) in
           let greater : slice_cmp nat_cmp xs ys ≡ Greater = whole ∙ ap (λ o. ordering_then o rest) (sym (nat_cmp_is x y Greater more)) in
-          ap (λ o. is_lt (ordering_then o then)) greater ∙ sym told
+          ap (λ o. is_lt (ordering_then o then)) greater ∙ sym less_is
     ]

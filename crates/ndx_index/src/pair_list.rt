@@ -1,6 +1,6 @@
 //! A list of pairs whose keys have one length.
 
-ghost use Rattle.std.specs.Prelude.{◌≡◌, ◌<◌, ◌≤◌, ◌++◌, [], length, OnOk};
+ghost use Rattle.std.specs.Prelude.{◌≡◌, ◌<◌, ◌≤◌, ◌++◌, [], length, OnOk, OnErr};
 ghost use Rattle.key_expr.specs.declared.format.TheConstants.{MAX_KEY_BYTES};
 ghost use Rattle.ndx_index.specs.ListParts.{listed};
 ghost use Rattle.ndx_index.specs.Slots.{slot_at};
@@ -60,6 +60,7 @@ impl PairList {
     pub(crate) fn extend(&mut self, part: ListPart<'_>) -> Result<(), AllocError>
         requires key { part.key_len ≡ self.old.key_len }
         ensures pairs { OnOk result (self.new.pairs ≡ self.old.pairs ++ listed part.entry) }
+        ensures same { OnErr result (self.new.pairs ≡ self.old.pairs) }
         ensures key_len { self.new.key_len ≡ self.old.key_len }
     {
         self.slots.reserve(part.len())?;

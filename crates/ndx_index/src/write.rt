@@ -32,7 +32,7 @@ use key_expr::{KeyExpr, MAX_EXPRESSION_BYTES};
 fn put_header<S: ByteSink>(out: &mut SinkWriter<'_, S>, text: &[u8], shape: Shape, root: u32)
     requires text { length text.now ≤ MAX_EXPRESSION_BYTES }
     requires root { root < 4294967295 }
-    ensures { Puts out.old (header_page text.now shape.key_len (root + 1)) out.new }
+    ensures put { Puts out.old (header_page text.now shape.key_len (root + 1)) out.new }
 {
     put_u32(out, root);
     put_u32(out, root + 1);

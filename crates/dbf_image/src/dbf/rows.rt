@@ -69,7 +69,7 @@ fn put_cell<S: ByteSink>(
     text_length: usize,
     next: u64,
 )
-    ensures { (text : List ℕ) → (field.now.kind ≡ MEMO_KIND → length text ≡ text_length) → Puts out.old (cell_bytes next field.now (if field.now.kind == MEMO_KIND then text else bytes.now)) out.new }
+    ensures put { (text : List ℕ) → (field.now.kind ≡ MEMO_KIND → length text ≡ text_length) → Puts out.old (cell_bytes next field.now (if field.now.kind == MEMO_KIND then text else bytes.now)) out.new }
 {
     if field.kind == MEMO {
         out.put(&block_number_cell(next, text_length));
@@ -149,7 +149,7 @@ fn put_each_record<S: ByteSink>(
     requires room { header.record_count * header.record_length ≤ length store.records.now }
     requires many { length store.memos.now ≡ header.record_count * memo_count fields.now }
     requires each { AllByRecursion (IsMemo store.texts.now.texts) store.memos.now }
-    ensures { Puts out.old (flat_map (λ bytes. bytes) (rows_bytes 1 fields.now (rows_with fields.now (chunks header.record_length header.record_count store.entry.records.now) (texts_of store.entry.texts.now.texts store.entry.memos.now)))) out.new }
+    ensures put { Puts out.old (flat_map (λ bytes. bytes) (rows_bytes 1 fields.now (rows_with fields.now (chunks header.record_length header.record_count store.entry.records.now) (texts_of store.entry.texts.now.texts store.entry.memos.now)))) out.new }
 {
     let size = usize::from(header.record_length);
     let memos_each = memo_count_of(fields);
@@ -201,7 +201,7 @@ pub(crate) fn put_records<S: ByteSink>(
     requires room { header.record_count * header.record_length ≤ length store.records.now }
     requires many { length store.memos.now ≡ header.record_count * memo_count fields.now }
     requires each { AllByRecursion (IsMemo store.texts.now.texts) store.memos.now }
-    ensures { Puts out.old (flat_map (λ bytes. bytes) (rows_bytes 1 fields.now (rows_with fields.now (chunks header.record_length header.record_count store.entry.records.now) (texts_of store.entry.texts.now.texts store.entry.memos.now)))) out.new }
+    ensures put { Puts out.old (flat_map (λ bytes. bytes) (rows_bytes 1 fields.now (rows_with fields.now (chunks header.record_length header.record_count store.entry.records.now) (texts_of store.entry.texts.now.texts store.entry.memos.now)))) out.new }
 {
     let size = usize::from(header.record_length);
     let (records, _) = store.records.split_at(header.record_count as usize * size);

@@ -85,7 +85,7 @@ fn descriptor_bytes(field: &Field) -> [u8; DESCRIPTOR]
 
 fn put_descriptors<S: ByteSink>(out: &mut SinkWriter<'_, S>, fields: &[Field])
     requires { IsSchema fields.now }
-    ensures { Puts out.old (flat_map descriptor fields.now) out.new }
+    ensures put { Puts out.old (flat_map descriptor fields.now) out.new }
 {
     for field in fields {
         out.put(&descriptor_bytes(field));
@@ -99,7 +99,7 @@ fn put_image<S: ByteSink>(out: &mut SinkWriter<'_, S>, table: &TableData, header
     requires count { header.record_count ≡ length table.now.rows }
     requires header { header.header_length ≡ DESCRIPTOR * length table.now.schema + (HEADER + 1) }
     requires wide { header.record_length ≡ 1 + widths table.now.schema }
-    ensures { Puts out.old (image table.now day.year day.month day.day) out.new }
+    ensures put { Puts out.old (image table.now day.year day.month day.day) out.new }
 {
     let fields = table.schema().fields();
     out.put(&header_bytes(version_byte(fields), header, day));

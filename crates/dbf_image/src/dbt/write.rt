@@ -41,7 +41,7 @@ fn fill_of(text_length: usize) -> usize
 // The blocks of a memo's text, of which there are none where it is empty.
 fn put_block<S: ByteSink>(out: &mut SinkWriter<'_, S>, texts: &MemoStore, number: u32)
     requires { IsMemo texts.now.texts number }
-    ensures { Puts out.old (block_bytes (text_of texts.now.texts number)) out.new }
+    ensures put { Puts out.old (block_bytes (text_of texts.now.texts number)) out.new }
 {
     let length = memo_length(texts, number);
     if length == 0 {
@@ -56,7 +56,7 @@ fn put_block<S: ByteSink>(out: &mut SinkWriter<'_, S>, texts: &MemoStore, number
 // The blocks of all texts, one after the other.
 fn put_blocks<S: ByteSink>(out: &mut SinkWriter<'_, S>, texts: &MemoStore, memos: &[u32])
     requires { AllByRecursion (IsMemo texts.now.texts) memos.now }
-    ensures { Puts out.old (flat_map (λ number. block_bytes (text_of texts.now.texts number)) memos.now) out.new }
+    ensures put { Puts out.old (flat_map (λ number. block_bytes (text_of texts.now.texts number)) memos.now) out.new }
 {
     for number in memos {
         put_block(out, texts, *number);
@@ -66,7 +66,7 @@ fn put_blocks<S: ByteSink>(out: &mut SinkWriter<'_, S>, texts: &MemoStore, memos
 // The bytes of the file.
 fn put_memo_image<S: ByteSink>(out: &mut SinkWriter<'_, S>, table: &TableData, next: u32)
     requires { next ≡ next_free table.now }
-    ensures { Puts out.old (memo_image table.now) out.new }
+    ensures put { Puts out.old (memo_image table.now) out.new }
 {
     let store = table.store();
     out.put(&header_block(next));

@@ -41,7 +41,7 @@ pub(crate) fn blocks_for(length: usize) -> usize
 /// The bytes as those of a block.
 pub(crate) fn piece_of(bytes: &[u8]) -> ArrayVec<u8, BLOCK>
     requires fits { length bytes.now ≤ BLOCK }
-    ensures { result.items ≡ bytes.now }
+    ensures bytes { result.items ≡ bytes.now }
 {
     let mut piece = ArrayVec::new();
     let done = piece.try_extend_from_slice(bytes);

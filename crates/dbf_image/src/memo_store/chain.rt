@@ -22,7 +22,7 @@ pub(crate) fn fill(
     text: &[u8],
 ) -> FreeList
     requires { CanFill blocks.old free owner count text.now }
-    ensures { Fills blocks.old blocks.new free result owner count text.now }
+    ensures fills { Fills blocks.old blocks.new free result owner count text.now }
 {
     let mut rest = free;
     let mut more = text;
@@ -49,7 +49,7 @@ pub(crate) fn text_length(blocks: &[MemoBlock], number: u32) -> usize
     requires positive { 0 < number }
     requires there { number ≤ length blocks.now }
     requires chain { IsChain number (block_at blocks.now (number - 1)).count blocks.now (number - 1) }
-    ensures { result ≡ length (text_from (block_at blocks.now (number - 1)).count blocks.now (number - 1)) }
+    ensures value { result ≡ length (text_from (block_at blocks.now (number - 1)).count blocks.now (number - 1)) }
 {
     let mut length = 0;
     let mut at = number - 1;
@@ -72,7 +72,7 @@ pub(crate) fn gather(
     requires positive { 0 < number }
     requires there { number ≤ length blocks.now }
     requires chain { IsChain number (block_at blocks.now (number - 1)).count blocks.now (number - 1) }
-    ensures { IfOk result (λ text. text.items ≡ text_from (block_at blocks.now (number - 1)).count blocks.now (number - 1)) }
+    ensures value { IfOk result (λ text. text.items ≡ text_from (block_at blocks.now (number - 1)).count blocks.now (number - 1)) }
 {
     let mut text = Vec::with_capacity(alloc, text_length(blocks, number))?;
     let mut at = number - 1;
@@ -95,7 +95,7 @@ pub(crate) fn put_pieces<S: ByteSink>(
     requires positive { 0 < number }
     requires there { number ≤ length blocks.now }
     requires chain { IsChain number (block_at blocks.now (number - 1)).count blocks.now (number - 1) }
-    ensures { Puts out.old (text_from (block_at blocks.now (number - 1)).count blocks.now (number - 1)) out.new }
+    ensures put { Puts out.old (text_from (block_at blocks.now (number - 1)).count blocks.now (number - 1)) out.new }
 {
     let mut at = number - 1;
     let mut left = blocks[at as usize].count;

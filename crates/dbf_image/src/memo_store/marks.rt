@@ -8,7 +8,7 @@ use crate::memo_store::block::{FreeList, MemoBlock};
 
 // Takes all marks away.
 fn clear(blocks: &mut [MemoBlock])
-    ensures { Clears (length blocks.old) blocks.old blocks.new }
+    ensures clears { Clears (length blocks.old) blocks.old blocks.new }
 {
     'clear: for i in 0..blocks.len() {
         blocks[i].kept = false;
@@ -17,7 +17,7 @@ fn clear(blocks: &mut [MemoBlock])
 
 /// Marks the first blocks of the texts with these numbers, and no other block.
 pub(crate) fn mark(blocks: &mut [MemoBlock], numbers: &[u32])
-    ensures { Marks blocks.old blocks.new numbers.now }
+    ensures marks { Marks blocks.old blocks.new numbers.now }
 {
     clear(blocks);
     'mark: for number in numbers {
@@ -30,7 +30,7 @@ pub(crate) fn mark(blocks: &mut [MemoBlock], numbers: &[u32])
 
 // Whether the text with this number is marked.
 fn is_marked(blocks: &[MemoBlock], number: u32) -> bool
-    ensures { result ≡ is_kept blocks.now number }
+    ensures value { result ≡ is_kept blocks.now number }
 {
     let number = number as usize;
     number > 0 && number <= blocks.len() && blocks[number - 1].kept
@@ -39,7 +39,7 @@ fn is_marked(blocks: &[MemoBlock], number: u32) -> bool
 /// Makes each block free whose text isn't marked, and answers all free blocks.
 pub(crate) fn sweep(blocks: &mut [MemoBlock]) -> FreeList
     requires numbers { length blocks.old < 2 ^ 32 }
-    ensures { Sweeps (length blocks.old) blocks.old blocks.new result }
+    ensures sweeps { Sweeps (length blocks.old) blocks.old blocks.new result }
 {
     let mut free = FreeList { head: 0, count: 0 };
     'sweep: for i in 0..blocks.len() {

@@ -42,7 +42,7 @@ impl<'s, S: ByteSink> SinkWriter<'s, S> {
 
     /// Puts bytes after those before.
     pub fn put(&mut self, bytes: &[u8])
-        ensures { Puts self.old bytes.now self.new }
+        ensures put { Puts self.old bytes.now self.new }
     {
         self.wanted.append(bytes);
         if self.failed {
@@ -76,7 +76,7 @@ impl<'s, S: ByteSink> SinkWriter<'s, S> {
 // A writer is dropped as it is: what waits is not sent. `flush` comes before, so that a failure is seen.
 impl<S: ByteSink> Drop for SinkWriter<'_, S> {
     fn drop(self)
-        ensures { self.exit.0.now ≡ self.entry.sink.now }
+        ensures sink { self.exit.0.now ≡ self.entry.sink.now }
     {
         let SinkWriter {
             sink: _,

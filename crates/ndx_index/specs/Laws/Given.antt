@@ -58,7 +58,7 @@ at_least q p [] k lt e all = absurd (omega arith)
 at_least q p (x ∷ qs) zero lt e all = subst (λ z. pair_cmp q z ≡ Less) e all.0
 at_least q p (x ∷ qs) (suc k) lt e all = at_least q p qs k (omega arith) e all.1
 
--- the first of the pairs is the first of the others, or all of them stand behind that one
+-- the first of the pairs is the first of the others, or all of them stand after that one
 first_or_later : (p q : Pair) (ps qs : List Pair) → AreInOrder (p ∷ ps) → AreInOrder (q ∷ qs) → AllByRecursion (Contains (q ∷ qs)) (p ∷ ps)
     → ((q ≡ p) × AllByRecursion (Contains qs) ps) ⊎ AllByRecursion (Contains qs) (p ∷ ps)
 unfolding IsStrictlySortedBy

@@ -10,7 +10,7 @@ use byteorder::{BigEndian, ByteOrder};
 /// Whether a key stands before another one by the first eight bytes of both, each read as one number. `None` where these
 /// don't tell: where they are the same, or a key has fewer.
 pub(crate) fn front_is_before(a: &[u8], b: &[u8]) -> Option<bool>
-    ensures told { IfSome result (λ before. (then : Order) → is_lt (ordering_then (slice_cmp nat_cmp a.now b.now) then) ≡ before) }
+    ensures decided { IfSome result (λ before. (then : Order) → is_lt (ordering_then (slice_cmp nat_cmp a.now b.now) then) ≡ before) }
 {
     if a.len() < 8 || b.len() < 8 {
         return None;

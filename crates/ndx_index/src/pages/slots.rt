@@ -104,7 +104,7 @@ impl PairSlots {
     /// A slot's record number.
     pub(crate) fn number(&self, at: usize) -> u32
         requires place { at < length self.now.pairs }
-        ensures { result ≡ (slot_at self.now.pairs at).number }
+        ensures number { result ≡ (slot_at self.now.pairs at).number }
     {
         self.numbers[at]
     }

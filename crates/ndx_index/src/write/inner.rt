@@ -26,7 +26,7 @@ fn put_inner<S: ByteSink>(
     requires inside { at + count ≤ level.count }
     requires child { 1 ≤ count }
     requires few { count ≤ plan.now.shape.keys + 1 }
-    ensures { Puts out.old (inner_page plan.now.shape.size (children_from plan.now.shape.keys (listed plan.now.pairs) level.height at count)) out.new }
+    ensures put { Puts out.old (inner_page plan.now.shape.size (children_from plan.now.shape.keys (listed plan.now.pairs) level.height at count)) out.new }
 {
     put_u32(out, (count - 1) as u32);
     for i in 0..count - 1 {
@@ -60,7 +60,7 @@ fn next_count(shape: Shape, left: usize) -> usize
 fn put_level<S: ByteSink>(out: &mut SinkWriter<'_, S>, plan: &TreePlan<'_>, level: LevelSpan)
     requires height { level.height < plan.now.height }
     requires level { IsLevel plan.now.shape.keys (listed plan.now.pairs) level.height level.first level.count }
-    ensures { Puts out.old (flat_map (inner_page plan.now.shape.size) (next_level plan.now.shape.keys (level_of plan.now.shape.keys (listed plan.now.pairs) level.height).pages)) out.new }
+    ensures put { Puts out.old (flat_map (inner_page plan.now.shape.size) (next_level plan.now.shape.keys (level_of plan.now.shape.keys (listed plan.now.pairs) level.height).pages)) out.new }
 {
     let mut at = 0;
     while at < level.count {
@@ -72,7 +72,7 @@ fn put_level<S: ByteSink>(out: &mut SinkWriter<'_, S>, plan: &TreePlan<'_>, leve
 
 /// All inner pages, level by level up to the root.
 pub(crate) fn put_inner_pages<S: ByteSink>(out: &mut SinkWriter<'_, S>, plan: &TreePlan<'_>)
-    ensures { Puts out.old (flat_map (inner_page plan.now.shape.size) (inner_pages plan.now.shape.keys (listed plan.now.pairs))) out.new }
+    ensures put { Puts out.old (flat_map (inner_page plan.now.shape.size) (inner_pages plan.now.shape.keys (listed plan.now.pairs))) out.new }
 {
     let mut first = 1;
     for height in 0..plan.height {

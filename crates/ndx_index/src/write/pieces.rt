@@ -13,7 +13,7 @@ use byteorder::{ByteOrder, LittleEndian};
 use dbf_image::{ByteSink, SinkWriter};
 
 pub(crate) fn put_u16<S: ByteSink>(out: &mut SinkWriter<'_, S>, number: u16)
-    ensures { Puts out.old (little_bytes 2 number) out.new }
+    ensures put { Puts out.old (little_bytes 2 number) out.new }
 {
     let mut bytes = [0; 2];
     LittleEndian::write_u16(&mut bytes, number);
@@ -21,7 +21,7 @@ pub(crate) fn put_u16<S: ByteSink>(out: &mut SinkWriter<'_, S>, number: u16)
 }
 
 pub(crate) fn put_u32<S: ByteSink>(out: &mut SinkWriter<'_, S>, number: u32)
-    ensures { Puts out.old (little_bytes 4 number) out.new }
+    ensures put { Puts out.old (little_bytes 4 number) out.new }
 {
     let mut bytes = [0; 4];
     LittleEndian::write_u32(&mut bytes, number);
@@ -31,8 +31,11 @@ pub(crate) fn put_u32<S: ByteSink>(out: &mut SinkWriter<'_, S>, number: u32)
 /// This many zeros, as they fill a page up.
 pub(crate) fn put_zeros<S: ByteSink>(out: &mut SinkWriter<'_, S>, n: usize)
     requires { n ≤ PAGE }
-    ensures { Puts out.old (replicate n 0) out.new }
+    ensures put { Puts out.old (replicate n 0) out.new }
 {
+    if n == 0 {
+        return;
+    }
     let zeros = [0; PAGE];
     out.put(&zeros[..n]);
 }
@@ -47,10 +50,12 @@ pub(crate) fn put_key_record<S: ByteSink>(
     key: &[u8],
 )
     requires { length key.now ≤ MAX_KEY_BYTES }
-    ensures { Puts out.old (key_record shape.size child number key.now) out.new }
+    ensures put { Puts out.old (key_record shape.size child number key.now) out.new }
 {
-    put_u32(out, child);
-    put_u32(out, number);
+    let mut numbers = [0; 8];
+    LittleEndian::write_u32(&mut numbers, child);
+    LittleEndian::write_u32(&mut numbers[4..], number);
+    out.put(&numbers);
     out.put(key);
     put_zeros(out, shape.size.saturating_sub(8 + key.len()));
 }

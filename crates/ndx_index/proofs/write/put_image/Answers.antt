@@ -14,6 +14,6 @@ returns-clause-put g c =
     let below = subst (λ k. AreSizes k (listed plan.pairs) plan.height plan.sizes) shape.fits.keys_are plan.below in
     let top = subst (λ k. IsRootLevel k (listed plan.pairs) plan.height plan.root) shape.fits.keys_are plan.top in
     let whole = image_parts c.args.text.now shape.key_len (plan.root + 1) (listed plan.pairs) (pages_counted shape.key_len (listed plan.pairs) plan.height plan.root plan.sizes some below top) in (
-      c.put_inner_pages.ensures.0 ∙ (c.put_leaves.ensures.put.0 ∙ c.put_header.ensures.0),
-      rw (c.put_inner_pages.ensures.1, c.put_leaves.ensures.put.1, c.put_header.ensures.1, shape.fits.keys_are, shape.fits.size_is) (more_all_three _ _ _ _ _ whole),
+      c.put_inner_pages.ensures.put.0 ∙ (c.put_leaves.ensures.put.0 ∙ c.put_header.ensures.put.0),
+      rw (c.put_inner_pages.ensures.put.1, c.put_leaves.ensures.put.1, c.put_header.ensures.put.1, shape.fits.keys_are, shape.fits.size_is) (more_all_three _ _ _ _ _ whole),
     )

@@ -21,7 +21,7 @@ loop-field-preserved g c =
     let mine = take (memo_count (f ∷ [])) memos in
     let cell = first_cell f (take f.width rest) texts mine in
     let long = λ (kind : f.kind ≡ MEMO). rw (c.split_at-in-loop-field.ensures.front, c.memos_of.ensures.value) at (sym (c.memo_length_of-text_length.ensures.value kind)) in
-    let put = c.put_cell.ensures (first_memo (texts_of texts mine)) long in
+    let put = c.put_cell.ensures.put (first_memo (texts_of texts mine)) long in
     let blocks = c.blocks_at-next.ensures.value cell (λ kind. ap (length {A = ℕ}) (first_is_memo f (take f.width rest) texts mine kind) ∙ long kind) in
     let bytes = bytes-next fields i f lt c.field-item.is rest texts memos next cell refl in
     let ahead = blocks-next fields i f lt c.field-item.is rest texts memos next cell refl in

@@ -12,7 +12,7 @@ returns-then-is_empty-clause-put g c =
     let none = eqb-true (length parts.memos.now) 0 (sym c.if-is_empty.ensures) in
     let bytes = drop 1 parts.records.now in
     let same = plain_bytes c.args.fields.now bytes (texts_of parts.texts.now.texts parts.memos.now) c.args.first (omega (arith, none, c.requires.many)) (omega (arith, length-drop 1 parts.records.now, c.requires.whole)) in
-    (c.put-then-is_empty.ensures.0 ∙ c.put.ensures.0, rw (c.put-then-is_empty.ensures.1, c.put.ensures.1, c.flag_of.ensures.value, c.split_at.ensures.back, same) (more_then _ _ _))
+    (c.put-then-is_empty.ensures.put.0 ∙ c.put.ensures.put.0, rw (c.put-then-is_empty.ensures.put.1, c.put.ensures.put.1, c.flag_of.ensures.value, c.split_at.ensures.back, same) (more_then _ _ _))
 
 pub returns-then-is_empty-clause-next : goal.returns-then-is_empty-clause-next
 returns-then-is_empty-clause-next g c =

@@ -14,4 +14,4 @@ returns-then-are_written_flags g c =
     let none : memo_count fields ≡ 0 = sym c.memo_count_of.ensures.value ∙ c.if-memo_count_of-eq0.true in
     let flags = rw (c.split_at.ensures.front, c.from-size.ensures, chunks_take size count bytes) at (c.if-are_written_flags.ensures.value refl) in
     let same = plain_rows fields size count bytes (texts_of store.texts.now.texts store.memos.now) 1 none c.requires.wide c.requires.room flags in
-    (c.put.ensures.0, rw (same, c.put.ensures.1, c.split_at.ensures.front, c.from-size.ensures) refl)
+    record { put = (c.put.ensures.put.0, rw (same, c.put.ensures.put.1, c.split_at.ensures.front, c.from-size.ensures) refl) }

@@ -11,18 +11,18 @@ use Rattle.dbf_image.proofs.MemoDropping.{marked_held, swept_held, swept_chain, 
 use Rattle.dbf_image.proofs.memo_store.MemoStore.drop_unused.Goals as goal
 
 marked : (c : goal.After-self-3-1) → Marks c.self.inside.blocks.items c.mark.new.blocks c.args.numbers.now
-marked c = subst (λ (l : List MemoBlock). Marks l c.mark.new.blocks c.args.numbers.now) c.deref_mut.ensures.value c.mark.ensures
+marked c = subst (λ (l : List MemoBlock). Marks l c.mark.new.blocks c.args.numbers.now) c.deref_mut.ensures.value c.mark.ensures.marks
 
 -- the blocks that the sweep is given
 given : (c : goal.After-self-3-1) → c.deref_mut-2.result.now ≡ c.mark.new.blocks
-given c = c.deref_mut-2.ensures.value ∙ with_items_is c.self.inside.blocks c.mark.new.blocks (c.mark.ensures.same_length ∙ c.deref_mut.ensures.len)
+given c = c.deref_mut-2.ensures.value ∙ with_items_is c.self.inside.blocks c.mark.new.blocks (c.mark.ensures.marks.same_length ∙ c.deref_mut.ensures.len)
 
 swept : (c : goal.After-self-3-1) → Sweeps (length c.mark.new.blocks) c.mark.new.blocks c.sweep-self-inside.new.blocks c.sweep-self-inside.result
-swept c = subst (λ (l : List MemoBlock). Sweeps (length l) l c.sweep-self-inside.new.blocks c.sweep-self-inside.result) (given c) c.sweep-self-inside.ensures
+swept c = subst (λ (l : List MemoBlock). Sweeps (length l) l c.sweep-self-inside.new.blocks c.sweep-self-inside.result) (given c) c.sweep-self-inside.ensures.sweeps
 
 -- the blocks after the call
 after : (c : goal.After-self-3-1) → (with_items (with_items c.self.inside.blocks c.mark.new.blocks) c.sweep-self-inside.new.blocks).items ≡ c.sweep-self-inside.new.blocks
-after c = with_items_is (with_items c.self.inside.blocks c.mark.new.blocks) c.sweep-self-inside.new.blocks (c.sweep-self-inside.ensures.same_length ∙ c.deref_mut-2.ensures.len)
+after c = with_items_is (with_items c.self.inside.blocks c.mark.new.blocks) c.sweep-self-inside.new.blocks (c.sweep-self-inside.ensures.sweeps.same_length ∙ c.deref_mut-2.ensures.len)
 
 pub invariant_of-self : goal.invariant_of-self
 invariant_of-self c =

@@ -16,15 +16,15 @@ done c =
     let some : 0 < count = omega (arith, c.requires.some, c.blocks_for-count.ensures.enough) in
     let room : 0 < free.count = omega (arith, some, pushed.count, c.saturating_sub-more.ensures) in
     put_grown count c.self.inside.blocks.items c.push_free-self-inside.new.blocks.items c.fill-self-inside.new.blocks free c.fill-self-inside.result c.args.text.now c.self.invariant.held pushed.grown some room pushed.chain
-    (subst (λ (l : List MemoBlock). Fills l c.fill-self-inside.new.blocks free c.fill-self-inside.result (free.head + 1) count c.args.text.now) c.deref_mut.ensures.value c.fill-self-inside.ensures)
+    (subst (λ (l : List MemoBlock). Fills l c.fill-self-inside.new.blocks free c.fill-self-inside.result (free.head + 1) count c.args.text.now) c.deref_mut.ensures.value c.fill-self-inside.ensures.fills)
 
 -- the blocks after the call
 after : (c : goal.After-self-3-1) → length c.fill-self-inside.new.blocks ≡ c.push_free-self-inside.new.blocks.len
-after c = c.fill-self-inside.ensures.same_length ∙ c.deref_mut.ensures.len
+after c = c.fill-self-inside.ensures.fills.same_length ∙ c.deref_mut.ensures.len
 
 pub invariant_of-self : goal.invariant_of-self
 invariant_of-self c =
-    let e = c.fill-self-inside.ensures in
+    let e = c.fill-self-inside.ensures.fills in
     let pushed = c.push_free-self-inside.ensures in
     let v = c.push_free-self-inside.new.blocks in
     let ys = c.fill-self-inside.new.blocks in

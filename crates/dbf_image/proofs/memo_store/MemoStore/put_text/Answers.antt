@@ -11,4 +11,4 @@ pub put_pieces-requires-clause-chain : goal.put_pieces-requires-clause-chain
 put_pieces-requires-clause-chain g c = (held_found c.self.inside _ _ c.args.number c.self.view_is c.as_slice.ensures.value c.self.invariant c.requires.held).chain
 
 pub returns : goal.returns
-returns g c = record { put = rw (← held_text c.self.inside _ _ c.args.number c.self.view_is c.as_slice.ensures.value c.self.invariant c.requires.held) c.put_pieces.ensures }
+returns g c = record { put = rw (← held_text c.self.inside _ _ c.args.number c.self.view_is c.as_slice.ensures.value c.self.invariant c.requires.held) c.put_pieces.ensures.put }

@@ -14,4 +14,4 @@ gather-requires-clause-chain c = (held_found c.self.inside _ _ c.args.number c.s
 pub returns : goal.returns
 returns c =
     let there = held_found c.self.inside _ _ c.args.number c.self.view_is c.as_slice.ensures.value c.self.invariant c.requires.held in
-    record { value = held_at c.self.inside _ _ c.args.number c.self.view_is c.as_slice.ensures.value ∙ there.is ∙ ap (λ (t : List ℕ). Some t) (sym (c.from_vec.ensures.value ∙ c.in_ok-text.ensures)) }
+    record { value = held_at c.self.inside _ _ c.args.number c.self.view_is c.as_slice.ensures.value ∙ there.is ∙ ap (λ (t : List ℕ). Some t) (sym (c.from_vec.ensures.value ∙ c.in_ok-text.ensures.value)) }

@@ -12,4 +12,4 @@ pub text_length-requires-clause-chain : goal.text_length-requires-clause-chain
 text_length-requires-clause-chain c = (held_found c.self.inside _ _ c.args.number c.self.view_is c.as_slice.ensures.value c.self.invariant c.requires.held).chain
 
 pub returns : goal.returns
-returns c = record { value = c.text_length.ensures ∙ ap (λ (t : List ℕ). length t) (held_text c.self.inside _ _ c.args.number c.self.view_is c.as_slice.ensures.value c.self.invariant c.requires.held) }
+returns c = record { value = c.text_length.ensures.value ∙ ap (λ (t : List ℕ). length t) (held_text c.self.inside _ _ c.args.number c.self.view_is c.as_slice.ensures.value c.self.invariant c.requires.held) }

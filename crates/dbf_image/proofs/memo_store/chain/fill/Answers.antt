@@ -25,5 +25,5 @@ write-preserved c =
     record {
       can = can_fill_rest (free.count - 1) (c.write.left - 1) c.min-size.result ys _ free _ owner text _ _ k refl refl next size left can;
       whole = λ zs after done. old.whole zs after (subst (λ n. Fills ys zs free after owner n text) (sym e)
-          (fills_rest (free.count - 1) (c.write.left - 1) c.min-size.result ys _ zs free _ after owner text _ _ k refl refl next left c.piece_of-piece.ensures refl e refl can done));
+          (fills_rest (free.count - 1) (c.write.left - 1) c.min-size.result ys _ zs free _ after owner text _ _ k refl refl next left c.piece_of-piece.ensures.bytes refl e refl can done));
     }

@@ -18,11 +18,11 @@ put-preserved g c =
     let block = c.index-blocks-at-in-put.is ∙ get_or_default bs c.put.at found no_block p.chain.0 in
     let then = c.put-in-put.new.self.wanted in
     record {
-      same = c.put-in-put.ensures.0 ∙ c.put.invariant.same;
+      same = c.put-in-put.ensures.put.0 ∙ c.put.invariant.same;
       poured = subst (λ n. Pours c.args.number count bs head (c.put.left - 1) n old then) (ap (λ (b : MemoBlock). b.next) (sym block))
-          (pours_more (c.put.left - 1) c.args.number count bs head c.put.at old now then c.as_slice.result.now p c.put-in-put.ensures.1
+          (pours_more (c.put.left - 1) c.args.number count bs head c.put.at old now then c.as_slice.result.now p c.put-in-put.ensures.put.1
           (c.as_slice.ensures.value ∙ ap (λ (b : MemoBlock). b.piece.items) block));
     }
 
 pub returns : goal.returns
-returns g c = (c.put.invariant.same, poured_all c.args.number _ c.args.blocks.now (c.args.number - 1) c.put.left c.put.at _ _ (omega (arith, c.put-test.false)) c.put.invariant.poured)
+returns g c = record { put = (c.put.invariant.same, poured_all c.args.number _ c.args.blocks.now (c.args.number - 1) c.put.left c.put.at _ _ (omega (arith, c.put-test.false)) c.put.invariant.poured) }

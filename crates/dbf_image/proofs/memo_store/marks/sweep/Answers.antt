@@ -23,9 +23,9 @@ sweep-preserved c =
           let at = get_or_default ys n found no_block lt in
           subst (λ (v : List MemoBlock). Sweeps (n + 1) xs v c.if-not-stays.free) (sym w.blocks-is)
           (subst (λ (f : FreeList). Sweeps (n + 1) xs (set ys n b) f) (sym w.free-is)
-          (sweeps_free n xs ys c.sweep.free b lt (ap (is_kept ys) (sym owner) ∙ sym c.is_marked-stays.ensures ∙ w.if-not-stays.true) refl refl refl (ap (λ (b : MemoBlock). b.kept) at) c.sweep.invariant))
+          (sweeps_free n xs ys c.sweep.free b lt (ap (is_kept ys) (sym owner) ∙ sym c.is_marked-stays.ensures.value ∙ w.if-not-stays.true) refl refl refl (ap (λ (b : MemoBlock). b.kept) at) c.sweep.invariant))
       | else-not-stays w ↦
           subst (λ (v : List MemoBlock). Sweeps (n + 1) xs v c.if-not-stays.free) (sym w.blocks-is)
           (subst (λ (f : FreeList). Sweeps (n + 1) xs ys f) (sym w.free-is)
-          (sweeps_keep n xs ys c.sweep.free lt (ap (is_kept ys) (sym owner) ∙ sym c.is_marked-stays.ensures ∙ w.if-not-stays.false) c.sweep.invariant))
+          (sweeps_keep n xs ys c.sweep.free lt (ap (is_kept ys) (sym owner) ∙ sym c.is_marked-stays.ensures.value ∙ w.if-not-stays.false) c.sweep.invariant))
     ]

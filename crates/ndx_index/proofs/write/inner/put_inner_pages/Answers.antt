@@ -41,8 +41,8 @@ loop-height-preserved g c =
     let h : ℕ = c.loop-height.height in
     let at = is_level k (listed plan.pairs) h plan.height c.loop-height.first _ plan.root plan.sizes (omega arith) plan.below plan.top c.loop-height.invariant.first refl in
     let next : h + 1 ≡ suc h = omega arith in
-    rw (next, c.put_level.ensures.1) (record {
-      same = c.put_level.ensures.0 ∙ c.loop-height.invariant.same;
+    rw (next, c.put_level.ensures.put.1) (record {
+      same = c.put_level.ensures.put.0 ∙ c.loop-height.invariant.same;
       left = more_left _ _ _ _ _ (level_and_above plan.shape.size k (listed plan.pairs) h plan.shape.fits.some (plan.below.several h (omega arith))) c.loop-height.invariant.left;
       first = ap (λ (n : ℕ). n + slice_index plan.sizes h) at.first_is ∙ ap (λ (n : ℕ). (level k (listed plan.pairs) h).first + n) at.count_is;
     })
@@ -56,4 +56,4 @@ returns g c =
     let one : length (level k (listed plan.pairs) h).pages ≡ 1 = rw end plan.top.one in
     let none = none_above plan.shape.size k (listed plan.pairs) h one in
     let w = c.loop-height.out.wanted in
-    (c.loop-height.invariant.same, sym (ap (λ bytes. more w bytes) none ∙ more_nil w) ∙ c.loop-height.invariant.left)
+    record { put = (c.loop-height.invariant.same, sym (ap (λ bytes. more w bytes) none ∙ more_nil w) ∙ c.loop-height.invariant.left) }

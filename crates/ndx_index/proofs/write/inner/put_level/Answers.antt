@@ -20,8 +20,8 @@ loop-at-preserved g c =
     let differs : m - at - n ≢ 1 = c.next_count-n.ensures.left in
     let within : at ≤ m = c.loop-at.invariant.within in
     let over : 1 ≤ length (drop at ts) = omega (arith, c.loop-at-test.true) in
-    rw c.put_inner.ensures.1 (record {
-      same = c.put_inner.ensures.0 ∙ c.loop-at.invariant.same;
+    rw c.put_inner.ensures.put.1 (record {
+      same = c.put_inner.ensures.put.0 ∙ c.loop-at.invariant.same;
       rest = more_left _ _ _ _ _ (level_step shape.size k at n ts e over (omega (arith, shape.fits.some))) c.loop-at.invariant.rest;
       within = omega arith;
       left = λ one. differs (omega arith);

@@ -22,5 +22,5 @@ pub returns : goal.returns
 returns c =
     let there = is_there c.self.inside c.args.self.now c.args.page c.self.view_is c.self.invariant c.requires.page in
     record {
-      number = c.number.ensures ∙ ap (λ (q : Pair). q.number) (pair_in_page c.self.inside c.args.self.now.pages c.args.page c.args.at there c.requires.place);
+      number = c.number.ensures.number ∙ ap (λ (q : Pair). q.number) (pair_in_page c.self.inside c.args.self.now.pages c.args.page c.args.at there c.requires.place);
     }

@@ -10,5 +10,7 @@ pub returns : goal.returns
 returns c =
     let inside = c.self.inside in
     let lt : c.args.at < length inside.numbers.items = omega (arith, c.requires.place, count_is inside c.args.self.now c.self.view_is) in
-    rw (← c.self.view_is, pair_there inside.key_len inside.keys.items inside.numbers.items c.args.at lt)
-    (get_or_read inside.numbers.items c.args.at c.index.result.now lt c.index.ensures 0)
+    record {
+      number = rw (← c.self.view_is, pair_there inside.key_len inside.keys.items inside.numbers.items c.args.at lt)
+          (get_or_read inside.numbers.items c.args.at c.index.result.now lt c.index.ensures 0);
+    }
