@@ -29,6 +29,7 @@ ghost use Rattle.ndx_index.specs.NdxTree.{IsTree, Visits};
 ghost use Rattle.ndx_index.specs.Order.{in_order, pair_cmp, AreInOrder};
 ghost use Rattle.ndx_index.specs.TableOrder.{order, pairs_of};
 
+mod compare;
 mod fault;
 mod format;
 mod index;

@@ -2,7 +2,6 @@
 
 pub(crate) mod append;
 pub(crate) mod bound;
-pub(crate) mod compare;
 pub(crate) mod free;
 pub(crate) mod halve;
 pub(crate) mod insert;

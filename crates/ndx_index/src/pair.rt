@@ -1,5 +1,6 @@
 //! A key and a record number.
 
+use crate::compare::ends_are_before;
 use key_expr::Key;
 
 /// A key, and the number of the record that has it. Pairs are compared by the keys' bytes, and then by
@@ -20,6 +21,9 @@ impl Pair {
     pub(crate) fn is_before(&self, other: &Pair) -> bool
         ensures value { result ≡ before self.now other.now }
     {
+        if let Some(is_before) = ends_are_before(self.key.as_bytes(), other.key.as_bytes()) {
+            return is_before;
+        }
         self.cmp(other).is_lt()
     }
 }

@@ -7,8 +7,8 @@ ghost use Rattle.ndx_index.specs.Bounds.{passes};
 ghost use Rattle.ndx_index.specs.ListParts.{listed};
 ghost use Rattle.ndx_index.specs.Slots.{slot_at, blank};
 
+use crate::compare::ends_are_before;
 use crate::pages::bound::Bound;
-use crate::pages::compare::front_is_before;
 use crate::pages::runs::{copy_parts, part, push_copies, push_run, write_part};
 use crate::pair::Pair;
 use crate::pair_list::part::ListPart;
@@ -127,7 +127,7 @@ impl PairSlots {
         ensures value { result ≡ passes bound.entry (slot_at self.now.pairs at) }
     {
         let key = self.key(at);
-        if let Some(is_before) = front_is_before(key, bound.key) {
+        if let Some(is_before) = ends_are_before(key, bound.key) {
             return !is_before;
         }
         match key.cmp(&bound.key) {

@@ -1,5 +1,5 @@
 use Rattle.ndx_index.proofs.KeyNumbers.{by_fronts}
-use Rattle.ndx_index.proofs.pages.compare.front_is_before.Goals as goal
+use Rattle.ndx_index.proofs.compare.ends_are_before.Goals as goal
 
 pub returns-else-front-other : goal.returns-else-front-other
 returns-else-front-other c = record {
