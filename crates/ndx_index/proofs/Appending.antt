@@ -1,10 +1,11 @@
--- A pair is put after all others of a tree.
-use Rattle.std.proofs.Common.{Option, None, Some, Result, Ok, Err, IfOk, ◌≡◌, ℕ, suc, ◌+◌, ◌<◌, ◌≤◌, ◌^◌, true, List, [], ◌∷◌, ◌++◌, map, length, length-append, get_or, set, refl, ap, sym, ◌∙◌, subst, inl, inr, arith}
+-- Pairs are put after all others of a tree, in a leaf of their own.
+use Rattle.std.proofs.Common.{Option, None, Some, Result, Ok, Err, IfOk, ◌≡◌, ℕ, suc, ◌+◌, ◌<◌, ◌≤◌, ◌^◌, List, [], ◌∷◌, ◌++◌, map, length, length-append, get_or, set, refl, ap, sym, ◌∙◌, subst, inl, inr, arith}
 use Rattle.std.specs.List.{AllByRecursion, insert}
 use Rattle.std.proofs.lemmas.Bool.{cases_eq, cases_lt, ne_eqb}
 use Rattle.std.proofs.lemmas.List.{append-nil, map-append, length-map, length-set, set-set, set_at, get_or_at, get_or-set_same, get_or-set_other, get_or_append_left}
 use Rattle.ndx_index.specs.declared.pair.Pair.{Pair}
-use Rattle.ndx_index.specs.Order.{before, AreInOrder}
+use Rattle.ndx_index.specs.Order.{AreInOrder}
+use Rattle.ndx_index.specs.Slots.{no_pair}
 use Rattle.ndx_index.specs.PageStore.{Page, page_in, no_page, with_pairs, with_links}
 use Rattle.ndx_index.specs.declared.pages.root.Root.{Root}
 use Rattle.ndx_index.specs.IndexTree.{pairs_under, pairs_of_levels, pairs_in, joined, total, here, uses, uses_of_levels, IsTree, IsTreeOfLevels, IsPlain, AllBefore, AllFrom, Parted}
@@ -12,7 +13,7 @@ use Rattle.ndx_index.specs.TreeSteps.{CanAppend, Appends, AppendsUnder, AppendsB
 use Rattle.ndx_index.proofs.Order.{sorted_none}
 use Rattle.ndx_index.proofs.TreeFrame.{Framed, framed, here_itself}
 use Rattle.ndx_index.proofs.FreeFrame.{uses_there}
-use Rattle.ndx_index.proofs.TreeLists.{all_at, all_from, all_end, total_at, total_two, total_same, total-end, total_last, map_same, child_order, child_all, none_empty, order_end, insert_end, joined-end, grown, joined-grown, map_grown, keys_below, not_itself, parted-grown, parted-end}
+use Rattle.ndx_index.proofs.TreeLists.{all_at, all_from, all_end, total_at, total_two, total_same, total-end, total_last, map_same, back_order, last_order, none_empty, order_end, insert_end, joined-end, grown, joined-grown, map_grown, keys_below, parted-grown, parted-end, first_after, none_before_first}
 
 -- ---- pages
 here_zero : (p r : ℕ) → (r ≡ p → ⊥) → here p r ≡ 0
@@ -56,21 +57,42 @@ new_page a a1 g q e n = ap (λ (xs : List Page). page_in xs q) e ∙ get_or_at a
 pub new_page_set : (a a1 b : List Page) (g : Page) (q : ℕ) (f : Page → Page) → a1 ≡ a ++ g ∷ [] → q ≡ length a → b ≡ set a1 q (f (page_in a1 q)) → b ≡ a ++ f g ∷ []
 new_page_set a a1 b g q f e n done = done ∙ ap (λ (x : Page). set a1 q (f x)) (new_page a a1 g q e n) ∙ ap (λ (xs : List Page). set xs q (f g)) e ∙ set_at a g [] (f g) q (sym n)
 
+-- ---- what parts the pairs from those under a page
+record PartsNew (d : ℕ) (a : List Page) (p : ℕ) (ps : List Pair) (k : Pair) : Type 0 where
+  above : AllBefore k (pairs_under d a p)
+  from : AllFrom k ps
+
+abbrev pub IsFirst : List Pair → Pair → Type 0
+IsFirst ps first = first ≡ get_or ps 0 first
+
+first_is : (ps : List Pair) → 0 < length ps → IsFirst ps (get_or ps 0 no_pair)
+first_is [] some = absurd (omega arith)
+first_is (p ∷ ps) some = refl
+
+-- the first of them does
+parts_new : (d : ℕ) (a : List Page) (p : ℕ) (ps : List Pair) (first : Pair) → IsFirst ps first → CanAppend d a p ps → PartsNew d a p ps first
+parts_new d a p ps first is can = record {
+  above = subst (λ k. AllBefore k (pairs_under d a p)) (sym is) (first_after (pairs_under d a p) ps first can.order can.some);
+  from = subst (λ k. AllFrom k ps) (sym is) (none_before_first ps first (back_order (pairs_under d a p) ps can.order) can.some);
+}
+
 -- ---- the last child
-pub can_append_below : (d : ℕ) (a : List Page) (p : ℕ) (pair : Pair) (m : ℕ) → CanAppend (suc d) a p pair → m < length (page_in a p).links → CanAppend d a (get_or (page_in a p).links m 0) pair
-can_append_below d a p pair m can lt =
+pub can_append_below : (d : ℕ) (a : List Page) (p : ℕ) (ps : List Pair) (m : ℕ) → CanAppend (suc d) a p ps → suc m ≡ length (page_in a p).links → CanAppend d a (get_or (page_in a p).links m 0) ps
+can_append_below d a p ps m can n =
     let links = (page_in a p).links in
-    let f = λ (x : ℕ). pairs_under d a x in
+    let lt : m < length links = omega arith in
     record {
       tree = all_at (λ x. IsTree d a x) links m lt can.tree.3;
-      order = child_order f links m lt can.order;
       apart = λ r. omega (arith, can.apart r, total_at (λ x. uses d a x r) links m lt);
-      above = child_all (λ q. before q pair ≡ true) f links m lt can.above;
+      some = can.some;
+      order = last_order (λ (x : ℕ). pairs_under d a x) links m ps n can.order;
     }
 
--- the pair went under the last child
-pub under_last : (d : ℕ) (a b : List Page) (p : ℕ) (pair : Pair) (m : ℕ) → CanAppend (suc d) a p pair → suc m ≡ length (page_in a p).links → AppendsUnder d a b (get_or (page_in a p).links m 0) pair → AppendsUnder (suc d) a b p pair
-under_last d a b p pair m can n done =
+-- the pairs went under the last child
+pub under_last : (d : ℕ) (a b : List Page) (p : ℕ) (ps : List Pair) (m : ℕ) → CanAppend (suc d) a p ps → suc m ≡ length (page_in a p).links → AppendsUnder d a b (get_or (page_in a p).links m 0) ps → AppendsUnder (suc d) a b p ps
+under_last d a b p ps m can n done =
+    let first = get_or ps 0 no_pair in
+    let parts = parts_new (suc d) a p ps first (first_is ps can.some) can in
     let links = (page_in a p).links in
     let keys = (page_in a p).pairs in
     let last = get_or links m 0 in
@@ -81,10 +103,10 @@ under_last d a b p pair m can n done =
     let other : (j : ℕ) → j < m → Framed d a b (get_or links j 0) = λ j lt. framed d a b (get_or links j 0)
     (λ r h. done.extends.frame r (uses_there d a (get_or links j 0) r (tree j (omega arith)) h)
     (omega (arith, h, can.apart r, total_two (λ x. uses d a x r) links j m (omega arith) lm (λ e. omega (arith, e, lt))))) in
-    let maps : map (λ x. pairs_under d b x) links ≡ grown pair (map (λ x. pairs_under d a x) links) =
-    map_grown (λ x. pairs_under d a x) (λ x. pairs_under d b x) pair links m n (λ j lt. (other j lt).pairs) done.pairs in
-    let parted : Parted (grown pair (map (λ x. pairs_under d a x) links)) keys =
-    parted-grown pair (map (λ x. pairs_under d a x) links) keys can.tree.1 (none_empty d a links can.tree.3) can.above in
+    let maps : map (λ x. pairs_under d b x) links ≡ grown ps (map (λ x. pairs_under d a x) links) =
+    map_grown (λ x. pairs_under d a x) (λ x. pairs_under d b x) ps links m n (λ j lt. (other j lt).pairs) done.pairs in
+    let parted : Parted (grown ps (map (λ x. pairs_under d a x) links)) keys =
+    parted-grown first ps (map (λ x. pairs_under d a x) links) keys can.tree.1 (none_empty d a links can.tree.3) parts.above parts.from in
     let tree_each : (j : ℕ) → j < length links → IsTree d b (get_or links j 0) = λ j lt. elim (cases_eq j m) [
       | inl e ↦ subst (λ k. IsTree d b (get_or links k 0)) (sym e) done.tree
       | inr ne ↦ (other j (omega arith)).tree le (tree j lt)
@@ -103,7 +125,7 @@ under_last d a b p pair m can n done =
         frame = λ r old h. done.extends.frame r old (omega (arith, h, total_at (λ x. uses d a x r) links m lm));
       };
       pairs = ap (λ (g : Page). joined (map (λ x. pairs_under d b x) g.links)) here_same ∙ ap joined maps
-          ∙ joined-grown pair (map (λ x. pairs_under d a x) links) (omega (arith, length-map links (λ x. pairs_under d a x)));
+          ∙ joined-grown ps (map (λ x. pairs_under d a x) links) (omega (arith, length-map links (λ x. pairs_under d a x)));
       tree = (
         omega (arith, can.tree.0, le),
         subst (λ (g : Page). Parted (map (λ x. pairs_under d b x) g.links) g.pairs) (sym here_same) (subst (λ pss. Parted pss keys) (sym maps) parted),
@@ -119,10 +141,11 @@ under_last d a b p pair m can n done =
       ];
     }
 
--- the pair is under a new page q, which became p's last child
-under_more : (d : ℕ) (a b b1 : List Page) (p l : ℕ) (pair : Pair) (q : ℕ) → CanAppend (suc d) a p pair → AppendsBeside d a b l pair q
-    → b1 ≡ set b p (record { pairs = (page_in b p).pairs ++ pair ∷ []; links = (page_in b p).links ++ q ∷ [] }) → AppendsUnder (suc d) a b1 p pair
-under_more d a b b1 p l pair q can done e =
+-- the pairs are under a new page q, which became p's last child
+under_more : (d : ℕ) (a b b1 : List Page) (p : ℕ) (ps : List Pair) (pair : Pair) (q : ℕ) → IsFirst ps pair → CanAppend (suc d) a p ps → AppendsBeside d a b ps q
+    → b1 ≡ set b p (record { pairs = (page_in b p).pairs ++ pair ∷ []; links = (page_in b p).links ++ q ∷ [] }) → AppendsUnder (suc d) a b1 p ps
+under_more d a b b1 p ps pair q is can done e =
+    let parts = parts_new (suc d) a p ps pair is can in
     let links = (page_in a p).links in
     let keys = (page_in a p).pairs in
     let le : length a ≤ length b = done.longer in
@@ -138,7 +161,7 @@ under_more d a b b1 p l pair q can done e =
     let other : (j : ℕ) → j < length links → Framed d a b1 (get_or links j 0) = λ j lt. framed d a b1 (get_or links j 0)
     (λ r h. aside r (below r j lt h) ∙ done.frame r (uses_there d a (get_or links j 0) r (tree j lt) h)) in
     let new : Framed d b b1 q = framed d b b1 q (λ r h. aside r (λ i. omega (arith, subst (λ x. 0 < uses d b q x) i h, done.fresh p can.tree.0))) in
-    let maps : map (λ x. pairs_under d b1 x) (links ++ q ∷ []) ≡ map (λ x. pairs_under d a x) links ++ (pair ∷ []) ∷ [] =
+    let maps : map (λ x. pairs_under d b1 x) (links ++ q ∷ []) ≡ map (λ x. pairs_under d a x) links ++ ps ∷ [] =
     map-append (λ x. pairs_under d b1 x) links (q ∷ [])
     ∙ (λ i. map_same (λ x. pairs_under d a x) (λ x. pairs_under d b1 x) links (λ j lt. (other j lt).pairs) i ++ (new.pairs ∙ done.pairs) i ∷ []) in
     let sums : (r : ℕ) → uses (suc d) b1 p r ≡ uses (suc d) a p r + uses d b q r = λ r.
@@ -150,13 +173,13 @@ under_more d a b b1 p l pair q can done e =
         few = λ h. omega (arith, done.few h, n);
         frame = λ r old h. aside r (λ i. omega (arith, here_itself p, subst (λ x. uses (suc d) a p x ≡ 0) i h)) ∙ done.frame r old;
       };
-      pairs = ap (λ (g : Page). joined (map (λ x. pairs_under d b1 x) g.links)) at ∙ ap joined maps ∙ joined-end (map (λ x. pairs_under d a x) links) (pair ∷ []);
+      pairs = ap (λ (g : Page). joined (map (λ x. pairs_under d b1 x) g.links)) at ∙ ap joined maps ∙ joined-end (map (λ x. pairs_under d a x) links) ps;
       tree = (
         omega (arith, can.tree.0, le, n),
         subst (λ (g : Page). Parted (map (λ x. pairs_under d b1 x) g.links) g.pairs) (sym at)
-            (subst (λ pss. Parted pss (keys ++ pair ∷ [])) (sym maps) (parted-end pair (map (λ x. pairs_under d a x) links) keys can.tree.1 can.above)),
+            (subst (λ pss. Parted pss (keys ++ pair ∷ [])) (sym maps) (parted-end pair ps (map (λ x. pairs_under d a x) links) keys can.tree.1 parts.above parts.from)),
         subst (λ (g : Page). AreInOrder g.pairs) (sym at)
-            (order_end keys pair can.tree.2 (keys_below pair (map (λ x. pairs_under d a x) links) keys can.tree.1 (none_empty d a links can.tree.3) can.above)),
+            (order_end keys pair can.tree.2 (keys_below pair (map (λ x. pairs_under d a x) links) keys can.tree.1 (none_empty d a links can.tree.3) parts.above)),
         subst (λ (g : Page). AllByRecursion (λ x. IsTree d b1 x) g.links) (sym at)
             (all_end (λ x. IsTree d b1 x) links q (all_from (λ x. IsTree d b1 x) links (λ j lt. (other j lt).tree (omega (arith, le, n)) (tree j lt))) (new.tree (omega (arith, n)) done.tree)),
       );
@@ -167,10 +190,10 @@ under_more d a b b1 p l pair q can done e =
       ];
     }
 
--- the pair is under a new page q, which has a new page above it
-beside_more : (d : ℕ) (a b b1 : List Page) (p l : ℕ) (pair : Pair) (q s : ℕ) → AppendsBeside d a b l pair q → s ≡ length b → length b1 < 2 ^ 32
-    → b1 ≡ b ++ record { pairs = []; links = q ∷ [] } ∷ [] → AppendsBeside (suc d) a b1 p pair s
-beside_more d a b b1 p l pair q s done top few e =
+-- the pairs are under a new page q, which has a new page above it
+beside_more : (d : ℕ) (a b b1 : List Page) (ps : List Pair) (q s : ℕ) → AppendsBeside d a b ps q → s ≡ length b → length b1 < 2 ^ 32
+    → b1 ≡ b ++ record { pairs = []; links = q ∷ [] } ∷ [] → AppendsBeside (suc d) a b1 ps s
+beside_more d a b b1 ps q s done top few e =
     let one : Page = record { pairs = []; links = q ∷ [] } in
     let n : length b1 ≡ length b + 1 = ap length e ∙ length-append b (one ∷ []) in
     let at : page_in b1 s ≡ one = ap (λ (xs : List Page). page_in xs s) e ∙ get_or_at b one [] no_page s (sym top) in
@@ -196,32 +219,33 @@ beside_more d a b b1 p l pair q s done top few e =
       ];
     }
 
--- the pair is under a new page q, which became a child
-pub child_more : (d : ℕ) (a b b1 : List Page) (p l : ℕ) (pair : Pair) (q : ℕ) → CanAppend (suc d) a p pair → AppendsBeside d a b l pair q → (s : Option ℕ) → AddsLink b b1 p q pair s → Appends (suc d) a b1 p pair s
-child_more d a b b1 p l pair q can done None e = under_more d a b b1 p l pair q can done e
-child_more d a b b1 p l pair q can done (Some s) e = beside_more d a b b1 p l pair q s done e.0 e.1 e.2
+-- the pairs are under a new page q, which became a child
+pub child_more : (d : ℕ) (a b b1 : List Page) (p : ℕ) (ps : List Pair) (pair : Pair) (q : ℕ) → IsFirst ps pair → CanAppend (suc d) a p ps → AppendsBeside d a b ps q → (s : Option ℕ) → AddsLink b b1 p q pair s → Appends (suc d) a b1 p ps s
+child_more d a b b1 p ps pair q is can done None e = under_more d a b b1 p ps pair q is can done e
+child_more d a b b1 p ps pair q is can done (Some s) e = beside_more d a b b1 ps q s done e.0 e.1 e.2
 
 pub ok_weaker : {X E : Type 0} (P Q : X → Type 0) → ((x : X) → P x → Q x) → (r : Result X E) → IfOk r P → IfOk r Q
 ok_weaker P Q f (Ok x) h = f x h
 ok_weaker P Q f (Err e) h = tt
 
 -- ---- the top
-pub can_append_top : (d : ℕ) (a : List Page) (t : Root) (pair : Pair) → t.levels ≡ suc d → IsPlain a t → AreInOrder (pairs_in a t) → AllBefore pair (pairs_in a t) → CanAppend d a t.page pair
-can_append_top d a t pair e plain order above = record {
+pub can_append_top : (d : ℕ) (a : List Page) (t : Root) (ps : List Pair) → t.levels ≡ suc d → IsPlain a t → AreInOrder (pairs_in a t ++ ps) → 0 < length ps → CanAppend d a t.page ps
+can_append_top d a t ps e plain order some = record {
   tree = subst (λ n. IsTreeOfLevels n a t.page) e plain.tree;
-  order = subst (λ n. AreInOrder (pairs_of_levels n a t.page)) e order;
   apart = λ r. subst (λ n. uses_of_levels n a t.page r ≤ 1) e (plain.apart r);
-  above = subst (λ n. AllBefore pair (pairs_of_levels n a t.page)) e above;
+  some = some;
+  order = subst (λ n. AreInOrder (pairs_of_levels n a t.page ++ ps)) e order;
 }
 
-pub record AppendsIn (a b : List Page) (t u : Root) (pair : Pair) : Type 0 where
+pub record AppendsIn (a b : List Page) (t u : Root) (ps : List Pair) : Type 0 where
   pub tree : IsPlain b u
-  pub pairs : pairs_in b u ≡ pairs_in a t ++ pair ∷ []
+  pub pairs : pairs_in b u ≡ pairs_in a t ++ ps
 
--- the pair is under a new page q, and a new top is over both
-pub over_both : (d : ℕ) (a b b1 : List Page) (t u : Root) (pair : Pair) (q : ℕ) → t.levels ≡ suc d → IsPlain a t → CanAppend d a t.page pair
-    → AppendsBeside d a b t.page pair q → IsOver b b1 t q pair u → AppendsIn a b1 t u pair
-over_both d a b b1 t u pair q levels plain can done over =
+-- the pairs are under a new page q, and a new top is over both
+pub over_both : (d : ℕ) (a b b1 : List Page) (t u : Root) (ps : List Pair) (pair : Pair) (q : ℕ) → IsFirst ps pair → t.levels ≡ suc d → IsPlain a t → CanAppend d a t.page ps
+    → AppendsBeside d a b ps q → IsOver b b1 t q pair u → AppendsIn a b1 t u ps
+over_both d a b b1 t u ps pair q is levels plain can done over =
+    let parts = parts_new d a t.page ps pair is can in
     let p = t.page in
     let s = u.page in
     let top : Page = record { pairs = pair ∷ []; links = p ∷ q ∷ [] } in
@@ -233,9 +257,9 @@ over_both d a b b1 t u pair q levels plain can done over =
     let lt = uses_there d a p r can.tree h in
     old r (omega (arith, lt, done.longer)) ∙ done.frame r lt) in
     let second : Framed d b b1 q = framed d b b1 q (λ r h. old r (uses_there d b q r done.tree h)) in
-    let alone : pairs_under d b1 q ≡ pair ∷ [] = second.pairs ∙ done.pairs in
-    let all : pairs_under (suc d) b1 s ≡ pairs_under d a p ++ pair ∷ [] =
-    ap (λ (g : Page). joined (map (λ x. pairs_under d b1 x) g.links)) at ∙ (λ i. first.pairs i ++ (alone i ++ [])) in
+    let alone : pairs_under d b1 q ≡ ps = second.pairs ∙ done.pairs in
+    let all : pairs_under (suc d) b1 s ≡ pairs_under d a p ++ ps =
+    ap (λ (g : Page). joined (map (λ x. pairs_under d b1 x) g.links)) at ∙ (λ i. first.pairs i ++ append-nil (alone i) i) in
     let sums : (r : ℕ) → uses (suc d) b1 s r ≡ here s r + (uses d a p r + uses d b q r) = λ r.
     ap (λ (g : Page). here s r + total (λ x. uses d b1 x r) g.links) at ∙ omega (arith, first.uses_stay r, second.uses_stay r) in
     let apart : (r : ℕ) → uses (suc d) b1 s r ≤ 1 = λ r. elim (cases_lt r (length a)) [
@@ -248,7 +272,7 @@ over_both d a b b1 t u pair q levels plain can done over =
     let tree : IsTree (suc d) b1 s = (
       omega (arith, over.page, n),
       subst (λ (g : Page). Parted (map (λ x. pairs_under d b1 x) g.links) g.pairs) (sym at)
-          (subst (λ ps. AllBefore pair ps) (sym first.pairs) can.above, subst (λ ps. AllFrom pair ps) (sym alone) (not_itself pair, tt), tt),
+          (subst (λ qs. AllBefore pair qs) (sym first.pairs) parts.above, subst (λ qs. AllFrom pair qs) (sym alone) parts.from, tt),
       subst (λ (g : Page). AreInOrder g.pairs) (sym at) (order_end [] pair sorted_none tt),
       subst (λ (g : Page). AllByRecursion (λ x. IsTree d b1 x) g.links) (sym at)
           (first.tree (omega (arith, done.longer, n)) can.tree, (second.tree (omega (arith, n)) done.tree, tt)),
@@ -260,5 +284,5 @@ over_both d a b b1 t u pair q levels plain can done over =
         deep = omega (arith, more, levels, plain.deep, done.longer, n);
         few = over.few;
       };
-      pairs = ap (λ k. pairs_of_levels k b1 s) more ∙ all ∙ ap (λ k. pairs_of_levels k a p ++ pair ∷ []) (sym levels);
+      pairs = ap (λ k. pairs_of_levels k b1 s) more ∙ all ∙ ap (λ k. pairs_of_levels k a p ++ ps) (sym levels);
     }

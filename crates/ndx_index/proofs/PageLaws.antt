@@ -1,7 +1,7 @@
 -- What is done to a page's slots is done to the page.
 use Rattle.std.proofs.Common.{◌≡◌, ◌≢◌, ℕ, zero, suc, ◌+◌, ◌-◌, ◌*◌, ◌^◌, ◌<◌, ◌≤◌, List, [], ◌∷◌, ◌++◌, length, take, drop, set, get_or, refl, sym, ap, ◌∙◌, append_assoc, arith}
 use Rattle.std.specs.List.{insert, remove, copy_within}
-use Rattle.std.proofs.lemmas.List.{length-drop, length-take-le, take-take, drop-take, drop-drop, take-append-le, drop-append-le, set_split, drop_at, get_or-take, get_or-drop, get_or-set_other, length-set}
+use Rattle.std.proofs.lemmas.List.{length-drop, length-take-le, take-take, drop-take, drop-drop, take-append-le, drop-append-le, take_at, nil_from_length, set_split, drop_at, get_or-take, get_or-drop, get_or-set_other, length-set}
 use Rattle.std.proofs.lemmas.List.Edits.{take-paste, drop-paste, length-paste}
 use lib.Seq.{paste}
 use Rattle.ndx_index.specs.declared.pair.Pair.{Pair}
@@ -170,12 +170,14 @@ page_split cs ps p q i n small lt lt2 apart fit is le room =
     ∙ ap (set (pages_of ds qs) p) front ∙ ap (λ (l : List (List Pair)). set l p (take i (take n ys))) moved
 
 -- one more page
-pub page_pushed : (cs : List ℕ) (ps more : List Pair) → AreSmall cs → length ps ≡ length cs * 16 → pages_of (cs ++ 0 ∷ []) (ps ++ more) ≡ pages_of cs ps ++ [] ∷ []
-page_pushed [] ps more small fit = refl
-page_pushed (c ∷ cs) ps more small fit =
+pub page_pushed : (cs : List ℕ) (ps new more : List Pair) → AreSmall cs → length ps ≡ length cs * 16 → pages_of (cs ++ length new ∷ []) (ps ++ (new ++ more)) ≡ pages_of cs ps ++ new ∷ []
+page_pushed [] ps new more small fit =
+    let none : ps ≡ [] = nil_from_length ps fit in
+    rw (none, take_at new more (length new) refl) refl
+page_pushed (c ∷ cs) ps new more small fit =
     let long : length ps ≡ 16 + length cs * 16 = fit ∙ step (length cs) in
     let rest : length (drop 16 ps) ≡ length cs * 16 = length-drop 16 ps ∙ omega (arith, long) in
-    rw (take-append-le c ps more (omega (arith, long, small.0)), drop-append-le 16 ps more (omega (arith, long)), page_pushed cs (drop 16 ps) more small.1 rest) refl
+    rw (take-append-le c ps (new ++ more) (omega (arith, long, small.0)), drop-append-le 16 ps (new ++ more) (omega (arith, long)), page_pushed cs (drop 16 ps) new more small.1 rest) refl
 
 -- where page p stands
 pub record IsThere (x : Inside) (pages : List (List Pair)) (p : ℕ) : Type 0 where

@@ -1,5 +1,5 @@
 -- Lists of children, of their pairs and of their keys.
-use Rattle.std.proofs.Common.{◌≡◌, ℕ, zero, suc, ◌+◌, ◌<◌, ◌≤◌, true, false, List, [], ◌∷◌, ◌++◌, map, length, length-append, get_or, take, refl, ap, sym, ◌∙◌, subst, arith}
+use Rattle.std.proofs.Common.{◌≡◌, ℕ, zero, suc, ◌+◌, ◌<◌, ◌≤◌, true, false, List, [], ◌∷◌, ◌++◌, map, length, length-append, get_or, refl, ap, sym, ◌∙◌, subst, arith}
 use Rattle.std.specs.List.{AllByRecursion, insert}
 use Rattle.std.specs.List.Sorted.{IsStrictlySortedBy}
 use Rattle.std.specs.Ordering.{is_lt, ordering_reverse}
@@ -30,6 +30,10 @@ all_front P (x ∷ xs) ys all = (all.0, all_front P xs ys all.1)
 pub all_back : {X : Type 0} (P : X → Type 0) (xs ys : List X) → AllByRecursion P (xs ++ ys) → AllByRecursion P ys
 all_back P [] ys all = all
 all_back P (x ∷ xs) ys all = all_back P xs ys all.1
+
+pub all_both : {X : Type 0} (P : X → Type 0) (xs ys : List X) → AllByRecursion P xs → AllByRecursion P ys → AllByRecursion P (xs ++ ys)
+all_both P [] ys all more = more
+all_both P (x ∷ xs) ys all more = (all.0, all_both P xs ys all.1 more)
 
 pub all_end : {X : Type 0} (P : X → Type 0) (xs : List X) (x : X) → AllByRecursion P xs → P x → AllByRecursion P (xs ++ x ∷ [])
 all_end P [] x all own = (own, tt)
@@ -90,10 +94,15 @@ child_order f [] i lt s = absurd (omega arith)
 child_order f (x ∷ xs) zero lt s = front_order (f x) (joined (map f xs)) s
 child_order f (x ∷ xs) (suc i) lt s = child_order f xs i (omega arith) (back_order (f x) (joined (map f xs)) s)
 
-pub child_all : (P : Pair → Type 0) (f : ℕ → List Pair) (xs : List ℕ) (i : ℕ) → i < length xs → AllByRecursion P (joined (map f xs)) → AllByRecursion P (f (get_or xs i 0))
-child_all P f [] i lt all = absurd (omega arith)
-child_all P f (x ∷ xs) zero lt all = all_front P (f x) (joined (map f xs)) all
-child_all P f (x ∷ xs) (suc i) lt all = child_all P f xs i (omega arith) (all_back P (f x) (joined (map f xs)) all)
+-- the last child and what comes after all
+pub last_order : (f : ℕ → List Pair) (xs : List ℕ) (m : ℕ) (ps : List Pair) → suc m ≡ length xs → AreInOrder (joined (map f xs) ++ ps) → AreInOrder (f (get_or xs m 0) ++ ps)
+last_order f [] m ps e s = absurd (omega arith)
+last_order f (x ∷ []) zero ps e s = subst (λ qs. AreInOrder (qs ++ ps)) (append-nil (f x)) s
+last_order f (x ∷ []) (suc m) ps e s = absurd (omega arith)
+last_order f (x ∷ y ∷ xs) zero ps e s = absurd (omega arith)
+last_order f (x ∷ y ∷ xs) (suc m) ps e s =
+    let rest = joined (map f (y ∷ xs)) in
+    last_order f (y ∷ xs) m ps (omega arith) (back_order (f x) (rest ++ ps) (subst (λ qs. AreInOrder qs) (append_assoc (f x) rest ps) s))
 
 parted_some : (f : ℕ → List Pair) (xs : List ℕ) (ks : List Pair) → Parted (map f xs) ks → 0 < length xs
 parted_some f [] ks h = absurd h
@@ -137,25 +146,25 @@ pub joined-end : (pss : List (List Pair)) (ps : List Pair) → joined (pss ++ ps
 joined-end [] ps = append-nil ps
 joined-end (qs ∷ pss) ps = ap (λ zs. qs ++ zs) (joined-end pss ps) ∙ sym (append_assoc qs (joined pss) ps)
 
--- the last list has one more
-abbrev pub grown : Pair → List (List Pair) → List (List Pair)
-grown p [] = []
-grown p (ps ∷ []) = (ps ++ p ∷ []) ∷ []
-grown p (ps ∷ qs ∷ pss) = ps ∷ grown p (qs ∷ pss)
+-- the last list has more
+abbrev pub grown : List Pair → List (List Pair) → List (List Pair)
+grown new [] = []
+grown new (ps ∷ []) = (ps ++ new) ∷ []
+grown new (ps ∷ qs ∷ pss) = ps ∷ grown new (qs ∷ pss)
 
-pub joined-grown : (p : Pair) (pss : List (List Pair)) → 0 < length pss → joined (grown p pss) ≡ joined pss ++ p ∷ []
-joined-grown p [] lt = absurd (omega arith)
-joined-grown p (ps ∷ []) lt = append-nil (ps ++ p ∷ []) ∙ ap (λ zs. zs ++ p ∷ []) (sym (append-nil ps))
-joined-grown p (ps ∷ qs ∷ pss) lt = ap (λ zs. ps ++ zs) (joined-grown p (qs ∷ pss) (omega arith)) ∙ sym (append_assoc ps (joined (qs ∷ pss)) (p ∷ []))
+pub joined-grown : (new : List Pair) (pss : List (List Pair)) → 0 < length pss → joined (grown new pss) ≡ joined pss ++ new
+joined-grown new [] lt = absurd (omega arith)
+joined-grown new (ps ∷ []) lt = append-nil (ps ++ new) ∙ ap (λ zs. zs ++ new) (sym (append-nil ps))
+joined-grown new (ps ∷ qs ∷ pss) lt = ap (λ zs. ps ++ zs) (joined-grown new (qs ∷ pss) (omega arith)) ∙ sym (append_assoc ps (joined (qs ∷ pss)) new)
 
-pub map_grown : (f g : ℕ → List Pair) (p : Pair) (xs : List ℕ) (m : ℕ) → suc m ≡ length xs → ((j : ℕ) → j < m → g (get_or xs j 0) ≡ f (get_or xs j 0)) → g (get_or xs m 0) ≡ f (get_or xs m 0) ++ p ∷ [] → map g xs ≡ grown p (map f xs)
-map_grown f g p [] m e same last = absurd (omega arith)
-map_grown f g p (x ∷ []) zero e same last = ap (λ ps. ps ∷ []) last
-map_grown f g p (x ∷ []) (suc m) e same last = absurd (omega arith)
-map_grown f g p (x ∷ y ∷ xs) zero e same last = absurd (omega arith)
-map_grown f g p (x ∷ y ∷ xs) (suc m) e same last =
+pub map_grown : (f g : ℕ → List Pair) (new : List Pair) (xs : List ℕ) (m : ℕ) → suc m ≡ length xs → ((j : ℕ) → j < m → g (get_or xs j 0) ≡ f (get_or xs j 0)) → g (get_or xs m 0) ≡ f (get_or xs m 0) ++ new → map g xs ≡ grown new (map f xs)
+map_grown f g new [] m e same last = absurd (omega arith)
+map_grown f g new (x ∷ []) zero e same last = ap (λ ps. ps ∷ []) last
+map_grown f g new (x ∷ []) (suc m) e same last = absurd (omega arith)
+map_grown f g new (x ∷ y ∷ xs) zero e same last = absurd (omega arith)
+map_grown f g new (x ∷ y ∷ xs) (suc m) e same last =
     let first = same 0 (omega arith) in
-    let rest = map_grown f g p (y ∷ xs) m (omega arith) (λ j lt. same (suc j) (omega arith)) last in
+    let rest = map_grown f g new (y ∷ xs) m (omega arith) (λ j lt. same (suc j) (omega arith)) last in
     λ i. first i ∷ rest i
 
 -- q is not below k, and before p
@@ -187,28 +196,50 @@ keys_below p (ps ∷ qs ∷ pss) (k ∷ ks) h some above =
     let rest : AllBefore p (joined (qs ∷ pss)) = all_back (λ q. before q p ≡ true) ps (joined (qs ∷ pss)) above in
     (key_below k p qs some.1.0 h.1 (all_front (λ q. before q p ≡ true) qs (joined pss) rest), keys_below p (qs ∷ pss) ks h.2 some.1 rest)
 
-pub parted-grown : (p : Pair) (pss : List (List Pair)) (ks : List Pair) → Parted pss ks → NoneEmpty pss → AllBefore p (joined pss) → Parted (grown p pss) ks
-parted-grown p [] ks h some above = absurd h
-parted-grown p (ps ∷ []) [] h some above = tt
-parted-grown p (ps ∷ []) (k ∷ ks) h some above = absurd h
-parted-grown p (ps ∷ qs ∷ pss) [] h some above = absurd h
-parted-grown p (ps ∷ qs ∷ []) (k ∷ ks) h some above =
+-- what isn't before p isn't before what stands before p
+still_from : (k p q : Pair) → before k p ≡ true → before q p ≡ false → before q k ≡ false
+still_from k p q h l = elim (before q k) as (λ t. before q k ≡ t → t ≡ false) [
+  | true ↦ λ e. absurd (false≢true (sym l ∙ ap is_lt (before_trans q k p (before_is q k e) (before_is k p h))))
+  | false ↦ λ e. refl
+] refl
+
+all_still : (k p : Pair) (qs : List Pair) → before k p ≡ true → AllFrom p qs → AllFrom k qs
+all_still k p [] h all = tt
+all_still k p (q ∷ qs) h all = (still_from k p q h all.0, all_still k p qs h all.1)
+
+-- p parts what was there from what is new
+pub parted-grown : (p : Pair) (new : List Pair) (pss : List (List Pair)) (ks : List Pair) → Parted pss ks → NoneEmpty pss → AllBefore p (joined pss) → AllFrom p new → Parted (grown new pss) ks
+parted-grown p new [] ks h some above from = absurd h
+parted-grown p new (ps ∷ []) [] h some above from = tt
+parted-grown p new (ps ∷ []) (k ∷ ks) h some above from = absurd h
+parted-grown p new (ps ∷ qs ∷ pss) [] h some above from = absurd h
+parted-grown p new (ps ∷ qs ∷ []) (k ∷ ks) h some above from =
     let rest : AllBefore p (joined (qs ∷ [])) = all_back (λ q. before q p ≡ true) ps (joined (qs ∷ [])) above in
     let after : before k p ≡ true = key_below k p qs some.1.0 h.1 (all_front (λ q. before q p ≡ true) qs [] rest) in
-    (h.0, all_end (λ q. before q k ≡ false) qs p h.1 (not_after k p (before_is k p after)), parted-grown p (qs ∷ []) ks h.2 some.1 rest)
-parted-grown p (ps ∷ qs ∷ rs ∷ pss) (k ∷ ks) h some above =
-    (h.0, h.1, parted-grown p (qs ∷ rs ∷ pss) ks h.2 some.1 (all_back (λ q. before q p ≡ true) ps (joined (qs ∷ rs ∷ pss)) above))
+    (h.0, all_both (λ q. before q k ≡ false) qs new h.1 (all_still k p new after from), parted-grown p new (qs ∷ []) ks h.2 some.1 rest from)
+parted-grown p new (ps ∷ qs ∷ rs ∷ pss) (k ∷ ks) h some above from =
+    (h.0, h.1, parted-grown p new (qs ∷ rs ∷ pss) ks h.2 some.1 (all_back (λ q. before q p ≡ true) ps (joined (qs ∷ rs ∷ pss)) above) from)
 
-pub parted-end : (p : Pair) (pss : List (List Pair)) (ks : List Pair) → Parted pss ks → AllBefore p (joined pss) → Parted (pss ++ (p ∷ []) ∷ []) (ks ++ p ∷ [])
-parted-end p [] ks h above = absurd h
-parted-end p (ps ∷ []) [] h above = (all_front (λ q. before q p ≡ true) ps [] above, (not_itself p, tt), tt)
-parted-end p (ps ∷ []) (k ∷ ks) h above = absurd h
-parted-end p (ps ∷ qs ∷ pss) [] h above = absurd h
-parted-end p (ps ∷ qs ∷ pss) (k ∷ ks) h above = (h.0, h.1, parted-end p (qs ∷ pss) ks h.2 (all_back (λ q. before q p ≡ true) ps (joined (qs ∷ pss)) above))
+pub parted-end : (p : Pair) (new : List Pair) (pss : List (List Pair)) (ks : List Pair) → Parted pss ks → AllBefore p (joined pss) → AllFrom p new → Parted (pss ++ new ∷ []) (ks ++ p ∷ [])
+parted-end p new [] ks h above from = absurd h
+parted-end p new (ps ∷ []) [] h above from = (all_front (λ q. before q p ≡ true) ps [] above, from, tt)
+parted-end p new (ps ∷ []) (k ∷ ks) h above from = absurd h
+parted-end p new (ps ∷ qs ∷ pss) [] h above from = absurd h
+parted-end p new (ps ∷ qs ∷ pss) (k ∷ ks) h above from = (h.0, h.1, parted-end p new (qs ∷ pss) ks h.2 (all_back (λ q. before q p ≡ true) ps (joined (qs ∷ pss)) above) from)
 
--- ---- the first pairs of some in order
-pub before_next : (ps : List Pair) (i : ℕ) (d : Pair) → AreInOrder ps → i < length ps → AllBefore (get_or ps i d) (take i ps)
+-- ---- the first of pairs that come after others
+pub first_after : (xs ps : List Pair) (d : Pair) → AreInOrder (xs ++ ps) → 0 < length ps → AllBefore (get_or ps 0 d) xs
 unfolding IsStrictlySortedBy
-before_next [] i d s lt = absurd (omega arith)
-before_next (x ∷ xs) zero d s lt = tt
-before_next (x ∷ xs) (suc i) d s lt = (ap is_lt (All-from_recursion (λ q. pair_cmp x q ≡ Less) xs s.0 i d (omega arith)), before_next xs i d s.1 (omega arith))
+first_after [] ps d s some = tt
+first_after (x ∷ xs) ps d s some =
+    let less : AllByRecursion (λ q. pair_cmp x q ≡ Less) ps = all_back (λ q. pair_cmp x q ≡ Less) xs ps s.0 in
+    (ap is_lt (All-from_recursion (λ q. pair_cmp x q ≡ Less) ps less 0 d some), first_after xs ps d s.1 some)
+
+none_before : (p : Pair) (qs : List Pair) → AllByRecursion (λ q. pair_cmp p q ≡ Less) qs → AllFrom p qs
+none_before p [] h = tt
+none_before p (q ∷ qs) h = (not_after p q h.0, none_before p qs h.1)
+
+pub none_before_first : (ps : List Pair) (d : Pair) → AreInOrder ps → 0 < length ps → AllFrom (get_or ps 0 d) ps
+unfolding IsStrictlySortedBy
+none_before_first [] d s some = absurd (omega arith)
+none_before_first (p ∷ ps) d s some = (not_itself p, none_before p ps s.0)

@@ -36,11 +36,11 @@ zip_cleared (h ∷ ps) [] p e = absurd (omega (arith, e))
 zip_cleared (h ∷ ps) (l ∷ ls) zero e = refl
 zip_cleared (h ∷ ps) (l ∷ ls) (suc p) e = ap (λ (r : List Page). record { pairs = h; links = links_of l } ∷ r) (zip_cleared ps ls p (omega (arith, e)))
 
-pub zip_pushed : (ps ls : List (List Pair)) → length ps ≡ length ls → zipped (ps ++ [] ∷ []) (ls ++ [] ∷ []) ≡ zipped ps ls ++ no_page ∷ []
-zip_pushed [] [] e = refl
-zip_pushed [] (l ∷ ls) e = absurd (omega (arith, e))
-zip_pushed (h ∷ ps) [] e = absurd (omega (arith, e))
-zip_pushed (h ∷ ps) (l ∷ ls) e = ap (λ (r : List Page). record { pairs = h; links = links_of l } ∷ r) (zip_pushed ps ls (omega (arith, e)))
+pub zip_pushed : (ps ls : List (List Pair)) (new : List Pair) → length ps ≡ length ls → zipped (ps ++ new ∷ []) (ls ++ [] ∷ []) ≡ zipped ps ls ++ with_pairs new no_page ∷ []
+zip_pushed [] [] new e = refl
+zip_pushed [] (l ∷ ls) new e = absurd (omega (arith, e))
+zip_pushed (h ∷ ps) [] new e = absurd (omega (arith, e))
+zip_pushed (h ∷ ps) (l ∷ ls) new e = ap (λ (r : List Page). record { pairs = h; links = links_of l } ∷ r) (zip_pushed ps ls new (omega (arith, e)))
 
 pub links-insert : (ls : List Pair) (i : ℕ) (q : Pair) → links_of (insert ls i q) ≡ insert (links_of ls) i q.number
 links-insert ls i q =

@@ -136,13 +136,13 @@ pub record Empties (d : ℕ) (a b : List Page) (f g : FreeList) (p : ℕ) (pair 
   pub more : f.count ≤ g.count
   pub same_length : length b ≡ length a
 
--- ---- a pair is put after all others
+-- ---- pairs are put after all others, in a leaf of their own
 
-pub record CanAppend (d : ℕ) (a : List Page) (p : ℕ) (pair : Pair) : Type 0 where
+pub record CanAppend (d : ℕ) (a : List Page) (p : ℕ) (ps : List Pair) : Type 0 where
   pub tree : IsTree d a p
-  pub order : AreInOrder (pairs_under d a p)
   pub apart : (r : ℕ) → uses d a p r ≤ 1
-  pub above : AllBefore pair (pairs_under d a p)
+  pub some : 0 < length ps
+  pub order : AreInOrder (pairs_under d a p ++ ps)
 
 -- the old pages but those under p stay, and new pages come after them
 pub record Extends (d : ℕ) (a b : List Page) (p : ℕ) : Type 0 where
@@ -150,28 +150,28 @@ pub record Extends (d : ℕ) (a b : List Page) (p : ℕ) : Type 0 where
   pub few : length a < 2 ^ 32 → length b < 2 ^ 32
   pub frame : (r : ℕ) → r < length a → uses d a p r ≡ 0 → page_in b r ≡ page_in a r
 
-pub record AppendsUnder (d : ℕ) (a b : List Page) (p : ℕ) (pair : Pair) : Type 0 where
+pub record AppendsUnder (d : ℕ) (a b : List Page) (p : ℕ) (ps : List Pair) : Type 0 where
   pub extends : Extends d a b p
-  pub pairs : pairs_under d b p ≡ pairs_under d a p ++ pair ∷ []
+  pub pairs : pairs_under d b p ≡ pairs_under d a p ++ ps
   pub tree : IsTree d b p
   -- the tree has the pages that it had, and new ones
   pub uses_stay : (r : ℕ) → r < length a → uses d b p r ≡ uses d a p r
   pub apart : (r : ℕ) → uses d b p r ≤ 1
 
 -- no old page changes, and q's are new
-pub record AppendsBeside (d : ℕ) (a b : List Page) (p : ℕ) (pair : Pair) (q : ℕ) : Type 0 where
+pub record AppendsBeside (d : ℕ) (a b : List Page) (ps : List Pair) (q : ℕ) : Type 0 where
   pub longer : length a ≤ length b
   pub few : length a < 2 ^ 32 → length b < 2 ^ 32
   pub frame : (r : ℕ) → r < length a → page_in b r ≡ page_in a r
-  pub pairs : pairs_under d b q ≡ pair ∷ []
+  pub pairs : pairs_under d b q ≡ ps
   pub tree : IsTree d b q
   pub fresh : (r : ℕ) → r < length a → uses d b q r ≡ 0
   pub apart : (r : ℕ) → uses d b q r ≤ 1
 
--- the pair is under p, or alone under a new page
-abbrev pub Appends : ℕ → List Page → List Page → ℕ → Pair → Option ℕ → Type 0
-Appends d a b p pair None = AppendsUnder d a b p pair
-Appends d a b p pair (Some q) = AppendsBeside d a b p pair q
+-- the pairs are under p, or alone under a new page
+abbrev pub Appends : ℕ → List Page → List Page → ℕ → List Pair → Option ℕ → Type 0
+Appends d a b p ps None = AppendsUnder d a b p ps
+Appends d a b p ps (Some q) = AppendsBeside d a b ps q
 
 -- a link after the others of an inner page and a key before it, or alone on a new page
 abbrev pub AddsLink : List Page → List Page → ℕ → ℕ → Pair → Option ℕ → Type 0

@@ -1,6 +1,7 @@
 //! Pairs that are put after all others of a tree, so that its pages are filled from the left.
 
-ghost use Rattle.std.specs.Prelude.{◌≡◌, ◌+◌, ◌<◌, length, IfOk};
+ghost use Rattle.std.specs.Prelude.{◌≡◌, ◌+◌, ◌<◌, ◌≤◌, length, IfOk};
+ghost use Rattle.ndx_index.specs.Index.{HaveLength};
 ghost use Rattle.ndx_index.specs.PageStore.{page_in};
 ghost use Rattle.ndx_index.specs.TreeSteps.{AddsLink, Appends, CanAppend};
 
@@ -9,45 +10,30 @@ use crate::pages::store::PageStore;
 use crate::pair::Pair;
 use std::alloc::AllocError;
 
-/// Puts a pair after all others under a page, this many levels above the leaves. Where the pages at the right edge are
-/// full, the tree stays, and the answer is a new page of its level with the pair alone under it. An `Err` says that there
-/// was no memory, or no number for a page.
+/// Puts pairs after all others under a page, this many levels above the leaves; they get a leaf of their own. Where the
+/// pages at the right edge are full, the tree stays, and the answer is a new page of its level with that leaf alone under
+/// it. An `Err` says that there was no memory, or no number for a page.
 pub(crate) fn append_under(
     store: &mut PageStore,
     level: usize,
     page: u32,
-    pair: &Pair,
+    pairs: &[Pair],
 ) -> Result<Option<u32>, AllocError>
-    requires can { CanAppend level store.old.pages page pair.now }
-    requires key { length pair.now.key ≡ store.old.key_len }
-    ensures appended { IfOk result (λ beside. Appends level store.old.pages store.new.pages page pair.now beside) }
+    requires can { CanAppend level store.old.pages page pairs.now }
+    requires few { length pairs.now ≤ 16 }
+    requires keys { HaveLength store.old.key_len pairs.now }
+    ensures appended { IfOk result (λ beside. Appends level store.old.pages store.new.pages page pairs.now beside) }
     ensures key_len { store.new.key_len ≡ store.old.key_len }
 {
     if level == 0 {
-        return append_to_leaf(store, page, pair);
+        let leaf = store.add_leaf(pairs)?;
+        return Ok(Some(leaf));
     }
     let last = store.link(page, store.link_count(page) - 1);
-    match append_under(store, level - 1, last, pair)? {
+    match append_under(store, level - 1, last, pairs)? {
         None => Ok(None),
-        Some(beside) => add_child(store, page, beside, pair),
+        Some(beside) => add_child(store, page, beside, &pairs[0]),
     }
-}
-
-// Puts a pair after those of a leaf, or into a new one.
-fn append_to_leaf(store: &mut PageStore, page: u32, pair: &Pair) -> Result<Option<u32>, AllocError>
-    requires can { CanAppend 0 store.old.pages page pair.now }
-    requires key { length pair.now.key ≡ store.old.key_len }
-    ensures appended { IfOk result (λ beside. Appends 0 store.old.pages store.new.pages page pair.now beside) }
-    ensures key_len { store.new.key_len ≡ store.old.key_len }
-{
-    let count = store.pair_count(page);
-    if count < PLACES {
-        store.put_pair(page, count, pair);
-        return Ok(None);
-    }
-    let beside = store.add_page()?;
-    store.put_pair(beside, 0, pair);
-    Ok(Some(beside))
 }
 
 // Puts a child after those of an inner page, or into a new one.

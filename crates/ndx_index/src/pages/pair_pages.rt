@@ -4,6 +4,7 @@ ghost use Rattle.std.specs.Prelude.{◌≡◌, ◌≢◌, ◌+◌, ◌<◌, ◌�
 ghost use Rattle.std.specs.List.{insert, remove};
 ghost use Rattle.key_expr.specs.declared.format.TheConstants.{MAX_KEY_BYTES};
 ghost use Rattle.ndx_index.specs.Bounds.{passes};
+ghost use Rattle.ndx_index.specs.Index.{HaveLength};
 ghost use Rattle.ndx_index.specs.Order.{AreInOrder};
 ghost use Rattle.ndx_index.specs.ListParts.{listed};
 ghost use Rattle.ndx_index.specs.Slots.{slot_at};
@@ -196,8 +197,21 @@ impl PairPages {
         ensures key_len { self.new.key_len ≡ self.old.key_len }
         ensures spare { self.new.spare + 1 ≡ self.old.spare }
     {
-        self.slots.push_blank(PLACES);
-        self.counts.push_reserved(0);
+        self.push_filled(&[]);
+    }
+
+    /// Puts a page of these pairs after the others. It takes the room that was reserved, and no memory.
+    pub(crate) fn push_filled(&mut self, pairs: &[Pair])
+        requires room { 0 < self.old.spare }
+        requires few { length pairs.now ≤ 16 }
+        requires keys { HaveLength self.old.key_len pairs.now }
+        ensures pages { self.new.pages ≡ self.old.pages ++ pairs.now ∷ [] }
+        ensures key_len { self.new.key_len ≡ self.old.key_len }
+        ensures spare { self.new.spare + 1 ≡ self.old.spare }
+    {
+        self.slots.push_all(pairs);
+        self.slots.push_blank(PLACES - pairs.len());
+        self.counts.push_reserved(pairs.len() as u8);
         self.spare -= 1;
     }
 

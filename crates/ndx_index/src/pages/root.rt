@@ -1,12 +1,13 @@
 //! The top of a tree.
 
-ghost use Rattle.std.specs.Prelude.{◌≡◌, ◌∷◌, ◌++◌, ◌^◌, ◌<◌, [], length, IfOk};
+ghost use Rattle.std.specs.Prelude.{◌≡◌, ◌++◌, ◌^◌, ◌<◌, ◌≤◌, [], length, IfOk};
 ghost use Rattle.ndx_index.specs.Index.{HaveLength};
-ghost use Rattle.ndx_index.specs.IndexTree.{pairs_in, AllBefore, IsPlain};
+ghost use Rattle.ndx_index.specs.IndexTree.{pairs_in, IsPlain};
 ghost use Rattle.ndx_index.specs.TreeSteps.{IsOver};
 ghost use Rattle.ndx_index.specs.Order.{AreInOrder};
 
 use crate::pages::append::append_under;
+use crate::pages::pair_pages::PLACES;
 use crate::pages::store::PageStore;
 use crate::pair::Pair;
 use std::alloc::AllocError;
@@ -29,30 +30,33 @@ pub(crate) fn append_all(store: &mut PageStore, pairs: &[Pair]) -> Result<Root, 
     ensures key_len { store.new.key_len ≡ store.old.key_len }
 {
     let mut root = Root { page: 0, levels: 0 };
-    for pair in pairs {
-        root = append(store, root, pair)?;
+    let mut rest = pairs;
+    'leaves: while !rest.is_empty() {
+        let (leaf, more) = rest.split_at(rest.len().min(PLACES));
+        root = append(store, root, leaf)?;
+        rest = more;
     }
     Ok(root)
 }
 
-// Puts a pair after all others of a tree.
-fn append(store: &mut PageStore, root: Root, pair: &Pair) -> Result<Root, AllocError>
+// Puts pairs after all others of a tree, in a leaf of their own.
+fn append(store: &mut PageStore, root: Root, pairs: &[Pair]) -> Result<Root, AllocError>
     requires tree { IsPlain store.old.pages root }
-    requires order { AreInOrder (pairs_in store.old.pages root) }
-    requires above { AllBefore pair.now (pairs_in store.old.pages root) }
-    requires key { length pair.now.key ≡ store.old.key_len }
+    requires order { AreInOrder (pairs_in store.old.pages root ++ pairs.now) }
+    requires some { 0 < length pairs.now }
+    requires few { length pairs.now ≤ 16 }
+    requires keys { HaveLength store.old.key_len pairs.now }
     ensures tree { IfOk result (λ new. IsPlain store.new.pages new) }
-    ensures pairs { IfOk result (λ new. pairs_in store.new.pages new ≡ pairs_in store.old.pages root ++ pair.now ∷ []) }
+    ensures pairs { IfOk result (λ new. pairs_in store.new.pages new ≡ pairs_in store.old.pages root ++ pairs.now) }
     ensures key_len { store.new.key_len ≡ store.old.key_len }
 {
     if root.levels == 0 {
-        let page = store.add_page()?;
-        store.put_pair(page, 0, pair);
+        let page = store.add_leaf(pairs)?;
         return Ok(Root { page, levels: 1 });
     }
-    match append_under(store, root.levels - 1, root.page, pair)? {
+    match append_under(store, root.levels - 1, root.page, pairs)? {
         None => Ok(root),
-        Some(beside) => join(store, root, beside, pair),
+        Some(beside) => join(store, root, beside, &pairs[0]),
     }
 }
 

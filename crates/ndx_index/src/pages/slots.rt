@@ -1,9 +1,10 @@
 //! Pairs whose keys have one length, in runs of bytes.
 
-ghost use Rattle.std.specs.Prelude.{◌≡◌, ◌+◌, ◌-◌, ◌<◌, ◌≤◌, ◌++◌, ℕ, [], length, take, drop, replicate, slice_set, OnOk};
+ghost use Rattle.std.specs.Prelude.{◌≡◌, ◌+◌, ◌-◌, ◌<◌, ◌≤◌, ◌∷◌, ◌++◌, ℕ, [], length, take, drop, replicate, slice_set, OnOk};
 ghost use Rattle.std.specs.List.{copy_within};
 ghost use Rattle.key_expr.specs.declared.format.TheConstants.{MAX_KEY_BYTES};
 ghost use Rattle.ndx_index.specs.Bounds.{passes};
+ghost use Rattle.ndx_index.specs.Index.{HaveLength};
 ghost use Rattle.ndx_index.specs.ListParts.{listed};
 ghost use Rattle.ndx_index.specs.Slots.{slot_at, blank};
 
@@ -190,6 +191,32 @@ impl PairSlots {
         push_run(&mut self.keys, part.keys);
         push_run(&mut self.numbers, part.numbers);
         self.spare -= part.numbers.len();
+    }
+
+    /// Puts a pair after the others. It takes the room that was reserved, and no memory.
+    fn push_pair(&mut self, pair: &Pair)
+        requires key { length pair.now.key ≡ self.old.key_len }
+        requires room { 0 < self.old.spare }
+        ensures pairs { self.new.pairs ≡ self.old.pairs ++ pair.now ∷ [] }
+        ensures key_len { self.new.key_len ≡ self.old.key_len }
+        ensures spare { self.new.spare + 1 ≡ self.old.spare }
+    {
+        push_run(&mut self.keys, pair.key.as_bytes());
+        self.numbers.push_reserved(pair.number);
+        self.spare -= 1;
+    }
+
+    /// Puts pairs after the others. It takes the room that was reserved, and no memory.
+    pub(crate) fn push_all(&mut self, pairs: &[Pair])
+        requires keys { HaveLength self.old.key_len pairs.now }
+        requires room { length pairs.now ≤ self.old.spare }
+        ensures pairs { self.new.pairs ≡ self.old.pairs ++ pairs.now }
+        ensures key_len { self.new.key_len ≡ self.old.key_len }
+        ensures spare { self.new.spare + length pairs.now ≡ self.old.spare }
+    {
+        for pair in pairs {
+            self.push_pair(pair);
+        }
     }
 
     /// Puts n blank slots after the others. It takes the room that was reserved, and no memory.

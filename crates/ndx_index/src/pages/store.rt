@@ -4,6 +4,7 @@ ghost use Rattle.std.specs.Prelude.{◌≡◌, ◌≢◌, ◌+◌, ◌<◌, ◌�
 ghost use Rattle.std.specs.List.{insert, remove};
 ghost use Rattle.key_expr.specs.declared.format.TheConstants.{MAX_KEY_BYTES};
 ghost use Rattle.ndx_index.specs.Bounds.{passes};
+ghost use Rattle.ndx_index.specs.Index.{HaveLength};
 ghost use Rattle.ndx_index.specs.Order.{before, AreInOrder};
 ghost use Rattle.ndx_index.specs.ListParts.{listed};
 ghost use Rattle.ndx_index.specs.Slots.{slot_at};
@@ -223,10 +224,24 @@ impl PageStore {
         ensures err { OnErr result (self.new.pages ≡ self.old.pages) }
         ensures key_len { self.new.key_len ≡ self.old.key_len }
     {
+        self.add_leaf(&[])
+    }
+
+    /// Puts a page of these pairs, without links, after the others, and answers its number. `AllocError` where there is
+    /// no memory or no number for it; the pages are the same then.
+    pub(crate) fn add_leaf(&mut self, pairs: &[Pair]) -> Result<u32, AllocError>
+        requires few { length pairs.now ≤ 16 }
+        requires keys { HaveLength self.old.key_len pairs.now }
+        ensures pages { OnOk result (self.new.pages ≡ self.old.pages ++ with_pairs pairs.now no_page ∷ []) }
+        ensures number { IfOk result (λ page. page ≡ length self.old.pages) }
+        ensures few { OnOk result (length self.new.pages < 2 ^ 32) }
+        ensures err { OnErr result (self.new.pages ≡ self.old.pages) }
+        ensures key_len { self.new.key_len ≡ self.old.key_len }
+    {
         self.pair_pages.reserve(1)?;
         self.link_pages.reserve(1)?;
         let page = self.pair_pages.page_count();
-        self.pair_pages.push_page();
+        self.pair_pages.push_filled(pairs);
         self.link_pages.push_page();
         Ok(page)
     }

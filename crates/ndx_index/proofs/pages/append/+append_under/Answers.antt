@@ -22,15 +22,15 @@ pub append_under-requires : goal.append_under-requires
 append_under-requires t c =
     let a = c.args.store.now.pages in
     let p = c.args.page in
-    let pair = c.args.pair.now in
+    let ps = c.args.pairs.now in
     let d = c.args.level - 1 in
     let e : c.args.level ≡ suc d = omega arith in
-    let can : CanAppend (suc d) a p pair = subst (λ k. CanAppend k a p pair) e c.requires.can in (
+    let can : CanAppend (suc d) a p ps = subst (λ k. CanAppend k a p ps) e c.requires.can in (
       omega (arith, c.decreases),
       (
-        subst (λ x. CanAppend d a x pair) (sym c.link-last.ensures.link)
-            (can_append_below d a p pair (c.link_count.result - 1) can (omega (arith, c.link_count.ensures.count, links_length d a p can.tree))),
-        c.requires.key,
+        subst (λ x. CanAppend d a x ps) (sym c.link-last.ensures.link)
+            (can_append_below d a p ps (c.link_count.result - 1) can (omega (arith, c.link_count.ensures.count, links_length d a p can.tree))),
+        (c.requires.few, c.requires.keys),
       ),
     )
 
@@ -39,11 +39,11 @@ add_child-requires-clause-some t c =
     let a = c.args.store.now.pages in
     let b = c.append_under.new.store.pages in
     let p = c.args.page in
-    let pair = c.args.pair.now in
+    let ps = c.args.pairs.now in
     let d = c.args.level - 1 in
     let e : c.args.level ≡ suc d = omega arith in
     let tree : IsTree (suc d) a p = subst (λ k. IsTree k a p) e c.requires.can.tree in
-    let done : AppendsBeside d a b c.link-last.result pair c.in-Some.beside = subst (λ s. Appends d a b c.link-last.result pair s) c.in-Some.is c.in_ok-append_under.ensures.appended in
+    let done : AppendsBeside d a b ps c.in-Some.beside = subst (λ s. Appends d a b c.link-last.result ps s) c.in-Some.is c.in_ok-append_under.ensures.appended in
     omega (arith, ap (λ (g : Page). length g.links) (done.frame p tree.0), links_length d a p tree)
 
 pub add_child-requires-clause-keys : goal.add_child-requires-clause-keys
@@ -51,11 +51,11 @@ add_child-requires-clause-keys t c =
     let a = c.args.store.now.pages in
     let b = c.append_under.new.store.pages in
     let p = c.args.page in
-    let pair = c.args.pair.now in
+    let ps = c.args.pairs.now in
     let d = c.args.level - 1 in
     let e : c.args.level ≡ suc d = omega arith in
     let tree : IsTree (suc d) a p = subst (λ k. IsTree k a p) e c.requires.can.tree in
-    let done : AppendsBeside d a b c.link-last.result pair c.in-Some.beside = subst (λ s. Appends d a b c.link-last.result pair s) c.in-Some.is c.in_ok-append_under.ensures.appended in
+    let done : AppendsBeside d a b ps c.in-Some.beside = subst (λ s. Appends d a b c.link-last.result ps s) c.in-Some.is c.in_ok-append_under.ensures.appended in
     subst (λ (g : Page). length g.links ≡ length g.pairs + 1) (sym (done.frame p tree.0)) (links_length d a p tree)
 
 pub returns-in-None-clause-appended : goal.returns-in-None-clause-appended
@@ -63,14 +63,14 @@ returns-in-None-clause-appended t c =
     let a = c.args.store.now.pages in
     let b = c.append_under.new.store.pages in
     let p = c.args.page in
-    let pair = c.args.pair.now in
+    let ps = c.args.pairs.now in
     let d = c.args.level - 1 in
     let e : c.args.level ≡ suc d = omega arith in
-    let can : CanAppend (suc d) a p pair = subst (λ k. CanAppend k a p pair) e c.requires.can in
-    let done : AppendsUnder d a b c.link-last.result pair = subst (λ s. Appends d a b c.link-last.result pair s) c.in-None.is c.in_ok-append_under.ensures.appended in
-    subst (λ k. AppendsUnder k a b p pair) (sym e)
-    (under_last d a b p pair (c.link_count.result - 1) can (omega (arith, c.link_count.ensures.count, links_length d a p can.tree))
-    (subst (λ x. AppendsUnder d a b x pair) c.link-last.ensures.link done))
+    let can : CanAppend (suc d) a p ps = subst (λ k. CanAppend k a p ps) e c.requires.can in
+    let done : AppendsUnder d a b c.link-last.result ps = subst (λ s. Appends d a b c.link-last.result ps s) c.in-None.is c.in_ok-append_under.ensures.appended in
+    subst (λ k. AppendsUnder k a b p ps) (sym e)
+    (under_last d a b p ps (c.link_count.result - 1) can (omega (arith, c.link_count.ensures.count, links_length d a p can.tree))
+    (subst (λ x. AppendsUnder d a b x ps) c.link-last.ensures.link done))
 
 pub returns-in-Some-clause-appended : goal.returns-in-Some-clause-appended
 returns-in-Some-clause-appended t c =
@@ -78,11 +78,11 @@ returns-in-Some-clause-appended t c =
     let b = c.append_under.new.store.pages in
     let b1 = c.add_child.new.store.pages in
     let p = c.args.page in
-    let pair = c.args.pair.now in
+    let ps = c.args.pairs.now in
     let d = c.args.level - 1 in
     let e : c.args.level ≡ suc d = omega arith in
-    let can : CanAppend (suc d) a p pair = subst (λ k. CanAppend k a p pair) e c.requires.can in
-    let done : AppendsBeside d a b c.link-last.result pair c.in-Some.beside = subst (λ s. Appends d a b c.link-last.result pair s) c.in-Some.is c.in_ok-append_under.ensures.appended in
-    ok_weaker (AddsLink b b1 p c.in-Some.beside pair) (Appends c.args.level a b1 p pair)
-    (λ (s : Option ℕ) h. subst (λ k. Appends k a b1 p pair s) (sym e) (child_more d a b b1 p c.link-last.result pair c.in-Some.beside can done s h))
+    let can : CanAppend (suc d) a p ps = subst (λ k. CanAppend k a p ps) e c.requires.can in
+    let done : AppendsBeside d a b ps c.in-Some.beside = subst (λ s. Appends d a b c.link-last.result ps s) c.in-Some.is c.in_ok-append_under.ensures.appended in
+    ok_weaker (AddsLink b b1 p c.in-Some.beside c.index-pairs-0.result) (Appends c.args.level a b1 p ps)
+    (λ (s : Option ℕ) h. subst (λ k. Appends k a b1 p ps s) (sym e) (child_more d a b b1 p ps c.index-pairs-0.result c.in-Some.beside c.index-pairs-0.is can done s h))
     c.add_child.result c.add_child.ensures.added

@@ -1,4 +1,4 @@
-use Rattle.std.proofs.Common.{◌≡◌, ◌-◌, ◌++◌, suc, [], ◌∷◌, subst, arith}
+use Rattle.std.proofs.Common.{◌≡◌, ◌-◌, ◌++◌, suc, subst, arith}
 use Rattle.ndx_index.specs.declared.pages.root.Root.{Root}
 use Rattle.ndx_index.specs.IndexTree.{pairs_in, IsPlain}
 use Rattle.ndx_index.specs.TreeSteps.{Appends, AppendsBeside, IsOver}
@@ -7,7 +7,7 @@ use Rattle.ndx_index.proofs.pages.root.append.Goals as goal
 
 pub append_under-requires-clause-can : goal.append_under-requires-clause-can
 append_under-requires-clause-can c =
-    can_append_top (c.args.root.levels - 1) c.args.store.now.pages c.args.root c.args.pair.now (omega arith) c.requires.tree c.requires.order c.requires.above
+    can_append_top (c.args.root.levels - 1) c.args.store.now.pages c.args.root c.args.pairs.now (omega arith) c.requires.tree c.requires.order c.requires.some
 
 pub returns-in-Some-clause-tree : goal.returns-in-Some-clause-tree
 returns-in-Some-clause-tree c =
@@ -16,12 +16,12 @@ returns-in-Some-clause-tree c =
     let b1 = c.join.new.store.pages in
     let t = c.args.root in
     let q = c.in-Some.beside in
-    let pair = c.args.pair.now in
+    let ps = c.args.pairs.now in
     let d = t.levels - 1 in
     let e : t.levels ≡ suc d = omega arith in
-    let done : AppendsBeside d a b t.page pair q = subst (λ s. Appends d a b t.page pair s) c.in-Some.is c.in_ok-append_under.ensures.appended in
-    let can = can_append_top d a t pair e c.requires.tree c.requires.order c.requires.above in
-    ok_weaker (IsOver b b1 t q pair) (IsPlain b1) (λ (u : Root) over. (over_both d a b b1 t u pair q e c.requires.tree can done over).tree) c.join.result c.join.ensures.top
+    let done : AppendsBeside d a b ps q = subst (λ s. Appends d a b t.page ps s) c.in-Some.is c.in_ok-append_under.ensures.appended in
+    let can = can_append_top d a t ps e c.requires.tree c.requires.order c.requires.some in
+    ok_weaker (IsOver b b1 t q c.index-pairs-0.result) (IsPlain b1) (λ (u : Root) over. (over_both d a b b1 t u ps c.index-pairs-0.result q c.index-pairs-0.is e c.requires.tree can done over).tree) c.join.result c.join.ensures.top
 
 pub returns-in-Some-clause-pairs : goal.returns-in-Some-clause-pairs
 returns-in-Some-clause-pairs c =
@@ -30,9 +30,9 @@ returns-in-Some-clause-pairs c =
     let b1 = c.join.new.store.pages in
     let t = c.args.root in
     let q = c.in-Some.beside in
-    let pair = c.args.pair.now in
+    let ps = c.args.pairs.now in
     let d = t.levels - 1 in
     let e : t.levels ≡ suc d = omega arith in
-    let done : AppendsBeside d a b t.page pair q = subst (λ s. Appends d a b t.page pair s) c.in-Some.is c.in_ok-append_under.ensures.appended in
-    let can = can_append_top d a t pair e c.requires.tree c.requires.order c.requires.above in
-    ok_weaker (IsOver b b1 t q pair) (λ (u : Root). pairs_in b1 u ≡ pairs_in a t ++ pair ∷ []) (λ (u : Root) over. (over_both d a b b1 t u pair q e c.requires.tree can done over).pairs) c.join.result c.join.ensures.top
+    let done : AppendsBeside d a b ps q = subst (λ s. Appends d a b t.page ps s) c.in-Some.is c.in_ok-append_under.ensures.appended in
+    let can = can_append_top d a t ps e c.requires.tree c.requires.order c.requires.some in
+    ok_weaker (IsOver b b1 t q c.index-pairs-0.result) (λ (u : Root). pairs_in b1 u ≡ pairs_in a t ++ ps) (λ (u : Root) over. (over_both d a b b1 t u ps c.index-pairs-0.result q c.index-pairs-0.is e c.requires.tree can done over).pairs) c.join.result c.join.ensures.top

@@ -1,22 +1,17 @@
-use Rattle.std.proofs.Common.{List, take, drop, sym, subst}
+use Rattle.std.proofs.Common.{◌≡◌, ◌++◌, List, take, drop, append_assoc, sym, ap, ◌∙◌, subst}
 use Rattle.std.proofs.lemmas.List.{take-append-drop}
 use Rattle.ndx_index.specs.declared.pair.Pair.{Pair}
 use Rattle.ndx_index.specs.Order.{AreInOrder}
-use Rattle.ndx_index.specs.IndexTree.{AllBefore}
-use Rattle.ndx_index.proofs.TreeLists.{front_order, before_next}
+use Rattle.ndx_index.specs.IndexTree.{pairs_in}
+use Rattle.ndx_index.proofs.TreeLists.{front_order}
 use Rattle.ndx_index.proofs.pages.root.append_all.Goals as goal
 
 pub append-requires-clause-order : goal.append-requires-clause-order
 append-requires-clause-order c =
-    let ps = c.args.pairs.now in
-    let i = c.loop-pair.pair-index in
-    subst (λ (qs : List Pair). AreInOrder qs) (sym c.loop-pair.invariant.pairs)
-    (front_order (take i ps) (drop i ps) (subst (λ (qs : List Pair). AreInOrder qs) (sym (take-append-drop i ps)) c.requires.ordered))
-
-pub append-requires-clause-above : goal.append-requires-clause-above
-append-requires-clause-above c =
-    let ps = c.args.pairs.now in
-    let i = c.loop-pair.pair-index in
-    let pair = c.pair-item.result in
-    subst (λ (qs : List Pair). AllBefore pair qs) (sym c.loop-pair.invariant.pairs)
-    (subst (λ (x : Pair). AllBefore x (take i ps)) (sym c.pair-item.is) (before_next ps i pair c.requires.ordered c.loop-pair-test.true))
+    let old = pairs_in c.leaves.store.pages c.leaves.root in
+    let rest = c.leaves.rest.now in
+    let n = c.min.result in
+    let all : c.args.pairs.now ≡ (old ++ take n rest) ++ drop n rest =
+    sym c.leaves.invariant.pairs ∙ ap (λ (ps : List Pair). old ++ ps) (sym (take-append-drop n rest)) ∙ sym (append_assoc old (take n rest) (drop n rest)) in
+    subst (λ (ps : List Pair). AreInOrder (old ++ ps)) (sym c.split_at.ensures.front)
+    (front_order (old ++ take n rest) (drop n rest) (subst (λ (ps : List Pair). AreInOrder ps) all c.requires.ordered))
