@@ -74,7 +74,7 @@ fn long_text(alloc: Global, length: usize) -> Result<Bytes, Fail> {
     Ok(Bytes::from_vec(text))
 }
 
-pub fn command_of(alloc: Global, asked: Asked, name: &[u8]) -> Result<Command, Fail> {
+pub(crate) fn command_of(alloc: Global, asked: Asked, name: &[u8]) -> Result<Command, Fail> {
     let name = Bytes::from_slice(alloc, name)?;
     match asked {
         Asked::Use => Ok(use_table(name, false)),
@@ -134,7 +134,7 @@ fn plain(asked: Asked) -> Command {
     }
 }
 
-pub fn is_expected(answer: &Answer, expected: Expected) -> bool {
+pub(crate) fn is_expected(answer: &Answer, expected: Expected) -> bool {
     match (answer, expected) {
         (Answer::Done, Expected::Ok) => true,
         (Answer::Refused(refusal), Expected::Refused(code)) => refusal.code() == code,
@@ -147,12 +147,12 @@ pub fn is_expected(answer: &Answer, expected: Expected) -> bool {
 }
 
 // Whether a text is so many bytes `x`.
-pub fn is_long(text: &[u8], length: usize) -> bool {
+pub(crate) fn is_long(text: &[u8], length: usize) -> bool {
     text.len() == length && text.iter().all(|byte| *byte == b'x')
 }
 
 // Performs the cases, and tells the index of the first whose answer or number is not the expected one.
-pub fn first_other(
+pub(crate) fn first_other(
     alloc: Global,
     catalogue: &mut Catalogue,
     cases: &[Case],
@@ -178,12 +178,12 @@ fn is_answered(alloc: Global, catalogue: &mut Catalogue, case: Case) -> Result<b
 }
 
 // The same on a catalogue of two stations with the sample's tables T and U.
-pub fn first_unexpected(alloc: Global, cases: &[Case]) -> Result<Option<usize>, Fail> {
+pub(crate) fn first_unexpected(alloc: Global, cases: &[Case]) -> Result<Option<usize>, Fail> {
     first_other(alloc, &mut open_sample(alloc, 2)?, cases)
 }
 
 // The same on a catalogue of one station with a table T.
-pub fn first_unexpected_in(
+pub(crate) fn first_unexpected_in(
     alloc: Global,
     content: TableData,
     cases: &[Case],
@@ -192,7 +192,11 @@ pub fn first_unexpected_in(
 }
 
 // The table T as it stands after the cases, each of which is answered as expected.
-pub fn table_after(alloc: Global, content: TableData, cases: &[Case]) -> Result<TableData, Fail> {
+pub(crate) fn table_after(
+    alloc: Global,
+    content: TableData,
+    cases: &[Case],
+) -> Result<TableData, Fail> {
     let mut catalogue = open_alone(alloc, content)?;
     if first_other(alloc, &mut catalogue, cases)?.is_some() {
         return Err("another answer".into());
