@@ -12,7 +12,7 @@ use crate::pages::free::{FreeList, make_free};
 use crate::pages::insert::insert_in;
 use crate::pages::remove::remove_in;
 use crate::pages::root::{Root, append_all};
-use crate::pages::search::{first_passing, first_under, last_failing, last_under, push_pairs};
+use crate::pages::search::{first_place, first_under, last_place, last_under, push_pairs};
 use crate::pages::store::PageStore;
 use crate::pair::Pair;
 use crate::pair_list::PairList;
@@ -132,7 +132,7 @@ impl OrderedIndex {
         ensures pairs { self.new.pairs ≡ without pair self.old.pairs }
         ensures spare { self.old.spare ≤ self.new.spare }
     {
-        let Some(found) = self.first_passing(Bound::at_least(&pair)) else {
+        let Some(found) = self.first_passing(&Bound::at_least(&pair)) else {
             return false;
         };
         if found != pair {
@@ -167,21 +167,21 @@ impl OrderedIndex {
     pub fn first_from(&self, prefix: &[u8]) -> Option<Pair>
         ensures pair { result ≡ first_from prefix.now self.now.pairs }
     {
-        self.first_passing(Bound::reaching(prefix))
+        self.first_passing(&Bound::reaching(prefix))
     }
 
     /// The least pair above the given one, which may be absent.
     pub fn next(&self, pair: Pair) -> Option<Pair>
         ensures pair { result ≡ next_of pair self.now.pairs }
     {
-        self.first_passing(Bound::above(&pair))
+        self.first_passing(&Bound::above(&pair))
     }
 
     /// The greatest pair below the given one, which may be absent.
     pub fn previous(&self, pair: Pair) -> Option<Pair>
         ensures pair { result ≡ previous_of pair self.now.pairs }
     {
-        self.last_failing(Bound::at_least(&pair))
+        self.last_failing(&Bound::at_least(&pair))
     }
 
     /// All pairs in order, copied out. `AllocError` where there is no memory for them.
@@ -203,22 +203,24 @@ impl OrderedIndex {
     }
 
     // The least pair that passes a search's test.
-    fn first_passing(&self, bound: Bound<'_>) -> Option<Pair>
-        ensures pair { result ≡ find (passes bound.entry) self.now.pairs }
+    fn first_passing(&self, bound: &Bound<'_>) -> Option<Pair>
+        ensures pair { result ≡ find (passes bound.now) self.now.pairs }
     {
         if self.root.levels == 0 {
             return None;
         }
-        first_passing(&self.store, self.root.levels - 1, self.root.page, bound)
+        let place = first_place(&self.store, self.root.levels - 1, self.root.page, bound)?;
+        Some(self.store.pair(place.page, place.at))
     }
 
     // The greatest pair that doesn't pass a search's test.
-    fn last_failing(&self, bound: Bound<'_>) -> Option<Pair>
-        ensures pair { result ≡ find (λ q. not (passes bound.entry q)) (reverse self.now.pairs) }
+    fn last_failing(&self, bound: &Bound<'_>) -> Option<Pair>
+        ensures pair { result ≡ find (λ q. not (passes bound.now q)) (reverse self.now.pairs) }
     {
         if self.root.levels == 0 {
             return None;
         }
-        last_failing(&self.store, self.root.levels - 1, self.root.page, bound)
+        let place = last_place(&self.store, self.root.levels - 1, self.root.page, bound)?;
+        Some(self.store.pair(place.page, place.at))
     }
 }

@@ -111,10 +111,10 @@ impl PairPages {
     }
 
     /// Whether a page's pair passes a search's test. It copies no key.
-    pub(crate) fn passes(&self, page: usize, at: usize, bound: Bound<'_>) -> bool
+    pub(crate) fn passes(&self, page: usize, at: usize, bound: &Bound<'_>) -> bool
         requires page { page < length self.now.pages }
         requires place { at < length (page_at self.now.pages page) }
-        ensures value { result ≡ passes bound.entry (slot_at (page_at self.now.pages page) at) }
+        ensures value { result ≡ passes bound.now (slot_at (page_at self.now.pages page) at) }
     {
         self.slots.passes(page * PLACES + at, bound)
     }
@@ -228,12 +228,12 @@ impl PairPages {
     /// How many of a page's pairs, which stand in order, stand before where a search begins. It goes by bisection,
     /// and copies no key.
     #[tactic(auto, using(crate::proofs::Bisection::below_mid, crate::proofs::Bisection::above_mid))]
-    pub(crate) fn place(&self, page: usize, bound: Bound<'_>) -> usize
+    pub(crate) fn place(&self, page: usize, bound: &Bound<'_>) -> usize
         requires page { page < length self.now.pages }
         requires order { AreInOrder (page_at self.now.pages page) }
         ensures within { result ≤ length (page_at self.now.pages page) }
-        ensures below { (k : ℕ) → k < result → passes bound.entry (slot_at (page_at self.now.pages page) k) ≡ false }
-        ensures above { (k : ℕ) → result ≤ k → k < length (page_at self.now.pages page) → passes bound.entry (slot_at (page_at self.now.pages page) k) ≡ true }
+        ensures below { (k : ℕ) → k < result → passes bound.now (slot_at (page_at self.now.pages page) k) ≡ false }
+        ensures above { (k : ℕ) → result ≤ k → k < length (page_at self.now.pages page) → passes bound.now (slot_at (page_at self.now.pages page) k) ≡ true }
     {
         let mut low = 0;
         let mut high = self.count(page);

@@ -63,30 +63,18 @@ fn last_leaf(store: &PageStore, level: usize, page: u32) -> u32
     }
 }
 
-/// The least pair under a page that passes a search's test.
-pub(crate) fn first_passing(
+/// Where the least pair under a page, this many levels above the leaves, that passes a search's test stands: in the leaf
+/// that the search goes down to, or else first in the branch after it. No pair is copied on the way.
+pub(crate) fn first_place(
     store: &PageStore,
     level: usize,
     page: u32,
-    bound: Bound<'_>,
-) -> Option<Pair>
-    requires tree { IsTree level store.now.pages page }
-    requires order { AreInOrder (pairs_under level store.now.pages page) }
-    ensures pair { result ≡ find (passes bound.entry) (pairs_under level store.now.pages page) }
-{
-    match first_place(store, level, page, bound) {
-        Some(place) => Some(store.pair(place.page, place.at)),
-        None => None,
-    }
-}
-
-// Where the least pair under a page that passes a search's test stands: in the leaf that the search goes down to, or
-// else first in the branch after it. No pair is copied on the way.
-fn first_place(store: &PageStore, level: usize, page: u32, bound: Bound<'_>) -> Option<Place>
+    bound: &Bound<'_>,
+) -> Option<Place>
     requires tree { IsTree level store.now.pages page }
     requires order { AreInOrder (pairs_under level store.now.pages page) }
     ensures place { IfSome result (IsPlace store.now.pages) }
-    ensures pair { option_map (pair_at store.now.pages) result ≡ find (passes bound.entry) (pairs_under level store.now.pages page) }
+    ensures pair { option_map (pair_at store.now.pages) result ≡ find (passes bound.now) (pairs_under level store.now.pages page) }
 {
     let mut here = Branch { level, page };
     let mut next = None;
@@ -110,30 +98,18 @@ fn first_place(store: &PageStore, level: usize, page: u32, bound: Bound<'_>) -> 
     Some(Place { page, at: 0 })
 }
 
-/// The greatest pair under a page that doesn't pass a search's test.
-pub(crate) fn last_failing(
+/// Where the greatest pair under a page that doesn't pass a search's test stands: in the leaf that the search goes down
+/// to, or else last in the branch before it. No pair is copied on the way.
+pub(crate) fn last_place(
     store: &PageStore,
     level: usize,
     page: u32,
-    bound: Bound<'_>,
-) -> Option<Pair>
-    requires tree { IsTree level store.now.pages page }
-    requires order { AreInOrder (pairs_under level store.now.pages page) }
-    ensures pair { result ≡ find (λ q. not (passes bound.entry q)) (reverse (pairs_under level store.now.pages page)) }
-{
-    match last_place(store, level, page, bound) {
-        Some(place) => Some(store.pair(place.page, place.at)),
-        None => None,
-    }
-}
-
-// Where the greatest pair under a page that doesn't pass a search's test stands: in the leaf that the search goes down
-// to, or else last in the branch before it. No pair is copied on the way.
-fn last_place(store: &PageStore, level: usize, page: u32, bound: Bound<'_>) -> Option<Place>
+    bound: &Bound<'_>,
+) -> Option<Place>
     requires tree { IsTree level store.now.pages page }
     requires order { AreInOrder (pairs_under level store.now.pages page) }
     ensures place { IfSome result (IsPlace store.now.pages) }
-    ensures pair { option_map (pair_at store.now.pages) result ≡ find (λ q. not (passes bound.entry q)) (reverse (pairs_under level store.now.pages page)) }
+    ensures pair { option_map (pair_at store.now.pages) result ≡ find (λ q. not (passes bound.now q)) (reverse (pairs_under level store.now.pages page)) }
 {
     let mut here = Branch { level, page };
     let mut previous = None;

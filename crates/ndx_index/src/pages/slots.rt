@@ -123,9 +123,9 @@ impl PairSlots {
     }
 
     /// Whether a slot's pair passes a search's test. It copies no key.
-    pub(crate) fn passes(&self, at: usize, bound: Bound<'_>) -> bool
+    pub(crate) fn passes(&self, at: usize, bound: &Bound<'_>) -> bool
         requires place { at < length self.now.pairs }
-        ensures value { result ≡ passes bound.entry (slot_at self.now.pairs at) }
+        ensures value { result ≡ passes bound.now (slot_at self.now.pairs at) }
     {
         let key = self.key(at);
         if let Some(is_before) = ends_are_before(key, bound.key) {

@@ -113,12 +113,12 @@ impl PageStore {
 
     /// How many of a page's pairs, which stand in order, stand before where a search begins. It goes by bisection,
     /// and copies no key.
-    pub(crate) fn place(&self, page: u32, bound: Bound<'_>) -> usize
+    pub(crate) fn place(&self, page: u32, bound: &Bound<'_>) -> usize
         requires page { page < length self.now.pages }
         requires order { AreInOrder (page_in self.now.pages page).pairs }
         ensures within { result ≤ length (page_in self.now.pages page).pairs }
-        ensures below { (k : ℕ) → k < result → passes bound.entry (slot_at (page_in self.now.pages page).pairs k) ≡ false }
-        ensures above { (k : ℕ) → result ≤ k → k < length (page_in self.now.pages page).pairs → passes bound.entry (slot_at (page_in self.now.pages page).pairs k) ≡ true }
+        ensures below { (k : ℕ) → k < result → passes bound.now (slot_at (page_in self.now.pages page).pairs k) ≡ false }
+        ensures above { (k : ℕ) → result ≤ k → k < length (page_in self.now.pages page).pairs → passes bound.now (slot_at (page_in self.now.pages page).pairs k) ≡ true }
     {
         self.pair_pages.place(page as usize, bound)
     }
@@ -131,7 +131,7 @@ impl PageStore {
         ensures below { (k : ℕ) → k < result → before pair.now (slot_at (page_in self.now.pages page).pairs k) ≡ false }
         ensures above { (k : ℕ) → result ≤ k → k < length (page_in self.now.pages page).pairs → before pair.now (slot_at (page_in self.now.pages page).pairs k) ≡ true }
     {
-        self.place(page, Bound::above(pair))
+        self.place(page, &Bound::above(pair))
     }
 
     /// Puts a pair before a page's pairs from a place on. It takes no memory.

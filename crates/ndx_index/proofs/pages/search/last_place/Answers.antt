@@ -13,12 +13,12 @@ use Rattle.ndx_index.proofs.pages.search.last_place.Goals.{After-place-at, Else-
 use Rattle.ndx_index.proofs.pages.search.last_place.Goals as goal
 
 -- the way to an inner page
-way : (c : After-place-at) → GoesDown (last_failing_of (passes c.args.bound)) last_of c.args.store.now.pages c.args.level c.args.page (record { level = suc (c.levels.here.level - 1); page = c.levels.here.page }) c.levels.previous
+way : (c : After-place-at) → GoesDown (last_failing_of (passes c.args.bound.now)) last_of c.args.store.now.pages c.args.level c.args.page (record { level = suc (c.levels.here.level - 1); page = c.levels.here.page }) c.levels.previous
 way c =
     let e : c.levels.here.level ≡ suc (c.levels.here.level - 1) = omega (arith, c.levels-test.true) in
-    at_level (last_failing_of (passes c.args.bound)) last_of c.args.store.now.pages c.args.level c.args.page c.levels.here c.levels.previous (suc (c.levels.here.level - 1)) e c.levels.invariant
+    at_level (last_failing_of (passes c.args.bound.now)) last_of c.args.store.now.pages c.args.level c.args.page c.levels.here c.levels.previous (suc (c.levels.here.level - 1)) e c.levels.invariant
 
-turn : (c : After-place-at) → Turns (passes c.args.bound) (page_in c.args.store.now.pages c.levels.here.page).pairs c.place-at.result
+turn : (c : After-place-at) → Turns (passes c.args.bound.now) (page_in c.args.store.now.pages c.levels.here.page).pairs c.place-at.result
 turn c = record { within = c.place-at.ensures.within; below = c.place-at.ensures.below; above = c.place-at.ensures.above }
 
 -- a place among the keys of an inner page is one of its links
@@ -38,16 +38,16 @@ levels-preserved c =
     let p = c.levels.here.page in
     let i = c.place-at.result in
     let before = (goal.at.levels-preserved c).After-place-at in
-    let t = passes c.args.bound in
+    let t = passes c.args.bound.now in
     elim c.if-at-gt0.branch [
       | then-at-gt0 w ↦
           let previous : Option Branch = Some (record { level = d; page = get_or (page_in a p).links (i - 1) 0 }) in
           let is : c.if-at-gt0.previous ≡ previous = w.previous-is ∙ ap (λ q. Some (record { level = d; page = q })) w.link-page.ensures.link in
-          let goes = down_last_beside t (passes_after c.args.bound) a c.args.level c.args.page d p i c.levels.previous (way before) (turn before) w.if-at-gt0.true in
+          let goes = down_last_beside t (passes_after c.args.bound.now) a c.args.level c.args.page d p i c.levels.previous (way before) (turn before) w.if-at-gt0.true in
           subst (λ q. GoesDown (last_failing_of t) last_of a c.args.level c.args.page (record { level = d; page = q }) c.if-at-gt0.previous) (sym c.link-page-in-levels.ensures.link)
           (subst (λ n. GoesDown (last_failing_of t) last_of a c.args.level c.args.page (record { level = d; page = get_or (page_in a p).links i 0 }) n) (sym is) goes)
       | else-at-gt0 w ↦
-          let goes = down_last_alone t (passes_after c.args.bound) a c.args.level c.args.page d p i c.levels.previous (way before) (turn before) (omega (arith, w.if-at-gt0.false)) in
+          let goes = down_last_alone t (passes_after c.args.bound.now) a c.args.level c.args.page d p i c.levels.previous (way before) (turn before) (omega (arith, w.if-at-gt0.false)) in
           subst (λ q. GoesDown (last_failing_of t) last_of a c.args.level c.args.page (record { level = d; page = q }) c.if-at-gt0.previous) (sym c.link-page-in-levels.ensures.link)
           (subst (λ n. GoesDown (last_failing_of t) last_of a c.args.level c.args.page (record { level = d; page = get_or (page_in a p).links i 0 }) n) (sym w.previous-is) goes)
     ]
@@ -56,17 +56,17 @@ pub returns-then-at-gt0-2-clause-pair : goal.returns-then-at-gt0-2-clause-pair
 returns-then-at-gt0-2-clause-pair c =
     let a = c.args.store.now.pages in
     let here = c.levels.here in
-    let t = passes c.args.bound in
+    let t = passes c.args.bound.now in
     let turn : Turns t (page_in a here.page).pairs c.place-at-2.result = record { within = c.place-at-2.ensures.within; below = c.place-at-2.ensures.below; above = c.place-at-2.ensures.above } in
     let found = back_at t (page_in a here.page).pairs c.place-at-2.result turn c.if-at-gt0-2.true in
     sym (at_leaf (last_failing_of t) last_of a c.args.level c.args.page here c.levels.previous _ c.levels.invariant (omega (arith, c.levels-test.false)) found)
 
 -- where the leaf has none, the pair is the last of the branch beside it
-beside : (c : Else-at-gt0-2) → last_failing_of (passes c.args.bound) (pairs_under c.args.level c.args.store.now.pages c.args.page) ≡ edge_of last_of c.args.store.now.pages c.levels.previous
+beside : (c : Else-at-gt0-2) → last_failing_of (passes c.args.bound.now) (pairs_under c.args.level c.args.store.now.pages c.args.page) ≡ edge_of last_of c.args.store.now.pages c.levels.previous
 beside c =
     let a = c.args.store.now.pages in
     let here = c.levels.here in
-    let t = passes c.args.bound in
+    let t = passes c.args.bound.now in
     let turn : Turns t (page_in a here.page).pairs c.place-at-2.result = record { within = c.place-at-2.ensures.within; below = c.place-at-2.ensures.below; above = c.place-at-2.ensures.above } in
     let zero : c.place-at-2.result ≡ 0 = omega (arith, c.if-at-gt0-2.false) in
     let none = back_past t (page_in a here.page).pairs (subst (λ i. Turns t (page_in a here.page).pairs i) zero turn) in

@@ -21,4 +21,4 @@ passes-requires c =
 pub returns : goal.returns
 returns c =
     let there = is_there c.self.inside c.args.self.now c.args.page c.self.view_is c.self.invariant c.requires.page in
-    record { value = c.passes.ensures.value ∙ ap (passes c.args.bound) (pair_in_page c.self.inside c.args.self.now.pages c.args.page c.args.at there c.requires.place) }
+    record { value = c.passes.ensures.value ∙ ap (passes c.args.bound.now) (pair_in_page c.self.inside c.args.self.now.pages c.args.page c.args.at there c.requires.place) }

@@ -13,7 +13,7 @@ halves-preserved-then-passes c =
       order = omega (arith, c.halves-test.true);
       within = omega (arith, c.halves-test.true, c.halves.invariant.within);
       below = c.halves.invariant.below;
-      above = above_mid (passes c.args.bound) here mid (passes_up c.args.bound here c.requires.order) (sym c.passes.ensures.value ∙ c.if-passes.true);
+      above = above_mid (passes c.args.bound.now) here mid (passes_up c.args.bound.now here c.requires.order) (sym c.passes.ensures.value ∙ c.if-passes.true);
     }
 
 pub halves-preserved : goal.halves-preserved
@@ -23,6 +23,6 @@ halves-preserved c =
     record {
       order = omega (arith, c.halves-test.true);
       within = c.halves.invariant.within;
-      below = below_mid (passes c.args.bound) here mid (passes_up c.args.bound here c.requires.order) (omega (arith, c.halves-test.true, c.halves.invariant.within)) (sym c.passes.ensures.value ∙ c.if-passes.false);
+      below = below_mid (passes c.args.bound.now) here mid (passes_up c.args.bound.now here c.requires.order) (omega (arith, c.halves-test.true, c.halves.invariant.within)) (sym c.passes.ensures.value ∙ c.if-passes.false);
       above = c.halves.invariant.above;
     }

@@ -24,9 +24,9 @@ returns-clause-within c =
 pub returns-clause-below : goal.returns-clause-below
 returns-clause-below c k lt =
     let twin = is_twin c.self.inside c.args.self.now c.args.page c.self.view_is c.self.invariant c.requires.page in
-    ap (λ (l : List Pair). passes c.args.bound (slot_at l k)) twin.pairs ∙ c.place.ensures.below k lt
+    ap (λ (l : List Pair). passes c.args.bound.now (slot_at l k)) twin.pairs ∙ c.place.ensures.below k lt
 
 pub returns-clause-above : goal.returns-clause-above
 returns-clause-above c k le lt =
     let twin = is_twin c.self.inside c.args.self.now c.args.page c.self.view_is c.self.invariant c.requires.page in
-    ap (λ (l : List Pair). passes c.args.bound (slot_at l k)) twin.pairs ∙ c.place.ensures.above k le (omega (arith, lt, twin.pair_count))
+    ap (λ (l : List Pair). passes c.args.bound.now (slot_at l k)) twin.pairs ∙ c.place.ensures.above k le (omega (arith, lt, twin.pair_count))
