@@ -1,8 +1,8 @@
 //! One index of a table.
 
 ghost use Rattle.std.specs.Prelude.{◌≡◌, ℕ, ◌+◌, ◌<◌, ◌≤◌, length, slice_get, slice_index_or, IfOk, OnOk};
-ghost use Rattle.dbf_image.specs.Table.{packed};
-ghost use Rattle.key_expr.specs.Keys.{key_length};
+ghost use Rattle.dbf_image.specs.Table.{packed, row_at};
+ghost use Rattle.key_expr.specs.Keys.{key, key_length};
 ghost use Rattle.ndx_index.specs.Order.{AreInOrder};
 ghost use Rattle.ndx_index.specs.Places.{back_from};
 ghost use Rattle.ndx_index.specs.TableOrder.{pair_at};
@@ -16,7 +16,7 @@ use crate::edits::planned::Target;
 use crate::indexes::sort::{sorted, sorted_kept};
 use dbf_fields::Bytes;
 use dbf_image::GrowingTable;
-use key_expr::KeyExpr;
+use key_expr::{Key, KeyExpr};
 use ndx_index::{OrderedIndex, Pair};
 use std::alloc::{AllocError, Global};
 
@@ -154,6 +154,17 @@ impl TableIndex {
     }
 }
 
+/// The key of a record, from 1, by an expression that was read for the table's fields. It takes no memory.
+pub(crate) fn key_at(expr: &KeyExpr, records: &GrowingTable, number: u32) -> Key
+    requires one { 1 ≤ number }
+    requires inside { number ≤ length records.now.table.rows }
+    requires fields { expr.now.fields ≡ records.now.table.schema }
+    ensures value { result ≡ key (row_at records.now.table number).cells expr.now.expr }
+    ensures long { length result ≡ key_length expr.now.fields expr.now.expr }
+{
+    expr.key_of(records.record(number))
+}
+
 /// The pair of a record, from 1, by an expression that was read for the table's fields. It takes no memory.
 pub(crate) fn pair_of(expr: &KeyExpr, records: &GrowingTable, number: u32) -> Pair
     requires one { 1 ≤ number }
@@ -162,6 +173,6 @@ pub(crate) fn pair_of(expr: &KeyExpr, records: &GrowingTable, number: u32) -> Pa
     ensures value { result ≡ pair_at records.now.table number expr.now.expr }
     ensures long { length result.key ≡ key_length expr.now.fields expr.now.expr }
 {
-    let key = expr.key_of(records.record(number));
+    let key = key_at(expr, records, number);
     Pair { key, number }
 }

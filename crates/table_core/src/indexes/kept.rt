@@ -7,7 +7,7 @@ ghost use Rattle.ndx_index.specs.Index.{HaveLength};
 ghost use Rattle.ndx_index.specs.TableOrder.{order, pairs_of, IsRecordPair};
 ghost use Rattle.table_core.specs.Indexes.{Follows, indexed};
 
-use crate::indexes::{TableIndex, pair_of};
+use crate::indexes::{TableIndex, key_at};
 use dbf_fields::Bytes;
 use dbf_image::GrowingTable;
 use key_expr::KeyExpr;
@@ -100,5 +100,5 @@ fn is_record_pair(records: &GrowingTable, expr: &KeyExpr, pair: &Pair) -> bool
     if pair.number > records.record_count() {
         return false;
     }
-    pair_of(expr, records, pair.number).key == pair.key
+    key_at(expr, records, pair.number) == pair.key
 }

@@ -9,8 +9,8 @@ returns-clause-value c =
     let t = c.args.records.now.table in
     let e = c.args.expr.now in
     let p = c.args.pair.now in
-    let k = c.pair_of.result.key in
-    let own : record { key = k; number = p.number } ≡ pair_at t p.number e.expr = ap (λ (q : Pair). record { key = q.key; number = p.number }) c.pair_of.ensures.value in
+    let k = c.key_at.result in
+    let own : record { key = k; number = p.number } ≡ pair_at t p.number e.expr = ap (λ (b : List ℕ). record { key = b; number = p.number }) c.key_at.ensures.value in
     let test = bytes_eq-Decides k p.key in (
       λ h. record {
         some = omega (arith, c.if-pair-lt1.false);

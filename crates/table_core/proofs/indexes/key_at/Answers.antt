@@ -5,7 +5,7 @@ use Rattle.dbf_image.specs.Store.{cells_with}
 use Rattle.dbf_image.specs.Table.{Row}
 use Rattle.key_expr.specs.Keys.{key, AgreeButMemos}
 use Rattle.ndx_index.specs.Laws.RecordKeys.{cells_agree}
-use Rattle.table_core.proofs.indexes.pair_of.Goals as goal
+use Rattle.table_core.proofs.indexes.key_at.Goals as goal
 
 pub returns-clause-value : goal.returns-clause-value
 returns-clause-value c =
@@ -14,4 +14,4 @@ returns-clause-value c =
     let bytes : List ℕ = drop 1 c.record.result.now in
     let cells : List (List ℕ) = cells_with fields bytes own.memos in
     let agree : AgreeButMemos c.args.expr.now.fields (cells_of c.args.expr.now.fields bytes) cells = subst (λ (fs : List Field). AgreeButMemos fs (cells_of fs bytes) cells) (sym c.requires.fields) (cells_agree fields bytes own.memos) in
-    ap (λ (k : List ℕ). record { key = k; number = c.args.number }) (c.key_of-key.ensures.row cells agree ∙ ap (λ (r : Row). key r.cells c.args.expr.now.expr) (sym own.is))
+    c.key_of.ensures.row cells agree ∙ ap (λ (r : Row). key r.cells c.args.expr.now.expr) (sym own.is)
