@@ -1,8 +1,9 @@
 //! The catalogue: the tables as they were opened, the journal of the commands since, and their state.
 
-ghost use Rattle.std.specs.Prelude.{◌≡◌, ◌≢◌, ◌↔◌, ℕ, ◌-◌, ◌≤◌, [], length, map, slice_get, Some, Ok, Err, IfOk, IfErr, OnErr, IsErrOf};
+ghost use Rattle.std.specs.Prelude.{◌≡◌, ◌≢◌, ◌↔◌, ℕ, ◌-◌, ◌<◌, ◌≤◌, [], ◌∷◌, ◌++◌, length, map, slice_get, vec_len, vec_capacity, Some, Ok, Err, IfOk, IfErr, OnErr, IsErrOf};
 ghost use Rattle.shared_catalogue.specs.declared.catalogue.TheConstants.{MAX_ENTRIES};
 ghost use Rattle.shared_catalogue.specs.declared.opening.TheConstants.{MAX_TABLES};
+ghost use Rattle.shared_catalogue.specs.Replay.{entry};
 
 use crate::answer::Answer;
 use crate::command::Command;
@@ -152,11 +153,7 @@ impl Catalogue {
         let command_copy = command.copy(alloc)?;
         self.journal.reserve(1)?;
         self.state.apply(station, plan.change);
-        self.journal.push_reserved(Entry {
-            station,
-            command: command_copy,
-            answer: plan.answer,
-        });
+        write_entry(&mut self.journal, station, command_copy, plan.answer);
         Ok((self.journal.len() as u64, answer))
     }
 
@@ -241,4 +238,16 @@ impl Catalogue {
     {
         &self.journal
     }
+}
+
+// Puts an entry after the others of a journal, which has room for it.
+fn write_entry(journal: &mut Vec<Entry>, station: u32, command: Command, answer: Answer)
+    requires room { vec_len journal.old < vec_capacity journal.old }
+    ensures entries { journal.new.items ≡ journal.old.items ++ entry station command answer ∷ [] }
+{
+    journal.push_reserved(Entry {
+        station,
+        command,
+        answer,
+    });
 }
