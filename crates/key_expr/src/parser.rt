@@ -128,6 +128,33 @@ fn take_argument(tokens: &[Token]) -> Result<(u16, &[Token]), ExprFault>
     Ok((n, tail))
 }
 
+/// The field alone in parentheses, and what is after them.
+#[tactic(auto, using(crate::proofs::ExpectedSteps::begin_then))]
+fn take_only_field(tokens: &[Token]) -> Result<(usize, &[Token]), ExprFault>
+    ensures found { IfOk result (λ taken. Begin (Open ∷ Name taken.0 ∷ Close ∷ []) tokens.now taken.1.now) }
+    ensures shorter { IfOk result (λ taken. length taken.1.now < length tokens.now) }
+    ensures passed { IfOk result (λ taken. (s : List Expected) → first_unexpected (open_ ∷ name ∷ close ∷ s) tokens.now ≡ first_unexpected s taken.1.now) }
+    ensures refused { IfErr result (λ fault. (s : List Expected) → IsFirstUnexpected fault (open_ ∷ name ∷ close ∷ s) tokens.now) }
+{
+    let (index, tail) = take_field(tokens)?;
+    let after = skip_close(tail)?;
+    Ok((index, after))
+}
+
+/// The end of a SUBSTR: where it begins, how many bytes it has, and what is after its parenthesis.
+#[tactic(auto, using(crate::proofs::ExpectedSteps::begin_then))]
+fn take_window(tokens: &[Token]) -> Result<(u16, u16, &[Token]), ExprFault>
+    ensures found { IfOk result (λ taken. Begin (Comma ∷ Number taken.0 ∷ Comma ∷ Number taken.1 ∷ Close ∷ []) tokens.now taken.2.now) }
+    ensures shorter { IfOk result (λ taken. length taken.2.now < length tokens.now) }
+    ensures passed { IfOk result (λ taken. (s : List Expected) → first_unexpected (comma ∷ number ∷ comma ∷ number ∷ close ∷ s) tokens.now ≡ first_unexpected s taken.2.now) }
+    ensures refused { IfErr result (λ fault. (s : List Expected) → IsFirstUnexpected fault (comma ∷ number ∷ comma ∷ number ∷ close ∷ s) tokens.now) }
+{
+    let (from, rest) = take_argument(tokens)?;
+    let (count, tail) = take_argument(rest)?;
+    let after = skip_close(tail)?;
+    Ok((from, count, after))
+}
+
 /// The end of a STR: its length, its decimals, and what is after its parenthesis.
 fn take_lengths(tokens: &[Token]) -> Result<(Option<u16>, Option<u16>, &[Token]), ExprFault>
     ensures found { IfOk result (λ taken. EndsWith taken.0 taken.1 tokens.now taken.2.now) }
@@ -165,6 +192,18 @@ fn take_decimals(tokens: &[Token]) -> Result<(Option<u16>, &[Token]), ExprFault>
     }
 }
 
+/// What is in the parentheses of a STR: its field, its length, its decimals, and what is after them.
+fn take_shape(tokens: &[Token]) -> Result<(usize, Option<u16>, Option<u16>, &[Token]), ExprFault>
+    ensures found { IfOk result (λ taken. (us : List Token) × Begin (Open ∷ Name taken.0 ∷ []) tokens.now us × EndsWith taken.1 taken.2 us taken.3.now) }
+    ensures shorter { IfOk result (λ taken. length taken.3.now < length tokens.now) }
+    ensures passed { IfOk result (λ taken. (s : List Expected) → first_unexpected (open_ ∷ name ∷ lengths ∷ s) tokens.now ≡ first_unexpected s taken.3.now) }
+    ensures refused { IfErr result (λ fault. (s : List Expected) → IsFirstUnexpected fault (open_ ∷ name ∷ lengths ∷ s) tokens.now) }
+{
+    let (index, tail) = take_field(tokens)?;
+    let (length, decimals, after) = take_lengths(tail)?;
+    Ok((index, length, decimals, after))
+}
+
 /// A term, and what is after it.
 #[cycle(reader)]
 #[tactic(auto, using(crate::proofs::ExpectedSteps::begin_then, crate::proofs::ExpectedSteps::begin_first, crate::specs::Grammar::field_term, crate::specs::Grammar::dtoc_term))]
@@ -196,19 +235,15 @@ fn read_term<'a>(
         Kind::Substr => {
             let inside = skip_open(rest)?;
             let (tree, tail) = read_expr(alloc, fields, inside)?;
-            let (from, next) = take_argument(tail)?;
-            let (count, last) = take_argument(next)?;
-            let after = skip_close(last)?;
+            let (from, count, after) = take_window(tail)?;
             Ok((Tree::Substr(Box::new(alloc, tree)?, from, count), after))
         }
         Kind::Dtoc => {
-            let (index, tail) = take_field(rest)?;
-            let after = skip_close(tail)?;
+            let (index, after) = take_only_field(rest)?;
             Ok((Tree::Dtoc(index), after))
         }
         Kind::Str => {
-            let (index, tail) = take_field(rest)?;
-            let (length, decimals, after) = take_lengths(tail)?;
+            let (index, length, decimals, after) = take_shape(rest)?;
             Ok((Tree::Str(index, length, decimals), after))
         }
         _ => Err(unexpected(token)),

@@ -16,9 +16,9 @@ read_term-returns-in_ok-new-in-Upper-clause-found t c =
 pub read_term-returns-in_ok-new-in-Substr-clause-found : goal.read_term-returns-in_ok-new-in-Substr-clause-found
 read_term-returns-in_ok-new-in-Substr-clause-found t c =
     rw c.in_ok-new-in-Substr.ensures.ok (substr_term (begin_then (Substr ∷ []) (Open ∷ []) _ _ _ (begin_first Substr _ _ _ c.in_ok-token.ensures.found c.in-Substr.is) c.in_ok-inside-in-Substr.ensures.found)
-    c.in_ok-tree-in-Substr.ensures.found (begin_then (Comma ∷ Number _ ∷ []) (Comma ∷ Number _ ∷ Close ∷ []) _ _ _ c.in_ok-from-in-Substr.ensures.found
-    (begin_then (Comma ∷ Number _ ∷ []) (Close ∷ []) _ _ _ c.in_ok-count-in-Substr.ensures.found c.in_ok-after-in-Substr.ensures.found)))
+    c.in_ok-tree-in-Substr.ensures.found c.in_ok-from-in-Substr.ensures.found)
 
-pub read_term-returns-in_ok-length-in-Str-clause-found : goal.read_term-returns-in_ok-length-in-Str-clause-found
-read_term-returns-in_ok-length-in-Str-clause-found t c =
-    str_term _ (begin_then (Str ∷ []) (Open ∷ Name _ ∷ []) _ _ _ (begin_first Str _ _ _ c.in_ok-token.ensures.found c.in-Str.is) c.in_ok-index-in-Str.ensures.found) c.in_ok-length-in-Str.ensures.found
+pub read_term-returns-in_ok-index-in-Str-clause-found : goal.read_term-returns-in_ok-index-in-Str-clause-found
+read_term-returns-in_ok-index-in-Str-clause-found t c =
+    let shape = c.in_ok-index-in-Str.ensures.found in
+    str_term shape.0 (begin_then (Str ∷ []) (Open ∷ Name _ ∷ []) _ _ _ (begin_first Str _ _ _ c.in_ok-token.ensures.found c.in-Str.is) shape.1) shape.2
