@@ -1,6 +1,6 @@
 //! Reading a table from the bytes of a DBF file.
 
-ghost use Rattle.std.specs.Prelude.{◌≡◌, ◌+◌, ◌-◌, ◌*◌, ◌/◌, ◌<◌, ◌≤◌, ◌==◌, ◌||◌, ◌⊎◌, true, false, length, map, take, drop, slice_index, Some, None, is_none, IfSome, IfOk, IfErr, OnOk, MatchResult};
+ghost use Rattle.std.specs.Prelude.{◌≡◌, ◌+◌, ◌-◌, ◌*◌, ◌/◌, ◌<◌, ◌≤◌, ◌==◌, ◌||◌, ◌⊎◌, true, false, nat_le, length, map, take, drop, slice_index, Some, None, is_none, IfSome, IfOk, IfErr, OnOk, MatchResult};
 ghost use Rattle.std.specs.List.{position};
 ghost use Rattle.std.specs.Option.{option_copied};
 ghost use Rattle.dbf_fields.specs.Faults.{first_fault};
@@ -157,11 +157,18 @@ fn check_records(dbf: &[u8], header: Header, record_length: usize) -> Result<(),
     if header.record_count > MAX_RECORDS {
         return Err(ImageFault::TooManyRecords);
     }
-    let size = u64::from(header.record_count) * u64::from(header.record_length);
-    if u64::from(header.header_length) + size > dbf.len() as u64 {
+    if !has_records(dbf, header) {
         return Err(ImageFault::Truncated);
     }
     Ok(())
+}
+
+// Whether the file goes on to the end of its last record; the mark after it may be missing.
+fn has_records(dbf: &[u8], header: Header) -> bool
+    ensures value { result ≡ nat_le (header.header_length + header.record_count * header.record_length) (length dbf.now) }
+{
+    let size = u64::from(header.record_count) * u64::from(header.record_length);
+    u64::from(header.header_length) + size <= dbf.len() as u64
 }
 
 // The bytes of all records.
