@@ -32,6 +32,5 @@ pub mod MemoMarking
 pub mod MemoCounting
 pub mod MemoSweeping
 pub mod MemoDropping
-pub mod MemoCallers
 pub mod MemoNumbers
 pub mod MemoReading

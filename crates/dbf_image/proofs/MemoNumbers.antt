@@ -8,7 +8,7 @@ use Rattle.dbf_image.specs.MemoNumbers.{KeepsMemos}
 use Rattle.dbf_image.specs.MemoStore.{Texts, get_text}
 use Rattle.dbf_image.specs.Store.{text_of, texts_of, IsMemo}
 use Rattle.dbf_image.specs.Table.{is_memo_text}
-use Rattle.dbf_image.proofs.MemoCallers.{other_put, each_drop, first_listed}
+use Rattle.dbf_image.specs.Laws.MemoCallers.{other_put, each_drop, first_listed}
 
 -- no memo
 pub none_fits : (texts : Texts) → IsMemo texts 0

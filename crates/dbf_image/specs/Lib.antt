@@ -18,4 +18,5 @@ pub mod MemoChains
 pub mod MemoSteps
 pub mod MemoStore
 pub mod MemoNumbers
+pub mod Laws
 pub mod Packing

@@ -38,6 +38,3 @@ pub use sink::writer::SinkWriter;
 pub use sink::{ByteSink, SinkFault, write_all};
 pub use table::growing::GrowingTable;
 pub use table::{TableData, is_memo_text};
-
-#[cfg(test)]
-mod tests;

@@ -10,8 +10,6 @@ ghost use Rattle.dbf_image.specs.declared.format.TheConstants.{BLOCK};
 mod block;
 mod chain;
 mod marks;
-#[cfg(test)]
-mod tests;
 
 use crate::memo_store::block::{FreeList, MemoBlock, blocks_for, copied_blocks, push_free};
 use crate::memo_store::chain::{fill, gather, put_pieces, text_length};

@@ -1,7 +1,7 @@
 //! Tests of the whole crate, and what they share.
 
-use super::*;
 use dbf_fields::{Bytes, Field, MEMO, Schema, day_of};
+use dbf_image::*;
 use std::alloc::Global;
 use std::process::Abort;
 use std::test::*;
@@ -9,6 +9,7 @@ use std::test::*;
 mod blocks;
 mod faults;
 mod growing;
+mod memo_store;
 mod memos;
 mod read;
 mod sink;

@@ -20,8 +20,6 @@ mod named;
 mod plan;
 mod planned;
 mod source;
-#[cfg(test)]
-mod tests;
 
 pub use close::close_files;
 pub use close_fault::CloseFault;

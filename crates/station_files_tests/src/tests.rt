@@ -1,8 +1,8 @@
-use crate::{
-    DiskFolder, DiskSource, Folder, LoadFault, MemoryFolder, MemorySource, NamedFile, Source,
-};
 use dbf_fields::Bytes;
 use dbf_image::{ByteSink, Failures, SinkFault, write_all};
+use station_files::{
+    DiskFolder, DiskSource, Folder, LoadFault, MemoryFolder, MemorySource, NamedFile, Source,
+};
 use std::alloc::{AllocError, Global};
 use std::fs;
 use std::test::Fail;

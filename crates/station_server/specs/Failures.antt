@@ -3,10 +3,10 @@ use Rattle.std.specs.Prelude.{ℕ, List, ◌++◌, ◌∷◌, [], codes}
 use Rattle.std.specs.Fmt.{decimal}
 use Rattle.station_files.specs.declared.close_fault.CloseFault.{CloseFault}
 use Rattle.station_files.specs.declared.close_fault.CloseFault.TheVariants as close
-use Rattle.station_server.specs.declared.whole_run.fault.FileFault.{FileFault}
-use Rattle.station_server.specs.declared.whole_run.fault.FileFault.TheVariants as file
-use Rattle.station_server.specs.declared.whole_run.fault.ServeFault.{ServeFault}
-use Rattle.station_server.specs.declared.whole_run.fault.ServeFault.TheVariants as serve
+use Rattle.whole_run.specs.declared.fault.FileFault.{FileFault}
+use Rattle.whole_run.specs.declared.fault.FileFault.TheVariants as file
+use Rattle.whole_run.specs.declared.fault.ServeFault.{ServeFault}
+use Rattle.whole_run.specs.declared.fault.ServeFault.TheVariants as serve
 use Rattle.station_server.specs.declared.program.failure.Failure.{Failure}
 use Rattle.station_server.specs.declared.program.failure.Failure.TheVariants as failure
 use Rattle.station_server.specs.FaultNames.{close_name, image_name, ndx_name, open_name, run_name}

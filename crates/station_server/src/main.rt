@@ -2,18 +2,16 @@
 //!
 //! The program reads a setup and the files that it names, runs a script for each station, and writes the tables
 //! as they were left and the stations' answers. This file has `main`: it reads the command line, has the run
-//! served, and says how it ended. Start reading at `specs/WholeRun.antt` and `whole_run.rt`, where `serve` makes the
-//! whole run. What the program says of a failure is in `program.rt`. Setups, files and the run of all stations are
-//! crates of their own.
+//! served, and says how it ended. What the program says of a failure is in `program.rt`. The whole run, which
+//! [`serve`] makes, is the crate `whole_run`: start reading at its `specs/WholeRun.antt`. Setups, files and the run
+//! of all stations are crates of their own, too.
 #![tactic(auto)]
 
 mod program;
-mod whole_run;
 
 use crate::program::{
     Ending, Failure, Options, command, mistake_status, options_of, print_failure, status_of,
 };
-use crate::whole_run::{ServeFault, serve};
 use clap::error::ErrorKind;
 use dbf_fields::Bytes;
 use station_files::{DiskFolder, DiskSource};
@@ -23,6 +21,7 @@ use std::rt::{Env, Runtime};
 use std::sync::Wait;
 use std::thread::Threads;
 use std::{env, io};
+use whole_run::{ServeFault, serve};
 
 /// Runs the program. The exit statuses are those of [`status_of`] and [`mistake_status`], 1 for an argument that
 /// is no UTF-8 text, and 0 where all files are written. An error where standard output takes no text, or where

@@ -11,7 +11,7 @@ use Rattle.table_core.specs.Content.{Content, Held, Indexed, pairs_by, key_lengt
 use Rattle.shared_catalogue.specs.Replay.{History, state_of}
 use Rattle.shared_catalogue.specs.State.{no_content}
 use Rattle.station_files.specs.ClosedIndex.{index_with}
-use Rattle.station_server.specs.HandedOver.{end_of, index_of}
+use Rattle.whole_run.specs.HandedOver.{end_of, index_of}
 
 -- there are not more pairs than records
 pub few_pairs : (content : Content) (at : Option Indexed) → length (pairs_by content at) ≤ length content.table.rows

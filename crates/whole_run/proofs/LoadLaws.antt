@@ -5,10 +5,10 @@ use Rattle.std.proofs.lemmas.List.{take_more}
 use Rattle.station_files.specs.declared.named.NamedFile.{NamedFile}
 use Rattle.station_lines.specs.declared.setup.entry.SetupEntry.{SetupEntry}
 use Rattle.station_lines.specs.declared.setup.entry.SetupEntry.TheVariants.{Table}
-use Rattle.station_server.specs.declared.whole_run.fault.FileFault.TheVariants.{CannotRead}
-use Rattle.station_server.specs.declared.whole_run.fault.ServeFault.{ServeFault}
-use Rattle.station_server.specs.declared.whole_run.fault.ServeFault.TheVariants.{File, NoMemory}
-use Rattle.station_server.specs.Loading.{Read, nothing, Loads, LoadAll, IsPathIn, IsEntryFault}
+use Rattle.whole_run.specs.declared.fault.FileFault.TheVariants.{CannotRead}
+use Rattle.whole_run.specs.declared.fault.ServeFault.{ServeFault}
+use Rattle.whole_run.specs.declared.fault.ServeFault.TheVariants.{File, NoMemory}
+use Rattle.whole_run.specs.Loading.{Read, nothing, Loads, LoadAll, IsPathIn, IsEntryFault}
 
 load_all_last : (files : Option (List NamedFile)) (entries : List SetupEntry) (entry : SetupEntry) (a b c : Read)
     → LoadAll files entries a b → Loads files entry b c → LoadAll files (entries ++ entry ∷ []) a c

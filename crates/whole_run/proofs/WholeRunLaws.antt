@@ -3,11 +3,11 @@ use Rattle.std.proofs.Common.{ℕ, Bool, List, Option, length, refl}
 use Rattle.shared_catalogue.specs.Replay.{History, IsLegal}
 use Rattle.station_files.specs.declared.closed.ClosedTable.{ClosedTable}
 use Rattle.station_files.specs.declared.named.NamedFile.{NamedFile}
-use Rattle.station_server.specs.declared.whole_run.fault.ServeFault.{ServeFault}
-use Rattle.station_server.specs.declared.whole_run.fault.ServeFault.TheVariants.{Setup, File, Refused, Run, Close, NoMemory}
-use Rattle.station_server.specs.HandedOver.{AreHandedOver}
-use Rattle.station_server.specs.Loading.{Read}
-use Rattle.station_server.specs.WholeRun.{IsAllRead, IsRun, IsWriteFault, IsWholeRun, IsServeFault}
+use Rattle.whole_run.specs.declared.fault.ServeFault.{ServeFault}
+use Rattle.whole_run.specs.declared.fault.ServeFault.TheVariants.{Setup, File, Refused, Run, Close, NoMemory}
+use Rattle.whole_run.specs.HandedOver.{AreHandedOver}
+use Rattle.whole_run.specs.Loading.{Read}
+use Rattle.whole_run.specs.WholeRun.{IsAllRead, IsRun, IsWriteFault, IsWholeRun, IsServeFault}
 
 pub of_writing : (files : Option (List NamedFile)) (setup : List ℕ) (reindex : Bool) (year : ℕ) (fault : ServeFault) (tables : List ClosedTable) (answers : List (List ℕ)) (count : ℕ)
     → IsWholeRun files setup reindex tables answers count → IsWriteFault year tables fault → IsServeFault files setup reindex year fault

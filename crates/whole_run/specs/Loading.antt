@@ -12,11 +12,11 @@ use Rattle.shared_catalogue.specs.declared.source.TableSource.{TableSource}
 use Rattle.station_files.specs.declared.named.NamedFile.{NamedFile}
 use Rattle.station_lines.specs.declared.setup.entry.SetupEntry.{SetupEntry}
 use Rattle.station_lines.specs.declared.setup.entry.SetupEntry.TheVariants.{Table, Index, Station}
-use Rattle.station_server.specs.declared.whole_run.fault.FileFault.{FileFault}
-use Rattle.station_server.specs.declared.whole_run.fault.FileFault.TheVariants.{CannotRead, Image, Ndx}
-use Rattle.station_server.specs.declared.whole_run.fault.ServeFault.{ServeFault}
-use Rattle.station_server.specs.declared.whole_run.fault.ServeFault.TheVariants.{File, NoMemory}
-use Rattle.station_server.specs.declared.whole_run.loaded.Loaded.{Loaded}
+use Rattle.whole_run.specs.declared.fault.FileFault.{FileFault}
+use Rattle.whole_run.specs.declared.fault.FileFault.TheVariants.{CannotRead, Image, Ndx}
+use Rattle.whole_run.specs.declared.fault.ServeFault.{ServeFault}
+use Rattle.whole_run.specs.declared.fault.ServeFault.TheVariants.{File, NoMemory}
+use Rattle.whole_run.specs.declared.loaded.Loaded.{Loaded}
 use Rattle.station_files.specs.Files.{IsFileOf, IsTooLong}
 
 -- ---- what is read

@@ -9,14 +9,14 @@ use Rattle.station_files.specs.declared.closed.ClosedTable.{ClosedTable}
 use Rattle.station_files.specs.declared.named.NamedFile.{NamedFile}
 use Rattle.station_run.specs.declared.fault.RunFault.TheVariants.{ScriptCount}
 use Rattle.station_lines.specs.declared.setup.entry.SetupEntry.{SetupEntry}
-use Rattle.station_server.specs.declared.whole_run.fault.FileFault.{FileFault}
-use Rattle.station_server.specs.declared.whole_run.fault.FileFault.TheVariants.{CannotRead}
-use Rattle.station_server.specs.declared.whole_run.fault.ServeFault.{ServeFault}
-use Rattle.station_server.specs.declared.whole_run.fault.ServeFault.TheVariants.{Setup, File, Refused, Run, Close, NoMemory}
+use Rattle.whole_run.specs.declared.fault.FileFault.{FileFault}
+use Rattle.whole_run.specs.declared.fault.FileFault.TheVariants.{CannotRead}
+use Rattle.whole_run.specs.declared.fault.ServeFault.{ServeFault}
+use Rattle.whole_run.specs.declared.fault.ServeFault.TheVariants.{Setup, File, Refused, Run, Close, NoMemory}
 use Rattle.station_files.specs.Closing.{first_blocked}
 use Rattle.station_files.specs.Files.{IsFileOf}
-use Rattle.station_server.specs.HandedOver.{AreHandedOver}
-use Rattle.station_server.specs.Loading.{Read, nothing, LoadAll, IsFaultIn}
+use Rattle.whole_run.specs.HandedOver.{AreHandedOver}
+use Rattle.whole_run.specs.Loading.{Read, nothing, LoadAll, IsFaultIn}
 use Rattle.station_run.specs.Reports.{AreReports}
 use Rattle.station_lines.specs.Setup.{IsSetup}
 

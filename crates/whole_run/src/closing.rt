@@ -4,7 +4,7 @@ ghost use Rattle.std.specs.Prelude.{◌≡◌, ◌+◌, ◌<◌, ◌≤◌, leng
 ghost use Rattle.std.specs.Option.{option_map};
 ghost use Rattle.table_core.specs.Content.{index_at};
 ghost use Rattle.shared_catalogue.specs.Replay.{names_of};
-ghost use Rattle.station_server.specs.HandedOver.{index_of, AreHandedOver};
+ghost use Rattle.whole_run.specs.HandedOver.{index_of, AreHandedOver};
 
 use dbf_fields::Bytes;
 use shared_catalogue::Closed;

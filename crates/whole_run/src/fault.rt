@@ -38,7 +38,7 @@ pub enum ServeFault {
 
 impl From<AllocError> for ServeFault {
     ghost use Rattle.std.specs.Prelude.{◌≡◌};
-    ghost use Rattle.station_server.specs.declared.whole_run.fault.ServeFault.TheVariants.{NoMemory};
+    ghost use Rattle.whole_run.specs.declared.fault.ServeFault.TheVariants.{NoMemory};
 
     ghost from_gives = { λ _ fault. fault ≡ NoMemory };
 
@@ -49,7 +49,7 @@ impl From<AllocError> for ServeFault {
 
 impl<T: Drop> From<AllocFailed<T>> for ServeFault {
     ghost use Rattle.std.specs.Prelude.{◌≡◌};
-    ghost use Rattle.station_server.specs.declared.whole_run.fault.ServeFault.TheVariants.{NoMemory};
+    ghost use Rattle.whole_run.specs.declared.fault.ServeFault.TheVariants.{NoMemory};
 
     ghost from_gives = { λ _ fault. fault ≡ NoMemory };
 

@@ -7,10 +7,10 @@ ghost use Rattle.dbf_image.specs.Reading.{IsRefusal};
 ghost use Rattle.ndx_index.specs.Header.{IsIndex, Breaks};
 ghost use Rattle.station_lines.specs.declared.setup.entry.SetupEntry.TheVariants.{Table, Index};
 ghost use Rattle.station_files.specs.Files.{IsFileOf};
-ghost use Rattle.station_server.specs.Loading.{nothing, read_of, IsMemoFileOf, IsTableRead, IsIndexRead, HasIndex, Loads, LoadAll, IsEntryFault, IsFailure, IsFaultIn};
+ghost use Rattle.whole_run.specs.Loading.{nothing, read_of, IsMemoFileOf, IsTableRead, IsIndexRead, HasIndex, Loads, LoadAll, IsEntryFault, IsFailure, IsFaultIn};
 
-use crate::whole_run::fault::{FileFault, ServeFault};
-use crate::whole_run::loaded::Loaded;
+use crate::fault::{FileFault, ServeFault};
+use crate::loaded::Loaded;
 use dbf_fields::Bytes;
 use dbf_image::{ImageFault, TableData, read_table};
 use ndx_index::{NdxFault, NdxFile, read_ndx};

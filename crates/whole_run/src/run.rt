@@ -6,21 +6,14 @@ ghost use Rattle.shared_catalogue.specs.Opening.{Opening};
 ghost use Rattle.station_files.specs.declared.closed.ClosedTable.{ClosedTable as Table};
 ghost use Rattle.station_files.specs.Closing.{run_files, IsCutAt};
 ghost use Rattle.station_files.specs.Files.{listing};
-ghost use Rattle.station_server.specs.Loading.{read_of, IsFailure};
-ghost use Rattle.station_server.specs.WholeRun.{stations_for, IsAllRead, IsReadFault, IsRun, IsRunFault, IsWholeRun, IsServeFault, IsSaid, IsWriteFault};
+ghost use Rattle.whole_run.specs.Loading.{read_of, IsFailure};
+ghost use Rattle.whole_run.specs.WholeRun.{stations_for, IsAllRead, IsReadFault, IsRun, IsRunFault, IsWholeRun, IsServeFault, IsSaid, IsWriteFault};
 
-mod closing;
-mod fault;
-mod load;
-mod loaded;
-#[cfg(test)]
-mod tests;
-
-use crate::whole_run::closing::closed_tables;
-use crate::whole_run::load::{load_entries, load_file};
-use crate::whole_run::loaded::Loaded;
+use crate::closing::closed_tables;
+use crate::fault::ServeFault;
+use crate::load::{load_entries, load_file};
+use crate::loaded::Loaded;
 use dbf_fields::{Bytes, Day};
-pub use fault::{FileFault, ServeFault};
 use shared_catalogue::{Catalogue, OpenFault, TableSource};
 use station_files::{CloseFault, ClosedTable, Folder, Source, close_files};
 use station_lines::{SetupEntry, SetupFault, parse_setup};

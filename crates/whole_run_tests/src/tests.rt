@@ -3,8 +3,7 @@
 mod day;
 mod sample;
 
-use crate::whole_run::tests::sample::{EMPTY, EMPTY_INDEX, TABLE, WITH_CYD};
-use crate::whole_run::{FileFault, ServeFault, serve};
+use crate::tests::sample::{EMPTY, EMPTY_INDEX, TABLE, WITH_CYD};
 use dbf_fields::{Bytes, day_of};
 use dbf_image::{Failures, ImageFault};
 use ndx_index::NdxFault;
@@ -15,6 +14,7 @@ use std::alloc::{AllocError, Global};
 use std::sync::Wait;
 use std::test::Fail;
 use std::thread::Threads;
+use whole_run::{FileFault, ServeFault, serve};
 
 // The path of each setup here.
 const SETUP: &[u8] = b"S.SET";

@@ -1,9 +1,9 @@
 use crate::tests::sample::{EMPTY_INDEX, TABLE};
-use crate::{CloseFault, ClosedIndex, ClosedTable, MemoryFolder, close_files};
 use dbf_fields::{Bytes, CHARACTER, Field, MEMO, Schema, day_of};
 use dbf_image::{TableData, read_table};
 use key_expr::KeyExpr;
 use ndx_index::{MAX_PAIRS, OrderedIndex};
+use station_files::{CloseFault, ClosedIndex, ClosedTable, MemoryFolder, close_files};
 use std::alloc::Global;
 use std::test::Fail;
 

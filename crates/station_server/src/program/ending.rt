@@ -1,9 +1,9 @@
 //! How a call of the program ends that writes no files, or not all.
 
 use crate::program::failure::Failure;
-use crate::whole_run::ServeFault;
 use std::alloc::AllocError;
 use std::io;
+use whole_run::ServeFault;
 
 /// Why a call of the program did not write all files.
 #[derive(Debug, Drop)]

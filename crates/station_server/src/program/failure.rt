@@ -5,11 +5,11 @@ ghost use Rattle.std.specs.Io.KnownBytes.{Appends};
 ghost use Rattle.station_server.specs.Failures.{close_reason, fault_reason, file_reason, line_of, reason, status, unread_file, unwritten};
 
 use crate::program::names::{close_name, image_name, ndx_name, open_name, run_name};
-use crate::whole_run::{FileFault, ServeFault};
 use dbf_fields::Bytes;
 use station_files::CloseFault;
 use std::io;
 use std::io::Write;
+use whole_run::{FileFault, ServeFault};
 
 /// Why a call of the program failed, where `clap` had nothing to object.
 #[derive(Debug, PartialEq, Eq, Drop)]

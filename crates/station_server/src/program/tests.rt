@@ -1,6 +1,5 @@
 use crate::program::options::date_of;
 use crate::program::{Failure, command, mistake_status, options_of, print_failure, status_of};
-use crate::whole_run::{FileFault, ServeFault};
 use dbf_fields::{Bytes, day_of};
 use dbf_image::ImageFault;
 use key_expr::ExprFault;
@@ -10,6 +9,7 @@ use station_files::CloseFault;
 use station_run::RunFault;
 use std::alloc::{AllocError, Global};
 use std::test::Fail;
+use whole_run::{FileFault, ServeFault};
 
 // The first text that is a date.
 fn first_date(texts: &[&[u8]]) -> Option<usize> {

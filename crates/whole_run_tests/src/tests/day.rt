@@ -1,6 +1,6 @@
 //! A day of the demo office, as its station 1 sees it: the vouchers of the ledger that its script meets.
 
-use crate::whole_run::tests::{has_file, named, office, serve_in, two_pages};
+use crate::tests::{has_file, named, office, serve_in, two_pages};
 use station_files::MemoryFolder;
 use std::alloc::{AllocError, Global};
 use std::test::Fail;

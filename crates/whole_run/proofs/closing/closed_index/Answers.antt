@@ -1,7 +1,7 @@
 use Rattle.std.proofs.Common.{length, ap, arith}
 use Rattle.table_core.specs.Content.{index_at}
-use Rattle.station_server.proofs.HandingLaws.{few_pairs}
-use Rattle.station_server.proofs.whole_run.closing.closed_index.Goals as goal
+use Rattle.whole_run.proofs.HandingLaws.{few_pairs}
+use Rattle.whole_run.proofs.closing.closed_index.Goals as goal
 
 pub prove-unreachable-requires : goal.prove-unreachable-requires
 prove-unreachable-requires c =

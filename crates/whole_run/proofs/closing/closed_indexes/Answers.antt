@@ -2,9 +2,9 @@ use Rattle.std.proofs.Common.{◌≡◌, ℕ, suc, ◌+◌, ◌-◌, List, [], �
 use Rattle.std.specs.List.{slice_get}
 use Rattle.std.specs.Option.{option_map}
 use Rattle.station_files.specs.ClosedIndex.{IndexContent}
-use Rattle.station_server.specs.HandedOver.{index_of}
-use Rattle.station_server.proofs.HandingLaws.{mapped_next}
-use Rattle.station_server.proofs.whole_run.closing.closed_indexes.Goals as goal
+use Rattle.whole_run.specs.HandedOver.{index_of}
+use Rattle.whole_run.proofs.HandingLaws.{mapped_next}
+use Rattle.whole_run.proofs.closing.closed_indexes.Goals as goal
 
 pub loop-i-preserved : goal.loop-i-preserved
 loop-i-preserved c =

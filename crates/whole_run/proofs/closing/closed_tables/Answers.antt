@@ -7,10 +7,10 @@ use Rattle.std.proofs.lemmas.Option.{slice_get_read}
 use Rattle.table_core.specs.Content.{Content, Held}
 use Rattle.shared_catalogue.specs.Replay.{names_of, state_of}
 use Rattle.station_files.specs.declared.closed.ClosedTable.{ClosedTable}
-use Rattle.station_server.specs.HandedOver.{index_of, IsHandedOver}
-use Rattle.station_server.proofs.HandingLaws.{taken_count, taken_table}
+use Rattle.whole_run.specs.HandedOver.{index_of, IsHandedOver}
+use Rattle.whole_run.proofs.HandingLaws.{taken_count, taken_table}
 use Rattle.station_run.proofs.RunLaws.{get_front, get_last}
-use Rattle.station_server.proofs.whole_run.closing.closed_tables.Goals as goal
+use Rattle.whole_run.proofs.closing.closed_tables.Goals as goal
 
 pub loop-table-preserved : goal.loop-table-preserved
 loop-table-preserved c =

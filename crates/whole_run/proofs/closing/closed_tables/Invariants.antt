@@ -4,8 +4,8 @@ use Rattle.std.specs.Vec.Iter.{into_iter_items}
 use Rattle.table_core.specs.Content.{Held}
 use Rattle.shared_catalogue.specs.Replay.{state_of}
 use Rattle.station_files.specs.declared.closed.ClosedTable.{ClosedTable}
-use Rattle.station_server.specs.HandedOver.{IsHandedOver}
-use Rattle.station_server.proofs.whole_run.closing.closed_tables.Given as goal
+use Rattle.whole_run.specs.HandedOver.{IsHandedOver}
+use Rattle.whole_run.proofs.closing.closed_tables.Given as goal
 
 abbrev pub invariant-loop-table : goal.invariant-loop-table
 invariant-loop-table l = record {

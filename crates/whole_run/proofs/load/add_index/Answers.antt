@@ -3,8 +3,8 @@ use Rattle.std.specs.Prelude.{ℕ}
 use Rattle.std.specs.List.{slice_set}
 use Rattle.std.proofs.lemmas.Option.{slice_get-get_or}
 use Rattle.shared_catalogue.specs.declared.source.TableSource.{TableSource}
-use Rattle.station_server.specs.Loading.{HasIndexAt}
-use Rattle.station_server.proofs.whole_run.load.add_index.Goals as goal
+use Rattle.whole_run.specs.Loading.{HasIndexAt}
+use Rattle.whole_run.proofs.load.add_index.Goals as goal
 
 pub returns-in_ok-push-in-Some : goal.returns-in_ok-push-in-Some
 returns-in_ok-push-in-Some c =

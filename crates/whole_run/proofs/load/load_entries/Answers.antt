@@ -1,8 +1,8 @@
 use Rattle.std.proofs.Common.{Some, ap, sym, ◌∙◌}
 use Rattle.std.proofs.lemmas.Option.{slice_get-get_or}
 use Rattle.station_lines.specs.declared.setup.entry.SetupEntry.{SetupEntry}
-use Rattle.station_server.proofs.LoadLaws.{err_exit, loaded_more}
-use Rattle.station_server.proofs.whole_run.load.load_entries.Goals as goal
+use Rattle.whole_run.proofs.LoadLaws.{err_exit, loaded_more}
+use Rattle.whole_run.proofs.load.load_entries.Goals as goal
 
 pub returns-in_err-load_entry-clause-fault : goal.returns-in_err-load_entry-clause-fault
 returns-in_err-load_entry-clause-fault g c =

@@ -1,6 +1,6 @@
 use Rattle.std.proofs.Common.{◌≡◌, take}
-use Rattle.station_server.specs.Loading.{nothing, read_of, LoadAll}
-use Rattle.station_server.proofs.whole_run.load.load_entries.Given as goal
+use Rattle.whole_run.specs.Loading.{nothing, read_of, LoadAll}
+use Rattle.whole_run.proofs.load.load_entries.Given as goal
 
 abbrev pub invariant-loop-entry : goal.invariant-loop-entry
 invariant-loop-entry g l =

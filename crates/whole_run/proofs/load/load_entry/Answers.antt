@@ -1,8 +1,8 @@
 use Rattle.std.proofs.Common.{ap, refl, subst, sym}
 use Rattle.station_lines.specs.declared.setup.entry.SetupEntry.{SetupEntry}
-use Rattle.station_server.specs.Loading.{read_as, IsEntryFault}
-use Rattle.station_server.proofs.LoadLaws.{err_exit}
-use Rattle.station_server.proofs.whole_run.load.load_entry.Goals as goal
+use Rattle.whole_run.specs.Loading.{read_as, IsEntryFault}
+use Rattle.whole_run.proofs.LoadLaws.{err_exit}
+use Rattle.whole_run.proofs.load.load_entry.Goals as goal
 
 pub returns-in_err-index-in-Index-clause-fault : goal.returns-in_err-index-in-Index-clause-fault
 returns-in_err-index-in-Index-clause-fault g c =

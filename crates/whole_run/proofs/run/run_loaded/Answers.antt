@@ -2,7 +2,7 @@ use Rattle.std.proofs.Common.{◌≡◌, ℕ, length, Ok, ap, sym, subst, ◌∙
 use Rattle.shared_catalogue.specs.Opening.{Opening}
 use Rattle.shared_catalogue.specs.Replay.{Opened}
 use Rattle.station_run.specs.Reports.{AreReports}
-use Rattle.station_server.proofs.whole_run.run_loaded.Goals as goal
+use Rattle.whole_run.proofs.run.run_loaded.Goals as goal
 
 pub returns-in-Ok-clause-ran : goal.returns-in-Ok-clause-ran
 returns-in-Ok-clause-ran g c =

@@ -1,10 +1,10 @@
 use Rattle.std.proofs.Common.{◌≡◌, Err, ap, length, sym, subst}
 use Rattle.std.specs.Prelude.{IsErrAnd}
 use Rattle.station_files.specs.declared.close_fault.CloseFault.TheVariants.{Write}
-use Rattle.station_server.specs.declared.whole_run.fault.ServeFault.TheVariants.{Close}
-use Rattle.station_server.proofs.LoadLaws.{err_exit}
-use Rattle.station_server.proofs.WholeRunLaws.{of_writing, whole_run}
-use Rattle.station_server.proofs.whole_run.serve.Goals as goal
+use Rattle.whole_run.specs.declared.fault.ServeFault.TheVariants.{Close}
+use Rattle.whole_run.proofs.LoadLaws.{err_exit}
+use Rattle.whole_run.proofs.WholeRunLaws.{of_writing, whole_run}
+use Rattle.whole_run.proofs.run.serve.Goals as goal
 
 pub returns-in_err-write_files-clause-fault : goal.returns-in_err-write_files-clause-fault
 returns-in_err-write_files-clause-fault g c =

@@ -1,4 +1,4 @@
-use Rattle.dbf_image.proofs.MemoCallers.{after_put}
+use Rattle.dbf_image.specs.Laws.MemoCallers.{after_put}
 use Rattle.dbf_image.proofs.MemoNumbers.{text_got, memo_got, put_keeps}
 use Rattle.dbf_image.proofs.table.memo.put_memo.Goals as goal
 

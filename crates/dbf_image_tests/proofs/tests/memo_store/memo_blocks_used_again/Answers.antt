@@ -1,6 +1,6 @@
 use Rattle.std.proofs.Common.{[], ◌∷◌}
-use Rattle.dbf_image.proofs.MemoCallers.{after_put, beside_put, after_drop, first_listed, is_held}
-use Rattle.dbf_image.proofs.memo_store.tests.memo_blocks_used_again.Goals as goal
+use Rattle.dbf_image.specs.Laws.MemoCallers.{after_put, beside_put, after_drop, first_listed, is_held}
+use Rattle.dbf_image_tests.proofs.tests.memo_store.memo_blocks_used_again.Goals as goal
 
 pub text-requires : goal.text-requires
 text-requires g c =

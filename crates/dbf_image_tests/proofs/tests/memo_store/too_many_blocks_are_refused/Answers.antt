@@ -1,7 +1,7 @@
 use Rattle.std.proofs.Common.{ap, ◌∙◌}
 use Rattle.std.specs.FinMap as map
-use Rattle.dbf_image.proofs.MemoCallers.{after_put, is_held}
-use Rattle.dbf_image.proofs.memo_store.tests.too_many_blocks_are_refused.Goals as goal
+use Rattle.dbf_image.specs.Laws.MemoCallers.{after_put, is_held}
+use Rattle.dbf_image_tests.proofs.tests.memo_store.too_many_blocks_are_refused.Goals as goal
 
 pub text-requires : goal.text-requires
 text-requires g c =

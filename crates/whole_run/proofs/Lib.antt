@@ -1,0 +1,3 @@
+pub mod LoadLaws
+pub mod HandingLaws
+pub mod WholeRunLaws

@@ -1,0 +1,3 @@
+pub mod HandedOver
+pub mod Loading
+pub mod WholeRun
