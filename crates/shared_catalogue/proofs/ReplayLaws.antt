@@ -1,6 +1,7 @@
 -- The replay and the answers of a journal with one entry more.
 use Rattle.std.proofs.Common.{◌≡◌, ◌≢◌, ℕ, ◌-◌, ◌<◌, ◌≤◌, List, [], ◌∷◌, ◌++◌, length, map, get_or, slice_index_or, Ok, Err, refl, sym, ap, subst, ◌∙◌, arith, length-append}
 use Rattle.std.specs.Prelude.{IfOk}
+use Rattle.std.specs.List.{AllByRecursion}
 use Rattle.std.proofs.Math.ListN.{get_or-map}
 use Rattle.dbf_fields.specs.declared.field.Field.{Field}
 use Rattle.table_core.specs.Content.{Content, Indexed}
@@ -11,7 +12,7 @@ use Rattle.shared_catalogue.specs.declared.opening.TheConstants.{MAX_TABLES}
 use Rattle.shared_catalogue.specs.declared.change.Plan.{Plan}
 use Rattle.shared_catalogue.specs.Planned.{planned, changed}
 use Rattle.shared_catalogue.specs.Tables.{NamedTable}
-use Rattle.shared_catalogue.specs.Replay.{Opened, History, history, opened_at, opened_as, after, start, LegalFrom}
+use Rattle.shared_catalogue.specs.Replay.{Opened, History, history, opened_at, opened_as, after, start, LegalFrom, IsOfStation}
 use Rattle.shared_catalogue.specs.declared.command.Command.{Command}
 use Rattle.shared_catalogue.specs.State.{State, new_station, no_content, table_at, shape_of, shapes_of, IsState, HasStation}
 use Rattle.shared_catalogue.specs.Step.{Outcome, outcome, settled, step}
@@ -27,6 +28,11 @@ after-push s (x ∷ xs) e = after-push (step s x.station x.command).0 xs e
 pub legal-push : (s : State) (es : List Entry) (e : Entry) → LegalFrom s es → e.answer ≡ (step (after s es) e.station e.command).1 → LegalFrom s (es ++ e ∷ [])
 legal-push s [] e legal answer = (answer, tt)
 legal-push s (x ∷ xs) e legal answer = (legal.0, legal-push (step s x.station x.command).0 xs e legal.1 answer)
+
+-- what holds of each of a list and of one more holds of each of the list with it
+pub all-push : {X : Type 0} (P : X → Type 0) (xs : List X) (x : X) → AllByRecursion P xs → P x → AllByRecursion P (xs ++ x ∷ [])
+all-push P [] x all here = (here, tt)
+all-push P (y ∷ ys) x all here = (all.0, all-push P ys x all.1 here)
 
 -- a state has each of its stations
 pub has_station : (s : State) (station : ℕ) → IsState s → 1 ≤ station → station ≤ length s.stations → HasStation s station
@@ -66,6 +72,7 @@ kept_push opened s journal e kept has answer few =
     record {
       replayed = ap (λ (t : State). (step t e.station e.command).0) kept.replayed ∙ sym (after-push (start opened) journal e);
       legal = legal-push (start opened) journal e kept.legal (answer ∙ ap (λ (t : State). (step t e.station e.command).1) kept.replayed);
+      of_stations = all-push (IsOfStation opened) journal e kept.of_stations (has.counted, omega (arith, has.inside, kept.stations));
       few = omega (arith, length-append journal (e ∷ []));
       ok = next.state;
       stations = next.stations ∙ kept.stations;
@@ -80,6 +87,7 @@ opened_kept n tables s at few =
     record {
       replayed = at;
       legal = tt;
+      of_stations = tt;
       few = omega arith;
       ok = subst P (sym at) (start_is opened few);
       stations = ap (λ (t : State). length t.stations) at ∙ length-replicate n new_station;

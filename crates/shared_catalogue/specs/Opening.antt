@@ -1,10 +1,11 @@
 -- How a catalogue is opened: the tests in their order, table by table, and what is opened where they pass.
-use Rattle.std.specs.Prelude.{◌≡◌, ◌≢◌, ◌⊎◌, ℕ, ◌+◌, ◌<◌, Bool, true, false, not, ◌||◌, nat_le, List, [], ◌∷◌, ◌++◌, length, map, take, slice_index_or, Option, Some, None, Result, Ok, Err, IsPermutation}
+use Rattle.std.specs.Prelude.{◌≡◌, ◌≢◌, ◌⊎◌, ℕ, ◌+◌, ◌<◌, ◌≤◌, Bool, true, false, not, ◌||◌, nat_le, List, [], ◌∷◌, ◌++◌, length, map, take, slice_index_or, Option, Some, None, Result, Ok, Err, IsPermutation}
 use Rattle.std.specs.List.{list_any}
 use Rattle.dbf_fields.specs.declared.field.Field.{Field}
 use Rattle.dbf_fields.specs.Faults.{first_fault}
 use Rattle.dbf_image.specs.Table.{Table}
 use Rattle.key_expr.specs.declared.fault.ExprFault.{ExprFault}
+use Rattle.key_expr.specs.declared.format.TheConstants.{MAX_EXPRESSION_BYTES}
 use Rattle.key_expr.specs.declared.fault.ExprFault.TheVariants.{NoMemory as NoRoom}
 use Rattle.key_expr.specs.Expression.{Expression}
 use Rattle.key_expr.specs.Keys.{key_length}
@@ -52,10 +53,11 @@ next_index content = length content.indexes + 1
 abbrev pub is_index : List NamedTable → Content → List ℕ → Bool
 is_index earlier content name = list_any (λ t. has_index t.content name) earlier || has_index content name
 
--- what the text is as a key expression for the fields, or why it is none, or memory is refused
+-- what the text is as a key expression for the fields, or why it is none, or memory is refused, which is never asked
+-- for a text that is too long
 abbrev pub Reading : List Field → List ℕ → (ExprFault → OpenFault) → Result Expression OpenFault → Type 0
 Reading fields text bad (Ok e) = (e.text ≡ text) × (e.fields ≡ fields) × IsKeyText fields text e.expr
-Reading fields text bad (Err fault) = (fault ≡ NoMemory) ⊎ ((why : ExprFault) × (why ≢ NoRoom) × IsFault why fields text × (fault ≡ bad why))
+Reading fields text bad (Err fault) = ((fault ≡ NoMemory) × (length text ≤ MAX_EXPRESSION_BYTES)) ⊎ ((why : ExprFault) × (why ≢ NoRoom) × IsFault why fields text × (fault ≡ bad why))
 
 -- the file's keys are as long as the expression's, and its pairs are those of the table's records, each as often
 pub record IsFresh (table : Table) (e : Expression) (file : NdxFile) : Type 0 where

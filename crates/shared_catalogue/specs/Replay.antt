@@ -1,5 +1,6 @@
 -- What was opened, the journal of the commands since, and what they made of it.
-use Rattle.std.specs.Prelude.{◌≡◌, ℕ, List, [], ◌∷◌, ◌++◌, length, map, replicate}
+use Rattle.std.specs.Prelude.{◌≡◌, ℕ, ◌≤◌, List, [], ◌∷◌, ◌++◌, length, map, replicate}
+use Rattle.std.specs.List.{AllByRecursion}
 use Rattle.lock_table.specs.Locks.{held}
 use Rattle.table_core.specs.Content.{Content}
 use Rattle.shared_catalogue.specs.declared.answer.Answer.{Answer}
@@ -57,6 +58,22 @@ LegalFrom s (e ∷ es) = (e.answer ≡ (step s e.station e.command).1) × LegalF
 
 abbrev pub IsLegal : Opened → List Entry → Type 0
 IsLegal opened journal = LegalFrom (start opened) journal
+
+-- the entry is of one of the stations
+abbrev pub IsOfStation : Opened → Entry → Type 0
+IsOfStation opened e = (1 ≤ e.station) × (e.station ≤ opened.stations)
+
+-- so is each entry of the journal
+abbrev pub AreOfStations : Opened → List Entry → Type 0
+AreOfStations opened journal = AllByRecursion (IsOfStation opened) journal
+
+-- a history of these opened tables, with so many entries at least: each entry is of one of the stations, and each
+-- answer is the one that its command has at its place
+pub record IsHistoryOf (opened : Opened) (least : ℕ) (h : History) : Type 0 where
+  pub named : h.opened ≡ opened
+  pub legal : IsLegal h.opened h.journal
+  pub of_stations : AreOfStations h.opened h.journal
+  pub long : least ≤ length h.journal
 
 -- the state now
 abbrev pub state_of : History → State

@@ -82,7 +82,7 @@ impl Catalogue {
     ghost use Rattle.shared_catalogue.specs.declared.answer.Answer.{Answer};
     ghost use Rattle.table_core.specs.declared.refusal.Refusal.{Refusal};
     ghost use Rattle.shared_catalogue.specs.Opening.{Opening};
-    ghost use Rattle.shared_catalogue.specs.Replay.{state_of, answer_of, with_entry, opened_at, names_of, IsLegal};
+    ghost use Rattle.shared_catalogue.specs.Replay.{state_of, answer_of, with_entry, opened_at, names_of, IsLegal, AreOfStations};
     ghost use Rattle.shared_catalogue.specs.State.{table_at as content_at, station_at, IsState};
 
     /// Opens tables for stations: no table is open in any area, no lock is held, and the journal is empty.
@@ -228,11 +228,12 @@ impl Catalogue {
         Ok(table)
     }
 
-    /// The entries of the journal, in order. Each answer is the one that its command has at its place, and what is
-    /// true of every state is true of the one now.
+    /// The entries of the journal, in order. Each is of one of the stations, each answer is the one that its command
+    /// has at its place, and what is true of every state is true of the one now.
     pub fn journal(&self) -> &[Entry]
         ensures entries { result.now ≡ self.now.journal }
         ensures legal { IsLegal self.now.opened self.now.journal }
+        ensures of_stations { AreOfStations self.now.opened self.now.journal }
         ensures state { IsState (state_of self.now) }
         ensures few { length self.now.journal ≤ MAX_ENTRIES }
     {

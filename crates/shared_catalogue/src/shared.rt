@@ -2,10 +2,11 @@
 
 ghost use Rattle.std.specs.Prelude.{◌≡◌, ℕ, ◌+◌, ◌<◌, ◌≤◌, ◌↔◌, [], length, vec_len, IfOk, OnOk, OnErr, IsErrOf};
 ghost use Rattle.std.specs.List.{sum_by};
-ghost use Rattle.shared_catalogue.specs.Replay.{History};
+ghost use Rattle.shared_catalogue.specs.declared.catalogue.TheConstants.{MAX_ENTRIES};
+ghost use Rattle.shared_catalogue.specs.Replay.{History, answer_of, IsHistoryOf};
 ghost use Rattle.shared_catalogue.specs.Seats.{seated, new_seats, IsLowestMissing};
 ghost use Rattle.shared_catalogue.specs.Status.{row};
-ghost use Rattle.shared_catalogue.specs.OwnCalls.{AreOwn};
+ghost use Rattle.shared_catalogue.specs.OwnCalls.{AreOwn, IsLowestMismatch};
 
 pub(crate) mod closed;
 pub(crate) mod locked;
@@ -62,9 +63,11 @@ impl<J: Naming> Shared<J> {
     }
 
     /// Performs a command of the seat's station under the lock, for which it may wait, as one step: one
-    /// entry of the journal, which the seat's share counts.
+    /// entry of the journal, which the seat's share counts. It is answered as in the history that stood under the lock:
+    /// a legal one of these opened tables, in which the seat's own entries stand already.
     ///
-    /// A `Stop` is the catalogue's, and then seat and catalogue are as they were.
+    /// A `Stop` is the catalogue's, and then seat and catalogue are as they were: `JournalFull` says that the journal
+    /// had `MAX_ENTRIES` entries.
     pub fn perform(
         &self,
         alloc: Global,
@@ -73,33 +76,35 @@ impl<J: Naming> Shared<J> {
         command: &Command,
     ) -> Result<Answer, Stop>
         ensures share { OnOk result (seat.new ≡ seated seat.old.station (seat.old.share + 1)) }
+        ensures answer { IfOk result (λ answer. (h : History) × IsHistoryOf J.opened seat.old.share h × (answer ≡ answer_of h seat.old.station command.now)) }
         ensures stopped { OnErr result (seat.new ≡ seat.old) }
+        ensures full { IsErrOf result Stop.JournalFull → (h : History) × IsHistoryOf J.opened seat.old.share h × (length h.journal ≡ MAX_ENTRIES) }
     {
         self.locked.lock(rt).perform(alloc, seat, command)
     }
 
-    /// The status row of the catalogue as it stands under the lock, for which it may wait. It is the row of a
-    /// history of these opened tables.
+    /// The status row of the catalogue as it stands under the lock, for which it may wait. It is the row of a legal
+    /// history of these opened tables, in which the seat's own entries stand.
     pub fn look(&self, rt: &impl Wait, seat: &mut Seat<J>) -> StatusRow
-        ensures row { (h : History) × (h.opened ≡ J.opened) × (result ≡ row h) }
+        ensures row { (h : History) × IsHistoryOf J.opened seat.old.share h × (result ≡ row h) }
         ensures seat { seat.new ≡ seat.old }
     {
-        let _ = seat;
-        self.locked.lock(rt).status()
+        self.locked.lock(rt).status(seat)
     }
 
     /// Compares what each station was answered with the journal, and closes the catalogue. The receipts
     /// are one list for each station, in order.
     ///
     /// `SeatMissing` comes first, for the lowest station that has no seat in the list; then
-    /// `ReceiptMismatch`, for the lowest station whose receipts are not its entries of the journal. It
-    /// takes no memory.
+    /// `ReceiptMismatch`, for the lowest station whose receipts are not its entries of the journal, which is as long as
+    /// the seats' shares together. It takes no memory.
     pub fn settle(self, seats: Vec<Seat<J>>, receipts: Vec<Receipts>) -> Result<Closed, SettleFault>
         requires parts { J.parts ≡ J.opened.stations }
         requires lists { vec_len receipts ≡ J.opened.stations }
         ensures opened { IfOk result (λ closed. closed.opened ≡ J.opened) }
         ensures own { IfOk result (λ closed. AreOwn closed.journal receipts.items J.opened.stations) }
         ensures counted { IfOk result (λ closed. length closed.journal ≡ sum_by (λ z. z.share) seats.items) }
+        ensures mismatch { (s : ℕ) → IsErrOf result (SettleFault.ReceiptMismatch s) → (h : History) × IsHistoryOf J.opened (sum_by (λ z. z.share) seats.items) h × IsLowestMismatch h.journal receipts.items s }
         ensures missing { (s : ℕ) → IsErrOf result (SettleFault.SeatMissing s) ↔ IsLowestMissing seats.items J.opened.stations s }
     {
         let Shared { locked } = self;

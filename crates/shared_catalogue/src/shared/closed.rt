@@ -2,7 +2,7 @@
 
 ghost use Rattle.std.specs.Prelude.{◌≡◌, ◌-◌, ◌≤◌, length, map, slice_get, Some};
 ghost use Rattle.shared_catalogue.specs.declared.opening.TheConstants.{MAX_TABLES};
-ghost use Rattle.shared_catalogue.specs.Replay.{state_of, names_of, IsLegal};
+ghost use Rattle.shared_catalogue.specs.Replay.{state_of, names_of, IsLegal, AreOfStations};
 ghost use Rattle.shared_catalogue.specs.State.{table_at};
 
 use crate::catalogue::Catalogue;
@@ -71,10 +71,12 @@ impl Closed {
         self.catalogue.into_tables()
     }
 
-    /// How many entries the journal has. Each answer in it is the one that its command has at its place.
+    /// How many entries the journal has. Each is of one of the stations, and each answer in it is the one that its
+    /// command has at its place.
     pub fn entry_count(&self) -> u64
         ensures value { result ≡ length self.now.journal }
         ensures legal { IsLegal self.now.opened self.now.journal }
+        ensures of_stations { AreOfStations self.now.opened self.now.journal }
     {
         self.catalogue.journal().len() as u64
     }

@@ -1,7 +1,8 @@
 //! What is under the lock: the catalogue, and the book of its ledger.
 
-ghost use Rattle.std.specs.Prelude.{◌≡◌, ◌+◌, [], length, IfOk, OnErr};
-ghost use Rattle.shared_catalogue.specs.Replay.{answer_of, with_entry};
+ghost use Rattle.std.specs.Prelude.{◌≡◌, ◌+◌, [], length, IfOk, OnErr, IsErrOf};
+ghost use Rattle.shared_catalogue.specs.declared.catalogue.TheConstants.{MAX_ENTRIES};
+ghost use Rattle.shared_catalogue.specs.Replay.{answer_of, with_entry, IsHistoryOf};
 ghost use Rattle.shared_catalogue.specs.Seats.{seated};
 ghost use Rattle.shared_catalogue.specs.Status.{row};
 
@@ -56,7 +57,19 @@ impl<J: Naming> LockedCatalogue<J> {
         }
     }
 
-    /// Performs a command of the seat's station: one entry, which the book and the seat's share count.
+    // Changes nothing, and tells contracts that the catalogue is a history of the named tables, with as many entries
+    // as the seat has performed commands, at least: the journal says that it is legal, and the book that it is as long.
+    fn audit(&mut self, seat: &mut Seat<J>)
+        ensures history { IsHistoryOf J.opened seat.old.share self.old }
+        ensures same { self.new ≡ self.old }
+        ensures seat { seat.new ≡ seat.old }
+    {
+        let _ = self.catalogue.journal();
+        seat.audit(&mut self.book);
+    }
+
+    /// Performs a command of the seat's station: one entry, which the book and the seat's share count. Before it the
+    /// catalogue was a history of the named tables, with as many entries as the seat had performed commands, at least.
     pub(crate) fn perform(
         &mut self,
         alloc: Global,
@@ -67,17 +80,24 @@ impl<J: Naming> LockedCatalogue<J> {
         ensures entry { IfOk result (λ _. self.new ≡ with_entry self.old seat.old.station command.now) }
         ensures share { IfOk result (λ _. seat.new ≡ seated seat.old.station (seat.old.share + 1)) }
         ensures stopped { OnErr result ((self.new ≡ self.old) × (seat.new ≡ seat.old)) }
+        ensures full { IsErrOf result Stop.JournalFull → length self.old.journal ≡ MAX_ENTRIES }
+        ensures history { IsHistoryOf J.opened seat.old.share self.old }
     {
+        self.audit(seat);
         let (_number, answer) = self.catalogue.perform(alloc, seat.station(), command)?;
         seat.count_in(&mut self.book);
         Ok(answer)
     }
 
-    /// The status row of the catalogue.
-    pub(crate) fn status(&self) -> StatusRow
-        ensures value { result ≡ row self.now }
-        ensures named { self.now.opened ≡ J.opened }
+    /// The status row of the catalogue, which is a history of the named tables, with as many entries as the seat has
+    /// performed commands, at least. Nothing changes.
+    pub(crate) fn status(&mut self, seat: &mut Seat<J>) -> StatusRow
+        ensures value { result ≡ row self.old }
+        ensures same { self.new ≡ self.old }
+        ensures seat { seat.new ≡ seat.old }
+        ensures history { IsHistoryOf J.opened seat.old.share self.old }
     {
+        self.audit(seat);
         self.catalogue.status()
     }
 }

@@ -33,7 +33,7 @@ impl Model for Lot {
 }
 
 impl Lot {
-    /// A blank ledger for so many stations, 1 to 16. It takes no memory.
+    /// A blank ledger for so many stations. It takes no memory.
     pub fn new(stations: u32) -> Lot
         ensures parts { result.parts ≡ stations }
     {

@@ -55,6 +55,15 @@ impl<J: Naming> Seat<J> {
         book.add(&mut self.share, 1);
     }
 
+    /// Changes nothing, and tells contracts that the seat has performed no more commands than the book has counted.
+    pub(crate) fn audit(&mut self, book: &mut Book<J>)
+        ensures bound { self.old.share ≤ book.old.total }
+        ensures total { book.new.total ≡ book.old.total }
+        ensures same { self.new ≡ self.old }
+    {
+        book.audit(&mut self.share);
+    }
+
     pub(crate) fn into_share(self) -> Share<J>
         ensures parts { result.parts ≡ 1 }
         ensures amount { result.amount ≡ self.share }

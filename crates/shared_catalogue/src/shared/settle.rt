@@ -3,6 +3,7 @@
 ghost use Rattle.std.specs.Prelude.{◌≡◌, ℕ, ◌+◌, ◌^◌, ◌<◌, ◌≤◌, ◌↔◌, length, vec_len, IsTrue, IfSome, IfNone, IfOk, IsErrOf};
 ghost use Rattle.std.specs.List.{sum_by};
 ghost use Rattle.shared_catalogue.specs.OwnCalls.{AreOwn, IsLowestMismatch};
+ghost use Rattle.shared_catalogue.specs.Replay.{IsHistoryOf};
 ghost use Rattle.shared_catalogue.specs.Seats.{HasSeat, IsLowestMissing};
 
 use crate::entry::Entry;
@@ -38,6 +39,7 @@ impl<J: Naming> LockedCatalogue<J> {
         ensures own { IfOk result (λ closed. AreOwn closed.journal receipts.items J.opened.stations) }
         ensures counted { IfOk result (λ closed. length closed.journal ≡ sum_by (λ z. z.share) seats.items) }
         ensures mismatch { (s : ℕ) → IsErrOf result (SettleFault.ReceiptMismatch s) → IsLowestMismatch self.journal receipts.items s }
+        ensures history { (s : ℕ) → IsErrOf result (SettleFault.ReceiptMismatch s) → IsHistoryOf J.opened (sum_by (λ z. z.share) seats.items) self }
         ensures missing { (s : ℕ) → IsErrOf result (SettleFault.SeatMissing s) ↔ IsLowestMissing seats.items J.opened.stations s }
     {
         let LockedCatalogue {
