@@ -1,9 +1,11 @@
 -- What stations are shown for the lines of their scripts.
-use Rattle.std.specs.Prelude.{◌≡◌, ◌⊎◌, ℕ, ◌+◌, ◌<◌, List, [], ◌∷◌, ◌++◌, length, slice_get, Some}
+use Rattle.std.specs.Prelude.{◌≡◌, ◌⊎◌, ℕ, ◌+◌, ◌<◌, ◌≤◌, List, [], ◌∷◌, ◌++◌, length, slice_get, Some}
 use Rattle.shared_catalogue.specs.declared.entry.Entry.{Entry}
 use Rattle.shared_catalogue.specs.declared.shared.receipts.Receipt.{Receipt}
 use Rattle.shared_catalogue.specs.declared.status.StatusRow.{StatusRow}
 use Rattle.shared_catalogue.specs.OwnCalls.{of_station}
+use Rattle.shared_catalogue.specs.Replay.{Opened, History, IsHistoryOf}
+use Rattle.shared_catalogue.specs.Status.{row}
 use Rattle.shared_catalogue.specs.Seats.{Seated}
 use Rattle.station_lines.specs.declared.script.format.TheConstants.{LF}
 use Rattle.station_lines.specs.declared.script.line.Line.{Line}
@@ -52,6 +54,20 @@ AreShown (line ∷ lines) (x ∷ xs) = (Means line Blank × AreShown lines (x �
 abbrev pub IsShownFor : List ℕ → List Shown → Type 0
 IsShownFor script shown = (lines : List (List ℕ)) × AreLines lines script × AreShown lines shown
 
+-- the row is that of a legal history of these opened tables, with so many entries at least
+abbrev pub IsRowOf : Opened → ℕ → StatusRow → Type 0
+IsRowOf opened least shown = (h : History) × IsHistoryOf opened least h × (shown ≡ row h)
+
+-- a status row that is shown is one of these opened tables, where the station has had so many answers before
+abbrev pub IsShownOf : Opened → ℕ → Shown → Type 0
+IsShownOf opened least (answered r) = Unit {0}
+IsShownOf opened least (status shown) = IsRowOf opened least shown
+
+-- so is each: in the history of a status row the entries of the answers that were shown before it stand already
+abbrev pub AreShownOf : Opened → ℕ → List Shown → Type 0
+AreShownOf opened least [] = Unit {0}
+AreShownOf opened least (x ∷ xs) = IsShownOf opened least x × AreShownOf opened (least + length (receipt_in x)) xs
+
 -- a station at work: its seat, its receipts, and the text of its answer file so far
 pub record SessionValue : Type 0 where
   pub seat : Seated
@@ -64,40 +80,51 @@ session seat receipts answers = record { seat = seat; receipts = receipts; answe
 abbrev pub new_session : Seated → SessionValue
 new_session seat = session seat [] []
 
--- something more was shown in a session
-pub record IsWithShown (old : SessionValue) (x : Shown) (new : SessionValue) : Type 0 where
+-- something more was shown in a session over these opened tables, and the seat counts the commands
+pub record IsWithShown (opened : Opened) (old : SessionValue) (x : Shown) (new : SessionValue) : Type 0 where
+  pub of_tables : IsShownOf opened old.seat.share x
   pub station : new.seat.station ≡ old.seat.station
+  pub share : new.seat.share ≡ old.seat.share + length (receipt_in x)
   pub receipts : new.receipts ≡ old.receipts ++ receipt_in x
   pub answers : new.answers ≡ old.answers ++ shown_line x
 
--- what was shown in a session up to now
-pub record HasShown (station : ℕ) (shown : List Shown) (s : SessionValue) : Type 0 where
+-- what was shown in a session up to now, over these opened tables
+pub record HasShown (opened : Opened) (station : ℕ) (shown : List Shown) (s : SessionValue) : Type 0 where
+  pub of_tables : AreShownOf opened 0 shown
   pub station_is : s.seat.station ≡ station
+  pub counted : length s.receipts ≤ s.seat.share
   pub receipts : s.receipts ≡ receipts_of shown
   pub answers : s.answers ≡ answers_of shown
 
 -- the session is the station's, and has run this script
-abbrev pub HasRun : ℕ → List ℕ → SessionValue → Type 0
-HasRun station script s = (shown : List Shown) × IsShownFor script shown × HasShown station shown s
+abbrev pub HasRun : Opened → ℕ → List ℕ → SessionValue → Type 0
+HasRun opened station script s = (shown : List Shown) × IsShownFor script shown × HasShown opened station shown s
 
 -- at each seat's index is a session of its station that has run the script of that index
-abbrev pub HaveRun : List (List ℕ) → List Seated → List SessionValue → Type 0
-HaveRun scripts seats sessions =
+abbrev pub HaveRun : Opened → List (List ℕ) → List Seated → List SessionValue → Type 0
+HaveRun opened scripts seats sessions =
     (i : ℕ) (z : Seated) → slice_get seats i ≡ Some z
-    → (s : SessionValue) × (script : List ℕ) × (slice_get sessions i ≡ Some s) × (slice_get scripts i ≡ Some script) × HasRun z.station script s
+    → (s : SessionValue) × (script : List ℕ) × (slice_get sessions i ≡ Some s) × (slice_get scripts i ≡ Some script) × HasRun opened z.station script s
 
 -- the seats are those of the stations 1 to n, in order
 abbrev pub AreInOrder : ℕ → List Seated → Type 0
 AreInOrder n seats = (length seats ≡ n) × ((i : ℕ) → i < n → (z : Seated) × (slice_get seats i ≡ Some z) × (z.station ≡ i + 1))
 
 -- what was shown for a station's script: the commands and answers among it are the station's in the journal, in
--- order, and the answer file has a line for each
-abbrev pub IsReport : List Entry → ℕ → List ℕ → List ℕ → Type 0
-IsReport journal station script answers =
-    (shown : List Shown) × IsShownFor script shown × (receipts_of shown ≡ of_station journal station) × (answers ≡ answers_of shown)
+-- order, the status rows are rows of these opened tables, and the answer file has a line for each
+pub record IsReport (opened : Opened) (journal : List Entry) (station : ℕ) (script answers : List ℕ) : Type 0 where
+  pub shown : List Shown
+  pub for_script : IsShownFor script shown
+  pub of_tables : AreShownOf opened 0 shown
+  pub own : receipts_of shown ≡ of_station journal station
+  pub lines : answers ≡ answers_of shown
 
--- each station's answers are the report of its script
-abbrev pub AreReports : ℕ → List Entry → List (List ℕ) → List (List ℕ) → Type 0
-AreReports n journal scripts answers =
-    (i : ℕ) → i < n
-    → (script : List ℕ) × (text : List ℕ) × (slice_get scripts i ≡ Some script) × (slice_get answers i ≡ Some text) × IsReport journal (i + 1) script text
+-- the station of an index has a script, and answers, which are its report
+abbrev pub HasReport : Opened → List Entry → List (List ℕ) → List (List ℕ) → ℕ → Type 0
+HasReport opened journal scripts answers i =
+    (script : List ℕ) × (text : List ℕ) × (slice_get scripts i ≡ Some script) × (slice_get answers i ≡ Some text) × IsReport opened journal (i + 1) script text
+
+-- each station's answers are the report of its script, and there are as many as stations
+pub record AreReports (opened : Opened) (journal : List Entry) (scripts answers : List (List ℕ)) : Type 0 where
+  pub count : length answers ≡ opened.stations
+  pub each : (i : ℕ) → i < opened.stations → HasReport opened journal scripts answers i

@@ -1,6 +1,7 @@
 //! The run of all stations, each in a thread of its own.
 
-ghost use Rattle.std.specs.Prelude.{◌≡◌, ◌≢◌, ◌↔◌, ◌≤◌, IfOk, IsErrOf, length, map, vec_len};
+ghost use Rattle.std.specs.Prelude.{◌≡◌, ◌≢◌, ◌↔◌, ◌≤◌, IfOk, IfErr, IsErrOf, length, map, vec_len};
+ghost use Rattle.station_run.specs.Faults.{IsFaultOfRun};
 ghost use Rattle.station_run.specs.Reports.{AreInOrder, AreReports, HaveRun};
 
 use crate::fault::RunFault;
@@ -28,7 +29,8 @@ pub struct Outcome {
 ///
 /// The faults, in order: `ScriptCount` where there are not as many scripts as seats; `NoThread` where no
 /// thread was to be had for a station; `Stopped` for the lowest station whose worker was stopped (the
-/// others go on to their scripts' ends); `Settle`; and `NoMemory`, which may come wherever memory is taken.
+/// others go on to their scripts' ends); `Settle`, which never says that a seat is missing; and `NoMemory`, which may
+/// come wherever memory is taken.
 pub fn run_stations<J: Naming + Send + Sync, G: Gate + Sync, R: Threads + Wait + Sync>(
     rt: &R,
     alloc: Global,
@@ -41,7 +43,8 @@ pub fn run_stations<J: Naming + Send + Sync, G: Gate + Sync, R: Threads + Wait +
     requires seats { AreInOrder J.opened.stations seats.items }
     ensures opened { IfOk result (λ outcome. outcome.closed.opened ≡ J.opened) }
     ensures scripts { IfOk result (λ _. length scripts.now ≡ J.opened.stations) }
-    ensures reports { IfOk result (λ outcome. AreReports J.opened.stations outcome.closed.journal scripts.now outcome.answers.items) }
+    ensures reports { IfOk result (λ outcome. AreReports J.opened outcome.closed.journal scripts.now outcome.answers.items) }
+    ensures fault { IfErr result (IsFaultOfRun J.opened) }
     ensures count { IsErrOf result RunFault.ScriptCount ↔ (length scripts.now ≢ J.opened.stations) }
 {
     if scripts.len() != seats.len() {
@@ -66,7 +69,8 @@ fn run_sessions<J: Naming + Send + Sync, G: Gate + Sync, R: Threads + Wait + Syn
 ) -> Result<Vec<Session<J>>, RunFault>
     requires scripts { vec_len seats ≤ length scripts.now }
     ensures count { IfOk result (λ sessions. vec_len sessions ≡ vec_len seats) }
-    ensures each { IfOk result (λ sessions. HaveRun scripts.now seats.items sessions.items) }
+    ensures each { IfOk result (λ sessions. HaveRun J.opened scripts.now seats.items sessions.items) }
+    ensures fault { IfErr result (IsFaultOfRun J.opened) }
     ensures other { ¬ IsErrOf result RunFault.ScriptCount }
 {
     thread::scope(
@@ -74,7 +78,7 @@ fn run_sessions<J: Naming + Send + Sync, G: Gate + Sync, R: Threads + Wait + Syn
         rt,
         |scope| -> Result<Vec<Session<J>>, RunFault>
             requires scripts { vec_len seats ≤ length scripts.now }
-            ensures ran { IfOk result (λ sessions. (vec_len sessions ≡ vec_len seats) × HaveRun scripts.entry.now seats.items sessions.items) × ¬ IsErrOf result RunFault.ScriptCount }
+            ensures ran { IfOk result (λ sessions. (vec_len sessions ≡ vec_len seats) × HaveRun J.opened scripts.entry.now seats.items sessions.items) × ¬ IsErrOf result RunFault.ScriptCount × IfErr result (IsFaultOfRun J.opened) }
         { run_from(scope, rt, alloc, shared, gate, seats, scripts) },
     )
 }
@@ -91,7 +95,8 @@ fn run_from<'s, E, J: Naming + Send + Sync, G: Gate + Sync, R: Threads + Wait + 
 ) -> Result<Vec<Session<J>>, RunFault>
     requires scripts { vec_len seats ≤ length scripts.now }
     ensures count { IfOk result (λ sessions. vec_len sessions ≡ vec_len seats) }
-    ensures each { IfOk result (λ sessions. HaveRun scripts.now seats.items sessions.items) }
+    ensures each { IfOk result (λ sessions. HaveRun J.opened scripts.now seats.items sessions.items) }
+    ensures fault { IfErr result (IsFaultOfRun J.opened) }
     ensures other { ¬ IsErrOf result RunFault.ScriptCount }
 {
     let Some(seat) = seats.pop() else {
@@ -119,6 +124,7 @@ fn split_sessions<J: Naming>(
     ensures seats { IfOk result (λ parts. parts.0.items ≡ map (λ s. s.seat) sessions.items) }
     ensures receipts { IfOk result (λ parts. parts.1.items ≡ map (λ s. s.receipts) sessions.items) }
     ensures answers { IfOk result (λ parts. parts.2.items ≡ map (λ s. s.answers) sessions.items) }
+    ensures fault { IfErr result (IsFaultOfRun J.opened) }
     ensures other { ¬ IsErrOf result RunFault.ScriptCount }
 {
     let mut seats = Vec::new(alloc);

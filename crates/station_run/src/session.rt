@@ -1,9 +1,10 @@
 //! A station at work.
 
-ghost use Rattle.std.specs.Prelude.{◌≡◌, ◌≢◌, [], ◌∷◌, ◌++◌, OnOk, IsErrOf};
+ghost use Rattle.std.specs.Prelude.{◌≡◌, ◌≢◌, [], ◌∷◌, ◌++◌, OnOk, IfErr, IsErrOf};
 ghost use Rattle.shared_catalogue.specs.declared.answer.Answer.{Answer as AnswerValue};
 ghost use Rattle.shared_catalogue.specs.declared.status.StatusRow.{StatusRow as RowValue};
 ghost use Rattle.station_run.specs.Reports.{Shown, answered, status, meaning_of, session, new_session, IsWithShown};
+ghost use Rattle.station_run.specs.Faults.{IsStopOf};
 ghost use Rattle.station_lines.specs.declared.script.format.TheConstants.{LF as LINE_END};
 
 use dbf_fields::Bytes;
@@ -52,7 +53,8 @@ impl<J: Naming> Session<J> {
         line: Line,
     ) -> Result<(), Stop>
         requires some { line ≢ Line.Blank }
-        ensures shown { OnOk result ((shown : Shown) × (meaning_of shown ≡ line) × IsWithShown self.old shown self.new) }
+        ensures shown { OnOk result ((shown : Shown) × (meaning_of shown ≡ line) × IsWithShown J.opened self.old shown self.new) }
+        ensures stop { IfErr result (IsStopOf J.opened) }
         ensures status { line ≡ Line.Status → ¬ IsErrOf result Stop.JournalFull }
     {
         match line {
@@ -70,7 +72,8 @@ impl<J: Naming> Session<J> {
         shared: &Shared<J>,
         command: Command,
     ) -> Result<(), Stop>
-        ensures shown { OnOk result ((answer : AnswerValue) × IsWithShown self.old (answered (record { command = command; answer = answer })) self.new) }
+        ensures shown { OnOk result ((answer : AnswerValue) × IsWithShown J.opened self.old (answered (record { command = command; answer = answer })) self.new) }
+        ensures stop { IfErr result (IsStopOf J.opened) }
     {
         let answer = shared.perform(alloc, rt, &mut self.seat, &command)?;
         let text = answer_line(alloc, &answer)?;
@@ -81,7 +84,8 @@ impl<J: Naming> Session<J> {
 
     // Looks at the status row, and keeps its line.
     fn show_status(&mut self, alloc: Global, rt: &impl Wait, shared: &Shared<J>) -> Result<(), Stop>
-        ensures shown { OnOk result ((row : RowValue) × IsWithShown self.old (status row) self.new) }
+        ensures shown { OnOk result ((row : RowValue) × IsWithShown J.opened self.old (status row) self.new) }
+        ensures stop { IfErr result (IsStopOf J.opened) }
         ensures other { ¬ IsErrOf result Stop.JournalFull }
     {
         let row = shared.look(rt, &mut self.seat);

@@ -1,6 +1,7 @@
 //! The run of a catalogue, from its opening to its end.
 
-ghost use Rattle.std.specs.Prelude.{◌≡◌, ◌≢◌, [], IfOk, IsErrOf, length};
+ghost use Rattle.std.specs.Prelude.{◌≡◌, ◌≢◌, [], IfOk, IfErr, IsErrOf, length};
+ghost use Rattle.station_run.specs.Faults.{IsFaultOfRun};
 ghost use Rattle.station_run.specs.Reports.{AreReports};
 
 use crate::fault::RunFault;
@@ -25,7 +26,8 @@ pub fn run_catalogue<G: Gate + Sync, R: Threads + Wait + Sync>(
     requires empty { catalogue.journal ≡ [] }
     ensures opened { IfOk result (λ outcome. outcome.closed.opened ≡ catalogue.opened) }
     ensures scripts { IfOk result (λ _. length scripts.now ≡ catalogue.opened.stations) }
-    ensures reports { IfOk result (λ outcome. AreReports catalogue.opened.stations outcome.closed.journal scripts.now outcome.answers.items) }
+    ensures reports { IfOk result (λ outcome. AreReports catalogue.opened outcome.closed.journal scripts.now outcome.answers.items) }
+    ensures fault { IfErr result (IsFaultOfRun catalogue.opened) }
     ensures count { IsErrOf result RunFault.ScriptCount → length scripts.now ≢ catalogue.opened.stations }
 {
     let lot = Lot::new(catalogue.station_count());
@@ -47,7 +49,8 @@ fn run_as<J: Naming + Send + Sync, G: Gate + Sync, R: Threads + Wait + Sync>(
     requires parts { lot.parts ≡ catalogue.opened.stations }
     ensures opened { IfOk result (λ outcome. outcome.closed.opened ≡ J.opened) }
     ensures scripts { IfOk result (λ _. length scripts.now ≡ J.opened.stations) }
-    ensures reports { IfOk result (λ outcome. AreReports J.opened.stations outcome.closed.journal scripts.now outcome.answers.items) }
+    ensures reports { IfOk result (λ outcome. AreReports J.opened outcome.closed.journal scripts.now outcome.answers.items) }
+    ensures fault { IfErr result (IsFaultOfRun J.opened) }
     ensures count { IsErrOf result RunFault.ScriptCount → length scripts.now ≢ J.opened.stations }
 {
     let (shared, seats) = Shared::<J>::new(alloc, catalogue, lot)?;

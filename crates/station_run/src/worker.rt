@@ -1,8 +1,9 @@
 //! The worker of a station, which goes down its script.
 
-ghost use Rattle.std.specs.Prelude.{◌≡◌, ◌≢◌, Ok, Some, None, IfOk, IsErrOf};
+ghost use Rattle.std.specs.Prelude.{◌≡◌, ◌≢◌, Ok, Some, None, IfOk, IfErr, IsErrOf};
 ghost use Rattle.station_lines.specs.declared.script.line.Line.{Line as LineValue};
 ghost use Rattle.station_lines.specs.Script.Meaning.{Means};
+ghost use Rattle.station_run.specs.Faults.{IsStopOf, IsFaultOfRun};
 ghost use Rattle.station_run.specs.Reports.{HasRun};
 
 use crate::fault::RunFault;
@@ -24,10 +25,11 @@ pub struct Runs {
 }
 
 impl<J: Naming> Promise<Result<Session<J>, Stop>> for Runs {
-    ghost use Rattle.std.specs.Prelude.{IfOk};
+    ghost use Rattle.std.specs.Prelude.{MatchResult};
+    ghost use Rattle.station_run.specs.Faults.{IsStopOf};
     ghost use Rattle.station_run.specs.Reports.{HasRun};
 
-    ghost kept_by = { λ p r. IfOk r (HasRun p.station p.script.value) };
+    ghost kept_by = { λ p r. MatchResult r (HasRun J.opened p.station p.script.value) (IsStopOf J.opened) };
 }
 
 /// A worker's thread, which ends with its session.
@@ -53,7 +55,8 @@ fn run_script<J: Naming, G: Gate, R: Wait>(
     seat: Seat<J>,
     script: &Bytes,
 ) -> Result<Session<J>, Stop>
-    ensures ran { IfOk result (HasRun seat.station script.now) }
+    ensures ran { IfOk result (HasRun J.opened seat.station script.now) }
+    ensures stop { IfErr result (IsStopOf J.opened) }
 {
     let station = seat.station();
     let mut session = Session::new(alloc, seat);
@@ -88,6 +91,7 @@ pub(crate) fn start_worker<
     script: &'s Bytes,
 ) -> Result<Worker<J>, RunFault>
     ensures ok { IfOk result (λ worker. (worker.promise.station ≡ seat.station) × (worker.promise.script.value ≡ script.now)) }
+    ensures fault { IfErr result (IsFaultOfRun J.opened) }
     ensures other { ¬ IsErrOf result RunFault.ScriptCount }
 {
     let station = seat.station();

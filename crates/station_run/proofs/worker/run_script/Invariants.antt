@@ -3,7 +3,7 @@ use Rattle.station_run.proofs.RunLaws.{IsUpTo}
 use Rattle.station_run.proofs.worker.run_script.Given as goal
 
 abbrev pub invariant-loop-text : goal.invariant-loop-text
-invariant-loop-text g l = IsUpTo l.cursor l.station l.script l.session
+invariant-loop-text g l = IsUpTo g.J.Naming.opened l.cursor l.station l.script l.session
 
 abbrev pub decreases-loop-text : goal.decreases-loop-text
 decreases-loop-text g l = length l.cursor

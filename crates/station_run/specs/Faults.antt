@@ -1,0 +1,32 @@
+-- Why a run over these opened tables did not come to its end.
+use Rattle.std.specs.Prelude.{ℕ, ◌≤◌}
+use Rattle.shared_catalogue.specs.declared.catalogue.Stop.{Stop}
+use Rattle.shared_catalogue.specs.declared.catalogue.Stop.TheVariants as stop
+use Rattle.shared_catalogue.specs.declared.catalogue.TheConstants.{MAX_ENTRIES}
+use Rattle.shared_catalogue.specs.declared.shared.settle.SettleFault.{SettleFault}
+use Rattle.shared_catalogue.specs.declared.shared.settle.SettleFault.TheVariants.{SeatMissing, ReceiptMismatch}
+use Rattle.shared_catalogue.specs.Replay.{Opened, History, IsHistoryOf}
+use Rattle.station_run.specs.declared.fault.RunFault.{RunFault}
+use Rattle.station_run.specs.declared.fault.RunFault.TheVariants.{ScriptCount, NoThread, Stopped, Settle, NoMemory}
+
+-- there is a station of this number
+abbrev pub IsStationOf : Opened → ℕ → Type 0
+IsStationOf opened station = (1 ≤ station) × (station ≤ opened.stations)
+
+-- why a worker is stopped: memory is refused, or a legal journal of these tables has no place left
+abbrev pub IsStopOf : Opened → Stop → Type 0
+IsStopOf opened stop.NoMemory = Unit {0}
+IsStopOf opened stop.JournalFull = (h : History) × IsHistoryOf opened MAX_ENTRIES h
+
+-- why a run is not settled: each station has its seat
+abbrev pub IsSettleFaultOf : Opened → SettleFault → Type 0
+IsSettleFaultOf opened (SeatMissing station) = ⊥
+IsSettleFaultOf opened (ReceiptMismatch station) = IsStationOf opened station
+
+-- a fault of a run names a station that there is
+abbrev pub IsFaultOfRun : Opened → RunFault → Type 0
+IsFaultOfRun opened ScriptCount = Unit {0}
+IsFaultOfRun opened (NoThread station) = IsStationOf opened station
+IsFaultOfRun opened (Stopped station why) = IsStationOf opened station × IsStopOf opened why
+IsFaultOfRun opened (Settle fault) = IsSettleFaultOf opened fault
+IsFaultOfRun opened NoMemory = Unit {0}
