@@ -1,5 +1,5 @@
 -- What is read for a run: the files that the entries of a setup name.
-use Rattle.std.specs.Prelude.{◌≡◌, ◌≢◌, ◌⊎◌, ℕ, List, [], ◌∷◌, ◌++◌, Option, Some, None, bytes_eq, slice_get, slice_set}
+use Rattle.std.specs.Prelude.{◌≡◌, ◌≢◌, ◌⊎◌, ℕ, List, [], ◌∷◌, ◌++◌, Option, Some, None, bytes_eq, slice_get, slice_set, take}
 use Rattle.std.specs.List.{position}
 use Rattle.dbf_image.specs.declared.fault.ImageFault.TheVariants.{NoMemory as NoRoomForImage}
 use Rattle.dbf_image.specs.DbfText.{IsDbf}
@@ -87,16 +87,16 @@ LoadAll files (entry ∷ entries) old new = (next : Read) × Loads files entry o
 
 -- ---- why an entry's files are not read
 
--- the entry names the path
-abbrev pub IsPathIn : SetupEntry → List ℕ → Type 0
-IsPathIn (Table name dbf None) path = path ≡ dbf
-IsPathIn (Table name dbf (Some dbt)) path = (path ≡ dbf) ⊎ (path ≡ dbt)
-IsPathIn (Index table name ndx) path = path ≡ ndx
-IsPathIn (Station script) path = path ≡ script
+-- the entry names the path; of a table's two files the DBF is loaded first, and the DBT only where it was found
+abbrev pub IsPathIn : Option (List NamedFile) → SetupEntry → List ℕ → Type 0
+IsPathIn files (Table name dbf None) path = path ≡ dbf
+IsPathIn files (Table name dbf (Some dbt)) path = (path ≡ dbf) ⊎ ((path ≡ dbt) × (bytes : List ℕ) × IsFileOf files dbf bytes)
+IsPathIn files (Index table name ndx) path = path ≡ ndx
+IsPathIn files (Station script) path = path ≡ script
 
 -- the reader of the entry's files refuses them, or a file that the entry names can't be read
 abbrev pub IsUnread : Option (List NamedFile) → SetupEntry → List ℕ → FileFault → Type 0
-IsUnread files entry path CannotRead = IsPathIn entry path
+IsUnread files entry path CannotRead = IsPathIn files entry path
 IsUnread files (Table name dbf dbt) path (Image fault) =
     (path ≡ dbf) × (fault ≢ NoRoomForImage) × (bytes : List ℕ) × (memo : Option (List ℕ)) × IsFileOf files dbf bytes × IsMemoFileOf files dbt memo × IsRefusal fault bytes memo
 IsUnread files (Index table name ndx) path (Ndx fault) =
@@ -109,9 +109,14 @@ IsEntryFault files entry NoMemory = Unit {0}
 IsEntryFault files entry (File path fault) = IsUnread files entry path fault
 IsEntryFault files entry fault = ⊥
 
--- the fault is that of one of the entries
-abbrev pub IsFaultIn : Option (List NamedFile) → List SetupEntry → ServeFault → Type 0
-IsFaultIn files entries fault = (i : ℕ) × (entry : SetupEntry) × (slice_get entries i ≡ Some entry) × IsEntryFault files entry fault
+-- the fault is that of the first entry that was not loaded: all before it were loaded and read
+pub record IsFaultIn (files : Option (List NamedFile)) (entries : List SetupEntry) (fault : ServeFault) : Type 0 where
+  pub before : ℕ
+  pub entry : SetupEntry
+  pub read : Read
+  pub next : slice_get entries before ≡ Some entry
+  pub loaded : LoadAll files (take before entries) nothing read
+  pub is_fault : IsEntryFault files entry fault
 
 -- what a fault says of the count of loads that failed: a file can't be read where a load failed or the file is over the
 -- limit; of want of memory nothing is said; at any other fault no load has failed

@@ -99,7 +99,7 @@ fn read_index(alloc: Global, path: &Bytes, bytes: &Bytes) -> Result<NdxFile, Ser
     }
 }
 
-// Loads and reads the files of a table.
+// Loads and reads the files of a table, the DBF first.
 fn load_table<S: Source>(
     alloc: Global,
     source: &mut S,

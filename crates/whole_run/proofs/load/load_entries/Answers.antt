@@ -1,6 +1,7 @@
 use Rattle.std.proofs.Common.{Some, ap, sym, ◌∙◌}
 use Rattle.std.proofs.lemmas.Option.{slice_get-get_or}
 use Rattle.station_lines.specs.declared.setup.entry.SetupEntry.{SetupEntry}
+use Rattle.whole_run.specs.Loading.{read_of}
 use Rattle.whole_run.proofs.LoadLaws.{err_exit, loaded_more}
 use Rattle.whole_run.proofs.load.load_entries.Goals as goal
 
@@ -8,8 +9,14 @@ pub returns-in_err-load_entry-clause-fault : goal.returns-in_err-load_entry-clau
 returns-in_err-load_entry-clause-fault g c =
     let i = c.loop-entry.entry-index in
     let entry = c.entry-item.result in
-    err_exit _ _ c.from_residual.ensures.1
-    (i, entry, slice_get-get_or c.args.entries.now i entry c.loop-entry-test.true ∙ ap (λ (e : SetupEntry). Some e) (sym c.entry-item.is), rw c.loop-entry.invariant.kept at c.in_err-load_entry.ensures.fault)
+    err_exit _ _ c.from_residual.ensures.1 (record {
+      before = i;
+      entry = entry;
+      read = read_of c.loop-entry.loaded;
+      next = slice_get-get_or c.args.entries.now i entry c.loop-entry-test.true ∙ ap (λ (e : SetupEntry). Some e) (sym c.entry-item.is);
+      loaded = c.loop-entry.invariant.read;
+      is_fault = rw c.loop-entry.invariant.kept at c.in_err-load_entry.ensures.fault;
+    })
 
 pub loop-entry-preserved : goal.loop-entry-preserved
 loop-entry-preserved g c = record {
