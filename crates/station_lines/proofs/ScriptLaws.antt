@@ -9,3 +9,4 @@ pub mod VerbLaws
 pub mod SoundLaws
 pub mod FoundLaws
 pub mod MeaningLaws
+pub mod KeepingLaws

@@ -1,13 +1,14 @@
 //! Commands, by how many words they have.
 
-ghost use Rattle.std.specs.Prelude.{◌≡◌, IfOk};
+ghost use Rattle.std.specs.Prelude.{◌≡◌, true, IfOk, OnErr};
 ghost use Rattle.station_lines.specs.Script.Parts.{name_in as name_in_word};
+ghost use Rattle.station_lines.specs.Script.Keeping.{keeps_text};
 ghost use Rattle.station_lines.specs.Script.Reading.{with_, one, two, three, four, go, call_line, ask as ask_line, set_order as set_order_line, replace as replace_line, memo as memo_line};
 
 use crate::script::keyword::{is_call, is_keyword};
 use crate::script::line::Line;
 use crate::script::literal::literal_in;
-use crate::script::value::{count_in, distance_in, name_in, text_in};
+use crate::script::value::{count_in, distance_in, in_capitals, is_name, name_in, text_in};
 use crate::script::verb::Verb;
 use dbf_fields::Bytes;
 use shared_catalogue::{Command, Question};
@@ -41,6 +42,7 @@ fn select(word: &[u8]) -> Line
 // The line of USE, a word and nothing or EXCLUSIVE.
 fn use_table(alloc: Global, word: &[u8], exclusive: bool) -> Result<Line, AllocError>
     ensures value { IfOk result (λ line. line ≡ with_ (name_in_word word.now) (λ n. Line.Run (Command.UseTable n exclusive))) }
+    ensures early { OnErr result (keeps_text (with_ (name_in_word word.now) (λ n. Line.Run (Command.UseTable n exclusive))) ≡ true) }
 {
     match name_in(alloc, word)? {
         Some(name) => Ok(Line::Run(Command::UseTable { name, exclusive })),
@@ -77,6 +79,7 @@ fn skip(word: &[u8]) -> Line
 // The line of SEEK and a word.
 fn seek(alloc: Global, word: &[u8]) -> Result<Line, AllocError>
     ensures value { IfOk result (λ line. line ≡ two Verb.Seek word.now) }
+    ensures early { OnErr result (keeps_text (two Verb.Seek word.now) ≡ true) }
 {
     match text_in(word) {
         Some(text) => Ok(Line::Run(Command::Seek(Bytes::from_slice(alloc, text)?))),
@@ -114,6 +117,7 @@ fn call(word: &[u8]) -> Line
 // The line of `?` and a word.
 fn ask(alloc: Global, word: &[u8]) -> Result<Line, AllocError>
     ensures value { IfOk result (λ line. line ≡ ask_line word.now) }
+    ensures early { OnErr result (keeps_text (ask_line word.now) ≡ true) }
 {
     match name_in(alloc, word)? {
         Some(name) => Ok(Line::Run(Command::Show(name))),
@@ -121,9 +125,10 @@ fn ask(alloc: Global, word: &[u8]) -> Result<Line, AllocError>
     }
 }
 
-/// The line of a verb and a word. An error where memory is refused.
+/// The line of a verb and a word. An error where memory for its name or text is refused.
 pub(crate) fn two_words(alloc: Global, verb: Verb, word: &[u8]) -> Result<Line, AllocError>
     ensures value { IfOk result (λ line. line ≡ two verb word.now) }
+    ensures early { OnErr result (keeps_text (two verb word.now) ≡ true) }
 {
     match verb {
         Verb::Select => Ok(select(word)),
@@ -139,7 +144,7 @@ pub(crate) fn two_words(alloc: Global, verb: Verb, word: &[u8]) -> Result<Line, 
     }
 }
 
-/// The line of a verb and two words. An error where memory is refused.
+/// The line of a verb and two words. An error where memory for its name is refused.
 pub(crate) fn three_words(
     alloc: Global,
     verb: Verb,
@@ -147,6 +152,7 @@ pub(crate) fn three_words(
     third: &[u8],
 ) -> Result<Line, AllocError>
     ensures value { IfOk result (λ line. line ≡ three verb second.now third.now) }
+    ensures early { OnErr result (keeps_text (three verb second.now third.now) ≡ true) }
 {
     match verb {
         Verb::Use if is_keyword(third, b"EXCLUSIVE") => use_table(alloc, second, true),
@@ -168,14 +174,21 @@ fn set_order(second: &[u8], third: &[u8], fourth: &[u8]) -> Line
 }
 
 // The line of REPLACE, a field, WITH and a value.
+#[tactic(auto, using(crate::proofs::ScriptLaws::KeepingLaws::replace_keeps))]
 fn replace(alloc: Global, field: &[u8], value: &[u8]) -> Result<Line, AllocError>
     ensures value { IfOk result (λ line. line ≡ replace_line field.now value.now) }
+    ensures early { OnErr result (keeps_text (replace_line field.now value.now) ≡ true) }
 {
-    let Some(field) = name_in(alloc, field)? else {
+    // The field is judged before the value is kept, and kept where there is a value: a line that can't be read
+    // takes no memory.
+    if !is_name(field) {
         return Ok(Line::Run(Command::Bad));
-    };
+    }
     match literal_in(alloc, value)? {
-        Some(value) => Ok(Line::Run(Command::Replace { field, value })),
+        Some(value) => {
+            let field = in_capitals(alloc, field)?;
+            Ok(Line::Run(Command::Replace { field, value }))
+        }
         None => Ok(Line::Run(Command::Bad)),
     }
 }
@@ -183,18 +196,20 @@ fn replace(alloc: Global, field: &[u8], value: &[u8]) -> Result<Line, AllocError
 // The line of MEMO, a field, WITH and a text.
 fn memo(alloc: Global, field: &[u8], text: &[u8]) -> Result<Line, AllocError>
     ensures value { IfOk result (λ line. line ≡ memo_line field.now text.now) }
+    ensures early { OnErr result (keeps_text (memo_line field.now text.now) ≡ true) }
 {
-    let Some(field) = name_in(alloc, field)? else {
+    if !is_name(field) {
         return Ok(Line::Run(Command::Bad));
-    };
+    }
     let Some(text) = text_in(text) else {
         return Ok(Line::Run(Command::Bad));
     };
+    let field = in_capitals(alloc, field)?;
     let text = Bytes::from_slice(alloc, text)?;
     Ok(Line::Run(Command::Memo { field, text }))
 }
 
-/// The line of a verb and three words. An error where memory is refused.
+/// The line of a verb and three words. An error where memory for its name or text is refused.
 pub(crate) fn four_words(
     alloc: Global,
     verb: Verb,
@@ -203,6 +218,7 @@ pub(crate) fn four_words(
     fourth: &[u8],
 ) -> Result<Line, AllocError>
     ensures value { IfOk result (λ line. line ≡ four verb second.now third.now fourth.now) }
+    ensures early { OnErr result (keeps_text (four verb second.now third.now fourth.now) ≡ true) }
 {
     match verb {
         Verb::Set => Ok(set_order(second, third, fourth)),

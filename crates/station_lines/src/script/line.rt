@@ -1,8 +1,9 @@
 //! What a line of a script means.
 
-ghost use Rattle.std.specs.Prelude.{◌≡◌, ℕ, List, IfOk};
+ghost use Rattle.std.specs.Prelude.{◌≡◌, ℕ, List, true, IfOk, OnErr};
 ghost use Rattle.station_lines.specs.Script.Words.{begins_with_asterisk};
 ghost use Rattle.station_lines.specs.Script.Meaning.{Means};
+ghost use Rattle.station_lines.specs.Script.Keeping.{keeps_text};
 ghost use Rattle.station_lines.specs.Script.Reading.{read, after_verb};
 
 use crate::script::command::{four_words, one_word, three_words, two_words};
@@ -36,6 +37,7 @@ pub(crate) fn is_remark(word: &[u8]) -> bool
 // The line of a verb and the words after it.
 fn parse_words(alloc: Global, verb: Verb, words: &[u8]) -> Result<Line, AllocError>
     ensures value { IfOk result (λ line. line ≡ after_verb verb words.now) }
+    ensures early { OnErr result (keeps_text (after_verb verb words.now) ≡ true) }
 {
     let (second, words) = cut_word(words);
     if second.is_empty() {
@@ -59,6 +61,7 @@ fn parse_words(alloc: Global, verb: Verb, words: &[u8]) -> Result<Line, AllocErr
 // What is made of a line, word by word.
 fn read_line(alloc: Global, line: &[u8]) -> Result<Line, AllocError>
     ensures value { IfOk result (λ meaning. meaning ≡ read line.now) }
+    ensures early { OnErr result (keeps_text (read line.now) ≡ true) }
 {
     let (first, words) = cut_word(line);
     if first.is_empty() || is_remark(first) {
@@ -70,13 +73,15 @@ fn read_line(alloc: Global, line: &[u8]) -> Result<Line, AllocError>
     }
 }
 
-#[tactic(auto, using(crate::proofs::ScriptLaws::MeaningLaws::read_means, crate::proofs::ScriptLaws::MeaningLaws::other_means))]
+#[tactic(auto, using(crate::proofs::ScriptLaws::MeaningLaws::read_means, crate::proofs::ScriptLaws::MeaningLaws::other_means, crate::proofs::ScriptLaws::KeepingLaws::meaning_keeps))]
 /// What a line of a script means, without its ending: a command, DISPLAY STATUS or nothing. A line that is none
 /// of these is the command `Bad`. Takes memory for the names and texts that the command keeps alone, and answers
-/// an error where it is refused.
+/// an error where it is refused: never at a line that means nothing, DISPLAY STATUS, `Bad` or another command that
+/// keeps no name or text.
 pub fn parse_line(alloc: Global, line: &[u8]) -> Result<Line, AllocError>
     ensures read { IfOk result (λ meaning. Means line.now meaning) }
     ensures one { IfOk result (λ meaning. (other : Line) → Means line.now other → other ≡ meaning) }
+    ensures early { OnErr result ((meaning : Line) → Means line.now meaning → keeps_text meaning ≡ true) }
 {
     let meaning = read_line(alloc, line)?;
     Ok(meaning)

@@ -1,6 +1,6 @@
 //! The values that commands give.
 
-ghost use Rattle.std.specs.Prelude.{◌≡◌, ◌+◌, ◌++◌, ◌≤◌, true, length, take, option_map, IfOk};
+ghost use Rattle.std.specs.Prelude.{◌≡◌, ◌+◌, ◌++◌, ◌≤◌, true, length, take, option_map, IfOk, IsSome, OnErr};
 ghost use Rattle.std.specs.List.{list_all};
 ghost use Rattle.std.specs.Char.{is_ascii_digit};
 ghost use Rattle.dbf_fields.specs.Digits.{digits_after};
@@ -179,10 +179,11 @@ fn date_literal(text: &[u8]) -> Literal
     date_of_cell(&year_first(text))
 }
 
-/// The value that a word is: a text, a number, a logical value or a date. An error where memory for a text is
-/// refused.
+/// The value that a word is: a text, a number, a logical value or a date. An error where memory is refused, which
+/// only a text takes.
 pub(crate) fn literal_in(alloc: Global, word: &[u8]) -> Result<Option<Literal>, AllocError>
     ensures value { IfOk result (λ literal. literal ≡ literal_of word.now) }
+    ensures early { OnErr result (IsSome (literal_of word.now)) }
 {
     if let Some(text) = text_in(word) {
         return Ok(Some(Literal::Text(Bytes::from_slice(alloc, text)?)));

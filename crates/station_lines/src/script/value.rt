@@ -1,6 +1,6 @@
 //! Names, numbers and texts in words.
 
-ghost use Rattle.std.specs.Prelude.{◌≡◌, ◌<◌, ◌==◌, ◌^◌, position, option_map, IfOk, IfSome};
+ghost use Rattle.std.specs.Prelude.{◌≡◌, ◌<◌, ◌==◌, ◌^◌, position, option_map, IfOk, IfSome, IsSome, OnErr};
 ghost use Rattle.std.specs.List.{list_all};
 ghost use Rattle.dbf_fields.specs.Name.{is_name_char};
 ghost use Rattle.station_lines.specs.Script.Parts.{is_name as name_is, name_in as name_of, capitals, is_count as count_is, count_in as count_of, distance_in as distance_of};
@@ -42,9 +42,10 @@ pub(crate) fn in_capitals(alloc: Global, word: &[u8]) -> Result<Bytes, AllocErro
     Ok(Bytes::from_vec(bytes))
 }
 
-/// The name that a word is, folded to capitals. An error where memory is refused.
+/// The name that a word is, folded to capitals. An error where memory is refused, which only a name takes.
 pub(crate) fn name_in(alloc: Global, word: &[u8]) -> Result<Option<Bytes>, AllocError>
     ensures value { IfOk result (λ name. name ≡ name_of word.now) }
+    ensures early { OnErr result (IsSome (name_of word.now)) }
 {
     if is_name(word) {
         Ok(Some(in_capitals(alloc, word)?))

@@ -1,0 +1,14 @@
+-- What of a script line its meaning keeps.
+use Rattle.std.specs.Prelude.{Bool, true, false}
+use Rattle.shared_catalogue.specs.declared.command.Command.TheVariants.{UseTable, Seek, Replace, Memo, Show}
+use Rattle.station_lines.specs.declared.script.line.Line.{Line}
+use Rattle.station_lines.specs.declared.script.line.Line.TheVariants.{Run}
+
+-- a command that keeps a name or a text of its line
+abbrev pub keeps_text : Line → Bool
+keeps_text (Run (UseTable name exclusive)) = true
+keeps_text (Run (Seek text)) = true
+keeps_text (Run (Replace field value)) = true
+keeps_text (Run (Memo field text)) = true
+keeps_text (Run (Show field)) = true
+keeps_text line = false
