@@ -1,3 +1,5 @@
 pub mod FolderLaws
 pub mod PlanLaws
 pub mod ListingLaws
+pub mod ReadingLaws
+pub mod OfBytesLaws

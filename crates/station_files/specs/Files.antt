@@ -1,9 +1,14 @@
 -- Files by their names.
-use Rattle.std.specs.Prelude.{◌≡◌, ◌⊎◌, ℕ, ◌<◌, nat_lt, ◌==◌, Bool, true, List, [], ◌∷◌, ◌++◌, length, Option, Some, None, bytes_eq, flat_map, if◌then◌else◌}
+use Rattle.std.specs.Prelude.{◌≡◌, ◌≢◌, ◌⊎◌, ℕ, ◌<◌, nat_lt, ◌==◌, Bool, true, List, [], ◌∷◌, ◌++◌, length, Option, Some, None, bytes_eq, flat_map, if◌then◌else◌}
 use Rattle.std.specs.List.{list_all}
 use Rattle.station_files.specs.declared.memory_folder.OpenFile.{OpenFile}
 use Rattle.station_files.specs.declared.named.NamedFile.{NamedFile}
 use Rattle.station_files.specs.declared.source.TheConstants.{MAX_FILE_BYTES}
+use Rattle.station_files.specs.declared.source.LoadFault.{LoadFault}
+use Rattle.station_files.specs.declared.source.LoadFault.TheVariants.{NoMemory, CannotRead}
+use Rattle.std.specs.IoError.{error_kind}
+use Rattle.std.specs.declared.io.Error.{Error}
+use Rattle.std.specs.declared.io.ErrorKind.TheVariants.{OutOfMemory}
 
 abbrev pub is_byte : ℕ → Bool
 is_byte b = nat_lt b 256
@@ -69,3 +74,8 @@ files_in list = (files_read list).files
 pub record IsOfBytes (file : NamedFile) : Type 0 where
   pub name : list_all is_byte file.name ≡ true
   pub bytes : list_all is_byte file.bytes ≡ true
+
+-- what a load answers where the system refuses: that memory was refused, or that the file can't be read
+pub record IsFaultOf (error : Error) (fault : LoadFault) : Type 0 where
+  pub memory : error_kind error ≡ OutOfMemory → fault ≡ NoMemory
+  pub other : error_kind error ≢ OutOfMemory → fault ≡ CannotRead

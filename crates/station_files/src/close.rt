@@ -16,7 +16,7 @@ use crate::folder::Folder;
 use crate::plan::plan_files;
 use crate::planned::Planned;
 use dbf_fields::{Bytes, Day};
-use dbf_image::{SinkFault, TableData, next_free_block, write_all, write_dbf, write_dbt};
+use dbf_image::{ByteSink, SinkFault, TableData, next_free_block, write_all, write_dbf, write_dbt};
 use std::alloc::Global;
 
 // Whether the memos take more blocks than 32 bits count.
@@ -27,7 +27,7 @@ fn has_too_many(table: &TableData) -> bool
 }
 
 // The number of the first table whose memos take too many blocks. Takes no memory.
-fn first_too_many(tables: &[ClosedTable]) -> Option<usize>
+pub(crate) fn first_too_many(tables: &[ClosedTable]) -> Option<usize>
     ensures value { result ≡ first_blocked 1 tables.now }
 {
     let mut number = 0;
@@ -41,51 +41,54 @@ fn first_too_many(tables: &[ClosedTable]) -> Option<usize>
 }
 
 // Writes the file of a table.
-fn write_table<F: Folder>(folder: &mut F, table: &TableData, day: Day) -> Result<(), SinkFault>
+fn write_table<S: ByteSink>(sink: &mut S, table: &TableData, day: Day) -> Result<(), SinkFault>
     requires low { 1900 ≤ day.year }
     requires high { day.year ≤ 2155 }
     requires few { has_too_many_blocks table.now ≡ false }
-    ensures wrote { OnOk result (F.written folder.new ≡ grown (F.written folder.old) (image table.now day.year day.month day.day)) }
-    ensures fine { OnOk result (F.failures folder.new ≡ F.failures folder.old) }
-    ensures failed { OnErr result (Rises (F.failures folder.old) (F.failures folder.new)) }
-    ensures kept { IsFront (F.written folder.old) (F.written folder.new) }
-    ensures front { OnErr result (IsFront (F.written folder.new) (grown (F.written folder.old) (image table.now day.year day.month day.day))) }
+    ensures wrote { OnOk result (S.written sink.new ≡ grown (S.written sink.old) (image table.now day.year day.month day.day)) }
+    ensures fine { OnOk result (S.failures sink.new ≡ S.failures sink.old) }
+    ensures failed { OnErr result (Rises (S.failures sink.old) (S.failures sink.new)) }
+    ensures kept { IsFront (S.written sink.old) (S.written sink.new) }
+    ensures front { OnErr result (IsFront (S.written sink.new) (grown (S.written sink.old) (image table.now day.year day.month day.day))) }
 {
-    match write_dbf(folder, table, day) {
+    match write_dbf(sink, table, day) {
         Ok(()) => Ok(()),
         Err(_) => Err(SinkFault),
     }
 }
 
 // Writes the file of a table's memos.
-fn write_memos<F: Folder>(folder: &mut F, table: &TableData) -> Result<(), SinkFault>
+fn write_memos<S: ByteSink>(sink: &mut S, table: &TableData) -> Result<(), SinkFault>
     requires few { has_too_many_blocks table.now ≡ false }
-    ensures wrote { OnOk result (F.written folder.new ≡ grown (F.written folder.old) (memo_image table.now)) }
-    ensures fine { OnOk result (F.failures folder.new ≡ F.failures folder.old) }
-    ensures failed { OnErr result (Rises (F.failures folder.old) (F.failures folder.new)) }
-    ensures kept { IsFront (F.written folder.old) (F.written folder.new) }
-    ensures front { OnErr result (IsFront (F.written folder.new) (grown (F.written folder.old) (memo_image table.now))) }
+    ensures wrote { OnOk result (S.written sink.new ≡ grown (S.written sink.old) (memo_image table.now)) }
+    ensures fine { OnOk result (S.failures sink.new ≡ S.failures sink.old) }
+    ensures failed { OnErr result (Rises (S.failures sink.old) (S.failures sink.new)) }
+    ensures kept { IsFront (S.written sink.old) (S.written sink.new) }
+    ensures front { OnErr result (IsFront (S.written sink.new) (grown (S.written sink.old) (memo_image table.now))) }
 {
-    match write_dbt(folder, table) {
+    match write_dbt(sink, table) {
         Ok(()) => Ok(()),
         Err(_) => Err(SinkFault),
     }
 }
 
 // Writes what a file is to hold.
-fn write_content<F: Folder>(folder: &mut F, content: &Content<'_>) -> Result<(), SinkFault>
+pub(crate) fn write_content<S: ByteSink>(
+    sink: &mut S,
+    content: &Content<'_>,
+) -> Result<(), SinkFault>
     requires can { is_writable content.now ≡ true }
-    ensures wrote { OnOk result (F.written folder.new ≡ grown (F.written folder.old) (bytes_of content.now)) }
-    ensures fine { OnOk result (F.failures folder.new ≡ F.failures folder.old) }
-    ensures failed { OnErr result (Rises (F.failures folder.old) (F.failures folder.new)) }
-    ensures kept { IsFront (F.written folder.old) (F.written folder.new) }
-    ensures front { OnErr result (IsFront (F.written folder.new) (grown (F.written folder.old) (bytes_of content.now))) }
+    ensures wrote { OnOk result (S.written sink.new ≡ grown (S.written sink.old) (bytes_of content.now)) }
+    ensures fine { OnOk result (S.failures sink.new ≡ S.failures sink.old) }
+    ensures failed { OnErr result (Rises (S.failures sink.old) (S.failures sink.new)) }
+    ensures kept { IsFront (S.written sink.old) (S.written sink.new) }
+    ensures front { OnErr result (IsFront (S.written sink.new) (grown (S.written sink.old) (bytes_of content.now))) }
 {
     match content {
-        Content::Table(table, day) => write_table(folder, *table, *day),
-        Content::Memos(table) => write_memos(folder, *table),
-        Content::Index(index) => index.write(folder),
-        Content::Text(text) => write_all(folder, text.as_slice()),
+        Content::Table(table, day) => write_table(sink, *table, *day),
+        Content::Memos(table) => write_memos(sink, *table),
+        Content::Index(index) => index.write(sink),
+        Content::Text(text) => write_all(sink, text.as_slice()),
     }
 }
 

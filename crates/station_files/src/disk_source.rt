@@ -3,11 +3,10 @@
 ghost use Rattle.std.specs.Prelude.{None};
 
 use crate::source::{LoadFault, MAX_FILE_BYTES, Source};
+use crate::transfer::read_whole;
 use dbf_fields::Bytes;
-use std::alloc::{AllocError, Global};
+use std::alloc::Global;
 use std::fs::{File, OpenFile};
-use std::io;
-use std::io::Read;
 use std::rt::Files;
 
 /// The files of the system, by their paths. A relative path begins at the folder in which the program
@@ -24,37 +23,11 @@ impl<R: Files + Drop> DiskSource<R> {
     }
 }
 
-impl From<AllocError> for LoadFault {
-    fn from(_refused: AllocError) -> LoadFault {
-        LoadFault::NoMemory
-    }
-}
-
-impl From<io::Error> for LoadFault {
-    fn from(error: io::Error) -> LoadFault {
-        if error.kind() == io::ErrorKind::OutOfMemory {
-            LoadFault::NoMemory
-        } else {
-            LoadFault::CannotRead
-        }
-    }
-}
-
 // The bytes of a file, read into room that is taken at once for as many as the system says that it has.
 fn read_file<R: Files>(rt: &R, alloc: Global, path: &str) -> Result<Vec<u8>, LoadFault> {
     let file = File::open(rt, path)?;
-    let length = file.metadata()?.len();
-    if length > MAX_FILE_BYTES as u64 {
-        return Err(LoadFault::CannotRead);
-    }
-    let mut bytes = Vec::new(alloc);
-    bytes.reserve(length as usize + 1)?;
-    file.take(MAX_FILE_BYTES as u64 + 1)
-        .read_to_end(&mut bytes)?;
-    if bytes.len() > MAX_FILE_BYTES {
-        return Err(LoadFault::CannotRead);
-    }
-    Ok(bytes)
+    let expected = file.metadata()?.len();
+    read_whole(alloc, file, expected, MAX_FILE_BYTES)
 }
 
 impl<R: Files + Drop> Source for DiskSource<R> {

@@ -17,9 +17,11 @@ mod folder;
 mod memory_folder;
 mod memory_source;
 mod named;
+mod of_bytes;
 mod plan;
 mod planned;
 mod source;
+mod transfer;
 
 pub use close::close_files;
 pub use close_fault::CloseFault;
@@ -31,4 +33,6 @@ pub use folder::Folder;
 pub use memory_folder::{MemoryFolder, OpenFile};
 pub use memory_source::MemorySource;
 pub use named::NamedFile;
+pub use of_bytes::run_is_of_bytes;
 pub use source::{LoadFault, MAX_FILE_BYTES, Source};
+pub use transfer::{read_whole, write_part};

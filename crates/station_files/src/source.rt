@@ -6,7 +6,8 @@ ghost use Rattle.station_files.specs.declared.named.NamedFile.{NamedFile};
 ghost use Rattle.station_files.specs.Files.{IsFileOf, IsTooLong, IsUnreadable};
 
 use dbf_fields::Bytes;
-use std::alloc::Global;
+use std::alloc::{AllocError, Global};
+use std::io;
 use thiserror::Error;
 
 /// The most bytes of a file that is read.
@@ -21,6 +22,31 @@ pub enum LoadFault {
     /// The file can't be read, or is over the limit.
     #[error("cannot read")]
     CannotRead,
+}
+
+impl From<AllocError> for LoadFault {
+    ghost use Rattle.std.specs.Prelude.{◌≡◌};
+    ghost use Rattle.station_files.specs.declared.source.LoadFault.TheVariants.{NoMemory};
+
+    ghost from_gives = { λ _ fault. fault ≡ NoMemory };
+
+    fn from(_refused: AllocError) -> LoadFault {
+        LoadFault::NoMemory
+    }
+}
+
+impl From<io::Error> for LoadFault {
+    ghost use Rattle.station_files.specs.Files.{IsFaultOf};
+
+    ghost from_gives = { λ error fault. IsFaultOf error fault };
+
+    fn from(error: io::Error) -> LoadFault {
+        if error.kind() == io::ErrorKind::OutOfMemory {
+            LoadFault::NoMemory
+        } else {
+            LoadFault::CannotRead
+        }
+    }
 }
 
 /// A place that whole files are read from, by their paths.
