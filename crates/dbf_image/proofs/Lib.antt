@@ -23,6 +23,8 @@ pub mod Writing
 pub mod ReadBack
 pub mod Puts
 pub mod MemoFrame
+pub mod MemoOwners
+pub mod MemoTotals
 pub mod MemoFilling
 pub mod MemoTexts
 pub mod MemoHeld

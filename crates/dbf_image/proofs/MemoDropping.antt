@@ -6,11 +6,12 @@ use Rattle.std.specs.Cmp.{nat_cmp_total}
 use Rattle.std.specs.FinMap.{retain_keys, same_map, get-retain_keys, nat_cmp-IsAntisymmetric}
 use Rattle.dbf_image.specs.declared.memo_store.block.MemoBlock.{MemoBlock}
 use Rattle.dbf_image.specs.declared.memo_store.block.FreeList.{FreeList}
-use Rattle.dbf_image.specs.MemoChains.{block_at, text_at, IsChain, is_kept, free_one, AreHeld}
+use Rattle.dbf_image.specs.MemoChains.{block_at, blocks_owned, text_at, text_blocks, IsChain, is_kept, free_one, AreHeld, AreCounted}
 use Rattle.dbf_image.specs.MemoSteps.{Marks, Sweeps}
 use Rattle.dbf_image.specs.MemoStore.{texts_of}
 use Rattle.dbf_image.proofs.MemoFrame.{alike}
 use Rattle.dbf_image.proofs.MemoCounting.{chain_counted, counted_le}
+use Rattle.dbf_image.proofs.MemoOwners.{owned_same, owned_none}
 use Rattle.dbf_image.proofs.MemoTexts.{none_is, there, get_texts, text_stays, chain_stays}
 
 -- marks change no text
@@ -46,6 +47,27 @@ swept_text xs ys free q true k held s =
     (λ i e o. stayed xs ys free i i s (o ∙ e) ∙ sym e)
 swept_text xs ys free zero false k held s = refl
 swept_text xs ys free (suc i) false k held s = none_is ys i (λ e. true≢false (sym (is_marked xs ys free i i s e) ∙ k))
+
+-- ---- how many blocks each text has
+
+pub marked_counted : (xs ys : List MemoBlock) (numbers : List ℕ) → AreHeld xs → AreCounted xs → Marks xs ys numbers → AreCounted ys
+marked_counted xs ys numbers held counted m i =
+    owned_same (suc i) xs ys m.same_length (λ j e. (m.alike j).owner ∙ e) (λ j e. sym (m.alike j).owner ∙ e)
+    ∙ counted i ∙ ap text_blocks (sym (marked_text xs ys numbers (suc i) held m))
+
+swept_owned : (xs ys : List MemoBlock) (free : FreeList) (i : ℕ) (b : Bool) → is_kept xs (suc i) ≡ b → AreHeld xs → AreCounted xs → Sweeps (length xs) xs ys free → blocks_owned (suc i) ys ≡ text_blocks (text_at ys (suc i))
+swept_owned xs ys free i true k held counted s =
+    owned_same (suc i) xs ys s.same_length (λ j o. ap (λ (x : MemoBlock). x.owner) (s.stay j (ap (is_kept xs) o ∙ k)) ∙ o) (λ j o. stayed xs ys free j i s o)
+    ∙ counted i ∙ ap text_blocks (sym (swept_text xs ys free (suc i) true k held s))
+swept_owned xs ys free i false k held counted s =
+    owned_none (suc i) ys (λ j lt o. true≢false (sym (is_marked xs ys free j i s o) ∙ k)) ∙ ap text_blocks (sym (swept_text xs ys free (suc i) false k held s))
+
+pub swept_counted : (xs ys : List MemoBlock) (free : FreeList) → AreHeld xs → AreCounted xs → Sweeps (length xs) xs ys free → AreCounted ys
+swept_counted xs ys free held counted s i = swept_owned xs ys free i (is_kept xs (suc i)) refl held counted s
+
+-- all free blocks are in the chain
+pub swept_free : (xs ys : List MemoBlock) (free : FreeList) → Sweeps (length xs) xs ys free → free.count ≡ blocks_owned 0 ys
+swept_free xs ys free s = s.counted ∙ ap (sum_by free_one) (take_all (length xs) ys (omega (arith, s.same_length)))
 
 -- a number that no block has
 past_text : (xs : List MemoBlock) (i : ℕ) → length xs ≤ i → text_at xs (suc i) ≡ None

@@ -1,12 +1,13 @@
 -- A text is written block by block.
-use Rattle.std.proofs.Common.{◌≡◌, ◌≢◌, ℕ, suc, ◌<◌, min, List, ◌++◌, length, take, drop, set, take-append-drop, length-drop, length-set, get_or-set_same, get_or-set_other, ap, ap₂, sym, ◌∙◌, subst, inl, inr, ⊎_elim, arith}
+use Rattle.std.proofs.Common.{◌≡◌, ◌≢◌, ℕ, suc, ◌+◌, ◌<◌, min, List, ◌++◌, length, take, drop, set, take-append-drop, length-drop, length-set, get_or-set_same, get_or-set_other, ap, ap₂, sym, ◌∙◌, subst, inl, inr, ⊎_elim, arith}
 use Rattle.std.proofs.lemmas.Bool.{cases_eq}
 use Rattle.dbf_image.specs.declared.memo_store.block.MemoBlock.{MemoBlock}
 use Rattle.dbf_image.specs.declared.memo_store.block.FreeList.{FreeList}
 use Rattle.dbf_image.specs.declared.format.TheConstants.{BLOCK}
-use Rattle.dbf_image.specs.MemoChains.{no_block, block_at, text_from, IsChain}
+use Rattle.dbf_image.specs.MemoChains.{no_block, block_at, blocks_owned, text_from, IsChain}
 use Rattle.dbf_image.specs.MemoSteps.{CanFill, Fills}
 use Rattle.dbf_image.proofs.MemoFrame.{framed, alike}
+use Rattle.dbf_image.proofs.MemoOwners.{one_of, one_is, one_not, owned_set}
 
 -- the list with one block set
 pub set_same : (xs : List MemoBlock) (i : ℕ) (b : MemoBlock) → i < length xs → block_at (set xs i b) i ≡ b
@@ -45,6 +46,7 @@ fills_rest k c size xs ys zs free rest after owner text more b e is m h left pie
     let other : (j : ℕ) → j ≢ free.head → block_at ys j ≡ block_at xs j = λ j ne. ap (λ l. block_at l j) is ∙ set_other xs free.head j b ne in
     let mine : (block_at ys free.head).owner ≡ owner = ap (λ (x : MemoBlock). x.owner) here ∙ own in
     let there : block_at zs free.head ≡ b = done.held free.head (λ z. absurd (omega (arith, z, mine, can.owned))) ∙ here in
+    let moved : (q : ℕ) → blocks_owned q ys + one_of q (block_at xs free.head) ≡ blocks_owned q xs + one_of q b = λ q. ap (λ l. blocks_owned q l + one_of q (block_at xs free.head)) is ∙ owned_set q xs free.head b all.0 in
     let link : (block_at zs free.head).next ≡ rest.head = ap (λ (x : MemoBlock). x.next) there ∙ next in
     record {
       same_length = done.same_length ∙ long;
@@ -54,4 +56,7 @@ fills_rest k c size xs ys zs free rest after owner text more b e is m h left pie
       still_free = done.still_free;
       held = λ j ne. let apart : j ≢ free.head = λ same. ne (ap (λ x. (block_at xs x).owner) same ∙ all.1) in done.held j (λ z. ne (ap (λ (x : MemoBlock). x.owner) (sym (other j apart)) ∙ z)) ∙ other j apart;
       changed = λ j. ⊎_elim (λ same. inr (ap (λ x. (block_at zs x).owner) same ∙ ap (λ (x : MemoBlock). x.owner) there ∙ own)) (λ apart. ⊎_elim (λ s. inl (s ∙ other j apart)) (λ o. inr o) (done.changed j)) (cases_eq j free.head);
+      taken = omega (arith, done.taken, moved 0, one_is 0 (block_at xs free.head) all.1, one_not 0 b (λ z. absurd (omega (arith, z, own, can.owned))));
+      given = omega (arith, done.given, moved owner, one_not owner (block_at xs free.head) (λ z. absurd (omega (arith, z, all.1, can.owned))), one_is owner b own);
+      others = λ q some ne. omega (arith, done.others q some ne, moved q, one_not q (block_at xs free.head) (λ z. some (sym z ∙ all.1)), one_not q b (λ z. ne (sym z ∙ own)));
     }

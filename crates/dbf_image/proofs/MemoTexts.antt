@@ -103,10 +103,13 @@ grown_push xs ys zs b e own g =
 grown_back : (xs ys : List MemoBlock) (i n : ℕ) → Grown xs ys → (block_at ys i).owner ≡ suc n → (block_at xs i).owner ≡ suc n
 grown_back xs ys i n g e = ⊎_elim (λ lt. ap (λ (x : MemoBlock). x.owner) (sym (g.stay i lt)) ∙ e) (λ le. absurd (omega (arith, e, g.free i le))) (Rattle.std.proofs.lemmas.Bool.cases_lt i (length xs))
 
-pub grown_texts : (xs ys : List MemoBlock) → AreHeld xs → Grown xs ys → texts_of ys ≡ texts_of xs
-grown_texts xs ys held g = same_texts xs ys (λ q. text_stays xs ys q held g.longer
+pub grown_text : (xs ys : List MemoBlock) (q : ℕ) → AreHeld xs → Grown xs ys → text_at ys q ≡ text_at xs q
+grown_text xs ys q held g = text_stays xs ys q held g.longer
     (λ j n s o. alike (g.stay j (there xs j n (o ∙ s))))
-    (λ i s o. grown_back xs ys i i g (o ∙ s) ∙ sym s))
+    (λ i s o. grown_back xs ys i i g (o ∙ s) ∙ sym s)
+
+pub grown_texts : (xs ys : List MemoBlock) → AreHeld xs → Grown xs ys → texts_of ys ≡ texts_of xs
+grown_texts xs ys held g = same_texts xs ys (λ q. grown_text xs ys q held g)
 
 pub grown_held : (xs ys : List MemoBlock) → AreHeld xs → Grown xs ys → AreHeld ys
 grown_held xs ys held g i e = chain_stays xs ys i held g.longer (λ j o. alike (g.stay j (there xs j i o))) (grown_back xs ys i i g e)

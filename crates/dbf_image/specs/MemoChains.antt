@@ -1,5 +1,5 @@
 -- Chains of blocks, and the texts that they hold.
-use Rattle.std.specs.Prelude.{◌≡◌, ℕ, zero, suc, ◌+◌, ◌*◌, ◌^◌, ◌<◌, ◌≤◌, Bool, false, List, [], ◌++◌, length, slice_index_or, if◌then◌else◌, ◌==◌, Option, Some, None}
+use Rattle.std.specs.Prelude.{◌≡◌, ℕ, zero, suc, ◌+◌, ◌-◌, ◌*◌, ◌/◌, ◌^◌, ◌<◌, ◌≤◌, Bool, false, List, [], ◌++◌, length, slice_index_or, count_by, if◌then◌else◌, ◌==◌, Option, Some, None}
 use Rattle.dbf_image.specs.declared.format.TheConstants.{BLOCK}
 use Rattle.dbf_image.specs.declared.memo_store.block.MemoBlock.{MemoBlock}
 
@@ -33,6 +33,23 @@ is_kept bs (suc i) = (block_at bs i).kept
 -- 1 for a free block
 abbrev pub free_one : MemoBlock → ℕ
 free_one b = if b.owner == 0 then 1 else 0
+
+-- how many blocks have this owner; the free ones have 0
+abbrev pub blocks_owned : ℕ → List MemoBlock → ℕ
+blocks_owned q bs = count_by (λ b. b.owner == q) bs
+
+-- how many blocks a text of n bytes takes
+abbrev pub blocks_in : ℕ → ℕ
+blocks_in n = (n + (BLOCK - 1)) / BLOCK
+
+-- of a text where there is one
+abbrev pub text_blocks : Option (List ℕ) → ℕ
+text_blocks None = 0
+text_blocks (Some text) = blocks_in (length text)
+
+-- each text has as many blocks as it takes, and a number without a text has none
+abbrev pub AreCounted : List MemoBlock → Type 0
+AreCounted bs = (i : ℕ) → blocks_owned (suc i) bs ≡ text_blocks (text_at bs (suc i))
 
 -- each text is a chain
 abbrev pub AreHeld : List MemoBlock → Type 0

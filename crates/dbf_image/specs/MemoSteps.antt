@@ -4,7 +4,7 @@ use Rattle.std.specs.List.{list_any, sum_by}
 use Rattle.dbf_image.specs.declared.memo_store.block.MemoBlock.{MemoBlock}
 use Rattle.dbf_image.specs.declared.memo_store.block.FreeList.{FreeList}
 use Rattle.dbf_image.specs.declared.format.TheConstants.{BLOCK}
-use Rattle.dbf_image.specs.MemoChains.{block_at, text_from, IsChain, is_kept, free_one, Alike}
+use Rattle.dbf_image.specs.MemoChains.{block_at, text_from, IsChain, blocks_owned, is_kept, free_one, Alike}
 
 -- the first free blocks have room for the text
 pub record CanFill (xs : List MemoBlock) (free : FreeList) (owner count : ℕ) (text : List ℕ) : Type 0 where
@@ -23,6 +23,10 @@ pub record Fills (xs ys : List MemoBlock) (free rest : FreeList) (owner count : 
   -- only free blocks change, and all that change belong to the text
   pub held : (j : ℕ) → (block_at xs j).owner ≢ 0 → block_at ys j ≡ block_at xs j
   pub changed : (j : ℕ) → (block_at ys j ≡ block_at xs j) ⊎ ((block_at ys j).owner ≡ owner)
+  -- so many free blocks are the text's now
+  pub taken : blocks_owned 0 ys + count ≡ blocks_owned 0 xs
+  pub given : blocks_owned owner ys ≡ blocks_owned owner xs + count
+  pub others : (q : ℕ) → q ≢ 0 → q ≢ owner → blocks_owned q ys ≡ blocks_owned q xs
 
 -- the first n marks are taken away
 pub record Clears (n : ℕ) (xs ys : List MemoBlock) : Type 0 where

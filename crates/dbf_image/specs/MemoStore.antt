@@ -1,5 +1,6 @@
 -- A store as a finite map from numbers to texts.
-use Rattle.std.specs.Prelude.{ℕ, zero, suc, ◌+◌, ◌*◌, ◌^◌, ◌<◌, ◌≤◌, List, [], ◌∷◌, length, Option, Some, None, vec_capacity}
+use Rattle.std.specs.Prelude.{◌≡◌, ℕ, zero, suc, ◌+◌, ◌*◌, ◌^◌, ◌<◌, ◌≤◌, List, [], ◌∷◌, length, Option, Some, None, vec_capacity}
+use Rattle.std.specs.List.{sum_by}
 use Rattle.std.specs.Ordering.{nat_cmp}
 use Rattle.std.specs.Coded.{Coded, coded_ℕ, coded_list, coded×, code_by}
 use Rattle.std.specs.FinMap as map
@@ -7,7 +8,7 @@ use Rattle.std.proofs.Common.{refl}
 use Rattle.dbf_image.specs.declared.memo_store.block.MemoBlock.{MemoBlock}
 use Rattle.dbf_image.specs.declared.memo_store.MemoStore.TheInside.{Inside}
 use Rattle.dbf_image.specs.declared.format.TheConstants.{BLOCK}
-use Rattle.dbf_image.specs.MemoChains.{IsChain, AreHeld, text_at}
+use Rattle.dbf_image.specs.MemoChains.{IsChain, AreHeld, AreCounted, blocks_in, blocks_owned, text_at}
 
 -- texts by their numbers
 abbrev pub Texts : Type 0
@@ -16,10 +17,18 @@ Texts = map.FinMap nat_cmp (List ℕ)
 abbrev pub get_text : Texts → ℕ → Option (List ℕ)
 get_text texts number = map.get texts number
 
+-- how many blocks the texts take
+abbrev pub used_blocks : Texts → ℕ
+used_blocks texts = sum_by (λ e. blocks_in (length e.1)) (map.entries texts)
+
 -- a store's texts, and how many bytes the next text may have without memory being taken
 pub record Memos : Type 0 where
   pub texts : Texts
   pub spare : ℕ
+
+-- the bytes of all blocks: those of the texts' blocks, and the spare ones
+abbrev pub all_bytes : Memos → ℕ
+all_bytes memos = BLOCK * used_blocks memos.texts + memos.spare
 
 -- as a pair
 abbrev pub coded_memos : Coded Memos
@@ -42,10 +51,13 @@ texts_of bs = map.from_entries (entries_to (length bs) bs)
 abbrev pub view_of : Inside → Memos
 view_of x = record { texts = texts_of x.blocks.items; spare = BLOCK * (x.free.count + x.ready) }
 
--- the free blocks are a chain, and so is each text; the room is there for the blocks that may still be pushed
+-- the free blocks are a chain, and so is each text; each block is in one of these chains; the room is there for the
+-- blocks that may still be pushed
 pub record IsMemoStore (x : Inside) : Type 0 where
   pub free : IsChain 0 x.free.count x.blocks.items x.free.head
+  pub all_free : x.free.count ≡ blocks_owned 0 x.blocks.items
   pub held : AreHeld x.blocks.items
+  pub counted : AreCounted x.blocks.items
   pub few : x.free.count ≤ length x.blocks.items
   pub room : length x.blocks.items + x.ready ≤ vec_capacity x.blocks
   pub numbers : length x.blocks.items + x.ready < 2 ^ 32

@@ -4,6 +4,7 @@
 ghost use Rattle.std.specs.Prelude.{◌≡◌, ◌+◌, ◌<◌, ◌≤◌, [], length, IfOk, OnOk, Some, None, IsSome, unwrap_or, nat_eq};
 ghost use Rattle.std.specs.List.{list_any};
 ghost use Rattle.std.specs.FinMap as map;
+ghost use Rattle.dbf_image.specs.MemoStore.{all_bytes};
 ghost use Rattle.dbf_image.specs.Output.{Puts};
 ghost use Rattle.dbf_image.specs.declared.format.TheConstants.{BLOCK};
 
@@ -83,7 +84,7 @@ impl MemoStore {
     }
 
     /// Keeps a text, and answers its number, which had no text. Every other text stays. It takes no memory, and
-    /// no more of the spare bytes than the blocks of the text have.
+    /// of the spare bytes those that the blocks of the text have.
     pub fn put(&mut self, text: &[u8]) -> u32
         requires some { 0 < length text.now }
         requires room { length text.now ≤ self.old.spare }
@@ -91,6 +92,7 @@ impl MemoStore {
         ensures fresh { map.get self.old.texts result ≡ None }
         ensures texts { self.new.texts ≡ map.insert self.old.texts result text.now }
         ensures spare { self.old.spare < self.new.spare + length text.now + BLOCK }
+        ensures blocks { all_bytes self.new ≡ all_bytes self.old }
     {
         let count = blocks_for(text.len());
         // A block is new only where the free ones are too few.
@@ -142,10 +144,11 @@ impl MemoStore {
         })
     }
 
-    /// Keeps the texts with these numbers, and no other. It takes no memory, and no spare bytes are lost.
+    /// Keeps the texts with these numbers, and no other: all blocks of the dropped ones are spare. It takes no memory.
     pub fn drop_unused(&mut self, numbers: &[u32])
         ensures texts { self.new.texts ≡ map.retain_keys self.old.texts (λ q. list_any (nat_eq q) numbers.now) }
         ensures spare { self.old.spare ≤ self.new.spare }
+        ensures blocks { all_bytes self.new ≡ all_bytes self.old }
     {
         mark(&mut self.blocks, numbers);
         self.free = sweep(&mut self.blocks);

@@ -1,7 +1,7 @@
 //! The blocks of a store of memos.
 
 ghost use Rattle.std.specs.Prelude.{◌≡◌, ◌+◌, ◌*◌, ◌<◌, ◌≤◌, ◌^◌, length, vec_capacity, IfOk};
-ghost use Rattle.dbf_image.specs.MemoChains.{IsChain, Grown};
+ghost use Rattle.dbf_image.specs.MemoChains.{IsChain, Grown, blocks_in};
 ghost use Rattle.dbf_image.specs.declared.format.TheConstants.{BLOCK};
 
 use crate::format::BLOCK;
@@ -34,6 +34,7 @@ pub(crate) struct FreeList {
 pub(crate) fn blocks_for(length: usize) -> usize
     ensures enough { length ≤ BLOCK * result }
     ensures least { BLOCK * result < length + BLOCK }
+    ensures value { result ≡ blocks_in length }
 {
     length.div_ceil(BLOCK)
 }

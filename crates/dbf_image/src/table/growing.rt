@@ -252,6 +252,7 @@ impl GrowingTable {
     /// memo of theirs has are free. It takes no memory.
     pub fn pack(&mut self)
         ensures value { self.new.table ≡ packed self.old.table }
+        ensures room { self.old.text_room ≤ self.new.text_room }
     {
         self.count = keep_records(&self.schema, self.count, &mut self.records, &mut self.memos);
         self.texts.drop_unused(&self.memos);

@@ -1,13 +1,15 @@
-use Rattle.std.proofs.Common.{◌≡◌, List, length, ap, sym, subst, ◌∙◌, nat_eq, arith}
+use Rattle.std.proofs.Common.{◌≡◌, ◌+◌, ◌*◌, List, length, ap, sym, subst, ◌∙◌, nat_eq, arith}
 use Rattle.std.proofs.lemmas.List.{with_items_is}
 use Rattle.std.specs.Vec.{with_items}
 use Rattle.std.specs.List.{list_any}
 use Rattle.std.specs.FinMap as map
 use Rattle.dbf_image.specs.declared.memo_store.block.MemoBlock.{MemoBlock}
-use Rattle.dbf_image.specs.MemoChains.{IsChain, AreHeld}
+use Rattle.dbf_image.specs.MemoChains.{blocks_owned, IsChain, AreHeld, AreCounted}
 use Rattle.dbf_image.specs.MemoSteps.{Marks, Sweeps}
-use Rattle.dbf_image.specs.MemoStore.{Memos, texts_of}
-use Rattle.dbf_image.proofs.MemoDropping.{marked_held, swept_held, swept_chain, dropped, drop_keeps_free}
+use Rattle.dbf_image.specs.declared.format.TheConstants.{BLOCK}
+use Rattle.dbf_image.specs.MemoStore.{Memos, all_bytes, texts_of}
+use Rattle.dbf_image.proofs.MemoDropping.{marked_held, marked_counted, swept_held, swept_counted, swept_chain, swept_free, dropped, drop_keeps_free}
+use Rattle.dbf_image.proofs.MemoTotals.{bytes_of_all}
 use Rattle.dbf_image.proofs.memo_store.MemoStore.drop_unused.Goals as goal
 
 marked : (c : goal.After-self-3-1) → Marks c.self.inside.blocks.items c.mark.new.blocks c.args.numbers.now
@@ -32,6 +34,8 @@ invariant_of-self c =
     let long = ap (length {A = MemoBlock}) (after c) in
     record {
       free = subst (λ (l : List MemoBlock). IsChain 0 c.sweep-self-inside.result.count l c.sweep-self-inside.result.head) is (swept_chain _ _ _ s);
+      all_free = swept_free _ _ _ s ∙ ap (blocks_owned 0) is;
+      counted = subst (λ (l : List MemoBlock). AreCounted l) is (swept_counted _ _ _ (marked_held _ _ _ c.self.invariant.held m) (marked_counted _ _ _ c.self.invariant.held c.self.invariant.counted m) s);
       held = subst (λ (l : List MemoBlock). AreHeld l) is (swept_held _ _ _ (marked_held _ _ _ c.self.invariant.held m) s);
       few = omega (arith, long, s.few, s.same_length);
       room = omega (arith, long, s.same_length, m.same_length, c.self.invariant.room);
@@ -47,3 +51,10 @@ pub returns-clause-spare : goal.returns-clause-spare
 returns-clause-spare c =
     let more = drop_keeps_free c.self.inside.free.count c.self.inside.free.head _ _ _ _ _ c.self.invariant.free (marked c) (swept c) in
     omega (arith, more, ap (λ (v : Memos). v.spare) c.self.view_is)
+
+pub returns-clause-blocks : goal.returns-clause-blocks
+returns-clause-blocks c =
+    let long = ap (length {A = MemoBlock}) (after c) ∙ (swept c).same_length ∙ (marked c).same_length in
+    bytes_of_all _ (invariant_of-self c)
+    ∙ ap (λ n. BLOCK * (n + c.self.inside.ready)) long
+    ∙ sym (bytes_of_all c.self.inside c.self.invariant) ∙ ap all_bytes c.self.view_is

@@ -1,10 +1,13 @@
-use Rattle.std.proofs.Common.{◌≡◌, ◌+◌, ◌<◌, ◌≤◌, List, length, ap, sym, subst, ◌∙◌, arith}
+use Rattle.std.proofs.Common.{◌≡◌, ◌+◌, ◌*◌, ◌<◌, ◌≤◌, List, length, ap, sym, subst, ◌∙◌, arith}
 use Rattle.std.proofs.lemmas.List.{with_items_is}
 use Rattle.std.specs.FinMap as map
 use Rattle.dbf_image.specs.declared.memo_store.block.MemoBlock.{MemoBlock}
-use Rattle.dbf_image.specs.MemoChains.{IsChain, AreHeld}
+use Rattle.dbf_image.specs.MemoChains.{blocks_owned, IsChain, AreHeld, AreCounted}
 use Rattle.dbf_image.specs.MemoSteps.{Fills}
-use Rattle.dbf_image.specs.MemoStore.{Memos, texts_of}
+use Rattle.dbf_image.specs.declared.format.TheConstants.{BLOCK}
+use Rattle.dbf_image.specs.MemoStore.{Memos, all_bytes, texts_of}
+use Rattle.dbf_image.proofs.MemoOwners.{grown_free}
+use Rattle.dbf_image.proofs.MemoTotals.{bytes_of_all}
 use Rattle.dbf_image.proofs.MemoPutting.{Puts, put_grown}
 use Rattle.dbf_image.proofs.memo_store.MemoStore.put.Goals as goal
 
@@ -15,12 +18,18 @@ done c =
     let count = c.blocks_for-count.result in
     let some : 0 < count = omega (arith, c.requires.some, c.blocks_for-count.ensures.enough) in
     let room : 0 < free.count = omega (arith, some, pushed.count, c.saturating_sub-more.ensures) in
-    put_grown count c.self.inside.blocks.items c.push_free-self-inside.new.blocks.items c.fill-self-inside.new.blocks free c.fill-self-inside.result c.args.text.now c.self.invariant.held pushed.grown some room pushed.chain
+    put_grown count c.self.inside.blocks.items c.push_free-self-inside.new.blocks.items c.fill-self-inside.new.blocks free c.fill-self-inside.result c.args.text.now c.self.invariant.held c.self.invariant.counted pushed.grown c.blocks_for-count.ensures.value some room pushed.chain
     (subst (λ (l : List MemoBlock). Fills l c.fill-self-inside.new.blocks free c.fill-self-inside.result (free.head + 1) count c.args.text.now) c.deref_mut.ensures.value c.fill-self-inside.ensures.fills)
 
 -- the blocks after the call
 after : (c : goal.After-self-3-1) → length c.fill-self-inside.new.blocks ≡ c.push_free-self-inside.new.blocks.len
 after c = c.fill-self-inside.ensures.fills.same_length ∙ c.deref_mut.ensures.len
+
+few_more : (c : goal.After-self-3-1) → c.saturating_sub-more.result ≤ c.self.inside.ready
+few_more c = omega (arith, c.saturating_sub-more.ensures, c.blocks_for-count.ensures.least, c.requires.room, ap (λ (v : Memos). v.spare) c.self.view_is)
+
+whole_length : (c : goal.After-self-3-1) → length c.self.inside.blocks.items + c.saturating_sub-more.result ≡ length c.fill-self-inside.new.blocks
+whole_length c = sym c.push_free-self-inside.ensures.longer ∙ sym c.push_free-self-inside.new.blocks.ok.0 ∙ sym (after c)
 
 pub invariant_of-self : goal.invariant_of-self
 invariant_of-self c =
@@ -31,11 +40,13 @@ invariant_of-self c =
     let is = sym (with_items_is v ys (after c)) in
     let long = ap (length {A = MemoBlock}) is in
     let inside = c.self.invariant in
-    let more : c.saturating_sub-more.result ≤ c.self.inside.ready = omega (arith, c.saturating_sub-more.ensures, c.blocks_for-count.ensures.least, c.requires.room, ap (λ (v : Memos). v.spare) c.self.view_is) in
-    let whole : length c.self.inside.blocks.items + c.saturating_sub-more.result ≡ length ys = sym pushed.longer ∙ sym v.ok.0 ∙ sym (after c) in
+    let more = few_more c in
+    let whole = whole_length c in
     record {
       free = subst (λ (l : List MemoBlock). IsChain 0 c.fill-self-inside.result.count l c.fill-self-inside.result.head) is e.still_free;
+      all_free = omega (arith, e.left, e.taken, ap (blocks_owned 0) c.deref_mut.ensures.value, grown_free _ _ pushed.grown, pushed.longer, pushed.count, inside.all_free) ∙ ap (blocks_owned 0) is;
       held = subst (λ (l : List MemoBlock). AreHeld l) is (done c).held;
+      counted = subst (λ (l : List MemoBlock). AreCounted l) is (done c).counted;
       few = omega (arith, sym long, whole, e.left, pushed.count, inside.few);
       room = omega (arith, sym long, whole, more, pushed.capacity, inside.room);
       numbers = omega (arith, sym long, whole, more, inside.numbers);
@@ -48,3 +59,10 @@ pub returns-clause-texts : goal.returns-clause-texts
 returns-clause-texts c =
     ap texts_of (with_items_is c.push_free-self-inside.new.blocks c.fill-self-inside.new.blocks (after c)) ∙ (done c).texts
     ∙ ap (λ (v : Memos). map.insert v.texts (c.push_free-self-inside.result.head + 1) c.args.text.now) c.self.view_is
+
+pub returns-clause-blocks : goal.returns-clause-blocks
+returns-clause-blocks c =
+    let long = ap (length {A = MemoBlock}) (with_items_is c.push_free-self-inside.new.blocks c.fill-self-inside.new.blocks (after c)) in
+    bytes_of_all _ (invariant_of-self c)
+    ∙ ap (λ n. BLOCK * n) (omega (arith, long, whole_length c, few_more c))
+    ∙ sym (bytes_of_all c.self.inside c.self.invariant) ∙ ap all_bytes c.self.view_is

@@ -17,12 +17,12 @@ invariant_of-self c =
       each = call.ensures.each texts c.self.invariant.each;
     })
 
-pub returns : goal.returns
-returns c =
+pub returns-clause-value : goal.returns-clause-value
+returns-clause-value c =
     let inside = c.self.inside in
     let call = c.keep_records-self-inside in
     let texts = inside.texts.texts in
     let dropped = rw c.deref.ensures.value at c.drop_unused.ensures.texts in
     let same = (dropped_keeps texts c.drop_unused.new.self.texts call.new.memos.items dropped (call.ensures.each texts c.self.invariant.each)).texts in
     let rows = ap (rows_of inside.schema call.result call.new.records.items) same ∙ call.ensures.rows texts in
-    record { value = rw (← c.self.view_is) (ap (λ (rows : List Row). record { schema = inside.schema; rows = rows }) rows) }
+    rw (← c.self.view_is) (ap (λ (rows : List Row). record { schema = inside.schema; rows = rows }) rows)
