@@ -38,7 +38,7 @@ impl Model for Locks {
 }
 
 impl Locks {
-    /// No locks, for a number of stations and of tables. An error where memory is refused, and only then.
+    /// No locks, for a number of stations and of tables. An error is want of memory.
     pub fn new(alloc: Global, stations: u32, tables: u32) -> Result<Locks, AllocError>
         ensures value { IfOk result (λ locks. locks ≡ held stations tables []) }
     {

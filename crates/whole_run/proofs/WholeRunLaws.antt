@@ -1,6 +1,6 @@
 -- A whole run by its parts, and the faults of its writing.
 use Rattle.std.proofs.Common.{ℕ, Bool, List, Option, length, refl}
-use Rattle.shared_catalogue.specs.Replay.{History, IsLegal}
+use Rattle.shared_catalogue.specs.Replay.{History, IsLegal, AreOfStations}
 use Rattle.station_files.specs.declared.closed.ClosedTable.{ClosedTable}
 use Rattle.station_files.specs.declared.named.NamedFile.{NamedFile}
 use Rattle.whole_run.specs.declared.fault.ServeFault.{ServeFault}
@@ -20,6 +20,6 @@ of_writing files setup reindex year (Close why) tables answers count run h = (ta
 
 -- a whole run by its parts
 pub whole_run : (files : Option (List NamedFile)) (setup : List ℕ) (reindex : Bool) (read : Read) (h : History) (tables : List ClosedTable) (answers : List (List ℕ))
-    → IsAllRead files setup read → IsRun reindex read h answers → IsLegal h.opened h.journal → AreHandedOver h tables → IsWholeRun files setup reindex tables answers (length h.journal)
-whole_run files setup reindex read h tables answers all run legal handed =
-    record { read = read; history = h; all = all; run = run; legal = legal; handed = handed; counted = refl }
+    → IsAllRead files setup read → IsRun reindex read h answers → IsLegal h.opened h.journal → AreOfStations h.opened h.journal → AreHandedOver h tables → IsWholeRun files setup reindex tables answers (length h.journal)
+whole_run files setup reindex read h tables answers all run legal of_stations handed =
+    record { read = read; history = h; all = all; run = run; legal = legal; of_stations = of_stations; handed = handed; counted = refl }

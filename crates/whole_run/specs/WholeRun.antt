@@ -3,10 +3,11 @@ use Rattle.std.specs.Prelude.{◌≡◌, ◌≢◌, ◌⊎◌, ℕ, Bool, nat_le
 use Rattle.dbf_image.specs.Image.{IsOutside}
 use Rattle.shared_catalogue.specs.declared.opening.OpenFault.TheVariants.{NoMemory as NoRoomToOpen}
 use Rattle.shared_catalogue.specs.Opening.{Opening}
-use Rattle.shared_catalogue.specs.Replay.{History, IsLegal}
+use Rattle.shared_catalogue.specs.Replay.{Opened, History, IsLegal, AreOfStations}
 use Rattle.station_files.specs.declared.close_fault.CloseFault.TheVariants.{DateOutside, TooManyBlocks, Write}
 use Rattle.station_files.specs.declared.closed.ClosedTable.{ClosedTable}
 use Rattle.station_files.specs.declared.named.NamedFile.{NamedFile}
+use Rattle.station_run.specs.declared.fault.RunFault.{RunFault}
 use Rattle.station_run.specs.declared.fault.RunFault.TheVariants.{ScriptCount}
 use Rattle.station_lines.specs.declared.setup.entry.SetupEntry.{SetupEntry}
 use Rattle.whole_run.specs.declared.fault.FileFault.{FileFault}
@@ -17,6 +18,7 @@ use Rattle.station_files.specs.Closing.{first_blocked}
 use Rattle.station_files.specs.Files.{IsFileOf}
 use Rattle.whole_run.specs.HandedOver.{AreHandedOver}
 use Rattle.whole_run.specs.Loading.{Read, nothing, LoadAll, IsFaultIn}
+use Rattle.station_run.specs.Faults.{IsFaultOfRun}
 use Rattle.station_run.specs.Reports.{AreReports}
 use Rattle.station_lines.specs.Setup.{IsSetup}
 
@@ -56,17 +58,23 @@ MAX_COUNT = 4294967295
 abbrev pub stations_for : List (List ℕ) → ℕ
 stations_for scripts = if nat_le (length scripts) MAX_COUNT then length scripts else MAX_COUNT
 
--- the tables were opened and the scripts run: this is the history at the end, and these are the stations' answers
+-- the tables were opened and the scripts run: this is the history at the end, and these are the stations' answers, as
+-- many as there are scripts
 pub record IsRun (reindex : Bool) (read : Read) (h : History) (answers : List (List ℕ)) : Type 0 where
   pub opened : Opening reindex (length read.scripts) read.tables (Ok h.opened.tables)
   pub stations : h.opened.stations ≡ length read.scripts
-  pub reports : AreReports (length read.scripts) h.journal read.scripts answers
+  pub reports : AreReports h.opened h.journal read.scripts answers
+
+-- the tables were opened for the stations, and the fault is one of a run over them
+abbrev pub IsOpenedFault : Bool → Read → RunFault → Type 0
+IsOpenedFault reindex read fault =
+    (opened : Opened) × Opening reindex (stations_for read.scripts) read.tables (Ok opened.tables) × (opened.stations ≡ stations_for read.scripts) × IsFaultOfRun opened fault
 
 -- why there is no end
 abbrev pub IsRunFault : Bool → Read → ServeFault → Type 0
 IsRunFault reindex read NoMemory = Unit {0}
 IsRunFault reindex read (Refused fault) = (fault ≢ NoRoomToOpen) × Opening reindex (stations_for read.scripts) read.tables (Err fault)
-IsRunFault reindex read (Run fault) = fault ≢ ScriptCount
+IsRunFault reindex read (Run fault) = (fault ≢ ScriptCount) × IsOpenedFault reindex read fault
 IsRunFault reindex read fault = ⊥
 
 -- ---- writing
@@ -89,6 +97,7 @@ pub record IsWholeRun (files : Option (List NamedFile)) (setup : List ℕ) (rein
   pub all : IsAllRead files setup read
   pub run : IsRun reindex read history answers
   pub legal : IsLegal history.opened history.journal
+  pub of_stations : AreOfStations history.opened history.journal
   pub handed : AreHandedOver history tables
   pub counted : count ≡ length history.journal
 

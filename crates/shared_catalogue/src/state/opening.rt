@@ -16,8 +16,7 @@ use std::alloc::{AllocError, Global};
 use table_core::Table;
 
 impl State {
-    /// The state at opening, which has the tables, no locks, and no table open in any area. An error where memory
-    /// is refused, and only then.
+    /// The state at opening, which has the tables, no locks, and no table open in any area. An error is want of memory.
     pub fn new(alloc: Global, opened: Vec<OpenedTable>, stations: u32) -> Result<State, AllocError>
         requires few { length opened.items ≤ MAX_TABLES }
         requires named { NamesDiffer (map (λ t. t.name) opened.items) }

@@ -14,5 +14,5 @@ returns-in-Ok-clause-ran g c =
       opened = subst (λ (n : ℕ). Opening c.args.reindex n tables (Ok closed.opened.tables)) (sym (count ∙ c.in_ok-catalogue.ensures.stations))
           (subst (λ (o : Opened). Opening c.args.reindex c.station_count-stations.result tables (Ok o.tables)) (sym c.in-Ok.ensures.opened) c.in_ok-catalogue.ensures.opened);
       stations = ap (λ (o : Opened). o.stations) c.in-Ok.ensures.opened ∙ sym count;
-      reports = subst (λ (n : ℕ). AreReports n closed.journal scripts c.in-Ok.outcome.answers.items) (sym count) (rw c.deref-2.ensures.value at c.in-Ok.ensures.reports);
+      reports = subst (λ (o : Opened). AreReports o closed.journal scripts c.in-Ok.outcome.answers.items) (sym c.in-Ok.ensures.opened) (rw c.deref-2.ensures.value at c.in-Ok.ensures.reports);
     }

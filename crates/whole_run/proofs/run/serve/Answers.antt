@@ -8,7 +8,7 @@ use Rattle.whole_run.proofs.run.serve.Goals as goal
 
 pub returns-in_err-write_files-clause-fault : goal.returns-in_err-write_files-clause-fault
 returns-in_err-write_files-clause-fault g c =
-    let whole = whole_run _ _ _ _ _ _ _ c.in_ok-loaded.ensures.read c.in_ok-outcome.ensures.ran c.entry_count-count.ensures.legal c.in_ok-tables.ensures.value in
+    let whole = whole_run _ _ _ _ _ _ _ c.in_ok-loaded.ensures.read c.in_ok-outcome.ensures.ran c.entry_count-count.ensures.legal c.entry_count-count.ensures.of_stations c.in_ok-tables.ensures.value in
     err_exit _ _ c.from_residual-in_err-write_files.ensures.1 (of_writing _ _ _ _ _ _ _ _ whole (rw c.deref.ensures.value at c.in_err-write_files.ensures.fault))
 
 pub returns-in_err-write_files-clause-unbegun : goal.returns-in_err-write_files-clause-unbegun
@@ -17,7 +17,7 @@ returns-in_err-write_files-clause-unbegun g c = err_exit _ _ c.from_residual-in_
 pub returns-in_err-write_files-clause-cut : goal.returns-in_err-write_files-clause-cut
 returns-in_err-write_files-clause-cut g c name e =
     let fault = c.in_err-write_files.field-0.0 in
-    let whole = whole_run _ _ _ _ _ _ _ c.in_ok-loaded.ensures.read c.in_ok-outcome.ensures.ran c.entry_count-count.ensures.legal c.in_ok-tables.ensures.value in
+    let whole = whole_run _ _ _ _ _ _ _ c.in_ok-loaded.ensures.read c.in_ok-outcome.ensures.ran c.entry_count-count.ensures.legal c.entry_count-count.ensures.of_stations c.in_ok-tables.ensures.value in
     let same : Close (Write name) ≡ fault = subst (λ r. IsErrAnd r (λ y. y ≡ fault)) e c.from_residual-in_err-write_files.ensures.1 in (
       c.in_ok-tables.tables.items,
       c.in_ok-outcome.outcome.answers.items,
