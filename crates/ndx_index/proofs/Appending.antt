@@ -25,6 +25,9 @@ here_one p r = elim (cases_eq r p) [
   | inr ne ↦ omega (arith, here_zero p r ne)
 ]
 
+here_at : (p r : ℕ) → r ≡ p → here p r ≡ 1
+here_at p r e = subst (λ x. here p x ≡ 1) (sym e) (here_itself p)
+
 -- no tree has a page that isn't there
 pub uses_past : (d : ℕ) (a : List Page) (p r : ℕ) → IsTree d a p → length a ≤ r → uses d a p r ≡ 0
 uses_past d a p r t le = elim (cases_eq (uses d a p r) 0) [
@@ -139,6 +142,9 @@ under_last d a b p ps m can n done =
             let others : (j : ℕ) → j < m → uses d b (get_or links j 0) r ≡ 0 = λ j lt. (other j lt).uses_stay r ∙ uses_past d a (get_or links j 0) r (tree j (omega arith)) new in
             omega (arith, at_links r, here_zero p r (λ e. omega (arith, e, new, can.tree.0)), total_last (λ x. uses d b x r) links m n others, done.apart r)
       ];
+      new_used = λ r new lt.
+          let others : (j : ℕ) → j < m → uses d b (get_or links j 0) r ≡ 0 = λ j l. (other j l).uses_stay r ∙ uses_past d a (get_or links j 0) r (tree j (omega arith)) new in
+          omega (arith, at_links r, here_zero p r (λ e. omega (arith, e, new, can.tree.0)), total_last (λ x. uses d b x r) links m n others, done.new_used r new lt);
     }
 
 -- the pairs are under a new page q, which became p's last child
@@ -188,6 +194,7 @@ under_more d a b b1 p ps pair q is can done e =
         | inl old ↦ omega (arith, sums r, done.fresh r old, can.apart r)
         | inr past ↦ omega (arith, sums r, uses_past (suc d) a p r can.tree past, done.apart r)
       ];
+      new_used = λ r new lt. omega (arith, sums r, uses_past (suc d) a p r can.tree new, done.new_used r new (omega (arith, lt, n)));
     }
 
 -- the pairs are under a new page q, which has a new page above it
@@ -217,6 +224,10 @@ beside_more d a b b1 ps q s done top few e =
         | inl lt ↦ omega (arith, sums r, here_zero s r (λ i. omega (arith, i, top, lt)), done.apart r)
         | inr past ↦ omega (arith, sums r, here_one s r, uses_past d b q r done.tree past)
       ];
+      new_used = λ r new lt. elim (cases_lt r (length b)) [
+        | inl old ↦ omega (arith, sums r, here_zero s r (λ i. omega (arith, i, top, old)), done.new_used r new old)
+        | inr past ↦ omega (arith, sums r, here_at s r (omega (arith, past, lt, n, top)), uses_past d b q r done.tree past)
+      ];
     }
 
 -- the pairs are under a new page q, which became a child
@@ -236,6 +247,21 @@ can_append_top d a t ps e plain order some = record {
   some = some;
   order = subst (λ n. AreInOrder (pairs_of_levels n a t.page ++ ps)) e order;
 }
+
+-- the pairs are under it, and no new top is over it
+pub grown_under : (d : ℕ) (a b : List Page) (t : Root) (ps : List Pair) → t.levels ≡ suc d → IsPlain a t → AppendsUnder d a b t.page ps → IsPlain b t
+grown_under d a b t ps levels plain done =
+    let once : (r : ℕ) → r < length b → uses d b t.page r ≡ 1 = λ r lt. elim (cases_lt r (length a)) [
+      | inl old ↦ done.uses_stay r old ∙ subst (λ k. uses_of_levels k a t.page r ≡ 1) levels (plain.once r old)
+      | inr new ↦ done.new_used r new lt
+    ] in
+    record {
+      tree = subst (λ k. IsTreeOfLevels k b t.page) (sym levels) done.tree;
+      apart = λ r. subst (λ k. uses_of_levels k b t.page r ≤ 1) (sym levels) (done.apart r);
+      once = λ r lt. subst (λ k. uses_of_levels k b t.page r ≡ 1) (sym levels) (once r lt);
+      deep = omega (arith, plain.deep, done.extends.longer);
+      few = done.extends.few plain.few;
+    }
 
 pub record AppendsIn (a b : List Page) (t u : Root) (ps : List Pair) : Type 0 where
   pub tree : IsPlain b u
@@ -262,11 +288,19 @@ over_both d a b b1 t u ps pair q is levels plain can done over =
     ap (λ (g : Page). joined (map (λ x. pairs_under d b1 x) g.links)) at ∙ (λ i. first.pairs i ++ append-nil (alone i) i) in
     let sums : (r : ℕ) → uses (suc d) b1 s r ≡ here s r + (uses d a p r + uses d b q r) = λ r.
     ap (λ (g : Page). here s r + total (λ x. uses d b1 x r) g.links) at ∙ omega (arith, first.uses_stay r, second.uses_stay r) in
+    let old_once : (r : ℕ) → r < length a → uses d a p r ≡ 1 = λ r lt. subst (λ k. uses_of_levels k a p r ≡ 1) levels (plain.once r lt) in
     let apart : (r : ℕ) → uses (suc d) b1 s r ≤ 1 = λ r. elim (cases_lt r (length a)) [
       | inl lt ↦ omega (arith, sums r, here_zero s r (λ i. omega (arith, i, over.page, lt, done.longer)), can.apart r, done.fresh r lt)
       | inr past ↦ elim (cases_lt r (length b)) [
         | inl lt ↦ omega (arith, sums r, uses_past d a p r can.tree past, here_zero s r (λ i. omega (arith, i, over.page, lt)), done.apart r)
         | inr new ↦ omega (arith, sums r, uses_past d a p r can.tree past, uses_past d b q r done.tree new, here_one s r)
+      ]
+    ] in
+    let once : (r : ℕ) → r < length b1 → uses (suc d) b1 s r ≡ 1 = λ r there. elim (cases_lt r (length a)) [
+      | inl lt ↦ omega (arith, sums r, here_zero s r (λ i. omega (arith, i, over.page, lt, done.longer)), old_once r lt, done.fresh r lt)
+      | inr past ↦ elim (cases_lt r (length b)) [
+        | inl lt ↦ omega (arith, sums r, uses_past d a p r can.tree past, here_zero s r (λ i. omega (arith, i, over.page, lt)), done.new_used r past lt)
+        | inr new ↦ omega (arith, sums r, uses_past d a p r can.tree past, uses_past d b q r done.tree new, here_at s r (omega (arith, new, there, n, over.page)))
       ]
     ] in
     let tree : IsTree (suc d) b1 s = (
@@ -281,6 +315,7 @@ over_both d a b b1 t u ps pair q is levels plain can done over =
       tree = record {
         tree = subst (λ k. IsTreeOfLevels k b1 s) (sym more) tree;
         apart = λ r. subst (λ k. uses_of_levels k b1 s r ≤ 1) (sym more) (apart r);
+        once = λ r lt. subst (λ k. uses_of_levels k b1 s r ≡ 1) (sym more) (once r lt);
         deep = omega (arith, more, levels, plain.deep, done.longer, n);
         few = over.few;
       };

@@ -144,4 +144,7 @@ grown a b e f g add few apart count list uses others n = record {
   apart = λ r. omega (arith, uses r, add.apart r);
   same = λ r lt. omega (arith, uses r, add.uses_stay r, here_zero (length a) r (λ same. omega (arith, same)));
   frame = λ r lt none. others r (λ same. omega (arith, same)) ∙ add.others r lt;
+  new_free = λ r le lt.
+      let it : r ≡ length a = omega (arith, n, add.length_more) in
+      omega (arith, uses r, add.apart r, subst (λ x. here x r ≡ 1) it (here_itself r));
 }

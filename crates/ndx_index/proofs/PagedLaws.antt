@@ -2,7 +2,7 @@
 use Rattle.std.proofs.Common.{◌≡◌, ℕ, zero, suc, ◌<◌, ◌≤◌, true, false, not, cond, List, [], ◌∷◌, length, get_or, find, Contains, Option, Some, None, refl, ap, sym, ◌∙◌, subst, inl, inr, lit<, arith}
 use Rattle.std.specs.List.Sorted.{IsStrictlySortedBy}
 use Rattle.std.specs.List.{AllByRecursion}
-use Rattle.std.proofs.lemmas.Bool.{cases_eq, false≢true}
+use Rattle.std.proofs.lemmas.Bool.{cases_eq, cases_lt, false≢true}
 use Rattle.std.proofs.lemmas.List.Kept.{IsStrictlySortedBy-filter}
 use Rattle.ndx_index.specs.declared.pair.Pair.{Pair}
 use Rattle.ndx_index.specs.declared.pages.free.FreeList.{FreeList}
@@ -36,10 +36,16 @@ pub there_of : (n : ℕ) (a : List Page) (p r : ℕ) → IsTreeOfLevels n a p �
 there_of zero a p r t h = absurd (omega (arith, h))
 there_of (suc d) a p r t h = uses_there d a p r t h
 
+none_past : (n : ℕ) (a : List Page) (p r : ℕ) → IsTreeOfLevels n a p → length a ≤ r → uses_of_levels n a p r ≡ 0
+none_past n a p r t le = elim (cases_eq (uses_of_levels n a p r) 0) [
+  | inl e ↦ e
+  | inr ne ↦ absurd (omega (arith, there_of n a p r t (omega (arith, ne))))
+]
+
 -- ---- the index after a step
 
 pub holds_nothing : (k : ℕ) → HoldsIndex k [] (record { head = 0; count = 0 }) (record { page = 0; levels = 0 })
-holds_nothing k = record { tree = tt; order = sorted_none; keys = tt; list = tt; apart = λ r. omega arith; deep = omega arith; few = lit< tt }
+holds_nothing k = record { tree = tt; order = sorted_none; keys = tt; list = tt; apart = λ r. omega arith; once = λ r lt. absurd (omega (arith, lt)); deep = omega arith; few = lit< tt }
 
 pub record HoldsMore (k : ℕ) (a b : List Page) (f g : FreeList) (t : Root) : Type 0 where
   pub holds : HoldsIndex k b g t
@@ -58,6 +64,10 @@ holds_more k a b f g t h m =
           | inl e ↦ omega (arith, e, stays.uses_stay r, m.apart r)
           | inr ne ↦ omega (arith, stays.uses_stay r, h.apart r, m.same r (there_of t.levels a t.page r h.tree (omega (arith, ne))))
         ];
+        once = λ r lt. elim (cases_lt r (length a)) [
+          | inl old ↦ omega (arith, stays.uses_stay r, h.once r old, m.same r old)
+          | inr new ↦ omega (arith, stays.uses_stay r, none_past t.levels a t.page r h.tree new, m.new_free r new lt)
+        ];
         deep = omega (arith, h.deep, m.longer);
         few = m.few h.few;
       };
@@ -70,7 +80,8 @@ holds_inserted k a b f g t u pair h key absent i = record {
   order = subst AreInOrder (sym i.pairs) (sorted_placed pair (pairs_in a t) h.order absent);
   keys = subst (HaveLength k) (sym i.pairs) (all-placed (λ p. length p.key ≡ k) pair (pairs_in a t) key h.keys);
   list = i.list;
-  apart = i.apart;
+  apart = λ r. omega (arith, i.uses_stay r, h.apart r);
+  once = λ r lt. i.uses_stay r ∙ h.once r (omega (arith, lt, i.same_length));
   deep = i.deep;
   few = omega (arith, i.same_length, h.few);
 }
@@ -83,7 +94,8 @@ holds_removed k a b f g t u pair h i =
       order = subst AreInOrder (sym i.pairs) (IsStrictlySortedBy-filter pair_cmp others (pairs_in a t) h.order);
       keys = subst (HaveLength k) (sym i.pairs) (all-filter _ others (pairs_in a t) h.keys);
       list = i.list;
-      apart = i.apart;
+      apart = λ r. omega (arith, i.uses_stay r, h.apart r);
+      once = λ r lt. i.uses_stay r ∙ h.once r (omega (arith, lt, i.same_length));
       deep = omega (arith, i.lower, i.same_length, h.deep);
       few = omega (arith, i.same_length, h.few);
     }

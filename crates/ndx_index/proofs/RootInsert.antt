@@ -33,21 +33,21 @@ planted a b1 b f g t pair q x none can takes written one =
       pairs = pairs ∙ sym (ap (λ k. placed pair (pairs_of_levels k a t.page)) none);
       tree = (omega (arith, n, n1, takes.0), omega (arith, ap length pairs));
       list = free.free;
-      apart = λ r. omega (arith, free.uses_stay r, takes.3 r, can.whole.apart r);
+      uses_stay = λ r. omega (arith, free.uses_stay r, takes.3 r, ap (λ k. uses_of_levels k a t.page r) none);
       same_length = n ∙ n1;
       deep = omega (arith, n, n1, takes.0);
     }
 
 -- ---- a new top with one link
-record Topped (d : ℕ) (a b : List Page) (g : FreeList) (p q : ℕ) : Type 0 where
+record Topped (d : ℕ) (a b : List Page) (f g : FreeList) (p q : ℕ) : Type 0 where
   pairs : pairs_under (suc d) b q ≡ pairs_under d a p
   tree : IsTree (suc d) b q
   list : IsFreeList b g
-  apart : (r : ℕ) → uses_both (suc d) b g q r ≤ 1
+  uses_stay : (r : ℕ) → uses_both (suc d) b g q r ≡ uses_both d a f p r
   same_length : length b ≡ length a
   links : (page_in b q).links ≡ p ∷ []
 
-topped : (d : ℕ) (a b1 b : List Page) (f g : FreeList) (p q : ℕ) (x : Page) → IsTree d a p → ((r : ℕ) → uses_both d a f p r ≤ 1) → Takes a b1 f g q → b ≡ set b1 q x → x.pairs ≡ [] → x.links ≡ p ∷ [] → Topped d a b g p q
+topped : (d : ℕ) (a b1 b : List Page) (f g : FreeList) (p q : ℕ) (x : Page) → IsTree d a p → ((r : ℕ) → uses_both d a f p r ≤ 1) → Takes a b1 f g q → b ≡ set b1 q x → x.pairs ≡ [] → x.links ≡ p ∷ [] → Topped d a b f g p q
 topped d a b1 b f g p q x tree apart takes written keys links =
     let t = took d a b1 f g p q tree apart takes.0 takes.1 takes.2 takes.3 in
     let n : length b ≡ length b1 = ap length written ∙ length-set b1 q x in
@@ -70,7 +70,7 @@ topped d a b1 b f g p q x tree apart takes written keys links =
         subst (λ cs. AllByRecursion (λ c. IsTree d b c) cs) (sym at_links) below,
       );
       list = free.free;
-      apart = λ r. omega (arith, above r, child.uses_stay r, free.uses_stay r, t.apart r);
+      uses_stay = λ r. omega (arith, above r, child.uses_stay r, free.uses_stay r, t.uses_stay r, t.both r);
       same_length = n ∙ t.same_length;
       links = at_links;
     }
@@ -85,6 +85,8 @@ raised a b1 b f g t q x can takes one written keys links =
     let apart = subst (λ k. (r : ℕ) → uses_of_levels k a t.page r + uses_free a f r ≤ 1) e whole.apart in
     let top = topped d a b1 b f g t.page q x tree apart takes written keys links in
     let pairs : pairs_of_levels (t.levels + 1) b q ≡ pairs_of_levels t.levels a t.page = subst (λ k. pairs_of_levels k b q ≡ pairs_under d a t.page) above top.pairs ∙ sym (ap (λ k. pairs_of_levels k a t.page) e) in
+    let stay : (r : ℕ) → uses_of_levels (t.levels + 1) b q r + uses_free b g r ≡ uses_of_levels t.levels a t.page r + uses_free a f r = λ r.
+    ap (λ k. uses_of_levels k b q r + uses_free b g r) (sym above) ∙ top.uses_stay r ∙ ap (λ k. uses_of_levels k a t.page r + uses_free a f r) (sym e) in
     record {
       pairs = pairs;
       levels = refl;
@@ -92,8 +94,9 @@ raised a b1 b f g t q x can takes one written keys links =
         tree = subst (λ k. IsTreeOfLevels k b q) above top.tree;
         order = subst AreInOrder (sym pairs) whole.order;
         list = top.list;
-        apart = subst (λ k. (r : ℕ) → uses_of_levels k b q r + uses_free b g r ≤ 1) above top.apart;
+        apart = λ r. omega (arith, stay r, whole.apart r);
       };
+      uses_stay = stay;
       room = ap length top.links;
       count = one;
       same_length = top.same_length;
@@ -104,13 +107,11 @@ raised a b1 b f g t q x can takes one written keys links =
 pub inserted_at_top : (a b : List Page) (f g : FreeList) (t : Root) (pair : Pair) → 0 < t.levels → AreApart a f t → t.levels ≤ length a → Inserts (t.levels - 1) a b f g t.page pair → InsertsIn a b f g t t pair
 inserted_at_top a b f g t pair some whole deep done =
     let e : suc (t.levels - 1) ≡ t.levels = omega (arith, some) in
-    let apart = subst (λ k. (r : ℕ) → uses_of_levels k a t.page r + uses_free a f r ≤ 1) (sym e) whole.apart in
-    let after : (r : ℕ) → uses_of_levels (suc (t.levels - 1)) b t.page r + uses_free b g r ≤ 1 = λ r. omega (arith, done.keeps.uses_stay r, apart r) in
     record {
       pairs = subst (λ k. pairs_of_levels k b t.page ≡ placed pair (pairs_of_levels k a t.page)) e done.pairs;
       tree = subst (λ k. IsTreeOfLevels k b t.page) e done.keeps.tree;
       list = done.keeps.list;
-      apart = subst (λ k. (r : ℕ) → uses_of_levels k b t.page r + uses_free b g r ≤ 1) e after;
+      uses_stay = λ r. subst (λ k. uses_of_levels k b t.page r + uses_free b g r ≡ uses_of_levels k a t.page r + uses_free a f r) e (done.keeps.uses_stay r);
       same_length = done.keeps.same_length;
       deep = omega (arith, deep, done.keeps.same_length);
     }
@@ -123,7 +124,7 @@ inserted_below_top a m b f h g t u pair can raise done =
       pairs = x.pairs ∙ ap (placed pair) raise.pairs;
       tree = x.tree;
       list = x.list;
-      apart = x.apart;
+      uses_stay = λ r. x.uses_stay r ∙ raise.uses_stay r;
       same_length = x.same_length ∙ raise.same_length;
       deep = x.deep;
     }

@@ -104,9 +104,10 @@ uses_in a t r = uses_of_levels t.levels a t.page r
 abbrev pub IsTreeIn : List Page → Root → Type 0
 IsTreeIn a t = IsTreeOfLevels t.levels a t.page
 
--- a tree, each page of it once
+-- a tree that has each page once
 pub record IsPlain (a : List Page) (t : Root) : Type 0 where
   pub tree : IsTreeIn a t
   pub apart : (r : ℕ) → uses_in a t r ≤ 1
+  pub once : (r : ℕ) → r < length a → uses_in a t r ≡ 1
   pub deep : t.levels ≤ length a
   pub few : length a < 2 ^ 32

@@ -19,6 +19,7 @@ pub record MakesFree (a b : List Page) (f g : FreeList) : Type 0 where
   -- the old pages are free as before, and the others stay as they are
   pub same : (r : ℕ) → r < length a → uses_free b g r ≡ uses_free a f r
   pub frame : (r : ℕ) → r < length a → uses_free a f r ≡ 0 → page_in b r ≡ page_in a r
+  pub new_free : (r : ℕ) → length a ≤ r → r < length b → uses_free b g r ≡ 1
 
 -- ---- what each step of a tree says of the pages: a, f before and b, g after
 
@@ -154,11 +155,12 @@ pub record AppendsUnder (d : ℕ) (a b : List Page) (p : ℕ) (ps : List Pair) :
   pub extends : Extends d a b p
   pub pairs : pairs_under d b p ≡ pairs_under d a p ++ ps
   pub tree : IsTree d b p
-  -- the tree has the pages that it had, and new ones
+  -- the tree has the pages that it had, and each new one once
   pub uses_stay : (r : ℕ) → r < length a → uses d b p r ≡ uses d a p r
   pub apart : (r : ℕ) → uses d b p r ≤ 1
+  pub new_used : (r : ℕ) → length a ≤ r → r < length b → uses d b p r ≡ 1
 
--- no old page changes, and q's are new
+-- no old page changes, and q's are the new ones
 pub record AppendsBeside (d : ℕ) (a b : List Page) (ps : List Pair) (q : ℕ) : Type 0 where
   pub longer : length a ≤ length b
   pub few : length a < 2 ^ 32 → length b < 2 ^ 32
@@ -167,6 +169,7 @@ pub record AppendsBeside (d : ℕ) (a b : List Page) (ps : List Pair) (q : ℕ) 
   pub tree : IsTree d b q
   pub fresh : (r : ℕ) → r < length a → uses d b q r ≡ 0
   pub apart : (r : ℕ) → uses d b q r ≤ 1
+  pub new_used : (r : ℕ) → length a ≤ r → r < length b → uses d b q r ≡ 1
 
 -- the pairs are under p, or alone under a new page
 abbrev pub Appends : ℕ → List Page → List Page → ℕ → List Pair → Option ℕ → Type 0
@@ -200,11 +203,12 @@ pub record CanInsertIn (a : List Page) (f : FreeList) (t : Root) (pair : Pair) :
   pub few : length a < 2 ^ 32
   pub absent : Contains (pairs_in a t) pair → ⊥
 
+-- the pages in the tree and the free ones are the same together
 pub record InsertsIn (a b : List Page) (f g : FreeList) (t u : Root) (pair : Pair) : Type 0 where
   pub pairs : pairs_in b u ≡ placed pair (pairs_in a t)
   pub tree : IsTreeIn b u
   pub list : IsFreeList b g
-  pub apart : (r : ℕ) → uses_in b u r + uses_free b g r ≤ 1
+  pub uses_stay : (r : ℕ) → uses_in b u r + uses_free b g r ≡ uses_in a t r + uses_free a f r
   pub same_length : length b ≡ length a
   pub deep : u.levels ≤ length b
 
@@ -219,6 +223,7 @@ pub record Raises (a b : List Page) (f g : FreeList) (t u : Root) : Type 0 where
   pub pairs : pairs_in b u ≡ pairs_in a t
   pub levels : u.levels ≡ t.levels + 1
   pub whole : AreApart b g u
+  pub uses_stay : (r : ℕ) → uses_in b u r + uses_free b g r ≡ uses_in a t r + uses_free a f r
   pub room : length (page_in b u.page).links ≡ 1
   pub count : g.count + 1 ≡ f.count
   pub same_length : length b ≡ length a
@@ -228,11 +233,12 @@ pub record CanRemoveIn (a : List Page) (f : FreeList) (t : Root) (pair : Pair) :
   pub few : length a < 2 ^ 32
   pub held : Contains (pairs_in a t) pair
 
+-- the pages in the tree and the free ones are the same together
 pub record RemovesIn (a b : List Page) (f g : FreeList) (t u : Root) (pair : Pair) : Type 0 where
   pub pairs : pairs_in b u ≡ without pair (pairs_in a t)
   pub tree : IsTreeIn b u
   pub list : IsFreeList b g
-  pub apart : (r : ℕ) → uses_in b u r + uses_free b g r ≤ 1
+  pub uses_stay : (r : ℕ) → uses_in b u r + uses_free b g r ≡ uses_in a t r + uses_free a f r
   pub same_length : length b ≡ length a
   pub lower : u.levels ≤ t.levels
   pub more : f.count ≤ g.count

@@ -26,7 +26,8 @@ mod tests;
 /// length, the list of pairs, and how many inserts have room.
 ///
 /// The pairs stand in pages of sixteen places, which make a tree: an insert and a removal change a page a level,
-/// and a search reads one a level. A search and a removal take no memory.
+/// and a search reads one a level. A search and a removal take no memory. A page that a removal empties is free for
+/// later inserts: each page is in the tree or free, once, and none is lost.
 #[derive(Drop)]
 pub struct OrderedIndex {
     store: PageStore,

@@ -1,13 +1,23 @@
 use Rattle.std.proofs.Common.{◌≡◌, ◌-◌, ◌++◌, suc, subst, arith}
 use Rattle.ndx_index.specs.declared.pages.root.Root.{Root}
 use Rattle.ndx_index.specs.IndexTree.{pairs_in, IsPlain}
-use Rattle.ndx_index.specs.TreeSteps.{Appends, AppendsBeside, IsOver}
-use Rattle.ndx_index.proofs.Appending.{can_append_top, over_both, ok_weaker}
+use Rattle.ndx_index.specs.TreeSteps.{Appends, AppendsUnder, AppendsBeside, IsOver}
+use Rattle.ndx_index.proofs.Appending.{can_append_top, grown_under, over_both, ok_weaker}
 use Rattle.ndx_index.proofs.pages.root.append.Goals as goal
 
 pub append_under-requires-clause-can : goal.append_under-requires-clause-can
 append_under-requires-clause-can c =
     can_append_top (c.args.root.levels - 1) c.args.store.now.pages c.args.root c.args.pairs.now (omega arith) c.requires.tree c.requires.order c.requires.some
+
+pub returns-in-None-clause-tree : goal.returns-in-None-clause-tree
+returns-in-None-clause-tree c =
+    let a = c.args.store.now.pages in
+    let b = c.append_under.new.store.pages in
+    let t = c.args.root in
+    let ps = c.args.pairs.now in
+    let d = t.levels - 1 in
+    let done : AppendsUnder d a b t.page ps = subst (λ s. Appends d a b t.page ps s) c.in-None.is c.in_ok-append_under.ensures.appended in
+    grown_under d a b t ps (omega arith) c.requires.tree done
 
 pub returns-in-Some-clause-tree : goal.returns-in-Some-clause-tree
 returns-in-Some-clause-tree c =
