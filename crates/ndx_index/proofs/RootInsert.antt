@@ -8,7 +8,7 @@ use Rattle.ndx_index.specs.declared.pages.root.Root.{Root}
 use Rattle.ndx_index.specs.Order.{placed, AreInOrder}
 use Rattle.ndx_index.specs.PageStore.{Page, page_in, no_page}
 use Rattle.ndx_index.specs.IndexTree.{pairs_under, joined, total, here, uses, uses_free, uses_both, IsTree, IsFreeList, Parted, pairs_of_levels, uses_of_levels, IsTreeOfLevels}
-use Rattle.ndx_index.specs.TreeSteps.{Inserts, AreApart, CanInsertIn, InsertsIn, CanRaise, Raises}
+use Rattle.ndx_index.specs.TreeSteps.{Inserts, CanInsertIn, InsertsIn, CanRaise, Raises}
 use Rattle.ndx_index.proofs.Order.{sorted_none}
 use Rattle.ndx_index.proofs.TreeFrame.{framed, Framed}
 use Rattle.ndx_index.proofs.TreeInsert.{here_other}
@@ -104,8 +104,8 @@ raised a b1 b f g t q x can takes one written keys links =
 
 -- ---- what the code owes
 -- the tree's top had room
-pub inserted_at_top : (a b : List Page) (f g : FreeList) (t : Root) (pair : Pair) → 0 < t.levels → AreApart a f t → t.levels ≤ length a → Inserts (t.levels - 1) a b f g t.page pair → InsertsIn a b f g t t pair
-inserted_at_top a b f g t pair some whole deep done =
+pub inserted_at_top : (a b : List Page) (f g : FreeList) (t : Root) (pair : Pair) → 0 < t.levels → t.levels ≤ length a → Inserts (t.levels - 1) a b f g t.page pair → InsertsIn a b f g t t pair
+inserted_at_top a b f g t pair some deep done =
     let e : suc (t.levels - 1) ≡ t.levels = omega (arith, some) in
     record {
       pairs = subst (λ k. pairs_of_levels k b t.page ≡ placed pair (pairs_of_levels k a t.page)) e done.pairs;
@@ -119,7 +119,7 @@ inserted_at_top a b f g t pair some whole deep done =
 -- a new top was put above it
 pub inserted_below_top : (a m b : List Page) (f h g : FreeList) (t u : Root) (pair : Pair) → CanInsertIn a f t pair → Raises a m f h t u → Inserts (u.levels - 1) m b h g u.page pair → InsertsIn a b f g t u pair
 inserted_below_top a m b f h g t u pair can raise done =
-    let x = inserted_at_top m b h g u pair (omega (arith, raise.levels)) raise.whole (omega (arith, raise.levels, raise.same_length, levels_few a f t pair can)) done in
+    let x = inserted_at_top m b h g u pair (omega (arith, raise.levels)) (omega (arith, raise.levels, raise.same_length, levels_few a f t pair can)) done in
     record {
       pairs = x.pairs ∙ ap (placed pair) raise.pairs;
       tree = x.tree;

@@ -3,10 +3,10 @@ use Rattle.std.proofs.Common.{◌≡◌, ℕ, zero, suc, ◌+◌, ◌-◌, ◌<�
 use Rattle.ndx_index.specs.declared.pair.Pair.{Pair}
 use Rattle.ndx_index.specs.declared.pages.free.FreeList.{FreeList}
 use Rattle.ndx_index.specs.declared.pages.root.Root.{Root}
-use Rattle.ndx_index.specs.Order.{without, AreInOrder}
+use Rattle.ndx_index.specs.Order.{without}
 use Rattle.ndx_index.specs.PageStore.{Page}
-use Rattle.ndx_index.specs.IndexTree.{here, uses_free, IsFreeList, pairs_of_levels, uses_of_levels, IsTreeOfLevels}
-use Rattle.ndx_index.specs.TreeSteps.{CanRemove, Empties, CanRemoveIn, RemovesIn}
+use Rattle.ndx_index.specs.IndexTree.{here, uses_free, IsFreeList, pairs_of_levels, uses_of_levels}
+use Rattle.ndx_index.specs.TreeSteps.{Empties, CanRemoveIn, RemovesIn}
 use Rattle.ndx_index.proofs.Unparting.{without_itself}
 
 some_levels : (k : ℕ) (a : List Page) (p : ℕ) (pair : Pair) → Contains (pairs_of_levels k a p) pair → 0 < k
@@ -17,29 +17,10 @@ some_levels (suc k) a p pair held = omega arith
 has_levels : (a : List Page) (f : FreeList) (t : Root) (pair : Pair) → CanRemoveIn a f t pair → 0 < t.levels
 has_levels a f t pair can = some_levels t.levels a t.page pair can.held
 
-held_at_top : (a : List Page) (f : FreeList) (t : Root) (pair : Pair) → CanRemoveIn a f t pair → CanRemove (t.levels - 1) a f t.page pair
-held_at_top a f t pair can =
-    let e : t.levels ≡ suc (t.levels - 1) = omega (arith, has_levels a f t pair can) in
-    record {
-      whole = record {
-        tree = subst (λ k. IsTreeOfLevels k a t.page) e can.whole.tree;
-        order = subst (λ k. AreInOrder (pairs_of_levels k a t.page)) e can.whole.order;
-        list = can.whole.list;
-        apart = subst (λ k. (r : ℕ) → uses_of_levels k a t.page r + uses_free a f r ≤ 1) e can.whole.apart;
-      };
-      few = can.few;
-      held = subst (λ k. Contains (pairs_of_levels k a t.page) pair) e can.held;
-    }
-
--- the top can be given back
-top_apart : (d : ℕ) (a b : List Page) (f g : FreeList) (p : ℕ) (pair : Pair) → CanRemove d a f p pair → Empties d a b f g p pair → (r : ℕ) → here p r + uses_free b g r ≤ 1
-top_apart d a b f g p pair can done r = omega (arith, done.uses_stay r, can.whole.apart r)
-
 -- nothing is left, and the top was given back
 pub emptied_at_top : (a b e : List Page) (f g h : FreeList) (t : Root) (pair : Pair) → CanRemoveIn a f t pair → Empties (t.levels - 1) a b f g t.page pair → h.count ≡ g.count + 1 → IsFreeList e h → ((r : ℕ) → uses_free e h r ≡ here t.page r + uses_free b g r) → length e ≡ length b → RemovesIn a e f h t (record { page = t.page; levels = 0 }) pair
 emptied_at_top a b e f g h t pair can done count list uses same =
     let level : suc (t.levels - 1) ≡ t.levels = omega (arith, has_levels a f t pair can) in
-    let top = held_at_top a f t pair can in
     let only : pairs_of_levels t.levels a t.page ≡ pair ∷ [] = subst (λ k. pairs_of_levels k a t.page ≡ pair ∷ []) level done.only in
     record {
       pairs = sym (without_itself pair) ∙ ap (without pair) (sym only);

@@ -53,5 +53,5 @@ returns-clause-inserted c =
           let at_root : Inserts (t.levels - 1) store.pages b free g t.page pair = subst (λ (u : Root). Inserts (u.levels - 1) store.pages b free g u.page pair) w.root-is done in
           let at_free : Inserts (t.levels - 1) store.pages b f g t.page pair = subst (λ (h : FreeList). Inserts (t.levels - 1) store.pages b h g t.page pair) w.free-is at_root in
           let put : Inserts (t.levels - 1) a b f g t.page pair = subst (λ (s : Store). Inserts (t.levels - 1) s.pages b f g t.page pair) w.store-is at_free in
-          subst (λ (u : Root). InsertsIn a b f g t u pair) (sym w.root-is) (inserted_at_top a b f g t pair (omega (arith, c.if-root-eq0.false)) can.whole (omega (arith, levels_few a f t pair can)) put)
+          subst (λ (u : Root). InsertsIn a b f g t u pair) (sym w.root-is) (inserted_at_top a b f g t pair (omega (arith, c.if-root-eq0.false)) (omega (arith, levels_few a f t pair can)) put)
     ]
