@@ -5,7 +5,7 @@ use std::alloc::{AllocError, Global};
 use std::test::Fail;
 
 // Whether each line of a script has this meaning.
-fn are_read(alloc: Global, script: &[u8], wanted: &Line) -> Result<bool, AllocError> {
+pub(crate) fn are_read(alloc: Global, script: &[u8], wanted: &Line) -> Result<bool, AllocError> {
     let mut rest = lines(script);
     for _ in 0..script.len() {
         let Some(line) = rest.next_line() else {
@@ -32,7 +32,7 @@ fn first_misread(alloc: Global, cases: &[(&[u8], Line)]) -> Result<Option<usize>
 
 // A command that keeps a name or a text, which stand beside it in a table of cases.
 #[derive(Clone, Copy)]
-enum Keeps {
+pub(crate) enum Keeps {
     Use(bool),
     Seek,
     Show,
@@ -58,7 +58,7 @@ fn value_of(keeps: Keeps, text: Bytes) -> Result<Literal, Fail> {
     })
 }
 
-fn line_of(alloc: Global, keeps: Keeps, name: &[u8], text: &[u8]) -> Result<Line, Fail> {
+pub(crate) fn line_of(alloc: Global, keeps: Keeps, name: &[u8], text: &[u8]) -> Result<Line, Fail> {
     let field = Bytes::from_slice(alloc, name)?;
     let text = Bytes::from_slice(alloc, text)?;
     match keeps {
