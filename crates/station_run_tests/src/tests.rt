@@ -1,5 +1,8 @@
+mod hoard;
+mod lines;
 pub mod sample;
 mod stations;
+mod stops;
 
 use dbf_fields::Bytes;
 use dbf_image::read_table;
@@ -16,6 +19,19 @@ fn source(alloc: Global, name: &[u8]) -> Result<TableSource, Fail> {
     Ok(TableSource {
         name: Bytes::from_slice(alloc, name)?,
         content: read_table(alloc, Bytes::from_slice(alloc, &sample::TABLE)?, None)?,
+        indexes: Vec::new(alloc),
+    })
+}
+
+// The table of one memo, of which the first record has a text of so many bytes, under the name T.
+fn long_note(alloc: Global, length: usize) -> Result<TableSource, Fail> {
+    let mut memos = Vec::new(alloc);
+    memos.resize(512, 0)?;
+    memos.resize(length.saturating_add(512), b'm')?;
+    let dbf = Bytes::from_slice(alloc, &sample::NOTE)?;
+    Ok(TableSource {
+        name: Bytes::from_slice(alloc, b"T")?,
+        content: read_table(alloc, dbf, Some(memos.as_slice()))?,
         indexes: Vec::new(alloc),
     })
 }

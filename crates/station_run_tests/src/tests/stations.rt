@@ -17,7 +17,7 @@ use std::thread::Threads;
 const TURNS: u64 = 1_000_000_000;
 
 // Waits until a counter has come to a number, and tells whether it has.
-fn has_come(counter: &AtomicU64, number: u64) -> bool {
+pub(super) fn has_come(counter: &AtomicU64, number: u64) -> bool {
     for _ in 0..TURNS {
         if counter.load(Ordering::SeqCst) >= number {
             return true;
@@ -84,7 +84,7 @@ impl Gate for Meeting {
 }
 
 // Runs the scripts on a catalogue of one table for so many stations.
-fn run_on<G: Gate + Sync, R: Threads + Wait + Sync>(
+pub(super) fn run_on<G: Gate + Sync, R: Threads + Wait + Sync>(
     rt: &R,
     alloc: Global,
     table: TableSource,
@@ -97,7 +97,7 @@ fn run_on<G: Gate + Sync, R: Threads + Wait + Sync>(
     Ok(run_catalogue(rt, alloc, catalogue, scripts, gate))
 }
 
-fn texts(alloc: Global, texts: &[&[u8]]) -> Result<Vec<Bytes>, AllocError> {
+pub(super) fn texts(alloc: Global, texts: &[&[u8]]) -> Result<Vec<Bytes>, AllocError> {
     let mut copies = Vec::new(alloc);
     for text in texts {
         copies.push(Bytes::from_slice(alloc, text)?)?;
@@ -106,7 +106,7 @@ fn texts(alloc: Global, texts: &[&[u8]]) -> Result<Vec<Bytes>, AllocError> {
 }
 
 // Each station's answers, a `;` after each.
-fn joined(alloc: Global, answers: &[Bytes]) -> Result<Vec<u8>, AllocError> {
+pub(super) fn joined(alloc: Global, answers: &[Bytes]) -> Result<Vec<u8>, AllocError> {
     let mut all = Vec::new(alloc);
     for text in answers {
         all.extend_from_slice(text.as_slice())?;
@@ -117,7 +117,7 @@ fn joined(alloc: Global, answers: &[Bytes]) -> Result<Vec<u8>, AllocError> {
 
 // Runs a script for each station on the sample's table, under the name T: the answers, joined, and how many
 // entries the journal has.
-fn ran<G: Gate + Sync, R: Threads + Wait + Sync>(
+pub(super) fn ran<G: Gate + Sync, R: Threads + Wait + Sync>(
     rt: &R,
     alloc: Global,
     stations: u32,
