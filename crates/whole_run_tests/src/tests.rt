@@ -1,10 +1,14 @@
 //! Whole runs over files in memory. What is expected is written down from the published layouts and dBASE's rules.
 
+mod again;
+mod dates;
 mod day;
 mod sample;
+mod setups;
+mod stale;
 
 use crate::tests::sample::{EMPTY, EMPTY_INDEX, TABLE, WITH_CYD};
-use dbf_fields::{Bytes, day_of};
+use dbf_fields::{Bytes, Day, day_of};
 use dbf_image::{Failures, ImageFault};
 use ndx_index::NdxFault;
 use shared_catalogue::OpenFault;
@@ -65,6 +69,19 @@ pub(crate) fn office(
     })
 }
 
+// Serves the office on this day.
+pub(crate) fn serve_on<R: Threads + Wait + Sync>(
+    rt: &R,
+    alloc: Global,
+    source: &mut MemorySource,
+    today: Day,
+    reindex: bool,
+    folder: &mut MemoryFolder,
+) -> Result<Result<u64, ServeFault>, Fail> {
+    let setup = Bytes::from_slice(alloc, SETUP)?;
+    Ok(serve(rt, alloc, &setup, today, reindex, source, folder, &OpenGate))
+}
+
 // Serves the office on a day of this year.
 pub(crate) fn serve_in<R: Threads + Wait + Sync>(
     rt: &R,
@@ -75,8 +92,7 @@ pub(crate) fn serve_in<R: Threads + Wait + Sync>(
     folder: &mut MemoryFolder,
 ) -> Result<Result<u64, ServeFault>, Fail> {
     let today = day_of(year, 3, 15).ok_or("a date")?;
-    let setup = Bytes::from_slice(alloc, SETUP)?;
-    Ok(serve(rt, alloc, &setup, today, reindex, source, folder, &OpenGate))
+    serve_on(rt, alloc, source, today, reindex, folder)
 }
 
 // Serves a setup with a script, in 1987.
@@ -100,7 +116,7 @@ pub(crate) fn has_file(folder: &MemoryFolder, place: usize, name: &[u8], bytes: 
 }
 
 // Whether the folder's files are these: their names and their bytes.
-fn has_files(folder: &MemoryFolder, files: &[(&[u8], &[u8])]) -> bool {
+pub(crate) fn has_files(folder: &MemoryFolder, files: &[(&[u8], &[u8])]) -> bool {
     for i in 0..files.len() {
         if !has_file(folder, i, files[i].0, files[i].1) {
             return false;
@@ -206,6 +222,19 @@ fn two_tables_of_one_file(rt: HostRuntime) -> Result<(), Fail> {
     assert!(rt; has_file(&folder, 2, b"STATION1.TXT", b"OK\nOK\nOK\nOK\n1\n"));
     assert!(rt; has_file(&folder, 3, b"STATION2.TXT", b""));
     assert_eq!(rt; folder.files[1].bytes.len(), 77);
+    Ok(())
+}
+
+#[test]
+fn two_stations_have_a_file_of_answers_each(rt: HostRuntime) -> Result<(), Fail> {
+    let setup = b"TABLE T t.dbf\nSTATION nothing\nSTATION s.prg\n";
+    let folder = folder_of(&rt, rt.alloc(), setup, b"USE T\n? RECCOUNT()\n", 2)?;
+    let files: [(&[u8], &[u8]); 3] = [
+        (b"T.DBF", &TABLE),
+        (b"STATION1.TXT", b""),
+        (b"STATION2.TXT", b"OK\n2\n"),
+    ];
+    assert!(rt; has_files(&folder, &files));
     Ok(())
 }
 
