@@ -1,0 +1,10 @@
+use Rattle.std.proofs.Common.{◌≡◌, ◌≢◌, ℕ, ◌+◌, ◌<◌, length, true}
+use Rattle.std.specs.List.{list_all}
+use Rattle.dbf_fields.specs.declared.format.TheConstants.{MEMO}
+use Rattle.dbf_image.specs.Table.{cell_at, kind_at}
+use Rattle.station_files.specs.Files.{is_byte}
+use Rattle.station_files.proofs.of_bytes.records_are_of_bytes.Given as goal
+
+abbrev pub invariant-loop-index : goal.invariant-loop-index
+invariant-loop-index l =
+    (i k : ℕ) → i < l.index → k < length l.table.schema → kind_at l.table.schema k ≢ MEMO → list_all is_byte (cell_at l.table (i + 1) k) ≡ true
