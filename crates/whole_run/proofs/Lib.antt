@@ -1,3 +1,5 @@
 pub mod LoadLaws
 pub mod HandingLaws
 pub mod WholeRunLaws
+pub mod TrimmedText
+pub mod WrittenFiles

@@ -6,11 +6,13 @@
 //! writing in `closing.rt`.
 #![tactic(auto)]
 
+mod again;
 mod closing;
 mod fault;
 mod load;
 mod loaded;
 mod run;
 
+pub use again::written_files_open_again;
 pub use fault::{FileFault, ServeFault};
 pub use run::serve;

@@ -1,0 +1,8 @@
+use Rattle.whole_run.proofs.WrittenFiles.{read_again, again_read, file_for}
+use Rattle.whole_run.proofs.again.written_files_open_again.Goals as goal
+
+pub returns-clause-table : goal.returns-clause-table
+returns-clause-table c year month day table read t few = (read_again year month day table read t few, again_read year month day table read t few)
+
+pub returns-clause-index : goal.returns-clause-index
+returns-clause-index c = file_for

@@ -1,0 +1,21 @@
+//! What a run has written opens again.
+
+ghost use Rattle.std.specs.Prelude.{◌≡◌, ◌↔◌, ℕ, List, Err, false};
+ghost use Rattle.dbf_image.specs.DbfText.{IsDbf};
+ghost use Rattle.dbf_image.specs.Image.{image};
+ghost use Rattle.dbf_image.specs.Table.{Table, IsTable};
+ghost use Rattle.ndx_index.specs.declared.read.NdxFile.{NdxFile};
+ghost use Rattle.ndx_index.specs.Header.{IsIndex};
+ghost use Rattle.table_core.specs.Content.{Indexed};
+ghost use Rattle.station_files.specs.Closing.{index_bytes};
+ghost use Rattle.station_files.specs.Writable.{has_too_many};
+ghost use Rattle.whole_run.specs.HandedOver.{index_of};
+ghost use Rattle.whole_run.specs.OpensAgain.{IsIndexFor, IsFileFor, memos_of};
+
+/// What a run has written opens again.
+pub fn written_files_open_again()
+    // The files that are written of a table are those of this table and of no other.
+    ensures table { (year month day : ℕ) (table read : Table) → IsTable table → has_too_many table ≡ false → IsDbf (image table year month day) (memos_of table) read ↔ (read ≡ table) }
+    // The file that is written of an index reads as its expression, and is fresh for its table.
+    ensures index { (table : Table) (index : Indexed) (file : NdxFile) → IsTable table → IsIndexFor table.schema index → IsIndex (index_bytes (index_of table index)) file.expr file.key_len file.pairs.items → IsFileFor table index file }
+{}
