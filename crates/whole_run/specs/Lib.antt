@@ -1,4 +1,4 @@
 pub mod HandedOver
 pub mod Loading
-pub mod OpensAgain
+pub mod ReadBack
 pub mod WholeRun

@@ -6,13 +6,13 @@
 //! writing in `closing.rt`.
 #![tactic(auto)]
 
-mod again;
 mod closing;
 mod fault;
 mod load;
 mod loaded;
+mod read_back;
 mod run;
 
-pub use again::written_files_open_again;
 pub use fault::{FileFault, ServeFault};
+pub use read_back::written_files_read_back;
 pub use run::serve;

@@ -1,5 +1,5 @@
 use Rattle.whole_run.proofs.WrittenFiles.{read_again, again_read, file_for}
-use Rattle.whole_run.proofs.again.written_files_open_again.Goals as goal
+use Rattle.whole_run.proofs.read_back.written_files_read_back.Goals as goal
 
 pub returns-clause-table : goal.returns-clause-table
 returns-clause-table c year month day table read t few = (read_again year month day table read t few, again_read year month day table read t few)

@@ -1,6 +1,6 @@
-//! What a run has written opens again.
+//! What a run has written reads back.
 
-ghost use Rattle.std.specs.Prelude.{◌≡◌, ◌↔◌, ℕ, List, Err, false};
+ghost use Rattle.std.specs.Prelude.{◌≡◌, ◌↔◌, ℕ, false};
 ghost use Rattle.dbf_image.specs.DbfText.{IsDbf};
 ghost use Rattle.dbf_image.specs.Image.{image};
 ghost use Rattle.dbf_image.specs.Table.{Table, IsTable};
@@ -10,10 +10,11 @@ ghost use Rattle.table_core.specs.Content.{Indexed};
 ghost use Rattle.station_files.specs.Closing.{index_bytes};
 ghost use Rattle.station_files.specs.Writable.{has_too_many};
 ghost use Rattle.whole_run.specs.HandedOver.{index_of};
-ghost use Rattle.whole_run.specs.OpensAgain.{IsIndexFor, IsFileFor, memos_of};
+ghost use Rattle.whole_run.specs.ReadBack.{IsIndexFor, IsFileFor, memos_of};
 
-/// What a run has written opens again.
-pub fn written_files_open_again()
+/// A law: the files that are written of a table read back as it, and the file that is written of an index reads back as its
+/// expression, without the blanks at its text's end, with pairs that are fresh for the table.
+pub fn written_files_read_back()
     // The files that are written of a table are those of this table and of no other.
     ensures table { (year month day : ℕ) (table read : Table) → IsTable table → has_too_many table ≡ false → IsDbf (image table year month day) (memos_of table) read ↔ (read ≡ table) }
     // The file that is written of an index reads as its expression, and is fresh for its table.
