@@ -4,8 +4,12 @@ use Rattle.dbf_image.specs.declared.fault.ImageFault.{ImageFault}
 use Rattle.dbf_image.specs.declared.fault.ImageFault.TheVariants as image
 use Rattle.ndx_index.specs.declared.fault.NdxFault.{NdxFault}
 use Rattle.ndx_index.specs.declared.fault.NdxFault.TheVariants as ndx
+use Rattle.shared_catalogue.specs.declared.catalogue.Stop.{Stop}
+use Rattle.shared_catalogue.specs.declared.catalogue.Stop.TheVariants as stop
 use Rattle.shared_catalogue.specs.declared.opening.OpenFault.{OpenFault}
 use Rattle.shared_catalogue.specs.declared.opening.OpenFault.TheVariants as opening
+use Rattle.shared_catalogue.specs.declared.shared.settle.SettleFault.{SettleFault}
+use Rattle.shared_catalogue.specs.declared.shared.settle.SettleFault.TheVariants as settle
 use Rattle.station_run.specs.declared.fault.RunFault.{RunFault}
 use Rattle.station_run.specs.declared.fault.RunFault.TheVariants as run
 use Rattle.station_files.specs.declared.close_fault.CloseFault.{CloseFault}
@@ -47,11 +51,20 @@ open_name (opening.BadExpression table index fault) = codes "BadExpression"
 open_name (opening.IndexStale table index) = codes "IndexStale"
 open_name opening.NoMemory = codes "NoMemory"
 
+abbrev pub stop_name : Stop → List ℕ
+stop_name stop.JournalFull = codes "JournalFull"
+stop_name stop.NoMemory = codes "NoMemory"
+
+abbrev pub settle_name : SettleFault → List ℕ
+settle_name (settle.SeatMissing station) = codes "SeatMissing"
+settle_name (settle.ReceiptMismatch station) = codes "ReceiptMismatch"
+
+-- of a run that was stopped or not settled the name is that of the fault for which it was
 abbrev pub run_name : RunFault → List ℕ
 run_name run.ScriptCount = codes "ScriptCount"
 run_name (run.NoThread station) = codes "NoThread"
-run_name (run.Stopped station stop) = codes "Stopped"
-run_name (run.Settle fault) = codes "Settle"
+run_name (run.Stopped station why) = stop_name why
+run_name (run.Settle why) = settle_name why
 run_name run.NoMemory = codes "NoMemory"
 
 abbrev pub close_name : CloseFault → List ℕ

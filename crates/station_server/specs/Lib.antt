@@ -1,3 +1,4 @@
 pub mod Program
 pub mod FaultNames
 pub mod Failures
+pub mod Endings

@@ -1,16 +1,21 @@
-//! The program around a run: its command line, and what it says of a run that failed.
+//! The program around a run: its command line, the run that it asks for, and what the program says at its end.
 //!
-//! [`Options`] is what the command line says, [`Failure`] why there was no run or why it failed, and
-//! [`print_failure`] and [`status_of`] what the user gets then: a line on standard error and an exit status.
-//! The lines and the statuses are defined in `specs/Failures.antt`. Start reading there.
+//! [`Options`] is what the command line says, and [`serve_options`] serves the run of it. [`Ending`] is why files are
+//! not written, [`Failure`] why there was no run or why it failed, and [`tell`] what the user gets: a line on standard
+//! output or standard error, and an exit status. The lines and the statuses are defined in `specs/Endings.antt` and
+//! `specs/Failures.antt`. Start reading there.
 
 mod ending;
 mod failure;
 mod names;
 mod options;
+mod serving;
+mod telling;
 #[cfg(test)]
 mod tests;
 
-pub use ending::Ending;
+pub use ending::{Ending, status_of_ending};
 pub use failure::{Failure, print_failure, status_of};
 pub use options::{Options, command, mistake_status, options_of};
+pub use serving::serve_options;
+pub use telling::{Told, fail, print_count, tell};

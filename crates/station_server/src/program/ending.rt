@@ -1,6 +1,10 @@
 //! How a call of the program ends that writes no files, or not all.
 
-use crate::program::failure::Failure;
+ghost use Rattle.std.specs.Prelude.{◌≡◌};
+ghost use Rattle.station_server.specs.Endings.{ending_status};
+
+use crate::program::failure::{Failure, status_of};
+use crate::program::options::mistake_status;
 use std::alloc::AllocError;
 use std::io;
 use whole_run::ServeFault;
@@ -16,30 +20,66 @@ pub enum Ending {
     Failed(Failure),
 }
 
+/// The exit status of a call of the program that did not write all files: 0 where the help is asked for, 1 where an
+/// argument, the command line, the date or the setup is bad, 2 for a file and the opening, 3 for the run and for want
+/// of memory, 4 for the writing.
+pub fn status_of_ending(ending: &Ending) -> u8
+    ensures value { result ≡ ending_status ending.now }
+{
+    match ending {
+        Ending::NoText => 1,
+        Ending::CommandLine(error) => mistake_status(error),
+        Ending::Failed(failure) => status_of(failure),
+    }
+}
+
 // A fault in reading the arguments: a want of memory, and else that one is no UTF-8 text.
 impl From<io::Error> for Ending {
+    ghost use Rattle.std.specs.Prelude.{◌≡◌};
+    ghost use Rattle.std.specs.IoError.{error_kind};
+    ghost use Rattle.station_server.specs.Endings.{unread_arguments};
+
+    ghost from_gives = { λ error ending. ending ≡ unread_arguments (error_kind error) };
+
     fn from(error: io::Error) -> Ending {
-        if error.kind() == io::ErrorKind::OutOfMemory {
-            Ending::Failed(Failure::Serve(ServeFault::NoMemory))
-        } else {
-            Ending::NoText
+        match error.kind() {
+            io::ErrorKind::OutOfMemory => Ending::Failed(Failure::Serve(ServeFault::NoMemory)),
+            _ => Ending::NoText,
         }
     }
 }
 
 impl From<AllocError> for Ending {
+    ghost use Rattle.std.specs.Prelude.{◌≡◌};
+    ghost use Rattle.station_server.specs.declared.program.ending.Ending.TheVariants.{Failed};
+    ghost use Rattle.station_server.specs.declared.program.failure.Failure.TheVariants.{Serve};
+    ghost use Rattle.whole_run.specs.declared.fault.ServeFault.TheVariants.{NoMemory};
+
+    ghost from_gives = { λ _ ending. ending ≡ Failed (Serve NoMemory) };
+
     fn from(_refused: AllocError) -> Ending {
         Ending::Failed(Failure::Serve(ServeFault::NoMemory))
     }
 }
 
 impl From<clap::Error> for Ending {
+    ghost use Rattle.std.specs.Prelude.{◌≡◌};
+    ghost use Rattle.station_server.specs.declared.program.ending.Ending.TheVariants.{CommandLine};
+
+    ghost from_gives = { λ error ending. ending ≡ CommandLine error };
+
     fn from(error: clap::Error) -> Ending {
         Ending::CommandLine(error)
     }
 }
 
 impl From<ServeFault> for Ending {
+    ghost use Rattle.std.specs.Prelude.{◌≡◌};
+    ghost use Rattle.station_server.specs.declared.program.ending.Ending.TheVariants.{Failed};
+    ghost use Rattle.station_server.specs.declared.program.failure.Failure.TheVariants.{Serve};
+
+    ghost from_gives = { λ fault ending. ending ≡ Failed (Serve fault) };
+
     fn from(fault: ServeFault) -> Ending {
         Ending::Failed(Failure::Serve(fault))
     }

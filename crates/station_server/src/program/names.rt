@@ -1,11 +1,11 @@
 //! The names of faults, without what they carry.
 
 ghost use Rattle.std.specs.Prelude.{◌≡◌};
-ghost use Rattle.station_server.specs.FaultNames.{close_name as name_of_close, image_name as name_of_image, ndx_name as name_of_ndx, open_name as name_of_opening, run_name as name_of_run};
+ghost use Rattle.station_server.specs.FaultNames.{close_name as name_of_close, image_name as name_of_image, ndx_name as name_of_ndx, open_name as name_of_opening, run_name as name_of_run, settle_name as name_of_settling, stop_name as name_of_stop};
 
 use dbf_image::ImageFault;
 use ndx_index::NdxFault;
-use shared_catalogue::OpenFault;
+use shared_catalogue::{OpenFault, SettleFault, Stop};
 use station_files::CloseFault;
 use station_run::RunFault;
 
@@ -63,15 +63,36 @@ pub(crate) fn open_name(fault: OpenFault) -> &'static str
     }
 }
 
-/// The name of the fault for which the stations' run did not come to its end.
+/// The name of the fault for which a worker was stopped.
+fn stop_name(stop: Stop) -> &'static str
+    ensures value { result.now ≡ name_of_stop stop }
+{
+    match stop {
+        Stop::JournalFull => "JournalFull",
+        Stop::NoMemory => "NoMemory",
+    }
+}
+
+/// The name of the fault for which a catalogue was not settled.
+fn settle_name(fault: SettleFault) -> &'static str
+    ensures value { result.now ≡ name_of_settling fault }
+{
+    match fault {
+        SettleFault::SeatMissing(_) => "SeatMissing",
+        SettleFault::ReceiptMismatch(_) => "ReceiptMismatch",
+    }
+}
+
+/// The name of the fault for which the stations' run did not come to its end. Where it was stopped or not settled
+/// this is the name of the fault that is carried.
 pub(crate) fn run_name(fault: RunFault) -> &'static str
     ensures value { result.now ≡ name_of_run fault }
 {
     match fault {
         RunFault::ScriptCount => "ScriptCount",
         RunFault::NoThread(_) => "NoThread",
-        RunFault::Stopped(_, _) => "Stopped",
-        RunFault::Settle(_) => "Settle",
+        RunFault::Stopped(_, stop) => stop_name(stop),
+        RunFault::Settle(fault) => settle_name(fault),
         RunFault::NoMemory => "NoMemory",
     }
 }

@@ -1,10 +1,11 @@
 //! The command line.
 
-ghost use Rattle.std.specs.Prelude.{◌≡◌, ◌≢◌, ◌↔◌, codes, Some, None, IsSome, IfSome};
+ghost use Rattle.std.specs.Prelude.{◌≡◌, ◌↔◌, codes, Some, None, true, false, IsSome, IfSome};
 ghost use Rattle.std.specs.Int.{IsInRange};
 ghost use Rattle.clap.specs.Words.{kind_of};
 ghost use Rattle.dbf_fields.specs.Date.{SaysDay};
-ghost use Rattle.station_server.specs.Program.{IsRunDate, value_of};
+ghost use Rattle.station_server.specs.Endings.{clap_status};
+ghost use Rattle.station_server.specs.Program.{HasFlag, IsRunDate, LacksFlag, value_of};
 
 use clap::error::ErrorKind;
 use clap::{Arg, ArgAction, ArgMatches, Command};
@@ -81,9 +82,7 @@ fn required_option<'a>(
 /// The exit status after a command line of which `clap` gave no options: 0 where it asks for the help, 3 where
 /// memory was refused, and else 1.
 pub fn mistake_status(error: &clap::Error) -> u8
-    ensures help { kind_of error.now ≡ ErrorKind.DisplayHelp → result ≡ 0 }
-    ensures memory { kind_of error.now ≡ ErrorKind.OutOfMemory → result ≡ 3 }
-    ensures mistake { kind_of error.now ≢ ErrorKind.DisplayHelp → kind_of error.now ≢ ErrorKind.OutOfMemory → result ≡ 1 }
+    ensures value { result ≡ clap_status (kind_of error.now) }
 {
     match error.kind() {
         ErrorKind::DisplayHelp => 0,
@@ -118,6 +117,8 @@ pub fn options_of<'a>(matches: &ArgMatches<'a>) -> Option<Options<'a>>
     ensures out { IfSome result (λ options. value_of matches.now (codes "out") ≡ Some options.out.now) }
     ensures today { IfSome result (λ options. IfSome (value_of matches.now (codes "today")) (λ text. SaysDay text options.today)) }
     ensures years { IfSome result (λ options. IsInRange 1900 2155 options.today.year) }
+    ensures reindex { IfSome result (λ options. HasFlag matches.now (codes "reindex") → options.reindex ≡ true) }
+    ensures plain { IfSome result (λ options. LacksFlag matches.now (codes "reindex") → options.reindex ≡ false) }
     ensures bad { result ≡ None → IsSome (value_of matches.now (codes "setup")) → IsSome (value_of matches.now (codes "out")) → IfSome (value_of matches.now (codes "today")) (λ text. IsRunDate text → ⊥) }
 {
     let setup = matches.get_str("setup")?;

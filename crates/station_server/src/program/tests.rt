@@ -1,3 +1,5 @@
+mod ends;
+
 use crate::program::options::date_of;
 use crate::program::{Failure, command, mistake_status, options_of, print_failure, status_of};
 use dbf_fields::{Bytes, day_of};
@@ -312,12 +314,22 @@ fn failures_of_the_run(rt: HostRuntime) -> Result<(), Fail> {
         (
             stopped(RunFault::Stopped(1, Stop::JournalFull)),
             3,
-            "station_server: run: Stopped\n",
+            "station_server: run: JournalFull\n",
+        ),
+        (
+            stopped(RunFault::Stopped(2, Stop::NoMemory)),
+            3,
+            "station_server: run: NoMemory\n",
         ),
         (
             stopped(RunFault::Settle(SettleFault::SeatMissing(1))),
             3,
-            "station_server: run: Settle\n",
+            "station_server: run: SeatMissing\n",
+        ),
+        (
+            stopped(RunFault::Settle(SettleFault::ReceiptMismatch(1))),
+            3,
+            "station_server: run: ReceiptMismatch\n",
         ),
         (
             stopped(RunFault::NoMemory),

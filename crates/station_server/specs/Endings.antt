@@ -1,0 +1,64 @@
+-- How a call of the program ends: its exit status, and what is printed then.
+use Rattle.std.specs.Prelude.{ℕ, List, ◌++◌, ◌∷◌, [], codes, Option, Some, None, Result, Ok, Err}
+use Rattle.std.specs.Fmt.{decimal}
+use Rattle.std.specs.declared.io.ErrorKind.{ErrorKind as IoKind}
+use Rattle.std.specs.declared.io.ErrorKind.TheVariants as io
+use Rattle.clap.specs.Words.{kind_of}
+use Rattle.clap.specs.declared.error.kind.ErrorKind.{ErrorKind}
+use Rattle.clap.specs.declared.error.kind.ErrorKind.TheVariants as kind
+use Rattle.whole_run.specs.declared.fault.ServeFault.TheVariants as serve
+use Rattle.station_server.specs.declared.program.ending.Ending.{Ending}
+use Rattle.station_server.specs.declared.program.ending.Ending.TheVariants as ended
+use Rattle.station_server.specs.declared.program.failure.Failure.TheVariants as failure
+use Rattle.station_server.specs.Failures.{line_of, status}
+
+-- ---- the exit status
+
+-- where `clap` gave no options: the help is asked for, memory was refused, or there is a mistake
+abbrev pub clap_status : ErrorKind → ℕ
+clap_status kind.DisplayHelp = 0
+clap_status kind.OutOfMemory = 3
+clap_status _ = 1
+
+-- where the files are not written, or not all
+abbrev pub ending_status : Ending → ℕ
+ending_status ended.NoText = 1
+ending_status (ended.CommandLine error) = clap_status (kind_of error)
+ending_status (ended.Failed why) = status why
+
+-- of a call: the number of commands where all files are written, and else why they are not
+abbrev pub call_status : Result ℕ Ending → ℕ
+call_status (Ok count) = 0
+call_status (Err ending) = ending_status ending
+
+-- ---- what is printed
+
+-- on standard output where all files are written, its LF too
+abbrev pub count_line : ℕ → List ℕ
+count_line count = codes "station_server: " ++ (decimal count ++ (codes " commands" ++ 10 ∷ []))
+
+-- on standard error where standard output took no text
+abbrev pub unprinted_line : List ℕ
+unprinted_line = codes "station_server: cannot print" ++ 10 ∷ []
+
+-- on standard error where an argument is no UTF-8 text
+abbrev pub no_text_line : List ℕ
+no_text_line = codes "error: an argument is no UTF-8 text" ++ 10 ∷ []
+
+-- the line for which `clap` has no text of its own: that memory was refused
+abbrev pub clap_line : ErrorKind → Option (List ℕ)
+clap_line kind.OutOfMemory = Some (line_of (failure.Serve serve.NoMemory))
+clap_line _ = None
+
+-- on standard error where the files are not written; `None` where it is a text of `clap`
+abbrev pub ending_line : Ending → Option (List ℕ)
+ending_line ended.NoText = Some no_text_line
+ending_line (ended.CommandLine error) = clap_line (kind_of error)
+ending_line (ended.Failed why) = Some (line_of why)
+
+-- ---- the arguments
+
+-- why the arguments can't be read: memory was refused, and else one is no UTF-8 text
+abbrev pub unread_arguments : IoKind → Ending
+unread_arguments io.OutOfMemory = ended.Failed (failure.Serve serve.NoMemory)
+unread_arguments _ = ended.NoText

@@ -1,0 +1,52 @@
+//! The whole run that a command line asks for.
+
+ghost use Rattle.std.specs.Prelude.{◌≡◌, ◌≢◌, ℕ, List, Err, IfOk, IfErr, OnOk};
+ghost use Rattle.dbf_image.specs.Sink.{grown, Rises};
+ghost use Rattle.station_files.specs.declared.closed.ClosedTable.{ClosedTable as Table};
+ghost use Rattle.station_files.specs.Closing.{run_files, IsCutAt};
+ghost use Rattle.station_files.specs.Files.{listing};
+ghost use Rattle.whole_run.specs.Loading.{IsFailure};
+ghost use Rattle.whole_run.specs.WholeRun.{IsServeFault, IsWholeRun};
+
+use crate::program::options::Options;
+use dbf_fields::Bytes;
+use station_files::{CloseFault, Folder, Source};
+use station_run::Gate;
+use std::alloc::Global;
+use std::sync::Wait;
+use std::thread::Threads;
+use whole_run::{ServeFault, serve};
+
+/// Serves the whole run of a command line: of the setup of its path, on its day, and with the indexes made anew where
+/// it says so. Files are read from the source and written into the folder. The answer is how many commands were
+/// performed. See [`serve`].
+pub fn serve_options<S: Source, F: Folder, G: Gate + Sync, R: Threads + Wait + Sync>(
+    rt: &R,
+    alloc: Global,
+    options: &Options<'_>,
+    source: &mut S,
+    folder: &mut F,
+    gate: &G,
+) -> Result<u64, ServeFault>
+    ensures ran { IfOk result (λ count. (tables : List Table) × (answers : List (List ℕ)) × IsWholeRun (S.files source.old) options.now.setup.now options.now.reindex tables answers count × (F.written folder.new ≡ grown (F.written folder.old) (listing (run_files options.now.today.year options.now.today.month options.now.today.day tables answers)))) }
+    ensures fine { OnOk result (F.failures folder.new ≡ F.failures folder.old) }
+    ensures kept { S.files source.new ≡ S.files source.old }
+    ensures fault { IfErr result (IsServeFault (S.files source.old) options.now.setup.now options.now.reindex options.now.today.year) }
+    ensures loads { OnOk result (S.failures source.new ≡ S.failures source.old) }
+    ensures failure { IfErr result (IsFailure (S.files source.old) (S.failures source.old) (S.failures source.new)) }
+    ensures unbegun { IfErr result (λ fault. ((name : List ℕ) → fault ≢ ServeFault.Close (CloseFault.Write name)) → folder.new ≡ folder.old) }
+    ensures failed { (name : List ℕ) → result ≡ Err (ServeFault.Close (CloseFault.Write name)) → Rises (F.failures folder.old) (F.failures folder.new) }
+    ensures cut { (name : List ℕ) → result ≡ Err (ServeFault.Close (CloseFault.Write name)) → (tables : List Table) × (answers : List (List ℕ)) × (count : ℕ) × IsWholeRun (S.files source.old) options.now.setup.now options.now.reindex tables answers count × IsCutAt name (F.written folder.old) (F.written folder.new) (run_files options.now.today.year options.now.today.month options.now.today.day tables answers) }
+{
+    let setup = Bytes::from_slice(alloc, options.setup.as_bytes())?;
+    serve(
+        rt,
+        alloc,
+        &setup,
+        options.today,
+        options.reindex,
+        source,
+        folder,
+        gate,
+    )
+}
