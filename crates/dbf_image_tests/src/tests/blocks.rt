@@ -147,3 +147,68 @@ fn memos_are_numbered_by_record_and_field(rt: HostRuntime) -> Result<(), Fail> {
     assert_texts(&rt, &memos_written(rt.alloc(), &table)?);
     Ok(())
 }
+
+// How many memos of one block each there are.
+const MANY: u32 = 1_001;
+
+// The text of a memo that stands in the block of its record's number.
+fn text_of(alloc: Global, number: u32) -> Result<Vec<u8>, Fail> {
+    let text = format!(in alloc; "MEMO {number}")?;
+    Ok(Vec::from_slice(alloc, text.as_bytes())?)
+}
+
+// A table of so many memos.
+fn many(alloc: Global) -> Result<TableData, Fail> {
+    let note = Field::new(alloc, b"NOTE", MEMO, 10, 0)?;
+    let mut table = TableData::empty(alloc, Schema::new(alloc, &[note])?);
+    for before in 0..MANY {
+        add_blank(&mut table)?;
+        put_memo(
+            &mut table,
+            before + 1,
+            0,
+            text_of(alloc, before + 1)?.as_slice(),
+        )?;
+    }
+    Ok(table)
+}
+
+// Their file: the first block tells the next free one; each memo fills its block with zeros after its end.
+fn many_blocks(alloc: Global) -> Result<Vec<u8>, Fail> {
+    let mut dbt = Vec::from_slice(alloc, &[0xea, 0x03, 0, 0])?;
+    dbt.resize(16, 0)?;
+    dbt.push(3)?;
+    dbt.resize(512, 0)?;
+    for before in 0..MANY {
+        dbt.extend_from_slice(text_of(alloc, before + 1)?.as_slice())?;
+        dbt.extend_from_slice(&[0x1a, 0x1a])?;
+        dbt.resize(dbt.len().next_multiple_of(512), 0)?;
+    }
+    Ok(dbt)
+}
+
+// The number of the first record whose memo is another.
+fn first_unlike(alloc: Global, table: &TableData) -> Result<Option<u32>, Fail> {
+    for before in 0..MANY {
+        let text = text_of(alloc, before + 1)?;
+        if !has_cell(alloc, table, before + 1, 0, text.as_slice()) {
+            return Ok(Some(before + 1));
+        }
+    }
+    Ok(None)
+}
+
+// What is read of a table's two files.
+fn read_again(alloc: Global, table: &TableData) -> Result<TableData, Fail> {
+    let dbt = memos_written(alloc, table)?;
+    Ok(read_copy(alloc, &written(alloc, table)?, Some(dbt.as_slice()))?)
+}
+
+#[test]
+fn a_thousand_blocks_are_written_and_read_back(rt: HostRuntime) -> Result<(), Fail> {
+    let alloc = rt.alloc();
+    let table = many(alloc)?;
+    assert_memos_written(alloc, &rt, &table, &many_blocks(alloc)?)?;
+    assert_eq!(rt; first_unlike(alloc, &read_again(alloc, &table)?)?, None);
+    Ok(())
+}

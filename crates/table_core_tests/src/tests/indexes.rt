@@ -162,3 +162,52 @@ fn table_tells_its_indexes(rt: HostRuntime) -> Result<(), Fail> {
     }
     Ok(())
 }
+
+// Seven fields, of which each has an index.
+const FIELDS: [&[u8]; 7] = [b"A", b"B", b"C", b"D", b"E", b"F", b"G"];
+
+// A table of those fields of one byte each, whose indexes are by each of them. Of seven records each has an X in the
+// field of its number, and blanks in the others.
+fn seven(alloc: Global) -> Result<Table, Fail> {
+    let mut fields = Vec::new(alloc);
+    for name in FIELDS {
+        fields.push(Field::new(alloc, name, CHARACTER, 1, 0)?)?;
+    }
+    let mut table = table_of(alloc, &fields, &FIELDS)?;
+    let mut cursor = start(0);
+    for name in FIELDS {
+        let edits = [Asked::Append, Asked::Text(name, b"X")];
+        all_edited(alloc, &mut table, &mut cursor, &edits)?;
+    }
+    Ok(table)
+}
+
+// The moves of an order: the X of its field is that of the record of its number. There is no eighth order.
+fn moves_by(order: u32) -> [(Move, Said); 5] {
+    [
+        (Move::Order(u64::from(order)), (0, 8, false, false)),
+        (Move::Seek(b"X"), (0, order, false, true)),
+        (Move::Order(8), (18, order, false, true)),
+        (Move::Skip(1), (0, 8, false, false)),
+        (Move::Bottom, (0, order, false, false)),
+    ]
+}
+
+// The first order by which the moves lead elsewhere.
+fn first_wrong_order(table: &Table) -> Result<Option<u32>, Fail> {
+    for order in 1..8 {
+        let mut cursor = start(0);
+        if first_unlike(table, &mut cursor, &moves_by(order))?.is_some() {
+            return Ok(Some(order));
+        }
+    }
+    Ok(None)
+}
+
+#[test]
+fn seventh_order_is_the_seventh_index(rt: HostRuntime) -> Result<(), Fail> {
+    let table = seven(rt.alloc())?;
+    assert_eq!(rt; table.index_count(), 7);
+    assert_eq!(rt; first_wrong_order(&table)?, None);
+    Ok(())
+}
