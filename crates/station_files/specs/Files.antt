@@ -27,9 +27,9 @@ abbrev pub IsFileOf : Option (List NamedFile) → List ℕ → List ℕ → Type
 IsFileOf None path bytes = Unit {0}
 IsFileOf (Some files) path bytes = file_at files path ≡ Some bytes
 
--- the file of a path is over the limit, where the files are known
+-- the file of a path is known to be over the limit
 abbrev pub IsTooLong : Option (List NamedFile) → List ℕ → Type 0
-IsTooLong None path = Unit {0}
+IsTooLong None path = ⊥
 IsTooLong (Some files) path = (bytes : List ℕ) × (file_at files path ≡ Some bytes) × (MAX_FILE_BYTES < length bytes)
 
 -- no load can give the file of a path, where the files are known: there is none, or it is over the limit
@@ -76,6 +76,6 @@ pub record IsOfBytes (file : NamedFile) : Type 0 where
   pub bytes : list_all is_byte file.bytes ≡ true
 
 -- what a load answers where the system refuses: that memory was refused, or that the file can't be read
-pub record IsFaultOf (error : Error) (fault : LoadFault) : Type 0 where
+pub record IsLoadFaultOf (error : Error) (fault : LoadFault) : Type 0 where
   pub memory : error_kind error ≡ OutOfMemory → fault ≡ NoMemory
   pub other : error_kind error ≢ OutOfMemory → fault ≡ CannotRead

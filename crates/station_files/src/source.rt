@@ -36,9 +36,9 @@ impl From<AllocError> for LoadFault {
 }
 
 impl From<io::Error> for LoadFault {
-    ghost use Rattle.station_files.specs.Files.{IsFaultOf};
+    ghost use Rattle.station_files.specs.Files.{IsLoadFaultOf};
 
-    ghost from_gives = { λ error fault. IsFaultOf error fault };
+    ghost from_gives = { λ error fault. IsLoadFaultOf error fault };
 
     fn from(error: io::Error) -> LoadFault {
         if error.kind() == io::ErrorKind::OutOfMemory {
