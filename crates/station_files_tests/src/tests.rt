@@ -9,6 +9,7 @@ use std::test::Fail;
 
 mod close;
 mod sample;
+mod transfer;
 
 fn file(alloc: Global, name: &[u8], bytes: &[u8]) -> Result<NamedFile, AllocError> {
     Ok(NamedFile {
