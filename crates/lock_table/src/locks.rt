@@ -58,6 +58,34 @@ impl Locks {
         self.stations
     }
 
+    /// Locks a record for a station that may have it. The lock replaces the one that the station had in the table.
+    pub fn lock_record(&mut self, station: u32, table: u32, number: u32)
+        requires station { 1 ≤ station }
+        requires stations { station ≤ self.old.stations }
+        requires table { 1 ≤ table }
+        requires tables { table ≤ self.old.tables }
+        requires number { 1 ≤ number }
+        requires free { free_record self.old.locks station table number ≡ true }
+        ensures value { self.new ≡ held self.old.stations self.old.tables (with_lock self.old.locks station table number) }
+    {
+        let index = self.slot_index(station, table);
+        self.slots[index] = Some(number);
+    }
+
+    /// Locks a whole table for a station that may have it. The lock replaces the one that the station had in the
+    /// table.
+    pub fn lock_file(&mut self, station: u32, table: u32)
+        requires station { 1 ≤ station }
+        requires stations { station ≤ self.old.stations }
+        requires table { 1 ≤ table }
+        requires tables { table ≤ self.old.tables }
+        requires free { free_whole self.old.locks station table ≡ true }
+        ensures value { self.new ≡ held self.old.stations self.old.tables (with_lock self.old.locks station table 0) }
+    {
+        let index = self.slot_index(station, table);
+        self.slots[index] = Some(WHOLE_TABLE);
+    }
+
     /// Locks a record for a station, and answers whether it did: not where another station has a lock on the
     /// record or on the whole table. The lock replaces the one that the station had in the table; where the
     /// answer is false nothing has changed.
@@ -74,8 +102,7 @@ impl Locks {
         if !self.is_free_record(station, table, number) {
             return false;
         }
-        let index = self.slot_index(station, table);
-        self.slots[index] = Some(number);
+        self.lock_record(station, table, number);
         true
     }
 
@@ -94,8 +121,7 @@ impl Locks {
         if !self.is_free_whole(station, table) {
             return false;
         }
-        let index = self.slot_index(station, table);
-        self.slots[index] = Some(WHOLE_TABLE);
+        self.lock_file(station, table);
         true
     }
 

@@ -5,8 +5,8 @@ use Rattle.std.specs.List.{sum_by}
 use Rattle.std.proofs.lemmas.Bool.{cases_lt}
 use Rattle.std.proofs.lemmas.List.Sums.{sum_by-cons}
 use Rattle.shared_catalogue.specs.Seats.{Seated, HasSeat, IsLowestMissing}
-use Rattle.shared_catalogue.specs.declared.shared.settle.SettleFault.{SettleFault}
-use Rattle.shared_catalogue.specs.declared.shared.settle.SettleFault.TheVariants.{SeatMissing}
+use Rattle.shared_catalogue.specs.declared.settle.SettleFault.{SettleFault}
+use Rattle.shared_catalogue.specs.declared.settle.SettleFault.TheVariants.{SeatMissing}
 
 module _ {X : Type 0} (P : X → Type 0) where
   pub any_here : (x : X) (xs : List X) → P x → Any P (x ∷ xs)

@@ -1,7 +1,10 @@
 -- The calls of one station in a journal, and the receipts of stations.
 use Rattle.std.specs.Prelude.{◌≡◌, ℕ, ◌+◌, ◌-◌, ◌<◌, ◌≤◌, ◌==◌, List, length, map, filter, slice_get, Some}
-use Rattle.shared_catalogue.specs.declared.entry.Entry.{Entry}
-use Rattle.shared_catalogue.specs.declared.shared.receipts.Receipt.{Receipt}
+use Rattle.std.specs.List.{sum_by}
+use Rattle.catalogue_core.specs.declared.entry.Entry.{Entry}
+use Rattle.catalogue_core.specs.Replay.{History, Opened, IsHistoryOf}
+use Rattle.shared_catalogue.specs.declared.receipts.Receipt.{Receipt}
+use Rattle.shared_catalogue.specs.Seats.{Seated}
 
 -- the command and the answer of an entry
 abbrev pub receipt_of : Entry → Receipt
@@ -25,3 +28,8 @@ pub record IsLowestMismatch (journal : List Entry) (receipts : List (List Receip
   pub inside : station ≤ length receipts
   pub other : ¬ IsOwn journal receipts (station - 1)
   pub before : AreOwn journal receipts (station - 1)
+
+-- in some history of the opened tables, with as many entries as the seats have performed commands at least, the
+-- station is the lowest whose receipts are not its entries
+abbrev pub IsMismatch : Opened → List Seated → List (List Receipt) → ℕ → Type 0
+IsMismatch opened seats receipts station = (h : History) × IsHistoryOf opened (sum_by (λ z. z.share) seats) h × IsLowestMismatch h.journal receipts station

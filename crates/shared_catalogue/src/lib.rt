@@ -1,43 +1,29 @@
-//! The tables that stations share, the commands that change them, and the journal of these commands.
+//! The catalogue under one lock, which stations share.
 //!
-//! [`Catalogue::open`] takes tables under their names, for up to 16 stations with ten areas each, and
-//! [`Catalogue::perform`] performs a command of a station as one step. What a command does is defined in
-//! `specs/Step.antt`, one short case a command, over the edits and moves of `table_core` and the tests of
-//! `lock_table`. The type [`Catalogue`] says that its state is what the journal makes of the opened tables, and
-//! that each answer in the journal is the one that its command has there; what is true of every state
-//! (`IsState`, in `specs/State.antt`) is true of it.
+//! [`Shared::new`] puts an opened [`Catalogue`] under the lock and makes a [`Seat`] for each station; by its seat a
+//! station performs commands, each as one step in one hold of the lock, and looks at the status row.
+//! [`Shared::settle`] takes the seats back, compares what each station was answered with the journal, and gives the
+//! catalogue at its end. What commands do is `catalogue_core`'s, whose items can be had from here.
 //!
-//! Start reading at `specs/Step.antt`; then `catalogue.rt`, `plan.rt` and `state.rt`.
+//! Start reading at `shared.rt`; then `locked.rt` and `settle.rt`.
 #![tactic(auto)]
 
-mod answer;
-mod area;
-mod catalogue;
-mod change;
-mod command;
-mod entry;
-mod kept_table;
-mod names;
-mod opening;
-mod plan;
+mod closed;
+mod locked;
+mod lot;
+mod receipts;
+mod seat;
+mod settle;
 mod shared;
-mod source;
-mod state;
-mod stations;
-mod status;
 
-pub use answer::Answer;
-pub use area::MAX_AREAS;
-pub use catalogue::{Catalogue, MAX_ENTRIES, Stop};
-pub use command::{Command, Question};
-pub use entry::Entry;
-pub use opening::{MAX_INDEXES, MAX_STATIONS, MAX_TABLES, OpenFault};
+pub use catalogue_core::{
+    Answer, Catalogue, Command, Entry, IndexSource, MAX_AREAS, MAX_ENTRIES, MAX_INDEXES,
+    MAX_STATIONS, MAX_TABLES, OpenFault, Question, Refusal, StatusRow, Stop, TableSource,
+    TableStatus,
+};
+pub use closed::Closed;
+pub use lot::{Lot, Naming};
+pub use receipts::{Receipt, Receipts};
+pub use seat::Seat;
+pub use settle::SettleFault;
 pub use shared::Shared;
-pub use shared::closed::Closed;
-pub use shared::lot::{Lot, Naming};
-pub use shared::receipts::{Receipt, Receipts};
-pub use shared::seat::Seat;
-pub use shared::settle::SettleFault;
-pub use source::{IndexSource, TableSource};
-pub use status::{StatusRow, TableStatus};
-pub use table_core::Refusal;

@@ -2,29 +2,19 @@
 
 ghost use Rattle.std.specs.Prelude.{◌≡◌, ℕ, ◌+◌, ◌<◌, ◌≤◌, ◌↔◌, [], length, vec_len, IfOk, OnOk, OnErr, IsErrOf};
 ghost use Rattle.std.specs.List.{sum_by};
-ghost use Rattle.shared_catalogue.specs.declared.catalogue.TheConstants.{MAX_ENTRIES};
-ghost use Rattle.shared_catalogue.specs.Replay.{History, answer_of, IsHistoryOf};
+ghost use Rattle.catalogue_core.specs.declared.catalogue.TheConstants.{MAX_ENTRIES};
+ghost use Rattle.catalogue_core.specs.Replay.{History, answer_of, IsHistoryOf};
 ghost use Rattle.shared_catalogue.specs.Seats.{seated, new_seats, IsLowestMissing};
-ghost use Rattle.shared_catalogue.specs.Status.{row};
-ghost use Rattle.shared_catalogue.specs.OwnCalls.{AreOwn, IsLowestMismatch};
+ghost use Rattle.catalogue_core.specs.Status.{row};
+ghost use Rattle.shared_catalogue.specs.OwnCalls.{AreOwn, IsMismatch};
 
-pub(crate) mod closed;
-pub(crate) mod locked;
-pub(crate) mod lot;
-pub(crate) mod receipts;
-pub(crate) mod seat;
-pub(crate) mod settle;
-
-use crate::answer::Answer;
-use crate::catalogue::{Catalogue, Stop};
-use crate::command::Command;
-use crate::shared::closed::Closed;
-use crate::shared::locked::LockedCatalogue;
-use crate::shared::lot::{Lot, Naming};
-use crate::shared::receipts::Receipts;
-use crate::shared::seat::Seat;
-use crate::shared::settle::SettleFault;
-use crate::status::StatusRow;
+use crate::closed::Closed;
+use crate::locked::LockedCatalogue;
+use crate::lot::{Lot, Naming};
+use crate::receipts::Receipts;
+use crate::seat::Seat;
+use crate::settle::SettleFault;
+use catalogue_core::{Answer, Catalogue, Command, StatusRow, Stop};
 use std::alloc::{AllocError, Global};
 use std::sync::{Mutex, Wait};
 
@@ -104,7 +94,7 @@ impl<J: Naming> Shared<J> {
         ensures opened { IfOk result (λ closed. closed.opened ≡ J.opened) }
         ensures own { IfOk result (λ closed. AreOwn closed.journal receipts.items J.opened.stations) }
         ensures counted { IfOk result (λ closed. length closed.journal ≡ sum_by (λ z. z.share) seats.items) }
-        ensures mismatch { (s : ℕ) → IsErrOf result (SettleFault.ReceiptMismatch s) → (h : History) × IsHistoryOf J.opened (sum_by (λ z. z.share) seats.items) h × IsLowestMismatch h.journal receipts.items s }
+        ensures mismatch { (s : ℕ) → IsErrOf result (SettleFault.ReceiptMismatch s) → IsMismatch J.opened seats.items receipts.items s }
         ensures missing { (s : ℕ) → IsErrOf result (SettleFault.SeatMissing s) ↔ IsLowestMissing seats.items J.opened.stations s }
     {
         let Shared { locked } = self;

@@ -1,10 +1,10 @@
 -- An answer as a line of an answer file.
 use Rattle.std.specs.Prelude.{ℕ, true, false, List, [], ◌∷◌, ◌++◌, codes}
 use Rattle.std.specs.Fmt.{decimal}
-use Rattle.shared_catalogue.specs.declared.answer.Answer.{Answer}
-use Rattle.shared_catalogue.specs.declared.answer.Answer.TheVariants.{Done, Number, Truth, Text, Refused}
-use Rattle.shared_catalogue.specs.Status.{row_words}
-use Rattle.shared_catalogue.specs.declared.status.StatusRow.{StatusRow}
+use Rattle.catalogue_core.specs.declared.answer.Answer.{Answer}
+use Rattle.catalogue_core.specs.declared.answer.Answer.TheVariants.{Done, Number, Truth, Text, Refused}
+use Rattle.catalogue_core.specs.Status.{row_words}
+use Rattle.catalogue_core.specs.declared.status.StatusRow.{StatusRow}
 use Rattle.table_core.specs.declared.refusal.Refusal.{Refusal}
 use Rattle.table_core.specs.Refusals.{code_of, name_of}
 

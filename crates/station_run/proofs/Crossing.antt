@@ -24,15 +24,15 @@ use Rattle.ndx_index.proofs.index.OrderedIndex.TheSendSync as order
 use Rattle.table_core.specs.contracts.indexes.TableIndex
 use Rattle.table_core.specs.contracts.table.Table
 use Rattle.lock_table.proofs.locks.Locks.TheSendSync as locks
-use Rattle.shared_catalogue.proofs.names.Names.TheSendSync as names
-use Rattle.shared_catalogue.proofs.stations.Stations.TheSendSync as stations
-use Rattle.shared_catalogue.proofs.entry.Entry.TheSendSync as entry
-use Rattle.shared_catalogue.specs.contracts.kept_table.KeptTable
-use Rattle.shared_catalogue.specs.contracts.state.State
-use Rattle.shared_catalogue.specs.contracts.catalogue.Catalogue
-use Rattle.shared_catalogue.specs.contracts.shared.locked.LockedCatalogue
+use Rattle.catalogue_core.proofs.names.Names.TheSendSync as names
+use Rattle.catalogue_core.proofs.stations.Stations.TheSendSync as stations
+use Rattle.catalogue_core.proofs.entry.Entry.TheSendSync as entry
+use Rattle.catalogue_core.specs.contracts.kept_table.KeptTable
+use Rattle.catalogue_core.specs.contracts.state.State
+use Rattle.catalogue_core.specs.contracts.catalogue.Catalogue
+use Rattle.shared_catalogue.specs.contracts.locked.LockedCatalogue
 use Rattle.shared_catalogue.specs.contracts.shared.Shared
-use Rattle.shared_catalogue.specs.declared.shared.lot.Naming
+use Rattle.shared_catalogue.specs.declared.lot.Naming
 
 size_send : IsSend usize-field.row
 size_send = search sendable

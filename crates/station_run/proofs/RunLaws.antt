@@ -4,12 +4,12 @@ use Rattle.std.specs.Prelude.{slice_get, option_map}
 use Rattle.std.proofs.lemmas.Bool.{cases_lt}
 use Rattle.std.proofs.lemmas.List.{append-nil, append_assoc, length-map}
 use Rattle.std.proofs.lemmas.Option.{slice_get-map, slice_get_within, get_or_from_slice_get}
-use Rattle.shared_catalogue.specs.declared.entry.Entry.{Entry}
-use Rattle.shared_catalogue.specs.declared.shared.receipts.Receipt.{Receipt}
-use Rattle.shared_catalogue.specs.declared.shared.settle.SettleFault.{SettleFault}
-use Rattle.shared_catalogue.specs.declared.shared.settle.SettleFault.TheVariants.{SeatMissing, ReceiptMismatch}
+use Rattle.catalogue_core.specs.declared.entry.Entry.{Entry}
+use Rattle.shared_catalogue.specs.declared.receipts.Receipt.{Receipt}
+use Rattle.shared_catalogue.specs.declared.settle.SettleFault.{SettleFault}
+use Rattle.shared_catalogue.specs.declared.settle.SettleFault.TheVariants.{SeatMissing, ReceiptMismatch}
 use Rattle.shared_catalogue.specs.OwnCalls.{of_station, AreOwn, IsLowestMismatch}
-use Rattle.shared_catalogue.specs.Replay.{Opened}
+use Rattle.catalogue_core.specs.Replay.{Opened}
 use Rattle.shared_catalogue.specs.Seats.{Seated, seated, new_seats, IsLowestMissing}
 use Rattle.station_lines.specs.declared.script.line.Line.TheVariants.{Blank}
 use Rattle.station_run.specs.Faults.{IsSettleFaultOf}

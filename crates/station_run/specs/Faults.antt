@@ -1,11 +1,11 @@
 -- Why a run over these opened tables did not come to its end.
 use Rattle.std.specs.Prelude.{ℕ, ◌≤◌}
-use Rattle.shared_catalogue.specs.declared.catalogue.Stop.{Stop}
-use Rattle.shared_catalogue.specs.declared.catalogue.Stop.TheVariants as stop
-use Rattle.shared_catalogue.specs.declared.catalogue.TheConstants.{MAX_ENTRIES}
-use Rattle.shared_catalogue.specs.declared.shared.settle.SettleFault.{SettleFault}
-use Rattle.shared_catalogue.specs.declared.shared.settle.SettleFault.TheVariants.{SeatMissing, ReceiptMismatch}
-use Rattle.shared_catalogue.specs.Replay.{Opened, History, IsHistoryOf}
+use Rattle.catalogue_core.specs.declared.catalogue.Stop.{Stop}
+use Rattle.catalogue_core.specs.declared.catalogue.Stop.TheVariants as stop
+use Rattle.catalogue_core.specs.declared.catalogue.TheConstants.{MAX_ENTRIES}
+use Rattle.shared_catalogue.specs.declared.settle.SettleFault.{SettleFault}
+use Rattle.shared_catalogue.specs.declared.settle.SettleFault.TheVariants.{SeatMissing, ReceiptMismatch}
+use Rattle.catalogue_core.specs.Replay.{Opened, History, IsHistoryOf}
 use Rattle.station_run.specs.declared.fault.RunFault.{RunFault}
 use Rattle.station_run.specs.declared.fault.RunFault.TheVariants.{ScriptCount, NoThread, Stopped, Settle, NoMemory}
 

@@ -1,11 +1,11 @@
 -- What stations are shown for the lines of their scripts.
 use Rattle.std.specs.Prelude.{◌≡◌, ◌⊎◌, ℕ, ◌+◌, ◌<◌, ◌≤◌, List, [], ◌∷◌, ◌++◌, length, slice_get, Some}
-use Rattle.shared_catalogue.specs.declared.entry.Entry.{Entry}
-use Rattle.shared_catalogue.specs.declared.shared.receipts.Receipt.{Receipt}
-use Rattle.shared_catalogue.specs.declared.status.StatusRow.{StatusRow}
+use Rattle.catalogue_core.specs.declared.entry.Entry.{Entry}
+use Rattle.shared_catalogue.specs.declared.receipts.Receipt.{Receipt}
+use Rattle.catalogue_core.specs.declared.status.StatusRow.{StatusRow}
 use Rattle.shared_catalogue.specs.OwnCalls.{of_station}
-use Rattle.shared_catalogue.specs.Replay.{Opened, History, IsHistoryOf}
-use Rattle.shared_catalogue.specs.Status.{row}
+use Rattle.catalogue_core.specs.Replay.{Opened, History, IsHistoryOf}
+use Rattle.catalogue_core.specs.Status.{row}
 use Rattle.shared_catalogue.specs.Seats.{Seated}
 use Rattle.station_lines.specs.declared.script.format.TheConstants.{LF}
 use Rattle.station_lines.specs.declared.script.line.Line.{Line}

@@ -1,8 +1,8 @@
 //! A station at work.
 
 ghost use Rattle.std.specs.Prelude.{◌≡◌, ◌≢◌, [], ◌∷◌, ◌++◌, OnOk, IfErr, IsErrOf};
-ghost use Rattle.shared_catalogue.specs.declared.answer.Answer.{Answer as AnswerValue};
-ghost use Rattle.shared_catalogue.specs.declared.status.StatusRow.{StatusRow as RowValue};
+ghost use Rattle.catalogue_core.specs.declared.answer.Answer.{Answer as AnswerValue};
+ghost use Rattle.catalogue_core.specs.declared.status.StatusRow.{StatusRow as RowValue};
 ghost use Rattle.station_run.specs.Reports.{Shown, answered, status, meaning_of, session, new_session, IsWithShown};
 ghost use Rattle.station_run.specs.Faults.{IsStopOf};
 ghost use Rattle.station_lines.specs.declared.script.format.TheConstants.{LF as LINE_END};

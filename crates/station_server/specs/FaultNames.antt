@@ -4,12 +4,12 @@ use Rattle.dbf_image.specs.declared.fault.ImageFault.{ImageFault}
 use Rattle.dbf_image.specs.declared.fault.ImageFault.TheVariants as image
 use Rattle.ndx_index.specs.declared.fault.NdxFault.{NdxFault}
 use Rattle.ndx_index.specs.declared.fault.NdxFault.TheVariants as ndx
-use Rattle.shared_catalogue.specs.declared.catalogue.Stop.{Stop}
-use Rattle.shared_catalogue.specs.declared.catalogue.Stop.TheVariants as stop
-use Rattle.shared_catalogue.specs.declared.opening.OpenFault.{OpenFault}
-use Rattle.shared_catalogue.specs.declared.opening.OpenFault.TheVariants as opening
-use Rattle.shared_catalogue.specs.declared.shared.settle.SettleFault.{SettleFault}
-use Rattle.shared_catalogue.specs.declared.shared.settle.SettleFault.TheVariants as settle
+use Rattle.catalogue_core.specs.declared.catalogue.Stop.{Stop}
+use Rattle.catalogue_core.specs.declared.catalogue.Stop.TheVariants as stop
+use Rattle.catalogue_core.specs.declared.opening.OpenFault.{OpenFault}
+use Rattle.catalogue_core.specs.declared.opening.OpenFault.TheVariants as opening
+use Rattle.shared_catalogue.specs.declared.settle.SettleFault.{SettleFault}
+use Rattle.shared_catalogue.specs.declared.settle.SettleFault.TheVariants as settle
 use Rattle.station_run.specs.declared.fault.RunFault.{RunFault}
 use Rattle.station_run.specs.declared.fault.RunFault.TheVariants as run
 use Rattle.station_files.specs.declared.close_fault.CloseFault.{CloseFault}

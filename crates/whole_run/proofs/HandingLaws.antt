@@ -8,8 +8,8 @@ use Rattle.key_expr.specs.Keys.{key_length}
 use Rattle.ndx_index.specs.declared.pair.Pair.{Pair}
 use Rattle.ndx_index.specs.Laws.RecordOrders.{length-order}
 use Rattle.table_core.specs.Content.{Content, Held, Indexed, pairs_by, key_length_by}
-use Rattle.shared_catalogue.specs.Replay.{History, state_of}
-use Rattle.shared_catalogue.specs.State.{no_content}
+use Rattle.catalogue_core.specs.Replay.{History, state_of}
+use Rattle.catalogue_core.specs.State.{no_content}
 use Rattle.station_files.specs.ClosedIndex.{index_with}
 use Rattle.whole_run.specs.HandedOver.{end_of, index_of}
 

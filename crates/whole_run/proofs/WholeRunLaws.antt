@@ -1,6 +1,6 @@
 -- A whole run by its parts, and the faults of its writing.
 use Rattle.std.proofs.Common.{ℕ, Bool, List, Option, length, refl}
-use Rattle.shared_catalogue.specs.Replay.{History, IsLegal, AreOfStations}
+use Rattle.catalogue_core.specs.Replay.{History, IsLegal, AreOfStations}
 use Rattle.station_files.specs.declared.closed.ClosedTable.{ClosedTable}
 use Rattle.station_files.specs.declared.named.NamedFile.{NamedFile}
 use Rattle.whole_run.specs.declared.fault.ServeFault.{ServeFault}

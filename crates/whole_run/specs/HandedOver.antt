@@ -3,8 +3,8 @@ use Rattle.std.specs.Prelude.{◌≡◌, ℕ, ◌+◌, ◌-◌, ◌<◌, List, l
 use Rattle.dbf_image.specs.Table.{Table}
 use Rattle.ndx_index.specs.TableOrder.{order}
 use Rattle.table_core.specs.Content.{Content, Indexed}
-use Rattle.shared_catalogue.specs.Replay.{History, names_of, state_of}
-use Rattle.shared_catalogue.specs.State.{table_at}
+use Rattle.catalogue_core.specs.Replay.{History, names_of, state_of}
+use Rattle.catalogue_core.specs.State.{table_at}
 use Rattle.station_files.specs.declared.closed.ClosedTable.{ClosedTable}
 use Rattle.station_files.specs.ClosedIndex.{IndexContent, index_with}
 

@@ -7,8 +7,8 @@ use Rattle.dbf_image.specs.Reading.{IsRefusal}
 use Rattle.dbf_image.specs.Sink.{Rises}
 use Rattle.ndx_index.specs.declared.fault.NdxFault.TheVariants.{NoMemory as NoRoomForIndex}
 use Rattle.ndx_index.specs.Header.{IsIndex, Breaks}
-use Rattle.shared_catalogue.specs.declared.source.IndexSource.{IndexSource}
-use Rattle.shared_catalogue.specs.declared.source.TableSource.{TableSource}
+use Rattle.catalogue_core.specs.declared.source.IndexSource.{IndexSource}
+use Rattle.catalogue_core.specs.declared.source.TableSource.{TableSource}
 use Rattle.station_files.specs.declared.named.NamedFile.{NamedFile}
 use Rattle.station_lines.specs.declared.setup.entry.SetupEntry.{SetupEntry}
 use Rattle.station_lines.specs.declared.setup.entry.SetupEntry.TheVariants.{Table, Index, Station}

@@ -8,7 +8,7 @@ use Rattle.key_expr.specs.Rules.{IsKeyText}
 use Rattle.ndx_index.specs.declared.read.NdxFile.{NdxFile}
 use Rattle.ndx_index.specs.Header.{trimmed_end}
 use Rattle.table_core.specs.Content.{Indexed}
-use Rattle.shared_catalogue.specs.Opening.{IsFresh}
+use Rattle.catalogue_core.specs.Opening.{IsFresh}
 
 -- ---- an index
 

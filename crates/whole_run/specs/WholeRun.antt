@@ -1,9 +1,9 @@
 -- A whole run, from a setup and its files to the files that are written.
 use Rattle.std.specs.Prelude.{◌≡◌, ◌≢◌, ◌⊎◌, ℕ, Bool, nat_le, List, length, Option, Some, Result, Ok, Err, if◌then◌else◌}
 use Rattle.dbf_image.specs.Image.{IsOutside}
-use Rattle.shared_catalogue.specs.declared.opening.OpenFault.TheVariants.{NoMemory as NoRoomToOpen}
-use Rattle.shared_catalogue.specs.Opening.{Opening}
-use Rattle.shared_catalogue.specs.Replay.{Opened, History, IsLegal, AreOfStations}
+use Rattle.catalogue_core.specs.declared.opening.OpenFault.TheVariants.{NoMemory as NoRoomToOpen}
+use Rattle.catalogue_core.specs.Opening.{Opening}
+use Rattle.catalogue_core.specs.Replay.{Opened, History, IsLegal, AreOfStations}
 use Rattle.station_files.specs.declared.close_fault.CloseFault.TheVariants.{DateOutside, TooManyBlocks, Write}
 use Rattle.station_files.specs.declared.closed.ClosedTable.{ClosedTable}
 use Rattle.station_files.specs.declared.named.NamedFile.{NamedFile}

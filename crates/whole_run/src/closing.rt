@@ -3,7 +3,7 @@
 ghost use Rattle.std.specs.Prelude.{◌≡◌, ◌+◌, ◌<◌, ◌≤◌, length, map, Some, IfOk};
 ghost use Rattle.std.specs.Option.{option_map};
 ghost use Rattle.table_core.specs.Content.{index_at};
-ghost use Rattle.shared_catalogue.specs.Replay.{names_of};
+ghost use Rattle.catalogue_core.specs.Replay.{names_of};
 ghost use Rattle.whole_run.specs.HandedOver.{index_of, AreHandedOver};
 
 use dbf_fields::Bytes;

@@ -2,7 +2,7 @@
 
 ghost use Rattle.std.specs.Prelude.{◌≡◌, ◌≢◌, ◌⊎◌, ℕ, List, [], Ok, Err, IfOk, IfErr, OnOk};
 ghost use Rattle.dbf_image.specs.Sink.{grown, Rises};
-ghost use Rattle.shared_catalogue.specs.Opening.{Opening};
+ghost use Rattle.catalogue_core.specs.Opening.{Opening};
 ghost use Rattle.station_files.specs.declared.closed.ClosedTable.{ClosedTable as Table};
 ghost use Rattle.station_files.specs.Closing.{run_files, IsCutAt};
 ghost use Rattle.station_files.specs.Files.{listing};

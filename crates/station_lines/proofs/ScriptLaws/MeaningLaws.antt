@@ -10,9 +10,9 @@ use Rattle.std.proofs.lemmas.Bool.{false≢true, and_parts, and_from, and_left, 
 use Rattle.std.proofs.lemmas.Bool.Decides.{nat_tests}
 use Rattle.dbf_fields.specs.Name.{is_name_char}
 use Rattle.dbf_fields.specs.declared.literal.Literal.{Literal}
-use Rattle.shared_catalogue.specs.declared.command.Command.{Command}
-use Rattle.shared_catalogue.specs.declared.command.Command.TheVariants as command
-use Rattle.shared_catalogue.specs.declared.command.Question.TheVariants as question
+use Rattle.catalogue_core.specs.declared.command.Command.{Command}
+use Rattle.catalogue_core.specs.declared.command.Command.TheVariants as command
+use Rattle.catalogue_core.specs.declared.command.Question.TheVariants as question
 use Rattle.station_lines.specs.declared.script.format.TheConstants.{KEYWORD_LETTERS}
 use Rattle.station_lines.specs.declared.script.line.Line.{Line}
 use Rattle.station_lines.specs.declared.script.line.Line.TheVariants.{Run, Status, Blank}

@@ -1,6 +1,6 @@
 -- What of a script line its meaning keeps.
 use Rattle.std.specs.Prelude.{Bool, true, false}
-use Rattle.shared_catalogue.specs.declared.command.Command.TheVariants.{UseTable, Seek, Replace, Memo, Show}
+use Rattle.catalogue_core.specs.declared.command.Command.TheVariants.{UseTable, Seek, Replace, Memo, Show}
 use Rattle.station_lines.specs.declared.script.line.Line.{Line}
 use Rattle.station_lines.specs.declared.script.line.Line.TheVariants.{Run}
 

@@ -1,8 +1,8 @@
 -- What a script line means: the list of commands.
 use Rattle.std.specs.Prelude.{◌≡◌, ◌⊎◌, ℕ, true, false, List, [], ◌∷◌, codes, ℤ, pos, Some}
 use Rattle.dbf_fields.specs.declared.literal.Literal.{Literal}
-use Rattle.shared_catalogue.specs.declared.command.Command.TheVariants.{Select, UseTable, CloseTable, Go, Top, Bottom, Skip, Seek, Order, AppendBlank, Replace, Memo, Delete, Recall, Pack, Unlock, UnlockAll, Show, RecordLock, FileLock, Ask, Bad}
-use Rattle.shared_catalogue.specs.declared.command.Question.TheVariants.{Eof, Bof, Found, Deleted, Recno, Reccount}
+use Rattle.catalogue_core.specs.declared.command.Command.TheVariants.{Select, UseTable, CloseTable, Go, Top, Bottom, Skip, Seek, Order, AppendBlank, Replace, Memo, Delete, Recall, Pack, Unlock, UnlockAll, Show, RecordLock, FileLock, Ask, Bad}
+use Rattle.catalogue_core.specs.declared.command.Question.TheVariants.{Eof, Bof, Found, Deleted, Recno, Reccount}
 use Rattle.station_lines.specs.declared.script.line.Line.{Line}
 use Rattle.station_lines.specs.declared.script.line.Line.TheVariants.{Run, Status, Blank}
 use Rattle.station_lines.specs.Script.Words.{HasWords, IsBlankLine}

@@ -4,8 +4,8 @@ use Rattle.std.specs.Str.{str_eq_ignore_ascii_case}
 use Rattle.dbf_fields.specs.Date.{is_date, year_in, month_in, day_in}
 use Rattle.dbf_fields.specs.declared.literal.Literal.{Literal}
 use Rattle.dbf_fields.specs.declared.literal.Literal.TheVariants as value
-use Rattle.shared_catalogue.specs.declared.command.Command.TheVariants as command
-use Rattle.shared_catalogue.specs.declared.command.Question.TheVariants as question
+use Rattle.catalogue_core.specs.declared.command.Command.TheVariants as command
+use Rattle.catalogue_core.specs.declared.command.Question.TheVariants as question
 use Rattle.station_lines.specs.declared.script.line.Line.{Line}
 use Rattle.station_lines.specs.declared.script.line.Line.TheVariants.{Run, Status, Blank}
 use Rattle.station_lines.specs.declared.script.verb.Verb.{Verb}

@@ -5,7 +5,7 @@ use Rattle.std.proofs.lemmas.Bool.{cases_lt}
 use Rattle.std.proofs.lemmas.List.{length-map}
 use Rattle.std.proofs.lemmas.Option.{slice_get_read}
 use Rattle.table_core.specs.Content.{Content, Held}
-use Rattle.shared_catalogue.specs.Replay.{names_of, state_of}
+use Rattle.catalogue_core.specs.Replay.{names_of, state_of}
 use Rattle.station_files.specs.declared.closed.ClosedTable.{ClosedTable}
 use Rattle.whole_run.specs.HandedOver.{index_of, IsHandedOver}
 use Rattle.whole_run.proofs.HandingLaws.{taken_count, taken_table}

@@ -2,7 +2,7 @@ use Rattle.std.proofs.Common.{◌≡◌, ℕ, ◌+◌, ◌<◌, ◌++◌, length
 use Rattle.std.specs.List.{slice_get}
 use Rattle.std.specs.Vec.Iter.{into_iter_items}
 use Rattle.table_core.specs.Content.{Held}
-use Rattle.shared_catalogue.specs.Replay.{state_of}
+use Rattle.catalogue_core.specs.Replay.{state_of}
 use Rattle.station_files.specs.declared.closed.ClosedTable.{ClosedTable}
 use Rattle.whole_run.specs.HandedOver.{IsHandedOver}
 use Rattle.whole_run.proofs.closing.closed_tables.Given as goal

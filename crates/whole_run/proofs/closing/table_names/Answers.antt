@@ -2,7 +2,7 @@ use Rattle.std.proofs.Common.{◌≡◌, ℕ, ◌+◌, ◌-◌, ◌++◌, ◌∷
 use Rattle.std.specs.List.{slice_get}
 use Rattle.std.proofs.lemmas.List.{take_more}
 use Rattle.std.proofs.lemmas.Option.{get_or_from_slice_get, slice_get_within}
-use Rattle.shared_catalogue.specs.Replay.{names_of}
+use Rattle.catalogue_core.specs.Replay.{names_of}
 use Rattle.whole_run.proofs.closing.table_names.Goals as goal
 
 pub loop-i-preserved : goal.loop-i-preserved

@@ -1,5 +1,5 @@
 use Rattle.std.proofs.Common.{◌≡◌, take}
-use Rattle.shared_catalogue.specs.Replay.{names_of}
+use Rattle.catalogue_core.specs.Replay.{names_of}
 use Rattle.whole_run.proofs.closing.table_names.Given as goal
 
 abbrev pub invariant-loop-i : goal.invariant-loop-i

@@ -2,7 +2,7 @@ use Rattle.std.proofs.Common.{Option, Some, ap, sym, refl, subst, ◌∙◌}
 use Rattle.std.specs.Prelude.{ℕ}
 use Rattle.std.specs.List.{slice_set}
 use Rattle.std.proofs.lemmas.Option.{slice_get-get_or}
-use Rattle.shared_catalogue.specs.declared.source.TableSource.{TableSource}
+use Rattle.catalogue_core.specs.declared.source.TableSource.{TableSource}
 use Rattle.whole_run.specs.Loading.{HasIndexAt}
 use Rattle.whole_run.proofs.load.add_index.Goals as goal
 

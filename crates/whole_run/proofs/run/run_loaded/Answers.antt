@@ -1,6 +1,6 @@
 use Rattle.std.proofs.Common.{◌≡◌, ℕ, length, Ok, ap, sym, subst, ◌∙◌}
-use Rattle.shared_catalogue.specs.Opening.{Opening}
-use Rattle.shared_catalogue.specs.Replay.{Opened}
+use Rattle.catalogue_core.specs.Opening.{Opening}
+use Rattle.catalogue_core.specs.Replay.{Opened}
 use Rattle.station_run.specs.Reports.{AreReports}
 use Rattle.whole_run.proofs.run.run_loaded.Goals as goal
 

@@ -1,0 +1,13 @@
+pub mod Cases
+pub mod AreaLaws
+pub mod KeptLaws
+pub mod NextLaws
+pub mod UseLaws
+pub mod StepLaws
+pub mod StartLaws
+pub mod ReplayLaws
+pub mod Mapped
+pub mod RoomLaws
+pub mod OpeningLaws
+pub mod IndexLaws
+pub mod StatusLaws

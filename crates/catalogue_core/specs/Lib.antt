@@ -1,0 +1,10 @@
+pub mod Names
+pub mod State
+pub mod Step
+pub mod Tables
+pub mod Opening
+pub mod Replay
+pub mod Kept
+pub mod Rooms
+pub mod Planned
+pub mod Status

@@ -1,0 +1,86 @@
+-- What a plan makes of a state, and when it can be carried out.
+use Rattle.std.specs.Prelude.{◌≡◌, ℕ, ◌≤◌, true, Some, Result, Ok, Err}
+use Rattle.lock_table.specs.Locks.{free_record, free_whole, with_lock, without_all}
+use Rattle.table_core.specs.declared.cursor.Cursor.{Cursor}
+use Rattle.table_core.specs.declared.edits.Edit.{Edit as EditValue}
+use Rattle.table_core.specs.declared.edits.Edit.TheVariants as edit_of
+use Rattle.table_core.specs.declared.refusal.Refusal.{Refusal}
+use Rattle.table_core.specs.declared.edits.planned.Planned.{Planned}
+use Rattle.table_core.specs.Content.{Content}
+use Rattle.table_core.specs.Moves.{top, bottom, go, skip, seek, set_order}
+use Rattle.table_core.specs.Edits.{edited}
+use Rattle.table_core.specs.Planned.{changed as table_changed, cursor_after, carried_out, IsPlanned}
+use Rattle.catalogue_core.specs.declared.answer.Answer.{Answer}
+use Rattle.catalogue_core.specs.declared.area.Area.{Area}
+use Rattle.catalogue_core.specs.declared.change.Change.{Change}
+use Rattle.catalogue_core.specs.declared.change.Change.TheVariants.{Nothing, Select, Close, Open, Move, Edit, Pack, LockRecord, LockFile, Unlock, UnlockAll}
+use Rattle.catalogue_core.specs.declared.change.Plan.{Plan}
+use Rattle.catalogue_core.specs.declared.plan.moves.Move.{Move as MoveTo}
+use Rattle.catalogue_core.specs.declared.plan.moves.Move.TheVariants as move_to
+use Rattle.catalogue_core.specs.declared.state.planning.AskedEdit.{AskedEdit}
+use Rattle.catalogue_core.specs.declared.state.planning.AskedEdit.TheVariants as asked
+use Rattle.catalogue_core.specs.Rooms.{WithRoom, seen, held_at}
+use Rattle.catalogue_core.specs.State.{State, table_of, with_current, with_area, with_held, without_lock, closed, IsArea}
+use Rattle.catalogue_core.specs.Step.{Outcome, with_edit}
+
+-- what a move makes of a table's cursor
+abbrev pub moved_by : MoveTo → Content → Cursor → Result Cursor Refusal
+moved_by (move_to.Go number) = λ content cursor. go content cursor number
+moved_by move_to.Top = top
+moved_by move_to.Bottom = bottom
+moved_by (move_to.Skip steps) = λ content cursor. skip content cursor steps
+moved_by (move_to.Seek text) = λ content cursor. seek content cursor text.now
+moved_by (move_to.Order number) = λ content cursor. set_order content cursor number
+
+-- the edit that is asked for
+abbrev pub edit_by : AskedEdit → EditValue
+edit_by (asked.Whole edit) = edit.now
+edit_by (asked.Replace field value) = edit_of.Replace field.now value.now
+edit_by (asked.Memo field text) = edit_of.PutMemo field.now text.now
+
+-- what an edit makes of the area's table and cursor, and what its plan does
+abbrev pub edited_at : State → Area → EditValue → Result (Content × Cursor) Refusal
+edited_at s area edit = edited (table_of s area) area.cursor edit
+
+abbrev pub carried_at : State → Area → Planned → Result (Content × Cursor) Refusal
+carried_at s area planned = carried_out (table_of s area) area.cursor planned
+
+-- the area's table and cursor after a planned edit
+abbrev pub with_planned : State → ℕ → Area → Planned → State
+with_planned s station area planned = with_edit s station area (table_changed (table_of s area) planned, cursor_after (table_of s area) area.cursor planned)
+
+-- the state after a station's change
+abbrev pub changed : State → ℕ → Change → State
+changed s station Nothing = s
+changed s station (Select number) = with_current s station number
+changed s station Close = closed s station
+changed s station (Open area) = with_area (closed s station) station (Some area)
+changed s station (Move area) = with_area s station (Some area)
+changed s station (Edit area planned) = with_planned s station area planned
+changed s station (Pack area planned) = without_lock (with_planned s station area planned) station (Some area)
+changed s station (LockRecord area number) = with_held s (with_lock s.locks.locks station area.table number)
+changed s station (LockFile area) = with_held s (with_lock s.locks.locks station area.table 0)
+changed s station (Unlock area) = without_lock s station (Some area)
+changed s station UnlockAll = with_held s (without_all s.locks.locks station)
+
+-- the state and the answer of a plan
+abbrev pub planned : State → ℕ → Plan → State × Answer
+planned s station plan = (changed s station plan.change, plan.answer)
+
+-- the outcome of a plan or a refusal
+abbrev pub outcome_of : State → ℕ → Result Plan Refusal → Outcome
+outcome_of s station (Ok plan) = Ok (planned s station plan)
+outcome_of s station (Err refusal) = Err refusal
+
+-- the area's table has the room that the edit is planned for
+abbrev pub CanEdit : WithRoom → Area → Planned → Type 0
+CanEdit w area planned = IsArea (seen w).tables area × IsPlanned (held_at w.tables area.table) planned
+
+-- the change can be made of the state
+abbrev pub CanChange : WithRoom → ℕ → Change → Type 0
+CanChange w station (Edit area planned) = CanEdit w area planned
+CanChange w station (Pack area planned) = CanEdit w area planned
+CanChange w station (LockRecord area number) = IsArea (seen w).tables area × (1 ≤ number) × (free_record w.locks.locks station area.table number ≡ true)
+CanChange w station (LockFile area) = IsArea (seen w).tables area × (free_whole w.locks.locks station area.table ≡ true)
+CanChange w station (Unlock area) = IsArea (seen w).tables area
+CanChange w station _ = Unit {0}

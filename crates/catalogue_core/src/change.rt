@@ -1,0 +1,68 @@
+//! What a command will change.
+
+ghost use Rattle.std.specs.Prelude.{◌≡◌};
+
+use crate::answer::Answer;
+use crate::area::Area;
+use table_core::Planned;
+
+/// A change of the state by a station.
+#[derive(Drop)]
+pub enum Change {
+    /// None.
+    Nothing,
+    /// The area of this number is the current one.
+    Select(u32),
+    /// The current area's table is closed.
+    Close,
+    /// This is open in the current area, in place of what was open there.
+    Open(Area),
+    /// The current area has another cursor, and is this.
+    Move(Area),
+    /// The table of this, which is the current area, is edited.
+    Edit(Area, Planned),
+    /// The table of this, which is the current area, is packed, and the station's lock in it is released.
+    Pack(Area, Planned),
+    /// A record of the area's table is locked.
+    LockRecord(Area, u32),
+    /// The area's table is locked.
+    LockFile(Area),
+    /// The lock in the area's table is released.
+    Unlock(Area),
+    /// All locks of the station are released.
+    UnlockAll,
+}
+
+/// A change that a command asks for, and its answer.
+#[derive(Drop)]
+pub struct Plan {
+    /// What will change.
+    pub change: Change,
+    /// What will be answered.
+    pub answer: Answer,
+}
+
+impl Plan {
+    ghost use Rattle.catalogue_core.specs.declared.change.Change.TheVariants.{Nothing};
+    ghost use Rattle.catalogue_core.specs.declared.answer.Answer.TheVariants.{Done};
+
+    /// A change that is answered by OK.
+    pub fn done(change: Change) -> Plan
+        ensures value { result ≡ record { change = change; answer = Done } }
+    {
+        Plan {
+            change,
+            answer: Answer::Done,
+        }
+    }
+
+    /// An answer that changes nothing.
+    pub fn answered(answer: Answer) -> Plan
+        ensures value { result ≡ record { change = Nothing; answer = answer } }
+    {
+        Plan {
+            change: Change::Nothing,
+            answer,
+        }
+    }
+}

@@ -1,0 +1,165 @@
+//! Plans of the commands on areas and locks, and of those that only show.
+
+ghost use Rattle.std.specs.Prelude.{◌≡◌, Ok, IfOk, IfErr};
+ghost use Rattle.table_core.specs.Outcomes.{IsFaultOf};
+ghost use Rattle.catalogue_core.specs.Planned.{planned, outcome_of, CanChange};
+ghost use Rattle.catalogue_core.specs.Rooms.{seen};
+ghost use Rattle.catalogue_core.specs.State.{IsState, HasStation};
+ghost use Rattle.catalogue_core.specs.Step.{select, use_table, unlock, lock_record, lock_file, show, ask, reply, new_cursor, record_number};
+ghost use Rattle.table_core.specs.Cursors.{IsCursor};
+
+use crate::answer::Answer;
+use crate::area::{Area, MAX_AREAS};
+use crate::change::{Change, Plan};
+use crate::command::Question;
+use crate::state::State;
+use dbf_fields::Bytes;
+use std::alloc::Global;
+use table_core::{Cursor, Refusal, Table, TableFault};
+
+pub fn plan_select(state: &State, station: u32, number: u64) -> Result<Plan, Refusal>
+    ensures outcome { outcome_of (seen state.now) station result ≡ select (seen state.now) station number }
+    ensures can { IfOk result (λ plan. CanChange state.now station plan.change) }
+{
+    if number < 1 || number > MAX_AREAS as u64 {
+        return Err(Refusal::BadArea);
+    }
+    Ok(Plan::done(Change::Select(number as u32)))
+}
+
+pub fn plan_use_table(
+    state: &State,
+    station: u32,
+    name: &Bytes,
+    exclusive: bool,
+) -> Result<Plan, Refusal>
+    requires state { IsState (seen state.now) }
+    requires station { HasStation (seen state.now) station }
+    ensures outcome { outcome_of (seen state.now) station result ≡ use_table (seen state.now) station name.now exclusive }
+    ensures can { IfOk result (λ plan. CanChange state.now station plan.change) }
+{
+    let table = state.table_named(name).ok_or(Refusal::NoTable)?;
+    if state.is_open_beside(station, table) {
+        return Err(Refusal::AlreadyOpen);
+    }
+    if state.is_in_use(station, table, exclusive) {
+        return Err(Refusal::TableInUse);
+    }
+    let mut cursor = first_cursor(state.table(table));
+    state.table(table).top(&mut cursor)?;
+    Ok(Plan::done(Change::Open(Area {
+        table,
+        exclusive,
+        cursor,
+    })))
+}
+
+pub fn plan_unlock(state: &State, station: u32) -> Result<Plan, Refusal>
+    requires state { IsState (seen state.now) }
+    requires station { HasStation (seen state.now) station }
+    ensures outcome { outcome_of (seen state.now) station result ≡ unlock (seen state.now) station }
+    ensures can { IfOk result (λ plan. CanChange state.now station plan.change) }
+{
+    let area = state.area(station).ok_or(Refusal::NoTableInUse)?;
+    Ok(Plan::done(Change::Unlock(area)))
+}
+
+pub fn plan_record_lock(state: &State, station: u32) -> Result<Plan, Refusal>
+    requires state { IsState (seen state.now) }
+    requires station { HasStation (seen state.now) station }
+    ensures outcome { outcome_of (seen state.now) station result ≡ lock_record (seen state.now) station }
+    ensures can { IfOk result (λ plan. CanChange state.now station plan.change) }
+{
+    let area = state.area(station).ok_or(Refusal::NoTableInUse)?;
+    let number = area.cursor.at.ok_or(Refusal::EndOfFile)?;
+    if !state.is_free_record(station, area, number) {
+        return Ok(Plan::answered(Answer::Truth(false)));
+    }
+    Ok(Plan {
+        change: Change::LockRecord(area, number),
+        answer: Answer::Truth(true),
+    })
+}
+
+pub fn plan_file_lock(state: &State, station: u32) -> Result<Plan, Refusal>
+    requires state { IsState (seen state.now) }
+    requires station { HasStation (seen state.now) station }
+    ensures outcome { outcome_of (seen state.now) station result ≡ lock_file (seen state.now) station }
+    ensures can { IfOk result (λ plan. CanChange state.now station plan.change) }
+{
+    let area = state.area(station).ok_or(Refusal::NoTableInUse)?;
+    if !state.is_free_whole(station, area) {
+        return Ok(Plan::answered(Answer::Truth(false)));
+    }
+    Ok(Plan {
+        change: Change::LockFile(area),
+        answer: Answer::Truth(true),
+    })
+}
+
+pub fn plan_ask(state: &State, station: u32, question: Question) -> Result<Plan, Refusal>
+    requires state { IsState (seen state.now) }
+    requires station { HasStation (seen state.now) station }
+    ensures outcome { outcome_of (seen state.now) station result ≡ ask (seen state.now) station question }
+    ensures can { IfOk result (λ plan. CanChange state.now station plan.change) }
+{
+    let area = state.area(station).ok_or(Refusal::NoTableInUse)?;
+    let answer = reply(question, state.table(area.table), &area.cursor);
+    Ok(Plan::answered(answer))
+}
+
+pub fn plan_show(
+    alloc: Global,
+    state: &State,
+    station: u32,
+    field: &Bytes,
+) -> Result<Plan, TableFault>
+    requires state { IsState (seen state.now) }
+    requires station { HasStation (seen state.now) station }
+    ensures planned { IfOk result (λ plan. show (seen state.now) station field.now ≡ Ok (planned (seen state.now) station plan)) }
+    ensures can { IfOk result (λ plan. CanChange state.now station plan.change) }
+    ensures refused { IfErr result (λ fault. IsFaultOf fault (show (seen state.now) station field.now)) }
+{
+    let area = state.area(station).ok_or(Refusal::NoTableInUse)?;
+    let text = state.table(area.table).show(alloc, &area.cursor, field)?;
+    Ok(Plan::answered(Answer::Text(text)))
+}
+
+// The cursor with which a table is opened, before it goes to the top: in the order of the first index, where the
+// table has one.
+fn first_cursor(table: &Table) -> Cursor
+    ensures value { result ≡ new_cursor table.now.content }
+    ensures is_cursor { IsCursor table.now.content result }
+{
+    Cursor {
+        at: None,
+        bof: false,
+        found: false,
+        order: if table.index_count() == 0 { 0 } else { 1 },
+    }
+}
+
+// What a question about a cursor is answered.
+fn reply(question: Question, table: &Table, cursor: &Cursor) -> Answer
+    requires cursor { IsCursor table.now.content cursor.now }
+    ensures value { result ≡ reply question table.now.content cursor.now }
+{
+    match question {
+        Question::Eof => Answer::Truth(cursor.at.is_none()),
+        Question::Bof => Answer::Truth(cursor.bof),
+        Question::Found => Answer::Truth(cursor.found),
+        Question::Deleted => Answer::Truth(table.is_deleted(cursor)),
+        Question::Recno => Answer::Number(record_number(table, cursor)),
+        Question::Reccount => Answer::Number(u64::from(table.record_count())),
+    }
+}
+
+// The record at the cursor, and one more than there are at the end.
+fn record_number(table: &Table, cursor: &Cursor) -> u64
+    ensures value { result ≡ record_number table.now.content cursor.now.at }
+{
+    match cursor.at {
+        Some(number) => u64::from(number),
+        None => u64::from(table.record_count()) + 1,
+    }
+}

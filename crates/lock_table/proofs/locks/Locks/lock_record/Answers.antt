@@ -1,0 +1,13 @@
+use Rattle.lock_table.specs.Laws.{apart_record}
+use Rattle.lock_table.proofs.Writes.{taken, slots_taken}
+use Rattle.lock_table.proofs.locks.Locks.lock_record.Goals as goal
+
+pub invariant_of-self : goal.invariant_of-self
+invariant_of-self c =
+    slots_taken c.self.inside.stations c.self.inside.tables c.args.station c.args.table c.args.number c.slot_index-index.result c.self.inside.slots.items c.args.self.now c.self.view_is c.self.invariant
+    (taken c.self.inside.stations c.self.inside.tables c.args.station c.args.table c.args.number c.slot_index-index.result c.self.inside.slots.items c.args.self.now c.self.view_is c.self.invariant.whole c.requires.table c.requires.station c.requires.stations c.slot_index-index.ensures.value c.slot_index-index.ensures.inside)
+    (apart_record c.args.self.now.locks c.args.station c.args.table c.args.number c.requires.number c.requires.free)
+
+pub returns : goal.returns
+returns c =
+    record { value = taken c.self.inside.stations c.self.inside.tables c.args.station c.args.table c.args.number c.slot_index-index.result c.self.inside.slots.items c.args.self.now c.self.view_is c.self.invariant.whole c.requires.table c.requires.station c.requires.stations c.slot_index-index.ensures.value c.slot_index-index.ensures.inside }

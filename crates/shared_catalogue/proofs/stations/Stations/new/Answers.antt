@@ -1,6 +1,0 @@
-use Rattle.std.proofs.Common.{◌∙◌}
-use Rattle.shared_catalogue.proofs.StartLaws.{new_stations}
-use Rattle.shared_catalogue.proofs.stations.Stations.new.Goals as goal
-
-pub returns : goal.returns
-returns c = record { value = c.in_ok-resize.ensures.items ∙ new_stations c.args.count _ _ c.new-stations.ensures.items c.new-stations.ensures.len }

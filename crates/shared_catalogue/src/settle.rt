@@ -1,0 +1,109 @@
+//! Settling: what the stations were answered is compared with the journal.
+
+ghost use Rattle.std.specs.Prelude.{◌≡◌, ℕ, ◌+◌, ◌^◌, ◌<◌, ◌≤◌, ◌↔◌, length, vec_len, IsTrue, IfSome, IfNone, IfOk, IsErrOf};
+ghost use Rattle.std.specs.List.{sum_by};
+ghost use Rattle.shared_catalogue.specs.OwnCalls.{AreOwn, IsLowestMismatch};
+ghost use Rattle.catalogue_core.specs.Replay.{IsHistoryOf};
+ghost use Rattle.shared_catalogue.specs.Seats.{HasSeat, IsLowestMissing};
+
+use crate::closed::Closed;
+use crate::locked::LockedCatalogue;
+use crate::lot::Naming;
+use crate::receipts::{Receipts, are_receipts_of};
+use crate::seat::Seat;
+use catalogue_core::Entry;
+use std::sync::ledger::Share;
+use thiserror::Error;
+
+/// Why a shared catalogue was not settled.
+#[derive(Clone, Copy, Debug, PartialEq, Eq, Error)]
+pub enum SettleFault {
+    /// The station has no seat in the list.
+    #[error("the seat of station {0} is missing")]
+    SeatMissing(u32),
+    /// The station's receipts are not its entries of the journal.
+    #[error("the receipts of station {0} are not those of the journal")]
+    ReceiptMismatch(u32),
+}
+
+impl<J: Naming> LockedCatalogue<J> {
+    /// See [`crate::Shared::settle`].
+    pub(crate) fn settle(
+        self,
+        seats: Vec<Seat<J>>,
+        receipts: Vec<Receipts>,
+    ) -> Result<Closed, SettleFault>
+        requires parts { J.parts ≡ J.opened.stations }
+        requires lists { vec_len receipts ≡ J.opened.stations }
+        ensures opened { IfOk result (λ closed. (closed.opened ≡ J.opened) × (closed ≡ self)) }
+        ensures own { IfOk result (λ closed. AreOwn closed.journal receipts.items J.opened.stations) }
+        ensures counted { IfOk result (λ closed. length closed.journal ≡ sum_by (λ z. z.share) seats.items) }
+        ensures mismatch { (s : ℕ) → IsErrOf result (SettleFault.ReceiptMismatch s) → IsLowestMismatch self.journal receipts.items s }
+        ensures history { (s : ℕ) → IsErrOf result (SettleFault.ReceiptMismatch s) → IsHistoryOf J.opened (sum_by (λ z. z.share) seats.items) self }
+        ensures missing { (s : ℕ) → IsErrOf result (SettleFault.SeatMissing s) ↔ IsLowestMissing seats.items J.opened.stations s }
+    {
+        let LockedCatalogue {
+            catalogue,
+            mut book,
+            spare,
+        } = self;
+        if let Some(station) = first_missing(&seats, catalogue.station_count()) {
+            return Err(SettleFault::SeatMissing(station));
+        }
+        let mut whole = merge_shares(spare, seats);
+        book.audit(&mut whole);
+        if let Some(station) = first_mismatch(catalogue.journal(), &receipts) {
+            return Err(SettleFault::ReceiptMismatch(station));
+        }
+        Ok(Closed::new(catalogue))
+    }
+}
+
+// Whether one of the seats is the station's.
+fn has_seat<J: Naming>(seats: &[Seat<J>], station: u32) -> bool
+    ensures value { IsTrue result ↔ HasSeat seats.now station }
+{
+    seats.iter().any(|seat| seat.station() == station)
+}
+
+// The lowest station that has no seat.
+fn first_missing<J: Naming>(seats: &[Seat<J>], stations: u32) -> Option<u32>
+    ensures some { IfSome result (IsLowestMissing seats.now stations) }
+    ensures none { IfNone result ((s : ℕ) → 1 ≤ s → s ≤ stations → HasSeat seats.now s) }
+{
+    for index in 0..stations {
+        if !has_seat(seats, index + 1) {
+            return Some(index + 1);
+        }
+    }
+    None
+}
+
+// All shares in one.
+fn merge_shares<J: Naming>(mut whole: Share<J>, mut seats: Vec<Seat<J>>) -> Share<J>
+    requires spare { (whole.parts ≡ 0) × (whole.amount ≡ 0) }
+    ensures parts { result.parts ≡ vec_len seats }
+    ensures amount { result.amount ≡ sum_by (λ z. z.share) seats.items }
+    ensures most { result.parts ≤ J.parts }
+{
+    while let Some(seat) = seats.pop() {
+        whole.merge(seat.into_share());
+    }
+    whole
+}
+
+// The lowest station whose receipts are not its entries.
+fn first_mismatch(journal: &[Entry], receipts: &[Receipts]) -> Option<u32>
+    requires few { length receipts.now < 2 ^ 32 }
+    ensures some { IfSome result (IsLowestMismatch journal.now receipts.now) }
+    ensures none { IfNone result (AreOwn journal.now receipts.now (length receipts.now)) }
+{
+    let mut station = 0;
+    for own in receipts {
+        station += 1;
+        if !are_receipts_of(station, own.as_slice(), journal) {
+            return Some(station);
+        }
+    }
+    None
+}
