@@ -10,8 +10,8 @@ use crate::script::line::Line;
 use crate::script::literal::literal_in;
 use crate::script::value::{count_in, distance_in, in_capitals, is_name, name_in, text_in};
 use crate::script::verb::Verb;
+use catalogue_core::{Command, Question};
 use dbf_fields::Bytes;
-use shared_catalogue::{Command, Question};
 use std::alloc::{AllocError, Global};
 
 /// The line of a verb alone. Takes no memory.

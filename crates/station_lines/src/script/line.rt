@@ -9,8 +9,8 @@ ghost use Rattle.station_lines.specs.Script.Reading.{read, after_verb};
 use crate::script::command::{four_words, one_word, three_words, two_words};
 use crate::script::verb::{Verb, verb_of};
 use crate::script::word::cut_word;
+use catalogue_core::Command;
 use dbf_fields::ASTERISK;
-use shared_catalogue::Command;
 use std::alloc::{AllocError, Global};
 
 /// What a line of a script means.

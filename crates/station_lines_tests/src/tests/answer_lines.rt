@@ -1,5 +1,5 @@
+use catalogue_core::{Answer, Refusal};
 use dbf_fields::Bytes;
-use shared_catalogue::{Answer, Refusal};
 use station_lines::answer_line;
 use std::alloc::{AllocError, Global};
 use std::test::Fail;

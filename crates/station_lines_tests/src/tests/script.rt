@@ -1,5 +1,5 @@
+use catalogue_core::{Command, Question};
 use dbf_fields::{Bytes, Literal, day_of};
-use shared_catalogue::{Command, Question};
 use station_lines::{Line, lines, parse_line};
 use std::alloc::{AllocError, Global};
 use std::test::Fail;
