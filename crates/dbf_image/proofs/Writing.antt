@@ -1,6 +1,6 @@
 -- Chunks that are written one after the other make the whole.
 use Rattle.dbf_image.proofs.ReadBack.{HasName, names_from}
-use Rattle.std.proofs.Common.{◌≡◌, All, ℕ, ◌-◌, ◌≤◌, List, [], ◌∷◌, ◌++◌, length, replicate, append_assoc, arith, ap, sym, ◌∙◌, ◌+◌, drop, set}
+use Rattle.std.proofs.Common.{◌≡◌, All, ℕ, ◌-◌, ◌≤◌, List, [], ◌∷◌, ◌++◌, length, replicate, append_assoc, arith, ap, refl, sym, ◌∙◌, ◌+◌, drop, set}
 use Rattle.std.specs.Prelude.{flat_map}
 use Rattle.std.proofs.lemmas.List.{drop-replicate, length-append, length-replicate, replicate-append-replicate, set-append_right}
 use Rattle.std.proofs.lemmas.List.Elements.{All-from_recursion}
@@ -10,7 +10,7 @@ use Rattle.dbf_fields.specs.declared.field.Field.{Field}
 use Rattle.dbf_image.specs.Image.{header_bytes, descriptor, rows_bytes, image}
 use Rattle.dbf_image.specs.Writer.{Wanted, more}
 use Rattle.dbf_image.specs.Table.{Table}
-use Rattle.dbf_image.proofs.Sinks.{grown_then}
+use Rattle.dbf_image.proofs.Puts.{more_both}
 use Rattle.dbf_image.specs.declared.format.TheConstants.{DESCRIPTOR, END_OF_FILE, HEADER_END, NAME_BYTES}
 
 -- a descriptor, whose name, letter, width and decimals are written over zeros
@@ -33,7 +33,16 @@ descriptor_built f le =
 -- the parts of a file
 pub image_put : (w : Wanted) (table : Table) (year month day : ℕ)
     → more (more (more (more (more w (header_bytes table year month day)) (flat_map descriptor table.schema)) (HEADER_END ∷ [])) (flat_map (λ bytes. bytes) (rows_bytes 1 table.schema table.rows))) (END_OF_FILE ∷ []) ≡ more w (image table year month day)
-image_put w table year month day = simp grown_then (ap (more w) (simp append_assoc))
+image_put w table year month day =
+    let a = header_bytes table year month day in
+    let b = flat_map descriptor table.schema in
+    let c : List ℕ = HEADER_END ∷ [] in
+    let d = flat_map (λ bytes. bytes) (rows_bytes 1 table.schema table.rows) in
+    let e : List ℕ = END_OF_FILE ∷ [] in
+    more_both (more (more (more w a) b) c) d e (d ++ e) refl
+    ∙ more_both (more (more w a) b) c (d ++ e) (c ++ (d ++ e)) refl
+    ∙ more_both (more w a) b (c ++ (d ++ e)) (b ++ (c ++ (d ++ e))) refl
+    ∙ more_both w a (b ++ (c ++ (d ++ e))) (image table year month day) refl
 
 pub name_fits : (fs : List Field) → IsSchema fs → All HasName fs
 name_fits fs s = All-from_recursion HasName fs (names_from fs (schema_names fs s))

@@ -6,21 +6,25 @@ use Rattle.std.proofs.lemmas.List.{append_cancel_left}
 use mathlib.Core.HLevel.{Σ_prop_path}
 use Rattle.dbf_image.specs.Sink.{grown, IsFront, Rises}
 
--- what the sink had at first, all that it is to have in the end, and how often it had failed before
+-- what the sink had at first, what was put into the writer since, and how often the sink had failed before
 pub record Wanted : Type 0 where
   pub begun : Option (List ℕ)
-  pub written : Option (List ℕ)
+  pub put : List ℕ
   pub failures : Option ℕ
 
 -- and these bytes too
 abbrev pub more : Wanted → List ℕ → Wanted
-more w bytes = record { begun = w.begun; written = grown w.written bytes; failures = w.failures }
+more w bytes = record { begun = w.begun; put = w.put ++ bytes; failures = w.failures }
+
+-- all that the sink is to have in the end
+abbrev pub due : Wanted → Option (List ℕ)
+due w = grown w.begun w.put
 
 -- Where a writer stands. Its sink has still what it had at first. What it has, and what waits, is all that
 -- was wanted; or it has failed, and has a front part of it.
 abbrev pub Stands : Bool → Option (List ℕ) → Option ℕ → List ℕ → Wanted → Type 0
-Stands false written failures waiting w = IsFront w.begun written × ((grown written waiting ≡ w.written) × (failures ≡ w.failures))
-Stands true written failures waiting w = IsFront w.begun written × (IsFront written w.written × Rises w.failures failures)
+Stands false written failures waiting w = IsFront w.begun written × ((grown written waiting ≡ due w) × (failures ≡ w.failures))
+Stands true written failures waiting w = IsFront w.begun written × (IsFront written (due w) × Rises w.failures failures)
 
 IsFront-prop : (w p : Option (List ℕ)) → IsProp (IsFront w p)
 unfolding IsFront
@@ -36,5 +40,5 @@ Rises-prop (Some n) None = λ a b. absurd a
 Rises-prop (Some n) (Some m) = Coded-set coded_ℕ m (n + 1)
 
 pub Stands-prop : (failed : Bool) (written : Option (List ℕ)) (failures : Option ℕ) (waiting : List ℕ) (w : Wanted) → IsProp (Stands failed written failures waiting w)
-Stands-prop false written failures waiting w = ×_prop (IsFront-prop w.begun written) (×_prop (Coded-set (coded_option (coded_list coded_ℕ)) (grown written waiting) w.written) (Coded-set (coded_option coded_ℕ) failures w.failures))
-Stands-prop true written failures waiting w = ×_prop (IsFront-prop w.begun written) (×_prop (IsFront-prop written w.written) (Rises-prop w.failures failures))
+Stands-prop false written failures waiting w = ×_prop (IsFront-prop w.begun written) (×_prop (Coded-set (coded_option (coded_list coded_ℕ)) (grown written waiting) (due w)) (Coded-set (coded_option coded_ℕ) failures w.failures))
+Stands-prop true written failures waiting w = ×_prop (IsFront-prop w.begun written) (×_prop (IsFront-prop written (due w)) (Rises-prop w.failures failures))

@@ -1,10 +1,10 @@
 //! Writing an index as the bytes of an NDX file.
 #![tactic(auto, using(crate::proofs::Sinks::puts))]
 
-ghost use Rattle.std.specs.Prelude.{◌≡◌, ◌+◌, ◌≤◌, ◌<◌, ◌^◌, length, OnOk};
-ghost use Rattle.std.specs.List.{AllByRecursion};
+ghost use Rattle.std.specs.Prelude.{◌≡◌, ◌+◌, ◌≤◌, ◌<◌, ◌^◌, true, length, OnOk};
+ghost use Rattle.std.specs.List.{list_all, AllByRecursion};
 ghost use Rattle.dbf_image.specs.Output.{Puts};
-ghost use Rattle.dbf_image.specs.Sink.{grown, IsFront, Rises};
+ghost use Rattle.dbf_image.specs.Sink.{grown, is_byte, IsFront, Rises};
 ghost use Rattle.key_expr.specs.Keys.{key_length};
 ghost use Rattle.ndx_index.specs.Header.{IsIndex, trimmed_end};
 ghost use Rattle.ndx_index.specs.Image.{header_page, ndx_image};
@@ -84,6 +84,7 @@ pub fn write_ndx<S: ByteSink>(
     ensures kept { IsFront (S.written sink.old) (S.written sink.new) }
     // What a sink that failed has taken is a front part of the file.
     ensures front { result ≡ Err WriteFault.Sink → IsFront (S.written sink.new) (grown (S.written sink.old) (ndx_image expr.now.text (key_length expr.now.fields expr.now.expr) pairs.now.pairs)) }
+    ensures bytes { OnOk result (list_all is_byte (ndx_image expr.now.text (key_length expr.now.fields expr.now.expr) pairs.now.pairs) ≡ true) }
     // What is written can be read.
     ensures reads_back { IsIndex (ndx_image expr.now.text (key_length expr.now.fields expr.now.expr) pairs.now.pairs) (trimmed_end expr.now.text) (key_length expr.now.fields expr.now.expr) pairs.now.pairs }
 {

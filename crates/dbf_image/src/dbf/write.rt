@@ -1,7 +1,8 @@
 //! Writing a table as the bytes of a DBF file.
 #![tactic(auto, using(crate::proofs::Sinks::sinks))]
 
-ghost use Rattle.std.specs.Prelude.{◌≡◌, ◌+◌, ◌≤◌, ◌*◌, ◌↔◌, ℕ, List, Option, Some, false, length, flat_map, if◌then◌else◌, OnOk, OnErr};
+ghost use Rattle.std.specs.Prelude.{◌≡◌, ◌+◌, ◌≤◌, ◌*◌, ◌↔◌, ℕ, List, Option, Some, true, false, length, flat_map, if◌then◌else◌, OnOk, OnErr};
+ghost use Rattle.std.specs.List.{list_all};
 ghost use Rattle.dbf_fields.specs.Field.{widths};
 ghost use Rattle.dbf_fields.specs.Schema.{IsSchema};
 ghost use Rattle.dbf_image.specs.DbfText.{IsDbf};
@@ -9,7 +10,7 @@ ghost use Rattle.dbf_image.specs.Table.{has_memos as some_memo};
 ghost use Rattle.dbf_image.specs.Blocks.{HasTooManyBlocks, next_free, memo_image};
 ghost use Rattle.dbf_image.specs.Image.{header_with, descriptor, version_of, image, IsOutside};
 ghost use Rattle.dbf_image.specs.Output.{Puts};
-ghost use Rattle.dbf_image.specs.Sink.{grown, IsFront, Rises};
+ghost use Rattle.dbf_image.specs.Sink.{grown, is_byte, IsFront, Rises};
 ghost use Rattle.dbf_image.specs.declared.format.TheConstants.{DESCRIPTOR, FIRST_YEAR, HEADER, LAST_YEAR, NAME_BYTES};
 
 use crate::dbf::header::{Header, dbf_header};
@@ -130,6 +131,7 @@ pub fn write_dbf<S: ByteSink>(sink: &mut S, table: &TableData, day: Day) -> Resu
     ensures kept { IsFront (S.written sink.old) (S.written sink.new) }
     // What a sink that failed has taken is a front part of the file.
     ensures front { result ≡ Err WriteFault.Sink → IsFront (S.written sink.new) (grown (S.written sink.old) (image table.now day.year day.month day.day)) }
+    ensures bytes { OnOk result (list_all is_byte (image table.now day.year day.month day.day) ≡ true) }
     // What is written can be read: with the file of memos it is a file of this table,
     ensures reads_back { next_free table.now ≤ 4294967295 → IsDbf (image table.now day.year day.month day.day) (Some (memo_image table.now)) table.now }
     // and where no field is a memo, beside any file of memos or none.

@@ -1,12 +1,12 @@
 //! Writing the memos of a table as the bytes of a file of memos (DBT).
 #![tactic(auto, using(crate::proofs::Sinks::sinks))]
 
-ghost use Rattle.std.specs.Prelude.{◌≡◌, ◌+◌, ◌-◌, ◌*◌, ◌/◌, ◌≤◌, ◌↔◌, length, flat_map, OnOk, OnErr};
-ghost use Rattle.std.specs.List.{AllByRecursion};
+ghost use Rattle.std.specs.Prelude.{◌≡◌, ◌+◌, ◌-◌, ◌*◌, ◌/◌, ◌≤◌, ◌↔◌, true, length, flat_map, OnOk, OnErr};
+ghost use Rattle.std.specs.List.{list_all, AllByRecursion};
 ghost use Rattle.dbf_image.specs.Store.{text_of, IsMemo};
 ghost use Rattle.dbf_image.specs.Blocks.{block_bytes, memo_header, memo_image, next_free, HasTooManyBlocks};
 ghost use Rattle.dbf_image.specs.Output.{Puts};
-ghost use Rattle.dbf_image.specs.Sink.{grown, IsFront, Rises};
+ghost use Rattle.dbf_image.specs.Sink.{grown, is_byte, IsFront, Rises};
 ghost use Rattle.dbf_image.specs.declared.format.TheConstants.{BLOCK, MAX_MEMO_BYTES};
 
 use crate::dbf::write::WriteFault;
@@ -92,6 +92,7 @@ pub fn write_dbt<S: ByteSink>(sink: &mut S, table: &TableData) -> Result<(), Wri
     ensures kept { IsFront (S.written sink.old) (S.written sink.new) }
     // What a sink that failed has taken is a front part of the file.
     ensures front { result ≡ Err WriteFault.Sink → IsFront (S.written sink.new) (grown (S.written sink.old) (memo_image table.now)) }
+    ensures bytes { OnOk result (list_all is_byte (memo_image table.now) ≡ true) }
 {
     let Some(next) = next_free_block(table) else {
         return Err(WriteFault::TooManyBlocks);

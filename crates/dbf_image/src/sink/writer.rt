@@ -1,9 +1,10 @@
 //! A writer that remembers the first failure of its sink.
 #![tactic(auto, using(crate::proofs::Sinks::sinks))]
 
-ghost use Rattle.std.specs.Prelude.{◌≡◌, OnOk, OnErr};
-ghost use Rattle.dbf_image.specs.Sink.{IsFront, Rises};
-ghost use Rattle.dbf_image.specs.Writer.{Stands, Stands-prop};
+ghost use Rattle.std.specs.Prelude.{◌≡◌, [], true, OnOk, OnErr};
+ghost use Rattle.std.specs.List.{list_all};
+ghost use Rattle.dbf_image.specs.Sink.{is_byte, IsFront, Rises};
+ghost use Rattle.dbf_image.specs.Writer.{due, Stands, Stands-prop};
 
 use crate::sink::buffer::{Waiting, gather, send};
 use crate::sink::wanted::Wanted;
@@ -29,7 +30,7 @@ impl<'s, S: ByteSink> SinkWriter<'s, S> {
     /// A writer into which nothing was put.
     pub fn new(sink: &'s mut S) -> SinkWriter<'s, S>
         ensures same { result.sink.ghost_name ≡ sink.entry.ghost_name }
-        ensures wanted { result.wanted ≡ record { begun = S.written sink.old; written = S.written sink.old; failures = S.failures sink.old } }
+        ensures wanted { result.wanted ≡ record { begun = S.written sink.old; put = []; failures = S.failures sink.old } }
     {
         let wanted = Wanted::of(&*sink);
         SinkWriter {
@@ -56,14 +57,17 @@ impl<'s, S: ByteSink> SinkWriter<'s, S> {
     pub fn flush(&mut self) -> Result<(), SinkFault>
         ensures same { self.new.sink.ghost_name ≡ self.old.sink.ghost_name }
         ensures wanted { self.new.wanted ≡ self.old.wanted }
-        ensures wrote { OnOk result (S.written self.new.sink.now ≡ self.old.wanted.written) }
+        ensures wrote { OnOk result (S.written self.new.sink.now ≡ due self.old.wanted) }
         ensures fine { OnOk result (S.failures self.new.sink.now ≡ self.old.wanted.failures) }
         ensures failed { OnErr result (Rises self.old.wanted.failures (S.failures self.new.sink.now)) }
         // What the sink held when the writer was made it still holds.
         ensures kept { IsFront self.old.wanted.begun (S.written self.new.sink.now) }
         // What it has then is a front part of what it was to have.
-        ensures front { OnErr result (IsFront (S.written self.new.sink.now) self.old.wanted.written) }
+        ensures front { OnErr result (IsFront (S.written self.new.sink.now) (due self.old.wanted)) }
+        // What was put is of bytes, since slices of bytes were put.
+        ensures bytes { list_all is_byte self.old.wanted.put ≡ true }
     {
+        self.wanted.are_bytes();
         if self.failed {
             return Err(SinkFault);
         }
