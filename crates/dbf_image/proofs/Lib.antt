@@ -22,7 +22,6 @@ pub mod Steps
 pub mod Writing
 pub mod ReadBack
 pub mod Puts
-pub mod OfBytes
 pub mod MemoFrame
 pub mod MemoOwners
 pub mod MemoTotals

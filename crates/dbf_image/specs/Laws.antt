@@ -1,2 +1,3 @@
 -- What follows from the definitions, with its proofs: laws that any crate may cite.
 pub mod MemoCallers
+pub mod OfBytes

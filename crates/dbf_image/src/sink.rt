@@ -1,8 +1,9 @@
 //! What bytes are written to.
 #![tactic(auto, using(crate::proofs::Sinks::sinks))]
 
-ghost use Rattle.std.specs.Prelude.{◌≡◌, ◌<◌, ◌≤◌, length, take, IfOk, OnOk, OnErr, List, ℕ, Option};
-ghost use Rattle.dbf_image.specs.Sink.{grown, IsFront, Rises};
+ghost use Rattle.std.specs.List.{list_all};
+ghost use Rattle.std.specs.Prelude.{◌≡◌, ◌<◌, ◌≤◌, true, length, take, IfOk, OnOk, OnErr, List, ℕ, Option};
+ghost use Rattle.dbf_image.specs.Sink.{grown, is_byte, IsFront, Rises};
 
 pub(crate) mod buffer;
 pub(crate) mod failures;
@@ -51,6 +52,8 @@ pub fn write_all<S: ByteSink>(sink: &mut S, bytes: &[u8]) -> Result<(), SinkFaul
     ensures kept { IsFront (S.written sink.old) (S.written sink.new) }
     // What has been written is a front part of what was to be written.
     ensures front { OnErr result (IsFront (S.written sink.new) (grown (S.written sink.old) bytes.now)) }
+    // A slice of bytes has bytes alone.
+    ensures bytes { list_all is_byte bytes.now ≡ true }
 {
     let mut rest = bytes;
     while !rest.is_empty() {

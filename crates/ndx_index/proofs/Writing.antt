@@ -1,5 +1,5 @@
 -- Steps of the writer.
-use Rattle.std.proofs.Common.{◌≡◌, ℕ, zero, suc, ◌+◌, ◌-◌, ◌*◌, ◌≤◌, min, List, [], ◌∷◌, ◌++◌, Option, length, take, drop, replicate, refl, ap, sym, arith, length-append, length-drop}
+use Rattle.std.proofs.Common.{◌≡◌, ℕ, zero, suc, ◌+◌, ◌-◌, ◌*◌, ◌≤◌, min, List, [], ◌∷◌, ◌++◌, length, take, drop, replicate, refl, ap, sym, append_assoc, arith, length-append, length-drop}
 use Rattle.std.specs.Prelude.{flat_map}
 use Rattle.std.specs.List.{AllByRecursion}
 use Rattle.key_expr.specs.declared.format.TheConstants.{MAX_EXPRESSION_BYTES}
@@ -7,10 +7,8 @@ use Rattle.ndx_index.specs.declared.format.TheConstants.{PAGE}
 use Rattle.ndx_index.specs.declared.pair.Pair.{Pair}
 use Rattle.byteorder.specs.Endian.{little_bytes}
 use Rattle.ndx_index.specs.Image.{groups, header_page, page_keys, record_size, leaf_record, leaf_page, filled_page}
-use Rattle.dbf_image.specs.Sink.{grown}
 use Rattle.dbf_image.specs.Writer.{Wanted, more}
 use Rattle.ndx_index.proofs.PageBytes.{length_pairs}
-use Rattle.dbf_image.proofs.Sinks.{grown_then}
 
 -- a leaf's parts, one after the other
 pub leaf_parts : (size : ℕ) (g : List Pair) → AllByRecursion (λ p. length p.key + 8 ≤ size) g
@@ -78,11 +76,11 @@ groups_step page group_size n rest e some each =
 
 -- ---- the header
 
-header_parts : (text : List ℕ) (key_len root : ℕ) (o : Option (List ℕ))
-    → grown (grown (grown (grown (grown (grown (grown (grown (grown (grown o (little_bytes 4 root)) (little_bytes 4 (root + 1))) (replicate 4 0)) (little_bytes 2 key_len)) (little_bytes 2 (page_keys key_len))) (replicate 2 0)) (little_bytes 2 (record_size key_len))) (replicate 4 0)) text) (replicate (MAX_EXPRESSION_BYTES - length text) 0)
-    ≡ grown o (header_page text key_len (root + 1))
+header_parts : (text : List ℕ) (key_len root : ℕ) (put : List ℕ)
+    → (((((((((put ++ little_bytes 4 root) ++ little_bytes 4 (root + 1)) ++ replicate 4 0) ++ little_bytes 2 key_len) ++ little_bytes 2 (page_keys key_len)) ++ replicate 2 0) ++ little_bytes 2 (record_size key_len)) ++ replicate 4 0) ++ text) ++ replicate (MAX_EXPRESSION_BYTES - length text) 0
+    ≡ put ++ header_page text key_len (root + 1)
 unfolding header_page filled_page
-header_parts text key_len root o =
+header_parts text key_len root put =
     let less : root + 1 - 1 ≡ root = omega arith in
     let n : ℕ = root + 1 in
     let zs : List ℕ = replicate (MAX_EXPRESSION_BYTES - length text) 0 in
@@ -93,11 +91,11 @@ header_parts text key_len root o =
     let e : List ℕ = little_bytes 2 (record_size key_len) in
     let front : List ℕ = a ++ (b ++ (replicate 4 0 ++ (c ++ (d ++ (0 ∷ 0 ∷ (e ++ (0 ∷ 0 ∷ 0 ∷ 0 ∷ text))))))) in
     let long : PAGE - length front ≡ MAX_EXPRESSION_BYTES - length text = omega arith in
-    let whole : grown o (front ++ zs) ≡ grown o (front ++ replicate (PAGE - length front) 0) = ap (λ (m : ℕ). grown o (front ++ replicate m 0)) (sym long) in
-    rw less (simp grown_then whole)
+    let whole : put ++ (front ++ zs) ≡ put ++ (front ++ replicate (PAGE - length front) 0) = ap (λ (m : ℕ). put ++ (front ++ replicate m 0)) (sym long) in
+    rw less (simp append_assoc whole)
 
 -- the header's parts, put one after the other
 pub header_puts : (w : Wanted) (text : List ℕ) (key_len root : ℕ)
     → more (more (more (more (more (more (more (more (more (more w (little_bytes 4 root)) (little_bytes 4 (root + 1))) (replicate 4 0)) (little_bytes 2 key_len)) (little_bytes 2 (page_keys key_len))) (replicate 2 0)) (little_bytes 2 (record_size key_len))) (replicate 4 0)) text) (replicate (MAX_EXPRESSION_BYTES - length text) 0)
     ≡ more w (header_page text key_len (root + 1))
-header_puts w text key_len root = ap (λ (o : Option (List ℕ)). record { begun = w.begun; written = o; failures = w.failures }) (header_parts text key_len root w.written)
+header_puts w text key_len root = ap (λ (put : List ℕ). record { begun = w.begun; put = put; failures = w.failures }) (header_parts text key_len root w.put)

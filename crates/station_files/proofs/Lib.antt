@@ -2,5 +2,4 @@ pub mod FolderLaws
 pub mod PlanLaws
 pub mod ListingLaws
 pub mod ReadingLaws
-pub mod OfBytesLaws
-pub mod ImageLaws
+pub mod ByteLaws

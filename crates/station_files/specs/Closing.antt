@@ -25,8 +25,11 @@ bytes_of (Memos table) = memo_image table.now
 bytes_of (OfIndex index) = index_bytes index.now
 bytes_of (Text text) = text.now
 
+abbrev pub file_named : List ℕ → Content → NamedFile
+file_named name content = record { name = name; bytes = bytes_of content }
+
 abbrev pub file_of : Planned → NamedFile
-file_of p = record { name = p.name; bytes = bytes_of p.content }
+file_of p = file_named p.name p.content
 
 -- the file of a table's fields and records
 abbrev pub dbf_file : ℕ → ℕ → ℕ → ClosedTable → NamedFile

@@ -1,6 +1,7 @@
 -- Files by their names.
-use Rattle.std.specs.Prelude.{◌≡◌, ◌≢◌, ◌⊎◌, ℕ, ◌<◌, nat_lt, ◌==◌, Bool, true, List, [], ◌∷◌, ◌++◌, length, Option, Some, None, bytes_eq, flat_map, if◌then◌else◌}
+use Rattle.std.specs.Prelude.{◌≡◌, ◌≢◌, ◌⊎◌, ℕ, ◌<◌, ◌==◌, Bool, true, List, [], ◌∷◌, ◌++◌, length, Option, Some, None, bytes_eq, flat_map, if◌then◌else◌}
 use Rattle.std.specs.List.{list_all}
+use Rattle.dbf_image.specs.Sink.{is_byte}
 use Rattle.station_files.specs.declared.memory_folder.OpenFile.{OpenFile}
 use Rattle.station_files.specs.declared.named.NamedFile.{NamedFile}
 use Rattle.station_files.specs.declared.source.TheConstants.{MAX_FILE_BYTES}
@@ -9,9 +10,6 @@ use Rattle.station_files.specs.declared.source.LoadFault.TheVariants.{NoMemory, 
 use Rattle.std.specs.IoError.{error_kind}
 use Rattle.std.specs.declared.io.Error.{Error}
 use Rattle.std.specs.declared.io.ErrorKind.TheVariants.{OutOfMemory}
-
-abbrev pub is_byte : ℕ → Bool
-is_byte b = nat_lt b 256
 
 -- the file has the path
 abbrev pub is_at : List ℕ → NamedFile → Bool

@@ -2,11 +2,12 @@
 #![tactic(auto, using(dbf_image::proofs::Sinks::sinks))]
 
 ghost use Rattle.std.specs.Prelude.{◌≡◌, ◌≢◌, ◌+◌, ◌<◌, ◌≤◌, ◌↔◌, ◌∷◌, [], ℕ, List, Err, length, map, Some, None, true, false, OnOk, OnErr, IfErr, take};
+ghost use Rattle.std.specs.List.{list_all, AllByRecursion};
 ghost use Rattle.dbf_image.specs.Blocks.{memo_image};
 ghost use Rattle.dbf_image.specs.Image.{image, IsOutside};
-ghost use Rattle.dbf_image.specs.Sink.{grown, IsFront, Rises};
-ghost use Rattle.station_files.specs.Files.{listing};
-ghost use Rattle.station_files.specs.Closing.{bytes_of, file_of, run_files, first_blocked, IsCutAt};
+ghost use Rattle.dbf_image.specs.Sink.{grown, is_byte, IsFront, Rises};
+ghost use Rattle.station_files.specs.Files.{files_in, listing, IsOfBytes};
+ghost use Rattle.station_files.specs.Closing.{bytes_of, file_named, file_of, run_files, first_blocked, IsCutAt};
 ghost use Rattle.station_files.specs.Writable.{has_too_many as has_too_many_blocks, is_writable};
 
 use crate::close_fault::CloseFault;
@@ -50,6 +51,7 @@ fn write_table<S: ByteSink>(sink: &mut S, table: &TableData, day: Day) -> Result
     ensures failed { OnErr result (Rises (S.failures sink.old) (S.failures sink.new)) }
     ensures kept { IsFront (S.written sink.old) (S.written sink.new) }
     ensures front { OnErr result (IsFront (S.written sink.new) (grown (S.written sink.old) (image table.now day.year day.month day.day))) }
+    ensures bytes { OnOk result (list_all is_byte (image table.now day.year day.month day.day) ≡ true) }
 {
     match write_dbf(sink, table, day) {
         Ok(()) => Ok(()),
@@ -65,6 +67,7 @@ fn write_memos<S: ByteSink>(sink: &mut S, table: &TableData) -> Result<(), SinkF
     ensures failed { OnErr result (Rises (S.failures sink.old) (S.failures sink.new)) }
     ensures kept { IsFront (S.written sink.old) (S.written sink.new) }
     ensures front { OnErr result (IsFront (S.written sink.new) (grown (S.written sink.old) (memo_image table.now))) }
+    ensures bytes { OnOk result (list_all is_byte (memo_image table.now) ≡ true) }
 {
     match write_dbt(sink, table) {
         Ok(()) => Ok(()),
@@ -83,6 +86,7 @@ pub(crate) fn write_content<S: ByteSink>(
     ensures failed { OnErr result (Rises (S.failures sink.old) (S.failures sink.new)) }
     ensures kept { IsFront (S.written sink.old) (S.written sink.new) }
     ensures front { OnErr result (IsFront (S.written sink.new) (grown (S.written sink.old) (bytes_of content.now))) }
+    ensures bytes { OnOk result (list_all is_byte (bytes_of content.now) ≡ true) }
 {
     match content {
         Content::Table(table, day) => write_table(sink, *table, *day),
@@ -92,16 +96,22 @@ pub(crate) fn write_content<S: ByteSink>(
     }
 }
 
-// Writes a file.
-fn write_file<F: Folder>(folder: &mut F, planned: &Planned<'_>) -> Result<(), SinkFault>
-    ensures wrote { OnOk result (F.written folder.new ≡ grown (F.written folder.old) (listing (file_of planned.now ∷ []))) }
+// Writes a file of a name.
+fn write_file<F: Folder>(
+    folder: &mut F,
+    name: &[u8],
+    content: &Content<'_>,
+) -> Result<(), SinkFault>
+    requires can { is_writable content.now ≡ true }
+    ensures wrote { OnOk result (F.written folder.new ≡ grown (F.written folder.old) (listing (file_named name.now content.now ∷ []))) }
     ensures fine { OnOk result (F.failures folder.new ≡ F.failures folder.old) }
     ensures failed { OnErr result (Rises (F.failures folder.old) (F.failures folder.new)) }
     ensures kept { IsFront (F.written folder.old) (F.written folder.new) }
-    ensures front { OnErr result (IsFront (F.written folder.new) (grown (F.written folder.old) (listing (file_of planned.now ∷ [])))) }
+    ensures front { OnErr result (IsFront (F.written folder.new) (grown (F.written folder.old) (listing (file_named name.now content.now ∷ [])))) }
+    ensures bytes { OnOk result (IsOfBytes (file_named name.now content.now)) }
 {
-    folder.begin(planned.name.as_slice())?;
-    write_content(folder, &planned.content)
+    folder.begin(name)?;
+    write_content(folder, content)
 }
 
 // Writes the files in their order. An error tells the place of the one that was not written, or not whole.
@@ -112,10 +122,11 @@ fn write_files<F: Folder>(folder: &mut F, planned: &[Planned<'_>]) -> Result<(),
     ensures inside { IfErr result (λ place. place < length planned.now) }
     ensures whole { IfErr result (λ place. IsFront (grown (F.written folder.old) (listing (map file_of (take place planned.now)))) (F.written folder.new)) }
     ensures front { IfErr result (λ place. IsFront (F.written folder.new) (grown (F.written folder.old) (listing (map file_of (take (place + 1) planned.now))))) }
+    ensures bytes { OnOk result (AllByRecursion IsOfBytes (map file_of planned.now)) }
 {
     let mut place = 0;
     for file in planned {
-        if write_file(folder, file).is_err() {
+        if write_file(folder, file.name.as_slice(), &file.content).is_err() {
             return Err(place);
         }
         place += 1;
@@ -138,6 +149,9 @@ pub fn close_files<F: Folder>(
 ) -> Result<(), CloseFault>
     ensures wrote { OnOk result (F.written folder.new ≡ grown (F.written folder.old) (listing (run_files day.year day.month day.day tables.now answers.now))) }
     ensures fine { OnOk result (F.failures folder.new ≡ F.failures folder.old) }
+    // Names and files are of bytes, so what is added to the folder's list tells them, and no other files.
+    ensures bytes { OnOk result (AllByRecursion IsOfBytes (run_files day.year day.month day.day tables.now answers.now)) }
+    ensures told { OnOk result (files_in (listing (run_files day.year day.month day.day tables.now answers.now)) ≡ run_files day.year day.month day.day tables.now answers.now) }
     ensures outside { (result ≡ Err CloseFault.DateOutside) ↔ IsOutside day.year }
     ensures blocks { (number : ℕ) → ((result ≡ Err (CloseFault.TooManyBlocks number)) ↔ ((IsOutside day.year → ⊥) × (first_blocked 1 tables.now ≡ Some number))) }
     ensures unbegun { IfErr result (λ fault. ((name : List ℕ) → fault ≢ CloseFault.Write name) → folder.new ≡ folder.old) }

@@ -1,8 +1,9 @@
 //! An index as a run left it.
 #![tactic(auto, using(dbf_image::proofs::Sinks::sinks))]
 
-ghost use Rattle.std.specs.Prelude.{◌≡◌, ◌≤◌, length, OnOk, OnErr};
-ghost use Rattle.dbf_image.specs.Sink.{grown, IsFront, Rises};
+ghost use Rattle.std.specs.Prelude.{◌≡◌, ◌≤◌, true, length, OnOk, OnErr};
+ghost use Rattle.std.specs.List.{list_all};
+ghost use Rattle.dbf_image.specs.Sink.{grown, is_byte, IsFront, Rises};
 ghost use Rattle.key_expr.specs.Keys.{key_length};
 ghost use Rattle.ndx_index.specs.declared.format.TheConstants.{MAX_PAIRS};
 ghost use Rattle.ndx_index.specs.Image.{ndx_image};
@@ -60,6 +61,7 @@ impl ClosedIndex {
         ensures failed { OnErr result (Rises (S.failures sink.old) (S.failures sink.new)) }
         ensures kept { IsFront (S.written sink.old) (S.written sink.new) }
         ensures front { OnErr result (IsFront (S.written sink.new) (grown (S.written sink.old) (ndx_image self.now.text self.now.key_len self.now.pairs))) }
+        ensures bytes { OnOk result (list_all is_byte (ndx_image self.now.text self.now.key_len self.now.pairs) ≡ true) }
     {
         match write_ndx(sink, &self.expr, &self.pairs) {
             Ok(()) => Ok(()),

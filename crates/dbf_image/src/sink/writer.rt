@@ -67,6 +67,7 @@ impl<'s, S: ByteSink> SinkWriter<'s, S> {
         // What was put is of bytes, since slices of bytes were put.
         ensures bytes { list_all is_byte self.old.wanted.put ≡ true }
     {
+        // For the last clause alone.
         self.wanted.are_bytes();
         if self.failed {
             return Err(SinkFault);

@@ -3,9 +3,7 @@ use dbf_fields::{Bytes, CHARACTER, Field, MEMO, Schema, day_of};
 use dbf_image::{TableData, read_table};
 use key_expr::KeyExpr;
 use ndx_index::{MAX_PAIRS, OrderedIndex};
-use station_files::{
-    CloseFault, ClosedIndex, ClosedTable, MemoryFolder, close_files, run_is_of_bytes,
-};
+use station_files::{CloseFault, ClosedIndex, ClosedTable, MemoryFolder, close_files};
 use std::alloc::Global;
 use std::test::Fail;
 
@@ -178,18 +176,6 @@ fn folder_fails_at_each_call(rt: HostRuntime) -> Result<(), Fail> {
         assert!(rt; fails_at(alloc, &mut folder, name)?);
         assert_eq!(rt; folder.files.len(), begun);
         assert_eq!(rt; first_other(&folder, &wanted, whole), None);
-    }
-    Ok(())
-}
-
-#[test]
-fn files_of_a_run_are_of_bytes(rt: HostRuntime) -> Result<(), Fail> {
-    let alloc = rt.alloc();
-    let tables = tables_of(alloc)?;
-    let answers = answers_of(alloc)?;
-    for (year, outcome) in [(1987, Ok(())), (1899, Err(CloseFault::DateOutside))] {
-        let day = day_of(year, 3, 15).ok_or("a date")?;
-        assert_eq!(rt; run_is_of_bytes(alloc, &tables, &answers, day), outcome);
     }
     Ok(())
 }

@@ -1,5 +1,6 @@
 use Rattle.std.proofs.Common.{arith}
 use Rattle.dbf_image.proofs.Sinks.{front_by, front_from, front_then, on_err, sinks}
+use Rattle.dbf_image.specs.Laws.OfBytes.{all_bytes}
 use Rattle.dbf_image.proofs.sink.write_all.Goals as goal
 
 pub loop-rest-preserved : goal.loop-rest-preserved
@@ -11,3 +12,9 @@ loop-rest-preserved g c = record {
 
 pub returns-in_err-n-clause-front : goal.returns-in_err-n-clause-front
 returns-in_err-n-clause-front g c = on_err _ (front_from _ _ _ _ c.in_err-n.ensures.unwritten c.loop-rest.invariant.left)
+
+pub returns-in_err-n-clause-bytes : goal.returns-in_err-n-clause-bytes
+returns-in_err-n-clause-bytes g c = all_bytes c.args.bytes.now c.type_inv.bytes
+
+pub returns-clause-bytes : goal.returns-clause-bytes
+returns-clause-bytes g c = all_bytes c.args.bytes.now c.type_inv.bytes

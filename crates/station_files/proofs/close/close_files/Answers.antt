@@ -1,4 +1,9 @@
-use Rattle.std.proofs.Common.{refl, arith}
+use Rattle.std.proofs.Common.{List, map, refl, subst, ap, ◌∙◌, arith}
+use Rattle.std.specs.List.{AllByRecursion}
+use Rattle.station_files.specs.declared.named.NamedFile.{NamedFile}
+use Rattle.station_files.specs.Closing.{file_of}
+use Rattle.station_files.specs.Files.{IsOfBytes}
+use Rattle.station_files.proofs.ListingLaws.{files_again}
 use Rattle.station_files.proofs.PlanLaws.{cut_at}
 use Rattle.station_files.proofs.close.close_files.Goals as goal
 
@@ -8,3 +13,7 @@ returns-clause-unbegun g c h = absurd (h c.remove.result.name refl)
 pub returns-clause-cut : goal.returns-clause-cut
 returns-clause-cut g c name e =
     cut_at _ _ _ _ c.in-Err.place c.remove.result name c.in_ok-planned.ensures.files (rw c.deref.ensures.value at c.in-Err.ensures.inside) c.remove.ensures.value (grind (arith, e)) (rw c.deref.ensures.value at c.in-Err.ensures.whole) (rw c.deref.ensures.value at c.in-Err.ensures.front)
+
+pub returns-in-Ok-clause-told : goal.returns-in-Ok-clause-told
+returns-in-Ok-clause-told g c =
+    files_again _ (subst (λ (files : List NamedFile). AllByRecursion IsOfBytes files) (ap (map file_of) c.deref.ensures.value ∙ c.in_ok-planned.ensures.files) c.in-Ok.ensures.bytes)

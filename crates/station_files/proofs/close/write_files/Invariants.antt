@@ -1,6 +1,7 @@
 use Rattle.std.proofs.Common.{◌≡◌, take, map}
+use Rattle.std.specs.List.{AllByRecursion}
 use Rattle.dbf_image.specs.Sink.{grown}
-use Rattle.station_files.specs.Files.{listing}
+use Rattle.station_files.specs.Files.{listing, IsOfBytes}
 use Rattle.station_files.specs.Closing.{file_of}
 use Rattle.station_files.proofs.close.write_files.Given as goal
 
@@ -10,5 +11,6 @@ invariant-loop-file g l =
     record {
       counted : l.place ≡ l.file-index;
       wrote : written l.folder ≡ grown (written l.fn.folder) (listing (map file_of (take l.file-index l.planned)));
+      bytes : AllByRecursion IsOfBytes (map file_of (take l.file-index l.planned));
       fine : g.F.ByteSink.failures l.folder ≡ g.F.ByteSink.failures l.fn.folder;
     }

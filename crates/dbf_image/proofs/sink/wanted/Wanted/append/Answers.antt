@@ -1,4 +1,4 @@
-use Rattle.dbf_image.proofs.OfBytes.{all_bytes, both_bytes}
+use Rattle.dbf_image.specs.Laws.OfBytes.{all_bytes, both_bytes}
 use Rattle.dbf_image.proofs.sink.wanted.Wanted.append.Goals as goal
 
 pub invariant_of-self : goal.invariant_of-self
