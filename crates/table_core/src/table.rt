@@ -110,11 +110,12 @@ impl Table {
         &self.indexes[number - 1].name
     }
 
-    /// The key expression of the index of a number, from 1 to [`Table::index_count`].
+    /// The key expression of the index of a number, from 1 to [`Table::index_count`]. It was read for the table's fields.
     pub fn expr(&self, number: usize) -> &KeyExpr
         requires one { 1 ≤ number }
         requires inside { number ≤ length self.now.content.indexes }
         ensures value { Some result.now ≡ expr_at self.now.content number }
+        ensures fields { result.now.fields ≡ self.now.content.table.schema }
     {
         &self.indexes[number - 1].expr
     }
