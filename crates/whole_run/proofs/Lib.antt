@@ -3,3 +3,7 @@ pub mod HandingLaws
 pub mod WholeRunLaws
 pub mod TrimmedText
 pub mod WrittenFiles
+pub mod IndexesKept
+pub mod Headings
+pub mod HandedNames
+pub mod OpenLaws

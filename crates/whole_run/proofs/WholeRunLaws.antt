@@ -1,5 +1,5 @@
 -- A whole run by its parts, and the faults of its writing.
-use Rattle.std.proofs.Common.{ℕ, Bool, List, Option, length, refl}
+use Rattle.std.proofs.Common.{◌≡◌, ℕ, Bool, List, Option, Some, None, length, refl}
 use Rattle.catalogue_core.specs.Replay.{History, IsLegal, AreOfStations}
 use Rattle.station_files.specs.declared.closed.ClosedTable.{ClosedTable}
 use Rattle.station_files.specs.declared.named.NamedFile.{NamedFile}
@@ -17,6 +17,10 @@ of_writing files setup reindex year (File path why) tables answers count run h =
 of_writing files setup reindex year (Refused why) tables answers count run h = absurd h
 of_writing files setup reindex year (Run why) tables answers count run h = absurd h
 of_writing files setup reindex year (Close why) tables answers count run h = (tables, answers, count, run, h)
+
+pub none_at : (o : Option ℕ) → ((n : ℕ) → o ≡ Some n → ⊥) → o ≡ None
+none_at None h = refl
+none_at (Some n) h = absurd (h n refl)
 
 -- a whole run by its parts
 pub whole_run : (files : Option (List NamedFile)) (setup : List ℕ) (reindex : Bool) (read : Read) (h : History) (tables : List ClosedTable) (answers : List (List ℕ))

@@ -39,8 +39,8 @@ use Rattle.ndx_index.proofs.Laws.{one_walk, visits_from_tree}
 use Rattle.table_core.specs.Content.{Indexed}
 use Rattle.station_files.specs.Closing.{index_bytes}
 use Rattle.station_files.specs.Writable.{has_too_many}
-use Rattle.whole_run.specs.HandedOver.{index_of}
-use Rattle.whole_run.specs.ReadBack.{IsIndexFor, IsFileFor, memos_of}
+use Rattle.whole_run.specs.HandedOver.{index_of, IsIndexFor}
+use Rattle.whole_run.specs.ReadBack.{IsFileFor, memos_of}
 use Rattle.whole_run.proofs.TrimmedText.{trimmed_text}
 
 -- ---- a table

@@ -1,6 +1,9 @@
 -- The tables of a closed catalogue, as their files are written.
 use Rattle.std.specs.Prelude.{◌≡◌, ℕ, ◌+◌, ◌-◌, ◌<◌, List, length, map, slice_get, Some}
-use Rattle.dbf_image.specs.Table.{Table}
+use Rattle.std.specs.List.{AllByRecursion}
+use Rattle.dbf_fields.specs.declared.field.Field.{Field}
+use Rattle.dbf_image.specs.Table.{Table, IsTable}
+use Rattle.key_expr.specs.Rules.{IsKeyText}
 use Rattle.ndx_index.specs.TableOrder.{order}
 use Rattle.table_core.specs.Content.{Content, Indexed}
 use Rattle.catalogue_core.specs.Replay.{History, names_of, state_of}
@@ -12,15 +15,23 @@ use Rattle.station_files.specs.ClosedIndex.{IndexContent, index_with}
 abbrev pub index_of : Table → Indexed → IndexContent
 index_of table index = index_with index.name index.expr (order table index.expr.expr)
 
+-- the index's expression was read for these fields
+pub record IsIndexFor (fields : List Field) (index : Indexed) : Type 0 where
+  pub fields_are : index.expr.fields ≡ fields
+  pub read : IsKeyText fields index.expr.text index.expr.expr
+
 -- a table with its indexes at the end of a history
 abbrev pub end_of : History → ℕ → Content
 end_of h number = table_at (state_of h).tables number
 
--- the table of this number is handed over as it is at the history's end, under the name with which it was opened
+-- The table of this number is handed over as it is at the history's end, under the name with which it was opened. Each
+-- index's expression was read for its fields.
 pub record IsHandedOver (h : History) (number : ℕ) (closed : ClosedTable) : Type 0 where
   pub named : slice_get (names_of h.opened) (number - 1) ≡ Some closed.name
   pub content : closed.content ≡ (end_of h number).table
   pub indexes : closed.indexes.items ≡ map (index_of (end_of h number).table) (end_of h number).indexes
+  pub table : IsTable closed.content
+  pub read : AllByRecursion (IsIndexFor closed.content.schema) (end_of h number).indexes
 
 -- the tables are all of the catalogue's, in their order
 pub record AreHandedOver (h : History) (tables : List ClosedTable) : Type 0 where

@@ -1,10 +1,12 @@
 //! Handing a closed catalogue's tables over to the writing of files.
 
-ghost use Rattle.std.specs.Prelude.{◌≡◌, ◌+◌, ◌<◌, ◌≤◌, length, map, Some, IfOk};
+ghost use Rattle.std.specs.Prelude.{◌≡◌, ◌+◌, ◌<◌, ◌≤◌, length, map, Some, IfOk, IfSome, OnOk};
+ghost use Rattle.std.specs.List.{AllByRecursion};
 ghost use Rattle.std.specs.Option.{option_map};
+ghost use Rattle.dbf_image.specs.Table.{IsTable};
 ghost use Rattle.table_core.specs.Content.{index_at};
 ghost use Rattle.catalogue_core.specs.Replay.{names_of};
-ghost use Rattle.whole_run.specs.HandedOver.{index_of, AreHandedOver};
+ghost use Rattle.whole_run.specs.HandedOver.{index_of, IsIndexFor, AreHandedOver};
 
 use dbf_fields::Bytes;
 use shared_catalogue::Closed;
@@ -17,9 +19,13 @@ fn closed_index(alloc: Global, table: &Table, number: usize) -> Result<ClosedInd
     requires one { 1 ≤ number }
     requires inside { number ≤ length table.now.content.indexes }
     ensures value { IfOk result (λ index. Some index ≡ option_map (index_of table.now.content.table) (index_at table.now.content number)) }
+    ensures read { OnOk result (IfSome (index_at table.now.content number) (IsIndexFor table.now.content.table.schema)) }
 {
     let name = table.index_name(number).copy(alloc)?;
-    let expr = table.expr(number).copy(alloc)?;
+    let expr = table.expr(number);
+    // This call tells contracts that the expression keeps the rules on fields.
+    let _text = expr.text();
+    let expr = expr.copy(alloc)?;
     let pairs = table.index_pairs(alloc, number)?;
     // A pair for each record, and so no more than a file can have.
     prove!(pairs.len() <= table.record_count() as usize);
@@ -29,6 +35,7 @@ fn closed_index(alloc: Global, table: &Table, number: usize) -> Result<ClosedInd
 // The indexes of a table, in order.
 fn closed_indexes(alloc: Global, table: &Table) -> Result<Vec<ClosedIndex>, AllocError>
     ensures value { IfOk result (λ indexes. indexes.items ≡ map (index_of table.now.content.table) table.now.content.indexes) }
+    ensures read { OnOk result (AllByRecursion (IsIndexFor table.now.content.table.schema) table.now.content.indexes) }
 {
     let mut indexes = Vec::new(alloc);
     for i in 0..table.index_count() {
@@ -42,7 +49,11 @@ fn closed_table(alloc: Global, name: Bytes, table: Table) -> Result<ClosedTable,
     ensures named { IfOk result (λ closed. closed.name ≡ name) }
     ensures content { IfOk result (λ closed. closed.content ≡ table.content.table) }
     ensures indexes { IfOk result (λ closed. closed.indexes.items ≡ map (index_of table.content.table) table.content.indexes) }
+    ensures table { OnOk result (IsTable table.content.table) }
+    ensures read { OnOk result (AllByRecursion (IsIndexFor table.content.table.schema) table.content.indexes) }
 {
+    // This call tells contracts what is true of every table.
+    let _count = table.record_count();
     let indexes = closed_indexes(alloc, &table)?;
     Ok(ClosedTable {
         name,

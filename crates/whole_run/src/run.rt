@@ -1,10 +1,10 @@
 //! The whole run: from a setup and its files to the written files.
 
-ghost use Rattle.std.specs.Prelude.{◌≡◌, ◌≢◌, ◌⊎◌, ℕ, List, [], Ok, Err, IfOk, IfErr, OnOk};
+ghost use Rattle.std.specs.Prelude.{◌≡◌, ◌≢◌, ◌⊎◌, ℕ, List, [], None, Ok, Err, IfOk, IfErr, OnOk};
 ghost use Rattle.dbf_image.specs.Sink.{grown, Rises};
 ghost use Rattle.catalogue_core.specs.Opening.{Opening};
 ghost use Rattle.station_files.specs.declared.closed.ClosedTable.{ClosedTable as Table};
-ghost use Rattle.station_files.specs.Closing.{run_files, IsCutAt};
+ghost use Rattle.station_files.specs.Closing.{run_files, first_blocked, IsCutAt};
 ghost use Rattle.station_files.specs.Files.{listing};
 ghost use Rattle.whole_run.specs.Loading.{read_of, IsFailure};
 ghost use Rattle.whole_run.specs.WholeRun.{stations_for, IsAllRead, IsReadFault, IsRun, IsRunFault, IsWholeRun, IsServeFault, IsSaid, IsWriteFault};
@@ -113,6 +113,7 @@ fn write_files<F: Folder>(
     folder: &mut F,
 ) -> Result<(), ServeFault>
     ensures wrote { OnOk result (F.written folder.new ≡ grown (F.written folder.old) (listing (run_files today.year today.month today.day tables.now answers.now))) }
+    ensures few { OnOk result (first_blocked 1 tables.now ≡ None) }
     ensures fine { OnOk result (F.failures folder.new ≡ F.failures folder.old) }
     ensures fault { IfErr result (λ fault. IsWriteFault today.year tables.now fault) }
     ensures unbegun { IfErr result (λ fault. ((name : List ℕ) → fault ≢ ServeFault.Close (CloseFault.Write name)) → folder.new ≡ folder.old) }
@@ -147,8 +148,9 @@ pub fn serve<S: Source, F: Folder, G: Gate + Sync, R: Threads + Wait + Sync>(
     folder: &mut F,
     gate: &G,
 ) -> Result<u64, ServeFault>
-    // The files of the replay of a legal journal, whose commands are the scripts' lines, on what the setup names.
-    ensures ran { IfOk result (λ count. (tables : List Table) × (answers : List (List ℕ)) × IsWholeRun (S.files source.old) setup.now reindex tables answers count × (F.written folder.new ≡ grown (F.written folder.old) (listing (run_files today.year today.month today.day tables answers)))) }
+    // The files of the replay of a legal journal, whose commands are the scripts' lines, on what the setup names. They open
+    // again as they were left: see `written_files_read_back`.
+    ensures ran { IfOk result (λ count. (tables : List Table) × (answers : List (List ℕ)) × IsWholeRun (S.files source.old) setup.now reindex tables answers count × (first_blocked 1 tables ≡ None) × (F.written folder.new ≡ grown (F.written folder.old) (listing (run_files today.year today.month today.day tables answers)))) }
     ensures fine { OnOk result (F.failures folder.new ≡ F.failures folder.old) }
     ensures kept { S.files source.new ≡ S.files source.old }
     ensures fault { IfErr result (IsServeFault (S.files source.old) setup.now reindex today.year) }

@@ -1,6 +1,11 @@
-use Rattle.std.proofs.Common.{◌≡◌, map, take}
-use Rattle.whole_run.specs.HandedOver.{index_of}
+use Rattle.std.proofs.Common.{◌≡◌, ℕ, ◌<◌, map, take}
+use Rattle.std.specs.Prelude.{IfSome}
+use Rattle.std.specs.List.{slice_get}
+use Rattle.whole_run.specs.HandedOver.{index_of, IsIndexFor}
 use Rattle.whole_run.proofs.closing.closed_indexes.Given as goal
 
 abbrev pub invariant-loop-i : goal.invariant-loop-i
-invariant-loop-i l = l.indexes.items ≡ map (index_of l.table.content.table) (take l.i l.table.content.indexes)
+invariant-loop-i l = record {
+  made : l.indexes.items ≡ map (index_of l.table.content.table) (take l.i l.table.content.indexes);
+  read : (k : ℕ) → k < l.i → IfSome (slice_get l.table.content.indexes k) (IsIndexFor l.table.content.table.schema);
+}

@@ -1,13 +1,14 @@
 use Rattle.std.proofs.Common.{◌≡◌, ℕ, ◌+◌, ◌-◌, ◌≤◌, ◌<◌, List, [], ◌∷◌, ◌++◌, length, map, Some, refl, ap, sym, subst, ◌∙◌, ⊎_elim, append_assoc, arith, rules, length-append}
-use Rattle.std.specs.List.{slice_get}
+use Rattle.std.specs.List.{slice_get, AllByRecursion}
 use Rattle.std.specs.Vec.Iter.{into_iter_items}
 use Rattle.std.proofs.lemmas.Bool.{cases_lt}
 use Rattle.std.proofs.lemmas.List.{length-map}
 use Rattle.std.proofs.lemmas.Option.{slice_get_read}
+use Rattle.dbf_image.specs.Table.{Table, IsTable}
 use Rattle.table_core.specs.Content.{Content, Held}
 use Rattle.catalogue_core.specs.Replay.{names_of, state_of}
 use Rattle.station_files.specs.declared.closed.ClosedTable.{ClosedTable}
-use Rattle.whole_run.specs.HandedOver.{index_of, IsHandedOver}
+use Rattle.whole_run.specs.HandedOver.{index_of, IsIndexFor, IsHandedOver}
 use Rattle.whole_run.proofs.HandingLaws.{taken_count, taken_table}
 use Rattle.station_run.proofs.RunLaws.{get_front, get_last}
 use Rattle.whole_run.proofs.closing.closed_tables.Goals as goal
@@ -41,6 +42,9 @@ loop-table-preserved c =
       named = name;
       content = c.in_ok-closed_table.ensures.content ∙ ap (λ (x : Content). x.table) (sym content);
       indexes = c.in_ok-closed_table.ensures.indexes ∙ ap (λ (x : Content). map (index_of x.table) x.indexes) (sym content);
+      table = subst IsTable (sym c.in_ok-closed_table.ensures.content) c.in_ok-closed_table.ensures.table;
+      read = subst (λ (x : Content). AllByRecursion (IsIndexFor closed.content.schema) x.indexes) (sym content)
+          (subst (λ (x : Table). AllByRecursion (IsIndexFor x.schema) t.content.indexes) (sym c.in_ok-closed_table.ensures.content) c.in_ok-closed_table.ensures.read);
     } in
     record {
       count = ap length grown ∙ length-append old (closed ∷ []) ∙ ap (λ (k : ℕ). k + 1) have.count ∙ sym more;

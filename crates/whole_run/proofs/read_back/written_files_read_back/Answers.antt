@@ -1,3 +1,5 @@
+use Rattle.std.proofs.Common.{length}
+use Rattle.whole_run.proofs.OpenLaws.{opens_as_left}
 use Rattle.whole_run.proofs.WrittenFiles.{read_again, again_read, file_for}
 use Rattle.whole_run.proofs.read_back.written_files_read_back.Goals as goal
 
@@ -6,3 +8,6 @@ returns-clause-table c year month day table read t few = (read_again year month 
 
 pub returns-clause-index : goal.returns-clause-index
 returns-clause-index c = file_for
+
+pub returns-clause-opens : goal.returns-clause-opens
+returns-clause-opens c files setup given tables answers count run few = opens_as_left given (length run.read.scripts) run.read.tables run.history tables run.run.opened run.handed few
