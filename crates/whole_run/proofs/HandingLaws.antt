@@ -48,6 +48,18 @@ pub all_for : (fields : List Field) (xs : List Indexed) → ((k : ℕ) → k < l
 all_for fields [] each = tt
 all_for fields (x ∷ xs) each = (each 0 (omega arith), all_for fields xs (λ k low. each (suc k) (omega arith)))
 
+-- an element of a list that has grown: an earlier one, and the last
+pub get_front : {A : Type 0} (xs ys : List A) (i : ℕ) (x : A) → slice_get xs i ≡ Some x → slice_get (xs ++ ys) i ≡ Some x
+get_front [] ys i x e = absurd cc
+get_front (z ∷ zs) ys zero x e = e
+get_front (z ∷ zs) ys (suc i) x e = get_front zs ys i x e
+
+pub get_last : {A : Type 0} (xs : List A) (x : A) (i : ℕ) → i ≡ length xs → slice_get (xs ++ x ∷ []) i ≡ Some x
+get_last [] x zero e = refl
+get_last [] x (suc i) e = absurd (omega arith)
+get_last (z ∷ zs) x zero e = absurd (omega arith)
+get_last (z ∷ zs) x (suc i) e = get_last zs x i (omega arith)
+
 -- one more of what is made of a list
 pub mapped_next : {X Y : Type 0} (f : X → Y) (xs : List X) (i : ℕ) (y : Y) → Some y ≡ option_map f (slice_get xs i) → map f (take (suc i) xs) ≡ map f (take i xs) ++ y ∷ []
 mapped_next f [] i y e = absurd cc

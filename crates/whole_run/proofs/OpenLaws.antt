@@ -1,5 +1,5 @@
 -- What comes of opening what was written.
-use Rattle.std.proofs.Common.{◌≡◌, ℕ, zero, suc, ◌+◌, ◌<◌, ◌≤◌, Bool, true, false, cond, List, [], ◌∷◌, ◌++◌, length, map, Option, Some, None, Result, Ok, Err, refl, sym, ap, subst, ◌∙◌, ⊎_elim, append_assoc, arith, length-append}
+use Rattle.std.proofs.Common.{◌≡◌, ℕ, suc, ◌+◌, ◌<◌, ◌≤◌, Bool, true, false, cond, List, [], ◌∷◌, ◌++◌, length, map, Option, Some, None, Result, Ok, Err, refl, sym, ap, subst, ◌∙◌, ⊎_elim, append_assoc, arith, length-append}
 use Rattle.std.specs.Prelude.{not, nat_le}
 use Rattle.std.specs.List.{AllByRecursion, slice_get}
 use Rattle.std.proofs.lemmas.Bool.{cases_lt}
@@ -29,6 +29,7 @@ use Rattle.whole_run.specs.HandedOver.{index_of, end_of, IsIndexFor, IsHandedOve
 use Rattle.whole_run.specs.ReadBack.{IsFileFor, trimmed, trimmed_index, with_trimmed, IsIndexReadBack, AreIndexesReadBack, IsTableReadBack, AreTablesReadBack, IsOpenedAsLeft, IsReopened, OpenAsLeft}
 use Rattle.whole_run.proofs.Headings.{Heading, index_names, source_names, heading, source_heading, is_index_name, AreNewIndexes, IsNewTable, AreNewTables, is_index-names, has_table-names, passing_ok, table_opened, tables_opened}
 use Rattle.whole_run.proofs.HandedNames.{read_headings, handed_headings}
+use Rattle.whole_run.proofs.HandingLaws.{get_front, get_last}
 use Rattle.whole_run.proofs.WrittenFiles.{read_again, file_for}
 
 -- ---- one thing after another
@@ -184,17 +185,6 @@ of_table h number year month day reindex earlier closed source outcome own few n
 -- each of the tables is opened as the history left it
 abbrev EachIsOpened : History → List NamedTable → Type 0
 EachIsOpened h opened = (i : ℕ) → i < length opened → (t : NamedTable) × (slice_get opened i ≡ Some t) × IsOpenedAsLeft h (i + 1) t
-
-get_front : (xs ys : List NamedTable) (i : ℕ) (x : NamedTable) → slice_get xs i ≡ Some x → slice_get (xs ++ ys) i ≡ Some x
-get_front [] ys i x e = absurd cc
-get_front (z ∷ zs) ys zero x e = e
-get_front (z ∷ zs) ys (suc i) x e = get_front zs ys i x e
-
-get_last : (xs : List NamedTable) (x : NamedTable) (i : ℕ) → i ≡ length xs → slice_get (xs ++ x ∷ []) i ≡ Some x
-get_last [] x zero e = refl
-get_last [] x (suc i) e = absurd (omega arith)
-get_last (z ∷ zs) x zero e = absurd (omega arith)
-get_last (z ∷ zs) x (suc i) e = get_last zs x i (omega arith)
 
 opened_more : (h : History) (earlier : List NamedTable) (t : NamedTable) → EachIsOpened h earlier → IsOpenedAsLeft h (length earlier + 1) t → EachIsOpened h (earlier ++ t ∷ [])
 opened_more h earlier t have own i low =
