@@ -1,6 +1,7 @@
 -- A whole run, from a setup and its files to the files that are written.
-use Rattle.std.specs.Prelude.{◌≡◌, ◌≢◌, ◌⊎◌, ℕ, Bool, nat_le, List, length, Option, Some, Result, Ok, Err, if◌then◌else◌}
+use Rattle.std.specs.Prelude.{◌≡◌, ◌≢◌, ◌⊎◌, ℕ, Bool, nat_le, List, length, Option, Some, None, Result, Ok, Err, if◌then◌else◌}
 use Rattle.dbf_image.specs.Image.{IsOutside}
+use Rattle.dbf_image.specs.Sink.{grown}
 use Rattle.catalogue_core.specs.declared.opening.OpenFault.TheVariants.{NoMemory as NoRoomToOpen}
 use Rattle.catalogue_core.specs.Opening.{Opening}
 use Rattle.catalogue_core.specs.Replay.{Opened, History, IsLegal, AreOfStations}
@@ -14,8 +15,8 @@ use Rattle.whole_run.specs.declared.fault.FileFault.{FileFault}
 use Rattle.whole_run.specs.declared.fault.FileFault.TheVariants.{CannotRead}
 use Rattle.whole_run.specs.declared.fault.ServeFault.{ServeFault}
 use Rattle.whole_run.specs.declared.fault.ServeFault.TheVariants.{Setup, File, Refused, Run, Close, NoMemory}
-use Rattle.station_files.specs.Closing.{first_blocked}
-use Rattle.station_files.specs.Files.{IsFileOf}
+use Rattle.station_files.specs.Closing.{first_blocked, run_files}
+use Rattle.station_files.specs.Files.{IsFileOf, listing}
 use Rattle.whole_run.specs.HandedOver.{AreHandedOver}
 use Rattle.whole_run.specs.Loading.{Read, nothing, LoadAll, IsFaultIn}
 use Rattle.station_run.specs.Faults.{IsFaultOfRun}
@@ -100,6 +101,15 @@ pub record IsWholeRun (files : Option (List NamedFile)) (setup : List ℕ) (rein
   pub of_stations : AreOfStations history.opened history.journal
   pub handed : AreHandedOver history tables
   pub counted : count ≡ length history.journal
+
+-- A whole run came to its end: these are its tables and answers, none of the tables has more blocks than its file can
+-- have, and their files stand after what was written before.
+pub record IsServed (files : Option (List NamedFile)) (setup : List ℕ) (reindex : Bool) (year month day : ℕ) (old new : Option (List ℕ)) (count : ℕ) : Type 0 where
+  pub tables : List ClosedTable
+  pub answers : List (List ℕ)
+  pub run : IsWholeRun files setup reindex tables answers count
+  pub few_blocks : first_blocked 1 tables ≡ None
+  pub written : new ≡ grown old (listing (run_files year month day tables answers))
 
 -- why a whole run does not come to its end
 abbrev pub IsServeFault : Option (List NamedFile) → List ℕ → Bool → ℕ → ServeFault → Type 0

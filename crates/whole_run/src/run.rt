@@ -7,7 +7,7 @@ ghost use Rattle.station_files.specs.declared.closed.ClosedTable.{ClosedTable as
 ghost use Rattle.station_files.specs.Closing.{run_files, first_blocked, IsCutAt};
 ghost use Rattle.station_files.specs.Files.{listing};
 ghost use Rattle.whole_run.specs.Loading.{read_of, IsFailure};
-ghost use Rattle.whole_run.specs.WholeRun.{stations_for, IsAllRead, IsReadFault, IsRun, IsRunFault, IsWholeRun, IsServeFault, IsSaid, IsWriteFault};
+ghost use Rattle.whole_run.specs.WholeRun.{stations_for, IsAllRead, IsReadFault, IsRun, IsRunFault, IsWholeRun, IsServed, IsServeFault, IsSaid, IsWriteFault};
 
 use crate::closing::closed_tables;
 use crate::fault::ServeFault;
@@ -148,9 +148,9 @@ pub fn serve<S: Source, F: Folder, G: Gate + Sync, R: Threads + Wait + Sync>(
     folder: &mut F,
     gate: &G,
 ) -> Result<u64, ServeFault>
-    // The files of the replay of a legal journal, whose commands are the scripts' lines, on what the setup names. They open
-    // again as they were left: see `written_files_read_back`.
-    ensures ran { IfOk result (λ count. (tables : List Table) × (answers : List (List ℕ)) × IsWholeRun (S.files source.old) setup.now reindex tables answers count × (first_blocked 1 tables ≡ None) × (F.written folder.new ≡ grown (F.written folder.old) (listing (run_files today.year today.month today.day tables answers)))) }
+    // The files of the replay of a legal journal, whose commands are the scripts' lines, on what the setup names. What was
+    // written opens as the run left it: see `written_files_read_back`.
+    ensures ran { IfOk result (IsServed (S.files source.old) setup.now reindex today.year today.month today.day (F.written folder.old) (F.written folder.new)) }
     ensures fine { OnOk result (F.failures folder.new ≡ F.failures folder.old) }
     ensures kept { S.files source.new ≡ S.files source.old }
     ensures fault { IfErr result (IsServeFault (S.files source.old) setup.now reindex today.year) }

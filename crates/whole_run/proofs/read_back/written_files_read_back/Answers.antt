@@ -10,4 +10,6 @@ pub returns-clause-index : goal.returns-clause-index
 returns-clause-index c = file_for
 
 pub returns-clause-opens : goal.returns-clause-opens
-returns-clause-opens c files setup given tables answers count run few = opens_as_left given (length run.read.scripts) run.read.tables run.history tables run.run.opened run.handed few
+returns-clause-opens c files setup given year month day old new count served =
+    let run = served.run in
+    opens_as_left given (length run.read.scripts) run.read.tables run.history served.tables run.run.opened run.handed served.few_blocks
