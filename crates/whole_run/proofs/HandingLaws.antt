@@ -1,5 +1,5 @@
 -- What is handed over of an index and of a table, and one more of it.
-use Rattle.std.proofs.Common.{◌≡◌, ℕ, zero, suc, ◌+◌, ◌-◌, ◌<◌, ◌≤◌, List, [], ◌∷◌, ◌++◌, Option, Some, None, length, get_or, map, take, refl, ap, sym, ◌∙◌, length-append, subst, arith}
+use Rattle.std.proofs.Common.{◌≡◌, ℕ, zero, suc, ◌+◌, ◌-◌, ◌<◌, ◌≤◌, List, [], ◌∷◌, ◌++◌, Option, Some, None, length, get_or, map, take, refl, ap, sym, ◌∙◌, length-append, arith}
 use Rattle.std.proofs.lemmas.List.{get_or-map, get_or_at, length-map}
 use Rattle.std.specs.Prelude.{IfSome}
 use Rattle.std.specs.List.{slice_get, AllByRecursion}
@@ -7,7 +7,6 @@ use Rattle.std.specs.Option.{option_map}
 use Rattle.dbf_fields.specs.declared.field.Field.{Field}
 use Rattle.key_expr.specs.Expression.{Expression}
 use Rattle.key_expr.specs.Keys.{key_length}
-use Rattle.key_expr.specs.Rules.{IsKeyText}
 use Rattle.ndx_index.specs.declared.pair.Pair.{Pair}
 use Rattle.ndx_index.specs.Laws.RecordOrders.{length-order}
 use Rattle.table_core.specs.Content.{Content, Held, Indexed, pairs_by, key_length_by}
@@ -34,16 +33,7 @@ index_is content (Some x) name e pairs named is all =
     let same : e ≡ x.expr = cc in
     rw (same_name, same, all) refl
 
--- an index whose expression was read for the fields
-pub index_for : (fields : List Field) (at : Option Indexed) (e : Expression) → Some e ≡ option_map (λ x. x.expr) at → e.fields ≡ fields → IsKeyText e.fields e.text e.expr → IfSome at (IsIndexFor fields)
-index_for fields None e is own read = tt
-index_for fields (Some x) e is own read =
-    let same : e ≡ x.expr = cc in
-    record {
-      fields_are = ap (λ (y : Expression). y.fields) (sym same) ∙ own;
-      read = subst (λ (y : Expression). IsKeyText fields y.text y.expr) same (subst (λ (l : List Field). IsKeyText l e.text e.expr) own read);
-    }
-
+-- indexes whose expressions were read for the fields, one by one
 pub all_for : (fields : List Field) (xs : List Indexed) → ((k : ℕ) → k < length xs → IfSome (slice_get xs k) (IsIndexFor fields)) → AllByRecursion (IsIndexFor fields) xs
 all_for fields [] each = tt
 all_for fields (x ∷ xs) each = (each 0 (omega arith), all_for fields xs (λ k low. each (suc k) (omega arith)))
