@@ -1,6 +1,6 @@
 -- What workers do line by line, and one worker more.
 use Rattle.std.proofs.Common.{◌≡◌, ◌⊎◌, ℕ, zero, suc, ◌+◌, ◌-◌, ◌<◌, ◌≤◌, List, [], ◌∷◌, ◌++◌, length, map, Some, refl, ap, sym, subst, ◌∙◌, inl, inr, ⊎_elim, arith, length-append, zero-le}
-use Rattle.std.specs.Prelude.{slice_get, option_map}
+use Rattle.std.specs.Prelude.{slice_get, option_map, Result, Ok, Err, IfErr, IsErrAnd}
 use Rattle.std.proofs.lemmas.Bool.{cases_lt}
 use Rattle.std.proofs.lemmas.List.{append-nil, append_assoc, length-map}
 use Rattle.std.proofs.lemmas.Option.{slice_get-map, slice_get_within, get_or_from_slice_get}
@@ -12,8 +12,10 @@ use Rattle.shared_catalogue.specs.OwnCalls.{of_station, AreOwn, IsLowestMismatch
 use Rattle.catalogue_core.specs.Replay.{Opened}
 use Rattle.shared_catalogue.specs.Seats.{Seated, seated, new_seats, IsLowestMissing}
 use Rattle.station_lines.specs.declared.script.line.Line.TheVariants.{Blank}
-use Rattle.station_run.specs.Faults.{IsSettleFaultOf}
-use Rattle.station_run.specs.Reports.{Shown, answered, status, SessionValue, new_session, meaning_of, shown_line, receipt_in, receipts_of, answers_of, IsShownFor, IsShownOf, AreShownOf, IsWithShown, HasShown, HasRun, HaveRun, AreInOrder, AreReports}
+use Rattle.station_run.specs.declared.fault.RunFault.{RunFault}
+use Rattle.station_run.specs.declared.fault.RunFault.TheVariants.{Settle}
+use Rattle.station_run.specs.Faults.{IsSettleFaultOf, IsFaultOfRun}
+use Rattle.station_run.specs.Reports.{Shown, answered, status, SessionValue, new_session, meaning_of, shown_line, receipt_in, receipts_of, answers_of, IsShownFor, IsShownOf, AreShownOf, IsWithShown, HasShown, HasRun, HaveRun, AreSeatsInOrder, AreReports}
 use Rattle.station_lines.specs.Script.Lines.{BeginsWithLine}
 use Rattle.station_lines.specs.Script.Meaning.{Means}
 
@@ -110,7 +112,7 @@ have_run-push opened scripts zs z ss s script n ran many same there has i y at =
 
 -- what the sessions did is what is reported, once their receipts are those of the journal
 pub reports : (opened : Opened) (journal : List Entry) (scripts : List (List ℕ)) (zs : List Seated) (ss : List SessionValue) (answers : List (List ℕ)) (receipts : List (List Receipt))
-    → AreInOrder opened.stations zs → HaveRun opened scripts zs ss → length ss ≡ length zs → answers ≡ map (λ s. s.answers) ss → receipts ≡ map (λ s. s.receipts) ss → AreOwn journal receipts opened.stations
+    → AreSeatsInOrder opened.stations zs → HaveRun opened scripts zs ss → length ss ≡ length zs → answers ≡ map (λ s. s.answers) ss → receipts ≡ map (λ s. s.receipts) ss → AreOwn journal receipts opened.stations
     → AreReports opened journal scripts answers
 reports opened journal scripts zs ss answers receipts order ran many texts lists own = record {
   count = ap length texts ∙ length-map ss (λ (s : SessionValue). s.answers) ∙ many ∙ order.0;
@@ -127,7 +129,7 @@ reports opened journal scripts zs ss answers receipts order ran many texts lists
 }
 
 -- each station has its seat after a run
-pub all_seated : (opened : Opened) (scripts : List (List ℕ)) (zs : List Seated) (ss : List SessionValue) → AreInOrder opened.stations zs → HaveRun opened scripts zs ss
+pub all_seated : (opened : Opened) (scripts : List (List ℕ)) (zs : List Seated) (ss : List SessionValue) → AreSeatsInOrder opened.stations zs → HaveRun opened scripts zs ss
     → (station : ℕ) → IsLowestMissing (map (λ s. s.seat) ss) opened.stations station → ⊥
 all_seated opened scripts zs ss order ran station missing =
     let i = station - 1 in
@@ -145,8 +147,13 @@ settle_fault opened seats receipts (SeatMissing station) many missing none misma
 settle_fault opened seats receipts (ReceiptMismatch station) many missing none mismatch =
     let lowest = (mismatch station refl).1 in (lowest.counted, omega (arith, lowest.inside, many))
 
+-- a run that ends by such a fault
+pub err_settled : {T : Type 0} (fault : SettleFault) (r : Result T RunFault) (opened : Opened) → IsErrAnd r (λ y. y ≡ Settle fault) → IsSettleFaultOf opened fault → IfErr r (IsFaultOfRun opened)
+err_settled fault (Ok x) opened same settled = tt
+err_settled fault (Err e) opened same settled = rw same settled
+
 -- new seats are in order
-pub in_order : (n : ℕ) → AreInOrder n (new_seats n)
+pub in_order : (n : ℕ) → AreSeatsInOrder n (new_seats n)
 in_order zero = (refl, λ i low. absurd (omega arith))
 in_order (suc n) =
     let below = in_order n in

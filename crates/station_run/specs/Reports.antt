@@ -54,11 +54,11 @@ AreShown (line ∷ lines) (x ∷ xs) = (Means line Blank × AreShown lines (x �
 abbrev pub IsShownFor : List ℕ → List Shown → Type 0
 IsShownFor script shown = (lines : List (List ℕ)) × AreLines lines script × AreShown lines shown
 
--- the row is that of a legal history of these opened tables, with so many entries at least
+-- the row is that of a legal history of these opened tables, with at least this number of entries
 abbrev pub IsRowOf : Opened → ℕ → StatusRow → Type 0
 IsRowOf opened least shown = (h : History) × IsHistoryOf opened least h × (shown ≡ row h)
 
--- a status row that is shown is one of these opened tables, where the station has had so many answers before
+-- a status row that is shown is one of these opened tables, where the station has had this number of answers before
 abbrev pub IsShownOf : Opened → ℕ → Shown → Type 0
 IsShownOf opened least (answered r) = Unit {0}
 IsShownOf opened least (status shown) = IsRowOf opened least shown
@@ -107,8 +107,8 @@ HaveRun opened scripts seats sessions =
     → (s : SessionValue) × (script : List ℕ) × (slice_get sessions i ≡ Some s) × (slice_get scripts i ≡ Some script) × HasRun opened z.station script s
 
 -- the seats are those of the stations 1 to n, in order
-abbrev pub AreInOrder : ℕ → List Seated → Type 0
-AreInOrder n seats = (length seats ≡ n) × ((i : ℕ) → i < n → (z : Seated) × (slice_get seats i ≡ Some z) × (z.station ≡ i + 1))
+abbrev pub AreSeatsInOrder : ℕ → List Seated → Type 0
+AreSeatsInOrder n seats = (length seats ≡ n) × ((i : ℕ) → i < n → (z : Seated) × (slice_get seats i ≡ Some z) × (z.station ≡ i + 1))
 
 -- what was shown for a station's script: the commands and answers among it are the station's in the journal, in
 -- order, the status rows are rows of these opened tables, and the answer file has a line for each

@@ -10,7 +10,7 @@ pub enum RunFault {
     /// There are not as many scripts as seats.
     #[error("there are not as many scripts as stations")]
     ScriptCount,
-    /// No thread was to be had for the station.
+    /// No thread could be started for the station.
     #[error("no thread for station {0}")]
     NoThread(u32),
     /// The station's worker was stopped.
@@ -32,5 +32,16 @@ impl From<AllocError> for RunFault {
 
     fn from(_refused: AllocError) -> RunFault {
         RunFault::NoMemory
+    }
+}
+
+impl From<SettleFault> for RunFault {
+    ghost use Rattle.std.specs.Prelude.{◌≡◌};
+    ghost use Rattle.station_run.specs.declared.fault.RunFault.TheVariants.{Settle};
+
+    ghost from_gives = { λ fault run. run ≡ Settle fault };
+
+    fn from(fault: SettleFault) -> RunFault {
+        RunFault::Settle(fault)
     }
 }

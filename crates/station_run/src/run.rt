@@ -2,7 +2,7 @@
 
 ghost use Rattle.std.specs.Prelude.{◌≡◌, ◌≢◌, ◌↔◌, ◌≤◌, IfOk, IfErr, IsErrOf, length, map, vec_len};
 ghost use Rattle.station_run.specs.Faults.{IsFaultOfRun};
-ghost use Rattle.station_run.specs.Reports.{AreInOrder, AreReports, HaveRun};
+ghost use Rattle.station_run.specs.Reports.{AreSeatsInOrder, AreReports, HaveRun};
 
 use crate::fault::RunFault;
 use crate::gate::Gate;
@@ -28,7 +28,7 @@ pub struct Outcome {
 /// of this `Shared`, in the order of the stations; the scripts stand in that order too.
 ///
 /// The faults, in order: `ScriptCount` where there are not as many scripts as seats; `NoThread` where no
-/// thread was to be had for a station; `Stopped` for the lowest station whose worker was stopped (the
+/// thread could be started for a station; `Stopped` for the lowest station whose worker was stopped (the
 /// others go on to their scripts' ends); `Settle`, which never says that a seat is missing; and `NoMemory`, which may
 /// come wherever memory is taken.
 pub fn run_stations<J: Naming + Send + Sync, G: Gate + Sync, R: Threads + Wait + Sync>(
@@ -40,7 +40,7 @@ pub fn run_stations<J: Naming + Send + Sync, G: Gate + Sync, R: Threads + Wait +
     gate: &G,
 ) -> Result<Outcome, RunFault>
     requires parts { J.parts ≡ J.opened.stations }
-    requires seats { AreInOrder J.opened.stations seats.items }
+    requires seats { AreSeatsInOrder J.opened.stations seats.items }
     ensures opened { IfOk result (λ outcome. outcome.closed.opened ≡ J.opened) }
     ensures scripts { IfOk result (λ _. length scripts.now ≡ J.opened.stations) }
     ensures reports { IfOk result (λ outcome. AreReports J.opened outcome.closed.journal scripts.now outcome.answers.items) }
@@ -52,10 +52,8 @@ pub fn run_stations<J: Naming + Send + Sync, G: Gate + Sync, R: Threads + Wait +
     }
     let sessions = run_sessions(rt, alloc, &shared, gate, seats, scripts)?;
     let (seats, receipts, answers) = split_sessions(alloc, sessions)?;
-    match shared.settle(seats, receipts) {
-        Ok(closed) => Ok(Outcome { closed, answers }),
-        Err(fault) => Err(RunFault::Settle(fault)),
-    }
+    let closed = shared.settle(seats, receipts)?;
+    Ok(Outcome { closed, answers })
 }
 
 // Runs each station's script, and joins all threads.
@@ -71,7 +69,7 @@ fn run_sessions<J: Naming + Send + Sync, G: Gate + Sync, R: Threads + Wait + Syn
     ensures count { IfOk result (λ sessions. vec_len sessions ≡ vec_len seats) }
     ensures each { IfOk result (λ sessions. HaveRun J.opened scripts.now seats.items sessions.items) }
     ensures fault { IfErr result (IsFaultOfRun J.opened) }
-    ensures other { ¬ IsErrOf result RunFault.ScriptCount }
+    ensures no_script_count { ¬ IsErrOf result RunFault.ScriptCount }
 {
     thread::scope(
         thread::scope_env(),
@@ -97,7 +95,7 @@ fn run_from<'s, E, J: Naming + Send + Sync, G: Gate + Sync, R: Threads + Wait + 
     ensures count { IfOk result (λ sessions. vec_len sessions ≡ vec_len seats) }
     ensures each { IfOk result (λ sessions. HaveRun J.opened scripts.now seats.items sessions.items) }
     ensures fault { IfErr result (IsFaultOfRun J.opened) }
-    ensures other { ¬ IsErrOf result RunFault.ScriptCount }
+    ensures no_script_count { ¬ IsErrOf result RunFault.ScriptCount }
 {
     let Some(seat) = seats.pop() else {
         return Ok(Vec::new(alloc));
@@ -125,7 +123,7 @@ fn split_sessions<J: Naming>(
     ensures receipts { IfOk result (λ parts. parts.1.items ≡ map (λ s. s.receipts) sessions.items) }
     ensures answers { IfOk result (λ parts. parts.2.items ≡ map (λ s. s.answers) sessions.items) }
     ensures fault { IfErr result (IsFaultOfRun J.opened) }
-    ensures other { ¬ IsErrOf result RunFault.ScriptCount }
+    ensures no_script_count { ¬ IsErrOf result RunFault.ScriptCount }
 {
     let mut seats = Vec::new(alloc);
     let mut receipts = Vec::new(alloc);

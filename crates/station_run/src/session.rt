@@ -60,7 +60,7 @@ impl<J: Naming> Session<J> {
         match line {
             Line::Run(command) => self.run_command(alloc, rt, shared, command),
             Line::Status => self.show_status(alloc, rt, shared),
-            Line::Blank => Ok(()),
+            Line::Blank => unreachable!(),
         }
     }
 
@@ -86,7 +86,7 @@ impl<J: Naming> Session<J> {
     fn show_status(&mut self, alloc: Global, rt: &impl Wait, shared: &Shared<J>) -> Result<(), Stop>
         ensures shown { OnOk result ((row : RowValue) × IsWithShown J.opened self.old (status row) self.new) }
         ensures stop { IfErr result (IsStopOf J.opened) }
-        ensures other { ¬ IsErrOf result Stop.JournalFull }
+        ensures no_journal_full { ¬ IsErrOf result Stop.JournalFull }
     {
         let row = shared.look(rt, &mut self.seat);
         let text = status_line(alloc, &row)?;

@@ -60,13 +60,13 @@ fn run_script<J: Naming, G: Gate, R: Wait>(
 {
     let station = seat.station();
     let mut session = Session::new(alloc, seat);
-    let mut number = 0u64;
+    let mut number = 0;
     let mut cursor = lines(script.as_slice());
     while let Some(text) = cursor.next_line() {
         let Some(line) = parse_unless_blank(alloc, text)? else {
             continue;
         };
-        number = number.wrapping_add(1);
+        number += 1;
         gate.before(station, number);
         session.run_line(alloc, rt, shared, line)?;
         gate.after(station, number);
@@ -92,7 +92,7 @@ pub(crate) fn start_worker<
 ) -> Result<Worker<J>, RunFault>
     ensures ok { IfOk result (λ worker. (worker.promise.station ≡ seat.station) × (worker.promise.script.value ≡ script.now)) }
     ensures fault { IfErr result (IsFaultOfRun J.opened) }
-    ensures other { ¬ IsErrOf result RunFault.ScriptCount }
+    ensures no_script_count { ¬ IsErrOf result RunFault.ScriptCount }
 {
     let station = seat.station();
     let promise = Runs {

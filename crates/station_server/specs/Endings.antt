@@ -10,7 +10,7 @@ use Rattle.whole_run.specs.declared.fault.ServeFault.TheVariants as serve
 use Rattle.station_server.specs.declared.program.ending.Ending.{Ending}
 use Rattle.station_server.specs.declared.program.ending.Ending.TheVariants as ended
 use Rattle.station_server.specs.declared.program.failure.Failure.TheVariants as failure
-use Rattle.station_server.specs.Failures.{line_of, status}
+use Rattle.station_server.specs.Failures.{failure_line, status}
 
 -- ---- the exit status
 
@@ -47,14 +47,14 @@ no_text_line = codes "error: an argument is no UTF-8 text" ++ 10 ∷ []
 
 -- the line for which `clap` has no text of its own: that memory was refused
 abbrev pub clap_line : ErrorKind → Option (List ℕ)
-clap_line kind.OutOfMemory = Some (line_of (failure.Serve serve.NoMemory))
+clap_line kind.OutOfMemory = Some (failure_line (failure.Serve serve.NoMemory))
 clap_line _ = None
 
 -- on standard error where the files are not written; `None` where it is a text of `clap`
 abbrev pub ending_line : Ending → Option (List ℕ)
 ending_line ended.NoText = Some no_text_line
 ending_line (ended.CommandLine error) = clap_line (kind_of error)
-ending_line (ended.Failed why) = Some (line_of why)
+ending_line (ended.Failed why) = Some (failure_line why)
 
 -- ---- the arguments
 

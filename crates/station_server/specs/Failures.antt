@@ -56,5 +56,5 @@ reason failure.BadDate = codes "bad date"
 reason (failure.Serve fault) = fault_reason fault
 
 -- the line that is printed, its LF too
-abbrev pub line_of : Failure → List ℕ
-line_of f = codes "station_server: " ++ (reason f ++ 10 ∷ [])
+abbrev pub failure_line : Failure → List ℕ
+failure_line f = codes "station_server: " ++ (reason f ++ 10 ∷ [])

@@ -2,7 +2,7 @@
 
 ghost use Rattle.std.specs.Prelude.{◌≡◌, ◌++◌, OnOk};
 ghost use Rattle.std.specs.Io.KnownBytes.{Appends};
-ghost use Rattle.station_server.specs.Failures.{close_reason, fault_reason, file_reason, line_of, reason, status, unread_file, unwritten};
+ghost use Rattle.station_server.specs.Failures.{close_reason, fault_reason, file_reason, failure_line, reason, status, unread_file, unwritten};
 
 use crate::program::names::{close_name, image_name, ndx_name, open_name, run_name};
 use dbf_fields::Bytes;
@@ -39,7 +39,7 @@ pub fn status_of(failure: &Failure) -> u8
 /// Prints the line that says why a call of the program failed: `station_server: `, the reason and LF. Takes no
 /// memory. An error where a write fails.
 pub fn print_failure<W: Write>(out: &mut W, failure: &Failure) -> io::Result<()>
-    ensures text { OnOk result (Appends (W.contents out.old) (W.contents out.new) (line_of failure.now)) }
+    ensures text { OnOk result (Appends (W.contents out.old) (W.contents out.new) (failure_line failure.now)) }
 {
     out.write_all(b"station_server: ")?;
     print_reason(out, failure)?;

@@ -1,12 +1,11 @@
 //! The whole run that a command line asks for.
 
 ghost use Rattle.std.specs.Prelude.{◌≡◌, ◌≢◌, ℕ, List, Err, IfOk, IfErr, OnOk};
-ghost use Rattle.dbf_image.specs.Sink.{grown, Rises};
+ghost use Rattle.dbf_image.specs.Sink.{Rises};
 ghost use Rattle.station_files.specs.declared.closed.ClosedTable.{ClosedTable as Table};
 ghost use Rattle.station_files.specs.Closing.{run_files, IsCutAt};
-ghost use Rattle.station_files.specs.Files.{listing};
 ghost use Rattle.whole_run.specs.Loading.{IsFailure};
-ghost use Rattle.whole_run.specs.WholeRun.{IsServeFault, IsWholeRun};
+ghost use Rattle.whole_run.specs.WholeRun.{IsServed, IsServeFault, IsWholeRun};
 
 use crate::program::options::Options;
 use dbf_fields::Bytes;
@@ -28,7 +27,7 @@ pub fn serve_options<S: Source, F: Folder, G: Gate + Sync, R: Threads + Wait + S
     folder: &mut F,
     gate: &G,
 ) -> Result<u64, ServeFault>
-    ensures ran { IfOk result (λ count. (tables : List Table) × (answers : List (List ℕ)) × IsWholeRun (S.files source.old) options.now.setup.now options.now.reindex tables answers count × (F.written folder.new ≡ grown (F.written folder.old) (listing (run_files options.now.today.year options.now.today.month options.now.today.day tables answers)))) }
+    ensures ran { IfOk result (IsServed (S.files source.old) options.now.setup.now options.now.reindex options.now.today.year options.now.today.month options.now.today.day (F.written folder.old) (F.written folder.new)) }
     ensures fine { OnOk result (F.failures folder.new ≡ F.failures folder.old) }
     ensures kept { S.files source.new ≡ S.files source.old }
     ensures fault { IfErr result (IsServeFault (S.files source.old) options.now.setup.now options.now.reindex options.now.today.year) }

@@ -6,7 +6,7 @@ ghost use Rattle.std.specs.Io.KnownBytes.{Appends};
 ghost use Rattle.std.specs.Process.{exit_status};
 ghost use Rattle.clap.specs.Words.{kind_of};
 ghost use Rattle.station_server.specs.Endings.{call_status, clap_line, clap_status, count_line, ending_line, ending_status, no_text_line, unprinted_line};
-ghost use Rattle.station_server.specs.Failures.{line_of, status};
+ghost use Rattle.station_server.specs.Failures.{failure_line, status};
 
 use crate::program::ending::{Ending, status_of_ending};
 use crate::program::failure::{Failure, print_failure, status_of};
@@ -93,7 +93,7 @@ fn tell_clap<O: Write, E: Write>(out: &mut O, err: &mut E, error: &clap::Error) 
 /// Says on standard error why the program failed. Where standard error takes no text, the exit status alone tells it.
 pub fn fail<W: Write>(err: &mut W, failure: &Failure) -> Told
     ensures status { exit_status result.status ≡ status failure.now }
-    ensures line { OnOk result.err (Appends (W.contents err.old) (W.contents err.new) (line_of failure.now)) }
+    ensures line { OnOk result.err (Appends (W.contents err.old) (W.contents err.new) (failure_line failure.now)) }
     ensures out { IsOk result.out }
 {
     let printed = print_failure(err, failure);

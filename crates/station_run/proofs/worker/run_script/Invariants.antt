@@ -1,9 +1,12 @@
-use Rattle.std.proofs.Common.{length}
+use Rattle.std.proofs.Common.{length, ◌+◌, ◌≤◌}
 use Rattle.station_run.proofs.RunLaws.{IsUpTo}
 use Rattle.station_run.proofs.worker.run_script.Given as goal
 
 abbrev pub invariant-loop-text : goal.invariant-loop-text
-invariant-loop-text g l = IsUpTo g.J.Naming.opened l.cursor l.station l.script l.session
+invariant-loop-text g l = record {
+  up_to : IsUpTo g.J.Naming.opened l.cursor l.station l.script l.session;
+  count : l.number + length l.cursor ≤ length l.script;
+}
 
 abbrev pub decreases-loop-text : goal.decreases-loop-text
 decreases-loop-text g l = length l.cursor
