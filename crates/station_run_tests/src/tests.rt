@@ -1,12 +1,12 @@
 mod hoard;
 mod lines;
-pub mod sample;
 mod stations;
 mod stops;
 
 use dbf_fields::Bytes;
-use dbf_image::read_table;
+use dbf_image::{TableData, read_table};
 use key_expr::ExprFault;
+use sample_files::{NOTE, TABLE, table, with_zeros};
 use shared_catalogue::{
     Answer, Catalogue, Command, OpenFault, Refusal, SettleFault, Stop, TableSource,
 };
@@ -14,26 +14,27 @@ use station_run::RunFault;
 use std::alloc::{AllocError, Global};
 use std::test::Fail;
 
-// The sample's table under a name.
-fn source(alloc: Global, name: &[u8]) -> Result<TableSource, Fail> {
+// A table under a name.
+fn named(alloc: Global, name: &[u8], content: TableData) -> Result<TableSource, AllocError> {
     Ok(TableSource {
         name: Bytes::from_slice(alloc, name)?,
-        content: read_table(alloc, Bytes::from_slice(alloc, &sample::TABLE)?, None)?,
+        content,
         indexes: Vec::new(alloc),
     })
 }
 
+// The sample's table under a name.
+fn source(alloc: Global, name: &[u8]) -> Result<TableSource, Fail> {
+    Ok(named(alloc, name, table(alloc, &TABLE)?)?)
+}
+
 // The table of one memo, of which the first record has a text of so many bytes, under the name T.
 fn long_note(alloc: Global, length: usize) -> Result<TableSource, Fail> {
-    let mut memos = Vec::new(alloc);
-    memos.resize(512, 0)?;
+    let mut memos = with_zeros(alloc, b"", 512)?;
     memos.resize(length.saturating_add(512), b'm')?;
-    let dbf = Bytes::from_slice(alloc, &sample::NOTE)?;
-    Ok(TableSource {
-        name: Bytes::from_slice(alloc, b"T")?,
-        content: read_table(alloc, dbf, Some(memos.as_slice()))?,
-        indexes: Vec::new(alloc),
-    })
+    let dbf = Bytes::from_slice(alloc, &NOTE)?;
+    let content = read_table(alloc, dbf, Some(memos.as_slice()))?;
+    Ok(named(alloc, b"T", content)?)
 }
 
 fn open_sample(alloc: Global) -> Result<Catalogue, Fail> {

@@ -1,9 +1,8 @@
 //! Stations at work, each in a thread of its own. The answers are those of dBASE's rules on areas and locks.
 
-use super::sample::EMPTY;
-use super::source;
+use super::{named, source};
 use dbf_fields::Bytes;
-use dbf_image::read_table;
+use sample_files::{EMPTY, table};
 use shared_catalogue::{Catalogue, TableSource};
 use station_lines::lines;
 use station_run::{Gate, OpenGate, Outcome, RunFault, run_catalogue};
@@ -254,12 +253,8 @@ fn appended_by_all(answers: &[Bytes]) -> u32 {
 // Sixteen stations that append to one table together.
 fn run_sixteen<R: Threads + Wait + Sync>(rt: &R, alloc: Global) -> Result<Outcome, Fail> {
     let scripts = sixteen_scripts(alloc)?;
-    let table = TableSource {
-        name: Bytes::from_slice(alloc, b"L")?,
-        content: read_table(alloc, Bytes::from_slice(alloc, &EMPTY)?, None)?,
-        indexes: Vec::new(alloc),
-    };
-    Ok(run_on(rt, alloc, table, 16, &scripts, &OpenGate)??)
+    let source = named(alloc, b"L", table(alloc, &EMPTY)?)?;
+    Ok(run_on(rt, alloc, source, 16, &scripts, &OpenGate)??)
 }
 
 // Whether the journal has every line, and the table as many records as were appended.

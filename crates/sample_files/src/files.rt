@@ -1,4 +1,4 @@
-//! Files that tests read and compare with, written down from the published layouts.
+//! The files, in bytes.
 
 /// The DBF file of a table with one field of characters, NAME, 10 bytes wide, and the records `ADA` and
 /// `BOB`, dated 1987-03-15.
@@ -25,6 +25,27 @@ pub const EMPTY: [u8; 66] = [
     0x0a, 0x00, 0, 0, 0, 0, 0, 0, 0, 0, 0, 0, 0, 0, 0, 0,
     0x0d,
     0x1a,
+];
+
+/// The same file with the record `CYD` after the others.
+#[rattlefmt::skip]
+pub const WITH_CYD: [u8; 99] = [
+    0x03, 0x57, 0x03, 0x0f, 0x03, 0x00, 0x00, 0x00, 0x41, 0x00, 0x0b, 0x00, 0, 0, 0, 0,
+    0, 0, 0, 0, 0, 0, 0, 0, 0, 0, 0, 0, 0, 0, 0, 0,
+    0x4e, 0x41, 0x4d, 0x45, 0, 0, 0, 0, 0, 0, 0, 0x43, 0, 0, 0, 0,
+    0x0a, 0x00, 0, 0, 0, 0, 0, 0, 0, 0, 0, 0, 0, 0, 0, 0,
+    0x0d,
+    0x20, 0x41, 0x44, 0x41, 0x20, 0x20, 0x20, 0x20, 0x20, 0x20, 0x20,
+    0x20, 0x42, 0x4f, 0x42, 0x20, 0x20, 0x20, 0x20, 0x20, 0x20, 0x20,
+    0x20, 0x43, 0x59, 0x44, 0x20, 0x20, 0x20, 0x20, 0x20, 0x20, 0x20,
+    0x1a,
+];
+
+/// The first bytes of the file of an empty index on NAME: root page 1, two pages; zeros follow.
+#[rattlefmt::skip]
+pub const EMPTY_INDEX: [u8; 28] = [
+    1, 0, 0, 0, 2, 0, 0, 0, 0, 0, 0, 0, 10, 0, 25, 0, 0, 0, 20, 0, 0, 0, 0, 0, 0x4e, 0x41, 0x4d,
+    0x45,
 ];
 
 /// The DBF file of a table with one memo, NOTE, and one record, whose text is that of block 1.
