@@ -3,7 +3,7 @@
 
     python3 docs/draw_crates.py
 
-The crates of tests are left out, and so is an arrow to a crate that is reached over another one.
+The crates of tests and `sample_files`, which they read, are left out, and so is an arrow to a crate that is reached over another one.
 """
 
 import pathlib
@@ -20,7 +20,7 @@ def crates():
         if line:
             name, below = line.split(":")
             named[name] = below.split()
-    named = {name: below for name, below in named.items() if not name.endswith("_tests")}
+    named = {name: below for name, below in named.items() if not name.endswith("_tests") and name != "sample_files"}
     return {name: [it for it in below if it in named] for name, below in named.items()}
 
 

@@ -8,7 +8,6 @@ use std::fs;
 use std::test::Fail;
 
 mod close;
-mod sample;
 mod transfer;
 
 fn file(alloc: Global, name: &[u8], bytes: &[u8]) -> Result<NamedFile, AllocError> {

@@ -3,14 +3,13 @@
 mod again;
 mod dates;
 mod day;
-mod sample;
 mod setups;
 mod stale;
 
-use crate::tests::sample::{EMPTY, EMPTY_INDEX, TABLE, WITH_CYD};
 use dbf_fields::{Bytes, Day, day_of};
 use dbf_image::{Failures, ImageFault};
 use ndx_index::NdxFault;
+use sample_files::{EMPTY, EMPTY_INDEX, TABLE, WITH_CYD, with_zeros};
 use shared_catalogue::OpenFault;
 use station_files::{CloseFault, MemoryFolder, MemorySource, NamedFile};
 use station_run::OpenGate;
@@ -41,20 +40,13 @@ fn add(
     Ok(())
 }
 
-// The bytes and zeros after them: a file of two pages.
-pub(crate) fn two_pages(alloc: Global, bytes: &[u8]) -> Result<Vec<u8>, AllocError> {
-    let mut all = Vec::from_slice(alloc, bytes)?;
-    all.resize(1_024, 0)?;
-    Ok(all)
-}
-
 // A setup and an office's files: the tables t.dbf and empty.dbf, the empty index x.ndx, and the script s.prg.
 pub(crate) fn office(
     alloc: Global,
     setup: &[u8],
     script: &[u8],
 ) -> Result<MemorySource, AllocError> {
-    let index = two_pages(alloc, &EMPTY_INDEX)?;
+    let index = with_zeros(alloc, &EMPTY_INDEX, 1_024)?;
     let mut files = Vec::new(alloc);
     add(alloc, &mut files, SETUP, setup)?;
     add(alloc, &mut files, b"t.dbf", &TABLE)?;
@@ -200,7 +192,7 @@ fn empty_indexed_table(rt: HostRuntime) -> Result<(), Fail> {
     let setup = b"TABLE T empty.dbf\nINDEX T X x.ndx\nSTATION s.prg\n";
     let script = b"USE T\n? EOF()\n? BOF()\n? RECNO()\nSKIP\nSKIP -1\nSEEK \"\"\n? FOUND()\n";
     let answers = b"OK\n.T.\n.T.\n1\nREFUSED 7 EndOfFile\nREFUSED 8 BeginOfFile\nOK\n.F.\n";
-    let index = two_pages(alloc, &EMPTY_INDEX)?;
+    let index = with_zeros(alloc, &EMPTY_INDEX, 1_024)?;
     let folder = folder_of(&rt, alloc, setup, script, 8)?;
     let files: [(&[u8], &[u8]); 3] = [
         (b"T.DBF", &EMPTY),

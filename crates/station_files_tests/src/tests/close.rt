@@ -1,8 +1,8 @@
-use crate::tests::sample::{EMPTY_INDEX, TABLE};
 use dbf_fields::{Bytes, CHARACTER, Field, MEMO, Schema, day_of};
-use dbf_image::{TableData, read_table};
+use dbf_image::TableData;
 use key_expr::KeyExpr;
 use ndx_index::{MAX_PAIRS, OrderedIndex};
+use sample_files::{EMPTY_INDEX, TABLE, table, with_zeros};
 use station_files::{CloseFault, ClosedIndex, ClosedTable, MemoryFolder, close_files};
 use std::alloc::Global;
 use std::test::Fail;
@@ -41,7 +41,7 @@ fn index_of(alloc: Global) -> Result<ClosedIndex, Fail> {
 fn tables_of(alloc: Global) -> Result<Vec<ClosedTable>, Fail> {
     let first = ClosedTable {
         name: Bytes::from_slice(alloc, b"T")?,
-        content: read_table(alloc, Bytes::from_slice(alloc, &TABLE)?, None)?,
+        content: table(alloc, &TABLE)?,
         indexes: vec![in alloc; index_of(alloc)?]?,
     };
     let second = ClosedTable {
@@ -66,15 +66,6 @@ fn close(
     let tables = tables_of(alloc)?;
     let answers = answers_of(alloc)?;
     Ok(close_files(alloc, &tables, &answers, day, folder))
-}
-
-// The bytes and zeros after them, up to a length.
-fn with_zeros(alloc: Global, bytes: &[u8], len: usize) -> Result<Vec<u8>, Fail> {
-    let mut all = Vec::from_slice(alloc, bytes)?;
-    for _ in bytes.len()..len {
-        all.push(0)?;
-    }
-    Ok(all)
 }
 
 fn with_end(alloc: Global, bytes: &[u8]) -> Result<Vec<u8>, Fail> {

@@ -1,7 +1,7 @@
 //! A second run over what the first one wrote, with a table and an index of over 64 KB.
 
-use crate::tests::sample::{EMPTY, NOTE};
 use crate::tests::{has_file, named, office, serve_in};
+use sample_files::{EMPTY, NOTE, with_zeros};
 use station_files::{MemoryFolder, MemorySource};
 use std::alloc::{AllocError, Global};
 use std::sync::Wait;
@@ -26,11 +26,9 @@ fn large(alloc: Global) -> Result<Vec<u8>, AllocError> {
 
 // A memo file whose block 1 has the text HELLO.
 fn hello(alloc: Global) -> Result<Vec<u8>, AllocError> {
-    let mut bytes = Vec::new(alloc);
-    bytes.resize(512, 0)?;
+    let mut bytes = with_zeros(alloc, b"", 512)?;
     bytes.extend_from_slice(b"HELLO\x1a\x1a")?;
-    bytes.resize(1_024, 0)?;
-    Ok(bytes)
+    with_zeros(alloc, bytes.as_slice(), 1_024)
 }
 
 // The office with that table and those memos.

@@ -1,8 +1,8 @@
 //! The date that is written into tables.
 
-use crate::tests::sample::TABLE;
 use crate::tests::{has_file, office, serve_on};
 use dbf_fields::day_of;
+use sample_files::TABLE;
 use station_files::MemoryFolder;
 use std::alloc::Global;
 use std::sync::Wait;

@@ -1,6 +1,7 @@
 //! A day of the demo office, as its station 1 sees it: the vouchers of the ledger that its script meets.
 
-use crate::tests::{has_file, named, office, serve_in, two_pages};
+use crate::tests::{has_file, named, office, serve_in};
+use sample_files::with_zeros;
 use station_files::MemoryFolder;
 use std::alloc::{AllocError, Global};
 use std::test::Fail;
@@ -112,7 +113,7 @@ fn ledger(alloc: Global) -> Result<Vec<u8>, AllocError> {
 fn index(alloc: Global) -> Result<Vec<u8>, AllocError> {
     let mut bytes = Vec::from_slice(alloc, &INDEX_HEADER)?;
     bytes.extend_from_slice(b"ACCOUNT + DTOC(DAY)")?;
-    two_pages(alloc, bytes.as_slice())
+    with_zeros(alloc, bytes.as_slice(), 1_024)
 }
 
 #[test]

@@ -1,7 +1,7 @@
 //! An index that is not its table's.
 
-use crate::tests::sample::EMPTY_INDEX;
 use crate::tests::{has_file, office, serve_in};
+use sample_files::{EMPTY_INDEX, with_zeros};
 use shared_catalogue::OpenFault;
 use station_files::MemoryFolder;
 use std::alloc::{AllocError, Global};
@@ -15,16 +15,14 @@ const PAIRS: [(u8, &[u8; 10]); 3] = [(3, b"AAA       "), (1, b"ADA       "), (2,
 
 // The file of those pairs: one page after the header's.
 fn index(alloc: Global) -> Result<Vec<u8>, AllocError> {
-    let mut bytes = Vec::from_slice(alloc, &EMPTY_INDEX)?;
-    bytes.resize(512, 0)?;
+    let mut bytes = with_zeros(alloc, &EMPTY_INDEX, 512)?;
     bytes.extend_from_slice(&[3, 0, 0, 0])?;
     for (number, key) in PAIRS {
         bytes.extend_from_slice(&[0, 0, 0, 0, number, 0, 0, 0])?;
         bytes.extend_from_slice(key)?;
         bytes.extend_from_slice(&[0, 0])?;
     }
-    bytes.resize(1_024, 0)?;
-    Ok(bytes)
+    with_zeros(alloc, bytes.as_slice(), 1_024)
 }
 
 // What is served of two records with an index that has no pairs.
