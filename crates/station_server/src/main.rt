@@ -9,12 +9,15 @@
 
 mod program;
 
+ghost use Rattle.std.specs.Prelude.{◌≡◌, IfOk, string_bytes};
+
 use crate::program::{Ending, Failure, Options, command, options_of, serve_options, tell};
 use station_files::{DiskFolder, DiskSource};
 use station_run::OpenGate;
+use std::alloc::{AllocError, Global};
 use std::env;
 use std::process::ExitCode;
-use std::rt::{Env, Runtime};
+use std::rt::{Env, Files, Runtime};
 use std::sync::Wait;
 use std::thread::Threads;
 use whole_run::ServeFault;
@@ -41,14 +44,25 @@ fn read_words<R: Env + AllocGlobal>(rt: &R) -> Result<Vec<String>, Ending> {
     Ok(env::args(rt)?.collect(rt.alloc())?)
 }
 
+// The folder of the system that the new files are to go to.
+fn out_folder<R: Files + Drop>(
+    rt: R,
+    alloc: Global,
+    options: &Options<'_>,
+) -> Result<DiskFolder<R>, AllocError>
+    ensures path { IfOk result (λ folder. string_bytes folder.path ≡ options.now.out.now) }
+{
+    let path = String::from_str(alloc, options.out)?;
+    Ok(DiskFolder::new(rt, alloc, path))
+}
+
 // Serves the run over files of the system.
 fn serve_files<R: Runtime + AllocGlobal + Threads + Wait + Sync>(
     rt: &R,
     options: &Options<'_>,
 ) -> Result<u64, ServeFault> {
     let alloc = rt.alloc();
-    let out = String::from_str(alloc, options.out)?;
     let mut source = DiskSource::new(rt.clone()?);
-    let mut folder = DiskFolder::new(rt.clone()?, alloc, out);
+    let mut folder = out_folder(rt.clone()?, alloc, options)?;
     serve_options(rt, alloc, options, &mut source, &mut folder, &OpenGate)
 }
