@@ -1,13 +1,17 @@
 -- A whole run by its parts, and the faults of its writing.
 use Rattle.std.proofs.Common.{◌≡◌, ℕ, Bool, List, Option, Some, None, length, refl}
+use Rattle.dbf_image.specs.Image.{IsOutside}
 use Rattle.catalogue_core.specs.Replay.{History, IsLegal, AreOfStations}
+use Rattle.station_files.specs.declared.close_fault.CloseFault.{CloseFault}
+use Rattle.station_files.specs.declared.close_fault.CloseFault.TheVariants.{DateOutside, TooManyBlocks, Write, NoMemory as NoMemoryToClose}
 use Rattle.station_files.specs.declared.closed.ClosedTable.{ClosedTable}
+use Rattle.station_files.specs.Closing.{first_blocked}
 use Rattle.station_files.specs.declared.named.NamedFile.{NamedFile}
 use Rattle.whole_run.specs.declared.fault.ServeFault.{ServeFault}
 use Rattle.whole_run.specs.declared.fault.ServeFault.TheVariants.{Setup, File, Refused, Run, Close, NoMemory}
 use Rattle.whole_run.specs.HandedOver.{AreHandedOver}
 use Rattle.whole_run.specs.Loading.{Read}
-use Rattle.whole_run.specs.WholeRun.{IsAllRead, IsRun, IsWriteFault, IsWholeRun, IsServeFault}
+use Rattle.whole_run.specs.WholeRun.{close_fault, IsAllRead, IsRun, IsWriteFault, IsWholeRun, IsServeFault}
 
 pub of_writing : (files : Option (List NamedFile)) (setup : List ℕ) (reindex : Bool) (year : ℕ) (fault : ServeFault) (tables : List ClosedTable) (answers : List (List ℕ)) (count : ℕ)
     → IsWholeRun files setup reindex tables answers count → IsWriteFault year tables fault → IsServeFault files setup reindex year fault
@@ -17,6 +21,13 @@ of_writing files setup reindex year (File path why) tables answers count run h =
 of_writing files setup reindex year (Refused why) tables answers count run h = absurd h
 of_writing files setup reindex year (Run why) tables answers count run h = absurd h
 of_writing files setup reindex year (Close why) tables answers count run h = (tables, answers, count, run, h)
+
+-- why the files are not written, of a fault in closing
+pub closing_fault : (year : ℕ) (tables : List ClosedTable) (fault : CloseFault) → (fault ≡ DateOutside → IsOutside year) → ((n : ℕ) → fault ≡ TooManyBlocks n → first_blocked 1 tables ≡ Some n) → IsWriteFault year tables (close_fault fault)
+closing_fault year tables DateOutside outside blocks = outside refl
+closing_fault year tables (TooManyBlocks n) outside blocks = blocks n refl
+closing_fault year tables NoMemoryToClose outside blocks = tt
+closing_fault year tables (Write name) outside blocks = tt
 
 pub none_at : (o : Option ℕ) → ((n : ℕ) → o ≡ Some n → ⊥) → o ≡ None
 none_at None h = refl

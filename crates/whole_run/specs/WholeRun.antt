@@ -1,16 +1,20 @@
 -- A whole run, from a setup and its files to the files that are written.
-use Rattle.std.specs.Prelude.{◌≡◌, ◌≢◌, ◌⊎◌, ℕ, Bool, nat_le, List, length, Option, Some, None, Result, Ok, Err, if◌then◌else◌}
+use Rattle.std.specs.Prelude.{◌≡◌, ◌≢◌, ◌⊎◌, ℕ, Bool, List, length, Option, Some, None, Result, Ok, Err}
 use Rattle.dbf_image.specs.Image.{IsOutside}
 use Rattle.dbf_image.specs.Sink.{grown}
-use Rattle.catalogue_core.specs.declared.opening.OpenFault.TheVariants.{NoMemory as NoRoomToOpen}
+use Rattle.catalogue_core.specs.declared.opening.OpenFault.{OpenFault}
+use Rattle.catalogue_core.specs.declared.opening.OpenFault.TheVariants.{NoMemory as NoMemoryToOpen}
 use Rattle.catalogue_core.specs.Opening.{Opening}
 use Rattle.catalogue_core.specs.Replay.{Opened, History, IsLegal, AreOfStations}
-use Rattle.station_files.specs.declared.close_fault.CloseFault.TheVariants.{DateOutside, TooManyBlocks, Write}
+use Rattle.station_files.specs.declared.close_fault.CloseFault.{CloseFault}
+use Rattle.station_files.specs.declared.close_fault.CloseFault.TheVariants.{DateOutside, TooManyBlocks, Write, NoMemory as NoMemoryToClose}
 use Rattle.station_files.specs.declared.closed.ClosedTable.{ClosedTable}
 use Rattle.station_files.specs.declared.named.NamedFile.{NamedFile}
 use Rattle.station_run.specs.declared.fault.RunFault.{RunFault}
 use Rattle.station_run.specs.declared.fault.RunFault.TheVariants.{ScriptCount}
 use Rattle.station_lines.specs.declared.setup.entry.SetupEntry.{SetupEntry}
+use Rattle.station_lines.specs.declared.setup.fault.SetupFault.{SetupFault}
+use Rattle.station_lines.specs.declared.setup.fault.SetupFault.TheVariants.{Bad, NoMemory as NoMemoryToParse}
 use Rattle.whole_run.specs.declared.fault.FileFault.{FileFault}
 use Rattle.whole_run.specs.declared.fault.FileFault.TheVariants.{CannotRead}
 use Rattle.whole_run.specs.declared.fault.ServeFault.{ServeFault}
@@ -50,14 +54,21 @@ IsReadFault files setup (Setup number) = IsSaid files setup (Err number)
 IsReadFault files setup (File path fault) = IsUnreadFile files setup path fault
 IsReadFault files setup fault = ⊥
 
+-- ---- faults of steps, where want of memory is the whole run's own
+
+abbrev pub setup_fault : SetupFault → ServeFault
+setup_fault (Bad number) = Setup number
+setup_fault NoMemoryToParse = NoMemory
+
+abbrev pub open_fault : OpenFault → ServeFault
+open_fault NoMemoryToOpen = NoMemory
+open_fault fault = Refused fault
+
+abbrev pub close_fault : CloseFault → ServeFault
+close_fault NoMemoryToClose = NoMemory
+close_fault fault = Close fault
+
 -- ---- running
-
-abbrev MAX_COUNT : ℕ
-MAX_COUNT = 4294967295
-
--- a station for each script; more than 32 bits count are too many in any case
-abbrev pub stations_for : List (List ℕ) → ℕ
-stations_for scripts = if nat_le (length scripts) MAX_COUNT then length scripts else MAX_COUNT
 
 -- the tables were opened and the scripts run: this is the history at the end, and these are the stations' answers, as
 -- many as there are scripts
@@ -69,12 +80,12 @@ pub record IsRun (reindex : Bool) (read : Read) (h : History) (answers : List (L
 -- the tables were opened for the stations, and the fault is one of a run over them
 abbrev pub IsOpenedFault : Bool → Read → RunFault → Type 0
 IsOpenedFault reindex read fault =
-    (opened : Opened) × Opening reindex (stations_for read.scripts) read.tables (Ok opened.tables) × (opened.stations ≡ stations_for read.scripts) × IsFaultOfRun opened fault
+    (opened : Opened) × Opening reindex (length read.scripts) read.tables (Ok opened.tables) × (opened.stations ≡ length read.scripts) × IsFaultOfRun opened fault
 
 -- why there is no end
 abbrev pub IsRunFault : Bool → Read → ServeFault → Type 0
 IsRunFault reindex read NoMemory = Unit {0}
-IsRunFault reindex read (Refused fault) = (fault ≢ NoRoomToOpen) × Opening reindex (stations_for read.scripts) read.tables (Err fault)
+IsRunFault reindex read (Refused fault) = (fault ≢ NoMemoryToOpen) × Opening reindex (length read.scripts) read.tables (Err fault)
 IsRunFault reindex read (Run fault) = (fault ≢ ScriptCount) × IsOpenedFault reindex read fault
 IsRunFault reindex read fault = ⊥
 

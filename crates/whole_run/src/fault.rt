@@ -5,6 +5,7 @@ use dbf_image::ImageFault;
 use ndx_index::NdxFault;
 use shared_catalogue::OpenFault;
 use station_files::CloseFault;
+use station_lines::SetupFault;
 use station_run::RunFault;
 use std::alloc::{AllocError, AllocFailed};
 
@@ -55,5 +56,58 @@ impl<T: Drop> From<AllocFailed<T>> for ServeFault {
 
     fn from(_refused: AllocFailed<T>) -> ServeFault {
         ServeFault::NoMemory
+    }
+}
+
+impl From<SetupFault> for ServeFault {
+    ghost use Rattle.std.specs.Prelude.{◌≡◌};
+    ghost use Rattle.whole_run.specs.WholeRun.{setup_fault};
+
+    ghost from_gives = { λ fault serve. serve ≡ setup_fault fault };
+
+    fn from(fault: SetupFault) -> ServeFault {
+        match fault {
+            SetupFault::Bad(number) => ServeFault::Setup(number),
+            SetupFault::NoMemory => ServeFault::NoMemory,
+        }
+    }
+}
+
+impl From<OpenFault> for ServeFault {
+    ghost use Rattle.std.specs.Prelude.{◌≡◌};
+    ghost use Rattle.whole_run.specs.WholeRun.{open_fault};
+
+    ghost from_gives = { λ fault serve. serve ≡ open_fault fault };
+
+    fn from(fault: OpenFault) -> ServeFault {
+        match fault {
+            OpenFault::NoMemory => ServeFault::NoMemory,
+            fault => ServeFault::Refused(fault),
+        }
+    }
+}
+
+impl From<RunFault> for ServeFault {
+    ghost use Rattle.std.specs.Prelude.{◌≡◌};
+    ghost use Rattle.whole_run.specs.declared.fault.ServeFault.TheVariants.{Run};
+
+    ghost from_gives = { λ fault serve. serve ≡ Run fault };
+
+    fn from(fault: RunFault) -> ServeFault {
+        ServeFault::Run(fault)
+    }
+}
+
+impl From<CloseFault> for ServeFault {
+    ghost use Rattle.std.specs.Prelude.{◌≡◌};
+    ghost use Rattle.whole_run.specs.WholeRun.{close_fault};
+
+    ghost from_gives = { λ fault serve. serve ≡ close_fault fault };
+
+    fn from(fault: CloseFault) -> ServeFault {
+        match fault {
+            CloseFault::NoMemory => ServeFault::NoMemory,
+            fault => ServeFault::Close(fault),
+        }
     }
 }

@@ -2,21 +2,20 @@
 
 ghost use Rattle.std.specs.Prelude.{◌≡◌, ◌≢◌, ◌⊎◌, ℕ, List, [], None, Ok, Err, IfOk, IfErr, OnOk};
 ghost use Rattle.dbf_image.specs.Sink.{grown, Rises};
-ghost use Rattle.catalogue_core.specs.Opening.{Opening};
 ghost use Rattle.station_files.specs.declared.closed.ClosedTable.{ClosedTable as Table};
 ghost use Rattle.station_files.specs.Closing.{run_files, first_blocked, IsCutAt};
 ghost use Rattle.station_files.specs.Files.{listing};
 ghost use Rattle.whole_run.specs.Loading.{read_of, IsFailure};
-ghost use Rattle.whole_run.specs.WholeRun.{stations_for, IsAllRead, IsReadFault, IsRun, IsRunFault, IsWholeRun, IsServed, IsServeFault, IsSaid, IsWriteFault};
+ghost use Rattle.whole_run.specs.WholeRun.{IsAllRead, IsReadFault, IsRun, IsRunFault, IsWholeRun, IsServed, IsServeFault, IsSaid, IsWriteFault};
 
 use crate::closing::closed_tables;
 use crate::fault::ServeFault;
 use crate::load::{load_entries, load_file};
 use crate::loaded::Loaded;
 use dbf_fields::{Bytes, Day};
-use shared_catalogue::{Catalogue, OpenFault, TableSource};
+use shared_catalogue::{Catalogue, OpenFault};
 use station_files::{CloseFault, ClosedTable, Folder, Source, close_files};
-use station_lines::{SetupEntry, SetupFault, parse_setup};
+use station_lines::{SetupEntry, parse_setup};
 use station_run::{Gate, Outcome, run_catalogue};
 use std::alloc::Global;
 use std::sync::Wait;
@@ -35,11 +34,7 @@ fn read_setup<S: Source>(
     ensures failure { IfErr result (IsFailure (S.files source.old) (S.failures source.old) (S.failures source.new)) }
 {
     let text = load_file(alloc, source, setup)?;
-    match parse_setup(alloc, text.as_slice()) {
-        Ok(entries) => Ok(entries),
-        Err(SetupFault::Bad(number)) => Err(ServeFault::Setup(number)),
-        Err(SetupFault::NoMemory) => Err(ServeFault::NoMemory),
-    }
+    Ok(parse_setup(alloc, text.as_slice())?)
 }
 
 // Reads the setup of a path, and then what it names.
@@ -54,36 +49,6 @@ fn read_all<S: Source>(alloc: Global, source: &mut S, setup: &Bytes) -> Result<L
     load_entries(alloc, source, &entries)
 }
 
-// How many stations the scripts are for.
-fn station_count(scripts: &[Bytes]) -> u32
-    ensures value { result ≡ stations_for scripts.now }
-{
-    if scripts.len() <= u32::MAX as usize {
-        scripts.len() as u32
-    } else {
-        u32::MAX
-    }
-}
-
-// Opens the tables.
-fn open_tables(
-    alloc: Global,
-    tables: Vec<TableSource>,
-    stations: u32,
-    reindex: bool,
-) -> Result<Catalogue, ServeFault>
-    ensures opened { IfOk result (λ catalogue. Opening reindex stations tables.items (Ok catalogue.opened.tables)) }
-    ensures stations { IfOk result (λ catalogue. catalogue.opened.stations ≡ stations) }
-    ensures empty { IfOk result (λ catalogue. catalogue.journal ≡ []) }
-    ensures fault { IfErr result (λ fault. (fault ≡ ServeFault.NoMemory) ⊎ ((why : OpenFault) × (why ≢ OpenFault.NoMemory) × Opening reindex stations tables.items (Err why) × (fault ≡ ServeFault.Refused why))) }
-{
-    match Catalogue::open(alloc, tables, stations, reindex) {
-        Ok(catalogue) => Ok(catalogue),
-        Err(OpenFault::NoMemory) => Err(ServeFault::NoMemory),
-        Err(fault) => Err(ServeFault::Refused(fault)),
-    }
-}
-
 // Opens the tables and runs the scripts.
 fn run_loaded<G: Gate + Sync, R: Threads + Wait + Sync>(
     rt: &R,
@@ -96,12 +61,11 @@ fn run_loaded<G: Gate + Sync, R: Threads + Wait + Sync>(
     ensures fault { IfErr result (IsRunFault reindex (read_of loaded)) }
 {
     let Loaded { tables, scripts } = loaded;
-    let stations = station_count(&scripts);
-    let catalogue = open_tables(alloc, tables, stations, reindex)?;
-    match run_catalogue(rt, alloc, catalogue, &scripts, gate) {
-        Ok(outcome) => Ok(outcome),
-        Err(fault) => Err(ServeFault::Run(fault)),
-    }
+    let Ok(stations) = u32::try_from(scripts.len()) else {
+        return Err(ServeFault::Refused(OpenFault::TooManyStations));
+    };
+    let catalogue = Catalogue::open(alloc, tables, stations, reindex)?;
+    Ok(run_catalogue(rt, alloc, catalogue, &scripts, gate)?)
 }
 
 // Writes the files of tables and answers.
@@ -120,15 +84,7 @@ fn write_files<F: Folder>(
     ensures failed { (name : List ℕ) → result ≡ Err (ServeFault.Close (CloseFault.Write name)) → Rises (F.failures folder.old) (F.failures folder.new) }
     ensures cut { (name : List ℕ) → result ≡ Err (ServeFault.Close (CloseFault.Write name)) → IsCutAt name (F.written folder.old) (F.written folder.new) (run_files today.year today.month today.day tables.now answers.now) }
 {
-    match close_files(alloc, tables, answers, today, folder) {
-        Ok(()) => Ok(()),
-        Err(CloseFault::NoMemory) => Err(ServeFault::NoMemory),
-        Err(CloseFault::DateOutside) => Err(ServeFault::Close(CloseFault::DateOutside)),
-        Err(CloseFault::TooManyBlocks(number)) => {
-            Err(ServeFault::Close(CloseFault::TooManyBlocks(number)))
-        }
-        Err(CloseFault::Write(name)) => Err(ServeFault::Close(CloseFault::Write(name))),
-    }
+    Ok(close_files(alloc, tables, answers, today, folder)?)
 }
 
 /// A whole run: reads the setup of a path and the files that it names, opens the tables for a station a script, runs
