@@ -16,7 +16,7 @@ use Rattle.table_core.specs.declared.edits.Edit.TheVariants as edit_of
 use Rattle.table_core.specs.declared.refusal.Refusal.{Refusal}
 use Rattle.table_core.specs.declared.refusal.Refusal.TheVariants.{NoTableInUse, TableInUse, NeedsExclusive, NotLocked, EndOfFile, BadArea}
 use Rattle.table_core.specs.Content.{Content, Indexed}
-use Rattle.table_core.specs.Cursors.{IsPlace, IsCursor}
+use Rattle.table_core.specs.Cursors.{IsCursorPlace, IsCursor}
 use Rattle.table_core.specs.Edits.{edited, renumbers}
 use Rattle.table_core.specs.Laws.Edits.{IsEdited, IsGrown, grows_edited, is_edited, cursor_grows}
 use Rattle.catalogue_core.specs.declared.answer.Answer.{Answer}
@@ -25,7 +25,7 @@ use Rattle.catalogue_core.specs.declared.area.Area.{Area}
 use Rattle.catalogue_core.specs.declared.area.Station.{Station}
 use Rattle.catalogue_core.specs.declared.area.TheConstants.{MAX_AREAS}
 use Rattle.catalogue_core.specs.State.{State, new_station, no_content, station_at, area_of, area_at, table_of, with_stations, with_current, with_held, without_lock, shape_of, shapes_of, IsOpenAt, HasStation, IsState}
-use Rattle.catalogue_core.specs.Step.{with_edit, can_write, can_append, select, move, append_blank, target, change_record, pack, unlock, unlock_all, lock, lock_record, lock_file}
+use Rattle.catalogue_core.specs.Step.{with_edit, can_write, can_append, select, move, append_record, writable_area, change_record, pack_table, unlock, unlock_all, lock, lock_record, lock_file}
 use Rattle.table_core.specs.Laws.Outcomes.{of_found, of_granted, of_passed}
 use Rattle.catalogue_core.proofs.Cases.{when_ok}
 use Rattle.catalogue_core.proofs.AreaLaws.{current_index}
@@ -143,14 +143,14 @@ grown_next s station area by e ok h is keeps f =
     (keep_edit s station area e ok h is good.edited_is.cursor (inl (λ cursor. cursor_grows (table_of s area) e.0 cursor good.edited_is.indexes good.grown)))
 
 -- APPEND BLANK
-pub next_append : (s : State) (station : ℕ) → IsState s → HasStation s station → IfOk (append_blank s station) (IsNext s station)
+pub next_append : (s : State) (station : ℕ) → IsState s → HasStation s station → IfOk (append_record s station) (IsNext s station)
 next_append s station ok h =
     of_found (IsNext s station) (area_of s station) NoTableInUse _ (λ area is.
     of_granted (IsNext s station) (can_append s station area) TableInUse _ (λ _.
     of_passed (IsNext s station) (edited (table_of s area) area.cursor edit_of.AppendBlank) _ (λ e f. grown_next s station area edit_of.AppendBlank e ok h is refl f)))
 
 -- REPLACE, MEMO, DELETE, RECALL
-is_target : (s : State) (station : ℕ) → IfOk (target s station) (λ area. area_of s station ≡ Some area)
+is_target : (s : State) (station : ℕ) → IfOk (writable_area s station) (λ area. area_of s station ≡ Some area)
 is_target s station =
     of_found (λ area. area_of s station ≡ Some area) (area_of s station) NoTableInUse _ (λ area is.
     of_found (λ x. area_of s station ≡ Some x) area.cursor.at EndOfFile _ (λ number _.
@@ -158,9 +158,9 @@ is_target s station =
 
 pub next_change : (s : State) (station : ℕ) (by : Edit) → IsState s → HasStation s station → renumbers by ≡ false → IfOk (change_record s station by) (IsNext s station)
 next_change s station by ok h keeps =
-    of_passed (IsNext s station) (target s station) _ (λ area there.
+    of_passed (IsNext s station) (writable_area s station) _ (λ area there.
     of_passed (IsNext s station) (edited (table_of s area) area.cursor by) _ (λ e f.
-    grown_next s station area by e ok h (when_ok (λ x. area_of s station ≡ Some x) (target s station) area (is_target s station) there) keeps f))
+    grown_next s station area by e ok h (when_ok (λ x. area_of s station ≡ Some x) (writable_area s station) area (is_target s station) there) keeps f))
 
 -- fewer locks
 pub keep_without : (s : State) (station table : ℕ) → IsState s → IsState (with_held s (without s.locks.locks station table))
@@ -168,7 +168,7 @@ keep_without s station table ok =
     keep_locks s (without s.locks.locks station table) ok (apart_without s.locks.locks station table ok.apart) (λ l held. ok.open_ l (held_without s.locks.locks station table l held).0)
 
 -- PACK
-pub next_pack : (s : State) (station : ℕ) → IsState s → HasStation s station → IfOk (pack s station) (IsNext s station)
+pub next_pack : (s : State) (station : ℕ) → IsState s → HasStation s station → IfOk (pack_table s station) (IsNext s station)
 next_pack s station ok h =
     of_found (IsNext s station) (area_of s station) NoTableInUse _ (λ area is.
     of_granted (IsNext s station) area.exclusive NeedsExclusive _ (λ only.
@@ -201,8 +201,8 @@ next_lock s station area number true ok h is apart =
     ]))
 next_lock s station area number false ok h is apart = same_next s station (Truth false) tt ok
 
-place_counted : (content : Content) (o : Option ℕ) (number : ℕ) → IsPlace content o → o ≡ Some number → 1 ≤ number
-place_counted content o number at e = let P : Option ℕ → Type 0 = IsPlace content in (subst P e at).0
+place_counted : (content : Content) (o : Option ℕ) (number : ℕ) → IsCursorPlace content o → o ≡ Some number → 1 ≤ number
+place_counted content o number at e = let P : Option ℕ → Type 0 = IsCursorPlace content in (subst P e at).0
 
 pub next_lock_record : (s : State) (station : ℕ) → IsState s → HasStation s station → IfOk (lock_record s station) (IsNext s station)
 next_lock_record s station ok h =

@@ -10,9 +10,9 @@ use Rattle.dbf_fields.specs.Faults.{first_fault}
 use Rattle.catalogue_core.specs.declared.opening.OpenFault.{OpenFault}
 use Rattle.catalogue_core.specs.declared.opening.OpenedTable.{OpenedTable}
 use Rattle.catalogue_core.specs.declared.source.TableSource.{TableSource}
-use Rattle.catalogue_core.specs.Names.{has_name, with_name}
+use Rattle.catalogue_core.specs.Names.{includes_name, with_name}
 use Rattle.catalogue_core.specs.Opening.{Unless, Passing, NamesDiffer, table_tests, TablesOpening}
-use Rattle.lock_table.specs.Locks.{Held, held}
+use Rattle.lock_table.specs.Locks.{HeldLocks, held}
 use Rattle.table_core.specs.Content.{Content}
 use Rattle.catalogue_core.specs.declared.area.Station.{Station}
 use Rattle.catalogue_core.specs.Replay.{opened_as, start}
@@ -53,13 +53,13 @@ both_pass true b f g e h = cc
 
 -- ---- names
 
-added : (names : List (List ℕ)) (name : List ℕ) (b : Bool) → b ≡ false → has_name names name ≡ b → with_name names name ≡ names ++ name ∷ []
+added : (names : List (List ℕ)) (name : List ℕ) (b : Bool) → b ≡ false → includes_name names name ≡ b → with_name names name ≡ names ++ name ∷ []
 added names name b e f = ap (λ (x : Bool). cond x names (names ++ name ∷ [])) (f ∙ e)
 
 -- one name more
 pub names_more : (names : List (List ℕ)) (i : ℕ) (name : List ℕ) → NamesDiffer names → i < length names → get_or names i name ≡ name → with_name (take i names) name ≡ take (i + 1) names
 names_more names i name differ h is =
-    added (take i names) name false refl (ap (has_name (take i names)) (sym is) ∙ differ i name h)
+    added (take i names) name false refl (ap (includes_name (take i names)) (sym is) ∙ differ i name h)
     ∙ sym (take_more names i name h ∙ ap (λ (n : List ℕ). take i names ++ n ∷ []) is)
 
 get_before : (names : List (List ℕ)) (name d : List ℕ) (i : ℕ) → i < length names → get_or (names ++ name ∷ []) i d ≡ get_or names i d
@@ -73,16 +73,16 @@ get_last (n ∷ ns) name d zero e = absurd (omega arith)
 get_last (n ∷ ns) name d (suc i) e = get_last ns name d i (omega arith)
 
 -- a name that none of the others is
-pub differ_more : (names : List (List ℕ)) (name : List ℕ) → NamesDiffer names → has_name names name ≡ false → NamesDiffer (names ++ name ∷ [])
+pub differ_more : (names : List (List ℕ)) (name : List ℕ) → NamesDiffer names → includes_name names name ≡ false → NamesDiffer (names ++ name ∷ [])
 differ_more names name differ new = λ i d h. elim (cases_lt i (length names)) [
   | inl lt ↦
-      ap (λ (ns : List (List ℕ)). has_name ns (get_or (names ++ name ∷ []) i d)) (take-append-le i names (name ∷ []) (omega arith))
-      ∙ ap (has_name (take i names)) (get_before names name d i lt) ∙ differ i d lt
+      ap (λ (ns : List (List ℕ)). includes_name ns (get_or (names ++ name ∷ []) i d)) (take-append-le i names (name ∷ []) (omega arith))
+      ∙ ap (includes_name (take i names)) (get_before names name d i lt) ∙ differ i d lt
   | inr le ↦
       let long : length (names ++ name ∷ []) ≡ length names + 1 = length-append names (name ∷ []) in
       let at : i ≡ length names = omega (arith, long, h, le) in
-      ap (λ (ns : List (List ℕ)). has_name ns (get_or (names ++ name ∷ []) i d)) (take-append-le i names (name ∷ []) (omega arith) ∙ take_all i names (omega arith))
-      ∙ ap (has_name names) (get_last names name d i at) ∙ new
+      ap (λ (ns : List (List ℕ)). includes_name ns (get_or (names ++ name ∷ []) i d)) (take-append-le i names (name ∷ []) (omega arith) ∙ take_all i names (omega arith))
+      ∙ ap (includes_name names) (get_last names name d i at) ∙ new
 ]
 
 named_names : (tables : List OpenedTable) → map (λ (t : NamedTable). t.name) (map named_table tables) ≡ map (λ (t : OpenedTable). t.name) tables
@@ -94,11 +94,11 @@ named_contents [] = refl
 named_contents (t ∷ ts) = ap (λ (contents : List Content). t.table.content ∷ contents) (named_contents ts)
 
 -- one of the tables has the name, by their names
-pub name_there : (tables : List OpenedTable) (name : List ℕ) → has_name (map (λ (t : NamedTable). t.name) (map named_table tables)) name ≡ has_name (map (λ (t : OpenedTable). t.name) tables) name
-name_there tables name = ap (λ (names : List (List ℕ)). has_name names name) (named_names tables)
+pub name_there : (tables : List OpenedTable) (name : List ℕ) → includes_name (map (λ (t : NamedTable). t.name) (map named_table tables)) name ≡ includes_name (map (λ (t : OpenedTable). t.name) tables) name
+name_there tables name = ap (λ (names : List (List ℕ)). includes_name names name) (named_names tables)
 
 -- what the parts of the state are at opening, it is
-pub opened_start : (names : List (List ℕ)) (tables : List Content) (locks : Held) (stations : List Station) (n : ℕ) (opened : List OpenedTable)
+pub opened_start : (names : List (List ℕ)) (tables : List Content) (locks : HeldLocks) (stations : List Station) (n : ℕ) (opened : List OpenedTable)
     → names ≡ map (λ (t : OpenedTable). t.name) opened → tables ≡ map (λ (t : OpenedTable). t.table.content) opened → locks ≡ held n (length opened) [] → stations ≡ replicate n new_station
     → ◌≡◌ {A = State} (record { names = names; tables = tables; locks = locks; stations = stations }) (start (opened_as n (map named_table opened)))
 opened_start names tables locks stations n opened e f g h =
@@ -106,7 +106,7 @@ opened_start names tables locks stations n opened e f g h =
     let counted : held n (length opened) [] ≡ held n (length all) [] = ap (λ (k : ℕ). held n k []) (sym (length-map opened named_table)) in
     ap (λ (x : List (List ℕ)). record { names = x; tables = tables; locks = locks; stations = stations }) (e ∙ sym (named_names opened))
     ∙ ap (λ (x : List Content). record { names = map (λ (t : NamedTable). t.name) all; tables = x; locks = locks; stations = stations }) (f ∙ sym (named_contents opened))
-    ∙ ap (λ (x : Held). record { names = map (λ (t : NamedTable). t.name) all; tables = map (λ (t : NamedTable). t.content) all; locks = x; stations = stations }) (g ∙ counted)
+    ∙ ap (λ (x : HeldLocks). record { names = map (λ (t : NamedTable). t.name) all; tables = map (λ (t : NamedTable). t.content) all; locks = x; stations = stations }) (g ∙ counted)
     ∙ ap (λ (x : List Station). record { names = map (λ (t : NamedTable). t.name) all; tables = map (λ (t : NamedTable). t.content) all; locks = held n (length all) []; stations = x }) h
 
 -- ---- the tests of a table
@@ -115,16 +115,16 @@ module _ (opened : List OpenedTable) (source : TableSource) where
   numbered : length (map named_table opened) + 1 ≡ length opened + 1
   numbered = ap (λ (n : ℕ). n + 1) (length-map opened named_table)
 
-  pub table_taken : has_name (map (λ (t : OpenedTable). t.name) opened) source.name ≡ true → first_fault (table_tests (map named_table opened) source) ≡ Some (DuplicateTable (length opened + 1))
+  pub table_taken : includes_name (map (λ (t : OpenedTable). t.name) opened) source.name ≡ true → first_fault (table_tests (map named_table opened) source) ≡ Some (DuplicateTable (length opened + 1))
   table_taken taken = first_fails _ _ _ _ (name_there opened source.name ∙ taken) ∙ ap (λ (n : ℕ). Some (DuplicateTable n)) numbered
 
-  pub table_crowded : has_name (map (λ (t : OpenedTable). t.name) opened) source.name ≡ false → MAX_INDEXES < length source.indexes.items
+  pub table_crowded : includes_name (map (λ (t : OpenedTable). t.name) opened) source.name ≡ false → MAX_INDEXES < length source.indexes.items
       → first_fault (table_tests (map named_table opened) source) ≡ Some (TooManyIndexes (length opened + 1))
   table_crowded new many =
       let crowded : nat_le (length source.indexes.items) MAX_INDEXES ≡ false = grind (arith, nat_tests) in
       second_fails _ _ _ _ (name_there opened source.name ∙ new) crowded ∙ ap (λ (n : ℕ). Some (TooManyIndexes n)) numbered
 
-  pub table_fits : has_name (map (λ (t : OpenedTable). t.name) opened) source.name ≡ false → length source.indexes.items ≤ MAX_INDEXES → first_fault (table_tests (map named_table opened) source) ≡ None
+  pub table_fits : includes_name (map (λ (t : OpenedTable). t.name) opened) source.name ≡ false → length source.indexes.items ≤ MAX_INDEXES → first_fault (table_tests (map named_table opened) source) ≡ None
   table_fits new few =
       let fits : nat_le (length source.indexes.items) MAX_INDEXES ≡ true = grind (arith, nat_tests) in
       both_pass _ _ _ _ (name_there opened source.name ∙ new) fits

@@ -10,7 +10,7 @@ use Rattle.catalogue_core.specs.declared.entry.Entry.{Entry}
 use Rattle.catalogue_core.specs.Kept.{IsKept}
 use Rattle.catalogue_core.specs.declared.opening.TheConstants.{MAX_TABLES}
 use Rattle.catalogue_core.specs.declared.change.Plan.{Plan}
-use Rattle.catalogue_core.specs.Planned.{planned, changed}
+use Rattle.catalogue_core.specs.Planned.{planned, state_after}
 use Rattle.catalogue_core.specs.Tables.{NamedTable}
 use Rattle.catalogue_core.specs.Replay.{Opened, History, history, opened_at, opened_as, after, start, LegalFrom, IsOfStation}
 use Rattle.catalogue_core.specs.declared.command.Command.{Command}
@@ -53,10 +53,10 @@ pub is_stepped : (s : State) (station : ℕ) (command : Command) → IsState s �
 is_stepped s station command ok has = stepped_settled s station (outcome s station command) ok (next_outcome s station command ok has)
 
 -- a command that was planned and carried out, in a state that is seen as it was, is its step
-pub carried_out : {s now next : State} (station : ℕ) (plan : Plan) {asked command : Command} → planned s station plan ≡ step s station asked → command ≡ asked → now ≡ s → next ≡ changed now station plan.change
+pub carried_out : {s now next : State} (station : ℕ) (plan : Plan) {asked command : Command} → planned s station plan ≡ step s station asked → command ≡ asked → now ≡ s → next ≡ state_after now station plan.change
     → (next, plan.answer) ≡ step s station command
 carried_out {s} {now} {next} station plan {asked} {command} stepped same seen_same applied =
-    ap (λ (t : State). (t, plan.answer)) (applied ∙ ap (λ (t : State). changed t station plan.change) seen_same) ∙ stepped ∙ ap (step s station) (sym same)
+    ap (λ (t : State). (t, plan.answer)) (applied ∙ ap (λ (t : State). state_after t station plan.change) seen_same) ∙ stepped ∙ ap (step s station) (sym same)
 
 -- a catalogue has each station of what was opened
 pub may_perform : {opened : Opened} {s : State} {journal : List Entry} {h : History} {station : ℕ} → IsKept opened s journal → history opened journal ≡ h → 1 ≤ station → station ≤ h.opened.stations → HasStation s station

@@ -7,7 +7,7 @@ use Rattle.table_core.specs.declared.edits.Edit.TheVariants as edit_of
 use Rattle.table_core.specs.declared.refusal.Refusal.{Refusal}
 use Rattle.table_core.specs.declared.refusal.Refusal.TheVariants.{NoTableInUse}
 use Rattle.table_core.specs.Moves.{top, bottom, go, skip, seek, set_order}
-use Rattle.table_core.specs.Shown.{show as shown}
+use Rattle.table_core.specs.Shown.{show_field as shown}
 use Rattle.table_core.specs.Laws.Moves.{top_leads, bottom_leads, go_leads, skip_leads, seek_leads, set_order_leads}
 use Rattle.catalogue_core.specs.declared.answer.Answer.TheVariants.{Text, Refused}
 use Rattle.catalogue_core.specs.declared.command.Command.{Command}
@@ -16,13 +16,13 @@ use Rattle.catalogue_core.specs.declared.command.Question.{Question}
 use Rattle.catalogue_core.specs.declared.command.Question.TheVariants as question
 use Rattle.catalogue_core.specs.declared.area.Area.{Area}
 use Rattle.catalogue_core.specs.State.{State, area_of, table_of, HasStation, IsState}
-use Rattle.catalogue_core.specs.Step.{Outcome, show, ask, reply, outcome, settled, step}
+use Rattle.catalogue_core.specs.Step.{Outcome, show_field, ask, reply, outcome, settled, step}
 use Rattle.table_core.specs.Laws.Outcomes.{of_found, of_passed}
 use Rattle.catalogue_core.proofs.NextLaws.{IsNext, NoRefusal, same_next, next_select, next_move, next_append, next_change, next_pack, next_unlock, next_unlock_all, next_lock_record, next_lock_file}
 use Rattle.catalogue_core.proofs.UseLaws.{next_close, next_use}
 
 -- ?
-next_show : (s : State) (station : ℕ) (name : List ℕ) → IsState s → IfOk (show s station name) (IsNext s station)
+next_show : (s : State) (station : ℕ) (name : List ℕ) → IsState s → IfOk (show_field s station name) (IsNext s station)
 next_show s station name ok =
     of_found (IsNext s station) (area_of s station) NoTableInUse _ (λ area _.
     of_passed (IsNext s station) (shown (table_of s area) area.cursor name) _ (λ text _. same_next s station (Text text) tt ok))

@@ -16,7 +16,7 @@ use Rattle.table_core.specs.Laws.Moves.{top_leads}
 use Rattle.catalogue_core.specs.declared.answer.Answer.TheVariants.{Done}
 use Rattle.catalogue_core.specs.declared.area.Area.{Area}
 use Rattle.catalogue_core.specs.declared.area.Station.{Station}
-use Rattle.catalogue_core.specs.State.{State, new_station, station_at, area_of, area_at, table_at, has_open, bars, is_open_beside, is_in_use, with_area, without_lock, closed, shapes_of, HasStation, IsArea, IsState}
+use Rattle.catalogue_core.specs.State.{State, new_station, station_at, area_of, area_at, table_at, has_open, bars_use, is_open_beside, is_in_use, with_area, without_lock, closed, shapes_of, HasStation, IsArea, IsState}
 use Rattle.catalogue_core.specs.Step.{numbered, table_named, new_cursor, opened, use_table}
 use Rattle.table_core.specs.Laws.Outcomes.{of_found, of_granted, of_passed}
 use Rattle.catalogue_core.proofs.Cases.{when_ok}
@@ -104,10 +104,10 @@ use_fits s station number exclusive cursor h beside used = record {
       let free = none_beside (has_open number) (station_at s station).areas (current_index s station) (station_at s station).current k None refl (omega (arith, h.each.counted)) beside n in
       differs z.table number (sym (ap (has_open number) f) ∙ free) (sym g);
   alone = λ b l z n f g.
-      let p : Station → Bool = λ st. list_any (bars number exclusive) st.areas in
+      let p : Station → Bool = λ st. list_any (bars_use number exclusive) st.areas in
       let free = none_beside p s.stations (station - 1) station b new_station refl (omega (arith, h.counted)) used n in
-      let here = none_at (bars number exclusive) (slice_index_or s.stations b new_station).areas l None refl free in
-      free_of z.table number z.exclusive exclusive (sym g) (sym (ap (bars number exclusive) f) ∙ here);
+      let here = none_at (bars_use number exclusive) (slice_index_or s.stations b new_station).areas l None refl free in
+      free_of z.table number z.exclusive exclusive (sym g) (sym (ap (bars_use number exclusive) f) ∙ here);
 }
 
 -- a table is opened in the area that was closed

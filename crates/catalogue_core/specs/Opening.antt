@@ -18,7 +18,7 @@ use Rattle.catalogue_core.specs.declared.opening.OpenFault.{OpenFault}
 use Rattle.catalogue_core.specs.declared.opening.OpenFault.TheVariants.{NoStation, TooManyStations, TooManyTables, DuplicateTable, TooManyIndexes, DuplicateIndex, BadExpression, IndexStale, NoMemory}
 use Rattle.catalogue_core.specs.declared.source.IndexSource.{IndexSource}
 use Rattle.catalogue_core.specs.declared.source.TableSource.{TableSource}
-use Rattle.catalogue_core.specs.Names.{has_name}
+use Rattle.catalogue_core.specs.Names.{includes_name}
 use Rattle.catalogue_core.specs.Tables.{NamedTable}
 
 -- ---- one thing after another: what comes of it is a value, or the fault of the first test that fails
@@ -91,7 +91,7 @@ IndexesOpening reindex earlier content (s ∷ ss) outcome = Then (IndexOpening r
 
 -- one of the tables has the name
 abbrev pub has_table : List NamedTable → List ℕ → Bool
-has_table tables name = has_name (map (λ t. t.name) tables) name
+has_table tables name = includes_name (map (λ t. t.name) tables) name
 
 abbrev pub table_tests : List NamedTable → TableSource → List (Bool × OpenFault)
 table_tests earlier source =
@@ -132,4 +132,4 @@ Opening reindex stations sources outcome = Passing (count_tests (length sources)
 
 -- no two of the names are one
 abbrev pub NamesDiffer : List (List ℕ) → Type 0
-NamesDiffer names = (i : ℕ) (name : List ℕ) → i < length names → has_name (take i names) (slice_index_or names i name) ≡ false
+NamesDiffer names = (i : ℕ) (name : List ℕ) → i < length names → includes_name (take i names) (slice_index_or names i name) ≡ false

@@ -9,7 +9,7 @@ use Rattle.table_core.specs.declared.edits.planned.Planned.{Planned}
 use Rattle.table_core.specs.Content.{Content}
 use Rattle.table_core.specs.Moves.{top, bottom, go, skip, seek, set_order}
 use Rattle.table_core.specs.Edits.{edited}
-use Rattle.table_core.specs.Planned.{changed as table_changed, cursor_after, carried_out, IsPlanned}
+use Rattle.table_core.specs.Planned.{state_after as table_changed, cursor_after, carried_out, IsPlanned}
 use Rattle.catalogue_core.specs.declared.answer.Answer.{Answer}
 use Rattle.catalogue_core.specs.declared.area.Area.{Area}
 use Rattle.catalogue_core.specs.declared.change.Change.{Change}
@@ -24,13 +24,13 @@ use Rattle.catalogue_core.specs.State.{State, table_of, with_current, with_area,
 use Rattle.catalogue_core.specs.Step.{Outcome, with_edit}
 
 -- what a move makes of a table's cursor
-abbrev pub moved_by : MoveTo → Content → Cursor → Result Cursor Refusal
-moved_by (move_to.Go number) = λ content cursor. go content cursor number
-moved_by move_to.Top = top
-moved_by move_to.Bottom = bottom
-moved_by (move_to.Skip steps) = λ content cursor. skip content cursor steps
-moved_by (move_to.Seek text) = λ content cursor. seek content cursor text.now
-moved_by (move_to.Order number) = λ content cursor. set_order content cursor number
+abbrev pub after_move : MoveTo → Content → Cursor → Result Cursor Refusal
+after_move (move_to.Go number) = λ content cursor. go content cursor number
+after_move move_to.Top = top
+after_move move_to.Bottom = bottom
+after_move (move_to.Skip steps) = λ content cursor. skip content cursor steps
+after_move (move_to.Seek text) = λ content cursor. seek content cursor text.now
+after_move (move_to.Order number) = λ content cursor. set_order content cursor number
 
 -- the edit that is asked for
 abbrev pub edit_by : AskedEdit → EditValue
@@ -50,22 +50,22 @@ abbrev pub with_planned : State → ℕ → Area → Planned → State
 with_planned s station area planned = with_edit s station area (table_changed (table_of s area) planned, cursor_after (table_of s area) area.cursor planned)
 
 -- the state after a station's change
-abbrev pub changed : State → ℕ → Change → State
-changed s station Nothing = s
-changed s station (Select number) = with_current s station number
-changed s station Close = closed s station
-changed s station (Open area) = with_area (closed s station) station (Some area)
-changed s station (Move area) = with_area s station (Some area)
-changed s station (Edit area planned) = with_planned s station area planned
-changed s station (Pack area planned) = without_lock (with_planned s station area planned) station (Some area)
-changed s station (LockRecord area number) = with_held s (with_lock s.locks.locks station area.table number)
-changed s station (LockFile area) = with_held s (with_lock s.locks.locks station area.table 0)
-changed s station (Unlock area) = without_lock s station (Some area)
-changed s station UnlockAll = with_held s (without_all s.locks.locks station)
+abbrev pub state_after : State → ℕ → Change → State
+state_after s station Nothing = s
+state_after s station (Select number) = with_current s station number
+state_after s station Close = closed s station
+state_after s station (Open area) = with_area (closed s station) station (Some area)
+state_after s station (Move area) = with_area s station (Some area)
+state_after s station (Edit area planned) = with_planned s station area planned
+state_after s station (Pack area planned) = without_lock (with_planned s station area planned) station (Some area)
+state_after s station (LockRecord area number) = with_held s (with_lock s.locks.locks station area.table number)
+state_after s station (LockFile area) = with_held s (with_lock s.locks.locks station area.table 0)
+state_after s station (Unlock area) = without_lock s station (Some area)
+state_after s station UnlockAll = with_held s (without_all s.locks.locks station)
 
 -- the state and the answer of a plan
 abbrev pub planned : State → ℕ → Plan → State × Answer
-planned s station plan = (changed s station plan.change, plan.answer)
+planned s station plan = (state_after s station plan.change, plan.answer)
 
 -- the outcome of a plan or a refusal
 abbrev pub outcome_of : State → ℕ → Result Plan Refusal → Outcome

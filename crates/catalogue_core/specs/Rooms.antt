@@ -1,6 +1,6 @@
 -- A state whose tables tell what room they have.
 use Rattle.std.specs.Prelude.{ℕ, ◌-◌, false, List, map, slice_index_or}
-use Rattle.lock_table.specs.Locks.{Held as Locked}
+use Rattle.lock_table.specs.Locks.{HeldLocks as Locked}
 use Rattle.table_core.specs.Content.{Held}
 use Rattle.catalogue_core.specs.declared.area.Station.{Station}
 use Rattle.catalogue_core.specs.State.{State, no_content}

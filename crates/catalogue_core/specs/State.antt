@@ -3,7 +3,7 @@
 use Rattle.std.specs.Prelude.{◌≡◌, ◌≢◌, ℕ, ◌-◌, ◌<◌, ◌≤◌, Bool, false, ◌&&◌, ◌||◌, ◌==◌, List, [], ◌++◌, length, map, take, drop, replicate, slice_index_or, slice_set, Option, Some, None}
 use Rattle.std.specs.List.{list_any}
 use Rattle.dbf_image.specs.Table.{empty_table}
-use Rattle.lock_table.specs.Locks.{Lock, Held, held, without, IsHeld, AreApart}
+use Rattle.lock_table.specs.Locks.{Lock, HeldLocks, held, without, IsHeld, AreApart}
 use Rattle.table_core.specs.declared.cursor.Cursor.{Cursor}
 use Rattle.dbf_fields.specs.declared.field.Field.{Field}
 use Rattle.table_core.specs.Content.{Content, Indexed}
@@ -17,7 +17,7 @@ use Rattle.catalogue_core.specs.declared.opening.TheConstants.{MAX_TABLES}
 pub record State : Type 0 where
   pub names : List (List ℕ)
   pub tables : List Content
-  pub locks : Held
+  pub locks : HeldLocks
   pub stations : List Station
 
 -- a station at opening: area 1 is the current one, and no table is open in any
@@ -64,9 +64,9 @@ has_open number None = false
 has_open number (Some area) = area.table == number
 
 -- the table is open in the area, and one of the two wants it exclusively
-abbrev pub bars : ℕ → Bool → Option Area → Bool
-bars number exclusive None = false
-bars number exclusive (Some area) = area.table == number && (area.exclusive || exclusive)
+abbrev pub bars_use : ℕ → Bool → Option Area → Bool
+bars_use number exclusive None = false
+bars_use number exclusive (Some area) = area.table == number && (area.exclusive || exclusive)
 
 -- the table is open in another area of the station
 abbrev pub is_open_beside : List Station → ℕ → ℕ → Bool
@@ -74,7 +74,7 @@ is_open_beside stations station number = list_any (has_open number) (other_areas
 
 -- another station has the table open, and one of the two wants it exclusively
 abbrev pub is_in_use : List Station → ℕ → ℕ → Bool → Bool
-is_in_use stations station number exclusive = list_any (λ st. list_any (bars number exclusive) st.areas) (other_stations stations station)
+is_in_use stations station number exclusive = list_any (λ st. list_any (bars_use number exclusive) st.areas) (other_stations stations station)
 
 -- another area is the current one of a station
 abbrev pub with_current_in : List Station → ℕ → ℕ → List Station
@@ -89,8 +89,8 @@ with_area_in stations station area =
     })
 
 -- the state with another table of a number, with other locks, or with other stations
-abbrev pub with_table : State → ℕ → Content → State
-with_table s number table = record { names = s.names; tables = slice_set s.tables (number - 1) table; locks = s.locks; stations = s.stations }
+abbrev pub with_table_at : State → ℕ → Content → State
+with_table_at s number table = record { names = s.names; tables = slice_set s.tables (number - 1) table; locks = s.locks; stations = s.stations }
 
 abbrev pub with_held : State → List Lock → State
 with_held s locks = record { names = s.names; tables = s.tables; locks = held s.locks.stations s.locks.tables locks; stations = s.stations }

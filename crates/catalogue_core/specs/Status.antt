@@ -3,7 +3,7 @@ use Rattle.std.specs.Prelude.{ℕ, ◌+◌, ◌-◌, Bool, true, false, ◌&&◌
 use Rattle.std.specs.List.{list_any, position}
 use Rattle.lock_table.specs.Locks.{Lock, holder, record_locks}
 use Rattle.ndx_index.specs.Places.{counted}
-use Rattle.table_core.specs.Refusals.{code_of as code_of_refusal}
+use Rattle.table_core.specs.Refusals.{answer_code as code_of_refusal}
 use Rattle.catalogue_core.specs.declared.answer.Answer.{Answer}
 use Rattle.catalogue_core.specs.declared.answer.Answer.TheVariants.{Done, Number, Truth, Text, Refused}
 use Rattle.catalogue_core.specs.declared.area.Area.{Area}
@@ -16,13 +16,13 @@ use Rattle.catalogue_core.specs.Replay.{History, state_of}
 use Rattle.catalogue_core.specs.State.{State}
 
 -- the number that stands for an answer
-abbrev pub code_of : Answer → ℕ
-code_of Done = 0
-code_of (Truth false) = 1
-code_of (Truth true) = 2
-code_of (Number n) = 3
-code_of (Text t) = 4
-code_of (Refused refusal) = 100 + code_of_refusal refusal
+abbrev pub answer_code : Answer → ℕ
+answer_code Done = 0
+answer_code (Truth false) = 1
+answer_code (Truth true) = 2
+answer_code (Number n) = 3
+answer_code (Text t) = 4
+answer_code (Refused refusal) = 100 + code_of_refusal refusal
 
 -- the table is open exclusively in the area
 abbrev pub has_exclusively : ℕ → Option Area → Bool
@@ -50,23 +50,23 @@ table_status s number =
     else record { holder = 0; record_locks = 0 }
 
 -- the last entry's station, and the number that stands for its answer
-abbrev pub station_of : Option Entry → ℕ
-station_of None = 0
-station_of (Some e) = e.station
+abbrev pub entry_station : Option Entry → ℕ
+entry_station None = 0
+entry_station (Some e) = e.station
 
 abbrev pub answer_code_of : Option Entry → ℕ
 answer_code_of None = 0
-answer_code_of (Some e) = code_of e.answer
+answer_code_of (Some e) = answer_code e.answer
 
-abbrev pub last_of : List Entry → Option Entry
-last_of journal = slice_get journal (length journal - 1)
+abbrev pub last_entry : List Entry → Option Entry
+last_entry journal = slice_get journal (length journal - 1)
 
 -- the status row of a catalogue
 abbrev pub row : History → StatusRow
 row h = record {
   journal_length = length h.journal;
-  last_station = station_of (last_of h.journal);
-  last_answer = answer_code_of (last_of h.journal);
+  last_station = entry_station (last_entry h.journal);
+  last_answer = answer_code_of (last_entry h.journal);
   tables = map (table_status (state_of h)) (counted 1 MAX_TABLES);
 }
 

@@ -12,7 +12,7 @@ use Rattle.table_core.specs.Content.{Content, record_count}
 use Rattle.table_core.specs.Edits.{edited}
 use Rattle.table_core.specs.Moves.{top, bottom, go, skip, seek, set_order}
 use Rattle.table_core.specs.Outcomes.{found, granted, passed}
-use Rattle.table_core.specs.Shown.{show as shown, is_deleted}
+use Rattle.table_core.specs.Shown.{show_field as shown, is_deleted}
 use Rattle.catalogue_core.specs.declared.answer.Answer.{Answer}
 use Rattle.catalogue_core.specs.declared.answer.Answer.TheVariants.{Done, Number, Truth, Text, Refused}
 use Rattle.catalogue_core.specs.declared.area.Area.{Area}
@@ -22,7 +22,7 @@ use Rattle.catalogue_core.specs.declared.command.Command.TheVariants.{Select, Us
 use Rattle.catalogue_core.specs.declared.command.Question.{Question}
 use Rattle.catalogue_core.specs.declared.command.Question.TheVariants.{Eof, Bof, Found, Deleted, Recno, Reccount}
 use Rattle.catalogue_core.specs.Names.{index_named}
-use Rattle.catalogue_core.specs.State.{State, area_of, table_of, table_at, is_open_beside, is_in_use, with_table, with_held, with_area, with_current, with_cursor, without_lock, closed}
+use Rattle.catalogue_core.specs.State.{State, area_of, table_of, table_at, is_open_beside, is_in_use, with_table_at, with_held, with_area, with_current, with_cursor, without_lock, closed}
 
 -- what a command leads to: a state and an answer, or a refusal
 abbrev pub Outcome : Type 0
@@ -47,7 +47,7 @@ opened s station number exclusive cursor = with_area (closed s station) station 
 
 -- an edited table, and the cursor that goes with it
 abbrev pub with_edit : State → ℕ → Area → Content × Cursor → State
-with_edit s station area e = with_cursor (with_table s area.table e.0) station area e.1
+with_edit s station area e = with_cursor (with_table_at s area.table e.0) station area e.1
 
 -- the station may write the record: it has the table exclusively, or a lock on the record or the table
 abbrev pub can_write : State → ℕ → Area → ℕ → Bool
@@ -78,15 +78,15 @@ move s station to =
     passed (to (table_of s area) area.cursor) (λ cursor. Ok (with_cursor s station area cursor, Done)))
 
 -- APPEND BLANK: a new last record, with the cursor at it
-abbrev pub append_blank : State → ℕ → Outcome
-append_blank s station =
+abbrev pub append_record : State → ℕ → Outcome
+append_record s station =
     found (area_of s station) NoTableInUse (λ area.
     granted (can_append s station area) TableInUse (
     passed (edited (table_of s area) area.cursor edit_of.AppendBlank) (λ e. Ok (with_edit s station area e, Done))))
 
 -- the current area, where its cursor is at a record that the station may write
-abbrev pub target : State → ℕ → Result Area Refusal
-target s station =
+abbrev pub writable_area : State → ℕ → Result Area Refusal
+writable_area s station =
     found (area_of s station) NoTableInUse (λ area.
     found area.cursor.at EndOfFile (λ number.
     granted (can_write s station area number) NotLocked (Ok area)))
@@ -94,12 +94,12 @@ target s station =
 -- REPLACE, MEMO, DELETE, RECALL: the record at the cursor changes
 abbrev pub change_record : State → ℕ → Edit → Outcome
 change_record s station by =
-    passed (target s station) (λ area.
+    passed (writable_area s station) (λ area.
     passed (edited (table_of s area) area.cursor by) (λ e. Ok (with_edit s station area e, Done)))
 
 -- PACK: the marked records are removed, and the station's lock in the table is released
-abbrev pub pack : State → ℕ → Outcome
-pack s station =
+abbrev pub pack_table : State → ℕ → Outcome
+pack_table s station =
     found (area_of s station) NoTableInUse (λ area.
     granted area.exclusive NeedsExclusive (
     passed (edited (table_of s area) area.cursor edit_of.Pack) (λ e.
@@ -132,8 +132,8 @@ lock_file s station =
     Ok (lock (free_whole s.locks.locks station area.table) s station area 0))
 
 -- ?: the field's value in the record at the cursor
-abbrev pub show : State → ℕ → List ℕ → Outcome
-show s station name =
+abbrev pub show_field : State → ℕ → List ℕ → Outcome
+show_field s station name =
     found (area_of s station) NoTableInUse (λ area.
     passed (shown (table_of s area) area.cursor name) (λ text. Ok (s, Text text)))
 
@@ -166,15 +166,15 @@ outcome s station Bottom = move s station bottom
 outcome s station (Skip steps) = move s station (λ content cursor. skip content cursor steps)
 outcome s station (Seek text) = move s station (λ content cursor. seek content cursor text)
 outcome s station (Order number) = move s station (λ content cursor. set_order content cursor number)
-outcome s station AppendBlank = append_blank s station
+outcome s station AppendBlank = append_record s station
 outcome s station (Replace field value) = change_record s station (edit_of.Replace field value)
 outcome s station (Memo field text) = change_record s station (edit_of.PutMemo field text)
 outcome s station Delete = change_record s station edit_of.Delete
 outcome s station Recall = change_record s station edit_of.Recall
-outcome s station Pack = pack s station
+outcome s station Pack = pack_table s station
 outcome s station Unlock = unlock s station
 outcome s station UnlockAll = unlock_all s station
-outcome s station (Show field) = show s station field
+outcome s station (Show field) = show_field s station field
 outcome s station RecordLock = lock_record s station
 outcome s station FileLock = lock_file s station
 outcome s station (Ask question) = ask s station question

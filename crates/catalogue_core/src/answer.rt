@@ -1,7 +1,7 @@
 //! Answers to commands.
 
 ghost use Rattle.std.specs.Prelude.{◌≡◌, ◌↔◌, IsTrue, IfOk};
-ghost use Rattle.catalogue_core.specs.Status.{code_of};
+ghost use Rattle.catalogue_core.specs.Status.{answer_code};
 
 use dbf_fields::Bytes;
 use std::alloc::{AllocError, Global};
@@ -47,7 +47,7 @@ impl Answer {
     /// The number that stands for the answer in a status row: 0 done, 1 false, 2 true, 3 a number, 4 a text, and
     /// 100 and the refusal's number.
     pub fn code(&self) -> u32
-        ensures value { result ≡ code_of self.now }
+        ensures value { result ≡ answer_code self.now }
     {
         match self {
             Answer::Done => 0,

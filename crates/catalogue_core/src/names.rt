@@ -1,7 +1,7 @@
 //! Names that are numbered in the order in which they come.
 
 ghost use Rattle.std.specs.Prelude.{◌≡◌, ◌<◌, not, [], length, IfOk, OnOk, OnErr, IfSome};
-ghost use Rattle.catalogue_core.specs.Names.{index_named, has_name, with_name};
+ghost use Rattle.catalogue_core.specs.Names.{index_named, includes_name, with_name};
 
 use dbf_fields::Bytes;
 use indexmap::IndexSet;
@@ -43,7 +43,7 @@ impl Names {
     /// Adds a name after the others, and answers whether it is new. An error where memory is refused, and then
     /// nothing has changed.
     pub fn add(&mut self, alloc: Global, name: &Bytes) -> Result<bool, AllocError>
-        ensures value { IfOk result (λ is_new. is_new ≡ not (has_name self.old name.now)) }
+        ensures value { IfOk result (λ is_new. is_new ≡ not (includes_name self.old name.now)) }
         ensures ok { OnOk result (self.new ≡ with_name self.old name.now) }
         ensures err { OnErr result (self.new ≡ self.old) }
     {

@@ -3,7 +3,7 @@
 ghost use Rattle.std.specs.Prelude.{◌≡◌, ◌+◌, bytes_eq, ◌<◌, ◌≤◌, [], ◌∷◌, ◌++◌, None, Some, Ok, Err, false, length, map, IfOk, IfErr, OnOk};
 ghost use Rattle.std.specs.List.{list_any};
 ghost use Rattle.dbf_fields.specs.Faults.{first_fault};
-ghost use Rattle.catalogue_core.specs.Names.{has_name};
+ghost use Rattle.catalogue_core.specs.Names.{includes_name};
 ghost use Rattle.catalogue_core.specs.Opening.{count_tests, table_tests, without_indexes, IndexesOpening, IsNextOpened, NamesDiffer, TableOpening, TablesOpening};
 ghost use Rattle.catalogue_core.specs.Tables.{named_table};
 
@@ -138,7 +138,7 @@ fn open_table(
     requires few { length opened.old.items < MAX_TABLES }
     ensures opened { OnOk result (IsNextOpened reindex source (map named_table opened.old.items) (map named_table opened.new.items)) }
     ensures refused { IfErr result (λ fault. TableOpening reindex (map named_table opened.old.items) source (Err fault)) }
-    ensures new { OnOk result (has_name (map (λ t. t.name) opened.old.items) source.name ≡ false) }
+    ensures new { OnOk result (includes_name (map (λ t. t.name) opened.old.items) source.name ≡ false) }
     ensures name { OnOk result (map (λ t. t.name) opened.new.items ≡ map (λ t. t.name) opened.old.items ++ source.name ∷ []) }
     ensures count { OnOk result (length opened.new.items ≡ length opened.old.items + 1) }
 {
@@ -156,7 +156,7 @@ fn check_table(opened: &[OpenedTable], source: &TableSource) -> Result<(), OpenF
     requires few { length opened.now < MAX_TABLES }
     ensures accepted { OnOk result (first_fault (table_tests (map named_table opened.now) source.now) ≡ None) }
     ensures refused { IfErr result (λ fault. first_fault (table_tests (map named_table opened.now) source.now) ≡ Some fault) }
-    ensures new { OnOk result (has_name (map (λ t. t.name) opened.now) source.now.name ≡ false) }
+    ensures new { OnOk result (includes_name (map (λ t. t.name) opened.now) source.now.name ≡ false) }
     ensures few { OnOk result (length source.now.indexes.items ≤ MAX_INDEXES) }
 {
     let number = opened.len() as u32 + 1;
@@ -170,7 +170,7 @@ fn check_table(opened: &[OpenedTable], source: &TableSource) -> Result<(), OpenF
 }
 
 fn is_opened(opened: &[OpenedTable], name: &Bytes) -> bool
-    ensures value { result ≡ has_name (map (λ t. t.name) opened.now) name.now }
+    ensures value { result ≡ includes_name (map (λ t. t.name) opened.now) name.now }
 {
     any_has_name(opened, name)
 }

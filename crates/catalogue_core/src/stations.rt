@@ -2,7 +2,7 @@
 
 ghost use Rattle.std.specs.Prelude.{◌≡◌, ◌<◌, ◌≤◌, length, replicate, IfSome, IfOk};
 ghost use Rattle.std.specs.List.{list_any};
-ghost use Rattle.catalogue_core.specs.State.{new_station, area_in, has_open, bars, is_open_beside, is_in_use, with_current_in, with_area_in, HasStationIn};
+ghost use Rattle.catalogue_core.specs.State.{new_station, area_in, has_open, bars_use, is_open_beside, is_in_use, with_current_in, with_area_in, HasStationIn};
 ghost use Rattle.catalogue_core.specs.Status.{has_exclusively, exclusive_user};
 ghost use Rattle.catalogue_core.specs.declared.area.TheConstants.{MAX_AREAS as AREAS};
 
@@ -132,7 +132,7 @@ fn has_exclusively(area: Option<Area>, table: u32) -> bool
 
 // Whether one of the stations has the table open, and one of the two wants it exclusively.
 fn any_station_bars(stations: &[Station], table: u32, exclusive: bool) -> bool
-    ensures value { result ≡ list_any (λ st. list_any (bars table exclusive) st.areas) stations.now }
+    ensures value { result ≡ list_any (λ st. list_any (bars_use table exclusive) st.areas) stations.now }
 {
     stations
         .iter()
@@ -140,13 +140,13 @@ fn any_station_bars(stations: &[Station], table: u32, exclusive: bool) -> bool
 }
 
 fn any_area_bars(areas: &[Option<Area>], table: u32, exclusive: bool) -> bool
-    ensures value { result ≡ list_any (bars table exclusive) areas.now }
+    ensures value { result ≡ list_any (bars_use table exclusive) areas.now }
 {
     areas.iter().any(|area| bars(*area, table, exclusive))
 }
 
 fn bars(area: Option<Area>, table: u32, exclusive: bool) -> bool
-    ensures value { result ≡ bars table exclusive area }
+    ensures value { result ≡ bars_use table exclusive area }
 {
     match area {
         Some(area) => area.table == table && (area.exclusive || exclusive),

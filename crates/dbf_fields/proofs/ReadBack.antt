@@ -17,7 +17,7 @@ use Rattle.std.proofs.lemmas.List.{reverse-append, reverse-reverse, take_all, dr
 use Rattle.std.proofs.lemmas.List.Folds.{list_all-append}
 use Rattle.dbf_fields.specs.Digits.{digits_after, last_digits, numeral}
 use Rattle.dbf_fields.specs.Number.{without_leading, trimmed, is_decimal, scaled, magnitude, signed, number}
-use Rattle.dbf_fields.specs.NumberText.{sign, point, kept, number_text, is_exact, right_justified, number_cell, IsSameNumber}
+use Rattle.dbf_fields.specs.NumberText.{sign, point, digits_kept, number_text, is_exact, right_justified, number_cell, IsSameNumber}
 use Rattle.dbf_fields.proofs.Digits.{digits_take}
 use Rattle.dbf_fields.proofs.WrittenDigits.{length-last_digits, zeros_pass}
 use Rattle.dbf_fields.specs.declared.format.TheConstants.{BLANK}
@@ -43,10 +43,10 @@ last_digits_digits zero n = refl
 last_digits_digits (suc k) n =
     rw (list_all-append is_ascii_digit (last_digits k (n / 10)) ((48 + n % 10) ∷ []), last_digits_digits k (n / 10), glyph_digit (n % 10) (omega arith)) refl
 
-kept_digits : (d : ℕ) (ds : List ℕ) → list_all is_ascii_digit ds ≡ true → list_all is_ascii_digit (kept d ds) ≡ true
+kept_digits : (d : ℕ) (ds : List ℕ) → list_all is_ascii_digit ds ≡ true → list_all is_ascii_digit (digits_kept d ds) ≡ true
 kept_digits d ds h = digits_take d (ds ++ replicate d 48) (rw (list_all-append is_ascii_digit ds (replicate d 48), h, zeros_pass is_ascii_digit refl d) refl)
 
-length-kept : (d : ℕ) (ds : List ℕ) → length (kept d ds) ≡ d
+length-kept : (d : ℕ) (ds : List ℕ) → length (digits_kept d ds) ≡ d
 length-kept d ds = length-take-le d (ds ++ replicate d 48) (omega (arith, length-append ds (replicate d 48), length-replicate {A = ℕ} d 48))
 
 -- ---- the number of digits that were written
@@ -153,15 +153,15 @@ unsigned (b ∷ bs) rest decimals h some = grind (arith, nat_tests)
 
 -- the digits of the text, whose number is that of the value
 text_number : (m scale decimals : ℕ) → list_all (λ b. b == 48) (drop decimals (last_digits scale m)) ≡ true
-    → digits_after 0 (numeral (m / 10 ^ scale) ++ kept decimals (last_digits scale m)) * 10 ^ scale ≡ m * 10 ^ decimals
+    → digits_after 0 (numeral (m / 10 ^ scale) ++ digits_kept decimals (last_digits scale m)) * 10 ^ scale ≡ m * 10 ^ decimals
 text_number m scale decimals exact =
     let number = kept_number (m / 10 ^ scale) (last_digits scale m) decimals decimals (omega arith) exact in
     rw (fold-append, number_of_numeral (m / 10 ^ scale)) (rw (length-last_digits scale m, number_of_last scale m) at number)
 
 text_magnitude : (m scale decimals : ℕ)
-    → magnitude (numeral (m / 10 ^ scale) ++ (point decimals ++ kept decimals (last_digits scale m))) decimals ≡ Some (digits_after 0 (numeral (m / 10 ^ scale) ++ kept decimals (last_digits scale m)))
+    → magnitude (numeral (m / 10 ^ scale) ++ (point decimals ++ digits_kept decimals (last_digits scale m))) decimals ≡ Some (digits_after 0 (numeral (m / 10 ^ scale) ++ digits_kept decimals (last_digits scale m)))
 text_magnitude m scale decimals =
-    magnitude_of (numeral (m / 10 ^ scale)) (kept decimals (last_digits scale m)) decimals (numeral_digits (m / 10 ^ scale))
+    magnitude_of (numeral (m / 10 ^ scale)) (digits_kept decimals (last_digits scale m)) decimals (numeral_digits (m / 10 ^ scale))
     (kept_digits decimals (last_digits scale m) (last_digits_digits scale m)) (numeral_some (m / 10 ^ scale)) (length-kept decimals (last_digits scale m))
 
 negative_times : (v a m b : ℕ) → v * a ≡ suc m * b → neg_ℤ (pos v) *ℤ pos a ≡ negsuc m *ℤ pos b
@@ -171,7 +171,7 @@ negative_times (suc v) a m b e = rw (negsuc-*ℤ-pos v a, negsuc-*ℤ-pos m b, e
 text_signed : (z : ℤ) (scale decimals : ℕ) → is_exact z scale decimals ≡ true → IsSameNumber (signed (number_text z scale decimals) decimals) decimals z scale
 unfolding is_exact number_text
 text_signed (pos m) scale decimals exact =
-    let text = unsigned (numeral (m / 10 ^ scale)) (point decimals ++ kept decimals (last_digits scale m)) decimals (numeral_digits (m / 10 ^ scale)) (numeral_some (m / 10 ^ scale)) in
+    let text = unsigned (numeral (m / 10 ^ scale)) (point decimals ++ digits_kept decimals (last_digits scale m)) decimals (numeral_digits (m / 10 ^ scale)) (numeral_some (m / 10 ^ scale)) in
     rw (text, text_magnitude m scale decimals, pos-*ℤ-pos, pos-*ℤ-pos) (ap pos (text_number m scale decimals exact))
 text_signed (negsuc m) scale decimals exact =
     rw (text_magnitude (suc m) scale decimals) (negative_times _ (10 ^ scale) m (10 ^ decimals) (text_number (suc m) scale decimals exact))
@@ -185,7 +185,7 @@ text_full z scale decimals =
     let point_full : list_all (λ b. not (b == BLANK)) (point decimals) ≡ true = grind (arith, nat_tests) in
     full_append (sign z) _ sign_full
     (full_append whole _ (digits_full whole (numeral_digits (unsigned_abs z / 10 ^ scale)))
-    (full_append (point decimals) _ point_full (digits_full (kept decimals last) (kept_digits decimals last (last_digits_digits scale (unsigned_abs z))))))
+    (full_append (point decimals) _ point_full (digits_full (digits_kept decimals last) (kept_digits decimals last (last_digits_digits scale (unsigned_abs z))))))
 
 -- what a cell of a number is
 cell_parts : (width decimals : ℕ) (z : ℤ) (scale : ℕ) (cell : List ℕ) → number_cell width decimals z scale ≡ Some cell

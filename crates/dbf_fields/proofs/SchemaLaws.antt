@@ -10,7 +10,7 @@ use Rattle.dbf_fields.specs.declared.field.Field.{Field}
 use Rattle.dbf_fields.specs.Name.{is_name_char, is_name}
 use Rattle.dbf_fields.specs.Faults.{first_fault}
 use Rattle.dbf_fields.specs.Field.{is_kind, has_width, has_name, folded, widths}
-use Rattle.dbf_fields.specs.Schema.{field_tests, tests_from, refusal, IsSchema}
+use Rattle.dbf_fields.specs.Schema.{field_tests, tests_from, schema_refusal, IsSchema}
 use Rattle.dbf_fields.specs.declared.schema.SchemaFault.{SchemaFault}
 use Rattle.dbf_fields.proofs.FaultLaws.{first_then, first_before}
 use Rattle.dbf_fields.specs.declared.format.TheConstants.{MAX_FIELDS, MAX_RECORD_BYTES}
@@ -67,7 +67,7 @@ tests_again earlier (f ∷ fs) =
     rw (rest, name_upper f.name, upper_all_again f.name, width_folded f) refl
 
 -- fields that are accepted make a schema
-pub schema_from_accepted : (fs : List Field) → refusal fs ≡ None → IsSchema (map folded fs)
+pub schema_from_accepted : (fs : List Field) → schema_refusal fs ≡ None → IsSchema (map folded fs)
 schema_from_accepted fs h = record { accepted = rw (length-map, tests_again [] fs) h; kept = fold_again fs }
 
 -- a field that is accepted, and those after it
@@ -84,7 +84,7 @@ widths_of_accepted earlier [] h = rw append-nil (leb-true _ _ (passed (leb (widt
 widths_of_accepted earlier (f ∷ fs) h =
     rw append_assoc at (widths_of_accepted (earlier ++ folded f ∷ []) fs (accepted_parts earlier fs f h).2)
 
-pub accepted_widths : (fs : List Field) → refusal fs ≡ None → widths (map folded fs) ≤ MAX_RECORD_BYTES
+pub accepted_widths : (fs : List Field) → schema_refusal fs ≡ None → widths (map folded fs) ≤ MAX_RECORD_BYTES
 accepted_widths fs h = widths_of_accepted [] fs (passed (is_in_range 1 MAX_FIELDS (length fs)) _ _ h).1
 
 pub schema_widths : (fs : List Field) → IsSchema fs → widths fs ≤ MAX_RECORD_BYTES

@@ -8,7 +8,7 @@ use Rattle.std.specs.Int.RustNames.{unsigned_abs}
 use Rattle.std.proofs.lemmas.Int.Digits.{digits_of_step}
 use Rattle.std.proofs.lemmas.List.{drop-set, drop-replicate, take-replicate, map-append}
 use Rattle.dbf_fields.specs.Digits.{last_digits}
-use Rattle.dbf_fields.specs.NumberText.{kept, is_exact}
+use Rattle.dbf_fields.specs.NumberText.{digits_kept, is_exact}
 
 -- the last digit of the rest, written before what stands
 pub digit_before : (index rest : ℕ) (last : List ℕ) → 0 < index → index ≤ length last
@@ -66,7 +66,7 @@ zeros_after (d ∷ ds) zero r = ap (λ (t : Bool). (d == 48) && t) (zeros_after 
 zeros_after (d ∷ ds) (suc k) r = zeros_after ds k r
 
 -- the digits after the point, as they are written
-pub kept_is : (scale n decimals : ℕ) → scale < 256 → decimals < 256 → take decimals (last_digits scale n ++ replicate (255 - scale) 48) ≡ kept decimals (last_digits scale n)
+pub kept_is : (scale n decimals : ℕ) → scale < 256 → decimals < 256 → take decimals (last_digits scale n ++ replicate (255 - scale) 48) ≡ digits_kept decimals (last_digits scale n)
 kept_is scale n decimals a b =
     let len = length-last_digits scale n in
     filled_take (last_digits scale n) decimals (255 - scale) decimals (omega arith) (omega arith)

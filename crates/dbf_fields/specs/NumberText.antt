@@ -15,8 +15,8 @@ abbrev pub point : ℕ → List ℕ
 point decimals = if decimals == 0 then [] else POINT ∷ []
 
 -- so many of the digits, with zeros where there are fewer
-abbrev pub kept : ℕ → List ℕ → List ℕ
-kept decimals digits = take decimals (digits ++ replicate decimals ZERO_DIGIT)
+abbrev pub digits_kept : ℕ → List ℕ → List ℕ
+digits_kept decimals digits = take decimals (digits ++ replicate decimals ZERO_DIGIT)
 
 -- The text of the number whose digits are given, of which `scale` stand after its point, with so many decimals.
 unfoldable pub number_text : ℤ → ℕ → ℕ → List ℕ
@@ -24,7 +24,7 @@ number_text digits scale decimals =
     sign digits
     ++ (numeral (unsigned_abs digits / 10 ^ scale)
     ++ (point decimals
-    ++ kept decimals (last_digits scale (unsigned_abs digits))))
+    ++ digits_kept decimals (last_digits scale (unsigned_abs digits))))
 
 -- the number's digits past so many decimals are zeros
 unfoldable pub is_exact : ℤ → ℕ → ℕ → Bool

@@ -1,4 +1,4 @@
--- Which lists of fields a table may have, and the refusal of the others.
+-- Which lists of fields a table may have, and the schema_refusal of the others.
 use Rattle.std.specs.Prelude.{◌≡◌, Bool, not, List, [], ◌∷◌, ◌++◌, ◌⊎◌, length, map, nat_le, Option, Some, None}
 use Rattle.std.specs.Int.{is_in_range}
 use Rattle.dbf_fields.specs.declared.field.Field.{Field}
@@ -24,14 +24,14 @@ tests_from earlier [] = (nat_le (widths earlier) MAX_RECORD_BYTES, RecordTooLong
 tests_from earlier (f ∷ fs) = field_tests earlier f ++ tests_from (earlier ++ folded f ∷ []) fs
 
 -- why the fields are no schema, where they are none
-abbrev pub refusal : List Field → Option SchemaFault
-refusal fields = first_fault ((is_in_range 1 MAX_FIELDS (length fields), BadFieldCount) ∷ tests_from [] fields)
+abbrev pub schema_refusal : List Field → Option SchemaFault
+schema_refusal fields = first_fault ((is_in_range 1 MAX_FIELDS (length fields), BadFieldCount) ∷ tests_from [] fields)
 
 -- the fields of a schema: none is refused, and each is as a schema keeps it
 pub record IsSchema (fields : List Field) : Type 0 where
-  pub accepted : refusal fields ≡ None
+  pub accepted : schema_refusal fields ≡ None
   pub kept : map folded fields ≡ fields
 
 -- a fault that is answered is the first one, but for want of memory
-abbrev pub IsRefusal : SchemaFault → List Field → Type 0
-IsRefusal fault fields = (fault ≡ NoMemory) ⊎ (refusal fields ≡ Some fault)
+abbrev pub IsSchemaRefusal : SchemaFault → List Field → Type 0
+IsSchemaRefusal fault fields = (fault ≡ NoMemory) ⊎ (schema_refusal fields ≡ Some fault)

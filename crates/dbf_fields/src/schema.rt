@@ -3,7 +3,7 @@
 ghost use Rattle.std.specs.Prelude.{◌≡◌, ◌+◌, ◌<◌, ◌≤◌, [], length, Some, None, map, drop, slice_index_or, IfOk, IfErr, OnOk};
 ghost use Rattle.dbf_fields.specs.Faults.{first_fault};
 ghost use Rattle.dbf_fields.specs.Field.{folded, has_name, widths};
-ghost use Rattle.dbf_fields.specs.Schema.{field_tests, refusal};
+ghost use Rattle.dbf_fields.specs.Schema.{field_tests, schema_refusal};
 ghost use Rattle.dbf_fields.specs.Layout.{cells_of, offsets_from, offset_of, width_of};
 
 use crate::field::Field;
@@ -112,8 +112,8 @@ fn check_field(earlier: &[Field], field: &Field) -> Result<(), SchemaFault>
 
 // Tests the fields, one after the other. Takes no memory.
 fn check_fields(fields: &[Field]) -> Result<(), SchemaFault>
-    ensures accepted { OnOk result (refusal fields.now ≡ None) }
-    ensures refused { IfErr result (λ fault. refusal fields.now ≡ Some fault) }
+    ensures accepted { OnOk result (schema_refusal fields.now ≡ None) }
+    ensures refused { IfErr result (λ fault. schema_refusal fields.now ≡ Some fault) }
 {
     if fields.is_empty() || fields.len() > MAX_FIELDS {
         return Err(SchemaFault::BadFieldCount);
@@ -156,7 +156,7 @@ fn layout_of(alloc: Global, fields: &[Field]) -> Result<(Vec<u16>, u16), AllocEr
 }
 
 impl Schema {
-    ghost use Rattle.dbf_fields.specs.Schema.{IsRefusal, IsSchema};
+    ghost use Rattle.dbf_fields.specs.Schema.{IsSchemaRefusal, IsSchema};
 
     /// The schema of the fields: the names in capitals, and no decimals but for numbers.
     ///
@@ -166,10 +166,10 @@ impl Schema {
     /// that a table may have. The rules are those of the published DBF layout, and the limit of 4,000 bytes
     /// that of dBASE III PLUS records.
     pub fn new(alloc: Global, fields: &[Field]) -> Result<Schema, SchemaFault>
-        ensures accepted { IfOk result (λ _. refusal fields.now ≡ None) }
+        ensures accepted { IfOk result (λ _. schema_refusal fields.now ≡ None) }
         ensures value { IfOk result (λ schema. schema ≡ map folded fields.now) }
-        ensures refused { IfErr result (λ fault. IsRefusal fault fields.now) }
-        ensures early { IfErr result (λ fault. (f : SchemaFault) → refusal fields.now ≡ Some f → fault ≡ f) }
+        ensures refused { IfErr result (λ fault. IsSchemaRefusal fault fields.now) }
+        ensures early { IfErr result (λ fault. (f : SchemaFault) → schema_refusal fields.now ≡ Some f → fault ≡ f) }
     {
         check_fields(fields)?;
         let fields = folded_fields(alloc, fields)?;

@@ -3,10 +3,10 @@ use Rattle.std.proofs.Common.{◌≡◌, ℕ, suc, ◌+◌, ◌-◌, ◌*◌, �
 use Rattle.std.proofs.lemmas.Bool.{cond-false}
 use Rattle.std.specs.Prelude.{flat_map}
 use Rattle.dbf_image.specs.DbfText.{chunks}
-use Rattle.dbf_image.specs.Reading.{first_from}
+use Rattle.dbf_image.specs.Reading.{first_passing}
 
-pub first_from-next : (test : ℕ → Bool) (i n : ℕ) → i < n → test i ≡ false → first_from test (i + 1) (n - (i + 1)) ≡ first_from test i (n - i)
-first_from-next test i n lt fails =
+pub first_passing-next : (test : ℕ → Bool) (i n : ℕ) → i < n → test i ≡ false → first_passing test (i + 1) (n - (i + 1)) ≡ first_passing test i (n - i)
+first_passing-next test i n lt fails =
     let k : n - i ≡ suc (n - (i + 1)) = omega arith in
     rw k (sym (cond-false (test i) _ _ fails))
 

@@ -11,9 +11,9 @@ use Rattle.dbf_fields.specs.Schema as schemas
 use Rattle.dbf_fields.proofs.SchemaLaws.{passed, passes}
 use Rattle.dbf_fields.specs.declared.field.Field.{Field}
 use Rattle.dbf_image.specs.Table.{Row, Table, has_memos}
-use Rattle.dbf_image.specs.DbfText.{chunks, header_length, record_length, record_count, field_of, EncodesRows, IsDbf}
-use Rattle.dbf_image.specs.Reading.{first_from, field_count, fields_of, schema_of, has_version, header_tests, field_tests, record_tests, memos_tests, records_of, row_read, refusal, table_read, dbf_header}
-use Rattle.dbf_image.specs.Spans.{table_tests}
+use Rattle.dbf_image.specs.DbfText.{chunks, header_length, record_length, header_record_count, field_of, EncodesRows, IsDbf}
+use Rattle.dbf_image.specs.Reading.{first_passing, field_count, fields_of, schema_of, has_version, header_tests, descriptor_tests, record_tests, memos_tests, records_of, row_read, image_refusal, table_read, dbf_header}
+use Rattle.dbf_image.specs.Spans.{table_memo_tests}
 use Rattle.dbf_image.proofs.Rows.{chunks_take}
 use Rattle.dbf_fields.proofs.FaultLaws.{first_parts}
 use Rattle.dbf_image.proofs.MemoTests.{rows_ok, ok_rows, some_is}
@@ -27,14 +27,14 @@ pub record IsFirst (test : ℕ → Bool) (from end k : ℕ) : Type 0 where
   pub here : test k ≡ true
   pub before : (j : ℕ) → from ≤ j → j < k → test j ≡ false
 
-pub first_from-some : (test : ℕ → Bool) (i n k : ℕ) → first_from test i n ≡ Some k → IsFirst test i (i + n) k
-first_from-some test i zero k e = absurd cc
-first_from-some test i (suc n) k e = elim (cases_Bool (test i)) [
+pub first_passing-some : (test : ℕ → Bool) (i n k : ℕ) → first_passing test i n ≡ Some k → IsFirst test i (i + n) k
+first_passing-some test i zero k e = absurd cc
+first_passing-some test i (suc n) k e = elim (cases_Bool (test i)) [
   | inl here ↦
       let same : i ≡ k = same_Some i k (rw here at e) in
       record { not_below = omega arith; below = omega arith; here = rw (← same) here; before = λ j low high. absurd (omega arith) }
   | inr here ↦
-      let r = first_from-some test (i + 1) n k (rw here at e) in
+      let r = first_passing-some test (i + 1) n k (rw here at e) in
       record {
         not_below = omega (arith, r.not_below);
         below = omega (arith, r.below);
@@ -43,12 +43,12 @@ first_from-some test i (suc n) k e = elim (cases_Bool (test i)) [
       }
 ]
 
-pub first_from-is : (test : ℕ → Bool) (i n k : ℕ) → i ≤ k → k < i + n → test k ≡ true → ((j : ℕ) → i ≤ j → j < k → test j ≡ false) → first_from test i n ≡ Some k
-first_from-is test i zero k low high here before = absurd (omega arith)
-first_from-is test i (suc n) k low high here before =
+pub first_passing-is : (test : ℕ → Bool) (i n k : ℕ) → i ≤ k → k < i + n → test k ≡ true → ((j : ℕ) → i ≤ j → j < k → test j ≡ false) → first_passing test i n ≡ Some k
+first_passing-is test i zero k low high here before = absurd (omega arith)
+first_passing-is test i (suc n) k low high here before =
     elim (eq-or-lt_of_le low) [
-      | inl e ↦ rw (cond-true (test i) (Some i) (first_from test (i + 1) n) (rw e here)) (ap (λ (x : ℕ). Some x) e)
-      | inr lt ↦ rw (cond-false (test i) (Some i) (first_from test (i + 1) n) (before i (omega arith) lt)) (first_from-is test (i + 1) n k (omega arith) (omega arith) here (λ j l h. before j (omega arith) h))
+      | inl e ↦ rw (cond-true (test i) (Some i) (first_passing test (i + 1) n) (rw e here)) (ap (λ (x : ℕ). Some x) e)
+      | inr lt ↦ rw (cond-false (test i) (Some i) (first_passing test (i + 1) n) (before i (omega arith) lt)) (first_passing-is test (i + 1) n k (omega arith) (omega arith) here (λ j l h. before j (omega arith) h))
     ]
 
 -- ---- what passing the tests says
@@ -60,15 +60,15 @@ pub record Passes (bytes : List ℕ) (dbt : Option (List ℕ)) : Type 0 where
   pub ended : is_some (field_count bytes) ≡ true
   pub accepted : is_none (schemas.refusal (fields_of bytes)) ≡ true
   pub wide : record_length bytes ≡ 1 + widths (schema_of bytes)
-  pub few : record_count bytes ≤ MAX_RECORDS
-  pub whole : header_length bytes + record_count bytes * record_length bytes ≤ length bytes
+  pub few : header_record_count bytes ≤ MAX_RECORDS
+  pub whole : header_length bytes + header_record_count bytes * record_length bytes ≤ length bytes
   pub memos : first_fault (memos_tests bytes dbt) ≡ None
 
-pub passes_all : (bytes : List ℕ) (dbt : Option (List ℕ)) → refusal bytes dbt ≡ None → Passes bytes dbt
-unfolding header_tests field_tests record_tests
+pub passes_all : (bytes : List ℕ) (dbt : Option (List ℕ)) → image_refusal bytes dbt ≡ None → Passes bytes dbt
+unfolding header_tests descriptor_tests record_tests
 passes_all bytes dbt h =
-    let p = first_parts (header_tests bytes) (field_tests bytes ++ (record_tests bytes ++ memos_tests bytes dbt)) h in
-    let q = first_parts (field_tests bytes) (record_tests bytes ++ memos_tests bytes dbt) p.1 in
+    let p = first_parts (header_tests bytes) (descriptor_tests bytes ++ (record_tests bytes ++ memos_tests bytes dbt)) h in
+    let q = first_parts (descriptor_tests bytes) (record_tests bytes ++ memos_tests bytes dbt) p.1 in
     let r = first_parts (record_tests bytes) (memos_tests bytes dbt) q.1 in
     let a = passed (leb HEADER (length bytes)) _ _ p.0 in
     let b = passed (has_version bytes) _ _ a.1 in
@@ -76,8 +76,8 @@ passes_all bytes dbt h =
     let d = passed (is_some (field_count bytes)) _ _ q.0 in
     let e = passed (is_none (schemas.refusal (fields_of bytes))) _ _ d.1 in
     let f = passed (eqb (record_length bytes) (1 + widths (schema_of bytes))) _ _ r.0 in
-    let g = passed (leb (record_count bytes) MAX_RECORDS) _ _ f.1 in
-    let i = passed (leb (header_length bytes + record_count bytes * record_length bytes) (length bytes)) _ _ g.1 in
+    let g = passed (leb (header_record_count bytes) MAX_RECORDS) _ _ f.1 in
+    let i = passed (leb (header_length bytes + header_record_count bytes * record_length bytes) (length bytes)) _ _ g.1 in
     record {
       long = leb-true _ _ a.0;
       version = b.0;
@@ -90,8 +90,8 @@ passes_all bytes dbt h =
       memos = r.1;
     }
 
-pub from_passes : (bytes : List ℕ) (dbt : Option (List ℕ)) → Passes bytes dbt → refusal bytes dbt ≡ None
-unfolding header_tests field_tests record_tests
+pub from_passes : (bytes : List ℕ) (dbt : Option (List ℕ)) → Passes bytes dbt → image_refusal bytes dbt ≡ None
+unfolding header_tests descriptor_tests record_tests
 from_passes bytes dbt p =
     let a = le-leb _ _ p.long in
     let c = le-leb _ _ p.inside in
@@ -154,8 +154,8 @@ records_read bytes schema header records h w r =
 -- the tests of the records that the reader found, and its rows
 pub tests_read : (bytes : List ℕ) (dbt : Option (List ℕ)) (schema : List Field) (header : Header) (records : List ℕ) → header ≡ dbf_header bytes → schema ≡ schema_of bytes → header.record_length ≡ 1 + widths schema
     → records ≡ take (header.record_count * header.record_length) (drop header.header_length bytes)
-    → table_tests dbt schema (chunks (1 + widths schema) header.record_count records) ≡ memos_tests bytes dbt
-unfolding table_tests memos_tests
+    → table_memo_tests dbt schema (chunks (1 + widths schema) header.record_count records) ≡ memos_tests bytes dbt
+unfolding table_memo_tests memos_tests
 tests_read bytes dbt schema header records h s w r = rw (records_read bytes schema header records h w r) (rw s refl)
 
 pub rows_read : (bytes : List ℕ) (dbt : Option (List ℕ)) (schema : List Field) (header : Header) (records : List ℕ) (rows : List Row) → header ≡ dbf_header bytes → schema ≡ schema_of bytes → header.record_length ≡ 1 + widths schema
@@ -163,12 +163,12 @@ pub rows_read : (bytes : List ℕ) (dbt : Option (List ℕ)) (schema : List Fiel
     → rows ≡ map (row_read (unwrap_or dbt []) schema) (chunks (1 + widths schema) header.record_count records) → record { schema = schema; rows = rows } ≡ table_read bytes dbt
 rows_read bytes dbt schema header records rows h s w r given = rw (given, records_read bytes schema header records h w r) (rw s refl)
 
-pub is_dbf : (bytes : List ℕ) (dbt : Option (List ℕ)) → refusal bytes dbt ≡ None → IsDbf bytes dbt (table_read bytes dbt)
+pub is_dbf : (bytes : List ℕ) (dbt : Option (List ℕ)) → image_refusal bytes dbt ≡ None → IsDbf bytes dbt (table_read bytes dbt)
 is_dbf bytes dbt h =
     let p = passes_all bytes dbt h in
     let m = memos_pass bytes dbt p.memos in
     let k : ℕ = unwrap_or (field_count bytes) 0 in
-    let first = first_from-some (ends_fields bytes) 0 (most_fields bytes) k (some_is (field_count bytes) p.ended) in
+    let first = first_passing-some (ends_fields bytes) 0 (most_fields bytes) k (some_is (field_count bytes) p.ended) in
     record {
       long = p.long;
       version = version_is bytes p.version;
@@ -189,9 +189,9 @@ same_table : (bytes : List ℕ) (dbt : Option (List ℕ)) (table : Table) → sc
 same_table bytes dbt table schema rows =
     ap (λ (rs : List Row). record { schema = schema_of bytes; rows = rs }) rows ∙ ap (λ (fs : List Field). record { schema = fs; rows = table.rows }) schema
 
-pub dbf_is : (bytes : List ℕ) (dbt : Option (List ℕ)) (table : Table) → IsDbf bytes dbt table → (refusal bytes dbt ≡ None) × (table_read bytes dbt ≡ table)
+pub dbf_is : (bytes : List ℕ) (dbt : Option (List ℕ)) (table : Table) → IsDbf bytes dbt table → (image_refusal bytes dbt ≡ None) × (table_read bytes dbt ≡ table)
 dbf_is bytes dbt table d =
-    let counted : field_count bytes ≡ Some d.field_count = first_from-is (ends_fields bytes) 0 (most_fields bytes) d.field_count (omega arith) (omega (arith, d.in_header)) (eq-eqb _ _ d.last_field) (λ j low lt. ne_eqb _ _ (d.not_before j lt)) in
+    let counted : field_count bytes ≡ Some d.field_count = first_passing-is (ends_fields bytes) 0 (most_fields bytes) d.field_count (omega arith) (omega (arith, d.in_header)) (eq-eqb _ _ d.last_field) (λ j low lt. ne_eqb _ _ (d.not_before j lt)) in
     let fields : fields_of bytes ≡ map field_of (chunks DESCRIPTOR d.field_count (drop HEADER bytes)) = rw counted refl in
     let schema : schema_of bytes ≡ table.schema = ap (map folded) fields ∙ sym d.schema in
     let none : is_none (schemas.refusal (fields_of bytes)) ≡ true = rw (fields, d.accepted) refl in

@@ -10,7 +10,7 @@ use Rattle.dbf_fields.specs.declared.field.Field.{Field}
 use Rattle.dbf_fields.specs.Field.{widths, folded, has_width}
 use Rattle.dbf_fields.proofs.SchemaLaws.{schema_names, schema_widths, schema_count, schema_wide}
 use Rattle.dbf_image.specs.Table.{Row, Table, has_memos, AreCells, IsRow, IsTable}
-use Rattle.dbf_image.specs.DbfText.{chunks, header_length, record_length, record_count, field_of, EncodesRow, EncodesRows, IsDbf}
+use Rattle.dbf_image.specs.DbfText.{chunks, header_length, record_length, header_record_count, field_of, EncodesRow, EncodesRows, IsDbf}
 use Rattle.dbf_image.specs.Blocks.{cells_bytes, cells_blocks, cells_memos, cell_bytes, cell_blocks, rows_blocks, rows_memos, next_free, memo_header, memo_image}
 use Rattle.dbf_image.specs.Image.{header_bytes, descriptor, row_bytes, rows_bytes, image}
 use Rattle.dbf_image.proofs.ReadBack.{chunks-join, length-join, names_from, descriptors_long, fields_again, not_end, after_header, end_here, not_here, flag_again}
@@ -84,7 +84,7 @@ is_dbf_image table year month day t room =
     let small : next_free table < 10 ^ 10 = omega arith in
     let few : n ≤ MAX_FIELDS = schema_count schema t.fields in
     let narrow : widths schema ≤ MAX_RECORD_BYTES = schema_widths schema t.fields in
-    let count : record_count bytes ≡ length table.rows = little_number-reads_back 4 (length table.rows) [] (omega (arith, t.few)) in
+    let count : header_record_count bytes ≡ length table.rows = little_number-reads_back 4 (length table.rows) [] (omega (arith, t.few)) in
     let header : header_length bytes ≡ DESCRIPTOR * n + (HEADER + 1) = little_number-reads_back 2 (DESCRIPTOR * n + (HEADER + 1)) [] (omega arith) in
     let wide : record_length bytes ≡ size = little_number-reads_back 2 size [] (omega arith) in
     let body_long : length body ≡ n * DESCRIPTOR = length-join DESCRIPTOR descriptor schema (descriptors_long schema names) in
@@ -100,7 +100,7 @@ is_dbf_image table year month day t room =
     let nothing : List ℕ = [] in
     let memos : memo_image table ≡ memo_header (next_free table) ++ (rows_memos schema table.rows ++ nothing) = ap (λ (x : List ℕ). memo_header (next_free table) ++ x) (sym (append-nil (rows_memos schema table.rows))) in
     let all = records_again schema table.rows (memo_image table) (memo_header (next_free table)) nothing 1 memos refl (lit< tt) small wide_memos t.fit in
-    let chunks_are : chunks (record_length bytes) (record_count bytes) (drop (header_length bytes) bytes) ≡ images = rw (wide, count, header, rest) cut in
+    let chunks_are : chunks (record_length bytes) (header_record_count bytes) (drop (header_length bytes) bytes) ≡ images = rw (wide, count, header, rest) cut in
     record {
       long = omega (arith, length-append head (body ++ HEADER_END ∷ (records ++ END_OF_FILE ∷ [])));
       version = elim (cases_Bool (has_memos schema)) [ inl some ↦ inr (rw some refl) | inr none ↦ inl (rw none refl) ];

@@ -9,20 +9,20 @@ use Rattle.dbf_fields.specs.Schema as schemas
 use Rattle.dbf_image.specs.declared.fault.ImageFault.{ImageFault}
 use Rattle.dbf_image.specs.declared.fault.ImageFault.TheVariants.{BadHeaderLength, BadSchema, NoMemory}
 use Rattle.dbf_image.specs.DbfText.{chunks, field_of}
-use Rattle.dbf_image.specs.Reading.{field_count, fields_of, header_tests, field_tests, record_tests, memos_tests, early_refusal, refusal, IsRefusal}
+use Rattle.dbf_image.specs.Reading.{field_count, fields_of, header_tests, descriptor_tests, record_tests, memos_tests, early_refusal, image_refusal, IsImageRefusal}
 use Rattle.dbf_image.specs.declared.format.TheConstants.{DESCRIPTOR, HEADER}
 
 pub fields_are : (bytes : List ℕ) (count : ℕ) → Some count ≡ field_count bytes → map field_of (chunks DESCRIPTOR count (take (length bytes - HEADER) (drop HEADER bytes))) ≡ fields_of bytes
 fields_are bytes count e = rw (take_rest bytes HEADER, ← e) refl
 
-pub fields_pass : (bytes : List ℕ) (count : ℕ) → Some count ≡ field_count bytes → is_none (schemas.refusal (fields_of bytes)) ≡ true → first_fault (field_tests bytes) ≡ None
-unfolding field_tests
+pub fields_pass : (bytes : List ℕ) (count : ℕ) → Some count ≡ field_count bytes → is_none (schemas.refusal (fields_of bytes)) ≡ true → first_fault (descriptor_tests bytes) ≡ None
+unfolding descriptor_tests
 fields_pass bytes count e h = rw (h, ← e) refl
 
 pub fields_fail : (bytes : List ℕ) (count : ℕ) (fault : ImageFault) → Some count ≡ field_count bytes
     → (fault ≡ NoMemory) ⊎ ((fault ≡ BadSchema) × (is_none (schemas.refusal (fields_of bytes)) ≡ false))
-    → (fault ≡ NoMemory) ⊎ (first_fault (field_tests bytes) ≡ Some fault)
-unfolding field_tests
+    → (fault ≡ NoMemory) ⊎ (first_fault (descriptor_tests bytes) ≡ Some fault)
+unfolding descriptor_tests
 fields_fail bytes count fault e (inl h) = inl h
 fields_fail bytes count fault e (inr h) = inr (rw (h.1, h.0, ← e) refl)
 
@@ -48,38 +48,38 @@ count_passed None rest h = absurd cc
 count_passed (Some n) rest h = refl
 
 -- a fault after those tests
-pub early_passed : (bytes : List ℕ) (fault first : ImageFault) → first_fault (header_tests bytes) ≡ None → first_fault (field_tests bytes) ≡ None → early_refusal bytes ≡ Some first → fault ≡ first
-unfolding early_refusal field_tests
+pub early_passed : (bytes : List ℕ) (fault first : ImageFault) → first_fault (header_tests bytes) ≡ None → first_fault (descriptor_tests bytes) ≡ None → early_refusal bytes ≡ Some first → fault ≡ first
+unfolding early_refusal descriptor_tests
 early_passed bytes fault first h k is =
     none_some _ first (fault ≡ first) (first_then (header_tests bytes) ((is_some (field_count bytes), BadHeaderLength) ∷ []) h ∙ count_passed (field_count bytes) _ k) is
 
--- the whole refusal by its groups
+-- the whole image_refusal by its groups
 abbrev after_fields : List ℕ → Option (List ℕ) → List (Bool × ImageFault)
 after_fields bytes dbt = record_tests bytes ++ memos_tests bytes dbt
 
-pub refused_by_header : (bytes : List ℕ) (dbt : Option (List ℕ)) (fault : ImageFault) → first_fault (header_tests bytes) ≡ Some fault → IsRefusal fault bytes dbt
-refused_by_header bytes dbt fault h = inr (first_before (header_tests bytes) (field_tests bytes ++ after_fields bytes dbt) fault h)
+pub refused_by_header : (bytes : List ℕ) (dbt : Option (List ℕ)) (fault : ImageFault) → first_fault (header_tests bytes) ≡ Some fault → IsImageRefusal fault bytes dbt
+refused_by_header bytes dbt fault h = inr (first_before (header_tests bytes) (descriptor_tests bytes ++ after_fields bytes dbt) fault h)
 
 pub refused_by_fields : (bytes : List ℕ) (dbt : Option (List ℕ)) (fault : ImageFault) → first_fault (header_tests bytes) ≡ None
-    → (fault ≡ NoMemory) ⊎ (first_fault (field_tests bytes) ≡ Some fault) → IsRefusal fault bytes dbt
+    → (fault ≡ NoMemory) ⊎ (first_fault (descriptor_tests bytes) ≡ Some fault) → IsImageRefusal fault bytes dbt
 refused_by_fields bytes dbt fault a (inl h) = inl h
 refused_by_fields bytes dbt fault a (inr h) =
-    inr (first_then (header_tests bytes) (field_tests bytes ++ after_fields bytes dbt) a ∙ first_before (field_tests bytes) (after_fields bytes dbt) fault h)
+    inr (first_then (header_tests bytes) (descriptor_tests bytes ++ after_fields bytes dbt) a ∙ first_before (descriptor_tests bytes) (after_fields bytes dbt) fault h)
 
-decided_by_records : (bytes : List ℕ) (dbt : Option (List ℕ)) → first_fault (header_tests bytes) ≡ None → first_fault (field_tests bytes) ≡ None → refusal bytes dbt ≡ first_fault (after_fields bytes dbt)
+decided_by_records : (bytes : List ℕ) (dbt : Option (List ℕ)) → first_fault (header_tests bytes) ≡ None → first_fault (descriptor_tests bytes) ≡ None → image_refusal bytes dbt ≡ first_fault (after_fields bytes dbt)
 decided_by_records bytes dbt a b =
-    first_then (header_tests bytes) (field_tests bytes ++ after_fields bytes dbt) a ∙ first_then (field_tests bytes) (after_fields bytes dbt) b
+    first_then (header_tests bytes) (descriptor_tests bytes ++ after_fields bytes dbt) a ∙ first_then (descriptor_tests bytes) (after_fields bytes dbt) b
 
-pub refused_by_records : (bytes : List ℕ) (dbt : Option (List ℕ)) (fault : ImageFault) → first_fault (header_tests bytes) ≡ None → first_fault (field_tests bytes) ≡ None
-    → first_fault (record_tests bytes) ≡ Some fault → IsRefusal fault bytes dbt
+pub refused_by_records : (bytes : List ℕ) (dbt : Option (List ℕ)) (fault : ImageFault) → first_fault (header_tests bytes) ≡ None → first_fault (descriptor_tests bytes) ≡ None
+    → first_fault (record_tests bytes) ≡ Some fault → IsImageRefusal fault bytes dbt
 refused_by_records bytes dbt fault a b h = inr (decided_by_records bytes dbt a b ∙ first_before (record_tests bytes) (memos_tests bytes dbt) fault h)
 
-pub decided_by_memos : (bytes : List ℕ) (dbt : Option (List ℕ)) → first_fault (header_tests bytes) ≡ None → first_fault (field_tests bytes) ≡ None → first_fault (record_tests bytes) ≡ None
-    → refusal bytes dbt ≡ first_fault (memos_tests bytes dbt)
+pub decided_by_memos : (bytes : List ℕ) (dbt : Option (List ℕ)) → first_fault (header_tests bytes) ≡ None → first_fault (descriptor_tests bytes) ≡ None → first_fault (record_tests bytes) ≡ None
+    → image_refusal bytes dbt ≡ first_fault (memos_tests bytes dbt)
 decided_by_memos bytes dbt a b c = decided_by_records bytes dbt a b ∙ first_then (record_tests bytes) (memos_tests bytes dbt) c
 
-pub refused_by_memos : (bytes : List ℕ) (dbt : Option (List ℕ)) (fault : ImageFault) → first_fault (header_tests bytes) ≡ None → first_fault (field_tests bytes) ≡ None
-    → first_fault (record_tests bytes) ≡ None → (fault ≡ NoMemory) ⊎ (first_fault (memos_tests bytes dbt) ≡ Some fault) → IsRefusal fault bytes dbt
+pub refused_by_memos : (bytes : List ℕ) (dbt : Option (List ℕ)) (fault : ImageFault) → first_fault (header_tests bytes) ≡ None → first_fault (descriptor_tests bytes) ≡ None
+    → first_fault (record_tests bytes) ≡ None → (fault ≡ NoMemory) ⊎ (first_fault (memos_tests bytes dbt) ≡ Some fault) → IsImageRefusal fault bytes dbt
 refused_by_memos bytes dbt fault a b c (inl h) = inl h
 refused_by_memos bytes dbt fault a b c (inr h) = inr (decided_by_memos bytes dbt a b c ∙ h)
 

@@ -8,7 +8,7 @@ use Rattle.dbf_image.specs.declared.memo_store.block.MemoBlock.{MemoBlock}
 use Rattle.dbf_image.specs.declared.memo_store.block.FreeList.{FreeList}
 use Rattle.dbf_image.specs.MemoChains.{block_at, blocks_owned, text_at, text_blocks, IsChain, is_kept, free_one, AreHeld, AreCounted}
 use Rattle.dbf_image.specs.MemoSteps.{Marks, Sweeps}
-use Rattle.dbf_image.specs.MemoStore.{texts_of}
+use Rattle.dbf_image.specs.MemoStore.{stored_texts}
 use Rattle.dbf_image.proofs.MemoFrame.{alike}
 use Rattle.dbf_image.proofs.MemoCounting.{chain_counted, counted_le}
 use Rattle.dbf_image.proofs.MemoOwners.{owned_same, owned_none}
@@ -86,13 +86,13 @@ kept_or_not xs ys numbers (suc i) m = ⊎_elim
     (λ le. both_none (is_kept ys (suc i)) (list_any (nat_eq (suc i)) numbers) (text_at ys (suc i)) (past_text ys i (omega (arith, le, m.same_length))))
     (cases_lt i (length xs))
 
-pub dropped : (xs ys zs : List MemoBlock) (numbers : List ℕ) (free : FreeList) → AreHeld xs → Marks xs ys numbers → Sweeps (length ys) ys zs free → texts_of zs ≡ retain_keys (texts_of xs) (λ q. list_any (nat_eq q) numbers)
+pub dropped : (xs ys zs : List MemoBlock) (numbers : List ℕ) (free : FreeList) → AreHeld xs → Marks xs ys numbers → Sweeps (length ys) ys zs free → stored_texts zs ≡ retain_keys (stored_texts xs) (λ q. list_any (nat_eq q) numbers)
 dropped xs ys zs numbers free held m s = same_map nat_cmp_total nat_cmp-IsAntisymmetric _ _ (λ q.
     get_texts zs q
     ∙ swept_text ys zs free q (is_kept ys q) refl (marked_held xs ys numbers held m) s
     ∙ kept_or_not xs ys numbers q m
     ∙ ap (λ t. cond (list_any (nat_eq q) numbers) t None) (marked_text xs ys numbers q held m ∙ sym (get_texts xs q))
-    ∙ sym (get-retain_keys (texts_of xs) (λ p. list_any (nat_eq p) numbers) q (λ x t. ap (λ p. list_any (nat_eq p) numbers) (sym (nat_cmp-IsAntisymmetric q x t)))))
+    ∙ sym (get-retain_keys (stored_texts xs) (λ p. list_any (nat_eq p) numbers) q (λ x t. ap (λ p. list_any (nat_eq p) numbers) (sym (nat_cmp-IsAntisymmetric q x t)))))
 
 -- no free block is lost
 pub drop_keeps_free : (k head : ℕ) (xs ys zs : List MemoBlock) (numbers : List ℕ) (free : FreeList) → IsChain 0 k xs head → Marks xs ys numbers → Sweeps (length ys) ys zs free → k ≤ free.count

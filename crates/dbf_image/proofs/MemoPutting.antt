@@ -6,7 +6,7 @@ use Rattle.dbf_image.specs.declared.memo_store.block.MemoBlock.{MemoBlock}
 use Rattle.dbf_image.specs.declared.memo_store.block.FreeList.{FreeList}
 use Rattle.dbf_image.specs.MemoChains.{block_at, blocks_in, blocks_owned, text_at, text_blocks, text_from, IsChain, AreHeld, AreCounted, Grown}
 use Rattle.dbf_image.specs.MemoSteps.{Fills}
-use Rattle.dbf_image.specs.MemoStore.{texts_of}
+use Rattle.dbf_image.specs.MemoStore.{stored_texts}
 use Rattle.dbf_image.proofs.MemoFrame.{alike}
 use Rattle.dbf_image.proofs.MemoOwners.{grown_owned}
 use Rattle.dbf_image.proofs.MemoTexts.{text_is, none_is, get_texts, one_more, text_stays, chain_stays, grown_text, grown_texts, grown_held}
@@ -14,8 +14,8 @@ use Rattle.dbf_image.proofs.MemoTexts.{text_is, none_is, get_texts, one_more, te
 pub record Puts (xs ys : List MemoBlock) (number : ℕ) (text : List ℕ) : Type 0 where
   pub held : AreHeld ys
   pub counted : AreCounted ys
-  pub fresh : get (texts_of xs) number ≡ None
-  pub texts : texts_of ys ≡ insert (texts_of xs) number text
+  pub fresh : get (stored_texts xs) number ≡ None
+  pub texts : stored_texts ys ≡ insert (stored_texts xs) number text
 
 pub puts : (k c : ℕ) (xs ys : List MemoBlock) (free rest : FreeList) (text : List ℕ) → AreHeld xs → AreCounted xs → suc c ≡ blocks_in (length text) → free.count ≡ suc k → IsChain 0 free.count xs free.head → Fills xs ys free rest (suc free.head) (suc c) text → Puts xs ys (suc free.head) text
 puts k c xs ys free rest text held counted takes e chain done =

@@ -16,7 +16,7 @@ use Rattle.dbf_image.specs.MemoNumbers.{cell_texts, cells_texts, row_texts}
 use Rattle.dbf_image.specs.MemoStore.{Texts}
 use Rattle.dbf_image.specs.Store.{text_of, texts_of, IsMemo, memo_count, cells_with, rows_with, IsStore}
 use Rattle.dbf_image.specs.Reading.{cell_tests, cell_text, cells_tests, cells_read, row_tests, row_read}
-use Rattle.dbf_image.specs.Spans.{table_tests}
+use Rattle.dbf_image.specs.Spans.{table_memo_tests}
 use Rattle.dbf_image.proofs.Rows.{length-chunks}
 
 -- ---- what they tell
@@ -91,8 +91,8 @@ plain_all : (dbt : List ℕ) (fields : List Field) (ps : List (List ℕ)) → ha
 plain_all dbt fields [] e = refl
 plain_all dbt fields (p ∷ ps) e = rw (plain_tests dbt fields (drop 1 p) e) (plain_all dbt fields ps e)
 
-pub plain_passes : (dbt : Option (List ℕ)) (fields : List Field) (ps : List (List ℕ)) → has_memos fields ≡ false → first_fault (table_tests dbt fields ps) ≡ None
-unfolding table_tests
+pub plain_passes : (dbt : Option (List ℕ)) (fields : List Field) (ps : List (List ℕ)) → has_memos fields ≡ false → first_fault (table_memo_tests dbt fields ps) ≡ None
+unfolding table_memo_tests
 plain_passes dbt fields ps e = rw (e, plain_all (unwrap_or dbt []) fields ps e) refl
 
 pub plain_store : (fields : List Field) (count : ℕ) (bytes : List ℕ) (texts : Texts) (numbers : List ℕ) → AreRecords fields count bytes → has_memos fields ≡ false → numbers ≡ [] → IsStore fields count bytes texts numbers
@@ -102,10 +102,10 @@ plain_store fields count bytes texts numbers records e nothing =
 
 -- ---- where some field is a memo
 
-pub missing : (fields : List Field) (ps : List (List ℕ)) → has_memos fields ≡ true → first_fault (table_tests None fields ps) ≡ Some MemoFileMissing
-unfolding table_tests
+pub missing : (fields : List Field) (ps : List (List ℕ)) → has_memos fields ≡ true → first_fault (table_memo_tests None fields ps) ≡ Some MemoFileMissing
+unfolding table_memo_tests
 missing fields ps e = rw e refl
 
-pub tests_in : (dbt : List ℕ) (fields : List Field) (ps : List (List ℕ)) → first_fault (table_tests (Some dbt) fields ps) ≡ first_fault (flat_map (row_tests dbt fields) ps)
-unfolding table_tests
+pub tests_in : (dbt : List ℕ) (fields : List Field) (ps : List (List ℕ)) → first_fault (table_memo_tests (Some dbt) fields ps) ≡ first_fault (flat_map (row_tests dbt fields) ps)
+unfolding table_memo_tests
 tests_in dbt fields ps = cond-true (not (has_memos fields) || true) _ _ (or-true (not (has_memos fields)))

@@ -6,7 +6,7 @@ use Rattle.std.specs.Cmp.{nat_cmp_total, unsigned_tied}
 use Rattle.std.specs.FinMap.{find, get, insert, same_map, get-from_entries, get-insert, nat_cmp-IsAntisymmetric}
 use Rattle.dbf_image.specs.declared.memo_store.block.MemoBlock.{MemoBlock}
 use Rattle.dbf_image.specs.MemoChains.{no_block, block_at, text_from, text_at, IsChain, AreHeld, Alike, Grown}
-use Rattle.dbf_image.specs.MemoStore.{with_entry, entries_to, texts_of}
+use Rattle.dbf_image.specs.MemoStore.{with_text_entry, entries_to, stored_texts}
 use Rattle.dbf_image.proofs.MemoFrame.{framed, alike}
 
 not_none : is_some {T = List ℕ} None ≡ true → ⊥
@@ -27,11 +27,11 @@ text_past : (bs : List MemoBlock) (q : ℕ) → length bs < q → text_at bs q �
 text_past bs zero lt = refl
 text_past bs (suc i) lt = none_is bs i (λ e. absurd (omega (arith, there bs i i e)))
 
-here : (o : Option (List ℕ)) (m : ℕ) (es : List (ℕ × List ℕ)) → (o ≡ None → find nat_cmp m es ≡ None) → find nat_cmp m (with_entry o m es) ≡ o
+here : (o : Option (List ℕ)) (m : ℕ) (es : List (ℕ × List ℕ)) → (o ≡ None → find nat_cmp m es ≡ None) → find nat_cmp m (with_text_entry o m es) ≡ o
 here None m es f = f refl
 here (Some t) m es f = ap (λ b. cond b (Some t) (find nat_cmp m es)) (unsigned_tied m m ∙ eq-eqb m m refl)
 
-skip : (o : Option (List ℕ)) (m q : ℕ) (es : List (ℕ × List ℕ)) → q ≢ m → find nat_cmp q (with_entry o m es) ≡ find nat_cmp q es
+skip : (o : Option (List ℕ)) (m q : ℕ) (es : List (ℕ × List ℕ)) → q ≢ m → find nat_cmp q (with_text_entry o m es) ≡ find nat_cmp q es
 skip None m q es ne = refl
 skip (Some t) m q es ne = ap (λ b. cond b (Some t) (find nat_cmp q es)) (unsigned_tied q m ∙ ne_eqb q m ne)
 
@@ -45,22 +45,22 @@ found (suc n) bs q h =
     (cases_eq q (suc n))
 
 -- what the map has at a number
-pub get_texts : (bs : List MemoBlock) (q : ℕ) → get (texts_of bs) q ≡ text_at bs q
+pub get_texts : (bs : List MemoBlock) (q : ℕ) → get (stored_texts bs) q ≡ text_at bs q
 get_texts bs q = get-from_entries nat_cmp_total (entries_to (length bs) bs) q ∙ found (length bs) bs q (text_past bs q)
 
-pub same_texts : (xs ys : List MemoBlock) → ((q : ℕ) → text_at ys q ≡ text_at xs q) → texts_of ys ≡ texts_of xs
+pub same_texts : (xs ys : List MemoBlock) → ((q : ℕ) → text_at ys q ≡ text_at xs q) → stored_texts ys ≡ stored_texts xs
 same_texts xs ys h = same_map nat_cmp_total nat_cmp-IsAntisymmetric _ _ (λ q. get_texts ys q ∙ h q ∙ sym (get_texts xs q))
 
 -- one text is new
-pub one_more : (xs ys : List MemoBlock) (n : ℕ) (t : List ℕ) → text_at ys n ≡ Some t → ((q : ℕ) → q ≢ n → text_at ys q ≡ text_at xs q) → texts_of ys ≡ insert (texts_of xs) n t
+pub one_more : (xs ys : List MemoBlock) (n : ℕ) (t : List ℕ) → text_at ys n ≡ Some t → ((q : ℕ) → q ≢ n → text_at ys q ≡ text_at xs q) → stored_texts ys ≡ insert (stored_texts xs) n t
 one_more xs ys n t is others = same_map nat_cmp_total nat_cmp-IsAntisymmetric _ _ (λ q.
     get_texts ys q
     ∙ ⊎_elim
-    (λ e. ap (text_at ys) e ∙ is ∙ ap (λ b. cond b (Some t) (get (texts_of xs) q)) (sym (eq-eqb q n e)))
-    (λ ne. others q ne ∙ sym (get_texts xs q) ∙ ap (λ b. cond b (Some t) (get (texts_of xs) q)) (sym (ne_eqb q n ne)))
+    (λ e. ap (text_at ys) e ∙ is ∙ ap (λ b. cond b (Some t) (get (stored_texts xs) q)) (sym (eq-eqb q n e)))
+    (λ ne. others q ne ∙ sym (get_texts xs q) ∙ ap (λ b. cond b (Some t) (get (stored_texts xs) q)) (sym (ne_eqb q n ne)))
     (cases_eq q n)
-    ∙ ap (λ b. cond b (Some t) (get (texts_of xs) q)) (sym (unsigned_tied q n))
-    ∙ sym (get-insert nat_cmp_total (texts_of xs) n t q))
+    ∙ ap (λ b. cond b (Some t) (get (stored_texts xs) q)) (sym (unsigned_tied q n))
+    ∙ sym (get-insert nat_cmp_total (stored_texts xs) n t q))
 
 -- a text stays where its blocks do
 pub text_stays : (xs ys : List MemoBlock) (q : ℕ) → AreHeld xs → length xs ≤ length ys → ((j n : ℕ) → q ≡ suc n → (block_at xs j).owner ≡ q → Alike (block_at ys j) (block_at xs j)) → ((i : ℕ) → q ≡ suc i → (block_at ys i).owner ≡ q → (block_at xs i).owner ≡ q) → text_at ys q ≡ text_at xs q
@@ -108,7 +108,7 @@ grown_text xs ys q held g = text_stays xs ys q held g.longer
     (λ j n s o. alike (g.stay j (there xs j n (o ∙ s))))
     (λ i s o. grown_back xs ys i i g (o ∙ s) ∙ sym s)
 
-pub grown_texts : (xs ys : List MemoBlock) → AreHeld xs → Grown xs ys → texts_of ys ≡ texts_of xs
+pub grown_texts : (xs ys : List MemoBlock) → AreHeld xs → Grown xs ys → stored_texts ys ≡ stored_texts xs
 grown_texts xs ys held g = same_texts xs ys (λ q. grown_text xs ys q held g)
 
 pub grown_held : (xs ys : List MemoBlock) → AreHeld xs → Grown xs ys → AreHeld ys

@@ -12,7 +12,7 @@ use Rattle.dbf_image.specs.declared.format.TheConstants.{BLOCK}
 use Rattle.dbf_image.specs.declared.memo_store.block.MemoBlock.{MemoBlock}
 use Rattle.dbf_image.specs.declared.memo_store.MemoStore.TheInside.{Inside}
 use Rattle.dbf_image.specs.MemoChains.{block_at, blocks_in, blocks_owned, text_at, text_blocks, AreCounted}
-use Rattle.dbf_image.specs.MemoStore.{with_entry, entries_to, texts_of, used_blocks, all_bytes, view_of, IsMemoStore}
+use Rattle.dbf_image.specs.MemoStore.{with_text_entry, entries_to, stored_texts, used_blocks, all_bytes, memos_view, IsMemoStore}
 use Rattle.dbf_image.proofs.MemoOwners.{owned_some, owned_to, owned_next, owned_first, owned_all}
 use Rattle.dbf_image.proofs.MemoTexts.{none_is, there}
 
@@ -36,14 +36,14 @@ no_sum (x ∷ es) e = absurd (omega (arith, e))
 pub used_none : used_blocks (empty {R = nat_cmp}) ≡ 0
 used_none = no_sum (entries empty) (sym (len-entries {R = nat_cmp} empty) ∙ len-empty nat_cmp (List ℕ))
 
-used_entry : (o : Option (List ℕ)) (m : ℕ) (es : List (ℕ × List ℕ)) → find nat_cmp m es ≡ None → used_blocks (from_entries (with_entry o m es)) ≡ text_blocks o + used_blocks (from_entries es)
+used_entry : (o : Option (List ℕ)) (m : ℕ) (es : List (ℕ × List ℕ)) → find nat_cmp m es ≡ None → used_blocks (from_entries (with_text_entry o m es)) ≡ text_blocks o + used_blocks (from_entries es)
 used_entry None m es h = omega arith
 used_entry (Some t) m es h =
     ap (sum_by entry_blocks) (entries-insert nat_cmp_total (from_entries es) m t)
     ∙ put_sum m t (entries (from_entries es)) (sym (get-entries (from_entries es) m) ∙ get-from_entries nat_cmp_total es m ∙ h)
 
 -- a number past the first n
-skip : (o : Option (List ℕ)) (m q : ℕ) (es : List (ℕ × List ℕ)) → q ≢ m → find nat_cmp q (with_entry o m es) ≡ find nat_cmp q es
+skip : (o : Option (List ℕ)) (m q : ℕ) (es : List (ℕ × List ℕ)) → q ≢ m → find nat_cmp q (with_text_entry o m es) ≡ find nat_cmp q es
 skip None m q es ne = refl
 skip (Some t) m q es ne = ap (λ b. cond b (Some t) (find nat_cmp q es)) (unsigned_tied q m ∙ ne_eqb q m ne)
 
@@ -68,9 +68,9 @@ owner_le bs j zero c e = omega arith
 owner_le bs j (suc n) c e = omega (arith, there bs n n (owner_there bs j n c e))
 
 -- the free blocks and the used ones
-pub all_blocks : (bs : List MemoBlock) → AreCounted bs → blocks_owned 0 bs + used_blocks (texts_of bs) ≡ length bs
+pub all_blocks : (bs : List MemoBlock) → AreCounted bs → blocks_owned 0 bs + used_blocks (stored_texts bs) ≡ length bs
 all_blocks bs c = used_to (length bs) bs c ∙ owned_all (length bs) bs (λ j. owner_le bs j _ c refl)
 
 -- the bytes of a store's blocks
-pub bytes_of_all : (x : Inside) → IsMemoStore x → all_bytes (view_of x) ≡ BLOCK * (length x.blocks.items + x.ready)
+pub bytes_of_all : (x : Inside) → IsMemoStore x → all_bytes (memos_view x) ≡ BLOCK * (length x.blocks.items + x.ready)
 bytes_of_all x s = omega (arith, s.all_free, all_blocks x.blocks.items s.counted)

@@ -15,8 +15,8 @@ chunks size zero bytes = []
 chunks size (suc n) bytes = take size bytes ∷ chunks size n (drop size bytes)
 
 -- the numbers of the header
-abbrev pub record_count : List ℕ → ℕ
-record_count bytes = little_number 4 (drop 4 bytes)
+abbrev pub header_record_count : List ℕ → ℕ
+header_record_count bytes = little_number 4 (drop 4 bytes)
 
 abbrev pub header_length : List ℕ → ℕ
 header_length bytes = little_number 2 (drop 8 bytes)
@@ -63,7 +63,7 @@ pub record IsDbf (bytes : List ℕ) (dbt : Option (List ℕ)) (table : Table) : 
   pub schema : table.schema ≡ map folded (map field_of (chunks DESCRIPTOR field_count (drop HEADER bytes)))
   pub wide : record_length bytes ≡ 1 + widths table.schema
   -- the records stand after the header, one after the other
-  pub few : record_count bytes ≤ MAX_RECORDS
-  pub whole : header_length bytes + record_count bytes * record_length bytes ≤ length bytes
+  pub few : header_record_count bytes ≤ MAX_RECORDS
+  pub whole : header_length bytes + header_record_count bytes * record_length bytes ≤ length bytes
   pub memos : has_memos table.schema ≡ true → is_some dbt ≡ true
-  pub rows : EncodesRows (unwrap_or dbt []) table.schema (chunks (record_length bytes) (record_count bytes) (drop (header_length bytes) bytes)) table.rows
+  pub rows : EncodesRows (unwrap_or dbt []) table.schema (chunks (record_length bytes) (header_record_count bytes) (drop (header_length bytes) bytes)) table.rows

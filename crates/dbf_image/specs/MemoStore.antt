@@ -35,21 +35,21 @@ abbrev pub coded_memos : Coded Memos
 coded_memos = code_by (map.FinMap nat_cmp (List ℕ) × ℕ) (coded× (map.code coded_ℕ (coded_list coded_ℕ)) coded_ℕ) (λ m. (m.texts, m.spare)) (λ p. record { texts = p.0; spare = p.1 }) (λ _. refl)
 
 -- with a text where there is one
-abbrev pub with_entry : Option (List ℕ) → ℕ → List (ℕ × List ℕ) → List (ℕ × List ℕ)
-with_entry None number es = es
-with_entry (Some text) number es = (number, text) ∷ es
+abbrev pub with_text_entry : Option (List ℕ) → ℕ → List (ℕ × List ℕ) → List (ℕ × List ℕ)
+with_text_entry None number es = es
+with_text_entry (Some text) number es = (number, text) ∷ es
 
 -- the texts of the first n numbers
 abbrev pub entries_to : ℕ → List MemoBlock → List (ℕ × List ℕ)
 entries_to zero bs = []
-entries_to (suc n) bs = with_entry (text_at bs (suc n)) (suc n) (entries_to n bs)
+entries_to (suc n) bs = with_text_entry (text_at bs (suc n)) (suc n) (entries_to n bs)
 
 -- no number is greater than the count of blocks
-abbrev pub texts_of : List MemoBlock → map.FinMap nat_cmp (List ℕ)
-texts_of bs = map.from_entries (entries_to (length bs) bs)
+abbrev pub stored_texts : List MemoBlock → map.FinMap nat_cmp (List ℕ)
+stored_texts bs = map.from_entries (entries_to (length bs) bs)
 
-abbrev pub view_of : Inside → Memos
-view_of x = record { texts = texts_of x.blocks.items; spare = BLOCK * (x.free.count + x.ready) }
+abbrev pub memos_view : Inside → Memos
+memos_view x = record { texts = stored_texts x.blocks.items; spare = BLOCK * (x.free.count + x.ready) }
 
 -- the free blocks are a chain, and so is each text; each block is in one of these chains; the room is there for the
 -- blocks that may still be pushed

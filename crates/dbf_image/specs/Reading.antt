@@ -11,16 +11,16 @@ use Rattle.dbf_image.specs.declared.format.TheConstants.{BLOCK, DELETED, DESCRIP
 use Rattle.dbf_image.specs.declared.dbf.header.Header.{Header}
 use Rattle.dbf_image.specs.Table.{Row, Table, has_memos}
 use Rattle.dbf_image.specs.Memo.{memo_number, memo_at}
-use Rattle.dbf_image.specs.DbfText.{chunks, record_count, header_length, record_length, field_of}
+use Rattle.dbf_image.specs.DbfText.{chunks, header_record_count, header_length, record_length, field_of}
 
 -- the first of the n numbers from i on that passes the test
-abbrev pub first_from : (ℕ → Bool) → ℕ → ℕ → Option ℕ
-first_from test i zero = None
-first_from test i (suc n) = if test i then Some i else first_from test (i + 1) n
+abbrev pub first_passing : (ℕ → Bool) → ℕ → ℕ → Option ℕ
+first_passing test i zero = None
+first_passing test i (suc n) = if test i then Some i else first_passing test (i + 1) n
 
 -- how many descriptors stand before the first 0x0D among the bytes 32, 64, .. below the header's end
 abbrev pub field_count : List ℕ → Option ℕ
-field_count bytes = first_from (λ i. slice_index bytes (HEADER + DESCRIPTOR * i) == HEADER_END) 0 ((header_length bytes - 1) / DESCRIPTOR)
+field_count bytes = first_passing (λ i. slice_index bytes (HEADER + DESCRIPTOR * i) == HEADER_END) 0 ((header_length bytes - 1) / DESCRIPTOR)
 
 -- the fields as their descriptors tell them
 abbrev pub fields_of : List ℕ → List Field
@@ -41,8 +41,8 @@ header_tests bytes =
     ∷ []
 
 -- then of the fields,
-unfoldable pub field_tests : List ℕ → List (Bool × ImageFault)
-field_tests bytes =
+unfoldable pub descriptor_tests : List ℕ → List (Bool × ImageFault)
+descriptor_tests bytes =
     (is_some (field_count bytes), BadHeaderLength)
     ∷ (is_none (schemas.refusal (fields_of bytes)), BadSchema)
     ∷ []
@@ -56,8 +56,8 @@ early_refusal bytes = first_fault (header_tests bytes ++ ((is_some (field_count 
 unfoldable pub record_tests : List ℕ → List (Bool × ImageFault)
 record_tests bytes =
     (record_length bytes == 1 + widths (schema_of bytes), BadRecordLength)
-    ∷ (nat_le (record_count bytes) MAX_RECORDS, TooManyRecords)
-    ∷ (nat_le (header_length bytes + record_count bytes * record_length bytes) (length bytes), Truncated)
+    ∷ (nat_le (header_record_count bytes) MAX_RECORDS, TooManyRecords)
+    ∷ (nat_le (header_length bytes + header_record_count bytes * record_length bytes) (length bytes), Truncated)
     ∷ []
 
 -- the block begins in the file of memos, after its header
@@ -105,7 +105,7 @@ row_read dbt fields bytes = record { deleted = slice_index bytes 0 == DELETED; c
 
 -- the records, one after the other
 abbrev pub records_of : List ℕ → List (List ℕ)
-records_of bytes = chunks (record_length bytes) (record_count bytes) (drop (header_length bytes) bytes)
+records_of bytes = chunks (record_length bytes) (header_record_count bytes) (drop (header_length bytes) bytes)
 
 -- and last of the memos, of all records in their order
 unfoldable pub memos_tests : List ℕ → Option (List ℕ) → List (Bool × ImageFault)
@@ -114,16 +114,16 @@ memos_tests bytes dbt =
     ∷ flat_map (row_tests (unwrap_or dbt []) (schema_of bytes)) (records_of bytes)
 
 -- why the bytes are no table, where they are none
-abbrev pub refusal : List ℕ → Option (List ℕ) → Option ImageFault
-refusal bytes dbt = first_fault (header_tests bytes ++ (field_tests bytes ++ (record_tests bytes ++ memos_tests bytes dbt)))
+abbrev pub image_refusal : List ℕ → Option (List ℕ) → Option ImageFault
+image_refusal bytes dbt = first_fault (header_tests bytes ++ (descriptor_tests bytes ++ (record_tests bytes ++ memos_tests bytes dbt)))
 
 -- a fault that is answered is the first one, but for want of memory
-abbrev pub IsRefusal : ImageFault → List ℕ → Option (List ℕ) → Type 0
-IsRefusal fault bytes dbt = (fault ≡ NoMemory) ⊎ (refusal bytes dbt ≡ Some fault)
+abbrev pub IsImageRefusal : ImageFault → List ℕ → Option (List ℕ) → Type 0
+IsImageRefusal fault bytes dbt = (fault ≡ NoMemory) ⊎ (image_refusal bytes dbt ≡ Some fault)
 
 -- the numbers of the header, as the code keeps them
 abbrev pub dbf_header : List ℕ → Header
-dbf_header bytes = record { header_length = header_length bytes; record_length = record_length bytes; record_count = record_count bytes }
+dbf_header bytes = record { header_length = header_length bytes; record_length = record_length bytes; header_record_count = header_record_count bytes }
 
 -- the table, where no test fails
 abbrev pub table_read : List ℕ → Option (List ℕ) → Table

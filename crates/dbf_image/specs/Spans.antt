@@ -23,7 +23,7 @@ abbrev pub span_of : List ℕ → ℕ → Span
 span_of dbt block = record { start = BLOCK * block; length = position_or_len (λ b. b == MEMO_END) (drop (BLOCK * block) dbt) }
 
 -- the tests of all memos of a table, whose records are known
-unfoldable pub table_tests : Option (List ℕ) → List Field → List (List ℕ) → List (Bool × ImageFault)
-table_tests dbt fields records =
+unfoldable pub table_memo_tests : Option (List ℕ) → List Field → List (List ℕ) → List (Bool × ImageFault)
+table_memo_tests dbt fields records =
     (not (has_memos fields) || is_some dbt, MemoFileMissing)
     ∷ flat_map (row_tests (unwrap_or dbt []) fields) records

@@ -38,13 +38,13 @@ pub struct MemoStore {
 }
 
 impl Model for MemoStore {
-    ghost use Rattle.dbf_image.specs.MemoStore.{Memos, coded_memos, view_of, IsMemoStore};
+    ghost use Rattle.dbf_image.specs.MemoStore.{Memos, coded_memos, memos_view, IsMemoStore};
 
     ghost Value = { Memos };
 
     ghost coded = { coded_memos };
 
-    ghost view = { view_of };
+    ghost view = { memos_view };
 
     ghost invariant = { IsMemoStore };
 }

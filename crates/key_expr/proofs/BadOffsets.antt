@@ -5,8 +5,8 @@ use Rattle.key_expr.specs.declared.token.Kind.{Kind}
 use Rattle.key_expr.specs.declared.token.Kind.TheVariants.{End}
 use Rattle.key_expr.specs.declared.fault.ExprFault.{ExprFault}
 use Rattle.key_expr.specs.declared.fault.ExprFault.TheVariants.{BadSyntax, NoMemory}
-use Rattle.key_expr.specs.Grammar.{Expr, IsText, IsBadAt, EndsInEnd, IsRefusal}
-use Rattle.key_expr.specs.Expected.{Expected, expr, more, finish, step, first_unexpected, IsFirstUnexpected}
+use Rattle.key_expr.specs.Grammar.{Expr, IsWholeExpression, IsBadAt, EndsInEnd, IsTokenRefusal}
+use Rattle.key_expr.specs.Expected.{Expected, expr, more, finish, expected_after, first_unexpected, IsFirstUnexpected}
 use Rattle.key_expr.proofs.ExpectedSteps.{text_fits}
 use Rattle.key_expr.proofs.Fits.{Fits, nothing, fits_expr, fits_end, FitsNext, fits_of_step, some_tokens}
 
@@ -22,7 +22,7 @@ record StopsAt (offset : ℕ) (s : List Expected) (ts : List Token) : Type 0 whe
   pub after : (others : List Token) → first_unexpected s (front ++ (token ∷ others)) ≡ Some offset
 
 -- the end is only expected last
-end_last : (s w : List Expected) → step s End ≡ Some w → w ≡ []
+end_last : (s w : List Expected) → expected_after s End ≡ Some w → w ≡ []
 end_last (more ∷ s) w e = end_last s w e
 end_last (finish ∷ s) w e = cc
 end_last s w e = absurd cc
@@ -30,13 +30,13 @@ end_last s w e = absurd cc
 -- one token further, where the law holds after it
 stops_from : (s : List Expected) (t : Token) (ts : List Token) (p : ℕ)
     → ((w : List Expected) → EndsInEnd ts → first_unexpected w ts ≡ Some p → StopsAt p w ts)
-    → (o : Option (List Expected)) → step s t.kind ≡ o → EndsInEnd (t ∷ ts)
+    → (o : Option (List Expected)) → expected_after s t.kind ≡ o → EndsInEnd (t ∷ ts)
     → elim o [ None ↦ Some t.offset | Some w ↦ first_unexpected w ts ] ≡ Some p → StopsAt p s (t ∷ ts)
 stops_from s t ts p go None here end m =
     let some = some_tokens s in
     record { front = []; token = t; tail = ts; whole = refl; here = cc; rest = some.0; before = some.1; after = λ others. rw (here, first_unexpected) m }
 stops_from s t [] p go (Some w) here end m =
-    let last : w ≡ [] = end_last s w (sym (ap (λ (k : Kind). step s k) end) ∙ here) in
+    let last : w ≡ [] = end_last s w (sym (ap (λ (k : Kind). expected_after s k) end) ∙ here) in
     let no_way : first_unexpected [] [] ≡ Some p = sym (ap (λ (v : List Expected). first_unexpected v []) last) ∙ m in
     cc
 stops_from s t (u ∷ us) p go (Some w) here end m =
@@ -55,9 +55,9 @@ stops_from s t (u ∷ us) p go (Some w) here end m =
 
 stops_at : (s : List Expected) (ts : List Token) (p : ℕ) → EndsInEnd ts → first_unexpected s ts ≡ Some p → StopsAt p s ts
 stops_at s [] p end m = absurd end
-stops_at s (t ∷ ts) p end m = stops_from s t ts p (λ (w : List Expected). stops_at w ts p) (step s t.kind) refl end m
+stops_at s (t ∷ ts) p end m = stops_from s t ts p (λ (w : List Expected). stops_at w ts p) (expected_after s t.kind) refl end m
 
-fits_text : (ts : List Token) → Fits (expr ∷ finish ∷ []) ts → (e : Expr) × IsText e ts
+fits_text : (ts : List Token) → Fits (expr ∷ finish ∷ []) ts → (e : Expr) × IsWholeExpression e ts
 fits_text ts (fits_expr d (fits_end k nothing)) = (_, (_, d, (k, refl)))
 
 -- the offset of the first token that doesn't fit is that of the first with which no whole expression goes on
@@ -76,7 +76,7 @@ bad_at ts p end m =
           let stops = stop.after goes.0 in cc;
     }
 
-pub refusal_at : (e : ExprFault) (ts : List Token) → EndsInEnd ts → IsFirstUnexpected e (expr ∷ finish ∷ []) ts → IsRefusal e ts
+pub refusal_at : (e : ExprFault) (ts : List Token) → EndsInEnd ts → IsFirstUnexpected e (expr ∷ finish ∷ []) ts → IsTokenRefusal e ts
 refusal_at (BadSyntax p) ts end m = bad_at ts p end m
 refusal_at NoMemory ts end m = tt
 refusal_at e ts end m = absurd m

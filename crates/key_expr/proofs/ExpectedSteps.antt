@@ -3,8 +3,8 @@ use Rattle.std.proofs.Common.{◌≡◌, ℕ, List, [], ◌∷◌, ◌++◌, Opt
 use Rattle.key_expr.specs.declared.token.Token.{Token}
 use Rattle.key_expr.specs.declared.token.Kind.{Kind}
 use Rattle.key_expr.specs.declared.token.Kind.TheVariants.{Plus, Open, Close, Comma, Upper, Substr, Str, Dtoc, Name, Number, End}
-use Rattle.key_expr.specs.Grammar.{Expr, Begin, EndsWith, Sort, Reads, one_term, sum, field_term, parens_term, upper_term, substr_term, str_term, dtoc_term, IsText}
-use Rattle.key_expr.specs.Expected.{Expected, expr, more, number, close, comma, finish, lengths, points, step, first_unexpected}
+use Rattle.key_expr.specs.Grammar.{Expr, Begin, EndsWith, Sort, Reads, one_term, sum, field_term, parens_term, upper_term, substr_term, str_term, dtoc_term, IsWholeExpression}
+use Rattle.key_expr.specs.Expected.{Expected, expr, more, number, close, comma, finish, lengths, points, expected_after, first_unexpected}
 
 pub begin_then : (ks ls : List Kind) (ts us vs : List Token) → Begin ks ts us → Begin ls us vs → Begin (ks ++ ls) ts vs
 begin_then [] ls ts us vs e f = subst (λ (l : List Token). Begin ls l vs) (sym e) f
@@ -17,7 +17,7 @@ begin_first k ts t us whole here = rw whole (here, refl)
 -- what is expected after tokens of these kinds, where they fit
 abbrev steps : List Expected → List Kind → Option (List Expected)
 steps s [] = Some s
-steps s (k ∷ ks) = elim (step s k) [ None ↦ None | Some w ↦ steps w ks ]
+steps s (k ∷ ks) = elim (expected_after s k) [ None ↦ None | Some w ↦ steps w ks ]
 
 past_first : (o : Option (List Expected)) (ks : List Kind) (w : List Expected) (offset : ℕ) (ts rest : List Token)
     → ((v : List Expected) → steps v ks ≡ Some w → first_unexpected v ts ≡ first_unexpected w rest)
@@ -29,7 +29,7 @@ past_first (Some v) ks w offset ts rest later e = later v e
 past : (ks : List Kind) (s w : List Expected) (ts rest : List Token) → Begin ks ts rest → steps s ks ≡ Some w → first_unexpected s ts ≡ first_unexpected w rest
 past [] s w ts rest b e = cc
 past (k ∷ ks) s w [] rest b e = absurd b
-past (k ∷ ks) s w (t ∷ ts) rest b e = rw b.0 (past_first (step s k) ks w t.offset ts rest (λ v. past ks v w ts rest b.1) e)
+past (k ∷ ks) s w (t ∷ ts) rest b e = rw b.0 (past_first (expected_after s k) ks w t.offset ts rest (λ v. past ks v w ts rest b.1) e)
 
 ends_past : (n d : Option ℕ) (s : List Expected) (ts rest : List Token) → EndsWith n d ts rest → first_unexpected (lengths ∷ s) ts ≡ first_unexpected s rest
 ends_past None None s ts rest b = past (Close ∷ []) (lengths ∷ s) s ts rest b refl
@@ -59,5 +59,5 @@ reads_past s (str_term {p = p} {n = n} {d = d} {ts = ts} {rest = r} us a b) =
 reads_past s (dtoc_term {p = p} {ts = ts} {rest = r} b) = past (Dtoc ∷ Open ∷ Name p ∷ Close ∷ []) (expr ∷ s) (more ∷ s) ts r b refl
 
 -- all tokens of a whole expression fit
-pub text_fits : (e : Expr) (ts : List Token) → IsText e ts → first_unexpected (expr ∷ finish ∷ []) ts ≡ None
+pub text_fits : (e : Expr) (ts : List Token) → IsWholeExpression e ts → first_unexpected (expr ∷ finish ∷ []) ts ≡ None
 text_fits e ts a = reads_past (finish ∷ []) a.1 ∙ past (End ∷ []) (more ∷ finish ∷ []) [] a.0 [] a.2 refl

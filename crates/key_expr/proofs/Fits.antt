@@ -4,7 +4,7 @@ use Rattle.key_expr.specs.declared.token.Token.{Token}
 use Rattle.key_expr.specs.declared.token.Kind.{Kind}
 use Rattle.key_expr.specs.declared.token.Kind.TheVariants.{Plus, Open, Close, Comma, Upper, Substr, Str, Dtoc, Name, Number, End}
 use Rattle.key_expr.specs.Grammar.{Expr, a_term, an_expr, Reads, one_term, sum, field_term, parens_term, upper_term, substr_term, str_term, dtoc_term}
-use Rattle.key_expr.specs.Expected.{Expected, expr, more, name, number, open_, close, comma, finish, lengths, points, step}
+use Rattle.key_expr.specs.Expected.{Expected, expr, more, name, number, open_, close, comma, finish, lengths, points, expected_after}
 
 -- the tokens are what is expected, to their end
 pub data Fits : List Expected → List Token → Type 0 where
@@ -33,7 +33,7 @@ after_term d (fits_rest f) = fits_expr (one_term d) f
 after_term d (fits_plus k (fits_expr d2 f)) = fits_expr (sum d (k, refl) d2) f
 
 -- a token that fits, and then what is expected, is what was expected
-pub fits_of_step : (s : List Expected) (k : Kind) (t : Token) (ts : List Token) → t.kind ≡ k → FitsNext (step s k) ts → Fits s (t ∷ ts)
+pub fits_of_step : (s : List Expected) (k : Kind) (t : Token) (ts : List Token) → t.kind ≡ k → FitsNext (expected_after s k) ts → Fits s (t ∷ ts)
 fits_of_step (expr ∷ s) Open t _ here (fits_expr d (fits_close b f)) = after_term (parens_term (here, refl) d (b, refl)) f
 fits_of_step (expr ∷ s) Upper t _ here (fits_open a (fits_expr d (fits_close b f))) = after_term (upper_term (here, (a, refl)) d (b, refl)) f
 fits_of_step (expr ∷ s) Substr t _ here (fits_open a (fits_expr d (fits_comma h (fits_number i (fits_comma j (fits_number l (fits_close b f))))))) =

@@ -12,7 +12,7 @@ use Rattle.key_expr.specs.declared.fault.ExprFault.TheVariants.{NoSuchField, Not
 use Rattle.key_expr.specs.Grammar.{Expr, field, concat, upper, substr, str, dtoc}
 use Rattle.key_expr.specs.Keys.{length_given, decimals_given, key_length}
 use Rattle.dbf_fields.specs.Layout.{width_of}
-use Rattle.key_expr.specs.Rules.{has_kind, can_print, field_tests, tests, refusal}
+use Rattle.key_expr.specs.Rules.{has_kind, can_print, kind_tests, tests, broken_rule}
 use Rattle.dbf_fields.proofs.FaultLaws.{first_parts}
 use Rattle.dbf_fields.proofs.LayoutLaws.{width_at}
 use Rattle.std.specs.Int.{is_in_range}
@@ -30,7 +30,7 @@ kept_substr fields a from count e =
     (first_parts (tests fields a) ((is_in_range 1 (key_length fields a) from && leb 1 count, BadArgument) ∷ []) e).0
 
 -- a field that is there
-pub field_there : (fields : List Field) (i kind : ℕ) → first_fault (field_tests fields i kind) ≡ None → i < length fields
+pub field_there : (fields : List Field) (i kind : ℕ) → first_fault (kind_tests fields i kind) ≡ None → i < length fields
 field_there fields i kind e =
     let first : ltb i (length fields) ≡ true = (passed (ltb i (length fields)) _ NoSuchField e).0 in grind (arith, nat_tests, first)
 
@@ -115,11 +115,11 @@ key_some fields (str i n d) s h =
     let w = width_some fields i no_field s k.there in omega (arith, w, k.fits)
 key_some fields (dtoc i) s h = omega arith
 
--- what no refusal says
-pub refusal_tests : (fields : List Field) (e : Expr) → refusal fields e ≡ None → first_fault (tests fields e) ≡ None
+-- what no broken_rule says
+pub refusal_tests : (fields : List Field) (e : Expr) → broken_rule fields e ≡ None → first_fault (tests fields e) ≡ None
 refusal_tests fields e h = (first_parts (tests fields e) ((leb (key_length fields e) MAX_KEY_BYTES, KeyTooLong) ∷ []) h).0
 
-pub refusal_short : (fields : List Field) (e : Expr) → refusal fields e ≡ None → key_length fields e ≤ MAX_KEY_BYTES
+pub refusal_short : (fields : List Field) (e : Expr) → broken_rule fields e ≡ None → key_length fields e ≤ MAX_KEY_BYTES
 refusal_short fields e h =
     let last = (first_parts (tests fields e) ((leb (key_length fields e) MAX_KEY_BYTES, KeyTooLong) ∷ []) h).1 in
     let short : leb (key_length fields e) MAX_KEY_BYTES ≡ true = (passed (leb (key_length fields e) MAX_KEY_BYTES) None KeyTooLong last).0 in

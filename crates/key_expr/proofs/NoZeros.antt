@@ -10,7 +10,7 @@ use Rattle.key_expr.specs.declared.token.Token.{Token}
 use Rattle.key_expr.specs.declared.token.Kind.{Kind}
 use Rattle.key_expr.specs.declared.token.Kind.TheVariants.{Bad}
 use Rattle.key_expr.specs.Grammar.{Expr}
-use Rattle.key_expr.specs.Expected.{Expected, more, step, first_unexpected}
+use Rattle.key_expr.specs.Expected.{Expected, more, expected_after, first_unexpected}
 use Rattle.key_expr.specs.Rules.{IsKeyText}
 use Rattle.key_expr.specs.Tokens.{tokens_after, token_length, kind_of, prefix_length}
 use Rattle.key_expr.proofs.ExpectedSteps.{text_fits}
@@ -27,15 +27,15 @@ NoZero bs = AllByRecursion (λ b. b ≢ 0) bs
 
 -- ---- the tokens of an expression are all of the grammar
 
-bad_fits_none : (s : List Expected) → step s Bad ≡ None
+bad_fits_none : (s : List Expected) → expected_after s Bad ≡ None
 bad_fits_none (more ∷ s) = bad_fits_none s
 bad_fits_none s = refl
 
-fits_of_grammar : (s w : List Expected) (k : Kind) → step s k ≡ Some w → is_of_grammar k ≡ true
+fits_of_grammar : (s w : List Expected) (k : Kind) → expected_after s k ≡ Some w → is_of_grammar k ≡ true
 fits_of_grammar s w Bad e = let none = bad_fits_none s in cc
 fits_of_grammar s w k e = refl
 
-next_of_grammar : (s : List Expected) (t : Token) (ts : List Token) (o : Option (List Expected)) → step s t.kind ≡ o
+next_of_grammar : (s : List Expected) (t : Token) (ts : List Token) (o : Option (List Expected)) → expected_after s t.kind ≡ o
     → ((w : List Expected) → first_unexpected w ts ≡ None → AreOfGrammar ts)
     → ◌≡◌ {A = Option ℕ} (elim o [ None ↦ Some t.offset | Some w ↦ first_unexpected w ts ]) None → AreOfGrammar (t ∷ ts)
 next_of_grammar s t ts None e later m = absurd cc
@@ -43,7 +43,7 @@ next_of_grammar s t ts (Some w) e later m = (fits_of_grammar s w t.kind e, later
 
 tokens_of_grammar : (s : List Expected) (ts : List Token) → first_unexpected s ts ≡ None → AreOfGrammar ts
 tokens_of_grammar s [] m = tt
-tokens_of_grammar s (t ∷ ts) m = next_of_grammar s t ts (step s t.kind) refl (λ w. tokens_of_grammar w ts) m
+tokens_of_grammar s (t ∷ ts) m = next_of_grammar s t ts (expected_after s t.kind) refl (λ w. tokens_of_grammar w ts) m
 
 -- ---- bytes whose tokens are all of the grammar
 

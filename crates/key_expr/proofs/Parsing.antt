@@ -7,9 +7,9 @@ use Rattle.dbf_fields.specs.Faults.{first_fault}
 use Rattle.key_expr.specs.declared.token.Token.{Token}
 use Rattle.key_expr.specs.declared.fault.ExprFault.{ExprFault}
 use Rattle.key_expr.specs.declared.fault.ExprFault.TheVariants.{ExpressionTooLong, BadSyntax, NoSuchField, NotCharacter, BadArgument, KeyTooLong, NoMemory}
-use Rattle.key_expr.specs.Grammar.{Expr, field, concat, upper, substr, str, dtoc, IsText, IsBadAt}
+use Rattle.key_expr.specs.Grammar.{Expr, field, concat, upper, substr, str, dtoc, IsWholeExpression, IsBadAt}
 use Rattle.key_expr.specs.Tokens.{tokens_of}
-use Rattle.key_expr.specs.Rules.{tests, refusal, IsKeyText, Breaks, IsFault}
+use Rattle.key_expr.specs.Rules.{tests, broken_rule, IsKeyText, Breaks, IsFault}
 use Rattle.key_expr.proofs.Unique.{one_reading}
 
 -- a fault of the rules on fields and arguments
@@ -44,7 +44,7 @@ rule_first ((false, g) ∷ ts) f a e = let same : g ≡ f = cc in subst IsRule s
 
 -- an expression that breaks a rule
 pub fault_of_rule : (fields : List Field) (text : List ℕ) (e : Expr) (f : ExprFault) → length text ≤ MAX_EXPRESSION_BYTES
-    → IsText e (tokens_of fields text) → refusal fields e ≡ Some f → IsFault f fields text
+    → IsWholeExpression e (tokens_of fields text) → broken_rule fields e ≡ Some f → IsFault f fields text
 fault_of_rule fields text e f short t h =
     rule_first _ f (rules_both (tests fields e) _ (rules_of fields e) (broken KeyTooLong, tt)) h fields text (short, (e, t, h))
 
@@ -52,16 +52,16 @@ fault_of_rule fields text e f short t h =
 pub one_expr : (fields : List Field) (text : List ℕ) (e f : Expr) → IsKeyText fields text e → IsKeyText fields text f → e ≡ f
 one_expr fields text e f a b = one_reading (tokens_of fields text) e f a.read b.read
 
-not_bad : (p : ℕ) (ts : List Token) (e : Expr) → IsBadAt p ts → IsText e ts → ⊥
+not_bad : (p : ℕ) (ts : List Token) (e : Expr) → IsBadAt p ts → IsWholeExpression e ts → ⊥
 not_bad p ts e bad t =
     let split : ts ≡ (bad.front ++ bad.token ∷ []) ++ bad.tail = bad.whole ∙ sym (append_assoc bad.front (bad.token ∷ []) bad.tail) in
-    bad.after (bad.tail, e, subst (λ (l : List Token). IsText e l) split t)
+    bad.after (bad.tail, e, subst (λ (l : List Token). IsWholeExpression e l) split t)
 
 not_broken : (fields : List Field) (text : List ℕ) (e : Expr) (f : ExprFault) → IsKeyText fields text e → Breaks f fields text → ⊥
 not_broken fields text e f k b =
     let same : b.1.0 ≡ e = one_reading (tokens_of fields text) b.1.0 e b.1.1 k.read in
-    let broken : refusal fields e ≡ Some f = subst (λ (x : Expr). refusal fields x ≡ Some f) same b.1.2 in
-    let kept : refusal fields e ≡ None = k.kept in
+    let broken : broken_rule fields e ≡ Some f = subst (λ (x : Expr). broken_rule fields x ≡ Some f) same b.1.2 in
+    let kept : broken_rule fields e ≡ None = k.kept in
     cc
 
 -- no other fault than want of memory where the text is a key expression

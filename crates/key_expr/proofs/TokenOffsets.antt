@@ -9,7 +9,7 @@ use Rattle.key_expr.specs.declared.token.Token.{Token}
 use Rattle.key_expr.specs.declared.token.Kind.TheVariants.{End}
 use Rattle.key_expr.specs.Tokens.{tokens_after, tokens_of, token_length, kind_of}
 use Rattle.key_expr.proofs.Lexing.{either, token_inside}
-use Rattle.key_expr.specs.TokenOffsets.{end_of, StandsAfter, StandIn, at_end, before_end}
+use Rattle.key_expr.specs.TokenOffsets.{token_end, StandsAfter, StandIn, at_end, before_end}
 
 end_kind : (fields : List Field) (bs : List ℕ) → bs ≡ [] → End ≡ kind_of fields bs
 unfolding kind_of
@@ -38,7 +38,7 @@ stand_after fields text start p zero (b ∷ bs) e l h s gap =
     let t : Token = record { kind = kind_of fields (b ∷ bs); offset = length text - length (b ∷ bs) } in
     let at : length text - length (b ∷ bs) ≡ p = omega (arith, l) in
     let same : drop (length text - length (b ∷ bs)) text ≡ b ∷ bs = ap (λ (k : ℕ). drop k text) at ∙ e in
-    let end : end_of text t ≡ p + token_length (b ∷ bs) = rw (same, at) refl in
+    let end : token_end text t ≡ p + token_length (b ∷ bs) = rw (same, at) refl in
     let inside = token_inside b bs in
     either (StandIn fields text start) (eqb b BLANK) (tokens_after fields (length text) zero bs) (t ∷ tokens_after fields (length text) (token_length (b ∷ bs) - 1) bs)
     (λ (blank : eqb b BLANK ≡ true).
@@ -53,7 +53,7 @@ stand_after fields text start p zero (b ∷ bs) e l h s gap =
     }) (omega (arith, l))
     (λ blank. let is : b ≡ BLANK = sym here ∙ (ap (λ (k : ℕ). get_or text k 0) (sym at) ∙ blank) in
     true≢false (sym (ap (λ (x : ℕ). eqb x BLANK) is) ∙ other))
-    (stand_after fields text (end_of text t) (p + 1) (token_length (b ∷ bs) - 1) bs rest (omega (arith, l)) inside.1
+    (stand_after fields text (token_end text t) (p + 1) (token_length (b ∷ bs) - 1) bs rest (omega (arith, l)) inside.1
     (omega (arith, end, inside.0)) (λ i a lt. absurd (omega (arith, a, lt, end, inside.0)))))
 
 pub tokens_stand : (fields : List Field) (text : List ℕ) → StandIn fields text 0 (tokens_of fields text)
@@ -78,7 +78,7 @@ same_tokens (before_end {fields = fs} {text = text} {start = start} {t = t} {ts 
     let second : u.offset < t.offset → ⊥ = λ h. some2 (s.blanks u.offset r.later h) in
     let offset : t.offset ≡ u.offset = omega (arith, first, second) in
     let one : t ≡ u = same_at fs text start t u s r offset in
-    let others : ts ≡ us = same_tokens (subst (λ (x : Token). StandIn fs text (end_of text x) ts) one more) more2 in
+    let others : ts ≡ us = same_tokens (subst (λ (x : Token). StandIn fs text (token_end text x) ts) one more) more2 in
     cc
 
 pub tokens_alone : (fields : List Field) (text : List ℕ) (ts : List Token) → StandIn fields text 0 ts → ts ≡ tokens_of fields text

@@ -3,7 +3,7 @@ use Rattle.std.proofs.Common.{◌≡◌, ℕ, List, [], ◌∷◌, Option, Some,
 use Rattle.key_expr.specs.declared.token.Token.{Token}
 use Rattle.key_expr.specs.declared.token.Kind.{Kind}
 use Rattle.key_expr.specs.declared.token.Kind.TheVariants.{Plus, Open, Close, Comma, Upper, Substr, Str, Dtoc, Name, Number, End}
-use Rattle.key_expr.specs.Grammar.{Expr, upper, Begin, EndsPoints, EndsWith, Sort, a_term, an_expr, Reads, one_term, sum, field_term, parens_term, upper_term, substr_term, str_term, dtoc_term, IsText}
+use Rattle.key_expr.specs.Grammar.{Expr, upper, Begin, EndsPoints, EndsWith, Sort, a_term, an_expr, Reads, one_term, sum, field_term, parens_term, upper_term, substr_term, str_term, dtoc_term, IsWholeExpression}
 
 -- which rule a first token is for
 abbrev rule_of_kind : Kind → ℕ
@@ -126,6 +126,6 @@ same {ts = ts} {us = us} {vs = vs} (dtoc_term {p = m} b) (dtoc_term {p = n} b2) 
     let r = same_kinds (Dtoc ∷ Open ∷ Name m ∷ Close ∷ []) (Dtoc ∷ Open ∷ Name n ∷ Close ∷ []) ts us vs b b2 refl in (cc (r.0), r.1)
 same d d2 p q = let h : rule d ≡ rule d2 = sym (rule_is d) ∙ rule_is d2 in absurd (omega (arith, h))
 
-pub one_reading : (ts : List Token) (e f : Expr) → IsText e ts → IsText f ts → e ≡ f
+pub one_reading : (ts : List Token) (e f : Expr) → IsWholeExpression e ts → IsWholeExpression f ts → e ≡ f
 one_reading ts e f a b =
     (same a.1 b.1 (begin_not End [] a.0 [] (λ (x : End ≡ Plus). cc) a.2) (begin_not End [] b.0 [] (λ (x : End ≡ Plus). cc) b.2)).0

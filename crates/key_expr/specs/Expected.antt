@@ -19,26 +19,26 @@ pub data Expected : Type 0 where
   points : Expected
 
 -- what is expected after a token of the kind, where it fits; after the end nothing is
-abbrev pub step : List Expected → Kind → Option (List Expected)
-step (expr ∷ s) Open = Some (expr ∷ close ∷ more ∷ s)
-step (expr ∷ s) Upper = Some (open_ ∷ expr ∷ close ∷ more ∷ s)
-step (expr ∷ s) Substr = Some (open_ ∷ expr ∷ comma ∷ number ∷ comma ∷ number ∷ close ∷ more ∷ s)
-step (expr ∷ s) Str = Some (open_ ∷ name ∷ lengths ∷ more ∷ s)
-step (expr ∷ s) Dtoc = Some (open_ ∷ name ∷ close ∷ more ∷ s)
-step (expr ∷ s) (Name p) = Some (more ∷ s)
-step (more ∷ s) Plus = Some (expr ∷ s)
-step (more ∷ s) k = step s k
-step (name ∷ s) (Name p) = Some s
-step (number ∷ s) (Number n) = Some s
-step (open_ ∷ s) Open = Some s
-step (close ∷ s) Close = Some s
-step (comma ∷ s) Comma = Some s
-step (finish ∷ s) End = Some []
-step (lengths ∷ s) Comma = Some (number ∷ points ∷ s)
-step (lengths ∷ s) Close = Some s
-step (points ∷ s) Comma = Some (number ∷ close ∷ s)
-step (points ∷ s) Close = Some s
-step s k = None
+abbrev pub expected_after : List Expected → Kind → Option (List Expected)
+expected_after (expr ∷ s) Open = Some (expr ∷ close ∷ more ∷ s)
+expected_after (expr ∷ s) Upper = Some (open_ ∷ expr ∷ close ∷ more ∷ s)
+expected_after (expr ∷ s) Substr = Some (open_ ∷ expr ∷ comma ∷ number ∷ comma ∷ number ∷ close ∷ more ∷ s)
+expected_after (expr ∷ s) Str = Some (open_ ∷ name ∷ lengths ∷ more ∷ s)
+expected_after (expr ∷ s) Dtoc = Some (open_ ∷ name ∷ close ∷ more ∷ s)
+expected_after (expr ∷ s) (Name p) = Some (more ∷ s)
+expected_after (more ∷ s) Plus = Some (expr ∷ s)
+expected_after (more ∷ s) k = expected_after s k
+expected_after (name ∷ s) (Name p) = Some s
+expected_after (number ∷ s) (Number n) = Some s
+expected_after (open_ ∷ s) Open = Some s
+expected_after (close ∷ s) Close = Some s
+expected_after (comma ∷ s) Comma = Some s
+expected_after (finish ∷ s) End = Some []
+expected_after (lengths ∷ s) Comma = Some (number ∷ points ∷ s)
+expected_after (lengths ∷ s) Close = Some s
+expected_after (points ∷ s) Comma = Some (number ∷ close ∷ s)
+expected_after (points ∷ s) Close = Some s
+expected_after s k = None
 
 abbrev pub unexpected_at_end : List Expected → Option ℕ
 unexpected_at_end [] = None
@@ -47,7 +47,7 @@ unexpected_at_end (w ∷ s) = Some 0
 -- the offset of the first token that doesn't fit
 abbrev pub first_unexpected : List Expected → List Token → Option ℕ
 first_unexpected s [] = unexpected_at_end s
-first_unexpected s (t ∷ ts) = elim (step s t.kind) [ None ↦ Some t.offset | Some expected ↦ first_unexpected expected ts ]
+first_unexpected s (t ∷ ts) = elim (expected_after s t.kind) [ None ↦ Some t.offset | Some expected ↦ first_unexpected expected ts ]
 
 -- a fault that is answered is that offset, but for want of memory
 abbrev pub IsUnexpectedAt : ExprFault → Option ℕ → Type 0

@@ -18,7 +18,7 @@ pub record Expression : Type 0 where
   pub expr : Expr
 
 -- what is kept beside the text belongs to it
-pub record IsHeld (text : List ℕ) (fields : List Field) (tree : Tree) (len : ℕ) : Type 0 where
+pub record BelongsToText (text : List ℕ) (fields : List Field) (tree : Tree) (len : ℕ) : Type 0 where
   pub schema : IsSchema fields
   pub read : IsKeyText fields text (expr_of tree)
   pub lengths : KeepsLengths fields tree

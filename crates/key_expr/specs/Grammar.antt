@@ -55,8 +55,8 @@ pub data Reads : Sort → Expr → List Token → List Token → Type 0 where
   dtoc_term : {p : ℕ} {ts rest : List Token} → Begin (Dtoc ∷ Open ∷ Name p ∷ Close ∷ []) ts rest → Reads a_term (dtoc p) ts rest
 
 -- the tokens are a whole expression and the end
-abbrev pub IsText : Expr → List Token → Type 0
-IsText e ts = (rest : List Token) × Reads an_expr e ts rest × Begin (End ∷ []) rest []
+abbrev pub IsWholeExpression : Expr → List Token → Type 0
+IsWholeExpression e ts = (rest : List Token) × Reads an_expr e ts rest × Begin (End ∷ []) rest []
 
 -- the last token is the end
 abbrev pub EndsInEnd : List Token → Type 0
@@ -66,7 +66,7 @@ EndsInEnd (t ∷ u ∷ ts) = EndsInEnd (u ∷ ts)
 
 -- some whole expression begins with the tokens
 abbrev pub GoesOn : List Token → Type 0
-GoesOn front = (more : List Token) × (e : Expr) × IsText e (front ++ more)
+GoesOn front = (more : List Token) × (e : Expr) × IsWholeExpression e (front ++ more)
 
 -- the first token with which no whole expression can go on stands at the offset
 pub record IsBadAt (offset : ℕ) (ts : List Token) : Type 0 where
@@ -79,7 +79,7 @@ pub record IsBadAt (offset : ℕ) (ts : List Token) : Type 0 where
   pub after : GoesOn (front ++ token ∷ []) → ⊥
 
 -- a fault that is answered is the offset of the first such token, but for want of memory
-abbrev pub IsRefusal : ExprFault → List Token → Type 0
-IsRefusal (BadSyntax offset) ts = IsBadAt offset ts
-IsRefusal NoMemory ts = Unit {0}
-IsRefusal fault ts = ⊥
+abbrev pub IsTokenRefusal : ExprFault → List Token → Type 0
+IsTokenRefusal (BadSyntax offset) ts = IsBadAt offset ts
+IsTokenRefusal NoMemory ts = Unit {0}
+IsTokenRefusal fault ts = ⊥

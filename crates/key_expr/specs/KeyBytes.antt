@@ -5,8 +5,8 @@ use Rattle.key_expr.specs.declared.format.TheConstants.{MAX_KEY_BYTES}
 use Rattle.key_expr.specs.declared.key.Key.TheInside.{Inside}
 
 -- the bytes of a key
-abbrev pub bytes_of : Inside → List ℕ
-bytes_of k = take k.len k.bytes
+abbrev pub key_bytes : Inside → List ℕ
+key_bytes k = take k.len k.bytes
 
 -- at most so many bytes, and zeros after them
 abbrev pub HasZerosAfter : Inside → Type 0
@@ -16,7 +16,7 @@ HasZerosAfter k = (k.len ≤ MAX_KEY_BYTES) × (length k.bytes ≡ MAX_KEY_BYTES
 abbrev pub inside_of : List ℕ → Inside
 inside_of bs = record { bytes = bs ++ replicate (MAX_KEY_BYTES - length bs) 0; len = length bs }
 
-pub inside_of-bytes_of : (k : Inside) → HasZerosAfter k → inside_of (bytes_of k) ≡ k
+pub inside_of-bytes_of : (k : Inside) → HasZerosAfter k → inside_of (key_bytes k) ≡ k
 inside_of-bytes_of k h i =
     let len : length (take k.len k.bytes) ≡ k.len = length-take-le k.len k.bytes (omega (arith, h.0, h.1)) in
     record {

@@ -17,7 +17,7 @@ use Rattle.key_expr.specs.declared.fault.ExprFault.TheVariants.{NoSuchField, Not
 use Rattle.key_expr.specs.declared.format.TheConstants.{MAX_KEY_BYTES}
 use Rattle.key_expr.specs.Grammar.{Expr, field, concat, upper, substr, str, dtoc}
 use Rattle.key_expr.specs.Keys.{key, key_length, names, length_given, decimals_given, OfEachField, IsNoMemo, AgreeButMemos}
-use Rattle.key_expr.specs.Rules.{refusal, tests, field_tests, has_kind, can_print}
+use Rattle.key_expr.specs.Rules.{broken_rule, tests, kind_tests, has_kind, can_print}
 use Rattle.key_expr.specs.StrText.{str_text}
 
 -- cells that agree on the fields that an expression names give one key
@@ -53,7 +53,7 @@ of_each_weaker P Q f (str i n d) h = f i h
 of_each_weaker P Q f (dtoc i) h = f i h
 
 -- a field of another kind is no memo
-no_memo_kind : (fields : List Field) (i kind : ℕ) (more : List (Bool × ExprFault)) → kind ≢ MEMO → first_fault (field_tests fields i kind ++ more) ≡ None → IsNoMemo fields i
+no_memo_kind : (fields : List Field) (i kind : ℕ) (more : List (Bool × ExprFault)) → kind ≢ MEMO → first_fault (kind_tests fields i kind ++ more) ≡ None → IsNoMemo fields i
 no_memo_kind fields i kind more other h =
     let there = passed (nat_lt i (length fields)) (first_fault ((has_kind fields i kind, NotCharacter) ∷ more)) NoSuchField h in
     step (slice_get fields i) (passed (has_kind fields i kind) (first_fault more) NotCharacter there.1).0
@@ -74,9 +74,9 @@ no_memo_tests fields (str i n d) h = no_memo_kind fields i NUMBER ((can_print fi
 no_memo_tests fields (dtoc i) h = no_memo_kind fields i DATE [] (λ e. absurd (omega (arith, e))) h
 
 -- an expression that keeps the rules names no memo
-pub no_memos : (fields : List Field) (e : Expr) → refusal fields e ≡ None → OfEachField (IsNoMemo fields) e
+pub no_memos : (fields : List Field) (e : Expr) → broken_rule fields e ≡ None → OfEachField (IsNoMemo fields) e
 no_memos fields e kept = no_memo_tests fields e (first_parts (tests fields e) ((nat_le (key_length fields e) MAX_KEY_BYTES, KeyTooLong) ∷ []) kept).0
 
 -- so cells that agree but for memos give one key
-pub key_but_memos : (fields : List Field) (cs ds : List (List ℕ)) (e : Expr) → refusal fields e ≡ None → AgreeButMemos fields cs ds → key cs e ≡ key ds e
+pub key_but_memos : (fields : List Field) (cs ds : List (List ℕ)) (e : Expr) → broken_rule fields e ≡ None → AgreeButMemos fields cs ds → key cs e ≡ key ds e
 key_but_memos fields cs ds e kept agree = same_key cs ds e (of_each_weaker (IsNoMemo fields) (λ i. get_or cs i [] ≡ get_or ds i []) agree e (no_memos fields e kept))

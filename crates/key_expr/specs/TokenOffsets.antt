@@ -6,8 +6,8 @@ use Rattle.key_expr.specs.declared.token.Token.{Token}
 use Rattle.key_expr.specs.Tokens.{token_length, kind_of}
 
 -- where the bytes of a token end
-abbrev pub end_of : List ℕ → Token → ℕ
-end_of text t = t.offset + token_length (drop t.offset text)
+abbrev pub token_end : List ℕ → Token → ℕ
+token_end text t = t.offset + token_length (drop t.offset text)
 
 -- from here up to the token there are blanks alone, and the token is what the text says at its offset
 pub record StandsAfter (fields : List Field) (text : List ℕ) (start : ℕ) (t : Token) : Type 0 where
@@ -21,4 +21,4 @@ pub data StandIn : List Field → List ℕ → ℕ → List Token → Type 0 whe
       → StandsAfter fields text start t → t.offset ≡ length text → StandIn fields text start (t ∷ [])
   before_end : {fields : List Field} {text : List ℕ} {start : ℕ} {t : Token} {ts : List Token}
       → StandsAfter fields text start t → t.offset < length text → get_or text t.offset 0 ≢ BLANK
-      → StandIn fields text (end_of text t) ts → StandIn fields text start (t ∷ ts)
+      → StandIn fields text (token_end text t) ts → StandIn fields text start (t ∷ ts)

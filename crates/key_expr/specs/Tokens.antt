@@ -39,8 +39,8 @@ function_kind name =
     else Bad)))
 
 -- the index of the field that has the name, or the number of the fields where none has it
-abbrev pub index_of : List Field → List ℕ → ℕ
-index_of fields name = position_or_len (λ f. str_eq_ignore_ascii_case name f.name) fields
+abbrev pub field_index : List Field → List ℕ → ℕ
+field_index fields name = position_or_len (λ f. str_eq_ignore_ascii_case name f.name) fields
 
 -- an opening parenthesis is next, after blanks or none
 abbrev pub opens : List ℕ → Bool
@@ -51,7 +51,7 @@ opens (b ∷ bs) = if b == BLANK then opens bs else b == OPEN
 abbrev pub name_kind : List Field → List ℕ → List ℕ → Kind
 name_kind fields name after =
     if nat_lt MAX_NAME_BYTES (length name) then Bad
-    else (if opens after then function_kind name else Name (index_of fields name))
+    else (if opens after then function_kind name else Name (field_index fields name))
 
 -- what the first token of a text is
 unfoldable pub kind_of : List Field → List ℕ → Kind

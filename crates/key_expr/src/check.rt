@@ -7,7 +7,7 @@ ghost use Rattle.key_expr.specs.TreeExpr.{expr_of};
 ghost use Rattle.key_expr.specs.KeptLengths.{KeepsLengths};
 ghost use Rattle.key_expr.specs.declared.format.TheConstants.{MAX_LENGTH};
 ghost use Rattle.key_expr.specs.Keys.{key_length, length_given as length_of_given, decimals_given as decimals_of_given};
-ghost use Rattle.key_expr.specs.Rules.{field_tests, has_kind as is_of_kind, can_print as may_print, tests, refusal};
+ghost use Rattle.key_expr.specs.Rules.{kind_tests, has_kind as is_of_kind, can_print as may_print, tests, broken_rule};
 
 use crate::fault::ExprFault;
 use crate::format::{DTOC_LENGTH, MAX_KEY_BYTES, MAX_LENGTH, STR_LENGTH};
@@ -78,8 +78,8 @@ fn has_kind(fields: &[Field], index: usize, kind: u8) -> bool
 
 // A field that has to be there and of the kind.
 fn check_field(fields: &[Field], index: usize, kind: u8) -> Result<(), ExprFault>
-    ensures kept { IfOk result (λ _. first_fault (field_tests fields.now index kind) ≡ None) }
-    ensures refused { IfErr result (λ fault. first_fault (field_tests fields.now index kind) ≡ Some fault) }
+    ensures kept { IfOk result (λ _. first_fault (kind_tests fields.now index kind) ≡ None) }
+    ensures refused { IfErr result (λ fault. first_fault (kind_tests fields.now index kind) ≡ Some fault) }
 {
     if index >= fields.len() {
         return Err(ExprFault::NoSuchField);
@@ -146,9 +146,9 @@ fn check(tree: &Tree, fields: &[Field]) -> Result<(), ExprFault>
 #[tactic(auto, using(dbf_fields::proofs::FaultLaws::first_then, dbf_fields::proofs::FaultLaws::first_before))]
 pub(crate) fn check_all(tree: &Tree, fields: &[Field]) -> Result<usize, ExprFault>
     requires lengths { KeepsLengths fields.now tree.now }
-    ensures kept { IfOk result (λ _. refusal fields.now (expr_of tree.now) ≡ None) }
+    ensures kept { IfOk result (λ _. broken_rule fields.now (expr_of tree.now) ≡ None) }
     ensures length { IfOk result (λ n. n ≡ key_length fields.now (expr_of tree.now)) }
-    ensures refused { IfErr result (λ fault. refusal fields.now (expr_of tree.now) ≡ Some fault) }
+    ensures refused { IfErr result (λ fault. broken_rule fields.now (expr_of tree.now) ≡ Some fault) }
 {
     check(tree, fields)?;
     let length = length_of(tree, fields);

@@ -37,7 +37,7 @@ pub struct KeyExpr {
 }
 
 impl Model for KeyExpr {
-    ghost use Rattle.key_expr.specs.Expression.{Expression, IsHeld};
+    ghost use Rattle.key_expr.specs.Expression.{Expression, BelongsToText};
     ghost use Rattle.key_expr.specs.TreeExpr.{expr_of};
     ghost use Rattle.key_expr.specs.ExprCode.{expr_code};
     ghost use Rattle.std.specs.Coded.{codes};
@@ -48,7 +48,7 @@ impl Model for KeyExpr {
 
     ghost view = { λ e. record { text = e.text.items; fields = e.schema; expr = expr_of e.tree } };
 
-    ghost invariant = { λ e. IsHeld e.text.items e.schema e.tree e.key_len };
+    ghost invariant = { λ e. BelongsToText e.text.items e.schema e.tree e.key_len };
 }
 
 // The tree of a text and the length of its keys.

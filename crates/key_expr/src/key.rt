@@ -21,9 +21,9 @@ impl Model for Key {
 
     ghost Value = { List ℕ };
 
-    ghost use Rattle.key_expr.specs.KeyBytes.{bytes_of, HasZerosAfter, inside_of, inside_of-bytes_of};
+    ghost use Rattle.key_expr.specs.KeyBytes.{key_bytes, HasZerosAfter, inside_of, inside_of-bytes_of};
 
-    ghost view = { bytes_of };
+    ghost view = { key_bytes };
 
     ghost invariant = { HasZerosAfter };
 

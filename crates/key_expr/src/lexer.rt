@@ -5,7 +5,7 @@ ghost use Rattle.std.specs.Str.{str_eq_ignore_ascii_case};
 ghost use Rattle.std.specs.Char.{is_ascii_digit};
 ghost use Rattle.dbf_fields.specs.Name.{is_name_char};
 ghost use Rattle.key_expr.specs.Grammar.{EndsInEnd};
-ghost use Rattle.key_expr.specs.Tokens.{prefix_length, token_length as length_of, number_kind as number_of_digits, function_kind as function_of, index_of, opens as opens_next, name_kind as kind_of_name, kind_of as kind_at, tokens_of as tokens_in};
+ghost use Rattle.key_expr.specs.Tokens.{prefix_length, token_length as length_of, number_kind as number_of_digits, function_kind as function_of, field_index, opens as opens_next, name_kind as kind_of_name, kind_of as kind_at, tokens_of as tokens_in};
 
 use crate::format::{CLOSE, COMMA, MAX_NAME_BYTES, OPEN, PLUS};
 use crate::token::{Kind, Token};
@@ -130,7 +130,7 @@ fn field_named(fields: &[Field], name: &[u8]) -> Option<usize>
 // The index of the field that has the name, or the number of all fields where none has it.
 #[tactic(auto, using(crate::proofs::Lexing::position_none))]
 fn field_index(fields: &[Field], name: &[u8]) -> usize
-    ensures value { result ≡ index_of fields.now name.now }
+    ensures value { result ≡ field_index fields.now name.now }
 {
     match field_named(fields, name) {
         Some(index) => index,

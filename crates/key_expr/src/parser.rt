@@ -2,7 +2,7 @@
 
 ghost use Rattle.std.specs.Prelude.{◌≡◌, ℕ, ◌<◌, length, List, [], ◌∷◌, IfOk, IfErr, IfSome, IfNone};
 ghost use Rattle.key_expr.specs.declared.token.Kind.TheVariants.{Close, Open, Comma, Name, Number, Plus, End};
-ghost use Rattle.key_expr.specs.Grammar.{Reads, a_term, an_expr, Begin, EndsPoints, EndsWith, EndsInEnd, IsText, IsRefusal, Expr};
+ghost use Rattle.key_expr.specs.Grammar.{Reads, a_term, an_expr, Begin, EndsPoints, EndsWith, EndsInEnd, IsWholeExpression, IsTokenRefusal, Expr};
 ghost use Rattle.key_expr.specs.declared.token.Token.{Token};
 ghost use Rattle.key_expr.specs.Tokens.{tokens_of};
 ghost use Rattle.key_expr.specs.TokenOffsets.{StandIn};
@@ -329,8 +329,8 @@ pub(crate) fn read_tokens(
 ) -> Result<Tree, ExprFault>
     requires ended { EndsInEnd tokens.now }
     ensures lengths { IfOk result (λ tree. KeepsLengths fields.now tree) }
-    ensures read { IfOk result (λ tree. IsText (expr_of tree) tokens.now) }
-    ensures refused { IfErr result (λ fault. IsRefusal fault tokens.now) }
+    ensures read { IfOk result (λ tree. IsWholeExpression (expr_of tree) tokens.now) }
+    ensures refused { IfErr result (λ fault. IsTokenRefusal fault tokens.now) }
 {
     let (tree, tail) = read_expr(alloc, fields, tokens)?;
     skip_end(tail)?;
@@ -342,5 +342,5 @@ pub(crate) fn read_tokens(
 pub fn one_reading()
     ensures tokens { (fields : List Field) (text : List ℕ) → StandIn fields text 0 (tokens_of fields text) }
     ensures alone { (fields : List Field) (text : List ℕ) (ts : List Token) → StandIn fields text 0 ts → ts ≡ tokens_of fields text }
-    ensures one { (ts : List Token) (e f : Expr) → IsText e ts → IsText f ts → e ≡ f }
+    ensures one { (ts : List Token) (e f : Expr) → IsWholeExpression e ts → IsWholeExpression f ts → e ≡ f }
 {}

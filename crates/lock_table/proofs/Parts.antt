@@ -5,7 +5,7 @@ use Rattle.std.proofs.lemmas.List.{append-nil, nil_from_length, set_split, set-g
 use Rattle.std.proofs.lemmas.List.Elements.{filter-append}
 use Rattle.std.proofs.lemmas.Bool.Decides.{nat_tests}
 use Rattle.lock_table.specs.Locks.{Lock, lock_of, in_table, is_before, is_after, is_own, with_locks, without}
-use Rattle.lock_table.specs.Slots.{slot_index_of, records_of, lock_at, locks_from, locks_of, row_from}
+use Rattle.lock_table.specs.Slots.{slot_index_of, slot_records, lock_at, locks_from, locks_of, row_from}
 use Rattle.lock_table.proofs.Numbered.{numbered-append}
 use Rattle.lock_table.proofs.Indexes.{before_index, after_index, own_index, table_index, rows_rise, lock_in_row, lock_at_index}
 
@@ -120,33 +120,33 @@ row_of_table n t a row b h i e f =
     ∙ row_is n t 0 row i (omega arith)
 
 -- no slot has a lock
-pub no_locks : (n p k : ℕ) → locks_from n p (map records_of (replicate k None)) ≡ []
+pub no_locks : (n p k : ℕ) → locks_from n p (map slot_records (replicate k None)) ≡ []
 no_locks n p zero = refl
 no_locks n p (suc k) = no_locks n (p + 1) k
 
-slots_parts : (slots : List (Option ℕ)) (p : ℕ) (v : Option ℕ) → p < length slots → map records_of (slice_set slots p v) ≡ map records_of (take p slots) ++ records_of v ∷ map records_of (drop (suc p) slots)
-slots_parts slots p v h = ap (map records_of) (set_split slots p v h) ∙ map-append records_of (take p slots) (v ∷ drop (suc p) slots)
+slots_parts : (slots : List (Option ℕ)) (p : ℕ) (v : Option ℕ) → p < length slots → map slot_records (slice_set slots p v) ≡ map slot_records (take p slots) ++ slot_records v ∷ map slot_records (drop (suc p) slots)
+slots_parts slots p v h = ap (map slot_records) (set_split slots p v h) ∙ map-append slot_records (take p slots) (v ∷ drop (suc p) slots)
 
-length-before : (slots : List (Option ℕ)) (p : ℕ) → p < length slots → length (map records_of (take p slots)) ≡ p
-length-before slots p h = omega (arith, length-map (take p slots) records_of, length-take p slots)
+length-before : (slots : List (Option ℕ)) (p : ℕ) → p < length slots → length (map slot_records (take p slots)) ≡ p
+length-before slots p h = omega (arith, length-map (take p slots) slot_records, length-take p slots)
 
 -- what other records in one slot make of the locks
 slot_changed : (n p : ℕ) (slots : List (Option ℕ)) (v : Option ℕ) (change : List Lock → List Lock) → p < length slots
-    → ((a : List (List ℕ)) (x : List ℕ) (b : List (List ℕ)) → length a ≡ p → locks_from n 0 (a ++ records_of v ∷ b) ≡ change (locks_from n 0 (a ++ x ∷ b)))
+    → ((a : List (List ℕ)) (x : List ℕ) (b : List (List ℕ)) → length a ≡ p → locks_from n 0 (a ++ slot_records v ∷ b) ≡ change (locks_from n 0 (a ++ x ∷ b)))
     → locks_of n (slice_set slots p v) ≡ change (locks_of n slots)
 slot_changed n p slots v change k changes =
     let old = get_or slots p None in
-    let before = map records_of (take p slots) in
-    let after = map records_of (drop (suc p) slots) in
-    let was : map records_of slots ≡ before ++ records_of old ∷ after = ap (map records_of) (sym (set-get_or slots p None)) ∙ slots_parts slots p old k in
+    let before = map slot_records (take p slots) in
+    let after = map slot_records (drop (suc p) slots) in
+    let was : map slot_records slots ≡ before ++ slot_records old ∷ after = ap (map slot_records) (sym (set-get_or slots p None)) ∙ slots_parts slots p old k in
     ap (locks_from n 0) (slots_parts slots p v k)
-    ∙ changes before (records_of old) after (length-before slots p k)
+    ∙ changes before (slot_records old) after (length-before slots p k)
     ∙ ap (λ (xs : List (List ℕ)). change (locks_from n 0 xs)) (sym was)
 
 -- a write into the slot of a station and a table
 pub set_slot : (n s t : ℕ) (slots : List (Option ℕ)) (v : Option ℕ) → 1 ≤ t → 1 ≤ s → s ≤ n → slot_index_of n s t < length slots
-    → locks_of n (slice_set slots (slot_index_of n s t) v) ≡ with_locks (locks_of n slots) s t (records_of v)
-set_slot n s t slots v h i j k = slot_changed n (slot_index_of n s t) slots v (λ ls. with_locks ls s t (records_of v)) k (λ a x b e. slot_replaced n s t a x (records_of v) b h i j e)
+    → locks_of n (slice_set slots (slot_index_of n s t) v) ≡ with_locks (locks_of n slots) s t (slot_records v)
+set_slot n s t slots v h i j k = slot_changed n (slot_index_of n s t) slots v (λ ls. with_locks ls s t (slot_records v)) k (λ a x b e. slot_replaced n s t a x (slot_records v) b h i j e)
 
 -- a slot is emptied
 pub clear_slot : (n s t : ℕ) (slots : List (Option ℕ)) → 1 ≤ t → 1 ≤ s → s ≤ n → slot_index_of n s t < length slots
@@ -155,24 +155,24 @@ clear_slot n s t slots h i j k = slot_changed n (slot_index_of n s t) slots None
 
 -- the slots of a table tell its locks
 pub table_slots : (n t tables : ℕ) (slots : List (Option ℕ)) → 1 ≤ t → t ≤ tables → length slots ≡ tables * n
-    → in_table (locks_of n slots) t ≡ row_from t 1 (map records_of (slice_range slots ((t - 1) * n) ((t - 1) * n + n)))
+    → in_table (locks_of n slots) t ≡ row_from t 1 (map slot_records (slice_range slots ((t - 1) * n) ((t - 1) * n + n)))
 table_slots zero t tables slots h i e =
     let none : length slots ≡ 0 = omega arith in
     let row = slice_range slots ((t - 1) * 0) ((t - 1) * 0 + 0) in
     let few : length row ≡ 0 = omega (arith, length-take ((t - 1) * 0 + 0 - (t - 1) * 0) (drop ((t - 1) * 0) slots), length-drop ((t - 1) * 0) slots) in
-    ap (λ (xs : List (Option ℕ)). in_table (locks_of 0 xs) t) (nil_from_length slots none) ∙ sym (ap (λ (xs : List (Option ℕ)). row_from t 1 (map records_of xs)) (nil_from_length row few))
+    ap (λ (xs : List (Option ℕ)). in_table (locks_of 0 xs) t) (nil_from_length slots none) ∙ sym (ap (λ (xs : List (Option ℕ)). row_from t 1 (map slot_records xs)) (nil_from_length row few))
 table_slots (suc m) t tables slots h i e =
     let n = suc m in
     let start = (t - 1) * n in
     let rise : (t - 1) * n + n ≤ tables * n = rows_rise (t - 1) tables n (omega arith) in
     let width : start + n - start ≡ n = omega arith in
     let row = take n (drop start slots) in
-    let parts : map records_of slots ≡ map records_of (take start slots) ++ (map records_of row ++ map records_of (drop n (drop start slots))) =
-    ap (map records_of) (sym (take-append-drop start slots)) ∙ map-append records_of (take start slots) (drop start slots)
-    ∙ ap (λ (xs : List (Option ℕ)). map records_of (take start slots) ++ map records_of xs) (sym (take-append-drop n (drop start slots)))
-    ∙ ap (λ (xs : List (List ℕ)). map records_of (take start slots) ++ xs) (map-append records_of row (drop n (drop start slots))) in
-    let before : length (map records_of (take start slots)) ≡ start = omega (arith, length-map (take start slots) records_of, length-take start slots) in
-    let wide : length (map records_of row) ≡ n = omega (arith, length-map row records_of, length-take n (drop start slots), length-drop start slots) in
+    let parts : map slot_records slots ≡ map slot_records (take start slots) ++ (map slot_records row ++ map slot_records (drop n (drop start slots))) =
+    ap (map slot_records) (sym (take-append-drop start slots)) ∙ map-append slot_records (take start slots) (drop start slots)
+    ∙ ap (λ (xs : List (Option ℕ)). map slot_records (take start slots) ++ map slot_records xs) (sym (take-append-drop n (drop start slots)))
+    ∙ ap (λ (xs : List (List ℕ)). map slot_records (take start slots) ++ xs) (map-append slot_records row (drop n (drop start slots))) in
+    let before : length (map slot_records (take start slots)) ≡ start = omega (arith, length-map (take start slots) slot_records, length-take start slots) in
+    let wide : length (map slot_records row) ≡ n = omega (arith, length-map row slot_records, length-take n (drop start slots), length-drop start slots) in
     ap (λ (xs : List (List ℕ)). in_table (locks_from n 0 xs) t) parts
-    ∙ row_of_table n t (map records_of (take start slots)) (map records_of row) (map records_of (drop n (drop start slots))) (omega arith) h before wide
-    ∙ ap (λ (k : ℕ). row_from t 1 (map records_of (take k (drop start slots)))) (sym width)
+    ∙ row_of_table n t (map slot_records (take start slots)) (map slot_records row) (map slot_records (drop n (drop start slots))) (omega arith) h before wide
+    ∙ ap (λ (k : ℕ). row_from t 1 (map slot_records (take k (drop start slots)))) (sym width)

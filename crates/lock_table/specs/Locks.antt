@@ -11,7 +11,7 @@ pub record Lock : Type 0 where
 
 -- how many stations and tables there are, and the locks that are held, in order of table, station and
 -- record number
-pub record Held : Type 0 where
+pub record HeldLocks : Type 0 where
   pub stations : ℕ
   pub tables : ℕ
   pub locks : List Lock
@@ -19,7 +19,7 @@ pub record Held : Type 0 where
 abbrev pub lock_of : ℕ → ℕ → ℕ → Lock
 lock_of table station number = record { table = table; station = station; number = number }
 
-abbrev pub held : ℕ → ℕ → List Lock → Held
+abbrev pub held : ℕ → ℕ → List Lock → HeldLocks
 held stations tables locks = record { stations = stations; tables = tables; locks = locks }
 
 -- the locks in a table
@@ -110,6 +110,6 @@ abbrev pub AreApart : List Lock → Type 0
 AreApart locks = (a b : Lock) → IsHeld locks a → IsHeld locks b → IsApart a b
 
 -- the locks are in order of table and station, and a station has one at most in a table
-abbrev pub AreInOrder : List Lock → Type 0
-AreInOrder [] = Unit {0}
-AreInOrder (l ∷ ls) = ((m : Lock) → IsHeld ls m → is_before m.station m.table l ≡ true) × AreInOrder ls
+abbrev pub AreLocksInOrder : List Lock → Type 0
+AreLocksInOrder [] = Unit {0}
+AreLocksInOrder (l ∷ ls) = ((m : Lock) → IsHeld ls m → is_before m.station m.table l ≡ true) × AreLocksInOrder ls

@@ -3,9 +3,9 @@ use Rattle.std.specs.Prelude.{◌≡◌, ℕ, ◌+◌, ◌-◌, ◌*◌, ◌/◌
 use Rattle.lock_table.specs.Locks.{Lock, lock_of, AreApart}
 
 -- the records that a slot names
-abbrev pub records_of : Option ℕ → List ℕ
-records_of None = []
-records_of (Some number) = number ∷ []
+abbrev pub slot_records : Option ℕ → List ℕ
+slot_records None = []
+slot_records (Some number) = number ∷ []
 
 -- the index of the slot of a station and a table, where there are so many stations
 abbrev pub slot_index_of : ℕ → ℕ → ℕ → ℕ
@@ -15,22 +15,22 @@ slot_index_of stations station table = (table - 1) * stations + (station - 1)
 abbrev pub lock_at : ℕ → ℕ → ℕ → Lock
 lock_at stations index number = lock_of (index / stations + 1) (index % stations + 1) number
 
--- the locks on the records of slots that are numbered from one on, by a slot's number and a record
-abbrev pub numbered : (ℕ → ℕ → Lock) → ℕ → List (List ℕ) → List Lock
-numbered lock first [] = []
-numbered lock first (records ∷ rest) = map (lock first) records ++ numbered lock (first + 1) rest
+-- the locks on the records of slots that are slot_locks from one on, by a slot's number and a record
+abbrev pub slot_locks : (ℕ → ℕ → Lock) → ℕ → List (List ℕ) → List Lock
+slot_locks lock first [] = []
+slot_locks lock first (records ∷ rest) = map (lock first) records ++ slot_locks lock (first + 1) rest
 
 -- the locks of the slots from an index on
 abbrev pub locks_from : ℕ → ℕ → List (List ℕ) → List Lock
-locks_from stations index slots = numbered (lock_at stations) index slots
+locks_from stations index slots = slot_locks (lock_at stations) index slots
 
 -- the locks of a table's slots from a station on
 abbrev pub row_from : ℕ → ℕ → List (List ℕ) → List Lock
-row_from table station slots = numbered (lock_of table) station slots
+row_from table station slots = slot_locks (lock_of table) station slots
 
 -- the locks of all slots
 abbrev pub locks_of : ℕ → List (Option ℕ) → List Lock
-locks_of stations slots = locks_from stations 0 (map records_of slots)
+locks_of stations slots = locks_from stations 0 (map slot_records slots)
 
 -- there is a slot for each table and station, and no two stations are in each other's way
 pub record AreSlots (stations tables : ℕ) (slots : List (Option ℕ)) : Type 0 where

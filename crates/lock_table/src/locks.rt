@@ -2,8 +2,8 @@
 
 ghost use Rattle.std.specs.Prelude.{◌≡◌, ℕ, nat_lt, ◌+◌, ◌*◌, ◌<◌, ◌≤◌, ◌&&◌, ◌||◌, ◌==◌, not, is_some, true, false, List, [], length, map, IfOk};
 ghost use Rattle.std.specs.List.{list_any, filter};
-ghost use Rattle.lock_table.specs.Locks.{held, in_table, free_record, free_whole, may_write, holder, record_locks, with_lock, without, without_all, AreApart, AreInOrder};
-ghost use Rattle.lock_table.specs.Slots.{slot_index_of, records_of, row_from};
+ghost use Rattle.lock_table.specs.Locks.{held, in_table, free_record, free_whole, may_write, holder, record_locks, with_lock, without, without_all, AreApart, AreLocksInOrder};
+ghost use Rattle.lock_table.specs.Slots.{slot_index_of, slot_records, row_from};
 
 use std::alloc::{AllocError, Global};
 use std::marker::Model;
@@ -26,9 +26,9 @@ pub struct Locks {
 }
 
 impl Model for Locks {
-    ghost use Rattle.lock_table.specs.Locks.{Held, held};
+    ghost use Rattle.lock_table.specs.Locks.{HeldLocks, held};
 
-    ghost Value = { Held };
+    ghost Value = { HeldLocks };
 
     ghost use Rattle.lock_table.specs.Slots.{AreSlots, locks_of};
 
@@ -177,7 +177,7 @@ impl Locks {
         requires number { 1 ≤ number }
         ensures value { result ≡ may_write self.now.locks station table number }
         ensures apart { AreApart self.now.locks }
-        ensures order { AreInOrder self.now.locks }
+        ensures order { AreLocksInOrder self.now.locks }
     {
         covers(self.row(table)[station as usize - 1], number)
     }
@@ -188,7 +188,7 @@ impl Locks {
         requires tables { table ≤ self.now.tables }
         ensures value { result ≡ record_locks self.now.locks table }
         ensures apart { AreApart self.now.locks }
-        ensures order { AreInOrder self.now.locks }
+        ensures order { AreLocksInOrder self.now.locks }
     {
         let row = self.row(table);
         let mut count = 0;
@@ -260,9 +260,9 @@ impl Locks {
         requires table { 1 ≤ table }
         requires tables { table ≤ self.now.tables }
         ensures length { length result.now ≡ self.now.stations }
-        ensures locks { in_table self.now.locks table ≡ row_from table 1 (map records_of result.now) }
+        ensures locks { in_table self.now.locks table ≡ row_from table 1 (map slot_records result.now) }
         ensures apart { AreApart self.now.locks }
-        ensures order { AreInOrder self.now.locks }
+        ensures order { AreLocksInOrder self.now.locks }
     {
         let start = (table as usize - 1) * self.stations as usize;
         &self.slots[start..start + self.stations as usize]
@@ -271,7 +271,7 @@ impl Locks {
 
 // Whether a slot's lock is on the record or on the whole table.
 fn covers(slot: Option<u32>, number: u32) -> bool
-    ensures value { result ≡ list_any (λ n. n == number || n == 0) (records_of slot) }
+    ensures value { result ≡ list_any (λ n. n == number || n == 0) (slot_records slot) }
 {
     match slot {
         Some(held) => held == number || held == WHOLE_TABLE,
@@ -281,7 +281,7 @@ fn covers(slot: Option<u32>, number: u32) -> bool
 
 // Whether the lock in the slot of a holder bars the station from the record.
 fn bars(slot: Option<u32>, holder: u32, station: u32, number: u32) -> bool
-    ensures value { result ≡ (not (holder == station) && list_any (λ n. n == number || n == 0) (records_of slot)) }
+    ensures value { result ≡ (not (holder == station) && list_any (λ n. n == number || n == 0) (slot_records slot)) }
 {
     holder != station && covers(slot, number)
 }
@@ -295,7 +295,7 @@ fn bars_table(slot: Option<u32>, holder: u32, station: u32) -> bool
 
 // Whether a slot's lock is on just this record, where 0 is the whole table.
 fn is_on(slot: Option<u32>, number: u32) -> bool
-    ensures value { result ≡ list_any (λ n. n == number) (records_of slot) }
+    ensures value { result ≡ list_any (λ n. n == number) (slot_records slot) }
 {
     match slot {
         Some(held) => held == number,
@@ -305,7 +305,7 @@ fn is_on(slot: Option<u32>, number: u32) -> bool
 
 // How many records a slot has locked: one at most.
 fn record_count(slot: Option<u32>) -> u32
-    ensures value { result ≡ length (filter (λ n. nat_lt 0 n) (records_of slot)) }
+    ensures value { result ≡ length (filter (λ n. nat_lt 0 n) (slot_records slot)) }
     ensures few { result ≤ 1 }
 {
     match slot {

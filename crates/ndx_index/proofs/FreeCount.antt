@@ -3,7 +3,7 @@ use Rattle.std.proofs.Common.{◌≡◌, ℕ, zero, suc, ◌+◌, ◌<◌, ◌�
 use Rattle.std.proofs.lemmas.Bool.{cases_eq, ne_eqb}
 use Rattle.ndx_index.specs.declared.pages.free.FreeList.{FreeList}
 use Rattle.ndx_index.specs.PageStore.{Page, page_in}
-use Rattle.ndx_index.specs.IndexTree.{next_free, here, free_uses, uses_free, AreFree, IsFreeList}
+use Rattle.ndx_index.specs.IndexTree.{next_free_page, here, free_uses, uses_free, AreFree, IsFreeList}
 use Rattle.ndx_index.proofs.TreeFrame.{here_itself}
 
 -- f 0 + f 1 + .. + f (n - 1)
@@ -41,7 +41,7 @@ sum_here (suc n) p lt = elim (cases_eq p n) [
 sum_free : (n : ℕ) (a : List Page) (p : ℕ) → AreFree n a p → sum_to (length a) (free_uses n a p) ≡ n
 sum_free zero a p f = sum_zero (length a)
 sum_free (suc n) a p f =
-    let next = next_free (page_in a p) in
+    let next = next_free_page (page_in a p) in
     let rest = sum_free n a next f.2 in
     sum_plus (length a) (here p) (free_uses n a next) ∙ omega (arith, sum_here (length a) p f.0, rest)
 

@@ -5,7 +5,7 @@ use Rattle.std.proofs.lemmas.Bool.{cases_eq, ne_eqb}
 use Rattle.std.proofs.lemmas.List.{get_or-set_same, get_or-set_other, get_or_append_left, length-set}
 use Rattle.ndx_index.specs.declared.pages.free.FreeList.{FreeList}
 use Rattle.ndx_index.specs.PageStore.{Page, page_in, no_page, with_links}
-use Rattle.ndx_index.specs.IndexTree.{next_free, here, total, uses, uses_free, free_uses, AreFree, IsFreeList, IsTree}
+use Rattle.ndx_index.specs.IndexTree.{next_free_page, here, total, uses, uses_free, free_uses, AreFree, IsFreeList, IsTree}
 use Rattle.ndx_index.specs.TreeSteps.{MakesFree}
 use Rattle.ndx_index.proofs.TreeFrame.{here_itself}
 
@@ -26,8 +26,8 @@ pub free_framed : (n : ℕ) (a b : List Page) (p : ℕ) → AreFree n a p → le
 free_framed zero a b p f le same = record { uses_stay = λ r. refl; free = tt }
 free_framed (suc n) a b p f le same =
     let at = same p (omega (arith, here_itself p)) f.0 in
-    let next = ap (λ (g : Page). next_free g) at in
-    let rest = free_framed n a b (next_free (page_in a p)) f.2 le (λ r h lt. same r (omega arith) lt) in
+    let next = ap (λ (g : Page). next_free_page g) at in
+    let rest = free_framed n a b (next_free_page (page_in a p)) f.2 le (λ r h lt. same r (omega arith) lt) in
     record {
       uses_stay = λ r. ap (λ x. here p r + free_uses n b x r) next ∙ ap (λ k. here p r + k) (rest.uses_stay r);
       free = (omega (arith, f.0), subst (λ (g : Page). 0 < length g.links) (sym at) f.1, subst (λ x. AreFree n b x) (sym next) rest.free);
@@ -40,7 +40,7 @@ pub record Linked (n : ℕ) (a b : List Page) (head p : ℕ) : Type 0 where
 -- one more page before the free ones
 pub linked : (n : ℕ) (a b : List Page) (head p : ℕ) → (page_in b p).links ≡ head ∷ [] → p < length b → length a ≤ length b → ((r : ℕ) → 0 < free_uses n a head r → r < length a → page_in b r ≡ page_in a r) → AreFree n a head → Linked n a b head p
 linked n a b head p one there le same f =
-    let next : next_free (page_in b p) ≡ head = ap (λ ls. get_or ls 0 0) one in
+    let next : next_free_page (page_in b p) ≡ head = ap (λ ls. get_or ls 0 0) one in
     let rest = free_framed n a b head f le same in
     record {
       free = rw add-one (there, subst (λ ls. 0 < length ls) (sym one) (omega arith), subst (λ x. AreFree n b x) (sym next) rest.free);
@@ -70,7 +70,7 @@ pub free_there : (n : ℕ) (a : List Page) (p r : ℕ) → AreFree n a p → 0 <
 free_there zero a p r f h = absurd (omega arith)
 free_there (suc n) a p r f h = elim (cases_eq r p) [
   | inl e ↦ subst (λ x. x < length a) (sym e) f.0
-  | inr ne ↦ free_there n a (next_free (page_in a p)) r f.2 (omega (arith, h, here_zero p r ne))
+  | inr ne ↦ free_there n a (next_free_page (page_in a p)) r f.2 (omega (arith, h, here_zero p r ne))
 ]
 
 pub free_past : (n : ℕ) (a : List Page) (p r : ℕ) → AreFree n a p → length a ≤ r → free_uses n a p r ≡ 0
@@ -81,10 +81,10 @@ free_past n a p r f le = elim (cases_eq (free_uses n a p r) 0) [
 
 -- ---- what the code owes
 
-pub taken : (n : ℕ) (a b : List Page) (p : ℕ) → AreFree (suc n) a p → ((r : ℕ) → free_uses (suc n) a p r ≤ 1) → b ≡ set a p no_page → FreeFramed n a b (next_free (page_in a p))
+pub taken : (n : ℕ) (a b : List Page) (p : ℕ) → AreFree (suc n) a p → ((r : ℕ) → free_uses (suc n) a p r ≤ 1) → b ≡ set a p no_page → FreeFramed n a b (next_free_page (page_in a p))
 taken n a b p f apart e =
     let m : length b ≡ length a = rw e (length-set a p no_page) in
-    free_framed n a b (next_free (page_in a p)) f.2 (omega (arith, m)) (λ r h lt. rw e (get_or-set_other a p r no_page no_page (λ same.
+    free_framed n a b (next_free_page (page_in a p)) f.2 (omega (arith, m)) (λ r h lt. rw e (get_or-set_other a p r no_page no_page (λ same.
     omega (arith, h, apart r, subst (λ x. here x r ≡ 1) same (here_itself r)))))
 
 -- p was emptied and got one link, and no other page changed

@@ -14,10 +14,10 @@ use Rattle.byteorder.specs.Numbers.{little_number-reads_back}
 use Rattle.ndx_index.specs.declared.pair.Pair.{Pair}
 use Rattle.ndx_index.specs.declared.read.page.PageLayout.{PageLayout}
 use Rattle.ndx_index.specs.Pages.{u32_at}
-use Rattle.ndx_index.specs.NdxTree.{Trees, IsTree}
-use Rattle.ndx_index.specs.Header.{header_refusal, header_tests, ndx_header, u16_at, before_zero, trimmed_end, expression, IsIndex}
+use Rattle.ndx_index.specs.NdxTree.{Trees, IsFileTree}
+use Rattle.ndx_index.specs.Header.{header_refusal, header_page_tests, ndx_header, u16_at, before_zero, trimmed_end, expression, IsIndex}
 use Rattle.ndx_index.proofs.Texts.{before_zeros, no_zero}
-use Rattle.ndx_index.specs.Image.{ChildEntry, child_entries, last_key, leaves, inner_pages, leaf_page, inner_page, filled_page, header_page, pages_of, ndx_image, record_size, page_keys, IsWritable}
+use Rattle.ndx_index.specs.Image.{ChildEntry, child_entries, last_key, leaves, inner_pages, leaf_page, inner_page, filled_page, header_page, image_pages, ndx_image, record_size, page_keys, IsWritable}
 use Rattle.ndx_index.proofs.Grouped.{joined, groups-join, leaf_groups, count_one, HasSize, all_groups, short_groups}
 use Rattle.ndx_index.specs.Laws.Lists.{all_weaker, all_zip}
 use Rattle.ndx_index.proofs.PageBytes.{Fits, length-filled_page, pairs_short}
@@ -66,7 +66,7 @@ length-header text key_len n h = length-filled_page _ (omega arith)
 
 header_accepted : (bytes : List ℕ) (key_len size : ℕ) → PAGE ≤ length bytes → u16_at bytes KEY_TYPE_OFFSET ≡ 0 → slice_index bytes UNIQUE_FLAG_OFFSET ≡ 0 → u16_at bytes KEY_LENGTH_OFFSET ≡ key_len → u16_at bytes RECORD_SIZE_OFFSET ≡ size
     → 1 ≤ key_len → key_len ≤ MAX_KEY_BYTES → key_len + 8 ≤ size → size ≤ MAX_RECORDS_BYTES → header_refusal bytes ≡ None
-unfolding header_tests
+unfolding header_page_tests
 header_accepted bytes key_len size long kind unique key_is size_is some few room small =
     let a : nat_le PAGE (length bytes) ≡ true = grind (arith, nat_tests) in
     let b : is_in_range 1 MAX_KEY_BYTES key_len ≡ true = grind (arith, nat_tests) in
@@ -115,7 +115,7 @@ read_back text key_len pairs w =
     let above : List (List ChildEntry) = inner_pages k pairs in
     let leaf_pages : List (List ℕ) = map (leaf_page size) gs in
     let upper_pages : List (List ℕ) = map (inner_page size) above in
-    let pages : List (List ℕ) = pages_of key_len pairs in
+    let pages : List (List ℕ) = image_pages key_len pairs in
     let header : List ℕ = header_page text key_len (1 + length pages) in
     let bytes : List ℕ = ndx_image text key_len pairs in
     let one_key : 1 ≤ k = omega (arith, sizes.least) in
@@ -146,7 +146,7 @@ read_back text key_len pairs w =
       text_is = sym (text_reads text (joined pages) key_len (1 + length pages) w.text_short);
       length_is = ap (λ (h : Header). h.layout.key_len) (sym header_is);
       pages = rooted.pages;
-      tree = subst (λ (h : Header). IsTree h.layout bytes h.root rooted.pages pairs) (sym header_is) (record { tree = rooted.tree; apart = once_distinct rooted.pages rooted.once });
+      tree = subst (λ (h : Header). IsFileTree h.layout bytes h.root rooted.pages pairs) (sym header_is) (record { tree = rooted.tree; apart = once_distinct rooted.pages rooted.once });
     }
   where
     add_one : (n : ℕ) → 1 + n ≡ n + 1

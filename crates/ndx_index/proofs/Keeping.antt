@@ -4,7 +4,7 @@ use Rattle.std.proofs.lemmas.List.{get_or-set_same, get_or-set_other, length-set
 use Rattle.ndx_index.specs.declared.pages.free.FreeList.{FreeList}
 use Rattle.ndx_index.specs.PageStore.{Page, page_in, no_page}
 use Rattle.ndx_index.specs.IndexTree.{pairs_under, here, uses, uses_free, uses_both, IsTree, IsFreeList}
-use Rattle.ndx_index.specs.TreeSteps.{Keeps, IsApart}
+use Rattle.ndx_index.specs.TreeSteps.{Keeps, IsSubtreeApart}
 use Rattle.ndx_index.proofs.TreeFrame.{here_itself, framed, Framed}
 use Rattle.ndx_index.proofs.FreeFrame.{free_framed, FreeFramed}
 
@@ -17,7 +17,7 @@ keeps_then d a b c f g h p x y = record {
   same_length = y.same_length ∙ x.same_length;
 }
 
-pub keeps_itself : (d : ℕ) (a : List Page) (f : FreeList) (p : ℕ) → IsApart d a f p → Keeps d a a f f p
+pub keeps_itself : (d : ℕ) (a : List Page) (f : FreeList) (p : ℕ) → IsSubtreeApart d a f p → Keeps d a a f f p
 keeps_itself d a f p whole = record {
   tree = whole.tree;
   list = whole.list;

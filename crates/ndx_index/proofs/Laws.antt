@@ -9,7 +9,7 @@ use Rattle.ndx_index.specs.declared.fault.NdxFault.{NdxFault}
 use Rattle.ndx_index.specs.declared.fault.NdxFault.TheVariants.{PageOutside, PageTwice}
 use Rattle.ndx_index.specs.Pages.{Node, leaf, inner, node_of, page_of, is_page}
 use Rattle.ndx_index.specs.Laws.Lists.{all_weaker, all_zip}
-use Rattle.ndx_index.specs.NdxTree.{Visits, Trees, IsTree, Holds, is_visited, look, none, at_leaf, at_inner, done, stops, visit_leaf, visit_inner}
+use Rattle.ndx_index.specs.NdxTree.{Visits, Trees, IsFileTree, Holds, is_visited, look, none, at_leaf, at_inner, done, stops, visit_leaf, visit_inner}
 
 -- each page is new where it comes
 abbrev pub Apart : List ℕ → List ℕ → Type 0
@@ -146,12 +146,12 @@ module _ (s : PageLayout) (bytes : List ℕ) where
   all_unvisited [] = tt
   all_unvisited (p ∷ ps) = (refl, all_unvisited ps)
 
-  pub tree_from_visits : (root : ℕ) (pages : List ℕ) (pairs : List Pair) → Visits s bytes [] (root ∷ []) pages pairs None → IsTree s bytes root pages pairs
+  pub tree_from_visits : (root : ℕ) (pages : List ℕ) (pairs : List Pair) → Visits s bytes [] (root ∷ []) pages pairs None → IsFileTree s bytes root pages pairs
   tree_from_visits root pages pairs v =
       let t = visits_trees v refl in
       record { tree = t.0; apart = (apart_distinct pages [] t.1).0 }
 
-  pub visits_from_tree : (root : ℕ) (pages : List ℕ) (pairs : List Pair) → IsTree s bytes root pages pairs → Visits s bytes [] (root ∷ []) pages pairs None
+  pub visits_from_tree : (root : ℕ) (pages : List ℕ) (pairs : List Pair) → IsFileTree s bytes root pages pairs → Visits s bytes [] (root ∷ []) pages pairs None
   visits_from_tree root pages pairs t =
       let v = trees_visit t.tree [] [] [] [] None (distinct_apart pages [] t.apart (all_unvisited pages)) done in
       subst (λ ps. Visits s bytes [] (root ∷ []) ps pairs None) (append-nil pages) (subst (λ qs. Visits s bytes [] (root ∷ []) (pages ++ []) qs None) (append-nil pairs) v)

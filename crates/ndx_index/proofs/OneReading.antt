@@ -5,7 +5,7 @@ use Rattle.ndx_index.specs.declared.pair.Pair.{Pair}
 use Rattle.ndx_index.specs.declared.fault.NdxFault.{NdxFault}
 use Rattle.ndx_index.specs.declared.fault.NdxFault.TheVariants.{Truncated, NumericIndex, UniqueIndex, BadKeyLength, BadRecordSize, PageOutside, PageTwice, TooManyEntries, MixedPage, NoMemory}
 use Rattle.ndx_index.specs.declared.read.NdxFile.{NdxFile}
-use Rattle.ndx_index.specs.Header.{header_refusal, ndx_header, IsIndex, Breaks}
+use Rattle.ndx_index.specs.Header.{header_refusal, ndx_header, IsIndex, HasNdxFault}
 use Rattle.ndx_index.specs.Reading.{IsOnly}
 use Rattle.ndx_index.proofs.Laws.{visits_from_tree, one_walk}
 
@@ -21,7 +21,7 @@ only_memory TooManyEntries h = absurd (h (λ is. cc))
 only_memory MixedPage h = absurd (h (λ is. cc))
 only_memory NoMemory h = refl
 
-unbroken : (bytes text : List ℕ) (key_len : ℕ) (pairs : List Pair) (e : NdxFault) → IsIndex bytes text key_len pairs → Breaks bytes e → ⊥
+unbroken : (bytes text : List ℕ) (key_len : ℕ) (pairs : List Pair) (e : NdxFault) → IsIndex bytes text key_len pairs → HasNdxFault bytes e → ⊥
 unbroken bytes text key_len pairs e is (inl broken) =
     let a : header_refusal bytes ≡ None = is.header_is in
     let b : header_refusal bytes ≡ Some e = broken in
@@ -33,7 +33,7 @@ unbroken bytes text key_len pairs e is (inr broken) =
     absurd cc
 
 pub only_from : (bytes text : List ℕ) (key_len : ℕ) (pairs : List Pair) (r : Result NdxFile NdxFault)
-    → IfOk r (λ file. IsIndex bytes file.expr file.key_len file.pairs.items) → IfErr r (λ e. e ≢ NoMemory → Breaks bytes e) → IsIndex bytes text key_len pairs → IsOnly text key_len pairs r
+    → IfOk r (λ file. IsIndex bytes file.expr file.key_len file.pairs.items) → IfErr r (λ e. e ≢ NoMemory → HasNdxFault bytes e) → IsIndex bytes text key_len pairs → IsOnly text key_len pairs r
 only_from bytes text key_len pairs (Ok file) found refused is =
     let header = ndx_header bytes in
     let one = one_walk header.layout bytes (visits_from_tree header.layout bytes header.root found.pages file.pairs.items found.tree) (visits_from_tree header.layout bytes header.root is.pages pairs is.tree) in

@@ -13,7 +13,7 @@ use Rattle.std.proofs.lemmas.Bool.Decides.{nat_tests}
 use Rattle.std.proofs.lemmas.Cmp.{nat_list_cmp_total}
 use Rattle.std.proofs.lemmas.Map.Keys.{Less-from_sorted}
 use Rattle.ndx_index.specs.declared.pair.Pair.{Pair}
-use Rattle.ndx_index.specs.Order.{pair_cmp, before, same, placed, in_order, without, AreInOrder}
+use Rattle.ndx_index.specs.Order.{pair_cmp, before, same, placed, in_order, without_pair, AreInOrder}
 use Rattle.ndx_index.specs.Laws.Lists.{filter_but, all_weaker}
 use Rattle.ndx_index.specs.Laws.Comparing.{Less-from_is_lt, before_is, before_trans, irreflexive, same_itself, before_other, not_same}
 use Rattle.ndx_index.specs.Laws.Sorting.{all-placed, contains_more}
@@ -61,7 +61,7 @@ unfolding IsStrictlySortedBy
 sorted_none = tt
 
 -- the pair at index i taken out
-pub without_at : (p : Pair) (ps : List Pair) (i : ℕ) → AreInOrder ps → i < length ps → ((d : Pair) → get_or ps i d ≡ p) → without p ps ≡ remove ps i
+pub without_at : (p : Pair) (ps : List Pair) (i : ℕ) → AreInOrder ps → i < length ps → ((d : Pair) → get_or ps i d ≡ p) → without_pair p ps ≡ remove ps i
 without_at p ps i sorted lt here = filter_but (λ q. not (same p q)) ps i lt
     (λ d. rw here (ap not (same_itself p)))
     (λ k d klt ne. not_same p (get_or ps k d) (λ e. elim (cases_lt k i) [
@@ -126,9 +126,9 @@ kept_pass f [] d k h = absurd (omega arith)
 kept_pass f (q ∷ qs) d k h = kept_step f q (filter f qs) d (f q) refl (λ j lt. kept_pass f qs d j lt) k h
 
 -- a pair that was taken out is absent
-pub absent_without : (p : Pair) (ps : List Pair) → Contains (without p ps) p → ⊥
+pub absent_without : (p : Pair) (ps : List Pair) → Contains (without_pair p ps) p → ⊥
 absent_without p ps h =
-    let pass : not (same p (get_or (without p ps) h.0 p)) ≡ true = kept_pass (λ q. not (same p q)) ps p h.0 h.1 in
+    let pass : not (same p (get_or (without_pair p ps) h.0 p)) ≡ true = kept_pass (λ q. not (same p q)) ps p h.0 h.1 in
     false≢true (sym (not-true _ (subst (λ q. not (same p q) ≡ true) h.2 pass)) ∙ same_itself p)
 
 pub three_apart : (a b c : Pair) → same a b ≡ false → same a c ≡ false → same b c ≡ false → IsDistinct same (a ∷ b ∷ c ∷ [])

@@ -7,7 +7,7 @@ use lib.Seq.{paste}
 use Rattle.ndx_index.specs.declared.pair.Pair.{Pair}
 use Rattle.ndx_index.specs.Slots.{slot_at, no_pair}
 use Rattle.ndx_index.specs.declared.pages.pair_pages.PairPages.TheInside.{Inside}
-use Rattle.ndx_index.specs.PairPages.{Pages, pages_of, page_at, AreSmall, view_of, ArePages}
+use Rattle.ndx_index.specs.PairPages.{Pages, pages_of, page_at, AreSmall, pages_view, ArePages}
 
 pub length-pages : (cs : List ℕ) (ps : List Pair) → length (pages_of cs ps) ≡ length cs
 length-pages [] ps = refl
@@ -188,10 +188,10 @@ pub record IsThere (x : Inside) (pages : List (List Pair)) (p : ℕ) : Type 0 wh
   pub page : page_at pages p ≡ take (get_or x.counts.items p 0) (drop (p * 16) x.slots.pairs)
   pub count : length (page_at pages p) ≡ get_or x.counts.items p 0
 
-pub pages_count : (x : Inside) (now : Pages) → view_of x ≡ now → length now.pages ≡ length x.counts.items
+pub pages_count : (x : Inside) (now : Pages) → pages_view x ≡ now → length now.pages ≡ length x.counts.items
 pages_count x now e = rw (← e) (length-pages x.counts.items x.slots.pairs)
 
-pub is_there : (x : Inside) (now : Pages) (p : ℕ) → view_of x ≡ now → ArePages x → p < length now.pages → IsThere x now.pages p
+pub is_there : (x : Inside) (now : Pages) (p : ℕ) → pages_view x ≡ now → ArePages x → p < length now.pages → IsThere x now.pages p
 is_there x now p e h lt =
     let index : p < length x.counts.items = omega (arith, lt, pages_count x now e) in
     let small = small_there x.counts.items p h.small index in

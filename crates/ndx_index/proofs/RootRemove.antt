@@ -3,7 +3,7 @@ use Rattle.std.proofs.Common.{◌≡◌, ℕ, zero, suc, ◌+◌, ◌-◌, ◌<�
 use Rattle.ndx_index.specs.declared.pair.Pair.{Pair}
 use Rattle.ndx_index.specs.declared.pages.free.FreeList.{FreeList}
 use Rattle.ndx_index.specs.declared.pages.root.Root.{Root}
-use Rattle.ndx_index.specs.Order.{without}
+use Rattle.ndx_index.specs.Order.{without_pair}
 use Rattle.ndx_index.specs.PageStore.{Page}
 use Rattle.ndx_index.specs.IndexTree.{here, uses_free, IsFreeList, pairs_of_levels, uses_of_levels}
 use Rattle.ndx_index.specs.TreeSteps.{Empties, CanRemoveIn, RemovesIn}
@@ -23,7 +23,7 @@ emptied_at_top a b e f g h t pair can done count list uses same =
     let level : suc (t.levels - 1) ≡ t.levels = omega (arith, has_levels a f t pair can) in
     let only : pairs_of_levels t.levels a t.page ≡ pair ∷ [] = subst (λ k. pairs_of_levels k a t.page ≡ pair ∷ []) level done.only in
     record {
-      pairs = sym (without_itself pair) ∙ ap (without pair) (sym only);
+      pairs = sym (without_itself pair) ∙ ap (without_pair pair) (sym only);
       tree = tt;
       list = list;
       uses_stay = λ r. omega (arith, uses r, done.uses_stay r, ap (λ k. uses_of_levels k a t.page r) level);

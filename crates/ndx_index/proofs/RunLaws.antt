@@ -4,7 +4,7 @@ use Rattle.std.proofs.lemmas.List.{length-drop, length-append, length-take-le, t
 use lib.Seq.{paste}
 use Rattle.std.specs.List.{copy_within}
 use Rattle.ndx_index.specs.declared.pages.slots.PairSlots.TheInside.{Inside}
-use Rattle.ndx_index.specs.Slots.{Slots, slot_pairs, slot_at, blank, view_of, AreRuns}
+use Rattle.ndx_index.specs.Slots.{Slots, slot_pairs, slot_at, blank, slots_view, AreRuns}
 
 pub length-pairs : (k : ℕ) (keys ns : List ℕ) → length (slot_pairs k keys ns) ≡ length ns
 length-pairs k keys [] = refl
@@ -118,9 +118,9 @@ copy_pairs k start end dest keys ns fit order inside room =
     rw (drop_pairs k start keys ns) (paste_pairs k dest (end - start) keys (drop (start * k) keys) ns (drop start ns) fit (omega (arith, room)) long (omega (arith, length-drop start ns, inside)))
 
 -- how many slots there are
-pub count_is : (x : Inside) (now : Slots) → view_of x ≡ now → length now.pairs ≡ length x.numbers.items
+pub count_is : (x : Inside) (now : Slots) → slots_view x ≡ now → length now.pairs ≡ length x.numbers.items
 count_is x now e = rw (← e) (length-pairs x.key_len x.keys.items x.numbers.items)
 
 -- a slot's bytes stand in the run
-pub slot_inside : (x : Inside) (now : Slots) (at : ℕ) → view_of x ≡ now → AreRuns x → at < length now.pairs → at * x.key_len + x.key_len ≤ length x.keys.items
+pub slot_inside : (x : Inside) (now : Slots) (at : ℕ) → slots_view x ≡ now → AreRuns x → at < length now.pairs → at * x.key_len + x.key_len ≤ length x.keys.items
 slot_inside x now at e runs lt = place_inside x.key_len at (length x.keys.items) (length x.numbers.items) (omega (arith, lt, count_is x now e)) runs.fit

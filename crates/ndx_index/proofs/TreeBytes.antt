@@ -6,7 +6,7 @@ use Rattle.std.proofs.lemmas.List.{length-map}
 use Rattle.std.proofs.lemmas.List.Concat.{flat_map-append}
 use Rattle.std.proofs.lemmas.List.Folds.{flat_map-map}
 use Rattle.ndx_index.specs.declared.pair.Pair.{Pair}
-use Rattle.ndx_index.specs.Image.{ChildEntry, child_entries, last_entry_key, last_key, leaves, leaf_page, inner_page, inner_pages, next_level, levels_above, header_page, page_keys, record_size, pages_of, ndx_image}
+use Rattle.ndx_index.specs.Image.{ChildEntry, child_entries, last_entry_key, last_key, leaves, leaf_page, inner_page, inner_pages, next_level, levels_above, header_page, page_keys, record_size, image_pages, ndx_image}
 use Rattle.ndx_index.specs.Levels.{AreSizes, IsLevel, IsRootLevel, level}
 use Rattle.ndx_index.proofs.LevelLaws.{levels-next}
 use Rattle.ndx_index.proofs.ReadBack.{length-child_entries}
@@ -79,7 +79,7 @@ count_above k pairs (suc d) l h sizes two e are one =
     omega arith
 
 pub pages_counted : (key_len : ℕ) (pairs : List Pair) (h root : ℕ) (sizes : List ℕ) → 2 ≤ page_keys key_len → AreSizes (page_keys key_len) pairs h sizes → IsRootLevel (page_keys key_len) pairs h root
-    → 1 + length (pages_of key_len pairs) ≡ root + 1
+    → 1 + length (image_pages key_len pairs) ≡ root + 1
 pages_counted key_len pairs h root sizes two are top =
     let k : ℕ = page_keys key_len in
     let size : ℕ = record_size key_len in
@@ -102,7 +102,7 @@ pub none_above : (size k : ℕ) (pairs : List Pair) (l : ℕ) → length (level 
 none_above size k pairs l one = ap (λ qs. flat_map (inner_page size) qs) (above_root k pairs l one)
 
 -- the header, the leaves, and the inner pages
-pub image_parts : (text : List ℕ) (key_len pages : ℕ) (pairs : List Pair) → 1 + length (pages_of key_len pairs) ≡ pages
+pub image_parts : (text : List ℕ) (key_len pages : ℕ) (pairs : List Pair) → 1 + length (image_pages key_len pairs) ≡ pages
     → (header_page text key_len pages ++ flat_map (leaf_page (record_size key_len)) (leaves (page_keys key_len) pairs)) ++ flat_map (inner_page (record_size key_len)) (inner_pages (page_keys key_len) pairs)
     ≡ ndx_image text key_len pairs
 image_parts text key_len pages pairs e =
@@ -112,7 +112,7 @@ image_parts text key_len pages pairs e =
     let header : List ℕ = header_page text key_len pages in
     let low : List ℕ = flat_map (leaf_page size) gs in
     let high : List ℕ = flat_map (inner_page size) ups in
-    let body : flat_map (λ page. page) (pages_of key_len pairs) ≡ low ++ high = flat_map-append (λ page. page) (map (leaf_page size) gs) (map (inner_page size) ups)
+    let body : flat_map (λ page. page) (image_pages key_len pairs) ≡ low ++ high = flat_map-append (λ page. page) (map (leaf_page size) gs) (map (inner_page size) ups)
     ∙ rw (flat_map-map (λ (page : List ℕ). page) (leaf_page size) gs, flat_map-map (λ (page : List ℕ). page) (inner_page size) ups) refl in
-    let whole : header ++ (low ++ high) ≡ ndx_image text key_len pairs = ap (λ bytes. header ++ bytes) (sym body) ∙ ap (λ (n : ℕ). header_page text key_len n ++ flat_map (λ page. page) (pages_of key_len pairs)) (sym e) in
+    let whole : header ++ (low ++ high) ≡ ndx_image text key_len pairs = ap (λ bytes. header ++ bytes) (sym body) ∙ ap (λ (n : ℕ). header_page text key_len n ++ flat_map (λ page. page) (image_pages key_len pairs)) (sym e) in
     append_assoc header low high ∙ whole

@@ -14,7 +14,7 @@ use Rattle.ndx_index.specs.Laws.Sorting.{not_after}
 use Rattle.ndx_index.specs.Slots.{slot_at, no_pair}
 use Rattle.ndx_index.specs.PageStore.{Page, page_in, no_page}
 use Rattle.ndx_index.specs.IndexTree.{pairs_under, joined, total, here, uses, uses_both, IsTree, Parted}
-use Rattle.ndx_index.specs.TreeSteps.{Chosen, IsChildFor, IsApart, CanInsert, Inserts, ChildWithRoom}
+use Rattle.ndx_index.specs.TreeSteps.{Chosen, IsChildFor, IsSubtreeApart, CanInsert, Inserts, ChildWithRoom}
 use Rattle.ndx_index.proofs.TreeFrame.{framed, Framed, here_itself}
 use Rattle.ndx_index.proofs.Keeping.{keeps_then, list_framed}
 use Rattle.ndx_index.proofs.Order.{placed_at}
@@ -146,7 +146,7 @@ can_insert_below d a b f g p pair c can made =
     let order : AreInOrder (pairs_under (suc d) b p) = subst AreInOrder (sym made.pairs) can.whole.order in
     let absent : Contains (pairs_under (suc d) b p) pair → ⊥ = λ h. can.absent (subst (λ xs. Contains xs pair) made.pairs h) in
     record {
-      whole = subst (λ x. IsApart d b g x) is (record {
+      whole = subst (λ x. IsSubtreeApart d b g x) is (record {
         tree = all_at (λ x. IsTree d b x) links child.place child.in_range made.keeps.tree.3;
         order = child_order under links child.place child.in_range order;
         list = made.keeps.list;

@@ -8,12 +8,12 @@ use Rattle.std.proofs.lemmas.List.Edits.{length-remove}
 use Rattle.std.proofs.lemmas.Map.Keys.{Less-from_sorted}
 use Rattle.ndx_index.specs.declared.pair.Pair.{Pair}
 use Rattle.ndx_index.specs.declared.pages.free.FreeList.{FreeList}
-use Rattle.ndx_index.specs.Order.{pair_cmp, before, without, AreInOrder}
+use Rattle.ndx_index.specs.Order.{pair_cmp, before, without_pair, AreInOrder}
 use Rattle.ndx_index.specs.Laws.Comparing.{irreflexive, before_is}
 use Rattle.ndx_index.specs.PageStore.{Page, page_in, no_page, with_pairs, with_links, without_child, keys_without}
 use Rattle.ndx_index.specs.Slots.{slot_at, no_pair}
 use Rattle.ndx_index.specs.IndexTree.{pairs_under, joined, total, here, uses, uses_free, uses_both, IsTree, IsFreeList, Parted}
-use Rattle.ndx_index.specs.TreeSteps.{Chosen, IsApart, CanRemove, Removes, Empties}
+use Rattle.ndx_index.specs.TreeSteps.{Chosen, IsSubtreeApart, CanRemove, Removes, Empties}
 use Rattle.ndx_index.proofs.Order.{without_at}
 use Rattle.ndx_index.proofs.TreeFrame.{framed, Framed, here_itself, agrees_itself}
 use Rattle.ndx_index.proofs.TreeInsert.{here_other, total_at, total_two, total_one, map_one, all_at, all_from, child_order}
@@ -126,8 +126,8 @@ remove_above d a b f g p i pair can lt chosen done =
     let other : (j : ℕ) → j < length links → (j ≡ i → ⊥) → Framed d a b (get_or links j 0) = λ j l ne. framed d a b (get_or links j 0) (λ r u. done.keeps.frame r (
     omega (arith, u, apart r, total_two (λ x. uses d a x r) links j i l lt ne))) in
     let takes = takes_out_of_one pair i (map fa links) keys tree.1 tree.2 chosen in
-    let new_i : fb c ≡ without pair (get_or (map fa links) i []) = done.pairs ∙ ap (without pair) (sym (get_or-map fa links i 0 [] lt)) in
-    let maps : map fb links ≡ set (map fa links) i (without pair (get_or (map fa links) i [])) =
+    let new_i : fb c ≡ without_pair pair (get_or (map fa links) i []) = done.pairs ∙ ap (without_pair pair) (sym (get_or-map fa links i 0 [] lt)) in
+    let maps : map fb links ≡ set (map fa links) i (without_pair pair (get_or (map fa links) i [])) =
     map_one fa fb links i lt (λ j l ne. (other j l ne).pairs) ∙ ap (λ x. set (map fa links) i x) new_i in
     let sums : (r : ℕ) → total (λ x. uses d b x r) links + uses d a c r ≡ total (λ x. uses d a x r) links + uses d b c r = λ r.
     total_one (λ x. uses d a x r) (λ x. uses d b x r) links i lt (λ j l ne. (other j l ne).uses_stay r) in
@@ -285,7 +285,7 @@ both_taken a b e p i k there first second keys =
     second ∙ ap (λ (y : Page). set b p (with_pairs (remove y.pairs k) y)) own ∙ ap (λ l. set l p (with_pairs (remove x.pairs k) x)) first ∙ set_twice a p x (with_pairs (remove x.pairs k) x)
     ∙ ap (λ ks. set a p (record { pairs = ks; links = remove (page_in a p).links i })) (sym keys)
 
-pub page_order : (d : ℕ) (a : List Page) (f : FreeList) (p : ℕ) → IsApart d a f p → AreInOrder (page_in a p).pairs
+pub page_order : (d : ℕ) (a : List Page) (f : FreeList) (p : ℕ) → IsSubtreeApart d a f p → AreInOrder (page_in a p).pairs
 page_order zero a f p whole = whole.order
 page_order (suc d) a f p whole = whole.tree.2
 

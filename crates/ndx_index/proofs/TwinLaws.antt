@@ -5,7 +5,7 @@ use Rattle.std.proofs.lemmas.List.{map-append, take-map, drop-map, length-map, l
 use Rattle.ndx_index.specs.declared.pair.Pair.{Pair}
 use Rattle.ndx_index.specs.PairPages.{page_at}
 use Rattle.ndx_index.specs.declared.pages.store.PageStore.TheInside.{Inside}
-use Rattle.ndx_index.specs.PageStore.{Page, Store, page_in, no_page, links_of, zipped, with_pairs, with_links, view_of, AreTwins}
+use Rattle.ndx_index.specs.PageStore.{Page, Store, page_in, no_page, links_of, zipped, with_pairs, with_links, store_view, AreTwins}
 
 pub length-zipped : (ps ls : List (List Pair)) → length ps ≡ length ls → length (zipped ps ls) ≡ length ps
 length-zipped [] ls e = refl
@@ -68,10 +68,10 @@ pub record IsTwin (x : Inside) (pages : List Page) (p : ℕ) : Type 0 where
   pub pair_count : length (page_in pages p).pairs ≡ length (page_at x.pair_pages.pages p)
   pub link_count : length (page_in pages p).links ≡ length (page_at x.link_pages.pages p)
 
-pub store_count : (x : Inside) (now : Store) → view_of x ≡ now → AreTwins x → length now.pages ≡ length x.pair_pages.pages
+pub store_count : (x : Inside) (now : Store) → store_view x ≡ now → AreTwins x → length now.pages ≡ length x.pair_pages.pages
 store_count x now e h = ap (λ (s : Store). length s.pages) (sym e) ∙ length-zipped x.pair_pages.pages x.link_pages.pages h.same
 
-pub is_twin : (x : Inside) (now : Store) (p : ℕ) → view_of x ≡ now → AreTwins x → p < length now.pages → IsTwin x now.pages p
+pub is_twin : (x : Inside) (now : Store) (p : ℕ) → store_view x ≡ now → AreTwins x → p < length now.pages → IsTwin x now.pages p
 is_twin x now p e h lt =
     let pages : zipped x.pair_pages.pages x.link_pages.pages ≡ now.pages = ap (λ (s : Store). s.pages) e in
     let index : p < length x.pair_pages.pages = omega (arith, lt, store_count x now e h) in
@@ -88,7 +88,7 @@ is_twin x now p e h lt =
     }
 
 -- other pairs put into a page
-pub pairs_put : (x : Inside) (now : Store) (p : ℕ) (new : List Pair) → view_of x ≡ now → AreTwins x → p < length now.pages
+pub pairs_put : (x : Inside) (now : Store) (p : ℕ) (new : List Pair) → store_view x ≡ now → AreTwins x → p < length now.pages
     → zipped (set x.pair_pages.pages p new) x.link_pages.pages ≡ set now.pages p (with_pairs new (page_in now.pages p))
 pairs_put x now p new e h lt =
     let twin = is_twin x now p e h lt in
@@ -98,7 +98,7 @@ pairs_put x now p new e h lt =
     ∙ ap (λ (l : List ℕ). set now.pages p (record { pairs = new; links = l })) (sym twin.links)
 
 -- other links put into a page
-pub links_put : (x : Inside) (now : Store) (p : ℕ) (new : List Pair) → view_of x ≡ now → AreTwins x → p < length now.pages
+pub links_put : (x : Inside) (now : Store) (p : ℕ) (new : List Pair) → store_view x ≡ now → AreTwins x → p < length now.pages
     → zipped x.pair_pages.pages (set x.link_pages.pages p new) ≡ set now.pages p (with_links (links_of new) (page_in now.pages p))
 links_put x now p new e h lt =
     let twin = is_twin x now p e h lt in
@@ -107,7 +107,7 @@ links_put x now p new e h lt =
     ∙ ap (λ (l : List Pair). set now.pages p (record { pairs = l; links = links_of new })) (sym twin.pairs)
 
 -- other pairs put into two pages
-pub pairs_parted : (x : Inside) (now : Store) (p q : ℕ) (kept moved : List Pair) → view_of x ≡ now → AreTwins x → p < length now.pages → q < length now.pages
+pub pairs_parted : (x : Inside) (now : Store) (p q : ℕ) (kept moved : List Pair) → store_view x ≡ now → AreTwins x → p < length now.pages → q < length now.pages
     → zipped (set (set x.pair_pages.pages q moved) p kept) x.link_pages.pages
     ≡ set (set now.pages q (with_pairs moved (page_in now.pages q))) p (with_pairs kept (page_in now.pages p))
 pairs_parted x now p q kept moved e h lt lt2 =
@@ -119,7 +119,7 @@ pairs_parted x now p q kept moved e h lt lt2 =
     ∙ ap (λ (l : List ℕ). set (set now.pages q (with_pairs moved (page_in now.pages q))) p (record { pairs = kept; links = l })) (sym twin.links)
 
 -- other links put into two pages
-pub links_parted : (x : Inside) (now : Store) (p q : ℕ) (kept moved : List Pair) → view_of x ≡ now → AreTwins x → p < length now.pages → q < length now.pages
+pub links_parted : (x : Inside) (now : Store) (p q : ℕ) (kept moved : List Pair) → store_view x ≡ now → AreTwins x → p < length now.pages → q < length now.pages
     → zipped x.pair_pages.pages (set (set x.link_pages.pages q moved) p kept)
     ≡ set (set now.pages q (with_links (links_of moved) (page_in now.pages q))) p (with_links (links_of kept) (page_in now.pages p))
 links_parted x now p q kept moved e h lt lt2 =

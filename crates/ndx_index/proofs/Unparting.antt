@@ -8,7 +8,7 @@ use Rattle.std.proofs.lemmas.Bool.{false≢true}
 use Rattle.std.proofs.lemmas.List.{append-nil}
 use Rattle.std.proofs.lemmas.List.Elements.{All-from_recursion, filter-append, Contains-append_cases}
 use Rattle.ndx_index.specs.declared.pair.Pair.{Pair}
-use Rattle.ndx_index.specs.Order.{pair_cmp, before, same, without, AreInOrder}
+use Rattle.ndx_index.specs.Order.{pair_cmp, before, same, without_pair, AreInOrder}
 use Rattle.ndx_index.specs.PageStore.{keys_without}
 use Rattle.ndx_index.specs.IndexTree.{joined, total, AllBefore, AllFrom, Parted}
 use Rattle.ndx_index.specs.TreeSteps.{Chosen}
@@ -49,12 +49,12 @@ from_first k ps (qs ∷ pss) [] own parted less = absurd parted
 from_first k ps (qs ∷ pss) (l ∷ ks) own parted less = all_joined (λ q. before q k ≡ false) ps (joined (qs ∷ pss)) own (from_first k qs pss ks (from_less k l qs less.0 parted.1) parted.2 less.1)
 
 abbrev pub take_out : Pair → ℕ → List (List Pair) → List (List Pair)
-take_out pair i pss = set pss i (without pair (get_or pss i []))
+take_out pair i pss = set pss i (without_pair pair (get_or pss i []))
 
 -- a pair goes out of all lists where it goes out of the chosen one
 pub record TakesOutOfOne (pair : Pair) (i : ℕ) (pss : List (List Pair)) (ks : List Pair) : Type 0 where
   pub held : Contains (joined pss) pair → Contains (get_or pss i []) pair
-  pub pairs : joined (take_out pair i pss) ≡ without pair (joined pss)
+  pub pairs : joined (take_out pair i pss) ≡ without_pair pair (joined pss)
   pub parted : Parted (take_out pair i pss) ks
 
 held_first : (pair : Pair) (xs ys : List Pair) → (Contains ys pair → ⊥) → Contains (xs ++ ys) pair → Contains xs pair
@@ -63,18 +63,18 @@ held_first pair xs ys absent h = ⊎_elim (λ (own : Contains xs pair). own) (λ
 held_second : (pair : Pair) (xs ys : List Pair) → (Contains xs pair → ⊥) → Contains (xs ++ ys) pair → Contains ys pair
 held_second pair xs ys absent h = ⊎_elim (λ (own : Contains xs pair). absurd (absent own)) (λ (other : Contains ys pair). other) (Contains-append_cases xs ys pair h)
 
-out_of_first : (pair : Pair) (xs ys : List Pair) → (Contains ys pair → ⊥) → without pair xs ++ ys ≡ without pair (xs ++ ys)
-out_of_first pair xs ys absent = ap (λ (l : List Pair). without pair xs ++ l) (sym (without_absent pair ys absent)) ∙ sym (filter-append (λ q. not (same pair q)) xs ys)
+out_of_first : (pair : Pair) (xs ys : List Pair) → (Contains ys pair → ⊥) → without_pair pair xs ++ ys ≡ without_pair pair (xs ++ ys)
+out_of_first pair xs ys absent = ap (λ (l : List Pair). without_pair pair xs ++ l) (sym (without_absent pair ys absent)) ∙ sym (filter-append (λ q. not (same pair q)) xs ys)
 
-out_of_second : (pair : Pair) (xs ys : List Pair) → (Contains xs pair → ⊥) → xs ++ without pair ys ≡ without pair (xs ++ ys)
-out_of_second pair xs ys absent = ap (λ (l : List Pair). l ++ without pair ys) (sym (without_absent pair xs absent)) ∙ sym (filter-append (λ q. not (same pair q)) xs ys)
+out_of_second : (pair : Pair) (xs ys : List Pair) → (Contains xs pair → ⊥) → xs ++ without_pair pair ys ≡ without_pair pair (xs ++ ys)
+out_of_second pair xs ys absent = ap (λ (l : List Pair). l ++ without_pair pair ys) (sym (without_absent pair xs absent)) ∙ sym (filter-append (λ q. not (same pair q)) xs ys)
 
 pub takes_out_of_one : (pair : Pair) (i : ℕ) (pss : List (List Pair)) (ks : List Pair) → Parted pss ks → AreInOrder ks → Chosen pair i ks → TakesOutOfOne pair i pss ks
 unfolding IsStrictlySortedBy
 takes_out_of_one pair i [] ks parted order chosen = absurd parted
 takes_out_of_one pair zero (ps ∷ []) [] parted order chosen = record {
   held = λ h. subst (λ (l : List Pair). Contains l pair) (append-nil ps) h;
-  pairs = append-nil (without pair ps) ∙ ap (without pair) (sym (append-nil ps));
+  pairs = append-nil (without_pair pair ps) ∙ ap (without_pair pair) (sym (append-nil ps));
   parted = tt;
 }
 takes_out_of_one pair (suc i) (ps ∷ []) [] parted order chosen = absurd chosen
@@ -111,12 +111,12 @@ joined_remove [] i lt = absurd (omega (arith, lt))
 joined_remove (ps ∷ pss) zero lt = refl
 joined_remove (ps ∷ pss) (suc i) lt = ap (λ (l : List Pair). ps ++ l) (joined_remove pss i (omega (arith, lt)))
 
-pub without_itself : (pair : Pair) → without pair (pair ∷ []) ≡ []
+pub without_itself : (pair : Pair) → without_pair pair (pair ∷ []) ≡ []
 without_itself pair = rw (same_itself pair) refl
 
-pub out_of_last : (pair : Pair) (i : ℕ) (pss : List (List Pair)) (ks : List Pair) → TakesOutOfOne pair i pss ks → i < length pss → get_or pss i [] ≡ pair ∷ [] → joined (remove pss i) ≡ without pair (joined pss)
+pub out_of_last : (pair : Pair) (i : ℕ) (pss : List (List Pair)) (ks : List Pair) → TakesOutOfOne pair i pss ks → i < length pss → get_or pss i [] ≡ pair ∷ [] → joined (remove pss i) ≡ without_pair pair (joined pss)
 out_of_last pair i pss ks takes lt only =
-    sym (joined_remove pss i lt) ∙ ap (λ (l : List Pair). joined (set pss i l)) (sym (ap (without pair) only ∙ without_itself pair)) ∙ takes.pairs
+    sym (joined_remove pss i lt) ∙ ap (λ (l : List Pair). joined (set pss i l)) (sym (ap (without_pair pair) only ∙ without_itself pair)) ∙ takes.pairs
 
 before_less : (k l : Pair) (ps : List Pair) → pair_cmp k l ≡ Less → AllBefore k ps → AllBefore l ps
 before_less k l [] less all = tt

@@ -11,15 +11,15 @@ use Rattle.key_expr.specs.declared.format.TheConstants.{MAX_KEY_BYTES}
 use Rattle.ndx_index.specs.declared.format.TheConstants.{PAGE, KEY_LENGTH_OFFSET, KEY_TYPE_OFFSET, RECORD_SIZE_OFFSET, UNIQUE_FLAG_OFFSET, EXPRESSION_OFFSET, MAX_RECORDS_BYTES}
 use Rattle.ndx_index.specs.declared.fault.NdxFault.TheVariants.{Truncated, NumericIndex, UniqueIndex, BadKeyLength, BadRecordSize}
 use Rattle.ndx_index.specs.Pages.{u32_at}
-use Rattle.ndx_index.specs.NdxTree.{IsTree, Visits}
+use Rattle.ndx_index.specs.NdxTree.{IsFileTree, Visits}
 
 -- the number in the two bytes at an offset
 unfoldable pub u16_at : List ℕ → ℕ → ℕ
 u16_at bytes at = little_number 2 (drop at bytes)
 
 -- each test of the header page beside the fault that it is for
-unfoldable pub header_tests : List ℕ → List (Bool × NdxFault)
-header_tests bytes =
+unfoldable pub header_page_tests : List ℕ → List (Bool × NdxFault)
+header_page_tests bytes =
     (nat_le PAGE (length bytes), Truncated)
     ∷ (u16_at bytes KEY_TYPE_OFFSET == 0, NumericIndex)
     ∷ (slice_index bytes UNIQUE_FLAG_OFFSET == 0, UniqueIndex)
@@ -29,7 +29,7 @@ header_tests bytes =
 
 -- the first rule that the header page breaks
 abbrev pub header_refusal : List ℕ → Option NdxFault
-header_refusal bytes = first_fault (header_tests bytes)
+header_refusal bytes = first_fault (header_page_tests bytes)
 
 -- what the header page says, where no test fails
 unfoldable pub ndx_header : List ℕ → Header
@@ -59,10 +59,10 @@ pub record IsIndex (bytes text : List ℕ) (key_len : ℕ) (pairs : List Pair) :
   pub text_is : text ≡ expression bytes
   pub length_is : key_len ≡ (ndx_header bytes).layout.key_len
   pub pages : List ℕ
-  pub tree : IsTree (ndx_header bytes).layout bytes (ndx_header bytes).root pages pairs
+  pub tree : IsFileTree (ndx_header bytes).layout bytes (ndx_header bytes).root pages pairs
 
 -- this is the first rule that the bytes break
-abbrev pub Breaks : List ℕ → NdxFault → Type 0
-Breaks bytes e =
+abbrev pub HasNdxFault : List ℕ → NdxFault → Type 0
+HasNdxFault bytes e =
     (header_refusal bytes ≡ Some e)
     ⊎ ((header_refusal bytes ≡ None) × (pages : List ℕ) × (pairs : List Pair) × Visits (ndx_header bytes).layout bytes [] ((ndx_header bytes).root ∷ []) pages pairs (Some e))

@@ -111,15 +111,15 @@ header_page text key_len pages =
     ++ (0 ∷ 0 ∷ (little_bytes 2 (record_size key_len) ++ (0 ∷ 0 ∷ 0 ∷ 0 ∷ text))))))))
 
 -- all pages but the header
-abbrev pub pages_of : ℕ → List Pair → List (List ℕ)
-pages_of key_len pairs =
+abbrev pub image_pages : ℕ → List Pair → List (List ℕ)
+image_pages key_len pairs =
     map (leaf_page (record_size key_len)) (leaves (page_keys key_len) pairs)
     ++ map (inner_page (record_size key_len)) (inner_pages (page_keys key_len) pairs)
 
 -- the whole file; the last page is the root
 abbrev pub ndx_image : List ℕ → ℕ → List Pair → List ℕ
 ndx_image text key_len pairs =
-    header_page text key_len (1 + length (pages_of key_len pairs)) ++ flat_map (λ page. page) (pages_of key_len pairs)
+    header_page text key_len (1 + length (image_pages key_len pairs)) ++ flat_map (λ page. page) (image_pages key_len pairs)
 
 -- what can be written: a key expression that fits the header page, and keys of one length
 pub record IsWritable (text : List ℕ) (key_len : ℕ) (pairs : List Pair) : Type 0 where

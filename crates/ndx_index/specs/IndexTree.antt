@@ -58,18 +58,18 @@ width (suc d) g = length g.links
 -- ---- pages that no tree has
 
 -- a free page's one link
-abbrev pub next_free : Page → ℕ
-next_free g = slice_index g.links 0
+abbrev pub next_free_page : Page → ℕ
+next_free_page g = slice_index g.links 0
 
 -- how often page r is among the first n pages of the list that begins at p
 abbrev pub free_uses : ℕ → List Page → ℕ → ℕ → ℕ
 free_uses zero a p r = 0
-free_uses (suc n) a p r = here p r + free_uses n a (next_free (page_in a p)) r
+free_uses (suc n) a p r = here p r + free_uses n a (next_free_page (page_in a p)) r
 
 -- the first n pages of the list that begins at p are there, each with a link to the next
 abbrev pub AreFree : ℕ → List Page → ℕ → Type 0
 AreFree zero a p = Unit {0}
-AreFree (suc n) a p = (p < length a) × (0 < length (page_in a p).links) × AreFree n a (next_free (page_in a p))
+AreFree (suc n) a p = (p < length a) × (0 < length (page_in a p).links) × AreFree n a (next_free_page (page_in a p))
 
 abbrev pub IsFreeList : List Page → FreeList → Type 0
 IsFreeList a f = AreFree f.count a f.head

@@ -6,8 +6,8 @@ use Rattle.ndx_index.specs.PageStore.{Page, page_in}
 use Rattle.ndx_index.specs.Slots.{slot_at}
 
 -- the pair at a place
-abbrev pub pair_at : List Page → Place → Pair
-pair_at pages p = slot_at (page_in pages p.page).pairs p.at
+abbrev pub pair_at_place : List Page → Place → Pair
+pair_at_place pages p = slot_at (page_in pages p.page).pairs p.at
 
 -- there is a pair at the place
 abbrev pub IsPlace : List Page → Place → Type 0

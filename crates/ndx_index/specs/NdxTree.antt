@@ -26,7 +26,7 @@ pub data Trees (s : PageLayout) (bytes : List ℕ) : List ℕ → List ℕ → L
       → Trees s bytes children below own → Trees s bytes rest pages pairs → Trees s bytes (p ∷ rest) (p ∷ (below ++ pages)) (own ++ pairs)
 
 -- the tree under page p has these pages, all different, and these pairs
-pub record IsTree (s : PageLayout) (bytes : List ℕ) (p : ℕ) (pages : List ℕ) (pairs : List Pair) : Type 0 where
+pub record IsFileTree (s : PageLayout) (bytes : List ℕ) (p : ℕ) (pages : List ℕ) (pairs : List Pair) : Type 0 where
   pub tree : Trees s bytes (p ∷ []) pages pairs
   pub apart : IsDistinct nat_eq pages
 

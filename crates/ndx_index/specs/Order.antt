@@ -29,8 +29,8 @@ in_order [] = []
 in_order (p ∷ ps) = placed p (in_order ps)
 
 -- the pairs but for p
-abbrev pub without : Pair → List Pair → List Pair
-without p ps = filter (λ q. not (same p q)) ps
+abbrev pub without_pair : Pair → List Pair → List Pair
+without_pair p ps = filter (λ q. not (same p q)) ps
 
 -- each pair stands before all later ones, so no pair comes twice
 abbrev pub AreInOrder : List Pair → Type 0

@@ -34,8 +34,8 @@ with_pairs ps g = record { pairs = ps; links = g.links }
 abbrev pub with_links : List ℕ → Page → Page
 with_links ls g = record { pairs = g.pairs; links = ls }
 
-abbrev pub view_of : Inside → Store
-view_of x = record { key_len = x.pair_pages.key_len; pages = zipped x.pair_pages.pages x.link_pages.pages }
+abbrev pub store_view : Inside → Store
+store_view x = record { key_len = x.pair_pages.key_len; pages = zipped x.pair_pages.pages x.link_pages.pages }
 
 pub record AreTwins (x : Inside) : Type 0 where
   pub same : length x.pair_pages.pages ≡ length x.link_pages.pages

@@ -9,8 +9,8 @@ use Rattle.ndx_index.specs.Order.{AreInOrder}
 use Rattle.ndx_index.specs.PageStore.{Page}
 
 -- room for an insert: a free page for each level, and one more for a new top
-abbrev pub view_of : Inside → Index
-view_of x = record { key_len = x.store.key_len; pairs = pairs_in x.store.pages x.root; spare = if nat_lt x.root.levels x.free.count then 1 else 0 }
+abbrev pub index_view : Inside → Index
+index_view x = record { key_len = x.store.key_len; pairs = pairs_in x.store.pages x.root; spare = if nat_lt x.root.levels x.free.count then 1 else 0 }
 
 -- A tree of pairs in order, whose keys have this length, and free pages. Each page is in the tree or free, and once: none
 -- is used twice, and none is lost.

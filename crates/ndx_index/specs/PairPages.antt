@@ -21,8 +21,8 @@ page_at pages p = slice_index_or pages p []
 abbrev pub AreSmall : List ℕ → Type 0
 AreSmall cs = AllByRecursion (λ c. c ≤ 16) cs
 
-abbrev pub view_of : Inside → Pages
-view_of x = record { key_len = x.slots.key_len; pages = pages_of x.counts.items x.slots.pairs; spare = x.spare }
+abbrev pub pages_view : Inside → Pages
+pages_view x = record { key_len = x.slots.key_len; pages = pages_of x.counts.items x.slots.pairs; spare = x.spare }
 
 -- sixteen slots a page, and room for the spare ones
 pub record ArePages (x : Inside) : Type 0 where

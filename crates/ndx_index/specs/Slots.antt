@@ -24,8 +24,8 @@ slot_at ps i = slice_index_or ps i no_pair
 abbrev pub blank : ℕ → Pair
 blank k = record { key = replicate k 0; number = 0 }
 
-abbrev pub view_of : Inside → Slots
-view_of x = record { key_len = x.key_len; pairs = slot_pairs x.key_len x.keys.items x.numbers.items; spare = x.spare }
+abbrev pub slots_view : Inside → Slots
+slots_view x = record { key_len = x.key_len; pairs = slot_pairs x.key_len x.keys.items x.numbers.items; spare = x.spare }
 
 -- the runs fit each other, and both have room for the spare slots
 pub record AreRuns (x : Inside) : Type 0 where

@@ -1,7 +1,7 @@
 -- What changes a tree of pages and the free pages beside it.
 use Rattle.std.specs.Prelude.{true, false, Option, None, Some, ◌++◌, Contains, slice_index, ◌≡◌, ℕ, zero, suc, ◌+◌, ◌^◌, ◌<◌, ◌≤◌, List, [], ◌∷◌, length, slice_set}
 use Rattle.std.specs.List.{insert}
-use Rattle.ndx_index.specs.Order.{before, placed, without, AreInOrder}
+use Rattle.ndx_index.specs.Order.{before, placed, without_pair, AreInOrder}
 use Rattle.ndx_index.specs.Slots.{slot_at}
 use Rattle.ndx_index.specs.declared.pair.Pair.{Pair}
 use Rattle.ndx_index.specs.declared.pages.free.FreeList.{FreeList}
@@ -32,7 +32,7 @@ pub record Keeps (d : ℕ) (a b : List Page) (f g : FreeList) (p : ℕ) : Type 0
   pub same_length : length b ≡ length a
 
 -- a tree and a free list that share no page, in order
-pub record IsApart (d : ℕ) (a : List Page) (f : FreeList) (p : ℕ) : Type 0 where
+pub record IsSubtreeApart (d : ℕ) (a : List Page) (f : FreeList) (p : ℕ) : Type 0 where
   pub tree : IsTree d a p
   pub order : AreInOrder (pairs_under d a p)
   pub list : IsFreeList a f
@@ -64,7 +64,7 @@ pub record Halves (d : ℕ) (a b : List Page) (c q : ℕ) (m : Pair) : Type 0 wh
 
 -- the i-th child of p is full, and p has room
 pub record CanSplit (d : ℕ) (a : List Page) (f : FreeList) (p i : ℕ) : Type 0 where
-  pub whole : IsApart (suc d) a f p
+  pub whole : IsSubtreeApart (suc d) a f p
   pub some : 0 < f.count
   pub in_range : i < length (page_in a p).links
   pub room : length (page_in a p).links < 16
@@ -98,7 +98,7 @@ pub record IsChildFor (p : Pair) (g : Page) (c : ℕ) : Type 0 where
 
 -- page p has room, and there is a free page for each level below it
 pub record CanInsert (d : ℕ) (a : List Page) (f : FreeList) (p : ℕ) (pair : Pair) : Type 0 where
-  pub whole : IsApart d a f p
+  pub whole : IsSubtreeApart d a f p
   pub room : width d (page_in a p) < 16
   pub enough : d ≤ f.count
   pub absent : Contains (pairs_under d a p) pair → ⊥
@@ -118,12 +118,12 @@ pub record ChildWithRoom (d : ℕ) (a b : List Page) (f g : FreeList) (p : ℕ) 
 -- ---- a pair is taken out
 
 pub record CanRemove (d : ℕ) (a : List Page) (f : FreeList) (p : ℕ) (pair : Pair) : Type 0 where
-  pub whole : IsApart d a f p
+  pub whole : IsSubtreeApart d a f p
   pub few : length a < 2 ^ 32
   pub held : Contains (pairs_under d a p) pair
 
 pub record Removes (d : ℕ) (a b : List Page) (f g : FreeList) (p : ℕ) (pair : Pair) : Type 0 where
-  pub pairs : pairs_under d b p ≡ without pair (pairs_under d a p)
+  pub pairs : pairs_under d b p ≡ without_pair pair (pairs_under d a p)
   pub keeps : Keeps d a b f g p
   pub more : f.count ≤ g.count
 
@@ -191,14 +191,14 @@ pub record IsOver (a b : List Page) (t : Root) (q : ℕ) (k : Pair) (new : Root)
 -- ---- steps of a tree by its top
 
 -- a tree in order and a free list that share no page
-pub record AreApart (a : List Page) (f : FreeList) (t : Root) : Type 0 where
+pub record IsTreeApart (a : List Page) (f : FreeList) (t : Root) : Type 0 where
   pub tree : IsTreeIn a t
   pub order : AreInOrder (pairs_in a t)
   pub list : IsFreeList a f
   pub apart : (r : ℕ) → uses_in a t r + uses_free a f r ≤ 1
 
 pub record CanInsertIn (a : List Page) (f : FreeList) (t : Root) (pair : Pair) : Type 0 where
-  pub whole : AreApart a f t
+  pub whole : IsTreeApart a f t
   pub enough : t.levels < f.count
   pub few : length a < 2 ^ 32
   pub absent : Contains (pairs_in a t) pair → ⊥
@@ -214,7 +214,7 @@ pub record InsertsIn (a b : List Page) (f g : FreeList) (t u : Root) (pair : Pai
 
 -- a tree with a full top, which a new one is put above
 pub record CanRaise (a : List Page) (f : FreeList) (t : Root) : Type 0 where
-  pub whole : AreApart a f t
+  pub whole : IsTreeApart a f t
   pub levels : 0 < t.levels
   pub few : t.levels < 2 ^ 32
   pub some : 0 < f.count
@@ -222,20 +222,20 @@ pub record CanRaise (a : List Page) (f : FreeList) (t : Root) : Type 0 where
 pub record Raises (a b : List Page) (f g : FreeList) (t u : Root) : Type 0 where
   pub pairs : pairs_in b u ≡ pairs_in a t
   pub levels : u.levels ≡ t.levels + 1
-  pub whole : AreApart b g u
+  pub whole : IsTreeApart b g u
   pub uses_stay : (r : ℕ) → uses_in b u r + uses_free b g r ≡ uses_in a t r + uses_free a f r
   pub room : length (page_in b u.page).links ≡ 1
   pub count : g.count + 1 ≡ f.count
   pub same_length : length b ≡ length a
 
 pub record CanRemoveIn (a : List Page) (f : FreeList) (t : Root) (pair : Pair) : Type 0 where
-  pub whole : AreApart a f t
+  pub whole : IsTreeApart a f t
   pub few : length a < 2 ^ 32
   pub held : Contains (pairs_in a t) pair
 
 -- the pages in the tree and the free ones are the same together
 pub record RemovesIn (a b : List Page) (f g : FreeList) (t u : Root) (pair : Pair) : Type 0 where
-  pub pairs : pairs_in b u ≡ without pair (pairs_in a t)
+  pub pairs : pairs_in b u ≡ without_pair pair (pairs_in a t)
   pub tree : IsTreeIn b u
   pub list : IsFreeList b g
   pub uses_stay : (r : ℕ) → uses_in b u r + uses_free b g r ≡ uses_in a t r + uses_free a f r

@@ -5,7 +5,7 @@ ghost use Rattle.std.specs.List.{IsDistinct};
 ghost use Rattle.key_expr.specs.declared.format.TheConstants.{MAX_KEY_BYTES};
 ghost use Rattle.ndx_index.specs.Bounds.{passes};
 ghost use Rattle.ndx_index.specs.Index.{HaveLength};
-ghost use Rattle.ndx_index.specs.Order.{before, same, in_order, placed, without, first_from, next_of, previous_of, reaches, AreInOrder};
+ghost use Rattle.ndx_index.specs.Order.{before, same, in_order, placed, without_pair, first_from, next_of, previous_of, reaches, AreInOrder};
 
 use crate::pages::bound::Bound;
 use crate::pages::free::{FreeList, make_free};
@@ -37,17 +37,17 @@ pub struct OrderedIndex {
 
 impl Model for OrderedIndex {
     ghost use Rattle.ndx_index.specs.Index.{Index};
-    ghost use Rattle.ndx_index.specs.PagedIndex.{view_of, IsPaged};
+    ghost use Rattle.ndx_index.specs.PagedIndex.{index_view, IsPaged};
 
     ghost Value = { Index };
 
-    ghost view = { view_of };
+    ghost view = { index_view };
 
     ghost invariant = { IsPaged };
 }
 
 impl OrderedIndex {
-    /// An index without pairs, for keys of this many bytes. It takes no memory.
+    /// An index without_pair pairs, for keys of this many bytes. It takes no memory.
     pub fn new(alloc: Global, key_len: usize) -> Self
         requires { key_len ≤ MAX_KEY_BYTES }
         ensures key_len { result.key_len ≡ key_len }
@@ -130,7 +130,7 @@ impl OrderedIndex {
     pub fn remove(&mut self, pair: Pair) -> bool
         ensures found { IsTrue result ↔ Contains self.old.pairs pair }
         ensures key_len { self.new.key_len ≡ self.old.key_len }
-        ensures pairs { self.new.pairs ≡ without pair self.old.pairs }
+        ensures pairs { self.new.pairs ≡ without_pair pair self.old.pairs }
         ensures spare { self.old.spare ≤ self.new.spare }
     {
         let Some(found) = self.first_passing(&Bound::at_least(&pair)) else {
@@ -143,7 +143,7 @@ impl OrderedIndex {
         true
     }
 
-    /// The least pair; `None` of an index without pairs.
+    /// The least pair; `None` of an index without_pair pairs.
     pub fn first(&self) -> Option<Pair>
         ensures pair { result ≡ slice_get self.now.pairs 0 }
         ensures ordered { AreInOrder self.now.pairs }
@@ -154,7 +154,7 @@ impl OrderedIndex {
         Some(first_under(&self.store, self.root.levels - 1, self.root.page))
     }
 
-    /// The greatest pair; `None` of an index without pairs.
+    /// The greatest pair; `None` of an index without_pair pairs.
     pub fn last(&self) -> Option<Pair>
         ensures pair { result ≡ slice_get self.now.pairs (length self.now.pairs - 1) }
     {

@@ -25,7 +25,7 @@ ghost use Rattle.ndx_index.specs.declared.read.page.PageLayout.{PageLayout as La
 ghost use Rattle.ndx_index.specs.declared.fault.NdxFault.{NdxFault as Fault};
 ghost use Rattle.ndx_index.specs.Header.{IsIndex, before_zero, trimmed_end};
 ghost use Rattle.ndx_index.specs.Image.{IsWritable, ndx_image};
-ghost use Rattle.ndx_index.specs.NdxTree.{IsTree, Visits};
+ghost use Rattle.ndx_index.specs.NdxTree.{IsFileTree, Visits};
 ghost use Rattle.ndx_index.specs.Order.{in_order, pair_cmp, AreInOrder};
 ghost use Rattle.ndx_index.specs.TableOrder.{order, pairs_of};
 

@@ -4,7 +4,7 @@ ghost use Rattle.std.specs.Prelude.{◌≡◌, ◌≢◌, ℕ, List, IfOk, IfErr
 ghost use Rattle.ndx_index.specs.declared.fault.NdxFault.{NdxFault as Fault};
 ghost use Rattle.ndx_index.specs.declared.fault.NdxFault.TheVariants.{NoMemory};
 ghost use Rattle.ndx_index.specs.declared.pair.Pair.{Pair as PairValue};
-ghost use Rattle.ndx_index.specs.Header.{IsIndex, Breaks, header_refusal};
+ghost use Rattle.ndx_index.specs.Header.{IsIndex, HasNdxFault, header_refusal};
 ghost use Rattle.ndx_index.specs.Reading.{IsOnly};
 
 mod header;
@@ -31,7 +31,7 @@ pub struct NdxFile {
 
 fn read_file(alloc: Global, bytes: &[u8]) -> Result<NdxFile, NdxFault>
     ensures found { IfOk result (λ file. IsIndex bytes.now file.expr file.key_len file.pairs.items) }
-    ensures refused { IfErr result (λ e. e ≢ NoMemory → Breaks bytes.now e) }
+    ensures refused { IfErr result (λ e. e ≢ NoMemory → HasNdxFault bytes.now e) }
     ensures early { IfErr result (λ e. (f : Fault) → header_refusal bytes.now ≡ Some f → e ≡ f) }
 {
     let header = read_header(bytes)?;
@@ -55,7 +55,7 @@ fn read_file(alloc: Global, bytes: &[u8]) -> Result<NdxFile, NdxFault>
 pub fn read_ndx(alloc: Global, bytes: &[u8]) -> Result<NdxFile, NdxFault>
     ensures found { IfOk result (λ file. IsIndex bytes.now file.expr file.key_len file.pairs.items) }
     ensures only { (text : List ℕ) (key_len : ℕ) (pairs : List PairValue) → IsIndex bytes.now text key_len pairs → IsOnly text key_len pairs result }
-    ensures refused { IfErr result (λ e. e ≢ NoMemory → Breaks bytes.now e) }
+    ensures refused { IfErr result (λ e. e ≢ NoMemory → HasNdxFault bytes.now e) }
     // Where the header page breaks a rule the answer is its fault, and nothing else.
     ensures early { IfErr result (λ e. (f : Fault) → header_refusal bytes.now ≡ Some f → e ≡ f) }
 {

@@ -31,14 +31,14 @@ abbrev pub short_name : List ℕ → Option (List ℕ)
 short_name word = if nat_le (length word) MAX_NAME_BYTES then name_in word else None
 
 -- the words of each entry
-abbrev pub Says : List (List ℕ) → SetupEntry → Type 0
-Says words (Table name dbf None) =
+abbrev pub SaysEntry : List (List ℕ) → SetupEntry → Type 0
+SaysEntry words (Table name dbf None) =
     (word : List ℕ) × (words ≡ codes "TABLE" ∷ word ∷ dbf ∷ []) × (short_name word ≡ Some name)
-Says words (Table name dbf (Some dbt)) =
+SaysEntry words (Table name dbf (Some dbt)) =
     (word : List ℕ) × (words ≡ codes "TABLE" ∷ word ∷ dbf ∷ dbt ∷ []) × (short_name word ≡ Some name)
-Says words (Index table name ndx) =
+SaysEntry words (Index table name ndx) =
     (first : List ℕ) × (second : List ℕ) × (words ≡ codes "INDEX" ∷ first ∷ second ∷ ndx ∷ []) × (short_name first ≡ Some table) × (short_name second ≡ Some name)
-Says words (Station script) = words ≡ codes "STATION" ∷ script ∷ []
+SaysEntry words (Station script) = words ≡ codes "STATION" ∷ script ∷ []
 
 -- the line says nothing
 abbrev pub IsSkipped : List ℕ → Type 0
@@ -46,7 +46,7 @@ IsSkipped line = (words : List (List ℕ)) × AreWords words line × (skips word
 
 -- the line says this, and has no byte over 127
 abbrev pub IsEntry : List ℕ → SetupEntry → Type 0
-IsEntry line entry = (words : List (List ℕ)) × AreWords words line × (list_all is_ascii line ≡ true) × Says words entry
+IsEntry line entry = (words : List (List ℕ)) × AreWords words line × (list_all is_ascii line ≡ true) × SaysEntry words entry
 
 abbrev pub is_table_of : List ℕ → SetupEntry → Bool
 is_table_of table (Table name dbf dbt) = bytes_eq name table

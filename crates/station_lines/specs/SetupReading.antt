@@ -26,28 +26,28 @@ abbrev pub only_word : List (List ℕ) → Option (List ℕ)
 only_word (word ∷ []) = Some word
 only_word words = None
 
-abbrev pub named_table : Option (List ℕ) → List ℕ → Option (List ℕ) → Option SetupEntry
-named_table (Some name) dbf dbt = Some (entry.Table name dbf dbt)
-named_table None dbf dbt = None
+abbrev pub table_entry : Option (List ℕ) → List ℕ → Option (List ℕ) → Option SetupEntry
+table_entry (Some name) dbf dbt = Some (entry.Table name dbf dbt)
+table_entry None dbf dbt = None
 
-abbrev pub named_index : Option (List ℕ) → Option (List ℕ) → List ℕ → Option SetupEntry
-named_index (Some table) (Some name) ndx = Some (entry.Index table name ndx)
-named_index table name ndx = None
+abbrev pub index_entry : Option (List ℕ) → Option (List ℕ) → List ℕ → Option SetupEntry
+index_entry (Some table) (Some name) ndx = Some (entry.Index table name ndx)
+index_entry table name ndx = None
 
 -- what the words after TABLE say
 abbrev pub table_in : List (List ℕ) → Option SetupEntry
-table_in (name ∷ dbf ∷ []) = named_table (short_name name) dbf None
-table_in (name ∷ dbf ∷ dbt ∷ []) = named_table (short_name name) dbf (Some dbt)
+table_in (name ∷ dbf ∷ []) = table_entry (short_name name) dbf None
+table_in (name ∷ dbf ∷ dbt ∷ []) = table_entry (short_name name) dbf (Some dbt)
 table_in words = None
 
 -- what the words after INDEX say
 abbrev pub index_in : List (List ℕ) → Option SetupEntry
-index_in (table ∷ name ∷ ndx ∷ []) = named_index (short_name table) (short_name name) ndx
+index_in (table ∷ name ∷ ndx ∷ []) = index_entry (short_name table) (short_name name) ndx
 index_in words = None
 
 -- what the words after STATION say
-abbrev pub station_in : List (List ℕ) → Option SetupEntry
-station_in words = option_map entry.Station (only_word words)
+abbrev pub station_entry : List (List ℕ) → Option SetupEntry
+station_entry words = option_map entry.Station (only_word words)
 
 -- what words say
 abbrev pub entry_in : List (List ℕ) → Option SetupEntry
@@ -55,4 +55,4 @@ entry_in [] = None
 entry_in (key ∷ words) =
     if bytes_eq key (codes "TABLE") then table_in words
     else (if bytes_eq key (codes "INDEX") then index_in words
-    else (if bytes_eq key (codes "STATION") then station_in words else None))
+    else (if bytes_eq key (codes "STATION") then station_entry words else None))

@@ -8,7 +8,7 @@ use Rattle.dbf_fields.specs.declared.format.TheConstants.{MEMO}
 use Rattle.dbf_image.specs.Table.{Row, Table, row_at, row_with_cell, row_marked, kind_at, with_row, with_cell, with_mark}
 use Rattle.table_core.specs.declared.edits.planned.Target.{Target}
 use Rattle.table_core.specs.declared.indexes.TableIndex.{TableIndex}
-use Rattle.table_core.specs.Indexes.{Follows, FollowsAside, FollowsBut, HasRoom, Seen, seen, indexed, have_room}
+use Rattle.table_core.specs.Indexes.{Follows, FollowsAside, FollowsBut, HasRoom, Seen, seen_index, indexed, have_room}
 use Rattle.ndx_index.specs.Order.{AreInOrder}
 use Rattle.ndx_index.specs.Laws.RecordOrders.{but_row, but_last, order_row, table_in_order}
 use Rattle.key_expr.specs.Keys.{key, names}
@@ -54,7 +54,7 @@ all_room (x ∷ xs) h = rw (some_back x.order.spare h.0) (all_room xs h.1)
 
 -- ---- indexes that differ in their room alone
 
-follows_seen : (table : Table) (x y : TableIndex) → seen x ≡ seen y → Follows table x → Follows table y
+follows_seen : (table : Table) (x y : TableIndex) → seen_index x ≡ seen_index y → Follows table x → Follows table y
 follows_seen table x y e h =
     let expr : x.expr ≡ y.expr = ap (λ (s : Seen). s.expr) e in
     let pairs : x.order.pairs ≡ y.order.pairs = ap (λ (s : Seen). s.pairs) e in
@@ -67,22 +67,22 @@ follows_seen table x y e h =
       pairs = sym pairs ∙ h.pairs ∙ ap (λ x. Rattle.ndx_index.specs.TableOrder.order table x.expr) expr;
     }
 
-pub follow_seen : (table : Table) (xs ys : List TableIndex) → map seen xs ≡ map seen ys → AllByRecursion (Follows table) xs → AllByRecursion (Follows table) ys
+pub follow_seen : (table : Table) (xs ys : List TableIndex) → map seen_index xs ≡ map seen_index ys → AllByRecursion (Follows table) xs → AllByRecursion (Follows table) ys
 follow_seen table [] [] e h = tt
 follow_seen table [] (y ∷ ys) e h = cc
 follow_seen table (x ∷ xs) [] e h = cc
 follow_seen table (x ∷ xs) (y ∷ ys) e h =
-    let first : seen x ≡ seen y = cc in
-    let rest : map seen xs ≡ map seen ys = cc in
+    let first : seen_index x ≡ seen_index y = cc in
+    let rest : map seen_index xs ≡ map seen_index ys = cc in
     (follows_seen table x y first h.0, follow_seen table xs ys rest h.1)
 
-pub indexed_seen : (xs ys : List TableIndex) → map seen xs ≡ map seen ys → map indexed xs ≡ map indexed ys
+pub indexed_seen : (xs ys : List TableIndex) → map seen_index xs ≡ map seen_index ys → map indexed xs ≡ map indexed ys
 indexed_seen [] [] e = refl
 indexed_seen [] (y ∷ ys) e = cc
 indexed_seen (x ∷ xs) [] e = cc
 indexed_seen (x ∷ xs) (y ∷ ys) e =
-    let first : seen x ≡ seen y = cc in
-    let rest : map seen xs ≡ map seen ys = cc in
+    let first : seen_index x ≡ seen_index y = cc in
+    let rest : map seen_index xs ≡ map seen_index ys = cc in
     let same : indexed x ≡ indexed y = ap (λ (s : Seen). record { name = s.name; expr = s.expr }) first in
     let others : map indexed xs ≡ map indexed ys = indexed_seen xs ys rest in
     cc

@@ -4,7 +4,7 @@ use Rattle.std.specs.List.{list_all}
 use Rattle.dbf_image.specs.Table.{Table}
 use Rattle.key_expr.specs.Expression.{Expression}
 use Rattle.key_expr.specs.Keys.{key_length, names}
-use Rattle.key_expr.specs.Rules.{refusal}
+use Rattle.key_expr.specs.Rules.{broken_rule}
 use Rattle.ndx_index.specs.declared.pair.Pair.{Pair}
 use Rattle.ndx_index.specs.TableOrder.{order, order_but}
 use Rattle.table_core.specs.declared.edits.planned.Target.{Target}
@@ -14,7 +14,7 @@ use Rattle.table_core.specs.Content.{Indexed}
 -- the expression was read for these fields, and the keys have its length
 pub record IsFor (table : Table) (index : TableIndex) : Type 0 where
   pub fields : index.expr.fields ≡ table.schema
-  pub kept : refusal table.schema index.expr.expr ≡ None
+  pub kept : broken_rule table.schema index.expr.expr ≡ None
   pub long : index.order.key_len ≡ key_length index.expr.fields index.expr.expr
 
 -- the index has the order of the table
@@ -47,8 +47,8 @@ pub record Seen : Type 0 where
   pub key_len : ℕ
   pub pairs : List Pair
 
-abbrev pub seen : TableIndex → Seen
-seen index = record { name = index.name; expr = index.expr; key_len = index.order.key_len; pairs = index.order.pairs }
+abbrev pub seen_index : TableIndex → Seen
+seen_index index = record { name = index.name; expr = index.expr; key_len = index.order.key_len; pairs = index.order.pairs }
 
 -- each index has room for one more pair
 abbrev pub have_room : List TableIndex → Bool

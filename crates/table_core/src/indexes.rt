@@ -6,7 +6,7 @@ ghost use Rattle.key_expr.specs.Keys.{key, key_length};
 ghost use Rattle.ndx_index.specs.Order.{AreInOrder};
 ghost use Rattle.ndx_index.specs.Places.{back_from};
 ghost use Rattle.ndx_index.specs.TableOrder.{pair_at};
-ghost use Rattle.table_core.specs.Indexes.{Follows, FollowsAside, FollowsBut, HasRoom, IsFor, indexed, seen};
+ghost use Rattle.table_core.specs.Indexes.{Follows, FollowsAside, FollowsBut, HasRoom, IsFor, indexed, seen_index};
 
 pub(crate) mod all;
 pub(crate) mod kept;
@@ -66,7 +66,7 @@ impl TableIndex {
     /// Makes room for one more pair. An `Err` says that there was no memory.
     pub(crate) fn reserve(&mut self) -> Result<(), AllocError>
         ensures ok { OnOk result (HasRoom self.new) }
-        ensures same { seen self.new ≡ seen self.old }
+        ensures same { seen_index self.new ≡ seen_index self.old }
     {
         self.order.reserve()
     }

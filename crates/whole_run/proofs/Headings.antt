@@ -11,7 +11,7 @@ use Rattle.catalogue_core.specs.declared.opening.OpenFault.{OpenFault}
 use Rattle.catalogue_core.specs.declared.opening.OpenFault.TheVariants.{DuplicateTable, TooManyIndexes, DuplicateIndex, BadExpression, IndexStale, NoMemory}
 use Rattle.catalogue_core.specs.declared.source.IndexSource.{IndexSource}
 use Rattle.catalogue_core.specs.declared.source.TableSource.{TableSource}
-use Rattle.catalogue_core.specs.Names.{has_name}
+use Rattle.catalogue_core.specs.Names.{includes_name}
 use Rattle.catalogue_core.specs.Opening.{Passing, Then, Made, Reading, IsFresh, IfFresh, IndexOpening, IndexesOpening, TableOpening, TablesOpening, next_table, next_index, is_index, has_table, table_tests, without_indexes}
 use Rattle.catalogue_core.specs.Tables.{NamedTable}
 
@@ -35,7 +35,7 @@ source_heading s = (s.name, source_names s.indexes.items)
 
 -- an index of one of the tables, or one of these, has the name
 abbrev pub is_index_name : List Heading → List (List ℕ) → List ℕ → Bool
-is_index_name before own name = list_any (λ (t : Heading). has_name t.1 name) before || has_name own name
+is_index_name before own name = list_any (λ (t : Heading). includes_name t.1 name) before || includes_name own name
 
 -- each is new after the earlier ones
 abbrev pub AreNewIndexes : List Heading → List (List ℕ) → List (List ℕ) → Type 0
@@ -43,7 +43,7 @@ AreNewIndexes before own [] = Unit {0}
 AreNewIndexes before own (name ∷ names) = (is_index_name before own name ≡ false) × AreNewIndexes before (own ++ name ∷ []) names
 
 pub record IsNewTable (before : List Heading) (t : Heading) : Type 0 where
-  pub named : has_name (map (λ (b : Heading). b.0) before) t.0 ≡ false
+  pub named : includes_name (map (λ (b : Heading). b.0) before) t.0 ≡ false
   pub few : nat_le (length t.1) MAX_INDEXES ≡ true
   pub indexes : AreNewIndexes before [] t.1
 
@@ -53,27 +53,27 @@ AreNewTables before (t ∷ ts) = IsNewTable before t × AreNewTables (before ++ 
 
 -- ---- tests by names
 
-any_index : (name : List ℕ) (xs : List Indexed) → list_any (λ (i : Indexed). bytes_eq name i.name) xs ≡ has_name (map (λ (i : Indexed). i.name) xs) name
+any_index : (name : List ℕ) (xs : List Indexed) → list_any (λ (i : Indexed). bytes_eq name i.name) xs ≡ includes_name (map (λ (i : Indexed). i.name) xs) name
 any_index name [] = refl
 any_index name (x ∷ xs) = ap (λ (b : Bool). bytes_eq name x.name || b) (any_index name xs)
 
-any_table : (name : List ℕ) (ts : List NamedTable) → list_any (λ (t : NamedTable). has_index t.content name) ts ≡ list_any (λ (t : Heading). has_name t.1 name) (map heading ts)
+any_table : (name : List ℕ) (ts : List NamedTable) → list_any (λ (t : NamedTable). has_index t.content name) ts ≡ list_any (λ (t : Heading). includes_name t.1 name) (map heading ts)
 any_table name [] = refl
 any_table name (t ∷ ts) =
     ap (λ (b : Bool). b || list_any (λ (u : NamedTable). has_index u.content name) ts) (any_index name t.content.indexes)
-    ∙ ap (λ (b : Bool). has_name (index_names t.content) name || b) (any_table name ts)
+    ∙ ap (λ (b : Bool). includes_name (index_names t.content) name || b) (any_table name ts)
 
 pub is_index-names : (earlier : List NamedTable) (content : Content) (name : List ℕ) → is_index earlier content name ≡ is_index_name (map heading earlier) (index_names content) name
 is_index-names earlier content name =
     ap (λ (b : Bool). b || has_index content name) (any_table name earlier)
-    ∙ ap (λ (b : Bool). list_any (λ (t : Heading). has_name t.1 name) (map heading earlier) || b) (any_index name content.indexes)
+    ∙ ap (λ (b : Bool). list_any (λ (t : Heading). includes_name t.1 name) (map heading earlier) || b) (any_index name content.indexes)
 
 first_names : (ts : List NamedTable) → map (λ (b : Heading). b.0) (map heading ts) ≡ map (λ (t : NamedTable). t.name) ts
 first_names [] = refl
 first_names (t ∷ ts) = ap (λ (l : List (List ℕ)). t.name ∷ l) (first_names ts)
 
-pub has_table-names : (earlier : List NamedTable) (name : List ℕ) → has_table earlier name ≡ has_name (map (λ (b : Heading). b.0) (map heading earlier)) name
-has_table-names earlier name = ap (λ (l : List (List ℕ)). has_name l name) (sym (first_names earlier))
+pub has_table-names : (earlier : List NamedTable) (name : List ℕ) → has_table earlier name ≡ includes_name (map (λ (b : Heading). b.0) (map heading earlier)) name
+has_table-names earlier name = ap (λ (l : List (List ℕ)). includes_name l name) (sym (first_names earlier))
 
 -- ---- what came off
 

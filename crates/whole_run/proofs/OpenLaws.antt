@@ -26,7 +26,7 @@ use Rattle.station_files.specs.ClosedIndex.{IndexContent}
 use Rattle.station_files.specs.Closing.{first_blocked}
 use Rattle.station_files.specs.Writable.{has_too_many}
 use Rattle.whole_run.specs.HandedOver.{index_of, end_of, IsIndexFor, IsHandedOver, AreHandedOver}
-use Rattle.whole_run.specs.ReadBack.{IsFileFor, trimmed, trimmed_index, with_trimmed, IsIndexReadBack, AreIndexesReadBack, IsTableReadBack, AreTablesReadBack, IsOpenedAsLeft, IsReopened, OpenAsLeft}
+use Rattle.whole_run.specs.ReadBack.{IsFileFor, trimmed_expression, trimmed_index, with_trimmed, IsIndexReadBack, AreIndexesReadBack, IsTableReadBack, AreTablesReadBack, IsOpenedAsLeft, IsReopened, OpenAsLeft}
 use Rattle.whole_run.proofs.Headings.{Heading, index_names, source_names, heading, source_heading, is_index_name, AreNewIndexes, IsNewTable, AreNewTables, is_index-names, has_table-names, passing_ok, table_opened, tables_opened}
 use Rattle.whole_run.proofs.HandedNames.{read_headings, handed_headings}
 use Rattle.whole_run.proofs.HandingLaws.{get_front, get_last}
@@ -126,7 +126,7 @@ of_index reindex earlier content index source outcome t i new back h =
     let n : ℕ = next_table earlier in
     let m : ℕ = next_index content in
     let P : Content → Type 0 = λ next. next ≡ with_index content (trimmed_index index) in
-    let e : Expression = trimmed index.expr in
+    let e : Expression = trimmed_expression index.expr in
     let file : IsFileFor content.table index source.file = file_for content.table index source.file t i back.read in
     let as_read : Expression → Indexed = λ x. record { name = source.name; expr = x } in
     let made : Expression → Result Content OpenFault → Type 0 = λ x. Made (with_index content (as_read x)) in

@@ -12,7 +12,7 @@ use Rattle.dbf_fields.specs.Name.{is_name_char}
 use Rattle.key_expr.specs.declared.token.Token.{Token}
 use Rattle.key_expr.specs.declared.token.Kind.{Kind}
 use Rattle.key_expr.specs.declared.token.Kind.TheVariants.{Plus, Open, Close, Comma, Upper, Substr, Str, Dtoc, Name, Number, End}
-use Rattle.key_expr.specs.Grammar.{Expr, Begin, EndsPoints, EndsWith, Sort, Reads, one_term, sum, field_term, parens_term, upper_term, substr_term, str_term, dtoc_term, IsText}
+use Rattle.key_expr.specs.Grammar.{Expr, Begin, EndsPoints, EndsWith, Sort, Reads, one_term, sum, field_term, parens_term, upper_term, substr_term, str_term, dtoc_term, IsWholeExpression}
 use Rattle.key_expr.specs.Rules.{IsKeyText}
 use Rattle.key_expr.specs.Tokens.{tokens_after, token_length, kind_of, prefix_length, opens}
 use Rattle.key_expr.proofs.Lexing.{token_inside}
@@ -80,7 +80,7 @@ reads_same (str_term {p = p} {n = n} {d = d} {ts = ts} {rest = rest} us a b) ws 
 reads_same (dtoc_term {p = p} {ts = ts} {rest = rest} b) ws s =
     let q = begin_same (Dtoc ∷ Open ∷ Name p ∷ Close ∷ []) ts ws rest s b in (q.0, dtoc_term q.1, q.2)
 
-text_same : (e : Expr) (ts us : List Token) → SameKinds ts us → IsText e ts → IsText e us
+text_same : (e : Expr) (ts us : List Token) → SameKinds ts us → IsWholeExpression e ts → IsWholeExpression e us
 text_same e ts us s t =
     let r = reads_same t.1 us s in
     let q = begin_same (End ∷ []) t.0 r.0 [] r.2 t.2 in

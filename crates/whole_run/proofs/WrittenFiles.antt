@@ -20,7 +20,7 @@ use Rattle.dbf_image.proofs.PlainLaws.{is_plain_image}
 use Rattle.key_expr.specs.Grammar.{Expr}
 use Rattle.key_expr.specs.Keys.{key, key_length, AgreeButMemos}
 use Rattle.key_expr.specs.Laws.{key_but_memos}
-use Rattle.key_expr.specs.Rules.{IsKeyText, refusal}
+use Rattle.key_expr.specs.Rules.{IsKeyText, broken_rule}
 use Rattle.key_expr.proofs.KeptRules.{key_some, refusal_tests, refusal_short}
 use Rattle.key_expr.proofs.KeyLengths.{key_length_is}
 use Rattle.key_expr.proofs.NoZeros.{no_zero}
@@ -98,13 +98,13 @@ cells_again (f ∷ fs) (c ∷ cs) h (suc i) plain =
     cells_again fs cs h.1 i plain
     ∙ ap (λ (l : List ℕ). get_or (cells_of fs l) i []) (sym (drop_at (field_bytes f c) (record_bytes fs cs) f.width (field_long (eqb f.kind MEMO) f c refl h.0)))
 
-key_long : (fields : List Field) (cells : List (List ℕ)) (e : Expr) → refusal fields e ≡ None → AreCells fields cells → length (key cells e) ≡ key_length fields e
+key_long : (fields : List Field) (cells : List (List ℕ)) (e : Expr) → broken_rule fields e ≡ None → AreCells fields cells → length (key cells e) ≡ key_length fields e
 key_long fields cells e kept h =
     let bytes : List ℕ = record_bytes fields cells in
     ap length (key_but_memos fields cells (cells_of fields bytes) e kept (cells_again fields cells h))
     ∙ key_length_is fields bytes e (omega (arith, record_long fields cells h))
 
-pairs_long : (fields : List Field) (rows : List Row) (e : Expr) (number : ℕ) → refusal fields e ≡ None → AllByRecursion (IsRow fields) rows → HaveLength (key_length fields e) (pairs_from number rows e)
+pairs_long : (fields : List Field) (rows : List Row) (e : Expr) (number : ℕ) → broken_rule fields e ≡ None → AllByRecursion (IsRow fields) rows → HaveLength (key_length fields e) (pairs_from number rows e)
 pairs_long fields [] e number kept h = tt
 pairs_long fields (r ∷ rs) e number kept h = (key_long fields r.cells e kept h.0, pairs_long fields rs e (number + 1) kept h.1)
 

@@ -3,10 +3,10 @@ use Rattle.std.specs.Prelude.{◌≡◌, ◌≢◌, ◌⊎◌, ℕ, List, [], �
 use Rattle.std.specs.List.{position}
 use Rattle.dbf_image.specs.declared.fault.ImageFault.TheVariants.{NoMemory as NoRoomForImage}
 use Rattle.dbf_image.specs.DbfText.{IsDbf}
-use Rattle.dbf_image.specs.Reading.{IsRefusal}
+use Rattle.dbf_image.specs.Reading.{IsImageRefusal}
 use Rattle.dbf_image.specs.Sink.{Rises}
 use Rattle.ndx_index.specs.declared.fault.NdxFault.TheVariants.{NoMemory as NoRoomForIndex}
-use Rattle.ndx_index.specs.Header.{IsIndex, Breaks}
+use Rattle.ndx_index.specs.Header.{IsIndex, HasNdxFault}
 use Rattle.catalogue_core.specs.declared.source.IndexSource.{IndexSource}
 use Rattle.catalogue_core.specs.declared.source.TableSource.{TableSource}
 use Rattle.station_files.specs.declared.named.NamedFile.{NamedFile}
@@ -98,9 +98,9 @@ IsPathIn files (Station script) path = path ≡ script
 abbrev pub IsUnread : Option (List NamedFile) → SetupEntry → List ℕ → FileFault → Type 0
 IsUnread files entry path CannotRead = IsPathIn files entry path
 IsUnread files (Table name dbf dbt) path (Image fault) =
-    (path ≡ dbf) × (fault ≢ NoRoomForImage) × (bytes : List ℕ) × (memo : Option (List ℕ)) × IsFileOf files dbf bytes × IsMemoFileOf files dbt memo × IsRefusal fault bytes memo
+    (path ≡ dbf) × (fault ≢ NoRoomForImage) × (bytes : List ℕ) × (memo : Option (List ℕ)) × IsFileOf files dbf bytes × IsMemoFileOf files dbt memo × IsImageRefusal fault bytes memo
 IsUnread files (Index table name ndx) path (Ndx fault) =
-    (path ≡ ndx) × (fault ≢ NoRoomForIndex) × (bytes : List ℕ) × IsFileOf files ndx bytes × Breaks bytes fault
+    (path ≡ ndx) × (fault ≢ NoRoomForIndex) × (bytes : List ℕ) × IsFileOf files ndx bytes × HasNdxFault bytes fault
 IsUnread files entry path fault = ⊥
 
 -- why an entry is not loaded: a file that is not read, or want of memory

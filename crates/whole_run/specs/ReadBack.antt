@@ -25,14 +25,14 @@ use Rattle.whole_run.specs.HandedOver.{end_of}
 -- ---- an index
 
 -- the same expression, whose text has no blanks at its end
-abbrev pub trimmed : Expression → Expression
-trimmed e = record { text = trimmed_end e.text; fields = e.fields; expr = e.expr }
+abbrev pub trimmed_expression : Expression → Expression
+trimmed_expression e = record { text = trimmed_end e.text; fields = e.fields; expr = e.expr }
 
 -- the file has the index's expression, for the table's fields, and is fresh for the table
 pub record IsFileFor (table : Table) (index : Indexed) (file : NdxFile) : Type 0 where
   pub text : file.expr ≡ trimmed_end index.expr.text
   pub read : IsKeyText table.schema file.expr index.expr.expr
-  pub fresh : IsFresh table (trimmed index.expr) file
+  pub fresh : IsFresh table (trimmed_expression index.expr) file
 
 -- ---- reading what was written
 
@@ -67,7 +67,7 @@ AreTablesReadBack year month day tables sources = ⊥
 
 -- the same index, of the expression whose text has no blanks at its end
 abbrev pub trimmed_index : Indexed → Indexed
-trimmed_index index = record { name = index.name; expr = trimmed index.expr }
+trimmed_index index = record { name = index.name; expr = trimmed_expression index.expr }
 
 -- the same table, with its indexes of such expressions
 abbrev pub with_trimmed : Content → Content

@@ -3,8 +3,8 @@
 ghost use Rattle.std.specs.Prelude.{◌≡◌, ◌≢◌, ◌⊎◌, ◌<◌, ℕ, List, length, Some, IfOk, IfErr, IfSome, OnOk, bytes_eq};
 ghost use Rattle.std.specs.List.{position};
 ghost use Rattle.dbf_image.specs.DbfText.{IsDbf};
-ghost use Rattle.dbf_image.specs.Reading.{IsRefusal};
-ghost use Rattle.ndx_index.specs.Header.{IsIndex, Breaks};
+ghost use Rattle.dbf_image.specs.Reading.{IsImageRefusal};
+ghost use Rattle.ndx_index.specs.Header.{IsIndex, HasNdxFault};
 ghost use Rattle.station_lines.specs.declared.setup.entry.SetupEntry.TheVariants.{Table, Index};
 ghost use Rattle.station_files.specs.Files.{IsFileOf};
 ghost use Rattle.whole_run.specs.Loading.{nothing, read_of, IsMemoFileOf, IsTableRead, IsIndexRead, HasIndex, Loads, LoadAll, IsEntryFault, IsFailure, IsFaultIn};
@@ -74,7 +74,7 @@ fn read_content(
     dbt: &Option<Bytes>,
 ) -> Result<TableData, ServeFault>
     ensures read { IfOk result (IsDbf dbf dbt.now) }
-    ensures fault { IfErr result (λ fault. (fault ≡ ServeFault.NoMemory) ⊎ ((why : ImageFault) × (why ≢ ImageFault.NoMemory) × IsRefusal why dbf dbt.now × (fault ≡ ServeFault.File path.now (FileFault.Image why)))) }
+    ensures fault { IfErr result (λ fault. (fault ≡ ServeFault.NoMemory) ⊎ ((why : ImageFault) × (why ≢ ImageFault.NoMemory) × IsImageRefusal why dbf dbt.now × (fault ≡ ServeFault.File path.now (FileFault.Image why)))) }
 {
     let memos = match dbt {
         None => None,
@@ -90,7 +90,7 @@ fn read_content(
 // The index of the bytes of its file.
 fn read_index(alloc: Global, path: &Bytes, bytes: &Bytes) -> Result<NdxFile, ServeFault>
     ensures read { IfOk result (λ file. IsIndex bytes.now file.expr file.key_len file.pairs.items) }
-    ensures fault { IfErr result (λ fault. (fault ≡ ServeFault.NoMemory) ⊎ ((why : NdxFault) × (why ≢ NdxFault.NoMemory) × Breaks bytes.now why × (fault ≡ ServeFault.File path.now (FileFault.Ndx why)))) }
+    ensures fault { IfErr result (λ fault. (fault ≡ ServeFault.NoMemory) ⊎ ((why : NdxFault) × (why ≢ NdxFault.NoMemory) × HasNdxFault bytes.now why × (fault ≡ ServeFault.File path.now (FileFault.Ndx why)))) }
 {
     match read_ndx(alloc, bytes.as_slice()) {
         Ok(file) => Ok(file),

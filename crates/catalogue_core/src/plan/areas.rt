@@ -1,11 +1,11 @@
-//! Plans of the commands on areas and locks, and of those that only show.
+//! Plans of the commands on areas and locks, and of those that only show_field.
 
 ghost use Rattle.std.specs.Prelude.{◌≡◌, Ok, IfOk, IfErr};
 ghost use Rattle.table_core.specs.Outcomes.{IsFaultOf};
 ghost use Rattle.catalogue_core.specs.Planned.{planned, outcome_of, CanChange};
 ghost use Rattle.catalogue_core.specs.Rooms.{seen};
 ghost use Rattle.catalogue_core.specs.State.{IsState, HasStation};
-ghost use Rattle.catalogue_core.specs.Step.{select, use_table, unlock, lock_record, lock_file, show, ask, reply, new_cursor, record_number};
+ghost use Rattle.catalogue_core.specs.Step.{select, use_table, unlock, lock_record, lock_file, show_field, ask, reply, new_cursor, record_number};
 ghost use Rattle.table_core.specs.Cursors.{IsCursor};
 
 use crate::answer::Answer;
@@ -116,9 +116,9 @@ pub fn plan_show(
 ) -> Result<Plan, TableFault>
     requires state { IsState (seen state.now) }
     requires station { HasStation (seen state.now) station }
-    ensures planned { IfOk result (λ plan. show (seen state.now) station field.now ≡ Ok (planned (seen state.now) station plan)) }
+    ensures planned { IfOk result (λ plan. show_field (seen state.now) station field.now ≡ Ok (planned (seen state.now) station plan)) }
     ensures can { IfOk result (λ plan. CanChange state.now station plan.change) }
-    ensures refused { IfErr result (λ fault. IsFaultOf fault (show (seen state.now) station field.now)) }
+    ensures refused { IfErr result (λ fault. IsFaultOf fault (show_field (seen state.now) station field.now)) }
 {
     let area = state.area(station).ok_or(Refusal::NoTableInUse)?;
     let text = state.table(area.table).show(alloc, &area.cursor, field)?;

@@ -5,7 +5,7 @@ ghost use Rattle.table_core.specs.Outcomes.{IsFaultOf};
 ghost use Rattle.catalogue_core.specs.Planned.{edit_by, planned, CanChange};
 ghost use Rattle.catalogue_core.specs.Rooms.{seen};
 ghost use Rattle.catalogue_core.specs.State.{area_of, IsState, HasStation, IsArea};
-ghost use Rattle.catalogue_core.specs.Step.{append_blank, change_record, pack, target};
+ghost use Rattle.catalogue_core.specs.Step.{append_record, change_record, pack_table, writable_area};
 
 use crate::area::Area;
 use crate::change::{Change, Plan};
@@ -17,9 +17,9 @@ use table_core::{Edit, Refusal, TableFault};
 pub fn plan_append_blank(alloc: Global, state: &mut State, station: u32) -> Result<Plan, TableFault>
     requires state { IsState (seen state.old) }
     requires station { HasStation (seen state.old) station }
-    ensures planned { IfOk result (λ plan. append_blank (seen state.old) station ≡ Ok (planned (seen state.old) station plan)) }
+    ensures planned { IfOk result (λ plan. append_record (seen state.old) station ≡ Ok (planned (seen state.old) station plan)) }
     ensures can { IfOk result (λ plan. CanChange state.new station plan.change) }
-    ensures refused { IfErr result (λ fault. IsFaultOf fault (append_blank (seen state.old) station)) }
+    ensures refused { IfErr result (λ fault. IsFaultOf fault (append_record (seen state.old) station)) }
     ensures same { seen state.new ≡ seen state.old }
 {
     let area = state.area(station).ok_or(Refusal::NoTableInUse)?;
@@ -52,9 +52,9 @@ pub fn plan_change(
 pub fn plan_pack(alloc: Global, state: &mut State, station: u32) -> Result<Plan, TableFault>
     requires state { IsState (seen state.old) }
     requires station { HasStation (seen state.old) station }
-    ensures planned { IfOk result (λ plan. pack (seen state.old) station ≡ Ok (planned (seen state.old) station plan)) }
+    ensures planned { IfOk result (λ plan. pack_table (seen state.old) station ≡ Ok (planned (seen state.old) station plan)) }
     ensures can { IfOk result (λ plan. CanChange state.new station plan.change) }
-    ensures refused { IfErr result (λ fault. IsFaultOf fault (pack (seen state.old) station)) }
+    ensures refused { IfErr result (λ fault. IsFaultOf fault (pack_table (seen state.old) station)) }
     ensures same { seen state.new ≡ seen state.old }
 {
     let area = state.area(station).ok_or(Refusal::NoTableInUse)?;
@@ -69,7 +69,7 @@ pub fn plan_pack(alloc: Global, state: &mut State, station: u32) -> Result<Plan,
 fn find_target(state: &State, station: u32) -> Result<Area, Refusal>
     requires state { IsState (seen state.now) }
     requires station { HasStation (seen state.now) station }
-    ensures value { result ≡ target (seen state.now) station }
+    ensures value { result ≡ writable_area (seen state.now) station }
     ensures open { IfOk result (λ area. area_of (seen state.now) station ≡ Some area) }
     ensures is_area { IfOk result (IsArea (seen state.now).tables) }
 {

@@ -2,7 +2,7 @@
 
 ghost use Rattle.std.specs.Prelude.{◌≡◌, Ok, IfOk, IfErr, OnOk};
 ghost use Rattle.table_core.specs.Cursors.{IsCursor};
-ghost use Rattle.catalogue_core.specs.Planned.{moved_by, outcome_of, CanChange};
+ghost use Rattle.catalogue_core.specs.Planned.{after_move, outcome_of, CanChange};
 ghost use Rattle.catalogue_core.specs.Rooms.{seen};
 ghost use Rattle.catalogue_core.specs.State.{IsState, HasStation};
 ghost use Rattle.catalogue_core.specs.Step.{move};
@@ -33,7 +33,7 @@ pub enum Move<'a> {
 pub fn plan_move(state: &State, station: u32, to: Move<'_>) -> Result<Plan, Refusal>
     requires state { IsState (seen state.now) }
     requires station { HasStation (seen state.now) station }
-    ensures outcome { outcome_of (seen state.now) station result ≡ move (seen state.now) station (moved_by to.entry) }
+    ensures outcome { outcome_of (seen state.now) station result ≡ move (seen state.now) station (after_move to.entry) }
     ensures can { IfOk result (λ plan. CanChange state.now station plan.change) }
 {
     let mut area = state.area(station).ok_or(Refusal::NoTableInUse)?;
@@ -44,8 +44,8 @@ pub fn plan_move(state: &State, station: u32, to: Move<'_>) -> Result<Plan, Refu
 // Moves a cursor of the table.
 fn move_cursor(table: &Table, cursor: &mut Cursor, to: Move<'_>) -> Result<(), Refusal>
     requires cursor { IsCursor table.now.content cursor.old }
-    ensures done { OnOk result (moved_by to.entry table.now.content cursor.old ≡ Ok cursor.new) }
-    ensures refused { IfErr result (λ refusal. moved_by to.entry table.now.content cursor.old ≡ Err refusal) }
+    ensures done { OnOk result (after_move to.entry table.now.content cursor.old ≡ Ok cursor.new) }
+    ensures refused { IfErr result (λ refusal. after_move to.entry table.now.content cursor.old ≡ Err refusal) }
 {
     match to {
         Move::Go(number) => table.go(cursor, number),

@@ -1,7 +1,7 @@
 //! Changes of the state. None of them takes memory or fails.
 
 ghost use Rattle.std.specs.Prelude.{◌≡◌};
-ghost use Rattle.catalogue_core.specs.Planned.{changed, with_planned, CanChange, CanEdit};
+ghost use Rattle.catalogue_core.specs.Planned.{state_after, with_planned, CanChange, CanEdit};
 ghost use Rattle.catalogue_core.specs.Rooms.{seen};
 ghost use Rattle.catalogue_core.specs.State.{closed, IsState, HasStation};
 ghost use Rattle.catalogue_core.specs.declared.change.Change.{Change as ChangeValue};
@@ -17,7 +17,7 @@ impl State {
         requires state { IsState (seen self.old) }
         requires station { HasStation (seen self.old) station }
         requires can { CanChange self.old station change }
-        ensures value { seen self.new ≡ changed (seen self.old) station change }
+        ensures value { seen self.new ≡ state_after (seen self.old) station change }
     {
         match change {
             Change::Nothing => (),
@@ -50,7 +50,7 @@ impl State {
     fn open(&mut self, station: u32, area: Area)
         requires state { IsState (seen self.old) }
         requires station { HasStation (seen self.old) station }
-        ensures value { seen self.new ≡ changed (seen self.old) station (ChangeValue.Open area) }
+        ensures value { seen self.new ≡ state_after (seen self.old) station (ChangeValue.Open area) }
     {
         self.close(station);
         self.stations.put_area(station, Some(area));
@@ -76,7 +76,7 @@ impl State {
         requires state { IsState (seen self.old) }
         requires station { HasStation (seen self.old) station }
         requires can { CanEdit self.old area planned }
-        ensures value { seen self.new ≡ changed (seen self.old) station (ChangeValue.Pack area planned) }
+        ensures value { seen self.new ≡ state_after (seen self.old) station (ChangeValue.Pack area planned) }
     {
         self.edit(station, area, planned);
         self.locks.release(station, area.table);

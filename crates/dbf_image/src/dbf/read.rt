@@ -10,7 +10,7 @@ ghost use Rattle.dbf_image.specs.DbfText.{chunks, field_of, IsDbf, header_length
 ghost use Rattle.dbf_image.specs.Table.{Table};
 ghost use Rattle.dbf_image.specs.declared.fault.ImageFault.{ImageFault};
 ghost use Rattle.dbf_image.specs.declared.format.TheConstants.{DESCRIPTOR, HEADER, MAX_RECORDS, VERSION, VERSION_WITH_MEMOS};
-ghost use Rattle.dbf_image.specs.Reading.{field_count, dbf_header, schema_of, header_tests, field_tests, record_tests, early_refusal, table_read, refusal, IsRefusal};
+ghost use Rattle.dbf_image.specs.Reading.{field_count, dbf_header, schema_of, header_tests, descriptor_tests, record_tests, early_refusal, table_read, image_refusal, IsImageRefusal};
 
 use crate::dbf::header::Header;
 use crate::dbt::memos::memos_at;
@@ -109,13 +109,13 @@ fn has_version(first: u8) -> bool
 }
 
 // The fields of the schema, by their descriptors.
-#[tactic(auto, unfolding(crate::specs::Reading::field_tests))]
+#[tactic(auto, unfolding(crate::specs::Reading::descriptor_tests))]
 fn schema_at(alloc: Global, dbf: &[u8], header_length: usize) -> Result<Schema, ImageFault>
     requires long { HEADER ≤ length dbf.now }
     requires inside { header_length ≤ length dbf.now }
     requires value { header_length ≡ dbf_header_length dbf.now }
-    ensures accepted { IfOk result (λ _. first_fault (field_tests dbf.now) ≡ None) }
-    ensures refused { IfErr result (λ fault. (fault ≡ ImageFault.NoMemory) ⊎ (first_fault (field_tests dbf.now) ≡ Some fault)) }
+    ensures accepted { IfOk result (λ _. first_fault (descriptor_tests dbf.now) ≡ None) }
+    ensures refused { IfErr result (λ fault. (fault ≡ ImageFault.NoMemory) ⊎ (first_fault (descriptor_tests dbf.now) ≡ Some fault)) }
     ensures early { IfErr result (λ fault. field_count dbf.now ≡ None → fault ≡ ImageFault.BadHeaderLength) }
     ensures value { IfOk result (λ schema. schema ≡ schema_of dbf.now) }
 {
@@ -197,9 +197,9 @@ fn records_of(dbf: Bytes, header: Header) -> Vec<u8>
 
 // The table that the bytes tell, or the first test that fails.
 fn table_at(alloc: Global, dbf: Bytes, dbt: Option<&[u8]>) -> Result<TableData, ImageFault>
-    ensures accepted { IfOk result (λ _. refusal dbf (option_copied dbt.entry) ≡ None) }
+    ensures accepted { IfOk result (λ _. image_refusal dbf (option_copied dbt.entry) ≡ None) }
     ensures value { IfOk result (λ table. table ≡ table_read dbf (option_copied dbt.entry)) }
-    ensures refused { IfErr result (λ fault. IsRefusal fault dbf (option_copied dbt.entry)) }
+    ensures refused { IfErr result (λ fault. IsImageRefusal fault dbf (option_copied dbt.entry)) }
     ensures early { IfErr result (λ fault. (first : ImageFault) → early_refusal dbf ≡ Some first → fault ≡ first) }
 {
     let file = dbf.as_slice();
@@ -237,11 +237,11 @@ pub fn read_table(alloc: Global, dbf: Bytes, dbt: Option<&[u8]>) -> Result<Table
     // What is read is the files' table.
     ensures found { IfOk result (IsDbf dbf (option_copied dbt.entry)) }
     // No test fails where a table is read.
-    ensures accepted { IfOk result (λ _. refusal dbf (option_copied dbt.entry) ≡ None) }
+    ensures accepted { IfOk result (λ _. image_refusal dbf (option_copied dbt.entry) ≡ None) }
     // Files of a table are read, unless memory is refused.
     ensures only { (table : Table) → IsDbf dbf (option_copied dbt.entry) table → MatchResult result (λ t. t ≡ table) (λ fault. fault ≡ ImageFault.NoMemory) }
     // Which fault it is.
-    ensures refused { IfErr result (λ fault. IsRefusal fault dbf (option_copied dbt.entry)) }
+    ensures refused { IfErr result (λ fault. IsImageRefusal fault dbf (option_copied dbt.entry)) }
     // What is tested before memory is taken is answered as it is, and never as `NoMemory`.
     ensures early { IfErr result (λ fault. (first : ImageFault) → early_refusal dbf ≡ Some first → fault ≡ first) }
     // Two files are those of one table at most.

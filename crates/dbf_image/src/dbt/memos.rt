@@ -11,7 +11,7 @@ ghost use Rattle.dbf_image.specs.Memo.{memo_at};
 ghost use Rattle.dbf_image.specs.MemoNumbers.{KeepsMemos, cell_texts, cells_texts, row_texts, IsReading};
 ghost use Rattle.dbf_image.specs.Store.{text_of, texts_of, rows_of, IsMemo, IsStore};
 ghost use Rattle.dbf_image.specs.Reading.{text_tests, memo_tests, memo_text, cell_tests, cells_tests, row_tests, row_read};
-ghost use Rattle.dbf_image.specs.Spans.{AreEnds, table_tests};
+ghost use Rattle.dbf_image.specs.Spans.{AreEnds, table_memo_tests};
 
 use crate::dbt::memo::{block_ends, number_of, span_at};
 use crate::fault::ImageFault;
@@ -214,10 +214,10 @@ pub(crate) fn memos_at(
     bytes: &[u8],
 ) -> Result<(MemoStore, Vec<u32>), ImageFault>
     requires { AreRecords schema.now count bytes.now }
-    ensures accepted { IfOk result (λ _. first_fault (table_tests (option_copied dbt.entry) schema.now (chunks (1 + widths schema.now) count bytes.now)) ≡ None) }
+    ensures accepted { IfOk result (λ _. first_fault (table_memo_tests (option_copied dbt.entry) schema.now (chunks (1 + widths schema.now) count bytes.now)) ≡ None) }
     ensures value { IfOk result (λ memos. rows_of schema.now count bytes.now (texts_of memos.0.texts memos.1.items) ≡ map (row_read (unwrap_or (option_copied dbt.entry) []) schema.now) (chunks (1 + widths schema.now) count bytes.now)) }
     ensures kept { IfOk result (λ memos. IsStore schema.now count bytes.now memos.0.texts memos.1.items) }
-    ensures refused { IfErr result (λ fault. (fault ≡ ImageFault.NoMemory) ⊎ (first_fault (table_tests (option_copied dbt.entry) schema.now (chunks (1 + widths schema.now) count bytes.now)) ≡ Some fault)) }
+    ensures refused { IfErr result (λ fault. (fault ≡ ImageFault.NoMemory) ⊎ (first_fault (table_memo_tests (option_copied dbt.entry) schema.now (chunks (1 + widths schema.now) count bytes.now)) ≡ Some fault)) }
 {
     if !has_memos(schema.fields()) {
         return Ok((MemoStore::new(alloc), Vec::new(alloc)));

@@ -9,7 +9,7 @@ use Rattle.dbf_image.specs.Table.{kind_at}
 use Rattle.dbf_image.specs.Store.{first_memo, cells_with}
 use Rattle.key_expr.specs.Grammar.{Expr}
 use Rattle.key_expr.specs.Keys.{key, AgreeButMemos}
-use Rattle.key_expr.specs.Rules.{refusal}
+use Rattle.key_expr.specs.Rules.{broken_rule}
 use Rattle.key_expr.specs.Laws.{key_but_memos}
 
 cells_by : (fs : List Field) (own rest : List ℕ) (memos : List (List ℕ)) (i : ℕ) (b : Bool) → ((m : List (List ℕ)) → get_or (cells_of fs rest) i [] ≡ get_or (cells_with fs rest m) i [])
@@ -37,5 +37,5 @@ pub memo_agrees : (fields : List Field) (cells : List (List ℕ)) (field : ℕ) 
 memo_agrees fields cells field text memo i (f, at, other) =
     get_or-set_other cells field i text [] (λ same. other (sym (kind_here fields i f at) ∙ ap (kind_at fields) same ∙ memo))
 
-pub key_of_memo : (fields : List Field) (e : Expr) (cells : List (List ℕ)) (field : ℕ) (text : List ℕ) → refusal fields e ≡ None → kind_at fields field ≡ MEMO → key (set cells field text) e ≡ key cells e
+pub key_of_memo : (fields : List Field) (e : Expr) (cells : List (List ℕ)) (field : ℕ) (text : List ℕ) → broken_rule fields e ≡ None → kind_at fields field ≡ MEMO → key (set cells field text) e ≡ key cells e
 key_of_memo fields e cells field text kept memo = key_but_memos fields (set cells field text) cells e kept (memo_agrees fields cells field text memo)

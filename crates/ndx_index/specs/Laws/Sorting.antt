@@ -12,7 +12,7 @@ use Rattle.std.proofs.lemmas.Map.Keys.{IsDistinct-IsPermutation}
 use Rattle.std.proofs.lemmas.Cmp.{eq_by_cmp_equiv}
 use Rattle.std.proofs.lemmas.List.Sorted.{sum_by-IsPermutation, IsPermutation-refl, IsPermutation-cons, IsPermutation-trans, IsPermutation-insert, sorted_far, ranks_by}
 use Rattle.ndx_index.specs.declared.pair.Pair.{Pair}
-use Rattle.ndx_index.specs.Order.{pair_cmp, before, same, placed, in_order, without, AreInOrder}
+use Rattle.ndx_index.specs.Order.{pair_cmp, before, same, placed, in_order, without_pair, AreInOrder}
 use Rattle.ndx_index.specs.Laws.Lists.{filter_all, all_weaker, all_zip}
 use Rattle.ndx_index.specs.Laws.Comparing.{pairs_total, exact_pair, before_is, before_trans, irreflexive, same_itself, before_other, not_same}
 
@@ -28,16 +28,16 @@ pub contains_more : (q : Pair) (qs : List Pair) (p : Pair) → Contains qs p →
 contains_more q qs p h = (suc h.0, omega (arith, h.1), h.2)
 
 -- a pair that isn't there
-pub without_absent : (p : Pair) (ps : List Pair) → (Contains ps p → ⊥) → without p ps ≡ ps
+pub without_absent : (p : Pair) (ps : List Pair) → (Contains ps p → ⊥) → without_pair p ps ≡ ps
 without_absent p ps absent = filter_all (λ q. not (same p q)) ps (λ k d lt. not_same p (get_or ps k d) (λ e. absent (k, lt, get_or_default ps k p d lt ∙ e)))
 
 -- a pair put in and taken out
-pub without-placed : (p : Pair) (ps : List Pair) → (Contains ps p → ⊥) → without p (placed p ps) ≡ ps
-without-placed p [] absent = rw (same_itself p) refl
-without-placed p (q ∷ qs) absent =
+pub without_pair-placed : (p : Pair) (ps : List Pair) → (Contains ps p → ⊥) → without_pair p (placed p ps) ≡ ps
+without_pair-placed p [] absent = rw (same_itself p) refl
+without_pair-placed p (q ∷ qs) absent =
     let other : not (same p q) ≡ true = not_same p q (λ e. absent (0, omega arith, e)) in
-    elim (before q p) as (λ b. without p (cond b (q ∷ placed p qs) (p ∷ q ∷ qs)) ≡ q ∷ qs) [
-      | true ↦ rw other (ap (λ xs. q ∷ xs) (without-placed p qs (λ h. absent (contains_more q qs p h))))
+    elim (before q p) as (λ b. without_pair p (cond b (q ∷ placed p qs) (p ∷ q ∷ qs)) ≡ q ∷ qs) [
+      | true ↦ rw other (ap (λ xs. q ∷ xs) (without_pair-placed p qs (λ h. absent (contains_more q qs p h))))
       | false ↦ rw (same_itself p) (without_absent p (q ∷ qs) absent)
     ]
 

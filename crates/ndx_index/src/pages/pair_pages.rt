@@ -33,11 +33,11 @@ pub(crate) struct PairPages {
 }
 
 impl Model for PairPages {
-    ghost use Rattle.ndx_index.specs.PairPages.{Pages, view_of, ArePages};
+    ghost use Rattle.ndx_index.specs.PairPages.{Pages, pages_view, ArePages};
 
     ghost Value = { Pages };
 
-    ghost view = { view_of };
+    ghost view = { pages_view };
 
     ghost invariant = { ArePages };
 }

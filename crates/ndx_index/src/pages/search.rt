@@ -6,7 +6,7 @@ ghost use Rattle.ndx_index.specs.Bounds.{passes};
 ghost use Rattle.ndx_index.specs.IndexTree.{pairs_under, IsTree};
 ghost use Rattle.ndx_index.specs.Order.{AreInOrder};
 ghost use Rattle.ndx_index.specs.PageStore.{page_in};
-ghost use Rattle.ndx_index.specs.LeafPlaces.{pair_at, IsPlace};
+ghost use Rattle.ndx_index.specs.LeafPlaces.{pair_at_place, IsPlace};
 ghost use Rattle.ndx_index.specs.Slots.{slot_at};
 
 use crate::pages::bound::Bound;
@@ -74,7 +74,7 @@ pub(crate) fn first_place(
     requires tree { IsTree level store.now.pages page }
     requires order { AreInOrder (pairs_under level store.now.pages page) }
     ensures place { IfSome result (IsPlace store.now.pages) }
-    ensures pair { option_map (pair_at store.now.pages) result ≡ find (passes bound.now) (pairs_under level store.now.pages page) }
+    ensures pair { option_map (pair_at_place store.now.pages) result ≡ find (passes bound.now) (pairs_under level store.now.pages page) }
 {
     let mut here = Branch { level, page };
     let mut next = None;
@@ -109,7 +109,7 @@ pub(crate) fn last_place(
     requires tree { IsTree level store.now.pages page }
     requires order { AreInOrder (pairs_under level store.now.pages page) }
     ensures place { IfSome result (IsPlace store.now.pages) }
-    ensures pair { option_map (pair_at store.now.pages) result ≡ find (λ q. not (passes bound.now q)) (reverse (pairs_under level store.now.pages page)) }
+    ensures pair { option_map (pair_at_place store.now.pages) result ≡ find (λ q. not (passes bound.now q)) (reverse (pairs_under level store.now.pages page)) }
 {
     let mut here = Branch { level, page };
     let mut previous = None;

@@ -29,11 +29,11 @@ pub(crate) struct PairSlots {
 }
 
 impl Model for PairSlots {
-    ghost use Rattle.ndx_index.specs.Slots.{Slots, view_of, AreRuns};
+    ghost use Rattle.ndx_index.specs.Slots.{Slots, slots_view, AreRuns};
 
     ghost Value = { Slots };
 
-    ghost view = { view_of };
+    ghost view = { slots_view };
 
     ghost invariant = { AreRuns };
 }

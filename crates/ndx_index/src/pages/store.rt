@@ -28,11 +28,11 @@ pub(crate) struct PageStore {
 }
 
 impl Model for PageStore {
-    ghost use Rattle.ndx_index.specs.PageStore.{Store, view_of, AreTwins};
+    ghost use Rattle.ndx_index.specs.PageStore.{Store, store_view, AreTwins};
 
     ghost Value = { Store };
 
-    ghost view = { view_of };
+    ghost view = { store_view };
 
     ghost invariant = { AreTwins };
 }

@@ -4,7 +4,7 @@ use Rattle.std.proofs.lemmas.List.{append-nil, length-append}
 use Rattle.std.specs.List.{position}
 use Rattle.std.proofs.lemmas.Bool.{false≢true, and_parts, and_from}
 use Rattle.station_lines.specs.declared.script.format.TheConstants.{LF, CR}
-use Rattle.station_lines.specs.Script.Lines.{has_no_lf, without_cr, Ending, lf, cr_lf, none, bytes_of, Ends, BeginsWithLine, AreLines}
+use Rattle.station_lines.specs.Script.Lines.{has_no_lf, without_cr, Ending, lf, cr_lf, none, ending_bytes, Ends, BeginsWithLine, AreLines}
 use Rattle.station_lines.proofs.ScriptLaws.WordLaws.{same_byte}
 use Rattle.station_lines.proofs.ScriptLaws.LineLaws.{line_ended, last_line}
 
@@ -81,8 +81,8 @@ whole_line s m q j ends = j ∙ (ap (λ (x : List ℕ). m ++ x) ends ∙ append-
 lf_or_none : (s l r m : List ℕ) → s ≡ l ++ (LF ∷ r) → s ≡ m → has_no_lf m ≡ true → ⊥
 lf_or_none s l r m i j hm = lf_inside l r (subst (λ (x : List ℕ). has_no_lf x ≡ true) (sym j ∙ i) hm)
 
-first_one : (e f : Ending) (s l r m q : List ℕ) → s ≡ l ++ (bytes_of e ++ r) → has_no_lf l ≡ true → Ends e l r
-    → s ≡ m ++ (bytes_of f ++ q) → has_no_lf m ≡ true → Ends f m q → (l ≡ m) × (r ≡ q)
+first_one : (e f : Ending) (s l r m q : List ℕ) → s ≡ l ++ (ending_bytes e ++ r) → has_no_lf l ≡ true → Ends e l r
+    → s ≡ m ++ (ending_bytes f ++ q) → has_no_lf m ≡ true → Ends f m q → (l ≡ m) × (r ≡ q)
 first_one lf lf s l r m q i hl a j hm b = cut_one l m r q hl hm (sym i ∙ j)
 first_one lf cr_lf s l r m q i hl a j hm b = absurd (lf_or_cr s l r m q i hl a j hm)
 first_one cr_lf lf s l r m q i hl a j hm b = absurd (lf_or_cr s m q l r j hm b i hl)
@@ -102,7 +102,7 @@ first_one cr_lf none s l r m q i hl a j hm b =
 pub first_line_one : (s l r m q : List ℕ) → BeginsWithLine s l r → BeginsWithLine s m q → (l ≡ m) × (r ≡ q)
 first_line_one s l r m q a b = first_one a.ending b.ending s l r m q a.joined a.one_line a.ended b.joined b.one_line b.ended
 
-no_line : (e : Ending) (m q : List ℕ) → [] ≡ m ++ (bytes_of e ++ q) → Ends e m q → ⊥
+no_line : (e : Ending) (m q : List ℕ) → [] ≡ m ++ (ending_bytes e ++ q) → Ends e m q → ⊥
 no_line lf m q j ended = nothing_there m LF q j
 no_line cr_lf m q j ended = nothing_there m CR (LF ∷ q) j
 no_line none m q j ended = ended.0 (sym (whole_line [] m q j ended.1))
@@ -125,7 +125,7 @@ with_line : (script line rest : List ℕ) → BeginsWithLine script line rest �
     → (lines : List (List ℕ)) × AreLines lines script
 with_line script line rest begins others = (line ∷ others.0, line_before script line rest begins others.0 others.1)
 
-shorter_end : (e : Ending) (l r : List ℕ) → Ends e l r → length r < length (l ++ (bytes_of e ++ r))
+shorter_end : (e : Ending) (l r : List ℕ) → Ends e l r → length r < length (l ++ (ending_bytes e ++ r))
 shorter_end lf l r ended = let long = length-append l (LF ∷ r) in omega (arith, long)
 shorter_end cr_lf l r ended = let long = length-append l (CR ∷ LF ∷ r) in omega (arith, long)
 shorter_end none [] r ended = absurd (ended.0 refl)

@@ -14,7 +14,7 @@ use Rattle.dbf_fields.specs.Date.{is_date}
 use Rattle.dbf_fields.specs.declared.literal.Literal.{Literal}
 use Rattle.dbf_fields.specs.declared.literal.Literal.TheVariants.{Text, Number, Truth, Date, BlankDate, BadDate}
 use Rattle.station_lines.specs.Script.Parts.{is_quote, IsText, count_in, distance_in}
-use Rattle.station_lines.specs.Script.Literals.{is_decimal, decimal_in, number_in, truth_in, without_sign, IsDateCall, IsDateValue, cell_of_shown, IsLiteral}
+use Rattle.station_lines.specs.Script.Literals.{is_number_word, decimal_in, number_in, truth_in, without_sign, IsDateCall, IsDateValue, cell_of_shown, IsLiteral}
 use Rattle.station_lines.specs.Script.Reading.{text_in, before_close, text_in_part, date_text_in, day_when, date_literal, date_in, truth_or_date_in, number_or_other_in, text_or_other_in, literal_in}
 use Rattle.station_lines.proofs.ScriptLaws.TextLaws.{chosen, passed, guarded, text_found, text_is}
 use Rattle.station_lines.proofs.ScriptLaws.Dates.{date_said, bad_date}
@@ -55,8 +55,8 @@ decimal_chars : (text : List ℕ) → list_all is_ascii_digit (whole_part text) 
 decimal_chars [] h g = refl
 decimal_chars (b ∷ bs) h g = by_point (b == POINT) b bs refl (decimal_chars bs) h g
 
-decimal_is : (text : List ℕ) → is_decimal text ≡ true → list_all is_number_char text ≡ true
-unfolding is_decimal
+decimal_is : (text : List ℕ) → is_number_word text ≡ true → list_all is_number_char text ≡ true
+unfolding is_number_word
 decimal_is text h =
     let p = and_parts (list_all is_ascii_digit (whole_part text)) _ h in
     decimal_chars text p.0 (and_parts (list_all is_ascii_digit (fraction_part text)) _ p.1).0
@@ -74,13 +74,13 @@ pub number_chars : (word : List ℕ) (n : ℤ × ℕ) → number_in word ≡ Som
 number_chars [] n e = refl
 number_chars (b ∷ bs) n e =
     let d = mapped _ (decimal_in (without_sign (b ∷ bs))) n e in
-    with_sign b bs (b == MINUS || b == PLUS) refl (decimal_is (without_sign (b ∷ bs)) (tested (is_decimal (without_sign (b ∷ bs))) _ d.0 d.1).0)
+    with_sign b bs (b == MINUS || b == PLUS) refl (decimal_is (without_sign (b ∷ bs)) (tested (is_number_word (without_sign (b ∷ bs))) _ d.0 d.1).0)
 
 solid_number : (c : ℕ) → is_number_char c ≡ true → is_solid c ≡ true
 solid_number c h = grind (arith, nat_tests, h)
 
 no_number : (n : ℤ × ℕ) → number_in [] ≡ Some n → ⊥
-unfolding is_decimal
+unfolding is_number_word
 no_number n e = absurd cc
 
 pub number_word : (word : List ℕ) (n : ℤ × ℕ) → number_in word ≡ Some n → IsCutWord word

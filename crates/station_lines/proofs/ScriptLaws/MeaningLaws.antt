@@ -19,9 +19,9 @@ use Rattle.station_lines.specs.declared.script.line.Line.TheVariants.{Run, Statu
 use Rattle.station_lines.specs.declared.script.verb.Verb.{Verb}
 use Rattle.station_lines.specs.declared.script.verb.Verb.TheVariants as verb
 use Rattle.station_lines.specs.Script.Words.{is_gap, are_gaps, HasWords, begins_with_asterisk, IsBlankLine}
-use Rattle.station_lines.specs.Script.Parts.{is_keyword, is_call, is_name, name_in, count_in}
+use Rattle.station_lines.specs.Script.Parts.{is_keyword, is_call, is_name_word, name_in, count_in}
 use Rattle.station_lines.specs.Script.Meaning.{keyword, call, name, count, distance, text, literal, or_, IsPart, Are, Says, IsReadable, Means}
-use Rattle.station_lines.specs.Script.Reading.{without_gaps, first_word, after_word, text_in, literal_in, bad, verb_in, with_, one, go, ask_of, ask, two, three, four, is_empty, after_verb, after_one, after_two, read}
+use Rattle.station_lines.specs.Script.Reading.{without_gaps, first_word, after_word, text_in, literal_in, bad, verb_in, with_, one, go_line, ask_of, ask_line, two, three, four, is_empty, after_verb, after_one, after_two, read}
 use Rattle.station_lines.proofs.ScriptLaws.WordLaws.{is_solid, IsCutWord, is_cut, no_words, no_first, past_gaps}
 use Rattle.station_lines.proofs.ScriptLaws.PartLaws.{lower, same_text, all_lower, all_front, digits_of, keyword_word, call_word, name_word, count_word}
 use Rattle.station_lines.proofs.ScriptLaws.TextLaws.{text_found, chosen, passed}
@@ -115,14 +115,14 @@ digits_no_keyword k word letters digits true e =
     absurd (false≢true (sym letters ∙ (ap (list_all is_ascii_digit) (sym head) ∙ (all_lower is_ascii_digit digit_lower (take KEYWORD_LETTERS word) ∙ all_front is_ascii_digit KEYWORD_LETTERS word digits))))
 digits_no_keyword k word letters digits false e = refl
 
-go_count : (word : List ℕ) (n : ℕ) → count_in word ≡ Some n → go word ≡ Run (command.Go n)
+go_count : (word : List ℕ) (n : ℕ) → count_in word ≡ Some n → go_line word ≡ Run (command.Go n)
 go_count word n e =
     let digits = digits_of word n e in
     passed (is_keyword (codes "TOP") word) _ _ (digits_no_keyword (codes "TOP") word refl digits (is_keyword (codes "TOP") word) refl)
     ∙ (passed (is_keyword (codes "BOTTOM") word) _ _ (digits_no_keyword (codes "BOTTOM") word refl digits (is_keyword (codes "BOTTOM") word) refl)
     ∙ ap (λ (o : Option ℕ). with_ o (λ n. Run (command.Go n))) e)
 
-go_bottom : (word : List ℕ) → is_keyword (codes "BOTTOM") word ≡ true → go word ≡ Run command.Bottom
+go_bottom : (word : List ℕ) → is_keyword (codes "BOTTOM") word ≡ true → go_line word ≡ Run command.Bottom
 go_bottom word e =
     passed (is_keyword (codes "TOP") word) _ _ (other_keyword (codes "BOTTOM") (codes "TOP") word refl e)
     ∙ chosen (is_keyword (codes "BOTTOM") word) _ _ e
@@ -143,11 +143,11 @@ call_at small =
 name_lower : (c : ℕ) → is_name_char (to_ascii_lowercase c) ≡ is_name_char c
 name_lower c = grind (arith, nat_tests)
 
-ask_call : (f word : List ℕ) → list_all is_name_char (lower f) ≡ false → is_call f word ≡ true → ask word ≡ call_at (lower f)
+ask_call : (f word : List ℕ) → list_all is_name_char (lower f) ≡ false → is_call f word ≡ true → ask_line word ≡ call_at (lower f)
 ask_call f word other e =
     let same : lower word ≡ lower f = same_text _ _ e in
     let no_name : list_all is_name_char word ≡ false = sym (all_lower is_name_char name_lower word) ∙ (ap (list_all is_name_char) same ∙ other) in
-    let none : name_in word ≡ None = passed (is_name word) _ None (and_right (is_ascii_alphabetic (slice_index word 0)) (list_all is_name_char word) no_name) in
+    let none : name_in word ≡ None = passed (is_name_word word) _ None (and_right (is_ascii_alphabetic (slice_index word 0)) (list_all is_name_char word) no_name) in
     ap (λ (o : Option (List ℕ)). ask_of o word) none ∙ ap call_at same
 
 call_cut : (f : List ℕ) → 1 ≤ length f → list_all is_solid f ≡ true → (word : List ℕ) → is_call f word ≡ true → IsCutWord word
@@ -161,7 +161,7 @@ lock_cut : (word : List ℕ) → IsPart (or_ (call (codes "RLOCK()")) (call (cod
 lock_cut word (inl e) = call_word (codes "RLOCK()") word (omega arith) refl e
 lock_cut word (inr e) = call_word (codes "LOCK()") word (omega arith) refl e
 
-ask_lock : (word : List ℕ) → IsPart (or_ (call (codes "RLOCK()")) (call (codes "LOCK()"))) word → ask word ≡ Run command.RecordLock
+ask_lock : (word : List ℕ) → IsPart (or_ (call (codes "RLOCK()")) (call (codes "LOCK()"))) word → ask_line word ≡ Run command.RecordLock
 ask_lock word (inl e) = ask_call (codes "RLOCK()") word refl e
 ask_lock word (inr e) = ask_call (codes "LOCK()") word refl e
 

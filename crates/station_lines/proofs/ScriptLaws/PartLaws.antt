@@ -10,7 +10,7 @@ use Rattle.std.proofs.lemmas.List.{take-append-drop, length-map}
 use Rattle.std.proofs.lemmas.Slice.Eq.{bytes_eq-Decides}
 use Rattle.dbf_fields.specs.Name.{is_name_char}
 use Rattle.station_lines.specs.declared.script.format.TheConstants.{KEYWORD_LETTERS}
-use Rattle.station_lines.specs.Script.Parts.{is_keyword, is_call, is_name, name_in, is_count, count_in}
+use Rattle.station_lines.specs.Script.Parts.{is_keyword, is_call, is_name_word, name_in, is_count, count_in}
 use Rattle.station_lines.proofs.ScriptLaws.WordLaws.{is_solid, IsCutWord, solid_word}
 
 -- in small letters
@@ -90,9 +90,9 @@ tested true x y e = (refl, cc)
 tested false x y e = absurd cc
 
 pub name_word : (word name : List ℕ) → name_in word ≡ Some name → IsCutWord word
-name_word [] name e = absurd (false≢true (tested (is_name []) [] name e).0)
+name_word [] name e = absurd (false≢true (tested (is_name_word []) [] name e).0)
 name_word (b ∷ bs) name e =
-    let t = and_parts (is_ascii_alphabetic b) (list_all is_name_char (b ∷ bs)) (tested (is_name (b ∷ bs)) _ name e).0 in
+    let t = and_parts (is_ascii_alphabetic b) (list_all is_name_char (b ∷ bs)) (tested (is_name_word (b ∷ bs)) _ name e).0 in
     solid_word b bs (weaker is_name_char is_solid solid_name (b ∷ bs) t.1)
 
 pub digits_of : (word : List ℕ) (n : ℕ) → count_in word ≡ Some n → list_all is_ascii_digit word ≡ true

@@ -8,7 +8,7 @@ use Rattle.station_lines.specs.declared.script.verb.Verb.{Verb}
 use Rattle.station_lines.specs.declared.script.verb.Verb.TheVariants as verb
 use Rattle.station_lines.specs.Script.Parts.{is_keyword, is_call, name_in, count_in, distance_in}
 use Rattle.station_lines.specs.Script.Meaning.{IsPart, Says}
-use Rattle.station_lines.specs.Script.Reading.{text_in, literal_in, bad, with_, one, go, call_line, ask_of, two, three, four}
+use Rattle.station_lines.specs.Script.Reading.{text_in, literal_in, bad, with_, one, go_line, call_line, ask_of, two, three, four}
 use Rattle.station_lines.proofs.ScriptLaws.TextLaws.{text_is}
 use Rattle.station_lines.proofs.ScriptLaws.LiteralLaws.{literal_is}
 use Rattle.station_lines.proofs.ScriptLaws.VerbLaws.{spelling}
@@ -34,7 +34,7 @@ one_said verb.Pack a h = inr (h, tt)
 one_said verb.Unlock a h = inr (h, tt)
 one_said v a h = inl refl
 
-go_said : (a b : List ℕ) → IsPart (spelling verb.Go) a → IsSaid (a ∷ b ∷ []) (go b)
+go_said : (a b : List ℕ) → IsPart (spelling verb.Go) a → IsSaid (a ∷ b ∷ []) (go_line b)
 go_said a b h =
     of_test (a ∷ b ∷ []) (is_keyword (codes "TOP") b) _ _ (λ e. inr (h, (e, tt))) (
     of_test (a ∷ b ∷ []) (is_keyword (codes "BOTTOM") b) _ _ (λ e. inr (h, (e, tt))) (

@@ -8,14 +8,14 @@ use Rattle.std.proofs.lemmas.Bool.{false≢true}
 use Rattle.station_lines.specs.declared.setup.entry.SetupEntry.{SetupEntry}
 use Rattle.station_lines.specs.declared.setup.entry.SetupEntry.TheVariants.{Table, Index, Station}
 use Rattle.station_lines.specs.declared.setup.said.TheConstants.{MAX_NAME_BYTES}
-use Rattle.station_lines.specs.Script.Parts.{capitals, is_name}
-use Rattle.station_lines.specs.Setup.{AreWords, skips, short_name, Says, IsSkipped, IsEntry, IsBadAfter, may_follow}
-use Rattle.station_lines.specs.SetupReading.{only_word, named_table, named_index, table_in, index_in, station_in, entry_in}
+use Rattle.station_lines.specs.Script.Parts.{capitals, is_name_word}
+use Rattle.station_lines.specs.Setup.{AreWords, skips, short_name, SaysEntry, IsSkipped, IsEntry, IsBadAfter, may_follow}
+use Rattle.station_lines.specs.SetupReading.{only_word, table_entry, index_entry, table_in, index_in, station_entry, entry_in}
 use Rattle.station_lines.proofs.ScriptLaws.PartLaws.{same_text}
 use Rattle.station_lines.proofs.SetupLaws.WordCutting.{one_words, some_words}
 
 -- what is said by words is read from them
-pub says_read : (words : List (List ℕ)) (entry : SetupEntry) → Says words entry → entry_in words ≡ Some entry
+pub says_read : (words : List (List ℕ)) (entry : SetupEntry) → SaysEntry words entry → entry_in words ≡ Some entry
 says_read words (Table name dbf None) h = rw (h.1, h.2) refl
 says_read words (Table name dbf (Some dbt)) h = rw (h.1, h.2) refl
 says_read words (Index table name ndx) h = rw (h.2, h.3, h.4) refl
@@ -28,63 +28,63 @@ none_some : {X : Type 0} (a : X) → None ≡ Some a → ⊥
 none_some a e = absurd cc
 
 table_says : (key word dbf : List ℕ) → key ≡ codes "TABLE" → (o : Option (List ℕ)) → short_name word ≡ o → (entry : SetupEntry)
-    → named_table o dbf None ≡ Some entry → Says (key ∷ word ∷ dbf ∷ []) entry
+    → table_entry o dbf None ≡ Some entry → SaysEntry (key ∷ word ∷ dbf ∷ []) entry
 table_says key word dbf is (Some name) named entry e =
-    subst (λ (x : SetupEntry). Says (key ∷ word ∷ dbf ∷ []) x) (some_one (Table name dbf None) entry e)
+    subst (λ (x : SetupEntry). SaysEntry (key ∷ word ∷ dbf ∷ []) x) (some_one (Table name dbf None) entry e)
     (word, ap (λ (k : List ℕ). k ∷ word ∷ dbf ∷ []) is, named)
 table_says key word dbf is None named entry e = absurd (none_some entry e)
 
 memo_table_says : (key word dbf dbt : List ℕ) → key ≡ codes "TABLE" → (o : Option (List ℕ)) → short_name word ≡ o → (entry : SetupEntry)
-    → named_table o dbf (Some dbt) ≡ Some entry → Says (key ∷ word ∷ dbf ∷ dbt ∷ []) entry
+    → table_entry o dbf (Some dbt) ≡ Some entry → SaysEntry (key ∷ word ∷ dbf ∷ dbt ∷ []) entry
 memo_table_says key word dbf dbt is (Some name) named entry e =
-    subst (λ (x : SetupEntry). Says (key ∷ word ∷ dbf ∷ dbt ∷ []) x) (some_one (Table name dbf (Some dbt)) entry e)
+    subst (λ (x : SetupEntry). SaysEntry (key ∷ word ∷ dbf ∷ dbt ∷ []) x) (some_one (Table name dbf (Some dbt)) entry e)
     (word, ap (λ (k : List ℕ). k ∷ word ∷ dbf ∷ dbt ∷ []) is, named)
 memo_table_says key word dbf dbt is None named entry e = absurd (none_some entry e)
 
 index_says : (key first second ndx : List ℕ) → key ≡ codes "INDEX" → (o p : Option (List ℕ)) → short_name first ≡ o → short_name second ≡ p
-    → (entry : SetupEntry) → named_index o p ndx ≡ Some entry → Says (key ∷ first ∷ second ∷ ndx ∷ []) entry
+    → (entry : SetupEntry) → index_entry o p ndx ≡ Some entry → SaysEntry (key ∷ first ∷ second ∷ ndx ∷ []) entry
 index_says key first second ndx is (Some table) (Some name) one two entry e =
-    subst (λ (x : SetupEntry). Says (key ∷ first ∷ second ∷ ndx ∷ []) x) (some_one (Index table name ndx) entry e)
+    subst (λ (x : SetupEntry). SaysEntry (key ∷ first ∷ second ∷ ndx ∷ []) x) (some_one (Index table name ndx) entry e)
     (first, second, ap (λ (k : List ℕ). k ∷ first ∷ second ∷ ndx ∷ []) is, one, two)
 index_says key first second ndx is (Some table) None one two entry e = absurd (none_some entry e)
 index_says key first second ndx is None p one two entry e = absurd (none_some entry e)
 
-says_table : (key : List ℕ) (words : List (List ℕ)) → key ≡ codes "TABLE" → (entry : SetupEntry) → table_in words ≡ Some entry → Says (key ∷ words) entry
+says_table : (key : List ℕ) (words : List (List ℕ)) → key ≡ codes "TABLE" → (entry : SetupEntry) → table_in words ≡ Some entry → SaysEntry (key ∷ words) entry
 says_table key [] is entry e = absurd (none_some entry e)
 says_table key (a ∷ []) is entry e = absurd (none_some entry e)
 says_table key (a ∷ b ∷ []) is entry e = table_says key a b is (short_name a) refl entry e
 says_table key (a ∷ b ∷ c ∷ []) is entry e = memo_table_says key a b c is (short_name a) refl entry e
 says_table key (a ∷ b ∷ c ∷ d ∷ words) is entry e = absurd (none_some entry e)
 
-says_index : (key : List ℕ) (words : List (List ℕ)) → key ≡ codes "INDEX" → (entry : SetupEntry) → index_in words ≡ Some entry → Says (key ∷ words) entry
+says_index : (key : List ℕ) (words : List (List ℕ)) → key ≡ codes "INDEX" → (entry : SetupEntry) → index_in words ≡ Some entry → SaysEntry (key ∷ words) entry
 says_index key [] is entry e = absurd (none_some entry e)
 says_index key (a ∷ []) is entry e = absurd (none_some entry e)
 says_index key (a ∷ b ∷ []) is entry e = absurd (none_some entry e)
 says_index key (a ∷ b ∷ c ∷ []) is entry e = index_says key a b c is (short_name a) (short_name b) refl refl entry e
 says_index key (a ∷ b ∷ c ∷ d ∷ words) is entry e = absurd (none_some entry e)
 
-says_station : (key : List ℕ) (words : List (List ℕ)) → key ≡ codes "STATION" → (entry : SetupEntry) → station_in words ≡ Some entry → Says (key ∷ words) entry
+says_station : (key : List ℕ) (words : List (List ℕ)) → key ≡ codes "STATION" → (entry : SetupEntry) → station_entry words ≡ Some entry → SaysEntry (key ∷ words) entry
 says_station key [] is entry e = absurd (none_some entry e)
 says_station key (script ∷ []) is entry e =
-    subst (λ (x : SetupEntry). Says (key ∷ script ∷ []) x) (some_one (Station script) entry e) (ap (λ (k : List ℕ). k ∷ script ∷ []) is)
+    subst (λ (x : SetupEntry). SaysEntry (key ∷ script ∷ []) x) (some_one (Station script) entry e) (ap (λ (k : List ℕ). k ∷ script ∷ []) is)
 says_station key (a ∷ b ∷ words) is entry e = absurd (none_some entry e)
 
 by_key : (key : List ℕ) (words : List (List ℕ)) (t : Bool) → bytes_eq key (codes "TABLE") ≡ t → (i : Bool) → bytes_eq key (codes "INDEX") ≡ i
     → (s : Bool) → bytes_eq key (codes "STATION") ≡ s → (entry : SetupEntry)
-    → cond t (table_in words) (cond i (index_in words) (cond s (station_in words) None)) ≡ Some entry → Says (key ∷ words) entry
+    → cond t (table_in words) (cond i (index_in words) (cond s (station_entry words) None)) ≡ Some entry → SaysEntry (key ∷ words) entry
 by_key key words true table i index s station entry e = says_table key words (same_text key (codes "TABLE") table) entry e
 by_key key words false table true index s station entry e = says_index key words (same_text key (codes "INDEX") index) entry e
 by_key key words false table false index true station entry e = says_station key words (same_text key (codes "STATION") station) entry e
 by_key key words false table false index false station entry e = absurd (none_some entry e)
 
 -- what is read from words is said by them
-pub read_says : (words : List (List ℕ)) (entry : SetupEntry) → entry_in words ≡ Some entry → Says words entry
+pub read_says : (words : List (List ℕ)) (entry : SetupEntry) → entry_in words ≡ Some entry → SaysEntry words entry
 read_says [] entry e = absurd (none_some entry e)
 read_says (key ∷ words) entry e =
     by_key key words (bytes_eq key (codes "TABLE")) refl (bytes_eq key (codes "INDEX")) refl (bytes_eq key (codes "STATION")) refl entry e
 
 -- words that say something are not skipped
-said_not_skipped : (words : List (List ℕ)) (entry : SetupEntry) → Says words entry → skips words ≡ false
+said_not_skipped : (words : List (List ℕ)) (entry : SetupEntry) → SaysEntry words entry → skips words ≡ false
 said_not_skipped words (Table name dbf None) h = rw h.1 refl
 said_not_skipped words (Table name dbf (Some dbt)) h = rw h.1 refl
 said_not_skipped words (Index table name ndx) h = rw h.2 refl
@@ -167,7 +167,7 @@ named_by word false q h = absurd (false≢true h)
 
 -- a name is folded to capitals
 named_in_capitals : (word : List ℕ) → is_some (short_name word) ≡ true → short_name word ≡ Some (capitals word)
-named_in_capitals word h = named_by word (nat_le (length word) MAX_NAME_BYTES) (is_name word) h
+named_in_capitals word h = named_by word (nat_le (length word) MAX_NAME_BYTES) (is_name_word word) h
 
 pub memo_table_read : (all after last : List (List ℕ)) (name dbf dbt : List ℕ) → is_some (short_name name) ≡ true
     → all ≡ name ∷ after → after ≡ dbf ∷ last → Some dbt ≡ only_word last → Some (Table (capitals name) dbf (Some dbt)) ≡ table_in all
@@ -179,7 +179,7 @@ pub index_read : (all after last : List (List ℕ)) (table name ndx : List ℕ) 
 index_read all after last table name ndx first second one two three =
     rw (one, two, only_is last ndx three, named_in_capitals table first, named_in_capitals name second) refl
 
-unnamed : (p q : Option (List ℕ)) (ndx : List ℕ) → (is_some p ≡ false) ⊎ (is_some q ≡ false) → None ≡ named_index p q ndx
+unnamed : (p q : Option (List ℕ)) (ndx : List ℕ) → (is_some p ≡ false) ⊎ (is_some q ≡ false) → None ≡ index_entry p q ndx
 unnamed None q ndx h = refl
 unnamed (Some table) None ndx h = refl
 unnamed (Some table) (Some name) ndx (inl e) = absurd (false≢true (sym e))

@@ -16,10 +16,10 @@ pub data Ending : Type 0 where
   cr_lf : Ending
   none : Ending
 
-abbrev pub bytes_of : Ending → List ℕ
-bytes_of lf = LF ∷ []
-bytes_of cr_lf = CR ∷ LF ∷ []
-bytes_of none = []
+abbrev pub ending_bytes : Ending → List ℕ
+ending_bytes lf = LF ∷ []
+ending_bytes cr_lf = CR ∷ LF ∷ []
+ending_bytes none = []
 
 -- what stands after a line with this ending: LF ends it where no CR stands before it, and at the script's end a
 -- line of some bytes may lack its ending
@@ -31,7 +31,7 @@ Ends none line rest = (line ≢ []) × (rest ≡ [])
 -- the script's first line, and what stands after its ending
 pub record BeginsWithLine (script line rest : List ℕ) : Type 0 where
   pub ending : Ending
-  pub joined : script ≡ line ++ (bytes_of ending ++ rest)
+  pub joined : script ≡ line ++ (ending_bytes ending ++ rest)
   pub one_line : has_no_lf line ≡ true
   pub ended : Ends ending line rest
 

@@ -14,8 +14,8 @@ use Rattle.station_lines.specs.declared.script.format.TheConstants.{MAX_LITERAL_
 use Rattle.station_lines.specs.Script.Parts.{IsText}
 
 -- digits with at most one point among or beside them, 1 to 19 of them
-unfoldable pub is_decimal : List ℕ → Bool
-is_decimal text =
+unfoldable pub is_number_word : List ℕ → Bool
+is_number_word text =
     list_all is_ascii_digit (whole_part text)
     && (list_all is_ascii_digit (fraction_part text)
     && is_in_range 1 MAX_LITERAL_DIGITS (length (whole_part text) + length (fraction_part text)))
@@ -23,7 +23,7 @@ is_decimal text =
 -- the whole number of all digits, and how many of them stand after the point
 abbrev pub decimal_in : List ℕ → Option (ℕ × ℕ)
 decimal_in text =
-    if is_decimal text then Some (digits_after 0 (whole_part text ++ fraction_part text), length (fraction_part text))
+    if is_number_word text then Some (digits_after 0 (whole_part text ++ fraction_part text), length (fraction_part text))
     else None
 
 abbrev pub is_negative : List ℕ → Bool

@@ -25,12 +25,12 @@ abbrev pub capitals : List ℕ → List ℕ
 capitals word = map to_ascii_uppercase word
 
 -- a letter, then letters, digits or `_`, of any length
-abbrev pub is_name : List ℕ → Bool
-is_name word = is_ascii_alphabetic (slice_index word 0) && list_all is_name_char word
+abbrev pub is_name_word : List ℕ → Bool
+is_name_word word = is_ascii_alphabetic (slice_index word 0) && list_all is_name_char word
 
 -- the name that a word is, folded to capitals
 abbrev pub name_in : List ℕ → Option (List ℕ)
-name_in word = if is_name word then Some (capitals word) else None
+name_in word = if is_name_word word then Some (capitals word) else None
 
 -- 1 to 10 digits
 abbrev pub is_count : List ℕ → Bool

@@ -133,8 +133,8 @@ abbrev pub with_ : {X : Type 0} → Option X → (X → Line) → Line
 with_ None make = bad
 with_ (Some x) make = make x
 
-abbrev pub go : List ℕ → Line
-go word =
+abbrev pub go_line : List ℕ → Line
+go_line word =
     if is_keyword (codes "TOP") word then Run command.Top
     else (if is_keyword (codes "BOTTOM") word then Run command.Bottom
     else with_ (count_in word) (λ n. Run (command.Go n)))
@@ -157,19 +157,19 @@ abbrev pub ask_of : Option (List ℕ) → List ℕ → Line
 ask_of (Some name) word = Run (command.Show name)
 ask_of None word = call_line word
 
-abbrev pub ask : List ℕ → Line
-ask word = ask_of (name_in word) word
+abbrev pub ask_line : List ℕ → Line
+ask_line word = ask_of (name_in word) word
 
 -- a verb and a word
 abbrev pub two : Verb → List ℕ → Line
 two verb.Select word = with_ (count_in word) (λ n. Run (command.Select n))
 two verb.Use word = with_ (name_in word) (λ n. Run (command.UseTable n false))
-two verb.Go word = go word
+two verb.Go word = go_line word
 two verb.Skip word = with_ (distance_in word) (λ n. Run (command.Skip n))
 two verb.Seek word = with_ (text_in word) (λ t. Run (command.Seek t))
 two verb.Append word = if is_keyword (codes "BLANK") word then Run command.AppendBlank else bad
 two verb.Unlock word = if is_keyword (codes "ALL") word then Run command.UnlockAll else bad
-two verb.Ask word = ask word
+two verb.Ask word = ask_line word
 two verb.Display word = if is_keyword (codes "STATUS") word then Status else bad
 two other word = bad
 
@@ -179,20 +179,20 @@ three verb.Use a b =
     if is_keyword (codes "EXCLUSIVE") b then with_ (name_in a) (λ n. Run (command.UseTable n true)) else bad
 three other a b = bad
 
-abbrev pub set_order : List ℕ → List ℕ → List ℕ → Line
-set_order a b c =
+abbrev pub set_order_line : List ℕ → List ℕ → List ℕ → Line
+set_order_line a b c =
     if is_keyword (codes "ORDER") a && is_keyword (codes "TO") b then with_ (count_in c) (λ n. Run (command.Order n)) else bad
 
-abbrev pub replace : List ℕ → List ℕ → Line
-replace a c = with_ (name_in a) (λ f. with_ (literal_in c) (λ l. Run (command.Replace f l)))
+abbrev pub replace_line : List ℕ → List ℕ → Line
+replace_line a c = with_ (name_in a) (λ f. with_ (literal_in c) (λ l. Run (command.Replace f l)))
 
 abbrev pub memo : List ℕ → List ℕ → Line
 memo a c = with_ (name_in a) (λ f. with_ (text_in c) (λ t. Run (command.Memo f t)))
 
 -- a verb and three words
 abbrev pub four : Verb → List ℕ → List ℕ → List ℕ → Line
-four verb.Set a b c = set_order a b c
-four verb.Replace a b c = if is_keyword (codes "WITH") b then replace a c else bad
+four verb.Set a b c = set_order_line a b c
+four verb.Replace a b c = if is_keyword (codes "WITH") b then replace_line a c else bad
 four verb.Memo a b c = if is_keyword (codes "WITH") b then memo a c else bad
 four other a b c = bad
 

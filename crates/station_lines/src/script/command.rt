@@ -3,7 +3,7 @@
 ghost use Rattle.std.specs.Prelude.{◌≡◌, true, IfOk, OnErr};
 ghost use Rattle.station_lines.specs.Script.Parts.{name_in as name_in_word};
 ghost use Rattle.station_lines.specs.Script.Keeping.{keeps_text};
-ghost use Rattle.station_lines.specs.Script.Reading.{with_, one, two, three, four, go, call_line, ask as ask_line, set_order as set_order_line, replace as replace_line, memo as memo_line};
+ghost use Rattle.station_lines.specs.Script.Reading.{with_, one, two, three, four, go_line, call_line, ask_line as ask_line, set_order_line as set_order_line, replace_line as replace_line, memo as memo_line};
 
 use crate::script::keyword::{is_call, is_keyword};
 use crate::script::line::Line;
@@ -52,7 +52,7 @@ fn use_table(alloc: Global, word: &[u8], exclusive: bool) -> Result<Line, AllocE
 
 // The line of GO and a word.
 fn go_to(word: &[u8]) -> Line
-    ensures value { result ≡ go word.now }
+    ensures value { result ≡ go_line word.now }
 {
     if is_keyword(word, b"TOP") {
         Line::Run(Command::Top)

@@ -5,7 +5,7 @@ ghost use Rattle.std.specs.List.{list_all};
 ghost use Rattle.std.specs.Char.{is_ascii_digit};
 ghost use Rattle.dbf_fields.specs.Digits.{digits_after};
 ghost use Rattle.station_lines.specs.declared.script.format.TheConstants.{MAX_LITERAL_DIGITS};
-ghost use Rattle.station_lines.specs.Script.Literals.{is_decimal as decimal_is, decimal_in as decimal_of, has_slashes as slashes_in, year_first as cell_in, is_negative as negative, without_sign as unsigned, number_in as number_of, truth_in as truth_of};
+ghost use Rattle.station_lines.specs.Script.Literals.{is_number_word as decimal_is, decimal_in as decimal_of, has_slashes as slashes_in, year_first as cell_in, is_negative as negative, without_sign as unsigned, number_in as number_of, truth_in as truth_of};
 ghost use Rattle.station_lines.specs.Script.Reading.{date_of as cell_date, date_literal as date_of, before_close as part_before_close, date_text_in as date_text_of, literal_in as literal_of};
 
 use crate::script::format::MAX_LITERAL_DIGITS;

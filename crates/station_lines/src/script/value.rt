@@ -3,7 +3,7 @@
 ghost use Rattle.std.specs.Prelude.{◌≡◌, ◌<◌, ◌==◌, ◌^◌, position, option_map, IfOk, IfSome, IsSome, OnErr};
 ghost use Rattle.std.specs.List.{list_all};
 ghost use Rattle.dbf_fields.specs.Name.{is_name_char};
-ghost use Rattle.station_lines.specs.Script.Parts.{is_name as name_is, name_in as name_of, capitals, is_count as count_is, count_in as count_of, distance_in as distance_of};
+ghost use Rattle.station_lines.specs.Script.Parts.{is_name_word as name_is, name_in as name_of, capitals, is_count as count_is, count_in as count_of, distance_in as distance_of};
 ghost use Rattle.station_lines.specs.Script.Reading.{text_in as text_of};
 
 use crate::script::format::MAX_COUNT_DIGITS;

@@ -2,7 +2,7 @@
 
 ghost use Rattle.std.specs.Prelude.{◌≡◌, ℕ, List, Option, IfOk, is_some, option_map};
 ghost use Rattle.station_lines.specs.Setup.{AreWords, short_name as name_of};
-ghost use Rattle.station_lines.specs.SetupReading.{entry_of, entry_in, index_in, only_word as only, station_in, table_in};
+ghost use Rattle.station_lines.specs.SetupReading.{entry_of, entry_in, index_in, only_word as only, station_entry, table_in};
 
 use crate::script::{in_capitals, is_name};
 use crate::setup::entry::SetupEntry;
@@ -98,7 +98,7 @@ fn said_of_index(words: &[u8]) -> Option<Said<'_>>
 
 // What the words after STATION say.
 fn said_of_station(words: &[u8]) -> Option<Said<'_>>
-    ensures value { (all : List (List ℕ)) → AreWords all words.now → option_map entry_of result ≡ station_in all }
+    ensures value { (all : List (List ℕ)) → AreWords all words.now → option_map entry_of result ≡ station_entry all }
 {
     let script = only_word(words)?;
     Some(Said::Station { script })

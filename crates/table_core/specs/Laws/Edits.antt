@@ -16,7 +16,7 @@ use Rattle.table_core.specs.declared.refusal.Refusal.{Refusal}
 use Rattle.table_core.specs.declared.refusal.Refusal.TheVariants.{EndOfFile, TypeMismatch, BadText, TableFull}
 use Rattle.table_core.specs.CellFaults.{kept}
 use Rattle.table_core.specs.Content.{Content, Indexed, record_count}
-use Rattle.table_core.specs.Cursors.{IsPlace, IsCursor}
+use Rattle.table_core.specs.Cursors.{IsCursorPlace, IsCursor}
 use Rattle.table_core.specs.Edits.{with_blank, with_value, with_deleted, with_kept, field_at, target, append_blank, replace, put_memo, mark, edited, renumbers}
 use Rattle.table_core.specs.Moves.{at_record, at_top}
 use Rattle.table_core.specs.Outcomes.{granted}
@@ -38,7 +38,7 @@ abbrev pub Grows : Content → Result (Content × Cursor) Refusal → Type 0
 Grows content outcome = IfOk outcome (IsGrown content)
 
 -- a place of a table is one of a table with as many records or more
-place_grows : (content grown : Content) (o : Option ℕ) → record_count content ≤ record_count grown → IsPlace content o → IsPlace grown o
+place_grows : (content grown : Content) (o : Option ℕ) → record_count content ≤ record_count grown → IsCursorPlace content o → IsCursorPlace grown o
 place_grows content grown None le h = tt
 place_grows content grown (Some number) le h = (h.0, omega (arith, h.1))
 

@@ -11,7 +11,7 @@ use Rattle.table_core.specs.declared.cursor.Cursor.{Cursor}
 use Rattle.table_core.specs.declared.refusal.Refusal.{Refusal}
 use Rattle.table_core.specs.declared.refusal.Refusal.TheVariants.{OutOfRange, EndOfFile, BeginOfFile, NotIndexed, NoSuchOrder}
 use Rattle.table_core.specs.Content.{Content, Indexed, record_count, has_no_records, index_at, order_at, pairs_by}
-use Rattle.table_core.specs.Cursors.{IsPlace, IsCursor}
+use Rattle.table_core.specs.Cursors.{IsCursorPlace, IsCursor}
 use Rattle.table_core.specs.Moves.{numbers, place_of, at_place, at_record, top, bottom, go, forward, back_at, backward, skip, at_found, seek, in_order_of, set_order}
 use Rattle.table_core.specs.Laws.Outcomes.{of_found, of_granted}
 use Rattle.table_core.specs.Laws.Numbers.{is_place}
@@ -38,14 +38,14 @@ go_leads content cursor number h =
 forward_leads : (content : Content) (cursor : Cursor) (steps : ℕ) → IsCursor content cursor → Leads content (forward content cursor steps)
 forward_leads content cursor steps h = of_found (IsCursor content) cursor.at EndOfFile (λ number. Ok (at_place cursor (numbers content cursor.order) (place_in number (numbers content cursor.order) + steps) false)) (λ number e. at_some_place content cursor _ false h)
 
-back_leads : (content : Content) (cursor : Cursor) (o : Option ℕ) → IsPlace content o → IsCursor content cursor → IsCursor content (back_at cursor (numbers content cursor.order) o)
+back_leads : (content : Content) (cursor : Cursor) (o : Option ℕ) → IsCursorPlace content o → IsCursor content cursor → IsCursor content (back_at cursor (numbers content cursor.order) o)
 back_leads content cursor None there h = at_some_place content cursor 0 true h
 back_leads content cursor (Some number) there h = record { place = there; order = h.order }
 
-back_place : (content : Content) (cursor : Cursor) (place steps : ℕ) → IsPlace content (back_from (numbers content cursor.order) place steps)
+back_place : (content : Content) (cursor : Cursor) (place steps : ℕ) → IsCursorPlace content (back_from (numbers content cursor.order) place steps)
 back_place content cursor place steps = by (nat_le steps place)
   where
-    by : (b : Bool) → IsPlace content (cond b (slice_get (numbers content cursor.order) (place - steps)) None)
+    by : (b : Bool) → IsCursorPlace content (cond b (slice_get (numbers content cursor.order) (place - steps)) None)
     by true = is_place content cursor.order (place - steps)
     by false = tt
 

@@ -11,7 +11,7 @@ use Rattle.ndx_index.specs.Laws.RecordOrders.{record_there}
 use Rattle.ndx_index.specs.Places.{counted}
 use Rattle.ndx_index.specs.TableOrder.{order, ordered}
 use Rattle.table_core.specs.Content.{Content, Indexed, record_count, index_at}
-use Rattle.table_core.specs.Cursors.{IsPlace}
+use Rattle.table_core.specs.Cursors.{IsCursorPlace}
 use Rattle.table_core.specs.Moves.{by_index, numbers}
 
 -- ---- the order of the record numbers
@@ -53,9 +53,9 @@ numbers_inside content by i m at = inside (by == 0) at
     inside false h = by_index_inside content (index_at content by) i m h
 
 -- what stands at a place of an order is a record, or the end
-pub is_place : (content : Content) (order i : ℕ) → IsPlace content (slice_get (numbers content order) i)
+pub is_place : (content : Content) (order i : ℕ) → IsCursorPlace content (slice_get (numbers content order) i)
 is_place content order i = by (slice_get (numbers content order) i) refl
   where
-    by : (o : Option ℕ) → slice_get (numbers content order) i ≡ o → IsPlace content o
+    by : (o : Option ℕ) → slice_get (numbers content order) i ≡ o → IsCursorPlace content o
     by None at = tt
     by (Some m) at = numbers_inside content order i m at

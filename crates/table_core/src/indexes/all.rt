@@ -2,7 +2,7 @@
 
 ghost use Rattle.std.specs.Prelude.{◌≡◌, ◌≤◌, length, map, OnOk};
 ghost use Rattle.std.specs.List.{AllByRecursion};
-ghost use Rattle.table_core.specs.Indexes.{Follows, FollowsAside, FollowsBut, HasRoom, indexed, seen};
+ghost use Rattle.table_core.specs.Indexes.{Follows, FollowsAside, FollowsBut, HasRoom, indexed, seen_index};
 
 use crate::edits::planned::Target;
 use crate::indexes::TableIndex;
@@ -55,7 +55,7 @@ pub(crate) fn put_in_all(indexes: &mut Vec<TableIndex>, records: &GrowingTable, 
 /// Makes room for one more pair in each index. An `Err` says that there was no memory.
 pub(crate) fn reserve_all(indexes: &mut Vec<TableIndex>) -> Result<(), AllocError>
     ensures ok { OnOk result (AllByRecursion HasRoom indexes.new.items) }
-    ensures same { map seen indexes.new.items ≡ map seen indexes.old.items }
+    ensures same { map seen_index indexes.new.items ≡ map seen_index indexes.old.items }
 {
     for index in indexes.iter_mut() {
         index.reserve()?;

@@ -2,7 +2,7 @@
 
 ghost use Rattle.std.specs.Prelude.{◌≡◌, ◌+◌, ◌-◌, ◌≤◌, Ok, Err, length, slice_get, IfErr, OnOk, OnErr, IsOk};
 ghost use Rattle.table_core.specs.Content.{order_at, has_no_records};
-ghost use Rattle.table_core.specs.Cursors.{IsCursor, IsPlace};
+ghost use Rattle.table_core.specs.Cursors.{IsCursor, IsCursorPlace};
 ghost use Rattle.table_core.specs.Moves.{at_top, top, bottom, go, skip, seek, set_order, forward, backward, numbers, place_of};
 ghost use Rattle.ndx_index.specs.Order.{first_with as first_with_text};
 ghost use Rattle.ndx_index.specs.Places.{place_in, back_from};
@@ -202,7 +202,7 @@ impl Table {
 
     // The record so many places before a record or the end in an order.
     fn earlier(&self, order: usize, at: Option<u32>, steps: u64) -> Option<u32>
-        requires place { IsPlace self.now.content at }
+        requires place { IsCursorPlace self.now.content at }
         requires order { order ≤ length self.now.content.indexes }
         requires some { 1 ≤ steps }
         ensures value { result ≡ back_from (numbers self.now.content order) (place_of (numbers self.now.content order) at) steps }

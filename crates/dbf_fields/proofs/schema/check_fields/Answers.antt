@@ -1,14 +1,14 @@
 use Rattle.std.proofs.Common.{◌≡◌, Some, sym, rules, arith}
 use Rattle.std.proofs.lemmas.List.Sums.{sum_by_more}
 use Rattle.dbf_fields.specs.declared.field.Field.{Field}
-use Rattle.dbf_fields.specs.Schema.{refusal}
+use Rattle.dbf_fields.specs.Schema.{schema_refusal}
 use Rattle.dbf_fields.proofs.SchemaLaws.{field_passes, field_fails}
 use Rattle.dbf_fields.proofs.schema.check_fields.Goals as goal
 
 pub returns-in_err-check_field-clause-refused : goal.returns-in_err-check_field-clause-refused
 returns-in_err-check_field-clause-refused c =
     let fault = c.in_err-check_field.field-0.0 in
-    let first : refusal c.args.fields.now ≡ Some fault =
+    let first : schema_refusal c.args.fields.now ≡ Some fault =
     field_fails c.args.fields.now c.loop-i.i c.index-fields-i.result _ fault c.loop-i-test.true (sym c.index-fields-i.is) c.loop-i.invariant.left c.in_err-check_field.ensures.refused in
     search (rules, first)
 

@@ -1,6 +1,6 @@
 use Rattle.std.proofs.Common.{◌∙◌, ap, subst}
 use Rattle.ndx_index.specs.declared.read.header.Header.{Header}
-use Rattle.ndx_index.specs.NdxTree.{IsTree}
+use Rattle.ndx_index.specs.NdxTree.{IsFileTree}
 use Rattle.ndx_index.proofs.Laws.{tree_from_visits}
 use Rattle.ndx_index.proofs.read.read_file.Goals as goal
 
@@ -15,5 +15,5 @@ returns-clause-found c =
       text_is = c.in_ok-expr.ensures.value ∙ c.expression.ensures.value;
       length_is = ap (λ (h : Header). h.layout.key_len) c.in_ok-header.ensures.header;
       pages = walk.0;
-      tree = subst (λ (h : Header). IsTree h.layout bytes h.root walk.0 c.in_ok-pairs.pairs.items) c.in_ok-header.ensures.header tree;
+      tree = subst (λ (h : Header). IsFileTree h.layout bytes h.root walk.0 c.in_ok-pairs.pairs.items) c.in_ok-header.ensures.header tree;
     }

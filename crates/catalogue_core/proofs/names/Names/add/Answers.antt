@@ -1,6 +1,6 @@
 use Rattle.std.proofs.Common.{◌≡◌, ℕ, Bool, not, List, [], ◌∷◌, ◌++◌, bytes_eq, map, cond, ap, sym, ◌∙◌}
 use Rattle.std.specs.List.{list_any}
-use Rattle.catalogue_core.specs.Names.{has_name, with_name}
+use Rattle.catalogue_core.specs.Names.{includes_name, with_name}
 use Rattle.table_core.specs.Laws.Lists.{any_mapped}
 use Rattle.catalogue_core.proofs.Mapped.{mapped_if}
 use Rattle.catalogue_core.proofs.names.Names.add.Goals as goal
@@ -9,8 +9,8 @@ pub returns-clause-value : goal.returns-clause-value
 returns-clause-value c =
     c.in_ok-insert.ensures.added
     ∙ ap not (sym (any_mapped (λ v. v.items) (bytes_eq c.in_ok-copy.copy.items) c.self.inside.names.keys)
-    ∙ ap (λ (name : List ℕ). has_name (map (λ v. v.items) c.self.inside.names.keys) name) (c.in_ok-copy.ensures.items ∙ c.as_slice.ensures.value)
-    ∙ ap (λ (names : List (List ℕ)). has_name names c.args.name.now) c.self.view_is)
+    ∙ ap (λ (name : List ℕ). includes_name (map (λ v. v.items) c.self.inside.names.keys) name) (c.in_ok-copy.ensures.items ∙ c.as_slice.ensures.value)
+    ∙ ap (λ (names : List (List ℕ)). includes_name names c.args.name.now) c.self.view_is)
 
 pub returns-clause-ok : goal.returns-clause-ok
 returns-clause-ok c =

@@ -7,7 +7,7 @@ use Rattle.dbf_image.specs.declared.memo_store.block.MemoBlock.{MemoBlock}
 use Rattle.dbf_image.specs.MemoChains.{blocks_owned, IsChain, AreHeld, AreCounted}
 use Rattle.dbf_image.specs.MemoSteps.{Marks, Sweeps}
 use Rattle.dbf_image.specs.declared.format.TheConstants.{BLOCK}
-use Rattle.dbf_image.specs.MemoStore.{Memos, all_bytes, texts_of}
+use Rattle.dbf_image.specs.MemoStore.{Memos, all_bytes, stored_texts}
 use Rattle.dbf_image.proofs.MemoDropping.{marked_held, marked_counted, swept_held, swept_counted, swept_chain, swept_free, dropped, drop_keeps_free}
 use Rattle.dbf_image.proofs.MemoTotals.{bytes_of_all}
 use Rattle.dbf_image.proofs.memo_store.MemoStore.drop_unused.Goals as goal
@@ -44,7 +44,7 @@ invariant_of-self c =
 
 pub returns-clause-texts : goal.returns-clause-texts
 returns-clause-texts c =
-    ap texts_of (after c) ∙ dropped _ _ _ _ _ c.self.invariant.held (marked c) (swept c)
+    ap stored_texts (after c) ∙ dropped _ _ _ _ _ c.self.invariant.held (marked c) (swept c)
     ∙ ap (λ (v : Memos). map.retain_keys v.texts (λ q. list_any (nat_eq q) c.args.numbers.now)) c.self.view_is
 
 pub returns-clause-spare : goal.returns-clause-spare

@@ -5,7 +5,7 @@ use Rattle.dbf_image.specs.declared.memo_store.block.MemoBlock.{MemoBlock}
 use Rattle.dbf_image.specs.MemoChains.{blocks_owned, IsChain, AreHeld, AreCounted}
 use Rattle.dbf_image.specs.MemoSteps.{Fills}
 use Rattle.dbf_image.specs.declared.format.TheConstants.{BLOCK}
-use Rattle.dbf_image.specs.MemoStore.{Memos, all_bytes, texts_of}
+use Rattle.dbf_image.specs.MemoStore.{Memos, all_bytes, stored_texts}
 use Rattle.dbf_image.proofs.MemoOwners.{grown_free}
 use Rattle.dbf_image.proofs.MemoTotals.{bytes_of_all}
 use Rattle.dbf_image.proofs.MemoPutting.{Puts, put_grown}
@@ -57,7 +57,7 @@ returns-clause-fresh c = ap (λ (v : Memos). map.get v.texts (c.push_free-self-i
 
 pub returns-clause-texts : goal.returns-clause-texts
 returns-clause-texts c =
-    ap texts_of (with_items_is c.push_free-self-inside.new.blocks c.fill-self-inside.new.blocks (after c)) ∙ (done c).texts
+    ap stored_texts (with_items_is c.push_free-self-inside.new.blocks c.fill-self-inside.new.blocks (after c)) ∙ (done c).texts
     ∙ ap (λ (v : Memos). map.insert v.texts (c.push_free-self-inside.result.head + 1) c.args.text.now) c.self.view_is
 
 pub returns-clause-blocks : goal.returns-clause-blocks

@@ -1,11 +1,11 @@
 use Rattle.std.proofs.Common.{◌≡◌, ◌+◌, ◌-◌, ◌≤◌, suc, ap, sym, ◌∙◌, subst, arith}
 use Rattle.ndx_index.specs.PageStore.{page_in}
-use Rattle.ndx_index.specs.IndexTree.{here, next_free, free_uses, AreFree}
+use Rattle.ndx_index.specs.IndexTree.{here, next_free_page, free_uses, AreFree}
 use Rattle.ndx_index.proofs.FreeFrame.{FreeFramed, taken}
 use Rattle.ndx_index.proofs.pages.free.take_free.Goals as goal
 use Rattle.ndx_index.proofs.pages.free.take_free.Goals.{After-clear}
 
-rest : (c : After-clear) → FreeFramed (c.args.free.now.count - 1) c.args.store.now.pages c.clear.new.self.pages (next_free (page_in c.args.store.now.pages c.args.free.now.head))
+rest : (c : After-clear) → FreeFramed (c.args.free.now.count - 1) c.args.store.now.pages c.clear.new.self.pages (next_free_page (page_in c.args.store.now.pages c.args.free.now.head))
 rest c =
     let a = c.args.store.now.pages in
     let f = c.args.free.now in

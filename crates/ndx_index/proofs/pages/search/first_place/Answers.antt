@@ -2,7 +2,7 @@ use Rattle.std.proofs.Common.{◌≡◌, suc, ◌+◌, ◌-◌, ◌<◌, find, g
 use Rattle.std.specs.Option.{option_map}
 use Rattle.ndx_index.specs.declared.pages.place.Branch.{Branch}
 use Rattle.ndx_index.specs.Bounds.{passes}
-use Rattle.ndx_index.specs.LeafPlaces.{pair_at}
+use Rattle.ndx_index.specs.LeafPlaces.{pair_at_place}
 use Rattle.ndx_index.specs.PageStore.{page_in}
 use Rattle.ndx_index.specs.IndexTree.{pairs_under}
 use Rattle.ndx_index.proofs.BoundLaws.{passes_after}
@@ -74,7 +74,7 @@ pub returns-in_err-branch-clause-pair : goal.returns-in_err-branch-clause-pair
 returns-in_err-branch-clause-pair c =
     let before = (goal.at.returns-in_err-branch-clause-pair c).Else-at-pair_count in
     let none : c.levels.next ≡ None = c.in_err-branch.was in
-    ap (option_map (pair_at c.args.store.now.pages)) c.from_residual.ensures ∙ sym (beside before ∙ ap (edge_of first_of c.args.store.now.pages) none)
+    ap (option_map (pair_at_place c.args.store.now.pages)) c.from_residual.ensures ∙ sym (beside before ∙ ap (edge_of first_of c.args.store.now.pages) none)
 
 pub returns-clause-pair : goal.returns-clause-pair
 returns-clause-pair c =

@@ -3,7 +3,7 @@ use Rattle.std.proofs.lemmas.List.{length-append}
 use Rattle.ndx_index.specs.declared.pages.slots.PairSlots.TheInside.{Inside}
 use Rattle.ndx_index.specs.declared.pair_list.part.ListPart.{ListPart}
 use Rattle.ndx_index.specs.ListParts.{listed}
-use Rattle.ndx_index.specs.Slots.{Slots, view_of}
+use Rattle.ndx_index.specs.Slots.{Slots, slots_view}
 use Rattle.ndx_index.proofs.RunLaws.{append_pairs, length-pairs, times_le}
 use Rattle.ndx_index.proofs.pages.slots.PairSlots.push_part.Goals as goal
 
@@ -14,7 +14,7 @@ record HasRoom (x : Inside) (part : ListPart) : Type 0 where
   bytes : length part.keys.now ≡ length part.numbers.now * x.key_len
   all : length x.numbers.items * x.key_len + length part.numbers.now * x.key_len ≤ (length x.numbers.items + x.spare) * x.key_len
 
-has_room : (x : Inside) (now : Slots) (part : ListPart) → view_of x ≡ now → part.key_len ≡ now.key_len → length (listed part) ≤ now.spare → HasRoom x part
+has_room : (x : Inside) (now : Slots) (part : ListPart) → slots_view x ≡ now → part.key_len ≡ now.key_len → length (listed part) ≤ now.spare → HasRoom x part
 has_room x now part e key room =
     let n : ℕ = length part.numbers.now in
     let count : n ≤ x.spare = omega (arith, room, length-pairs part.key_len part.keys.now part.numbers.now, ap (λ (s : Slots). s.spare) e) in
