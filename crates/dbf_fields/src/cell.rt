@@ -5,7 +5,7 @@ ghost use Rattle.dbf_fields.specs.Field.{has_width};
 ghost use Rattle.dbf_fields.specs.Cell.{stored, IsNumberAgain, IsTruthAgain, IsDateAgain};
 ghost use Rattle.dbf_fields.specs.Padding.{padded as padded_text};
 
-use crate::bytes::Bytes;
+use byte_io::Bytes;
 use crate::date::date_text;
 use crate::field::Field;
 use crate::format::{BLANK, CHARACTER, DATE, LOGICAL, NUMBER};

@@ -8,7 +8,6 @@
 //! the layout in `format.rt`.
 #![tactic(auto)]
 
-mod bytes;
 mod cell;
 mod date;
 mod day;
@@ -22,7 +21,7 @@ mod number_text;
 mod schema;
 mod trim;
 
-pub use bytes::Bytes;
+pub use byte_io::Bytes;
 pub use cell::{CellFault, encode_cell};
 pub use date::{DateCell, read_date, shown_date};
 pub use day::{Day, day_of};

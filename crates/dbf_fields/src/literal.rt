@@ -2,7 +2,7 @@
 
 ghost use Rattle.std.specs.Prelude.{◌≡◌, ◌↔◌, IsTrue, IfOk};
 
-use crate::bytes::Bytes;
+use byte_io::Bytes;
 use crate::day::Day;
 use std::alloc::{AllocError, Global};
 

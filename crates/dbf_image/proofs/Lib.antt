@@ -10,8 +10,6 @@ pub mod MemoLists
 pub mod Packing
 pub mod CellOffsets
 pub mod Rows
-pub mod Sinks
-pub mod Standing
 pub mod Numbers
 pub mod BlockLaws
 pub mod FileLaws
@@ -21,7 +19,6 @@ pub mod JoinLaws
 pub mod Steps
 pub mod Writing
 pub mod ReadBack
-pub mod Puts
 pub mod MemoFrame
 pub mod MemoOwners
 pub mod MemoTotals

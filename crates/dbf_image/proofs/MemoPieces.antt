@@ -2,8 +2,8 @@
 use Rattle.std.proofs.Common.{◌≡◌, ℕ, suc, List, ◌++◌, ap, sym, ◌∙◌}
 use Rattle.dbf_image.specs.declared.memo_store.block.MemoBlock.{MemoBlock}
 use Rattle.dbf_image.specs.MemoChains.{block_at, text_from, IsChain}
-use Rattle.dbf_image.specs.Writer.{Wanted, more}
-use Rattle.dbf_image.proofs.Puts.{more_then, more_nil}
+use Rattle.byte_io.specs.Writer.{Wanted, more}
+use Rattle.byte_io.specs.Laws.Puts.{more_then, more_nil}
 
 -- what was put, and what is left to put
 pub record Pours (number count : ℕ) (bs : List MemoBlock) (head left at : ℕ) (old now : Wanted) : Type 0 where

@@ -8,9 +8,9 @@ use Rattle.dbf_fields.specs.Schema.{IsSchema}
 use Rattle.dbf_fields.proofs.SchemaLaws.{schema_names}
 use Rattle.dbf_fields.specs.declared.field.Field.{Field}
 use Rattle.dbf_image.specs.Image.{header_bytes, descriptor, rows_bytes, image}
-use Rattle.dbf_image.specs.Writer.{Wanted, more}
+use Rattle.byte_io.specs.Writer.{Wanted, more}
 use Rattle.dbf_image.specs.Table.{Table}
-use Rattle.dbf_image.proofs.Puts.{more_both}
+use Rattle.byte_io.specs.Laws.Puts.{more_both}
 use Rattle.dbf_image.specs.declared.format.TheConstants.{DESCRIPTOR, END_OF_FILE, HEADER_END, NAME_BYTES}
 
 -- a descriptor, whose name, letter, width and decimals are written over zeros

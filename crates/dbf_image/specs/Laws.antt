@@ -1,3 +1,2 @@
 -- What follows from the definitions, with its proofs: laws that any crate may cite.
 pub mod MemoCallers
-pub mod OfBytes

@@ -7,13 +7,10 @@ pub mod Reading
 pub mod Spans
 pub mod Blocks
 pub mod Image
-pub mod Sink
 pub use Rattle.dbf_fields.specs.Name
 pub use Rattle.dbf_fields.specs.Faults
 pub use Rattle.dbf_fields.specs.Field
 pub use Rattle.dbf_fields.specs.Schema
-pub mod Writer
-pub mod Output
 pub mod MemoChains
 pub mod MemoSteps
 pub mod MemoStore

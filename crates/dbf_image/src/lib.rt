@@ -20,21 +20,18 @@ mod dbt;
 mod fault;
 mod format;
 mod memo_store;
-mod sink;
 mod table;
 
+pub use byte_io::{
+    ByteSink, Failures, LimitedSink, MemorySink, SinkFault, SinkWriter, WriteFault, write_all,
+};
 pub use dbf::read::read_table;
-pub use dbf::write::{WriteFault, write_dbf};
+pub use dbf::write::write_dbf;
 pub use dbt::blocks::next_free_block;
 pub use dbt::memo::read_memo;
 pub use dbt::write::write_dbt;
 pub use fault::ImageFault;
 pub use format::{MAX_MEMO_BYTES, MAX_RECORDS};
 pub use memo_store::MemoStore;
-pub use sink::failures::Failures;
-pub use sink::limited::LimitedSink;
-pub use sink::memory::MemorySink;
-pub use sink::writer::SinkWriter;
-pub use sink::{ByteSink, SinkFault, write_all};
 pub use table::growing::GrowingTable;
 pub use table::{TableData, is_memo_text};

@@ -1,11 +1,11 @@
 //! Texts under numbers, in blocks that are used again.
-#![tactic(auto, using(crate::proofs::Sinks::sinks))]
+#![tactic(auto, using(byte_io::specs::Laws::Sinks::sinks))]
 
 ghost use Rattle.std.specs.Prelude.{◌≡◌, ◌+◌, ◌<◌, ◌≤◌, [], length, IfOk, OnOk, Some, None, IsSome, unwrap_or, nat_eq};
 ghost use Rattle.std.specs.List.{list_any};
 ghost use Rattle.std.specs.FinMap as map;
 ghost use Rattle.dbf_image.specs.MemoStore.{all_bytes};
-ghost use Rattle.dbf_image.specs.Output.{Puts};
+ghost use Rattle.byte_io.specs.Output.{Puts};
 ghost use Rattle.dbf_image.specs.declared.format.TheConstants.{BLOCK};
 
 mod block;
@@ -15,8 +15,7 @@ mod marks;
 use crate::memo_store::block::{FreeList, MemoBlock, blocks_for, copied_blocks, push_free};
 use crate::memo_store::chain::{fill, gather, put_pieces, text_length};
 use crate::memo_store::marks::{mark, sweep};
-use crate::sink::ByteSink;
-use crate::sink::writer::SinkWriter;
+use byte_io::{ByteSink, SinkWriter};
 use dbf_fields::Bytes;
 use std::alloc::{AllocError, Global};
 use std::marker::Model;

@@ -1,5 +1,5 @@
 -- The steps of a writer's loop.
 use Rattle.std.proofs.lemmas.Grind.{common_steps}
-use Rattle.dbf_image.proofs.Sinks.{grown_then, grown_nil}
+use Rattle.byte_io.specs.Laws.Sinks.{grown_then, grown_nil}
 
 pub ruleset puts = (grown_then, grown_nil, common_steps)

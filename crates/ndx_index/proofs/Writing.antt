@@ -7,7 +7,7 @@ use Rattle.ndx_index.specs.declared.format.TheConstants.{PAGE}
 use Rattle.ndx_index.specs.declared.pair.Pair.{Pair}
 use Rattle.byteorder.specs.Endian.{little_bytes}
 use Rattle.ndx_index.specs.Image.{groups, header_page, page_keys, record_size, leaf_record, leaf_page, filled_page}
-use Rattle.dbf_image.specs.Writer.{Wanted, more}
+use Rattle.byte_io.specs.Writer.{Wanted, more}
 use Rattle.ndx_index.proofs.PageBytes.{length_pairs}
 
 -- a leaf's parts, one after the other

@@ -4,7 +4,7 @@ ghost use Rattle.std.specs.Prelude.{◌≡◌, ◌≤◌, length};
 
 use super::*;
 use dbf_fields::{CHARACTER, Field, Schema};
-use dbf_image::{ByteSink, MemorySink, WriteFault};
+use byte_io::{ByteSink, MemorySink, WriteFault};
 use key_expr::{Key, KeyExpr};
 use std::alloc::Global;
 use std::test::*;

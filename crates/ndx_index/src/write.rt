@@ -3,8 +3,8 @@
 
 ghost use Rattle.std.specs.Prelude.{◌≡◌, ◌+◌, ◌≤◌, ◌<◌, ◌^◌, true, length, OnOk};
 ghost use Rattle.std.specs.List.{list_all, AllByRecursion};
-ghost use Rattle.dbf_image.specs.Output.{Puts};
-ghost use Rattle.dbf_image.specs.Sink.{grown, is_byte, IsFront, Rises};
+ghost use Rattle.byte_io.specs.Output.{Puts};
+ghost use Rattle.byte_io.specs.Sink.{grown, is_byte, IsFront, Rises};
 ghost use Rattle.key_expr.specs.Keys.{key_length};
 ghost use Rattle.ndx_index.specs.Header.{IsIndex, trimmed_end};
 ghost use Rattle.ndx_index.specs.Image.{header_page, ndx_image};
@@ -25,7 +25,7 @@ use crate::write::leaf::put_leaves;
 use crate::write::pieces::{put_u16, put_u32, put_zeros};
 use crate::write::plan::TreePlan;
 use crate::write::shape::Shape;
-use dbf_image::{ByteSink, SinkFault, SinkWriter, WriteFault};
+use byte_io::{ByteSink, SinkFault, SinkWriter, WriteFault};
 use key_expr::{KeyExpr, MAX_EXPRESSION_BYTES};
 
 // The header page of a file whose last page is the root.

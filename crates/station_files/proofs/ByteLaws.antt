@@ -2,7 +2,7 @@
 use Rattle.std.proofs.Common.{◌≡◌, true, Result, Ok, Err}
 use Rattle.std.specs.Prelude.{OnOk}
 use Rattle.std.specs.List.{list_all}
-use Rattle.dbf_image.specs.Sink.{is_byte}
+use Rattle.byte_io.specs.Sink.{is_byte}
 use Rattle.station_files.specs.declared.named.NamedFile.{NamedFile}
 use Rattle.station_files.specs.Files.{IsOfBytes}
 

@@ -3,7 +3,7 @@ use Rattle.std.proofs.Common.{◌≡◌, ℕ, ◌+◌, List, [], ◌∷◌, ◌+
 use Rattle.std.specs.Prelude.{codes}
 use Rattle.std.proofs.lemmas.Grind.{common_steps}
 use Rattle.std.proofs.lemmas.List.{append-nil, take_more, drop_more, take-append-drop}
-use Rattle.dbf_image.specs.Sink.{grown, IsFront}
+use Rattle.byte_io.specs.Sink.{grown, IsFront}
 use Rattle.station_files.specs.Files.{listing}
 use Rattle.station_files.specs.ClosedIndex.{IndexContent}
 use Rattle.station_files.specs.Writable.{has_too_many}

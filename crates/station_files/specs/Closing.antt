@@ -4,7 +4,7 @@ use Rattle.std.specs.Fmt.{decimal}
 use Rattle.dbf_image.specs.Table.{has_memos}
 use Rattle.dbf_image.specs.Image.{image}
 use Rattle.dbf_image.specs.Blocks.{memo_image}
-use Rattle.dbf_image.specs.Sink.{grown, IsFront}
+use Rattle.byte_io.specs.Sink.{grown, IsFront}
 use Rattle.ndx_index.specs.Image.{ndx_image}
 use Rattle.station_files.specs.declared.named.NamedFile.{NamedFile}
 use Rattle.station_files.specs.declared.closed.ClosedTable.{ClosedTable}

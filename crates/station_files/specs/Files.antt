@@ -1,7 +1,7 @@
 -- Files by their names.
 use Rattle.std.specs.Prelude.{◌≡◌, ◌≢◌, ◌⊎◌, ℕ, ◌<◌, ◌==◌, Bool, true, List, [], ◌∷◌, ◌++◌, length, Option, Some, None, bytes_eq, flat_map, if◌then◌else◌}
 use Rattle.std.specs.List.{list_all}
-use Rattle.dbf_image.specs.Sink.{is_byte}
+use Rattle.byte_io.specs.Sink.{is_byte}
 use Rattle.station_files.specs.declared.memory_folder.OpenFile.{OpenFile}
 use Rattle.station_files.specs.declared.named.NamedFile.{NamedFile}
 use Rattle.station_files.specs.declared.source.TheConstants.{MAX_FILE_BYTES}

@@ -1,11 +1,11 @@
 //! Writing the files of a run.
-#![tactic(auto, using(dbf_image::proofs::Sinks::sinks))]
+#![tactic(auto, using(byte_io::specs::Laws::Sinks::sinks))]
 
 ghost use Rattle.std.specs.Prelude.{◌≡◌, ◌≢◌, ◌+◌, ◌<◌, ◌≤◌, ◌↔◌, ◌∷◌, [], ℕ, List, Err, length, map, Some, None, true, false, OnOk, OnErr, IfErr, take};
 ghost use Rattle.std.specs.List.{list_all, AllByRecursion};
 ghost use Rattle.dbf_image.specs.Blocks.{memo_image};
 ghost use Rattle.dbf_image.specs.Image.{image, IsOutside};
-ghost use Rattle.dbf_image.specs.Sink.{grown, is_byte, IsFront, Rises};
+ghost use Rattle.byte_io.specs.Sink.{grown, is_byte, IsFront, Rises};
 ghost use Rattle.station_files.specs.Files.{files_in, listing, IsOfBytes};
 ghost use Rattle.station_files.specs.Closing.{bytes_of, file_named, file_of, run_files, first_blocked, IsCutAt};
 ghost use Rattle.station_files.specs.Writable.{has_too_many as has_too_many_blocks, is_writable};

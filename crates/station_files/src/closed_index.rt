@@ -1,9 +1,9 @@
 //! An index as a run left it.
-#![tactic(auto, using(dbf_image::proofs::Sinks::sinks))]
+#![tactic(auto, using(byte_io::specs::Laws::Sinks::sinks))]
 
 ghost use Rattle.std.specs.Prelude.{◌≡◌, ◌≤◌, true, length, OnOk, OnErr};
 ghost use Rattle.std.specs.List.{list_all};
-ghost use Rattle.dbf_image.specs.Sink.{grown, is_byte, IsFront, Rises};
+ghost use Rattle.byte_io.specs.Sink.{grown, is_byte, IsFront, Rises};
 ghost use Rattle.key_expr.specs.Keys.{key_length};
 ghost use Rattle.ndx_index.specs.declared.format.TheConstants.{MAX_PAIRS};
 ghost use Rattle.ndx_index.specs.Image.{ndx_image};

@@ -2,7 +2,7 @@
 
 ghost use Rattle.std.specs.Prelude.{◌≡◌, List, OnOk, OnErr};
 ghost use Rattle.std.specs.List.{AllByRecursion};
-ghost use Rattle.dbf_image.specs.Sink.{grown, Rises};
+ghost use Rattle.byte_io.specs.Sink.{grown, Rises};
 ghost use Rattle.station_files.specs.declared.named.NamedFile.{NamedFile};
 ghost use Rattle.station_files.specs.Files.{opening, listing, files_in, IsOfBytes};
 

@@ -63,7 +63,7 @@ impl ByteSink for MemoryFolder {
 
     ghost failures = { λ s. Some s.failures };
 
-    #[tactic(auto, using(crate::proofs::FolderLaws::written_last), unfolding(dbf_image::specs::Sink::grown))]
+    #[tactic(auto, using(crate::proofs::FolderLaws::written_last), unfolding(byte_io::specs::Sink::grown))]
     fn write(&mut self, bytes: &[u8]) -> Result<usize, SinkFault> {
         if self.calls == 0 {
             return Err(self.fail());
@@ -85,7 +85,7 @@ impl ByteSink for MemoryFolder {
 }
 
 impl Folder for MemoryFolder {
-    #[tactic(auto, using(crate::proofs::FolderLaws::begun_last), unfolding(dbf_image::specs::Sink::grown))]
+    #[tactic(auto, using(crate::proofs::FolderLaws::begun_last), unfolding(byte_io::specs::Sink::grown))]
     fn begin(&mut self, name: &[u8]) -> Result<(), SinkFault> {
         if self.calls == 0 {
             return Err(self.fail());

@@ -1,7 +1,7 @@
 //! Where files are read from.
 
 ghost use Rattle.std.specs.Prelude.{◌≡◌, ◌⊎◌, Err, IfOk, OnOk, List, ℕ, Option};
-ghost use Rattle.dbf_image.specs.Sink.{Rises};
+ghost use Rattle.byte_io.specs.Sink.{Rises};
 ghost use Rattle.station_files.specs.declared.named.NamedFile.{NamedFile};
 ghost use Rattle.station_files.specs.Files.{IsFileOf, IsTooLong, IsUnreadable};
 

@@ -4,7 +4,7 @@ use Rattle.std.specs.List.{position}
 use Rattle.dbf_image.specs.declared.fault.ImageFault.TheVariants.{NoMemory as NoRoomForImage}
 use Rattle.dbf_image.specs.DbfText.{IsDbf}
 use Rattle.dbf_image.specs.Reading.{IsImageRefusal}
-use Rattle.dbf_image.specs.Sink.{Rises}
+use Rattle.byte_io.specs.Sink.{Rises}
 use Rattle.ndx_index.specs.declared.fault.NdxFault.TheVariants.{NoMemory as NoRoomForIndex}
 use Rattle.ndx_index.specs.Header.{IsIndex, HasNdxFault}
 use Rattle.catalogue_core.specs.declared.source.IndexSource.{IndexSource}

@@ -1,7 +1,7 @@
 -- A whole run, from a setup and its files to the files that are written.
 use Rattle.std.specs.Prelude.{◌≡◌, ◌≢◌, ◌⊎◌, ℕ, Bool, List, length, Option, Some, None, Result, Ok, Err}
 use Rattle.dbf_image.specs.Image.{IsOutside}
-use Rattle.dbf_image.specs.Sink.{grown}
+use Rattle.byte_io.specs.Sink.{grown}
 use Rattle.catalogue_core.specs.declared.opening.OpenFault.{OpenFault}
 use Rattle.catalogue_core.specs.declared.opening.OpenFault.TheVariants.{NoMemory as NoMemoryToOpen}
 use Rattle.catalogue_core.specs.Opening.{Opening}

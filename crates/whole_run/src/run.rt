@@ -1,7 +1,7 @@
 //! The whole run: from a setup and its files to the written files.
 
 ghost use Rattle.std.specs.Prelude.{◌≡◌, ◌≢◌, ◌⊎◌, ℕ, List, [], None, Ok, Err, IfOk, IfErr, OnOk};
-ghost use Rattle.dbf_image.specs.Sink.{grown, Rises};
+ghost use Rattle.byte_io.specs.Sink.{grown, Rises};
 ghost use Rattle.station_files.specs.declared.closed.ClosedTable.{ClosedTable as Table};
 ghost use Rattle.station_files.specs.Closing.{run_files, first_blocked, IsCutAt};
 ghost use Rattle.station_files.specs.Files.{listing};

@@ -1,5 +1,5 @@
 //! Writing the records of a table.
-#![tactic(auto, using(crate::proofs::Sinks::sinks))]
+#![tactic(auto, using(byte_io::specs::Laws::Sinks::sinks))]
 
 ghost use Rattle.std.specs.Prelude.{◌≡◌, ◌≢◌, ℕ, List, ◌+◌, ◌≤◌, ◌*◌, ◌==◌, ◌∷◌, [], ◌++◌, length, flat_map, if◌then◌else◌, IsTrue};
 ghost use Rattle.std.specs.List.{AllByRecursion};
@@ -10,15 +10,14 @@ ghost use Rattle.dbf_image.specs.DbfText.{chunks};
 ghost use Rattle.dbf_image.specs.Store.{texts_of, memo_count, first_memo, cells_with, row_with, rows_with, HasWrittenFlag, IsMemo};
 ghost use Rattle.dbf_image.specs.Blocks.{cell_bytes, cell_blocks, cells_bytes, cells_blocks};
 ghost use Rattle.dbf_image.specs.Image.{row_bytes, rows_bytes};
-ghost use Rattle.dbf_image.specs.Output.{Puts};
+ghost use Rattle.byte_io.specs.Output.{Puts};
 ghost use Rattle.dbf_image.specs.declared.format.TheConstants.{DELETED, MAX_MEMO_BYTES, MAX_RECORDS};
 
 use crate::dbf::header::Header;
 use crate::dbt::blocks::{block_count, block_number_cell};
 use crate::format::DELETED;
 use crate::memo_store::MemoStore;
-use crate::sink::ByteSink;
-use crate::sink::writer::SinkWriter;
+use byte_io::{ByteSink, SinkWriter};
 use crate::table::flag::flag_of;
 use crate::table::memo::memo_length;
 use crate::table::offsets::memo_count_of;

@@ -1,5 +1,5 @@
 //! Writing a table as the bytes of a DBF file.
-#![tactic(auto, using(crate::proofs::Sinks::sinks))]
+#![tactic(auto, using(byte_io::specs::Laws::Sinks::sinks))]
 
 ghost use Rattle.std.specs.Prelude.{◌≡◌, ◌+◌, ◌≤◌, ◌*◌, ◌↔◌, ℕ, List, Option, Some, true, false, length, flat_map, if◌then◌else◌, OnOk, OnErr};
 ghost use Rattle.std.specs.List.{list_all};
@@ -9,8 +9,8 @@ ghost use Rattle.dbf_image.specs.DbfText.{IsDbf};
 ghost use Rattle.dbf_image.specs.Table.{has_memos as some_memo};
 ghost use Rattle.dbf_image.specs.Blocks.{HasTooManyBlocks, next_free, memo_image};
 ghost use Rattle.dbf_image.specs.Image.{header_with, descriptor, version_of, image, IsOutside};
-ghost use Rattle.dbf_image.specs.Output.{Puts};
-ghost use Rattle.dbf_image.specs.Sink.{grown, is_byte, IsFront, Rises};
+ghost use Rattle.byte_io.specs.Output.{Puts};
+ghost use Rattle.byte_io.specs.Sink.{grown, is_byte, IsFront, Rises};
 ghost use Rattle.dbf_image.specs.declared.format.TheConstants.{DESCRIPTOR, FIRST_YEAR, HEADER, LAST_YEAR, NAME_BYTES};
 
 use crate::dbf::header::{Header, dbf_header};
@@ -20,26 +20,10 @@ use crate::dbt::memos::has_memos;
 use crate::format::{
     DESCRIPTOR, END_OF_FILE, FIRST_YEAR, HEADER, HEADER_END, LAST_YEAR, VERSION, VERSION_WITH_MEMOS,
 };
-use crate::sink::writer::SinkWriter;
-use crate::sink::{ByteSink, SinkFault};
 use crate::table::TableData;
+use byte_io::{ByteSink, SinkFault, SinkWriter, WriteFault};
 use byteorder::{ByteOrder, LittleEndian};
 use dbf_fields::{Day, Field};
-use thiserror::Error;
-
-/// Why a table was not written, or not whole.
-#[derive(Clone, Copy, Debug, PartialEq, Eq, Error)]
-pub enum WriteFault {
-    /// The header tells the year less 1900 in one byte, and this year is none of 1900 to 2155.
-    #[error("the year is not one of 1900 to 2155")]
-    DateOutside,
-    /// The blocks of a file of memos are counted in 32 bits, and the table's memos take more.
-    #[error("the memos take too many blocks")]
-    TooManyBlocks,
-    /// The sink failed.
-    #[error("the sink failed")]
-    Sink,
-}
 
 // The version: 0x83 where there is a file of memos.
 fn version_byte(fields: &[Field]) -> u8

@@ -1,22 +1,20 @@
 //! Writing the memos of a table as the bytes of a file of memos (DBT).
-#![tactic(auto, using(crate::proofs::Sinks::sinks))]
+#![tactic(auto, using(byte_io::specs::Laws::Sinks::sinks))]
 
 ghost use Rattle.std.specs.Prelude.{◌≡◌, ◌+◌, ◌-◌, ◌*◌, ◌/◌, ◌≤◌, ◌↔◌, true, length, flat_map, OnOk, OnErr};
 ghost use Rattle.std.specs.List.{list_all, AllByRecursion};
 ghost use Rattle.dbf_image.specs.Store.{text_of, IsMemo};
 ghost use Rattle.dbf_image.specs.Blocks.{block_bytes, memo_header, memo_image, next_free, HasTooManyBlocks};
-ghost use Rattle.dbf_image.specs.Output.{Puts};
-ghost use Rattle.dbf_image.specs.Sink.{grown, is_byte, IsFront, Rises};
+ghost use Rattle.byte_io.specs.Output.{Puts};
+ghost use Rattle.byte_io.specs.Sink.{grown, is_byte, IsFront, Rises};
 ghost use Rattle.dbf_image.specs.declared.format.TheConstants.{BLOCK, MAX_MEMO_BYTES};
 
-use crate::dbf::write::WriteFault;
 use crate::dbt::blocks::next_free_block;
 use crate::format::{BLOCK, MEMO_END, VERSION};
 use crate::memo_store::MemoStore;
-use crate::sink::writer::SinkWriter;
-use crate::sink::{ByteSink, SinkFault};
 use crate::table::TableData;
 use crate::table::memo::memo_length;
+use byte_io::{ByteSink, SinkFault, SinkWriter, WriteFault};
 use byteorder::{ByteOrder, LittleEndian};
 
 // The 512 bytes before the blocks of texts.

@@ -1,15 +1,14 @@
 //! The chains of blocks in which texts are kept.
-#![tactic(auto, using(crate::proofs::Sinks::sinks))]
+#![tactic(auto, using(byte_io::specs::Laws::Sinks::sinks))]
 
 ghost use Rattle.std.specs.Prelude.{◌≡◌, ◌-◌, ◌<◌, ◌≤◌, length, IfOk};
 ghost use Rattle.dbf_image.specs.MemoChains.{block_at, text_from, IsChain};
 ghost use Rattle.dbf_image.specs.MemoSteps.{CanFill, Fills};
-ghost use Rattle.dbf_image.specs.Output.{Puts};
+ghost use Rattle.byte_io.specs.Output.{Puts};
 
 use crate::format::BLOCK;
 use crate::memo_store::block::{FreeList, MemoBlock, piece_of};
-use crate::sink::ByteSink;
-use crate::sink::writer::SinkWriter;
+use byte_io::{ByteSink, SinkWriter};
 use crate::table::reserved::extend_reserved;
 use std::alloc::{AllocError, Global};
 

@@ -1,7 +1,7 @@
 //! What sinks get of an index.
 
 use super::*;
-use dbf_image::LimitedSink;
+use byte_io::LimitedSink;
 
 // Three bytes of another file, and an index's file after them.
 fn after_another(alloc: Global, index: &OrderedIndex) -> Result<Vec<u8>, Fail> {

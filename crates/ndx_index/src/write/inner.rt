@@ -2,7 +2,7 @@
 #![tactic(auto, using(crate::proofs::Sinks::puts))]
 
 ghost use Rattle.std.specs.Prelude.{◌≡◌, ◌≢◌, min, ◌+◌, ◌-◌, ◌<◌, ◌≤◌, length, flat_map};
-ghost use Rattle.dbf_image.specs.Output.{Puts};
+ghost use Rattle.byte_io.specs.Output.{Puts};
 ghost use Rattle.ndx_index.specs.Image.{inner_group_size, inner_pages, inner_page, next_level};
 ghost use Rattle.ndx_index.specs.ListParts.{listed};
 ghost use Rattle.ndx_index.specs.Levels.{IsLevel, children_from, level as level_of};
@@ -11,7 +11,7 @@ use crate::format::MAX_RECORDS_BYTES;
 use crate::write::pieces::{put_key_record, put_u32, put_zeros};
 use crate::write::plan::{LevelSpan, TreePlan, greatest};
 use crate::write::shape::Shape;
-use dbf_image::{ByteSink, SinkWriter};
+use byte_io::{ByteSink, SinkWriter};
 
 // The page above `count` children, from index `at` of their level on. The last child has a pointer alone.
 fn put_inner<S: ByteSink>(

@@ -3,7 +3,7 @@
 
 ghost use Rattle.std.specs.Prelude.{◌≡◌, ◌+◌, ◌*◌, ◌≤◌, ◌<◌, ◌^◌, length, flat_map};
 ghost use Rattle.std.specs.List.{AllByRecursion};
-ghost use Rattle.dbf_image.specs.Output.{Puts};
+ghost use Rattle.byte_io.specs.Output.{Puts};
 ghost use Rattle.ndx_index.specs.ListParts.{listed};
 ghost use Rattle.ndx_index.specs.Image.{leaf_record, leaf_page, leaves};
 
@@ -11,7 +11,7 @@ use crate::format::PAGE;
 use crate::pair_list::part::ListPart;
 use crate::write::pieces::{put_key_record, put_u32, put_zeros};
 use crate::write::shape::Shape;
-use dbf_image::{ByteSink, SinkWriter};
+use byte_io::{ByteSink, SinkWriter};
 
 #[tactic(auto, using(crate::proofs::Sinks::puts), unfolding(crate::specs::Image::leaf_record))]
 fn put_pairs<S: ByteSink>(out: &mut SinkWriter<'_, S>, shape: Shape, group: ListPart<'_>)

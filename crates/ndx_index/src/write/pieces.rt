@@ -3,14 +3,14 @@
 
 ghost use Rattle.std.specs.Prelude.{◌≡◌, ◌+◌, ◌≤◌, length, replicate};
 ghost use Rattle.byteorder.specs.Endian.{little_bytes};
-ghost use Rattle.dbf_image.specs.Output.{Puts};
+ghost use Rattle.byte_io.specs.Output.{Puts};
 ghost use Rattle.key_expr.specs.declared.format.TheConstants.{MAX_KEY_BYTES};
 ghost use Rattle.ndx_index.specs.Image.{key_record};
 
 use crate::format::PAGE;
 use crate::write::shape::Shape;
 use byteorder::{ByteOrder, LittleEndian};
-use dbf_image::{ByteSink, SinkWriter};
+use byte_io::{ByteSink, SinkWriter};
 
 pub(crate) fn put_u16<S: ByteSink>(out: &mut SinkWriter<'_, S>, number: u16)
     ensures put { Puts out.old (little_bytes 2 number) out.new }

@@ -1,7 +1,7 @@
 //! The whole run that a command line asks for.
 
 ghost use Rattle.std.specs.Prelude.{◌≡◌, ◌≢◌, ℕ, List, Err, IfOk, IfErr, OnOk};
-ghost use Rattle.dbf_image.specs.Sink.{Rises};
+ghost use Rattle.byte_io.specs.Sink.{Rises};
 ghost use Rattle.station_files.specs.declared.closed.ClosedTable.{ClosedTable as Table};
 ghost use Rattle.station_files.specs.Closing.{run_files, IsCutAt};
 ghost use Rattle.whole_run.specs.Loading.{IsFailure};

@@ -1,5 +1,5 @@
 use Rattle.std.proofs.Common.{◌+◌, ◌≤◌, ℕ, ◌∙◌, subst}
-use Rattle.dbf_image.proofs.Puts.{more_all_three}
+use Rattle.byte_io.specs.Laws.Puts.{more_all_three}
 use Rattle.ndx_index.specs.Image.{page_keys}
 use Rattle.ndx_index.specs.Levels.{AreSizes, IsRootLevel}
 use Rattle.ndx_index.proofs.TreeBytes.{image_parts, pages_counted}

@@ -1,6 +1,6 @@
 use Rattle.std.proofs.Common.{refl}
-use Rattle.dbf_image.proofs.Sinks.{front_by, front_from, front_then, on_err}
-use Rattle.dbf_image.specs.Laws.OfBytes.{all_bytes}
+use Rattle.byte_io.specs.Laws.Sinks.{front_by, front_from, front_then, on_err}
+use Rattle.byte_io.specs.Laws.OfBytes.{all_bytes}
 use Rattle.station_files.specs.Closing.{file_named}
 use Rattle.station_files.proofs.ByteLaws.{file_on_ok}
 use Rattle.station_files.proofs.close.write_file.Goals as goal

@@ -1,6 +1,6 @@
 use Rattle.std.proofs.Common.{◌≡◌, take, map}
 use Rattle.std.specs.List.{AllByRecursion}
-use Rattle.dbf_image.specs.Sink.{grown}
+use Rattle.byte_io.specs.Sink.{grown}
 use Rattle.station_files.specs.Files.{listing, IsOfBytes}
 use Rattle.station_files.specs.Closing.{file_of}
 use Rattle.station_files.proofs.close.write_files.Given as goal

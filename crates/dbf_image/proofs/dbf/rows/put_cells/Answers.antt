@@ -1,7 +1,7 @@
 use Rattle.dbf_image.proofs.Rows.{all_drop}
 use Rattle.std.proofs.Common.{◌≡◌, ◌∙◌, ℕ, [], ◌∷◌, length, take, ap, refl, sym, arith}
 use Rattle.dbf_image.specs.Store.{IsMemo, texts_of, memo_count, first_memo}
-use Rattle.dbf_image.proofs.Puts.{more_left}
+use Rattle.byte_io.specs.Laws.Puts.{more_left}
 use Rattle.dbf_image.proofs.Steps.{first_cell, first_is_memo, widths-next, count-next, bytes-next, blocks-next}
 use Rattle.dbf_fields.specs.declared.format.TheConstants.{MEMO}
 use Rattle.dbf_image.proofs.dbf.rows.put_cells.Goals as goal

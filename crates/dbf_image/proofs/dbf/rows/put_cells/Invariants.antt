@@ -2,7 +2,7 @@ use Rattle.std.proofs.Common.{◌≡◌, ◌+◌, ◌*◌, ◌≤◌, length, dr
 use Rattle.std.specs.List.{AllByRecursion}
 use Rattle.dbf_fields.specs.Field.{widths}
 use Rattle.dbf_image.specs.Store.{memo_count, IsMemo}
-use Rattle.dbf_image.specs.Writer.{more}
+use Rattle.byte_io.specs.Writer.{more}
 use Rattle.dbf_image.proofs.Steps.{left_bytes, left_blocks}
 use Rattle.dbf_image.proofs.dbf.rows.put_cells.Given as goal
 

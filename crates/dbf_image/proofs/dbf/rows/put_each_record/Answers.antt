@@ -2,7 +2,7 @@ use Rattle.dbf_image.proofs.Rows.{all_drop}
 use Rattle.std.proofs.Common.{◌∙◌, arith}
 use Rattle.dbf_image.specs.Store.{IsMemo}
 use Rattle.dbf_image.proofs.Chunks.{room-next}
-use Rattle.dbf_image.proofs.Puts.{more_left}
+use Rattle.byte_io.specs.Laws.Puts.{more_left}
 use Rattle.dbf_image.proofs.Steps.{rows-next, less-next}
 use Rattle.dbf_image.proofs.dbf.rows.put_each_record.Goals as goal
 

@@ -1,7 +1,7 @@
 use Rattle.std.proofs.Common.{◌≡◌, ◌+◌, ◌-◌, ◌*◌, ◌≤◌, length}
 use Rattle.std.specs.List.{AllByRecursion}
 use Rattle.dbf_image.specs.Store.{IsMemo}
-use Rattle.dbf_image.specs.Writer.{more}
+use Rattle.byte_io.specs.Writer.{more}
 use Rattle.dbf_image.proofs.Steps.{left_rows}
 use Rattle.dbf_image.proofs.dbf.rows.put_each_record.Given as goal
 

@@ -2,7 +2,7 @@ use Rattle.std.proofs.Common.{[], ◌∷◌, drop, length, refl, sym, ◌∙◌,
 use Rattle.std.proofs.lemmas.Bool.{eqb-true}
 use Rattle.std.proofs.lemmas.List.{length-drop}
 use Rattle.dbf_image.specs.Store.{texts_of}
-use Rattle.dbf_image.proofs.Puts.{more_parts}
+use Rattle.byte_io.specs.Laws.Puts.{more_parts}
 use Rattle.dbf_image.proofs.Steps.{plain_bytes, plain_blocks}
 use Rattle.dbf_image.proofs.dbf.rows.put_record.Goals as goal
 

@@ -1,7 +1,7 @@
 use Rattle.std.proofs.Common.{take}
 use Rattle.std.specs.Prelude.{flat_map}
 use Rattle.dbf_image.specs.Image.{descriptor}
-use Rattle.dbf_image.specs.Output.{Puts}
+use Rattle.byte_io.specs.Output.{Puts}
 use Rattle.dbf_image.proofs.dbf.write.put_descriptors.Given as goal
 
 abbrev pub invariant-loop-field : goal.invariant-loop-field

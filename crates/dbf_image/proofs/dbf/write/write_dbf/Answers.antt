@@ -1,8 +1,8 @@
 use Rattle.std.proofs.Common.{rules}
 use Rattle.dbf_image.specs.Image.{image}
-use Rattle.dbf_image.specs.Sink.{grown}
-use Rattle.dbf_image.specs.Writer.{due}
-use Rattle.dbf_image.proofs.Puts.{due_all}
+use Rattle.byte_io.specs.Sink.{grown}
+use Rattle.byte_io.specs.Writer.{due}
+use Rattle.byte_io.specs.Laws.Puts.{due_all}
 use Rattle.dbf_image.proofs.FileLaws.{is_dbf_image}
 use Rattle.dbf_image.proofs.PlainLaws.{is_plain_image}
 use Rattle.dbf_image.proofs.dbf.write.write_dbf.Goals as goal

@@ -2,7 +2,7 @@ use Rattle.std.proofs.Common.{refl, sym, ◌∙◌}
 use Rattle.dbf_image.specs.Store.{text_of}
 use Rattle.dbf_image.proofs.BlockLaws.{block_put, block_none}
 use Rattle.dbf_image.proofs.MemoNumbers.{some_number, text_held}
-use Rattle.dbf_image.proofs.Puts.{more_nil, more_all_three}
+use Rattle.byte_io.specs.Laws.Puts.{more_nil, more_all_three}
 use Rattle.dbf_image.proofs.dbt.write.put_block.Goals as goal
 
 pub returns-then-length-eq0 : goal.returns-then-length-eq0

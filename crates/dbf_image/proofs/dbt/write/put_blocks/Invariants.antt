@@ -1,7 +1,7 @@
 use Rattle.std.proofs.Common.{take}
 use Rattle.std.specs.Prelude.{flat_map}
 use Rattle.dbf_image.specs.Blocks.{block_bytes}
-use Rattle.dbf_image.specs.Output.{Puts}
+use Rattle.byte_io.specs.Output.{Puts}
 use Rattle.dbf_image.specs.Store.{text_of}
 use Rattle.dbf_image.proofs.dbt.write.put_blocks.Given as goal
 

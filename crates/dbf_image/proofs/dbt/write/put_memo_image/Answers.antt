@@ -1,7 +1,7 @@
 use Rattle.std.proofs.Common.{length, refl, ◌∙◌}
 use Rattle.dbf_image.specs.Blocks.{memo_image}
 use Rattle.dbf_image.proofs.JoinLaws.{memos_read}
-use Rattle.dbf_image.proofs.Puts.{more_both}
+use Rattle.byte_io.specs.Laws.Puts.{more_both}
 use Rattle.dbf_image.proofs.dbt.write.put_memo_image.Goals as goal
 
 pub returns : goal.returns

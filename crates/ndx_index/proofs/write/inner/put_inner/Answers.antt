@@ -1,6 +1,6 @@
 use Rattle.std.proofs.Common.{◌≡◌, ◌+◌, ◌≤◌, ℕ, List, suc, length, ap, ◌∙◌, arith}
-use Rattle.dbf_image.specs.Writer.{more}
-use Rattle.dbf_image.proofs.Puts.{more_left, more_all_three}
+use Rattle.byte_io.specs.Writer.{more}
+use Rattle.byte_io.specs.Laws.Puts.{more_left, more_all_three}
 use Rattle.ndx_index.specs.Levels.{level}
 use Rattle.ndx_index.proofs.InnerPageBytes.{child_step, child_last, inner_parts, children_short}
 use Rattle.ndx_index.proofs.LevelLaws.{level_short}

@@ -1,6 +1,6 @@
 use Rattle.std.proofs.Common.{◌≡◌, ◌-◌, drop}
 use Rattle.byteorder.specs.Endian.{little_bytes}
-use Rattle.dbf_image.specs.Writer.{more}
+use Rattle.byte_io.specs.Writer.{more}
 use Rattle.ndx_index.specs.Image.{inner_records}
 use Rattle.ndx_index.specs.Levels.{children_from}
 use Rattle.ndx_index.specs.ListParts.{listed}

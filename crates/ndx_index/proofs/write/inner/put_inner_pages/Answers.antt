@@ -1,7 +1,7 @@
 use Rattle.std.proofs.Common.{◌≡◌, ◌+◌, ℕ, suc, length, refl, ap, sym, ◌∙◌, arith}
 use Rattle.std.specs.Prelude.{flat_map, slice_index}
-use Rattle.dbf_image.specs.Writer.{more}
-use Rattle.dbf_image.proofs.Puts.{more_left, more_nil}
+use Rattle.byte_io.specs.Writer.{more}
+use Rattle.byte_io.specs.Laws.Puts.{more_left, more_nil}
 use Rattle.ndx_index.specs.Image.{inner_page}
 use Rattle.ndx_index.specs.Levels.{level}
 use Rattle.ndx_index.proofs.TreeBytes.{above_leaves, is_level, level_and_above, none_above}

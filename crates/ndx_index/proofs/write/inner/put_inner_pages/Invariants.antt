@@ -1,6 +1,6 @@
 use Rattle.std.proofs.Common.{◌≡◌}
 use Rattle.std.specs.Prelude.{flat_map}
-use Rattle.dbf_image.specs.Writer.{more}
+use Rattle.byte_io.specs.Writer.{more}
 use Rattle.ndx_index.specs.Image.{inner_page, inner_pages}
 use Rattle.ndx_index.specs.Levels.{level}
 use Rattle.ndx_index.proofs.TreeBytes.{pages_above}

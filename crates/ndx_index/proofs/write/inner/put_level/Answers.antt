@@ -1,5 +1,5 @@
 use Rattle.std.proofs.Common.{◌≡◌, ◌≢◌, ◌-◌, ◌≤◌, ℕ, List, length, min, drop, ap, sym, ◌∙◌, arith, length-drop}
-use Rattle.dbf_image.proofs.Puts.{more_left}
+use Rattle.byte_io.specs.Laws.Puts.{more_left}
 use Rattle.ndx_index.specs.Image.{ChildEntry, inner_group_size}
 use Rattle.ndx_index.specs.Levels.{level}
 use Rattle.ndx_index.proofs.InnerPageBytes.{level_step}

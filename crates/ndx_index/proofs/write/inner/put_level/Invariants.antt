@@ -1,6 +1,6 @@
 use Rattle.std.proofs.Common.{◌≡◌, ◌≢◌, ◌-◌, ◌≤◌, drop, length}
 use Rattle.std.specs.Prelude.{flat_map}
-use Rattle.dbf_image.specs.Writer.{more}
+use Rattle.byte_io.specs.Writer.{more}
 use Rattle.ndx_index.specs.Image.{inner_page, groups, inner_group_size, next_level}
 use Rattle.ndx_index.specs.Levels.{level}
 use Rattle.ndx_index.specs.ListParts.{listed}

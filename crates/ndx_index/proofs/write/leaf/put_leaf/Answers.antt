@@ -1,5 +1,5 @@
 use Rattle.std.proofs.Common.{◌∙◌}
-use Rattle.dbf_image.proofs.Puts.{more_all_three}
+use Rattle.byte_io.specs.Laws.Puts.{more_all_three}
 use Rattle.ndx_index.specs.ListParts.{listed}
 use Rattle.ndx_index.proofs.Writing.{leaf_parts}
 use Rattle.ndx_index.proofs.write.leaf.put_leaf.Goals as goal

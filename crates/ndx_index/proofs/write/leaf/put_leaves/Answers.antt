@@ -1,6 +1,6 @@
 use Rattle.std.proofs.Common.{◌≡◌, ◌<◌, ◌≤◌, ◌^◌, ℕ, length, min, ap, ◌∙◌, subst, arith}
 use Rattle.std.specs.List.{AllByRecursion}
-use Rattle.dbf_image.proofs.Puts.{more_left}
+use Rattle.byte_io.specs.Laws.Puts.{more_left}
 use Rattle.ndx_index.specs.ListParts.{listed}
 use Rattle.ndx_index.specs.Image.{leaf_page, leaf_group_size}
 use Rattle.ndx_index.proofs.Writing.{groups_step, all_parts, all_whole}

@@ -1,7 +1,7 @@
 use Rattle.std.proofs.Common.{◌≡◌, ◌+◌, ◌≤◌, ◌<◌, ◌^◌, length}
 use Rattle.std.specs.Prelude.{flat_map}
 use Rattle.std.specs.List.{AllByRecursion}
-use Rattle.dbf_image.specs.Writer.{more}
+use Rattle.byte_io.specs.Writer.{more}
 use Rattle.ndx_index.specs.ListParts.{listed}
 use Rattle.ndx_index.specs.Image.{groups, leaf_group_size, leaf_page}
 use Rattle.ndx_index.proofs.write.leaf.put_leaves.Given as goal

@@ -1,7 +1,7 @@
 use Rattle.std.proofs.Common.{◌<◌, ◌^◌, take}
 use Rattle.std.specs.Prelude.{flat_map}
 use Rattle.std.specs.List.{AllByRecursion}
-use Rattle.dbf_image.specs.Output.{Puts}
+use Rattle.byte_io.specs.Output.{Puts}
 use Rattle.ndx_index.specs.Image.{leaf_record}
 use Rattle.ndx_index.specs.ListParts.{listed}
 use Rattle.ndx_index.proofs.write.leaf.put_pairs.Given as goal

@@ -1,0 +1,4 @@
+pub mod Sink
+pub mod Writer
+pub mod Output
+pub mod Laws

@@ -1,5 +1,0 @@
-use Rattle.dbf_image.specs.Laws.OfBytes.{all_bytes, both_bytes}
-use Rattle.dbf_image.proofs.sink.wanted.Wanted.append.Goals as goal
-
-pub invariant_of-self : goal.invariant_of-self
-invariant_of-self g c = rw c.of-put.ensures (both_bytes c.self.inside.put.numbers c.args.bytes.now c.self.invariant (all_bytes c.args.bytes.now c.type_inv.bytes))
