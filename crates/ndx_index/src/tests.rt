@@ -3,8 +3,8 @@
 ghost use Rattle.std.specs.Prelude.{◌≡◌, ◌≤◌, length};
 
 use super::*;
-use dbf_fields::{CHARACTER, Field, Schema};
 use byte_io::{ByteSink, MemorySink, WriteFault};
+use dbf_fields::{CHARACTER, Field, Schema};
 use key_expr::{Key, KeyExpr};
 use std::alloc::Global;
 use std::test::*;

@@ -17,11 +17,11 @@ use crate::dbf::header::Header;
 use crate::dbt::blocks::{block_count, block_number_cell};
 use crate::format::DELETED;
 use crate::memo_store::MemoStore;
-use byte_io::{ByteSink, SinkWriter};
 use crate::table::flag::flag_of;
 use crate::table::memo::memo_length;
 use crate::table::offsets::memo_count_of;
 use crate::table::store::Store;
+use byte_io::{ByteSink, SinkWriter};
 use dbf_fields::{Field, MEMO};
 
 // How many memos a field has in a record: one or none.

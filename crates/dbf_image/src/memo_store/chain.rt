@@ -8,8 +8,8 @@ ghost use Rattle.byte_io.specs.Output.{Puts};
 
 use crate::format::BLOCK;
 use crate::memo_store::block::{FreeList, MemoBlock, piece_of};
-use byte_io::{ByteSink, SinkWriter};
 use crate::table::reserved::extend_reserved;
+use byte_io::{ByteSink, SinkWriter};
 use std::alloc::{AllocError, Global};
 
 /// Writes a text into so many of the first free blocks, and answers those that are left.

@@ -9,8 +9,8 @@ ghost use Rattle.ndx_index.specs.Image.{key_record};
 
 use crate::format::PAGE;
 use crate::write::shape::Shape;
-use byteorder::{ByteOrder, LittleEndian};
 use byte_io::{ByteSink, SinkWriter};
+use byteorder::{ByteOrder, LittleEndian};
 
 pub(crate) fn put_u16<S: ByteSink>(out: &mut SinkWriter<'_, S>, number: u16)
     ensures put { Puts out.old (little_bytes 2 number) out.new }
