@@ -36,7 +36,7 @@ pub trait ByteSink {
         ensures within { IfOk result (λ n. n ≤ length bytes.now) }
         ensures some { IfOk result (λ n. 0 < length bytes.now → 0 < n) }
         ensures wrote { IfOk result (λ n. written self.new ≡ grown (written self.old) (take n bytes.now)) }
-        ensures fine { OnOk result (failures self.new ≡ failures self.old) }
+        ensures no_failure { OnOk result (failures self.new ≡ failures self.old) }
         ensures unwritten { OnErr result (written self.new ≡ written self.old) }
         ensures failed { OnErr result (Rises (failures self.old) (failures self.new)) };
 }
@@ -46,7 +46,7 @@ pub trait ByteSink {
 /// An `Err` says that one of the writes failed. Those before it have written a front part of the bytes.
 pub fn write_all<S: ByteSink>(sink: &mut S, bytes: &[u8]) -> Result<(), SinkFault>
     ensures wrote { OnOk result (S.written sink.new ≡ grown (S.written sink.old) bytes.now) }
-    ensures fine { OnOk result (S.failures sink.new ≡ S.failures sink.old) }
+    ensures no_failure { OnOk result (S.failures sink.new ≡ S.failures sink.old) }
     ensures failed { OnErr result (Rises (S.failures sink.old) (S.failures sink.new)) }
     // What the sink held before the call it still holds.
     ensures kept { IsFront (S.written sink.old) (S.written sink.new) }

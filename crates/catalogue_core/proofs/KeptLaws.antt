@@ -37,7 +37,7 @@ pub keep_all : (s : State) (station : ℕ) (x : Option Area) (tables : List Cont
     → ((l : Lock) → IsHeld s.locks.locks l → (1 ≤ l.station) × IsOpenAt (with_area s station x) l.station l.table)
     → IsState (with_tables (with_area s station x) tables)
 keep_all s station x tables ok h len own fits others locks = record {
-  few = subst (λ (n : ℕ). n ≤ MAX_TABLES) (sym len) ok.few;
+  count_bounded = subst (λ (n : ℕ). n ≤ MAX_TABLES) (sym len) ok.count_bounded;
   named = ok.named ∙ sym len;
   lockable = ok.lockable ∙ sym len;
   lockers = ok.lockers ∙ sym (length-set s.stations (station - 1) (put s station x));
@@ -70,7 +70,7 @@ keep_all s station x tables ok h len own fits others locks = record {
 -- other locks, on tables that are open
 pub keep_locks : (s : State) (locks : List Lock) → IsState s → AreApart locks → ((l : Lock) → IsHeld locks l → (1 ≤ l.station) × IsOpenAt s l.station l.table) → IsState (with_held s locks)
 keep_locks s locks ok apart there = record {
-  few = ok.few;
+  count_bounded = ok.count_bounded;
   named = ok.named;
   lockable = ok.lockable;
   lockers = ok.lockers;

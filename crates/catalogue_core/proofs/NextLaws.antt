@@ -45,17 +45,17 @@ pub record IsNext (s : State) (station : ℕ) (end : State × Answer) : Type 0 w
 
 -- nothing changes
 pub same_next : (s : State) (station : ℕ) (answer : Answer) → NoRefusal answer → IsState s → IsNext s station (s, answer)
-same_next s station answer fine ok = record { state = ok; stations = refl; names = refl; shapes = refl; others = λ b _. refl; answer = fine }
+same_next s station answer no_failure ok = record { state = ok; stations = refl; names = refl; shapes = refl; others = λ b _. refl; answer = no_failure }
 
 -- the areas of the station change
 pub put_next : (s : State) (station : ℕ) (st : Station) (answer : Answer) → NoRefusal answer → IsState (with_stations s (slice_set s.stations (station - 1) st)) → IsNext s station (with_stations s (slice_set s.stations (station - 1) st), answer)
-put_next s station st answer fine ok = record {
+put_next s station st answer no_failure ok = record {
   state = ok;
   stations = length-set s.stations (station - 1) st;
   names = refl;
   shapes = refl;
   others = λ b n. get_or-set_other s.stations (station - 1) b st new_station n;
-  answer = fine;
+  answer = no_failure;
 }
 
 -- and then the locks
@@ -82,15 +82,15 @@ current_same s station number a k h =
     ]
 
 keep_current : (s : State) (station number : ℕ) → IsState s → HasStation s station → (1 ≤ number) × (number ≤ MAX_AREAS) → IsState (with_current s station number)
-keep_current s station number ok h fine =
+keep_current s station number ok h no_failure =
     let st : Station = record { current = number; areas = (station_at s station).areas } in
     let same = λ (a k : ℕ). current_same s station number a k h in
     record {
-      few = ok.few;
+      count_bounded = ok.count_bounded;
       named = ok.named;
       lockable = ok.lockable;
       lockers = ok.lockers ∙ sym (length-set s.stations (station - 1) st);
-      each = each_set s.stations (station - 1) st (record { areas = h.each.areas; counted = fine.0; inside = fine.1 }) ok.each;
+      each = each_set s.stations (station - 1) st (record { areas = h.each.areas; counted = no_failure.0; inside = no_failure.1 }) ok.each;
       areas = λ a k x e. ok.areas a k x (sym (same a k) ∙ e);
       once = λ a k l x y n e f. ok.once a k l x y n (sym (same a k) ∙ e) (sym (same a l) ∙ f);
       alone = λ a b k l x y n e f. ok.alone a b k l x y n (sym (same a k) ∙ e) (sym (same b l) ∙ f);

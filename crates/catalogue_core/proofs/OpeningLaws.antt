@@ -125,6 +125,6 @@ module _ (opened : List OpenedTable) (source : TableSource) where
       second_fails _ _ _ _ (name_there opened source.name ∙ new) crowded ∙ ap (λ (n : ℕ). Some (TooManyIndexes n)) numbered
 
   pub table_fits : includes_name (map (λ (t : OpenedTable). t.name) opened) source.name ≡ false → length source.indexes.items ≤ MAX_INDEXES → first_fault (table_tests (map named_table opened) source) ≡ None
-  table_fits new few =
+  table_fits new count_bounded =
       let fits : nat_le (length source.indexes.items) MAX_INDEXES ≡ true = grind (arith, nat_tests) in
       both_pass _ _ _ _ (name_there opened source.name ∙ new) fits

@@ -67,13 +67,13 @@ may_perform {opened} {s} {journal} {h} {station} kept is counted inside =
 -- a catalogue that keeps its journal keeps it with the entry of a command that was performed
 pub kept_push : (opened : Opened) (s : State) (journal : List Entry) (e : Entry) → IsKept opened s journal → HasStation s e.station → e.answer ≡ (step s e.station e.command).1 → length journal < MAX_ENTRIES
     → IsKept opened (step s e.station e.command).0 (journal ++ e ∷ [])
-kept_push opened s journal e kept has answer few =
+kept_push opened s journal e kept has answer count_bounded =
     let next = is_stepped s e.station e.command kept.ok has in
     record {
       replayed = ap (λ (t : State). (step t e.station e.command).0) kept.replayed ∙ sym (after-push (start opened) journal e);
       legal = legal-push (start opened) journal e kept.legal (answer ∙ ap (λ (t : State). (step t e.station e.command).1) kept.replayed);
       of_stations = all-push (IsOfStation opened) journal e kept.of_stations (has.counted, omega (arith, has.inside, kept.stations));
-      few = omega (arith, length-append journal (e ∷ []));
+      count_bounded = omega (arith, length-append journal (e ∷ []));
       ok = next.state;
       stations = next.stations ∙ kept.stations;
       shapes = next.shapes ∙ kept.shapes;
@@ -81,15 +81,15 @@ kept_push opened s journal e kept has answer few =
 
 -- what was just opened is kept by the state at opening
 pub opened_kept : (n : ℕ) (tables : List NamedTable) (s : State) → s ≡ start (opened_as n tables) → length tables ≤ MAX_TABLES → IsKept (opened_as n tables) s []
-opened_kept n tables s at few =
+opened_kept n tables s at count_bounded =
     let opened = opened_as n tables in
     let P : State → Type 0 = IsState in
     record {
       replayed = at;
       legal = tt;
       of_stations = tt;
-      few = omega arith;
-      ok = subst P (sym at) (start_is opened few);
+      count_bounded = omega arith;
+      ok = subst P (sym at) (start_is opened count_bounded);
       stations = ap (λ (t : State). length t.stations) at ∙ length-replicate n new_station;
       shapes = ap (λ (t : State). shapes_of t.tables) at;
     }
@@ -102,7 +102,7 @@ kept_tables opened s journal kept =
 
 -- at most ten tables were opened
 pub few_tables : (opened : Opened) (s : State) (journal : List Entry) → IsKept opened s journal → length opened.tables ≤ MAX_TABLES
-few_tables opened s journal kept = omega (arith, kept_tables opened s journal kept, kept.ok.few)
+few_tables opened s journal kept = omega (arith, kept_tables opened s journal kept, kept.ok.count_bounded)
 
 same_shape_at : (xs ys : List Content) (number : ℕ) → shapes_of xs ≡ shapes_of ys → (table_at xs number).table.schema ≡ (table_at ys number).table.schema
 same_shape_at xs ys number e =

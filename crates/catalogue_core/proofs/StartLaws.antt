@@ -35,10 +35,10 @@ nothing_open : (opened : Opened) (a k : ℕ) → area_at (start opened) a k ≡ 
 nothing_open opened a k = ap (λ (st : Station). slice_index_or st.areas k None) (each_new opened.stations a) ∙ no_area MAX_AREAS k
 
 pub start_is : (opened : Opened) → length opened.tables ≤ MAX_TABLES → IsState (start opened)
-start_is opened few =
+start_is opened count_bounded =
     let P : Station → Type 0 = IsStation in
     record {
-      few = omega (arith, few, length-map opened.tables (λ (t : NamedTable). t.content));
+      count_bounded = omega (arith, count_bounded, length-map opened.tables (λ (t : NamedTable). t.content));
       named = length-map opened.tables (λ (t : NamedTable). t.name) ∙ sym (length-map opened.tables (λ (t : NamedTable). t.content));
       lockable = sym (length-map opened.tables (λ (t : NamedTable). t.content));
       lockers = sym (length-replicate opened.stations new_station);

@@ -12,7 +12,7 @@ pub record IsKept (opened : Opened) (state : State) (journal : List Entry) : Typ
   pub replayed : state ≡ replay opened journal
   pub legal : IsLegal opened journal
   pub of_stations : AreOfStations opened journal
-  pub few : length journal ≤ MAX_ENTRIES
+  pub count_bounded : length journal ≤ MAX_ENTRIES
   pub ok : IsState state
   pub stations : length state.stations ≡ opened.stations
   pub shapes : shapes_of state.tables ≡ shapes_of (map (λ t. t.content) opened.tables)

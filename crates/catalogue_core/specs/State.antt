@@ -146,7 +146,7 @@ pub record IsStation (st : Station) : Type 0 where
 -- has a table open in one area at most; a table that is open exclusively is open at no other station; no
 -- record is locked by two stations; and a station has locks only in tables that it has open
 pub record IsState (s : State) : Type 0 where
-  pub few : length s.tables ≤ MAX_TABLES
+  pub count_bounded : length s.tables ≤ MAX_TABLES
   pub named : length s.names ≡ length s.tables
   pub lockable : s.locks.tables ≡ length s.tables
   pub lockers : s.locks.stations ≡ length s.stations

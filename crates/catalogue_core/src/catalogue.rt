@@ -184,7 +184,7 @@ impl Catalogue {
     /// How many tables were opened: 10 at most.
     pub fn table_count(&self) -> usize
         ensures value { result ≡ length self.now.opened.tables }
-        ensures few { length self.now.opened.tables ≤ MAX_TABLES }
+        ensures count_bounded { length self.now.opened.tables ≤ MAX_TABLES }
     {
         self.opened.len()
     }
@@ -235,7 +235,7 @@ impl Catalogue {
         ensures legal { IsLegal self.now.opened self.now.journal }
         ensures of_stations { AreOfStations self.now.opened self.now.journal }
         ensures state { IsState (state_of self.now) }
-        ensures few { length self.now.journal ≤ MAX_ENTRIES }
+        ensures count_bounded { length self.now.journal ≤ MAX_ENTRIES }
     {
         &self.journal
     }

@@ -93,7 +93,7 @@ pub struct OpenedTable {
 pub(crate) fn check_counts(tables: usize, stations: u32) -> Result<(), OpenFault>
     ensures accepted { OnOk result (first_fault (count_tests tables stations) ≡ None) }
     ensures refused { IfErr result (λ fault. first_fault (count_tests tables stations) ≡ Some fault) }
-    ensures few { OnOk result (tables ≤ MAX_TABLES) }
+    ensures count_bounded { OnOk result (tables ≤ MAX_TABLES) }
 {
     if stations < 1 {
         return Err(OpenFault::NoStation);
@@ -113,11 +113,11 @@ pub(crate) fn open_tables(
     sources: Vec<TableSource>,
     reindex: bool,
 ) -> Result<Vec<OpenedTable>, OpenFault>
-    requires few { length sources.items ≤ MAX_TABLES }
+    requires count_bounded { length sources.items ≤ MAX_TABLES }
     ensures opened { IfOk result (λ tables. TablesOpening reindex [] sources.items (Ok (map named_table tables.items))) }
     ensures refused { IfErr result (λ fault. TablesOpening reindex [] sources.items (Err fault)) }
     ensures named { IfOk result (λ tables. NamesDiffer (map (λ t. t.name) tables.items)) }
-    ensures few { IfOk result (λ tables. length tables.items ≤ MAX_TABLES) }
+    ensures count_bounded { IfOk result (λ tables. length tables.items ≤ MAX_TABLES) }
 {
     let mut opened = Vec::new(alloc);
     for source in sources {
@@ -135,7 +135,7 @@ fn open_table(
     source: TableSource,
     reindex: bool,
 ) -> Result<(), OpenFault>
-    requires few { length opened.old.items < MAX_TABLES }
+    requires count_bounded { length opened.old.items < MAX_TABLES }
     ensures opened { OnOk result (IsNextOpened reindex source (map named_table opened.old.items) (map named_table opened.new.items)) }
     ensures refused { IfErr result (λ fault. TableOpening reindex (map named_table opened.old.items) source (Err fault)) }
     ensures new { OnOk result (includes_name (map (λ t. t.name) opened.old.items) source.name ≡ false) }
@@ -153,11 +153,11 @@ fn open_table(
 
 // Tests the name of the next table, and the number of its indexes. Takes no memory.
 fn check_table(opened: &[OpenedTable], source: &TableSource) -> Result<(), OpenFault>
-    requires few { length opened.now < MAX_TABLES }
+    requires count_bounded { length opened.now < MAX_TABLES }
     ensures accepted { OnOk result (first_fault (table_tests (map named_table opened.now) source.now) ≡ None) }
     ensures refused { IfErr result (λ fault. first_fault (table_tests (map named_table opened.now) source.now) ≡ Some fault) }
     ensures new { OnOk result (includes_name (map (λ t. t.name) opened.now) source.now.name ≡ false) }
-    ensures few { OnOk result (length source.now.indexes.items ≤ MAX_INDEXES) }
+    ensures count_bounded { OnOk result (length source.now.indexes.items ≤ MAX_INDEXES) }
 {
     let number = opened.len() as u32 + 1;
     if is_opened(opened, &source.name) {
@@ -190,7 +190,7 @@ fn open_indexes(
     reindex: bool,
 ) -> Result<Table, OpenFault>
     requires earlier { length earlier.now < MAX_TABLES }
-    requires few { length indexes.items ≤ MAX_INDEXES }
+    requires count_bounded { length indexes.items ≤ MAX_INDEXES }
     ensures opened { IfOk result (λ table. IndexesOpening reindex (map named_table earlier.now) (without_indexes content) indexes.items (Ok table.content)) }
     ensures refused { IfErr result (λ fault. IndexesOpening reindex (map named_table earlier.now) (without_indexes content) indexes.items (Err fault)) }
 {

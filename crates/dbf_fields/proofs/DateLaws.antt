@@ -36,8 +36,8 @@ not_blank cell other is differs = λ (same : cell ≡ blank_date). false≢true 
 -- ---- a date that was written is read again
 
 number_of_few : (k n : ℕ) → n < 10 ^ k → digits_after 0 (last_digits k n) ≡ n
-number_of_few k n small =
-    let none : n / 10 ^ k ≡ 0 = div-eq_of_lt small in
+number_of_few k n bounded =
+    let none : n / 10 ^ k ≡ 0 = div-eq_of_lt bounded in
     rw none at (number_of_last k n)
 
 text_digits : (y m d : ℕ) → list_all is_ascii_digit (date_text y m d) ≡ true
@@ -54,10 +54,10 @@ same_day_again date real =
     let y = date.year in
     let m = date.month in
     let d = date.day in
-    let few = month_days (pos y) m in
+    let count_bounded = month_days (pos y) m in
     let year : year_in (date_text y m d) ≡ y = number_of_few 4 y (omega (arith, real.year_in)) in
     let month : month_in (date_text y m d) ≡ m = number_of_few 2 m (omega (arith, real.month_in)) in
-    let day : day_in (date_text y m d) ≡ d = number_of_few 2 d (omega (arith, real.day_in, few)) in
+    let day : day_in (date_text y m d) ≡ d = number_of_few 2 d (omega (arith, real.day_in, count_bounded)) in
     record {
       real = rw (date_tests (date_text y m d) refl (text_digits y m d), year, month, day) ((day_tests y m d).1 real);
       year = year;

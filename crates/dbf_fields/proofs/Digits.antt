@@ -18,10 +18,10 @@ pub digits_take : (k : ℕ) (ds : List ℕ) → list_all is_ascii_digit ds ≡ t
 digits_take k ds h = grind (arith, nat_tests, list_all-append is_ascii_digit (take k ds) (drop k ds), take-append-drop k ds)
 
 pub next_small : (n a b d : ℕ) → b ≡ a + 1 → n < 10 ^ a → d < 10 → n * 10 + d < 10 ^ b
-next_small n a b d e small digit = rw e (omega (arith, pow_more 10 a))
+next_small n a b d e bounded digit = rw e (omega (arith, pow_more 10 a))
 
 pub below_cap : (v a : ℕ) → v < 10 ^ a → a ≤ 37 → v < 10 ^ 37
-below_cap v a small le =
+below_cap v a bounded le =
     let most : 10 ^ a ≤ 10 ^ 37 = pow-le-pow_right (omega arith) le in
     omega (arith, most)
 
@@ -29,6 +29,6 @@ pub digit_more : (n : ℕ) (ds : List ℕ) (i : ℕ) → i < length ds → digit
 digit_more n ds i lt = rw (take_more ds i 0 lt, fold-append) refl
 
 pub below_64_bits : (v k : ℕ) → v < 10 ^ k → k ≤ 19 → v < 2 ^ 64
-below_64_bits v k small le =
+below_64_bits v k bounded le =
     let most : 10 ^ k ≤ 10 ^ 19 = pow-le-pow_right (omega arith) le in
     omega (arith, most)

@@ -25,7 +25,7 @@ use Rattle.dbf_fields.specs.declared.format.TheConstants.{BLANK}
 -- ---- digits
 
 glyph_digit : (d : ℕ) → d < 10 → is_ascii_digit (48 + d) ≡ true
-glyph_digit d small = rw (le-leb 48 (48 + d) (omega arith), le-leb (48 + d) 57 (omega arith)) refl
+glyph_digit d bounded = rw (le-leb 48 (48 + d) (omega arith), le-leb (48 + d) 57 (omega arith)) refl
 
 glyphs_digits : (ds : List ℕ) → AllByRecursion (λ d. d < 10) ds → list_all is_ascii_digit (map (λ d. 48 + d) ds) ≡ true
 glyphs_digits [] h = refl

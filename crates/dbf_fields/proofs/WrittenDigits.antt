@@ -40,8 +40,8 @@ numeral_before (suc p) rest digits some room le =
     rw (e, drop-set digits p (48 + rest % 10) (omega arith), more, step, map-append, append_assoc) refl
 
 pub small_before : (start rest : ℕ) → rest < 10 ^ start → 0 < rest → (0 < start) × (rest / 10 < 10 ^ (start - 1))
-small_before zero rest small some = absurd (omega arith)
-small_before (suc p) rest small some =
+small_before zero rest bounded some = absurd (omega arith)
+small_before (suc p) rest bounded some =
     let e : suc p - 1 ≡ p = omega arith in
     (omega arith, rw e (omega (arith, pow-suc 10 p)))
 

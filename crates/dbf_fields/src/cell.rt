@@ -5,13 +5,13 @@ ghost use Rattle.dbf_fields.specs.Field.{has_width};
 ghost use Rattle.dbf_fields.specs.Cell.{stored, IsNumberAgain, IsTruthAgain, IsDateAgain};
 ghost use Rattle.dbf_fields.specs.Padding.{padded as padded_text};
 
-use byte_io::Bytes;
 use crate::date::date_text;
 use crate::field::Field;
 use crate::format::{BLANK, CHARACTER, DATE, LOGICAL, NUMBER};
 use crate::literal::Literal;
 use crate::logical::truth_text;
 use crate::number_text::number_cell;
+use byte_io::Bytes;
 use std::alloc::{AllocError, Global};
 use thiserror::Error;
 

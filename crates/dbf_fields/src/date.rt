@@ -24,9 +24,9 @@ pub enum DateCell {
 // The number of a few digits.
 fn small_number(digits: &[u8]) -> u16
     requires digits { list_all is_ascii_digit digits.now ≡ true }
-    requires few { length digits.now < 5 }
+    requires count_bounded { length digits.now < 5 }
     ensures value { result ≡ digits_after 0 digits.now }
-    ensures small { result < 10 ^ length digits.now }
+    ensures bounded { result < 10 ^ length digits.now }
 {
     number_of_digits(digits) as u16
 }

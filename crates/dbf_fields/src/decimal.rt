@@ -23,10 +23,10 @@ pub(crate) fn are_zeros(text: &[u8]) -> bool
 // The number with these digits after it. `most` is how many digits it has at most.
 pub(crate) fn push_digits(number: u128, digits: &[u8], most: u32) -> u128
     requires digits { list_all is_ascii_digit digits.now ≡ true }
-    requires small { number < 10 ^ most }
+    requires bounded { number < 10 ^ most }
     requires room { most + length digits.now ≤ 37 }
     ensures value { result ≡ digits_after number digits.now }
-    ensures small { result < 10 ^ (most + length digits.now) }
+    ensures bounded { result < 10 ^ (most + length digits.now) }
 {
     let mut value = number;
     for digit in digits {
@@ -39,9 +39,9 @@ pub(crate) fn push_digits(number: u128, digits: &[u8], most: u32) -> u128
 #[tactic(auto, using(crate::proofs::Digits::below_64_bits))]
 pub fn number_of_digits(digits: &[u8]) -> u64
     requires digits { list_all is_ascii_digit digits.now ≡ true }
-    requires few { length digits.now ≤ 19 }
+    requires count_bounded { length digits.now ≤ 19 }
     ensures value { result ≡ digits_after 0 digits.now }
-    ensures small { result < 10 ^ length digits.now }
+    ensures bounded { result < 10 ^ length digits.now }
 {
     push_digits(0, digits, 0) as u64
 }

@@ -5,11 +5,11 @@ ghost use Rattle.std.specs.List.{list_all, list_any};
 ghost use Rattle.std.specs.Char.{to_ascii_uppercase};
 ghost use Rattle.dbf_fields.specs.Name.{is_name_char};
 
-use byte_io::Bytes;
 use crate::format::{
     CHARACTER, DATE, DATE_WIDTH, LOGICAL, MAX_CHARACTER_WIDTH, MAX_NUMBER_WIDTH, MEMO, MEMO_WIDTH,
     NUMBER,
 };
+use byte_io::Bytes;
 use std::alloc::{AllocError, Global};
 
 /// A field as its descriptor of 32 bytes tells it. `Schema::new` judges it.

@@ -2,8 +2,8 @@
 
 ghost use Rattle.std.specs.Prelude.{◌≡◌, ◌↔◌, IsTrue, IfOk};
 
-use byte_io::Bytes;
 use crate::day::Day;
+use byte_io::Bytes;
 use std::alloc::{AllocError, Global};
 
 /// A value as a command gives it.

@@ -29,10 +29,10 @@ pub fn number_parts(text: &[u8]) -> (&[u8], &[u8])
 // The number without its sign, in a text of so many decimals.
 #[tactic(auto, unfolding(crate::specs::Number::is_decimal, crate::specs::Number::scaled))]
 fn magnitude_of(text: &[u8], decimals: u8) -> Option<u128>
-    requires few { length text.now ≤ 19 }
+    requires count_bounded { length text.now ≤ 19 }
     requires decimals { decimals < 19 }
     ensures value { result ≡ magnitude text.now decimals }
-    ensures small { IfSome result (λ n. n < 10 ^ 37) }
+    ensures bounded { IfSome result (λ n. n < 10 ^ 37) }
 {
     let decimals = usize::from(decimals);
     let (whole, fraction) = number_parts(text);
@@ -62,7 +62,7 @@ fn magnitude_of(text: &[u8], decimals: u8) -> Option<u128>
 /// after the point past the decimals are zeros. `None` for every other cell. Takes no memory.
 #[tactic(auto, unfolding(crate::specs::Number::number))]
 pub fn read_number(cell: &[u8], decimals: u8) -> Option<i128>
-    requires few { length cell.now ≤ 19 }
+    requires count_bounded { length cell.now ≤ 19 }
     requires decimals { decimals < 19 }
     ensures value { result ≡ number cell.now decimals }
 {

@@ -4,10 +4,10 @@ ghost use Rattle.std.specs.Prelude.{◌≡◌, ◌+◌, ◌-◌, ◌/◌, ◌<�
 ghost use Rattle.dbf_fields.specs.Digits.{last_digits, numeral};
 ghost use Rattle.dbf_fields.specs.NumberText.{sign as sign_of, point as point_before, number_text as text_of, is_exact as exact, right_justified as justified, number_cell as cell_of};
 
-use byte_io::Bytes;
 use crate::cell::CellFault;
 use crate::decimal::are_zeros;
 use crate::format::{BLANK, ZERO_DIGIT};
+use byte_io::Bytes;
 use std::alloc::{AllocError, Global};
 use std::marker::Model;
 

@@ -185,7 +185,7 @@ impl Schema {
     pub fn fields(&self) -> &[Field]
         ensures fields { result.now ≡ self.now }
         ensures each { IsSchema self.now }
-        ensures few { length self.now ≤ 128 }
+        ensures count_bounded { length self.now ≤ 128 }
     {
         self.fields.as_slice()
     }
@@ -220,7 +220,7 @@ impl Schema {
         requires inside { index < length self.now }
         ensures value { result ≡ offset_of self.now index }
         ensures within { result + width_of self.now index ≤ 1 + widths self.now }
-        ensures small { result ≤ 4001 }
+        ensures bounded { result ≤ 4001 }
     {
         usize::from(self.offsets[index])
     }
@@ -229,7 +229,7 @@ impl Schema {
     pub fn width(&self, index: usize) -> usize
         requires inside { index < length self.now }
         ensures value { result ≡ width_of self.now index }
-        ensures small { result ≤ 255 }
+        ensures bounded { result ≤ 255 }
     {
         usize::from(self.fields[index].width)
     }

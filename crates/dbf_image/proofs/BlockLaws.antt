@@ -123,11 +123,11 @@ length-cells_memos (f ∷ fs) (c ∷ cs) = omega (arith, length-append (cell_mem
 pub block_put : (text : List ℕ) (n fill : ℕ) → n ≡ length text → n ≢ 0 → fill ≡ (n + (BLOCK + 1)) / BLOCK * BLOCK - (n + 2) → fill ≤ BLOCK
     → (text ++ (MEMO_END ∷ MEMO_END ∷ [])) ++ take fill (replicate BLOCK 0) ≡ block_bytes text
 unfolding block_bytes blocks_of
-block_put [] n fill len some is small = absurd (some len)
-block_put (b ∷ bs) n fill len some is small =
+block_put [] n fill len some is bounded = absurd (some len)
+block_put (b ∷ bs) n fill len some is bounded =
     let given : fill ≡ (length (b ∷ bs) + (BLOCK + 1)) / BLOCK * BLOCK - (length (b ∷ bs) + 2) = rw len at is in
     let k : fill ≡ BLOCK * ((length (b ∷ bs) + (BLOCK + 1)) / BLOCK) - (length (b ∷ bs) + 2) = omega (arith, given) in
-    rw (take-replicate {X = ℕ} fill BLOCK 0 small, k) (append_assoc (b ∷ bs) (MEMO_END ∷ MEMO_END ∷ []) (replicate (BLOCK * ((length (b ∷ bs) + (BLOCK + 1)) / BLOCK) - (length (b ∷ bs) + 2)) 0))
+    rw (take-replicate {X = ℕ} fill BLOCK 0 bounded, k) (append_assoc (b ∷ bs) (MEMO_END ∷ MEMO_END ∷ []) (replicate (BLOCK * ((length (b ∷ bs) + (BLOCK + 1)) / BLOCK) - (length (b ∷ bs) + 2)) 0))
 
 pub block_none : (text : List ℕ) → length text ≡ 0 → block_bytes text ≡ []
 unfolding block_bytes

@@ -60,7 +60,7 @@ pub record Passes (bytes : List ℕ) (dbt : Option (List ℕ)) : Type 0 where
   pub ended : is_some (field_count bytes) ≡ true
   pub accepted : is_none (schemas.refusal (fields_of bytes)) ≡ true
   pub wide : record_length bytes ≡ 1 + widths (schema_of bytes)
-  pub few : header_record_count bytes ≤ MAX_RECORDS
+  pub count_bounded : header_record_count bytes ≤ MAX_RECORDS
   pub whole : header_length bytes + header_record_count bytes * record_length bytes ≤ length bytes
   pub memos : first_fault (memos_tests bytes dbt) ≡ None
 
@@ -85,7 +85,7 @@ passes_all bytes dbt h =
       ended = d.0;
       accepted = e.0;
       wide = eqb-true _ _ f.0;
-      few = leb-true _ _ g.0;
+      count_bounded = leb-true _ _ g.0;
       whole = leb-true _ _ i.0;
       memos = r.1;
     }
@@ -96,7 +96,7 @@ from_passes bytes dbt p =
     let a = le-leb _ _ p.long in
     let c = le-leb _ _ p.inside in
     let f = eq-eqb _ _ p.wide in
-    let g = le-leb _ _ p.few in
+    let g = le-leb _ _ p.count_bounded in
     let i = le-leb _ _ p.whole in
     passes _ _ _ a (passes _ _ _ p.version (passes _ _ _ c (passes _ _ _ p.ended (passes _ _ _ p.accepted (passes _ _ _ f (passes _ _ _ g (passes _ _ _ i p.memos)))))))
 
@@ -179,7 +179,7 @@ is_dbf bytes dbt h =
       accepted = none_is _ p.accepted;
       schema = refl;
       wide = p.wide;
-      few = p.few;
+      count_bounded = p.count_bounded;
       whole = p.whole;
       memos = m.0;
       rows = m.1;
@@ -206,7 +206,7 @@ dbf_is bytes dbt table d =
         ended = rw counted refl;
         accepted = none;
         wide = rw schema d.wide;
-        few = d.few;
+        count_bounded = d.count_bounded;
         whole = d.whole;
         memos = m.0;
       }),

@@ -267,9 +267,9 @@ rows_memo fields n i j bytes text memos d many lt inside kind =
 
 -- a records of one more record
 pub records_push : (fields : List Field) (n : ℕ) (bytes row : List ℕ) → AreRecords fields n bytes → length row ≡ 1 + widths fields → n < MAX_RECORDS → AreRecords fields (n + 1) (bytes ++ row)
-records_push fields n bytes row records long few =
+records_push fields n bytes row records long count_bounded =
     let more : (n + 1) * (1 + widths fields) ≡ n * (1 + widths fields) + (1 + widths fields) = omega arith in
-    record { whole = omega (arith, length-append bytes row, records.whole); few = omega arith }
+    record { whole = omega (arith, length-append bytes row, records.whole); count_bounded = omega arith }
 
 -- a records that is written over at one offset
 pub records_put : (fields : List Field) (n a : ℕ) (bytes ys : List ℕ) → AreRecords fields n bytes → a + length ys ≤ length bytes → AreRecords fields n (put_mid a (length ys) bytes ys)
@@ -278,7 +278,7 @@ records_put fields n a bytes ys records room =
     let rest : List ℕ = drop (length ys) (drop a bytes) in
     let whole : length (put_mid a (length ys) bytes ys) ≡ length bytes =
     omega (arith, front, length-append (take a bytes) (ys ++ rest), length-append ys rest, length-drop (length ys) (drop a bytes), length-drop a bytes) in
-    record { whole = whole ∙ records.whole; few = records.few }
+    record { whole = whole ∙ records.whole; count_bounded = records.count_bounded }
 
 -- ---- a flag that is replaced
 
@@ -318,4 +318,4 @@ rows_flag fields n i bytes memos deleted d records lt =
     )
 
 pub records_set : (fields : List Field) (n k b : ℕ) (bytes : List ℕ) → AreRecords fields n bytes → AreRecords fields n (set bytes k b)
-records_set fields n k b bytes records = record { whole = length-set bytes k b ∙ records.whole; few = records.few }
+records_set fields n k b bytes records = record { whole = length-set bytes k b ∙ records.whole; count_bounded = records.count_bounded }

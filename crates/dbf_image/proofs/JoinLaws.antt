@@ -88,4 +88,4 @@ pub memos_each : (fields : List Field) → IsSchema fields → memo_count fields
 memos_each fields schema = omega (arith, memo_count_le fields, schema_count fields schema)
 
 pub memos_all : (fields : List Field) (count : ℕ) → IsSchema fields → count ≤ MAX_RECORDS → count * memo_count fields ≤ 128000000000
-memos_all fields count schema few = omega (arith, mul-le-mul_left count (memos_each fields schema))
+memos_all fields count schema count_bounded = omega (arith, mul-le-mul_left count (memos_each fields schema))

@@ -46,7 +46,7 @@ pub counts_more : (k number count : ℕ) (bs : List MemoBlock) (head at counted 
 counts_more k number count bs head at counted more c e fits = record {
   chain = c.chain.3;
   whole = omega (arith, c.whole, e, length-append (block_at bs at).piece.items (text_from k bs (block_at bs at).next));
-  small = omega (arith, c.small, fits);
+  bounded = omega (arith, c.bounded, fits);
 }
 
 -- the next piece is a part of the whole text

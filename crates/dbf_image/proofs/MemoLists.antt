@@ -69,20 +69,20 @@ texts_push texts numbers k = map-append (text_of texts) numbers (replicate k 0) 
 -- a record with memos of its own
 pub store_add : (fields : List Field) (n : ℕ) (bytes row : List ℕ) (texts : Texts) (numbers own : List ℕ) → IsStore fields n bytes texts numbers → length row ≡ 1 + widths fields → length own ≡ memo_count fields → AllByRecursion (IsMemo texts) own → n < MAX_RECORDS
     → IsStore fields (n + 1) (bytes ++ row) texts (numbers ++ own)
-store_add fields n bytes row texts numbers own store long many each few =
+store_add fields n bytes row texts numbers own store long many each count_bounded =
     let k : ℕ = memo_count fields in
     let wide : (n + 1) * k ≡ n * k + k = omega arith in
     record {
-      records = records_push fields n bytes row store.records long few;
+      records = records_push fields n bytes row store.records long count_bounded;
       many = omega (arith, length-append numbers own, store.many);
       each = all_append (IsMemo texts) numbers own store.each each;
     }
 
 pub store_push : (fields : List Field) (n : ℕ) (bytes row : List ℕ) (texts : Texts) (numbers : List ℕ) → IsStore fields n bytes texts numbers → length row ≡ 1 + widths fields → n < MAX_RECORDS
     → IsStore fields (n + 1) (bytes ++ row) texts (numbers ++ replicate (memo_count fields) 0)
-store_push fields n bytes row texts numbers store long few =
+store_push fields n bytes row texts numbers store long count_bounded =
     let k : ℕ = memo_count fields in
-    store_add fields n bytes row texts numbers (replicate k 0) store long (length-replicate k 0) (all_replicate (IsMemo texts) k 0 (none_fits texts)) few
+    store_add fields n bytes row texts numbers (replicate k 0) store long (length-replicate k 0) (all_replicate (IsMemo texts) k 0 (none_fits texts)) count_bounded
 
 -- ---- the texts of all other numbers are dropped
 

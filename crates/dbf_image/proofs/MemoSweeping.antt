@@ -20,7 +20,7 @@ pub sweeps_keep : (n : ℕ) (xs ys : List MemoBlock) (free : FreeList) → n < l
 sweeps_keep n xs ys free lt kept s = record {
   same_length = s.same_length;
   chain = subst (λ l. IsChain 0 free.count l free.head) (sym (take_more ys n no_block lt)) (still_chain free.count (take n ys) free.head (block_at ys n) s.chain);
-  few = omega (arith, s.few);
+  count_bounded = omega (arith, s.count_bounded);
   counted = omega (arith, s.counted, ap (sum_by free_one) (take_more ys n no_block lt), sum_by_push free_one (take n ys) (block_at ys n), none_free (block_at ys n) (kept_owned ys (block_at ys n).owner kept));
   marks = s.marks;
   stay = s.stay;
@@ -41,7 +41,7 @@ sweeps_free n xs ys free b lt unkept own count next mark s =
       same_length = length-set ys n b ∙ s.same_length;
       chain = subst (λ x. IsChain 0 (free.count + 1) (take (n + 1) (set ys n b)) x) long
           (pushed free.count (take n ys) (take (n + 1) (set ys n b)) free.head b (take_more_set ys n b lt) own count next s.chain);
-      few = omega (arith, s.few);
+      count_bounded = omega (arith, s.count_bounded);
       counted = omega (arith, s.counted, ap (sum_by free_one) (take_more_set ys n b lt), sum_by_push free_one (take n ys) b, one_free b own);
       marks = λ j. ⊎_elim
           (λ e. ap (λ x. (block_at (set ys n b) x).kept) e ∙ ap (λ (x : MemoBlock). x.kept) at ∙ mark ∙ ap (λ x. (block_at ys x).kept) (sym e) ∙ s.marks j)

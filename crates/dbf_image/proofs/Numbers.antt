@@ -45,9 +45,9 @@ kept_last digits d h =
 -- one more digit
 one_more : (n : ℕ) (digits : List ℕ) → n ≢ 0 → AreDigits (n / 10) digits → AreDigits n (digits ++ (ZERO_DIGIT + n % 10) ∷ [])
 one_more n digits some h =
-    let small : n % 10 < 10 = omega arith in
+    let bounded : n % 10 < 10 = omega arith in
     let split : n / 10 * 10 + n % 10 ≡ n = omega arith in
-    let digit : is_ascii_digit (ZERO_DIGIT + n % 10) ≡ true = is_digit (n % 10) small in
+    let digit : is_ascii_digit (ZERO_DIGIT + n % 10) ≡ true = is_digit (n % 10) bounded in
     record {
       none = λ e. absurd (some e);
       kept = kept_last digits (ZERO_DIGIT + n % 10) (λ e. absurd (omega (arith, e)));

@@ -77,7 +77,7 @@ kept-next fields n i bytes texts numbers lt =
 
 -- those that are kept stand in front, and the records from the index on where they stood
 pub record Packs (fields : List Field) (n i kept : ℕ) (old now olds nows : List ℕ) : Type 0 where
-  pub few : kept ≤ i
+  pub count_bounded : kept ≤ i
   pub len : length now ≡ length old
   pub many : length nows ≡ length olds
   pub left : drop (i * (1 + widths fields)) now ≡ drop (i * (1 + widths fields)) old
@@ -92,7 +92,7 @@ packs_none fields n old olds =
     let k : 0 * memo_count fields ≡ 0 = omega arith in
     let all : n - 0 ≡ n = omega arith in
     record {
-      few = omega arith;
+      count_bounded = omega arith;
       len = refl;
       many = refl;
       left = refl;
@@ -105,15 +105,15 @@ packs_none fields n old olds =
 front_records : (fields : List Field) (n i kept : ℕ) (old now olds nows : List ℕ) → i ≤ n → AreRecords fields n old → Packs fields n i kept old now olds nows → AreRecords fields kept (take (kept * (1 + widths fields)) now)
 front_records fields n i kept old now olds nows le records packs =
     let size : ℕ = 1 + widths fields in
-    let inside : kept * size ≤ n * size = times_le kept n size (omega (arith, packs.few)) in
+    let inside : kept * size ≤ n * size = times_le kept n size (omega (arith, packs.count_bounded)) in
     record {
       whole = length-take-le (kept * size) now (omega (arith, packs.len, records.whole));
-      few = omega (arith, packs.few, records.few);
+      count_bounded = omega (arith, packs.count_bounded, records.count_bounded);
     }
 
 front_many : (fields : List Field) (n i kept : ℕ) (old now olds nows : List ℕ) → i ≤ n → length olds ≡ n * memo_count fields → Packs fields n i kept old now olds nows → length (take (kept * memo_count fields) nows) ≡ kept * memo_count fields
 front_many fields n i kept old now olds nows le long packs =
-    let inside : kept * memo_count fields ≤ n * memo_count fields = times_le kept n (memo_count fields) (omega (arith, packs.few)) in
+    let inside : kept * memo_count fields ≤ n * memo_count fields = times_le kept n (memo_count fields) (omega (arith, packs.count_bounded)) in
     length-take-le (kept * memo_count fields) nows (omega (arith, packs.many))
 
 -- at the end all are packed
@@ -140,7 +140,7 @@ pub packs_marked : (fields : List Field) (n i kept : ℕ) (old now olds nows : L
 packs_marked fields n i kept old now olds nows lt marked packs =
     let flag = flag_there fields n i kept old now olds nows packs ∙ marked in
     record {
-      few = omega (arith, packs.few);
+      count_bounded = omega (arith, packs.count_bounded);
       len = packs.len;
       many = packs.many;
       left = left_next i (1 + widths fields) now old packs.left;
@@ -176,7 +176,7 @@ packs_moved fields n i kept old now new olds nows news lt records long unmarked 
     let whole = front_records fields n i kept old now olds nows (omega arith) records packs in
     let many = front_many fields n i kept old now olds nows (omega arith) long packs in
     record {
-      few = omega (arith, packs.few);
+      count_bounded = omega (arith, packs.count_bounded);
       len = moved.len ∙ packs.len;
       many = memos.len ∙ packs.many;
       left = (rw i_size moved.rest) ∙ left_next i size now old packs.left;

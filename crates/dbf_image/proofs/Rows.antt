@@ -81,6 +81,6 @@ pub store_table : (fields : List Field) (n : ℕ) (bytes : List ℕ) (texts : Te
     → IsTable (record { schema = fields; rows = rows_of fields n bytes (texts_of texts numbers) })
 store_table fields n bytes texts numbers schema store = record {
   fields = schema;
-  few = rw (length-rows_of fields n bytes (texts_of texts numbers)) store.records.few;
+  count_bounded = rw (length-rows_of fields n bytes (texts_of texts numbers)) store.records.count_bounded;
   fit = rows_fit fields (1 + widths fields) n bytes (texts_of texts numbers) refl (omega (arith, store.records.whole)) (store_texts texts numbers store.each);
 }

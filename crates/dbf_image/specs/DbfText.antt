@@ -47,7 +47,7 @@ EncodesRows dbt fields (p ∷ ps) (r ∷ rs) = EncodesRow dbt fields p r × Enco
 -- the bytes are those of so many records and no more
 pub record AreRecords (fields : List Field) (count : ℕ) (bytes : List ℕ) : Type 0 where
   pub whole : length bytes ≡ count * (1 + widths fields)
-  pub few : count ≤ MAX_RECORDS
+  pub count_bounded : count ≤ MAX_RECORDS
 
 -- the bytes are a file of the table, with a file of its memos beside it where some field is a memo
 pub record IsDbf (bytes : List ℕ) (dbt : Option (List ℕ)) (table : Table) : Type 0 where
@@ -63,7 +63,7 @@ pub record IsDbf (bytes : List ℕ) (dbt : Option (List ℕ)) (table : Table) : 
   pub schema : table.schema ≡ map folded (map field_of (chunks DESCRIPTOR field_count (drop HEADER bytes)))
   pub wide : record_length bytes ≡ 1 + widths table.schema
   -- the records stand after the header, one after the other
-  pub few : header_record_count bytes ≤ MAX_RECORDS
+  pub count_bounded : header_record_count bytes ≤ MAX_RECORDS
   pub whole : header_length bytes + header_record_count bytes * record_length bytes ≤ length bytes
   pub memos : has_memos table.schema ≡ true → is_some dbt ≡ true
   pub rows : EncodesRows (unwrap_or dbt []) table.schema (chunks (record_length bytes) (header_record_count bytes) (drop (header_length bytes) bytes)) table.rows

@@ -77,4 +77,4 @@ pub record Gathers (number count : ℕ) (bs : List MemoBlock) (head left at : �
 pub record Counts (number count : ℕ) (bs : List MemoBlock) (head left at counted : ℕ) : Type 0 where
   pub chain : IsChain number left bs at
   pub whole : counted + length (text_from left bs at) ≡ length (text_from count bs head)
-  pub small : counted + BLOCK * left ≤ BLOCK * 2 ^ 32
+  pub bounded : counted + BLOCK * left ≤ BLOCK * 2 ^ 32

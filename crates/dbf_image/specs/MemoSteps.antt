@@ -44,7 +44,7 @@ pub record Marks (xs ys : List MemoBlock) (numbers : List ℕ) : Type 0 where
 pub record Sweeps (n : ℕ) (xs ys : List MemoBlock) (free : FreeList) : Type 0 where
   pub same_length : length ys ≡ length xs
   pub chain : IsChain 0 free.count (take n ys) free.head
-  pub few : free.count ≤ n
+  pub count_bounded : free.count ≤ n
   pub counted : free.count ≡ sum_by free_one (take n ys)
   pub marks : (j : ℕ) → (block_at ys j).kept ≡ (block_at xs j).kept
   pub stay : (j : ℕ) → is_kept xs (block_at xs j).owner ≡ true → block_at ys j ≡ block_at xs j

@@ -58,6 +58,6 @@ pub record IsMemoStore (x : Inside) : Type 0 where
   pub all_free : x.free.count ≡ blocks_owned 0 x.blocks.items
   pub held : AreHeld x.blocks.items
   pub counted : AreCounted x.blocks.items
-  pub few : x.free.count ≤ length x.blocks.items
+  pub count_bounded : x.free.count ≤ length x.blocks.items
   pub room : length x.blocks.items + x.ready ≤ vec_capacity x.blocks
   pub numbers : length x.blocks.items + x.ready < 2 ^ 32

@@ -41,7 +41,7 @@ IsRow fields row = AreCells fields row.cells
 -- what is true of every table
 pub record IsTable (table : Table) : Type 0 where
   pub fields : IsSchema table.schema
-  pub few : length table.rows ≤ MAX_RECORDS
+  pub count_bounded : length table.rows ≤ MAX_RECORDS
   pub fit : AllByRecursion (IsRow table.schema) table.rows
 
 -- the letter of a field's kind

@@ -53,7 +53,7 @@ pub record IsStrKept (fields : List Field) (i : ℕ) (n d : Option ℕ) (f : Fie
   pub there : i < length fields
   pub narrow : width_of fields i ≤ MAX_NUMBER_WIDTH
   pub fits : width_of fields i ≤ length_given n
-  pub few : f.decimals < MAX_NUMBER_WIDTH
+  pub count_bounded : f.decimals < MAX_NUMBER_WIDTH
   pub same : decimals_given d ≡ f.decimals
   pub short : length_given n ≤ MAX_KEY_BYTES
 
@@ -75,7 +75,7 @@ str_kept fields i n d default s e =
       there = there;
       narrow = omega (arith, width_at fields i default there, wide.0);
       fits = let wide_enough : f.width ≤ length_given n = grind (arith, nat_tests, prints) in omega (arith, width_at fields i default there, wide_enough);
-      few = wide.1;
+      count_bounded = wide.1;
       same = grind (arith, nat_tests, prints);
       short = grind (arith, nat_tests, prints);
     }

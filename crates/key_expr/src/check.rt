@@ -28,7 +28,7 @@ fn width_of(fields: &[Field], index: usize) -> u8
 /// The length that a STR prints: `STR_LENGTH` where none is given.
 pub(crate) fn length_given(length: Option<u16>) -> usize
     ensures value { result ≡ length_of_given length }
-    ensures small { result < 65536 }
+    ensures bounded { result < 65536 }
 {
     match length {
         Some(length) => usize::from(length),

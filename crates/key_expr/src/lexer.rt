@@ -79,7 +79,7 @@ fn token_length(text: &[u8]) -> usize
 // What a digit stands for.
 fn digit(byte: u8) -> u16
     ensures value { result ≡ byte - 48 }
-    ensures small { result ≤ 207 }
+    ensures bounded { result ≤ 207 }
 {
     u16::from(byte.saturating_sub(b'0'))
 }

@@ -37,7 +37,7 @@ fn fit(width: usize, text: &[u8]) -> Key
 /// What the number of a cell prints with so many decimals in so many bytes.
 pub(crate) fn str_text(width: usize, decimals: u8, cell: &[u8]) -> Key
     requires short { width ≤ MAX_KEY_BYTES }
-    requires few { length cell.now ≤ 19 }
+    requires count_bounded { length cell.now ≤ 19 }
     requires decimals { decimals < 19 }
     ensures value { result ≡ str_of_number width decimals cell.now }
 {

@@ -159,8 +159,8 @@ pub table_slots : (n t tables : ℕ) (slots : List (Option ℕ)) → 1 ≤ t →
 table_slots zero t tables slots h i e =
     let none : length slots ≡ 0 = omega arith in
     let row = slice_range slots ((t - 1) * 0) ((t - 1) * 0 + 0) in
-    let few : length row ≡ 0 = omega (arith, length-take ((t - 1) * 0 + 0 - (t - 1) * 0) (drop ((t - 1) * 0) slots), length-drop ((t - 1) * 0) slots) in
-    ap (λ (xs : List (Option ℕ)). in_table (locks_of 0 xs) t) (nil_from_length slots none) ∙ sym (ap (λ (xs : List (Option ℕ)). row_from t 1 (map slot_records xs)) (nil_from_length row few))
+    let count_bounded : length row ≡ 0 = omega (arith, length-take ((t - 1) * 0 + 0 - (t - 1) * 0) (drop ((t - 1) * 0) slots), length-drop ((t - 1) * 0) slots) in
+    ap (λ (xs : List (Option ℕ)). in_table (locks_of 0 xs) t) (nil_from_length slots none) ∙ sym (ap (λ (xs : List (Option ℕ)). row_from t 1 (map slot_records xs)) (nil_from_length row count_bounded))
 table_slots (suc m) t tables slots h i e =
     let n = suc m in
     let start = (t - 1) * n in

@@ -306,7 +306,7 @@ fn is_on(slot: Option<u32>, number: u32) -> bool
 // How many records a slot has locked: one at most.
 fn record_count(slot: Option<u32>) -> u32
     ensures value { result ≡ length (filter (λ n. nat_lt 0 n) (slot_records slot)) }
-    ensures few { result ≤ 1 }
+    ensures count_bounded { result ≤ 1 }
 {
     match slot {
         None | Some(WHOLE_TABLE) => 0,

@@ -124,7 +124,7 @@ under_last d a b p ps m can n done =
     record {
       extends = record {
         longer = le;
-        few = done.extends.few;
+        count_bounded = done.extends.count_bounded;
         frame = λ r old h. done.extends.frame r old (omega (arith, h, total_at (λ x. uses d a x r) links m lm));
       };
       pairs = ap (λ (g : Page). joined (map (λ x. pairs_under d b x) g.links)) here_same ∙ ap joined maps
@@ -176,7 +176,7 @@ under_more d a b b1 p ps pair q is can done e =
     record {
       extends = record {
         longer = omega (arith, le, n);
-        few = λ h. omega (arith, done.few h, n);
+        count_bounded = λ h. omega (arith, done.count_bounded h, n);
         frame = λ r old h. aside r (λ i. omega (arith, here_itself p, subst (λ x. uses (suc d) a p x ≡ 0) i h)) ∙ done.frame r old;
       };
       pairs = ap (λ (g : Page). joined (map (λ x. pairs_under d b1 x) g.links)) at ∙ ap joined maps ∙ joined-end (map (λ x. pairs_under d a x) links) ps;
@@ -200,7 +200,7 @@ under_more d a b b1 p ps pair q is can done e =
 -- the pairs are under a new page q, which has a new page above it
 beside_more : (d : ℕ) (a b b1 : List Page) (ps : List Pair) (q s : ℕ) → AppendsBeside d a b ps q → s ≡ length b → length b1 < 2 ^ 32
     → b1 ≡ b ++ record { pairs = []; links = q ∷ [] } ∷ [] → AppendsBeside (suc d) a b1 ps s
-beside_more d a b b1 ps q s done top few e =
+beside_more d a b b1 ps q s done top count_bounded e =
     let one : Page = record { pairs = []; links = q ∷ [] } in
     let n : length b1 ≡ length b + 1 = ap length e ∙ length-append b (one ∷ []) in
     let at : page_in b1 s ≡ one = ap (λ (xs : List Page). page_in xs s) e ∙ get_or_at b one [] no_page s (sym top) in
@@ -210,7 +210,7 @@ beside_more d a b b1 ps q s done top few e =
     ap (λ (g : Page). here s r + total (λ x. uses d b1 x r) g.links) at ∙ omega (arith, new.uses_stay r) in
     record {
       longer = omega (arith, done.longer, n);
-      few = λ h. few;
+      count_bounded = λ h. count_bounded;
       frame = λ r lt. old r (omega (arith, lt, done.longer)) ∙ done.frame r lt;
       pairs = ap (λ (g : Page). joined (map (λ x. pairs_under d b1 x) g.links)) at ∙ append-nil (pairs_under d b1 q) ∙ new.pairs ∙ done.pairs;
       tree = (
@@ -260,7 +260,7 @@ grown_under d a b t ps levels plain done =
       apart = λ r. subst (λ k. uses_of_levels k b t.page r ≤ 1) (sym levels) (done.apart r);
       once = λ r lt. subst (λ k. uses_of_levels k b t.page r ≡ 1) (sym levels) (once r lt);
       deep = omega (arith, plain.deep, done.extends.longer);
-      few = done.extends.few plain.few;
+      count_bounded = done.extends.count_bounded plain.count_bounded;
     }
 
 pub record AppendsIn (a b : List Page) (t u : Root) (ps : List Pair) : Type 0 where
@@ -317,7 +317,7 @@ over_both d a b b1 t u ps pair q is levels plain can done over =
         apart = λ r. subst (λ k. uses_of_levels k b1 s r ≤ 1) (sym more) (apart r);
         once = λ r lt. subst (λ k. uses_of_levels k b1 s r ≡ 1) (sym more) (once r lt);
         deep = omega (arith, more, levels, plain.deep, done.longer, n);
-        few = over.few;
+        count_bounded = over.count_bounded;
       };
       pairs = ap (λ k. pairs_of_levels k b1 s) more ∙ all ∙ ap (λ k. pairs_of_levels k a p ++ ps) (sym levels);
     }

@@ -16,8 +16,8 @@ sum_plus zero f g = refl
 sum_plus (suc n) f g = let rest = sum_plus n f g in omega (arith, rest)
 
 sum_few : (n : ℕ) (f : ℕ → ℕ) → ((r : ℕ) → f r ≤ 1) → sum_to n f ≤ n
-sum_few zero f few = omega arith
-sum_few (suc n) f few = let rest = sum_few n f few in omega (arith, rest, few n)
+sum_few zero f count_bounded = omega arith
+sum_few (suc n) f count_bounded = let rest = sum_few n f count_bounded in omega (arith, rest, count_bounded n)
 
 sum_zero : (n : ℕ) → sum_to n (λ r. 0) ≡ 0
 sum_zero zero = refl

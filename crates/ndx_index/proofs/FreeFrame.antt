@@ -136,9 +136,9 @@ added a b f e list apart =
     }
 
 pub grown : (a b e : List Page) (f g : FreeList) → Added a b f → length b < 2 ^ 32 → ((r : ℕ) → uses_free a f r ≤ 1) → g.count ≡ f.count + 1 → IsFreeList e g → ((r : ℕ) → uses_free e g r ≡ here (length a) r + uses_free b f r) → ((r : ℕ) → (r ≡ length a → ⊥) → page_in e r ≡ page_in b r) → length e ≡ length b → MakesFree a e f g
-grown a b e f g add few apart count list uses others n = record {
+grown a b e f g add count_bounded apart count list uses others n = record {
   longer = omega (arith, n, add.length_more);
-  few = λ lt. omega (arith, n, few);
+  count_bounded = λ lt. omega (arith, n, count_bounded);
   more = omega (arith, count);
   list = list;
   apart = λ r. omega (arith, uses r, add.apart r);

@@ -63,9 +63,9 @@ group_key k (suc f) n (suc j) i (x ∷ xs) d two many lt last =
     let size : IsNextSize k (length (x ∷ xs)) b = next_size k (length (x ∷ xs)) in
     let rest : List ChildEntry = drop b (x ∷ xs) in
     let m : length rest ≡ length (x ∷ xs) - b = length-drop b (x ∷ xs) in
-    let few : length rest ≢ 1 = λ one. absurd (grind arith) in
-    let parts = last_after k (length (x ∷ xs)) b (length rest) j i two size m (group_start k f j rest two few (less lt)) last in
-    group_key k f (n + 1) j (i - b) rest d two few (less lt) parts.1 ∙ ap (λ t. t.key) (shifted b i (x ∷ xs) d parts.0)
+    let count_bounded : length rest ≢ 1 = λ one. absurd (grind arith) in
+    let parts = last_after k (length (x ∷ xs)) b (length rest) j i two size m (group_start k f j rest two count_bounded (less lt)) last in
+    group_key k f (n + 1) j (i - b) rest d two count_bounded (less lt) parts.1 ∙ ap (λ t. t.key) (shifted b i (x ∷ xs) d parts.0)
 
 -- ---- the levels of an index
 

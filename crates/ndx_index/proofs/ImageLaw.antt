@@ -67,7 +67,7 @@ length-header text key_len n h = length-filled_page _ (omega arith)
 header_accepted : (bytes : List ℕ) (key_len size : ℕ) → PAGE ≤ length bytes → u16_at bytes KEY_TYPE_OFFSET ≡ 0 → slice_index bytes UNIQUE_FLAG_OFFSET ≡ 0 → u16_at bytes KEY_LENGTH_OFFSET ≡ key_len → u16_at bytes RECORD_SIZE_OFFSET ≡ size
     → 1 ≤ key_len → key_len ≤ MAX_KEY_BYTES → key_len + 8 ≤ size → size ≤ MAX_RECORDS_BYTES → header_refusal bytes ≡ None
 unfolding header_page_tests
-header_accepted bytes key_len size long kind unique key_is size_is some few room small =
+header_accepted bytes key_len size long kind unique key_is size_is some count_bounded room bounded =
     let a : nat_le PAGE (length bytes) ≡ true = grind (arith, nat_tests) in
     let b : is_in_range 1 MAX_KEY_BYTES key_len ≡ true = grind (arith, nat_tests) in
     let c : is_in_range (key_len + 8) MAX_RECORDS_BYTES size ≡ true = grind (arith, nat_tests) in
@@ -77,22 +77,22 @@ header_parts : (text rest : List ℕ) (key_len n : ℕ) → key_len ≤ MAX_KEY_
     → (u16_at (header_page text key_len n ++ rest) 16 ≡ 0) × (slice_index (header_page text key_len n ++ rest) 23 ≡ 0) × (u16_at (header_page text key_len n ++ rest) 12 ≡ key_len)
     × (u16_at (header_page text key_len n ++ rest) 18 ≡ record_size key_len) × (u32_at (header_page text key_len n ++ rest) 0 ≡ n - 1)
 unfolding header_page u16_at u32_at filled_page
-header_parts text rest key_len n few small fits =
+header_parts text rest key_len n count_bounded bounded fits =
     (refl, refl, little_number-reads_back 2 key_len [] (omega arith), little_number-reads_back 2 (record_size key_len) [] (omega arith), little_number-reads_back 4 (n - 1) [] (omega arith))
 
 header_reads : (text rest : List ℕ) (key_len n : ℕ) → length text ≤ MAX_EXPRESSION_BYTES → 1 ≤ key_len → key_len ≤ MAX_KEY_BYTES → Sizes key_len → record_size key_len ≤ MAX_RECORDS_BYTES → n < 2 ^ 32
     → (header_refusal (header_page text key_len n ++ rest) ≡ None) × (ndx_header (header_page text key_len n ++ rest) ≡ record { layout = record { key_len = key_len; size = record_size key_len }; root = n - 1 })
 unfolding ndx_header
-header_reads text rest key_len n short_text some few sizes small fits =
+header_reads text rest key_len n short_text some count_bounded sizes bounded fits =
     let bytes : List ℕ = header_page text key_len n ++ rest in
     let long : PAGE ≤ length bytes = omega (arith, length-append (header_page text key_len n) rest, length-header text key_len n short_text) in
-    let parts = header_parts text rest key_len n few small fits in
-    (header_accepted bytes key_len (record_size key_len) long parts.0 parts.1 parts.2 parts.3 some few sizes.room small, rw (parts.2, parts.3, parts.4) refl)
+    let parts = header_parts text rest key_len n count_bounded bounded fits in
+    (header_accepted bytes key_len (record_size key_len) long parts.0 parts.1 parts.2 parts.3 some count_bounded sizes.room bounded, rw (parts.2, parts.3, parts.4) refl)
 
 -- the text and the zeros after it
 text_at : (text rest : List ℕ) (key_len n : ℕ) → length text ≤ MAX_EXPRESSION_BYTES → slice_range (header_page text key_len n ++ rest) EXPRESSION_OFFSET PAGE ≡ text ++ replicate (MAX_EXPRESSION_BYTES - length text) 0
 unfolding header_page filled_page
-text_at text rest key_len n few =
+text_at text rest key_len n count_bounded =
     let front : List ℕ = little_bytes 4 (n - 1) ++ (little_bytes 4 n ++ (replicate 4 0 ++ (little_bytes 2 key_len ++ (little_bytes 2 (page_keys key_len) ++ (0 ∷ 0 ∷ (little_bytes 2 (record_size key_len) ++ (0 ∷ 0 ∷ 0 ∷ 0 ∷ text))))))) in
     let long : PAGE - length front ≡ MAX_EXPRESSION_BYTES - length text = omega arith in
     let zs : List ℕ = replicate (MAX_EXPRESSION_BYTES - length text) 0 in
@@ -100,8 +100,8 @@ text_at text rest key_len n few =
     rw long (take_at (text ++ zs) rest MAX_EXPRESSION_BYTES whole)
 
 text_reads : (text rest : List ℕ) (key_len n : ℕ) → length text ≤ MAX_EXPRESSION_BYTES → expression (header_page text key_len n ++ rest) ≡ trimmed_end (before_zero text)
-text_reads text rest key_len n few =
-    ap (λ (bytes : List ℕ). trimmed_end (before_zero bytes)) (text_at text rest key_len n few) ∙ ap (λ (bytes : List ℕ). trimmed_end bytes) (before_zeros text (MAX_EXPRESSION_BYTES - length text))
+text_reads text rest key_len n count_bounded =
+    ap (λ (bytes : List ℕ). trimmed_end (before_zero bytes)) (text_at text rest key_len n count_bounded) ∙ ap (λ (bytes : List ℕ). trimmed_end bytes) (before_zeros text (MAX_EXPRESSION_BYTES - length text))
 
 pub read_back : (text : List ℕ) (key_len : ℕ) (pairs : List Pair) → IsWritable text key_len pairs → IsIndex (ndx_image text key_len pairs) (trimmed_end (before_zero text)) key_len pairs
 read_back text key_len pairs w =
@@ -121,13 +121,13 @@ read_back text key_len pairs w =
     let one_key : 1 ≤ k = omega (arith, sizes.least) in
     let join : joined gs ≡ pairs = leaves_joined k pairs one_key in
     let sized = leaves_sized k pairs one_key in
-    let few : m ≤ length pairs + 1 = leaves_few k pairs one_key in
+    let count_bounded : m ≤ length pairs + 1 = leaves_few k pairs one_key in
     let some : 1 ≤ m = leaves_some k pairs in
     let each_fits = all_weaker _ (Fits s) (λ p h. record { long = h.0; number = h.1 }) pairs w.each in
     let fits = all_groups (Fits s) gs (rw join each_fits) in
     let long_ts : length ts ≡ m = length-child_entries last_key 1 gs in
-    let children = child_entries_fit s last_key 1 gs (omega arith) (omega (arith, w.few)) (short_groups (λ p. p.key) size gs (omega (arith, sizes.room)) (rw join (pairs_short s pairs sizes.room each_fits))) in
-    let up = levels_long s m k (m + 1) ts (omega arith) (omega (arith, sizes.least)) (omega (arith, sizes.room)) sizes.fit (omega (arith, w.few)) children in
+    let children = child_entries_fit s last_key 1 gs (omega arith) (omega (arith, w.count_bounded)) (short_groups (λ p. p.key) size gs (omega (arith, sizes.room)) (rw join (pairs_short s pairs sizes.room each_fits))) in
+    let up = levels_long s m k (m + 1) ts (omega arith) (omega (arith, sizes.least)) (omega (arith, sizes.room)) sizes.fit (omega (arith, w.count_bounded)) children in
     let leaf_count : length leaf_pages ≡ m = length-map gs (leaf_page size) in
     let upper_count : length upper_pages ≡ length above = length-map above (inner_page size) in
     let count : length pages ≡ m + length above = omega (arith, length-append leaf_pages upper_pages) in
@@ -138,8 +138,8 @@ read_back text key_len pairs w =
     let run = child_entries_run last_key 1 (m + 1) gs (omega arith) in
     let level : LevelTrees s bytes (m + 1) ts pairs = record { pages = numbers ts; tree = subst (λ ps. Trees s bytes (numbers ts) (numbers ts) ps) join bottom; once = run.once; under = run.over } in
     let rooted = levels_tree s bytes m k (m + 1) (length pages) ts pairs (omega arith) (omega (arith, sizes.least)) (omega (arith, sizes.room)) sizes.fit sizes.most (omega arith) (omega arith)
-    (omega (arith, w.few)) children (last_of_child_entries last_key 1 gs some ∙ add_one m) (omega arith) parts.1 level in
-    let reads = header_reads text (joined pages) key_len (1 + length pages) w.text_short w.key_some w.key_short sizes (omega (arith, w.key_short)) (omega (arith, w.few, up.few)) in
+    (omega (arith, w.count_bounded)) children (last_of_child_entries last_key 1 gs some ∙ add_one m) (omega arith) parts.1 level in
+    let reads = header_reads text (joined pages) key_len (1 + length pages) w.text_short w.key_some w.key_short sizes (omega (arith, w.key_short)) (omega (arith, w.count_bounded, up.count_bounded)) in
     let header_is : ndx_header bytes ≡ record { layout = s; root = length pages } = reads.1 ∙ ap (λ r. record { layout = s; root = r }) (one_less (length pages)) in
     record {
       header_is = reads.0;
@@ -161,16 +161,16 @@ read_back_plain text key_len pairs w h = subst (λ read. IsIndex (ndx_image text
 
 pub writable : (text : List ℕ) (key_len : ℕ) (pairs : List Pair) → length text ≤ MAX_EXPRESSION_BYTES → 1 ≤ key_len → key_len ≤ MAX_KEY_BYTES → length pairs ≤ MAX_PAIRS → AllByRecursion (λ p. length p.key ≡ key_len) pairs
     → AllByRecursion (λ p. p.number < 2 ^ 32) pairs → IsWritable text key_len pairs
-writable text key_len pairs t some short few keys numbers = record {
+writable text key_len pairs t some short count_bounded keys numbers = record {
   text_short = t;
   key_some = some;
   key_short = short;
-  few = few;
+  count_bounded = count_bounded;
   each = all_zip (λ p. length p.key ≡ key_len) (λ p. p.number < 2 ^ 32) pairs keys numbers;
 }
 
 -- what is written of the pairs of a key expression reads back
 pub written_reads : (text : List ℕ) (key_len n : ℕ) (pairs : List Pair) → key_len ≡ n → length text ≤ MAX_EXPRESSION_BYTES → 1 ≤ key_len → key_len ≤ MAX_KEY_BYTES → length pairs ≤ MAX_PAIRS → AllByRecursion (λ p. length p.key ≡ n) pairs
     → AllByRecursion (λ p. p.number < 2 ^ 32) pairs → AllByRecursion (λ b. b ≢ 0) text → IsIndex (ndx_image text n pairs) (trimmed_end text) n pairs
-written_reads text key_len n pairs same t some few_bytes few keys numbers plain =
-    read_back_plain text n pairs (writable text n pairs t (omega arith) (omega arith) few keys numbers) plain
+written_reads text key_len n pairs same t some few_bytes count_bounded keys numbers plain =
+    read_back_plain text n pairs (writable text n pairs t (omega arith) (omega arith) count_bounded keys numbers) plain

@@ -118,8 +118,8 @@ fewer (suc k) (suc n) (x ∷ xs) (y ∷ ys) le first second fit sit same =
 pub by_backs : (k : ℕ) (xs ys : List ℕ) (x y : ℕ) → k ≤ 8 → k + 8 ≡ length xs → k + 8 ≡ length ys → ((i : ℕ) → slice_index xs i < 256) → ((i : ℕ) → slice_index ys i < 256)
     → big_from 0 8 xs ≡ big_from 0 8 ys → x ≡ big_from 0 8 (drop k xs) → y ≡ big_from 0 8 (drop k ys) → (x ≡ y → ⊥) → (then : Ordering)
     → is_lt (ordering_then (slice_cmp nat_cmp xs ys) then) ≡ nat_lt x y
-by_backs k xs ys x y few first second fit sit same one two apart then =
-    let heads : big_from 0 k xs ≡ big_from 0 k ys = fewer k 8 xs ys few (omega (arith, first)) (omega (arith, second)) fit sit same in
+by_backs k xs ys x y count_bounded first second fit sit same one two apart then =
+    let heads : big_from 0 k xs ≡ big_from 0 k ys = fewer k 8 xs ys count_bounded (omega (arith, first)) (omega (arith, second)) fit sit same in
     let long : 8 ≤ length (drop k xs) = omega (arith, length-drop k xs, first) in
     let wide : 8 ≤ length (drop k ys) = omega (arith, length-drop k ys, second) in
     let fits : (i : ℕ) → slice_index (drop k xs) i < 256 = λ i. subst (λ b. b < 256) (sym (get_or-drop k xs i 0)) (fit (k + i)) in

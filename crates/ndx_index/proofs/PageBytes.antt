@@ -108,13 +108,13 @@ first_null s (p ∷ g) =
 
 pub leaf_node : (s : PageLayout) (g : List Pair) → s.key_len + 8 ≤ s.size → length g * s.size ≤ MAX_RECORDS_BYTES → length g < 2 ^ 32 → AllByRecursion (Fits s) g → node_of s (leaf_page s.size g) ≡ Ok (leaf g)
 unfolding node_of page_tests page_node leaf_page filled_page
-leaf_node s g room few small fits =
+leaf_node s g room count_bounded bounded fits =
     let front : List ℕ = little_bytes 4 (length g) in
     let body : List ℕ = flat_map (leaf_record s.size) g in
     let zs : List ℕ = replicate (PAGE - length (front ++ body)) 0 in
     let page : List ℕ = (front ++ body) ++ zs in
     let is : page ≡ front ++ (body ++ zs) = append_assoc front body zs in
-    let count : u32_at page 0 ≡ length g = rw is (u32_reads [] (body ++ zs) (length g) 0 refl small) in
+    let count : u32_at page 0 ≡ length g = rw is (u32_reads [] (body ++ zs) (length g) 0 refl bounded) in
     let reads = leaf_reads s g front zs page 0 (length g) room is (omega arith) (omega arith) fits refl in
     let first : child s page 0 ≡ 0 = first_null s g in
     let fit : nat_le (4 + length g * s.size) PAGE ≡ true = le-leb (4 + length g * s.size) PAGE (omega arith) in
@@ -123,7 +123,7 @@ leaf_node s g room few small fits =
 -- a child pointer as it is read
 pub record IsChild (s : PageLayout) (t : ChildEntry) : Type 0 where
   pub some : 1 ≤ t.page
-  pub small : t.page < 2 ^ 32
+  pub bounded : t.page < 2 ^ 32
   pub short : length t.key + 8 ≤ s.size
 
 not_null : (p : ℕ) → 1 ≤ p → is_null p ≡ false
@@ -139,7 +139,7 @@ pub inner_reads : (s : PageLayout) (t : ChildEntry) (g : List ChildEntry) (front
 unfolding inner_records
 inner_reads s t [] front zs page j n is long e fits before =
     let same : n ≡ suc j = omega arith in
-    let at : child s page j ≡ t.page = rw is (child_at s front zs t.page j long fits.0.small) in
+    let at : child s page j ≡ t.page = rw is (child_at s front zs t.page j long fits.0.bounded) in
     let there : is_null (child s page j) ≡ false = rw at (not_null t.page fits.0.some) in
     let after : some_child is_null s page (suc j) ≡ false = rw (before, there) refl in
     rw same (ap (λ q. children s page j ++ q ∷ []) (sym at), after)
@@ -148,7 +148,7 @@ inner_reads s t (u ∷ g) front zs page j n is long e fits before =
     let rest : List ℕ = inner_records s.size (u ∷ g) ++ zs in
     let here : page ≡ front ++ (r ++ rest) = is ∙ ap (λ (xs : List ℕ). front ++ xs) (append_assoc r (inner_records s.size (u ∷ g)) zs) in
     let next : page ≡ (front ++ r) ++ rest = here ∙ sym (append_assoc front r rest) in
-    let at : child s page j ≡ t.page = rw here (record_child s front rest t.page 0 t.key j long fits.0.small) in
+    let at : child s page j ≡ t.page = rw here (record_child s front rest t.page 0 t.key j long fits.0.bounded) in
     let there : is_null (child s page j) ≡ false = rw at (not_null t.page fits.0.some) in
     let after : some_child is_null s page (suc j) ≡ false = rw (before, there) refl in
     let size : length r ≡ s.size = length-key_record s.size t.page 0 t.key fits.0.short in
@@ -159,15 +159,15 @@ inner_reads s t (u ∷ g) front zs page j n is long e fits before =
 
 first_child : (s : PageLayout) (t u : ChildEntry) (g : List ChildEntry) (zs front page : List ℕ) → page ≡ front ++ (inner_records s.size (t ∷ u ∷ g) ++ zs) → length front ≡ 4 + s.size * 0 → t.page < 2 ^ 32 → child s page 0 ≡ t.page
 unfolding inner_records
-first_child s t u g zs front page is long small =
+first_child s t u g zs front page is long bounded =
     let r : List ℕ = key_record s.size t.page 0 t.key in
     let rest : List ℕ = inner_records s.size (u ∷ g) in
-    rw (is ∙ ap (λ (xs : List ℕ). front ++ xs) (append_assoc r rest zs)) (record_child s front (rest ++ zs) t.page 0 t.key 0 long small)
+    rw (is ∙ ap (λ (xs : List ℕ). front ++ xs) (append_assoc r rest zs)) (record_child s front (rest ++ zs) t.page 0 t.key 0 long bounded)
 
 pub inner_node : (s : PageLayout) (t u : ChildEntry) (g : List ChildEntry) → (length g + 1) * s.size ≤ MAX_RECORDS_BYTES → length g + 1 < 2 ^ 32 → AllByRecursion (IsChild s) (t ∷ u ∷ g)
     → node_of s (inner_page s.size (t ∷ u ∷ g)) ≡ Ok (inner (map (λ t. t.page) (t ∷ u ∷ g)))
 unfolding node_of page_tests page_node inner_page filled_page
-inner_node s t u g few small fits =
+inner_node s t u g count_bounded bounded fits =
     let front : List ℕ = little_bytes 4 (length (t ∷ u ∷ g) - 1) in
     let body : List ℕ = inner_records s.size (t ∷ u ∷ g) in
     let zs : List ℕ = replicate (PAGE - length (front ++ body)) 0 in
@@ -176,7 +176,7 @@ inner_node s t u g few small fits =
     let keys : length (t ∷ u ∷ g) - 1 ≡ length g + 1 = omega arith in
     let count : u32_at page 0 ≡ length g + 1 = rw is (u32_reads [] (body ++ zs) (length (t ∷ u ∷ g) - 1) 0 refl (omega arith)) ∙ keys in
     let reads = inner_reads s t (u ∷ g) front zs page 0 (length g + 1 + 1) is (omega arith) (omega arith) fits refl in
-    let first : child s page 0 ≡ t.page = first_child s t u g zs front page is (omega arith) fits.0.small in
+    let first : child s page 0 ≡ t.page = first_child s t u g zs front page is (omega arith) fits.0.bounded in
     let there : is_null t.page ≡ false = not_null t.page fits.0.some in
     let fit : nat_le (8 + (length g + 1) * s.size) PAGE ≡ true = le-leb (8 + (length g + 1) * s.size) PAGE (omega arith) in
     rw (first, there, count, fit, reads.1, ← reads.0) refl
@@ -196,10 +196,10 @@ length_pairs size (p ∷ g) h =
 
 pub length_leaf_page : (size k : ℕ) (g : List Pair) → k * size ≤ MAX_RECORDS_BYTES → length g ≤ k → AllByRecursion (λ p. length p.key + 8 ≤ size) g → length (leaf_page size g) ≡ PAGE
 unfolding leaf_page
-length_leaf_page size k g fit few short =
+length_leaf_page size k g fit count_bounded short =
     let front : List ℕ = little_bytes 4 (length g) in
     let body : List ℕ = flat_map (leaf_record size) g in
-    length-filled_page (front ++ body) (omega (arith, length-append front body, length_pairs size g short, mul-le-mul_right size few))
+    length-filled_page (front ++ body) (omega (arith, length-append front body, length_pairs size g short, mul-le-mul_right size count_bounded))
 
 pub length_children : (size : ℕ) (t : ChildEntry) (g : List ChildEntry) → AllByRecursion (λ u. length u.key + 8 ≤ size) (t ∷ g) → length (inner_records size (t ∷ g)) ≡ length g * size + 4
 unfolding inner_records
@@ -210,8 +210,8 @@ length_children size t (u ∷ g) h =
 
 pub length_inner_page : (size k : ℕ) (g : List ChildEntry) → k * size ≤ MAX_RECORDS_BYTES → 1 ≤ length g → length g ≤ k + 1 → AllByRecursion (λ t. length t.key + 8 ≤ size) g → length (inner_page size g) ≡ PAGE
 unfolding inner_page
-length_inner_page size k [] fit some few short = absurd (omega arith)
-length_inner_page size k (t ∷ g) fit some few short =
+length_inner_page size k [] fit some count_bounded short = absurd (omega arith)
+length_inner_page size k (t ∷ g) fit some count_bounded short =
     let front : List ℕ = little_bytes 4 (length (t ∷ g) - 1) in
     let body : List ℕ = inner_records size (t ∷ g) in
     let within : length g ≤ k = omega arith in

@@ -22,34 +22,34 @@ page_there (c ∷ cs) ps zero lt = refl
 page_there (c ∷ cs) ps (suc p) lt = rw (step p, ← drop-drop (p * 16) 16 ps) (page_there cs (drop 16 ps) p (omega arith))
 
 pub small_there : (cs : List ℕ) (p : ℕ) → AreSmall cs → p < length cs → get_or cs p 0 ≤ 16
-small_there [] p small lt = absurd (omega arith)
-small_there (c ∷ cs) zero small lt = small.0
-small_there (c ∷ cs) (suc p) small lt = small_there cs p small.1 (omega arith)
+small_there [] p bounded lt = absurd (omega arith)
+small_there (c ∷ cs) zero bounded lt = bounded.0
+small_there (c ∷ cs) (suc p) bounded lt = small_there cs p bounded.1 (omega arith)
 
 pub small_set : (cs : List ℕ) (p c : ℕ) → AreSmall cs → c ≤ 16 → AreSmall (set cs p c)
-small_set [] p c small le = tt
-small_set (d ∷ cs) zero c small le = (le, small.1)
-small_set (d ∷ cs) (suc p) c small le = (small.0, small_set cs p c small.1 le)
+small_set [] p c bounded le = tt
+small_set (d ∷ cs) zero c bounded le = (le, bounded.1)
+small_set (d ∷ cs) (suc p) c bounded le = (bounded.0, small_set cs p c bounded.1 le)
 
 -- one page's slots changed, and no others
 pub page_changed : (cs : List ℕ) (ps qs : List Pair) (p c : ℕ) → AreSmall cs → p < length cs → take (p * 16) qs ≡ take (p * 16) ps → drop (p * 16 + 16) qs ≡ drop (p * 16 + 16) ps
     → pages_of (set cs p c) qs ≡ set (pages_of cs ps) p (take c (drop (p * 16) qs))
-page_changed [] ps qs p c small lt front back = absurd (omega arith)
-page_changed (d ∷ cs) ps qs zero c small lt front back = ap (λ (l : List Pair). take c qs ∷ pages_of cs l) back
-page_changed (d ∷ cs) ps qs (suc p) c small lt front back =
+page_changed [] ps qs p c bounded lt front back = absurd (omega arith)
+page_changed (d ∷ cs) ps qs zero c bounded lt front back = ap (λ (l : List Pair). take c qs ∷ pages_of cs l) back
+page_changed (d ∷ cs) ps qs (suc p) c bounded lt front back =
     let front' : take (16 + p * 16) qs ≡ take (16 + p * 16) ps = rw (← step p) front in
     let first : take d qs ≡ take d ps =
-    sym (take-take d (16 + p * 16) qs (omega (arith, small.0))) ∙ ap (take d) front' ∙ take-take d (16 + p * 16) ps (omega (arith, small.0)) in
+    sym (take-take d (16 + p * 16) qs (omega (arith, bounded.0))) ∙ ap (take d) front' ∙ take-take d (16 + p * 16) ps (omega (arith, bounded.0)) in
     let rest : take (p * 16) (drop 16 qs) ≡ take (p * 16) (drop 16 ps) = sym (drop-take 16 (p * 16) qs) ∙ ap (drop 16) front' ∙ drop-take 16 (p * 16) ps in
     let more : suc p * 16 + 16 ≡ 16 + (p * 16 + 16) = omega arith in
     let behind : drop (p * 16 + 16) (drop 16 qs) ≡ drop (p * 16 + 16) (drop 16 ps) =
     drop-drop (p * 16 + 16) 16 qs ∙ ap (λ (n : ℕ). drop n qs) (sym more) ∙ back ∙ ap (λ (n : ℕ). drop n ps) more ∙ sym (drop-drop (p * 16 + 16) 16 ps) in
-    rw (step p, first, ← drop-drop (p * 16) 16 qs) (ap (λ (l : List (List Pair)). take d ps ∷ l) (page_changed cs (drop 16 ps) (drop 16 qs) p c small.1 (omega arith) rest behind))
+    rw (step p, first, ← drop-drop (p * 16) 16 qs) (ap (λ (l : List (List Pair)). take d ps ∷ l) (page_changed cs (drop 16 ps) (drop 16 qs) p c bounded.1 (omega arith) rest behind))
 
 -- m pairs written over the slots of a page from its i-th on
 pub page_pasted : (cs : List ℕ) (ps more : List Pair) (p i m : ℕ) → AreSmall cs → p < length cs → length ps ≡ length cs * 16 → i + m ≤ 16 → m ≤ length more
     → pages_of (set cs p (i + m)) (paste ps (p * 16 + i) more m) ≡ set (pages_of cs ps) p (take i (drop (p * 16) ps) ++ take m more)
-page_pasted cs ps more p i m small lt fit le enough =
+page_pasted cs ps more p i m bounded lt fit le enough =
     let within : p * 16 + 16 ≤ length ps = omega (arith, lt, fit) in
     let qs = paste ps (p * 16 + i) more m in
     let up : take (p * 16 + i + m) qs ≡ take (p * 16 + i) ps ++ take m more = take-paste ps (p * 16 + i) more m (omega (arith, within, le)) enough in
@@ -64,7 +64,7 @@ page_pasted cs ps more p i m small lt fit le enough =
     let here : take (i + m) (drop (p * 16) qs) ≡ take i (drop (p * 16) ps) ++ take m more =
     sym (drop-take (p * 16) (i + m) qs) ∙ ap (λ (n : ℕ). drop (p * 16) (take n qs)) (sym assoc) ∙ ap (drop (p * 16)) up
     ∙ drop-append-le (p * 16) (take (p * 16 + i) ps) (take m more) (omega (arith, long)) ∙ ap (λ (l : List Pair). l ++ take m more) (drop-take (p * 16) i ps) in
-    page_changed cs ps qs p (i + m) small lt front back ∙ ap (set (pages_of cs ps) p) here
+    page_changed cs ps qs p (i + m) bounded lt front back ∙ ap (set (pages_of cs ps) p) here
 
 -- slots moved up by one place, and a pair put before them
 pub moved_up : (ps : List Pair) (a m : ℕ) (x : Pair) → a + m < length ps → set (paste ps (a + 1) (drop a ps) m) a x ≡ paste ps a (x ∷ drop a ps) (suc m)
@@ -88,7 +88,7 @@ moved_up ps a m x lt =
 -- a pair put into a page of n pairs
 pub page_inserted : (cs : List ℕ) (ps : List Pair) (p i n : ℕ) (x : Pair) → AreSmall cs → p < length cs → length ps ≡ length cs * 16 → i ≤ n → n < 16
     → pages_of (set cs p (n + 1)) (set (copy_within ps (p * 16 + i) (p * 16 + n) (p * 16 + i + 1)) (p * 16 + i) x) ≡ set (pages_of cs ps) p (insert (take n (drop (p * 16) ps)) i x)
-page_inserted cs ps p i n x small lt fit le room =
+page_inserted cs ps p i n x bounded lt fit le room =
     let within : p * 16 + 16 ≤ length ps = omega (arith, lt, fit) in
     let m = n - i in
     let low = p * 16 in
@@ -98,7 +98,7 @@ page_inserted cs ps p i n x small lt fit le room =
     let whole : i + m ≡ n = omega (arith, le) in
     let up : set (paste ps (low + i + 1) (drop (low + i) ps) m) (low + i) x ≡ paste ps (low + i) (x ∷ drop (low + i) ps) (suc m) = moved_up ps (low + i) m x (omega (arith, within, le, room)) in
     let enough : suc m ≤ length (x ∷ drop (low + i) ps) = omega (arith, length-drop (low + i) ps, within, le, room) in
-    let law = page_pasted cs ps (x ∷ drop (low + i) ps) p i (suc m) small lt fit (omega (arith, le, room)) enough in
+    let law = page_pasted cs ps (x ∷ drop (low + i) ps) p i (suc m) bounded lt fit (omega (arith, le, room)) enough in
     let behind : take m (drop (low + i) ps) ≡ drop i (take n ys) =
     ap (take m) (sym (drop-drop i low ps)) ∙ sym (drop-take i m ys) ∙ ap (λ (k : ℕ). drop i (take k ys)) whole in
     let before : take i ys ≡ take i (take n ys) = sym (take-take i n ys le) in
@@ -112,7 +112,7 @@ page_inserted cs ps p i n x small lt fit le room =
 -- a pair taken out of a page of n pairs
 pub page_removed : (cs : List ℕ) (ps : List Pair) (p i n : ℕ) → AreSmall cs → p < length cs → length ps ≡ length cs * 16 → i < n → n ≤ 16
     → pages_of (set cs p (n - 1)) (copy_within ps (p * 16 + i + 1) (p * 16 + n) (p * 16 + i)) ≡ set (pages_of cs ps) p (remove (take n (drop (p * 16) ps)) i)
-page_removed cs ps p i n small lt fit le room =
+page_removed cs ps p i n bounded lt fit le room =
     let within : p * 16 + 16 ≤ length ps = omega (arith, lt, fit) in
     let m = n - suc i in
     let low = p * 16 in
@@ -122,7 +122,7 @@ page_removed cs ps p i n small lt fit le room =
     let whole : suc i + m ≡ n = omega (arith, le) in
     let place : low + i + 1 ≡ low + suc i = omega arith in
     let enough : m ≤ length (drop (low + suc i) ps) = omega (arith, length-drop (low + suc i) ps, within, le, room) in
-    let law = page_pasted cs ps (drop (low + suc i) ps) p i m small lt fit (omega (arith, le, room)) enough in
+    let law = page_pasted cs ps (drop (low + suc i) ps) p i m bounded lt fit (omega (arith, le, room)) enough in
     let behind : take m (drop (low + suc i) ps) ≡ drop (suc i) (take n ys) =
     ap (take m) (sym (drop-drop (suc i) low ps)) ∙ sym (drop-take (suc i) m ys) ∙ ap (λ (k : ℕ). drop (suc i) (take k ys)) whole in
     let before : take i ys ≡ take i (take n ys) = sym (take-take i n ys (omega (arith, le))) in
@@ -137,7 +137,7 @@ page_removed cs ps p i n small lt fit le room =
 pub page_split : (cs : List ℕ) (ps : List Pair) (p q i n : ℕ) → AreSmall cs → p < length cs → q < length cs → q ≢ p → length ps ≡ length cs * 16 → get_or cs p 0 ≡ n → i ≤ n → n ≤ 16
     → pages_of (set (set cs q (n - i)) p i) (copy_within ps (p * 16 + i) (p * 16 + n) (q * 16))
     ≡ set (set (pages_of cs ps) q (drop i (take n (drop (p * 16) ps)))) p (take i (take n (drop (p * 16) ps)))
-page_split cs ps p q i n small lt lt2 apart fit is le room =
+page_split cs ps p q i n bounded lt lt2 apart fit is le room =
     let within : p * 16 + 16 ≤ length ps = omega (arith, lt, fit) in
     let m = n - i in
     let low = p * 16 in
@@ -152,7 +152,7 @@ page_split cs ps p q i n small lt lt2 apart fit is le room =
     let behind : take m (drop (low + i) ps) ≡ drop i (take n ys) =
     ap (take m) (sym (drop-drop i low ps)) ∙ sym (drop-take i m ys) ∙ ap (λ (k : ℕ). drop i (take k ys)) whole in
     let law : pages_of (set cs q (0 + m)) (paste ps (q * 16 + 0) (drop (low + i) ps) m) ≡ set (pages_of cs ps) q (take m (drop (low + i) ps)) =
-    page_pasted cs ps (drop (low + i) ps) q 0 m small lt2 fit (omega (arith, room)) enough in
+    page_pasted cs ps (drop (low + i) ps) q 0 m bounded lt2 fit (omega (arith, room)) enough in
     let moved : pages_of ds qs ≡ set (pages_of cs ps) q (drop i (take n ys)) =
     ap (λ (k : ℕ). pages_of (set cs q k) (paste ps (q * 16) (drop (low + i) ps) m)) (sym none)
     ∙ ap (λ (k : ℕ). pages_of (set cs q (0 + m)) (paste ps k (drop (low + i) ps) m)) (sym start) ∙ law ∙ ap (set (pages_of cs ps) q) behind in
@@ -164,27 +164,27 @@ page_split cs ps p q i n small lt lt2 apart fit is le room =
     ap (λ (k : ℕ). take k (drop low qs)) (sym stays) ∙ sym (page_there ds qs p lt3) ∙ ap (λ (l : List (List Pair)). page_at l p) moved
     ∙ get_or-set_other (pages_of cs ps) q p (drop i (take n ys)) [] other ∙ page_there cs ps p lt ∙ ap (λ (k : ℕ). take k ys) is in
     let front : take i (drop low qs) ≡ take i (take n ys) = sym (take-take i n (drop low qs) le) ∙ ap (take i) kept in
-    let smaller : AreSmall ds = small_set cs q m small (omega (arith, room)) in
+    let smaller : AreSmall ds = small_set cs q m bounded (omega (arith, room)) in
     ap (λ (k : ℕ). pages_of (set ds p i) (paste ps (q * 16) (drop (low + i) ps) k)) many
     ∙ page_changed ds qs qs p i smaller lt3 refl refl
     ∙ ap (set (pages_of ds qs) p) front ∙ ap (λ (l : List (List Pair)). set l p (take i (take n ys))) moved
 
 -- one more page
 pub page_pushed : (cs : List ℕ) (ps new more : List Pair) → AreSmall cs → length ps ≡ length cs * 16 → pages_of (cs ++ length new ∷ []) (ps ++ (new ++ more)) ≡ pages_of cs ps ++ new ∷ []
-page_pushed [] ps new more small fit =
+page_pushed [] ps new more bounded fit =
     let none : ps ≡ [] = nil_from_length ps fit in
     rw (none, take_at new more (length new) refl) refl
-page_pushed (c ∷ cs) ps new more small fit =
+page_pushed (c ∷ cs) ps new more bounded fit =
     let long : length ps ≡ 16 + length cs * 16 = fit ∙ step (length cs) in
     let rest : length (drop 16 ps) ≡ length cs * 16 = length-drop 16 ps ∙ omega (arith, long) in
-    rw (take-append-le c ps (new ++ more) (omega (arith, long, small.0)), drop-append-le 16 ps (new ++ more) (omega (arith, long)), page_pushed cs (drop 16 ps) new more small.1 rest) refl
+    rw (take-append-le c ps (new ++ more) (omega (arith, long, bounded.0)), drop-append-le 16 ps (new ++ more) (omega (arith, long)), page_pushed cs (drop 16 ps) new more bounded.1 rest) refl
 
 -- where page p stands
 pub record IsThere (x : Inside) (pages : List (List Pair)) (p : ℕ) : Type 0 where
   pub index : p < length x.counts.items
   pub slots : p * 16 + 16 ≤ length x.slots.pairs
   pub near : p * 16 + 16 < 2 ^ 64
-  pub small : get_or x.counts.items p 0 ≤ 16
+  pub bounded : get_or x.counts.items p 0 ≤ 16
   pub page : page_at pages p ≡ take (get_or x.counts.items p 0) (drop (p * 16) x.slots.pairs)
   pub count : length (page_at pages p) ≡ get_or x.counts.items p 0
 
@@ -194,16 +194,16 @@ pages_count x now e = rw (← e) (length-pages x.counts.items x.slots.pairs)
 pub is_there : (x : Inside) (now : Pages) (p : ℕ) → pages_view x ≡ now → ArePages x → p < length now.pages → IsThere x now.pages p
 is_there x now p e h lt =
     let index : p < length x.counts.items = omega (arith, lt, pages_count x now e) in
-    let small = small_there x.counts.items p h.small index in
+    let bounded = small_there x.counts.items p h.bounded index in
     let slots : p * 16 + 16 ≤ length x.slots.pairs = omega (arith, index, h.fit) in
     let page : page_at now.pages p ≡ take (get_or x.counts.items p 0) (drop (p * 16) x.slots.pairs) = rw (← e) (page_there x.counts.items x.slots.pairs p index) in
     record {
       index = index;
       slots = slots;
-      near = omega (arith, index, h.few);
-      small = small;
+      near = omega (arith, index, h.count_bounded);
+      bounded = bounded;
       page = page;
-      count = ap length page ∙ length-take-le (get_or x.counts.items p 0) (drop (p * 16) x.slots.pairs) (omega (arith, small, slots, length-drop (p * 16) x.slots.pairs));
+      count = ap length page ∙ length-take-le (get_or x.counts.items p 0) (drop (p * 16) x.slots.pairs) (omega (arith, bounded, slots, length-drop (p * 16) x.slots.pairs));
     }
 
 -- a pair of a page, by its slot

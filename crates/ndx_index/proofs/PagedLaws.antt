@@ -45,7 +45,7 @@ none_past n a p r t le = elim (cases_eq (uses_of_levels n a p r) 0) [
 -- ---- the index after a step
 
 pub holds_nothing : (k : ℕ) → HoldsIndex k [] (record { head = 0; count = 0 }) (record { page = 0; levels = 0 })
-holds_nothing k = record { tree = tt; order = sorted_none; keys = tt; list = tt; apart = λ r. omega arith; once = λ r lt. absurd (omega (arith, lt)); deep = omega arith; few = lit< tt }
+holds_nothing k = record { tree = tt; order = sorted_none; keys = tt; list = tt; apart = λ r. omega arith; once = λ r lt. absurd (omega (arith, lt)); deep = omega arith; count_bounded = lit< tt }
 
 pub record HoldsMore (k : ℕ) (a b : List Page) (f g : FreeList) (t : Root) : Type 0 where
   pub holds : HoldsIndex k b g t
@@ -69,7 +69,7 @@ holds_more k a b f g t h m =
           | inr new ↦ omega (arith, stays.uses_stay r, none_past t.levels a t.page r h.tree new, m.new_free r new lt)
         ];
         deep = omega (arith, h.deep, m.longer);
-        few = m.few h.few;
+        count_bounded = m.count_bounded h.count_bounded;
       };
       pairs = stays.pairs;
     }
@@ -83,7 +83,7 @@ holds_inserted k a b f g t u pair h key absent i = record {
   apart = λ r. omega (arith, i.uses_stay r, h.apart r);
   once = λ r lt. i.uses_stay r ∙ h.once r (omega (arith, lt, i.same_length));
   deep = i.deep;
-  few = omega (arith, i.same_length, h.few);
+  count_bounded = omega (arith, i.same_length, h.count_bounded);
 }
 
 pub holds_removed : (k : ℕ) (a b : List Page) (f g : FreeList) (t u : Root) (pair : Pair) → HoldsIndex k a f t → RemovesIn a b f g t u pair → HoldsIndex k b g u
@@ -97,7 +97,7 @@ holds_removed k a b f g t u pair h i =
       apart = λ r. omega (arith, i.uses_stay r, h.apart r);
       once = λ r lt. i.uses_stay r ∙ h.once r (omega (arith, lt, i.same_length));
       deep = omega (arith, i.lower, i.same_length, h.deep);
-      few = omega (arith, i.same_length, h.few);
+      count_bounded = omega (arith, i.same_length, h.count_bounded);
     }
 
 -- ---- whether a pair is there

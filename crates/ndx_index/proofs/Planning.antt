@@ -76,7 +76,7 @@ pub record Reached (k : ℕ) (pairs : List Pair) (height first count : ℕ) (siz
 
 pub reach_leaves : (k : ℕ) (pairs : List Pair) (count : ℕ) (sizes : List ℕ) → 1 ≤ k → length pairs ≤ MAX_PAIRS → count ≡ length (leaves k pairs) → length sizes ≡ LEVELS
     → Reached k pairs 0 1 count sizes
-reach_leaves k pairs count sizes one few e long =
+reach_leaves k pairs count sizes one count_bounded e long =
     let most : length (leaves k pairs) ≤ length pairs + 1 = leaves_few k pairs one in
     let there : 1 ≤ length (leaves k pairs) = leaves_some k pairs in
     let same : length (child_entries last_key 1 (leaves k pairs)) ≡ length (leaves k pairs) = length-child_entries last_key 1 (leaves k pairs) in

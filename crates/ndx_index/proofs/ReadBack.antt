@@ -107,13 +107,13 @@ last_of_child_entries f n (g ∷ []) some = omega arith
 last_of_child_entries f n (g ∷ h ∷ gs) some = omega (arith, last_of_child_entries f (n + 1) (h ∷ gs) (omega arith))
 
 pub child_entries_fit : {X : Type 0} (s : PageLayout) (f : List X → List ℕ) (n : ℕ) (gs : List (List X)) → 1 ≤ n → n + length gs ≤ 2 ^ 32 → AllByRecursion (λ g. length (f g) + 8 ≤ s.size) gs → AllByRecursion (IsChild s) (child_entries f n gs)
-child_entries_fit s f n [] some small h = tt
-child_entries_fit s f n (g ∷ gs) some small h = (record { some = some; small = omega arith; short = h.0 }, child_entries_fit s f (n + 1) gs (omega arith) (omega arith) h.1)
+child_entries_fit s f n [] some bounded h = tt
+child_entries_fit s f n (g ∷ gs) some bounded h = (record { some = some; bounded = omega arith; short = h.0 }, child_entries_fit s f (n + 1) gs (omega arith) (omega arith) h.1)
 
 next_fits : (s : PageLayout) (k n : ℕ) (ts : List ChildEntry) → 1 ≤ n → 1 ≤ k → 8 ≤ s.size → n + length (next_level k ts) ≤ 2 ^ 32 → AllByRecursion (IsChild s) ts → AllByRecursion (IsChild s) (child_entries last_entry_key n (next_level k ts))
-next_fits s k n ts some one eight small fits =
+next_fits s k n ts some one eight bounded fits =
     let join : joined (next_level k ts) ≡ ts = next-join k ts one in
-    child_entries_fit s last_entry_key n (next_level k ts) some small (short_groups (λ t. t.key) s.size (next_level k ts) eight (rw join (entries_short s ts fits)))
+    child_entries_fit s last_entry_key n (next_level k ts) some bounded (short_groups (λ t. t.key) s.size (next_level k ts) eight (rw join (entries_short s ts fits)))
 
 record Up (s : PageLayout) (bytes : List ℕ) (roots pages : List ℕ) (pairs : List Pair) : Type 0 where
   all : List ℕ
@@ -123,9 +123,9 @@ record Up (s : PageLayout) (bytes : List ℕ) (roots pages : List ℕ) (pairs : 
 module _ (s : PageLayout) (bytes : List ℕ) where
   holds_inner : (k n : ℕ) (g : List ChildEntry) → 1 ≤ n → k * s.size ≤ MAX_RECORDS_BYTES → k ≤ MAX_RECORDS_BYTES → HasSize 2 (k + 1) g → AllByRecursion (IsChild s) g
       → page_of bytes n ≡ inner_page s.size g → PAGE * n + PAGE ≤ length bytes → Holds s bytes n (inner (numbers g))
-  holds_inner k n [] some room few size fits is whole = absurd (omega (arith, size.low))
-  holds_inner k n (t ∷ []) some room few size fits is whole = absurd (omega (arith, size.low))
-  holds_inner k n (t ∷ u ∷ g) some room few size fits is whole =
+  holds_inner k n [] some room count_bounded size fits is whole = absurd (omega (arith, size.low))
+  holds_inner k n (t ∷ []) some room count_bounded size fits is whole = absurd (omega (arith, size.low))
+  holds_inner k n (t ∷ u ∷ g) some room count_bounded size fits is whole =
       let high : length g + 1 ≤ k = omega (arith, size.high) in
       let fit : (length g + 1) * s.size ≤ k * s.size = mul-le-mul_right s.size high in
       record { whole = page_there bytes n some whole; keeps = rw is (inner_node s t u g (omega arith) (omega arith) fits) }
@@ -133,12 +133,12 @@ module _ (s : PageLayout) (bytes : List ℕ) where
   up_trees : (k n : ℕ) (gs : List (List ChildEntry)) (pages : List ℕ) (pairs : List Pair) → 1 ≤ n → k * s.size ≤ MAX_RECORDS_BYTES → k ≤ MAX_RECORDS_BYTES
       → AllByRecursion (HasSize 2 (k + 1)) gs → AllByRecursion (AllByRecursion (IsChild s)) gs → AreAt bytes n (map (inner_page s.size) gs)
       → Trees s bytes (numbers (joined gs)) pages pairs → Up s bytes (numbers (child_entries last_entry_key n gs)) pages pairs
-  up_trees k n [] pages pairs some room few sizes fits at t = record { all = pages; tree = t; times_are = λ r. omega arith }
-  up_trees k n (g ∷ gs) pages pairs some room few sizes fits at t =
+  up_trees k n [] pages pairs some room count_bounded sizes fits at t = record { all = pages; tree = t; times_are = λ r. omega arith }
+  up_trees k n (g ∷ gs) pages pairs some room count_bounded sizes fits at t =
       let parted : Trees s bytes (numbers g ++ numbers (joined gs)) pages pairs = subst (λ rs. Trees s bytes rs pages pairs) (map-append (λ t. t.page) g (joined gs)) t in
       let parts = trees_split s bytes (numbers g) (numbers (joined gs)) parted in
-      let more = up_trees k (n + 1) gs parts.rest parts.others (omega arith) room few sizes.1 fits.1 at.2 parts.right in
-      let holds = holds_inner k n g some room few sizes.0 fits.0 at.0 at.1 in
+      let more = up_trees k (n + 1) gs parts.rest parts.others (omega arith) room count_bounded sizes.1 fits.1 at.2 parts.right in
+      let holds = holds_inner k n g some room count_bounded sizes.0 fits.0 at.0 at.1 in
       let whole : Trees s bytes (n ∷ numbers (child_entries last_entry_key (n + 1) gs)) (n ∷ (parts.below ++ more.all)) (parts.own ++ parts.others) = at_inner holds parts.left more.tree in
       record {
         all = n ∷ (parts.below ++ more.all);
@@ -164,10 +164,10 @@ module _ (s : PageLayout) (bytes : List ℕ) where
 
   next : (k n m : ℕ) (ts : List ChildEntry) (pairs : List Pair) → 1 ≤ n → 2 ≤ k → k * s.size ≤ MAX_RECORDS_BYTES → k ≤ MAX_RECORDS_BYTES → length ts ≢ 1 → AllByRecursion (IsChild s) ts
       → n + length (next_level k ts) ≡ m → AreAt bytes n (map (inner_page s.size) (next_level k ts)) → LevelTrees n ts pairs → LevelTrees m (child_entries last_entry_key n (next_level k ts)) pairs
-  next k n m ts pairs some two room few many fits e at level =
+  next k n m ts pairs some two room count_bounded many fits e at level =
       let gs : List (List ChildEntry) = next_level k ts in
       let join : joined gs ≡ ts = next-join k ts (omega arith) in
-      let up = up_trees k n gs level.pages pairs some room few (inner_groups k (length ts) ts two many) (all_groups (IsChild s) gs (rw join fits)) at (rw join level.tree) in
+      let up = up_trees k n gs level.pages pairs some room count_bounded (inner_groups k (length ts) ts two many) (all_groups (IsChild s) gs (rw join fits)) at (rw join level.tree) in
       let run = child_entries_run last_entry_key n m gs e in
       record {
         pages = up.all;
@@ -182,12 +182,12 @@ module _ (s : PageLayout) (bytes : List ℕ) where
   pub levels_tree : (fuel k n root : ℕ) (ts : List ChildEntry) (pairs : List Pair) → 1 ≤ n → 2 ≤ k → 8 ≤ s.size → k * s.size ≤ MAX_RECORDS_BYTES → k ≤ MAX_RECORDS_BYTES → 1 ≤ length ts → length ts ≤ fuel
       → n + length ts ≤ 2 ^ 32 → AllByRecursion (IsChild s) ts → last_number ts + 1 ≡ n → n + length (levels_above fuel k n ts) ≡ root + 1
       → AreAt bytes n (map (inner_page s.size) (levels_above fuel k n ts)) → LevelTrees n ts pairs → Rooted root pairs
-  levels_tree zero k n root ts pairs some two eight room few one enough small fits last e at level = absurd (omega arith)
-  levels_tree (suc f) k n root [] pairs some two eight room few one enough small fits last e at level = absurd (omega arith)
-  levels_tree (suc f) k n root (t ∷ []) pairs some two eight room few one enough small fits last e at level =
+  levels_tree zero k n root ts pairs some two eight room count_bounded one enough bounded fits last e at level = absurd (omega arith)
+  levels_tree (suc f) k n root [] pairs some two eight room count_bounded one enough bounded fits last e at level = absurd (omega arith)
+  levels_tree (suc f) k n root (t ∷ []) pairs some two eight room count_bounded one enough bounded fits last e at level =
       let same : root ≡ t.page = omega arith in
       rw same (record { pages = level.pages; tree = level.tree; once = level.once })
-  levels_tree (suc f) k n root (t ∷ u ∷ ts) pairs some two eight room few one enough small fits last e at level =
+  levels_tree (suc f) k n root (t ∷ u ∷ ts) pairs some two eight room count_bounded one enough bounded fits last e at level =
       let all : List ChildEntry = t ∷ u ∷ ts in
       let gs : List (List ChildEntry) = next_level k all in
       let m : ℕ = n + length gs in
@@ -196,9 +196,9 @@ module _ (s : PageLayout) (bytes : List ℕ) where
       let many : length all ≢ 1 = λ h. absurd (omega arith) in
       let half : length gs + length gs ≤ length all = next_half k all two many in
       let parts = at_append bytes n m (map (inner_page s.size) gs) (map (inner_page s.size) above) (omega (arith, length-map gs (inner_page s.size))) (subst (λ ps. AreAt bytes n ps) (map-append (inner_page s.size) gs above) at) in
-      let up = next k n m all pairs some two room few many fits refl parts.0 level in
+      let up = next k n m all pairs some two room count_bounded many fits refl parts.0 level in
       let long : length ups ≡ length gs = length-child_entries last_entry_key n gs in
-      levels_tree f k m root ups pairs (omega arith) two eight room few (omega arith) (omega arith) (omega arith)
+      levels_tree f k m root ups pairs (omega arith) two eight room count_bounded (omega arith) (omega arith) (omega arith)
       (next_fits s k n all some (omega arith) eight (omega arith) fits) (last_of_child_entries last_entry_key n gs (omega arith))
       (omega (arith, length-append gs above)) parts.1 up
 
@@ -206,11 +206,11 @@ module _ (s : PageLayout) (bytes : List ℕ) where
 
   pub leaf_trees : (k n : ℕ) (gs : List (List Pair)) → 1 ≤ n → s.key_len + 8 ≤ s.size → k * s.size ≤ MAX_RECORDS_BYTES → k ≤ MAX_RECORDS_BYTES → AllByRecursion (HasSize 0 k) gs → AllByRecursion (AllByRecursion (Fits s)) gs
       → AreAt bytes n (map (leaf_page s.size) gs) → Trees s bytes (numbers (child_entries last_key n gs)) (numbers (child_entries last_key n gs)) (joined gs)
-  leaf_trees k n [] some room fit few sizes fits at = none
-  leaf_trees k n (g ∷ gs) some room fit few sizes fits at =
+  leaf_trees k n [] some room fit count_bounded sizes fits at = none
+  leaf_trees k n (g ∷ gs) some room fit count_bounded sizes fits at =
       let product : length g * s.size ≤ k * s.size = mul-le-mul_right s.size sizes.0.high in
       let node = leaf_node s g room (omega arith) (omega (arith, sizes.0.high)) fits.0 in
-      at_leaf (record { whole = page_there bytes n some at.1; keeps = rw at.0 node }) (leaf_trees k (n + 1) gs (omega arith) room fit few sizes.1 fits.1 at.2)
+      at_leaf (record { whole = page_there bytes n some at.1; keeps = rw at.0 node }) (leaf_trees k (n + 1) gs (omega arith) room fit count_bounded sizes.1 fits.1 at.2)
 
 -- ---- the pages' lengths
 
@@ -231,13 +231,13 @@ module _ (s : PageLayout) where
 
   pub record Above (k : ℕ) (ts : List ChildEntry) (above : List (List ChildEntry)) : Type 0 where
     pub long : AllByRecursion (λ p. length p ≡ PAGE) (map (inner_page s.size) above)
-    pub few : length above ≤ length ts
+    pub count_bounded : length above ≤ length ts
 
   pub levels_long : (fuel k n : ℕ) (ts : List ChildEntry) → 1 ≤ n → 2 ≤ k → 8 ≤ s.size → k * s.size ≤ MAX_RECORDS_BYTES → n + length ts ≤ 2 ^ 32 → AllByRecursion (IsChild s) ts → Above k ts (levels_above fuel k n ts)
-  levels_long zero k n ts some two eight fit small fits = record { long = tt; few = omega arith }
-  levels_long (suc f) k n [] some two eight fit small fits = record { long = tt; few = omega arith }
-  levels_long (suc f) k n (t ∷ []) some two eight fit small fits = record { long = tt; few = omega arith }
-  levels_long (suc f) k n (t ∷ u ∷ ts) some two eight fit small fits =
+  levels_long zero k n ts some two eight fit bounded fits = record { long = tt; count_bounded = omega arith }
+  levels_long (suc f) k n [] some two eight fit bounded fits = record { long = tt; count_bounded = omega arith }
+  levels_long (suc f) k n (t ∷ []) some two eight fit bounded fits = record { long = tt; count_bounded = omega arith }
+  levels_long (suc f) k n (t ∷ u ∷ ts) some two eight fit bounded fits =
       let all : List ChildEntry = t ∷ u ∷ ts in
       let gs : List (List ChildEntry) = next_level k all in
       let ups : List ChildEntry = child_entries last_entry_key n gs in
@@ -250,5 +250,5 @@ module _ (s : PageLayout) where
       let pages = groups_long k gs fit (inner_groups k (length all) all two many) (all_groups (IsChild s) gs (rw join fits)) in
       record {
         long = subst (λ ps. AllByRecursion (λ p. length p ≡ PAGE) ps) (sym (map-append (inner_page s.size) gs above)) (all_both (λ p. length p ≡ PAGE) (map (inner_page s.size) gs) (map (inner_page s.size) above) pages more.long);
-        few = omega (arith, length-append gs above, more.few);
+        count_bounded = omega (arith, length-append gs above, more.count_bounded);
       }

@@ -108,7 +108,7 @@ held_below d a f p i pair can lt chosen =
         list = can.whole.list;
         apart = λ r. omega (arith, can.whole.apart r, total_at (λ x. uses d a x r) links i lt);
       };
-      few = can.few;
+      count_bounded = can.count_bounded;
       held = subst (λ l. Contains l pair) (get_or-map under links i 0 [] lt) (takes.held can.held);
     }
 

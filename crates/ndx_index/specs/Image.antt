@@ -126,7 +126,7 @@ pub record IsWritable (text : List ℕ) (key_len : ℕ) (pairs : List Pair) : Ty
   pub text_short : length text ≤ MAX_EXPRESSION_BYTES
   pub key_some : 1 ≤ key_len
   pub key_short : key_len ≤ MAX_KEY_BYTES
-  pub few : length pairs ≤ MAX_PAIRS
+  pub count_bounded : length pairs ≤ MAX_PAIRS
   pub each : AllByRecursion (λ p. (length p.key ≡ key_len) × (p.number < 2 ^ 32)) pairs
 
 -- ---- worked sizes

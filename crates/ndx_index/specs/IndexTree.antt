@@ -110,4 +110,4 @@ pub record IsPlain (a : List Page) (t : Root) : Type 0 where
   pub apart : (r : ℕ) → uses_in a t r ≤ 1
   pub once : (r : ℕ) → r < length a → uses_in a t r ≡ 1
   pub deep : t.levels ≤ length a
-  pub few : length a < 2 ^ 32
+  pub count_bounded : length a < 2 ^ 32

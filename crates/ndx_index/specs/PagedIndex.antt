@@ -22,7 +22,7 @@ pub record HoldsIndex (key_len : ℕ) (a : List Page) (f : FreeList) (t : Root) 
   pub apart : (r : ℕ) → uses_in a t r + uses_free a f r ≤ 1
   pub once : (r : ℕ) → r < length a → uses_in a t r + uses_free a f r ≡ 1
   pub deep : t.levels ≤ length a
-  pub few : length a < 2 ^ 32
+  pub count_bounded : length a < 2 ^ 32
 
 abbrev pub IsPaged : Inside → Type 0
 IsPaged x = HoldsIndex x.store.key_len x.store.pages x.free x.root

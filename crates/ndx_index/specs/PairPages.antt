@@ -27,7 +27,7 @@ pages_view x = record { key_len = x.slots.key_len; pages = pages_of x.counts.ite
 -- sixteen slots a page, and room for the spare ones
 pub record ArePages (x : Inside) : Type 0 where
   pub fit : length x.slots.pairs ≡ length x.counts.items * 16
-  pub small : AreSmall x.counts.items
+  pub bounded : AreSmall x.counts.items
   pub slots_room : x.spare * 16 ≤ x.slots.spare
-  pub few : length x.counts.items + x.spare < 2 ^ 32
+  pub count_bounded : length x.counts.items + x.spare < 2 ^ 32
   pub counts_room : length x.counts.items + x.spare ≤ vec_capacity x.counts

@@ -11,7 +11,7 @@ pub record IsShape (key_len size keys : ℕ) : Type 0 where
   pub size_is : size ≡ record_size key_len
   pub keys_are : keys ≡ page_keys key_len
   pub room : key_len + 8 ≤ size
-  pub small : size ≤ MAX_RECORDS_BYTES
+  pub bounded : size ≤ MAX_RECORDS_BYTES
   pub some : 2 ≤ keys
-  pub few : keys ≤ MAX_RECORDS_BYTES
+  pub count_bounded : keys ≤ MAX_RECORDS_BYTES
   pub fits : keys * size ≤ MAX_RECORDS_BYTES

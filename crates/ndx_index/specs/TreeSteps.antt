@@ -12,7 +12,7 @@ use Rattle.ndx_index.specs.IndexTree.{pairs_under, here, uses, uses_free, uses_b
 -- Pages a with free list f became b with free list g, and there are more free pages by new ones alone.
 pub record MakesFree (a b : List Page) (f g : FreeList) : Type 0 where
   pub longer : length a ≤ length b
-  pub few : length a < 2 ^ 32 → length b < 2 ^ 32
+  pub count_bounded : length a < 2 ^ 32 → length b < 2 ^ 32
   pub more : f.count ≤ g.count
   pub list : IsFreeList b g
   pub apart : (r : ℕ) → uses_free b g r ≤ 1
@@ -119,7 +119,7 @@ pub record ChildWithRoom (d : ℕ) (a b : List Page) (f g : FreeList) (p : ℕ) 
 
 pub record CanRemove (d : ℕ) (a : List Page) (f : FreeList) (p : ℕ) (pair : Pair) : Type 0 where
   pub whole : IsSubtreeApart d a f p
-  pub few : length a < 2 ^ 32
+  pub count_bounded : length a < 2 ^ 32
   pub held : Contains (pairs_under d a p) pair
 
 pub record Removes (d : ℕ) (a b : List Page) (f g : FreeList) (p : ℕ) (pair : Pair) : Type 0 where
@@ -148,7 +148,7 @@ pub record CanAppend (d : ℕ) (a : List Page) (p : ℕ) (ps : List Pair) : Type
 -- the old pages but those under p stay, and new pages come after them
 pub record Extends (d : ℕ) (a b : List Page) (p : ℕ) : Type 0 where
   pub longer : length a ≤ length b
-  pub few : length a < 2 ^ 32 → length b < 2 ^ 32
+  pub count_bounded : length a < 2 ^ 32 → length b < 2 ^ 32
   pub frame : (r : ℕ) → r < length a → uses d a p r ≡ 0 → page_in b r ≡ page_in a r
 
 pub record AppendsUnder (d : ℕ) (a b : List Page) (p : ℕ) (ps : List Pair) : Type 0 where
@@ -163,7 +163,7 @@ pub record AppendsUnder (d : ℕ) (a b : List Page) (p : ℕ) (ps : List Pair) :
 -- no old page changes, and q's are the new ones
 pub record AppendsBeside (d : ℕ) (a b : List Page) (ps : List Pair) (q : ℕ) : Type 0 where
   pub longer : length a ≤ length b
-  pub few : length a < 2 ^ 32 → length b < 2 ^ 32
+  pub count_bounded : length a < 2 ^ 32 → length b < 2 ^ 32
   pub frame : (r : ℕ) → r < length a → page_in b r ≡ page_in a r
   pub pairs : pairs_under d b q ≡ ps
   pub tree : IsTree d b q
@@ -185,7 +185,7 @@ AddsLink a b p c k (Some q) = (q ≡ length a) × (length b < 2 ^ 32) × (b ≡ 
 pub record IsOver (a b : List Page) (t : Root) (q : ℕ) (k : Pair) (new : Root) : Type 0 where
   pub levels : new.levels ≡ t.levels + 1
   pub page : new.page ≡ length a
-  pub few : length b < 2 ^ 32
+  pub count_bounded : length b < 2 ^ 32
   pub pages : b ≡ a ++ record { pairs = k ∷ []; links = t.page ∷ q ∷ [] } ∷ []
 
 -- ---- steps of a tree by its top
@@ -200,7 +200,7 @@ pub record IsTreeApart (a : List Page) (f : FreeList) (t : Root) : Type 0 where
 pub record CanInsertIn (a : List Page) (f : FreeList) (t : Root) (pair : Pair) : Type 0 where
   pub whole : IsTreeApart a f t
   pub enough : t.levels < f.count
-  pub few : length a < 2 ^ 32
+  pub count_bounded : length a < 2 ^ 32
   pub absent : Contains (pairs_in a t) pair → ⊥
 
 -- the pages in the tree and the free ones are the same together
@@ -216,7 +216,7 @@ pub record InsertsIn (a b : List Page) (f g : FreeList) (t u : Root) (pair : Pai
 pub record CanRaise (a : List Page) (f : FreeList) (t : Root) : Type 0 where
   pub whole : IsTreeApart a f t
   pub levels : 0 < t.levels
-  pub few : t.levels < 2 ^ 32
+  pub count_bounded : t.levels < 2 ^ 32
   pub some : 0 < f.count
 
 pub record Raises (a b : List Page) (f g : FreeList) (t u : Root) : Type 0 where
@@ -230,7 +230,7 @@ pub record Raises (a b : List Page) (f g : FreeList) (t u : Root) : Type 0 where
 
 pub record CanRemoveIn (a : List Page) (f : FreeList) (t : Root) (pair : Pair) : Type 0 where
   pub whole : IsTreeApart a f t
-  pub few : length a < 2 ^ 32
+  pub count_bounded : length a < 2 ^ 32
   pub held : Contains (pairs_in a t) pair
 
 -- the pages in the tree and the free ones are the same together

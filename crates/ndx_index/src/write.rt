@@ -72,11 +72,11 @@ pub fn write_ndx<S: ByteSink>(
     expr: &KeyExpr,
     pairs: &PairList,
 ) -> Result<(), WriteFault>
-    requires few { length pairs.now.pairs ≤ MAX_PAIRS }
+    requires count_bounded { length pairs.now.pairs ≤ MAX_PAIRS }
     requires keys { HaveLength (key_length expr.now.fields expr.now.expr) pairs.now.pairs }
     requires ordered { AreInOrder pairs.now.pairs }
     ensures wrote { OnOk result (S.written sink.new ≡ grown (S.written sink.old) (ndx_image expr.now.text (key_length expr.now.fields expr.now.expr) pairs.now.pairs)) }
-    ensures fine { OnOk result (S.failures sink.new ≡ S.failures sink.old) }
+    ensures no_failure { OnOk result (S.failures sink.new ≡ S.failures sink.old) }
     ensures dated { result ≡ Err WriteFault.DateOutside → ⊥ }
     ensures blocks { result ≡ Err WriteFault.TooManyBlocks → ⊥ }
     ensures failed { result ≡ Err WriteFault.Sink → Rises (S.failures sink.old) (S.failures sink.new) }

@@ -39,7 +39,7 @@ impl Closed {
     /// How many tables were opened: 10 at most.
     pub fn table_count(&self) -> usize
         ensures value { result ≡ length self.now.opened.tables }
-        ensures few { length self.now.opened.tables ≤ MAX_TABLES }
+        ensures count_bounded { length self.now.opened.tables ≤ MAX_TABLES }
     {
         self.catalogue.table_count()
     }

@@ -94,7 +94,7 @@ fn merge_shares<J: Naming>(mut whole: Share<J>, mut seats: Vec<Seat<J>>) -> Shar
 
 // The lowest station whose receipts are not its entries.
 fn first_mismatch(journal: &[Entry], receipts: &[Receipts]) -> Option<u32>
-    requires few { length receipts.now < 2 ^ 32 }
+    requires count_bounded { length receipts.now < 2 ^ 32 }
     ensures some { IfSome result (IsLowestMismatch journal.now receipts.now) }
     ensures none { IfNone result (AreOwn journal.now receipts.now (length receipts.now)) }
 {

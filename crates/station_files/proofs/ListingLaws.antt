@@ -34,9 +34,9 @@ listing_read (f ∷ fs) all =
     let bytes : files_read (f.bytes ++ listing fs) ≡ before f.bytes (at_mark fs) = text_read f.bytes (listing fs) all.0.bytes ∙ ap (before f.bytes) rest in
     let named : files_read (f.name ++ 257 ∷ (f.bytes ++ listing fs)) ≡ before f.name (with_one_more 257 (before f.bytes (at_mark fs))) =
     text_read f.name (257 ∷ (f.bytes ++ listing fs)) all.0.name ∙ ap (λ (r : FilesRead). before f.name (with_one_more 257 r)) bytes in
-    let cut : listing (f ∷ fs) ≡ 256 ∷ (f.name ++ 257 ∷ (f.bytes ++ listing fs)) =
+    let whole_before_fault : listing (f ∷ fs) ≡ 256 ∷ (f.name ++ 257 ∷ (f.bytes ++ listing fs)) =
     ap (λ (l : List ℕ). 256 ∷ l) (append_assoc (f.name ++ 257 ∷ []) f.bytes (listing fs) ∙ append_assoc f.name (257 ∷ []) (f.bytes ++ listing fs)) in
-    ap files_read cut ∙ ap (with_one_more 256) named
+    ap files_read whole_before_fault ∙ ap (with_one_more 256) named
     ∙ ap (λ (name : List ℕ). at_mark (record { name = name; bytes = f.bytes ++ [] } ∷ fs)) (append-nil f.name)
     ∙ ap (λ (text : List ℕ). at_mark (record { name = f.name; bytes = text } ∷ fs)) (append-nil f.bytes)
 

@@ -101,7 +101,7 @@ cut_at ps files old new i p name all lt is e whole front =
     let order : files ≡ map file_of (take i ps) ++ file_of p ∷ map file_of (drop (i + 1) ps) =
     sym all ∙ (ap (λ (qs : List Planned). map file_of qs) parts ∙ map_behind (take i ps) (p ∷ drop (i + 1) ps)) in
     let upto : map file_of (take (i + 1) ps) ≡ map file_of (take i ps) ++ file_of p ∷ [] = ap (λ (qs : List Planned). map file_of qs) here ∙ map_last (take i ps) p in
-    let cut : IsCutAt p.name old new files = record {
+    let whole_before_fault : IsCutAt p.name old new files = record {
       before = map file_of (take i ps);
       bytes = bytes_of p.content;
       others = map file_of (drop (i + 1) ps);
@@ -109,7 +109,7 @@ cut_at ps files old new i p name all lt is e whole front =
       whole = whole;
       front = subst (λ (fs : List NamedFile). IsFront new (grown old (listing fs))) upto front;
     } in
-    subst (λ (n : List ℕ). IsCutAt n old new files) e cut
+    subst (λ (n : List ℕ). IsCutAt n old new files) e whole_before_fault
 
 index_map_last : (xs : List IndexContent) (x : IndexContent) → map index_file (xs ++ x ∷ []) ≡ map index_file xs ++ index_file x ∷ []
 index_map_last [] x = refl

@@ -19,6 +19,6 @@ index_with name e pairs = record { name = name; text = e.text; key_len = key_len
 
 -- the pairs are those of an index of this expression
 pub record IsHeldIndex (e : Expression) (pairs : List Pair) : Type 0 where
-  pub few : length pairs ≤ MAX_PAIRS
+  pub count_bounded : length pairs ≤ MAX_PAIRS
   pub keys : HaveLength (key_length e.fields e.expr) pairs
   pub ordered : AreInOrder pairs

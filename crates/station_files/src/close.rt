@@ -45,9 +45,9 @@ pub(crate) fn first_too_many(tables: &[ClosedTable]) -> Option<usize>
 fn write_table<S: ByteSink>(sink: &mut S, table: &TableData, day: Day) -> Result<(), SinkFault>
     requires low { 1900 ≤ day.year }
     requires high { day.year ≤ 2155 }
-    requires few { has_too_many_blocks table.now ≡ false }
+    requires blocks_fit { has_too_many_blocks table.now ≡ false }
     ensures wrote { OnOk result (S.written sink.new ≡ grown (S.written sink.old) (image table.now day.year day.month day.day)) }
-    ensures fine { OnOk result (S.failures sink.new ≡ S.failures sink.old) }
+    ensures no_failure { OnOk result (S.failures sink.new ≡ S.failures sink.old) }
     ensures failed { OnErr result (Rises (S.failures sink.old) (S.failures sink.new)) }
     ensures kept { IsFront (S.written sink.old) (S.written sink.new) }
     ensures front { OnErr result (IsFront (S.written sink.new) (grown (S.written sink.old) (image table.now day.year day.month day.day))) }
@@ -61,9 +61,9 @@ fn write_table<S: ByteSink>(sink: &mut S, table: &TableData, day: Day) -> Result
 
 // Writes the file of a table's memos.
 fn write_memos<S: ByteSink>(sink: &mut S, table: &TableData) -> Result<(), SinkFault>
-    requires few { has_too_many_blocks table.now ≡ false }
+    requires blocks_fit { has_too_many_blocks table.now ≡ false }
     ensures wrote { OnOk result (S.written sink.new ≡ grown (S.written sink.old) (memo_image table.now)) }
-    ensures fine { OnOk result (S.failures sink.new ≡ S.failures sink.old) }
+    ensures no_failure { OnOk result (S.failures sink.new ≡ S.failures sink.old) }
     ensures failed { OnErr result (Rises (S.failures sink.old) (S.failures sink.new)) }
     ensures kept { IsFront (S.written sink.old) (S.written sink.new) }
     ensures front { OnErr result (IsFront (S.written sink.new) (grown (S.written sink.old) (memo_image table.now))) }
@@ -82,7 +82,7 @@ pub(crate) fn write_content<S: ByteSink>(
 ) -> Result<(), SinkFault>
     requires can { is_writable content.now ≡ true }
     ensures wrote { OnOk result (S.written sink.new ≡ grown (S.written sink.old) (bytes_of content.now)) }
-    ensures fine { OnOk result (S.failures sink.new ≡ S.failures sink.old) }
+    ensures no_failure { OnOk result (S.failures sink.new ≡ S.failures sink.old) }
     ensures failed { OnErr result (Rises (S.failures sink.old) (S.failures sink.new)) }
     ensures kept { IsFront (S.written sink.old) (S.written sink.new) }
     ensures front { OnErr result (IsFront (S.written sink.new) (grown (S.written sink.old) (bytes_of content.now))) }
@@ -104,7 +104,7 @@ fn write_file<F: Folder>(
 ) -> Result<(), SinkFault>
     requires can { is_writable content.now ≡ true }
     ensures wrote { OnOk result (F.written folder.new ≡ grown (F.written folder.old) (listing (file_named name.now content.now ∷ []))) }
-    ensures fine { OnOk result (F.failures folder.new ≡ F.failures folder.old) }
+    ensures no_failure { OnOk result (F.failures folder.new ≡ F.failures folder.old) }
     ensures failed { OnErr result (Rises (F.failures folder.old) (F.failures folder.new)) }
     ensures kept { IsFront (F.written folder.old) (F.written folder.new) }
     ensures front { OnErr result (IsFront (F.written folder.new) (grown (F.written folder.old) (listing (file_named name.now content.now ∷ [])))) }
@@ -117,7 +117,7 @@ fn write_file<F: Folder>(
 // Writes the files in their order. An error tells the place of the one that was not written, or not whole.
 fn write_files<F: Folder>(folder: &mut F, planned: &[Planned<'_>]) -> Result<(), usize>
     ensures wrote { OnOk result (F.written folder.new ≡ grown (F.written folder.old) (listing (map file_of planned.now))) }
-    ensures fine { OnOk result (F.failures folder.new ≡ F.failures folder.old) }
+    ensures no_failure { OnOk result (F.failures folder.new ≡ F.failures folder.old) }
     ensures failed { OnErr result (Rises (F.failures folder.old) (F.failures folder.new)) }
     ensures inside { IfErr result (λ place. place < length planned.now) }
     ensures whole { IfErr result (λ place. IsFront (grown (F.written folder.old) (listing (map file_of (take place planned.now)))) (F.written folder.new)) }
@@ -148,15 +148,15 @@ pub fn close_files<F: Folder>(
     folder: &mut F,
 ) -> Result<(), CloseFault>
     ensures wrote { OnOk result (F.written folder.new ≡ grown (F.written folder.old) (listing (run_files day.year day.month day.day tables.now answers.now))) }
-    ensures fine { OnOk result (F.failures folder.new ≡ F.failures folder.old) }
+    ensures no_failure { OnOk result (F.failures folder.new ≡ F.failures folder.old) }
     // Names and files are of bytes, so what is added to the folder's list tells them, and no other files.
     ensures bytes { OnOk result (AllByRecursion IsOfBytes (run_files day.year day.month day.day tables.now answers.now)) }
     ensures told { OnOk result (files_in (listing (run_files day.year day.month day.day tables.now answers.now)) ≡ run_files day.year day.month day.day tables.now answers.now) }
     ensures outside { (result ≡ Err CloseFault.DateOutside) ↔ IsOutside day.year }
     ensures blocks { (number : ℕ) → ((result ≡ Err (CloseFault.TooManyBlocks number)) ↔ ((IsOutside day.year → ⊥) × (first_blocked 1 tables.now ≡ Some number))) }
-    ensures unbegun { IfErr result (λ fault. ((name : List ℕ) → fault ≢ CloseFault.Write name) → folder.new ≡ folder.old) }
+    ensures no_file_begun { IfErr result (λ fault. ((name : List ℕ) → fault ≢ CloseFault.Write name) → folder.new ≡ folder.old) }
     ensures failed { (name : List ℕ) → result ≡ Err (CloseFault.Write name) → Rises (F.failures folder.old) (F.failures folder.new) }
-    ensures cut { (name : List ℕ) → result ≡ Err (CloseFault.Write name) → IsCutAt name (F.written folder.old) (F.written folder.new) (run_files day.year day.month day.day tables.now answers.now) }
+    ensures whole_before_fault { (name : List ℕ) → result ≡ Err (CloseFault.Write name) → IsCutAt name (F.written folder.old) (F.written folder.new) (run_files day.year day.month day.day tables.now answers.now) }
 {
     if day.year < 1900 || day.year > 2155 {
         return Err(CloseFault::DateOutside);

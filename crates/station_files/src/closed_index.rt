@@ -39,7 +39,7 @@ impl ClosedIndex {
     /// The index of a name, a key expression and its pairs: each key has its length, and they stand in order,
     /// 1,000,000,000 at most. Takes no memory.
     pub fn new(name: Bytes, expr: KeyExpr, pairs: PairList) -> ClosedIndex
-        requires few { length pairs.pairs ≤ MAX_PAIRS }
+        requires count_bounded { length pairs.pairs ≤ MAX_PAIRS }
         requires keys { HaveLength (key_length expr.fields expr.expr) pairs.pairs }
         requires ordered { AreInOrder pairs.pairs }
         ensures value { result ≡ index_with name expr pairs.pairs }
@@ -57,7 +57,7 @@ impl ClosedIndex {
     /// Writes the index's file into a sink. An error says that the sink failed.
     pub(crate) fn write<S: ByteSink>(&self, sink: &mut S) -> Result<(), SinkFault>
         ensures wrote { OnOk result (S.written sink.new ≡ grown (S.written sink.old) (ndx_image self.now.text self.now.key_len self.now.pairs)) }
-        ensures fine { OnOk result (S.failures sink.new ≡ S.failures sink.old) }
+        ensures no_failure { OnOk result (S.failures sink.new ≡ S.failures sink.old) }
         ensures failed { OnErr result (Rises (S.failures sink.old) (S.failures sink.new)) }
         ensures kept { IsFront (S.written sink.old) (S.written sink.new) }
         ensures front { OnErr result (IsFront (S.written sink.new) (grown (S.written sink.old) (ndx_image self.now.text self.now.key_len self.now.pairs))) }

@@ -16,8 +16,8 @@ pub trait Folder: ByteSink {
     /// Begins an empty file, to which what is written from now on goes. An `Err` says that none was begun.
     fn begin(&mut self, name: &[u8]) -> Result<(), SinkFault>
         ensures begun { OnOk result (Self.written self.new ≡ grown (Self.written self.old) (opening name.now)) }
-        ensures fine { OnOk result (Self.failures self.new ≡ Self.failures self.old) }
-        ensures unbegun { OnErr result (Self.written self.new ≡ Self.written self.old) }
+        ensures no_failure { OnOk result (Self.failures self.new ≡ Self.failures self.old) }
+        ensures no_file_begun { OnErr result (Self.written self.new ≡ Self.written self.old) }
         ensures failed { OnErr result (Rises (Self.failures self.old) (Self.failures self.new)) };
 }
 

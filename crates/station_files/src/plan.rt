@@ -45,7 +45,7 @@ fn plan_records<'a>(
 ) -> Result<(), AllocError>
     requires low { 1900 ≤ day.year }
     requires high { day.year ≤ 2155 }
-    requires few { has_too_many closed.now.content ≡ false }
+    requires blocks_fit { has_too_many closed.now.content ≡ false }
     ensures files { OnOk result (map file_of planned.new.items ≡ map file_of planned.old.items ++ dbf_file day.year day.month day.day closed.now ∷ []) }
 {
     planned.push(Planned {
@@ -61,7 +61,7 @@ fn plan_memos<'a>(
     planned: &mut Vec<Planned<'a>>,
     closed: &'a ClosedTable,
 ) -> Result<(), AllocError>
-    requires few { has_too_many closed.now.content ≡ false }
+    requires blocks_fit { has_too_many closed.now.content ≡ false }
     ensures files { OnOk result (map file_of planned.new.items ≡ map file_of planned.old.items ++ memo_files closed.now) }
 {
     if has_memos(closed.content.schema().fields()) {
@@ -111,7 +111,7 @@ fn plan_table<'a>(
 ) -> Result<(), AllocError>
     requires low { 1900 ≤ day.year }
     requires high { day.year ≤ 2155 }
-    requires few { has_too_many closed.now.content ≡ false }
+    requires blocks_fit { has_too_many closed.now.content ≡ false }
     ensures files { OnOk result (map file_of planned.new.items ≡ map file_of planned.old.items ++ table_files day.year day.month day.day closed.now) }
 {
     plan_records(alloc, planned, closed, day)?;
@@ -129,7 +129,7 @@ fn plan_tables<'a>(
 ) -> Result<(), AllocError>
     requires low { 1900 ≤ day.year }
     requires high { day.year ≤ 2155 }
-    requires few { first_blocked 1 tables.now ≡ None }
+    requires blocks_fit { first_blocked 1 tables.now ≡ None }
     ensures files { OnOk result (map file_of planned.new.items ≡ map file_of planned.old.items ++ tables_files day.year day.month day.day tables.now) }
 {
     for closed in tables {
@@ -166,7 +166,7 @@ pub(crate) fn plan_files<'a>(
 ) -> Result<Vec<Planned<'a>>, AllocError>
     requires low { 1900 ≤ day.year }
     requires high { day.year ≤ 2155 }
-    requires few { first_blocked 1 tables.now ≡ None }
+    requires blocks_fit { first_blocked 1 tables.now ≡ None }
     ensures files { IfOk result (λ planned. map file_of planned.items ≡ run_files day.year day.month day.day tables.now answers.now) }
 {
     let mut planned = Vec::new(alloc);

@@ -64,7 +64,7 @@ pub trait Source {
     fn load(&mut self, alloc: Global, path: &[u8]) -> Result<Bytes, LoadFault>
         ensures found { IfOk result (λ bytes. IsFileOf (files self.old) path.now bytes) }
         ensures kept { files self.new ≡ files self.old }
-        ensures fine { OnOk result (failures self.new ≡ failures self.old) }
+        ensures no_failure { OnOk result (failures self.new ≡ failures self.old) }
         ensures early { IsUnreadable (files self.old) path.now → result ≡ Err LoadFault.CannotRead }
         ensures memory { result ≡ Err LoadFault.NoMemory → failures self.new ≡ failures self.old }
         ensures unread { result ≡ Err LoadFault.CannotRead → Rises (failures self.old) (failures self.new) ⊎ IsTooLong (files self.old) path.now };

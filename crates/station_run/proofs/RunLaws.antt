@@ -38,8 +38,8 @@ shown_first script line rest x more begins means h = (line ∷ h.0, (rest, begin
 
 -- what is shown of a history with many entries is shown of one with fewer
 shown_least : (opened : Opened) (least n : ℕ) (x : Shown) → n ≤ least → IsShownOf opened least x → IsShownOf opened n x
-shown_least opened least n (answered r) few h = tt
-shown_least opened least n (status shown) few h =
+shown_least opened least n (answered r) count_bounded h = tt
+shown_least opened least n (status shown) count_bounded h =
     let is = h.1 in
     let entries = is.long in
     (h.0, record { named = is.named; legal = is.legal; of_stations = is.of_stations; long = omega arith }, h.2)
@@ -66,11 +66,11 @@ pub up_to_shown : (opened : Opened) (rest line after : List ℕ) (station : ℕ)
 up_to_shown opened rest line after station script s t x up begins means with =
     let had = up.1 in
     let own : length s.receipts ≡ length (receipts_of up.0) = ap length had.receipts in
-    let few : 0 + length (receipts_of up.0) ≤ s.seat.share = omega (arith, own, had.counted) in
+    let count_bounded : 0 + length (receipts_of up.0) ≤ s.seat.share = omega (arith, own, had.counted) in
     let grown : length t.receipts ≡ length s.receipts + length (receipt_in x) = ap length with.receipts ∙ length-append s.receipts (receipt_in x) in (
       up.0 ++ x ∷ [],
       record {
-        of_tables = shown_of-push opened 0 up.0 x had.of_tables (shown_least opened s.seat.share (0 + length (receipts_of up.0)) x few with.of_tables);
+        of_tables = shown_of-push opened 0 up.0 x had.of_tables (shown_least opened s.seat.share (0 + length (receipts_of up.0)) x count_bounded with.of_tables);
         station_is = with.station ∙ up.1.station_is;
         counted = omega (arith, grown, had.counted, with.share);
         receipts = with.receipts ∙ ap (λ (l : List Receipt). l ++ receipt_in x) up.1.receipts ∙ sym (receipts_of-push up.0 x);

@@ -66,7 +66,7 @@ pub record IsMemoOf (table : Table) (t : Target) (text : List ℕ) : Type 0 wher
 
 -- one more record has room, in the table and in each index
 pub record CanAdd (held : Held) : Type 0 where
-  pub few : record_count held.content < MAX_RECORDS
+  pub count_bounded : record_count held.content < MAX_RECORDS
   pub for_record : held.room.for_record ≡ true
   pub for_pairs : held.room.for_pairs ≡ true
 

@@ -44,7 +44,7 @@ AreNewIndexes before own (name ∷ names) = (is_index_name before own name ≡ f
 
 pub record IsNewTable (before : List Heading) (t : Heading) : Type 0 where
   pub named : includes_name (map (λ (b : Heading). b.0) before) t.0 ≡ false
-  pub few : nat_le (length t.1) MAX_INDEXES ≡ true
+  pub count_bounded : nat_le (length t.1) MAX_INDEXES ≡ true
   pub indexes : AreNewIndexes before [] t.1
 
 abbrev pub AreNewTables : List Heading → List Heading → Type 0
@@ -158,7 +158,7 @@ table_opened reindex earlier source t h =
       ap heading same ∙ ap (λ (l : List (List ℕ)). let r : Heading = (source.name, l) in r) names.0,
       record {
         named = sym (has_table-names earlier source.name) ∙ both.0;
-        few = ap (λ (n : ℕ). nat_le n MAX_INDEXES) long ∙ both.1;
+        count_bounded = ap (λ (n : ℕ). nat_le n MAX_INDEXES) long ∙ both.1;
         indexes = names.1;
       },
     )

@@ -163,9 +163,9 @@ of_table : (h : History) (number year month day : ℕ) (reindex : Bool) (earlier
     → IsHandedOver h number closed → has_too_many closed.content ≡ false → IsNewTable (map heading earlier) (source_heading source) → IsTableReadBack year month day closed source
     → TableOpening reindex earlier source outcome
     → ComesTo (IsOpenedAsLeft h number) outcome
-of_table h number year month day reindex earlier closed source outcome own few new back opening =
+of_table h number year month day reindex earlier closed source outcome own blocks_fit new back opening =
     let left : Content = end_of h number in
-    let same : source.content ≡ closed.content = read_again year month day closed.content source.content own.table few back.content in
+    let same : source.content ≡ closed.content = read_again year month day closed.content source.content own.table blocks_fit back.content in
     let made : closed.indexes.items ≡ map (index_of closed.content) left.indexes = own.indexes ∙ ap (λ (x : Table). map (index_of x) left.indexes) (sym own.content) in
     let read : AreIndexesReadBack (map (index_of closed.content) left.indexes) source.indexes.items = subst (λ (l : List IndexContent). AreIndexesReadBack l source.indexes.items) made back.indexes in
     let Q : Content → Type 0 = λ next. (next.table ≡ closed.content) × (next.indexes ≡ map trimmed_index left.indexes) in
@@ -173,7 +173,7 @@ of_table h number year month day reindex earlier closed source outcome own few n
     let named : Content → NamedTable = λ next. record { name = source.name; content = next } in
     let count : length source.indexes.items ≡ length (source_names source.indexes.items) = sym (length-map source.indexes.items (λ (i : IndexSource). i.name)) in
     let passed : first_fault (table_tests earlier source) ≡ None = passes_two (has_table earlier source.name) (nat_le (length source.indexes.items) MAX_INDEXES) (DuplicateTable (next_table earlier)) (TooManyIndexes (next_table earlier))
-    (has_table-names earlier source.name ∙ new.named) (ap (λ (n : ℕ). nat_le n MAX_INDEXES) count ∙ new.few) in
+    (has_table-names earlier source.name ∙ new.named) (ap (λ (n : ℕ). nat_le n MAX_INDEXES) count ∙ new.count_bounded) in
     let rest : Content → Result NamedTable OpenFault → Type 0 = λ next. Made (named next) in
     of_tests (IsOpenedAsLeft h number) (table_tests earlier source) (Then first rest) outcome passed (λ k.
     of_first Q (IsOpenedAsLeft h number) first rest outcome
@@ -236,9 +236,9 @@ not_blocked false number rest e = (refl, e)
 
 handed_from : (h : History) (number : ℕ) (tables : List ClosedTable) (first : ℕ)
     → ((i : ℕ) → i < length tables → (closed : ClosedTable) × (slice_get tables i ≡ Some closed) × IsHandedOver h (number + i) closed) → first_blocked first tables ≡ None → HandedFrom h number tables
-handed_from h number [] first each few = tt
-handed_from h number (x ∷ xs) first each few =
-    let blocks = not_blocked (has_too_many x.content) first (first_blocked (first + 1) xs) few in
+handed_from h number [] first each blocks_fit = tt
+handed_from h number (x ∷ xs) first each blocks_fit =
+    let blocks = not_blocked (has_too_many x.content) first (first_blocked (first + 1) xs) blocks_fit in
     let head = each 0 (omega arith) in
     let same : head.0 ≡ x = cc in
     let here : number + 0 ≡ number = omega arith in
@@ -262,14 +262,14 @@ le_test m n h = grind (arith, nat_tests)
 
 pub opens_as_left : (given : Bool) (seats : ℕ) (read : List TableSource) (h : History) (tables : List ClosedTable) → Opening given seats read (Ok h.opened.tables) → AreHandedOver h tables → first_blocked 1 tables ≡ None
     → OpenAsLeft h tables
-opens_as_left given seats read h tables start handed few year month day sources back reindex stations outcome some most opening =
+opens_as_left given seats read h tables start handed blocks_fit year month day sources back reindex stations outcome some most opening =
     let none : List NamedTable = [] in
     let n : ℕ = length none + length tables in
     let P : List NamedTable → Type 0 = λ opened. (length opened ≡ n) × EachIsOpened h opened in
     let left : HandedFrom h 1 tables = handed_from h 1 tables 1 (λ i low.
     let r = handed.each i (omega (arith, low, handed.count)) in
     let there : i + 1 ≡ 1 + i = omega arith in
-    (r.0, r.1, subst (λ (k : ℕ). IsHandedOver h k r.0) there r.2)) few in
+    (r.0, r.1, subst (λ (k : ℕ). IsHandedOver h k r.0) there r.2)) blocks_fit in
     let began = passing_ok (count_tests (length read) seats) (TablesOpening given none read) h.opened.tables start in
     let first = tables_opened given none read h.opened.tables began.1 in
     let same : map source_heading sources ≡ map source_heading read = read_headings year month day tables sources back ∙ handed_headings h tables handed ∙ first.0 in

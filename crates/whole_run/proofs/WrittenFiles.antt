@@ -50,19 +50,19 @@ few_blocks table e = grind (arith, nat_tests)
 
 written_by : (year month day : ℕ) (table : Table) (memos : Bool) → has_memos table.schema ≡ memos → IsTable table → has_too_many table ≡ false
     → IsDbf (image table year month day) (cond memos (Some (memo_image table)) None) table
-written_by year month day table true e t few = is_dbf_image table year month day t (few_blocks table few)
-written_by year month day table false e t few = is_plain_image table year month day None t e
+written_by year month day table true e t blocks_fit = is_dbf_image table year month day t (few_blocks table blocks_fit)
+written_by year month day table false e t blocks_fit = is_plain_image table year month day None t e
 
 written_table : (year month day : ℕ) (table : Table) → IsTable table → has_too_many table ≡ false → IsDbf (image table year month day) (memos_of table) table
-written_table year month day table t few = written_by year month day table (has_memos table.schema) refl t few
+written_table year month day table t blocks_fit = written_by year month day table (has_memos table.schema) refl t blocks_fit
 
 pub read_again : (year month day : ℕ) (table read : Table) → IsTable table → has_too_many table ≡ false → IsDbf (image table year month day) (memos_of table) read → read ≡ table
-read_again year month day table read t few d =
+read_again year month day table read t blocks_fit d =
     let bytes = image table year month day in
-    sym (dbf_is bytes (memos_of table) read d).1 ∙ (dbf_is bytes (memos_of table) table (written_table year month day table t few)).1
+    sym (dbf_is bytes (memos_of table) read d).1 ∙ (dbf_is bytes (memos_of table) table (written_table year month day table t blocks_fit)).1
 
 pub again_read : (year month day : ℕ) (table read : Table) → IsTable table → has_too_many table ≡ false → read ≡ table → IsDbf (image table year month day) (memos_of table) read
-again_read year month day table read t few e = subst (λ (x : Table). IsDbf (image table year month day) (memos_of table) x) (sym e) (written_table year month day table t few)
+again_read year month day table read t blocks_fit e = subst (λ (x : Table). IsDbf (image table year month day) (memos_of table) x) (sym e) (written_table year month day table t blocks_fit)
 
 -- ---- the length of a key
 
@@ -124,9 +124,9 @@ written_index table index t i =
     let pairs : List Pair = order table e in
     let keys : HaveLength n pairs = all_weaker _ _ (λ (p : Pair) (k : length p.key ≡ key_length table.schema e). k ∙ long) pairs
     (all_in_order _ (pairs_of table e) (pairs_long table.schema table.rows e 1 i.read.kept t.fit)) in
-    let numbers : AllByRecursion (λ (p : Pair). p.number < 2 ^ 32) pairs = all_weaker (IsRecordPair table e) _ (λ p own. omega (arith, own.inside, t.few)) pairs (order_own table e) in
+    let numbers : AllByRecursion (λ (p : Pair). p.number < 2 ^ 32) pairs = all_weaker (IsRecordPair table e) _ (λ p own. omega (arith, own.inside, t.count_bounded)) pairs (order_own table e) in
     written_reads index.expr.text (key_length table.schema e) n pairs long i.read.short (key_some table.schema e t.fields tests) (refusal_short table.schema e i.read.kept)
-    (omega (arith, length-order table e, t.few)) keys numbers (no_zero table.schema index.expr.text e i.read)
+    (omega (arith, length-order table e, t.count_bounded)) keys numbers (no_zero table.schema index.expr.text e i.read)
 
 -- a file is of one index
 same_index : (bytes text text' : List ℕ) (n n' : ℕ) (pairs pairs' : List Pair) → IsIndex bytes text n pairs → IsIndex bytes text' n' pairs' → (text ≡ text') × (n ≡ n') × (pairs ≡ pairs')

@@ -77,12 +77,12 @@ fn write_files<F: Folder>(
     folder: &mut F,
 ) -> Result<(), ServeFault>
     ensures wrote { OnOk result (F.written folder.new ≡ grown (F.written folder.old) (listing (run_files today.year today.month today.day tables.now answers.now))) }
-    ensures few { OnOk result (first_blocked 1 tables.now ≡ None) }
-    ensures fine { OnOk result (F.failures folder.new ≡ F.failures folder.old) }
+    ensures blocks_fit { OnOk result (first_blocked 1 tables.now ≡ None) }
+    ensures no_failure { OnOk result (F.failures folder.new ≡ F.failures folder.old) }
     ensures fault { IfErr result (λ fault. IsWriteFault today.year tables.now fault) }
-    ensures unbegun { IfErr result (λ fault. ((name : List ℕ) → fault ≢ ServeFault.Close (CloseFault.Write name)) → folder.new ≡ folder.old) }
+    ensures no_file_begun { IfErr result (λ fault. ((name : List ℕ) → fault ≢ ServeFault.Close (CloseFault.Write name)) → folder.new ≡ folder.old) }
     ensures failed { (name : List ℕ) → result ≡ Err (ServeFault.Close (CloseFault.Write name)) → Rises (F.failures folder.old) (F.failures folder.new) }
-    ensures cut { (name : List ℕ) → result ≡ Err (ServeFault.Close (CloseFault.Write name)) → IsCutAt name (F.written folder.old) (F.written folder.new) (run_files today.year today.month today.day tables.now answers.now) }
+    ensures whole_before_fault { (name : List ℕ) → result ≡ Err (ServeFault.Close (CloseFault.Write name)) → IsCutAt name (F.written folder.old) (F.written folder.new) (run_files today.year today.month today.day tables.now answers.now) }
 {
     Ok(close_files(alloc, tables, answers, today, folder)?)
 }
@@ -107,15 +107,15 @@ pub fn serve<S: Source, F: Folder, G: Gate + Sync, R: Threads + Wait + Sync>(
     // The files of the replay of a legal journal, whose commands are the scripts' lines, on what the setup names. What was
     // written opens as the run left it: see `written_files_read_back`.
     ensures ran { IfOk result (IsServed (S.files source.old) setup.now reindex today.year today.month today.day (F.written folder.old) (F.written folder.new)) }
-    ensures fine { OnOk result (F.failures folder.new ≡ F.failures folder.old) }
+    ensures no_failure { OnOk result (F.failures folder.new ≡ F.failures folder.old) }
     ensures kept { S.files source.new ≡ S.files source.old }
     ensures fault { IfErr result (IsServeFault (S.files source.old) setup.now reindex today.year) }
     // A file can't be read only where a load has failed, or where it is over the limit.
     ensures loads { OnOk result (S.failures source.new ≡ S.failures source.old) }
     ensures failure { IfErr result (IsFailure (S.files source.old) (S.failures source.old) (S.failures source.new)) }
-    ensures unbegun { IfErr result (λ fault. ((name : List ℕ) → fault ≢ ServeFault.Close (CloseFault.Write name)) → folder.new ≡ folder.old) }
+    ensures no_file_begun { IfErr result (λ fault. ((name : List ℕ) → fault ≢ ServeFault.Close (CloseFault.Write name)) → folder.new ≡ folder.old) }
     ensures failed { (name : List ℕ) → result ≡ Err (ServeFault.Close (CloseFault.Write name)) → Rises (F.failures folder.old) (F.failures folder.new) }
-    ensures cut { (name : List ℕ) → result ≡ Err (ServeFault.Close (CloseFault.Write name)) → (tables : List Table) × (answers : List (List ℕ)) × (count : ℕ) × IsWholeRun (S.files source.old) setup.now reindex tables answers count × IsCutAt name (F.written folder.old) (F.written folder.new) (run_files today.year today.month today.day tables answers) }
+    ensures whole_before_fault { (name : List ℕ) → result ≡ Err (ServeFault.Close (CloseFault.Write name)) → (tables : List Table) × (answers : List (List ℕ)) × (count : ℕ) × IsWholeRun (S.files source.old) setup.now reindex tables answers count × IsCutAt name (F.written folder.old) (F.written folder.new) (run_files today.year today.month today.day tables answers) }
 {
     let loaded = read_all(alloc, source, setup)?;
     let outcome = run_loaded(rt, alloc, loaded, reindex, gate)?;

@@ -14,7 +14,7 @@ pub(crate) type Waiting = ArrayVec<u8, 65536>;
 pub(crate) fn send<S: ByteSink>(sink: &mut S, waiting: &mut Waiting) -> Result<(), SinkFault>
     ensures wrote { OnOk result (S.written sink.new ≡ grown (S.written sink.old) waiting.old.items) }
     ensures none { OnOk result (waiting.new.items ≡ []) }
-    ensures fine { OnOk result (S.failures sink.new ≡ S.failures sink.old) }
+    ensures no_failure { OnOk result (S.failures sink.new ≡ S.failures sink.old) }
     ensures failed { OnErr result (Rises (S.failures sink.old) (S.failures sink.new)) }
     ensures kept { IsFront (S.written sink.old) (S.written sink.new) }
     ensures front { OnErr result (IsFront (S.written sink.new) (grown (S.written sink.old) waiting.old.items)) }
@@ -32,7 +32,7 @@ pub(crate) fn gather<S: ByteSink>(
     bytes: &[u8],
 ) -> Result<(), SinkFault>
     ensures put { OnOk result (grown (S.written sink.new) waiting.new.items ≡ grown (grown (S.written sink.old) waiting.old.items) bytes.now) }
-    ensures fine { OnOk result (S.failures sink.new ≡ S.failures sink.old) }
+    ensures no_failure { OnOk result (S.failures sink.new ≡ S.failures sink.old) }
     ensures failed { OnErr result (Rises (S.failures sink.old) (S.failures sink.new)) }
     ensures kept { IsFront (S.written sink.old) (S.written sink.new) }
     ensures front { OnErr result (IsFront (S.written sink.new) (grown (grown (S.written sink.old) waiting.old.items) (bytes.now))) }

@@ -42,7 +42,7 @@ impl ByteSink for MemorySink {
         ensures within { IfOk result (λ n. n ≤ length bytes.now) }
         ensures some { IfOk result (λ n. 0 < length bytes.now → 0 < n) }
         ensures wrote { IfOk result (λ n. Some self.new.bytes.items ≡ grown (Some self.old.bytes.items) (take n bytes.now)) }
-        ensures fine { OnOk result (Some self.new.failures ≡ Some self.old.failures) }
+        ensures no_failure { OnOk result (Some self.new.failures ≡ Some self.old.failures) }
         ensures unwritten { OnErr result (Some self.new.bytes.items ≡ Some self.old.bytes.items) }
         ensures failed { OnErr result (Rises (Some self.old.failures) (Some self.new.failures)) }
         ensures all { IfOk result (λ n. n ≡ length bytes.now) }

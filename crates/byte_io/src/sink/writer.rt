@@ -58,7 +58,7 @@ impl<'s, S: ByteSink> SinkWriter<'s, S> {
         ensures same { self.new.sink.ghost_name ≡ self.old.sink.ghost_name }
         ensures wanted { self.new.wanted ≡ self.old.wanted }
         ensures wrote { OnOk result (S.written self.new.sink.now ≡ due self.old.wanted) }
-        ensures fine { OnOk result (S.failures self.new.sink.now ≡ self.old.wanted.failures) }
+        ensures no_failure { OnOk result (S.failures self.new.sink.now ≡ self.old.wanted.failures) }
         ensures failed { OnErr result (Rises self.old.wanted.failures (S.failures self.new.sink.now)) }
         // What the sink held when the writer was made it still holds.
         ensures kept { IsFront self.old.wanted.begun (S.written self.new.sink.now) }

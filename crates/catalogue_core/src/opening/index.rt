@@ -33,7 +33,7 @@ pub(crate) fn open_index(
     reindex: bool,
 ) -> Result<(), OpenFault>
     requires earlier { length earlier.now < MAX_TABLES }
-    requires few { length table.old.content.indexes < MAX_INDEXES }
+    requires count_bounded { length table.old.content.indexes < MAX_INDEXES }
     ensures opened { OnOk result (IndexOpening reindex (map named_table earlier.now) table.old.content source (Ok table.new.content)) }
     ensures refused { IfErr result (λ fault. IndexOpening reindex (map named_table earlier.now) table.old.content source (Err fault)) }
     ensures count { OnOk result (length table.new.content.indexes ≡ length table.old.content.indexes + 1) }

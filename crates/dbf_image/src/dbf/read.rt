@@ -148,7 +148,7 @@ fn check_records(dbf: &[u8], header: Header, record_length: usize) -> Result<(),
     ensures accepted { OnOk result (first_fault (record_tests dbf.now) ≡ None) }
     ensures refused { IfErr result (λ fault. first_fault (record_tests dbf.now) ≡ Some fault) }
     ensures wide { OnOk result (header.record_length ≡ record_length) }
-    ensures few { OnOk result (header.record_count ≤ MAX_RECORDS) }
+    ensures count_bounded { OnOk result (header.record_count ≤ MAX_RECORDS) }
     ensures whole { OnOk result (header.header_length + header.record_count * header.record_length ≤ length dbf.now) }
 {
     if usize::from(header.record_length) != record_length {

@@ -27,7 +27,7 @@ use dbf_fields::{Field, MEMO};
 // How many memos a field has in a record: one or none.
 fn memos_of(field: &Field) -> usize
     ensures value { result ≡ memo_count (field.now ∷ []) }
-    ensures small { result ≤ 1 }
+    ensures bounded { result ≤ 1 }
 {
     if field.kind == MEMO { 1 } else { 0 }
 }
@@ -51,7 +51,7 @@ fn memo_length_of(field: &Field, texts: &MemoStore, memos: &[u32]) -> usize
 fn blocks_at(field: &Field, text_length: usize) -> u64
     requires { text_length ≤ MAX_MEMO_BYTES }
     ensures value { (cell : List ℕ) → (field.now.kind ≡ MEMO_KIND → length cell ≡ text_length) → result ≡ cell_blocks field.now cell }
-    ensures small { result ≤ 129 * memo_count (field.now ∷ []) }
+    ensures bounded { result ≤ 129 * memo_count (field.now ∷ []) }
 {
     if field.kind == MEMO {
         block_count(text_length)
@@ -87,10 +87,10 @@ fn put_cells<S: ByteSink>(
     requires room { widths fields.now ≤ length cells.records.now }
     requires many { memo_count fields.now ≤ length cells.memos.now }
     requires each { AllByRecursion (IsMemo cells.texts.now.texts) cells.memos.now }
-    requires few { first + 129 * memo_count fields.now ≤ 18446744073709551615 }
+    requires count_bounded { first + 129 * memo_count fields.now ≤ 18446744073709551615 }
     ensures put { Puts out.old (cells_bytes first fields.now (cells_with fields.now cells.entry.records.now (texts_of cells.entry.texts.now.texts cells.entry.memos.now))) out.new }
     ensures next { result ≡ first + cells_blocks fields.now (cells_with fields.now cells.entry.records.now (texts_of cells.entry.texts.now.texts cells.entry.memos.now)) }
-    ensures small { result ≤ first + 129 * memo_count fields.now }
+    ensures bounded { result ≤ first + 129 * memo_count fields.now }
 {
     let mut rest = cells.records;
     let mut memos = cells.memos;
@@ -117,10 +117,10 @@ fn put_record<S: ByteSink>(
     requires whole { length parts.records.now ≡ 1 + widths fields.now }
     requires many { memo_count fields.now ≤ length parts.memos.now }
     requires each { AllByRecursion (IsMemo parts.texts.now.texts) parts.memos.now }
-    requires few { first + 129 * memo_count fields.now ≤ 18446744073709551615 }
+    requires count_bounded { first + 129 * memo_count fields.now ≤ 18446744073709551615 }
     ensures put { Puts out.old (row_bytes first fields.now (row_with fields.now parts.entry.records.now (texts_of parts.entry.texts.now.texts parts.entry.memos.now))) out.new }
     ensures next { result ≡ first + cells_blocks fields.now (row_with fields.now parts.entry.records.now (texts_of parts.entry.texts.now.texts parts.entry.memos.now)).cells }
-    ensures small { result ≤ first + 129 * memo_count fields.now }
+    ensures bounded { result ≤ first + 129 * memo_count fields.now }
 {
     let (_, bytes) = parts.records.split_at(1);
     out.put(&[flag_of(parts.records[0] == DELETED)]);
@@ -144,7 +144,7 @@ fn put_each_record<S: ByteSink>(
 )
     requires schema { IsSchema fields.now }
     requires wide { header.record_length ≡ 1 + widths fields.now }
-    requires few { header.record_count ≤ MAX_RECORDS }
+    requires count_bounded { header.record_count ≤ MAX_RECORDS }
     requires room { header.record_count * header.record_length ≤ length store.records.now }
     requires many { length store.memos.now ≡ header.record_count * memo_count fields.now }
     requires each { AllByRecursion (IsMemo store.texts.now.texts) store.memos.now }
@@ -196,7 +196,7 @@ pub(crate) fn put_records<S: ByteSink>(
 )
     requires schema { IsSchema fields.now }
     requires wide { header.record_length ≡ 1 + widths fields.now }
-    requires few { header.record_count ≤ MAX_RECORDS }
+    requires count_bounded { header.record_count ≤ MAX_RECORDS }
     requires room { header.record_count * header.record_length ≤ length store.records.now }
     requires many { length store.memos.now ≡ header.record_count * memo_count fields.now }
     requires each { AllByRecursion (IsMemo store.texts.now.texts) store.memos.now }

@@ -105,7 +105,7 @@ fn put_image<S: ByteSink>(out: &mut SinkWriter<'_, S>, table: &TableData, header
 /// front part of the file, which may be all of it or nothing.
 pub fn write_dbf<S: ByteSink>(sink: &mut S, table: &TableData, day: Day) -> Result<(), WriteFault>
     ensures wrote { OnOk result (S.written sink.new ≡ grown (S.written sink.old) (image table.now day.year day.month day.day)) }
-    ensures fine { OnOk result (S.failures sink.new ≡ S.failures sink.old) }
+    ensures no_failure { OnOk result (S.failures sink.new ≡ S.failures sink.old) }
     ensures outside { (result ≡ Err WriteFault.DateOutside) ↔ IsOutside day.year }
     ensures blocks { (result ≡ Err WriteFault.TooManyBlocks) ↔ ((IsOutside day.year → ⊥) × HasTooManyBlocks table.now) }
     ensures dated { result ≡ Err WriteFault.DateOutside → sink.new ≡ sink.old }

@@ -17,7 +17,7 @@ use dbf_fields::{BLANK, ZERO_DIGIT};
 pub(crate) fn block_count(text_length: usize) -> u64
     requires { text_length ≤ MAX_MEMO_BYTES }
     ensures value { (text : List ℕ) → length text ≡ text_length → result ≡ blocks_of text }
-    ensures small { result ≤ 129 }
+    ensures bounded { result ≤ 129 }
 {
     if text_length == 0 {
         0
@@ -66,7 +66,7 @@ pub(crate) fn block_number_cell(next: u64, text_length: usize) -> [u8; 10]
 
 // The next free block after those of all texts.
 fn blocks_after(store: Store<'_>) -> u64
-    requires few { length store.memos.now ≤ 128000000000 }
+    requires count_bounded { length store.memos.now ≤ 128000000000 }
     requires each { AllByRecursion (IsMemo store.texts.now.texts) store.memos.now }
     ensures value { result ≡ 1 + sum_by (λ number. blocks_of (text_of store.entry.texts.now.texts number)) store.entry.memos.now }
 {

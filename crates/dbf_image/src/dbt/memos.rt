@@ -83,7 +83,7 @@ fn number_of_cell(
 ) -> Result<u32, ImageFault>
     requires ends { AreEnds dbt.now ends.now }
     requires reading { IsReading dbt.now memos.old }
-    requires few { length cell.now ≤ 10 }
+    requires count_bounded { length cell.now ≤ 10 }
     ensures accepted { OnOk result (first_fault (memo_tests dbt.now cell.now) ≡ None) }
     ensures reading { OnOk result (IsReading dbt.now memos.new) }
     ensures kept { OnOk result (KeepsMemos memos.old.texts.texts memos.new.texts.texts) }
@@ -110,7 +110,7 @@ fn read_cell(
 ) -> Result<(), ImageFault>
     requires ends { AreEnds dbt.now ends.now }
     requires reading { IsReading dbt.now memos.old }
-    requires few { field.now.kind ≡ MEMO → length cell.now ≤ 10 }
+    requires count_bounded { field.now.kind ≡ MEMO → length cell.now ≤ 10 }
     ensures accepted { OnOk result (first_fault (cell_tests dbt.now field.now cell.now) ≡ None) }
     ensures reading { OnOk result (IsReading dbt.now memos.new) }
     ensures texts { OnOk result (texts_of memos.new.texts.texts memos.new.numbers.items ≡ texts_of memos.old.texts.texts memos.old.numbers.items ++ cell_texts dbt.now field.now cell.now) }

@@ -31,7 +31,7 @@ fn header_block(next: u32) -> [u8; BLOCK]
 fn fill_of(text_length: usize) -> usize
     requires { text_length ≤ MAX_MEMO_BYTES }
     ensures value { result ≡ (text_length + (BLOCK + 1)) / BLOCK * BLOCK - (text_length + 2) }
-    ensures small { result ≤ BLOCK }
+    ensures bounded { result ≤ BLOCK }
 {
     (text_length + (BLOCK + 1)) / BLOCK * BLOCK - (text_length + 2)
 }
@@ -81,7 +81,7 @@ fn put_memo_image<S: ByteSink>(out: &mut SinkWriter<'_, S>, table: &TableData, n
 /// nothing.
 pub fn write_dbt<S: ByteSink>(sink: &mut S, table: &TableData) -> Result<(), WriteFault>
     ensures wrote { OnOk result (S.written sink.new ≡ grown (S.written sink.old) (memo_image table.now)) }
-    ensures fine { OnOk result (S.failures sink.new ≡ S.failures sink.old) }
+    ensures no_failure { OnOk result (S.failures sink.new ≡ S.failures sink.old) }
     ensures dated { result ≡ Err WriteFault.DateOutside → ⊥ }
     ensures blocks { (result ≡ Err WriteFault.TooManyBlocks) ↔ HasTooManyBlocks table.now }
     ensures unwritten { result ≡ Err WriteFault.TooManyBlocks → sink.new ≡ sink.old }

@@ -56,7 +56,7 @@ pub(crate) fn piece_of(bytes: &[u8]) -> ArrayVec<u8, BLOCK>
 pub(crate) fn push_free(blocks: &mut Vec<MemoBlock>, free: FreeList, more: usize) -> FreeList
     requires room { length blocks.old.items + more ≤ vec_capacity blocks.old }
     requires numbers { length blocks.old.items + more < 2 ^ 32 }
-    requires few { free.count ≤ length blocks.old.items }
+    requires count_bounded { free.count ≤ length blocks.old.items }
     requires chain { IsChain 0 free.count blocks.old.items free.head }
     ensures grown { Grown blocks.old.items blocks.new.items }
     ensures longer { length blocks.new.items ≡ length blocks.old.items + more }

@@ -188,7 +188,7 @@ impl GrowingTable {
     /// than 0x2A means kept. It has no memos, whatever stands in their cells. It takes no memory.
     pub(crate) fn append_record(&mut self, bytes: &[u8])
         requires room { self.old.record_room ≡ true }
-        requires few { length self.old.table.rows < MAX_RECORDS }
+        requires count_bounded { length self.old.table.rows < MAX_RECORDS }
         requires whole { length bytes.now ≡ 1 + widths self.old.table.schema }
         ensures value { self.new.table ≡ with_row self.old.table (row_with self.old.table.schema bytes.now []) }
     {
@@ -200,7 +200,7 @@ impl GrowingTable {
     /// Adds a kept record of blanks without memos after the others. It takes no memory.
     pub fn append_blank(&mut self)
         requires room { self.old.record_room ≡ true }
-        requires few { length self.old.table.rows < MAX_RECORDS }
+        requires count_bounded { length self.old.table.rows < MAX_RECORDS }
         ensures value { self.new.table ≡ with_row self.old.table (blank_row self.old.table.schema) }
     {
         let blanks = [BLANK; 1 + MAX_RECORD_BYTES as usize];

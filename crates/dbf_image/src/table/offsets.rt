@@ -20,7 +20,7 @@ fn index_of(number: u32) -> usize
 pub(crate) fn record_start(schema: &Schema, number: u32) -> usize
     requires { 1 ≤ number }
     ensures value { result ≡ (number - 1) * (1 + widths schema.now) }
-    ensures small { result < 4294967296 * (1 + MAX_RECORD_BYTES) }
+    ensures bounded { result < 4294967296 * (1 + MAX_RECORD_BYTES) }
 {
     index_of(number) * schema.record_length()
 }
@@ -30,7 +30,7 @@ pub(crate) fn cell_start(schema: &Schema, number: u32, field: usize) -> usize
     requires number { 1 ≤ number }
     requires field { field < length schema.now }
     ensures value { result ≡ (number - 1) * (1 + widths schema.now) + (1 + widths (take field schema.now)) }
-    ensures small { result < 4294967297 * (1 + MAX_RECORD_BYTES) }
+    ensures bounded { result < 4294967297 * (1 + MAX_RECORD_BYTES) }
 {
     record_start(schema, number) + schema.offset(field)
 }
@@ -39,7 +39,7 @@ pub(crate) fn cell_start(schema: &Schema, number: u32, field: usize) -> usize
 pub(crate) fn memo_count_of(fields: &[Field]) -> usize
     requires { length fields.now ≤ MAX_FIELDS }
     ensures value { result ≡ memo_count fields.now }
-    ensures small { result ≤ MAX_FIELDS }
+    ensures bounded { result ≤ MAX_FIELDS }
 {
     let mut count = 0;
     for field in fields {
@@ -55,7 +55,7 @@ pub(crate) fn memo_index(schema: &Schema, number: u32, field: usize) -> usize
     requires number { 1 ≤ number }
     requires field { field < length schema.now }
     ensures value { result ≡ (number - 1) * memo_count schema.now + memo_count (take field schema.now) }
-    ensures small { result < 4294967297 * MAX_FIELDS }
+    ensures bounded { result < 4294967297 * MAX_FIELDS }
 {
     let fields = schema.fields();
     index_of(number) * memo_count_of(fields) + memo_count_of(&fields[..field])

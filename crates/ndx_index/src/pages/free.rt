@@ -38,7 +38,7 @@ pub(crate) fn take_free(store: &mut PageStore, free: &mut FreeList) -> u32
 /// Puts a page that no tree and no list has before the free pages. It takes no memory.
 pub(crate) fn give_back(store: &mut PageStore, free: &mut FreeList, page: u32)
     requires there { page < length store.old.pages }
-    requires few { length store.old.pages < 2 ^ 32 }
+    requires count_bounded { length store.old.pages < 2 ^ 32 }
     requires list { IsFreeList store.old.pages free.old }
     requires apart { (r : ℕ) → here page r + uses_free store.old.pages free.old r ≤ 1 }
     ensures count { free.new.count ≡ free.old.count + 1 }

@@ -67,7 +67,7 @@ impl PairPages {
     /// How many pages there are, which four bytes can count.
     pub(crate) fn page_count(&self) -> u32
         ensures value { result ≡ length self.now.pages }
-        ensures few { length self.now.pages + self.now.spare < 2 ^ 32 }
+        ensures count_bounded { length self.now.pages + self.now.spare < 2 ^ 32 }
     {
         self.counts.len() as u32
     }
@@ -76,7 +76,7 @@ impl PairPages {
     pub(crate) fn count(&self, page: usize) -> usize
         requires page { page < length self.now.pages }
         ensures count { result ≡ length (page_at self.now.pages page) }
-        ensures small { result ≤ 16 }
+        ensures bounded { result ≤ 16 }
     {
         usize::from(self.counts[page])
     }
@@ -203,7 +203,7 @@ impl PairPages {
     /// Puts a page of these pairs after the others. It takes the room that was reserved, and no memory.
     pub(crate) fn push_filled(&mut self, pairs: &[Pair])
         requires room { 0 < self.old.spare }
-        requires few { length pairs.now ≤ 16 }
+        requires count_bounded { length pairs.now ≤ 16 }
         requires keys { HaveLength self.old.key_len pairs.now }
         ensures pages { self.new.pages ≡ self.old.pages ++ pairs.now ∷ [] }
         ensures key_len { self.new.key_len ≡ self.old.key_len }

@@ -44,7 +44,7 @@ fn append(store: &mut PageStore, root: Root, pairs: &[Pair]) -> Result<Root, All
     requires tree { IsPlain store.old.pages root }
     requires order { AreInOrder (pairs_in store.old.pages root ++ pairs.now) }
     requires some { 0 < length pairs.now }
-    requires few { length pairs.now ≤ 16 }
+    requires count_bounded { length pairs.now ≤ 16 }
     requires keys { HaveLength store.old.key_len pairs.now }
     ensures tree { IfOk result (λ new. IsPlain store.new.pages new) }
     ensures pairs { IfOk result (λ new. pairs_in store.new.pages new ≡ pairs_in store.old.pages root ++ pairs.now) }
@@ -63,7 +63,7 @@ fn append(store: &mut PageStore, root: Root, pairs: &[Pair]) -> Result<Root, All
 // A new top over two trees of one height.
 fn join(store: &mut PageStore, root: Root, beside: u32, pair: &Pair) -> Result<Root, AllocError>
     requires key { length pair.now.key ≡ store.old.key_len }
-    requires few { root.levels < 2 ^ 32 }
+    requires count_bounded { root.levels < 2 ^ 32 }
     ensures top { IfOk result (λ new. IsOver store.old.pages store.new.pages root beside pair.now new) }
     ensures key_len { store.new.key_len ≡ store.old.key_len }
 {

@@ -15,7 +15,7 @@ use crate::pair::Pair;
 pub(crate) fn has_room(store: &PageStore, level: usize, page: u32) -> bool
     requires there { page < length store.now.pages }
     ensures value { IsTrue result ↔ (width level (page_in store.now.pages page) < 16) }
-    ensures small { width level (page_in store.now.pages page) ≤ 16 }
+    ensures bounded { width level (page_in store.now.pages page) ≤ 16 }
 {
     if level == 0 {
         store.pair_count(page) < PLACES

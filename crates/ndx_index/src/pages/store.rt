@@ -69,7 +69,7 @@ impl PageStore {
     pub(crate) fn pair_count(&self, page: u32) -> usize
         requires page { page < length self.now.pages }
         ensures count { result ≡ length (page_in self.now.pages page).pairs }
-        ensures small { result ≤ 16 }
+        ensures bounded { result ≤ 16 }
     {
         self.pair_pages.count(page as usize)
     }
@@ -87,7 +87,7 @@ impl PageStore {
     pub(crate) fn link_count(&self, page: u32) -> usize
         requires page { page < length self.now.pages }
         ensures count { result ≡ length (page_in self.now.pages page).links }
-        ensures small { result ≤ 16 }
+        ensures bounded { result ≤ 16 }
     {
         self.link_pages.count(page as usize)
     }
@@ -220,7 +220,7 @@ impl PageStore {
     pub(crate) fn add_page(&mut self) -> Result<u32, AllocError>
         ensures pages { OnOk result (self.new.pages ≡ self.old.pages ++ no_page ∷ []) }
         ensures number { IfOk result (λ page. page ≡ length self.old.pages) }
-        ensures few { OnOk result (length self.new.pages < 2 ^ 32) }
+        ensures count_bounded { OnOk result (length self.new.pages < 2 ^ 32) }
         ensures err { OnErr result (self.new.pages ≡ self.old.pages) }
         ensures key_len { self.new.key_len ≡ self.old.key_len }
     {
@@ -230,11 +230,11 @@ impl PageStore {
     /// Puts a page of these pairs, without links, after the others, and answers its number. `AllocError` where there is
     /// no memory or no number for it; the pages are the same then.
     pub(crate) fn add_leaf(&mut self, pairs: &[Pair]) -> Result<u32, AllocError>
-        requires few { length pairs.now ≤ 16 }
+        requires count_bounded { length pairs.now ≤ 16 }
         requires keys { HaveLength self.old.key_len pairs.now }
         ensures pages { OnOk result (self.new.pages ≡ self.old.pages ++ with_pairs pairs.now no_page ∷ []) }
         ensures number { IfOk result (λ page. page ≡ length self.old.pages) }
-        ensures few { OnOk result (length self.new.pages < 2 ^ 32) }
+        ensures count_bounded { OnOk result (length self.new.pages < 2 ^ 32) }
         ensures err { OnErr result (self.new.pages ≡ self.old.pages) }
         ensures key_len { self.new.key_len ≡ self.old.key_len }
     {

@@ -25,7 +25,7 @@ fn put_inner<S: ByteSink>(
     requires level { IsLevel plan.now.shape.keys (listed plan.now.pairs) level.height level.first level.count }
     requires inside { at + count ≤ level.count }
     requires child { 1 ≤ count }
-    requires few { count ≤ plan.now.shape.keys + 1 }
+    requires count_bounded { count ≤ plan.now.shape.keys + 1 }
     ensures put { Puts out.old (inner_page plan.now.shape.size (children_from plan.now.shape.keys (listed plan.now.pairs) level.height at count)) out.new }
 {
     put_u32(out, (count - 1) as u32);
@@ -43,7 +43,7 @@ fn next_count(shape: Shape, left: usize) -> usize
     requires { 2 ≤ left }
     ensures is { result ≡ min (inner_group_size shape.keys left) left }
     ensures some { 1 ≤ result }
-    ensures few { result ≤ shape.keys + 1 }
+    ensures count_bounded { result ≤ shape.keys + 1 }
     ensures inside { result ≤ left }
     ensures left { left - result ≢ 1 }
 {

@@ -24,7 +24,7 @@ fn put_pairs<S: ByteSink>(out: &mut SinkWriter<'_, S>, shape: Shape, group: List
 }
 
 fn put_leaf<S: ByteSink>(out: &mut SinkWriter<'_, S>, shape: Shape, group: ListPart<'_>)
-    requires few { length (listed group) ≤ shape.keys }
+    requires count_bounded { length (listed group) ≤ shape.keys }
     requires keys { AllByRecursion (λ p. length p.key + 8 ≤ shape.size) (listed group) }
     ensures put { Puts out.old (leaf_page shape.size (listed group.entry)) out.new }
     ensures numbers { AllByRecursion (λ p. p.number < 2 ^ 32) (listed group.entry) }

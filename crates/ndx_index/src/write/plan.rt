@@ -49,7 +49,7 @@ pub(crate) struct TreePlan<'a> {
 impl<'a> TreePlan<'a> {
     /// The plan of these pairs' tree.
     pub(crate) fn new(shape: Shape, pairs: ListPart<'a>) -> TreePlan<'a>
-        requires few { length (listed pairs) ≤ MAX_PAIRS }
+        requires count_bounded { length (listed pairs) ≤ MAX_PAIRS }
         requires keys { AllByRecursion (λ p. length p.key + 8 ≤ shape.size) (listed pairs) }
         ensures shape { result.shape ≡ shape }
         ensures pairs { listed result.pairs ≡ listed pairs.entry }

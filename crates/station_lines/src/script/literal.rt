@@ -46,7 +46,7 @@ fn put(digits: &mut [u8; MAX_LITERAL_DIGITS], offset: usize, part: &[u8])
 // The number that the digits of two parts are together.
 fn number_of_parts(whole: &[u8], fraction: &[u8]) -> u64
     requires digits { list_all is_ascii_digit (whole.now ++ fraction.now) ≡ true }
-    requires few { length whole.now + length fraction.now ≤ 19 }
+    requires count_bounded { length whole.now + length fraction.now ≤ 19 }
     ensures value { result ≡ digits_after 0 (whole.now ++ fraction.now) }
 {
     let mut digits = [ZERO_DIGIT; MAX_LITERAL_DIGITS];

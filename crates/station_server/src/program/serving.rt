@@ -28,14 +28,14 @@ pub fn serve_options<S: Source, F: Folder, G: Gate + Sync, R: Threads + Wait + S
     gate: &G,
 ) -> Result<u64, ServeFault>
     ensures ran { IfOk result (IsServed (S.files source.old) options.now.setup.now options.now.reindex options.now.today.year options.now.today.month options.now.today.day (F.written folder.old) (F.written folder.new)) }
-    ensures fine { OnOk result (F.failures folder.new ≡ F.failures folder.old) }
+    ensures no_failure { OnOk result (F.failures folder.new ≡ F.failures folder.old) }
     ensures kept { S.files source.new ≡ S.files source.old }
     ensures fault { IfErr result (IsServeFault (S.files source.old) options.now.setup.now options.now.reindex options.now.today.year) }
     ensures loads { OnOk result (S.failures source.new ≡ S.failures source.old) }
     ensures failure { IfErr result (IsFailure (S.files source.old) (S.failures source.old) (S.failures source.new)) }
-    ensures unbegun { IfErr result (λ fault. ((name : List ℕ) → fault ≢ ServeFault.Close (CloseFault.Write name)) → folder.new ≡ folder.old) }
+    ensures no_file_begun { IfErr result (λ fault. ((name : List ℕ) → fault ≢ ServeFault.Close (CloseFault.Write name)) → folder.new ≡ folder.old) }
     ensures failed { (name : List ℕ) → result ≡ Err (ServeFault.Close (CloseFault.Write name)) → Rises (F.failures folder.old) (F.failures folder.new) }
-    ensures cut { (name : List ℕ) → result ≡ Err (ServeFault.Close (CloseFault.Write name)) → (tables : List Table) × (answers : List (List ℕ)) × (count : ℕ) × IsWholeRun (S.files source.old) options.now.setup.now options.now.reindex tables answers count × IsCutAt name (F.written folder.old) (F.written folder.new) (run_files options.now.today.year options.now.today.month options.now.today.day tables answers) }
+    ensures whole_before_fault { (name : List ℕ) → result ≡ Err (ServeFault.Close (CloseFault.Write name)) → (tables : List Table) × (answers : List (List ℕ)) × (count : ℕ) × IsWholeRun (S.files source.old) options.now.setup.now options.now.reindex tables answers count × IsCutAt name (F.written folder.old) (F.written folder.new) (run_files options.now.today.year options.now.today.month options.now.today.day tables answers) }
 {
     let setup = Bytes::from_slice(alloc, options.setup.as_bytes())?;
     serve(

@@ -33,7 +33,7 @@ pub(crate) fn set_cell(
 
 /// Adds a record of blanks after the others, and answers its number.
 pub(crate) fn add_blank(records: &mut GrowingTable, indexes: &mut Vec<TableIndex>) -> u32
-    requires few { length records.old.table.rows < MAX_RECORDS }
+    requires count_bounded { length records.old.table.rows < MAX_RECORDS }
     requires for_record { records.old.record_room ≡ true }
     requires follow { AllByRecursion (Follows records.old.table) indexes.old.items }
     requires room { AllByRecursion HasRoom indexes.old.items }

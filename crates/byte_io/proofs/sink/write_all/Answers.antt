@@ -7,7 +7,7 @@ pub loop-rest-preserved : goal.loop-rest-preserved
 loop-rest-preserved g c = record {
   left = grind (arith, sinks);
   kept = front_then _ _ _ c.loop-rest.invariant.kept (front_by _ _ _ c.in_ok-n.ensures.wrote);
-  fine = grind (arith, sinks);
+  no_failure = grind (arith, sinks);
 }
 
 pub returns-in_err-n-clause-front : goal.returns-in_err-n-clause-front

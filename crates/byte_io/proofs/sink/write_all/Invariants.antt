@@ -8,7 +8,7 @@ invariant-loop-rest g l =
     record {
       left : grown (written l.sink) l.rest ≡ grown (written l.fn.sink) l.bytes;
       kept : IsFront (written l.fn.sink) (written l.sink);
-      fine : g.S.ByteSink.failures l.sink ≡ g.S.ByteSink.failures l.fn.sink;
+      no_failure : g.S.ByteSink.failures l.sink ≡ g.S.ByteSink.failures l.fn.sink;
     }
 
 abbrev pub decreases-loop-rest : goal.decreases-loop-rest

@@ -12,5 +12,5 @@ abbrev pub invariant-loop-index : goal.invariant-loop-index
 invariant-loop-index l = record {
   rest : (o : Result Content OpenFault) → IndexesOpening l.reindex (map named_table l.earlier) l.table.content (into_iter_items l.index-iterator) o
       → IndexesOpening l.reindex (map named_table l.earlier) (without_indexes l.fn.content) l.fn.indexes.items o;
-  few : length l.table.content.indexes + length (into_iter_items l.index-iterator) ≤ MAX_INDEXES;
+  count_bounded : length l.table.content.indexes + length (into_iter_items l.index-iterator) ≤ MAX_INDEXES;
 }

@@ -15,5 +15,5 @@ loop-source-preserved c =
           (subst (λ (l : List TableSource). TablesOpening c.args.reindex (map named_table c.loop-source.opened.items) l o) (sym items)
           (inl (made.0, made.1, subst (λ (ts : List NamedTable). TablesOpening c.args.reindex ts (into_iter_items c.next.new.self) o) made.2 h)));
       differ = rw c.in_default.ensures.name (differ_more _ c.in-Some.source.name c.loop-source.invariant.differ c.in_default.ensures.new);
-      few = omega (arith, ap (λ (l : List TableSource). length l) items, c.in_default.ensures.count, c.loop-source.invariant.few);
+      count_bounded = omega (arith, ap (λ (l : List TableSource). length l) items, c.in_default.ensures.count, c.loop-source.invariant.count_bounded);
     }

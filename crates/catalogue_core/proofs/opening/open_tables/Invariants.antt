@@ -11,5 +11,5 @@ abbrev pub invariant-loop-source : goal.invariant-loop-source
 invariant-loop-source l = record {
   rest : (o : Result (List NamedTable) OpenFault) → TablesOpening l.reindex (map named_table l.opened.items) (into_iter_items l.source-iterator) o → TablesOpening l.reindex [] l.fn.sources.items o;
   differ : NamesDiffer (map (λ t. t.name) l.opened.items);
-  few : length l.opened.items + length (into_iter_items l.source-iterator) ≤ MAX_TABLES;
+  count_bounded : length l.opened.items + length (into_iter_items l.source-iterator) ≤ MAX_TABLES;
 }

@@ -5,5 +5,5 @@ use Rattle.dbf_fields.proofs.decimal.push_digits.Given as goal
 abbrev pub invariant-loop-digit : goal.invariant-loop-digit
 invariant-loop-digit l = record {
   value : l.value ≡ digits_after l.number (take l.digit-index l.digits);
-  small : l.value < 10 ^ (l.most + l.digit-index);
+  bounded : l.value < 10 ^ (l.most + l.digit-index);
 }

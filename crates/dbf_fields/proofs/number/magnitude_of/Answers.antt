@@ -19,5 +19,5 @@ returns-clause-value c =
     let value = rw zeros at c.push_digits.ensures.value in
     grind (arith, common_steps, value)
 
-pub returns-clause-small : goal.returns-clause-small
-returns-clause-small c = below_cap _ _ c.push_digits.ensures.small (omega (arith, length-take-le {A = ℕ} (c.from-decimals.result - c.min-kept.result) (replicate 19 48), c.requires.few, c.requires.decimals, c.number_parts.ensures.short, c.min-kept.ensures, c.from-decimals.ensures))
+pub returns-clause-bounded : goal.returns-clause-bounded
+returns-clause-bounded c = below_cap _ _ c.push_digits.ensures.bounded (omega (arith, length-take-le {A = ℕ} (c.from-decimals.result - c.min-kept.result) (replicate 19 48), c.requires.count_bounded, c.requires.decimals, c.number_parts.ensures.short, c.min-kept.ensures, c.from-decimals.ensures))

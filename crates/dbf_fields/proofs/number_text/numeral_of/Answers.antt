@@ -7,10 +7,10 @@ pub loop-rest-preserved : goal.loop-rest-preserved
 loop-rest-preserved c =
     let l = c.loop-rest in
     let some = c.loop-rest-test.true in
-    let small = small_before l.start l.rest l.invariant.small some in
+    let bounded = small_before l.start l.rest l.invariant.bounded some in
     record {
-      made = numeral_before l.start l.rest l.digits some small.0 (omega (arith, l.invariant.wide, l.invariant.within)) ∙ l.invariant.made;
+      made = numeral_before l.start l.rest l.digits some bounded.0 (omega (arith, l.invariant.wide, l.invariant.within)) ∙ l.invariant.made;
       wide = rw length-set l.invariant.wide;
-      small = small.1;
+      bounded = bounded.1;
       within = omega (arith, l.invariant.within);
     }

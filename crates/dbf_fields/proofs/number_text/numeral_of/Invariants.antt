@@ -7,7 +7,7 @@ abbrev pub invariant-loop-rest : goal.invariant-loop-rest
 invariant-loop-rest l = record {
   made : map (λ d. 48 + d) (digits_of 10 l.rest) ++ drop l.start l.digits ≡ numeral l.number;
   wide : length l.digits ≡ 39;
-  small : l.rest < 10 ^ l.start;
+  bounded : l.rest < 10 ^ l.start;
   within : l.start < 39;
 }
 

@@ -19,6 +19,6 @@ loop-i-preserved c =
     let is = sym c.index-fields-i.is in
     record {
       wide = rw (sum_by_more (λ (f : Field). f.width) fields c.loop-i.i field c.loop-i-test.true, is) (omega (arith, c.loop-i.invariant.wide, c.from-widths.ensures));
-      small = omega (arith, c.loop-i.invariant.small, c.from-widths.ensures, c.from-widths.type_inv);
+      bounded = omega (arith, c.loop-i.invariant.bounded, c.from-widths.ensures, c.from-widths.type_inv);
       left = field_passes fields c.loop-i.i field _ c.loop-i-test.true is c.loop-i.invariant.left c.in_ok-check_field.ensures.accepted;
     }

@@ -7,6 +7,6 @@ use Rattle.dbf_fields.proofs.schema.check_fields.Given as goal
 abbrev pub invariant-loop-i : goal.invariant-loop-i
 invariant-loop-i l = record {
   wide : l.widths ≡ widths (take l.i l.fields);
-  small : l.widths ≤ 255 * l.i;
+  bounded : l.widths ≤ 255 * l.i;
   left : first_fault (tests_from (map folded (take l.i l.fields)) (drop l.i l.fields)) ≡ schema_refusal l.fields;
 }

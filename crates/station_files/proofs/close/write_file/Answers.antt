@@ -6,7 +6,7 @@ use Rattle.station_files.proofs.ByteLaws.{file_on_ok}
 use Rattle.station_files.proofs.close.write_file.Goals as goal
 
 pub returns-in_err-begin-clause-front : goal.returns-in_err-begin-clause-front
-returns-in_err-begin-clause-front g c = on_err _ (front_from _ _ _ _ c.in_err-begin.ensures.unbegun refl)
+returns-in_err-begin-clause-front g c = on_err _ (front_from _ _ _ _ c.in_err-begin.ensures.no_file_begun refl)
 
 pub returns-clause-kept : goal.returns-clause-kept
 returns-clause-kept g c = front_then _ _ _ (front_by _ _ _ c.in_ok-begin.ensures.begun) c.write_content.ensures.kept

@@ -12,5 +12,5 @@ invariant-loop-file g l =
       counted : l.place ≡ l.file-index;
       wrote : written l.folder ≡ grown (written l.fn.folder) (listing (map file_of (take l.file-index l.planned)));
       bytes : AllByRecursion IsOfBytes (map file_of (take l.file-index l.planned));
-      fine : g.F.ByteSink.failures l.folder ≡ g.F.ByteSink.failures l.fn.folder;
+      no_failure : g.F.ByteSink.failures l.folder ≡ g.F.ByteSink.failures l.fn.folder;
     }

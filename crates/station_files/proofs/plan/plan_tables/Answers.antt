@@ -4,5 +4,5 @@ use Rattle.station_files.proofs.plan.plan_tables.Goals as goal
 pub loop-closed-preserved : goal.loop-closed-preserved
 loop-closed-preserved c = record {
   files = behind_more _ _ _ _ _ _ c.in_ok-plan_table.ensures.files c.loop-closed.invariant.files (tables_more c.args.day.year c.args.day.month c.args.day.day c.args.tables.now c.loop-closed.closed-index c.closed-item.result c.loop-closed-test.true c.closed-item.is);
-  few = (not_blocked c.args.tables.now c.loop-closed.closed-index c.closed-item.result c.loop-closed-test.true c.closed-item.is c.loop-closed.invariant.few).1;
+  blocks_fit = (not_blocked c.args.tables.now c.loop-closed.closed-index c.closed-item.result c.loop-closed-test.true c.closed-item.is c.loop-closed.invariant.blocks_fit).1;
 }

@@ -5,5 +5,5 @@ use Rattle.station_files.proofs.plan.plan_tables.Given as goal
 abbrev pub invariant-loop-closed : goal.invariant-loop-closed
 invariant-loop-closed l = record {
   files : map file_of l.planned.items ≡ map file_of l.fn.planned.items ++ tables_files l.day.year l.day.month l.day.day (take l.closed-index l.tables);
-  few : first_blocked (l.closed-index + 1) (drop l.closed-index l.tables) ≡ None;
+  blocks_fit : first_blocked (l.closed-index + 1) (drop l.closed-index l.tables) ≡ None;
 }

@@ -4,7 +4,7 @@ use Rattle.whole_run.proofs.WrittenFiles.{read_again, again_read, file_for}
 use Rattle.whole_run.proofs.read_back.written_files_read_back.Goals as goal
 
 pub returns-clause-table : goal.returns-clause-table
-returns-clause-table c year month day table read t few = (read_again year month day table read t few, again_read year month day table read t few)
+returns-clause-table c year month day table read t blocks_fit = (read_again year month day table read t blocks_fit, again_read year month day table read t blocks_fit)
 
 pub returns-clause-index : goal.returns-clause-index
 returns-clause-index c = file_for

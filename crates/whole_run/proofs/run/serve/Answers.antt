@@ -11,11 +11,11 @@ returns-in_err-write_files-clause-fault g c =
     let whole = whole_run _ _ _ _ _ _ _ c.in_ok-loaded.ensures.read c.in_ok-outcome.ensures.ran c.entry_count-count.ensures.legal c.entry_count-count.ensures.of_stations c.in_ok-tables.ensures.value in
     err_exit _ _ c.from_residual-in_err-write_files.ensures.1 (of_writing _ _ _ _ _ _ _ _ whole (rw c.deref.ensures.value at c.in_err-write_files.ensures.fault))
 
-pub returns-in_err-write_files-clause-unbegun : goal.returns-in_err-write_files-clause-unbegun
-returns-in_err-write_files-clause-unbegun g c = err_exit _ _ c.from_residual-in_err-write_files.ensures.1 c.in_err-write_files.ensures.unbegun
+pub returns-in_err-write_files-clause-no_file_begun : goal.returns-in_err-write_files-clause-no_file_begun
+returns-in_err-write_files-clause-no_file_begun g c = err_exit _ _ c.from_residual-in_err-write_files.ensures.1 c.in_err-write_files.ensures.no_file_begun
 
-pub returns-in_err-write_files-clause-cut : goal.returns-in_err-write_files-clause-cut
-returns-in_err-write_files-clause-cut g c name e =
+pub returns-in_err-write_files-clause-whole_before_fault : goal.returns-in_err-write_files-clause-whole_before_fault
+returns-in_err-write_files-clause-whole_before_fault g c name e =
     let fault = c.in_err-write_files.field-0.0 in
     let whole = whole_run _ _ _ _ _ _ _ c.in_ok-loaded.ensures.read c.in_ok-outcome.ensures.ran c.entry_count-count.ensures.legal c.entry_count-count.ensures.of_stations c.in_ok-tables.ensures.value in
     let same : Close (Write name) ≡ fault = subst (λ r. IsErrAnd r (λ y. y ≡ fault)) e c.from_residual-in_err-write_files.ensures.1 in (
@@ -23,5 +23,5 @@ returns-in_err-write_files-clause-cut g c name e =
       c.in_ok-outcome.outcome.answers.items,
       length c.in_ok-outcome.outcome.closed.journal,
       whole,
-      rw c.deref.ensures.value at (rw c.deref-2.ensures.value at (c.in_err-write_files.ensures.cut name (ap Err (sym same)))),
+      rw c.deref.ensures.value at (rw c.deref-2.ensures.value at (c.in_err-write_files.ensures.whole_before_fault name (ap Err (sym same)))),
     )

@@ -11,8 +11,8 @@ returns-in_err-close_files-clause-fault g c =
     err_exit _ _ c.from_residual.ensures.1
     (closing_fault c.args.today.year c.args.tables.now c.in_err-close_files.field-0.0 (λ e. c.close_files.ensures.outside.0 (was ∙ ap Err e)) (λ n e. ((c.close_files.ensures.blocks n).0 (was ∙ ap Err e)).1))
 
-pub returns-clause-few : goal.returns-clause-few
-returns-clause-few g c =
+pub returns-clause-blocks_fit : goal.returns-clause-blocks_fit
+returns-clause-blocks_fit g c =
     let tables = c.args.tables.now in
     let was = c.in_ok-close_files.was in
     let inside : IsOutside c.args.today.year → ⊥ = λ out. (let e = sym was ∙ c.close_files.ensures.outside.1 out in absurd cc) in

@@ -20,9 +20,9 @@ invariant_of-result c =
     let made = c.in_ok-tables.tables.items in
     let kept : List NamedTable = map kept_table c.in-Ok.opened.items in
     let same : kept ≡ map named_table made = c.in-Ok.ensures.value ∙ ap (map named_table) c.deref.ensures.value in
-    let few : length kept ≤ MAX_TABLES = omega (arith, ap length same, length-map made named_table, c.in_ok-tables.ensures.few) in
+    let count_bounded : length kept ≤ MAX_TABLES = omega (arith, ap length same, length-map made named_table, c.in_ok-tables.ensures.count_bounded) in
     subst (λ (l : List Entry). IsKept (opened_as n kept) (seen c.in-Ok-new.state) l) (sym c.new-2.ensures.items)
-    (opened_kept n kept (seen c.in-Ok-new.state) (c.in-Ok-new.ensures.value ∙ ap (λ (ts : List NamedTable). start (opened_as n ts)) (sym same)) few)
+    (opened_kept n kept (seen c.in-Ok-new.state) (c.in-Ok-new.ensures.value ∙ ap (λ (ts : List NamedTable). start (opened_as n ts)) (sym same)) count_bounded)
 
 pub returns-in_default-clause-refused : goal.returns-in_default-clause-refused
 returns-in_default-clause-refused c =

@@ -28,5 +28,5 @@ returns-clause-value c = rw (← c.self.view_is) (kept c).0
 pub returns-clause-within : goal.returns-clause-within
 returns-clause-within c = rw (← c.self.view_is) (kept c).1
 
-pub returns-clause-small : goal.returns-clause-small
-returns-clause-small c = omega (arith, (kept c).1, schema_widths _ c.self.invariant.schema)
+pub returns-clause-bounded : goal.returns-clause-bounded
+returns-clause-bounded c = omega (arith, (kept c).1, schema_widths _ c.self.invariant.schema)

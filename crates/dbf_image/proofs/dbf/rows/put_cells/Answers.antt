@@ -29,7 +29,7 @@ loop-field-preserved g c =
       room = omega (arith, wide, c.split_at.ensures.back_len, c.from.ensures, c.loop-field.invariant.room);
       many = omega (arith, count, c.split_at-in-loop-field.ensures.back_len, c.memos_of.ensures.value, c.loop-field.invariant.many);
       each = rw c.split_at-in-loop-field.ensures.back (all_drop (IsMemo texts) memos _ c.loop-field.invariant.each);
-      few = omega (arith, count, c.blocks_at-next.ensures.small, c.loop-field.invariant.few);
+      count_bounded = omega (arith, count, c.blocks_at-next.ensures.bounded, c.loop-field.invariant.count_bounded);
       same = put.0 ∙ c.loop-field.invariant.same;
       left = rw (put.1, c.split_at.ensures.front, c.split_at.ensures.back, c.split_at-in-loop-field.ensures.back, c.memos_of.ensures.value, c.from.ensures, blocks)
           (more_left _ _ _ _ _ bytes c.loop-field.invariant.left);

@@ -15,7 +15,7 @@ invariant-loop-field g l =
       room : widths later ≤ length l.rest;
       many : memo_count later ≤ length l.memos;
       each : AllByRecursion (IsMemo texts) l.memos;
-      few : l.next + 129 * memo_count later ≤ l.fn.first + 129 * memo_count l.fields;
+      count_bounded : l.next + 129 * memo_count later ≤ l.fn.first + 129 * memo_count l.fields;
       same : l.out.sink.ghost_name ≡ l.fn.out.sink.ghost_name;
       left : more l.out.wanted (left_bytes l.next later l.rest texts l.memos) ≡ more l.fn.out.wanted (left_bytes l.fn.first l.fields l.fn.cells.records.now texts l.fn.cells.memos.now);
       ahead : l.next + left_blocks later l.rest texts l.memos ≡ l.fn.first + left_blocks l.fields l.fn.cells.records.now texts l.fn.cells.memos.now;

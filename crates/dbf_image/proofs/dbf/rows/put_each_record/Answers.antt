@@ -24,7 +24,7 @@ loop-preserved g c =
       room = room-next size count i _ _ lt c.loop.invariant.room c.split_at.ensures.back_len;
       many = room-next each count i _ _ lt c.loop.invariant.many c.split_at-in-loop.ensures.back_len;
       each = rw c.split_at-in-loop.ensures.back (all_drop (IsMemo texts) memos _ c.loop.invariant.each);
-      few = omega (arith, less, c.loop.invariant.few, c.put_record-next.ensures.small, c.memo_count_of-memos_each.ensures.value);
+      count_bounded = omega (arith, less, c.loop.invariant.count_bounded, c.put_record-next.ensures.bounded, c.memo_count_of-memos_each.ensures.value);
       same = c.put_record-next.ensures.put.0 ∙ c.loop.invariant.same;
       left = rw (c.put_record-next.ensures.next, c.put_record-next.ensures.put.1, c.split_at.ensures.front, c.split_at-in-loop.ensures.front, c.split_at.ensures.back, c.split_at-in-loop.ensures.back, c.memo_count_of-memos_each.ensures.value)
           (more_left _ _ _ _ _ step c.loop.invariant.left);

@@ -15,7 +15,7 @@ invariant-loop g l =
       room : left * l.size ≤ length l.rest;
       many : left * l.memos_each ≤ length l.memos;
       each : AllByRecursion (IsMemo texts) l.memos;
-      few : l.next + 129 * (left * l.memos_each) ≤ 1 + 129 * (count * l.memos_each);
+      count_bounded : l.next + 129 * (left * l.memos_each) ≤ 1 + 129 * (count * l.memos_each);
       same : l.out.sink.ghost_name ≡ l.fn.out.sink.ghost_name;
       left : more l.out.wanted (left_rows l.next l.fields l.size left l.rest texts l.memos) ≡ more l.fn.out.wanted (left_rows 1 l.fields l.size count l.fn.store.records.now texts l.fn.store.memos.now);
     }

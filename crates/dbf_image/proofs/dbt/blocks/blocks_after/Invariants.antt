@@ -7,5 +7,5 @@ use Rattle.dbf_image.proofs.dbt.blocks.blocks_after.Given as goal
 abbrev pub invariant-loop-number : goal.invariant-loop-number
 invariant-loop-number l = record {
   counted : l.next ≡ 1 + sum_by (λ n. blocks_of (text_of l.fn.store.texts.now.texts n)) (take l.number-index l.fn.store.memos.now);
-  small : l.next ≤ 1 + 129 * l.number-index;
+  bounded : l.next ≤ 1 + 129 * l.number-index;
 }

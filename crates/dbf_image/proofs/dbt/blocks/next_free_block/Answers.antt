@@ -2,10 +2,10 @@ use Rattle.std.proofs.Common.{length, arith}
 use Rattle.dbf_image.proofs.JoinLaws.{next_read, free_some, free_none, memos_all}
 use Rattle.dbf_image.proofs.dbt.blocks.next_free_block.Goals as goal
 
-pub blocks_after-next-requires-clause-few : goal.blocks_after-next-requires-clause-few
-blocks_after-next-requires-clause-few c =
+pub blocks_after-next-requires-clause-count_bounded : goal.blocks_after-next-requires-clause-count_bounded
+blocks_after-next-requires-clause-count_bounded c =
     let table = c.args.table.now in
-    omega (arith, c.store.ensures.kept.many, memos_all table.schema (length table.rows) c.record_count-count.ensures.each.fields c.record_count-count.ensures.each.few)
+    omega (arith, c.store.ensures.kept.many, memos_all table.schema (length table.rows) c.record_count-count.ensures.each.fields c.record_count-count.ensures.each.count_bounded)
 
 pub returns-then-next-le4294967295 : goal.returns-then-next-le4294967295
 returns-then-next-le4294967295 c =

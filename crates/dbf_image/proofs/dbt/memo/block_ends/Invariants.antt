@@ -7,7 +7,7 @@ use Rattle.dbf_image.specs.declared.format.TheConstants.{BLOCK}
 abbrev pub invariant-loop-block : goal.invariant-loop-block
 invariant-loop-block l = record {
   many : length l.ends.items ≡ length l.dbt / BLOCK + 1;
-  few : l.block ≤ length l.ends.items;
+  count_bounded : l.block ≤ length l.ends.items;
   inside : l.to ≤ length l.dbt;
   near : BLOCK * l.block ≤ l.to + BLOCK;
   known : l.end ≡ end_at l.dbt l.to;

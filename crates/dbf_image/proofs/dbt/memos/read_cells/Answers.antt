@@ -5,8 +5,8 @@ use Rattle.dbf_image.proofs.MemoLoops.{tests-next, tests-stop, texts-next, memo_
 use Rattle.dbf_image.proofs.dbt.memos.read_cells.Goals as goal
 use Rattle.dbf_fields.specs.declared.format.TheConstants.{MEMO}
 
-pub read_cell-requires-clause-few : goal.read_cell-requires-clause-few
-read_cell-requires-clause-few c = λ kind.
+pub read_cell-requires-clause-count_bounded : goal.read_cell-requires-clause-count_bounded
+read_cell-requires-clause-count_bounded c = λ kind.
     let wide : c.field-item.result.kind ≡ MEMO → c.field-item.result.width ≡ 10 = rw c.field-item.is (memo_fits c.args.fields.now c.requires.schema c.loop-field.field-index _ c.loop-field-test.true) in
     omega (arith, wide kind, c.split_at.ensures.front_len, c.from.ensures)
 

@@ -21,7 +21,7 @@ returns g c =
     let texts = c.args.texts.now.texts in
     let some = some_number texts c.args.number (rw c.memo_length-length.ensures.value at c.if-length-eq0.false) in
     let text = rw (text_held texts c.args.number some) at c.put_text.ensures.put.1 in
-    let whole = block_put (text_of texts c.args.number) c.memo_length-length.result c.fill_of.result c.memo_length-length.ensures.value c.if-length-eq0.false c.fill_of.ensures.value c.fill_of.ensures.small in
+    let whole = block_put (text_of texts c.args.number) c.memo_length-length.result c.fill_of.result c.memo_length-length.ensures.value c.if-length-eq0.false c.fill_of.ensures.value c.fill_of.ensures.bounded in
     record {
       put = (
         c.put-2.ensures.put.0 ∙ (c.put.ensures.put.0 ∙ c.put_text.ensures.put.0),

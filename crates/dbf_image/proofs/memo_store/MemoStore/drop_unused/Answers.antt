@@ -37,7 +37,7 @@ invariant_of-self c =
       all_free = swept_free _ _ _ s ∙ ap (blocks_owned 0) is;
       counted = subst (λ (l : List MemoBlock). AreCounted l) is (swept_counted _ _ _ (marked_held _ _ _ c.self.invariant.held m) (marked_counted _ _ _ c.self.invariant.held c.self.invariant.counted m) s);
       held = subst (λ (l : List MemoBlock). AreHeld l) is (swept_held _ _ _ (marked_held _ _ _ c.self.invariant.held m) s);
-      few = omega (arith, long, s.few, s.same_length);
+      count_bounded = omega (arith, long, s.count_bounded, s.same_length);
       room = omega (arith, long, s.same_length, m.same_length, c.self.invariant.room);
       numbers = omega (arith, long, s.same_length, m.same_length, c.self.invariant.numbers);
     }

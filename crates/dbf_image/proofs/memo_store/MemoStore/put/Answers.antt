@@ -47,7 +47,7 @@ invariant_of-self c =
       all_free = omega (arith, e.left, e.taken, ap (blocks_owned 0) c.deref_mut.ensures.value, grown_free _ _ pushed.grown, pushed.longer, pushed.count, inside.all_free) ∙ ap (blocks_owned 0) is;
       held = subst (λ (l : List MemoBlock). AreHeld l) is (done c).held;
       counted = subst (λ (l : List MemoBlock). AreCounted l) is (done c).counted;
-      few = omega (arith, sym long, whole, e.left, pushed.count, inside.few);
+      count_bounded = omega (arith, sym long, whole, e.left, pushed.count, inside.count_bounded);
       room = omega (arith, sym long, whole, more, pushed.capacity, inside.room);
       numbers = omega (arith, sym long, whole, more, inside.numbers);
     }

@@ -5,5 +5,5 @@ use Rattle.dbf_image.proofs.table.offsets.memo_count_of.Goals as goal
 pub overflow_add-count : goal.overflow_add-count
 overflow_add-count c = omega (arith, c.loop-field.invariant, memo_count_le c.args.fields.now, c.requires)
 
-pub returns-clause-small : goal.returns-clause-small
-returns-clause-small c = omega (arith, c.loop-field.invariant, memo_count_le c.args.fields.now, c.requires)
+pub returns-clause-bounded : goal.returns-clause-bounded
+returns-clause-bounded c = omega (arith, c.loop-field.invariant, memo_count_le c.args.fields.now, c.requires)

@@ -6,5 +6,5 @@ use Rattle.lock_table.proofs.locks.Locks.record_locks.Given as goal
 abbrev pub invariant-loop-other : goal.invariant-loop-other
 invariant-loop-other l = record {
   counted : l.count ≡ length (filter (λ m. nat_lt 0 m.number) (rowed l.table l.row l.other));
-  few : l.count ≤ l.other;
+  count_bounded : l.count ≤ l.other;
 }

@@ -41,7 +41,7 @@ remove_in-requires c =
     record {
       can = record {
         whole = record { tree = own.tree; order = own.order; list = own.list; apart = own.apart };
-        few = own.few;
+        count_bounded = own.count_bounded;
         held = subst (λ ps. Contains ps c.args.pair) (sym (ap (λ (v : Index). v.pairs) c.self.view_is)) held;
       };
     }

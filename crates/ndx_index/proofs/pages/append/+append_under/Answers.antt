@@ -30,7 +30,7 @@ append_under-requires t c =
       (
         subst (λ x. CanAppend d a x ps) (sym c.link-last.ensures.link)
             (can_append_below d a p ps (c.link_count.result - 1) can (omega (arith, c.link_count.ensures.count, links_length d a p can.tree))),
-        (c.requires.few, c.requires.keys),
+        (c.requires.count_bounded, c.requires.keys),
       ),
     )
 

@@ -17,6 +17,6 @@ returns-clause-added c =
     let grew = c.in_ok-beside.ensures.pages in
     let done = new_page_set a a1 c.put_link-2.new.self.pages no_page q (λ (g : Page). with_links (insert g.links 0 c.args.child) g) grew c.in_ok-beside.ensures.number c.put_link-2.ensures.pages in (
       c.in_ok-beside.ensures.number,
-      omega (arith, c.in_ok-beside.ensures.few, ap length grew, ap length done, length-append a (no_page ∷ []), length-append a (record { pairs = []; links = c.args.child ∷ [] } ∷ [])),
+      omega (arith, c.in_ok-beside.ensures.count_bounded, ap length grew, ap length done, length-append a (no_page ∷ []), length-append a (record { pairs = []; links = c.args.child ∷ [] } ∷ [])),
       done,
     )

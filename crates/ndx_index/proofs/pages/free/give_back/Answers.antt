@@ -5,7 +5,7 @@ use Rattle.ndx_index.proofs.pages.free.give_back.Goals as goal
 use Rattle.ndx_index.proofs.pages.free.give_back.Goals.{After-put_link}
 
 pub overflow_add-free : goal.overflow_add-free
-overflow_add-free c = omega (arith, c.requires.few, free_few c.args.store.now.pages c.args.free.now c.requires.list (λ r. omega (arith, c.requires.apart r)))
+overflow_add-free c = omega (arith, c.requires.count_bounded, free_few c.args.store.now.pages c.args.free.now c.requires.list (λ r. omega (arith, c.requires.apart r)))
 
 links : (c : After-put_link) → Linked c.args.free.now.count c.args.store.now.pages c.put_link.new.self.pages c.args.free.now.head c.args.page
 links c =

@@ -21,7 +21,7 @@ returns-clause-made c =
     let b = c.add_page.new.self.pages in
     let e = c.give_back.new.store.pages in
     let number : c.in_ok-page.page ≡ length a = c.in_ok-page.ensures.number in
-    grown a b e c.args.free.now c.give_back.new.free (more ((goal.at.returns-clause-made c).In_ok-page)) c.in_ok-page.ensures.few c.requires.apart c.give_back.ensures.count c.give_back.ensures.list
+    grown a b e c.args.free.now c.give_back.new.free (more ((goal.at.returns-clause-made c).In_ok-page)) c.in_ok-page.ensures.count_bounded c.requires.apart c.give_back.ensures.count c.give_back.ensures.list
     (λ r. c.give_back.ensures.uses r ∙ ap (λ p. here p r + uses_free b c.args.free.now r) number)
     (λ r ne. c.give_back.ensures.others r (λ same. ne (same ∙ number)))
     c.give_back.ensures.length

@@ -24,7 +24,7 @@ raise-requires c =
       can = record {
         whole = can.whole;
         levels = omega (arith, c.if-root-eq0.false);
-        few = omega (arith, levels_few c.args.store.now.pages c.args.free.now c.args.root.now c.args.pair.now can, can.few);
+        count_bounded = omega (arith, levels_few c.args.store.now.pages c.args.free.now c.args.root.now c.args.pair.now can, can.count_bounded);
         some = omega (arith, can.enough);
       };
     }

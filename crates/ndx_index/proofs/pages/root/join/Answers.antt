@@ -22,6 +22,6 @@ returns-clause-top c =
     record {
       levels = refl;
       page = n;
-      few = omega (arith, c.in_ok-page.ensures.few, ap length grew, ap length third, length-append a (no_page ∷ []), length-append a (top ∷ []));
+      count_bounded = omega (arith, c.in_ok-page.ensures.count_bounded, ap length grew, ap length third, length-append a (no_page ∷ []), length-append a (top ∷ []));
       pages = third;
     }

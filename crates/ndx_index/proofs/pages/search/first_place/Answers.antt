@@ -25,7 +25,7 @@ links : (c : After-link_count) → c.place-at.result < length (page_in c.args.st
 links c = omega (arith, c.place-at.ensures.within, links_length (c.levels.here.level - 1) c.args.store.now.pages c.levels.here.page (way c).tree)
 
 pub overflow_add-at : goal.overflow_add-at
-overflow_add-at c = omega (arith, c.place-at.ensures.within, c.link_count.ensures.count, c.link_count.ensures.small, links_length (c.levels.here.level - 1) c.args.store.now.pages c.levels.here.page (way c).tree)
+overflow_add-at c = omega (arith, c.place-at.ensures.within, c.link_count.ensures.count, c.link_count.ensures.bounded, links_length (c.levels.here.level - 1) c.args.store.now.pages c.levels.here.page (way c).tree)
 
 pub link-page-requires-in-levels-clause-place : goal.link-page-requires-in-levels-clause-place
 link-page-requires-in-levels-clause-place c = links ((goal.at.link-page-requires-in-levels-clause-place c).After-link_count)

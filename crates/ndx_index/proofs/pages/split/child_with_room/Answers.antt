@@ -59,7 +59,7 @@ split_child-requires c =
     let lt : c.place_after-at.result < length (page_in a p).links = omega (arith, c.place_after-at.ensures.within, links_length d a p can.whole.tree) in
     let full : width d (page_in a c.link-child.result) ≡ 16 = elim (cases_lt (width d (page_in a c.link-child.result)) 16) [
       | inl less ↦ absurd (false≢true (sym c.if-has_room.false ∙ c.has_room.ensures.value.1 less))
-      | inr more ↦ omega (arith, more, c.has_room.ensures.small)
+      | inr more ↦ omega (arith, more, c.has_room.ensures.bounded)
     ] in
     record { can = can_split d a f p c.place_after-at.result c.link-child.result pair can lt (sym c.link-child.ensures.link) full }
 

@@ -30,7 +30,7 @@ loop-index-preserved c =
           record {
             pairs = now ∙ pairs_more rows e i c.loop-index.number blank p.key c.loop-index.pairs.items lt stays kept.number at kept.pairs;
             number = omega (arith, w.number-is, kept.number, count_more rows i blank lt stays);
-            few = omega (arith, w.number-is, kept.few);
+            count_bounded = omega (arith, w.number-is, kept.count_bounded);
             keys = subst (HaveLength long) (sym now) (all_push (λ (q : Pair). length q.key ≡ long) c.loop-index.pairs.items p kept.keys w.pair_of-key.ensures.long);
           }
       | else-not-is_deleted w ↦
@@ -38,7 +38,7 @@ loop-index-preserved c =
           record {
             pairs = rw w.pairs-is (rw same kept.pairs);
             number = rw w.number-is (rw same kept.number);
-            few = omega (arith, w.number-is, kept.few);
+            count_bounded = omega (arith, w.number-is, kept.count_bounded);
             keys = rw w.pairs-is kept.keys;
           }
     ]

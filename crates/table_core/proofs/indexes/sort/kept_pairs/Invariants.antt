@@ -9,6 +9,6 @@ abbrev pub invariant-loop-index : goal.invariant-loop-index
 invariant-loop-index l = record {
   pairs : l.pairs.items ≡ pairs_from 1 (kept_rows (take l.index l.records.table.rows)) l.expr.expr;
   number : l.number ≡ 1 + length (kept_rows (take l.index l.records.table.rows));
-  few : l.number ≤ l.index + 1;
+  count_bounded : l.number ≤ l.index + 1;
   keys : HaveLength (key_length l.expr.fields l.expr.expr) l.pairs.items;
 }

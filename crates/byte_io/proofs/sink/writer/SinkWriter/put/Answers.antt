@@ -13,4 +13,4 @@ pub invariant_of-self-2 : goal.invariant_of-self-2
 invariant_of-self-2 g c =
     let h = rw c.if-self.false at c.args.self.now.stands in
     let kept = front_then _ _ _ h.0 c.gather.ensures.kept in
-    record { stands = rw c.append.ensures.value (stands_put _ _ _ _ _ _ _ c.is_err-self.ensures.value kept (rw h.1.0 at c.gather.ensures.put) (rw h.1.1 at c.gather.ensures.fine) (rw h.1.0 at c.gather.ensures.front) (rw h.1.1 at c.gather.ensures.failed)) }
+    record { stands = rw c.append.ensures.value (stands_put _ _ _ _ _ _ _ c.is_err-self.ensures.value kept (rw h.1.0 at c.gather.ensures.put) (rw h.1.1 at c.gather.ensures.no_failure) (rw h.1.0 at c.gather.ensures.front) (rw h.1.1 at c.gather.ensures.failed)) }

@@ -12,5 +12,5 @@ pub returns-clause-pages : goal.returns-clause-pages
 returns-clause-pages c =
     let there = is_there c.self.inside c.args.self.now c.args.page c.self.view_is c.self.invariant c.requires.page in
     let ps = c.self.inside.slots.pairs in
-    page_changed c.self.inside.counts.items ps ps c.args.page 0 c.self.invariant.small there.index refl refl
+    page_changed c.self.inside.counts.items ps ps c.args.page 0 c.self.invariant.bounded there.index refl refl
     ∙ ap (λ (s : Pages). set s.pages c.args.page []) c.self.view_is

@@ -13,7 +13,7 @@ returns-clause-count c =
     let there = is_there c.self.inside c.args.self.now c.args.page c.self.view_is c.self.invariant c.requires.page in
     c.from.ensures ∙ get_or_read c.self.inside.counts.items c.args.page c.index.result.now there.index c.index.ensures 0 ∙ sym there.count
 
-pub returns-clause-small : goal.returns-clause-small
-returns-clause-small c =
+pub returns-clause-bounded : goal.returns-clause-bounded
+returns-clause-bounded c =
     let there = is_there c.self.inside c.args.self.now c.args.page c.self.view_is c.self.invariant c.requires.page in
-    omega (arith, there.small, get_or_read c.self.inside.counts.items c.args.page c.index.result.now there.index c.index.ensures 0)
+    omega (arith, there.bounded, get_or_read c.self.inside.counts.items c.args.page c.index.result.now there.index c.index.ensures 0)

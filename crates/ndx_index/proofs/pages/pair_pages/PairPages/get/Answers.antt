@@ -10,12 +10,12 @@ overflow_mul-page c =
 pub overflow_add-page : goal.overflow_add-page
 overflow_add-page c =
     let there = is_there c.self.inside c.args.self.now c.args.page c.self.view_is c.self.invariant c.requires.page in
-    omega (arith, there.near, there.count, there.small, c.requires.place)
+    omega (arith, there.near, there.count, there.bounded, c.requires.place)
 
 pub get-requires : goal.get-requires
 get-requires c =
     let there = is_there c.self.inside c.args.self.now c.args.page c.self.view_is c.self.invariant c.requires.page in
-    omega (arith, there.slots, there.count, there.small, c.requires.place)
+    omega (arith, there.slots, there.count, there.bounded, c.requires.place)
 
 pub returns-clause-pair : goal.returns-clause-pair
 returns-clause-pair c =

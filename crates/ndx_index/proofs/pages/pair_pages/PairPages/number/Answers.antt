@@ -11,12 +11,12 @@ overflow_mul-page c =
 pub overflow_add-page : goal.overflow_add-page
 overflow_add-page c =
     let there = is_there c.self.inside c.args.self.now c.args.page c.self.view_is c.self.invariant c.requires.page in
-    omega (arith, there.near, there.count, there.small, c.requires.place)
+    omega (arith, there.near, there.count, there.bounded, c.requires.place)
 
 pub number-requires : goal.number-requires
 number-requires c =
     let there = is_there c.self.inside c.args.self.now c.args.page c.self.view_is c.self.invariant c.requires.page in
-    omega (arith, there.slots, there.count, there.small, c.requires.place)
+    omega (arith, there.slots, there.count, there.bounded, c.requires.place)
 
 pub returns : goal.returns
 returns c =

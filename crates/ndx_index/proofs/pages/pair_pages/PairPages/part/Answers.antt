@@ -17,7 +17,7 @@ pub part-requires : goal.part-requires
 part-requires c =
     let there = is_there c.self.inside c.args.self.now c.args.page c.self.view_is c.self.invariant c.requires.page in
     let count : c.index.result.now ≡ get_or c.self.inside.counts.items c.args.page 0 = get_or_read c.self.inside.counts.items c.args.page c.index.result.now there.index c.index.ensures 0 in
-    record { inside = omega (arith, there.slots, there.small, count, c.from.ensures) }
+    record { inside = omega (arith, there.slots, there.bounded, count, c.from.ensures) }
 
 pub returns-clause-pairs : goal.returns-clause-pairs
 returns-clause-pairs c =

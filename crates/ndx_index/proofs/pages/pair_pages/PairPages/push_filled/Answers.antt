@@ -10,5 +10,5 @@ returns-clause-pages c =
     let new = c.args.pairs.now in
     let blanks = replicate (16 - length new) (blank c.push_all.new.self.key_len) in
     rw (c.push_reserved.ensures.items, c.push_blank.ensures.pairs, c.push_all.ensures.pairs, append_assoc inside.slots.pairs new blanks)
-    (page_pushed inside.counts.items inside.slots.pairs new blanks c.self.invariant.small c.self.invariant.fit
+    (page_pushed inside.counts.items inside.slots.pairs new blanks c.self.invariant.bounded c.self.invariant.fit
     ∙ ap (λ (s : Pages). s.pages ++ new ∷ []) c.self.view_is)

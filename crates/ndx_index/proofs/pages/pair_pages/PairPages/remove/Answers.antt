@@ -19,17 +19,17 @@ overflow_mul-low c =
 pub overflow_add-place : goal.overflow_add-place
 overflow_add-place c =
     let there = is_there c.self.inside c.args.self.now c.args.page c.self.view_is c.self.invariant c.requires.page in
-    omega (arith, there.near, there.count, there.small, c.requires.place)
+    omega (arith, there.near, there.count, there.bounded, c.requires.place)
 
 pub overflow_add-low : goal.overflow_add-low
 overflow_add-low c =
     let there = is_there c.self.inside c.args.self.now c.args.page c.self.view_is c.self.invariant c.requires.page in
-    omega (arith, there.near, there.small, get_or_read c.self.inside.counts.items c.args.page c.index-count.result.now there.index c.index-count.ensures 0)
+    omega (arith, there.near, there.bounded, get_or_read c.self.inside.counts.items c.args.page c.index-count.result.now there.index c.index-count.ensures 0)
 
 pub overflow_add-place-2 : goal.overflow_add-place-2
 overflow_add-place-2 c =
     let there = is_there c.self.inside c.args.self.now c.args.page c.self.view_is c.self.invariant c.requires.page in
-    omega (arith, there.near, there.count, there.small, c.requires.place)
+    omega (arith, there.near, there.count, there.bounded, c.requires.place)
 
 pub copy_within-requires-clause-order : goal.copy_within-requires-clause-order
 copy_within-requires-clause-order c =
@@ -39,12 +39,12 @@ copy_within-requires-clause-order c =
 pub copy_within-requires-clause-inside : goal.copy_within-requires-clause-inside
 copy_within-requires-clause-inside c =
     let there = is_there c.self.inside c.args.self.now c.args.page c.self.view_is c.self.invariant c.requires.page in
-    omega (arith, there.slots, there.small, get_or_read c.self.inside.counts.items c.args.page c.index-count.result.now there.index c.index-count.ensures 0)
+    omega (arith, there.slots, there.bounded, get_or_read c.self.inside.counts.items c.args.page c.index-count.result.now there.index c.index-count.ensures 0)
 
 pub copy_within-requires-clause-room : goal.copy_within-requires-clause-room
 copy_within-requires-clause-room c =
     let there = is_there c.self.inside c.args.self.now c.args.page c.self.view_is c.self.invariant c.requires.page in
-    omega (arith, there.slots, there.small, there.count, c.requires.place, get_or_read c.self.inside.counts.items c.args.page c.index-count.result.now there.index c.index-count.ensures 0)
+    omega (arith, there.slots, there.bounded, there.count, c.requires.place, get_or_read c.self.inside.counts.items c.args.page c.index-count.result.now there.index c.index-count.ensures 0)
 
 pub overflow_sub-count : goal.overflow_sub-count
 overflow_sub-count c =
@@ -65,8 +65,8 @@ returns-clause-pages c =
     let read : n ≡ get_or c.self.inside.counts.items c.args.page 0 = get_or_read c.self.inside.counts.items c.args.page n there.index c.index-count.ensures 0 in
     let pages = ap (λ (s : Pages). s.pages) c.self.view_is in
     let same : take n (drop low ps) ≡ page_at c.args.self.now.pages c.args.page = ap (λ (k : ℕ). take k (drop low ps)) read ∙ sym there.page in
-    let law = page_removed c.self.inside.counts.items ps c.args.page c.args.at n c.self.invariant.small there.index c.self.invariant.fit
-    (omega (arith, read, there.count, c.requires.place)) (omega (arith, read, there.small)) in
+    let law = page_removed c.self.inside.counts.items ps c.args.page c.args.at n c.self.invariant.bounded there.index c.self.invariant.fit
+    (omega (arith, read, there.count, c.requires.place)) (omega (arith, read, there.bounded)) in
     rw (c.copy_within.ensures.pairs, c.from.ensures)
     (law ∙ ap (λ (l : List (List Pair)). set l c.args.page (remove (take n (drop low ps)) c.args.at)) pages
     ∙ ap (λ (g : List Pair). set c.args.self.now.pages c.args.page (remove g c.args.at)) same)

@@ -18,12 +18,12 @@ overflow_mul-low c =
 pub overflow_add-low : goal.overflow_add-low
 overflow_add-low c =
     let there = is_there c.self.inside c.args.self.now c.args.page c.self.view_is c.self.invariant c.requires.page in
-    omega (arith, there.near, there.count, there.small, c.requires.place, c.from.ensures)
+    omega (arith, there.near, there.count, there.bounded, c.requires.place, c.from.ensures)
 
 pub overflow_add-low-2 : goal.overflow_add-low-2
 overflow_add-low-2 c =
     let there = is_there c.self.inside c.args.self.now c.args.page c.self.view_is c.self.invariant c.requires.page in
-    omega (arith, there.near, there.small, c.from-2.ensures, get_or_read c.self.inside.counts.items c.args.page c.index-count.result.now there.index c.index-count.ensures 0)
+    omega (arith, there.near, there.bounded, c.from-2.ensures, get_or_read c.self.inside.counts.items c.args.page c.index-count.result.now there.index c.index-count.ensures 0)
 
 pub overflow_mul-to : goal.overflow_mul-to
 overflow_mul-to c =
@@ -39,13 +39,13 @@ copy_within-requires-clause-order c =
 pub copy_within-requires-clause-inside : goal.copy_within-requires-clause-inside
 copy_within-requires-clause-inside c =
     let there = is_there c.self.inside c.args.self.now c.args.page c.self.view_is c.self.invariant c.requires.page in
-    omega (arith, there.slots, there.small, c.from-2.ensures, get_or_read c.self.inside.counts.items c.args.page c.index-count.result.now there.index c.index-count.ensures 0)
+    omega (arith, there.slots, there.bounded, c.from-2.ensures, get_or_read c.self.inside.counts.items c.args.page c.index-count.result.now there.index c.index-count.ensures 0)
 
 pub copy_within-requires-clause-room : goal.copy_within-requires-clause-room
 copy_within-requires-clause-room c =
     let there = is_there c.self.inside c.args.self.now c.args.page c.self.view_is c.self.invariant c.requires.page in
     let other = is_there c.self.inside c.args.self.now c.args.to c.self.view_is c.self.invariant c.requires.to in
-    omega (arith, other.slots, there.small, c.from.ensures, c.from-2.ensures, get_or_read c.self.inside.counts.items c.args.page c.index-count.result.now there.index c.index-count.ensures 0)
+    omega (arith, other.slots, there.bounded, c.from.ensures, c.from-2.ensures, get_or_read c.self.inside.counts.items c.args.page c.index-count.result.now there.index c.index-count.ensures 0)
 
 pub overflow_sub-count : goal.overflow_sub-count
 overflow_sub-count c =
@@ -72,12 +72,12 @@ invariant_of-self c =
     let read : n ≡ get_or cs c.args.page 0 = get_or_read c.self.inside.counts.items c.args.page c.index-count.result.now there.index c.index-count.ensures 0 in
     let first = set cs c.args.to (n - c.args.at) in
     let same : length (set first c.args.page c.args.at) ≡ length cs = length-set first c.args.page c.args.at ∙ length-set cs c.args.to (n - c.args.at) in
-    let smaller = small_set cs c.args.to (n - c.args.at) runs.small (omega (arith, read, there.small)) in
+    let smaller = small_set cs c.args.to (n - c.args.at) runs.bounded (omega (arith, read, there.bounded)) in
     record {
       fit = rw same (c.copy_within.ensures.len ∙ runs.fit);
-      small = small_set first c.args.page c.args.at smaller (omega (arith, there.small, there.count, c.requires.place));
+      bounded = small_set first c.args.page c.args.at smaller (omega (arith, there.bounded, there.count, c.requires.place));
       slots_room = rw c.copy_within.ensures.spare runs.slots_room;
-      few = rw same runs.few;
+      count_bounded = rw same runs.count_bounded;
       counts_room = rw same runs.counts_room;
     }
 
@@ -92,8 +92,8 @@ returns-clause-pages c =
     let read : n ≡ get_or cs c.args.page 0 = get_or_read c.self.inside.counts.items c.args.page c.index-count.result.now there.index c.index-count.ensures 0 in
     let pages = ap (λ (s : Pages). s.pages) c.self.view_is in
     let same : take n (drop low ps) ≡ page_at c.args.self.now.pages c.args.page = ap (λ (k : ℕ). take k (drop low ps)) read ∙ sym there.page in
-    let law = page_split cs ps c.args.page c.args.to c.args.at n c.self.invariant.small there.index other.index c.requires.apart c.self.invariant.fit (sym read)
-    (omega (arith, read, there.count, c.requires.place)) (omega (arith, read, there.small)) in
+    let law = page_split cs ps c.args.page c.args.to c.args.at n c.self.invariant.bounded there.index other.index c.requires.apart c.self.invariant.fit (sym read)
+    (omega (arith, read, there.count, c.requires.place)) (omega (arith, read, there.bounded)) in
     rw (c.copy_within.ensures.pairs, c.from.ensures, c.from-2.ensures)
     (law ∙ ap (λ (l : List (List Pair)). set (set l c.args.to (drop c.args.at (take n (drop low ps)))) c.args.page (take c.args.at (take n (drop low ps)))) pages
     ∙ ap (λ (g : List Pair). set (set c.args.self.now.pages c.args.to (drop c.args.at g)) c.args.page (take c.args.at g)) same)

@@ -19,11 +19,11 @@ returns-clause-pages c =
 pub returns-clause-number : goal.returns-clause-number
 returns-clause-number c = c.page_count-page.ensures.value ∙ ap length c.reserve.ensures.pages ∙ sym (store_count c.self.inside c.args.self.now c.self.view_is c.self.invariant)
 
-pub returns-clause-few : goal.returns-clause-few
-returns-clause-few c =
+pub returns-clause-count_bounded : goal.returns-clause-count_bounded
+returns-clause-count_bounded c =
     let none : List Pair = [] in
     let pairs : length c.push_filled.new.self.pages ≡ length c.reserve.new.self.pages + 1 = ap length c.push_filled.ensures.pages ∙ length-append c.reserve.new.self.pages (c.args.pairs.now ∷ []) in
     let links : length c.push_page.new.self.pages ≡ length c.reserve-2.new.self.pages + 1 = ap length c.push_page.ensures.pages ∙ length-append c.reserve-2.new.self.pages (none ∷ []) in
     let same : length c.push_filled.new.self.pages ≡ length c.push_page.new.self.pages =
     omega (arith, pairs, links, ap length c.reserve.ensures.pages, ap length c.reserve-2.ensures.pages, c.self.invariant.same) in
-    omega (arith, length-zipped c.push_filled.new.self.pages c.push_page.new.self.pages same, pairs, c.page_count-page.ensures.few, c.in_ok-reserve.ensures.ok)
+    omega (arith, length-zipped c.push_filled.new.self.pages c.push_page.new.self.pages same, pairs, c.page_count-page.ensures.count_bounded, c.in_ok-reserve.ensures.ok)

@@ -6,7 +6,7 @@ use Rattle.ndx_index.proofs.write.plan.TreePlan.new.Goals as goal
 pub loop-level-init : goal.loop-level-init
 loop-level-init c =
     let level = c.leaves_of-level.ensures in
-    rw (level.height, level.first) (reach_leaves c.args.shape.keys (listed c.args.pairs) c.leaves_of-level.result.count _ (omega (arith, c.args.shape.fits.some)) c.requires.few level.count refl)
+    rw (level.height, level.first) (reach_leaves c.args.shape.keys (listed c.args.pairs) c.leaves_of-level.result.count _ (omega (arith, c.args.shape.fits.some)) c.requires.count_bounded level.count refl)
 
 pub loop-level-preserved : goal.loop-level-preserved
 loop-level-preserved c =
