@@ -39,7 +39,7 @@ pub(crate) struct TreePlan<'a> {
     pub height: usize,
     /// The number of the root page, which is the last of the file.
     pub root: u32,
-    ghost few: { length (listed pairs) ≤ MAX_PAIRS },
+    ghost count_bounded: { length (listed pairs) ≤ MAX_PAIRS },
     ghost keys: { AllByRecursion (λ p. length p.key + 8 ≤ shape.size) (listed pairs) } by { Prim.hlevel props },
     ghost depth: { height ≤ length sizes },
     ghost below: { AreSizes shape.keys (listed pairs) height sizes },
