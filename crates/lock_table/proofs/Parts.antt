@@ -6,7 +6,7 @@ use Rattle.std.proofs.lemmas.List.Elements.{filter-append}
 use Rattle.std.proofs.lemmas.Bool.Decides.{nat_tests}
 use Rattle.lock_table.specs.Locks.{Lock, lock_of, in_table, is_before, is_after, is_own, with_locks, without}
 use Rattle.lock_table.specs.Slots.{slot_index_of, slot_records, lock_at, locks_from, locks_of, row_from}
-use Rattle.lock_table.proofs.Numbered.{numbered-append}
+use Rattle.lock_table.proofs.Numbered.{slot_locks-append}
 use Rattle.lock_table.proofs.Indexes.{before_index, after_index, own_index, table_index, rows_rise, lock_in_row, lock_at_index}
 
 filter_all : (test : Lock → Bool) (f : ℕ → Lock) (xs : List ℕ) → ((r : ℕ) → test (f r) ≡ true) → filter test (map f xs) ≡ map f xs
@@ -36,7 +36,7 @@ kept_none n p test (x ∷ xs) h =
 split_slots : (n p : ℕ) (a : List (List ℕ)) (x : List ℕ) (b : List (List ℕ)) → length a ≡ p → locks_from n 0 (a ++ x ∷ b) ≡ locks_from n 0 a ++ (map (lock_at n p) x ++ locks_from n (p + 1) b)
 split_slots n p a x b e =
     let at : 0 + length a ≡ p = omega arith in
-    numbered-append (lock_at n) 0 a (x ∷ b) ∙ ap (λ (k : ℕ). locks_from n 0 a ++ (map (lock_at n k) x ++ locks_from n (k + 1) b)) at
+    slot_locks-append (lock_at n) 0 a (x ∷ b) ∙ ap (λ (k : ℕ). locks_from n 0 a ++ (map (lock_at n k) x ++ locks_from n (k + 1) b)) at
 
 -- what a filter keeps of three parts
 three_kept : (test : Lock → Bool) (xs ys zs us vs ws : List Lock) → filter test xs ≡ us → filter test ys ≡ vs → filter test zs ≡ ws → filter test (xs ++ (ys ++ zs)) ≡ us ++ (vs ++ ws)
@@ -107,9 +107,9 @@ row_of_table n t a row b h i e f =
     let at : 0 + length a ≡ (t - 1) * n + 0 = omega arith in
     let after : (t - 1) * n + 0 + length row ≡ (t - 1) * n + n = omega arith in
     let parts : locks_from n 0 (a ++ (row ++ b)) ≡ locks_from n 0 a ++ (locks_from n ((t - 1) * n + 0) row ++ locks_from n ((t - 1) * n + n) b) =
-    numbered-append (lock_at n) 0 a (row ++ b)
+    slot_locks-append (lock_at n) 0 a (row ++ b)
     ∙ ap (λ (k : ℕ). locks_from n 0 a ++ locks_from n k (row ++ b)) at
-    ∙ ap (λ (z : List Lock). locks_from n 0 a ++ z) (numbered-append (lock_at n) ((t - 1) * n + 0) row b)
+    ∙ ap (λ (z : List Lock). locks_from n 0 a ++ z) (slot_locks-append (lock_at n) ((t - 1) * n + 0) row b)
     ∙ ap (λ (k : ℕ). locks_from n 0 a ++ (locks_from n ((t - 1) * n + 0) row ++ locks_from n k b)) after in
     ap (filter test) parts
     ∙ three_kept test (locks_from n 0 a) (locks_from n ((t - 1) * n + 0) row) (locks_from n ((t - 1) * n + n) b) [] (locks_from n ((t - 1) * n + 0) row) []

@@ -9,7 +9,7 @@ use Rattle.std.proofs.lemmas.List.Folds.{list_any-append, find-append}
 use Rattle.std.proofs.lemmas.List.{take_more, append-nil, map-append, length-map, length-take, take-append-drop, take_all}
 use Rattle.lock_table.specs.Locks.{Lock, lock_of, bars, lets_write, is_others}
 use Rattle.lock_table.specs.Slots.{slot_records, row_from}
-use Rattle.lock_table.proofs.Numbered.{numbered-append}
+use Rattle.lock_table.proofs.Numbered.{slot_locks-append}
 
 -- the locks of a row's first slots
 abbrev pub rowed : ℕ → List (Option ℕ) → ℕ → List Lock
@@ -23,7 +23,7 @@ pub rowed_more : (t : ℕ) (row : List (Option ℕ)) (i : ℕ) → i < length ro
 rowed_more t row i h =
     let at : 1 + length (map slot_records (take i row)) ≡ i + 1 = omega (arith, length-map (take i row) slot_records, length-take i row) in
     ap (row_from t 1) (more_slots row i h)
-    ∙ numbered-append (lock_of t) 1 (map slot_records (take i row)) (slot_records (get_or row i None) ∷ [])
+    ∙ slot_locks-append (lock_of t) 1 (map slot_records (take i row)) (slot_records (get_or row i None) ∷ [])
     ∙ ap (λ (k : ℕ). rowed t row i ++ row_from t k (slot_records (get_or row i None) ∷ [])) at
     ∙ ap (λ (z : List Lock). rowed t row i ++ z) (append-nil (map (lock_of t (i + 1)) (slot_records (get_or row i None))))
 
@@ -32,7 +32,7 @@ pub rowed_rest : (t : ℕ) (row : List (Option ℕ)) (i : ℕ) → row_from t 1 
 rowed_rest t row i =
     ap (λ (xs : List (Option ℕ)). row_from t 1 (map slot_records xs)) (sym (take-append-drop i row))
     ∙ ap (row_from t 1) (map-append slot_records (take i row) (drop i row))
-    ∙ numbered-append (lock_of t) 1 (map slot_records (take i row)) (map slot_records (drop i row))
+    ∙ slot_locks-append (lock_of t) 1 (map slot_records (take i row)) (map slot_records (drop i row))
 
 -- all slots
 pub rowed_all : (t : ℕ) (row : List (Option ℕ)) (i : ℕ) → length row ≤ i → rowed t row i ≡ row_from t 1 (map slot_records row)
