@@ -58,7 +58,7 @@ pub record Passes (bytes : List ℕ) (dbt : Option (List ℕ)) : Type 0 where
   pub version : has_version bytes ≡ true
   pub inside : header_length bytes ≤ length bytes
   pub ended : is_some (field_count bytes) ≡ true
-  pub accepted : is_none (schemas.refusal (fields_of bytes)) ≡ true
+  pub accepted : is_none (schemas.schema_refusal (fields_of bytes)) ≡ true
   pub wide : record_length bytes ≡ 1 + widths (schema_of bytes)
   pub count_bounded : header_record_count bytes ≤ MAX_RECORDS
   pub whole : header_length bytes + header_record_count bytes * record_length bytes ≤ length bytes
@@ -74,7 +74,7 @@ passes_all bytes dbt h =
     let b = passed (has_version bytes) _ _ a.1 in
     let c = passed (leb (header_length bytes) (length bytes)) _ _ b.1 in
     let d = passed (is_some (field_count bytes)) _ _ q.0 in
-    let e = passed (is_none (schemas.refusal (fields_of bytes))) _ _ d.1 in
+    let e = passed (is_none (schemas.schema_refusal (fields_of bytes))) _ _ d.1 in
     let f = passed (eqb (record_length bytes) (1 + widths (schema_of bytes))) _ _ r.0 in
     let g = passed (leb (header_record_count bytes) MAX_RECORDS) _ _ f.1 in
     let i = passed (leb (header_length bytes + header_record_count bytes * record_length bytes) (length bytes)) _ _ g.1 in
@@ -194,7 +194,7 @@ dbf_is bytes dbt table d =
     let counted : field_count bytes ≡ Some d.field_count = first_passing-is (ends_fields bytes) 0 (most_fields bytes) d.field_count (omega arith) (omega (arith, d.in_header)) (eq-eqb _ _ d.last_field) (λ j low lt. ne_eqb _ _ (d.not_before j lt)) in
     let fields : fields_of bytes ≡ map field_of (chunks DESCRIPTOR d.field_count (drop HEADER bytes)) = rw counted refl in
     let schema : schema_of bytes ≡ table.schema = ap (map folded) fields ∙ sym d.schema in
-    let none : is_none (schemas.refusal (fields_of bytes)) ≡ true = rw (fields, d.accepted) refl in
+    let none : is_none (schemas.schema_refusal (fields_of bytes)) ≡ true = rw (fields, d.accepted) refl in
     let given : EncodesRows (unwrap_or dbt []) (schema_of bytes) (records_of bytes) table.rows = rw schema d.rows in
     let some : has_memos (schema_of bytes) ≡ true → is_some dbt ≡ true = λ e. d.memos (ap has_memos (sym schema) ∙ e) in
     let m = pass_memos bytes dbt table.rows some given in

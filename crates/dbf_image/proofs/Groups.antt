@@ -15,12 +15,12 @@ use Rattle.dbf_image.specs.declared.format.TheConstants.{DESCRIPTOR, HEADER}
 pub fields_are : (bytes : List ℕ) (count : ℕ) → Some count ≡ field_count bytes → map field_of (chunks DESCRIPTOR count (take (length bytes - HEADER) (drop HEADER bytes))) ≡ fields_of bytes
 fields_are bytes count e = rw (take_rest bytes HEADER, ← e) refl
 
-pub fields_pass : (bytes : List ℕ) (count : ℕ) → Some count ≡ field_count bytes → is_none (schemas.refusal (fields_of bytes)) ≡ true → first_fault (descriptor_tests bytes) ≡ None
+pub fields_pass : (bytes : List ℕ) (count : ℕ) → Some count ≡ field_count bytes → is_none (schemas.schema_refusal (fields_of bytes)) ≡ true → first_fault (descriptor_tests bytes) ≡ None
 unfolding descriptor_tests
 fields_pass bytes count e h = rw (h, ← e) refl
 
 pub fields_fail : (bytes : List ℕ) (count : ℕ) (fault : ImageFault) → Some count ≡ field_count bytes
-    → (fault ≡ NoMemory) ⊎ ((fault ≡ BadSchema) × (is_none (schemas.refusal (fields_of bytes)) ≡ false))
+    → (fault ≡ NoMemory) ⊎ ((fault ≡ BadSchema) × (is_none (schemas.schema_refusal (fields_of bytes)) ≡ false))
     → (fault ≡ NoMemory) ⊎ (first_fault (descriptor_tests bytes) ≡ Some fault)
 unfolding descriptor_tests
 fields_fail bytes count fault e (inl h) = inl h

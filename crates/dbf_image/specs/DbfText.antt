@@ -59,7 +59,7 @@ pub record IsDbf (bytes : List ℕ) (dbt : Option (List ℕ)) (table : Table) : 
   pub not_before : (i : ℕ) → i < field_count → slice_index bytes (HEADER + DESCRIPTOR * i) ≢ HEADER_END
   pub in_header : HEADER + DESCRIPTOR * field_count < header_length bytes
   -- they tell fields that a table may have
-  pub accepted : schemas.refusal (map field_of (chunks DESCRIPTOR field_count (drop HEADER bytes))) ≡ None
+  pub accepted : schemas.schema_refusal (map field_of (chunks DESCRIPTOR field_count (drop HEADER bytes))) ≡ None
   pub schema : table.schema ≡ map folded (map field_of (chunks DESCRIPTOR field_count (drop HEADER bytes)))
   pub wide : record_length bytes ≡ 1 + widths table.schema
   -- the records stand after the header, one after the other

@@ -44,7 +44,7 @@ header_tests bytes =
 unfoldable pub descriptor_tests : List ℕ → List (Bool × ImageFault)
 descriptor_tests bytes =
     (is_some (field_count bytes), BadHeaderLength)
-    ∷ (is_none (schemas.refusal (fields_of bytes)), BadSchema)
+    ∷ (is_none (schemas.schema_refusal (fields_of bytes)), BadSchema)
     ∷ []
 
 -- Why the bytes are no table, as far as it is tested before memory is taken: by the header, and by whether
@@ -123,7 +123,7 @@ IsImageRefusal fault bytes dbt = (fault ≡ NoMemory) ⊎ (image_refusal bytes d
 
 -- the numbers of the header, as the code keeps them
 abbrev pub dbf_header : List ℕ → Header
-dbf_header bytes = record { header_length = header_length bytes; record_length = record_length bytes; header_record_count = header_record_count bytes }
+dbf_header bytes = record { header_length = header_length bytes; record_length = record_length bytes; record_count = header_record_count bytes }
 
 -- the table, where no test fails
 abbrev pub table_read : List ℕ → Option (List ℕ) → Table

@@ -129,9 +129,9 @@ fn schema_at(alloc: Global, dbf: &[u8], header_length: usize) -> Result<Schema, 
 
 // A list of fields as a schema.
 fn schema_of_fields(alloc: Global, fields: &[Field]) -> Result<Schema, ImageFault>
-    ensures accepted { IfOk result (λ _. is_none (schemas.refusal fields.now) ≡ true) }
+    ensures accepted { IfOk result (λ _. is_none (schemas.schema_refusal fields.now) ≡ true) }
     ensures value { IfOk result (λ schema. schema ≡ map folded fields.now) }
-    ensures refused { IfErr result (λ fault. (fault ≡ ImageFault.NoMemory) ⊎ ((fault ≡ ImageFault.BadSchema) × (is_none (schemas.refusal fields.now) ≡ false))) }
+    ensures refused { IfErr result (λ fault. (fault ≡ ImageFault.NoMemory) ⊎ ((fault ≡ ImageFault.BadSchema) × (is_none (schemas.schema_refusal fields.now) ≡ false))) }
 {
     match Schema::new(alloc, fields) {
         Ok(schema) => Ok(schema),
