@@ -61,7 +61,7 @@ pub fn one_order()
 /// The walk that breaks no rule visits the tree, and there is one walk from each page.
 pub fn one_walk()
     ensures tree { (s : LayoutValue) (bytes : List ℕ) (root : ℕ) (pages : List ℕ) (pairs : List PairValue)
-        → Visits s bytes [] (root ∷ []) pages pairs None ↔ IsTree s bytes root pages pairs }
+        → Visits s bytes [] (root ∷ []) pages pairs None ↔ IsFileTree s bytes root pages pairs }
     ensures only { (s : LayoutValue) (bytes : List ℕ) (root : ℕ) (pages others : List ℕ) (pairs rest : List PairValue) (r t : Option Fault)
         → Visits s bytes [] (root ∷ []) pages pairs r → Visits s bytes [] (root ∷ []) others rest t
         → (pages ≡ others) × (pairs ≡ rest) × (r ≡ t) }

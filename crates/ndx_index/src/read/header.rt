@@ -33,7 +33,7 @@ fn u16_at(bytes: &[u8], at: usize) -> u16
 }
 
 /// Reads the header, or says which rule it breaks first.
-#[tactic(auto, unfolding(crate::specs::Header::header_tests, crate::specs::Header::ndx_header))]
+#[tactic(auto, unfolding(crate::specs::Header::header_page_tests, crate::specs::Header::ndx_header))]
 pub(crate) fn read_header(bytes: &[u8]) -> Result<Header, NdxFault>
     ensures header { IfOk result (λ header. header ≡ ndx_header bytes.now) }
     ensures accepted { OnOk result (header_refusal bytes.now ≡ None) }

@@ -17,7 +17,7 @@ use dbf_fields::{
 use std::alloc::{AllocError, Global};
 
 // Whether both parts are digits, 1 to 19 together.
-#[tactic(auto, unfolding(crate::specs::Script::Literals::is_decimal))]
+#[tactic(auto, unfolding(crate::specs::Script::Literals::is_number_word))]
 fn is_decimal(text: &[u8]) -> bool
     ensures value { result ≡ decimal_is text.now }
 {
@@ -56,7 +56,7 @@ fn number_of_parts(whole: &[u8], fraction: &[u8]) -> u64
 }
 
 // The whole number of all digits, and how many of them stand after the point.
-#[tactic(auto, unfolding(crate::specs::Script::Literals::is_decimal))]
+#[tactic(auto, unfolding(crate::specs::Script::Literals::is_number_word))]
 fn decimal_in(text: &[u8]) -> Option<(u64, u8)>
     ensures value { result ≡ decimal_of text.now }
 {
