@@ -1,3 +1,4 @@
 pub mod Locks
 pub mod Slots
+pub mod Changes
 pub mod Laws

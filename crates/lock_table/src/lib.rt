@@ -6,8 +6,9 @@
 //! locked by two stations. Start reading at `specs/Locks.antt`, then `locks.rt`.
 #![tactic(auto)]
 
-ghost use Rattle.std.specs.Prelude.{◌≡◌, ◌≢◌, ◌⊎◌, ℕ, ◌≤◌, true, false, List};
-ghost use Rattle.lock_table.specs.Locks.{Lock, lock_of, free_record, free_whole, is_own, with_lock, without, without_all, IsHeld, AreApart};
+ghost use Rattle.std.specs.Prelude.{◌≢◌, ℕ, List};
+ghost use Rattle.lock_table.specs.Locks.{Lock, lock_of, with_lock, without, without_all, IsHeld};
+ghost use Rattle.lock_table.specs.Changes.{StayApart, StayApartAtRecord, StayApartAtTable, HasOnly, KeepsOthers, AddsOnly, LeavesOutOwn};
 
 mod locks;
 
@@ -16,21 +17,21 @@ pub use locks::Locks;
 /// Whatever free record or table is locked and whatever is released, stations stay apart: no record is locked by
 /// two of them, and no table in which another has a lock.
 pub fn stations_stay_apart()
-    ensures records { (locks : List Lock) (station table number : ℕ) → 1 ≤ number → free_record locks station table number ≡ true → AreApart locks → AreApart (with_lock locks station table number) }
-    ensures file { (locks : List Lock) (station table : ℕ) → free_whole locks station table ≡ true → AreApart locks → AreApart (with_lock locks station table 0) }
-    ensures released { (locks : List Lock) (station table : ℕ) → AreApart locks → AreApart (without locks station table) }
-    ensures all_released { (locks : List Lock) (station : ℕ) → AreApart locks → AreApart (without_all locks station) }
+    ensures records { (locks : List Lock) (station table number : ℕ) → StayApartAtRecord locks (with_lock locks station table number) station table number }
+    ensures file { (locks : List Lock) (station table : ℕ) → StayApartAtTable locks (with_lock locks station table 0) station table }
+    ensures released { (locks : List Lock) (station table : ℕ) → StayApart locks (without locks station table) }
+    ensures all_released { (locks : List Lock) (station : ℕ) → StayApart locks (without_all locks station) }
 {}
 
 /// Which locks are held after one was taken or some were released: the new one in place of the station's former
 /// one in that table, and each that is none of the station's there; and no others.
 pub fn other_locks_stay()
     ensures new_is_held { (locks : List Lock) (station table number : ℕ) → IsHeld (with_lock locks station table number) (lock_of table station number) }
-    ensures alone { (locks : List Lock) (station table number : ℕ) (l : Lock) → IsHeld (with_lock locks station table number) l → is_own station table l ≡ true → l ≡ lock_of table station number }
-    ensures others_stay { (locks : List Lock) (station table number : ℕ) (l : Lock) → IsHeld locks l → is_own station table l ≡ false → IsHeld (with_lock locks station table number) l }
-    ensures taken { (locks : List Lock) (station table number : ℕ) (l : Lock) → IsHeld (with_lock locks station table number) l → (l ≡ lock_of table station number) ⊎ IsHeld locks l }
-    ensures released { (locks : List Lock) (station table : ℕ) (l : Lock) → IsHeld (without locks station table) l → IsHeld locks l × (is_own station table l ≡ false) }
-    ensures others_left { (locks : List Lock) (station table : ℕ) (l : Lock) → IsHeld locks l → is_own station table l ≡ false → IsHeld (without locks station table) l }
+    ensures alone { (locks : List Lock) (station table number : ℕ) → HasOnly (with_lock locks station table number) station table number }
+    ensures others_stay { (locks : List Lock) (station table number : ℕ) → KeepsOthers locks (with_lock locks station table number) station table }
+    ensures taken { (locks : List Lock) (station table number : ℕ) → AddsOnly locks (with_lock locks station table number) (lock_of table station number) }
+    ensures released { (locks : List Lock) (station table : ℕ) → LeavesOutOwn locks (without locks station table) station table }
+    ensures others_left { (locks : List Lock) (station table : ℕ) → KeepsOthers locks (without locks station table) station table }
     ensures all_released { (locks : List Lock) (station : ℕ) (l : Lock) → IsHeld (without_all locks station) l → IsHeld locks l × (l.station ≢ station) }
     ensures all_others_left { (locks : List Lock) (station : ℕ) (l : Lock) → IsHeld locks l → l.station ≢ station → IsHeld (without_all locks station) l }
 {}
