@@ -1,11 +1,11 @@
 -- What a field's cell keeps of a value, and that reading the cell gives the value again.
-use Rattle.std.specs.Prelude.{◌≡◌, ℕ, ◌==◌, List, [], Option, Some, None, Result, Ok, Err, if◌then◌else◌}
+use Rattle.std.specs.Prelude.{◌≡◌, ◌⊎◌, ℕ, ℤ, ◌==◌, List, [], Option, Some, None, Result, Ok, Err, if◌then◌else◌}
 use Rattle.dbf_fields.specs.declared.field.Field.{Field}
 use Rattle.dbf_fields.specs.declared.format.TheConstants.{CHARACTER, NUMBER, LOGICAL, DATE}
 use Rattle.dbf_fields.specs.declared.literal.Literal.{Literal}
 use Rattle.dbf_fields.specs.declared.literal.Literal.TheVariants.{Text, Number, Truth, Date, BlankDate, BadDate as NoDate}
 use Rattle.dbf_fields.specs.declared.cell.CellFault.{CellFault}
-use Rattle.dbf_fields.specs.declared.cell.CellFault.TheVariants.{TypeMismatch, BadDate, NumberTooWide}
+use Rattle.dbf_fields.specs.declared.cell.CellFault.TheVariants.{TypeMismatch, BadDate, NumberTooWide, NoMemory}
 use Rattle.dbf_fields.specs.Padding.{padded}
 use Rattle.dbf_fields.specs.Number.{number}
 use Rattle.dbf_fields.specs.NumberText.{number_cell, IsSameNumber}
@@ -16,6 +16,10 @@ use Rattle.dbf_fields.specs.Date.{blank_date, date_text, SaysDay}
 abbrev pub number_or_fault : Option (List ℕ) → Result (List ℕ) CellFault
 number_or_fault (Some cell) = Ok cell
 number_or_fault None = Err NumberTooWide
+
+-- a number isn't stored for want of memory, or since no cell of that width and number of decimals keeps it
+abbrev pub IsNumberRefusal : CellFault → ℕ → ℕ → ℤ → ℕ → Type 0
+IsNumberRefusal fault width decimals digits scale = (fault ≡ NoMemory) ⊎ ((fault ≡ NumberTooWide) × (number_cell width decimals digits scale ≡ None))
 
 -- The cell that keeps a value, or why there is none. A field of a memo keeps none.
 abbrev pub stored : Field → Literal → Result (List ℕ) CellFault

@@ -26,7 +26,7 @@ pub fn number_parts(text: &[u8]) -> (&[u8], &[u8])
     }
 }
 
-// The number without its sign, in a text of so many decimals.
+// The number without its sign, times ten for each decimal.
 #[tactic(auto, unfolding(crate::specs::Number::is_decimal, crate::specs::Number::scaled))]
 fn magnitude_of(text: &[u8], decimals: u8) -> Option<u128>
     requires count_bounded { length text.now ≤ 19 }

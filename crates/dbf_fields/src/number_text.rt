@@ -1,7 +1,9 @@
 //! Numbers in cells, as they are written.
 
-ghost use Rattle.std.specs.Prelude.{◌≡◌, ◌+◌, ◌-◌, ◌/◌, ◌<◌, ◌≤◌, ◌^◌, ◌++◌, [], length, take, drop, replicate, IfOk, IfErr, Some, None, ◌⊎◌};
+ghost use Rattle.std.specs.Prelude.{◌≡◌, ◌+◌, ◌-◌, ◌/◌, ◌<◌, ◌≤◌, ◌^◌, ◌++◌, [], length, take, drop, replicate, IfOk, IfErr, Some, None};
+ghost use Rattle.dbf_fields.specs.Cell.{IsNumberRefusal};
 ghost use Rattle.dbf_fields.specs.Digits.{last_digits, numeral};
+ghost use Rattle.dbf_fields.specs.declared.format.TheConstants.{ZERO_DIGIT};
 ghost use Rattle.dbf_fields.specs.NumberText.{sign as sign_of, point as point_before, number_text as text_of, is_exact as exact, right_justified as justified, number_cell as cell_of};
 
 use crate::cell::CellFault;
@@ -80,7 +82,7 @@ impl NumberText {
 
 // The last digits of a number, so many of them with zeros after them, and the number before them.
 fn split_off(number: u128, digits: u8) -> ([u8; 255], u128)
-    ensures digits { result.0 ≡ last_digits digits number ++ replicate (255 - digits) 48 }
+    ensures digits { result.0 ≡ last_digits digits number ++ replicate (255 - digits) ZERO_DIGIT }
     ensures rest { result.1 ≡ number / 10 ^ digits }
 {
     let mut last = [ZERO_DIGIT; 255];
@@ -136,7 +138,7 @@ fn right_justified(alloc: Global, width: usize, text: &[u8]) -> Result<Bytes, Al
     Ok(Bytes::from_vec(cell))
 }
 
-// Whether so many decimals keep all digits of a number.
+// Whether a number keeps all its digits in that number of decimals.
 fn is_exact(digits: i128, scale: u8, decimals: u8) -> bool
     ensures value { result ≡ exact digits scale decimals }
 {
@@ -155,7 +157,7 @@ pub(crate) fn number_cell(
     scale: u8,
 ) -> Result<Bytes, CellFault>
     ensures value { IfOk result (λ cell. cell_of width decimals digits scale ≡ Some cell) }
-    ensures refused { IfErr result (λ fault. (fault ≡ CellFault.NoMemory) ⊎ ((fault ≡ CellFault.NumberTooWide) × (cell_of width decimals digits scale ≡ None))) }
+    ensures refused { IfErr result (λ fault. IsNumberRefusal fault width decimals digits scale) }
     ensures early { IfErr result (λ fault. cell_of width decimals digits scale ≡ None → fault ≡ CellFault.NumberTooWide) }
 {
     let width = usize::from(width);
