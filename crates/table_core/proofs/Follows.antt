@@ -61,7 +61,7 @@ follows_seen table x y e h =
     record {
       is_for = record {
         fields = ap (λ x. x.fields) (sym expr) ∙ h.is_for.fields;
-        kept = ap (λ x. Rattle.key_expr.specs.Rules.refusal table.schema x.expr) (sym expr) ∙ h.is_for.kept;
+        kept = ap (λ x. Rattle.key_expr.specs.Rules.broken_rule table.schema x.expr) (sym expr) ∙ h.is_for.kept;
         long = ap (λ (s : Seen). s.key_len) (sym e) ∙ h.is_for.long ∙ ap (λ x. Rattle.key_expr.specs.Keys.key_length x.fields x.expr) expr;
       };
       pairs = sym pairs ∙ h.pairs ∙ ap (λ x. Rattle.ndx_index.specs.TableOrder.order table x.expr) expr;
