@@ -7,7 +7,7 @@ use Rattle.table_core.specs.declared.edits.Edit.TheVariants as edit_of
 use Rattle.table_core.specs.declared.refusal.Refusal.{Refusal}
 use Rattle.table_core.specs.declared.refusal.Refusal.TheVariants.{NoTableInUse}
 use Rattle.table_core.specs.Moves.{top, bottom, go, skip, seek, set_order}
-use Rattle.table_core.specs.Shown.{show_field as shown}
+use Rattle.table_core.specs.Shown.{show as shown}
 use Rattle.table_core.specs.Laws.Moves.{top_leads, bottom_leads, go_leads, skip_leads, seek_leads, set_order_leads}
 use Rattle.catalogue_core.specs.declared.answer.Answer.TheVariants.{Text, Refused}
 use Rattle.catalogue_core.specs.declared.command.Command.{Command}

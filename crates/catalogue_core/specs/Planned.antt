@@ -9,7 +9,7 @@ use Rattle.table_core.specs.declared.edits.planned.Planned.{Planned}
 use Rattle.table_core.specs.Content.{Content}
 use Rattle.table_core.specs.Moves.{top, bottom, go, skip, seek, set_order}
 use Rattle.table_core.specs.Edits.{edited}
-use Rattle.table_core.specs.Planned.{state_after as table_changed, cursor_after, carried_out, IsPlanned}
+use Rattle.table_core.specs.Planned.{changed as table_changed, cursor_after, carried_out, IsPlanned}
 use Rattle.catalogue_core.specs.declared.answer.Answer.{Answer}
 use Rattle.catalogue_core.specs.declared.area.Area.{Area}
 use Rattle.catalogue_core.specs.declared.change.Change.{Change}

@@ -3,7 +3,7 @@ use Rattle.std.specs.Prelude.{ℕ, ◌+◌, ◌-◌, Bool, true, false, ◌&&◌
 use Rattle.std.specs.List.{list_any, position}
 use Rattle.lock_table.specs.Locks.{Lock, holder, record_locks}
 use Rattle.ndx_index.specs.Places.{counted}
-use Rattle.table_core.specs.Refusals.{answer_code as code_of_refusal}
+use Rattle.table_core.specs.Refusals.{code_of as code_of_refusal}
 use Rattle.catalogue_core.specs.declared.answer.Answer.{Answer}
 use Rattle.catalogue_core.specs.declared.answer.Answer.TheVariants.{Done, Number, Truth, Text, Refused}
 use Rattle.catalogue_core.specs.declared.area.Area.{Area}

@@ -12,7 +12,7 @@ use Rattle.table_core.specs.Content.{Content, record_count}
 use Rattle.table_core.specs.Edits.{edited}
 use Rattle.table_core.specs.Moves.{top, bottom, go, skip, seek, set_order}
 use Rattle.table_core.specs.Outcomes.{found, granted, passed}
-use Rattle.table_core.specs.Shown.{show_field as shown, is_deleted}
+use Rattle.table_core.specs.Shown.{show as shown, is_deleted}
 use Rattle.catalogue_core.specs.declared.answer.Answer.{Answer}
 use Rattle.catalogue_core.specs.declared.answer.Answer.TheVariants.{Done, Number, Truth, Text, Refused}
 use Rattle.catalogue_core.specs.declared.area.Area.{Area}
