@@ -13,7 +13,7 @@ use Rattle.std.specs.contracts.option.Option
 use Rattle.std.specs.declared.sync.ledger.Ledger
 use Rattle.std.proofs.sync.ledger.Book.TheSendSync as book
 use Rattle.std.proofs.sync.ledger.Share.TheSendSync as share
-use Rattle.dbf_fields.proofs.bytes.Bytes.TheSendSync as bytes
+use Rattle.byte_io.proofs.bytes.Bytes.TheSendSync as bytes
 use Rattle.dbf_fields.proofs.schema.Schema.TheSendSync as schema
 use Rattle.dbf_image.proofs.table.growing.GrowingTable.TheSendSync as growing
 use Rattle.dbf_image.proofs.table.TableData.TheSendSync as table_data
