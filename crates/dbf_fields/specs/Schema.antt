@@ -1,4 +1,4 @@
--- Which lists of fields a table may have, and the schema_refusal of the others.
+-- Which lists of fields a table may have, and the refusal of the others.
 use Rattle.std.specs.Prelude.{◌≡◌, Bool, not, List, [], ◌∷◌, ◌++◌, ◌⊎◌, length, map, nat_le, Option, Some, None}
 use Rattle.std.specs.Int.{is_in_range}
 use Rattle.dbf_fields.specs.declared.field.Field.{Field}

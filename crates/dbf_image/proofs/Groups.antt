@@ -53,7 +53,7 @@ unfolding early_refusal descriptor_tests
 early_passed bytes fault first h k is =
     none_some _ first (fault ≡ first) (first_then (header_tests bytes) ((is_some (field_count bytes), BadHeaderLength) ∷ []) h ∙ count_passed (field_count bytes) _ k) is
 
--- the whole image_refusal by its groups
+-- the whole refusal by its groups
 abbrev after_fields : List ℕ → Option (List ℕ) → List (Bool × ImageFault)
 after_fields bytes dbt = record_tests bytes ++ memos_tests bytes dbt
 

@@ -115,7 +115,7 @@ key_some fields (str i n d) s h =
     let w = width_some fields i no_field s k.there in omega (arith, w, k.fits)
 key_some fields (dtoc i) s h = omega arith
 
--- what no broken_rule says
+-- what no refusal says
 pub refusal_tests : (fields : List Field) (e : Expr) → broken_rule fields e ≡ None → first_fault (tests fields e) ≡ None
 refusal_tests fields e h = (first_parts (tests fields e) ((leb (key_length fields e) MAX_KEY_BYTES, KeyTooLong) ∷ []) h).0
 

@@ -15,7 +15,7 @@ slot_index_of stations station table = (table - 1) * stations + (station - 1)
 abbrev pub lock_at : ℕ → ℕ → ℕ → Lock
 lock_at stations index number = lock_of (index / stations + 1) (index % stations + 1) number
 
--- the locks on the records of slots that are slot_locks from one on, by a slot's number and a record
+-- the locks on the records of slots that are numbered from one on, by a slot's number and a record
 abbrev pub slot_locks : (ℕ → ℕ → Lock) → ℕ → List (List ℕ) → List Lock
 slot_locks lock first [] = []
 slot_locks lock first (records ∷ rest) = map (lock first) records ++ slot_locks lock (first + 1) rest

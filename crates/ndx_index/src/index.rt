@@ -47,7 +47,7 @@ impl Model for OrderedIndex {
 }
 
 impl OrderedIndex {
-    /// An index without_pair pairs, for keys of this many bytes. It takes no memory.
+    /// An index without pairs, for keys of this many bytes. It takes no memory.
     pub fn new(alloc: Global, key_len: usize) -> Self
         requires { key_len ≤ MAX_KEY_BYTES }
         ensures key_len { result.key_len ≡ key_len }
@@ -143,7 +143,7 @@ impl OrderedIndex {
         true
     }
 
-    /// The least pair; `None` of an index without_pair pairs.
+    /// The least pair; `None` of an index without pairs.
     pub fn first(&self) -> Option<Pair>
         ensures pair { result ≡ slice_get self.now.pairs 0 }
         ensures ordered { AreInOrder self.now.pairs }
@@ -154,7 +154,7 @@ impl OrderedIndex {
         Some(first_under(&self.store, self.root.levels - 1, self.root.page))
     }
 
-    /// The greatest pair; `None` of an index without_pair pairs.
+    /// The greatest pair; `None` of an index without pairs.
     pub fn last(&self) -> Option<Pair>
         ensures pair { result ≡ slice_get self.now.pairs (length self.now.pairs - 1) }
     {

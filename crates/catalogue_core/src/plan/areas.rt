@@ -1,4 +1,4 @@
-//! Plans of the commands on areas and locks, and of those that only show_field.
+//! Plans of the commands on areas and locks, and of those that only show.
 
 ghost use Rattle.std.specs.Prelude.{◌≡◌, Ok, IfOk, IfErr};
 ghost use Rattle.table_core.specs.Outcomes.{IsFaultOf};
