@@ -1,4 +1,4 @@
--- What a writer is to bring its sink to.
+-- What the sink of a writer has in the end.
 use Rattle.std.specs.Prelude.{◌≡◌, ℕ, ◌+◌, List, Option, Some, None, Bool, true, false, ◌++◌}
 use Rattle.std.specs.Coded.{Coded-set, coded_list, coded_option, coded_ℕ, ×_prop, Unit-prop}
 use Rattle.std.proofs.Common.{sym, ◌∙◌}
@@ -16,7 +16,7 @@ pub record Wanted : Type 0 where
 abbrev pub more : Wanted → List ℕ → Wanted
 more w bytes = record { begun = w.begun; put = w.put ++ bytes; failures = w.failures }
 
--- all that the sink is to have in the end
+-- all that the sink has in the end
 abbrev pub due : Wanted → Option (List ℕ)
 due w = grown w.begun w.put
 

@@ -50,7 +50,7 @@ pub fn write_all<S: ByteSink>(sink: &mut S, bytes: &[u8]) -> Result<(), SinkFaul
     ensures failed { OnErr result (Rises (S.failures sink.old) (S.failures sink.new)) }
     // What the sink held before the call it still holds.
     ensures kept { IsFront (S.written sink.old) (S.written sink.new) }
-    // What has been written is a front part of what was to be written.
+    // What has been written is a front part of the bytes, after what the sink held.
     ensures front { OnErr result (IsFront (S.written sink.new) (grown (S.written sink.old) bytes.now)) }
     // A slice of bytes has bytes alone.
     ensures bytes { list_all is_byte bytes.now ≡ true }

@@ -43,7 +43,7 @@ front_more o p xs h = front_then o p (grown p xs) h (front_grown p xs)
 pub front_by : (o p : Option (List ℕ)) (xs : List ℕ) → p ≡ grown o xs → IsFront o p
 front_by o p xs more = rw more (front_grown o xs)
 
--- what is written, of what was to be written
+-- what is written is a front part of the whole
 pub front_from : (o p w : Option (List ℕ)) (rest : List ℕ) → w ≡ o → grown o rest ≡ p → IsFront w p
 front_from o p w rest same given = rw (same, ← given) (front_grown o rest)
 

@@ -25,7 +25,7 @@ pub(crate) fn send<S: ByteSink>(sink: &mut S, waiting: &mut Waiting) -> Result<(
 }
 
 /// Lets bytes wait after those that wait already, and sends to the sink what has no room. An error
-/// where the sink fails, which has then a front part of what it was to have.
+/// where the sink fails, which has then a front part of all those bytes.
 pub(crate) fn gather<S: ByteSink>(
     sink: &mut S,
     waiting: &mut Waiting,

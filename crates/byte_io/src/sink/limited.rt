@@ -6,7 +6,7 @@ use crate::sink::memory::MemorySink;
 use crate::sink::{ByteSink, SinkFault};
 use std::alloc::Global;
 
-/// A sink in memory that takes a few bytes a write and fails once so many writes are done, as a slow device
+/// A sink in memory that takes a few bytes a write and fails after a number of writes, as a slow device
 /// or a full one. By it tests see what a writer leaves behind at each of its writes.
 #[derive(Debug, Drop)]
 pub struct LimitedSink {

@@ -1,4 +1,4 @@
-//! What a sink is to have, for clauses alone.
+//! What a sink gets in the end, for contracts alone.
 #![tactic(auto, using(crate::specs::Laws::Sinks::sinks))]
 
 ghost use Rattle.std.specs.Prelude.{◌≡◌, [], true};
@@ -25,8 +25,7 @@ impl<'a> Names<Appended<'a>> for Bytes {
     ghost numbers = { λ a. a.put.now.numbers ++ a.bytes.now };
 }
 
-/// What a sink had at first, what it is to have more in the end, which is of bytes, and how often it had failed
-/// before. It takes no bytes.
+/// What a sink had at first, what was put since, which is of bytes, and how often the sink had failed before. It takes no memory.
 #[derive(Drop)]
 pub struct Wanted<S: ByteSink> {
     begun: Snapshot<S>,
@@ -48,7 +47,7 @@ impl<S: ByteSink> Model for Wanted<S> {
 
 impl<S: ByteSink> Wanted<S> {
     /// What the sink has, and how often it has failed, with nothing more wanted.
-    pub fn of(sink: &S) -> Wanted<S>
+    pub(crate) fn of(sink: &S) -> Wanted<S>
         ensures value { result ≡ record { begun = S.written sink.now; put = []; failures = S.failures sink.now } }
     {
         Wanted {
@@ -58,15 +57,15 @@ impl<S: ByteSink> Wanted<S> {
     }
 
     /// What is wanted is of bytes.
-    pub fn are_bytes(&self)
+    pub(crate) fn are_bytes(&self)
         ensures bytes { list_all is_byte self.now.put ≡ true }
     {
-        // Opens the value, so that contracts see its invariant.
+        // For contracts alone: to read the value tells that its invariant holds.
         let _ = &self.put;
     }
 
     /// Wants these bytes too, after those before.
-    pub fn append(&mut self, bytes: &[u8])
+    pub(crate) fn append(&mut self, bytes: &[u8])
         ensures value { self.new ≡ more self.old bytes.now }
     {
         let put = &self.put;

@@ -19,7 +19,7 @@ pub struct SinkWriter<'s, S: ByteSink> {
     pub sink: &'s mut S,
     waiting: Waiting,
     failed: bool,
-    /// What the sink is to have: for clauses alone.
+    /// What the sink gets in the end: for contracts alone.
     pub wanted: Wanted<S>,
     ghost stands: { Stands failed (S.written sink.now) (S.failures sink.now) waiting.items wanted } by { Stands-prop failed (S.written sink.now) (S.failures sink.now) waiting.items wanted },
 }
@@ -62,12 +62,12 @@ impl<'s, S: ByteSink> SinkWriter<'s, S> {
         ensures failed { OnErr result (Rises self.old.wanted.failures (S.failures self.new.sink.now)) }
         // What the sink held when the writer was made it still holds.
         ensures kept { IsFront self.old.wanted.begun (S.written self.new.sink.now) }
-        // What it has then is a front part of what it was to have.
+        // What it has then is a front part of what was put after what it had.
         ensures front { OnErr result (IsFront (S.written self.new.sink.now) (due self.old.wanted)) }
         // What was put is of bytes, since slices of bytes were put.
         ensures bytes { list_all is_byte self.old.wanted.put ≡ true }
     {
-        // For the last clause alone.
+        // For contracts alone: what was put is of bytes.
         self.wanted.are_bytes();
         if self.failed {
             return Err(SinkFault);
