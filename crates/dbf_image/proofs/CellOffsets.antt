@@ -19,7 +19,7 @@ part_of_part w k size xs le =
     let e : size ≡ k + (size - k) = omega arith in
     ap (λ (n : ℕ). take w (drop k (take n xs))) e ∙ ap (take w) (drop-take k (size - k) xs) ∙ take-take w (size - k) (drop k xs) (omega arith)
 
--- a chunk inside so many chunks
+-- a chunk inside the first `count` chunks
 pub chunk-inside : (size count i now : ℕ) → i < count → now ≡ count * size → i * size + size ≤ now
 chunk-inside size count i now lt is =
     let k : count ≡ (i + 1) + (count - (i + 1)) = omega arith in

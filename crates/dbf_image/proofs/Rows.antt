@@ -24,7 +24,7 @@ length-rows fields (p ∷ ps) memos = ap suc (length-rows fields ps (drop (memo_
 pub length-rows_of : (fields : List Field) (n : ℕ) (bytes : List ℕ) (memos : List (List ℕ)) → length (rows_of fields n bytes memos) ≡ n
 length-rows_of fields n bytes memos = length-rows fields (chunks (1 + widths fields) n bytes) memos ∙ length-chunks (1 + widths fields) n bytes
 
--- the bytes of so many records, and what stands after them
+-- the bytes of the first records, and what stands after them
 pub chunks_take : (size n : ℕ) (bytes : List ℕ) → chunks size n (take (n * size) bytes) ≡ chunks size n bytes
 chunks_take size zero bytes = refl
 chunks_take size (suc n) bytes =

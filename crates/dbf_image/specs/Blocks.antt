@@ -1,13 +1,13 @@
 -- The file of memos that is written of a table, and the cells that tell where in it a text stands. Texts
 -- come in order of record and field, from block 1 on.
-use Rattle.std.specs.Prelude.{ℕ, zero, suc, ◌+◌, ◌-◌, ◌*◌, ◌/◌, ◌%◌, ◌<◌, ◌==◌, List, [], ◌∷◌, ◌++◌, length, replicate, if◌then◌else◌}
+use Rattle.std.specs.Prelude.{◌≡◌, ℕ, zero, suc, ◌+◌, ◌-◌, ◌*◌, ◌/◌, ◌%◌, ◌<◌, ◌==◌, List, [], ◌∷◌, ◌++◌, length, replicate, if◌then◌else◌}
 use Rattle.byteorder.specs.Endian.{little_bytes}
 use Rattle.dbf_fields.specs.declared.field.Field.{Field}
 use Rattle.dbf_fields.specs.declared.format.TheConstants.{BLANK, MEMO, ZERO_DIGIT}
 use Rattle.dbf_image.specs.Table.{Row, Table}
 use Rattle.dbf_image.specs.declared.format.TheConstants.{BLOCK, MEMO_END, VERSION}
 
--- a number at the right end of so many places, with blanks before it; 0 is all blanks
+-- a number at the right end of a cell of this width, with blanks before it; 0 is all blanks
 unfoldable pub justified : ℕ → ℕ → List ℕ
 justified zero n = []
 justified (suc k) n = justified k (n / 10) ++ (if n == 0 then BLANK else ZERO_DIGIT + n % 10) ∷ []
@@ -22,7 +22,7 @@ unfoldable pub block_bytes : List ℕ → List ℕ
 block_bytes [] = []
 block_bytes (b ∷ bs) = (b ∷ bs) ++ (MEMO_END ∷ MEMO_END ∷ replicate (BLOCK * blocks_of (b ∷ bs) - (length (b ∷ bs) + 2)) 0)
 
--- a memo's cell, whose text is to stand at the next free block
+-- a memo's cell, whose text takes the next free block
 unfoldable pub block_number_cell : ℕ → List ℕ → List ℕ
 block_number_cell next [] = justified 10 0
 block_number_cell next (b ∷ bs) = justified 10 next
@@ -77,3 +77,11 @@ memo_header next = little_bytes 4 next ++ (replicate 12 0 ++ (VERSION ∷ replic
 -- the file of a table's memos
 abbrev pub memo_image : Table → List ℕ
 memo_image table = memo_header (next_free table) ++ rows_memos table.schema table.rows
+
+-- where the field is a memo, its text has this length
+abbrev pub HasMemoLength : Field → List ℕ → ℕ → Type 0
+HasMemoLength f text text_length = f.kind ≡ MEMO → length text ≡ text_length
+
+-- what is written of a field: where its memo's text stands, or else its bytes
+abbrev pub written_cell : ℕ → Field → List ℕ → List ℕ → List ℕ
+written_cell next f text bytes = cell_bytes next f (if f.kind == MEMO then text else bytes)

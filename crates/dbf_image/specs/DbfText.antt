@@ -9,7 +9,7 @@ use Rattle.dbf_image.specs.declared.format.TheConstants.{DELETED, DESCRIPTOR, HE
 use Rattle.dbf_image.specs.Table.{Row, Table, has_memos}
 use Rattle.dbf_image.specs.Memo.{EncodesCells}
 
--- so many chunks of one size, one after the other
+-- the first chunks of one size, one after the other
 abbrev pub chunks : ℕ → ℕ → List ℕ → List (List ℕ)
 chunks size zero bytes = []
 chunks size (suc n) bytes = take size bytes ∷ chunks size n (drop size bytes)
@@ -44,7 +44,11 @@ EncodesRows dbt fields [] (r ∷ rs) = ⊥
 EncodesRows dbt fields (p ∷ ps) [] = ⊥
 EncodesRows dbt fields (p ∷ ps) (r ∷ rs) = EncodesRow dbt fields p r × EncodesRows dbt fields ps rs
 
--- the bytes are those of so many records and no more
+-- the bytes of each of the first `count` records
+abbrev pub row_chunks : List Field → ℕ → List ℕ → List (List ℕ)
+row_chunks fields count bytes = chunks (1 + widths fields) count bytes
+
+-- the bytes are those of `count` records and no more
 pub record AreRecords (fields : List Field) (count : ℕ) (bytes : List ℕ) : Type 0 where
   pub whole : length bytes ≡ count * (1 + widths fields)
   pub count_bounded : count ≤ MAX_RECORDS

@@ -10,12 +10,12 @@ no_block = record { piece = record { items = [] }; owner = 0; count = 0; next = 
 abbrev pub block_at : List MemoBlock → ℕ → MemoBlock
 block_at bs i = slice_index_or bs i no_block
 
--- the bytes of so many blocks, from block i on
+-- the bytes of the blocks of a chain, from block i on
 abbrev pub text_from : ℕ → List MemoBlock → ℕ → List ℕ
 text_from zero bs i = []
 text_from (suc k) bs i = (block_at bs i).piece.items ++ text_from k bs (block_at bs i).next
 
--- so many blocks from block i on are there, belong to o, and count down
+-- the blocks of a chain from block i on are there, belong to o, and count down
 abbrev pub IsChain : ℕ → ℕ → List MemoBlock → ℕ → Type 0
 IsChain o zero bs i = Unit {0}
 IsChain o (suc k) bs i = (i < length bs) × ((block_at bs i).owner ≡ o) × ((block_at bs i).count ≡ suc k) × IsChain o k bs (block_at bs i).next

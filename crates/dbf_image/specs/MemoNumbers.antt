@@ -1,5 +1,5 @@
 -- The numbers of memos in a store of texts, and how they are read from a file.
-use Rattle.std.specs.Prelude.{◌≡◌, ◌≢◌, ℕ, ◌+◌, ◌/◌, List, [], ◌∷◌, ◌++◌, length, drop, take, ◌==◌, slice_index, if◌then◌else◌}
+use Rattle.std.specs.Prelude.{◌≡◌, ◌≢◌, ℕ, ◌+◌, ◌/◌, List, [], ◌∷◌, ◌++◌, length, map, drop, take, Option, unwrap_or, ◌==◌, slice_index, if◌then◌else◌}
 use Rattle.std.specs.List.{AllByRecursion}
 use Rattle.dbf_fields.specs.declared.field.Field.{Field}
 use Rattle.dbf_fields.specs.declared.format.TheConstants.{MEMO}
@@ -7,8 +7,9 @@ use Rattle.dbf_image.specs.declared.dbt.memos.ReadMemos.{ReadMemos}
 use Rattle.dbf_image.specs.declared.format.TheConstants.{BLOCK}
 use Rattle.dbf_image.specs.Memo.{memo_at}
 use Rattle.dbf_image.specs.MemoStore.{Texts}
-use Rattle.dbf_image.specs.Reading.{memo_text}
-use Rattle.dbf_image.specs.Store.{text_of, IsMemo}
+use Rattle.dbf_image.specs.DbfText.{row_chunks}
+use Rattle.dbf_image.specs.Reading.{memo_text, row_read}
+use Rattle.dbf_image.specs.Store.{text_of, texts_of, rows_of, IsMemo}
 
 -- a number that has a text keeps it
 abbrev pub KeepsMemos : Texts → Texts → Type 0
@@ -25,6 +26,15 @@ cells_texts dbt (f ∷ fs) bytes = cell_texts dbt f (take f.width bytes) ++ cell
 -- and of a record
 abbrev pub row_texts : List ℕ → List Field → List ℕ → List (List ℕ)
 row_texts dbt fields bytes = cells_texts dbt fields (drop 1 bytes)
+
+-- the texts of all memos that were read
+abbrev pub all_texts : ReadMemos → List (List ℕ)
+all_texts memos = texts_of memos.texts.texts memos.numbers.items
+
+-- the store has the texts that the file of memos has: with either, the records are the same rows
+abbrev pub HasTextsOf : Option (List ℕ) → List Field → ℕ → List ℕ → Texts → List ℕ → Type 0
+HasTextsOf dbt fields count bytes texts numbers =
+    rows_of fields count bytes (texts_of texts numbers) ≡ map (row_read (unwrap_or dbt []) fields) (row_chunks fields count bytes)
 
 -- a block whose number is known has that text, and all memos that were read have theirs
 pub record IsReading (dbt : List ℕ) (memos : ReadMemos) : Type 0 where

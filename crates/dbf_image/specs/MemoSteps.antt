@@ -23,7 +23,7 @@ pub record Fills (xs ys : List MemoBlock) (free rest : FreeList) (owner count : 
   -- only free blocks change, and all that change belong to the text
   pub held : (j : ℕ) → (block_at xs j).owner ≢ 0 → block_at ys j ≡ block_at xs j
   pub changed : (j : ℕ) → (block_at ys j ≡ block_at xs j) ⊎ ((block_at ys j).owner ≡ owner)
-  -- so many free blocks are the text's now
+  -- `count` free blocks are the text's now
   pub taken : blocks_owned 0 ys + count ≡ blocks_owned 0 xs
   pub given : blocks_owned owner ys ≡ blocks_owned owner xs + count
   pub others : (q : ℕ) → q ≢ 0 → q ≢ owner → blocks_owned q ys ≡ blocks_owned q xs

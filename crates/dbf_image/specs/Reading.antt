@@ -1,5 +1,5 @@
 -- The tests of a reader of DBF files in their order, and what it reads.
-use Rattle.std.specs.Prelude.{◌≡◌, ℕ, zero, suc, ◌+◌, ◌-◌, ◌*◌, ◌/◌, Bool, not, ◌&&◌, ◌||◌, ◌==◌, nat_lt, nat_le, ◌⊎◌, List, [], ◌∷◌, ◌++◌, length, map, flat_map, take, drop, slice_index, Option, Some, None, is_some, is_none, unwrap_or, if◌then◌else◌}
+use Rattle.std.specs.Prelude.{◌≡◌, ℕ, zero, suc, ◌+◌, ◌-◌, ◌*◌, ◌/◌, Bool, false, not, ◌&&◌, ◌||◌, ◌==◌, nat_lt, nat_le, ◌⊎◌, List, [], ◌∷◌, ◌++◌, length, map, flat_map, take, drop, slice_index, Option, Some, None, is_some, is_none, unwrap_or, if◌then◌else◌}
 use Rattle.dbf_fields.specs.declared.field.Field.{Field}
 use Rattle.dbf_fields.specs.declared.format.TheConstants.{MEMO}
 use Rattle.dbf_fields.specs.Faults.{first_fault}
@@ -103,6 +103,10 @@ row_tests dbt fields bytes = cells_tests dbt fields (drop 1 bytes)
 abbrev pub row_read : List ℕ → List Field → List ℕ → Row
 row_read dbt fields bytes = record { deleted = slice_index bytes 0 == DELETED; cells = cells_read dbt fields (drop 1 bytes) }
 
+-- the tests of all records, in their order
+abbrev pub rows_tests : List ℕ → List Field → List (List ℕ) → List (Bool × ImageFault)
+rows_tests dbt fields records = flat_map (row_tests dbt fields) records
+
 -- the records, one after the other
 abbrev pub records_of : List ℕ → List (List ℕ)
 records_of bytes = chunks (record_length bytes) (header_record_count bytes) (drop (header_length bytes) bytes)
@@ -111,13 +115,21 @@ records_of bytes = chunks (record_length bytes) (header_record_count bytes) (dro
 unfoldable pub memos_tests : List ℕ → Option (List ℕ) → List (Bool × ImageFault)
 memos_tests bytes dbt =
     (not (has_memos (schema_of bytes)) || is_some dbt, MemoFileMissing)
-    ∷ flat_map (row_tests (unwrap_or dbt []) (schema_of bytes)) (records_of bytes)
+    ∷ rows_tests (unwrap_or dbt []) (schema_of bytes) (records_of bytes)
 
 -- why the bytes are no table, where they are none
 abbrev pub image_refusal : List ℕ → Option (List ℕ) → Option ImageFault
 image_refusal bytes dbt = first_fault (header_tests bytes ++ (descriptor_tests bytes ++ (record_tests bytes ++ memos_tests bytes dbt)))
 
--- a fault that is answered is the first one, but for want of memory
+-- a fault that is answered is that of the first test that fails, but for want of memory
+abbrev pub IsRefusal : ImageFault → List (Bool × ImageFault) → Type 0
+IsRefusal fault tests = (fault ≡ NoMemory) ⊎ (first_fault tests ≡ Some fault)
+
+-- the same of fields that are no schema
+abbrev pub IsFieldsRefusal : ImageFault → List Field → Type 0
+IsFieldsRefusal fault fields = (fault ≡ NoMemory) ⊎ ((fault ≡ BadSchema) × (is_none (schemas.schema_refusal fields) ≡ false))
+
+-- the same of the bytes of a file
 abbrev pub IsImageRefusal : ImageFault → List ℕ → Option (List ℕ) → Type 0
 IsImageRefusal fault bytes dbt = (fault ≡ NoMemory) ⊎ (image_refusal bytes dbt ≡ Some fault)
 

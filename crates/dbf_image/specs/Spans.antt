@@ -1,12 +1,12 @@
 -- Where the texts of memos stand in their file, as the reader finds them.
-use Rattle.std.specs.Prelude.{◌≡◌, ℕ, ◌+◌, ◌*◌, ◌/◌, ◌<◌, Bool, not, ◌||◌, ◌==◌, List, [], ◌∷◌, length, flat_map, drop, slice_index, Option, is_some, unwrap_or}
+use Rattle.std.specs.Prelude.{◌≡◌, ℕ, ◌+◌, ◌*◌, ◌/◌, ◌<◌, Bool, not, ◌||◌, ◌==◌, List, [], ◌∷◌, length, drop, slice_index, Option, is_some, unwrap_or}
 use Rattle.std.specs.List.{position_or_len}
 use Rattle.dbf_fields.specs.declared.field.Field.{Field}
 use Rattle.dbf_image.specs.declared.fault.ImageFault.{ImageFault}
 use Rattle.dbf_image.specs.declared.fault.ImageFault.TheVariants.{MemoFileMissing}
 use Rattle.dbf_image.specs.declared.dbt.span.Span.{Span}
 use Rattle.dbf_image.specs.Table.{has_memos}
-use Rattle.dbf_image.specs.Reading.{row_tests}
+use Rattle.dbf_image.specs.Reading.{rows_tests}
 use Rattle.dbf_image.specs.declared.format.TheConstants.{BLOCK, MEMO_END}
 
 -- where the first 0x1A stands at or after an offset, or the file's end
@@ -26,4 +26,4 @@ span_of dbt block = record { start = BLOCK * block; length = position_or_len (λ
 unfoldable pub table_memo_tests : Option (List ℕ) → List Field → List (List ℕ) → List (Bool × ImageFault)
 table_memo_tests dbt fields records =
     (not (has_memos fields) || is_some dbt, MemoFileMissing)
-    ∷ flat_map (row_tests (unwrap_or dbt []) fields) records
+    ∷ rows_tests (unwrap_or dbt []) fields records

@@ -6,7 +6,9 @@ use Rattle.dbf_fields.specs.declared.format.TheConstants.{MEMO}
 use Rattle.dbf_fields.specs.Field.{widths}
 use Rattle.dbf_image.specs.MemoStore.{Texts, get_text}
 use Rattle.dbf_image.specs.Table.{Row, is_memo_text}
-use Rattle.dbf_image.specs.DbfText.{chunks, AreRecords}
+use Rattle.dbf_image.specs.declared.dbf.header.Header.{Header}
+use Rattle.dbf_image.specs.declared.table.store.Store.{Store}
+use Rattle.dbf_image.specs.DbfText.{chunks, row_chunks, AreRecords}
 use Rattle.dbf_image.specs.declared.format.TheConstants.{DELETED, KEPT}
 
 -- the text of a memo's number, 0 for none
@@ -52,11 +54,27 @@ abbrev pub rows_with : List Field → List (List ℕ) → List (List ℕ) → Li
 rows_with fields [] memos = []
 rows_with fields (p ∷ ps) memos = row_with fields p memos ∷ rows_with fields ps (drop (memo_count fields) memos)
 
--- the rows of so many records in a list of bytes
+-- the rows of the first `count` records in a list of bytes
 abbrev pub rows_of : List Field → ℕ → List ℕ → List (List ℕ) → List Row
-rows_of fields count bytes memos = rows_with fields (chunks (1 + widths fields) count bytes) memos
+rows_of fields count bytes memos = rows_with fields (row_chunks fields count bytes) memos
 
--- the lists have so many records, and a text for each memo
+-- the rows of a store that is lent: of its first `count` records,
+abbrev pub rows_in : List Field → ℕ → Store → List Row
+rows_in fields count store = rows_of fields count store.records.now (texts_of store.texts.now.texts store.memos.now)
+
+-- of the records that a header counts,
+abbrev pub rows_by_header : List Field → Header → Store → List Row
+rows_by_header fields header store = rows_with fields (chunks header.record_length header.record_count store.records.now) (texts_of store.texts.now.texts store.memos.now)
+
+-- of one record,
+abbrev pub row_in : List Field → Store → Row
+row_in fields store = row_with fields store.records.now (texts_of store.texts.now.texts store.memos.now)
+
+-- and of one record's cells, without its flag
+abbrev pub cells_in : List Field → Store → List (List ℕ)
+cells_in fields store = cells_with fields store.records.now (texts_of store.texts.now.texts store.memos.now)
+
+-- the lists have `count` records, and a text for each memo
 pub record IsStore (fields : List Field) (count : ℕ) (bytes : List ℕ) (texts : Texts) (numbers : List ℕ) : Type 0 where
   pub records : AreRecords fields count bytes
   pub many : length numbers ≡ count * memo_count fields

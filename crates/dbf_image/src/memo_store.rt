@@ -61,7 +61,7 @@ impl MemoStore {
         }
     }
 
-    /// Makes room for one text of at most so many bytes.
+    /// Makes room for one text of at most `len` bytes.
     ///
     /// An `Err` says that there was no memory, or would be more than 4,294,967,295 blocks. No text changes and
     /// no room is lost in either case.

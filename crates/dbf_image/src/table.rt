@@ -5,7 +5,7 @@ ghost use Rattle.std.specs.List.{list_all};
 ghost use Rattle.dbf_fields.specs.Field.{widths};
 ghost use Rattle.dbf_fields.specs.Layout.{width_of};
 ghost use Rattle.dbf_image.specs.Table.{IsTable, is_memo_text as may_be_memo, kind_at, blank_row, row_at, cell_at, empty_table, with_row, with_cell};
-ghost use Rattle.dbf_image.specs.Store.{texts_of, row_with, rows_of, IsStore};
+ghost use Rattle.dbf_image.specs.Store.{texts_of, row_with, rows_of, rows_in, IsStore};
 ghost use Rattle.dbf_image.specs.declared.format.TheConstants.{MAX_RECORDS, MEMO_END};
 
 pub(crate) mod flag;
@@ -54,7 +54,7 @@ impl Model for TableData {
 }
 
 impl TableData {
-    /// The table of so many records that stand in a list of bytes, and of memos whose texts stand in a store.
+    /// The table of `count` records that stand in a list of bytes, and of memos whose texts stand in a store.
     pub(crate) fn new(
         schema: Schema,
         count: u32,
@@ -62,7 +62,7 @@ impl TableData {
         texts: MemoStore,
         memos: Vec<u32>,
     ) -> TableData
-        requires { IsStore schema count records.items texts.texts memos.items }
+        requires store { IsStore schema count records.items texts.texts memos.items }
         ensures value { result ≡ record { schema = schema; rows = rows_of schema count records.items (texts_of texts.texts memos.items) } }
     {
         TableData::from_growing(GrowingTable::new(schema, count, records, texts, memos))
@@ -112,7 +112,7 @@ impl TableData {
 
     /// What is kept of the records and the memos.
     pub(crate) fn store(&self) -> Store<'_>
-        ensures rows { self.now.rows ≡ rows_of self.now.schema (length self.now.rows) result.records.now (texts_of result.texts.now.texts result.memos.now) }
+        ensures rows { self.now.rows ≡ rows_in self.now.schema (length self.now.rows) result }
         ensures kept { IsStore self.now.schema (length self.now.rows) result.records.now result.texts.now.texts result.memos.now }
     {
         self.kept.store()

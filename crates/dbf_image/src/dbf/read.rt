@@ -1,6 +1,6 @@
 //! Reading a table from the bytes of a DBF file.
 
-ghost use Rattle.std.specs.Prelude.{◌≡◌, ◌+◌, ◌-◌, ◌*◌, ◌/◌, ◌<◌, ◌≤◌, ◌==◌, ◌||◌, ◌⊎◌, true, false, nat_le, length, map, take, drop, slice_index, Some, None, is_none, IfSome, IfOk, IfErr, OnOk, MatchResult};
+ghost use Rattle.std.specs.Prelude.{◌≡◌, ◌+◌, ◌-◌, ◌*◌, ◌/◌, ◌<◌, ◌≤◌, ◌==◌, ◌||◌, true, nat_le, length, map, take, drop, slice_index, Some, None, is_none, IfSome, IfOk, IfErr, OnOk, MatchResult};
 ghost use Rattle.std.specs.List.{position};
 ghost use Rattle.std.specs.Option.{option_copied};
 ghost use Rattle.dbf_fields.specs.Faults.{first_fault};
@@ -10,7 +10,7 @@ ghost use Rattle.dbf_image.specs.DbfText.{chunks, field_of, IsDbf, header_length
 ghost use Rattle.dbf_image.specs.Table.{Table};
 ghost use Rattle.dbf_image.specs.declared.fault.ImageFault.{ImageFault};
 ghost use Rattle.dbf_image.specs.declared.format.TheConstants.{DESCRIPTOR, HEADER, MAX_RECORDS, VERSION, VERSION_WITH_MEMOS};
-ghost use Rattle.dbf_image.specs.Reading.{field_count, dbf_header, schema_of, header_tests, descriptor_tests, record_tests, early_refusal, table_read, image_refusal, IsImageRefusal};
+ghost use Rattle.dbf_image.specs.Reading.{field_count, dbf_header, schema_of, header_tests, descriptor_tests, record_tests, early_refusal, table_read, image_refusal, IsRefusal, IsFieldsRefusal, IsImageRefusal};
 
 use crate::dbf::header::Header;
 use crate::dbt::memos::memos_at;
@@ -47,7 +47,7 @@ fn first_zero(name: &[u8]) -> Option<usize>
 
 // The field of a descriptor.
 fn field_at(alloc: Global, descriptor: &[u8]) -> Result<Field, AllocError>
-    requires { DESCRIPTOR ≤ length descriptor.now }
+    requires long { DESCRIPTOR ≤ length descriptor.now }
     ensures value { IfOk result (λ field. field ≡ field_of descriptor.now) }
 {
     let name = &descriptor[..NAME_BYTES];
@@ -60,9 +60,9 @@ fn field_at(alloc: Global, descriptor: &[u8]) -> Result<Field, AllocError>
     })
 }
 
-// The fields of so many descriptors, one after the other.
+// The fields of the first descriptors, one after the other.
 fn fields_at(alloc: Global, count: usize, bytes: &[u8]) -> Result<Vec<Field>, AllocError>
-    requires { DESCRIPTOR * count ≤ length bytes.now }
+    requires room { DESCRIPTOR * count ≤ length bytes.now }
     ensures value { IfOk result (λ fields. fields.items ≡ map field_of (chunks DESCRIPTOR count bytes.now)) }
 {
     let mut fields = Vec::new(alloc);
@@ -115,7 +115,7 @@ fn schema_at(alloc: Global, dbf: &[u8], header_length: usize) -> Result<Schema, 
     requires inside { header_length ≤ length dbf.now }
     requires value { header_length ≡ dbf_header_length dbf.now }
     ensures accepted { IfOk result (λ _. first_fault (descriptor_tests dbf.now) ≡ None) }
-    ensures refused { IfErr result (λ fault. (fault ≡ ImageFault.NoMemory) ⊎ (first_fault (descriptor_tests dbf.now) ≡ Some fault)) }
+    ensures refused { IfErr result (λ fault. IsRefusal fault (descriptor_tests dbf.now)) }
     ensures early { IfErr result (λ fault. field_count dbf.now ≡ None → fault ≡ ImageFault.BadHeaderLength) }
     ensures value { IfOk result (λ schema. schema ≡ schema_of dbf.now) }
 {
@@ -131,7 +131,7 @@ fn schema_at(alloc: Global, dbf: &[u8], header_length: usize) -> Result<Schema, 
 fn schema_of_fields(alloc: Global, fields: &[Field]) -> Result<Schema, ImageFault>
     ensures accepted { IfOk result (λ _. is_none (schemas.schema_refusal fields.now) ≡ true) }
     ensures value { IfOk result (λ schema. schema ≡ map folded fields.now) }
-    ensures refused { IfErr result (λ fault. (fault ≡ ImageFault.NoMemory) ⊎ ((fault ≡ ImageFault.BadSchema) × (is_none (schemas.schema_refusal fields.now) ≡ false))) }
+    ensures refused { IfErr result (λ fault. IsFieldsRefusal fault fields.now) }
 {
     match Schema::new(alloc, fields) {
         Ok(schema) => Ok(schema),
@@ -173,7 +173,7 @@ fn has_records(dbf: &[u8], header: Header) -> bool
 
 // The bytes of all records.
 fn records_at(dbf: &[u8], header: Header) -> &[u8]
-    requires { header.header_length + header.record_count * header.record_length ≤ length dbf.now }
+    requires whole { header.header_length + header.record_count * header.record_length ≤ length dbf.now }
     ensures value { result.now ≡ take (header.record_count * header.record_length) (drop header.header_length dbf.now) }
 {
     let size = u64::from(header.record_count) * u64::from(header.record_length);

@@ -1,15 +1,15 @@
 //! Writing the records of a table.
 #![tactic(auto, using(byte_io::specs::Laws::Sinks::sinks))]
 
-ghost use Rattle.std.specs.Prelude.{◌≡◌, ◌≢◌, ℕ, List, ◌+◌, ◌≤◌, ◌*◌, ◌==◌, ◌∷◌, [], ◌++◌, length, flat_map, if◌then◌else◌, IsTrue};
+ghost use Rattle.std.specs.Prelude.{◌≡◌, ◌≢◌, ℕ, List, ◌+◌, ◌≤◌, ◌*◌, ◌∷◌, [], length, IsTrue};
 ghost use Rattle.std.specs.List.{AllByRecursion};
 ghost use Rattle.dbf_fields.specs.Field.{widths};
 ghost use Rattle.dbf_fields.specs.Schema.{IsSchema};
 ghost use Rattle.dbf_fields.specs.declared.format.TheConstants.{MEMO as MEMO_KIND};
 ghost use Rattle.dbf_image.specs.DbfText.{chunks};
-ghost use Rattle.dbf_image.specs.Store.{texts_of, memo_count, first_memo, cells_with, row_with, rows_with, HasWrittenFlag, IsMemo};
-ghost use Rattle.dbf_image.specs.Blocks.{cell_bytes, cell_blocks, cells_bytes, cells_blocks};
-ghost use Rattle.dbf_image.specs.Image.{row_bytes, rows_bytes};
+ghost use Rattle.dbf_image.specs.Store.{texts_of, memo_count, first_memo, cells_in, row_in, rows_by_header, HasWrittenFlag, IsMemo};
+ghost use Rattle.dbf_image.specs.Blocks.{HasMemoLength, written_cell, cell_blocks, cells_bytes, cells_blocks};
+ghost use Rattle.dbf_image.specs.Image.{row_bytes, records_bytes};
 ghost use Rattle.byte_io.specs.Output.{Puts};
 ghost use Rattle.dbf_image.specs.declared.format.TheConstants.{DELETED, MAX_MEMO_BYTES, MAX_RECORDS};
 
@@ -49,8 +49,8 @@ fn memo_length_of(field: &Field, texts: &MemoStore, memos: &[u32]) -> usize
 
 // How many blocks a field's cell takes, whose memo has a text of this length.
 fn blocks_at(field: &Field, text_length: usize) -> u64
-    requires { text_length ≤ MAX_MEMO_BYTES }
-    ensures value { (cell : List ℕ) → (field.now.kind ≡ MEMO_KIND → length cell ≡ text_length) → result ≡ cell_blocks field.now cell }
+    requires short { text_length ≤ MAX_MEMO_BYTES }
+    ensures value { (cell : List ℕ) → HasMemoLength field.now cell text_length → result ≡ cell_blocks field.now cell }
     ensures bounded { result ≤ 129 * memo_count (field.now ∷ []) }
 {
     if field.kind == MEMO {
@@ -68,7 +68,7 @@ fn put_cell<S: ByteSink>(
     text_length: usize,
     next: u64,
 )
-    ensures put { (text : List ℕ) → (field.now.kind ≡ MEMO_KIND → length text ≡ text_length) → Puts out.old (cell_bytes next field.now (if field.now.kind == MEMO_KIND then text else bytes.now)) out.new }
+    ensures put { (text : List ℕ) → HasMemoLength field.now text text_length → Puts out.old (written_cell next field.now text bytes.now) out.new }
 {
     if field.kind == MEMO {
         out.put(&block_number_cell(next, text_length));
@@ -88,8 +88,8 @@ fn put_cells<S: ByteSink>(
     requires many { memo_count fields.now ≤ length cells.memos.now }
     requires each { AllByRecursion (IsMemo cells.texts.now.texts) cells.memos.now }
     requires count_bounded { first + 129 * memo_count fields.now ≤ 18446744073709551615 }
-    ensures put { Puts out.old (cells_bytes first fields.now (cells_with fields.now cells.entry.records.now (texts_of cells.entry.texts.now.texts cells.entry.memos.now))) out.new }
-    ensures next { result ≡ first + cells_blocks fields.now (cells_with fields.now cells.entry.records.now (texts_of cells.entry.texts.now.texts cells.entry.memos.now)) }
+    ensures put { Puts out.old (cells_bytes first fields.now (cells_in fields.now cells.entry)) out.new }
+    ensures next { result ≡ first + cells_blocks fields.now (cells_in fields.now cells.entry) }
     ensures bounded { result ≤ first + 129 * memo_count fields.now }
 {
     let mut rest = cells.records;
@@ -118,8 +118,8 @@ fn put_record<S: ByteSink>(
     requires many { memo_count fields.now ≤ length parts.memos.now }
     requires each { AllByRecursion (IsMemo parts.texts.now.texts) parts.memos.now }
     requires count_bounded { first + 129 * memo_count fields.now ≤ 18446744073709551615 }
-    ensures put { Puts out.old (row_bytes first fields.now (row_with fields.now parts.entry.records.now (texts_of parts.entry.texts.now.texts parts.entry.memos.now))) out.new }
-    ensures next { result ≡ first + cells_blocks fields.now (row_with fields.now parts.entry.records.now (texts_of parts.entry.texts.now.texts parts.entry.memos.now)).cells }
+    ensures put { Puts out.old (row_bytes first fields.now (row_in fields.now parts.entry)) out.new }
+    ensures next { result ≡ first + cells_blocks fields.now (row_in fields.now parts.entry).cells }
     ensures bounded { result ≤ first + 129 * memo_count fields.now }
 {
     let (_, bytes) = parts.records.split_at(1);
@@ -148,7 +148,7 @@ fn put_each_record<S: ByteSink>(
     requires room { header.record_count * header.record_length ≤ length store.records.now }
     requires many { length store.memos.now ≡ header.record_count * memo_count fields.now }
     requires each { AllByRecursion (IsMemo store.texts.now.texts) store.memos.now }
-    ensures put { Puts out.old (flat_map (λ bytes. bytes) (rows_bytes 1 fields.now (rows_with fields.now (chunks header.record_length header.record_count store.entry.records.now) (texts_of store.entry.texts.now.texts store.entry.memos.now)))) out.new }
+    ensures put { Puts out.old (records_bytes fields.now (rows_by_header fields.now header store.entry)) out.new }
 {
     let size = usize::from(header.record_length);
     let memos_each = memo_count_of(fields);
@@ -200,7 +200,7 @@ pub(crate) fn put_records<S: ByteSink>(
     requires room { header.record_count * header.record_length ≤ length store.records.now }
     requires many { length store.memos.now ≡ header.record_count * memo_count fields.now }
     requires each { AllByRecursion (IsMemo store.texts.now.texts) store.memos.now }
-    ensures put { Puts out.old (flat_map (λ bytes. bytes) (rows_bytes 1 fields.now (rows_with fields.now (chunks header.record_length header.record_count store.entry.records.now) (texts_of store.entry.texts.now.texts store.entry.memos.now)))) out.new }
+    ensures put { Puts out.old (records_bytes fields.now (rows_by_header fields.now header store.entry)) out.new }
 {
     let size = usize::from(header.record_length);
     let (records, _) = store.records.split_at(header.record_count as usize * size);

@@ -56,7 +56,7 @@ fn header_bytes(version: u8, header: Header, day: Day) -> [u8; HEADER]
 // The 32 bytes of a field.
 #[tactic(auto, unfolding(crate::specs::Image::descriptor))]
 fn descriptor_bytes(field: &Field) -> [u8; DESCRIPTOR]
-    requires { length field.now.name ≤ NAME_BYTES }
+    requires short { length field.now.name ≤ NAME_BYTES }
     ensures value { result ≡ descriptor field.now }
 {
     let name = field.name.as_slice();
@@ -69,7 +69,7 @@ fn descriptor_bytes(field: &Field) -> [u8; DESCRIPTOR]
 }
 
 fn put_descriptors<S: ByteSink>(out: &mut SinkWriter<'_, S>, fields: &[Field])
-    requires { IsSchema fields.now }
+    requires schema { IsSchema fields.now }
     ensures put { Puts out.old (flat_map descriptor fields.now) out.new }
 {
     for field in fields {

@@ -15,7 +15,7 @@ use dbf_fields::{BLANK, ZERO_DIGIT};
 
 /// How many blocks a text of this length takes.
 pub(crate) fn block_count(text_length: usize) -> u64
-    requires { text_length ≤ MAX_MEMO_BYTES }
+    requires short { text_length ≤ MAX_MEMO_BYTES }
     ensures value { (text : List ℕ) → length text ≡ text_length → result ≡ blocks_of text }
     ensures bounded { result ≤ 129 }
 {
@@ -52,7 +52,7 @@ fn justified_number(number: u64) -> [u8; 10]
     cell
 }
 
-/// The cell of a memo whose text has this length and is to stand at the next free block: that number, or
+/// The cell of a memo whose text has this length and takes the next free block: that number, or
 /// blanks where there is no text.
 pub(crate) fn block_number_cell(next: u64, text_length: usize) -> [u8; 10]
     ensures value { (text : List ℕ) → length text ≡ text_length → result ≡ number_bytes next text }

@@ -1,10 +1,10 @@
 //! The texts of memos, in a file of blocks of 512 bytes.
 
-ghost use Rattle.std.specs.Prelude.{◌≡◌, ◌+◌, ◌*◌, ◌<◌, ◌≤◌, ◌==◌, ◌^◌, ◌⊎◌, ℕ, List, length, reverse, Some, None, true, IfSome, IfOk, IfErr, OnOk, MatchResult};
+ghost use Rattle.std.specs.Prelude.{◌≡◌, ◌+◌, ◌*◌, ◌<◌, ◌≤◌, ◌==◌, ◌^◌, ℕ, List, length, reverse, Some, None, true, IfSome, IfOk, IfErr, OnOk, MatchResult};
 ghost use Rattle.std.specs.List.{list_all, position_or_len};
 ghost use Rattle.dbf_fields.specs.Faults.{first_fault};
 ghost use Rattle.dbf_image.specs.Memo.{memo_number, memo_at, HasText};
-ghost use Rattle.dbf_image.specs.Reading.{is_block, text_tests};
+ghost use Rattle.dbf_image.specs.Reading.{is_block, text_tests, IsRefusal};
 ghost use Rattle.dbf_image.specs.declared.fault.ImageFault.{ImageFault};
 ghost use Rattle.dbf_image.specs.Spans.{end_at, AreEnds, span_of};
 ghost use Rattle.dbf_image.specs.declared.format.TheConstants.{MEMO_END};
@@ -19,7 +19,7 @@ use std::alloc::{AllocError, Global};
 /// The number of a block in a memo's cell: 0 is no memo, and `None` a cell that has no number.
 #[tactic(auto, unfolding(crate::specs::Memo::memo_number))]
 pub(crate) fn number_of(cell: &[u8]) -> Option<u64>
-    requires { length cell.now ≤ 10 }
+    requires count_bounded { length cell.now ≤ 10 }
     ensures value { result ≡ memo_number cell.now }
 {
     let text = trimmed(cell);
@@ -83,7 +83,7 @@ pub(crate) fn block_ends(alloc: Global, dbt: &[u8]) -> Result<Vec<usize>, AllocE
 /// Where the text of a block stands, where the ends of all texts are known.
 #[tactic(auto, unfolding(crate::specs::Reading::text_tests))]
 pub(crate) fn span_at(dbt: &[u8], ends: &[usize], block: u64) -> Result<Span, ImageFault>
-    requires { AreEnds dbt.now ends.now }
+    requires ends { AreEnds dbt.now ends.now }
     ensures accepted { OnOk result (first_fault (text_tests dbt.now block) ≡ None) }
     ensures value { IfOk result (λ span. span ≡ span_of dbt.now block) }
     ensures refused { IfErr result (λ fault. first_fault (text_tests dbt.now block) ≡ Some fault) }
@@ -121,7 +121,7 @@ fn block_text(dbt: &[u8], block: u64) -> Result<&[u8], ImageFault>
 fn text_of_block(alloc: Global, dbt: &[u8], block: u64) -> Result<Bytes, ImageFault>
     ensures accepted { IfOk result (λ _. first_fault (text_tests dbt.now block) ≡ None) }
     ensures value { IfOk result (λ text. text ≡ memo_at dbt.now block) }
-    ensures refused { IfErr result (λ fault. (fault ≡ ImageFault.NoMemory) ⊎ (first_fault (text_tests dbt.now block) ≡ Some fault)) }
+    ensures refused { IfErr result (λ fault. IsRefusal fault (text_tests dbt.now block)) }
     ensures early { IfErr result (λ fault. (first : ImageFault) → first_fault (text_tests dbt.now block) ≡ Some first → fault ≡ first) }
 {
     let text = block_text(dbt, block)?;
@@ -141,7 +141,7 @@ pub fn read_memo(alloc: Global, dbt: &[u8], block: u64) -> Result<Bytes, ImageFa
     // A block that has a text is read, unless memory is refused.
     ensures only { (text : List ℕ) → HasText dbt.now block text → MatchResult result (λ t. t ≡ text) (λ fault. fault ≡ ImageFault.NoMemory) }
     // Which fault it is.
-    ensures refused { IfErr result (λ fault. (fault ≡ ImageFault.NoMemory) ⊎ (first_fault (text_tests dbt.now block) ≡ Some fault)) }
+    ensures refused { IfErr result (λ fault. IsRefusal fault (text_tests dbt.now block)) }
     // `NoMemory` is answered only where no test fails.
     ensures early { IfErr result (λ fault. (first : ImageFault) → first_fault (text_tests dbt.now block) ≡ Some first → fault ≡ first) }
 {

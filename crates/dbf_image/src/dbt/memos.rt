@@ -1,16 +1,16 @@
 //! The texts of a table's memos, read from their file.
 
-ghost use Rattle.std.specs.Prelude.{◌≡◌, ◌≢◌, ◌+◌, ◌*◌, ◌≤◌, ◌⊎◌, ◌++◌, [], length, map, flat_map, slice_index, Some, None, unwrap_or, IfOk, IfErr, OnOk};
+ghost use Rattle.std.specs.Prelude.{◌≡◌, ◌≢◌, ◌+◌, ◌*◌, ◌≤◌, ◌++◌, [], length, flat_map, Some, None, IfOk, IfErr, OnOk};
 ghost use Rattle.std.specs.Option.{option_copied};
 ghost use Rattle.dbf_fields.specs.Faults.{first_fault};
 ghost use Rattle.dbf_fields.specs.Field.{widths};
 ghost use Rattle.dbf_fields.specs.Schema.{IsSchema};
 ghost use Rattle.dbf_image.specs.Table.{has_memos as some_memo};
-ghost use Rattle.dbf_image.specs.DbfText.{chunks, AreRecords};
+ghost use Rattle.dbf_image.specs.DbfText.{chunks, row_chunks, AreRecords};
 ghost use Rattle.dbf_image.specs.Memo.{memo_at};
-ghost use Rattle.dbf_image.specs.MemoNumbers.{KeepsMemos, cell_texts, cells_texts, row_texts, IsReading};
-ghost use Rattle.dbf_image.specs.Store.{text_of, texts_of, rows_of, IsMemo, IsStore};
-ghost use Rattle.dbf_image.specs.Reading.{text_tests, memo_tests, memo_text, cell_tests, cells_tests, row_tests, row_read};
+ghost use Rattle.dbf_image.specs.MemoNumbers.{KeepsMemos, cell_texts, cells_texts, row_texts, all_texts, HasTextsOf, IsReading};
+ghost use Rattle.dbf_image.specs.Store.{text_of, IsMemo, IsStore};
+ghost use Rattle.dbf_image.specs.Reading.{text_tests, memo_tests, memo_text, cell_tests, cells_tests, rows_tests, IsRefusal};
 ghost use Rattle.dbf_image.specs.Spans.{AreEnds, table_memo_tests};
 
 use crate::dbt::memo::{block_ends, number_of, span_at};
@@ -60,7 +60,7 @@ fn number_of_block(
     ensures same { OnOk result (memos.new.numbers ≡ memos.old.numbers) }
     ensures memo { IfOk result (λ number. IsMemo memos.new.texts.texts number) }
     ensures text { IfOk result (λ number. text_of memos.new.texts.texts number ≡ memo_at dbt.now block) }
-    ensures refused { IfErr result (λ fault. (fault ≡ ImageFault.NoMemory) ⊎ (first_fault (text_tests dbt.now block) ≡ Some fault)) }
+    ensures refused { IfErr result (λ fault. IsRefusal fault (text_tests dbt.now block)) }
 {
     let span = span_at(dbt, ends, block)?;
     let known = memos.of_block[block as usize];
@@ -90,7 +90,7 @@ fn number_of_cell(
     ensures same { OnOk result (memos.new.numbers ≡ memos.old.numbers) }
     ensures memo { IfOk result (λ number. IsMemo memos.new.texts.texts number) }
     ensures text { IfOk result (λ number. text_of memos.new.texts.texts number ≡ memo_text dbt.now cell.now) }
-    ensures refused { IfErr result (λ fault. (fault ≡ ImageFault.NoMemory) ⊎ (first_fault (memo_tests dbt.now cell.now) ≡ Some fault)) }
+    ensures refused { IfErr result (λ fault. IsRefusal fault (memo_tests dbt.now cell.now)) }
 {
     match number_of(cell) {
         None => Err(ImageFault::BadMemoNumber),
@@ -113,8 +113,8 @@ fn read_cell(
     requires count_bounded { field.now.kind ≡ MEMO → length cell.now ≤ 10 }
     ensures accepted { OnOk result (first_fault (cell_tests dbt.now field.now cell.now) ≡ None) }
     ensures reading { OnOk result (IsReading dbt.now memos.new) }
-    ensures texts { OnOk result (texts_of memos.new.texts.texts memos.new.numbers.items ≡ texts_of memos.old.texts.texts memos.old.numbers.items ++ cell_texts dbt.now field.now cell.now) }
-    ensures refused { IfErr result (λ fault. (fault ≡ ImageFault.NoMemory) ⊎ (first_fault (cell_tests dbt.now field.now cell.now) ≡ Some fault)) }
+    ensures texts { OnOk result (all_texts memos.new ≡ all_texts memos.old ++ cell_texts dbt.now field.now cell.now) }
+    ensures refused { IfErr result (λ fault. IsRefusal fault (cell_tests dbt.now field.now cell.now)) }
 {
     if field.kind == MEMO {
         let number = number_of_cell(dbt, ends, cell, memos)?;
@@ -137,8 +137,8 @@ fn read_cells(
     requires room { widths fields.now ≤ length bytes.now }
     ensures accepted { OnOk result (first_fault (cells_tests dbt.now fields.now bytes.now) ≡ None) }
     ensures reading { OnOk result (IsReading dbt.now memos.new) }
-    ensures texts { OnOk result (texts_of memos.new.texts.texts memos.new.numbers.items ≡ texts_of memos.old.texts.texts memos.old.numbers.items ++ cells_texts dbt.now fields.now bytes.now) }
-    ensures refused { IfErr result (λ fault. (fault ≡ ImageFault.NoMemory) ⊎ (first_fault (cells_tests dbt.now fields.now bytes.now) ≡ Some fault)) }
+    ensures texts { OnOk result (all_texts memos.new ≡ all_texts memos.old ++ cells_texts dbt.now fields.now bytes.now) }
+    ensures refused { IfErr result (λ fault. IsRefusal fault (cells_tests dbt.now fields.now bytes.now)) }
 {
     let mut rest = bytes;
     for field in fields {
@@ -161,10 +161,10 @@ fn read_all(
     requires schema { IsSchema fields.now }
     requires size { size ≡ 1 + widths fields.now }
     requires room { count * size ≤ length bytes.now }
-    ensures accepted { IfOk result (λ _. first_fault (flat_map (row_tests dbt.now fields.now) (chunks size count bytes.now)) ≡ None) }
+    ensures accepted { IfOk result (λ _. first_fault (rows_tests dbt.now fields.now (chunks size count bytes.now)) ≡ None) }
     ensures reading { IfOk result (IsReading dbt.now) }
-    ensures texts { IfOk result (λ memos. texts_of memos.texts.texts memos.numbers.items ≡ flat_map (row_texts dbt.now fields.now) (chunks size count bytes.now)) }
-    ensures refused { IfErr result (λ fault. (fault ≡ ImageFault.NoMemory) ⊎ (first_fault (flat_map (row_tests dbt.now fields.now) (chunks size count bytes.now)) ≡ Some fault)) }
+    ensures texts { IfOk result (λ memos. all_texts memos ≡ flat_map (row_texts dbt.now fields.now) (chunks size count bytes.now)) }
+    ensures refused { IfErr result (λ fault. IsRefusal fault (rows_tests dbt.now fields.now (chunks size count bytes.now))) }
 {
     let ends = block_ends(alloc, dbt)?;
     let mut memos = nothing_read(alloc, dbt)?;
@@ -193,11 +193,11 @@ fn memos_in(
     count: u32,
     bytes: &[u8],
 ) -> Result<(MemoStore, Vec<u32>), ImageFault>
-    requires { AreRecords schema.now count bytes.now }
-    ensures accepted { IfOk result (λ _. first_fault (flat_map (row_tests dbt.now schema.now) (chunks (1 + widths schema.now) count bytes.now)) ≡ None) }
-    ensures value { IfOk result (λ memos. rows_of schema.now count bytes.now (texts_of memos.0.texts memos.1.items) ≡ map (row_read dbt.now schema.now) (chunks (1 + widths schema.now) count bytes.now)) }
+    requires records { AreRecords schema.now count bytes.now }
+    ensures accepted { IfOk result (λ _. first_fault (rows_tests dbt.now schema.now (row_chunks schema.now count bytes.now)) ≡ None) }
+    ensures value { IfOk result (λ memos. HasTextsOf (Some dbt.now) schema.now count bytes.now memos.0.texts memos.1.items) }
     ensures kept { IfOk result (λ memos. IsStore schema.now count bytes.now memos.0.texts memos.1.items) }
-    ensures refused { IfErr result (λ fault. (fault ≡ ImageFault.NoMemory) ⊎ (first_fault (flat_map (row_tests dbt.now schema.now) (chunks (1 + widths schema.now) count bytes.now)) ≡ Some fault)) }
+    ensures refused { IfErr result (λ fault. IsRefusal fault (rows_tests dbt.now schema.now (row_chunks schema.now count bytes.now))) }
 {
     let size = schema.record_length();
     let memos = read_all(alloc, dbt, schema.fields(), size, count, bytes)?;
@@ -213,11 +213,11 @@ pub(crate) fn memos_at(
     count: u32,
     bytes: &[u8],
 ) -> Result<(MemoStore, Vec<u32>), ImageFault>
-    requires { AreRecords schema.now count bytes.now }
-    ensures accepted { IfOk result (λ _. first_fault (table_memo_tests (option_copied dbt.entry) schema.now (chunks (1 + widths schema.now) count bytes.now)) ≡ None) }
-    ensures value { IfOk result (λ memos. rows_of schema.now count bytes.now (texts_of memos.0.texts memos.1.items) ≡ map (row_read (unwrap_or (option_copied dbt.entry) []) schema.now) (chunks (1 + widths schema.now) count bytes.now)) }
+    requires records { AreRecords schema.now count bytes.now }
+    ensures accepted { IfOk result (λ _. first_fault (table_memo_tests (option_copied dbt.entry) schema.now (row_chunks schema.now count bytes.now)) ≡ None) }
+    ensures value { IfOk result (λ memos. HasTextsOf (option_copied dbt.entry) schema.now count bytes.now memos.0.texts memos.1.items) }
     ensures kept { IfOk result (λ memos. IsStore schema.now count bytes.now memos.0.texts memos.1.items) }
-    ensures refused { IfErr result (λ fault. (fault ≡ ImageFault.NoMemory) ⊎ (first_fault (table_memo_tests (option_copied dbt.entry) schema.now (chunks (1 + widths schema.now) count bytes.now)) ≡ Some fault)) }
+    ensures refused { IfErr result (λ fault. IsRefusal fault (table_memo_tests (option_copied dbt.entry) schema.now (row_chunks schema.now count bytes.now))) }
 {
     if !has_memos(schema.fields()) {
         return Ok((MemoStore::new(alloc), Vec::new(alloc)));

@@ -29,7 +29,7 @@ fn header_block(next: u32) -> [u8; BLOCK]
 
 // The zeros after a text and the two 0x1A.
 fn fill_of(text_length: usize) -> usize
-    requires { text_length ≤ MAX_MEMO_BYTES }
+    requires short { text_length ≤ MAX_MEMO_BYTES }
     ensures value { result ≡ (text_length + (BLOCK + 1)) / BLOCK * BLOCK - (text_length + 2) }
     ensures bounded { result ≤ BLOCK }
 {
@@ -38,7 +38,7 @@ fn fill_of(text_length: usize) -> usize
 
 // The blocks of a memo's text, of which there are none where it is empty.
 fn put_block<S: ByteSink>(out: &mut SinkWriter<'_, S>, texts: &MemoStore, number: u32)
-    requires { IsMemo texts.now.texts number }
+    requires memo { IsMemo texts.now.texts number }
     ensures put { Puts out.old (block_bytes (text_of texts.now.texts number)) out.new }
 {
     let length = memo_length(texts, number);
@@ -53,7 +53,7 @@ fn put_block<S: ByteSink>(out: &mut SinkWriter<'_, S>, texts: &MemoStore, number
 
 // The blocks of all texts, one after the other.
 fn put_blocks<S: ByteSink>(out: &mut SinkWriter<'_, S>, texts: &MemoStore, memos: &[u32])
-    requires { AllByRecursion (IsMemo texts.now.texts) memos.now }
+    requires each { AllByRecursion (IsMemo texts.now.texts) memos.now }
     ensures put { Puts out.old (flat_map (λ number. block_bytes (text_of texts.now.texts number)) memos.now) out.new }
 {
     for number in memos {
@@ -63,7 +63,7 @@ fn put_blocks<S: ByteSink>(out: &mut SinkWriter<'_, S>, texts: &MemoStore, memos
 
 // The bytes of the file.
 fn put_memo_image<S: ByteSink>(out: &mut SinkWriter<'_, S>, table: &TableData, next: u32)
-    requires { next ≡ next_free table.now }
+    requires next { next ≡ next_free table.now }
     ensures put { Puts out.old (memo_image table.now) out.new }
 {
     let store = table.store();

@@ -51,7 +51,7 @@ pub(crate) fn piece_of(bytes: &[u8]) -> ArrayVec<u8, BLOCK>
     piece
 }
 
-/// Puts so many free blocks after the others, and answers all free ones. It takes the room that was reserved,
+/// Puts `more` free blocks after the others, and answers all free ones. It takes the room that was reserved,
 /// and no memory.
 pub(crate) fn push_free(blocks: &mut Vec<MemoBlock>, free: FreeList, more: usize) -> FreeList
     requires room { length blocks.old.items + more ≤ vec_capacity blocks.old }

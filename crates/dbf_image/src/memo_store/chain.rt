@@ -12,7 +12,7 @@ use crate::table::reserved::extend_reserved;
 use byte_io::{ByteSink, SinkWriter};
 use std::alloc::{AllocError, Global};
 
-/// Writes a text into so many of the first free blocks, and answers those that are left.
+/// Writes a text into the first `count` free blocks, and answers those that are left.
 pub(crate) fn fill(
     blocks: &mut [MemoBlock],
     free: FreeList,
@@ -20,7 +20,7 @@ pub(crate) fn fill(
     count: u32,
     text: &[u8],
 ) -> FreeList
-    requires { CanFill blocks.old free owner count text.now }
+    requires room { CanFill blocks.old free owner count text.now }
     ensures fills { Fills blocks.old blocks.new free result owner count text.now }
 {
     let mut rest = free;

@@ -5,7 +5,7 @@ ghost use Rattle.dbf_fields.specs.Field.{widths};
 ghost use Rattle.dbf_fields.specs.Layout.{width_of};
 ghost use Rattle.dbf_fields.specs.declared.format.TheConstants.{MEMO};
 ghost use Rattle.dbf_image.specs.Table.{IsTable, is_memo_text as may_be_memo, kind_at, blank_row, row_at, cell_at, with_row, with_cell, with_mark, packed};
-ghost use Rattle.dbf_image.specs.Store.{texts_of, row_with, rows_of, IsStore};
+ghost use Rattle.dbf_image.specs.Store.{texts_of, row_with, rows_of, rows_in, IsStore};
 ghost use Rattle.dbf_image.specs.Growing.{IsRecord};
 ghost use Rattle.dbf_image.specs.declared.format.TheConstants.{MAX_RECORDS};
 
@@ -58,7 +58,7 @@ impl Model for GrowingTable {
 }
 
 impl GrowingTable {
-    /// The table of so many records that stand in a list of bytes, and of memos whose texts stand in a store.
+    /// The table of `count` records that stand in a list of bytes, and of memos whose texts stand in a store.
     pub(crate) fn new(
         schema: Schema,
         count: u32,
@@ -66,7 +66,7 @@ impl GrowingTable {
         texts: MemoStore,
         memos: Vec<u32>,
     ) -> GrowingTable
-        requires { IsStore schema count records.items texts.texts memos.items }
+        requires store { IsStore schema count records.items texts.texts memos.items }
         ensures value { result.table ≡ record { schema = schema; rows = rows_of schema count records.items (texts_of texts.texts memos.items) } }
     {
         GrowingTable {
@@ -97,7 +97,7 @@ impl GrowingTable {
 
     /// What is kept of the records and the memos.
     pub(crate) fn store(&self) -> Store<'_>
-        ensures rows { self.now.table.rows ≡ rows_of self.now.table.schema (length self.now.table.rows) result.records.now (texts_of result.texts.now.texts result.memos.now) }
+        ensures rows { self.now.table.rows ≡ rows_in self.now.table.schema (length self.now.table.rows) result }
         ensures kept { IsStore self.now.table.schema (length self.now.table.rows) result.records.now result.texts.now.texts result.memos.now }
     {
         Store {
@@ -174,7 +174,7 @@ impl GrowingTable {
         self.records.reserve(length)
     }
 
-    /// Makes room for a memo of at most so many bytes.
+    /// Makes room for a memo of at most `length` bytes.
     ///
     /// An `Err` says that there was no memory. The table is the same in either case.
     pub fn reserve_text(&mut self, length: usize) -> Result<(), AllocError>

@@ -10,7 +10,7 @@ use dbf_fields::{Field, MEMO, Schema};
 /// The index of a record among the records. Records count from 1 for every caller of this crate, and
 /// from 0 in the bytes: here alone the one becomes the other.
 fn index_of(number: u32) -> usize
-    requires { 1 ≤ number }
+    requires number { 1 ≤ number }
     ensures value { result ≡ number - 1 }
 {
     number as usize - 1
@@ -18,7 +18,7 @@ fn index_of(number: u32) -> usize
 
 /// Where a record begins.
 pub(crate) fn record_start(schema: &Schema, number: u32) -> usize
-    requires { 1 ≤ number }
+    requires number { 1 ≤ number }
     ensures value { result ≡ (number - 1) * (1 + widths schema.now) }
     ensures bounded { result < 4294967296 * (1 + MAX_RECORD_BYTES) }
 {
@@ -37,7 +37,7 @@ pub(crate) fn cell_start(schema: &Schema, number: u32, field: usize) -> usize
 
 /// How many memos a record has.
 pub(crate) fn memo_count_of(fields: &[Field]) -> usize
-    requires { length fields.now ≤ MAX_FIELDS }
+    requires count_bounded { length fields.now ≤ MAX_FIELDS }
     ensures value { result ≡ memo_count fields.now }
     ensures bounded { result ≤ MAX_FIELDS }
 {

@@ -4,15 +4,14 @@ ghost use Rattle.std.specs.Prelude.{◌≡◌, ◌≤◌, ◌*◌, ◌+◌, leng
 ghost use Rattle.std.specs.List.{AllByRecursion};
 ghost use Rattle.dbf_image.specs.DbfText.{AreRecords};
 ghost use Rattle.dbf_image.specs.MemoStore.{Texts};
-ghost use Rattle.dbf_image.specs.Packing.{Moved};
-ghost use Rattle.dbf_image.specs.Store.{memo_count, texts_of, rows_of, IsMemo};
-ghost use Rattle.dbf_image.specs.Table.{kept_rows};
+ghost use Rattle.dbf_image.specs.Packing.{Moved, HasKeptRows};
+ghost use Rattle.dbf_image.specs.Store.{memo_count, IsMemo};
 
 use crate::format::DELETED;
 use crate::table::offsets::memo_count_of;
 use dbf_fields::Schema;
 
-// Copies a part of so many elements to another place in front of it. It takes no memory.
+// Copies a part of `size` elements to another place in front of it. It takes no memory.
 fn move_part<T: Copy>(list: &mut Vec<T>, size: usize, from: usize, to: usize)
     requires before { to ≤ from }
     requires inside { from * size + size ≤ length list.old.items }
@@ -35,7 +34,7 @@ pub(crate) fn keep_records(
     ensures whole { AreRecords schema.now result records.new.items }
     ensures many { length memos.new.items ≡ result * memo_count schema.now }
     ensures each { (texts : Texts) → AllByRecursion (IsMemo texts) memos.old.items → AllByRecursion (IsMemo texts) memos.new.items }
-    ensures rows { (texts : Texts) → rows_of schema.now result records.new.items (texts_of texts memos.new.items) ≡ kept_rows (rows_of schema.now count records.old.items (texts_of texts memos.old.items)) }
+    ensures rows { HasKeptRows schema.now count records.old.items memos.old.items result records.new.items memos.new.items }
 {
     let size = schema.record_length();
     let memos_each = memo_count_of(schema.fields());

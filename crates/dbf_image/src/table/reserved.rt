@@ -13,7 +13,7 @@ pub(crate) fn extend_reserved(bytes: &mut Vec<u8>, more: &[u8])
     let _ = extended;
 }
 
-/// Adds so many memos without a text after the others.
+/// Adds `count` memos without a text after the others.
 pub(crate) fn push_no_memos(memos: &mut Vec<u32>, count: usize)
     requires room { vec_len memos.old + count ≤ vec_capacity memos.old }
     ensures items { memos.new.items ≡ memos.old.items ++ replicate count 0 }

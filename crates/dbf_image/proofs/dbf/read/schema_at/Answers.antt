@@ -6,7 +6,7 @@ use Rattle.dbf_image.proofs.Groups.{fields_are, fields_pass, fields_fail, err_ex
 use Rattle.dbf_image.proofs.dbf.read.schema_at.Goals as goal
 
 pub fields_at-requires : goal.fields_at-requires
-fields_at-requires c = simp (length-take, length-drop) (omega (arith, c.in-Some.ensures.room))
+fields_at-requires c = record { room = simp (length-take, length-drop) (omega (arith, c.in-Some.ensures.room)) }
 
 pub returns-in_err-schema-clause-refused : goal.returns-in_err-schema-clause-refused
 returns-in_err-schema-clause-refused c =

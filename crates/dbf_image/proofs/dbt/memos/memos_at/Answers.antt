@@ -24,7 +24,7 @@ pub returns-then-not-has_memos-clause-kept : goal.returns-then-not-has_memos-cla
 returns-then-not-has_memos-clause-kept c =
     let schema = c.args.schema.now in
     let none : has_memos schema ≡ false = ap has_memos (sym c.fields.ensures.fields) ∙ sym c.has_memos.ensures.value ∙ c.if-not-has_memos.true in
-    plain_store schema c.args.count c.args.bytes.now c.new.result.texts c.new-then-not-has_memos.result.items c.requires none c.new-then-not-has_memos.ensures.items
+    plain_store schema c.args.count c.args.bytes.now c.new.result.texts c.new-then-not-has_memos.result.items c.requires.records none c.new-then-not-has_memos.ensures.items
 
 pub returns-in_default-clause-refused : goal.returns-in_default-clause-refused
 returns-in_default-clause-refused c =

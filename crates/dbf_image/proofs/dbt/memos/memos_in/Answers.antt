@@ -14,4 +14,4 @@ pub returns-clause-kept : goal.returns-clause-kept
 returns-clause-kept c =
     let schema = c.args.schema.now in
     let told = rw (c.fields.ensures.fields, c.record_length-size.ensures.value) at c.in_ok-memos.ensures.texts in
-    store_read c.args.dbt.now schema c.args.count c.args.bytes.now c.in_ok-memos.memos.texts.texts c.in_ok-memos.memos.numbers.items c.requires c.in_ok-memos.ensures.reading.each told
+    store_read c.args.dbt.now schema c.args.count c.args.bytes.now c.in_ok-memos.memos.texts.texts c.in_ok-memos.memos.numbers.items c.requires.records c.in_ok-memos.ensures.reading.each told

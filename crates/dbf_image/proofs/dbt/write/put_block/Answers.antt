@@ -14,7 +14,7 @@ returns-then-length-eq0 g c =
 pub put_text-requires : goal.put_text-requires
 put_text-requires g c =
     let some = some_number c.args.texts.now.texts c.args.number (rw c.memo_length-length.ensures.value at c.if-length-eq0.false) in
-    record { held = c.requires.held some }
+    record { held = c.requires.memo.held some }
 
 pub returns : goal.returns
 returns g c =

@@ -11,6 +11,6 @@ returns g c =
     record {
       put = (
         c.put_blocks.ensures.put.0 ∙ c.put.ensures.put.0,
-        rw (c.put_blocks.ensures.put.1, memos, c.put.ensures.put.1, c.header_block.ensures.value, c.requires) (more_both _ _ _ (memo_image table) refl),
+        rw (c.put_blocks.ensures.put.1, memos, c.put.ensures.put.1, c.header_block.ensures.value, c.requires.next) (more_both _ _ _ (memo_image table) refl),
       );
     }
