@@ -15,7 +15,7 @@ use Rattle.dbf_image.specs.Blocks.{cells_bytes, cells_blocks, cells_memos, cell_
 use Rattle.dbf_image.specs.Image.{header_bytes, descriptor, row_bytes, rows_bytes, image}
 use Rattle.dbf_image.proofs.ReadBack.{chunks-join, length-join, names_from, descriptors_long, fields_again, not_end, after_header, end_here, not_here, flag_again}
 use Rattle.dbf_image.proofs.BlockLaws.{AreWide, cells_again, length-cell, length-cells_memos}
-use Rattle.dbf_image.specs.declared.format.TheConstants.{BLOCK, DESCRIPTOR, END_OF_FILE, HEADER, HEADER_END}
+use Rattle.dbf_image.specs.declared.format.TheConstants.{BLOCK, DESCRIPTOR, END_OF_FILE, HEADER, HEADER_END, MAX_BLOCK_NUMBER}
 use Rattle.dbf_fields.specs.declared.format.TheConstants.{MAX_FIELDS, MAX_RECORD_BYTES}
 
 pub memos_wide : (fs : List Field) → AllByRecursion (λ f. has_width f ≡ true) fs → AreWide fs
@@ -68,7 +68,7 @@ records_again fields (r ∷ rs) dbt front rest next is len some room wide h =
 
 -- ---- the whole files
 
-pub is_dbf_image : (table : Table) (year month day : ℕ) → IsTable table → next_free table ≤ 4294967295
+pub is_dbf_image : (table : Table) (year month day : ℕ) → IsTable table → next_free table ≤ MAX_BLOCK_NUMBER
     → IsDbf (image table year month day) (Some (memo_image table)) table
 is_dbf_image table year month day t room =
     let schema : List Field = table.schema in

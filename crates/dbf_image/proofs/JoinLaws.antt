@@ -19,7 +19,7 @@ use Rattle.dbf_image.specs.DbfText.{chunks}
 use Rattle.dbf_image.specs.Store.{text_of, texts_of, memo_count, first_memo, cells_with, rows_with, rows_of}
 use Rattle.dbf_image.proofs.Rows.{length-chunks}
 use Rattle.dbf_image.specs.Blocks.{blocks_of, block_bytes, cells_memos, rows_blocks, rows_memos}
-use Rattle.dbf_image.specs.declared.format.TheConstants.{MAX_RECORDS, BLOCK}
+use Rattle.dbf_image.specs.declared.format.TheConstants.{BLOCK, MAX_BLOCK_NUMBER, MAX_RECORDS}
 use Rattle.dbf_fields.specs.declared.format.TheConstants.{MAX_FIELDS, MEMO}
 
 joined_by : (f : Field) (fs : List Field) (cell rest : List ℕ) (memos : List (List ℕ)) (b : Bool) → eqb f.kind MEMO ≡ b
@@ -72,11 +72,11 @@ pub next_read : (next : ℕ) (fields : List Field) (rows : List Row) (count : �
     → rows ≡ rows_of fields count bytes (texts_of texts numbers) → next ≡ 1 + sum_by (λ number. blocks_of (text_of texts number)) numbers → next ≡ 1 + rows_blocks fields rows
 next_read next fields rows count bytes texts numbers many given is = rw (given, store_blocks fields count bytes texts numbers many) is
 
-pub free_some : (next free : ℕ) → next ≡ free → next ≤ 4294967295 → Some next ≡ cond (leb free 4294967295) (Some free) None
-free_some next free is le = rw (← is, le-leb next 4294967295 le) refl
+pub free_some : (next free : ℕ) → next ≡ free → next ≤ MAX_BLOCK_NUMBER → Some next ≡ cond (leb free MAX_BLOCK_NUMBER) (Some free) None
+free_some next free is le = rw (← is, le-leb next MAX_BLOCK_NUMBER le) refl
 
-pub free_none : (next free : ℕ) → next ≡ free → 4294967295 < next → None ≡ cond (leb free 4294967295) (Some free) None
-free_none next free is over = rw (← is, lt-leb next 4294967295 over) refl
+pub free_none : (next free : ℕ) → next ≡ free → MAX_BLOCK_NUMBER < next → None ≡ cond (leb free MAX_BLOCK_NUMBER) (Some free) None
+free_none next free is over = rw (← is, lt-leb next MAX_BLOCK_NUMBER over) refl
 
 pub memos_read : (fields : List Field) (rows : List Row) (count : ℕ) (bytes : List ℕ) (texts : Texts) (numbers : List ℕ) → length numbers ≡ count * memo_count fields
     → rows ≡ rows_of fields count bytes (texts_of texts numbers) → flat_map (λ number. block_bytes (text_of texts number)) numbers ≡ rows_memos fields rows
@@ -87,5 +87,5 @@ memos_read fields rows count bytes texts numbers many given = rw given (sym (sto
 pub memos_each : (fields : List Field) → IsSchema fields → memo_count fields ≤ MAX_FIELDS
 memos_each fields schema = omega (arith, memo_count_le fields, schema_count fields schema)
 
-pub memos_all : (fields : List Field) (count : ℕ) → IsSchema fields → count ≤ MAX_RECORDS → count * memo_count fields ≤ 128000000000
+pub memos_all : (fields : List Field) (count : ℕ) → IsSchema fields → count ≤ MAX_RECORDS → count * memo_count fields ≤ MAX_RECORDS * MAX_FIELDS
 memos_all fields count schema count_bounded = omega (arith, mul-le-mul_left count (memos_each fields schema))

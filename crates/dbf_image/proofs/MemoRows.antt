@@ -53,11 +53,11 @@ many_texts dbt fields (p ∷ ps) =
 pub store_read : (dbt : List ℕ) (fields : List Field) (count : ℕ) (bytes : List ℕ) (texts : Texts) (numbers : List ℕ) → AreRecords fields count bytes
     → AllByRecursion (IsMemo texts) numbers → texts_of texts numbers ≡ flat_map (row_texts dbt fields) (chunks (1 + widths fields) count bytes)
     → IsStore fields count bytes texts numbers
-store_read dbt fields count bytes texts numbers records each told =
+store_read dbt fields count bytes texts numbers records each read =
     let ps : List (List ℕ) = chunks (1 + widths fields) count bytes in
     record {
       records = records;
-      many = sym (length-map numbers (text_of texts)) ∙ ap length told ∙ many_texts dbt fields ps ∙ ap (λ (n : ℕ). n * memo_count fields) (length-chunks (1 + widths fields) count bytes);
+      many = sym (length-map numbers (text_of texts)) ∙ ap length read ∙ many_texts dbt fields ps ∙ ap (λ (n : ℕ). n * memo_count fields) (length-chunks (1 + widths fields) count bytes);
       each = each;
     }
 

@@ -3,9 +3,9 @@
 use Rattle.std.specs.Prelude.{◌≡◌, ℕ, zero, suc, ◌+◌, ◌-◌, ◌*◌, ◌/◌, ◌%◌, ◌<◌, ◌==◌, List, [], ◌∷◌, ◌++◌, length, replicate, if◌then◌else◌}
 use Rattle.byteorder.specs.Endian.{little_bytes}
 use Rattle.dbf_fields.specs.declared.field.Field.{Field}
-use Rattle.dbf_fields.specs.declared.format.TheConstants.{BLANK, MEMO, ZERO_DIGIT}
+use Rattle.dbf_fields.specs.declared.format.TheConstants.{BLANK, MEMO, MEMO_WIDTH, ZERO_DIGIT}
 use Rattle.dbf_image.specs.Table.{Row, Table}
-use Rattle.dbf_image.specs.declared.format.TheConstants.{BLOCK, MEMO_END, VERSION}
+use Rattle.dbf_image.specs.declared.format.TheConstants.{BLOCK, MAX_BLOCK_NUMBER, MEMO_END, VERSION}
 
 -- a number at the right end of a cell of this width, with blanks before it; 0 is all blanks
 unfoldable pub justified : ℕ → ℕ → List ℕ
@@ -24,8 +24,8 @@ block_bytes (b ∷ bs) = (b ∷ bs) ++ (MEMO_END ∷ MEMO_END ∷ replicate (BLO
 
 -- a memo's cell, whose text takes the next free block
 unfoldable pub block_number_cell : ℕ → List ℕ → List ℕ
-block_number_cell next [] = justified 10 0
-block_number_cell next (b ∷ bs) = justified 10 next
+block_number_cell next [] = justified MEMO_WIDTH 0
+block_number_cell next (b ∷ bs) = justified MEMO_WIDTH next
 
 -- a cell in the file of the table, how many blocks it takes, and what stands there
 abbrev pub cell_bytes : ℕ → Field → List ℕ → List ℕ
@@ -68,11 +68,11 @@ next_free table = 1 + rows_blocks table.schema table.rows
 
 -- the numbers of blocks end at 32 bits
 abbrev pub HasTooManyBlocks : Table → Type 0
-HasTooManyBlocks table = 4294967295 < next_free table
+HasTooManyBlocks table = MAX_BLOCK_NUMBER < next_free table
 
 -- the header: the next free block, and 3 at byte 16
 abbrev pub memo_header : ℕ → List ℕ
-memo_header next = little_bytes 4 next ++ (replicate 12 0 ++ (VERSION ∷ replicate 495 0))
+memo_header next = little_bytes 4 next ++ (replicate 12 0 ++ (VERSION ∷ replicate (BLOCK - 17) 0))
 
 -- the file of a table's memos
 abbrev pub memo_image : Table → List ℕ

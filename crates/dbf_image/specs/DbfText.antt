@@ -9,7 +9,7 @@ use Rattle.dbf_image.specs.declared.format.TheConstants.{DELETED, DESCRIPTOR, HE
 use Rattle.dbf_image.specs.Table.{Row, Table, has_memos}
 use Rattle.dbf_image.specs.Memo.{EncodesCells}
 
--- the first chunks of one size, one after the other
+-- the first n chunks of one size, one after the other
 abbrev pub chunks : ℕ → ℕ → List ℕ → List (List ℕ)
 chunks size zero bytes = []
 chunks size (suc n) bytes = take size bytes ∷ chunks size n (drop size bytes)

@@ -20,7 +20,7 @@ abbrev pub IsChain : ℕ → ℕ → List MemoBlock → ℕ → Type 0
 IsChain o zero bs i = Unit {0}
 IsChain o (suc k) bs i = (i < length bs) × ((block_at bs i).owner ≡ o) × ((block_at bs i).count ≡ suc k) × IsChain o k bs (block_at bs i).next
 
--- a text has the number that follows the place of its first block
+-- a text has the number that follows the index of its first block
 abbrev pub text_at : List MemoBlock → ℕ → Option (List ℕ)
 text_at bs zero = None
 text_at bs (suc i) = if (block_at bs i).owner == suc i then Some (text_from (block_at bs i).count bs i) else None

@@ -121,15 +121,15 @@ memos_tests bytes dbt =
 abbrev pub image_refusal : List ℕ → Option (List ℕ) → Option ImageFault
 image_refusal bytes dbt = first_fault (header_tests bytes ++ (descriptor_tests bytes ++ (record_tests bytes ++ memos_tests bytes dbt)))
 
--- a fault that is answered is that of the first test that fails, but for want of memory
+-- the fault of the first test that fails, but for want of memory
 abbrev pub IsRefusal : ImageFault → List (Bool × ImageFault) → Type 0
 IsRefusal fault tests = (fault ≡ NoMemory) ⊎ (first_fault tests ≡ Some fault)
 
--- the same of fields that are no schema
+-- the fields are no schema, and that is the fault; or there was no memory
 abbrev pub IsFieldsRefusal : ImageFault → List Field → Type 0
 IsFieldsRefusal fault fields = (fault ≡ NoMemory) ⊎ ((fault ≡ BadSchema) × (is_none (schemas.schema_refusal fields) ≡ false))
 
--- the same of the bytes of a file
+-- the same of the tests of a table's files
 abbrev pub IsImageRefusal : ImageFault → List ℕ → Option (List ℕ) → Type 0
 IsImageRefusal fault bytes dbt = (fault ≡ NoMemory) ⊎ (image_refusal bytes dbt ≡ Some fault)
 

@@ -20,7 +20,7 @@ use dbf_fields::Bytes;
 use std::alloc::{AllocError, Global};
 use std::marker::Model;
 
-// How many blocks there may be: a block's place and a text's number fit a u32.
+// How many blocks there may be: a block's index and a text's number fit a u32.
 const MAX_BLOCKS: usize = u32::MAX as usize;
 
 /// Texts under numbers. Contracts see a finite map from the numbers to the texts, and how many bytes the next

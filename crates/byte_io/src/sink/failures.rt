@@ -1,4 +1,4 @@
-//! How often a sink has failed, for clauses alone.
+//! How often a sink has failed, for contracts alone.
 
 ghost use Rattle.std.specs.Prelude.{◌≡◌, ◌+◌};
 

@@ -1,6 +1,6 @@
 //! Reading a table from the bytes of a DBF file.
 
-ghost use Rattle.std.specs.Prelude.{◌≡◌, ◌+◌, ◌-◌, ◌*◌, ◌/◌, ◌<◌, ◌≤◌, ◌==◌, ◌||◌, true, nat_le, length, map, take, drop, slice_index, Some, None, is_none, IfSome, IfOk, IfErr, OnOk, MatchResult};
+ghost use Rattle.std.specs.Prelude.{◌≡◌, ◌+◌, ◌-◌, ◌*◌, ◌/◌, ◌<◌, ◌≤◌, ◌==◌, ◌||◌, true, nat_le, length, map, take, drop, Some, None, is_none, IfSome, IfOk, IfErr, OnOk, MatchResult};
 ghost use Rattle.std.specs.List.{position};
 ghost use Rattle.std.specs.Option.{option_copied};
 ghost use Rattle.dbf_fields.specs.Faults.{first_fault};

@@ -11,7 +11,7 @@ ghost use Rattle.dbf_image.specs.Store.{texts_of, memo_count, first_memo, cells_
 ghost use Rattle.dbf_image.specs.Blocks.{HasMemoLength, written_cell, cell_blocks, cells_bytes, cells_blocks};
 ghost use Rattle.dbf_image.specs.Image.{row_bytes, records_bytes};
 ghost use Rattle.byte_io.specs.Output.{Puts};
-ghost use Rattle.dbf_image.specs.declared.format.TheConstants.{DELETED, MAX_MEMO_BYTES, MAX_RECORDS};
+ghost use Rattle.dbf_image.specs.declared.format.TheConstants.{DELETED, MAX_MEMO_BLOCKS, MAX_MEMO_BYTES, MAX_RECORDS};
 
 use crate::dbf::header::Header;
 use crate::dbt::blocks::{block_count, block_number_cell};
@@ -51,7 +51,7 @@ fn memo_length_of(field: &Field, texts: &MemoStore, memos: &[u32]) -> usize
 fn blocks_at(field: &Field, text_length: usize) -> u64
     requires short { text_length ≤ MAX_MEMO_BYTES }
     ensures value { (cell : List ℕ) → HasMemoLength field.now cell text_length → result ≡ cell_blocks field.now cell }
-    ensures bounded { result ≤ 129 * memo_count (field.now ∷ []) }
+    ensures bounded { result ≤ MAX_MEMO_BLOCKS * memo_count (field.now ∷ []) }
 {
     if field.kind == MEMO {
         block_count(text_length)
@@ -87,10 +87,10 @@ fn put_cells<S: ByteSink>(
     requires room { widths fields.now ≤ length cells.records.now }
     requires many { memo_count fields.now ≤ length cells.memos.now }
     requires each { AllByRecursion (IsMemo cells.texts.now.texts) cells.memos.now }
-    requires count_bounded { first + 129 * memo_count fields.now ≤ 18446744073709551615 }
+    requires count_bounded { first + MAX_MEMO_BLOCKS * memo_count fields.now ≤ u64.MAX }
     ensures put { Puts out.old (cells_bytes first fields.now (cells_in fields.now cells.entry)) out.new }
     ensures next { result ≡ first + cells_blocks fields.now (cells_in fields.now cells.entry) }
-    ensures bounded { result ≤ first + 129 * memo_count fields.now }
+    ensures bounded { result ≤ first + MAX_MEMO_BLOCKS * memo_count fields.now }
 {
     let mut rest = cells.records;
     let mut memos = cells.memos;
@@ -117,10 +117,10 @@ fn put_record<S: ByteSink>(
     requires whole { length parts.records.now ≡ 1 + widths fields.now }
     requires many { memo_count fields.now ≤ length parts.memos.now }
     requires each { AllByRecursion (IsMemo parts.texts.now.texts) parts.memos.now }
-    requires count_bounded { first + 129 * memo_count fields.now ≤ 18446744073709551615 }
+    requires count_bounded { first + MAX_MEMO_BLOCKS * memo_count fields.now ≤ u64.MAX }
     ensures put { Puts out.old (row_bytes first fields.now (row_in fields.now parts.entry)) out.new }
     ensures next { result ≡ first + cells_blocks fields.now (row_in fields.now parts.entry).cells }
-    ensures bounded { result ≤ first + 129 * memo_count fields.now }
+    ensures bounded { result ≤ first + MAX_MEMO_BLOCKS * memo_count fields.now }
 {
     let (_, bytes) = parts.records.split_at(1);
     out.put(&[flag_of(parts.records[0] == DELETED)]);

@@ -1,7 +1,7 @@
 //! Writing a table as the bytes of a DBF file.
 #![tactic(auto, using(byte_io::specs::Laws::Sinks::sinks))]
 
-ghost use Rattle.std.specs.Prelude.{◌≡◌, ◌+◌, ◌≤◌, ◌*◌, ◌↔◌, ℕ, List, Option, Some, true, false, length, flat_map, if◌then◌else◌, OnOk, OnErr};
+ghost use Rattle.std.specs.Prelude.{◌≡◌, ◌+◌, ◌≤◌, ◌*◌, ◌↔◌, ℕ, List, Option, Some, true, false, length, flat_map, if◌then◌else◌, OnOk};
 ghost use Rattle.std.specs.List.{list_all};
 ghost use Rattle.dbf_fields.specs.Field.{widths};
 ghost use Rattle.dbf_fields.specs.Schema.{IsSchema};
@@ -11,7 +11,7 @@ ghost use Rattle.dbf_image.specs.Blocks.{HasTooManyBlocks, next_free, memo_image
 ghost use Rattle.dbf_image.specs.Image.{header_with, descriptor, version_of, image, IsOutside};
 ghost use Rattle.byte_io.specs.Output.{Puts};
 ghost use Rattle.byte_io.specs.Sink.{grown, is_byte, IsFront, Rises};
-ghost use Rattle.dbf_image.specs.declared.format.TheConstants.{DESCRIPTOR, FIRST_YEAR, HEADER, LAST_YEAR, NAME_BYTES};
+ghost use Rattle.dbf_image.specs.declared.format.TheConstants.{DESCRIPTOR, FIRST_YEAR, HEADER, LAST_YEAR, MAX_BLOCK_NUMBER, NAME_BYTES};
 
 use crate::dbf::header::{Header, dbf_header};
 use crate::dbf::rows::put_records;
@@ -117,7 +117,7 @@ pub fn write_dbf<S: ByteSink>(sink: &mut S, table: &TableData, day: Day) -> Resu
     ensures front { result ≡ Err WriteFault.Sink → IsFront (S.written sink.new) (grown (S.written sink.old) (image table.now day.year day.month day.day)) }
     ensures bytes { OnOk result (list_all is_byte (image table.now day.year day.month day.day) ≡ true) }
     // What is written can be read: with the file of memos it is a file of this table,
-    ensures reads_back { next_free table.now ≤ 4294967295 → IsDbf (image table.now day.year day.month day.day) (Some (memo_image table.now)) table.now }
+    ensures reads_back { next_free table.now ≤ MAX_BLOCK_NUMBER → IsDbf (image table.now day.year day.month day.day) (Some (memo_image table.now)) table.now }
     // and where no field is a memo, beside any file of memos or none.
     ensures plain { some_memo table.now.schema ≡ false → (dbt : Option (List ℕ)) → IsDbf (image table.now day.year day.month day.day) dbt table.now }
 {

@@ -1,8 +1,9 @@
 //! The texts of memos, in a file of blocks of 512 bytes.
 
-ghost use Rattle.std.specs.Prelude.{◌≡◌, ◌+◌, ◌*◌, ◌<◌, ◌≤◌, ◌==◌, ◌^◌, ℕ, List, length, reverse, Some, None, true, IfSome, IfOk, IfErr, OnOk, MatchResult};
-ghost use Rattle.std.specs.List.{list_all, position_or_len};
+ghost use Rattle.std.specs.Prelude.{◌≡◌, ◌+◌, ◌*◌, ◌<◌, ◌≤◌, ◌==◌, ℕ, List, length, Some, None, IfOk, IfErr, OnOk, MatchResult};
+ghost use Rattle.std.specs.List.{position_or_len};
 ghost use Rattle.dbf_fields.specs.Faults.{first_fault};
+ghost use Rattle.dbf_fields.specs.declared.format.TheConstants.{MEMO_WIDTH};
 ghost use Rattle.dbf_image.specs.Memo.{memo_number, memo_at, HasText};
 ghost use Rattle.dbf_image.specs.Reading.{is_block, text_tests, IsRefusal};
 ghost use Rattle.dbf_image.specs.declared.fault.ImageFault.{ImageFault};
@@ -19,7 +20,7 @@ use std::alloc::{AllocError, Global};
 /// The number of a block in a memo's cell: 0 is no memo, and `None` a cell that has no number.
 #[tactic(auto, unfolding(crate::specs::Memo::memo_number))]
 pub(crate) fn number_of(cell: &[u8]) -> Option<u64>
-    requires count_bounded { length cell.now ≤ 10 }
+    requires count_bounded { length cell.now ≤ MEMO_WIDTH }
     ensures value { result ≡ memo_number cell.now }
 {
     let text = trimmed(cell);

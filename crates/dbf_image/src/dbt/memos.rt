@@ -1,9 +1,10 @@
 //! The texts of a table's memos, read from their file.
 
-ghost use Rattle.std.specs.Prelude.{◌≡◌, ◌≢◌, ◌+◌, ◌*◌, ◌≤◌, ◌++◌, [], length, flat_map, Some, None, IfOk, IfErr, OnOk};
+ghost use Rattle.std.specs.Prelude.{◌≡◌, ◌+◌, ◌*◌, ◌≤◌, ◌++◌, [], length, flat_map, Some, None, IfOk, IfErr, OnOk};
 ghost use Rattle.std.specs.Option.{option_copied};
 ghost use Rattle.dbf_fields.specs.Faults.{first_fault};
 ghost use Rattle.dbf_fields.specs.Field.{widths};
+ghost use Rattle.dbf_fields.specs.declared.format.TheConstants.{MEMO_WIDTH};
 ghost use Rattle.dbf_fields.specs.Schema.{IsSchema};
 ghost use Rattle.dbf_image.specs.Table.{has_memos as some_memo};
 ghost use Rattle.dbf_image.specs.DbfText.{chunks, row_chunks, AreRecords};
@@ -83,7 +84,7 @@ fn number_of_cell(
 ) -> Result<u32, ImageFault>
     requires ends { AreEnds dbt.now ends.now }
     requires reading { IsReading dbt.now memos.old }
-    requires count_bounded { length cell.now ≤ 10 }
+    requires count_bounded { length cell.now ≤ MEMO_WIDTH }
     ensures accepted { OnOk result (first_fault (memo_tests dbt.now cell.now) ≡ None) }
     ensures reading { OnOk result (IsReading dbt.now memos.new) }
     ensures kept { OnOk result (KeepsMemos memos.old.texts.texts memos.new.texts.texts) }
@@ -110,7 +111,7 @@ fn read_cell(
 ) -> Result<(), ImageFault>
     requires ends { AreEnds dbt.now ends.now }
     requires reading { IsReading dbt.now memos.old }
-    requires count_bounded { field.now.kind ≡ MEMO → length cell.now ≤ 10 }
+    requires count_bounded { field.now.kind ≡ MEMO → length cell.now ≤ MEMO_WIDTH }
     ensures accepted { OnOk result (first_fault (cell_tests dbt.now field.now cell.now) ≡ None) }
     ensures reading { OnOk result (IsReading dbt.now memos.new) }
     ensures texts { OnOk result (all_texts memos.new ≡ all_texts memos.old ++ cell_texts dbt.now field.now cell.now) }

@@ -12,22 +12,22 @@ use std::alloc::{AllocError, Global};
 #[derive(Debug, Drop)]
 pub(crate) struct MemoBlock {
     /// The bytes of the text that this block has.
-    pub piece: ArrayVec<u8, BLOCK>,
+    pub(crate) piece: ArrayVec<u8, BLOCK>,
     /// The number of the text, 0 for a free block.
-    pub owner: u32,
+    pub(crate) owner: u32,
     /// How many blocks there are from here to the end of the chain, this one too.
-    pub count: u32,
-    /// The place of the next block.
-    pub next: u32,
+    pub(crate) count: u32,
+    /// The index of the next block.
+    pub(crate) next: u32,
     /// Whether the text that begins here stays, while texts are dropped.
-    pub kept: bool,
+    pub(crate) kept: bool,
 }
 
-/// The place of the first free block, and how many there are.
+/// The index of the first free block, and how many there are.
 #[derive(Clone, Copy, Debug)]
 pub(crate) struct FreeList {
-    pub head: u32,
-    pub count: u32,
+    pub(crate) head: u32,
+    pub(crate) count: u32,
 }
 
 /// How many blocks a text of this length takes.
@@ -47,7 +47,6 @@ pub(crate) fn piece_of(bytes: &[u8]) -> ArrayVec<u8, BLOCK>
     let mut piece = ArrayVec::new();
     let done = piece.try_extend_from_slice(bytes);
     prove!(done.is_ok());
-    let _ = done;
     piece
 }
 

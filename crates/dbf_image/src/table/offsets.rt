@@ -1,6 +1,6 @@
 //! Where the records and cells of a table stand in its bytes.
 
-ghost use Rattle.std.specs.Prelude.{◌≡◌, ◌+◌, ◌-◌, ◌*◌, ◌<◌, ◌≤◌, length, take};
+ghost use Rattle.std.specs.Prelude.{◌≡◌, ◌+◌, ◌-◌, ◌*◌, ◌^◌, ◌<◌, ◌≤◌, length, take};
 ghost use Rattle.dbf_fields.specs.Field.{widths};
 ghost use Rattle.dbf_fields.specs.declared.format.TheConstants.{MAX_FIELDS, MAX_RECORD_BYTES};
 ghost use Rattle.dbf_image.specs.Store.{memo_count};
@@ -20,7 +20,7 @@ fn index_of(number: u32) -> usize
 pub(crate) fn record_start(schema: &Schema, number: u32) -> usize
     requires number { 1 ≤ number }
     ensures value { result ≡ (number - 1) * (1 + widths schema.now) }
-    ensures bounded { result < 4294967296 * (1 + MAX_RECORD_BYTES) }
+    ensures bounded { result < 2 ^ 32 * (1 + MAX_RECORD_BYTES) }
 {
     index_of(number) * schema.record_length()
 }
@@ -30,7 +30,7 @@ pub(crate) fn cell_start(schema: &Schema, number: u32, field: usize) -> usize
     requires number { 1 ≤ number }
     requires field { field < length schema.now }
     ensures value { result ≡ (number - 1) * (1 + widths schema.now) + (1 + widths (take field schema.now)) }
-    ensures bounded { result < 4294967297 * (1 + MAX_RECORD_BYTES) }
+    ensures bounded { result < (2 ^ 32 + 1) * (1 + MAX_RECORD_BYTES) }
 {
     record_start(schema, number) + schema.offset(field)
 }
@@ -55,7 +55,7 @@ pub(crate) fn memo_index(schema: &Schema, number: u32, field: usize) -> usize
     requires number { 1 ≤ number }
     requires field { field < length schema.now }
     ensures value { result ≡ (number - 1) * memo_count schema.now + memo_count (take field schema.now) }
-    ensures bounded { result < 4294967297 * MAX_FIELDS }
+    ensures bounded { result < (2 ^ 32 + 1) * MAX_FIELDS }
 {
     let fields = schema.fields();
     index_of(number) * memo_count_of(fields) + memo_count_of(&fields[..field])

@@ -10,7 +10,6 @@ pub(crate) fn extend_reserved(bytes: &mut Vec<u8>, more: &[u8])
 {
     let extended = bytes.extend_from_slice(more);
     prove!(extended.is_ok());
-    let _ = extended;
 }
 
 /// Adds `count` memos without a text after the others.
@@ -21,5 +20,4 @@ pub(crate) fn push_no_memos(memos: &mut Vec<u32>, count: usize)
     let length = memos.len() + count;
     let resized = memos.resize(length, 0);
     prove!(resized.is_ok());
-    let _ = resized;
 }

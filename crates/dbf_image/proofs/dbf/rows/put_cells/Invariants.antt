@@ -1,5 +1,6 @@
 use Rattle.std.proofs.Common.{◌≡◌, ◌+◌, ◌*◌, ◌≤◌, length, drop}
 use Rattle.std.specs.List.{AllByRecursion}
+use Rattle.dbf_image.specs.declared.format.TheConstants.{MAX_MEMO_BLOCKS}
 use Rattle.dbf_fields.specs.Field.{widths}
 use Rattle.dbf_image.specs.Store.{memo_count, IsMemo}
 use Rattle.byte_io.specs.Writer.{more}
@@ -15,7 +16,7 @@ invariant-loop-field g l =
       room : widths later ≤ length l.rest;
       many : memo_count later ≤ length l.memos;
       each : AllByRecursion (IsMemo texts) l.memos;
-      count_bounded : l.next + 129 * memo_count later ≤ l.fn.first + 129 * memo_count l.fields;
+      count_bounded : l.next + MAX_MEMO_BLOCKS * memo_count later ≤ l.fn.first + MAX_MEMO_BLOCKS * memo_count l.fields;
       same : l.out.sink.ghost_name ≡ l.fn.out.sink.ghost_name;
       left : more l.out.wanted (left_bytes l.next later l.rest texts l.memos) ≡ more l.fn.out.wanted (left_bytes l.fn.first l.fields l.fn.cells.records.now texts l.fn.cells.memos.now);
       ahead : l.next + left_blocks later l.rest texts l.memos ≡ l.fn.first + left_blocks l.fields l.fn.cells.records.now texts l.fn.cells.memos.now;

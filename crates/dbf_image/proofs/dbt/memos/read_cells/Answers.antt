@@ -3,11 +3,11 @@ use Rattle.dbf_image.proofs.Steps.{widths-next}
 use Rattle.std.proofs.Common.{◌≡◌, ◌∙◌, arith}
 use Rattle.dbf_image.proofs.MemoLoops.{tests-next, tests-stop, texts-next, memo_fits}
 use Rattle.dbf_image.proofs.dbt.memos.read_cells.Goals as goal
-use Rattle.dbf_fields.specs.declared.format.TheConstants.{MEMO}
+use Rattle.dbf_fields.specs.declared.format.TheConstants.{MEMO, MEMO_WIDTH}
 
 pub read_cell-requires-clause-count_bounded : goal.read_cell-requires-clause-count_bounded
 read_cell-requires-clause-count_bounded c = λ kind.
-    let wide : c.field-item.result.kind ≡ MEMO → c.field-item.result.width ≡ 10 = rw c.field-item.is (memo_fits c.args.fields.now c.requires.schema c.loop-field.field-index _ c.loop-field-test.true) in
+    let wide : c.field-item.result.kind ≡ MEMO → c.field-item.result.width ≡ MEMO_WIDTH = rw c.field-item.is (memo_fits c.args.fields.now c.requires.schema c.loop-field.field-index _ c.loop-field-test.true) in
     omega (arith, wide kind, c.split_at.ensures.front_len, c.from.ensures)
 
 pub returns-in_err-read_cell-clause-refused : goal.returns-in_err-read_cell-clause-refused

@@ -11,4 +11,4 @@ returns-clause-count c =
 pub returns-clause-each : goal.returns-clause-each
 returns-clause-each c =
     let inside = c.self.inside in
-    rw (← c.self.view_is) (store_table inside.schema inside.count inside.records.items inside.texts.texts inside.memos.items c.fields-fields.ensures.each c.self.invariant)
+    rw (← c.self.view_is) (store_table inside.schema inside.count inside.records.items inside.texts.texts inside.memos.items c.fields.ensures.each c.self.invariant)
