@@ -1,9 +1,8 @@
 -- The rows of a table whose records stand in one list of bytes and its memos' texts in a store.
-use Rattle.std.specs.Prelude.{◌≡◌, ◌≢◌, ℕ, suc, ◌+◌, ◌*◌, true, ◌==◌, List, [], ◌∷◌, length, map, take, drop, slice_index, IsSome, unwrap_or, if◌then◌else◌}
+use Rattle.std.specs.Prelude.{◌≡◌, ◌≢◌, ℕ, suc, ◌*◌, true, ◌==◌, List, [], ◌∷◌, length, map, take, drop, slice_index, IsSome, unwrap_or, if◌then◌else◌}
 use Rattle.std.specs.List.{AllByRecursion}
 use Rattle.dbf_fields.specs.declared.field.Field.{Field}
 use Rattle.dbf_fields.specs.declared.format.TheConstants.{MEMO}
-use Rattle.dbf_fields.specs.Field.{widths}
 use Rattle.dbf_image.specs.MemoStore.{Texts, get_text}
 use Rattle.dbf_image.specs.Table.{Row, is_memo_text}
 use Rattle.dbf_image.specs.declared.dbf.header.Header.{Header}

@@ -1,7 +1,5 @@
 use Rattle.std.proofs.Common.{rules}
 use Rattle.dbf_image.specs.Image.{image}
-use Rattle.byte_io.specs.Sink.{grown}
-use Rattle.byte_io.specs.Writer.{due}
 use Rattle.byte_io.specs.Laws.Puts.{due_all}
 use Rattle.dbf_image.proofs.FileLaws.{is_dbf_image}
 use Rattle.dbf_image.proofs.PlainLaws.{is_plain_image}
