@@ -125,13 +125,13 @@ image_refusal bytes dbt = first_fault (header_tests bytes ++ (descriptor_tests b
 abbrev pub IsRefusal : ImageFault → List (Bool × ImageFault) → Type 0
 IsRefusal fault tests = (fault ≡ NoMemory) ⊎ (first_fault tests ≡ Some fault)
 
--- the fields are no schema, and that is the fault; or there was no memory
-abbrev pub IsFieldsRefusal : ImageFault → List Field → Type 0
-IsFieldsRefusal fault fields = (fault ≡ NoMemory) ⊎ ((fault ≡ BadSchema) × (is_none (schemas.schema_refusal fields) ≡ false))
-
 -- the same of the tests of a table's files
 abbrev pub IsImageRefusal : ImageFault → List ℕ → Option (List ℕ) → Type 0
 IsImageRefusal fault bytes dbt = (fault ≡ NoMemory) ⊎ (image_refusal bytes dbt ≡ Some fault)
+
+-- the fields are no schema, and that is the fault; or there was no memory
+abbrev pub IsFieldsRefusal : ImageFault → List Field → Type 0
+IsFieldsRefusal fault fields = (fault ≡ NoMemory) ⊎ ((fault ≡ BadSchema) × (is_none (schemas.schema_refusal fields) ≡ false))
 
 -- the numbers of the header, as the code keeps them
 abbrev pub dbf_header : List ℕ → Header
