@@ -138,7 +138,7 @@ without_point whole hw some =
 a_point : (decimals : ℕ) → point (suc decimals) ≡ 46 ∷ []
 a_point decimals = grind (arith, nat_tests)
 
--- the digits of a cell: so many of them after the point
+-- the digits of a cell, of which as many as the decimals stand after the point
 magnitude_of : (whole digits : List ℕ) (decimals : ℕ) → list_all is_ascii_digit whole ≡ true → list_all is_ascii_digit digits ≡ true → 0 < length whole → length digits ≡ decimals
     → magnitude (whole ++ (point decimals ++ digits)) decimals ≡ Some (digits_after 0 (whole ++ digits))
 magnitude_of whole [] zero hw hd some len = rw append-nil (without_point whole hw some)

@@ -1,5 +1,5 @@
 -- A schema's fields are accepted again, and stay as they are.
-use Rattle.std.proofs.Common.{◌≡◌, ℕ, ◌+◌, ◌<◌, ◌≤◌, Bool, true, false, cond, leb, eqb, not, List, [], ◌∷◌, ◌++◌, length, map, take, drop, get_or, Option, Some, None, refl, sym, ◌∙◌, arith}
+use Rattle.std.proofs.Common.{◌≡◌, ℕ, zero, suc, ◌+◌, ◌<◌, ◌≤◌, Bool, true, false, cond, leb, eqb, not, List, [], ◌∷◌, ◌++◌, length, map, take, drop, get_or, Option, Some, None, refl, sym, ◌∙◌, arith}
 use Rattle.std.specs.List.{list_all, AllByRecursion}
 use Rattle.std.specs.Char.{is_ascii_alphabetic, to_ascii_uppercase}
 use Rattle.std.proofs.lemmas.Bool.{and_parts, leb-true}
@@ -13,7 +13,8 @@ use Rattle.dbf_fields.specs.Field.{is_kind, has_width, has_name, folded, widths}
 use Rattle.dbf_fields.specs.Schema.{field_tests, tests_from, schema_refusal, IsSchema}
 use Rattle.dbf_fields.specs.declared.schema.SchemaFault.{SchemaFault}
 use Rattle.dbf_fields.proofs.FaultLaws.{first_then, first_before}
-use Rattle.dbf_fields.specs.declared.format.TheConstants.{MAX_FIELDS, MAX_RECORD_BYTES}
+use Rattle.dbf_fields.specs.declared.format.TheConstants.{MAX_FIELDS, MAX_RECORD_BYTES, MAX_CHARACTER_WIDTH}
+use Rattle.dbf_fields.specs.Layout.{width_of}
 
 -- a test that let the next ones decide
 pub passed : {F : Type 0} (b : Bool) (x : Option F) (f : F) → cond b x (Some f) ≡ None → (b ≡ true) × (x ≡ None)
@@ -109,6 +110,18 @@ schema_names = each_of_schema (λ f. is_name f.name ≡ true) (λ f name _. name
 
 pub schema_wide : (fs : List Field) → IsSchema fs → AllByRecursion (λ f. has_width f ≡ true) fs
 schema_wide = each_of_schema (λ f. has_width f ≡ true) (λ f _ wide. wide)
+
+-- no cell of a schema is wider than a field of characters may be
+narrow_field : (f : Field) → has_width f ≡ true → f.width ≤ MAX_CHARACTER_WIDTH
+narrow_field f h = grind (arith, nat_tests)
+
+narrow_fields : (fs : List Field) (index : ℕ) → AllByRecursion (λ f. has_width f ≡ true) fs → width_of fs index ≤ MAX_CHARACTER_WIDTH
+narrow_fields [] index h = omega arith
+narrow_fields (f ∷ fs) zero h = narrow_field f h.0
+narrow_fields (f ∷ fs) (suc index) h = narrow_fields fs index h.1
+
+pub schema_narrow : (fs : List Field) (index : ℕ) → IsSchema fs → width_of fs index ≤ MAX_CHARACTER_WIDTH
+schema_narrow fs index s = narrow_fields fs index (schema_wide fs s)
 
 -- ---- the fields, one after the other
 

@@ -7,7 +7,7 @@ use Rattle.dbf_fields.specs.declared.format.TheConstants.{ZERO_DIGIT}
 abbrev pub digits_after : ℕ → List ℕ → ℕ
 digits_after n digits = fold (λ n b. n * 10 + (b - ZERO_DIGIT)) n digits
 
--- a number's last digits, so many of them
+-- the last k digits of a number
 abbrev pub last_digits : ℕ → ℕ → List ℕ
 last_digits zero n = []
 last_digits (suc k) n = last_digits k (n / 10) ++ (ZERO_DIGIT + n % 10) ∷ []

@@ -27,7 +27,7 @@ is_decimal text decimals =
     list_all is_ascii_digit (whole_part text) && (list_all is_ascii_digit (fraction_part text)
     && (nat_le 1 (length (whole_part text) + length (fraction_part text)) && list_all (λ b. b == ZERO_DIGIT) (drop decimals (fraction_part text))))
 
--- the digits before the point and so many after it, with zeros where there are fewer
+-- the digits before the point and as many after it as there are decimals, with zeros where there are fewer
 unfoldable pub scaled : List ℕ → ℕ → ℕ
 scaled text decimals =
     digits_after 0 (whole_part text ++ (take decimals (fraction_part text) ++ replicate (decimals - length (fraction_part text)) ZERO_DIGIT))

@@ -14,11 +14,11 @@ sign (negsuc n) = MINUS ∷ []
 abbrev pub point : ℕ → List ℕ
 point decimals = if decimals == 0 then [] else POINT ∷ []
 
--- so many of the digits, with zeros where there are fewer
+-- as many digits as there are decimals, with zeros where there are fewer
 abbrev pub digits_kept : ℕ → List ℕ → List ℕ
 digits_kept decimals digits = take decimals (digits ++ replicate decimals ZERO_DIGIT)
 
--- The text of the number whose digits are given, of which `scale` stand after its point, with so many decimals.
+-- The text of the number whose digits are given, of which `scale` stand after its point, with the decimals that are asked for.
 unfoldable pub number_text : ℤ → ℕ → ℕ → List ℕ
 number_text digits scale decimals =
     sign digits
@@ -26,7 +26,7 @@ number_text digits scale decimals =
     ++ (point decimals
     ++ digits_kept decimals (last_digits scale (unsigned_abs digits))))
 
--- the number's digits past so many decimals are zeros
+-- the number's digits past the decimals are zeros
 unfoldable pub is_exact : ℤ → ℕ → ℕ → Bool
 is_exact digits scale decimals = list_all (λ b. b == ZERO_DIGIT) (drop decimals (last_digits scale (unsigned_abs digits)))
 
@@ -34,7 +34,7 @@ is_exact digits scale decimals = list_all (λ b. b == ZERO_DIGIT) (drop decimals
 abbrev pub right_justified : ℕ → List ℕ → List ℕ
 right_justified width text = replicate (width - length text) BLANK ++ text
 
--- the cell of a number, where one of that width and so many decimals keeps it whole
+-- the cell of a number, where one of that width and number of decimals keeps it whole
 unfoldable pub number_cell : ℕ → ℕ → ℤ → ℕ → Option (List ℕ)
 number_cell width decimals digits scale =
     if is_exact digits scale decimals && nat_le (length (number_text digits scale decimals)) width

@@ -21,7 +21,7 @@ pub enum CellFault {
     /// The value is not of the field's kind.
     #[error("the value is of another type than the field")]
     TypeMismatch,
-    /// The value was to be a date and is none.
+    /// The value stands for a date that is not one of the calendar.
     #[error("the date is not one of the calendar")]
     BadDate,
     /// The number's text is wider than the field, or it has more decimals other than zero.

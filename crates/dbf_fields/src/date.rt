@@ -21,7 +21,7 @@ pub enum DateCell {
     Is(Day),
 }
 
-// The number of a few digits.
+// The number of at most four digits, which two bytes keep.
 fn small_number(digits: &[u8]) -> u16
     requires digits { list_all is_ascii_digit digits.now ≡ true }
     requires count_bounded { length digits.now < 5 }

@@ -24,7 +24,7 @@ pub enum Literal {
     Date(Day),
     /// The date that is not there, which a cell keeps as blanks.
     BlankDate,
-    /// A text that was to be a date and is none.
+    /// A text in a date's place that is no date.
     BadDate,
 }
 

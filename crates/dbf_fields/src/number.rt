@@ -3,7 +3,7 @@
 ghost use Rattle.std.specs.Prelude.{◌≡◌, ◌+◌, ◌*◌, ◌<◌, ◌≤◌, ◌==◌, ◌^◌, length, position, IfSome};
 ghost use Rattle.dbf_fields.specs.Number.{whole_part, fraction_part, magnitude, number};
 
-use crate::decimal::{are_digits, are_zeros, push_digits};
+use crate::decimal::{MAX_DIGITS, are_digits, are_zeros, push_digits};
 use crate::format::{MAX_NUMBER_WIDTH, MINUS, PLUS, POINT, ZERO_DIGIT};
 use crate::trim::trimmed;
 
@@ -29,10 +29,10 @@ pub fn number_parts(text: &[u8]) -> (&[u8], &[u8])
 // The number without its sign, times ten for each decimal.
 #[tactic(auto, unfolding(crate::specs::Number::is_decimal, crate::specs::Number::scaled))]
 fn magnitude_of(text: &[u8], decimals: u8) -> Option<u128>
-    requires count_bounded { length text.now ≤ 19 }
-    requires decimals { decimals < 19 }
+    requires count_bounded { length text.now ≤ MAX_NUMBER_WIDTH }
+    requires decimals { decimals < MAX_NUMBER_WIDTH }
     ensures value { result ≡ magnitude text.now decimals }
-    ensures bounded { IfSome result (λ n. n < 10 ^ 37) }
+    ensures bounded { IfSome result (λ n. n < 10 ^ MAX_DIGITS) }
 {
     let decimals = usize::from(decimals);
     let (whole, fraction) = number_parts(text);
@@ -49,21 +49,21 @@ fn magnitude_of(text: &[u8], decimals: u8) -> Option<u128>
     if !are_zeros(&fraction[kept..]) {
         return None;
     }
-    let number = push_digits(0, whole, 0);
-    let number = push_digits(number, &fraction[..kept], whole.len() as u32);
+    let number = push_digits(0, whole);
+    let number = push_digits(number, &fraction[..kept]);
     let zeros = &[ZERO_DIGIT; MAX_NUMBER_WIDTH as usize][..decimals - kept];
-    Some(push_digits(number, zeros, (whole.len() + kept) as u32))
+    Some(push_digits(number, zeros))
 }
 
-/// The number in a cell of a field with so many decimals, as a whole number: times ten for each decimal.
+/// The number in a cell of a field with these decimals, as a whole number: times ten for each decimal.
 ///
 /// Blanks at both ends count for nothing, and a cell with nothing between them is zero. Else there stand
 /// an optional `+` or `-` and digits, at least one, with at most one point among or beside them; the digits
 /// after the point past the decimals are zeros. `None` for every other cell. Takes no memory.
 #[tactic(auto, unfolding(crate::specs::Number::number))]
 pub fn read_number(cell: &[u8], decimals: u8) -> Option<i128>
-    requires count_bounded { length cell.now ≤ 19 }
-    requires decimals { decimals < 19 }
+    requires count_bounded { length cell.now ≤ MAX_NUMBER_WIDTH }
+    requires decimals { decimals < MAX_NUMBER_WIDTH }
     ensures value { result ≡ number cell.now decimals }
 {
     match trimmed(cell) {

@@ -13,8 +13,14 @@ use byte_io::Bytes;
 use std::alloc::{AllocError, Global};
 use std::marker::Model;
 
-/// The most bytes of a number's text: a sign, 39 digits, a point and 255 decimals.
-pub const MAX_NUMBER_TEXT: usize = 296;
+/// The most digits before a number's point: those of the greatest number of 128 bits.
+const MAX_WHOLE_DIGITS: usize = 39;
+
+/// The most digits after a number's point: one byte counts them.
+const MAX_DECIMALS: usize = u8::MAX as usize;
+
+/// The most bytes of a number's text: a sign, the digits before the point, a point and the decimals.
+pub const MAX_NUMBER_TEXT: usize = 1 + MAX_WHOLE_DIGITS + 1 + MAX_DECIMALS;
 
 /// The text of a number, which contracts see as the list of its bytes. It takes no memory.
 #[derive(Drop)]
@@ -30,11 +36,13 @@ impl Model for NumberText {
 
     ghost view = { λ t. take t.len t.bytes };
 
-    ghost invariant = { λ t. t.len ≤ 296 };
+    ghost use Rattle.dbf_fields.specs.declared.number_text.TheConstants.{MAX_NUMBER_TEXT};
+
+    ghost invariant = { λ t. t.len ≤ MAX_NUMBER_TEXT };
 }
 
 impl NumberText {
-    /// The text of the number whose digits are given, of which `scale` stand after its point, with so many
+    /// The text of the number whose digits are given, of which `scale` stand after its point, with this number of
     /// decimals: `-` before a number below zero, at least one digit before the point, a point where there are
     /// decimals, and the digits after it. Digits past the decimals are left out, and nothing is rounded. Takes
     /// no memory.
@@ -63,7 +71,7 @@ impl NumberText {
     }
 
     fn push(&mut self, part: &[u8])
-        requires room { length self.old + length part.now ≤ 296 }
+        requires room { length self.old + length part.now ≤ MAX_NUMBER_TEXT }
         ensures value { self.new ≡ self.old ++ part.now }
     {
         let end = self.len + part.len();
@@ -74,18 +82,18 @@ impl NumberText {
     /// The bytes of the text.
     pub fn as_bytes(&self) -> &[u8]
         ensures bytes { result.now ≡ self.now }
-        ensures short { length self.now ≤ 296 }
+        ensures short { length self.now ≤ MAX_NUMBER_TEXT }
     {
         &self.bytes[..self.len]
     }
 }
 
-// The last digits of a number, so many of them with zeros after them, and the number before them.
-fn split_off(number: u128, digits: u8) -> ([u8; 255], u128)
-    ensures digits { result.0 ≡ last_digits digits number ++ replicate (255 - digits) ZERO_DIGIT }
+// The last digits of a number, as many as are asked for and with zeros after them, and the number before them.
+fn split_off(number: u128, digits: u8) -> ([u8; MAX_DECIMALS], u128)
+    ensures digits { result.0 ≡ last_digits digits number ++ replicate (MAX_DECIMALS - digits) ZERO_DIGIT }
     ensures rest { result.1 ≡ number / 10 ^ digits }
 {
-    let mut last = [ZERO_DIGIT; 255];
+    let mut last = [ZERO_DIGIT; MAX_DECIMALS];
     let mut rest = number;
     let mut index = usize::from(digits);
     while index > 0 {
@@ -96,13 +104,13 @@ fn split_off(number: u128, digits: u8) -> ([u8; 255], u128)
     (last, rest)
 }
 
-// The digits of a number after as many zeros as make 39 bytes, and where its first digit stands.
-fn numeral_of(number: u128) -> ([u8; 39], usize)
-    ensures start { result.1 < 39 }
+// The digits of a number after as many zeros as fill the array, and where its first digit stands.
+fn numeral_of(number: u128) -> ([u8; MAX_WHOLE_DIGITS], usize)
+    ensures start { result.1 < MAX_WHOLE_DIGITS }
     ensures digits { drop result.1 result.0 ≡ numeral number }
 {
-    let mut digits = [ZERO_DIGIT; 39];
-    let mut start = 38;
+    let mut digits = [ZERO_DIGIT; MAX_WHOLE_DIGITS];
+    let mut start = MAX_WHOLE_DIGITS - 1;
     digits[start] = ZERO_DIGIT + (number % 10) as u8;
     let mut rest = number / 10;
     while rest > 0 {

@@ -5,6 +5,7 @@ ghost use Rattle.dbf_fields.specs.Faults.{first_fault};
 ghost use Rattle.dbf_fields.specs.Field.{folded, has_name, widths};
 ghost use Rattle.dbf_fields.specs.Schema.{field_tests, schema_refusal};
 ghost use Rattle.dbf_fields.specs.Layout.{cells_of, offsets_from, offset_of, width_of};
+ghost use Rattle.dbf_fields.specs.declared.format.TheConstants.{MAX_CHARACTER_WIDTH};
 
 use crate::field::Field;
 use crate::format::{MAX_FIELDS, MAX_RECORD_BYTES};
@@ -142,7 +143,7 @@ fn folded_fields(alloc: Global, fields: &[Field]) -> Result<Vec<Field>, AllocErr
 
 // The offsets of the cells in a record, whose flag byte stands first, and the record's length.
 fn layout_of(alloc: Global, fields: &[Field]) -> Result<(Vec<u16>, u16), AllocError>
-    requires short { widths fields.now ≤ 4000 }
+    requires short { widths fields.now ≤ MAX_RECORD_BYTES }
     ensures offsets { IfOk result (λ layout. layout.0.items ≡ offsets_from 1 fields.now) }
     ensures end { IfOk result (λ layout. layout.1 ≡ 1 + widths fields.now) }
 {
@@ -185,7 +186,7 @@ impl Schema {
     pub fn fields(&self) -> &[Field]
         ensures fields { result.now ≡ self.now }
         ensures each { IsSchema self.now }
-        ensures count_bounded { length self.now ≤ 128 }
+        ensures count_bounded { length self.now ≤ MAX_FIELDS }
     {
         self.fields.as_slice()
     }
@@ -209,7 +210,7 @@ impl Schema {
     /// time however many fields there are.
     pub fn record_length(&self) -> usize
         ensures value { result ≡ 1 + widths self.now }
-        ensures short { result ≤ 4001 }
+        ensures short { result ≤ 1 + MAX_RECORD_BYTES }
     {
         usize::from(self.record_length)
     }
@@ -220,7 +221,7 @@ impl Schema {
         requires inside { index < length self.now }
         ensures value { result ≡ offset_of self.now index }
         ensures within { result + width_of self.now index ≤ 1 + widths self.now }
-        ensures bounded { result ≤ 4001 }
+        ensures bounded { result ≤ 1 + MAX_RECORD_BYTES }
     {
         usize::from(self.offsets[index])
     }
@@ -229,7 +230,7 @@ impl Schema {
     pub fn width(&self, index: usize) -> usize
         requires inside { index < length self.now }
         ensures value { result ≡ width_of self.now index }
-        ensures bounded { result ≤ 255 }
+        ensures bounded { result ≤ MAX_CHARACTER_WIDTH }
     {
         usize::from(self.fields[index].width)
     }
