@@ -1,10 +1,11 @@
--- Parts of a appended list and of a slice.
+-- Parts of a joined list and of a slice.
 use Rattle.std.proofs.Common.{◌≡◌, ℕ, ◌+◌, ◌-◌, ◌<◌, ◌≤◌, min, Bool, true, false, List, [], ◌∷◌, ◌++◌, length, map, take, drop, refl, sym, ap, arith, length-drop, length-append, append_assoc, ◌∙◌, zero, suc}
 use Rattle.std.specs.Char.{to_ascii_uppercase}
 use Rattle.std.specs.List.{take-map}
 use Rattle.std.proofs.lemmas.Bool.Decides.{nat_tests}
 use Rattle.std.proofs.lemmas.List.{drop-take, drop-drop, drop-map, length-take, length-map, map-append, take_all, append-nil}
 use Rattle.key_expr.specs.declared.format.TheConstants.{MAX_KEY_BYTES, MAX_LENGTH}
+use Rattle.key_expr.specs.declared.evaluate.TheConstants.{MAX_WINDOW_START}
 use Rattle.key_expr.specs.declared.evaluate.Window.{Window}
 use Rattle.key_expr.specs.Windows.{upper_if, bytes_in}
 
@@ -19,7 +20,7 @@ take_append (suc n) [] ys = let e : suc n - 0 ≡ suc n = omega arith in rw e re
 take_append (suc n) (x ∷ xs) ys =
     let e : suc n - length (x ∷ xs) ≡ n - length xs = omega arith in rw e (ap (λ (l : List ℕ). x ∷ l) (take_append n xs ys))
 
--- the part of a appended list, from both its parts
+-- the part of a joined list, from both its parts
 pub window_append : (from count : ℕ) (xs ys : List ℕ)
     → take count (drop from (xs ++ ys)) ≡ take count (drop from xs) ++ take (count - (length xs - from)) (drop (from - length xs) ys)
 window_append from count xs ys =
@@ -64,7 +65,7 @@ pub as_they_are : (bs : List ℕ) → map (upper_if false) bs ≡ bs
 as_they_are [] = refl
 as_they_are (b ∷ bs) = ap (λ (l : List ℕ). b ∷ l) (as_they_are bs)
 
--- so many bytes are asked for, as far as there are any
+-- as many bytes as are asked for, as far as there are any
 length-bytes_in : (w : Window) (xs : List ℕ) → length (bytes_in w xs) ≡ min w.count (length xs - w.from)
 length-bytes_in w xs =
     length-map (take w.count (drop w.from xs)) (upper_if w.upper)
@@ -72,7 +73,7 @@ length-bytes_in w xs =
 
 -- what two parts put at the end of a key
 pub put_both : (w u : Window) (len : ℕ) (old mid new xs ys : List ℕ)
-    → len ≡ min MAX_LENGTH (length xs) → w.from ≤ 200000 → length old + w.count ≤ MAX_KEY_BYTES
+    → len ≡ min MAX_LENGTH (length xs) → w.from ≤ MAX_WINDOW_START → length old + w.count ≤ MAX_KEY_BYTES
     → u.from ≡ w.from - len → u.count ≡ w.count - (len - w.from) → u.upper ≡ w.upper
     → mid ≡ old ++ bytes_in w xs → new ≡ mid ++ bytes_in u ys
     → new ≡ old ++ bytes_in w (xs ++ ys)
@@ -93,7 +94,7 @@ pub no_more : (u : Window) (ys mid : List ℕ) → u.count ≤ 0 → mid ≡ mid
 no_more u ys mid full = let none : u.count ≡ 0 = omega (arith, full) in rw none (sym (append-nil mid))
 
 pub room_for_second : (w u : Window) (len : ℕ) (old mid xs : List ℕ)
-    → len ≡ min MAX_LENGTH (length xs) → w.from ≤ 200000 → length old + w.count ≤ MAX_KEY_BYTES
+    → len ≡ min MAX_LENGTH (length xs) → w.from ≤ MAX_WINDOW_START → length old + w.count ≤ MAX_KEY_BYTES
     → u.count ≡ w.count - (len - w.from) → mid ≡ old ++ bytes_in w xs → length mid + u.count ≤ MAX_KEY_BYTES
 room_for_second w u len old mid xs l near room c m =
     let a = ap length m in

@@ -1,5 +1,5 @@
 -- Which token fits next: a stack of what is still expected.
-use Rattle.std.specs.Prelude.{◌≡◌, ℕ, List, [], ◌∷◌, Option, Some, None}
+use Rattle.std.specs.Prelude.{◌≡◌, ℕ, List, [], ◌∷◌, ◌++◌, Option, Some, None}
 use Rattle.key_expr.specs.declared.token.Token.{Token}
 use Rattle.key_expr.specs.declared.token.Kind.{Kind}
 use Rattle.key_expr.specs.declared.token.Kind.TheVariants.{Plus, Open, Close, Comma, Upper, Substr, Str, Dtoc, Name, Number, End}
@@ -48,6 +48,15 @@ unexpected_at_end (w ∷ s) = Some 0
 abbrev pub first_unexpected : List Expected → List Token → Option ℕ
 first_unexpected s [] = unexpected_at_end s
 first_unexpected s (t ∷ ts) = elim (expected_after s t.kind) [ None ↦ Some t.offset | Some expected ↦ first_unexpected expected ts ]
+
+-- What is expected fits the tokens up to the rest: whatever is expected after it, the first token that doesn't
+-- fit is that of the rest.
+abbrev pub FitsUpTo : List Expected → List Token → List Token → Type 0
+FitsUpTo front ts rest = (s : List Expected) → first_unexpected (front ++ s) ts ≡ first_unexpected s rest
+
+-- the same of one thing that is expected, with another one after it
+abbrev pub FitsUpToNext : Expected → List Token → List Token → Type 0
+FitsUpToNext front ts rest = (next : Expected) (s : List Expected) → first_unexpected (front ∷ next ∷ s) ts ≡ first_unexpected (next ∷ s) rest
 
 -- a fault that is answered is that offset, but for want of memory
 abbrev pub IsUnexpectedAt : ExprFault → Option ℕ → Type 0

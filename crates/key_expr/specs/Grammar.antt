@@ -6,8 +6,8 @@ use Rattle.key_expr.specs.declared.fault.ExprFault.{ExprFault}
 use Rattle.key_expr.specs.declared.fault.ExprFault.TheVariants.{BadSyntax, NoMemory}
 use Rattle.key_expr.specs.declared.token.Kind.TheVariants.{Plus, Open, Close, Comma, Upper, Substr, Str, Dtoc, Name, Number, End}
 
--- What a key expression is made of. A field_term is given by its number, counted from 0: the number of all fields
--- stands for a name that no field_term has.
+-- What a key expression is made of. A field is given by its index from 0: the number of all fields stands for a name
+-- that no field has.
 pub data Expr : Type 0 where
   field : ℕ → Expr
   concat : Expr → Expr → Expr

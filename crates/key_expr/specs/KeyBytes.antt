@@ -8,7 +8,7 @@ use Rattle.key_expr.specs.declared.key.Key.TheInside.{Inside}
 abbrev pub key_bytes : Inside → List ℕ
 key_bytes k = take k.len k.bytes
 
--- at most so many bytes, and zeros after them
+-- at most `MAX_KEY_BYTES` bytes, and zeros after them
 abbrev pub HasZerosAfter : Inside → Type 0
 HasZerosAfter k = (k.len ≤ MAX_KEY_BYTES) × (length k.bytes ≡ MAX_KEY_BYTES) × (drop k.len k.bytes ≡ replicate (MAX_KEY_BYTES - k.len) 0)
 
@@ -20,6 +20,7 @@ pub inside_of-bytes_of : (k : Inside) → HasZerosAfter k → inside_of (key_byt
 inside_of-bytes_of k h i =
     let len : length (take k.len k.bytes) ≡ k.len = length-take-le k.len k.bytes (omega (arith, h.0, h.1)) in
     record {
-      bytes = (ap (λ n. take k.len k.bytes ++ replicate (MAX_KEY_BYTES - n) 0) len ∙ ap (λ ys. take k.len k.bytes ++ ys) (sym h.2) ∙ take-append-drop k.len k.bytes) i;
+      bytes = (ap (λ n. take k.len k.bytes ++ replicate (MAX_KEY_BYTES - n) 0) len
+          ∙ ap (λ ys. take k.len k.bytes ++ ys) (sym h.2) ∙ take-append-drop k.len k.bytes) i;
       len = len i;
     }

@@ -9,7 +9,7 @@ use Rattle.key_expr.specs.Grammar.{Expr, field, concat, upper, substr, str, dtoc
 use Rattle.key_expr.specs.declared.format.TheConstants.{STR_LENGTH, DTOC_LENGTH}
 use Rattle.key_expr.specs.StrText.{str_text}
 
--- A STR prints so many bytes where no length is given, and no decimals where none are.
+-- A STR prints `STR_LENGTH` bytes where no length is given, and no decimals where none are.
 abbrev pub length_given : Option ℕ → ℕ
 length_given n = unwrap_or n STR_LENGTH
 
@@ -59,3 +59,7 @@ IsNoMemo fields i = (f : Field) × (slice_get fields i ≡ Some f) × (f.kind �
 -- the cells of two records are the same, but for those of memos
 abbrev pub AgreeButMemos : List Field → List (List ℕ) → List (List ℕ) → Type 0
 AgreeButMemos fields cs ds = (i : ℕ) → IsNoMemo fields i → get_or cs i [] ≡ get_or ds i []
+
+-- it is the key of the cells, and of all others that are the same but for those of memos
+abbrev pub IsKeyWhateverMemos : List Field → List (List ℕ) → Expr → List ℕ → Type 0
+IsKeyWhateverMemos fields known e bytes = (cells : List (List ℕ)) → AgreeButMemos fields known cells → bytes ≡ key cells e

@@ -30,7 +30,8 @@ same_key cs ds (str i n d) h = ap (str_text (length_given n) (decimals_given d))
 same_key cs ds (dtoc i) h = ap date_shown h
 
 -- the cells that an expression names stay as they are where that of another field is replaced
-cells_unnamed : (cells : List (List ℕ)) (f : ℕ) (cell : List ℕ) (e : Expr) → names f e ≡ false → OfEachField (λ i. get_or (set cells f cell) i [] ≡ get_or cells i []) e
+cells_unnamed : (cells : List (List ℕ)) (f : ℕ) (cell : List ℕ) (e : Expr) → names f e ≡ false
+    → OfEachField (λ i. get_or (set cells f cell) i [] ≡ get_or cells i []) e
 cells_unnamed cells f cell (field i) h = get_or-set_other cells f i cell [] (eqb-false i f h)
 cells_unnamed cells f cell (concat a b) h =
     let parts = or_parts (names f a) (names f b) h in
@@ -53,7 +54,8 @@ of_each_weaker P Q f (str i n d) h = f i h
 of_each_weaker P Q f (dtoc i) h = f i h
 
 -- a field of another kind is no memo
-no_memo_kind : (fields : List Field) (i kind : ℕ) (more : List (Bool × ExprFault)) → kind ≢ MEMO → first_fault (kind_tests fields i kind ++ more) ≡ None → IsNoMemo fields i
+no_memo_kind : (fields : List Field) (i kind : ℕ) (more : List (Bool × ExprFault)) → kind ≢ MEMO
+    → first_fault (kind_tests fields i kind ++ more) ≡ None → IsNoMemo fields i
 no_memo_kind fields i kind more other h =
     let there = passed (nat_lt i (length fields)) (first_fault ((has_kind fields i kind, NotCharacter) ∷ more)) NoSuchField h in
     step (slice_get fields i) (passed (has_kind fields i kind) (first_fault more) NotCharacter there.1).0
@@ -70,7 +72,8 @@ no_memo_tests fields (concat a b) h =
 no_memo_tests fields (upper a) h = no_memo_tests fields a h
 no_memo_tests fields (substr a from count) h =
     no_memo_tests fields a (first_parts (tests fields a) ((is_in_range 1 (key_length fields a) from && nat_le 1 count, BadArgument) ∷ []) h).0
-no_memo_tests fields (str i n d) h = no_memo_kind fields i NUMBER ((can_print fields i (length_given n) (decimals_given d), BadArgument) ∷ []) (λ e. absurd (omega (arith, e))) h
+no_memo_tests fields (str i n d) h =
+    no_memo_kind fields i NUMBER ((can_print fields i (length_given n) (decimals_given d), BadArgument) ∷ []) (λ e. absurd (omega (arith, e))) h
 no_memo_tests fields (dtoc i) h = no_memo_kind fields i DATE [] (λ e. absurd (omega (arith, e))) h
 
 -- an expression that keeps the rules names no memo
@@ -78,5 +81,7 @@ pub no_memos : (fields : List Field) (e : Expr) → broken_rule fields e ≡ Non
 no_memos fields e kept = no_memo_tests fields e (first_parts (tests fields e) ((nat_le (key_length fields e) MAX_KEY_BYTES, KeyTooLong) ∷ []) kept).0
 
 -- so cells that agree but for memos give one key
-pub key_but_memos : (fields : List Field) (cs ds : List (List ℕ)) (e : Expr) → broken_rule fields e ≡ None → AgreeButMemos fields cs ds → key cs e ≡ key ds e
-key_but_memos fields cs ds e kept agree = same_key cs ds e (of_each_weaker (IsNoMemo fields) (λ i. get_or cs i [] ≡ get_or ds i []) agree e (no_memos fields e kept))
+pub key_but_memos : (fields : List Field) (cs ds : List (List ℕ)) (e : Expr) → broken_rule fields e ≡ None → AgreeButMemos fields cs ds
+    → key cs e ≡ key ds e
+key_but_memos fields cs ds e kept agree =
+    same_key cs ds e (of_each_weaker (IsNoMemo fields) (λ i. get_or cs i [] ≡ get_or ds i []) agree e (no_memos fields e kept))

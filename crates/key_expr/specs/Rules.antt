@@ -48,7 +48,8 @@ pub record IsKeyText (fields : List Field) (text : List ℕ) (e : Expr) : Type 0
 
 -- a text of the grammar whose expression breaks a rule, this one first
 abbrev pub Breaks : ExprFault → List Field → List ℕ → Type 0
-Breaks fault fields text = (length text ≤ MAX_EXPRESSION_BYTES) × ((e : Expr) × IsWholeExpression e (tokens_of fields text) × (broken_rule fields e ≡ Some fault))
+Breaks fault fields text =
+    (length text ≤ MAX_EXPRESSION_BYTES) × ((e : Expr) × IsWholeExpression e (tokens_of fields text) × (broken_rule fields e ≡ Some fault))
 
 -- what a fault says of the text: the first of the rules that it breaks
 abbrev pub IsFault : ExprFault → List Field → List ℕ → Type 0

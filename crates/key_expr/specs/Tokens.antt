@@ -1,6 +1,6 @@
 -- The tokens of a text.
 use Rattle.std.specs.Prelude.{ℕ, zero, suc, ◌+◌, ◌-◌, ◌*◌, Bool, false, not, ◌==◌, nat_lt, List, [], ◌∷◌, length, take, drop, codes, if◌then◌else◌}
-use Rattle.dbf_fields.specs.declared.format.TheConstants.{BLANK}
+use Rattle.dbf_fields.specs.declared.format.TheConstants.{BLANK, ZERO_DIGIT}
 use Rattle.key_expr.specs.declared.format.TheConstants.{MAX_NAME_BYTES, PLUS, OPEN, CLOSE, COMMA}
 use Rattle.std.specs.List.{position_or_len}
 use Rattle.std.specs.Char.{is_ascii_alphabetic, is_ascii_digit}
@@ -24,9 +24,9 @@ token_length (b ∷ bs) =
 
 -- a number of 1 to 3 digits
 abbrev pub number_kind : List ℕ → Kind
-number_kind (a ∷ []) = Number (a - 48)
-number_kind (a ∷ b ∷ []) = Number ((a - 48) * 10 + (b - 48))
-number_kind (a ∷ b ∷ c ∷ []) = Number (((a - 48) * 10 + (b - 48)) * 10 + (c - 48))
+number_kind (a ∷ []) = Number (a - ZERO_DIGIT)
+number_kind (a ∷ b ∷ []) = Number ((a - ZERO_DIGIT) * 10 + (b - ZERO_DIGIT))
+number_kind (a ∷ b ∷ c ∷ []) = Number (((a - ZERO_DIGIT) * 10 + (b - ZERO_DIGIT)) * 10 + (c - ZERO_DIGIT))
 number_kind digits = Bad
 
 -- the function of a name
@@ -65,8 +65,8 @@ kind_of fields (b ∷ bs) =
     else (if is_ascii_alphabetic b then name_kind fields (take (token_length (b ∷ bs)) (b ∷ bs)) (drop (token_length (b ∷ bs)) (b ∷ bs))
     else Bad)))))
 
--- The tokens of the bytes that a text of so many bytes ends with, where some of them still belong to the
--- token before.
+-- The tokens of the bytes that a text of `whole` bytes ends with, where the first `before` of them still belong to
+-- the token before.
 abbrev pub tokens_after : List Field → ℕ → ℕ → List ℕ → List Token
 tokens_after fields whole before [] = record { kind = End; offset = whole } ∷ []
 tokens_after fields whole (suc n) (b ∷ bs) = tokens_after fields whole n bs

@@ -1,6 +1,6 @@
 //! The rules on fields and arguments.
 
-ghost use Rattle.std.specs.Prelude.{◌≡◌, ◌<◌, min, Some, None, IfOk, IfErr};
+ghost use Rattle.std.specs.Prelude.{◌≡◌, ◌≤◌, min, Some, None, IfOk, IfErr};
 ghost use Rattle.dbf_fields.specs.Faults.{first_fault};
 ghost use Rattle.dbf_fields.specs.Layout.{width_of as width_in};
 ghost use Rattle.key_expr.specs.TreeExpr.{expr_of};
@@ -28,7 +28,7 @@ fn width_of(fields: &[Field], index: usize) -> u8
 /// The length that a STR prints: `STR_LENGTH` where none is given.
 pub(crate) fn length_given(length: Option<u16>) -> usize
     ensures value { result ≡ length_of_given length }
-    ensures bounded { result < 65536 }
+    ensures bounded { result ≤ u16.MAX }
 {
     match length {
         Some(length) => usize::from(length),
@@ -90,7 +90,7 @@ fn check_field(fields: &[Field], index: usize, kind: u8) -> Result<(), ExprFault
     Ok(())
 }
 
-// Whether a number prints with so many decimals in so many bytes.
+// Whether a field's number prints with these decimals in this number of bytes.
 fn can_print(fields: &[Field], index: usize, length: usize, decimals: usize) -> bool
     ensures value { result ≡ may_print fields.now index length decimals }
 {

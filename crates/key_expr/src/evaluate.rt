@@ -18,7 +18,11 @@ use crate::str_text::str_text;
 use crate::tree::Tree;
 use dbf_fields::{Schema, shown_date};
 
-/// Which bytes of a part of the key are wanted: so many after the first ones, in capitals or as they are.
+// No bytes are looked up further on: a SUBSTR cuts off fewer bytes than two of its numbers count.
+const MAX_WINDOW_START: usize = 2 * u16::MAX as usize;
+
+/// Which bytes of a part of the key are wanted: those after the first ones, up to a count of them, in capitals or as
+/// they are.
 #[derive(Clone, Copy)]
 pub(crate) struct Window {
     pub(crate) from: usize,
@@ -27,7 +31,7 @@ pub(crate) struct Window {
 }
 
 impl Window {
-    // What is left of it after a part of so many bytes.
+    // What is left of it after a part of this length.
     fn after(self, length: usize) -> Window
         ensures from { result.from ≡ self.from - length }
         ensures count { result.count ≡ self.count - (length - self.from) }
@@ -44,11 +48,11 @@ impl Window {
     // The same bytes, where they are looked up among those from which a part of `most` bytes after the first
     // ones was cut.
     fn within(self, before: usize, most: usize) -> Window
-        requires first { before < 65536 }
-        requires last { most < 65536 }
+        requires first { before ≤ u16.MAX }
+        requires last { most ≤ u16.MAX }
         requires some { self.from < most }
         ensures from { result.from ≡ before + self.from }
-        ensures near { result.from ≤ 200000 }
+        ensures near { result.from ≤ MAX_WINDOW_START }
         ensures count { result.count ≡ min self.count (most - self.from) }
         ensures upper { result.upper ≡ self.upper }
     {
@@ -94,7 +98,8 @@ fn put_window(out: &mut Key, bytes: &[u8], window: Window)
     put_bytes(out, &after[..count], window.upper);
 }
 
-// What the number in a field's cell prints.
+// What the number in a field's cell prints. For contracts alone: `decimals`, those that the expression gives, which are
+// the field's.
 #[tactic(auto, using(crate::proofs::KeptRules::str_kept))]
 fn str_of_cell(
     schema: &Schema,
@@ -121,7 +126,7 @@ pub(crate) fn put(out: &mut Key, tree: &Tree, schema: &Schema, record_bytes: &[u
     requires whole { length record_bytes.now ≡ 1 + widths schema.now }
     requires kept { first_fault (tests schema.now (expr_of tree.now)) ≡ None }
     requires room { length out.old + window.count ≤ MAX_KEY_BYTES }
-    requires near { window.from ≤ 200000 }
+    requires near { window.from ≤ MAX_WINDOW_START }
     requires lengths { KeepsLengths schema.now tree.now }
     ensures value { out.new ≡ out.old ++ bytes_in window (key (cells_of schema.now (drop 1 record_bytes.now)) (expr_of tree.now)) }
 {

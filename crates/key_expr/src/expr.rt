@@ -8,7 +8,7 @@ ghost use Rattle.key_expr.specs.declared.format.TheConstants.{MAX_EXPRESSION_BYT
 ghost use Rattle.key_expr.specs.Grammar.{Expr};
 ghost use Rattle.key_expr.specs.TreeExpr.{expr_of};
 ghost use Rattle.key_expr.specs.KeptLengths.{KeepsLengths};
-ghost use Rattle.key_expr.specs.Keys.{key, key_length, names, AgreeButMemos};
+ghost use Rattle.key_expr.specs.Keys.{key, key_length, names, IsKeyWhateverMemos};
 ghost use Rattle.dbf_fields.specs.Layout.{cells_of};
 ghost use Rattle.key_expr.specs.Rules.{IsKeyText, IsFault};
 ghost use Rattle.key_expr.specs.Expression.{IsAnswer};
@@ -144,7 +144,7 @@ impl KeyExpr {
     pub fn key_of(&self, record_bytes: &[u8]) -> Key
         requires long { length record_bytes.now ≡ 1 + widths self.now.fields }
         ensures key { result ≡ key (cells_of self.now.fields (drop 1 record_bytes.now)) self.now.expr }
-        ensures row { (cells : List (List ℕ)) → AgreeButMemos self.now.fields (cells_of self.now.fields (drop 1 record_bytes.now)) cells → result ≡ key cells self.now.expr }
+        ensures row { IsKeyWhateverMemos self.now.fields (cells_of self.now.fields (drop 1 record_bytes.now)) self.now.expr result }
         ensures long { length result ≡ key_length self.now.fields self.now.expr }
     {
         let whole = Window {

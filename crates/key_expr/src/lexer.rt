@@ -9,7 +9,7 @@ ghost use Rattle.key_expr.specs.Tokens.{prefix_length, token_length as length_of
 
 use crate::format::{CLOSE, COMMA, MAX_NAME_BYTES, OPEN, PLUS};
 use crate::token::{Kind, Token};
-use dbf_fields::{BLANK, Field};
+use dbf_fields::{BLANK, Field, ZERO_DIGIT};
 use std::alloc::{AllocError, Global};
 
 // A letter, a digit or `_`.
@@ -78,10 +78,10 @@ fn token_length(text: &[u8]) -> usize
 
 // What a digit stands for.
 fn digit(byte: u8) -> u16
-    ensures value { result ≡ byte - 48 }
-    ensures bounded { result ≤ 207 }
+    ensures value { result ≡ byte - ZERO_DIGIT }
+    ensures bounded { result ≤ u8.MAX - ZERO_DIGIT }
 {
-    u16::from(byte.saturating_sub(b'0'))
+    u16::from(byte.saturating_sub(ZERO_DIGIT))
 }
 
 // A number of 1 to 3 digits.

@@ -9,7 +9,7 @@ ghost use Rattle.key_expr.specs.TokenOffsets.{StandIn};
 ghost use Rattle.dbf_fields.specs.declared.field.Field.{Field};
 ghost use Rattle.key_expr.specs.TreeExpr.{expr_of};
 ghost use Rattle.key_expr.specs.KeptLengths.{KeepsLengths};
-ghost use Rattle.key_expr.specs.Expected.{Expected, expr, more, name, number, open_, close, comma, lengths, points, finish, first_unexpected, IsFirstUnexpected};
+ghost use Rattle.key_expr.specs.Expected.{Expected, expr, more, name, number, open_, close, comma, lengths, points, finish, first_unexpected, FitsUpTo, FitsUpToNext, IsFirstUnexpected};
 ghost use Rattle.key_expr.specs.declared.fault.ExprFault.TheVariants.{BadSyntax};
 
 use crate::check::length_of;
@@ -41,7 +41,7 @@ fn first(tokens: &[Token]) -> Result<(Token, &[Token]), ExprFault>
 fn skip_close(tokens: &[Token]) -> Result<&[Token], ExprFault>
     ensures found { IfOk result (λ rest. Begin (Close ∷ []) tokens.now rest.now) }
     ensures shorter { IfOk result (λ rest. length rest.now < length tokens.now) }
-    ensures passed { IfOk result (λ rest. (s : List Expected) → first_unexpected (close ∷ s) tokens.now ≡ first_unexpected s rest.now) }
+    ensures passed { IfOk result (λ rest. FitsUpTo (close ∷ []) tokens.now rest.now) }
     ensures refused { IfErr result (λ fault. (s : List Expected) → IsFirstUnexpected fault (close ∷ s) tokens.now) }
 {
     let (token, rest) = first(tokens)?;
@@ -54,7 +54,7 @@ fn skip_close(tokens: &[Token]) -> Result<&[Token], ExprFault>
 /// The field whose name is first, and what is after it.
 fn take_name(tokens: &[Token]) -> Result<(usize, &[Token]), ExprFault>
     ensures found { IfOk result (λ taken. Begin (Name taken.0 ∷ []) tokens.now taken.1.now) }
-    ensures passed { IfOk result (λ taken. (s : List Expected) → first_unexpected (name ∷ s) tokens.now ≡ first_unexpected s taken.1.now) }
+    ensures passed { IfOk result (λ taken. FitsUpTo (name ∷ []) tokens.now taken.1.now) }
     ensures refused { IfErr result (λ fault. (s : List Expected) → IsFirstUnexpected fault (name ∷ s) tokens.now) }
 {
     let (token, rest) = first(tokens)?;
@@ -68,7 +68,7 @@ fn take_name(tokens: &[Token]) -> Result<(usize, &[Token]), ExprFault>
 fn skip_open(tokens: &[Token]) -> Result<&[Token], ExprFault>
     ensures found { IfOk result (λ rest. Begin (Open ∷ []) tokens.now rest.now) }
     ensures shorter { IfOk result (λ rest. length rest.now < length tokens.now) }
-    ensures passed { IfOk result (λ rest. (s : List Expected) → first_unexpected (open_ ∷ s) tokens.now ≡ first_unexpected s rest.now) }
+    ensures passed { IfOk result (λ rest. FitsUpTo (open_ ∷ []) tokens.now rest.now) }
     ensures refused { IfErr result (λ fault. (s : List Expected) → IsFirstUnexpected fault (open_ ∷ s) tokens.now) }
 {
     let (token, rest) = first(tokens)?;
@@ -82,7 +82,7 @@ fn skip_open(tokens: &[Token]) -> Result<&[Token], ExprFault>
 fn skip_comma(tokens: &[Token]) -> Result<&[Token], ExprFault>
     ensures found { IfOk result (λ rest. Begin (Comma ∷ []) tokens.now rest.now) }
     ensures shorter { IfOk result (λ rest. length rest.now < length tokens.now) }
-    ensures passed { IfOk result (λ rest. (s : List Expected) → first_unexpected (comma ∷ s) tokens.now ≡ first_unexpected s rest.now) }
+    ensures passed { IfOk result (λ rest. FitsUpTo (comma ∷ []) tokens.now rest.now) }
     ensures refused { IfErr result (λ fault. (s : List Expected) → IsFirstUnexpected fault (comma ∷ s) tokens.now) }
 {
     let (token, rest) = first(tokens)?;
@@ -95,7 +95,7 @@ fn skip_comma(tokens: &[Token]) -> Result<&[Token], ExprFault>
 /// The number that is first, and what is after it.
 fn take_number(tokens: &[Token]) -> Result<(u16, &[Token]), ExprFault>
     ensures found { IfOk result (λ taken. Begin (Number taken.0 ∷ []) tokens.now taken.1.now) }
-    ensures passed { IfOk result (λ taken. (s : List Expected) → first_unexpected (number ∷ s) tokens.now ≡ first_unexpected s taken.1.now) }
+    ensures passed { IfOk result (λ taken. FitsUpTo (number ∷ []) tokens.now taken.1.now) }
     ensures refused { IfErr result (λ fault. (s : List Expected) → IsFirstUnexpected fault (number ∷ s) tokens.now) }
 {
     let (token, rest) = first(tokens)?;
@@ -108,7 +108,7 @@ fn take_number(tokens: &[Token]) -> Result<(u16, &[Token]), ExprFault>
 /// The field in parentheses, and what is after its name.
 fn take_field(tokens: &[Token]) -> Result<(usize, &[Token]), ExprFault>
     ensures found { IfOk result (λ taken. Begin (Open ∷ Name taken.0 ∷ []) tokens.now taken.1.now) }
-    ensures passed { IfOk result (λ taken. (s : List Expected) → first_unexpected (open_ ∷ name ∷ s) tokens.now ≡ first_unexpected s taken.1.now) }
+    ensures passed { IfOk result (λ taken. FitsUpTo (open_ ∷ name ∷ []) tokens.now taken.1.now) }
     ensures refused { IfErr result (λ fault. (s : List Expected) → IsFirstUnexpected fault (open_ ∷ name ∷ s) tokens.now) }
 {
     let inside = skip_open(tokens)?;
@@ -120,7 +120,7 @@ fn take_field(tokens: &[Token]) -> Result<(usize, &[Token]), ExprFault>
 fn take_argument(tokens: &[Token]) -> Result<(u16, &[Token]), ExprFault>
     ensures found { IfOk result (λ taken. Begin (Comma ∷ Number taken.0 ∷ []) tokens.now taken.1.now) }
     ensures shorter { IfOk result (λ taken. length taken.1.now < length tokens.now) }
-    ensures passed { IfOk result (λ taken. (s : List Expected) → first_unexpected (comma ∷ number ∷ s) tokens.now ≡ first_unexpected s taken.1.now) }
+    ensures passed { IfOk result (λ taken. FitsUpTo (comma ∷ number ∷ []) tokens.now taken.1.now) }
     ensures refused { IfErr result (λ fault. (s : List Expected) → IsFirstUnexpected fault (comma ∷ number ∷ s) tokens.now) }
 {
     let inside = skip_comma(tokens)?;
@@ -133,7 +133,7 @@ fn take_argument(tokens: &[Token]) -> Result<(u16, &[Token]), ExprFault>
 fn take_only_field(tokens: &[Token]) -> Result<(usize, &[Token]), ExprFault>
     ensures found { IfOk result (λ taken. Begin (Open ∷ Name taken.0 ∷ Close ∷ []) tokens.now taken.1.now) }
     ensures shorter { IfOk result (λ taken. length taken.1.now < length tokens.now) }
-    ensures passed { IfOk result (λ taken. (s : List Expected) → first_unexpected (open_ ∷ name ∷ close ∷ s) tokens.now ≡ first_unexpected s taken.1.now) }
+    ensures passed { IfOk result (λ taken. FitsUpTo (open_ ∷ name ∷ close ∷ []) tokens.now taken.1.now) }
     ensures refused { IfErr result (λ fault. (s : List Expected) → IsFirstUnexpected fault (open_ ∷ name ∷ close ∷ s) tokens.now) }
 {
     let (index, tail) = take_field(tokens)?;
@@ -146,7 +146,7 @@ fn take_only_field(tokens: &[Token]) -> Result<(usize, &[Token]), ExprFault>
 fn take_window(tokens: &[Token]) -> Result<(u16, u16, &[Token]), ExprFault>
     ensures found { IfOk result (λ taken. Begin (Comma ∷ Number taken.0 ∷ Comma ∷ Number taken.1 ∷ Close ∷ []) tokens.now taken.2.now) }
     ensures shorter { IfOk result (λ taken. length taken.2.now < length tokens.now) }
-    ensures passed { IfOk result (λ taken. (s : List Expected) → first_unexpected (comma ∷ number ∷ comma ∷ number ∷ close ∷ s) tokens.now ≡ first_unexpected s taken.2.now) }
+    ensures passed { IfOk result (λ taken. FitsUpTo (comma ∷ number ∷ comma ∷ number ∷ close ∷ []) tokens.now taken.2.now) }
     ensures refused { IfErr result (λ fault. (s : List Expected) → IsFirstUnexpected fault (comma ∷ number ∷ comma ∷ number ∷ close ∷ s) tokens.now) }
 {
     let (from, rest) = take_argument(tokens)?;
@@ -159,7 +159,7 @@ fn take_window(tokens: &[Token]) -> Result<(u16, u16, &[Token]), ExprFault>
 fn take_lengths(tokens: &[Token]) -> Result<(Option<u16>, Option<u16>, &[Token]), ExprFault>
     ensures found { IfOk result (λ taken. EndsWith taken.0 taken.1 tokens.now taken.2.now) }
     ensures shorter { IfOk result (λ taken. length taken.2.now < length tokens.now) }
-    ensures passed { IfOk result (λ taken. (s : List Expected) → first_unexpected (lengths ∷ s) tokens.now ≡ first_unexpected s taken.2.now) }
+    ensures passed { IfOk result (λ taken. FitsUpTo (lengths ∷ []) tokens.now taken.2.now) }
     ensures refused { IfErr result (λ fault. (s : List Expected) → IsFirstUnexpected fault (lengths ∷ s) tokens.now) }
 {
     let (token, rest) = first(tokens)?;
@@ -177,7 +177,7 @@ fn take_lengths(tokens: &[Token]) -> Result<(Option<u16>, Option<u16>, &[Token])
 /// The end of a STR after its length.
 fn take_decimals(tokens: &[Token]) -> Result<(Option<u16>, &[Token]), ExprFault>
     ensures found { IfOk result (λ taken. EndsPoints taken.0 tokens.now taken.1.now) }
-    ensures passed { IfOk result (λ taken. (s : List Expected) → first_unexpected (points ∷ s) tokens.now ≡ first_unexpected s taken.1.now) }
+    ensures passed { IfOk result (λ taken. FitsUpTo (points ∷ []) tokens.now taken.1.now) }
     ensures refused { IfErr result (λ fault. (s : List Expected) → IsFirstUnexpected fault (points ∷ s) tokens.now) }
 {
     let (token, rest) = first(tokens)?;
@@ -196,7 +196,7 @@ fn take_decimals(tokens: &[Token]) -> Result<(Option<u16>, &[Token]), ExprFault>
 fn take_shape(tokens: &[Token]) -> Result<(usize, Option<u16>, Option<u16>, &[Token]), ExprFault>
     ensures found { IfOk result (λ taken. (us : List Token) × Begin (Open ∷ Name taken.0 ∷ []) tokens.now us × EndsWith taken.1 taken.2 us taken.3.now) }
     ensures shorter { IfOk result (λ taken. length taken.3.now < length tokens.now) }
-    ensures passed { IfOk result (λ taken. (s : List Expected) → first_unexpected (open_ ∷ name ∷ lengths ∷ s) tokens.now ≡ first_unexpected s taken.3.now) }
+    ensures passed { IfOk result (λ taken. FitsUpTo (open_ ∷ name ∷ lengths ∷ []) tokens.now taken.3.now) }
     ensures refused { IfErr result (λ fault. (s : List Expected) → IsFirstUnexpected fault (open_ ∷ name ∷ lengths ∷ s) tokens.now) }
 {
     let (index, tail) = take_field(tokens)?;
@@ -261,7 +261,7 @@ fn read_expr<'a>(
     ensures lengths { IfOk result (λ taken. KeepsLengths fields.now taken.0) }
     ensures found { IfOk result (λ taken. Reads an_expr (expr_of taken.0) tokens.now taken.1.now) }
     ensures shorter { IfOk result (λ taken. length taken.1.now < length tokens.now) }
-    ensures passed { IfOk result (λ taken. (w : Expected) (s : List Expected) → first_unexpected (expr ∷ w ∷ s) tokens.now ≡ first_unexpected (w ∷ s) taken.1.now) }
+    ensures passed { IfOk result (λ taken. FitsUpToNext expr tokens.now taken.1.now) }
     ensures refused { IfErr result (λ fault. (s : List Expected) → IsFirstUnexpected fault (expr ∷ s) tokens.now) }
 {
     let (tree, tail) = read_term(alloc, fields, tokens)?;
@@ -279,7 +279,7 @@ fn read_expr<'a>(
 /// What is after a `+`, where one is first.
 fn skip_plus(tokens: &[Token]) -> Option<&[Token]>
     ensures found { IfSome result (λ rest. Begin (Plus ∷ []) tokens.now rest.now) }
-    ensures none { IfNone result ((w : Expected) (s : List Expected) → first_unexpected (more ∷ w ∷ s) tokens.now ≡ first_unexpected (w ∷ s) tokens.now) }
+    ensures none { IfNone result (FitsUpToNext more tokens.now tokens.now) }
     ensures shorter { IfSome result (λ rest. length rest.now < length tokens.now) }
     ensures passed { IfSome result (λ rest. (s : List Expected) → first_unexpected (more ∷ s) tokens.now ≡ first_unexpected (expr ∷ s) rest.now) }
 {

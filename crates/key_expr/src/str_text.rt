@@ -2,12 +2,13 @@
 
 ghost use Rattle.std.specs.Prelude.{◌≡◌, ◌≤◌, ◌<◌, length, replicate};
 ghost use Rattle.key_expr.specs.declared.format.TheConstants.{MAX_KEY_BYTES};
+ghost use Rattle.dbf_fields.specs.declared.format.TheConstants.{MAX_NUMBER_WIDTH};
 ghost use Rattle.key_expr.specs.StrText.{text_in_width, str_text as str_of_number};
 
 use crate::key::Key;
 use dbf_fields::{ASTERISK, BLANK, NumberText, read_number};
 
-// So many bytes of one kind.
+// A byte, again and again.
 fn fill(byte: u8, count: usize) -> Key
     requires short { count ≤ MAX_KEY_BYTES }
     ensures value { result ≡ replicate count byte }
@@ -34,11 +35,11 @@ fn fit(width: usize, text: &[u8]) -> Key
     printed
 }
 
-/// What the number of a cell prints with so many decimals in so many bytes.
+/// What the number of a cell with these decimals prints in `width` bytes.
 pub(crate) fn str_text(width: usize, decimals: u8, cell: &[u8]) -> Key
     requires short { width ≤ MAX_KEY_BYTES }
-    requires count_bounded { length cell.now ≤ 19 }
-    requires decimals { decimals < 19 }
+    requires count_bounded { length cell.now ≤ MAX_NUMBER_WIDTH }
+    requires decimals { decimals < MAX_NUMBER_WIDTH }
     ensures value { result ≡ str_of_number width decimals cell.now }
 {
     match read_number(cell, decimals) {

@@ -1,5 +1,5 @@
 use Rattle.std.proofs.Common.{[], ◌∷◌}
-use Rattle.key_expr.specs.declared.token.Kind.TheVariants.{Open, Close, Comma, Upper, Substr, Str, Name, Number}
+use Rattle.key_expr.specs.declared.token.Kind.TheVariants.{Open, Upper, Substr, Str, Name}
 use Rattle.key_expr.specs.Grammar.{parens_term, upper_term, substr_term, str_term}
 use Rattle.key_expr.proofs.ExpectedSteps.{begin_then, begin_first}
 use Rattle.key_expr.proofs.parser.+reader.Goals as goal
