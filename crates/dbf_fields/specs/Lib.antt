@@ -12,3 +12,4 @@ pub mod Date
 pub mod Cell
 pub use Rattle.jiff.specs.Words
 pub mod Layout
+pub mod Same

@@ -1,6 +1,6 @@
 //! Calendar dates.
 
-ghost use Rattle.std.specs.Prelude.{◌≡◌, ◌↔◌, IsTrue, IsSome, IfSome};
+ghost use Rattle.std.specs.Prelude.{◌≡◌, ◌↔◌, IsSome, IfSome};
 ghost use Rattle.dbf_fields.specs.Day.{IsDay};
 
 use jiff::civil::Date;
@@ -15,15 +15,6 @@ pub struct Day {
     /// The day of the month, from 1.
     pub day: u8,
     ghost real: { IsDay year month day },
-}
-
-impl Day {
-    /// Whether the dates are the same. It is what `==` answers, said so that contracts can use it.
-    pub fn is_same(self, other: Day) -> bool
-        ensures value { IsTrue result ↔ (self ≡ other) }
-    {
-        self == other
-    }
 }
 
 /// The date of a year, a month and a day of the month, and `None` exactly where the calendar of the

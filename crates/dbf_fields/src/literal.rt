@@ -7,7 +7,7 @@ use byte_io::Bytes;
 use std::alloc::{AllocError, Global};
 
 /// A value as a command gives it.
-#[derive(Debug, PartialEq, Eq, Drop)]
+#[derive(Debug, Drop)]
 pub enum Literal {
     /// A text of any length.
     Text(Bytes),
@@ -47,19 +47,36 @@ impl Literal {
     }
 
     /// Whether the values are the same. It is what `==` answers, said so that contracts can use it.
-    #[tactic(auto, using(crate::proofs::SameLaws::same_bytes, crate::proofs::SameLaws::same_int))]
     pub fn is_same(&self, other: &Literal) -> bool
         ensures value { IsTrue result ↔ (self.now ≡ other.now) }
     {
+        self == other
+    }
+}
+
+impl PartialEq for Literal {
+    ghost use Rattle.dbf_fields.specs.Same.{same_literal, literal_partial};
+
+    ghost eq = { same_literal };
+
+    ghost laws = { literal_partial };
+
+    fn eq(&self, other: &Literal) -> bool {
         match self {
             Literal::Text(text) => matches!(other, Literal::Text(its) if text == its),
             Literal::Number { digits, scale } => {
                 matches!(other, Literal::Number { digits: d, scale: s } if digits == d && scale == s)
             }
             Literal::Truth(truth) => matches!(other, Literal::Truth(its) if truth == its),
-            Literal::Date(day) => matches!(other, Literal::Date(its) if day.is_same(*its)),
+            Literal::Date(day) => matches!(other, Literal::Date(its) if day == its),
             Literal::BlankDate => matches!(other, Literal::BlankDate),
             Literal::BadDate => matches!(other, Literal::BadDate),
         }
     }
+}
+
+impl Eq for Literal {
+    ghost use Rattle.dbf_fields.specs.Same.{literal_equivalence};
+
+    ghost laws = { literal_equivalence };
 }
