@@ -19,7 +19,7 @@ abbrev pub same_date : Day → Day → Bool
 same_date a b = (a.year == b.year) && ((a.month == b.month) && (a.day == b.day))
 
 -- the values are of one kind and keep the same
-abbrev pub same_literal : Literal → Literal → Bool
+unfoldable pub same_literal : Literal → Literal → Bool
 same_literal (Text a) (Text b) = bytes_eq a b
 same_literal (Number a scale) (Number b other) = int_eq a b && (scale == other)
 same_literal (Truth a) (Truth b) = if a then b else not b
@@ -52,6 +52,7 @@ truth_decides false false = (λ e. refl, λ e. refl)
 
 -- the test is true exactly of equal values
 pub literal_decides : (a b : Literal) → Decides (same_literal a b) (a ≡ b)
+unfolding same_literal
 literal_decides (Text a) (Text b) =
     let d = bytes_eq-Decides a b in (λ e. ap Text (d.0 e), λ e. let same : a ≡ b = cc in d.1 same)
 literal_decides (Number a scale) (Number b other) =

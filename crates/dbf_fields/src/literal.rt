@@ -61,6 +61,7 @@ impl PartialEq for Literal {
 
     ghost laws = { literal_partial };
 
+    #[tactic(auto, unfolding(crate::specs::Same::same_literal))]
     fn eq(&self, other: &Literal) -> bool {
         match self {
             Literal::Text(text) => matches!(other, Literal::Text(its) if text == its),
