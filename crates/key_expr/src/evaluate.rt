@@ -18,7 +18,7 @@ use crate::str_text::str_text;
 use crate::tree::Tree;
 use dbf_fields::{Schema, shown_date};
 
-// No bytes are looked up further on: a SUBSTR cuts off fewer bytes than two of its numbers count.
+// No window begins later: it begins within the bytes that a SUBSTR takes, and is moved by those that it leaves out.
 const MAX_WINDOW_START: usize = 2 * u16::MAX as usize;
 
 /// Which bytes of a part of the key are wanted: those after the first ones, up to a count of them, in capitals or as
