@@ -57,7 +57,7 @@ fn hello() -> [u8; 1024] {
     dbt
 }
 
-// The first so many bytes, or all.
+// The first `count` bytes, or all.
 fn front(bytes: &[u8], length: usize) -> &[u8] {
     if length < bytes.len() {
         return &bytes[..length];

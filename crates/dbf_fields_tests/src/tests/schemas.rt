@@ -99,7 +99,7 @@ fn schema_faults_come_in_order(rt: HostRuntime) -> Result<(), Fail> {
     Ok(())
 }
 
-// Whether a schema keeps a field of this kind and width with so many decimals.
+// Whether a schema keeps a field of this kind, width and number of decimals.
 fn keeps_decimals(
     alloc: Global,
     (kind, width, decimals): (u8, u8, u8),

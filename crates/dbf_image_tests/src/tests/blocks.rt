@@ -157,7 +157,7 @@ fn text_of(alloc: Global, number: u32) -> Result<Vec<u8>, Fail> {
     Ok(Vec::from_slice(alloc, text.as_bytes())?)
 }
 
-// A table of so many memos.
+// A table of the given number of memos.
 fn many(alloc: Global) -> Result<TableData, Fail> {
     let note = Field::new(alloc, b"NOTE", MEMO, 10, 0)?;
     let mut table = TableData::empty(alloc, Schema::new(alloc, &[note])?);

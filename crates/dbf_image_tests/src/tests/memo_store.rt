@@ -7,7 +7,7 @@ ghost use Rattle.std.specs.FinMap as map;
 use super::*;
 use std::test::*;
 
-// So many bytes of one value.
+// A number of bytes of one value.
 fn run(alloc: Global, byte: u8, count: usize) -> Result<Vec<u8>, Fail>
     ensures long { IfOk result (λ bytes. length bytes.items ≡ count) }
 {
@@ -26,7 +26,7 @@ fn keep(store: &mut MemoStore, text: &[u8]) -> Result<u32, Fail>
     Ok(store.put(text))
 }
 
-// Keeps texts of so many bytes each, and answers the greatest of their numbers.
+// Keeps texts of the given lengths, and answers the greatest of their numbers.
 fn keep_runs(alloc: Global, store: &mut MemoStore, lengths: &[usize]) -> Result<u32, Fail> {
     let mut greatest = 0;
     for length in lengths {

@@ -43,7 +43,7 @@ fn answer(is_written: bool) -> Result<(), WriteFault> {
     }
 }
 
-// A sink that takes so many bytes of both files of a table, of which it is said whether they are written, has these.
+// A sink that takes a given number of bytes of both files of a table, of which it is said whether they are written, has these.
 fn assert_taken(
     alloc: Global,
     rt: &impl Abort,

@@ -56,7 +56,7 @@ fn rules_are_judged_from_left_to_right(rt: HostRuntime) -> Result<(), Fail> {
     Ok(())
 }
 
-// NAME and as many blanks after it as make a text of so many bytes, or fewer where there are not as many here.
+// NAME and as many blanks after it as make a text of the given length, or fewer where there are not as many here.
 fn name_and_blanks(blanks: &mut [u8; 500], length: usize) -> &[u8] {
     for (byte, letter) in blanks.iter_mut().zip(b"NAME") {
         *byte = *letter;
