@@ -1,7 +1,7 @@
 -- What is done to a page's slots is done to the page.
 use Rattle.std.proofs.Common.{◌≡◌, ◌≢◌, ℕ, zero, suc, ◌+◌, ◌-◌, ◌*◌, ◌^◌, ◌<◌, ◌≤◌, List, [], ◌∷◌, ◌++◌, length, take, drop, set, get_or, refl, sym, ap, ◌∙◌, append_assoc, arith}
 use Rattle.std.specs.List.{insert, remove, copy_within}
-use Rattle.std.proofs.lemmas.List.{length-drop, length-take-le, take-take, drop-take, drop-drop, take-append-le, drop-append-le, take_at, nil_from_length, set_split, drop_at, get_or-take, get_or-drop, get_or-set_other, length-set}
+use Rattle.std.proofs.lemmas.List.{length-drop, length-take-le, take-take, drop-take, drop-drop, take-append-le, drop-append-le, take_at, nil_from_length, set_split, drop_at, get_or-take, get_or-drop, get_or_read, get_or-set_other, length-set}
 use Rattle.std.proofs.lemmas.List.Edits.{take-paste, drop-paste, length-paste}
 use lib.Seq.{paste}
 use Rattle.ndx_index.specs.declared.pair.Pair.{Pair}
@@ -188,12 +188,12 @@ pub record IsThere (x : Inside) (pages : List (List Pair)) (p : ℕ) : Type 0 wh
   pub page : page_at pages p ≡ take (get_or x.counts.items p 0) (drop (p * 16) x.slots.pairs)
   pub count : length (page_at pages p) ≡ get_or x.counts.items p 0
 
-pub pages_count : (x : Inside) (now : Pages) → pages_view x ≡ now → length now.pages ≡ length x.counts.items
-pages_count x now e = rw (← e) (length-pages x.counts.items x.slots.pairs)
+pub pages_count : (x : Inside) {now : Pages} → pages_view x ≡ now → length now.pages ≡ length x.counts.items
+pages_count x e = rw (← e) (length-pages x.counts.items x.slots.pairs)
 
-pub is_there : (x : Inside) (now : Pages) (p : ℕ) → pages_view x ≡ now → ArePages x → p < length now.pages → IsThere x now.pages p
-is_there x now p e h lt =
-    let index : p < length x.counts.items = omega (arith, lt, pages_count x now e) in
+pub is_there : {x : Inside} {now : Pages} {p : ℕ} → pages_view x ≡ now → ArePages x → p < length now.pages → IsThere x now.pages p
+is_there {x = x} {now = now} {p = p} e h lt =
+    let index : p < length x.counts.items = omega (arith, lt, pages_count x e) in
     let bounded = small_there x.counts.items p h.bounded index in
     let slots : p * 16 + 16 ≤ length x.slots.pairs = omega (arith, index, h.fit) in
     let page : page_at now.pages p ≡ take (get_or x.counts.items p 0) (drop (p * 16) x.slots.pairs) = rw (← e) (page_there x.counts.items x.slots.pairs p index) in
@@ -207,7 +207,20 @@ is_there x now p e h lt =
     }
 
 -- a pair of a page, by its slot
-pub pair_in_page : (x : Inside) (pages : List (List Pair)) (p i : ℕ) → IsThere x pages p → i < length (page_at pages p) → slot_at x.slots.pairs (p * 16 + i) ≡ slot_at (page_at pages p) i
-pair_in_page x pages p i t lt =
+pub pair_in_page : {x : Inside} {pages : List (List Pair)} {p i : ℕ} → IsThere x pages p → i < length (page_at pages p) → slot_at x.slots.pairs (p * 16 + i) ≡ slot_at (page_at pages p) i
+pair_in_page {x = x} {p = p} {i = i} t lt =
     let count = get_or x.counts.items p 0 in
     sym (ap (λ (l : List Pair). slot_at l i) t.page ∙ get_or-take count (drop (p * 16) x.slots.pairs) i no_pair (omega (arith, lt, t.count)) ∙ get_or-drop (p * 16) x.slots.pairs i no_pair)
+
+-- what a page's count reads
+pub count_read : {x : Inside} {pages : List (List Pair)} {p n : ℕ} → IsThere x pages p → n ≡ get_or x.counts.items p n → n ≡ length (page_at pages p)
+count_read {x = x} {p = p} {n = n} t is = get_or_read x.counts.items p n t.index is 0 ∙ sym t.count
+
+-- a page's slots are its pairs
+pub page_slots : {x : Inside} {pages : List (List Pair)} {p : ℕ} → IsThere x pages p → take (length (page_at pages p)) (drop (p * 16) x.slots.pairs) ≡ page_at pages p
+page_slots {x = x} {p = p} t = ap (λ (k : ℕ). take k (drop (p * 16) x.slots.pairs)) t.count ∙ sym t.page
+
+-- what is done to the slots of a page is done to the page
+pub page_edited : {x : Inside} {now : Pages} {p : ℕ} (f : List Pair → List Pair) → pages_view x ≡ now → IsThere x now.pages p
+    → set (pages_of x.counts.items x.slots.pairs) p (f (take (length (page_at now.pages p)) (drop (p * 16) x.slots.pairs))) ≡ set now.pages p (f (page_at now.pages p))
+page_edited {x = x} {now = now} {p = p} f e t = ap (λ (s : Pages). set s.pages p (f (take (length (page_at now.pages p)) (drop (p * 16) x.slots.pairs)))) e ∙ ap (λ (g : List Pair). set now.pages p (f g)) (page_slots t)

@@ -3,9 +3,9 @@ use Rattle.std.proofs.Common.{◌≡◌, ℕ, zero, suc, ◌<◌, List, [], ◌�
 use Rattle.std.specs.List.{insert, remove}
 use Rattle.std.proofs.lemmas.List.{map-append, take-map, drop-map, length-map, length-set}
 use Rattle.ndx_index.specs.declared.pair.Pair.{Pair}
-use Rattle.ndx_index.specs.PairPages.{page_at}
+use Rattle.ndx_index.specs.PairPages.{page_at, split_page}
 use Rattle.ndx_index.specs.declared.pages.store.PageStore.TheInside.{Inside}
-use Rattle.ndx_index.specs.PageStore.{Page, Store, page_in, no_page, links_of, zipped, with_pairs, with_links, store_view, AreTwins}
+use Rattle.ndx_index.specs.PageStore.{Page, Store, page_in, no_page, links_of, zipped, with_pairs, with_links, with_pairs_at, with_links_at, pairs_split, links_split, store_view, AreTwins}
 
 pub length-zipped : (ps ls : List (List Pair)) → length ps ≡ length ls → length (zipped ps ls) ≡ length ps
 length-zipped [] ls e = refl
@@ -68,13 +68,13 @@ pub record IsTwin (x : Inside) (pages : List Page) (p : ℕ) : Type 0 where
   pub pair_count : length (page_in pages p).pairs ≡ length (page_at x.pair_pages.pages p)
   pub link_count : length (page_in pages p).links ≡ length (page_at x.link_pages.pages p)
 
-pub store_count : (x : Inside) (now : Store) → store_view x ≡ now → AreTwins x → length now.pages ≡ length x.pair_pages.pages
-store_count x now e h = ap (λ (s : Store). length s.pages) (sym e) ∙ length-zipped x.pair_pages.pages x.link_pages.pages h.same
+pub store_count : {x : Inside} {now : Store} → store_view x ≡ now → AreTwins x → length now.pages ≡ length x.pair_pages.pages
+store_count {x = x} e h = ap (λ (s : Store). length s.pages) (sym e) ∙ length-zipped x.pair_pages.pages x.link_pages.pages h.same
 
-pub is_twin : (x : Inside) (now : Store) (p : ℕ) → store_view x ≡ now → AreTwins x → p < length now.pages → IsTwin x now.pages p
-is_twin x now p e h lt =
+pub is_twin : {x : Inside} {now : Store} {p : ℕ} → store_view x ≡ now → AreTwins x → p < length now.pages → IsTwin x now.pages p
+is_twin {x = x} {now = now} {p = p} e h lt =
     let pages : zipped x.pair_pages.pages x.link_pages.pages ≡ now.pages = ap (λ (s : Store). s.pages) e in
-    let index : p < length x.pair_pages.pages = omega (arith, lt, store_count x now e h) in
+    let index : p < length x.pair_pages.pages = omega (arith, lt, store_count e h) in
     let there = ap (λ (l : List Page). page_in l p) (sym pages) ∙ zip_there x.pair_pages.pages x.link_pages.pages p h.same index in
     let links = ap (λ (g : Page). g.links) there in
     let pairs = ap (λ (g : Page). g.pairs) there in
@@ -88,44 +88,64 @@ is_twin x now p e h lt =
     }
 
 -- other pairs put into a page
-pub pairs_put : (x : Inside) (now : Store) (p : ℕ) (new : List Pair) → store_view x ≡ now → AreTwins x → p < length now.pages
-    → zipped (set x.pair_pages.pages p new) x.link_pages.pages ≡ set now.pages p (with_pairs new (page_in now.pages p))
-pairs_put x now p new e h lt =
-    let twin = is_twin x now p e h lt in
-    let links = links_of (page_at x.link_pages.pages p) in
+pairs_put : {x : Inside} {now : Store} (p : ℕ) (new : List Pair) → store_view x ≡ now → AreTwins x → p < length now.pages
+    → zipped (set x.pair_pages.pages p new) x.link_pages.pages ≡ with_pairs_at now.pages p new
+pairs_put {x = x} {now = now} p new e h lt =
     zip_pairs x.pair_pages.pages x.link_pages.pages p new h.same
-    ∙ ap (λ (s : Store). set s.pages p (record { pairs = new; links = links })) e
-    ∙ ap (λ (l : List ℕ). set now.pages p (record { pairs = new; links = l })) (sym twin.links)
+    ∙ ap (λ (s : Store). set s.pages p (record { pairs = new; links = links_of (page_at x.link_pages.pages p) })) e
+    ∙ ap (λ (l : List ℕ). set now.pages p (record { pairs = new; links = l })) (sym (is_twin e h lt).links)
 
 -- other links put into a page
-pub links_put : (x : Inside) (now : Store) (p : ℕ) (new : List Pair) → store_view x ≡ now → AreTwins x → p < length now.pages
-    → zipped x.pair_pages.pages (set x.link_pages.pages p new) ≡ set now.pages p (with_links (links_of new) (page_in now.pages p))
-links_put x now p new e h lt =
-    let twin = is_twin x now p e h lt in
+links_put : {x : Inside} {now : Store} (p : ℕ) (new : List Pair) → store_view x ≡ now → AreTwins x → p < length now.pages
+    → zipped x.pair_pages.pages (set x.link_pages.pages p new) ≡ with_links_at now.pages p (links_of new)
+links_put {x = x} {now = now} p new e h lt =
     zip_links x.pair_pages.pages x.link_pages.pages p new h.same
     ∙ ap (λ (s : Store). set s.pages p (record { pairs = page_at x.pair_pages.pages p; links = links_of new })) e
-    ∙ ap (λ (l : List Pair). set now.pages p (record { pairs = l; links = links_of new })) (sym twin.pairs)
+    ∙ ap (λ (l : List Pair). set now.pages p (record { pairs = l; links = links_of new })) (sym (is_twin e h lt).pairs)
 
--- other pairs put into two pages
-pub pairs_parted : (x : Inside) (now : Store) (p q : ℕ) (kept moved : List Pair) → store_view x ≡ now → AreTwins x → p < length now.pages → q < length now.pages
-    → zipped (set (set x.pair_pages.pages q moved) p kept) x.link_pages.pages
-    ≡ set (set now.pages q (with_pairs moved (page_in now.pages q))) p (with_pairs kept (page_in now.pages p))
-pairs_parted x now p q kept moved e h lt lt2 =
-    let twin = is_twin x now p e h lt in
+-- what is done to a page's pairs is done to the page
+pub pairs_changed : {x : Inside} {now : Store} {p : ℕ} {pages : List (List Pair)} (f : List Pair → List Pair) → store_view x ≡ now → AreTwins x → p < length now.pages
+    → pages ≡ set x.pair_pages.pages p (f (page_at x.pair_pages.pages p)) → zipped pages x.link_pages.pages ≡ with_pairs_at now.pages p (f (page_in now.pages p).pairs)
+pairs_changed {x = x} {now = now} {p = p} f e h lt is =
+    ap (λ (l : List (List Pair)). zipped l x.link_pages.pages) is
+    ∙ pairs_put p (f (page_at x.pair_pages.pages p)) e h lt
+    ∙ ap (λ (l : List Pair). with_pairs_at now.pages p (f l)) (sym (is_twin e h lt).pairs)
+
+-- what is done to the pairs that stand for a page's links is done to the links
+pub links_changed : {x : Inside} {now : Store} {p : ℕ} {pages : List (List Pair)} (f : List Pair → List Pair) (g : List ℕ → List ℕ) → ((l : List Pair) → links_of (f l) ≡ g (links_of l))
+    → store_view x ≡ now → AreTwins x → p < length now.pages
+    → pages ≡ set x.link_pages.pages p (f (page_at x.link_pages.pages p)) → zipped x.pair_pages.pages pages ≡ with_links_at now.pages p (g (page_in now.pages p).links)
+links_changed {x = x} {now = now} {p = p} f g same e h lt is =
+    ap (zipped x.pair_pages.pages) is
+    ∙ links_put p (f (page_at x.link_pages.pages p)) e h lt
+    ∙ ap (with_links_at now.pages p) (same (page_at x.link_pages.pages p) ∙ ap g (sym (is_twin e h lt).links))
+
+-- the pairs of a page from a place on moved to another page
+pub pairs_moved : {x : Inside} {now : Store} {p q : ℕ} {pages : List (List Pair)} (at : ℕ) → store_view x ≡ now → AreTwins x → p < length now.pages → q < length now.pages
+    → pages ≡ split_page x.pair_pages.pages p at q → zipped pages x.link_pages.pages ≡ pairs_split now.pages p at q
+pairs_moved {x = x} {now = now} {p = p} {q = q} at e h lt lt2 is =
+    let twin = is_twin e h lt in
     let ps = x.pair_pages.pages in
     let ls = x.link_pages.pages in
-    zip_pairs (set ps q moved) ls p kept (length-set ps q moved ∙ h.same)
-    ∙ ap (λ (l : List Page). set l p (record { pairs = kept; links = links_of (page_at ls p) })) (pairs_put x now q moved e h lt2)
-    ∙ ap (λ (l : List ℕ). set (set now.pages q (with_pairs moved (page_in now.pages q))) p (record { pairs = kept; links = l })) (sym twin.links)
+    let own = page_at ps p in
+    ap (λ (l : List (List Pair)). zipped l ls) is
+    ∙ zip_pairs (set ps q (drop at own)) ls p (take at own) (length-set ps q (drop at own) ∙ h.same)
+    ∙ ap (λ (l : List Page). set l p (record { pairs = take at own; links = links_of (page_at ls p) })) (pairs_put q (drop at own) e h lt2)
+    ∙ ap (λ (l : List ℕ). set (with_pairs_at now.pages q (drop at own)) p (record { pairs = take at own; links = l })) (sym twin.links)
+    ∙ ap (λ (l : List Pair). set (with_pairs_at now.pages q (drop at l)) p (with_pairs (take at l) (page_in now.pages p))) (sym twin.pairs)
 
--- other links put into two pages
-pub links_parted : (x : Inside) (now : Store) (p q : ℕ) (kept moved : List Pair) → store_view x ≡ now → AreTwins x → p < length now.pages → q < length now.pages
-    → zipped x.pair_pages.pages (set (set x.link_pages.pages q moved) p kept)
-    ≡ set (set now.pages q (with_links (links_of moved) (page_in now.pages q))) p (with_links (links_of kept) (page_in now.pages p))
-links_parted x now p q kept moved e h lt lt2 =
-    let twin = is_twin x now p e h lt in
+-- the links of a page from a place on moved to another page
+pub links_moved : {x : Inside} {now : Store} {p q : ℕ} {pages : List (List Pair)} (at : ℕ) → store_view x ≡ now → AreTwins x → p < length now.pages → q < length now.pages
+    → pages ≡ split_page x.link_pages.pages p at q → zipped x.pair_pages.pages pages ≡ links_split now.pages p at q
+links_moved {x = x} {now = now} {p = p} {q = q} at e h lt lt2 is =
+    let twin = is_twin e h lt in
     let ps = x.pair_pages.pages in
     let ls = x.link_pages.pages in
-    zip_links ps (set ls q moved) p kept (h.same ∙ sym (length-set ls q moved))
-    ∙ ap (λ (l : List Page). set l p (record { pairs = page_at ps p; links = links_of kept })) (links_put x now q moved e h lt2)
-    ∙ ap (λ (l : List Pair). set (set now.pages q (with_links (links_of moved) (page_in now.pages q))) p (record { pairs = l; links = links_of kept })) (sym twin.pairs)
+    let own = page_at ls p in
+    let kept : links_of (take at own) ≡ take at (page_in now.pages p).links = links-take own at ∙ ap (take at) (sym twin.links) in
+    let moved : links_of (drop at own) ≡ drop at (page_in now.pages p).links = links-drop own at ∙ ap (drop at) (sym twin.links) in
+    ap (zipped ps) is
+    ∙ zip_links ps (set ls q (drop at own)) p (take at own) (h.same ∙ sym (length-set ls q (drop at own)))
+    ∙ ap (λ (l : List Page). set l p (record { pairs = page_at ps p; links = links_of (take at own) })) (links_put q (drop at own) e h lt2)
+    ∙ ap (λ (l : List Pair). set (with_links_at now.pages q (links_of (drop at own))) p (record { pairs = l; links = links_of (take at own) })) (sym twin.pairs)
+    ∙ rw (kept, moved) refl

@@ -1,5 +1,5 @@
 -- The levels of a written index.
-use Rattle.std.specs.Prelude.{◌≡◌, ℕ, zero, suc, ◌+◌, ◌*◌, ◌<◌, ◌≤◌, List, [], length, slice_index, get_or, take, drop}
+use Rattle.std.specs.Prelude.{◌≡◌, ℕ, zero, suc, ◌+◌, ◌*◌, ◌^◌, ◌<◌, ◌≤◌, List, [], length, slice_index, get_or, take, drop}
 use Rattle.ndx_index.specs.declared.pair.Pair.{Pair}
 use Rattle.ndx_index.specs.Image.{ChildEntry, child_entries, last_key, last_entry_key, leaves, next_level}
 
@@ -22,6 +22,10 @@ abbrev pub level : ℕ → List Pair → ℕ → Level
 level k pairs zero = record { first = 1; pages = child_entries last_key 1 (leaves k pairs) }
 level k pairs (suc l) = above k (level k pairs l)
 
+-- the pages of the next level, each by its children
+abbrev pub parent_pages : ℕ → List Pair → ℕ → List (List ChildEntry)
+parent_pages k pairs l = next_level k (level k pairs l).pages
+
 -- these are the numbers of pages of the first n levels, and each of these levels has several
 pub record AreSizes (k : ℕ) (pairs : List Pair) (n : ℕ) (sizes : List ℕ) : Type 0 where
   pub each : (l : ℕ) → l < n → slice_index sizes l ≡ length (level k pairs l).pages
@@ -43,7 +47,7 @@ pub record IsLevel (k : ℕ) (pairs : List Pair) (height first count : ℕ) : Ty
   pub first_is : first ≡ (level k pairs height).first
   pub count_is : count ≡ length (level k pairs height).pages
   pub several : 2 ≤ count
-  pub numbered : first + count ≤ 4294967295
+  pub numbered : first + count < 2 ^ 32
 
 -- the level has one page, the root
 pub record IsRootLevel (k : ℕ) (pairs : List Pair) (height root : ℕ) : Type 0 where

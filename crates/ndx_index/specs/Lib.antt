@@ -8,6 +8,7 @@ pub mod NdxTree
 pub mod Walks
 pub mod Header
 pub mod Image
+pub mod IndexFile
 pub mod Levels
 pub mod Shapes
 pub mod Reading

@@ -1,5 +1,5 @@
 -- Pages of a tree: the pairs of a leaf, or the links of an inner page and the pairs between them.
-use Rattle.std.specs.Prelude.{◌≡◌, ℕ, zero, suc, List, [], ◌∷◌, length, map, slice_index_or}
+use Rattle.std.specs.Prelude.{◌≡◌, ℕ, zero, suc, List, [], ◌∷◌, length, map, take, drop, slice_set, slice_index_or}
 use Rattle.std.specs.List.{remove}
 use Rattle.ndx_index.specs.declared.pair.Pair.{Pair}
 use Rattle.ndx_index.specs.declared.pages.store.PageStore.TheInside.{Inside}
@@ -33,6 +33,26 @@ with_pairs ps g = record { pairs = ps; links = g.links }
 
 abbrev pub with_links : List ℕ → Page → Page
 with_links ls g = record { pairs = g.pairs; links = ls }
+
+-- the pages, where one has these pairs now
+abbrev pub with_pairs_at : List Page → ℕ → List Pair → List Page
+with_pairs_at pages p ps = slice_set pages p (with_pairs ps (page_in pages p))
+
+-- the pages, where one has these links now
+abbrev pub with_links_at : List Page → ℕ → List ℕ → List Page
+with_links_at pages p ls = slice_set pages p (with_links ls (page_in pages p))
+
+-- the pages, when the pairs of one from a place on have gone to another, in place of the pairs there
+abbrev pub pairs_split : List Page → ℕ → ℕ → ℕ → List Page
+pairs_split pages p at to =
+    let own = (page_in pages p).pairs in
+    slice_set (slice_set pages to (with_pairs (drop at own) (page_in pages to))) p (with_pairs (take at own) (page_in pages p))
+
+-- the pages, when the links of one from a place on have gone to another, in place of the links there
+abbrev pub links_split : List Page → ℕ → ℕ → ℕ → List Page
+links_split pages p at to =
+    let own = (page_in pages p).links in
+    slice_set (slice_set pages to (with_links (drop at own) (page_in pages to))) p (with_links (take at own) (page_in pages p))
 
 abbrev pub store_view : Inside → Store
 store_view x = record { key_len = x.pair_pages.key_len; pages = zipped x.pair_pages.pages x.link_pages.pages }

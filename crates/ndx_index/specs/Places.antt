@@ -2,7 +2,7 @@
 use Rattle.std.specs.Prelude.{ℕ, zero, suc, ◌+◌, ◌-◌, ◌==◌, nat_le, if◌then◌else◌, List, [], ◌∷◌, Option, None}
 use Rattle.std.specs.List.{slice_get}
 
--- the element that stands so many steps before a place; none before the first
+-- the element that stands a number of steps before a place; none before the first
 abbrev pub back_from : {X : Type 0} → List X → ℕ → ℕ → Option X
 back_from xs place steps = if nat_le steps place then slice_get xs (place - steps) else None
 
@@ -11,7 +11,7 @@ abbrev pub place_in : ℕ → List ℕ → ℕ
 place_in number [] = 0
 place_in number (m ∷ ns) = if m == number then 0 else suc (place_in number ns)
 
--- so many numbers, counted on from the first
+-- n numbers, counted on from the first
 abbrev pub counted : ℕ → ℕ → List ℕ
 counted from zero = []
 counted from (suc n) = from ∷ counted (from + 1) n

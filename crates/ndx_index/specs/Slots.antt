@@ -1,5 +1,6 @@
 -- Pairs whose keys stand one after another in one run of bytes, all of one length.
-use Rattle.std.specs.Prelude.{◌≡◌, ℕ, ◌+◌, ◌*◌, ◌≤◌, List, [], ◌∷◌, length, take, drop, replicate, slice_index_or, vec_capacity}
+use Rattle.std.specs.Prelude.{◌≡◌, ℕ, ◌+◌, ◌*◌, ◌≤◌, ◌<◌, Bool, true, List, [], ◌∷◌, length, take, drop, replicate, slice_index_or, vec_capacity}
+use Rattle.key_expr.specs.declared.format.TheConstants.{MAX_KEY_BYTES}
 use Rattle.ndx_index.specs.declared.pair.Pair.{Pair}
 use Rattle.ndx_index.specs.declared.pages.slots.PairSlots.TheInside.{Inside}
 
@@ -20,6 +21,10 @@ no_pair = record { key = []; number = 0 }
 abbrev pub slot_at : List Pair → ℕ → Pair
 slot_at ps i = slice_index_or ps i no_pair
 
+-- each of the pairs from a place on passes the test
+abbrev pub AllPassFrom : (Pair → Bool) → List Pair → ℕ → Type 0
+AllPassFrom test ps at = (k : ℕ) → at ≤ k → k < length ps → test (slot_at ps k) ≡ true
+
 -- a slot that nothing was put into yet
 abbrev pub blank : ℕ → Pair
 blank k = record { key = replicate k 0; number = 0 }
@@ -29,7 +34,7 @@ slots_view x = record { key_len = x.key_len; pairs = slot_pairs x.key_len x.keys
 
 -- the runs fit each other, and both have room for the spare slots
 pub record AreRuns (x : Inside) : Type 0 where
-  pub short : x.key_len ≤ 100
+  pub short : x.key_len ≤ MAX_KEY_BYTES
   pub fit : length x.keys.items ≡ length x.numbers.items * x.key_len
   pub keys_room : (length x.numbers.items + x.spare) * x.key_len ≤ vec_capacity x.keys
   pub numbers_room : length x.numbers.items + x.spare ≤ vec_capacity x.numbers

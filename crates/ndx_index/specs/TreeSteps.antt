@@ -5,6 +5,7 @@ use Rattle.ndx_index.specs.Order.{before, placed, without_pair, AreInOrder}
 use Rattle.ndx_index.specs.Slots.{slot_at}
 use Rattle.ndx_index.specs.declared.pair.Pair.{Pair}
 use Rattle.ndx_index.specs.declared.pages.free.FreeList.{FreeList}
+use Rattle.ndx_index.specs.declared.pages.pair_pages.TheConstants.{PLACES}
 use Rattle.ndx_index.specs.declared.pages.root.Root.{Root}
 use Rattle.ndx_index.specs.PageStore.{Page, page_in, no_page}
 use Rattle.ndx_index.specs.IndexTree.{pairs_under, here, uses, uses_free, uses_both, AllBefore, AllFrom, IsTree, IsFreeList, width, pairs_in, uses_in, IsTreeIn}
@@ -44,7 +45,7 @@ pub record IsSubtreeApart (d : ℕ) (a : List Page) (f : FreeList) (p : ℕ) : T
 pub record CanHalve (d : ℕ) (a : List Page) (c q : ℕ) : Type 0 where
   pub tree : IsTree d a c
   pub order : AreInOrder (pairs_under d a c)
-  pub full : width d (page_in a c) ≡ 16
+  pub full : width d (page_in a c) ≡ PLACES
   pub there : q < length a
   pub empty : page_in a q ≡ no_page
   pub apart : (r : ℕ) → uses d a c r + here q r ≤ 1
@@ -56,8 +57,8 @@ pub record Halves (d : ℕ) (a b : List Page) (c q : ℕ) (m : Pair) : Type 0 wh
   pub upper_tree : IsTree d b q
   pub below : AllBefore m (pairs_under d b c)
   pub from : AllFrom m (pairs_under d b q)
-  pub lower_room : width d (page_in b c) < 16
-  pub upper_room : width d (page_in b q) < 16
+  pub lower_room : width d (page_in b c) < PLACES
+  pub upper_room : width d (page_in b q) < PLACES
   pub uses_stay : (r : ℕ) → uses d b c r + uses d b q r ≡ uses d a c r + here q r
   pub frame : (r : ℕ) → (r ≡ c → ⊥) → (r ≡ q → ⊥) → page_in b r ≡ page_in a r
   pub same_length : length b ≡ length a
@@ -67,8 +68,8 @@ pub record CanSplit (d : ℕ) (a : List Page) (f : FreeList) (p i : ℕ) : Type 
   pub whole : IsSubtreeApart (suc d) a f p
   pub some : 0 < f.count
   pub in_range : i < length (page_in a p).links
-  pub room : length (page_in a p).links < 16
-  pub full : width d (page_in a (slice_index (page_in a p).links i)) ≡ 16
+  pub room : length (page_in a p).links < PLACES
+  pub full : width d (page_in a (slice_index (page_in a p).links i)) ≡ PLACES
 
 -- the i-th child of p is cut in two, parted by the i-th key
 pub record Splits (d : ℕ) (a b : List Page) (f g : FreeList) (p i : ℕ) : Type 0 where
@@ -77,8 +78,8 @@ pub record Splits (d : ℕ) (a b : List Page) (f g : FreeList) (p i : ℕ) : Typ
   pub count : g.count + 1 ≡ f.count
   pub keys : (page_in b p).pairs ≡ insert (page_in a p).pairs i (slot_at (page_in b p).pairs i)
   pub links : length (page_in b p).links ≡ length (page_in a p).links + 1
-  pub lower_room : width d (page_in b (slice_index (page_in b p).links i)) < 16
-  pub upper_room : width d (page_in b (slice_index (page_in b p).links (i + 1))) < 16
+  pub lower_room : width d (page_in b (slice_index (page_in b p).links i)) < PLACES
+  pub upper_room : width d (page_in b (slice_index (page_in b p).links (i + 1))) < PLACES
 
 -- ---- a pair is put in
 
@@ -99,7 +100,7 @@ pub record IsChildFor (p : Pair) (g : Page) (c : ℕ) : Type 0 where
 -- page p has room, and there is a free page for each level below it
 pub record CanInsert (d : ℕ) (a : List Page) (f : FreeList) (p : ℕ) (pair : Pair) : Type 0 where
   pub whole : IsSubtreeApart d a f p
-  pub room : width d (page_in a p) < 16
+  pub room : width d (page_in a p) < PLACES
   pub enough : d ≤ f.count
   pub absent : Contains (pairs_under d a p) pair → ⊥
 
@@ -113,7 +114,7 @@ pub record ChildWithRoom (d : ℕ) (a b : List Page) (f g : FreeList) (p : ℕ) 
   pub keeps : Keeps (suc d) a b f g p
   pub enough : f.count ≤ g.count + 1
   pub child : IsChildFor pair (page_in b p) c
-  pub room : width d (page_in b c) < 16
+  pub room : width d (page_in b c) < PLACES
 
 -- ---- a pair is taken out
 

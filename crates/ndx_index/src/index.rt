@@ -49,7 +49,7 @@ impl Model for OrderedIndex {
 impl OrderedIndex {
     /// An index without pairs, for keys of this many bytes. It takes no memory.
     pub fn new(alloc: Global, key_len: usize) -> Self
-        requires { key_len ≤ MAX_KEY_BYTES }
+        requires short { key_len ≤ MAX_KEY_BYTES }
         ensures key_len { result.key_len ≡ key_len }
         ensures pairs { result.pairs ≡ [] }
     {

@@ -16,15 +16,15 @@
 //! the keys that begin with a text are, and when given pairs are the order of a table.
 #![tactic(auto)]
 
-ghost use Rattle.std.specs.Prelude.{◌≡◌, ◌≢◌, ◌↔◌, ℕ, List, [], ◌∷◌, Option, None, IsPermutation, IsSorted};
-ghost use Rattle.std.specs.List.{AllByRecursion};
+ghost use Rattle.std.specs.Prelude.{◌≡◌, ◌↔◌, ℕ, List, [], ◌∷◌, Option, None, IsPermutation, IsSorted};
 ghost use Rattle.dbf_image.specs.Table.{Table};
 ghost use Rattle.key_expr.specs.Grammar.{Expr};
 ghost use Rattle.ndx_index.specs.declared.pair.Pair.{Pair as PairValue};
 ghost use Rattle.ndx_index.specs.declared.read.page.PageLayout.{PageLayout as LayoutValue};
 ghost use Rattle.ndx_index.specs.declared.fault.NdxFault.{NdxFault as Fault};
-ghost use Rattle.ndx_index.specs.Header.{IsIndex, before_zero, trimmed_end};
-ghost use Rattle.ndx_index.specs.Image.{IsWritable, ndx_image};
+ghost use Rattle.ndx_index.specs.Header.{before_zero, trimmed_end};
+ghost use Rattle.ndx_index.specs.Image.{IsWritable};
+ghost use Rattle.ndx_index.specs.IndexFile.{HasNoZero, ReadsBackAs};
 ghost use Rattle.ndx_index.specs.NdxTree.{IsFileTree, Visits};
 ghost use Rattle.ndx_index.specs.Order.{in_order, pair_cmp, AreInOrder};
 ghost use Rattle.ndx_index.specs.TableOrder.{order, pairs_of};
@@ -71,8 +71,10 @@ pub fn one_walk()
 /// of its keys, and its key expression without the blanks at its end. Of an expression with a zero in it,
 /// which is none, what stands before the zero is read.
 pub fn reads_back()
-    ensures law { (text : List ℕ) (key_len : ℕ) (pairs : List PairValue) → IsWritable text key_len pairs → IsIndex (ndx_image text key_len pairs) (trimmed_end (before_zero text)) key_len pairs }
-    ensures plain { (text : List ℕ) (key_len : ℕ) (pairs : List PairValue) → IsWritable text key_len pairs → AllByRecursion (λ b. b ≢ 0) text → IsIndex (ndx_image text key_len pairs) (trimmed_end text) key_len pairs }
+    ensures law { (text : List ℕ) (key_len : ℕ) (pairs : List PairValue) → IsWritable text key_len pairs
+        → ReadsBackAs (trimmed_end (before_zero text)) text key_len pairs }
+    ensures plain { (text : List ℕ) (key_len : ℕ) (pairs : List PairValue) → IsWritable text key_len pairs → HasNoZero text
+        → ReadsBackAs (trimmed_end text) text key_len pairs }
 {}
 
 #[cfg(test)]

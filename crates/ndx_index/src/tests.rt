@@ -5,7 +5,7 @@ ghost use Rattle.std.specs.Prelude.{◌≡◌, ◌≤◌, length};
 use super::*;
 use byte_io::{ByteSink, MemorySink, WriteFault};
 use dbf_fields::{CHARACTER, Field, Schema};
-use key_expr::{Key, KeyExpr};
+use key_expr::{Key, KeyExpr, MAX_KEY_BYTES};
 use std::alloc::Global;
 use std::test::*;
 
@@ -43,9 +43,9 @@ fn part(bytes: &[u8], from: usize, to: usize) -> &[u8] {
 
 // The key of a record: two digits, and blanks after them.
 fn key(number: u32, len: usize) -> Key
-    requires { len ≤ 100 }
+    requires short { len ≤ MAX_KEY_BYTES }
 {
-    let mut bytes = [b' '; 100];
+    let mut bytes = [b' '; MAX_KEY_BYTES];
     bytes[0] = b'0' + (number / 10 % 10) as u8;
     bytes[1] = b'0' + (number % 10) as u8;
     Key::new(&bytes[..len])
@@ -63,7 +63,7 @@ fn put(index: &mut OrderedIndex, pair: &Pair) -> Result<(), Fail> {
 
 // The index of records 1 to count, put in from the last to the first.
 fn index_of(alloc: Global, count: u32, len: usize) -> Result<OrderedIndex, Fail>
-    requires { len ≤ 100 }
+    requires short { len ≤ MAX_KEY_BYTES }
 {
     let mut index = OrderedIndex::new(alloc, len);
     for i in 0..count {
@@ -79,7 +79,7 @@ fn index_of(alloc: Global, count: u32, len: usize) -> Result<OrderedIndex, Fail>
     Ok(index)
 }
 
-// One field NAME of characters, so wide.
+// One field NAME of characters, of this width.
 fn schema_of_name(alloc: Global, width: u8) -> Result<Schema, Fail> {
     let name = Field::new(alloc, b"NAME", CHARACTER, width, 0)?;
     Ok(Schema::new(alloc, &[name])?)

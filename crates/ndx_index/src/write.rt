@@ -6,8 +6,8 @@ ghost use Rattle.std.specs.List.{list_all, AllByRecursion};
 ghost use Rattle.byte_io.specs.Output.{Puts};
 ghost use Rattle.byte_io.specs.Sink.{grown, is_byte, IsFront, Rises};
 ghost use Rattle.key_expr.specs.Keys.{key_length};
-ghost use Rattle.ndx_index.specs.Header.{IsIndex, trimmed_end};
 ghost use Rattle.ndx_index.specs.Image.{header_page, ndx_image};
+ghost use Rattle.ndx_index.specs.IndexFile.{index_image, IsIndexOf};
 ghost use Rattle.ndx_index.specs.Index.{HaveLength};
 ghost use Rattle.ndx_index.specs.ListParts.{listed};
 ghost use Rattle.ndx_index.specs.Order.{AreInOrder};
@@ -31,7 +31,7 @@ use key_expr::{KeyExpr, MAX_EXPRESSION_BYTES};
 // The header page of a file whose last page is the root.
 fn put_header<S: ByteSink>(out: &mut SinkWriter<'_, S>, text: &[u8], shape: Shape, root: u32)
     requires text { length text.now ≤ MAX_EXPRESSION_BYTES }
-    requires root { root < 4294967295 }
+    requires root { root + 1 < 2 ^ 32 }
     ensures put { Puts out.old (header_page text.now shape.key_len (root + 1)) out.new }
 {
     put_u32(out, root);
@@ -48,7 +48,7 @@ fn put_header<S: ByteSink>(out: &mut SinkWriter<'_, S>, text: &[u8], shape: Shap
 
 // The bytes of the file.
 fn put_image<S: ByteSink>(out: &mut SinkWriter<'_, S>, text: &[u8], plan: &TreePlan<'_>)
-    requires { length text.now ≤ MAX_EXPRESSION_BYTES }
+    requires text { length text.now ≤ MAX_EXPRESSION_BYTES }
     ensures put { Puts out.old (ndx_image text.now plan.now.shape.key_len (listed plan.now.pairs)) out.new }
     ensures numbers { AllByRecursion (λ p. p.number < 2 ^ 32) (listed plan.now.pairs) }
 {
@@ -75,7 +75,7 @@ pub fn write_ndx<S: ByteSink>(
     requires count_bounded { length pairs.now.pairs ≤ MAX_PAIRS }
     requires keys { HaveLength (key_length expr.now.fields expr.now.expr) pairs.now.pairs }
     requires ordered { AreInOrder pairs.now.pairs }
-    ensures wrote { OnOk result (S.written sink.new ≡ grown (S.written sink.old) (ndx_image expr.now.text (key_length expr.now.fields expr.now.expr) pairs.now.pairs)) }
+    ensures wrote { OnOk result (S.written sink.new ≡ grown (S.written sink.old) (index_image expr.now pairs.now.pairs)) }
     ensures no_failure { OnOk result (S.failures sink.new ≡ S.failures sink.old) }
     ensures dated { result ≡ Err WriteFault.DateOutside → ⊥ }
     ensures blocks { result ≡ Err WriteFault.TooManyBlocks → ⊥ }
@@ -83,10 +83,10 @@ pub fn write_ndx<S: ByteSink>(
     // What the sink held before the call it still holds.
     ensures kept { IsFront (S.written sink.old) (S.written sink.new) }
     // What a sink that failed has taken is a front part of the file.
-    ensures front { result ≡ Err WriteFault.Sink → IsFront (S.written sink.new) (grown (S.written sink.old) (ndx_image expr.now.text (key_length expr.now.fields expr.now.expr) pairs.now.pairs)) }
-    ensures bytes { OnOk result (list_all is_byte (ndx_image expr.now.text (key_length expr.now.fields expr.now.expr) pairs.now.pairs) ≡ true) }
+    ensures front { result ≡ Err WriteFault.Sink → IsFront (S.written sink.new) (grown (S.written sink.old) (index_image expr.now pairs.now.pairs)) }
+    ensures bytes { OnOk result (list_all is_byte (index_image expr.now pairs.now.pairs) ≡ true) }
     // What is written can be read.
-    ensures reads_back { IsIndex (ndx_image expr.now.text (key_length expr.now.fields expr.now.expr) pairs.now.pairs) (trimmed_end expr.now.text) (key_length expr.now.fields expr.now.expr) pairs.now.pairs }
+    ensures reads_back { IsIndexOf (index_image expr.now pairs.now.pairs) expr.now pairs.now.pairs }
 {
     let plan = TreePlan::new(Shape::new(expr.key_len()), pairs.all());
     let mut out = SinkWriter::new(sink);

@@ -1,4 +1,4 @@
--- Where the records stand in the order of a table, and what stands so many places before or after a record.
+-- Where the records stand in the order of a table, and what stands a number of places before or after a record.
 use Rattle.std.proofs.Common.{◌≡◌, ℕ, zero, suc, ◌+◌, ◌-◌, ◌<◌, ◌≤◌, Bool, true, false, cond, eqb, List, [], ◌∷◌, length, map, get_or, Contains, Option, Some, None, refl, ap, sym, subst, ◌∙◌, arith}
 use Rattle.std.specs.List.{slice_get}
 use Rattle.std.specs.Prelude.{nat_le}
@@ -51,7 +51,7 @@ place_of_record table e number one inside =
     let own = record_there table e q (k, within, get_or_default qs k q p within) in
     (within, own.own ∙ ap (λ (n : ℕ). pair_at table n e) its)
 
--- ---- so many places on, and back
+-- ---- a number of places on, and back
 
 standing : (table : Table) (e : Expr) (number : ℕ) (ps : List Pair) (p : Pair) → 1 ≤ number → number ≤ length table.rows → ps ≡ order table e → p ≡ pair_at table number e
     → (place_in number (ordered table e) < length ps) × (get_or ps (place_in number (ordered table e)) p ≡ p)
@@ -62,7 +62,7 @@ standing table e number ps p one inside same own =
       ap (λ (qs : List Pair). get_or qs k p) same ∙ ap (get_or (order table e) k) own ∙ stands.1 ∙ sym own,
     )
 
--- what stands so many places after the place of a pair stands so many places after that of its record
+-- what stands a number of places after the place of a pair stands as many after that of its record
 pub after_record : (table : Table) (e : Expr) (number steps : ℕ) (ps : List Pair) (p : Pair) (r : Option Pair) → 1 ≤ number → number ≤ length table.rows
     → ps ≡ order table e → p ≡ pair_at table number e → ((i : ℕ) → i < length ps → get_or ps i p ≡ p → r ≡ slice_get ps (i + steps))
     → option_map (λ (q : Pair). q.number) r ≡ slice_get (ordered table e) (place_in number (ordered table e) + steps)
@@ -95,7 +95,7 @@ back-end ps steps some there =
     let b : nat_le (steps - 1) (length ps - 1) ≡ nat_le steps (length ps) = grind (arith, nat_tests) in
     rw (m, b) refl
 
--- so many places before the end is one less before the last pair
+-- a number of places before the end is one less before the last pair
 pub before_end : (table : Table) (e : Expr) (steps : ℕ) (ps : List Pair) (p : Pair) (r : Option Pair) → 1 ≤ steps → ps ≡ order table e
     → Some p ≡ slice_get ps (length ps - 1) → ((i : ℕ) → i < length ps → get_or ps i p ≡ p → r ≡ back_from ps i (steps - 1))
     → option_map (λ (q : Pair). q.number) r ≡ back_from (ordered table e) (length (ordered table e)) steps

@@ -143,7 +143,7 @@ fn turned(index: &mut OrderedIndex, there: &mut [bool], number: u32) -> Result<b
     Ok(knew)
 }
 
-// So many edits of records 0 to 999; whether the index knew at each whether the record was there.
+// A number of edits of records 0 to 999; whether the index knew at each whether the record was there.
 fn edited(index: &mut OrderedIndex, there: &mut [bool], edits: u32) -> Result<bool, Fail> {
     let mut state = 1_u32;
     for _ in 0..edits {

@@ -20,7 +20,7 @@ pub(crate) fn append_under(
     pairs: &[Pair],
 ) -> Result<Option<u32>, AllocError>
     requires can { CanAppend level store.old.pages page pairs.now }
-    requires count_bounded { length pairs.now ≤ 16 }
+    requires count_bounded { length pairs.now ≤ PLACES }
     requires keys { HaveLength store.old.key_len pairs.now }
     ensures appended { IfOk result (λ beside. Appends level store.old.pages store.new.pages page pairs.now beside) }
     ensures key_len { store.new.key_len ≡ store.old.key_len }

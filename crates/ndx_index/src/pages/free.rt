@@ -67,7 +67,7 @@ fn grow(store: &mut PageStore, free: &mut FreeList) -> Result<(), AllocError>
     Ok(())
 }
 
-/// Makes more pages free, until there are so many. An `Err` says that there was no memory, or no numbers for them;
+/// Makes more pages free, until there are as many as wanted. An `Err` says that there was no memory, or no numbers for them;
 /// those that were made stay.
 pub(crate) fn make_free(
     store: &mut PageStore,

@@ -4,11 +4,12 @@ ghost use Rattle.std.specs.Prelude.{◌≡◌, ◌<◌, length, take, drop};
 ghost use Rattle.ndx_index.specs.PageStore.{page_in};
 ghost use Rattle.ndx_index.specs.TreeSteps.{CanHalve, Halves};
 
+use crate::pages::pair_pages::PLACES;
 use crate::pages::store::PageStore;
 use crate::pair::Pair;
 
 // How many pairs or links of a full page stay.
-const HALF: u8 = 8;
+const HALF: u8 = PLACES as u8 / 2;
 
 /// Moves the upper half of a full page, this many levels above the leaves, to an empty page, and answers the pair that
 /// parts the two. It takes no memory.
@@ -44,6 +45,8 @@ fn halve_inner(store: &mut PageStore, level: usize, lower: u32, upper: u32) -> P
     ensures key { length result.key ≡ store.old.key_len }
     ensures key_len { store.new.key_len ≡ store.old.key_len }
 {
+    // For contracts alone: how many levels the page is above the leaves.
+    let _ = level;
     store.split_links(lower, HALF, upper);
     store.split_pairs(lower, HALF, upper);
     let middle = usize::from(HALF - 1);

@@ -1,14 +1,14 @@
 //! Pages of sixteen pairs.
 
-ghost use Rattle.std.specs.Prelude.{◌≡◌, ◌≢◌, ◌+◌, ◌<◌, ◌≤◌, ◌++◌, ℕ, [], ◌∷◌, length, take, drop, slice_set, OnOk, ◌^◌, true, false};
+ghost use Rattle.std.specs.Prelude.{◌≡◌, ◌≢◌, ◌+◌, ◌*◌, ◌<◌, ◌≤◌, ◌++◌, ℕ, [], ◌∷◌, length, take, drop, slice_set, OnOk, ◌^◌, true, false};
 ghost use Rattle.std.specs.List.{insert, remove};
 ghost use Rattle.key_expr.specs.declared.format.TheConstants.{MAX_KEY_BYTES};
 ghost use Rattle.ndx_index.specs.Bounds.{passes};
 ghost use Rattle.ndx_index.specs.Index.{HaveLength};
 ghost use Rattle.ndx_index.specs.Order.{AreInOrder};
 ghost use Rattle.ndx_index.specs.ListParts.{listed};
-ghost use Rattle.ndx_index.specs.Slots.{slot_at};
-ghost use Rattle.ndx_index.specs.PairPages.{page_at};
+ghost use Rattle.ndx_index.specs.Slots.{slot_at, AllPassFrom};
+ghost use Rattle.ndx_index.specs.PairPages.{page_at, split_page};
 
 use crate::pages::bound::Bound;
 use crate::pages::slots::PairSlots;
@@ -16,12 +16,13 @@ use crate::pair::Pair;
 use crate::pair_list::part::ListPart;
 use std::alloc::{AllocError, Global};
 use std::marker::Model;
+use std::ops::Range;
 
 /// The places of a page.
 pub(crate) const PLACES: usize = 16;
 
 /// The most pages, which are named by four bytes.
-pub(crate) const PAGES_MAX: usize = 0xffff_ffff;
+pub(crate) const MAX_PAGES: usize = 0xffff_ffff;
 
 /// Pages of at most sixteen pairs, whose keys have one length. Contracts see the list of pages, each the list
 /// of its pairs, and how many pages can be put after them without taking memory.
@@ -76,9 +77,22 @@ impl PairPages {
     pub(crate) fn count(&self, page: usize) -> usize
         requires page { page < length self.now.pages }
         ensures count { result ≡ length (page_at self.now.pages page) }
-        ensures bounded { result ≤ 16 }
+        ensures bounded { result ≤ PLACES }
     {
         usize::from(self.counts[page])
+    }
+
+    // The slots of a page's pairs.
+    fn slots_of(&self, page: usize) -> Range<usize>
+        requires page { page < length self.now.pages }
+        ensures start { result.start ≡ page * PLACES }
+        ensures end { result.end ≡ page * PLACES + length (page_at self.now.pages page) }
+        ensures bounded { length (page_at self.now.pages page) ≤ PLACES }
+        ensures near { page * PLACES + PLACES < 2 ^ 64 }
+    {
+        let count = usize::from(self.counts[page]);
+        let start = page * PLACES;
+        start..start + count
     }
 
     /// All pairs of a page, lent.
@@ -87,8 +101,7 @@ impl PairPages {
         ensures pairs { listed result ≡ page_at self.now.pages page }
         ensures key_len { result.key_len ≡ self.now.key_len }
     {
-        self.slots
-            .part(page * PLACES, usize::from(self.counts[page]))
+        self.slots.part(self.slots_of(page).start, self.count(page))
     }
 
     /// A page's pair.
@@ -98,7 +111,7 @@ impl PairPages {
         ensures pair { result ≡ slot_at (page_at self.now.pages page) at }
         ensures key { length result.key ≡ self.now.key_len }
     {
-        self.slots.get(page * PLACES + at)
+        self.slots.get(self.slots_of(page).start + at)
     }
 
     /// The record number of a page's pair.
@@ -107,7 +120,7 @@ impl PairPages {
         requires place { at < length (page_at self.now.pages page) }
         ensures number { result ≡ (slot_at (page_at self.now.pages page) at).number }
     {
-        self.slots.number(page * PLACES + at)
+        self.slots.number(self.slots_of(page).start + at)
     }
 
     /// Whether a page's pair passes a search's test. It copies no key.
@@ -116,26 +129,24 @@ impl PairPages {
         requires place { at < length (page_at self.now.pages page) }
         ensures value { result ≡ passes bound.now (slot_at (page_at self.now.pages page) at) }
     {
-        self.slots.passes(page * PLACES + at, bound)
+        self.slots.passes(self.slots_of(page).start + at, bound)
     }
 
     /// Puts a pair into a page that has room, before the pairs from a place on. It takes no memory.
     pub(crate) fn insert(&mut self, page: usize, at: usize, pair: &Pair)
         requires page { page < length self.old.pages }
-        requires room { length (page_at self.old.pages page) < 16 }
+        requires room { length (page_at self.old.pages page) < PLACES }
         requires place { at ≤ length (page_at self.old.pages page) }
         requires key { length pair.now.key ≡ self.old.key_len }
         ensures pages { self.new.pages ≡ slice_set self.old.pages page (insert (page_at self.old.pages page) at pair.now) }
         ensures key_len { self.new.key_len ≡ self.old.key_len }
         ensures spare { self.new.spare ≡ self.old.spare }
     {
-        let count = self.counts[page];
-        let low = page * PLACES;
-        let place = low + at;
-        self.slots
-            .copy_within(place, low + usize::from(count), place + 1);
-        self.slots.set(place, pair);
-        self.counts[page] = count + 1;
+        let slots = self.slots_of(page);
+        let slot = slots.start + at;
+        self.slots.copy_within(slot, slots.end, slot + 1);
+        self.slots.set(slot, pair);
+        self.counts[page] += 1;
     }
 
     /// Takes a pair out of a page. It takes no memory.
@@ -146,12 +157,10 @@ impl PairPages {
         ensures key_len { self.new.key_len ≡ self.old.key_len }
         ensures spare { self.new.spare ≡ self.old.spare }
     {
-        let count = self.counts[page];
-        let low = page * PLACES;
-        let place = low + at;
-        self.slots
-            .copy_within(place + 1, low + usize::from(count), place);
-        self.counts[page] = count - 1;
+        let slots = self.slots_of(page);
+        let slot = slots.start + at;
+        self.slots.copy_within(slot + 1, slots.end, slot);
+        self.counts[page] -= 1;
     }
 
     /// Moves the pairs of a page from a place on to another page, in place of what is there. It takes no memory.
@@ -160,13 +169,15 @@ impl PairPages {
         requires place { at ≤ length (page_at self.old.pages page) }
         requires to { to < length self.old.pages }
         requires apart { to ≢ page }
-        ensures pages { self.new.pages ≡ slice_set (slice_set self.old.pages to (drop at (page_at self.old.pages page))) page (take at (page_at self.old.pages page)) }
+        ensures pages { self.new.pages ≡ split_page self.old.pages page at to }
         ensures key_len { self.new.key_len ≡ self.old.key_len }
         ensures spare { self.new.spare ≡ self.old.spare }
     {
         let count = self.counts[page];
-        let low = page * PLACES;
-        self.slots.copy_within(low + usize::from(at), low + usize::from(count), to * PLACES);
+        let slots = self.slots_of(page);
+        let dest = self.slots_of(to).start;
+        self.slots
+            .copy_within(slots.start + usize::from(at), slots.end, dest);
         self.counts[to] = count - at;
         self.counts[page] = at;
     }
@@ -181,7 +192,7 @@ impl PairPages {
         if n <= self.spare {
             return Ok(());
         }
-        if n > PAGES_MAX - self.counts.len() {
+        if n > MAX_PAGES - self.counts.len() {
             return Err(AllocError);
         }
         self.slots.reserve(n * PLACES)?;
@@ -203,7 +214,7 @@ impl PairPages {
     /// Puts a page of these pairs after the others. It takes the room that was reserved, and no memory.
     pub(crate) fn push_filled(&mut self, pairs: &[Pair])
         requires room { 0 < self.old.spare }
-        requires count_bounded { length pairs.now ≤ 16 }
+        requires count_bounded { length pairs.now ≤ PLACES }
         requires keys { HaveLength self.old.key_len pairs.now }
         ensures pages { self.new.pages ≡ self.old.pages ++ pairs.now ∷ [] }
         ensures key_len { self.new.key_len ≡ self.old.key_len }
@@ -233,7 +244,7 @@ impl PairPages {
         requires order { AreInOrder (page_at self.now.pages page) }
         ensures within { result ≤ length (page_at self.now.pages page) }
         ensures below { (k : ℕ) → k < result → passes bound.now (slot_at (page_at self.now.pages page) k) ≡ false }
-        ensures above { (k : ℕ) → result ≤ k → k < length (page_at self.now.pages page) → passes bound.now (slot_at (page_at self.now.pages page) k) ≡ true }
+        ensures above { AllPassFrom (passes bound.now) (page_at self.now.pages page) result }
     {
         let mut low = 0;
         let mut high = self.count(page);

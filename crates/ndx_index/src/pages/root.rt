@@ -44,7 +44,7 @@ fn append(store: &mut PageStore, root: Root, pairs: &[Pair]) -> Result<Root, All
     requires tree { IsPlain store.old.pages root }
     requires order { AreInOrder (pairs_in store.old.pages root ++ pairs.now) }
     requires some { 0 < length pairs.now }
-    requires count_bounded { length pairs.now ≤ 16 }
+    requires count_bounded { length pairs.now ≤ PLACES }
     requires keys { HaveLength store.old.key_len pairs.now }
     ensures tree { IfOk result (λ new. IsPlain store.new.pages new) }
     ensures pairs { IfOk result (λ new. pairs_in store.new.pages new ≡ pairs_in store.old.pages root ++ pairs.now) }

@@ -1,12 +1,12 @@
 //! Searches in a tree.
 
-ghost use Rattle.std.specs.Prelude.{◌≡◌, ◌++◌, ◌-◌, not, find, reverse, slice_get, Some, length, OnOk, IfSome};
+ghost use Rattle.std.specs.Prelude.{◌≡◌, ◌++◌, not, find, reverse, slice_get, Some, OnOk, IfSome};
 ghost use Rattle.std.specs.Option.{option_map};
 ghost use Rattle.ndx_index.specs.Bounds.{passes};
 ghost use Rattle.ndx_index.specs.IndexTree.{pairs_under, IsTree};
 ghost use Rattle.ndx_index.specs.Order.{AreInOrder};
 ghost use Rattle.ndx_index.specs.PageStore.{page_in};
-ghost use Rattle.ndx_index.specs.LeafPlaces.{pair_at_place, IsPlace};
+ghost use Rattle.ndx_index.specs.LeafPlaces.{last_in, last_of_leaf, pair_at_place, IsPlace};
 ghost use Rattle.ndx_index.specs.Slots.{slot_at};
 
 use crate::pages::bound::Bound;
@@ -40,7 +40,7 @@ fn first_leaf(store: &PageStore, level: usize, page: u32) -> u32
 /// The greatest pair under a page.
 pub(crate) fn last_under(store: &PageStore, level: usize, page: u32) -> Pair
     requires tree { IsTree level store.now.pages page }
-    ensures pair { slice_get (pairs_under level store.now.pages page) (length (pairs_under level store.now.pages page) - 1) ≡ Some result }
+    ensures pair { last_in (pairs_under level store.now.pages page) ≡ Some result }
 {
     let leaf = last_leaf(store, level, page);
     store.pair(leaf, store.pair_count(leaf) - 1)
@@ -49,8 +49,8 @@ pub(crate) fn last_under(store: &PageStore, level: usize, page: u32) -> Pair
 // The leaf of the greatest pair under a page, which stands last there.
 fn last_leaf(store: &PageStore, level: usize, page: u32) -> u32
     requires tree { IsTree level store.now.pages page }
-    ensures place { IsPlace store.now.pages (record { page = result; at = length (page_in store.now.pages result).pairs - 1 }) }
-    ensures pair { slice_get (pairs_under level store.now.pages page) (length (pairs_under level store.now.pages page) - 1) ≡ Some (slot_at (page_in store.now.pages result).pairs (length (page_in store.now.pages result).pairs - 1)) }
+    ensures place { IsPlace store.now.pages (last_of_leaf store.now.pages result) }
+    ensures pair { last_in (pairs_under level store.now.pages page) ≡ Some (pair_at_place store.now.pages (last_of_leaf store.now.pages result)) }
 {
     if level == 0 {
         page

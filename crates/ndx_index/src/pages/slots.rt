@@ -81,7 +81,7 @@ impl PairSlots {
         }
     }
 
-    /// So many slots from one on, lent.
+    /// The `count` slots from one on, lent.
     pub(crate) fn part(&self, at: usize, count: usize) -> ListPart<'_>
         requires inside { at + count ≤ length self.now.pairs }
         ensures pairs { listed result ≡ take count (drop at self.now.pairs) }
@@ -97,7 +97,7 @@ impl PairSlots {
         requires place { at < length self.now.pairs }
         ensures bytes { result.now ≡ (slot_at self.now.pairs at).key }
         ensures len { length result.now ≡ self.now.key_len }
-        ensures short { length result.now ≤ 100 }
+        ensures short { length result.now ≤ MAX_KEY_BYTES }
     {
         part(self.keys.as_slice(), self.key_len, at)
     }

@@ -14,8 +14,8 @@ use crate::pair::Pair;
 /// Whether a page, this many levels above the leaves, has room for one pair or one link more.
 pub(crate) fn has_room(store: &PageStore, level: usize, page: u32) -> bool
     requires there { page < length store.now.pages }
-    ensures value { IsTrue result ↔ (width level (page_in store.now.pages page) < 16) }
-    ensures bounded { width level (page_in store.now.pages page) ≤ 16 }
+    ensures value { IsTrue result ↔ (width level (page_in store.now.pages page) < PLACES) }
+    ensures bounded { width level (page_in store.now.pages page) ≤ PLACES }
 {
     if level == 0 {
         store.pair_count(page) < PLACES

@@ -7,8 +7,9 @@ ghost use Rattle.ndx_index.specs.Bounds.{passes};
 ghost use Rattle.ndx_index.specs.Index.{HaveLength};
 ghost use Rattle.ndx_index.specs.Order.{before, AreInOrder};
 ghost use Rattle.ndx_index.specs.ListParts.{listed};
-ghost use Rattle.ndx_index.specs.Slots.{slot_at};
-ghost use Rattle.ndx_index.specs.PageStore.{page_in, no_page, with_pairs, with_links};
+ghost use Rattle.ndx_index.specs.Slots.{slot_at, AllPassFrom};
+ghost use Rattle.ndx_index.specs.declared.pages.pair_pages.TheConstants.{PLACES};
+ghost use Rattle.ndx_index.specs.PageStore.{page_in, no_page, with_pairs, with_pairs_at, with_links_at, pairs_split, links_split};
 
 use crate::pages::bound::Bound;
 use crate::pages::pair_pages::PairPages;
@@ -69,7 +70,7 @@ impl PageStore {
     pub(crate) fn pair_count(&self, page: u32) -> usize
         requires page { page < length self.now.pages }
         ensures count { result ≡ length (page_in self.now.pages page).pairs }
-        ensures bounded { result ≤ 16 }
+        ensures bounded { result ≤ PLACES }
     {
         self.pair_pages.count(page as usize)
     }
@@ -87,7 +88,7 @@ impl PageStore {
     pub(crate) fn link_count(&self, page: u32) -> usize
         requires page { page < length self.now.pages }
         ensures count { result ≡ length (page_in self.now.pages page).links }
-        ensures bounded { result ≤ 16 }
+        ensures bounded { result ≤ PLACES }
     {
         self.link_pages.count(page as usize)
     }
@@ -118,7 +119,7 @@ impl PageStore {
         requires order { AreInOrder (page_in self.now.pages page).pairs }
         ensures within { result ≤ length (page_in self.now.pages page).pairs }
         ensures below { (k : ℕ) → k < result → passes bound.now (slot_at (page_in self.now.pages page).pairs k) ≡ false }
-        ensures above { (k : ℕ) → result ≤ k → k < length (page_in self.now.pages page).pairs → passes bound.now (slot_at (page_in self.now.pages page).pairs k) ≡ true }
+        ensures above { AllPassFrom (passes bound.now) (page_in self.now.pages page).pairs result }
     {
         self.pair_pages.place(page as usize, bound)
     }
@@ -129,7 +130,7 @@ impl PageStore {
         requires order { AreInOrder (page_in self.now.pages page).pairs }
         ensures within { result ≤ length (page_in self.now.pages page).pairs }
         ensures below { (k : ℕ) → k < result → before pair.now (slot_at (page_in self.now.pages page).pairs k) ≡ false }
-        ensures above { (k : ℕ) → result ≤ k → k < length (page_in self.now.pages page).pairs → before pair.now (slot_at (page_in self.now.pages page).pairs k) ≡ true }
+        ensures above { AllPassFrom (before pair.now) (page_in self.now.pages page).pairs result }
     {
         self.place(page, &Bound::above(pair))
     }
@@ -137,10 +138,10 @@ impl PageStore {
     /// Puts a pair before a page's pairs from a place on. It takes no memory.
     pub(crate) fn put_pair(&mut self, page: u32, at: usize, pair: &Pair)
         requires page { page < length self.old.pages }
-        requires room { length (page_in self.old.pages page).pairs < 16 }
+        requires room { length (page_in self.old.pages page).pairs < PLACES }
         requires place { at ≤ length (page_in self.old.pages page).pairs }
         requires key { length pair.now.key ≡ self.old.key_len }
-        ensures pages { self.new.pages ≡ slice_set self.old.pages page (with_pairs (insert (page_in self.old.pages page).pairs at pair.now) (page_in self.old.pages page)) }
+        ensures pages { self.new.pages ≡ with_pairs_at self.old.pages page (insert (page_in self.old.pages page).pairs at pair.now) }
         ensures key_len { self.new.key_len ≡ self.old.key_len }
     {
         self.pair_pages.insert(page as usize, at, pair);
@@ -149,9 +150,9 @@ impl PageStore {
     /// Puts a link before a page's links from a place on. It takes no memory.
     pub(crate) fn put_link(&mut self, page: u32, at: usize, link: u32)
         requires page { page < length self.old.pages }
-        requires room { length (page_in self.old.pages page).links < 16 }
+        requires room { length (page_in self.old.pages page).links < PLACES }
         requires place { at ≤ length (page_in self.old.pages page).links }
-        ensures pages { self.new.pages ≡ slice_set self.old.pages page (with_links (insert (page_in self.old.pages page).links at link) (page_in self.old.pages page)) }
+        ensures pages { self.new.pages ≡ with_links_at self.old.pages page (insert (page_in self.old.pages page).links at link) }
         ensures key_len { self.new.key_len ≡ self.old.key_len }
     {
         let bare = Pair {
@@ -165,7 +166,7 @@ impl PageStore {
     pub(crate) fn take_pair(&mut self, page: u32, at: usize)
         requires page { page < length self.old.pages }
         requires place { at < length (page_in self.old.pages page).pairs }
-        ensures pages { self.new.pages ≡ slice_set self.old.pages page (with_pairs (remove (page_in self.old.pages page).pairs at) (page_in self.old.pages page)) }
+        ensures pages { self.new.pages ≡ with_pairs_at self.old.pages page (remove (page_in self.old.pages page).pairs at) }
         ensures key_len { self.new.key_len ≡ self.old.key_len }
     {
         self.pair_pages.remove(page as usize, at);
@@ -175,7 +176,7 @@ impl PageStore {
     pub(crate) fn take_link(&mut self, page: u32, at: usize)
         requires page { page < length self.old.pages }
         requires place { at < length (page_in self.old.pages page).links }
-        ensures pages { self.new.pages ≡ slice_set self.old.pages page (with_links (remove (page_in self.old.pages page).links at) (page_in self.old.pages page)) }
+        ensures pages { self.new.pages ≡ with_links_at self.old.pages page (remove (page_in self.old.pages page).links at) }
         ensures key_len { self.new.key_len ≡ self.old.key_len }
     {
         self.link_pages.remove(page as usize, at);
@@ -187,7 +188,7 @@ impl PageStore {
         requires place { at ≤ length (page_in self.old.pages page).pairs }
         requires to { to < length self.old.pages }
         requires apart { to ≢ page }
-        ensures pages { self.new.pages ≡ slice_set (slice_set self.old.pages to (with_pairs (drop at (page_in self.old.pages page).pairs) (page_in self.old.pages to))) page (with_pairs (take at (page_in self.old.pages page).pairs) (page_in self.old.pages page)) }
+        ensures pages { self.new.pages ≡ pairs_split self.old.pages page at to }
         ensures key_len { self.new.key_len ≡ self.old.key_len }
     {
         self.pair_pages.split(page as usize, at, to as usize);
@@ -199,7 +200,7 @@ impl PageStore {
         requires place { at ≤ length (page_in self.old.pages page).links }
         requires to { to < length self.old.pages }
         requires apart { to ≢ page }
-        ensures pages { self.new.pages ≡ slice_set (slice_set self.old.pages to (with_links (drop at (page_in self.old.pages page).links) (page_in self.old.pages to))) page (with_links (take at (page_in self.old.pages page).links) (page_in self.old.pages page)) }
+        ensures pages { self.new.pages ≡ links_split self.old.pages page at to }
         ensures key_len { self.new.key_len ≡ self.old.key_len }
     {
         self.link_pages.split(page as usize, at, to as usize);
@@ -230,7 +231,7 @@ impl PageStore {
     /// Puts a page of these pairs, without links, after the others, and answers its number. `AllocError` where there is
     /// no memory or no number for it; the pages are the same then.
     pub(crate) fn add_leaf(&mut self, pairs: &[Pair]) -> Result<u32, AllocError>
-        requires count_bounded { length pairs.now ≤ 16 }
+        requires count_bounded { length pairs.now ≤ PLACES }
         requires keys { HaveLength self.old.key_len pairs.now }
         ensures pages { OnOk result (self.new.pages ≡ self.old.pages ++ with_pairs pairs.now no_page ∷ []) }
         ensures number { IfOk result (λ page. page ≡ length self.old.pages) }

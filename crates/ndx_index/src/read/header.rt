@@ -18,15 +18,15 @@ use key_expr::MAX_KEY_BYTES;
 #[derive(Clone, Copy)]
 pub(crate) struct Header {
     /// The key length and the size of a key record.
-    pub layout: PageLayout,
+    pub(crate) layout: PageLayout,
     /// The number of the root page.
-    pub root: u32,
+    pub(crate) root: u32,
 }
 
 // The number in the two bytes at an offset.
 #[tactic(auto, unfolding(crate::specs::Header::u16_at))]
 fn u16_at(bytes: &[u8], at: usize) -> u16
-    requires { at + 2 ≤ length bytes.now }
+    requires inside { at + 2 ≤ length bytes.now }
     ensures value { result ≡ u16_at bytes.now at }
 {
     LittleEndian::read_u16(&bytes[at..])
@@ -93,7 +93,7 @@ fn trimmed_end(text: &[u8]) -> &[u8]
 /// The text of the key expression: from byte 24 of the header page up to its first zero or the page's
 /// end, without the blanks after it.
 pub(crate) fn expression(bytes: &[u8]) -> &[u8]
-    requires { PAGE ≤ length bytes.now }
+    requires long { PAGE ≤ length bytes.now }
     ensures value { result.now ≡ expression bytes.now }
 {
     trimmed_end(before_zero(&bytes[EXPRESSION_OFFSET..PAGE]))

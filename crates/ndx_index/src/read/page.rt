@@ -16,15 +16,15 @@ use std::alloc::AllocFailed;
 #[derive(Clone, Copy)]
 pub(crate) struct PageLayout {
     /// The bytes of a key.
-    pub key_len: usize,
+    pub(crate) key_len: usize,
     /// The bytes from one key record to the next.
-    pub size: usize,
+    pub(crate) size: usize,
 }
 
 /// The number in the four bytes at an offset.
 #[tactic(auto, unfolding(crate::specs::Pages::u32_at))]
 pub(crate) fn u32_at(bytes: &[u8], at: usize) -> u32
-    requires { at + 4 ≤ length bytes.now }
+    requires inside { at + 4 ≤ length bytes.now }
     ensures value { result ≡ u32_at bytes.now at }
 {
     LittleEndian::read_u32(&bytes[at..])

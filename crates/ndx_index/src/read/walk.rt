@@ -15,7 +15,7 @@ use std::alloc::Global;
 
 // The bytes of a page that is there and wasn't visited before. It is visited then.
 fn visit<'a>(bytes: &'a [u8], page: u32, visited: &mut Vec<bool>) -> Result<&'a [u8], NdxFault>
-    requires { vec_len visited.old ≡ length bytes.now / PAGE }
+    requires flags { vec_len visited.old ≡ length bytes.now / PAGE }
     ensures ok { IfOk result (λ taken. IsFirstVisit bytes.now page visited.old.items visited.new.items taken.now) }
     ensures err { IfErr result (FailsToVisit bytes.now page visited.old.items) }
 {
@@ -37,7 +37,7 @@ pub(crate) fn read_tree(
     layout: PageLayout,
     root: u32,
 ) -> Result<Vec<Pair>, NdxFault>
-    requires { IsPageLayout layout }
+    requires layout { IsPageLayout layout }
     // The walk over these pages breaks no rule, and gives the pairs.
     ensures ok { IfOk result (λ found. (pages : List ℕ) × Visits layout bytes.now [] (root ∷ []) pages found.items None) }
     // The fault is the first rule that the walk breaks.

@@ -10,7 +10,7 @@ fn after_another(alloc: Global, index: &OrderedIndex) -> Result<Vec<u8>, Fail> {
     Ok(whole)
 }
 
-// Whether a sink that has three bytes of another file and takes so many of the index's has these at the end.
+// Whether a sink that has three bytes of another file and takes `taken` more of the index's file has these bytes at the end.
 fn is_front(alloc: Global, index: &OrderedIndex, bytes: &[u8], taken: usize) -> Result<bool, Fail> {
     let mut sink = LimitedSink::new(alloc, 1, taken as u64);
     sink.taken.bytes.extend_from_slice(b"ABC")?;

@@ -59,7 +59,7 @@ fn assert_read(rt: &impl Abort, read: &NdxFile, key_len: usize, pairs: &PairList
     assert!(rt; are_same(&read.pairs, pairs));
 }
 
-// The file of an index of so many records, whose keys have ten bytes.
+// The file of an index of `count` records, whose keys have ten bytes.
 fn file_of(alloc: Global, count: u32) -> Result<Vec<u8>, Fail> {
     let index = index_of(alloc, count, 10)?;
     written(alloc, &index, 10)

@@ -3,9 +3,9 @@
 
 ghost use Rattle.std.specs.Prelude.{◌≡◌, ◌≢◌, min, ◌+◌, ◌-◌, ◌<◌, ◌≤◌, length, flat_map};
 ghost use Rattle.byte_io.specs.Output.{Puts};
-ghost use Rattle.ndx_index.specs.Image.{inner_group_size, inner_pages, inner_page, next_level};
+ghost use Rattle.ndx_index.specs.Image.{inner_group_size, inner_pages, inner_page};
 ghost use Rattle.ndx_index.specs.ListParts.{listed};
-ghost use Rattle.ndx_index.specs.Levels.{IsLevel, children_from, level as level_of};
+ghost use Rattle.ndx_index.specs.Levels.{IsLevel, children_from, parent_pages};
 
 use crate::format::MAX_RECORDS_BYTES;
 use crate::write::pieces::{put_key_record, put_u32, put_zeros};
@@ -40,7 +40,7 @@ fn put_inner<S: ByteSink>(
 
 // How many of `left` children the next page takes.
 fn next_count(shape: Shape, left: usize) -> usize
-    requires { 2 ≤ left }
+    requires several { 2 ≤ left }
     ensures is { result ≡ min (inner_group_size shape.keys left) left }
     ensures some { 1 ≤ result }
     ensures count_bounded { result ≤ shape.keys + 1 }
@@ -60,7 +60,7 @@ fn next_count(shape: Shape, left: usize) -> usize
 fn put_level<S: ByteSink>(out: &mut SinkWriter<'_, S>, plan: &TreePlan<'_>, level: LevelSpan)
     requires height { level.height < plan.now.height }
     requires level { IsLevel plan.now.shape.keys (listed plan.now.pairs) level.height level.first level.count }
-    ensures put { Puts out.old (flat_map (inner_page plan.now.shape.size) (next_level plan.now.shape.keys (level_of plan.now.shape.keys (listed plan.now.pairs) level.height).pages)) out.new }
+    ensures put { Puts out.old (flat_map (inner_page plan.now.shape.size) (parent_pages plan.now.shape.keys (listed plan.now.pairs) level.height)) out.new }
 {
     let mut at = 0;
     while at < level.count {

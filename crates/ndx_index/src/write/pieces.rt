@@ -30,7 +30,7 @@ pub(crate) fn put_u32<S: ByteSink>(out: &mut SinkWriter<'_, S>, number: u32)
 
 /// This many zeros, as they fill a page up.
 pub(crate) fn put_zeros<S: ByteSink>(out: &mut SinkWriter<'_, S>, n: usize)
-    requires { n ≤ PAGE }
+    requires within { n ≤ PAGE }
     ensures put { Puts out.old (replicate n 0) out.new }
 {
     if n == 0 {
@@ -49,7 +49,7 @@ pub(crate) fn put_key_record<S: ByteSink>(
     number: u32,
     key: &[u8],
 )
-    requires { length key.now ≤ MAX_KEY_BYTES }
+    requires short { length key.now ≤ MAX_KEY_BYTES }
     ensures put { Puts out.old (key_record shape.size child number key.now) out.new }
 {
     let mut numbers = [0; 8];

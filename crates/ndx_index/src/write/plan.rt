@@ -1,6 +1,6 @@
 //! The levels of an index's tree, as they will be written.
 
-ghost use Rattle.std.specs.Prelude.{◌≡◌, ◌+◌, ◌*◌, ◌/◌, ◌<◌, ◌≤◌, length};
+ghost use Rattle.std.specs.Prelude.{◌≡◌, ◌+◌, ◌*◌, ◌/◌, ◌^◌, ◌<◌, ◌≤◌, length};
 ghost use Rattle.std.proofs.Props.{props};
 ghost use Rattle.std.specs.List.{AllByRecursion};
 ghost use Rattle.ndx_index.specs.declared.format.TheConstants.{MAX_PAIRS};
@@ -21,24 +21,24 @@ const LEVELS: usize = 32;
 #[derive(Clone, Copy)]
 pub(crate) struct LevelSpan {
     /// How many levels are below it: 0 for the leaves.
-    pub height: usize,
+    pub(crate) height: usize,
     /// The number of its first page.
-    pub first: u32,
+    pub(crate) first: u32,
     /// How many pages it has.
-    pub count: usize,
+    pub(crate) count: usize,
 }
 
 /// What is known of a tree before any of it is written.
 #[derive(Clone, Copy)]
 pub(crate) struct TreePlan<'a> {
-    pub shape: Shape,
-    pub pairs: ListPart<'a>,
+    pub(crate) shape: Shape,
+    pub(crate) pairs: ListPart<'a>,
     /// How many pages each level below the root has, from the leaves on.
-    pub sizes: [usize; LEVELS],
+    pub(crate) sizes: [usize; LEVELS],
     /// How many levels are below the root.
-    pub height: usize,
+    pub(crate) height: usize,
     /// The number of the root page, which is the last of the file.
-    pub root: u32,
+    pub(crate) root: u32,
     ghost count_bounded: { length (listed pairs) ≤ MAX_PAIRS },
     ghost keys: { AllByRecursion (λ p. length p.key + 8 ≤ shape.size) (listed pairs) } by { Prim.hlevel props },
     ghost depth: { height ≤ length sizes },
@@ -72,7 +72,7 @@ impl<'a> TreePlan<'a> {
 
 // The level of the leaves.
 fn leaves_of(shape: Shape, pairs: ListPart<'_>) -> LevelSpan
-    requires { length (listed pairs) ≤ MAX_PAIRS }
+    requires count_bounded { length (listed pairs) ≤ MAX_PAIRS }
     ensures height { result.height ≡ 0 }
     ensures first { result.first ≡ 1 }
     ensures count { result.count ≡ length (leaves shape.keys (listed pairs.entry)) }
@@ -90,7 +90,7 @@ fn leaves_of(shape: Shape, pairs: ListPart<'_>) -> LevelSpan
 
 // The level above a level of several pages.
 fn above(shape: Shape, level: LevelSpan) -> LevelSpan
-    requires numbers { level.first + level.count ≤ 4294967295 }
+    requires numbers { level.first + level.count < 2 ^ 32 }
     requires height { level.height < LEVELS }
     ensures height { result.height ≡ level.height + 1 }
     ensures first { result.first ≡ level.first + level.count }
@@ -105,7 +105,7 @@ fn above(shape: Shape, level: LevelSpan) -> LevelSpan
 
 // Which of `count` children is the last one of page `page` above them.
 fn last_child(shape: Shape, count: usize, page: usize) -> usize
-    requires { page * (shape.keys + 1) < count }
+    requires child { page * (shape.keys + 1) < count }
     ensures last { IsLast shape.keys count page result }
 {
     let start = page * (shape.keys + 1);

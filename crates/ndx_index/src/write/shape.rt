@@ -10,11 +10,11 @@ use crate::format::MAX_RECORDS_BYTES;
 #[derive(Clone, Copy)]
 pub(crate) struct Shape {
     /// The bytes of a key.
-    pub key_len: usize,
+    pub(crate) key_len: usize,
     /// The bytes of a key record: eight and the key, up to a multiple of four.
-    pub size: usize,
+    pub(crate) size: usize,
     /// The most key records of a page.
-    pub keys: usize,
+    pub(crate) keys: usize,
     ghost fits: { IsShape key_len size keys },
 }
 

@@ -10,7 +10,7 @@ use Rattle.ndx_index.proofs.write.plan.greatest.Goals as goal
 pub last_child-at-requires : goal.last_child-at-requires
 last_child-at-requires c =
     let plan = c.args.plan.now in
-    step_down plan.shape.keys (listed plan.pairs) plan.height c.loop-below.below c.loop-below.at plan.sizes plan.shape.fits.some plan.below (omega arith) (omega arith) c.loop-below.invariant.inside
+    record { child = step_down plan.shape.keys (listed plan.pairs) plan.height c.loop-below.below c.loop-below.at plan.sizes plan.shape.fits.some plan.below (omega arith) (omega arith) c.loop-below.invariant.inside }
 
 pub loop-below-preserved : goal.loop-below-preserved
 loop-below-preserved c =

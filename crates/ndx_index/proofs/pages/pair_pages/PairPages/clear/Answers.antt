@@ -4,13 +4,10 @@ use Rattle.ndx_index.proofs.PageLaws.{is_there, page_changed}
 use Rattle.ndx_index.proofs.pages.pair_pages.PairPages.clear.Goals as goal
 
 pub index_mut-requires : goal.index_mut-requires
-index_mut-requires c =
-    let there = is_there c.self.inside c.args.self.now c.args.page c.self.view_is c.self.invariant c.requires.page in
-    omega (arith, there.index, c.self.inside.counts.ok.0)
+index_mut-requires c = omega (arith, (is_there c.self.view_is c.self.invariant c.requires.page).index, c.self.inside.counts.ok.0)
 
 pub returns-clause-pages : goal.returns-clause-pages
 returns-clause-pages c =
-    let there = is_there c.self.inside c.args.self.now c.args.page c.self.view_is c.self.invariant c.requires.page in
     let ps = c.self.inside.slots.pairs in
-    page_changed c.self.inside.counts.items ps ps c.args.page 0 c.self.invariant.bounded there.index refl refl
+    page_changed c.self.inside.counts.items ps ps c.args.page 0 c.self.invariant.bounded (is_there c.self.view_is c.self.invariant c.requires.page).index refl refl
     ∙ ap (λ (s : Pages). set s.pages c.args.page []) c.self.view_is

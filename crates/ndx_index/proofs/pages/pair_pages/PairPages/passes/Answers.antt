@@ -1,24 +1,10 @@
-use Rattle.std.proofs.Common.{◌∙◌, ap, arith}
+use Rattle.std.proofs.Common.{ap, ◌∙◌, arith}
 use Rattle.ndx_index.specs.Bounds.{passes}
 use Rattle.ndx_index.proofs.PageLaws.{is_there, pair_in_page}
 use Rattle.ndx_index.proofs.pages.pair_pages.PairPages.passes.Goals as goal
 
-pub overflow_mul-page : goal.overflow_mul-page
-overflow_mul-page c =
-    let there = is_there c.self.inside c.args.self.now c.args.page c.self.view_is c.self.invariant c.requires.page in
-    omega (arith, there.near)
-
-pub overflow_add-page : goal.overflow_add-page
-overflow_add-page c =
-    let there = is_there c.self.inside c.args.self.now c.args.page c.self.view_is c.self.invariant c.requires.page in
-    omega (arith, there.near, there.count, there.bounded, c.requires.place)
-
 pub passes-requires : goal.passes-requires
-passes-requires c =
-    let there = is_there c.self.inside c.args.self.now c.args.page c.self.view_is c.self.invariant c.requires.page in
-    omega (arith, there.slots, there.count, there.bounded, c.requires.place)
+passes-requires c = omega (arith, (is_there c.self.view_is c.self.invariant c.requires.page).slots)
 
 pub returns : goal.returns
-returns c =
-    let there = is_there c.self.inside c.args.self.now c.args.page c.self.view_is c.self.invariant c.requires.page in
-    record { value = c.passes.ensures.value ∙ ap (passes c.args.bound.now) (pair_in_page c.self.inside c.args.self.now.pages c.args.page c.args.at there c.requires.place) }
+returns c = record { value = c.passes.ensures.value ∙ rw c.slots_of.ensures.start (ap (passes c.args.bound.now) (pair_in_page (is_there c.self.view_is c.self.invariant c.requires.page) c.requires.place)) }

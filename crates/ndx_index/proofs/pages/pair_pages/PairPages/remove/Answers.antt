@@ -1,72 +1,24 @@
-use Rattle.std.proofs.Common.{◌≡◌, ◌*◌, get_or, set, ℕ, take, drop, ap, sym, ◌∙◌, arith, List}
+use Rattle.std.proofs.Common.{length, ◌∙◌, arith}
 use Rattle.std.specs.List.{remove}
-use Rattle.std.proofs.lemmas.List.{get_or_read}
-use Rattle.ndx_index.specs.declared.pair.Pair.{Pair}
-use Rattle.ndx_index.specs.PairPages.{Pages, page_at}
-use Rattle.ndx_index.proofs.PageLaws.{is_there, page_removed}
+use Rattle.ndx_index.specs.PairPages.{page_at}
+use Rattle.ndx_index.proofs.PageLaws.{is_there, count_read, page_removed, page_edited}
 use Rattle.ndx_index.proofs.pages.pair_pages.PairPages.remove.Goals as goal
 
-pub index-count-requires : goal.index-count-requires
-index-count-requires c =
-    let there = is_there c.self.inside c.args.self.now c.args.page c.self.view_is c.self.invariant c.requires.page in
-    omega (arith, there.index, c.self.inside.counts.ok.0)
-
-pub overflow_mul-low : goal.overflow_mul-low
-overflow_mul-low c =
-    let there = is_there c.self.inside c.args.self.now c.args.page c.self.view_is c.self.invariant c.requires.page in
-    omega (arith, there.near)
-
-pub overflow_add-place : goal.overflow_add-place
-overflow_add-place c =
-    let there = is_there c.self.inside c.args.self.now c.args.page c.self.view_is c.self.invariant c.requires.page in
-    omega (arith, there.near, there.count, there.bounded, c.requires.place)
-
-pub overflow_add-low : goal.overflow_add-low
-overflow_add-low c =
-    let there = is_there c.self.inside c.args.self.now c.args.page c.self.view_is c.self.invariant c.requires.page in
-    omega (arith, there.near, there.bounded, get_or_read c.self.inside.counts.items c.args.page c.index-count.result.now there.index c.index-count.ensures 0)
-
-pub overflow_add-place-2 : goal.overflow_add-place-2
-overflow_add-place-2 c =
-    let there = is_there c.self.inside c.args.self.now c.args.page c.self.view_is c.self.invariant c.requires.page in
-    omega (arith, there.near, there.count, there.bounded, c.requires.place)
-
-pub copy_within-requires-clause-order : goal.copy_within-requires-clause-order
-copy_within-requires-clause-order c =
-    let there = is_there c.self.inside c.args.self.now c.args.page c.self.view_is c.self.invariant c.requires.page in
-    omega (arith, there.count, c.requires.place, get_or_read c.self.inside.counts.items c.args.page c.index-count.result.now there.index c.index-count.ensures 0)
-
-pub copy_within-requires-clause-inside : goal.copy_within-requires-clause-inside
-copy_within-requires-clause-inside c =
-    let there = is_there c.self.inside c.args.self.now c.args.page c.self.view_is c.self.invariant c.requires.page in
-    omega (arith, there.slots, there.bounded, get_or_read c.self.inside.counts.items c.args.page c.index-count.result.now there.index c.index-count.ensures 0)
-
-pub copy_within-requires-clause-room : goal.copy_within-requires-clause-room
-copy_within-requires-clause-room c =
-    let there = is_there c.self.inside c.args.self.now c.args.page c.self.view_is c.self.invariant c.requires.page in
-    omega (arith, there.slots, there.bounded, there.count, c.requires.place, get_or_read c.self.inside.counts.items c.args.page c.index-count.result.now there.index c.index-count.ensures 0)
-
-pub overflow_sub-count : goal.overflow_sub-count
-overflow_sub-count c =
-    let there = is_there c.self.inside c.args.self.now c.args.page c.self.view_is c.self.invariant c.requires.page in
-    omega (arith, there.count, c.requires.place, get_or_read c.self.inside.counts.items c.args.page c.index-count.result.now there.index c.index-count.ensures 0)
+pub copy_within-requires : goal.copy_within-requires
+copy_within-requires c =
+    let there = is_there c.self.view_is c.self.invariant c.requires.page in
+    record { order = omega arith; inside = omega (arith, there.slots); room = omega (arith, there.slots) }
 
 pub index_mut-requires : goal.index_mut-requires
-index_mut-requires c =
-    let there = is_there c.self.inside c.args.self.now c.args.page c.self.view_is c.self.invariant c.requires.page in
-    omega (arith, there.index, c.self.inside.counts.ok.0)
+index_mut-requires c = omega (arith, (is_there c.self.view_is c.self.invariant c.requires.page).index, c.self.inside.counts.ok.0)
+
+pub overflow_sub-index_mut : goal.overflow_sub-index_mut
+overflow_sub-index_mut c = omega (arith, count_read (is_there c.self.view_is c.self.invariant c.requires.page) c.index_mut.ensures.value)
 
 pub returns-clause-pages : goal.returns-clause-pages
 returns-clause-pages c =
-    let there = is_there c.self.inside c.args.self.now c.args.page c.self.view_is c.self.invariant c.requires.page in
-    let n = c.index-count.result.now in
-    let low = c.args.page * 16 in
-    let ps = c.self.inside.slots.pairs in
-    let read : n ≡ get_or c.self.inside.counts.items c.args.page 0 = get_or_read c.self.inside.counts.items c.args.page n there.index c.index-count.ensures 0 in
-    let pages = ap (λ (s : Pages). s.pages) c.self.view_is in
-    let same : take n (drop low ps) ≡ page_at c.args.self.now.pages c.args.page = ap (λ (k : ℕ). take k (drop low ps)) read ∙ sym there.page in
-    let law = page_removed c.self.inside.counts.items ps c.args.page c.args.at n c.self.invariant.bounded there.index c.self.invariant.fit
-    (omega (arith, read, there.count, c.requires.place)) (omega (arith, read, there.bounded)) in
-    rw (c.copy_within.ensures.pairs, c.from.ensures)
-    (law ∙ ap (λ (l : List (List Pair)). set l c.args.page (remove (take n (drop low ps)) c.args.at)) pages
-    ∙ ap (λ (g : List Pair). set c.args.self.now.pages c.args.page (remove g c.args.at)) same)
+    let there = is_there c.self.view_is c.self.invariant c.requires.page in
+    let n = length (page_at c.args.self.now.pages c.args.page) in
+    rw (c.copy_within.ensures.pairs, c.slots_of-slots.ensures.start, c.slots_of-slots.ensures.end, count_read there c.index_mut.ensures.value)
+    (page_removed c.self.inside.counts.items c.self.inside.slots.pairs c.args.page c.args.at n c.self.invariant.bounded there.index c.self.invariant.fit c.requires.place c.slots_of-slots.ensures.bounded
+    ∙ page_edited (λ l. remove l c.args.at) c.self.view_is there)

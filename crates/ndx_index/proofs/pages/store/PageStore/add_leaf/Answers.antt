@@ -17,7 +17,7 @@ returns-clause-pages c =
     ∙ ap (λ (s : Store). s.pages ++ with_pairs new no_page ∷ []) c.self.view_is
 
 pub returns-clause-number : goal.returns-clause-number
-returns-clause-number c = c.page_count-page.ensures.value ∙ ap length c.reserve.ensures.pages ∙ sym (store_count c.self.inside c.args.self.now c.self.view_is c.self.invariant)
+returns-clause-number c = c.page_count-page.ensures.value ∙ ap length c.reserve.ensures.pages ∙ sym (store_count c.self.view_is c.self.invariant)
 
 pub returns-clause-count_bounded : goal.returns-clause-count_bounded
 returns-clause-count_bounded c =

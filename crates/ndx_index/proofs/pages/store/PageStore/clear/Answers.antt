@@ -1,18 +1,14 @@
-use Rattle.std.proofs.Common.{List, [], set, ap, ◌∙◌, arith}
+use Rattle.std.proofs.Common.{List, [], set, ap, ◌∙◌}
 use Rattle.ndx_index.specs.declared.pair.Pair.{Pair}
 use Rattle.ndx_index.specs.PageStore.{Store, no_page, zipped}
 use Rattle.ndx_index.proofs.TwinLaws.{is_twin, zip_cleared}
 use Rattle.ndx_index.proofs.pages.store.PageStore.clear.Goals as goal
 
 pub clear-requires : goal.clear-requires
-clear-requires c =
-    let twin = is_twin c.self.inside c.args.self.now c.args.page c.self.view_is c.self.invariant c.requires.page in
-    omega (arith, twin.pairs_index)
+clear-requires c = record { page = (is_twin c.self.view_is c.self.invariant c.requires.page).pairs_index }
 
 pub clear-requires-2 : goal.clear-requires-2
-clear-requires-2 c =
-    let twin = is_twin c.self.inside c.args.self.now c.args.page c.self.view_is c.self.invariant c.requires.page in
-    omega (arith, twin.links_index)
+clear-requires-2 c = record { page = (is_twin c.self.view_is c.self.invariant c.requires.page).links_index }
 
 pub returns-clause-pages : goal.returns-clause-pages
 returns-clause-pages c =

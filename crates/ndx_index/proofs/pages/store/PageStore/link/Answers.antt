@@ -6,19 +6,14 @@ use Rattle.ndx_index.specs.Slots.{no_pair}
 use Rattle.ndx_index.proofs.TwinLaws.{is_twin}
 use Rattle.ndx_index.proofs.pages.store.PageStore.link.Goals as goal
 
-pub number-requires-clause-page : goal.number-requires-clause-page
-number-requires-clause-page c =
-    let twin = is_twin c.self.inside c.args.self.now c.args.page c.self.view_is c.self.invariant c.requires.page in
-    omega (arith, twin.links_index)
-
-pub number-requires-clause-place : goal.number-requires-clause-place
-number-requires-clause-place c =
-    let twin = is_twin c.self.inside c.args.self.now c.args.page c.self.view_is c.self.invariant c.requires.page in
-    omega (arith, twin.link_count, c.requires.place)
+pub number-requires : goal.number-requires
+number-requires c =
+    let twin = is_twin c.self.view_is c.self.invariant c.requires.page in
+    record { page = twin.links_index; place = omega (arith, twin.link_count, c.requires.place) }
 
 pub returns : goal.returns
 returns c =
-    let twin = is_twin c.self.inside c.args.self.now c.args.page c.self.view_is c.self.invariant c.requires.page in
+    let twin = is_twin c.self.view_is c.self.invariant c.requires.page in
     let own = page_at c.self.inside.link_pages.pages c.args.page in
     record {
       link = c.number.ensures.number

@@ -3,4 +3,4 @@ use Rattle.ndx_index.proofs.TwinLaws.{store_count}
 use Rattle.ndx_index.proofs.pages.store.PageStore.page_count.Goals as goal
 
 pub returns : goal.returns
-returns c = record { value = c.page_count.ensures.value ∙ sym (store_count c.self.inside c.args.self.now c.self.view_is c.self.invariant) }
+returns c = record { value = c.page_count.ensures.value ∙ sym (store_count c.self.view_is c.self.invariant) }

@@ -1,13 +1,9 @@
-use Rattle.std.proofs.Common.{sym, ◌∙◌, arith}
+use Rattle.std.proofs.Common.{sym, ◌∙◌}
 use Rattle.ndx_index.proofs.TwinLaws.{is_twin}
 use Rattle.ndx_index.proofs.pages.store.PageStore.pair_count.Goals as goal
 
 pub count-requires : goal.count-requires
-count-requires c =
-    let twin = is_twin c.self.inside c.args.self.now c.args.page c.self.view_is c.self.invariant c.requires.page in
-    omega (arith, twin.pairs_index)
+count-requires c = record { page = (is_twin c.self.view_is c.self.invariant c.requires.page).pairs_index }
 
 pub returns-clause-count : goal.returns-clause-count
-returns-clause-count c =
-    let twin = is_twin c.self.inside c.args.self.now c.args.page c.self.view_is c.self.invariant c.requires.page in
-    c.count.ensures.count ∙ sym twin.pair_count
+returns-clause-count c = c.count.ensures.count ∙ sym (is_twin c.self.view_is c.self.invariant c.requires.page).pair_count

@@ -1,35 +1,20 @@
-use Rattle.std.proofs.Common.{ℕ, List, set, ap, sym, ◌∙◌, arith}
+use Rattle.std.proofs.Common.{rules, arith}
 use Rattle.std.specs.List.{insert}
 use Rattle.ndx_index.specs.declared.pair.Pair.{Pair}
-use Rattle.ndx_index.specs.PairPages.{page_at}
-use Rattle.ndx_index.specs.PageStore.{page_in, zipped, with_links}
-use Rattle.ndx_index.proofs.TwinLaws.{is_twin, links_put, links-insert}
+use Rattle.ndx_index.proofs.TwinLaws.{is_twin, links_changed, links-insert}
 use Rattle.ndx_index.proofs.pages.store.PageStore.put_link.Goals as goal
 
-pub insert-requires-clause-page : goal.insert-requires-clause-page
-insert-requires-clause-page c =
-    let twin = is_twin c.self.inside c.args.self.now c.args.page c.self.view_is c.self.invariant c.requires.page in
-    omega (arith, twin.links_index)
-
-pub insert-requires-clause-room : goal.insert-requires-clause-room
-insert-requires-clause-room c =
-    let twin = is_twin c.self.inside c.args.self.now c.args.page c.self.view_is c.self.invariant c.requires.page in
-    omega (arith, twin.link_count, c.requires.room)
-
-pub insert-requires-clause-place : goal.insert-requires-clause-place
-insert-requires-clause-place c =
-    let twin = is_twin c.self.inside c.args.self.now c.args.page c.self.view_is c.self.invariant c.requires.page in
-    omega (arith, twin.link_count, c.requires.place)
+pub insert-requires : goal.insert-requires
+insert-requires c =
+    let twin = is_twin c.self.view_is c.self.invariant c.requires.page in
+    record {
+      page = twin.links_index;
+      room = omega (arith, twin.link_count, c.requires.room);
+      place = omega (arith, twin.link_count, c.requires.place);
+      key = search rules;
+    }
 
 pub returns-clause-pages : goal.returns-clause-pages
 returns-clause-pages c =
-    let twin = is_twin c.self.inside c.args.self.now c.args.page c.self.view_is c.self.invariant c.requires.page in
-    let x = c.self.inside in
-    let now = c.args.self.now in
-    let p = c.args.page in
-    let own = page_at x.link_pages.pages p in
     let bare : Pair = record { key = c.new.result; number = c.args.link } in
-    ap (zipped x.pair_pages.pages) c.insert.ensures.pages
-    ∙ links_put x now p (insert own c.args.at bare) c.self.view_is c.self.invariant c.requires.page
-    ∙ ap (λ (l : List ℕ). set now.pages p (with_links l (page_in now.pages p))) (links-insert own c.args.at bare)
-    ∙ ap (λ (l : List ℕ). set now.pages p (with_links (insert l c.args.at c.args.link) (page_in now.pages p))) (sym twin.links)
+    links_changed (λ l. insert l c.args.at bare) (λ ls. insert ls c.args.at c.args.link) (λ l. links-insert l c.args.at bare) c.self.view_is c.self.invariant c.requires.page c.insert.ensures.pages

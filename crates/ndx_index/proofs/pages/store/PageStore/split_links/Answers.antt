@@ -1,35 +1,16 @@
-use Rattle.std.proofs.Common.{ℕ, List, take, drop, set, ap, sym, ◌∙◌, arith}
-use Rattle.ndx_index.specs.PairPages.{page_at}
-use Rattle.ndx_index.specs.PageStore.{page_in, links_of, zipped, with_links}
-use Rattle.ndx_index.proofs.TwinLaws.{is_twin, links_parted, links-take, links-drop}
+use Rattle.std.proofs.Common.{arith}
+use Rattle.ndx_index.proofs.TwinLaws.{is_twin, links_moved}
 use Rattle.ndx_index.proofs.pages.store.PageStore.split_links.Goals as goal
 
-pub split-requires-clause-page : goal.split-requires-clause-page
-split-requires-clause-page c =
-    let twin = is_twin c.self.inside c.args.self.now c.args.page c.self.view_is c.self.invariant c.requires.page in
-    omega (arith, twin.links_index)
-
-pub split-requires-clause-place : goal.split-requires-clause-place
-split-requires-clause-place c =
-    let twin = is_twin c.self.inside c.args.self.now c.args.page c.self.view_is c.self.invariant c.requires.page in
-    omega (arith, twin.link_count, c.requires.place)
-
-pub split-requires-clause-to : goal.split-requires-clause-to
-split-requires-clause-to c =
-    let twin = is_twin c.self.inside c.args.self.now c.args.to c.self.view_is c.self.invariant c.requires.to in
-    omega (arith, twin.links_index)
+pub split-requires : goal.split-requires
+split-requires c =
+    let twin = is_twin c.self.view_is c.self.invariant c.requires.page in
+    record {
+      page = twin.links_index;
+      place = omega (arith, twin.link_count, c.requires.place);
+      to = (is_twin c.self.view_is c.self.invariant c.requires.to).links_index;
+      apart = c.requires.apart;
+    }
 
 pub returns-clause-pages : goal.returns-clause-pages
-returns-clause-pages c =
-    let x = c.self.inside in
-    let now = c.args.self.now in
-    let p = c.args.page in
-    let q = c.args.to in
-    let at = c.args.at in
-    let own = page_at x.link_pages.pages p in
-    let twin = is_twin c.self.inside c.args.self.now c.args.page c.self.view_is c.self.invariant c.requires.page in
-    ap (zipped x.pair_pages.pages) c.split.ensures.pages
-    ∙ links_parted x now p q (take at own) (drop at own) c.self.view_is c.self.invariant c.requires.page c.requires.to
-    ∙ ap (λ (l : List ℕ). set (set now.pages q (with_links l (page_in now.pages q))) p (with_links (links_of (take at own)) (page_in now.pages p))) (links-drop own at)
-    ∙ ap (λ (l : List ℕ). set (set now.pages q (with_links (drop at (links_of own)) (page_in now.pages q))) p (with_links l (page_in now.pages p))) (links-take own at)
-    ∙ ap (λ (l : List ℕ). set (set now.pages q (with_links (drop at l) (page_in now.pages q))) p (with_links (take at l) (page_in now.pages p))) (sym twin.links)
+returns-clause-pages c = links_moved c.args.at c.self.view_is c.self.invariant c.requires.page c.requires.to c.split.ensures.pages

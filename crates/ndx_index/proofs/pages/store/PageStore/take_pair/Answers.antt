@@ -1,28 +1,12 @@
-use Rattle.std.proofs.Common.{List, set, ap, sym, ◌∙◌, arith}
+use Rattle.std.proofs.Common.{arith}
 use Rattle.std.specs.List.{remove}
-use Rattle.ndx_index.specs.declared.pair.Pair.{Pair}
-use Rattle.ndx_index.specs.PairPages.{page_at}
-use Rattle.ndx_index.specs.PageStore.{page_in, zipped, with_pairs}
-use Rattle.ndx_index.proofs.TwinLaws.{is_twin, pairs_put}
+use Rattle.ndx_index.proofs.TwinLaws.{is_twin, pairs_changed}
 use Rattle.ndx_index.proofs.pages.store.PageStore.take_pair.Goals as goal
 
-pub remove-requires-clause-page : goal.remove-requires-clause-page
-remove-requires-clause-page c =
-    let twin = is_twin c.self.inside c.args.self.now c.args.page c.self.view_is c.self.invariant c.requires.page in
-    omega (arith, twin.pairs_index)
-
-pub remove-requires-clause-place : goal.remove-requires-clause-place
-remove-requires-clause-place c =
-    let twin = is_twin c.self.inside c.args.self.now c.args.page c.self.view_is c.self.invariant c.requires.page in
-    omega (arith, twin.pair_count, c.requires.place)
+pub remove-requires : goal.remove-requires
+remove-requires c =
+    let twin = is_twin c.self.view_is c.self.invariant c.requires.page in
+    record { page = twin.pairs_index; place = omega (arith, twin.pair_count, c.requires.place) }
 
 pub returns-clause-pages : goal.returns-clause-pages
-returns-clause-pages c =
-    let twin = is_twin c.self.inside c.args.self.now c.args.page c.self.view_is c.self.invariant c.requires.page in
-    let x = c.self.inside in
-    let now = c.args.self.now in
-    let p = c.args.page in
-    let own = page_at x.pair_pages.pages p in
-    ap (λ (l : List (List Pair)). zipped l x.link_pages.pages) c.remove.ensures.pages
-    ∙ pairs_put x now p (remove own c.args.at) c.self.view_is c.self.invariant c.requires.page
-    ∙ ap (λ (l : List Pair). set now.pages p (with_pairs (remove l c.args.at) (page_in now.pages p))) (sym twin.pairs)
+returns-clause-pages c = pairs_changed (λ l. remove l c.args.at) c.self.view_is c.self.invariant c.requires.page c.remove.ensures.pages
