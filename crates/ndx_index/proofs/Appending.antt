@@ -1,7 +1,7 @@
 -- Pairs are put after all others of a tree, in a leaf of their own.
 use Rattle.std.proofs.Common.{Option, None, Some, Result, Ok, Err, IfOk, ◌≡◌, ℕ, suc, ◌+◌, ◌<◌, ◌≤◌, ◌^◌, List, [], ◌∷◌, ◌++◌, map, length, length-append, get_or, set, refl, ap, sym, ◌∙◌, subst, inl, inr, arith}
 use Rattle.std.specs.List.{AllByRecursion, insert}
-use Rattle.std.proofs.lemmas.Bool.{cases_eq, cases_lt, ne_eqb}
+use Rattle.std.proofs.lemmas.Bool.{cases_eq, cases_lt}
 use Rattle.std.proofs.lemmas.List.{append-nil, map-append, length-map, length-set, set-set, set_at, get_or_at, get_or-set_same, get_or-set_other, get_or_append_left}
 use Rattle.ndx_index.specs.declared.pair.Pair.{Pair}
 use Rattle.ndx_index.specs.Order.{AreInOrder}
@@ -12,19 +12,10 @@ use Rattle.ndx_index.specs.IndexTree.{pairs_under, pairs_of_levels, pairs_in, jo
 use Rattle.ndx_index.specs.TreeSteps.{CanAppend, Appends, AppendsUnder, AppendsBeside, AddsLink, IsOver}
 use Rattle.ndx_index.proofs.Order.{sorted_none}
 use Rattle.ndx_index.proofs.TreeFrame.{Framed, framed, here_itself}
-use Rattle.ndx_index.proofs.FreeFrame.{uses_there}
+use Rattle.ndx_index.proofs.FreeFrame.{uses_there, here_zero, here_few}
 use Rattle.ndx_index.proofs.TreeLists.{all_at, all_from, all_end, total_at, total_two, total_same, total-end, total_last, map_same, back_order, last_order, none_empty, order_end, insert_end, joined-end, grown, joined-grown, map_grown, keys_below, parted-grown, parted-end, first_after, none_before_first}
 
 -- ---- pages
-here_zero : (p r : ℕ) → (r ≡ p → ⊥) → here p r ≡ 0
-here_zero p r ne = rw (ne_eqb p r (λ e. ne (sym e))) refl
-
-here_one : (p r : ℕ) → here p r ≤ 1
-here_one p r = elim (cases_eq r p) [
-  | inl e ↦ subst (λ x. here p x ≤ 1) (sym e) (omega (arith, here_itself p))
-  | inr ne ↦ omega (arith, here_zero p r ne)
-]
-
 here_at : (p r : ℕ) → r ≡ p → here p r ≡ 1
 here_at p r e = subst (λ x. here p x ≡ 1) (sym e) (here_itself p)
 
@@ -222,7 +213,7 @@ beside_more d a b b1 ps q s done top count_bounded e =
       fresh = λ r lt. omega (arith, sums r, here_zero s r (λ i. omega (arith, i, top, lt, done.longer)), done.fresh r lt);
       apart = λ r. elim (cases_lt r (length b)) [
         | inl lt ↦ omega (arith, sums r, here_zero s r (λ i. omega (arith, i, top, lt)), done.apart r)
-        | inr past ↦ omega (arith, sums r, here_one s r, uses_past d b q r done.tree past)
+        | inr past ↦ omega (arith, sums r, here_few s r, uses_past d b q r done.tree past)
       ];
       new_used = λ r new lt. elim (cases_lt r (length b)) [
         | inl old ↦ omega (arith, sums r, here_zero s r (λ i. omega (arith, i, top, old)), done.new_used r new old)
@@ -293,7 +284,7 @@ over_both d a b b1 t u ps pair q is levels plain can done over =
       | inl lt ↦ omega (arith, sums r, here_zero s r (λ i. omega (arith, i, over.page, lt, done.longer)), can.apart r, done.fresh r lt)
       | inr past ↦ elim (cases_lt r (length b)) [
         | inl lt ↦ omega (arith, sums r, uses_past d a p r can.tree past, here_zero s r (λ i. omega (arith, i, over.page, lt)), done.apart r)
-        | inr new ↦ omega (arith, sums r, uses_past d a p r can.tree past, uses_past d b q r done.tree new, here_one s r)
+        | inr new ↦ omega (arith, sums r, uses_past d a p r can.tree past, uses_past d b q r done.tree new, here_few s r)
       ]
     ] in
     let once : (r : ℕ) → r < length b1 → uses (suc d) b1 s r ≡ 1 = λ r there. elim (cases_lt r (length a)) [

@@ -9,10 +9,10 @@ use Rattle.ndx_index.specs.IndexTree.{next_free_page, here, total, uses, uses_fr
 use Rattle.ndx_index.specs.TreeSteps.{MakesFree}
 use Rattle.ndx_index.proofs.TreeFrame.{here_itself}
 
-here_zero : (p r : ℕ) → (r ≡ p → ⊥) → here p r ≡ 0
+pub here_zero : (p r : ℕ) → (r ≡ p → ⊥) → here p r ≡ 0
 here_zero p r ne = rw (ne_eqb p r (λ e. ne (sym e))) refl
 
-here_few : (p r : ℕ) → here p r ≤ 1
+pub here_few : (p r : ℕ) → here p r ≤ 1
 here_few p r = elim (cases_eq r p) [
   | inl e ↦ omega (arith, subst (λ x. here p x ≡ 1) (sym e) (here_itself p))
   | inr ne ↦ omega (arith, here_zero p r ne)

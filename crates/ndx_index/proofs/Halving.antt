@@ -13,6 +13,7 @@ use Rattle.ndx_index.specs.IndexTree.{pairs_under, joined, total, here, uses, Is
 use Rattle.ndx_index.specs.TreeSteps.{CanHalve, Halves}
 use Rattle.ndx_index.specs.Laws.Comparing.{irreflexive, before_is, before_trans}
 use Rattle.ndx_index.proofs.TreeFrame.{here_itself, agrees_itself, framed}
+use Rattle.ndx_index.proofs.TreeLists.{not_itself, parted_length}
 
 -- ---- lists about one of their pairs
 
@@ -28,12 +29,6 @@ front_before m (x ∷ xs) ys s = (ap is_lt (all_less xs s.0), front_before m xs 
 not_back : (m q : Pair) → pair_cmp m q ≡ Less → before q m ≡ false
 not_back m q h = elim (before q m) as (λ t. before q m ≡ t → t ≡ false) [
   | true ↦ λ e. absurd (irreflexive m (before_trans m q m h (before_is q m e)))
-  | false ↦ λ e. refl
-] refl
-
-not_itself : (k : Pair) → before k k ≡ false
-not_itself k = elim (before k k) as (λ t. before k k ≡ t → t ≡ false) [
-  | true ↦ λ e. absurd (irreflexive k (before_is k k e))
   | false ↦ λ e. refl
 ] refl
 
@@ -235,13 +230,6 @@ children_stay d a b (c ∷ cs) agree =
       uses_stay = λ r. rw (first.uses_stay r, rest.uses_stay r) refl;
       trees = λ le t. (first.tree le t.0, rest.trees le t.1);
     }
-
-parted_length : (pss : List (List Pair)) (ks : List Pair) → Parted pss ks → length pss ≡ length ks + 1
-parted_length [] ks h = absurd h
-parted_length (ps ∷ []) [] h = refl
-parted_length (ps ∷ []) (k ∷ ks) h = absurd h
-parted_length (ps ∷ qs ∷ pss) [] h = absurd h
-parted_length (ps ∷ qs ∷ pss) (k ∷ ks) h = omega (arith, parted_length (qs ∷ pss) ks h.2)
 
 -- a full inner page has fifteen keys
 pub fifteen : (d : ℕ) (a : List Page) (c q : ℕ) → CanHalve (suc d) a c q → length (page_in a c).pairs ≡ 15

@@ -32,6 +32,7 @@ pub mod Keeping
 pub mod Parting
 pub mod TreeInsert
 pub mod Splitting
+pub mod ChildPlace
 pub mod SplitChild
 pub mod RootInsert
 pub mod Unparting

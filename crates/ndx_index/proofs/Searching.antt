@@ -17,7 +17,8 @@ use Rattle.ndx_index.specs.PageStore.{Page, page_in}
 use Rattle.ndx_index.specs.IndexTree.{pairs_under, joined, AllBefore, AllFrom, Parted, IsTree}
 use Rattle.ndx_index.specs.Laws.Lists.{all_weaker}
 use Rattle.ndx_index.specs.Laws.Comparing.{pairs_total, exact_pair, before_is}
-use Rattle.ndx_index.proofs.TreeLists.{NoneEmpty, all_at, none_empty, parted_length, links_length, child_order, tree_some}
+use Rattle.ndx_index.proofs.Parting.{NoneEmpty}
+use Rattle.ndx_index.proofs.TreeLists.{all_at, none_empty, parted_length, links_length, child_order, tree_some}
 
 -- a test that all pairs after one that passes it pass
 abbrev pub GoesUp : (Pair → Bool) → Type 0

@@ -1,17 +1,19 @@
 -- A full child below a page is split.
-use Rattle.std.proofs.Common.{◌≡◌, ℕ, zero, suc, ◌+◌, ◌<◌, ◌≤◌, true, false, List, [], ◌∷◌, ◌++◌, map, length, get_or, set, refl, ap, sym, ◌∙◌, subst, inl, inr, arith}
+use Rattle.std.proofs.Common.{◌≡◌, ℕ, zero, suc, ◌+◌, ◌-◌, ◌<◌, ◌≤◌, true, false, List, [], ◌∷◌, ◌++◌, map, length, get_or, set, refl, ap, sym, ◌∙◌, subst, inl, inr, arith}
 use Rattle.std.specs.List.{AllByRecursion, insert}
-use Rattle.std.proofs.lemmas.Bool.{cases_eq}
-use Rattle.std.proofs.lemmas.List.{get_or-set_same, get_or-set_other, length-set, get_or-map, length-map, get_or_default}
+use Rattle.std.proofs.lemmas.Bool.{cases_eq, cases_lt}
+use Rattle.std.proofs.lemmas.List.{set-set, get_or-set_same, get_or-set_other, length-set, get_or-map, length-map}
 use Rattle.ndx_index.specs.declared.pair.Pair.{Pair}
 use Rattle.ndx_index.specs.declared.pages.free.FreeList.{FreeList}
 use Rattle.ndx_index.specs.Order.{before, AreInOrder}
 use Rattle.ndx_index.specs.Slots.{slot_at, no_pair}
 use Rattle.ndx_index.specs.PageStore.{Page, page_in, no_page, with_pairs, with_links}
 use Rattle.ndx_index.specs.IndexTree.{pairs_under, joined, total, here, uses, uses_free, IsTree, IsFreeList, Parted, width}
-use Rattle.ndx_index.specs.TreeSteps.{Chosen, CanHalve, Halves, CanSplit, Splits, CanInsert, ChildWithRoom}
+use Rattle.ndx_index.specs.TreeSteps.{Chosen, CanHalve, Halves, CanSplit, Splits, CanInsert, ChildWithRoom, IsChildAt}
 use Rattle.ndx_index.proofs.TreeFrame.{here_itself, agrees_itself, framed, Framed}
-use Rattle.ndx_index.proofs.TreeInsert.{here_other, total_at, total_two, total_one, child_order, all_at, all_from, chosen_at, links_length, tree_some}
+use Rattle.ndx_index.proofs.TreeLists.{total_at, total_two, child_order, all_at, all_from, links_length, tree_some}
+use Rattle.ndx_index.proofs.TreeInsert.{here_other, total_one}
+use Rattle.ndx_index.proofs.ChildPlace.{one_up}
 use Rattle.ndx_index.proofs.Splitting.{two, key_in, key_in_is, cuts_one, map_two, total_insert}
 use Rattle.ndx_index.proofs.Keeping.{Took, took, keeps_itself, list_framed}
 
@@ -211,11 +213,6 @@ split d a a0 a1 b f g p i q c m x can takes one is halved written keys_are links
 pub parent_at : (d : ℕ) (a a0 a1 : List Page) (f g : FreeList) (p i q c : ℕ) (m : Pair) → CanSplit d a f p i → Takes a a0 f g q → get_or (page_in a p).links i 0 ≡ c → Halves d a0 a1 c q m → page_in a1 p ≡ page_in a p
 parent_at d a a0 a1 f g p i q c m can takes is halved = parent_kept d a0 a1 g p i q c m (ready d a a0 f g p i q c can takes is) halved ∙ parent_stays d a a0 f g p i q can takes
 
-set_twice : (xs : List Page) (i : ℕ) (x y : Page) → set (set xs i x) i y ≡ set xs i y
-set_twice [] i x y = refl
-set_twice (z ∷ zs) zero x y = refl
-set_twice (z ∷ zs) (suc i) x y = ap (λ ws. z ∷ ws) (set_twice zs i x y)
-
 -- a key leaves the links
 pub parent_links : (a1 b1 : List Page) (p i : ℕ) (m : Pair) → p < length a1 → b1 ≡ set a1 p (with_pairs (insert (page_in a1 p).pairs i m) (page_in a1 p)) → (page_in b1 p).links ≡ (page_in a1 p).links
 parent_links a1 b1 p i m lt first =
@@ -235,7 +232,7 @@ split_written d a a0 a1 b1 b f g p i q c m can takes one is halved first second 
     let links1 : (page_in b1 p).links ≡ (page_in a p).links = ap (λ (h : Page). h.links) at1 ∙ ap (λ (h : Page). h.links) same in
     let pairs1 : (page_in b1 p).pairs ≡ insert (page_in a p).pairs i m = ap (λ (h : Page). h.pairs) at1 ∙ ap (λ (h : Page). insert h.pairs i m) same in
     let next : i + 1 ≡ suc i = omega arith in
-    split d a a0 a1 b f g p i q c m x can takes one is halved (second ∙ ap (λ z. set z p x) first ∙ set_twice a1 p y x) pairs1 (ap (λ ls. insert ls (i + 1) q) links1 ∙ ap (λ k. insert (page_in a p).links k q) next)
+    split d a a0 a1 b f g p i q c m x can takes one is halved (second ∙ ap (λ z. set z p x) first ∙ set-set a1 p y x) pairs1 (ap (λ ls. insert ls (i + 1) q) links1 ∙ ap (λ k. insert (page_in a p).links k q) next)
 
 -- ---- the half for a pair
 pub chosen_low : (p m : Pair) (i : ℕ) (ks : List Pair) → Chosen p i ks → before p m ≡ true → Chosen p i (insert ks i m)
@@ -248,49 +245,54 @@ chosen_high p m zero ks h high = (high, h)
 chosen_high p m (suc i) [] h high = absurd h
 chosen_high p m (suc i) (k ∷ ks) h high = (h.0, chosen_high p m i ks h.1 high)
 
--- where a bisection found the first key above the pair
-pub chosen_there : (p : Pair) (i : ℕ) (ks : List Pair) → i ≤ length ks → ((k : ℕ) → k < i → before p (slot_at ks k) ≡ false) → ((k : ℕ) → i ≤ k → k < length ks → before p (slot_at ks k) ≡ true) → Chosen p i ks
-chosen_there p i ks le low high = chosen_at p i ks le
-    (λ k d lt. ap (before p) (get_or_default ks k d no_pair (omega (arith, le, lt))) ∙ low k lt)
-    (λ d lt. ap (before p) (get_or_default ks i d no_pair lt) ∙ high i (omega arith) lt)
-
 -- the child has room as it is
-pub child_there : (d : ℕ) (a : List Page) (f : FreeList) (p i c : ℕ) (pair : Pair) → CanInsert (suc d) a f p pair → i < length (page_in a p).links → get_or (page_in a p).links i 0 ≡ c → Chosen pair i (page_in a p).pairs → width d (page_in a c) < 16 → ChildWithRoom d a a f f p pair c
-child_there d a f p i c pair can lt is chosen room = record {
+pub child_there : {level : ℕ} {a : List Page} {f : FreeList} {p i c : ℕ} {pair : Pair} → 0 < level → IsChildAt pair (page_in a p) i c → CanInsert level a f p pair → width (level - 1) (page_in a c) < 16
+    → ChildWithRoom (level - 1) a a f f p pair c
+child_there {level = level} {a = a} {f = f} {p = p} {i = i} inner child can room = record {
   pairs = refl;
-  keeps = keeps_itself (suc d) a f p can.whole;
+  keeps = keeps_itself (suc (level - 1)) a f p (one_up inner can.whole);
   enough = omega arith;
-  child = record { place = i; in_range = lt; is = is; chosen = chosen };
+  child = record { place = i; there = child };
   room = room;
 }
 
-pub can_split : (d : ℕ) (a : List Page) (f : FreeList) (p i c : ℕ) (pair : Pair) → CanInsert (suc d) a f p pair → i < length (page_in a p).links → get_or (page_in a p).links i 0 ≡ c → width d (page_in a c) ≡ 16 → CanSplit d a f p i
-can_split d a f p i c pair can lt is full = record {
-  whole = can.whole;
-  some = omega (arith, can.enough);
-  in_range = lt;
-  room = can.room;
-  full = subst (λ x. width d (page_in a x) ≡ 16) (sym is) full;
-}
+-- the child has no room, and the page above it has
+pub can_split : {level : ℕ} {a : List Page} {f : FreeList} {p i c : ℕ} {pair : Pair} → 0 < level → IsChildAt pair (page_in a p) i c → CanInsert level a f p pair
+    → (width (level - 1) (page_in a c) < 16 → ⊥) → width (level - 1) (page_in a c) ≤ 16 → CanSplit (level - 1) a f p i
+can_split {level = level} {a = a} {f = f} {p = p} {c = c} {pair = pair} inner child can no_room bounded =
+    let d = level - 1 in
+    let here : CanInsert (suc d) a f p pair = subst (λ n. CanInsert n a f p pair) (omega arith) can in
+    let full : width d (page_in a c) ≡ 16 = elim (cases_lt (width d (page_in a c)) 16) [ inl less ↦ absurd (no_room less) | inr more ↦ omega (arith, more, bounded) ] in
+    record {
+      whole = here.whole;
+      some = omega (arith, here.enough);
+      in_range = child.in_range;
+      room = here.room;
+      full = subst (λ x. width d (page_in a x) ≡ 16) (sym child.is) full;
+    }
 
 -- the child is the lower half
-pub child_lower : (d : ℕ) (a b : List Page) (f g : FreeList) (p i c : ℕ) (pair : Pair) → Splits d a b f g p i → i < length (page_in a p).links → Chosen pair i (page_in a p).pairs → before pair (slot_at (page_in b p).pairs i) ≡ true → get_or (page_in b p).links i 0 ≡ c → ChildWithRoom d a b f g p pair c
-child_lower d a b f g p i c pair split lt chosen low is = record {
+pub child_lower : {d : ℕ} {a b : List Page} {f g : FreeList} {p i c e : ℕ} {pair : Pair} → Splits d a b f g p i → IsChildAt pair (page_in a p) i e → before pair (slot_at (page_in b p).pairs i) ≡ true
+    → get_or (page_in b p).links i 0 ≡ c → ChildWithRoom d a b f g p pair c
+child_lower {d = d} {a = a} {b = b} {p = p} {i = i} {pair = pair} split child low is = record {
   pairs = split.pairs;
   keeps = split.keeps;
   enough = omega (arith, split.count);
   child = record {
     place = i;
-    in_range = omega (arith, split.links, lt);
-    is = is;
-    chosen = subst (λ ks. Chosen pair i ks) (sym split.keys) (chosen_low pair (slot_at (page_in b p).pairs i) i (page_in a p).pairs chosen low);
+    there = record {
+      in_range = omega (arith, split.links, child.in_range);
+      is = is;
+      chosen = subst (λ ks. Chosen pair i ks) (sym split.keys) (chosen_low pair (slot_at (page_in b p).pairs i) i (page_in a p).pairs child.chosen low);
+    };
   };
   room = subst (λ x. width d (page_in b x) < 16) is split.lower_room;
 }
 
 -- the child is the upper half
-pub child_upper : (d : ℕ) (a b : List Page) (f g : FreeList) (p i c : ℕ) (pair : Pair) → Splits d a b f g p i → i < length (page_in a p).links → Chosen pair i (page_in a p).pairs → before pair (slot_at (page_in b p).pairs i) ≡ false → get_or (page_in b p).links (i + 1) 0 ≡ c → ChildWithRoom d a b f g p pair c
-child_upper d a b f g p i c pair split lt chosen high is =
+pub child_upper : {d : ℕ} {a b : List Page} {f g : FreeList} {p i c e : ℕ} {pair : Pair} → Splits d a b f g p i → IsChildAt pair (page_in a p) i e → before pair (slot_at (page_in b p).pairs i) ≡ false
+    → get_or (page_in b p).links (i + 1) 0 ≡ c → ChildWithRoom d a b f g p pair c
+child_upper {d = d} {a = a} {b = b} {p = p} {i = i} {pair = pair} split child high is =
     let next : suc i ≡ i + 1 = omega arith in
     record {
       pairs = split.pairs;
@@ -298,9 +300,11 @@ child_upper d a b f g p i c pair split lt chosen high is =
       enough = omega (arith, split.count);
       child = record {
         place = i + 1;
-        in_range = omega (arith, split.links, lt);
-        is = is;
-        chosen = subst (λ k. Chosen pair k (page_in b p).pairs) next (subst (λ ks. Chosen pair (suc i) ks) (sym split.keys) (chosen_high pair (slot_at (page_in b p).pairs i) i (page_in a p).pairs chosen high));
+        there = record {
+          in_range = omega (arith, split.links, child.in_range);
+          is = is;
+          chosen = subst (λ k. Chosen pair k (page_in b p).pairs) next (subst (λ ks. Chosen pair (suc i) ks) (sym split.keys) (chosen_high pair (slot_at (page_in b p).pairs i) i (page_in a p).pairs child.chosen high));
+        };
       };
       room = subst (λ x. width d (page_in b x) < 16) is split.upper_room;
     }

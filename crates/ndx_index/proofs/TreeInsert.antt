@@ -1,14 +1,13 @@
 -- An insert into a tree, one level up.
-use Rattle.std.proofs.Common.{◌≡◌, ℕ, zero, suc, ◌+◌, ◌<◌, ◌≤◌, true, false, cond, length-append, List, [], ◌∷◌, ◌++◌, map, length, get_or, set, Contains, refl, ap, sym, ◌∙◌, subst, inl, inr, arith}
+use Rattle.std.proofs.Common.{◌≡◌, ℕ, zero, suc, ◌+◌, ◌<◌, ◌≤◌, true, false, cond, List, [], ◌∷◌, map, length, get_or, set, Contains, refl, ap, sym, ◌∙◌, subst, inl, inr, arith}
 use Rattle.std.specs.List.{AllByRecursion, insert}
 use Rattle.std.specs.Ordering.{is_lt}
-use Rattle.std.specs.List.Sorted.{IsStrictlySortedBy}
 use Rattle.std.proofs.lemmas.Bool.{cases_eq}
-use Rattle.std.proofs.lemmas.List.{get_or-set_same, get_or-set_other, length-set, get_or-map, length-map, get_or_default}
-use Rattle.std.proofs.lemmas.List.Elements.{All-from_recursion, Contains-append_left, Contains-append_right, Contains-get_or}
+use Rattle.std.proofs.lemmas.List.{get_or-set_same, get_or-set_other, length-set, get_or-map, get_or_default}
+use Rattle.std.proofs.lemmas.List.Elements.{Contains-append_left, Contains-append_right, Contains-get_or}
 use Rattle.ndx_index.specs.declared.pair.Pair.{Pair}
 use Rattle.ndx_index.specs.declared.pages.free.FreeList.{FreeList}
-use Rattle.ndx_index.specs.Order.{pair_cmp, before, placed, AreInOrder}
+use Rattle.ndx_index.specs.Order.{before, placed, AreInOrder}
 use Rattle.ndx_index.specs.Laws.Comparing.{before_is, before_other}
 use Rattle.ndx_index.specs.Laws.Sorting.{not_after}
 use Rattle.ndx_index.specs.Slots.{slot_at, no_pair}
@@ -18,27 +17,13 @@ use Rattle.ndx_index.specs.TreeSteps.{Chosen, IsChildFor, IsSubtreeApart, CanIns
 use Rattle.ndx_index.proofs.TreeFrame.{framed, Framed, here_itself}
 use Rattle.ndx_index.proofs.Keeping.{keeps_then, list_framed}
 use Rattle.ndx_index.proofs.Order.{placed_at}
-use Rattle.ndx_index.proofs.Parting.{NoneEmpty, put_in, puts_in_one}
+use Rattle.ndx_index.proofs.Parting.{put_in, puts_in_one}
+use Rattle.ndx_index.proofs.TreeLists.{all_at, all_from, child_order, none_empty, total_at, total_same, total_two}
 
 pub here_other : (p r : ℕ) → here p r ≡ 0 → r ≡ p → ⊥
 here_other p r h e = omega (arith, here_itself p, subst (λ x. here p x ≡ 0) e h)
 
 -- ---- sums over children
-pub total_at : (f : ℕ → ℕ) (xs : List ℕ) (i : ℕ) → i < length xs → f (get_or xs i 0) ≤ total f xs
-total_at f [] i lt = absurd (omega arith)
-total_at f (x ∷ xs) zero lt = omega arith
-total_at f (x ∷ xs) (suc i) lt = let h = total_at f xs i (omega arith) in omega arith
-
-pub total_two : (f : ℕ → ℕ) (xs : List ℕ) (i j : ℕ) → i < length xs → j < length xs → (i ≡ j → ⊥) → f (get_or xs i 0) + f (get_or xs j 0) ≤ total f xs
-total_two f [] i j li lj ne = absurd (omega arith)
-total_two f (x ∷ xs) zero zero li lj ne = absurd (ne refl)
-total_two f (x ∷ xs) zero (suc j) li lj ne = let h = total_at f xs j (omega arith) in omega arith
-total_two f (x ∷ xs) (suc i) zero li lj ne = let h = total_at f xs i (omega arith) in omega arith
-total_two f (x ∷ xs) (suc i) (suc j) li lj ne = let h = total_two f xs i j (omega arith) (omega arith) (λ e. ne (ap suc e)) in omega arith
-
-total_same : (f g : ℕ → ℕ) (xs : List ℕ) → ((j : ℕ) → j < length xs → g (get_or xs j 0) ≡ f (get_or xs j 0)) → total g xs ≡ total f xs
-total_same f g [] same = refl
-total_same f g (x ∷ xs) same = rw (same 0 (omega arith), total_same f g xs (λ j lt. same (suc j) (omega arith))) refl
 
 -- the sum where one child's part changed
 pub total_one : (f g : ℕ → ℕ) (xs : List ℕ) (i : ℕ) → i < length xs → ((j : ℕ) → j < length xs → (j ≡ i → ⊥) → g (get_or xs j 0) ≡ f (get_or xs j 0)) → total g xs + f (get_or xs i 0) ≡ total f xs + g (get_or xs i 0)
@@ -57,53 +42,11 @@ map_one f g (x ∷ xs) zero lt same = ap (λ ys. g x ∷ ys) (rest xs (λ j l. s
     rest (y ∷ ys) h = rw (h 0 (omega arith), rest ys (λ j l. h (suc j) (omega arith))) refl
 map_one f g (x ∷ xs) (suc i) lt same = rw (same 0 (omega arith) (λ e. omega arith), map_one f g xs i (omega arith) (λ j l ne. same (suc j) (omega arith) (λ e. ne (omega arith)))) refl
 
-pub all_at : (P : ℕ → Type 0) (xs : List ℕ) (i : ℕ) → i < length xs → AllByRecursion P xs → P (get_or xs i 0)
-all_at P xs i lt all = All-from_recursion P xs all i 0 lt
-
-pub all_from : (P : ℕ → Type 0) (xs : List ℕ) → ((j : ℕ) → j < length xs → P (get_or xs j 0)) → AllByRecursion P xs
-all_from P [] each = tt
-all_from P (x ∷ xs) each = (each 0 (omega arith), all_from P xs (λ j lt. each (suc j) (omega arith)))
-
 -- ---- the pairs of one child among all
-front_order : (xs ys : List Pair) → AreInOrder (xs ++ ys) → AreInOrder xs
-unfolding IsStrictlySortedBy
-front_order [] ys s = tt
-front_order (x ∷ xs) ys s = (front xs ys s.0, front_order xs ys s.1)
-  where
-    front : (us vs : List Pair) → AllByRecursion (λ q. pair_cmp x q ≡ Rattle.std.specs.declared.cmp.Ordering.TheVariants.Less) (us ++ vs) → AllByRecursion (λ q. pair_cmp x q ≡ Rattle.std.specs.declared.cmp.Ordering.TheVariants.Less) us
-    front [] vs h = tt
-    front (u ∷ us) vs h = (h.0, front us vs h.1)
-
-back_order : (xs ys : List Pair) → AreInOrder (xs ++ ys) → AreInOrder ys
-unfolding IsStrictlySortedBy
-back_order [] ys s = s
-back_order (x ∷ xs) ys s = back_order xs ys s.1
-
-pub child_order : (f : ℕ → List Pair) (xs : List ℕ) (i : ℕ) → i < length xs → AreInOrder (joined (map f xs)) → AreInOrder (f (get_or xs i 0))
-child_order f [] i lt s = absurd (omega arith)
-child_order f (x ∷ xs) zero lt s = front_order (f x) (joined (map f xs)) s
-child_order f (x ∷ xs) (suc i) lt s = child_order f xs i (omega arith) (back_order (f x) (joined (map f xs)) s)
-
 pub child_contains : (f : ℕ → List Pair) (xs : List ℕ) (i : ℕ) (p : Pair) → i < length xs → Contains (f (get_or xs i 0)) p → Contains (joined (map f xs)) p
 child_contains f [] i p lt h = absurd (omega arith)
 child_contains f (x ∷ xs) zero p lt h = Contains-append_left (f x) (joined (map f xs)) p h
 child_contains f (x ∷ xs) (suc i) p lt h = Contains-append_right (f x) (joined (map f xs)) p (child_contains f xs i p (omega arith) h)
-
-parted_some : (f : ℕ → List Pair) (xs : List ℕ) (ks : List Pair) → Parted (map f xs) ks → 0 < length xs
-parted_some f [] ks h = absurd h
-parted_some f (x ∷ xs) ks h = omega arith
-
-first_some : (d : ℕ) (a : List Page) → ((p : ℕ) → IsTree d a p → 0 < length (pairs_under d a p)) → (cs : List ℕ) → 0 < length cs → AllByRecursion (λ c. IsTree d a c) cs → 0 < length (joined (map (λ c. pairs_under d a c) cs))
-first_some d a one [] some all = absurd (omega arith)
-first_some d a one (c ∷ cs) some all = omega (arith, one c all.0, length-append (pairs_under d a c) (joined (map (λ e. pairs_under d a e) cs)))
-
-pub tree_some : (d : ℕ) (a : List Page) (p : ℕ) → IsTree d a p → 0 < length (pairs_under d a p)
-tree_some zero a p t = t.1
-tree_some (suc d) a p t = first_some d a (tree_some d a) (page_in a p).links (parted_some (λ c. pairs_under d a c) (page_in a p).links (page_in a p).pairs t.1) t.3
-
-pub none_empty : (d : ℕ) (a : List Page) (cs : List ℕ) → AllByRecursion (λ c. IsTree d a c) cs → NoneEmpty (map (λ c. pairs_under d a c) cs)
-none_empty d a [] all = tt
-none_empty d a (c ∷ cs) all = (tree_some d a c all.0, none_empty d a cs all.1)
 
 -- ---- a leaf
 placed_some : (pair : Pair) (ps : List Pair) → 0 < length (placed pair ps)
@@ -141,20 +84,20 @@ pub can_insert_below : (d : ℕ) (a b : List Page) (f g : FreeList) (p : ℕ) (p
 can_insert_below d a b f g p pair c can made =
     let links = (page_in b p).links in
     let child = made.child in
-    let is : get_or links child.place 0 ≡ c = child.is in
+    let is : get_or links child.place 0 ≡ c = child.there.is in
     let under = λ (x : ℕ). pairs_under d b x in
     let order : AreInOrder (pairs_under (suc d) b p) = subst AreInOrder (sym made.pairs) can.whole.order in
     let absent : Contains (pairs_under (suc d) b p) pair → ⊥ = λ h. can.absent (subst (λ xs. Contains xs pair) made.pairs h) in
     record {
       whole = subst (λ x. IsSubtreeApart d b g x) is (record {
-        tree = all_at (λ x. IsTree d b x) links child.place child.in_range made.keeps.tree.3;
-        order = child_order under links child.place child.in_range order;
+        tree = all_at (λ x. IsTree d b x) links child.place child.there.in_range made.keeps.tree.3;
+        order = child_order under links child.place child.there.in_range order;
         list = made.keeps.list;
-        apart = λ r. omega (arith, can.whole.apart r, made.keeps.uses_stay r, total_at (λ x. uses d b x r) links child.place child.in_range);
+        apart = λ r. omega (arith, can.whole.apart r, made.keeps.uses_stay r, total_at (λ x. uses d b x r) links child.place child.there.in_range);
       });
       room = made.room;
       enough = omega (arith, can.enough, made.enough);
-      absent = λ h. absent (child_contains under links child.place pair child.in_range (subst (λ x. Contains (under x) pair) (sym is) h));
+      absent = λ h. absent (child_contains under links child.place pair child.there.in_range (subst (λ x. Contains (under x) pair) (sym is) h));
     }
 
 pub insert_above : (d : ℕ) (a b : List Page) (f g : FreeList) (p : ℕ) (pair : Pair) (c : ℕ) → IsTree (suc d) a p → ((r : ℕ) → uses_both (suc d) a f p r ≤ 1) → IsChildFor pair (page_in a p) c → Inserts d a b f g c pair → Inserts (suc d) a b f g p pair
@@ -162,18 +105,18 @@ insert_above d a b f g p pair c tree apart child done =
     let links = (page_in a p).links in
     let keys = (page_in a p).pairs in
     let i = child.place in
-    let is : get_or links i 0 ≡ c = child.is in
-    let in_c : (r : ℕ) → uses d a c r ≤ total (λ y. uses d a y r) links = λ r. subst (λ x. uses d a x r ≤ total (λ y. uses d a y r) links) is (total_at (λ x. uses d a x r) links i child.in_range) in
+    let is : get_or links i 0 ≡ c = child.there.is in
+    let in_c : (r : ℕ) → uses d a c r ≤ total (λ y. uses d a y r) links = λ r. subst (λ x. uses d a x r ≤ total (λ y. uses d a y r) links) is (total_at (λ x. uses d a x r) links i child.there.in_range) in
     let here_same : page_in b p ≡ page_in a p = done.keeps.frame p (omega (arith, apart p, in_c p, here_itself p)) in
     let other : (j : ℕ) → j < length links → (j ≡ i → ⊥) → Framed d a b (get_or links j 0) = λ j lt ne. framed d a b (get_or links j 0) (λ r u. done.keeps.frame r (
-    omega (arith, u, apart r, subst (λ x. uses d a (get_or links j 0) r + uses d a x r ≤ total (λ y. uses d a y r) links) is (total_two (λ x. uses d a x r) links j i lt child.in_range ne)))) in
-    let puts = puts_in_one pair i (map (λ x. pairs_under d a x) links) keys tree.1 (none_empty d a links tree.3) child.chosen in
-    let at_i : get_or (map (λ x. pairs_under d a x) links) i [] ≡ pairs_under d a c = get_or-map (λ x. pairs_under d a x) links i 0 [] child.in_range ∙ ap (λ x. pairs_under d a x) is in
+    omega (arith, u, apart r, subst (λ x. uses d a (get_or links j 0) r + uses d a x r ≤ total (λ y. uses d a y r) links) is (total_two (λ x. uses d a x r) links j i lt child.there.in_range ne)))) in
+    let puts = puts_in_one pair i (map (λ x. pairs_under d a x) links) keys tree.1 (none_empty d a links tree.3) child.there.chosen in
+    let at_i : get_or (map (λ x. pairs_under d a x) links) i [] ≡ pairs_under d a c = get_or-map (λ x. pairs_under d a x) links i 0 [] child.there.in_range ∙ ap (λ x. pairs_under d a x) is in
     let new_i : pairs_under d b (get_or links i 0) ≡ placed pair (get_or (map (λ x. pairs_under d a x) links) i []) = ap (λ x. pairs_under d b x) is ∙ done.pairs ∙ ap (placed pair) (sym at_i) in
     let maps : map (λ x. pairs_under d b x) links ≡ put_in pair i (map (λ x. pairs_under d a x) links) =
-    map_one (λ x. pairs_under d a x) (λ x. pairs_under d b x) links i child.in_range (λ j lt ne. (other j lt ne).pairs) ∙ ap (λ x. set (map (λ y. pairs_under d a y) links) i x) new_i in
+    map_one (λ x. pairs_under d a x) (λ x. pairs_under d b x) links i child.there.in_range (λ j lt ne. (other j lt ne).pairs) ∙ ap (λ x. set (map (λ y. pairs_under d a y) links) i x) new_i in
     let sums : (r : ℕ) → total (λ x. uses d b x r) links + uses d a c r ≡ total (λ x. uses d a x r) links + uses d b c r = λ r.
-    subst (λ z. total (λ x. uses d b x r) links + uses d a z r ≡ total (λ x. uses d a x r) links + uses d b z r) is (total_one (λ x. uses d a x r) (λ x. uses d b x r) links i child.in_range (λ j lt ne. (other j lt ne).uses_stay r)) in
+    subst (λ z. total (λ x. uses d b x r) links + uses d a z r ≡ total (λ x. uses d a x r) links + uses d b z r) is (total_one (λ x. uses d a x r) (λ x. uses d b x r) links i child.there.in_range (λ j lt ne. (other j lt ne).uses_stay r)) in
     let above : (r : ℕ) → uses (suc d) b p r ≡ here p r + total (λ x. uses d b x r) links = λ r. ap (λ (g : Page). here p r + total (λ x. uses d b x r) g.links) here_same in
     let tree_each : (j : ℕ) → j < length links → IsTree d b (get_or links j 0) = λ j lt. elim (cases_eq j i) [
       | inl e ↦ subst (λ k. IsTree d b (get_or links k 0)) (sym e) (subst (λ x. IsTree d b x) (sym is) done.keeps.tree)
@@ -210,17 +153,3 @@ chosen_at p zero [] le low here = tt
 chosen_at p (suc i) [] le low here = absurd (omega arith)
 chosen_at p zero (k ∷ ks) le low here = here k (omega arith)
 chosen_at p (suc i) (k ∷ ks) le low here = (low 0 k (omega arith), chosen_at p i ks (omega arith) (λ j d lt. low (suc j) d (omega arith)) (λ d lt. here d (omega arith)))
-
-parted_length : (pss : List (List Pair)) (ks : List Pair) → Parted pss ks → length pss ≡ length ks + 1
-parted_length [] ks h = absurd h
-parted_length (ps ∷ []) [] h = refl
-parted_length (ps ∷ []) (k ∷ ks) h = absurd h
-parted_length (ps ∷ qs ∷ pss) [] h = absurd h
-parted_length (ps ∷ qs ∷ pss) (k ∷ ks) h = omega (arith, parted_length (qs ∷ pss) ks h.2)
-
-pub links_length : (d : ℕ) (a : List Page) (p : ℕ) → IsTree (suc d) a p → length (page_in a p).links ≡ length (page_in a p).pairs + 1
-links_length d a p t = sym (length-map (page_in a p).links (λ c. pairs_under d a c)) ∙ parted_length (map (λ c. pairs_under d a c) (page_in a p).links) (page_in a p).pairs t.1
-
-pub tree_in : (d : ℕ) (a : List Page) (p : ℕ) → IsTree d a p → p < length a
-tree_in zero a p t = t.0
-tree_in (suc d) a p t = t.0

@@ -14,6 +14,7 @@ use Rattle.ndx_index.specs.Laws.Comparing.{pairs_total, exact_pair, before_is, b
 use Rattle.ndx_index.specs.Laws.Sorting.{not_after}
 use Rattle.ndx_index.specs.PageStore.{Page, page_in}
 use Rattle.ndx_index.specs.IndexTree.{pairs_under, joined, total, IsTree, AllBefore, AllFrom, Parted}
+use Rattle.ndx_index.proofs.Parting.{NoneEmpty}
 
 -- ---- all elements
 pub all_at : (P : ℕ → Type 0) (xs : List ℕ) (i : ℕ) → i < length xs → AllByRecursion P xs → P (get_or xs i 0)
@@ -115,9 +116,6 @@ first_some d a one (c ∷ cs) some all = omega (arith, one c all.0, length-appen
 pub tree_some : (d : ℕ) (a : List Page) (p : ℕ) → IsTree d a p → 0 < length (pairs_under d a p)
 tree_some zero a p t = t.1
 tree_some (suc d) a p t = first_some d a (tree_some d a) (page_in a p).links (parted_some (λ c. pairs_under d a c) (page_in a p).links (page_in a p).pairs t.1) t.3
-
-abbrev pub NoneEmpty : List (List Pair) → Type 0
-NoneEmpty pss = AllByRecursion (λ ps. 0 < length ps) pss
 
 pub none_empty : (d : ℕ) (a : List Page) (cs : List ℕ) → AllByRecursion (λ c. IsTree d a c) cs → NoneEmpty (map (λ c. pairs_under d a c) cs)
 none_empty d a [] all = tt

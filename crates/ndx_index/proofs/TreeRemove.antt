@@ -3,7 +3,7 @@ use Rattle.std.proofs.Common.{◌≡◌, ℕ, zero, suc, ◌+◌, ◌-◌, ◌<�
 use Rattle.std.specs.List.{AllByRecursion, remove}
 use Rattle.std.specs.Ordering.{is_lt}
 use Rattle.std.proofs.lemmas.Bool.{cases_eq, cases_lt, eqb-true, false≢true}
-use Rattle.std.proofs.lemmas.List.{get_or-set_same, get_or-set_other, length-set, get_or-map, length-map, get_or_default, append-nil}
+use Rattle.std.proofs.lemmas.List.{set-set, get_or-set_same, get_or-set_other, length-set, get_or-map, length-map, get_or_default, append-nil}
 use Rattle.std.proofs.lemmas.List.Edits.{length-remove}
 use Rattle.std.proofs.lemmas.Map.Keys.{Less-from_sorted}
 use Rattle.ndx_index.specs.declared.pair.Pair.{Pair}
@@ -11,12 +11,13 @@ use Rattle.ndx_index.specs.declared.pages.free.FreeList.{FreeList}
 use Rattle.ndx_index.specs.Order.{pair_cmp, before, without_pair, AreInOrder}
 use Rattle.ndx_index.specs.Laws.Comparing.{irreflexive, before_is}
 use Rattle.ndx_index.specs.PageStore.{Page, page_in, no_page, with_pairs, with_links, without_child, keys_without}
-use Rattle.ndx_index.specs.Slots.{slot_at, no_pair}
+use Rattle.ndx_index.specs.Slots.{slot_at, no_pair, AllPassFrom}
 use Rattle.ndx_index.specs.IndexTree.{pairs_under, joined, total, here, uses, uses_free, uses_both, IsTree, IsFreeList, Parted}
-use Rattle.ndx_index.specs.TreeSteps.{Chosen, IsSubtreeApart, CanRemove, Removes, Empties}
+use Rattle.ndx_index.specs.TreeSteps.{Chosen, IsChildAt, IsSubtreeApart, CanRemove, Removes, Empties}
 use Rattle.ndx_index.proofs.Order.{without_at}
 use Rattle.ndx_index.proofs.TreeFrame.{framed, Framed, here_itself, agrees_itself}
-use Rattle.ndx_index.proofs.TreeInsert.{here_other, total_at, total_two, total_one, map_one, all_at, all_from, child_order}
+use Rattle.ndx_index.proofs.TreeLists.{total_at, total_two, all_at, all_from, child_order}
+use Rattle.ndx_index.proofs.TreeInsert.{here_other, total_one, map_one}
 use Rattle.ndx_index.proofs.Keeping.{list_framed}
 use Rattle.ndx_index.proofs.Unparting.{takes_out_of_one, out_of_last, parted_remove, order_without, map_remove, map_but, total_but, total_remove, all_but}
 
@@ -28,7 +29,7 @@ pub record IsAtPlace (ps : List Pair) (pair : Pair) (at : ℕ) : Type 0 where
   pub inside : at - 1 < length ps
   pub is : (d : Pair) → get_or ps (at - 1) d ≡ pair
 
-pub is_at_place : (ps : List Pair) (pair : Pair) (at : ℕ) → AreInOrder ps → Contains ps pair → at ≤ length ps → ((k : ℕ) → k < at → before pair (slot_at ps k) ≡ false) → ((k : ℕ) → at ≤ k → k < length ps → before pair (slot_at ps k) ≡ true) → IsAtPlace ps pair at
+is_at_place : (ps : List Pair) (pair : Pair) (at : ℕ) → AreInOrder ps → Contains ps pair → at ≤ length ps → ((k : ℕ) → k < at → before pair (slot_at ps k) ≡ false) → ((k : ℕ) → at ≤ k → k < length ps → before pair (slot_at ps k) ≡ true) → IsAtPlace ps pair at
 is_at_place ps pair at order held le low high =
     let n = held.0 in
     let there : (d : Pair) → get_or ps n d ≡ pair = λ d. get_or_default ps n d pair held.1 ∙ held.2 in
@@ -42,6 +43,12 @@ is_at_place ps pair at order held le low high =
     ] in
     let same : at - 1 ≡ n = omega (arith, past, near) in
     record { one = omega (arith, past); inside = omega (arith, same, held.1); is = λ d. ap (λ k. get_or ps k d) same ∙ there d }
+
+pub leaf_place : {level : ℕ} {a : List Page} {f : FreeList} {p at : ℕ} {pair : Pair} → level ≡ 0 → CanRemove level a f p pair → at ≤ length (page_in a p).pairs
+    → ((k : ℕ) → k < at → before pair (slot_at (page_in a p).pairs k) ≡ false) → AllPassFrom (before pair) (page_in a p).pairs at → IsAtPlace (page_in a p).pairs pair at
+leaf_place {a = a} {f = f} {p = p} {at = at} {pair = pair} leaf can le low high =
+    let can0 : CanRemove 0 a f p pair = subst (λ d. CanRemove d a f p pair) leaf can in
+    is_at_place (page_in a p).pairs pair at can0.whole.order can0.held le low high
 
 -- a pair goes out of a leaf that is there
 record LeafTaken (a b : List Page) (f : FreeList) (p i : ℕ) (pair : Pair) : Type 0 where
@@ -60,20 +67,22 @@ leaf_taken a b f p i pair can written =
     let free = list_framed a b f can.whole.list n (λ r h. other r (omega (arith, h, can.whole.apart r))) in
     record { own = ap (λ (h : Page). h.pairs) at; list = free.free; free_stays = free.uses_stay; frame = other; same_length = n }
 
-pub leaf_removes : (a b : List Page) (f : FreeList) (p at : ℕ) (pair : Pair) → CanRemove 0 a f p pair → IsAtPlace (page_in a p).pairs pair at → b ≡ set a p (with_pairs (remove (page_in a p).pairs (at - 1)) (page_in a p)) → 0 < length (page_in b p).pairs → Removes 0 a b f f p pair
-leaf_removes a b f p at pair can place written some =
-    let taken = leaf_taken a b f p (at - 1) pair can written in
-    record {
-      pairs = taken.own ∙ sym (without_at pair (page_in a p).pairs (at - 1) can.whole.order place.inside place.is);
+pub leaf_removes : {level : ℕ} {a b : List Page} {f : FreeList} {p at : ℕ} {pair : Pair} → level ≡ 0 → CanRemove level a f p pair → IsAtPlace (page_in a p).pairs pair at
+    → b ≡ set a p (with_pairs (remove (page_in a p).pairs (at - 1)) (page_in a p)) → 0 < length (page_in b p).pairs → Removes level a b f f p pair
+leaf_removes {a = a} {b = b} {f = f} {p = p} {at = at} {pair = pair} leaf can place written some =
+    let can0 : CanRemove 0 a f p pair = subst (λ d. CanRemove d a f p pair) leaf can in
+    let taken = leaf_taken a b f p (at - 1) pair can0 written in
+    subst (λ d. Removes d a b f f p pair) (sym leaf) (record {
+      pairs = taken.own ∙ sym (without_at pair (page_in a p).pairs (at - 1) can0.whole.order place.inside place.is);
       keeps = record {
-        tree = (omega (arith, can.whole.tree.0, taken.same_length), some);
+        tree = (omega (arith, can0.whole.tree.0, taken.same_length), some);
         list = taken.list;
         uses_stay = λ r. ap (λ k. here p r + k) (taken.free_stays r);
         frame = λ r h. taken.frame r (omega (arith, h));
         same_length = taken.same_length;
       };
       more = omega arith;
-    }
+    })
 
 only_one : (ps : List Pair) (i : ℕ) (pair : Pair) → i < length ps → length (remove ps i) ≡ 0 → ((d : Pair) → get_or ps i d ≡ pair) → ps ≡ pair ∷ []
 only_one [] i pair lt none is = absurd (omega (arith, lt))
@@ -81,22 +90,24 @@ only_one (q ∷ []) zero pair lt none is = ap (λ x. x ∷ []) (is q)
 only_one (q ∷ []) (suc i) pair lt none is = absurd (omega (arith, lt))
 only_one (q ∷ r ∷ qs) i pair lt none is = absurd (omega (arith, none, length-remove (q ∷ r ∷ qs) i lt))
 
-pub leaf_empties : (a b : List Page) (f : FreeList) (p at : ℕ) (pair : Pair) → CanRemove 0 a f p pair → IsAtPlace (page_in a p).pairs pair at → b ≡ set a p (with_pairs (remove (page_in a p).pairs (at - 1)) (page_in a p)) → length (page_in b p).pairs ≡ 0 → Empties 0 a b f f p pair
-leaf_empties a b f p at pair can place written none =
-    let taken = leaf_taken a b f p (at - 1) pair can written in
-    record {
+pub leaf_empties : {level : ℕ} {a b : List Page} {f : FreeList} {p at : ℕ} {pair : Pair} → level ≡ 0 → CanRemove level a f p pair → IsAtPlace (page_in a p).pairs pair at
+    → b ≡ set a p (with_pairs (remove (page_in a p).pairs (at - 1)) (page_in a p)) → length (page_in b p).pairs ≡ 0 → Empties level a b f f p pair
+leaf_empties {a = a} {b = b} {f = f} {p = p} {at = at} {pair = pair} leaf can place written none =
+    let can0 : CanRemove 0 a f p pair = subst (λ d. CanRemove d a f p pair) leaf can in
+    let taken = leaf_taken a b f p (at - 1) pair can0 written in
+    subst (λ d. Empties d a b f f p pair) (sym leaf) (record {
       only = only_one (page_in a p).pairs (at - 1) pair place.inside (sym (ap length taken.own) ∙ none) place.is;
-      there = omega (arith, can.whole.tree.0, taken.same_length);
+      there = omega (arith, can0.whole.tree.0, taken.same_length);
       list = taken.list;
       uses_stay = λ r. ap (λ k. here p r + k) (taken.free_stays r);
       frame = λ r h. taken.frame r (omega (arith, h));
       more = omega arith;
       same_length = taken.same_length;
-    }
+    })
 
 -- ---- an inner page
 
-pub held_below : (d : ℕ) (a : List Page) (f : FreeList) (p i : ℕ) (pair : Pair) → CanRemove (suc d) a f p pair → i < length (page_in a p).links → Chosen pair i (page_in a p).pairs → CanRemove d a f (get_or (page_in a p).links i 0) pair
+held_below : (d : ℕ) (a : List Page) (f : FreeList) (p i : ℕ) (pair : Pair) → CanRemove (suc d) a f p pair → i < length (page_in a p).links → Chosen pair i (page_in a p).pairs → CanRemove d a f (get_or (page_in a p).links i 0) pair
 held_below d a f p i pair can lt chosen =
     let links = (page_in a p).links in
     let under = λ (x : ℕ). pairs_under d a x in
@@ -112,7 +123,7 @@ held_below d a f p i pair can lt chosen =
       held = subst (λ l. Contains l pair) (get_or-map under links i 0 [] lt) (takes.held can.held);
     }
 
-pub remove_above : (d : ℕ) (a b : List Page) (f g : FreeList) (p i : ℕ) (pair : Pair) → CanRemove (suc d) a f p pair → i < length (page_in a p).links → Chosen pair i (page_in a p).pairs → Removes d a b f g (get_or (page_in a p).links i 0) pair → Removes (suc d) a b f g p pair
+remove_above : (d : ℕ) (a b : List Page) (f g : FreeList) (p i : ℕ) (pair : Pair) → CanRemove (suc d) a f p pair → i < length (page_in a p).links → Chosen pair i (page_in a p).pairs → Removes d a b f g (get_or (page_in a p).links i 0) pair → Removes (suc d) a b f g p pair
 remove_above d a b f g p i pair can lt chosen done =
     let links = (page_in a p).links in
     let keys = (page_in a p).pairs in
@@ -173,7 +184,7 @@ record Dropped (d : ℕ) (a z : List Page) (f h : FreeList) (p i : ℕ) : Type 0
   pub more : f.count ≤ h.count
 
 -- the page above is as it was when its child became empty and was given back
-pub parent_same : (d : ℕ) (a b e : List Page) (f g h : FreeList) (p i : ℕ) (pair : Pair) → CanRemove (suc d) a f p pair → i < length (page_in a p).links → Empties d a b f g (get_or (page_in a p).links i 0) pair → GaveBack b e g h (get_or (page_in a p).links i 0) → page_in e p ≡ page_in a p
+parent_same : (d : ℕ) (a b e : List Page) (f g h : FreeList) (p i : ℕ) (pair : Pair) → CanRemove (suc d) a f p pair → i < length (page_in a p).links → Empties d a b f g (get_or (page_in a p).links i 0) pair → GaveBack b e g h (get_or (page_in a p).links i 0) → page_in e p ≡ page_in a p
 parent_same d a b e f g h p i pair can lt emptied gave =
     let links = (page_in a p).links in
     let c = get_or links i 0 in
@@ -208,7 +219,7 @@ dropped d a b e z f g h p i pair can lt emptied gave written =
       more = omega (arith, emptied.more, gave.count);
     }
 
-pub remove_child : (d : ℕ) (a b e z : List Page) (f g h : FreeList) (p i : ℕ) (pair : Pair) → CanRemove (suc d) a f p pair → i < length (page_in a p).links → Chosen pair i (page_in a p).pairs → Empties d a b f g (get_or (page_in a p).links i 0) pair → GaveBack b e g h (get_or (page_in a p).links i 0) → z ≡ set e p (without_child i (page_in e p)) → 0 < length (page_in z p).links → Removes (suc d) a z f h p pair
+remove_child : (d : ℕ) (a b e z : List Page) (f g h : FreeList) (p i : ℕ) (pair : Pair) → CanRemove (suc d) a f p pair → i < length (page_in a p).links → Chosen pair i (page_in a p).pairs → Empties d a b f g (get_or (page_in a p).links i 0) pair → GaveBack b e g h (get_or (page_in a p).links i 0) → z ≡ set e p (without_child i (page_in e p)) → 0 < length (page_in z p).links → Removes (suc d) a z f h p pair
 remove_child d a b e z f g h p i pair can lt chosen emptied gave written some =
     let links = (page_in a p).links in
     let keys = (page_in a p).pairs in
@@ -252,7 +263,7 @@ total_none : (f : ℕ → ℕ) (xs : List ℕ) → length xs ≡ 0 → total f x
 total_none f [] none = refl
 total_none f (x ∷ xs) none = absurd (omega (arith, none))
 
-pub empty_child : (d : ℕ) (a b e z : List Page) (f g h : FreeList) (p i : ℕ) (pair : Pair) → CanRemove (suc d) a f p pair → i < length (page_in a p).links → Empties d a b f g (get_or (page_in a p).links i 0) pair → GaveBack b e g h (get_or (page_in a p).links i 0) → z ≡ set e p (without_child i (page_in e p)) → length (page_in z p).links ≡ 0 → Empties (suc d) a z f h p pair
+empty_child : (d : ℕ) (a b e z : List Page) (f g h : FreeList) (p i : ℕ) (pair : Pair) → CanRemove (suc d) a f p pair → i < length (page_in a p).links → Empties d a b f g (get_or (page_in a p).links i 0) pair → GaveBack b e g h (get_or (page_in a p).links i 0) → z ≡ set e p (without_child i (page_in e p)) → length (page_in z p).links ≡ 0 → Empties (suc d) a z f h p pair
 empty_child d a b e z f g h p i pair can lt emptied gave written none =
     let links = (page_in a p).links in
     let fa = λ (x : ℕ). pairs_under d a x in
@@ -272,17 +283,45 @@ empty_child d a b e z f g h p i pair can lt emptied gave written none =
 
 -- ---- what the code owes
 
-set_twice : {X : Type 0} (xs : List X) (i : ℕ) (x y : X) → set (set xs i x) i y ≡ set xs i y
-set_twice [] i x y = refl
-set_twice (z ∷ zs) zero x y = refl
-set_twice (z ∷ zs) (suc i) x y = ap (λ l. z ∷ l) (set_twice zs i x y)
+can_up : {level : ℕ} {a : List Page} {f : FreeList} {p : ℕ} {pair : Pair} → 0 < level → CanRemove level a f p pair → CanRemove (suc (level - 1)) a f p pair
+can_up {level = level} {a = a} {f = f} {p = p} {pair = pair} inner can = subst (λ n. CanRemove n a f p pair) (omega arith) can
+
+pub can_below : {level : ℕ} {a : List Page} {f : FreeList} {p i c : ℕ} {pair : Pair} → 0 < level → IsChildAt pair (page_in a p) i c → CanRemove level a f p pair → CanRemove (level - 1) a f c pair
+can_below {level = level} {a = a} {f = f} {p = p} {i = i} {pair = pair} inner child can =
+    subst (λ x. CanRemove (level - 1) a f x pair) child.is (held_below (level - 1) a f p i pair (can_up inner can) child.in_range child.chosen)
+
+pub removes_above : {level : ℕ} {a b : List Page} {f g : FreeList} {p i c : ℕ} {pair : Pair} → 0 < level → IsChildAt pair (page_in a p) i c → CanRemove level a f p pair
+    → Removes (level - 1) a b f g c pair → Removes level a b f g p pair
+removes_above {level = level} {a = a} {b = b} {f = f} {g = g} {p = p} {i = i} {pair = pair} inner child can done =
+    subst (λ n. Removes n a b f g p pair) (omega arith)
+    (remove_above (level - 1) a b f g p i pair (can_up inner can) child.in_range child.chosen (subst (λ x. Removes (level - 1) a b f g x pair) (sym child.is) done))
+
+pub page_stays : {level : ℕ} {a b e : List Page} {f g h : FreeList} {p i c : ℕ} {pair : Pair} → 0 < level → IsChildAt pair (page_in a p) i c → CanRemove level a f p pair
+    → Empties (level - 1) a b f g c pair → GaveBack b e g h c → page_in e p ≡ page_in a p
+page_stays {level = level} {a = a} {b = b} {e = e} {f = f} {g = g} {h = h} {p = p} {i = i} {pair = pair} inner child can emptied gave =
+    parent_same (level - 1) a b e f g h p i pair (can_up inner can) child.in_range
+    (subst (λ x. Empties (level - 1) a b f g x pair) (sym child.is) emptied) (subst (λ x. GaveBack b e g h x) (sym child.is) gave)
+
+pub removes_child : {level : ℕ} {a b e z : List Page} {f g h : FreeList} {p i c : ℕ} {pair : Pair} → 0 < level → IsChildAt pair (page_in a p) i c → CanRemove level a f p pair
+    → Empties (level - 1) a b f g c pair → GaveBack b e g h c → z ≡ set e p (without_child i (page_in e p)) → 0 < length (page_in z p).links → Removes level a z f h p pair
+removes_child {level = level} {a = a} {b = b} {e = e} {z = z} {f = f} {g = g} {h = h} {p = p} {i = i} {pair = pair} inner child can emptied gave written some =
+    subst (λ n. Removes n a z f h p pair) (omega arith)
+    (remove_child (level - 1) a b e z f g h p i pair (can_up inner can) child.in_range child.chosen
+    (subst (λ x. Empties (level - 1) a b f g x pair) (sym child.is) emptied) (subst (λ x. GaveBack b e g h x) (sym child.is) gave) written some)
+
+pub empties_child : {level : ℕ} {a b e z : List Page} {f g h : FreeList} {p i c : ℕ} {pair : Pair} → 0 < level → IsChildAt pair (page_in a p) i c → CanRemove level a f p pair
+    → Empties (level - 1) a b f g c pair → GaveBack b e g h c → z ≡ set e p (without_child i (page_in e p)) → length (page_in z p).links ≡ 0 → Empties level a z f h p pair
+empties_child {level = level} {a = a} {b = b} {e = e} {z = z} {f = f} {g = g} {h = h} {p = p} {i = i} {pair = pair} inner child can emptied gave written none =
+    subst (λ n. Empties n a z f h p pair) (omega arith)
+    (empty_child (level - 1) a b e z f g h p i pair (can_up inner can) child.in_range
+    (subst (λ x. Empties (level - 1) a b f g x pair) (sym child.is) emptied) (subst (λ x. GaveBack b e g h x) (sym child.is) gave) written none)
 
 -- a link and then a key is taken out of a page
 pub both_taken : (a b e : List Page) (p i k : ℕ) → p < length a → b ≡ set a p (with_links (remove (page_in a p).links i) (page_in a p)) → e ≡ set b p (with_pairs (remove (page_in b p).pairs k) (page_in b p)) → keys_without i (page_in a p).pairs ≡ remove (page_in a p).pairs k → e ≡ set a p (without_child i (page_in a p))
 both_taken a b e p i k there first second keys =
     let x = with_links (remove (page_in a p).links i) (page_in a p) in
     let own : page_in b p ≡ x = ap (λ l. page_in l p) first ∙ get_or-set_same a p x no_page there in
-    second ∙ ap (λ (y : Page). set b p (with_pairs (remove y.pairs k) y)) own ∙ ap (λ l. set l p (with_pairs (remove x.pairs k) x)) first ∙ set_twice a p x (with_pairs (remove x.pairs k) x)
+    second ∙ ap (λ (y : Page). set b p (with_pairs (remove y.pairs k) y)) own ∙ ap (λ l. set l p (with_pairs (remove x.pairs k) x)) first ∙ set-set a p x (with_pairs (remove x.pairs k) x)
     ∙ ap (λ ks. set a p (record { pairs = ks; links = remove (page_in a p).links i })) (sym keys)
 
 pub page_order : (d : ℕ) (a : List Page) (f : FreeList) (p : ℕ) → IsSubtreeApart d a f p → AreInOrder (page_in a p).pairs

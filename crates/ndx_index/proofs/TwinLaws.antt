@@ -5,7 +5,7 @@ use Rattle.std.proofs.lemmas.List.{map-append, take-map, drop-map, length-map, l
 use Rattle.ndx_index.specs.declared.pair.Pair.{Pair}
 use Rattle.ndx_index.specs.PairPages.{page_at, split_page}
 use Rattle.ndx_index.specs.declared.pages.store.PageStore.TheInside.{Inside}
-use Rattle.ndx_index.specs.PageStore.{Page, Store, page_in, no_page, links_of, zipped, with_pairs, with_links, with_pairs_at, with_links_at, pairs_split, links_split, store_view, AreTwins}
+use Rattle.ndx_index.specs.PageStore.{Page, Store, page_in, no_page, links_of, zipped, with_pairs, with_pairs_at, with_links_at, pairs_split, links_split, store_view, AreTwins}
 
 pub length-zipped : (ps ls : List (List Pair)) → length ps ≡ length ls → length (zipped ps ls) ≡ length ps
 length-zipped [] ls e = refl

@@ -90,12 +90,16 @@ Chosen p (suc i) [] = ⊥
 Chosen p zero (k ∷ ks) = before p k ≡ true
 Chosen p (suc i) (k ∷ ks) = (before p k ≡ false) × Chosen p i ks
 
+-- c is the i-th child of a page, and the pair belongs under it
+pub record IsChildAt (p : Pair) (g : Page) (i c : ℕ) : Type 0 where
+  pub in_range : i < length g.links
+  pub is : slice_index g.links i ≡ c
+  pub chosen : Chosen p i g.pairs
+
 -- c is the child under which the pair belongs
 pub record IsChildFor (p : Pair) (g : Page) (c : ℕ) : Type 0 where
   pub place : ℕ
-  pub in_range : place < length g.links
-  pub is : slice_index g.links place ≡ c
-  pub chosen : Chosen p place g.pairs
+  pub there : IsChildAt p g place c
 
 -- page p has room, and there is a free page for each level below it
 pub record CanInsert (d : ℕ) (a : List Page) (f : FreeList) (p : ℕ) (pair : Pair) : Type 0 where

@@ -1,11 +1,11 @@
 //! Pairs in order.
 
-ghost use Rattle.std.specs.Prelude.{◌≡◌, ◌+◌, ◌-◌, ◌<◌, ◌≤◌, ◌↔◌, [], length, slice_get, not, find, reverse, Contains, IsTrue, OnOk, OnErr, IfOk, true, false};
+ghost use Rattle.std.specs.Prelude.{◌≡◌, ◌+◌, ◌-◌, ◌<◌, ◌≤◌, ◌↔◌, [], length, slice_get, not, find, reverse, Contains, IsTrue, OnOk, IfOk, true, false};
 ghost use Rattle.std.specs.List.{IsDistinct};
 ghost use Rattle.key_expr.specs.declared.format.TheConstants.{MAX_KEY_BYTES};
 ghost use Rattle.ndx_index.specs.Bounds.{passes};
 ghost use Rattle.ndx_index.specs.Index.{HaveLength};
-ghost use Rattle.ndx_index.specs.Order.{before, same, in_order, placed, without_pair, first_from, next_of, previous_of, reaches, AreInOrder};
+ghost use Rattle.ndx_index.specs.Order.{same, in_order, placed, without_pair, first_from, next_of, previous_of, AreInOrder};
 
 use crate::pages::bound::Bound;
 use crate::pages::free::{FreeList, make_free};

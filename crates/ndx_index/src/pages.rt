@@ -2,6 +2,7 @@
 
 pub(crate) mod append;
 pub(crate) mod bound;
+pub(crate) mod child;
 pub(crate) mod free;
 pub(crate) mod halve;
 pub(crate) mod insert;

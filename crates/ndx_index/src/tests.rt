@@ -1,6 +1,6 @@
 //! Values from outside, and each call once.
 
-ghost use Rattle.std.specs.Prelude.{◌≡◌, ◌≤◌, length};
+ghost use Rattle.std.specs.Prelude.{◌≤◌, length};
 
 use super::*;
 use byte_io::{ByteSink, MemorySink, WriteFault};

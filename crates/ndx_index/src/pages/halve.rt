@@ -1,7 +1,6 @@
 //! A full page that is cut in two.
 
-ghost use Rattle.std.specs.Prelude.{◌≡◌, ◌<◌, length, take, drop};
-ghost use Rattle.ndx_index.specs.PageStore.{page_in};
+ghost use Rattle.std.specs.Prelude.{◌≡◌, ◌<◌, length};
 ghost use Rattle.ndx_index.specs.TreeSteps.{CanHalve, Halves};
 
 use crate::pages::pair_pages::PLACES;

@@ -4,6 +4,7 @@ ghost use Rattle.std.specs.Prelude.{◌≡◌, ◌+◌, ◌<◌, IsTrue, IsFalse
 ghost use Rattle.ndx_index.specs.PageStore.{page_in, without_child};
 ghost use Rattle.ndx_index.specs.TreeSteps.{CanRemove, CanRemoveIn, Empties, Removes, RemovesIn};
 
+use crate::pages::child::child_for;
 use crate::pages::free::{FreeList, give_back};
 use crate::pages::root::Root;
 use crate::pages::store::PageStore;
@@ -35,12 +36,12 @@ fn remove_under(
     ensures emptied { IsTrue result → Empties level store.old.pages store.new.pages free.old free.new page pair.now }
     ensures key_len { store.new.key_len ≡ store.old.key_len }
 {
-    let at = store.place_after(page, pair);
     if level == 0 {
+        let at = store.place_after(page, pair);
         store.take_pair(page, at - 1);
         return store.pair_count(page) == 0;
     }
-    let child = store.link(page, at);
+    let (at, child) = child_for(store, page, pair);
     if !remove_under(store, free, level - 1, child, pair) {
         return false;
     }

@@ -5,6 +5,7 @@ ghost use Rattle.ndx_index.specs.IndexTree.{width};
 ghost use Rattle.ndx_index.specs.PageStore.{page_in};
 ghost use Rattle.ndx_index.specs.TreeSteps.{CanInsert, CanSplit, ChildWithRoom, Splits};
 
+use crate::pages::child::child_for;
 use crate::pages::free::{FreeList, take_free};
 use crate::pages::halve::halve;
 use crate::pages::pair_pages::PLACES;
@@ -50,8 +51,7 @@ pub(crate) fn child_with_room(
     ensures child { ChildWithRoom (level - 1) store.old.pages store.new.pages free.old free.new page pair.now result }
     ensures key_len { store.new.key_len ≡ store.old.key_len }
 {
-    let at = store.place_after(page, pair);
-    let child = store.link(page, at);
+    let (at, child) = child_for(store, page, pair);
     if has_room(store, level - 1, child) {
         return child;
     }

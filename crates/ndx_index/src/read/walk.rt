@@ -1,6 +1,6 @@
 //! The walk over the pages of an index file, depth first.
 
-ghost use Rattle.std.specs.Prelude.{◌≡◌, ◌≢◌, ◌+◌, ◌*◌, ◌/◌, ◌<◌, ◌≤◌, ◌++◌, ℕ, List, [], ◌∷◌, length, vec_len, IfErr, IfOk, OnOk, Some, None};
+ghost use Rattle.std.specs.Prelude.{◌≡◌, ◌≢◌, ◌+◌, ◌*◌, ◌/◌, ◌<◌, ℕ, List, [], ◌∷◌, length, vec_len, IfErr, IfOk, Some, None};
 ghost use Rattle.ndx_index.specs.declared.pair.Pair.{Pair as PairValue};
 ghost use Rattle.ndx_index.specs.declared.fault.NdxFault.TheVariants.{NoMemory};
 ghost use Rattle.ndx_index.specs.Pages.{IsPageLayout};

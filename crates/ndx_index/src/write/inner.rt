@@ -1,7 +1,7 @@
 //! Writing the inner pages of an index.
 #![tactic(auto, using(crate::proofs::Sinks::puts))]
 
-ghost use Rattle.std.specs.Prelude.{◌≡◌, ◌≢◌, min, ◌+◌, ◌-◌, ◌<◌, ◌≤◌, length, flat_map};
+ghost use Rattle.std.specs.Prelude.{◌≡◌, ◌≢◌, min, ◌+◌, ◌-◌, ◌<◌, ◌≤◌, flat_map};
 ghost use Rattle.byte_io.specs.Output.{Puts};
 ghost use Rattle.ndx_index.specs.Image.{inner_group_size, inner_pages, inner_page};
 ghost use Rattle.ndx_index.specs.ListParts.{listed};

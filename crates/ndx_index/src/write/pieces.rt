@@ -1,7 +1,7 @@
 //! Numbers, zeros and key records as bytes.
 #![tactic(auto, using(crate::proofs::Sinks::puts))]
 
-ghost use Rattle.std.specs.Prelude.{◌≡◌, ◌+◌, ◌≤◌, length, replicate};
+ghost use Rattle.std.specs.Prelude.{◌+◌, ◌≤◌, length, replicate};
 ghost use Rattle.byteorder.specs.Endian.{little_bytes};
 ghost use Rattle.byte_io.specs.Output.{Puts};
 ghost use Rattle.key_expr.specs.declared.format.TheConstants.{MAX_KEY_BYTES};

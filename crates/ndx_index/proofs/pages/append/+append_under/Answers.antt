@@ -1,4 +1,5 @@
 use Rattle.std.proofs.Common.{◌≡◌, ◌+◌, ◌-◌, ℕ, suc, Option, length, ap, sym, subst, arith}
+use Rattle.std.proofs.lemmas.Grind.{common_steps}
 use Rattle.ndx_index.specs.PageStore.{Page}
 use Rattle.ndx_index.specs.IndexTree.{IsTree}
 use Rattle.ndx_index.specs.TreeSteps.{CanAppend, Appends, AppendsUnder, AppendsBeside, AddsLink}
@@ -34,8 +35,8 @@ append_under-requires t c =
       ),
     )
 
-pub add_child-requires-clause-some : goal.add_child-requires-clause-some
-add_child-requires-clause-some t c =
+pub add_child-requires : goal.add_child-requires
+add_child-requires t c =
     let a = c.args.store.now.pages in
     let b = c.append_under.new.store.pages in
     let p = c.args.page in
@@ -44,19 +45,13 @@ add_child-requires-clause-some t c =
     let e : c.args.level ≡ suc d = omega arith in
     let tree : IsTree (suc d) a p = subst (λ k. IsTree k a p) e c.requires.can.tree in
     let done : AppendsBeside d a b ps c.in-Some.beside = subst (λ s. Appends d a b c.link-last.result ps s) c.in-Some.is c.in_ok-append_under.ensures.appended in
-    omega (arith, ap (λ (g : Page). length g.links) (done.frame p tree.0), links_length d a p tree)
-
-pub add_child-requires-clause-keys : goal.add_child-requires-clause-keys
-add_child-requires-clause-keys t c =
-    let a = c.args.store.now.pages in
-    let b = c.append_under.new.store.pages in
-    let p = c.args.page in
-    let ps = c.args.pairs.now in
-    let d = c.args.level - 1 in
-    let e : c.args.level ≡ suc d = omega arith in
-    let tree : IsTree (suc d) a p = subst (λ k. IsTree k a p) e c.requires.can.tree in
-    let done : AppendsBeside d a b ps c.in-Some.beside = subst (λ s. Appends d a b c.link-last.result ps s) c.in-Some.is c.in_ok-append_under.ensures.appended in
-    subst (λ (g : Page). length g.links ≡ length g.pairs + 1) (sym (done.frame p tree.0)) (links_length d a p tree)
+    let same = done.frame p tree.0 in
+    record {
+      there = omega (arith, tree.0, done.longer);
+      some = omega (arith, ap (λ (g : Page). length g.links) same, links_length d a p tree);
+      keys = subst (λ (g : Page). length g.links ≡ length g.pairs + 1) (sym same) (links_length d a p tree);
+      key = grind (arith, common_steps);
+    }
 
 pub returns-in-None-clause-appended : goal.returns-in-None-clause-appended
 returns-in-None-clause-appended t c =

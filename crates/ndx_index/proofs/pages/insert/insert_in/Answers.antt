@@ -4,7 +4,7 @@ use Rattle.ndx_index.specs.declared.pages.root.Root.{Root}
 use Rattle.ndx_index.specs.IndexTree.{IsTreeOfLevels}
 use Rattle.ndx_index.specs.PageStore.{Store}
 use Rattle.ndx_index.specs.TreeSteps.{Inserts, InsertsIn, Raises}
-use Rattle.ndx_index.proofs.TreeInsert.{tree_in}
+use Rattle.ndx_index.proofs.TreeLists.{tree_in}
 use Rattle.ndx_index.proofs.RootInsert.{levels_few, inserted_at_top, inserted_below_top}
 use Rattle.ndx_index.proofs.pages.insert.insert_in.Goals.{then-not-has_room, else-not-has_room}
 use Rattle.ndx_index.proofs.pages.insert.insert_in.Goals as goal

@@ -1,4 +1,4 @@
-use Rattle.std.proofs.Common.{◌≡◌, ◌-◌, ◌++◌, suc, subst, arith}
+use Rattle.std.proofs.Common.{◌≡◌, ◌-◌, ◌++◌, suc, subst, rules, arith}
 use Rattle.ndx_index.specs.declared.pages.root.Root.{Root}
 use Rattle.ndx_index.specs.IndexTree.{pairs_in, IsPlain}
 use Rattle.ndx_index.specs.TreeSteps.{Appends, AppendsUnder, AppendsBeside, IsOver}
@@ -19,8 +19,8 @@ returns-in-None-clause-tree c =
     let done : AppendsUnder d a b t.page ps = subst (λ s. Appends d a b t.page ps s) c.in-None.is c.in_ok-append_under.ensures.appended in
     grown_under d a b t ps (omega arith) c.requires.tree done
 
-pub returns-in-Some-clause-tree : goal.returns-in-Some-clause-tree
-returns-in-Some-clause-tree c =
+pub returns-in-Some : goal.returns-in-Some
+returns-in-Some c =
     let a = c.args.store.now.pages in
     let b = c.append_under.new.store.pages in
     let b1 = c.join.new.store.pages in
@@ -28,21 +28,13 @@ returns-in-Some-clause-tree c =
     let q = c.in-Some.beside in
     let ps = c.args.pairs.now in
     let d = t.levels - 1 in
+    let k = c.index-pairs-0.result in
     let e : t.levels ≡ suc d = omega arith in
     let done : AppendsBeside d a b ps q = subst (λ s. Appends d a b t.page ps s) c.in-Some.is c.in_ok-append_under.ensures.appended in
     let can = can_append_top d a t ps e c.requires.tree c.requires.order c.requires.some in
-    ok_weaker (IsOver b b1 t q c.index-pairs-0.result) (IsPlain b1) (λ (u : Root) over. (over_both d a b b1 t u ps c.index-pairs-0.result q c.index-pairs-0.is e c.requires.tree can done over).tree) c.join.result c.join.ensures.top
-
-pub returns-in-Some-clause-pairs : goal.returns-in-Some-clause-pairs
-returns-in-Some-clause-pairs c =
-    let a = c.args.store.now.pages in
-    let b = c.append_under.new.store.pages in
-    let b1 = c.join.new.store.pages in
-    let t = c.args.root in
-    let q = c.in-Some.beside in
-    let ps = c.args.pairs.now in
-    let d = t.levels - 1 in
-    let e : t.levels ≡ suc d = omega arith in
-    let done : AppendsBeside d a b ps q = subst (λ s. Appends d a b t.page ps s) c.in-Some.is c.in_ok-append_under.ensures.appended in
-    let can = can_append_top d a t ps e c.requires.tree c.requires.order c.requires.some in
-    ok_weaker (IsOver b b1 t q c.index-pairs-0.result) (λ (u : Root). pairs_in b1 u ≡ pairs_in a t ++ ps) (λ (u : Root) over. (over_both d a b b1 t u ps c.index-pairs-0.result q c.index-pairs-0.is e c.requires.tree can done over).pairs) c.join.result c.join.ensures.top
+    let both = λ (u : Root) (over : IsOver b b1 t q k u). over_both d a b b1 t u ps k q c.index-pairs-0.is e c.requires.tree can done over in
+    record {
+      tree = ok_weaker (IsOver b b1 t q k) (IsPlain b1) (λ (u : Root) over. (both u over).tree) c.join.result c.join.ensures.top;
+      pairs = ok_weaker (IsOver b b1 t q k) (λ (u : Root). pairs_in b1 u ≡ pairs_in a t ++ ps) (λ (u : Root) over. (both u over).pairs) c.join.result c.join.ensures.top;
+      key_len = search rules;
+    }
