@@ -12,6 +12,7 @@ use Rattle.std.proofs.lemmas.List.Folds.{find-append}
 use Rattle.ndx_index.specs.declared.pair.Pair.{Pair}
 use Rattle.ndx_index.specs.declared.pages.place.Branch.{Branch}
 use Rattle.ndx_index.specs.Order.{pair_cmp, before, AreInOrder}
+use Rattle.ndx_index.specs.LeafPlaces.{last_in}
 use Rattle.ndx_index.specs.Slots.{slot_at, no_pair}
 use Rattle.ndx_index.specs.PageStore.{Page, page_in}
 use Rattle.ndx_index.specs.IndexTree.{pairs_under, joined, AllBefore, AllFrom, Parted, IsTree}
@@ -96,13 +97,10 @@ back_turn t (p ∷ ps) (suc (suc i)) turn =
     back_cons t p ps false (turn.below 0 (omega arith)) ∙ ap (λ o. option_or o (Some p)) (back_turn t ps (suc i) rest ∙ there) ∙ sym there
 
 -- ---- the first and the last pair
-abbrev pub last_of : List Pair → Option Pair
-last_of ps = slice_get ps (length ps - 1)
-
-pub last_some : (ps : List Pair) → 0 < length ps → last_of ps ≡ Some (slot_at ps (length ps - 1))
+pub last_some : (ps : List Pair) → 0 < length ps → last_in ps ≡ Some (slot_at ps (length ps - 1))
 last_some ps some = slice_get-get_or ps (length ps - 1) no_pair (omega arith)
 
-last_before : (ps : List Pair) → pair_before ps (length ps) ≡ last_of ps
+last_before : (ps : List Pair) → pair_before ps (length ps) ≡ last_in ps
 last_before [] = refl
 last_before (p ∷ ps) = let e : length ps ≡ length (p ∷ ps) - 1 = omega arith in ap (slice_get (p ∷ ps)) e
 
@@ -110,7 +108,7 @@ first_append : (xs ys : List Pair) → 0 < length xs → slice_get (xs ++ ys) 0 
 first_append [] ys some = absurd (omega arith)
 first_append (x ∷ xs) ys some = refl
 
-last_append : (xs ys : List Pair) → 0 < length ys → last_of (xs ++ ys) ≡ last_of ys
+last_append : (xs ys : List Pair) → 0 < length ys → last_in (xs ++ ys) ≡ last_in ys
 last_append [] ys some = refl
 last_append (x ∷ xs) ys some =
     let e : length (x ∷ xs ++ ys) - 1 ≡ suc (length (xs ++ ys) - 1) = omega (arith, length-append xs ys) in
@@ -123,12 +121,12 @@ first_joined (ps ∷ pss) some = first_append ps (joined pss) some.0
 some_joined : (ps : List Pair) (pss : List (List Pair)) → 0 < length ps → 0 < length (joined (ps ∷ pss))
 some_joined ps pss some = omega (arith, length-append ps (joined pss))
 
-pub last_joined : (pss : List (List Pair)) → NoneEmpty pss → last_of (joined pss) ≡ last_of (get_or pss (length pss - 1) [])
+pub last_joined : (pss : List (List Pair)) → NoneEmpty pss → last_in (joined pss) ≡ last_in (get_or pss (length pss - 1) [])
 last_joined [] some = refl
-last_joined (ps ∷ []) some = ap last_of (append-nil ps)
+last_joined (ps ∷ []) some = ap last_in (append-nil ps)
 last_joined (ps ∷ qs ∷ pss) some =
     let e : suc (length (qs ∷ pss) - 1) ≡ length (ps ∷ qs ∷ pss) - 1 = omega arith in
-    last_append ps (joined (qs ∷ pss)) (some_joined qs pss some.1.0) ∙ last_joined (qs ∷ pss) some.1 ∙ ap (λ i. last_of (get_or (ps ∷ qs ∷ pss) i [])) e
+    last_append ps (joined (qs ∷ pss)) (some_joined qs pss some.1.0) ∙ last_joined (qs ∷ pss) some.1 ∙ ap (λ i. last_in (get_or (ps ∷ qs ∷ pss) i [])) e
 
 -- ---- lists that keys part
 fails_before : (t : Pair → Bool) → GoesUp t → (k q : Pair) → t k ≡ false → before q k ≡ true → t q ≡ false
@@ -183,7 +181,7 @@ find_parted t up (ps ∷ qs ∷ pss) (k ∷ ks) (suc i) parted some turn =
 
 abbrev pub last_in_before : List (List Pair) → ℕ → Option Pair
 last_in_before pss zero = None
-last_in_before pss (suc i) = last_of (get_or pss i [])
+last_in_before pss (suc i) = last_in (get_or pss i [])
 
 none_empty_at : (pss : List (List Pair)) (i : ℕ) → NoneEmpty pss → i < length pss → 0 < length (get_or pss i [])
 none_empty_at [] i some lt = absurd (omega arith)
@@ -218,7 +216,7 @@ back_parted t up (ps ∷ qs ∷ pss) (k ∷ ks) (suc (suc i)) parted some turn =
     let there = last_some one (none_empty_at (qs ∷ pss) i some.1 (omega (arith, turn.within, parted_length (qs ∷ pss) ks parted.2))) in
     back_append t ps (joined (qs ∷ pss))
     ∙ ap (λ o. option_or o (last_failing_of t ps)) (back_parted t up (qs ∷ pss) ks (suc i) parted.2 some.1 (turns_past t k ks (suc i) turn))
-    ∙ first_of_three a (last_of one) (last_failing_of t ps) (slot_at one (length one - 1)) there
+    ∙ first_of_three a (last_in one) (last_failing_of t ps) (slot_at one (length one - 1)) there
 
 -- ---- a page above the leaves
 pub child_tree : (d : ℕ) (a : List Page) (p i : ℕ) → IsTree (suc d) a p → i < length (page_in a p).links → IsTree d a (get_or (page_in a p).links i 0)
@@ -232,12 +230,12 @@ first_under_child d a p t =
     first_joined (map (λ c. pairs_under d a c) (page_in a p).links) (none_empty d a (page_in a p).links t.3)
     ∙ ap (λ ps. slice_get ps 0) (child_pairs d a p 0 (omega (arith, links_length d a p t)))
 
-pub last_under_child : (d : ℕ) (a : List Page) (p : ℕ) → IsTree (suc d) a p → last_of (pairs_under (suc d) a p) ≡ last_of (pairs_under d a (get_or (page_in a p).links (length (page_in a p).links - 1) 0))
+pub last_under_child : (d : ℕ) (a : List Page) (p : ℕ) → IsTree (suc d) a p → last_in (pairs_under (suc d) a p) ≡ last_in (pairs_under d a (get_or (page_in a p).links (length (page_in a p).links - 1) 0))
 last_under_child d a p t =
     let links = (page_in a p).links in
     last_joined (map (λ c. pairs_under d a c) links) (none_empty d a links t.3)
-    ∙ ap (λ n. last_of (get_or (map (λ c. pairs_under d a c) links) (n - 1) [])) (length-map links (λ c. pairs_under d a c))
-    ∙ ap last_of (child_pairs d a p (length links - 1) (omega (arith, links_length d a p t)))
+    ∙ ap (λ n. last_in (get_or (map (λ c. pairs_under d a c) links) (n - 1) [])) (length-map links (λ c. pairs_under d a c))
+    ∙ ap last_in (child_pairs d a p (length links - 1) (omega (arith, links_length d a p t)))
 
 find_under : (t : Pair → Bool) → GoesUp t → (d : ℕ) (a : List Page) (p i : ℕ) → IsTree (suc d) a p → Turns t (page_in a p).pairs i → find t (pairs_under (suc d) a p) ≡ option_or (find t (pairs_under d a (get_or (page_in a p).links i 0))) (slice_get (get_or (map (λ c. pairs_under d a c) (page_in a p).links) (suc i) []) 0)
 find_under t up d a p i tree turn =
@@ -270,7 +268,7 @@ first_of ps = slice_get ps 0
 first_found : (d : ℕ) (a : List Page) (p : ℕ) → IsTree d a p → first_of (pairs_under d a p) ≡ Some (slot_at (pairs_under d a p) 0)
 first_found d a p t = slice_get-get_or (pairs_under d a p) 0 no_pair (tree_some d a p t)
 
-last_found : (d : ℕ) (a : List Page) (p : ℕ) → IsTree d a p → last_of (pairs_under d a p) ≡ Some (slot_at (pairs_under d a p) (length (pairs_under d a p) - 1))
+last_found : (d : ℕ) (a : List Page) (p : ℕ) → IsTree d a p → last_in (pairs_under d a p) ≡ Some (slot_at (pairs_under d a p) (length (pairs_under d a p) - 1))
 last_found d a p t = last_some (pairs_under d a p) (tree_some d a p t)
 
 module _ (search edge : List Pair → Option Pair) (a : List Page) (level page : ℕ) where
@@ -328,18 +326,18 @@ down_first_beside t up a level page d p i next way turn lt =
     down_beside (find t) first_of a level page d p c b next (slot_at (pairs_under d a b) 0) way (child_tree d a p i way.tree here) (child_order (λ q. pairs_under d a q) links i here way.order) other (first_found d a b other)
     (find_under t up d a p i way.tree turn ∙ ap (λ ps. option_or (find t (pairs_under d a c)) (first_of ps)) (child_pairs d a p (suc i) (omega (arith, lt)) ∙ ap (λ k. pairs_under d a (get_or links k 0)) e))
 
-pub down_last_alone : (t : Pair → Bool) → GoesUp t → (a : List Page) (level page d p i : ℕ) (previous : Option Branch) → GoesDown (last_failing_of t) last_of a level page (record { level = suc d; page = p }) previous → Turns t (page_in a p).pairs i
-    → i ≡ 0 → GoesDown (last_failing_of t) last_of a level page (record { level = d; page = get_or (page_in a p).links i 0 }) previous
+pub down_last_alone : (t : Pair → Bool) → GoesUp t → (a : List Page) (level page d p i : ℕ) (previous : Option Branch) → GoesDown (last_failing_of t) last_in a level page (record { level = suc d; page = p }) previous → Turns t (page_in a p).pairs i
+    → i ≡ 0 → GoesDown (last_failing_of t) last_in a level page (record { level = d; page = get_or (page_in a p).links i 0 }) previous
 down_last_alone t up a level page d p i previous way turn none =
     let links = (page_in a p).links in
     let pss = map (λ c. pairs_under d a c) links in
     let c = get_or links i 0 in
     let lt : i < length links = omega (arith, links_length d a p way.tree, turn.within) in
-    down_alone (last_failing_of t) last_of a level page d p c previous way (child_tree d a p i way.tree lt) (child_order (λ q. pairs_under d a q) links i lt way.order)
+    down_alone (last_failing_of t) last_in a level page d p c previous way (child_tree d a p i way.tree lt) (child_order (λ q. pairs_under d a q) links i lt way.order)
     (back_under t up d a p i way.tree turn ∙ ap (λ k. option_or (last_failing_of t (pairs_under d a c)) (last_in_before pss k)) none)
 
-pub down_last_beside : (t : Pair → Bool) → GoesUp t → (a : List Page) (level page d p i : ℕ) (previous : Option Branch) → GoesDown (last_failing_of t) last_of a level page (record { level = suc d; page = p }) previous → Turns t (page_in a p).pairs i
-    → 0 < i → GoesDown (last_failing_of t) last_of a level page (record { level = d; page = get_or (page_in a p).links i 0 }) (Some (record { level = d; page = get_or (page_in a p).links (i - 1) 0 }))
+pub down_last_beside : (t : Pair → Bool) → GoesUp t → (a : List Page) (level page d p i : ℕ) (previous : Option Branch) → GoesDown (last_failing_of t) last_in a level page (record { level = suc d; page = p }) previous → Turns t (page_in a p).pairs i
+    → 0 < i → GoesDown (last_failing_of t) last_in a level page (record { level = d; page = get_or (page_in a p).links i 0 }) (Some (record { level = d; page = get_or (page_in a p).links (i - 1) 0 }))
 down_last_beside t up a level page d p i previous way turn some =
     let links = (page_in a p).links in
     let pss = map (λ c. pairs_under d a c) links in
@@ -348,8 +346,8 @@ down_last_beside t up a level page d p i previous way turn some =
     let e : i ≡ suc (i - 1) = omega (arith, some) in
     let here : i < length links = omega (arith, links_length d a p way.tree, turn.within) in
     let other = child_tree d a p (i - 1) way.tree (omega (arith, here)) in
-    down_beside (last_failing_of t) last_of a level page d p c b previous (slot_at (pairs_under d a b) (length (pairs_under d a b) - 1)) way (child_tree d a p i way.tree here) (child_order (λ q. pairs_under d a q) links i here way.order) other (last_found d a b other)
-    (back_under t up d a p i way.tree turn ∙ ap (λ k. option_or (last_failing_of t (pairs_under d a c)) (last_in_before pss k)) e ∙ ap (λ ps. option_or (last_failing_of t (pairs_under d a c)) (last_of ps)) (child_pairs d a p (i - 1) (omega (arith, here))))
+    down_beside (last_failing_of t) last_in a level page d p c b previous (slot_at (pairs_under d a b) (length (pairs_under d a b) - 1)) way (child_tree d a p i way.tree here) (child_order (λ q. pairs_under d a q) links i here way.order) other (last_found d a b other)
+    (back_under t up d a p i way.tree turn ∙ ap (λ k. option_or (last_failing_of t (pairs_under d a c)) (last_in_before pss k)) e ∙ ap (λ ps. option_or (last_failing_of t (pairs_under d a c)) (last_in ps)) (child_pairs d a p (i - 1) (omega (arith, here))))
 
 -- ---- a leaf
 pub found_at : (t : Pair → Bool) (ps : List Pair) (i : ℕ) → Turns t ps i → i < length ps → find t ps ≡ Some (slot_at ps i)

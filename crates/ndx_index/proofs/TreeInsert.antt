@@ -18,7 +18,7 @@ use Rattle.ndx_index.proofs.TreeFrame.{framed, Framed, here_itself}
 use Rattle.ndx_index.proofs.Keeping.{keeps_then, list_framed}
 use Rattle.ndx_index.proofs.Order.{placed_at}
 use Rattle.ndx_index.proofs.Parting.{put_in, puts_in_one}
-use Rattle.ndx_index.proofs.TreeLists.{all_at, all_from, child_order, none_empty, total_at, total_same, total_two}
+use Rattle.ndx_index.proofs.TreeLists.{all_at, all_from, child_order, map_same, none_empty, total_at, total_same, total_two}
 
 pub here_other : (p r : ℕ) → here p r ≡ 0 → r ≡ p → ⊥
 here_other p r h e = omega (arith, here_itself p, subst (λ x. here p x ≡ 0) e h)
@@ -35,11 +35,7 @@ total_one f g (x ∷ xs) (suc i) lt same =
 
 pub map_one : {X : Type 0} (f g : ℕ → X) (xs : List ℕ) (i : ℕ) → i < length xs → ((j : ℕ) → j < length xs → (j ≡ i → ⊥) → g (get_or xs j 0) ≡ f (get_or xs j 0)) → map g xs ≡ set (map f xs) i (g (get_or xs i 0))
 map_one f g [] i lt same = absurd (omega arith)
-map_one f g (x ∷ xs) zero lt same = ap (λ ys. g x ∷ ys) (rest xs (λ j l. same (suc j) (omega arith) (λ e. omega arith)))
-  where
-    rest : (ys : List ℕ) → ((j : ℕ) → j < length ys → g (get_or ys j 0) ≡ f (get_or ys j 0)) → map g ys ≡ map f ys
-    rest [] h = refl
-    rest (y ∷ ys) h = rw (h 0 (omega arith), rest ys (λ j l. h (suc j) (omega arith))) refl
+map_one f g (x ∷ xs) zero lt same = ap (λ ys. g x ∷ ys) (map_same f g xs (λ j l. same (suc j) (omega arith) (λ e. omega arith)))
 map_one f g (x ∷ xs) (suc i) lt same = rw (same 0 (omega arith) (λ e. omega arith), map_one f g xs i (omega arith) (λ j l ne. same (suc j) (omega arith) (λ e. ne (omega arith)))) refl
 
 -- ---- the pairs of one child among all

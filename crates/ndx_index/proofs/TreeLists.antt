@@ -131,6 +131,11 @@ parted_length (ps ∷ qs ∷ pss) (k ∷ ks) h = omega (arith, parted_length (qs
 pub links_length : (d : ℕ) (a : List Page) (p : ℕ) → IsTree (suc d) a p → length (page_in a p).links ≡ length (page_in a p).pairs + 1
 links_length d a p t = sym (length-map (page_in a p).links (λ c. pairs_under d a c)) ∙ parted_length (map (λ c. pairs_under d a c) (page_in a p).links) (page_in a p).pairs t.1
 
+-- the same of a page by its level, which is above the leaves
+pub links_above : (level : ℕ) (a : List Page) (p : ℕ) → 0 < level → IsTree level a p → length (page_in a p).links ≡ length (page_in a p).pairs + 1
+links_above zero a p inner tree = absurd (omega arith)
+links_above (suc d) a p inner tree = links_length d a p tree
+
 pub tree_in : (d : ℕ) (a : List Page) (p : ℕ) → IsTree d a p → p < length a
 tree_in zero a p t = t.0
 tree_in (suc d) a p t = t.0

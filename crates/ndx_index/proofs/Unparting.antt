@@ -15,6 +15,7 @@ use Rattle.ndx_index.specs.TreeSteps.{Chosen}
 use Rattle.ndx_index.specs.Laws.Comparing.{before_is, before_trans, same_itself}
 use Rattle.ndx_index.specs.Laws.Sorting.{without_absent}
 use Rattle.ndx_index.proofs.Order.{all-filter}
+use Rattle.ndx_index.proofs.TreeLists.{all_from, map_same, total_same}
 
 -- what a pair isn't like, it isn't among
 absent_if : (P : Pair → Type 0) (pair : Pair) (ps : List Pair) → AllByRecursion P ps → (P pair → ⊥) → Contains ps pair → ⊥
@@ -171,30 +172,18 @@ total_remove f (x ∷ xs) (suc i) lt = let h = total_remove f xs i (omega (arith
 pub all_but : (P : ℕ → Type 0) (xs : List ℕ) (i : ℕ) → ((j : ℕ) → j < length xs → (j ≡ i → ⊥) → P (get_or xs j 0)) → AllByRecursion P (remove xs i)
 all_but P [] zero each = tt
 all_but P [] (suc i) each = tt
-all_but P (x ∷ xs) zero each = rest xs (λ j lt. each (suc j) (omega (arith, lt)) (λ e. omega (arith, e)))
-  where
-    rest : (ys : List ℕ) → ((j : ℕ) → j < length ys → P (get_or ys j 0)) → AllByRecursion P ys
-    rest [] h = tt
-    rest (y ∷ ys) h = (h 0 (omega arith), rest ys (λ j lt. h (suc j) (omega (arith, lt))))
+all_but P (x ∷ xs) zero each = all_from P xs (λ j lt. each (suc j) (omega (arith, lt)) (λ e. omega (arith, e)))
 all_but P (x ∷ xs) (suc i) each = (each 0 (omega arith) (λ e. omega (arith, e)), all_but P xs i (λ j lt ne. each (suc j) (omega (arith, lt)) (λ e. ne (omega (arith, e)))))
 
 -- what agrees at all but one agrees at those that are left
 pub map_but : {X : Type 0} (f g : ℕ → X) (xs : List ℕ) (i : ℕ) → ((j : ℕ) → j < length xs → (j ≡ i → ⊥) → g (get_or xs j 0) ≡ f (get_or xs j 0)) → map g (remove xs i) ≡ map f (remove xs i)
 map_but f g [] zero same = refl
 map_but f g [] (suc i) same = refl
-map_but f g (x ∷ xs) zero same = rest xs (λ j lt. same (suc j) (omega (arith, lt)) (λ e. omega (arith, e)))
-  where
-    rest : (ys : List ℕ) → ((j : ℕ) → j < length ys → g (get_or ys j 0) ≡ f (get_or ys j 0)) → map g ys ≡ map f ys
-    rest [] h = refl
-    rest (y ∷ ys) h = rw (h 0 (omega arith), rest ys (λ j lt. h (suc j) (omega (arith, lt)))) refl
+map_but f g (x ∷ xs) zero same = map_same f g xs (λ j lt. same (suc j) (omega (arith, lt)) (λ e. omega (arith, e)))
 map_but f g (x ∷ xs) (suc i) same = rw (same 0 (omega arith) (λ e. omega (arith, e)), map_but f g xs i (λ j lt ne. same (suc j) (omega (arith, lt)) (λ e. ne (omega (arith, e))))) refl
 
 pub total_but : (f g : ℕ → ℕ) (xs : List ℕ) (i : ℕ) → ((j : ℕ) → j < length xs → (j ≡ i → ⊥) → g (get_or xs j 0) ≡ f (get_or xs j 0)) → total g (remove xs i) ≡ total f (remove xs i)
 total_but f g [] zero same = refl
 total_but f g [] (suc i) same = refl
-total_but f g (x ∷ xs) zero same = rest xs (λ j lt. same (suc j) (omega (arith, lt)) (λ e. omega (arith, e)))
-  where
-    rest : (ys : List ℕ) → ((j : ℕ) → j < length ys → g (get_or ys j 0) ≡ f (get_or ys j 0)) → total g ys ≡ total f ys
-    rest [] h = refl
-    rest (y ∷ ys) h = rw (h 0 (omega arith), rest ys (λ j lt. h (suc j) (omega (arith, lt)))) refl
+total_but f g (x ∷ xs) zero same = total_same f g xs (λ j lt. same (suc j) (omega (arith, lt)) (λ e. omega (arith, e)))
 total_but f g (x ∷ xs) (suc i) same = rw (same 0 (omega arith) (λ e. omega (arith, e)), total_but f g xs i (λ j lt ne. same (suc j) (omega (arith, lt)) (λ e. ne (omega (arith, e))))) refl

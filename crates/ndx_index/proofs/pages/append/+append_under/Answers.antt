@@ -3,21 +3,15 @@ use Rattle.std.proofs.lemmas.Grind.{common_steps}
 use Rattle.ndx_index.specs.PageStore.{Page}
 use Rattle.ndx_index.specs.IndexTree.{IsTree}
 use Rattle.ndx_index.specs.TreeSteps.{CanAppend, Appends, AppendsUnder, AppendsBeside, AddsLink}
-use Rattle.ndx_index.proofs.TreeLists.{links_length}
+use Rattle.ndx_index.proofs.TreeLists.{links_above}
 use Rattle.ndx_index.proofs.Appending.{can_append_below, under_last, child_more, ok_weaker}
 use Rattle.ndx_index.proofs.pages.append.+append_under.Goals as goal
 
 pub overflow_sub-link_count : goal.overflow_sub-link_count
-overflow_sub-link_count t c =
-    let a = c.args.store.now.pages in
-    let e : c.args.level ≡ suc (c.args.level - 1) = omega arith in
-    omega (arith, c.link_count.ensures.count, links_length (c.args.level - 1) a c.args.page (subst (λ d. IsTree d a c.args.page) e c.requires.can.tree))
+overflow_sub-link_count t c = omega (arith, c.link_count.ensures.count, links_above c.args.level c.args.store.now.pages c.args.page (omega arith) c.requires.can.tree)
 
 pub link-last-requires-clause-place : goal.link-last-requires-clause-place
-link-last-requires-clause-place t c =
-    let a = c.args.store.now.pages in
-    let e : c.args.level ≡ suc (c.args.level - 1) = omega arith in
-    omega (arith, c.link_count.ensures.count, links_length (c.args.level - 1) a c.args.page (subst (λ d. IsTree d a c.args.page) e c.requires.can.tree))
+link-last-requires-clause-place t c = omega (arith, c.link_count.ensures.count, links_above c.args.level c.args.store.now.pages c.args.page (omega arith) c.requires.can.tree)
 
 pub append_under-requires : goal.append_under-requires
 append_under-requires t c =
@@ -30,7 +24,7 @@ append_under-requires t c =
       omega (arith, c.decreases),
       (
         subst (λ x. CanAppend d a x ps) (sym c.link-last.ensures.link)
-            (can_append_below d a p ps (c.link_count.result - 1) can (omega (arith, c.link_count.ensures.count, links_length d a p can.tree))),
+            (can_append_below d a p ps (c.link_count.result - 1) can (omega (arith, c.link_count.ensures.count, links_above c.args.level c.args.store.now.pages c.args.page (omega arith) c.requires.can.tree))),
         (c.requires.count_bounded, c.requires.keys),
       ),
     )
@@ -48,8 +42,8 @@ add_child-requires t c =
     let same = done.frame p tree.0 in
     record {
       there = omega (arith, tree.0, done.longer);
-      some = omega (arith, ap (λ (g : Page). length g.links) same, links_length d a p tree);
-      keys = subst (λ (g : Page). length g.links ≡ length g.pairs + 1) (sym same) (links_length d a p tree);
+      some = omega (arith, ap (λ (g : Page). length g.links) same, links_above c.args.level c.args.store.now.pages c.args.page (omega arith) c.requires.can.tree);
+      keys = subst (λ (g : Page). length g.links ≡ length g.pairs + 1) (sym same) (links_above c.args.level c.args.store.now.pages c.args.page (omega arith) c.requires.can.tree);
       key = grind (arith, common_steps);
     }
 
@@ -64,7 +58,7 @@ returns-in-None-clause-appended t c =
     let can : CanAppend (suc d) a p ps = subst (λ k. CanAppend k a p ps) e c.requires.can in
     let done : AppendsUnder d a b c.link-last.result ps = subst (λ s. Appends d a b c.link-last.result ps s) c.in-None.is c.in_ok-append_under.ensures.appended in
     subst (λ k. AppendsUnder k a b p ps) (sym e)
-    (under_last d a b p ps (c.link_count.result - 1) can (omega (arith, c.link_count.ensures.count, links_length d a p can.tree))
+    (under_last d a b p ps (c.link_count.result - 1) can (omega (arith, c.link_count.ensures.count, links_above c.args.level c.args.store.now.pages c.args.page (omega arith) c.requires.can.tree))
     (subst (λ x. AppendsUnder d a b x ps) c.link-last.ensures.link done))
 
 pub returns-in-Some-clause-appended : goal.returns-in-Some-clause-appended

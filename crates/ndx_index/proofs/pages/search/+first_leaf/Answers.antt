@@ -2,21 +2,19 @@ use Rattle.std.proofs.Common.{◌≡◌, suc, ◌-◌, Some, slice_get, sym, sub
 use Rattle.ndx_index.specs.IndexTree.{pairs_under, IsTree}
 use Rattle.ndx_index.specs.PageStore.{page_in}
 use Rattle.ndx_index.specs.Slots.{slot_at}
-use Rattle.ndx_index.proofs.TreeLists.{links_length}
+use Rattle.ndx_index.proofs.TreeLists.{links_above}
 use Rattle.ndx_index.proofs.Searching.{child_tree, first_under_child}
 use Rattle.ndx_index.proofs.pages.search.+first_leaf.Goals as goal
 
 pub link-requires-clause-place : goal.link-requires-clause-place
-link-requires-clause-place t c =
-    let e : c.args.level ≡ suc (c.args.level - 1) = omega arith in
-    omega (arith, links_length (c.args.level - 1) c.args.store.now.pages c.args.page (subst (λ d. IsTree d c.args.store.now.pages c.args.page) e c.requires.tree))
+link-requires-clause-place t c = omega (arith, links_above c.args.level c.args.store.now.pages c.args.page (omega arith) c.requires.tree)
 
 pub first_leaf-requires : goal.first_leaf-requires
 first_leaf-requires t c =
     let a = c.args.store.now.pages in
     let e : c.args.level ≡ suc (c.args.level - 1) = omega arith in
     let tree = subst (λ d. IsTree d a c.args.page) e c.requires.tree in
-    (omega (arith, c.decreases), subst (λ q. IsTree (c.args.level - 1) a q) (sym c.link.ensures.link) (child_tree (c.args.level - 1) a c.args.page 0 tree (omega (arith, links_length (c.args.level - 1) a c.args.page tree))))
+    (omega (arith, c.decreases), subst (λ q. IsTree (c.args.level - 1) a q) (sym c.link.ensures.link) (child_tree (c.args.level - 1) a c.args.page 0 tree (omega (arith, links_above c.args.level c.args.store.now.pages c.args.page (omega arith) c.requires.tree))))
 
 pub returns-else-level-eq0-clause-pair : goal.returns-else-level-eq0-clause-pair
 returns-else-level-eq0-clause-pair t c =
