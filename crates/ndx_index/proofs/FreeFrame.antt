@@ -79,7 +79,7 @@ free_past n a p r f le = elim (cases_eq (free_uses n a p r) 0) [
   | inr ne ↦ absurd (omega (arith, free_there n a p r f (omega arith)))
 ]
 
--- ---- what the code owes
+-- ---- for the goals of the code
 
 pub taken : (n : ℕ) (a b : List Page) (p : ℕ) → AreFree (suc n) a p → ((r : ℕ) → free_uses (suc n) a p r ≤ 1) → b ≡ set a p no_page → FreeFramed n a b (next_free_page (page_in a p))
 taken n a b p f apart e =

@@ -102,7 +102,7 @@ raised a b1 b f g t q x can takes one written keys links =
       same_length = top.same_length;
     }
 
--- ---- what the code owes
+-- ---- for the goals of the code
 -- the tree's top had room
 pub inserted_at_top : (a b : List Page) (f g : FreeList) (t : Root) (pair : Pair) → 0 < t.levels → t.levels ≤ length a → Inserts (t.levels - 1) a b f g t.page pair → InsertsIn a b f g t t pair
 inserted_at_top a b f g t pair some deep done =

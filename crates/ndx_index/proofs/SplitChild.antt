@@ -117,7 +117,7 @@ splits d a0 a1 b g p i q c m x ready halved written keys_are links_are =
       links = ap (λ (h : Page). h.links) at_p ∙ links_are;
     }
 
--- ---- what the code owes
+-- ---- for the goals of the code
 -- page q is taken for the upper half
 abbrev pub Takes : List Page → List Page → FreeList → FreeList → ℕ → Type 0
 Takes a b f g q = (q < length a) × (b ≡ set a q no_page) × IsFreeList b g × ((r : ℕ) → here q r + uses_free b g r ≡ uses_free a f r)

@@ -143,7 +143,7 @@ insert_below d a b e f g h p pair c can made done =
       keeps = keeps_then (suc d) a b e f g h p made.keeps above.keeps;
     }
 
--- ---- what the code owes
+-- ---- for the goals of the code
 pub chosen_at : (p : Pair) (i : ℕ) (ks : List Pair) → i ≤ length ks → ((k : ℕ) (d : Pair) → k < i → before p (get_or ks k d) ≡ false) → ((d : Pair) → i < length ks → before p (get_or ks i d) ≡ true) → Chosen p i ks
 chosen_at p zero [] le low here = tt
 chosen_at p (suc i) [] le low here = absurd (omega arith)

@@ -281,7 +281,7 @@ empty_child d a b e z f g h p i pair can lt emptied gave written none =
       same_length = drop.same_length;
     }
 
--- ---- what the code owes
+-- ---- for the goals of the code
 
 can_up : {level : ℕ} {a : List Page} {f : FreeList} {p : ℕ} {pair : Pair} → 0 < level → CanRemove level a f p pair → CanRemove (suc (level - 1)) a f p pair
 can_up {level = level} {a = a} {f = f} {p = p} {pair = pair} inner can = subst (λ n. CanRemove n a f p pair) (omega arith) can

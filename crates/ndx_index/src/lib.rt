@@ -68,8 +68,8 @@ pub fn one_walk()
 {}
 
 /// The file that is written of an index reads back as that index: its pairs in their order, the length
-/// of its keys, and its key expression without the blanks at its end. Of an expression with a zero in it,
-/// which is none, what stands before the zero is read.
+/// of its keys, and its key expression without the blanks at its end. A text with a zero byte is no key
+/// expression; of such a text what stands before the zero is read.
 pub fn reads_back()
     ensures law { (text : List ℕ) (key_len : ℕ) (pairs : List PairValue) → IsWritable text key_len pairs
         → ReadsBackAs (trimmed_end (before_zero text)) text key_len pairs }
