@@ -11,8 +11,8 @@ use Rattle.dbf_fields.specs.declared.field.Field.{Field}
 use Rattle.lock_table.specs.Locks.{Lock, free_record, free_whole, with_lock, without, without_all, AreApart}
 use Rattle.lock_table.specs.Laws.{apart_record, apart_whole, apart_without, apart_without_all, held_with, held_without, held_without_all}
 use Rattle.table_core.specs.declared.cursor.Cursor.{Cursor}
-use Rattle.table_core.specs.declared.edits.Edit.{Edit}
-use Rattle.table_core.specs.declared.edits.Edit.TheVariants as edit_of
+use Rattle.table_core.specs.EditValue.{EditValue}
+use Rattle.table_core.specs.EditValue as edit_of
 use Rattle.table_core.specs.declared.refusal.Refusal.{Refusal}
 use Rattle.table_core.specs.declared.refusal.Refusal.TheVariants.{NoTableInUse, TableInUse, NeedsExclusive, NotLocked, EndOfFile, BadArea}
 use Rattle.table_core.specs.Content.{Content, Indexed}
@@ -134,7 +134,7 @@ edit_next s station area e good ok = record {
 }
 
 -- an edit that numbers no record anew
-grown_next : (s : State) (station : ℕ) (area : Area) (by : Edit) (e : Content × Cursor) → IsState s → HasStation s station → area_of s station ≡ Some area → renumbers by ≡ false
+grown_next : (s : State) (station : ℕ) (area : Area) (by : EditValue) (e : Content × Cursor) → IsState s → HasStation s station → area_of s station ≡ Some area → renumbers by ≡ false
     → edited (table_of s area) area.cursor by ≡ Ok e → IsNext s station (with_edit s station area e, Done)
 grown_next s station area by e ok h is keeps f =
     let old = ok.areas (station - 1) (current_index s station) area is in
@@ -156,7 +156,7 @@ is_target s station =
     of_found (λ x. area_of s station ≡ Some x) area.cursor.at EndOfFile _ (λ number _.
     of_granted (λ x. area_of s station ≡ Some x) (can_write s station area number) NotLocked (Ok area) (λ _. is)))
 
-pub next_change : (s : State) (station : ℕ) (by : Edit) → IsState s → HasStation s station → renumbers by ≡ false → IfOk (change_record s station by) (IsNext s station)
+pub next_change : (s : State) (station : ℕ) (by : EditValue) → IsState s → HasStation s station → renumbers by ≡ false → IfOk (change_record s station by) (IsNext s station)
 next_change s station by ok h keeps =
     of_passed (IsNext s station) (writable_area s station) _ (λ area there.
     of_passed (IsNext s station) (edited (table_of s area) area.cursor by) _ (λ e f.

@@ -3,7 +3,7 @@
 -- refused command leaves the state as it was.
 use Rattle.std.proofs.Common.{◌≡◌, ℕ, Ok, Err, List, refl, subst}
 use Rattle.std.specs.Prelude.{IfOk}
-use Rattle.table_core.specs.declared.edits.Edit.TheVariants as edit_of
+use Rattle.table_core.specs.EditValue as edit_of
 use Rattle.table_core.specs.declared.refusal.Refusal.{Refusal}
 use Rattle.table_core.specs.declared.refusal.Refusal.TheVariants.{NoTableInUse}
 use Rattle.table_core.specs.Moves.{top, bottom, go, skip, seek, set_order}
@@ -50,7 +50,7 @@ next_outcome s station (Seek text) ok h = next_move s station (λ content cursor
 next_outcome s station (Order number) ok h = next_move s station (λ content cursor. set_order content cursor number) ok h (λ content cursor. set_order_leads content cursor number)
 next_outcome s station AppendBlank ok h = next_append s station ok h
 next_outcome s station (Replace field value) ok h = next_change s station (edit_of.Replace field value) ok h refl
-next_outcome s station (Memo field text) ok h = next_change s station (edit_of.PutMemo field text) ok h refl
+next_outcome s station (Memo field text) ok h = next_change s station (edit_of.Memo field text) ok h refl
 next_outcome s station Delete ok h = next_change s station edit_of.Delete ok h refl
 next_outcome s station Recall ok h = next_change s station edit_of.Recall ok h refl
 next_outcome s station Pack ok h = next_pack s station ok h

@@ -2,11 +2,10 @@
 use Rattle.std.specs.Prelude.{◌≡◌, ℕ, ◌≤◌, true, Some, Result, Ok, Err}
 use Rattle.lock_table.specs.Locks.{free_record, free_whole, with_lock, without_all}
 use Rattle.table_core.specs.declared.cursor.Cursor.{Cursor}
-use Rattle.table_core.specs.declared.edits.Edit.{Edit as EditValue}
-use Rattle.table_core.specs.declared.edits.Edit.TheVariants as edit_of
 use Rattle.table_core.specs.declared.refusal.Refusal.{Refusal}
 use Rattle.table_core.specs.declared.edits.planned.Planned.{Planned}
 use Rattle.table_core.specs.Content.{Content}
+use Rattle.table_core.specs.EditValue.{EditValue}
 use Rattle.table_core.specs.Moves.{top, bottom, go, skip, seek, set_order}
 use Rattle.table_core.specs.Edits.{edited}
 use Rattle.table_core.specs.Planned.{changed as table_changed, cursor_after, carried_out, IsPlanned}
@@ -17,8 +16,6 @@ use Rattle.catalogue_core.specs.declared.change.Change.TheVariants.{Nothing, Sel
 use Rattle.catalogue_core.specs.declared.change.Plan.{Plan}
 use Rattle.catalogue_core.specs.declared.plan.moves.Move.{Move as MoveTo}
 use Rattle.catalogue_core.specs.declared.plan.moves.Move.TheVariants as move_to
-use Rattle.catalogue_core.specs.declared.state.planning.AskedEdit.{AskedEdit}
-use Rattle.catalogue_core.specs.declared.state.planning.AskedEdit.TheVariants as asked
 use Rattle.catalogue_core.specs.Rooms.{WithRoom, seen, held_at}
 use Rattle.catalogue_core.specs.State.{State, table_of, with_current, with_area, with_held, without_lock, closed, IsArea}
 use Rattle.catalogue_core.specs.Step.{Outcome, with_edit}
@@ -31,12 +28,6 @@ after_move move_to.Bottom = bottom
 after_move (move_to.Skip steps) = λ content cursor. skip content cursor steps
 after_move (move_to.Seek text) = λ content cursor. seek content cursor text.now
 after_move (move_to.Order number) = λ content cursor. set_order content cursor number
-
--- the edit that is asked for
-abbrev pub edit_by : AskedEdit → EditValue
-edit_by (asked.Whole edit) = edit.now
-edit_by (asked.Replace field value) = edit_of.Replace field.now value.now
-edit_by (asked.Memo field text) = edit_of.PutMemo field.now text.now
 
 -- what an edit makes of the area's table and cursor, and what its plan does
 abbrev pub edited_at : State → Area → EditValue → Result (Content × Cursor) Refusal

@@ -4,8 +4,8 @@ use Rattle.std.specs.Prelude.{ℕ, ◌+◌, Bool, true, false, not, ◌||◌, �
 use Rattle.std.specs.Int.{is_in_range}
 use Rattle.lock_table.specs.Locks.{free_record, free_whole, may_write, holder, with_lock, without_all}
 use Rattle.table_core.specs.declared.cursor.Cursor.{Cursor}
-use Rattle.table_core.specs.declared.edits.Edit.{Edit}
-use Rattle.table_core.specs.declared.edits.Edit.TheVariants as edit_of
+use Rattle.table_core.specs.EditValue.{EditValue}
+use Rattle.table_core.specs.EditValue as edit_of
 use Rattle.table_core.specs.declared.refusal.Refusal.{Refusal}
 use Rattle.table_core.specs.declared.refusal.Refusal.TheVariants.{NoTable, NoTableInUse, TableInUse, NeedsExclusive, NotLocked, EndOfFile, BadArea, AlreadyOpen, BadCommand}
 use Rattle.table_core.specs.Content.{Content, record_count}
@@ -92,7 +92,7 @@ writable_area s station =
     granted (can_write s station area number) NotLocked (Ok area)))
 
 -- REPLACE, MEMO, DELETE, RECALL: the record at the cursor changes
-abbrev pub change_record : State → ℕ → Edit → Outcome
+abbrev pub change_record : State → ℕ → EditValue → Outcome
 change_record s station by =
     passed (writable_area s station) (λ area.
     passed (edited (table_of s area) area.cursor by) (λ e. Ok (with_edit s station area e, Done)))
@@ -168,7 +168,7 @@ outcome s station (Seek text) = move s station (λ content cursor. seek content 
 outcome s station (Order number) = move s station (λ content cursor. set_order content cursor number)
 outcome s station AppendBlank = append_record s station
 outcome s station (Replace field value) = change_record s station (edit_of.Replace field value)
-outcome s station (Memo field text) = change_record s station (edit_of.PutMemo field text)
+outcome s station (Memo field text) = change_record s station (edit_of.Memo field text)
 outcome s station Delete = change_record s station edit_of.Delete
 outcome s station Recall = change_record s station edit_of.Recall
 outcome s station Pack = pack_table s station

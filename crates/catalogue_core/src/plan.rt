@@ -15,7 +15,6 @@ use crate::answer::Answer;
 use crate::change::{Change, Plan};
 use crate::command::Command;
 use crate::state::State;
-use crate::state::planning::AskedEdit;
 use areas::{
     plan_ask, plan_file_lock, plan_record_lock, plan_select, plan_show, plan_unlock, plan_use_table,
 };
@@ -27,7 +26,7 @@ use table_core::{Edit, Refusal, TableFault};
 /// The plan of a station's command, with all memory that it needs; a refused command has the plan to answer its
 /// refusal. Nothing changes yet, but for room that is made. An error where memory is refused, and only after all
 /// tests: a refused command always has a plan.
-pub fn plan(
+pub(crate) fn plan(
     alloc: Global,
     state: &mut State,
     station: u32,
@@ -75,13 +74,13 @@ fn plan_command(
         Command::Order(number) => Ok(plan_move(state, station, Move::Order(*number))?),
         Command::AppendBlank => plan_append_blank(alloc, state, station),
         Command::Replace { field, value } => {
-            plan_change(alloc, state, station, AskedEdit::Replace(field, value))
+            plan_change(alloc, state, station, Edit::Replace { field, value })
         },
         Command::Memo { field, text } => {
-            plan_change(alloc, state, station, AskedEdit::Memo(field, text))
+            plan_change(alloc, state, station, Edit::Memo { field, text })
         },
-        Command::Delete => plan_change(alloc, state, station, AskedEdit::Whole(&Edit::Delete)),
-        Command::Recall => plan_change(alloc, state, station, AskedEdit::Whole(&Edit::Recall)),
+        Command::Delete => plan_change(alloc, state, station, Edit::Delete),
+        Command::Recall => plan_change(alloc, state, station, Edit::Recall),
         Command::Pack => plan_pack(alloc, state, station),
         Command::Unlock => Ok(plan_unlock(state, station)?),
         Command::UnlockAll => Ok(Plan::done(Change::UnlockAll)),

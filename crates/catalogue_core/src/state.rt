@@ -8,7 +8,7 @@ ghost use Rattle.catalogue_core.specs.Step.{table_named, can_write, can_append};
 
 mod applying;
 mod opening;
-pub mod planning;
+mod planning;
 mod status;
 
 use crate::area::Area;
@@ -21,7 +21,7 @@ use table_core::Table;
 
 /// The tables with their names, the locks, and the areas of each station. Contracts see the tables' room too.
 #[derive(Drop)]
-pub struct State {
+pub(crate) struct State {
     names: Names,
     tables: Vec<Table>,
     locks: Locks,
@@ -42,7 +42,7 @@ impl Model for State {
 
 impl State {
     /// The station's current area, where a table is open in it.
-    pub fn area(&self, station: u32) -> Option<Area>
+    pub(crate) fn area(&self, station: u32) -> Option<Area>
         requires state { IsState (seen self.now) }
         requires station { HasStation (seen self.now) station }
         ensures value { result ≡ area_of (seen self.now) station }
@@ -52,7 +52,7 @@ impl State {
     }
 
     /// The table of a number, from 1.
-    pub fn table(&self, number: u32) -> &Table
+    pub(crate) fn table(&self, number: u32) -> &Table
         requires counted { 1 ≤ number }
         requires inside { number ≤ length (seen self.now).tables }
         ensures value { result.now.content ≡ content_at (seen self.now).tables number }
@@ -61,14 +61,14 @@ impl State {
     }
 
     /// All tables, in order. It takes no memory.
-    pub fn into_tables(self) -> Vec<Table>
+    pub(crate) fn into_tables(self) -> Vec<Table>
         ensures value { map (λ t. t.content) result.items ≡ (seen self).tables }
     {
         self.tables
     }
 
     /// The number of the table of a name, where there is one.
-    pub fn table_named(&self, name: &Bytes) -> Option<u32>
+    pub(crate) fn table_named(&self, name: &Bytes) -> Option<u32>
         requires state { IsState (seen self.now) }
         ensures value { result ≡ table_named (seen self.now) name.now }
         ensures counted { IfSome result (λ number. 1 ≤ number) }
@@ -81,7 +81,7 @@ impl State {
     }
 
     /// Whether the station has the table open in another area than the current one.
-    pub fn is_open_beside(&self, station: u32, table: u32) -> bool
+    pub(crate) fn is_open_beside(&self, station: u32, table: u32) -> bool
         requires station { HasStation (seen self.now) station }
         ensures value { result ≡ is_open_beside (seen self.now).stations station table }
     {
@@ -89,7 +89,7 @@ impl State {
     }
 
     /// Whether another station has the table open, and one of the two wants it exclusively.
-    pub fn is_in_use(&self, station: u32, table: u32, exclusive: bool) -> bool
+    pub(crate) fn is_in_use(&self, station: u32, table: u32, exclusive: bool) -> bool
         requires station { HasStation (seen self.now) station }
         ensures value { result ≡ is_in_use (seen self.now).stations station table exclusive }
     {
@@ -98,7 +98,7 @@ impl State {
 
     /// Whether the station may write the record: it has the table exclusively, or a lock on the record or the
     /// table.
-    pub fn can_write(&self, station: u32, area: Area, number: u32) -> bool
+    pub(crate) fn can_write(&self, station: u32, area: Area, number: u32) -> bool
         requires state { IsState (seen self.now) }
         requires station { HasStation (seen self.now) station }
         requires area { IsArea (seen self.now).tables area }
@@ -109,7 +109,7 @@ impl State {
     }
 
     /// Whether no other station has locked the whole table.
-    pub fn can_append(&self, station: u32, area: Area) -> bool
+    pub(crate) fn can_append(&self, station: u32, area: Area) -> bool
         requires state { IsState (seen self.now) }
         requires area { IsArea (seen self.now).tables area }
         ensures value { result ≡ can_append (seen self.now) station area }
@@ -119,7 +119,7 @@ impl State {
     }
 
     /// Whether the station can have a lock on the record.
-    pub fn is_free_record(&self, station: u32, area: Area, number: u32) -> bool
+    pub(crate) fn is_free_record(&self, station: u32, area: Area, number: u32) -> bool
         requires state { IsState (seen self.now) }
         requires area { IsArea (seen self.now).tables area }
         ensures value { result ≡ free_record self.now.locks.locks station area.table number }
@@ -128,7 +128,7 @@ impl State {
     }
 
     /// Whether the station can have a lock on the table.
-    pub fn is_free_whole(&self, station: u32, area: Area) -> bool
+    pub(crate) fn is_free_whole(&self, station: u32, area: Area) -> bool
         requires state { IsState (seen self.now) }
         requires area { IsArea (seen self.now).tables area }
         ensures value { result ≡ free_whole self.now.locks.locks station area.table }

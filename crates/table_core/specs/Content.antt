@@ -1,5 +1,5 @@
 -- A table with its indexes, as commands see it.
-use Rattle.std.specs.Prelude.{◌≡◌, ℕ, ◌-◌, Bool, ◌==◌, bytes_eq, List, [], ◌∷◌, ◌++◌, length, slice_get, Option, Some, None}
+use Rattle.std.specs.Prelude.{◌≡◌, ℕ, ◌-◌, Bool, ◌==◌, if◌then◌else◌, bytes_eq, List, [], ◌∷◌, ◌++◌, length, slice_get, Option, Some, None}
 use Rattle.std.specs.List.{list_any}
 use Rattle.std.specs.Option.{option_map}
 use Rattle.dbf_fields.specs.declared.field.Field.{Field}
@@ -51,6 +51,10 @@ with_table content table = record { table = table; indexes = content.indexes }
 -- the same table with one more index
 abbrev pub with_index : Content → Indexed → Content
 with_index content index = record { table = content.table; indexes = content.indexes ++ index ∷ [] }
+
+-- the same, where it is added
+abbrev pub with_index_if : Bool → Content → Indexed → Content
+with_index_if added content index = if added then with_index content index else content
 
 -- one of the indexes has the name
 abbrev pub has_index : Content → List ℕ → Bool

@@ -9,12 +9,13 @@ use Rattle.dbf_image.specs.declared.format.TheConstants.{MAX_RECORDS}
 use Rattle.dbf_image.specs.Table.{with_row, with_cell, with_mark, packed, blank_row, is_memo_text}
 use Rattle.table_core.specs.declared.cursor.Cursor.{Cursor}
 use Rattle.table_core.specs.declared.edits.Edit.{Edit}
-use Rattle.table_core.specs.declared.edits.Edit.TheVariants.{AppendBlank, Replace, PutMemo, Delete, Recall, Pack}
+use Rattle.table_core.specs.declared.edits.Edit.TheVariants as asked
 use Rattle.table_core.specs.declared.edits.planned.Target.{Target}
 use Rattle.table_core.specs.declared.refusal.Refusal.{Refusal}
 use Rattle.table_core.specs.declared.refusal.Refusal.TheVariants.{EndOfFile, NoSuchField, TypeMismatch, BadText, TableFull}
 use Rattle.table_core.specs.CellFaults.{kept}
 use Rattle.table_core.specs.Content.{Content, record_count, with_table}
+use Rattle.table_core.specs.EditValue.{EditValue, AppendBlank, Replace, Memo, Delete, Recall, Pack}
 use Rattle.table_core.specs.Moves.{at_record, at_top}
 use Rattle.table_core.specs.Outcomes.{found, granted, passed}
 
@@ -61,8 +62,8 @@ replace content cursor name value =
     kept (stored (field_at content t.field) value) (λ cell. Ok (with_value content t cell, cursor)))
 
 -- MEMO
-abbrev pub put_memo : Content → Cursor → List ℕ → List ℕ → Result (Content × Cursor) Refusal
-put_memo content cursor name text =
+abbrev pub memo : Content → Cursor → List ℕ → List ℕ → Result (Content × Cursor) Refusal
+memo content cursor name text =
     passed (target content cursor name) (λ t.
     granted ((field_at content t.field).kind == MEMO) TypeMismatch (
     granted (is_memo_text text) BadText (Ok (with_value content t text, cursor))))
@@ -75,16 +76,25 @@ mark content cursor deleted = found cursor.at EndOfFile (λ number. Ok (with_del
 abbrev pub pack : Content → Cursor → Result (Content × Cursor) Refusal
 pack content cursor = Ok (with_kept content, at_top (with_kept content) cursor)
 
+-- an edit that is asked for, as a value: what it borrows is its own
+abbrev pub edit_value : Edit → EditValue
+edit_value asked.AppendBlank = AppendBlank
+edit_value (asked.Replace field value) = Replace field.now value.now
+edit_value (asked.Memo field text) = Memo field.now text.now
+edit_value asked.Delete = Delete
+edit_value asked.Recall = Recall
+edit_value asked.Pack = Pack
+
 -- the table and the cursor after an edit, or the first refusal
-abbrev pub edited : Content → Cursor → Edit → Result (Content × Cursor) Refusal
+abbrev pub edited : Content → Cursor → EditValue → Result (Content × Cursor) Refusal
 edited content cursor AppendBlank = append_blank content cursor
 edited content cursor (Replace name value) = replace content cursor name value
-edited content cursor (PutMemo name text) = put_memo content cursor name text
+edited content cursor (Memo name text) = memo content cursor name text
 edited content cursor Delete = mark content cursor true
 edited content cursor Recall = mark content cursor false
 edited content cursor Pack = pack content cursor
 
 -- only PACK gives records other numbers
-abbrev pub renumbers : Edit → Bool
+abbrev pub renumbers : EditValue → Bool
 renumbers Pack = true
 renumbers _ = false

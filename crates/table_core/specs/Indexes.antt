@@ -1,12 +1,12 @@
 -- What the indexes of a table keep.
-use Rattle.std.specs.Prelude.{◌≡◌, ℕ, ◌<◌, Bool, true, false, nat_lt, None, List}
+use Rattle.std.specs.Prelude.{◌≡◌, ℕ, ◌<◌, Bool, true, false, nat_lt, None, List, length, slice_index_or}
 use Rattle.std.specs.List.{list_all}
 use Rattle.dbf_image.specs.Table.{Table}
 use Rattle.key_expr.specs.Expression.{Expression}
 use Rattle.key_expr.specs.Keys.{key_length, names}
 use Rattle.key_expr.specs.Rules.{broken_rule}
 use Rattle.ndx_index.specs.declared.pair.Pair.{Pair}
-use Rattle.ndx_index.specs.TableOrder.{order, order_but}
+use Rattle.ndx_index.specs.TableOrder.{order, order_but, ordered}
 use Rattle.table_core.specs.declared.edits.planned.Target.{Target}
 use Rattle.table_core.specs.declared.indexes.TableIndex.{TableIndex}
 use Rattle.table_core.specs.Content.{Indexed}
@@ -31,6 +31,14 @@ pub record FollowsBut (number : ℕ) (table : Table) (index : TableIndex) : Type
 pub record FollowsAside (target : Target) (table : Table) (index : TableIndex) : Type 0 where
   pub named : names target.field index.expr.expr ≡ true → FollowsBut target.number table index
   pub unnamed : names target.field index.expr.expr ≡ false → Follows table index
+
+-- the numbers of a table's records in the order of an index
+abbrev pub numbers_by : Table → TableIndex → List ℕ
+numbers_by table index = ordered table index.expr.expr
+
+-- a fact holds of each place of a list at which a pair stands
+abbrev pub AtPlacesOf : Pair → List Pair → (ℕ → Type 0) → Type 0
+AtPlacesOf pair pairs fact = (place : ℕ) → place < length pairs → slice_index_or pairs place pair ≡ pair → fact place
 
 -- one more pair has room
 abbrev pub HasRoom : TableIndex → Type 0

@@ -4,6 +4,7 @@ pub mod Content
 pub mod Cursors
 pub mod Moves
 pub mod CellFaults
+pub mod EditValue
 pub mod Edits
 pub mod Shown
 pub mod Indexes

@@ -6,8 +6,8 @@ use Rattle.dbf_fields.specs.Layout.{width_of}
 use Rattle.dbf_image.specs.declared.format.TheConstants.{MAX_RECORDS}
 use Rattle.dbf_image.specs.Table.{Table, kind_at, is_memo_text, packed}
 use Rattle.table_core.specs.declared.cursor.Cursor.{Cursor}
-use Rattle.table_core.specs.declared.edits.planned.Change.{Change}
-use Rattle.table_core.specs.declared.edits.planned.Change.TheVariants.{AddBlank, SetCell, SetMemo, SetMark, Pack}
+use Rattle.table_core.specs.declared.edits.planned.RowChange.{RowChange}
+use Rattle.table_core.specs.declared.edits.planned.RowChange.TheVariants.{AddBlank, SetCell, SetMemo, SetMark, Pack}
 use Rattle.table_core.specs.declared.edits.planned.Planned.{Planned}
 use Rattle.table_core.specs.declared.edits.planned.Target.{Target}
 use Rattle.table_core.specs.declared.indexes.TableIndex.{TableIndex}
@@ -17,14 +17,14 @@ use Rattle.table_core.specs.Edits.{with_blank, with_value, with_deleted}
 use Rattle.table_core.specs.Indexes.{Follows, indexed}
 use Rattle.table_core.specs.Moves.{at_record, at_top}
 
-abbrev pub changed_by : Content → Change → Content
+abbrev pub changed_by : Content → RowChange → Content
 changed_by content AddBlank = with_blank content
 changed_by content (SetCell target cell) = with_value content target cell
 changed_by content (SetMemo target text) = with_value content target text
 changed_by content (SetMark number deleted) = with_deleted content number deleted
 changed_by content (Pack indexes) = with_table content (packed content.table)
 
-abbrev pub moved_by : Content → Cursor → Change → Cursor
+abbrev pub moved_by : Content → Cursor → RowChange → Cursor
 moved_by content cursor AddBlank = at_record cursor (record_count content + 1)
 moved_by content cursor (SetCell target cell) = cursor
 moved_by content cursor (SetMemo target text) = cursor
@@ -85,7 +85,7 @@ pub record CanPack (held : Held) (indexes : List TableIndex) : Type 0 where
   pub follow : AllByRecursion (Follows (packed held.content.table)) indexes
   pub same : map indexed indexes ≡ held.content.indexes
 
-abbrev pub CanMake : Held → Change → Type 0
+abbrev pub CanMake : Held → RowChange → Type 0
 CanMake held AddBlank = CanAdd held
 CanMake held (SetCell target cell) = CanSetCell held target (length cell)
 CanMake held (SetMemo target text) = CanSetMemo held target text

@@ -5,24 +5,25 @@ pub(crate) mod planned;
 
 use dbf_fields::{Bytes, Literal};
 
-/// A change of a table that a command asks for.
-#[derive(Debug, Drop)]
-pub enum Edit {
+/// A change of a table that a command asks for. What a Replace or a Memo takes stays the command's own, so that
+/// a refused edit has copied nothing.
+#[derive(Clone, Copy, Debug)]
+pub enum Edit<'a> {
     /// A last record of blanks, at which the cursor is then.
     AppendBlank,
     /// The field's cell of the record at the cursor keeps a value.
     Replace {
         /// The field's name, in capitals.
-        field: Bytes,
+        field: &'a Bytes,
         /// The value.
-        value: Literal,
+        value: &'a Literal,
     },
     /// The field's memo of the record at the cursor has a text.
-    PutMemo {
+    Memo {
         /// The field's name, in capitals.
-        field: Bytes,
+        field: &'a Bytes,
         /// The text.
-        text: Bytes,
+        text: &'a Bytes,
     },
     /// The record at the cursor is marked as deleted.
     Delete,

@@ -1,12 +1,12 @@
 //! One index of a table.
 
-ghost use Rattle.std.specs.Prelude.{◌≡◌, ℕ, ◌+◌, ◌<◌, ◌≤◌, length, slice_get, slice_index_or, IfOk, OnOk};
+ghost use Rattle.std.specs.Prelude.{◌≡◌, ◌+◌, ◌≤◌, length, slice_get, IfOk, OnOk};
 ghost use Rattle.dbf_image.specs.Table.{packed, row_at};
 ghost use Rattle.key_expr.specs.Keys.{key, key_length};
 ghost use Rattle.ndx_index.specs.Order.{AreInOrder};
 ghost use Rattle.ndx_index.specs.Places.{back_from};
 ghost use Rattle.ndx_index.specs.TableOrder.{pair_at};
-ghost use Rattle.table_core.specs.Indexes.{Follows, FollowsAside, FollowsBut, HasRoom, IsFor, indexed, seen_index};
+ghost use Rattle.table_core.specs.Indexes.{AtPlacesOf, Follows, FollowsAside, FollowsBut, HasRoom, IsFor, indexed, seen_index};
 
 pub(crate) mod all;
 pub(crate) mod kept;
@@ -40,8 +40,8 @@ impl TableIndex {
         ensures follows { IfOk result (λ made. Follows records.now.table made) }
         ensures same { IfOk result (λ made. indexed made ≡ record { name = name; expr = expr }) }
     {
-        // This call tells contracts that the expression keeps the rules on fields.
-        let _text = expr.text();
+        // For contracts alone: the expression keeps the rules on the table's fields.
+        let _ = expr.text();
         let order = sorted(alloc, records, &expr)?;
         Ok(TableIndex { name, expr, order })
     }
@@ -126,7 +126,7 @@ impl TableIndex {
     /// The pair so many places after one that is there.
     pub(crate) fn after(&self, pair: Pair, steps: u64) -> Option<Pair>
         requires sorted { AreInOrder self.now.order.pairs }
-        ensures value { (i : ℕ) → i < length self.now.order.pairs → slice_index_or self.now.order.pairs i pair ≡ pair → result ≡ slice_get self.now.order.pairs (i + steps) }
+        ensures value { AtPlacesOf pair self.now.order.pairs (λ place. result ≡ slice_get self.now.order.pairs (place + steps)) }
     {
         let mut here = Some(pair);
         for _ in 0..steps {
@@ -141,7 +141,7 @@ impl TableIndex {
     /// The pair so many places before one that is there; `None` before the first.
     pub(crate) fn back(&self, pair: Pair, steps: u64) -> Option<Pair>
         requires sorted { AreInOrder self.now.order.pairs }
-        ensures value { (i : ℕ) → i < length self.now.order.pairs → slice_index_or self.now.order.pairs i pair ≡ pair → result ≡ back_from self.now.order.pairs i steps }
+        ensures value { AtPlacesOf pair self.now.order.pairs (λ place. result ≡ back_from self.now.order.pairs place steps) }
     {
         let mut here = Some(pair);
         for _ in 0..steps {

@@ -1,8 +1,9 @@
 //! Plans of the commands that edit a table: the refusals of areas and locks, and then the table's own.
 
 ghost use Rattle.std.specs.Prelude.{◌≡◌, Ok, Some, IfOk, IfErr};
+ghost use Rattle.table_core.specs.Edits.{edit_value};
 ghost use Rattle.table_core.specs.Outcomes.{IsFaultOf};
-ghost use Rattle.catalogue_core.specs.Planned.{edit_by, planned, CanChange};
+ghost use Rattle.catalogue_core.specs.Planned.{planned, CanChange};
 ghost use Rattle.catalogue_core.specs.Rooms.{seen};
 ghost use Rattle.catalogue_core.specs.State.{area_of, IsState, HasStation, IsArea};
 ghost use Rattle.catalogue_core.specs.Step.{append_record, change_record, pack_table, writable_area};
@@ -10,11 +11,14 @@ ghost use Rattle.catalogue_core.specs.Step.{append_record, change_record, pack_t
 use crate::area::Area;
 use crate::change::{Change, Plan};
 use crate::state::State;
-use crate::state::planning::AskedEdit;
 use std::alloc::Global;
 use table_core::{Edit, Refusal, TableFault};
 
-pub fn plan_append_blank(alloc: Global, state: &mut State, station: u32) -> Result<Plan, TableFault>
+pub(crate) fn plan_append_blank(
+    alloc: Global,
+    state: &mut State,
+    station: u32,
+) -> Result<Plan, TableFault>
     requires state { IsState (seen state.old) }
     requires station { HasStation (seen state.old) station }
     ensures planned { IfOk result (λ plan. append_record (seen state.old) station ≡ Ok (planned (seen state.old) station plan)) }
@@ -26,22 +30,22 @@ pub fn plan_append_blank(alloc: Global, state: &mut State, station: u32) -> Resu
     if !state.can_append(station, area) {
         return Err(Refusal::TableInUse.into());
     }
-    let edit = state.plan_edit(alloc, area, AskedEdit::Whole(&Edit::AppendBlank))?;
+    let edit = state.plan_edit(alloc, area, Edit::AppendBlank)?;
     Ok(Plan::done(Change::Edit(area, edit)))
 }
 
 /// The plan of an edit of the record at the cursor: of REPLACE, MEMO, DELETE and RECALL.
-pub fn plan_change(
+pub(crate) fn plan_change(
     alloc: Global,
     state: &mut State,
     station: u32,
-    edit: AskedEdit<'_>,
+    edit: Edit<'_>,
 ) -> Result<Plan, TableFault>
     requires state { IsState (seen state.old) }
     requires station { HasStation (seen state.old) station }
-    ensures planned { IfOk result (λ plan. change_record (seen state.old) station (edit_by edit.entry) ≡ Ok (planned (seen state.old) station plan)) }
+    ensures planned { IfOk result (λ plan. change_record (seen state.old) station (edit_value edit.entry) ≡ Ok (planned (seen state.old) station plan)) }
     ensures can { IfOk result (λ plan. CanChange state.new station plan.change) }
-    ensures refused { IfErr result (λ fault. IsFaultOf fault (change_record (seen state.old) station (edit_by edit.entry))) }
+    ensures refused { IfErr result (λ fault. IsFaultOf fault (change_record (seen state.old) station (edit_value edit.entry))) }
     ensures same { seen state.new ≡ seen state.old }
 {
     let area = find_target(state, station)?;
@@ -49,7 +53,7 @@ pub fn plan_change(
     Ok(Plan::done(Change::Edit(area, edit)))
 }
 
-pub fn plan_pack(alloc: Global, state: &mut State, station: u32) -> Result<Plan, TableFault>
+pub(crate) fn plan_pack(alloc: Global, state: &mut State, station: u32) -> Result<Plan, TableFault>
     requires state { IsState (seen state.old) }
     requires station { HasStation (seen state.old) station }
     ensures planned { IfOk result (λ plan. pack_table (seen state.old) station ≡ Ok (planned (seen state.old) station plan)) }
@@ -61,7 +65,7 @@ pub fn plan_pack(alloc: Global, state: &mut State, station: u32) -> Result<Plan,
     if !area.exclusive {
         return Err(Refusal::NeedsExclusive.into());
     }
-    let edit = state.plan_edit(alloc, area, AskedEdit::Whole(&Edit::Pack))?;
+    let edit = state.plan_edit(alloc, area, Edit::Pack)?;
     Ok(Plan::done(Change::Pack(area, edit)))
 }
 

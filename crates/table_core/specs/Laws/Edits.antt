@@ -9,15 +9,14 @@ use Rattle.dbf_fields.specs.Cell.{stored}
 use Rattle.dbf_image.specs.declared.format.TheConstants.{MAX_RECORDS}
 use Rattle.dbf_image.specs.Table.{is_memo_text, row_at, row_with_cell, row_marked, blank_row}
 use Rattle.table_core.specs.declared.cursor.Cursor.{Cursor}
-use Rattle.table_core.specs.declared.edits.Edit.{Edit}
-use Rattle.table_core.specs.declared.edits.Edit.TheVariants.{AppendBlank, Replace, PutMemo, Delete, Recall, Pack}
 use Rattle.table_core.specs.declared.edits.planned.Target.{Target}
 use Rattle.table_core.specs.declared.refusal.Refusal.{Refusal}
 use Rattle.table_core.specs.declared.refusal.Refusal.TheVariants.{EndOfFile, TypeMismatch, BadText, TableFull}
 use Rattle.table_core.specs.CellFaults.{kept}
 use Rattle.table_core.specs.Content.{Content, Indexed, record_count}
 use Rattle.table_core.specs.Cursors.{IsCursorPlace, IsCursor}
-use Rattle.table_core.specs.Edits.{with_blank, with_value, with_deleted, with_kept, field_at, target, append_blank, replace, put_memo, mark, edited, renumbers}
+use Rattle.table_core.specs.EditValue.{EditValue, AppendBlank, Replace, Memo, Delete, Recall, Pack}
+use Rattle.table_core.specs.Edits.{with_blank, with_value, with_deleted, with_kept, field_at, target, append_blank, replace, memo, mark, edited, renumbers}
 use Rattle.table_core.specs.Moves.{at_record, at_top}
 use Rattle.table_core.specs.Outcomes.{granted}
 use Rattle.table_core.specs.Laws.Numbers.{is_place}
@@ -77,7 +76,7 @@ replace_grows content cursor name value h =
     of_passed (IsGrown content) (target content cursor name) (λ t. kept (stored (field_at content t.field) value) (λ cell. Ok (with_value content t cell, cursor))) (λ t _.
     of_kept (IsGrown content) (stored (field_at content t.field) value) (λ cell. Ok (with_value content t cell, cursor)) (λ cell. value_grows content cursor t cell h))
 
-memo_grows : (content : Content) (cursor : Cursor) (name text : List ℕ) → IsCursor content cursor → Grows content (put_memo content cursor name text)
+memo_grows : (content : Content) (cursor : Cursor) (name text : List ℕ) → IsCursor content cursor → Grows content (memo content cursor name text)
 memo_grows content cursor name text h =
     of_passed (IsGrown content) (target content cursor name) (λ t.
     granted ((field_at content t.field).kind == MEMO) TypeMismatch (granted (is_memo_text text) BadText (Ok (with_value content t text, cursor)))) (λ t _.
@@ -96,25 +95,25 @@ of_grown content (Ok end) h = h.edited_is
 of_grown content (Err refusal) h = tt
 
 -- an edit that doesn't renumber leaves as many records or more
-pub grows_edited : (content : Content) (cursor : Cursor) (edit : Edit) → renumbers edit ≡ false → IsCursor content cursor → Grows content (edited content cursor edit)
+pub grows_edited : (content : Content) (cursor : Cursor) (edit : EditValue) → renumbers edit ≡ false → IsCursor content cursor → Grows content (edited content cursor edit)
 grows_edited content cursor AppendBlank e h = blank_grows content cursor h
 grows_edited content cursor (Replace name value) e h = replace_grows content cursor name value h
-grows_edited content cursor (PutMemo name text) e h = memo_grows content cursor name text h
+grows_edited content cursor (Memo name text) e h = memo_grows content cursor name text h
 grows_edited content cursor Delete e h = mark_grows content cursor true h
 grows_edited content cursor Recall e h = mark_grows content cursor false h
 grows_edited content cursor Pack e h = absurd (Rattle.std.proofs.lemmas.Bool.false≢true (sym e))
 
 -- the edit's cursor is one of the table then
-pub is_edited : (content : Content) (cursor : Cursor) (edit : Edit) → IsCursor content cursor → IfOk (edited content cursor edit) (IsEdited content)
+pub is_edited : (content : Content) (cursor : Cursor) (edit : EditValue) → IsCursor content cursor → IfOk (edited content cursor edit) (IsEdited content)
 is_edited content cursor AppendBlank h = of_grown content (append_blank content cursor) (blank_grows content cursor h)
 is_edited content cursor (Replace name value) h = of_grown content (replace content cursor name value) (replace_grows content cursor name value h)
-is_edited content cursor (PutMemo name text) h = of_grown content (put_memo content cursor name text) (memo_grows content cursor name text h)
+is_edited content cursor (Memo name text) h = of_grown content (memo content cursor name text) (memo_grows content cursor name text h)
 is_edited content cursor Delete h = of_grown content (mark content cursor true) (mark_grows content cursor true h)
 is_edited content cursor Recall h = of_grown content (mark content cursor false) (mark_grows content cursor false h)
 is_edited content cursor Pack h = pack_edits content cursor h
 
 -- after an edit that doesn't renumber, each cursor that the table had is one of the table
-pub keeps_cursors : (content : Content) (cursor : Cursor) (edit : Edit) → renumbers edit ≡ false → IsCursor content cursor
+pub keeps_cursors : (content : Content) (cursor : Cursor) (edit : EditValue) → renumbers edit ≡ false → IsCursor content cursor
     → IfOk (edited content cursor edit) (λ end. (other : Cursor) → IsCursor content other → IsCursor end.0 other)
 keeps_cursors content cursor edit same h = by (edited content cursor edit) (grows_edited content cursor edit same h)
   where

@@ -1,11 +1,11 @@
-//! Changes of a table and of all its indexes. They take no memory.
+//! Changes of a table's records that its indexes follow. They take no memory.
 
-ghost use Rattle.std.specs.Prelude.{◌≡◌, ◌+◌, ◌<◌, ◌≤◌, true, length, map};
+ghost use Rattle.std.specs.Prelude.{◌≡◌, ◌+◌, ◌<◌, true, length, map};
 ghost use Rattle.std.specs.List.{AllByRecursion};
 ghost use Rattle.dbf_image.specs.declared.format.TheConstants.{MAX_RECORDS};
-ghost use Rattle.dbf_image.specs.Table.{blank_row, with_row, with_cell, with_mark};
+ghost use Rattle.dbf_image.specs.Table.{blank_row, with_row, with_cell};
 ghost use Rattle.table_core.specs.Indexes.{Follows, HasRoom, indexed};
-ghost use Rattle.table_core.specs.Planned.{IsCellOf, IsMemoOf, IsRecordOf};
+ghost use Rattle.table_core.specs.Planned.{IsCellOf};
 
 use crate::edits::planned::Target;
 use crate::indexes::TableIndex;
@@ -46,37 +46,4 @@ pub(crate) fn add_blank(records: &mut GrowingTable, indexes: &mut Vec<TableIndex
     let number = records.record_count();
     put_in_all(indexes, records, number);
     number
-}
-
-/// Replaces the text of a memo. No key depends on it.
-pub(crate) fn set_memo(
-    records: &mut GrowingTable,
-    indexes: &Vec<TableIndex>,
-    target: Target,
-    text: &[u8],
-)
-    requires memo { IsMemoOf records.old.table target text.now }
-    requires room { length text.now ≤ records.old.text_room }
-    requires follow { AllByRecursion (Follows records.old.table) indexes.now.items }
-    ensures table { records.new.table ≡ with_cell records.old.table target.number target.field text.now }
-    ensures follow { AllByRecursion (Follows records.new.table) indexes.now.items }
-{
-    let _indexes = indexes;
-    records.set_memo(target.number, target.field, text);
-}
-
-/// Sets the mark of a record, or takes it away. No key depends on it.
-pub(crate) fn set_mark(
-    records: &mut GrowingTable,
-    indexes: &Vec<TableIndex>,
-    number: u32,
-    deleted: bool,
-)
-    requires record_is { IsRecordOf records.old.table number }
-    requires follow { AllByRecursion (Follows records.old.table) indexes.now.items }
-    ensures table { records.new.table ≡ with_mark records.old.table number deleted }
-    ensures follow { AllByRecursion (Follows records.new.table) indexes.now.items }
-{
-    let _indexes = indexes;
-    records.set_deleted(number, deleted);
 }

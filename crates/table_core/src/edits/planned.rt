@@ -12,9 +12,9 @@ pub(crate) struct Target {
     pub(crate) field: usize,
 }
 
-/// A change of a table that takes no memory.
+/// A change of a table's rows that takes no memory.
 #[derive(Drop)]
-pub(crate) enum Change {
+pub(crate) enum RowChange {
     /// A last record of blanks.
     AddBlank,
     /// A cell is replaced.
@@ -49,5 +49,5 @@ pub(crate) enum Change {
 /// makes the change.
 #[derive(Drop)]
 pub struct Planned {
-    pub(crate) change: Change,
+    pub(crate) change: RowChange,
 }

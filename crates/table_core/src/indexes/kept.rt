@@ -31,8 +31,8 @@ impl TableIndex {
         ensures follows { IfOk result (λ made. IfSome made (λ index. Follows records.now.table index)) }
         ensures same { IfOk result (λ made. IfSome made (λ index. indexed index ≡ record { name = name; expr = expr })) }
     {
-        // This call tells contracts that the expression keeps the rules on fields.
-        let _text = expr.text();
+        // For contracts alone: the expression keeps the rules on the table's fields.
+        let _ = expr.text();
         if !put_in_order(records, &expr, &mut pairs) {
             return Ok(None);
         }

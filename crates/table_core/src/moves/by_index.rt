@@ -1,8 +1,8 @@
 //! Moves by the order of an index.
 
 ghost use Rattle.std.specs.Prelude.{◌≡◌, ◌+◌, ◌-◌, ◌≤◌, length, slice_get};
-ghost use Rattle.ndx_index.specs.TableOrder.{order, ordered};
-ghost use Rattle.table_core.specs.Indexes.{Follows};
+ghost use Rattle.ndx_index.specs.TableOrder.{order};
+ghost use Rattle.table_core.specs.Indexes.{Follows, numbers_by};
 ghost use Rattle.std.specs.Option.{option_map};
 ghost use Rattle.ndx_index.specs.Order.{first_with as first_with_text};
 ghost use Rattle.ndx_index.specs.Places.{place_in, back_from};
@@ -21,7 +21,7 @@ fn number_of(found: Option<Pair>) -> Option<u32>
 /// The first record.
 pub(crate) fn first_record(index: &TableIndex, records: &GrowingTable) -> Option<u32>
     requires follows { Follows records.now.table index.now }
-    ensures value { result ≡ slice_get (ordered records.now.table index.now.expr.expr) 0 }
+    ensures value { result ≡ slice_get (numbers_by records.now.table index.now) 0 }
 {
     number_of(index.order.first())
 }
@@ -29,7 +29,7 @@ pub(crate) fn first_record(index: &TableIndex, records: &GrowingTable) -> Option
 /// The last record.
 pub(crate) fn last_record(index: &TableIndex, records: &GrowingTable) -> Option<u32>
     requires follows { Follows records.now.table index.now }
-    ensures value { result ≡ slice_get (ordered records.now.table index.now.expr.expr) (length (ordered records.now.table index.now.expr.expr) - 1) }
+    ensures value { result ≡ slice_get (numbers_by records.now.table index.now) (length (numbers_by records.now.table index.now) - 1) }
 {
     number_of(index.order.last())
 }
@@ -44,7 +44,7 @@ pub(crate) fn record_after(
     requires one { 1 ≤ number }
     requires inside { number ≤ length records.now.table.rows }
     requires follows { Follows records.now.table index.now }
-    ensures value { result ≡ slice_get (ordered records.now.table index.now.expr.expr) (place_in number (ordered records.now.table index.now.expr.expr) + steps) }
+    ensures value { result ≡ slice_get (numbers_by records.now.table index.now) (place_in number (numbers_by records.now.table index.now) + steps) }
 {
     number_of(index.after(pair_of(&index.expr, records, number), steps))
 }
@@ -59,7 +59,7 @@ pub(crate) fn record_before(
     requires one { 1 ≤ number }
     requires inside { number ≤ length records.now.table.rows }
     requires follows { Follows records.now.table index.now }
-    ensures value { result ≡ back_from (ordered records.now.table index.now.expr.expr) (place_in number (ordered records.now.table index.now.expr.expr)) steps }
+    ensures value { result ≡ back_from (numbers_by records.now.table index.now) (place_in number (numbers_by records.now.table index.now)) steps }
 {
     number_of(index.back(pair_of(&index.expr, records, number), steps))
 }
@@ -68,7 +68,7 @@ pub(crate) fn record_before(
 pub(crate) fn record_from_end(index: &TableIndex, records: &GrowingTable, steps: u64) -> Option<u32>
     requires some { 1 ≤ steps }
     requires follows { Follows records.now.table index.now }
-    ensures value { result ≡ back_from (ordered records.now.table index.now.expr.expr) (length (ordered records.now.table index.now.expr.expr)) steps }
+    ensures value { result ≡ back_from (numbers_by records.now.table index.now) (length (numbers_by records.now.table index.now)) steps }
 {
     match index.order.last() {
         Some(last) => number_of(index.back(last, steps - 1)),
@@ -81,7 +81,6 @@ pub(crate) fn first_with(index: &TableIndex, records: &GrowingTable, text: &[u8]
     requires follows { Follows records.now.table index.now }
     ensures value { result ≡ first_with_text text.now (order records.now.table index.now.expr.expr) }
 {
-    let _records = records;
     let Some(found) = index.order.first_from(text) else {
         return None;
     };

@@ -1,9 +1,9 @@
 //! Indexes that are added to a table.
 
-ghost use Rattle.std.specs.Prelude.{◌≡◌, ◌↔◌, bytes_eq, [], if◌then◌else◌, IfOk, IfErr, IsTrue, IsPermutation, OnErr, OnOk};
+ghost use Rattle.std.specs.Prelude.{◌≡◌, ◌↔◌, bytes_eq, [], IfOk, IfErr, IsTrue, IsPermutation, OnErr, OnOk};
 ghost use Rattle.std.specs.List.{list_any};
 ghost use Rattle.ndx_index.specs.TableOrder.{pairs_of};
-ghost use Rattle.table_core.specs.Content.{has_index, with_index};
+ghost use Rattle.table_core.specs.Content.{has_index, with_index, with_index_if};
 
 use crate::indexes::TableIndex;
 use crate::table::Table;
@@ -67,7 +67,7 @@ impl Table {
     ) -> Result<bool, AllocError>
         requires read { expr.fields ≡ self.old.content.table.schema }
         ensures whole { IfOk result (λ added. IsTrue added ↔ IsPermutation (pairs_of self.old.content.table expr.expr) pairs.items) }
-        ensures added { IfOk result (λ added. self.new.content ≡ (if added then with_index self.old.content (record { name = name; expr = expr }) else self.old.content)) }
+        ensures added { IfOk result (λ added. self.new.content ≡ with_index_if added self.old.content (record { name = name; expr = expr })) }
         ensures err { OnErr result (self.new.content ≡ self.old.content) }
         ensures tested { IfErr result (λ _. IsPermutation (pairs_of self.old.content.table expr.expr) pairs.items) }
     {

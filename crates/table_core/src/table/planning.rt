@@ -3,13 +3,13 @@
 ghost use Rattle.std.specs.Prelude.{◌≡◌, ◌≤◌, true, length, IfOk, IfErr, OnOk};
 ghost use Rattle.table_core.specs.declared.cursor.Cursor.{Cursor as CursorValue};
 ghost use Rattle.table_core.specs.Cursors.{IsCursor};
-ghost use Rattle.table_core.specs.Edits.{edited, append_blank, replace, put_memo, mark, pack};
+ghost use Rattle.table_core.specs.Edits.{edited, edit_value, append_blank, replace, memo, mark, pack};
 ghost use Rattle.table_core.specs.Outcomes.{IsFaultOf};
 ghost use Rattle.table_core.specs.Planned.{carried_out, IsPlanned};
 
 use crate::cursor::Cursor;
 use crate::edits::Edit;
-use crate::edits::planned::{Change, Planned};
+use crate::edits::planned::{Planned, RowChange};
 use crate::fault::TableFault;
 use crate::indexes::all::reserve_all;
 use crate::indexes::sort::packed_all;
@@ -24,25 +24,25 @@ impl Table {
     /// no memo and no order, whatever it answers.
     ///
     /// The refusals, each edit's in order: of AppendBlank `TableFull`; of Replace `EndOfFile`, `NoSuchField`,
-    /// `TypeMismatch`, `BadDate`, `NumberTooWide`; of PutMemo `EndOfFile`, `NoSuchField`, `TypeMismatch`, `BadText`; of
+    /// `TypeMismatch`, `BadDate`, `NumberTooWide`; of Memo `EndOfFile`, `NoSuchField`, `TypeMismatch`, `BadText`; of
     /// Delete and Recall `EndOfFile`; of Pack none. All of them are tested before memory is taken, so
     /// `NoMemory` comes only for an edit that is not refused.
     pub fn plan(
         &mut self,
         alloc: Global,
         cursor: &Cursor,
-        edit: &Edit,
+        edit: Edit<'_>,
     ) -> Result<Planned, TableFault>
         requires cursor { IsCursor self.old.content cursor.now }
-        ensures outcome { IfOk result (λ planned. edited self.old.content cursor.now edit.now ≡ carried_out self.old.content cursor.now planned) }
+        ensures outcome { IfOk result (λ plan. edited self.old.content cursor.now (edit_value edit.entry) ≡ carried_out self.old.content cursor.now plan) }
         ensures planned { IfOk result (λ planned. IsPlanned self.new planned) }
-        ensures refused { IfErr result (λ fault. IsFaultOf fault (edited self.old.content cursor.now edit.now)) }
+        ensures refused { IfErr result (λ fault. IsFaultOf fault (edited self.old.content cursor.now (edit_value edit.entry))) }
         ensures same { self.new.content ≡ self.old.content }
     {
         match edit {
             Edit::AppendBlank => self.plan_append_blank(),
             Edit::Replace { field, value } => self.plan_replace(alloc, cursor, field, value),
-            Edit::PutMemo { field, text } => self.plan_memo(alloc, cursor, field, text),
+            Edit::Memo { field, text } => self.plan_memo(alloc, cursor, field, text),
             Edit::Delete => self.plan_mark(cursor, true),
             Edit::Recall => self.plan_mark(cursor, false),
             Edit::Pack => Ok(self.plan_pack(alloc)?),
@@ -61,15 +61,12 @@ impl Table {
         self.reserve_record()?;
         self.reserve_pairs()?;
         Ok(Planned {
-            change: Change::AddBlank,
+            change: RowChange::AddBlank,
         })
     }
 
-    /// The plan of a Replace, as that of [`Table::plan`], by the name of the field, in capitals, and the value.
-    ///
-    /// The refusals, in order: `EndOfFile`, `NoSuchField`, `TypeMismatch`, `BadDate`, `NumberTooWide`. `NoMemory`
-    /// comes only where there is none.
-    pub fn plan_replace(
+    // The plan of a Replace, by the name of the field and the value.
+    fn plan_replace(
         &mut self,
         alloc: Global,
         cursor: &Cursor,
@@ -86,15 +83,12 @@ impl Table {
         let cell = encode_cell(alloc, &self.schema().fields()[target.field], value)?;
         self.reserve_pairs()?;
         Ok(Planned {
-            change: Change::SetCell { target, cell },
+            change: RowChange::SetCell { target, cell },
         })
     }
 
-    /// The plan of a PutMemo, as that of [`Table::plan`], by the name of the field, in capitals, and the text.
-    ///
-    /// The refusals, in order: `EndOfFile`, `NoSuchField`, `TypeMismatch`, `BadText`. `NoMemory` comes only where
-    /// there is none.
-    pub fn plan_memo(
+    // The plan of a Memo, by the name of the field and the text.
+    fn plan_memo(
         &mut self,
         alloc: Global,
         cursor: &Cursor,
@@ -102,9 +96,9 @@ impl Table {
         text: &Bytes,
     ) -> Result<Planned, TableFault>
         requires cursor { IsCursor self.old.content cursor.now }
-        ensures outcome { IfOk result (λ planned. put_memo self.old.content cursor.now name.now text.now ≡ carried_out self.old.content cursor.now planned) }
+        ensures outcome { IfOk result (λ planned. memo self.old.content cursor.now name.now text.now ≡ carried_out self.old.content cursor.now planned) }
         ensures planned { IfOk result (λ planned. IsPlanned self.new planned) }
-        ensures refused { IfErr result (λ fault. IsFaultOf fault (put_memo self.old.content cursor.now name.now text.now)) }
+        ensures refused { IfErr result (λ fault. IsFaultOf fault (memo self.old.content cursor.now name.now text.now)) }
         ensures same { self.new.content ≡ self.old.content }
     {
         let target = self.find_target(cursor, name)?;
@@ -117,7 +111,7 @@ impl Table {
         let text = text.copy(alloc)?;
         self.reserve_text(text.as_slice().len())?;
         Ok(Planned {
-            change: Change::SetMemo { target, text },
+            change: RowChange::SetMemo { target, text },
         })
     }
 
@@ -130,7 +124,7 @@ impl Table {
     {
         let number = cursor.at.ok_or(Refusal::EndOfFile)?;
         Ok(Planned {
-            change: Change::SetMark { number, deleted },
+            change: RowChange::SetMark { number, deleted },
         })
     }
 
@@ -141,7 +135,7 @@ impl Table {
     {
         let indexes = packed_all(alloc, &self.indexes, &self.records)?;
         Ok(Planned {
-            change: Change::Pack { indexes },
+            change: RowChange::Pack { indexes },
         })
     }
 
