@@ -1,6 +1,9 @@
 pub mod Indexes
 pub mod Numbered
 pub mod Parts
+pub mod Each
+pub mod Places
+pub mod Counts
 pub mod Rows
 pub mod Writes
 pub mod Released

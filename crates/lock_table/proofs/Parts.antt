@@ -1,11 +1,12 @@
 -- The list of locks by parts of the slots: what a filter keeps, and what another slot makes of it.
-use Rattle.std.proofs.Common.{◌≡◌, ℕ, zero, suc, ◌+◌, ◌-◌, ◌*◌, ◌<◌, ◌≤◌, Bool, true, false, not, ◌==◌, List, [], ◌∷◌, ◌++◌, length, map, take, drop, replicate, get_or, slice_set, slice_range, Option, None, refl, sym, ap, ◌∙◌, arith, length-drop}
+use Rattle.std.proofs.Common.{◌≡◌, ℕ, zero, suc, ◌+◌, ◌-◌, ◌*◌, ◌<◌, ◌≤◌, Bool, true, false, not, ◌==◌, List, [], ◌∷◌, ◌++◌, length, map, take, drop, replicate, get_or, slice_set, slice_range, refl, sym, ap, ◌∙◌, arith, length-drop}
 use Rattle.std.specs.List.{filter}
-use Rattle.std.proofs.lemmas.List.{append-nil, nil_from_length, set_split, set-get_or, map-append, length-map, length-take, take-append-drop}
+use Rattle.std.proofs.lemmas.List.{append-nil, nil_from_length, set_split, set-get_or, length-take, take-append-drop}
+use Rattle.std.proofs.lemmas.List.Edits.{get_or-between}
 use Rattle.std.proofs.lemmas.List.Elements.{filter-append}
 use Rattle.std.proofs.lemmas.Bool.Decides.{nat_tests}
-use Rattle.lock_table.specs.Locks.{Lock, lock_of, in_table, is_before, is_after, is_own, with_locks, without}
-use Rattle.lock_table.specs.Slots.{slot_index_of, slot_records, lock_at, locks_from, locks_of, row_from}
+use Rattle.lock_table.specs.Locks.{Lock, lock_of, in_table, is_before, is_after, is_own, with_locks, without, own_numbers}
+use Rattle.lock_table.specs.Slots.{slot_index_of, lock_at, locks_from, locks_of, row_from}
 use Rattle.lock_table.proofs.Numbered.{slot_locks-append}
 use Rattle.lock_table.proofs.Indexes.{before_index, after_index, own_index, table_index, rows_rise, lock_in_row, lock_at_index}
 
@@ -119,60 +120,90 @@ row_of_table n t a row b h i e f =
     ∙ append-nil (locks_from n ((t - 1) * n + 0) row)
     ∙ row_is n t 0 row i (omega arith)
 
+-- the station's locks in the table are those of its slot
+own_slot : (n s t : ℕ) (a : List (List ℕ)) (x : List ℕ) (b : List (List ℕ)) → 1 ≤ t → 1 ≤ s → s ≤ n → length a ≡ slot_index_of n s t
+    → filter (is_own s t) (locks_from n 0 (a ++ x ∷ b)) ≡ map (lock_of t s) x
+own_slot n s t a x b h i j e =
+    let p = slot_index_of n s t in
+    slots_kept n p (is_own s t) a x b [] (map (lock_at n p) x) [] e
+    (kept_none n 0 (is_own s t) a (λ q r c d. own_index n s t q r h i j ∙ grind (arith, nat_tests)))
+    (filter_all (is_own s t) (lock_at n p) x (λ r. own_index n s t p r h i j ∙ grind (arith, nat_tests)))
+    (kept_none n (p + 1) (is_own s t) b (λ q r c d. own_index n s t q r h i j ∙ grind (arith, nat_tests)))
+    ∙ append-nil (map (lock_at n p) x)
+    ∙ map_same (lock_at n p) (lock_of t s) x (λ r. lock_at_index n s t r h i j)
+
+numbers_back : (t s : ℕ) (ns : List ℕ) → map (λ (l : Lock). l.number) (map (lock_of t s) ns) ≡ ns
+numbers_back t s [] = refl
+numbers_back t s (n ∷ ns) = ap (λ (z : List ℕ). n ∷ z) (numbers_back t s ns)
+
 -- no slot has a lock
-pub no_locks : (n p k : ℕ) → locks_from n p (map slot_records (replicate k None)) ≡ []
+pub no_locks : (n p k : ℕ) → locks_from n p (replicate k []) ≡ []
 no_locks n p zero = refl
 no_locks n p (suc k) = no_locks n (p + 1) k
 
-slots_parts : (slots : List (Option ℕ)) (p : ℕ) (v : Option ℕ) → p < length slots → map slot_records (slice_set slots p v) ≡ map slot_records (take p slots) ++ slot_records v ∷ map slot_records (drop (suc p) slots)
-slots_parts slots p v h = ap (map slot_records) (set_split slots p v h) ∙ map-append slot_records (take p slots) (v ∷ drop (suc p) slots)
+length-before : (slots : List (List ℕ)) (p : ℕ) → p < length slots → length (take p slots) ≡ p
+length-before slots p h = omega (arith, length-take p slots)
 
-length-before : (slots : List (Option ℕ)) (p : ℕ) → p < length slots → length (map slot_records (take p slots)) ≡ p
-length-before slots p h = omega (arith, length-map (take p slots) slot_records, length-take p slots)
+slot_there : (slots : List (List ℕ)) (p : ℕ) → p < length slots → slots ≡ take p slots ++ get_or slots p [] ∷ drop (suc p) slots
+slot_there slots p h = sym (set-get_or slots p []) ∙ set_split slots p (get_or slots p []) h
 
 -- what other records in one slot make of the locks
-slot_changed : (n p : ℕ) (slots : List (Option ℕ)) (v : Option ℕ) (change : List Lock → List Lock) → p < length slots
-    → ((a : List (List ℕ)) (x : List ℕ) (b : List (List ℕ)) → length a ≡ p → locks_from n 0 (a ++ slot_records v ∷ b) ≡ change (locks_from n 0 (a ++ x ∷ b)))
+slot_changed : (n p : ℕ) (slots : List (List ℕ)) (v : List ℕ) (change : List Lock → List Lock) → p < length slots
+    → ((a : List (List ℕ)) (x : List ℕ) (b : List (List ℕ)) → length a ≡ p → locks_from n 0 (a ++ v ∷ b) ≡ change (locks_from n 0 (a ++ x ∷ b)))
     → locks_of n (slice_set slots p v) ≡ change (locks_of n slots)
 slot_changed n p slots v change k changes =
-    let old = get_or slots p None in
-    let before = map slot_records (take p slots) in
-    let after = map slot_records (drop (suc p) slots) in
-    let was : map slot_records slots ≡ before ++ slot_records old ∷ after = ap (map slot_records) (sym (set-get_or slots p None)) ∙ slots_parts slots p old k in
-    ap (locks_from n 0) (slots_parts slots p v k)
-    ∙ changes before (slot_records old) after (length-before slots p k)
-    ∙ ap (λ (xs : List (List ℕ)). change (locks_from n 0 xs)) (sym was)
+    let old = get_or slots p [] in
+    ap (locks_from n 0) (set_split slots p v k)
+    ∙ changes (take p slots) old (drop (suc p) slots) (length-before slots p k)
+    ∙ ap (λ (xs : List (List ℕ)). change (locks_from n 0 xs)) (sym (slot_there slots p k))
 
 -- a write into the slot of a station and a table
-pub set_slot : (n s t : ℕ) (slots : List (Option ℕ)) (v : Option ℕ) → 1 ≤ t → 1 ≤ s → s ≤ n → slot_index_of n s t < length slots
-    → locks_of n (slice_set slots (slot_index_of n s t) v) ≡ with_locks (locks_of n slots) s t (slot_records v)
-set_slot n s t slots v h i j k = slot_changed n (slot_index_of n s t) slots v (λ ls. with_locks ls s t (slot_records v)) k (λ a x b e. slot_replaced n s t a x (slot_records v) b h i j e)
+pub set_slot : (n s t : ℕ) (slots : List (List ℕ)) (v : List ℕ) → 1 ≤ t → 1 ≤ s → s ≤ n → slot_index_of n s t < length slots
+    → locks_of n (slice_set slots (slot_index_of n s t) v) ≡ with_locks (locks_of n slots) s t v
+set_slot n s t slots v h i j k = slot_changed n (slot_index_of n s t) slots v (λ ls. with_locks ls s t v) k (λ a x b e. slot_replaced n s t a x v b h i j e)
 
 -- a slot is emptied
-pub clear_slot : (n s t : ℕ) (slots : List (Option ℕ)) → 1 ≤ t → 1 ≤ s → s ≤ n → slot_index_of n s t < length slots
-    → locks_of n (slice_set slots (slot_index_of n s t) None) ≡ without (locks_of n slots) s t
-clear_slot n s t slots h i j k = slot_changed n (slot_index_of n s t) slots None (λ ls. without ls s t) k (λ a x b e. slot_emptied n s t a x b h i j e)
+pub clear_slot : (n s t : ℕ) (slots : List (List ℕ)) → 1 ≤ t → 1 ≤ s → s ≤ n → slot_index_of n s t < length slots
+    → locks_of n (slice_set slots (slot_index_of n s t) []) ≡ without (locks_of n slots) s t
+clear_slot n s t slots h i j k = slot_changed n (slot_index_of n s t) slots [] (λ ls. without ls s t) k (λ a x b e. slot_emptied n s t a x b h i j e)
+
+-- the slot of a station and a table tells what the station has locked there
+own_slot_numbers : (n s t : ℕ) (slots : List (List ℕ)) → 1 ≤ t → 1 ≤ s → s ≤ n → slot_index_of n s t < length slots
+    → own_numbers (locks_of n slots) s t ≡ get_or slots (slot_index_of n s t) []
+own_slot_numbers n s t slots h i j k =
+    let p = slot_index_of n s t in
+    let x = get_or slots p [] in
+    ap (λ (xs : List (List ℕ)). own_numbers (locks_from n 0 xs) s t) (slot_there slots p k)
+    ∙ ap (λ (ls : List Lock). map (λ (l : Lock). l.number) ls) (own_slot n s t (take p slots) x (drop (suc p) slots) h i j (length-before slots p k))
+    ∙ numbers_back t s x
+
+-- and so does its row
+pub own_in_row : (n s t tables : ℕ) (slots : List (List ℕ)) → 1 ≤ t → t ≤ tables → 1 ≤ s → s ≤ n → length slots ≡ tables * n
+    → own_numbers (locks_of n slots) s t ≡ get_or (slice_range slots ((t - 1) * n) ((t - 1) * n + n)) (s - 1) []
+own_in_row n s t tables slots h i j k e =
+    let inside : slot_index_of n s t < length slots = omega (arith, rows_rise (t - 1) tables n (omega arith)) in
+    let there : get_or (slice_range slots ((t - 1) * n) ((t - 1) * n + n)) (s - 1) [] ≡ get_or slots (slot_index_of n s t) [] =
+    get_or-between slots ((t - 1) * n) ((t - 1) * n + n) (s - 1) [] (omega arith) in
+    own_slot_numbers n s t slots h j k inside ∙ sym there
 
 -- the slots of a table tell its locks
-pub table_slots : (n t tables : ℕ) (slots : List (Option ℕ)) → 1 ≤ t → t ≤ tables → length slots ≡ tables * n
-    → in_table (locks_of n slots) t ≡ row_from t 1 (map slot_records (slice_range slots ((t - 1) * n) ((t - 1) * n + n)))
+pub table_slots : (n t tables : ℕ) (slots : List (List ℕ)) → 1 ≤ t → t ≤ tables → length slots ≡ tables * n
+    → in_table (locks_of n slots) t ≡ row_from t 1 (slice_range slots ((t - 1) * n) ((t - 1) * n + n))
 table_slots zero t tables slots h i e =
     let none : length slots ≡ 0 = omega arith in
     let row = slice_range slots ((t - 1) * 0) ((t - 1) * 0 + 0) in
     let count_bounded : length row ≡ 0 = omega (arith, length-take ((t - 1) * 0 + 0 - (t - 1) * 0) (drop ((t - 1) * 0) slots), length-drop ((t - 1) * 0) slots) in
-    ap (λ (xs : List (Option ℕ)). in_table (locks_of 0 xs) t) (nil_from_length slots none) ∙ sym (ap (λ (xs : List (Option ℕ)). row_from t 1 (map slot_records xs)) (nil_from_length row count_bounded))
+    ap (λ (xs : List (List ℕ)). in_table (locks_of 0 xs) t) (nil_from_length slots none) ∙ sym (ap (λ (xs : List (List ℕ)). row_from t 1 xs) (nil_from_length row count_bounded))
 table_slots (suc m) t tables slots h i e =
     let n = suc m in
     let start = (t - 1) * n in
     let rise : (t - 1) * n + n ≤ tables * n = rows_rise (t - 1) tables n (omega arith) in
     let width : start + n - start ≡ n = omega arith in
     let row = take n (drop start slots) in
-    let parts : map slot_records slots ≡ map slot_records (take start slots) ++ (map slot_records row ++ map slot_records (drop n (drop start slots))) =
-    ap (map slot_records) (sym (take-append-drop start slots)) ∙ map-append slot_records (take start slots) (drop start slots)
-    ∙ ap (λ (xs : List (Option ℕ)). map slot_records (take start slots) ++ map slot_records xs) (sym (take-append-drop n (drop start slots)))
-    ∙ ap (λ (xs : List (List ℕ)). map slot_records (take start slots) ++ xs) (map-append slot_records row (drop n (drop start slots))) in
-    let before : length (map slot_records (take start slots)) ≡ start = omega (arith, length-map (take start slots) slot_records, length-take start slots) in
-    let wide : length (map slot_records row) ≡ n = omega (arith, length-map row slot_records, length-take n (drop start slots), length-drop start slots) in
+    let parts : slots ≡ take start slots ++ (row ++ drop n (drop start slots)) =
+    sym (take-append-drop start slots) ∙ ap (λ (xs : List (List ℕ)). take start slots ++ xs) (sym (take-append-drop n (drop start slots))) in
+    let before : length (take start slots) ≡ start = omega (arith, length-take start slots) in
+    let wide : length row ≡ n = omega (arith, length-take n (drop start slots), length-drop start slots) in
     ap (λ (xs : List (List ℕ)). in_table (locks_from n 0 xs) t) parts
-    ∙ row_of_table n t (map slot_records (take start slots)) (map slot_records row) (map slot_records (drop n (drop start slots))) (omega arith) h before wide
-    ∙ ap (λ (k : ℕ). row_from t 1 (map slot_records (take k (drop start slots)))) (sym width)
+    ∙ row_of_table n t (take start slots) row (drop n (drop start slots)) (omega arith) h before wide
+    ∙ ap (λ (k : ℕ). row_from t 1 (take k (drop start slots))) (sym width)

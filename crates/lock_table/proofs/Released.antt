@@ -1,11 +1,10 @@
 -- A station lets go of all its locks, table by table.
-use Rattle.std.proofs.Common.{◌≡◌, zero, suc, inl, inr, ℕ, ◌+◌, ◌*◌, ◌/◌, ◌<◌, ◌≤◌, Bool, true, false, not, cond, ◌&&◌, ◌==◌, nat_le, List, [], ◌∷◌, length, map, Option, refl, ap, subst, ◌∙◌, arith}
+use Rattle.std.proofs.Common.{◌≡◌, zero, suc, inl, inr, ℕ, ◌+◌, ◌*◌, ◌/◌, ◌<◌, ◌≤◌, Bool, true, false, not, cond, ◌&&◌, ◌==◌, nat_le, List, [], ◌∷◌, length, map, refl, ap, subst, ◌∙◌, arith}
 use Rattle.std.specs.List.{filter}
-use Rattle.std.proofs.lemmas.List.{length-map}
 use Rattle.std.proofs.Math.Nat.{div-lt_iff_lt-mul}
 use Rattle.std.proofs.lemmas.Bool.Decides.{nat_tests}
 use Rattle.lock_table.specs.Locks.{Lock, HeldLocks, held, is_own, without, without_all, IsHeld, is_others}
-use Rattle.lock_table.specs.Slots.{lock_at, locks_from, locks_of, slot_records, AreSlots}
+use Rattle.lock_table.specs.Slots.{lock_at, locks_from, locks_of, AreSlots}
 use Rattle.lock_table.specs.Laws.{held_append}
 
 filter_same : (p q : Lock → Bool) (xs : List Lock) → ((l : Lock) → IsHeld xs l → p l ≡ q l) → filter p xs ≡ filter q xs
@@ -49,10 +48,10 @@ inside_from n p tables (x ∷ xs) l h i =
       | inr j ↦ inside_from n (p + 1) tables xs l (omega arith) j
     ]
 
-pub inside_tables : (n tables : ℕ) (slots : List (Option ℕ)) (h : HeldLocks) → held n tables (locks_of n slots) ≡ h → AreSlots n tables slots → (l : Lock) → IsHeld h.locks l → (1 ≤ l.table) × (l.table ≤ h.tables)
+pub inside_tables : (n tables : ℕ) (slots : List (List ℕ)) (h : HeldLocks) → held n tables (locks_of n slots) ≡ h → AreSlots n tables slots → (l : Lock) → IsHeld h.locks l → (1 ≤ l.table) × (l.table ≤ h.tables)
 inside_tables n tables slots h e ok =
     let P : HeldLocks → Type 0 = λ h. (l : Lock) → IsHeld h.locks l → (1 ≤ l.table) × (l.table ≤ h.tables) in
-    let here : P (held n tables (locks_of n slots)) = λ l i. inside_from n 0 tables (map slot_records slots) l (omega (arith, length-map slots slot_records, ok.whole)) i in
+    let here : P (held n tables (locks_of n slots)) = λ l i. inside_from n 0 tables slots l (omega (arith, ok.whole)) i in
     subst P e here
 
 -- the locks without those of a station in the first tables

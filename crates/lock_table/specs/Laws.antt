@@ -1,16 +1,18 @@
 -- Stations stay out of each other's way.
-use Rattle.std.proofs.Common.{◌≡◌, ◌≢◌, ◌⊎◌, inl, inr, ℕ, ◌<◌, ◌≤◌, Bool, true, false, not, cond, ◌&&◌, ◌||◌, ◌==◌, List, [], ◌∷◌, ◌++◌, refl, sym, ap, ◌∙◌, arith}
+use Rattle.std.proofs.Common.{◌≡◌, ◌≢◌, ◌⊎◌, inl, inr, ℕ, ◌<◌, ◌≤◌, Bool, true, false, not, cond, ◌&&◌, ◌||◌, ◌==◌, List, [], ◌∷◌, ◌++◌, map, refl, sym, ap, subst, ◌∙◌, arith}
 use Rattle.std.specs.List.{filter, list_any}
 use Rattle.std.proofs.lemmas.Bool.{or_parts, not-true, not_from_false}
 use Rattle.std.proofs.lemmas.Bool.Decides.{nat_tests}
-use Rattle.lock_table.specs.Locks.{Lock, lock_of, in_table, free_record, free_whole, is_own, is_before, is_after, with_lock, without, without_all, IsHeld, AreApart, bars, is_others}
+use Rattle.lock_table.specs.Numbers.{AreRecordNumbers, IsListed, different}
+use Rattle.lock_table.specs.NumberLaws.{all_different, only_different}
+use Rattle.lock_table.specs.Locks.{Lock, lock_of, in_table, free_record, free_records, free_whole, is_own, is_before, is_after, with_lock, with_locks, with_records, without, without_all, IsHeld, AreApart, bars, is_others}
 
 pub held_append : (xs ys : List Lock) (l : Lock) → IsHeld (xs ++ ys) l → IsHeld xs l ⊎ IsHeld ys l
 held_append [] ys l h = inr h
 held_append (x ∷ xs) ys l (inl e) = inl (inl e)
 held_append (x ∷ xs) ys l (inr h) = elim (held_append xs ys l h) [ inl i ↦ inl (inr i) | inr j ↦ inr j ]
 
-held_left : (xs ys : List Lock) (l : Lock) → IsHeld xs l → IsHeld (xs ++ ys) l
+pub held_left : (xs ys : List Lock) (l : Lock) → IsHeld xs l → IsHeld (xs ++ ys) l
 held_left [] ys l h = absurd h
 held_left (x ∷ xs) ys l (inl e) = inl e
 held_left (x ∷ xs) ys l (inr h) = inr (held_left xs ys l h)
@@ -52,7 +54,7 @@ passes_cond p true x xs l e next (inr h) = next h
 passes_cond p false x xs l e next h = next h
 
 -- what a filter keeps passes its test
-held_passes : (p : Lock → Bool) (xs : List Lock) (l : Lock) → IsHeld (filter p xs) l → p l ≡ true
+pub held_passes : (p : Lock → Bool) (xs : List Lock) (l : Lock) → IsHeld (filter p xs) l → p l ≡ true
 held_passes p [] l h = absurd h
 held_passes p (x ∷ xs) l h = passes_cond p (p x) x xs l refl (held_passes p xs l) h
 
@@ -171,3 +173,104 @@ apart_whole xs s t free apart = apart_new xs s t 0
     let there : IsHeld (in_table xs t) l = held_kept (λ m. m.table == t) xs l (same_table l.table t same) held in
     absurd (free_station l.station s other (none_held p (in_table xs t) l (not-true (list_any p (in_table xs t)) free) there)))
     apart
+
+-- a lock on a record of a list is on one that is listed
+pub held_listed : (s t : ℕ) (ns : List ℕ) (l : Lock) → IsHeld (map (lock_of t s) ns) l → (n : ℕ) × IsListed ns n × (l ≡ lock_of t s n)
+held_listed s t [] l h = absurd h
+held_listed s t (n ∷ ns) l (inl e) = (n, inl refl, e)
+held_listed s t (n ∷ ns) l (inr h) = let i = held_listed s t ns l h in (i.0, inr i.1, i.2)
+
+-- and each listed one has its lock
+pub listed_held : (s t : ℕ) (ns : List ℕ) (n : ℕ) → IsListed ns n → IsHeld (map (lock_of t s) ns) (lock_of t s n)
+listed_held s t [] n h = absurd h
+listed_held s t (m ∷ ms) n (inl e) = inl (ap (lock_of t s) e)
+listed_held s t (m ∷ ms) n (inr h) = inr (listed_held s t ms n h)
+
+-- a lock that is held after a station took records is on one of them, or was held before
+pub held_with_many : (xs : List Lock) (s t : ℕ) (ns : List ℕ) (l : Lock) → IsHeld (with_locks xs s t ns) l → IsHeld (map (lock_of t s) ns) l ⊎ IsHeld xs l
+held_with_many xs s t ns l h =
+    elim (held_append (filter (is_before s t) xs) (map (lock_of t s) ns ++ filter (is_after s t) xs) l h) [
+      | inl i ↦ inr (held_filter (is_before s t) xs l i)
+      | inr j ↦ elim (held_append (map (lock_of t s) ns) (filter (is_after s t) xs) l j) [ inl e ↦ inl e | inr k ↦ inr (held_filter (is_after s t) xs l k) ]
+    ]
+
+-- the locks that a station took over a list are held
+pub listed_is_held : (xs : List Lock) (s t : ℕ) (ns : List ℕ) (n : ℕ) → IsListed ns n → IsHeld (with_records xs s t ns) (lock_of t s n)
+listed_is_held xs s t ns n h =
+    held_right (filter (is_before s t) xs) (map (lock_of t s) (different ns) ++ filter (is_after s t) xs) (lock_of t s n)
+    (held_left (map (lock_of t s) (different ns)) (filter (is_after s t) xs) (lock_of t s n) (listed_held s t (different ns) n (all_different ns n h)))
+
+-- a lock on one of the different records is on one that is listed
+held_different : (s t : ℕ) (ns : List ℕ) (l : Lock) → IsHeld (map (lock_of t s) (different ns)) l → (n : ℕ) × IsListed ns n × (l ≡ lock_of t s n)
+held_different s t ns l h = let i = held_listed s t (different ns) l h in (i.0, only_different ns i.0 i.1, i.2)
+
+-- and they are the only ones that the station has in the table
+pub own_is_listed : (xs : List Lock) (s t : ℕ) (ns : List ℕ) (l : Lock) → IsHeld (with_records xs s t ns) l → is_own s t l ≡ true → (n : ℕ) × IsListed ns n × (l ≡ lock_of t s n)
+own_is_listed xs s t ns l h own =
+    elim (held_append (filter (is_before s t) xs) (map (lock_of t s) (different ns) ++ filter (is_after s t) xs) l h) [
+      | inl i ↦ absurd (not_before s t l own (held_passes (is_before s t) xs l i))
+      | inr j ↦ elim (held_append (map (lock_of t s) (different ns)) (filter (is_after s t) xs) l j) [
+        | inl e ↦ held_different s t ns l e
+        | inr k ↦ absurd (not_after s t l own (held_passes (is_after s t) xs l k))
+      ]
+    ]
+
+-- each lock after a station took records is on a listed one, or was held before
+pub listed_or_held : (xs : List Lock) (s t : ℕ) (ns : List ℕ) (l : Lock) → IsHeld (with_records xs s t ns) l → ((n : ℕ) × IsListed ns n × (l ≡ lock_of t s n)) ⊎ IsHeld xs l
+listed_or_held xs s t ns l h = elim (held_with_many xs s t (different ns) l h) [ inl i ↦ inl (held_different s t ns l i) | inr j ↦ inr j ]
+
+-- the locks that aren't the station's in the table are held as before
+pub others_with_records : (xs : List Lock) (s t : ℕ) (ns : List ℕ) (l : Lock) → IsHeld xs l → is_own s t l ≡ false → IsHeld (with_records xs s t ns) l
+others_with_records xs s t ns l h other = by (is_before s t l) refl
+  where
+    by : (b : Bool) → is_before s t l ≡ b → IsHeld (with_records xs s t ns) l
+    by true e = held_left (filter (is_before s t) xs) (map (lock_of t s) (different ns) ++ filter (is_after s t) xs) l (held_kept (is_before s t) xs l e h)
+    by false e =
+        held_right (filter (is_before s t) xs) (map (lock_of t s) (different ns) ++ filter (is_after s t) xs) l
+        (held_right (map (lock_of t s) (different ns)) (filter (is_after s t) xs) l (held_kept (is_after s t) xs l (after_other s t l other e) h))
+
+-- a free record and another station's lock in the table
+free_beside : (xs : List Lock) (s t n : ℕ) (l : Lock) → 1 ≤ n → free_record xs s t n ≡ true → IsHeld xs l → l.table ≡ t → l.station ≢ s → (0 < n) × (0 < l.number) × (l.number ≢ n)
+free_beside xs s t n l h free held same other =
+    let p : Lock → Bool = bars s n in
+    let there : IsHeld (in_table xs t) l = held_kept (λ m. m.table == t) xs l (same_table l.table t same) held in
+    free_number l.station s l.number n other h (none_held p (in_table xs t) l (not-true (list_any p (in_table xs t)) free) there)
+
+both_true : (a b : Bool) → (a && b) ≡ true → (a ≡ true) × (b ≡ true)
+both_true true b e = (refl, e)
+both_true false b e = let wrong : false ≡ true = e in cc
+
+-- each of free records is free, and one
+free_listed : (xs : List Lock) (s t : ℕ) (ns : List ℕ) (n : ℕ) → AreRecordNumbers ns → free_records xs s t ns ≡ true → IsListed ns n → (1 ≤ n) × (free_record xs s t n ≡ true)
+free_listed xs s t [] n are e h = absurd h
+free_listed xs s t (m ∷ ms) n are e (inl i) =
+    let P : ℕ → Type 0 = λ k. (1 ≤ k) × (free_record xs s t k ≡ true) in
+    subst P (sym i) (are.0, (both_true (free_record xs s t m) (free_records xs s t ms) e).0)
+free_listed xs s t (m ∷ ms) n are e (inr h) = free_listed xs s t ms n are.1 (both_true (free_record xs s t m) (free_records xs s t ms) e).1 h
+
+-- a lock on a listed record and one that was held before
+listed_apart : (xs : List Lock) (s t : ℕ) (ns : List ℕ) (a b : Lock) → AreRecordNumbers ns → free_records xs s t ns ≡ true → (n : ℕ) × IsListed ns n × (a ≡ lock_of t s n) → IsHeld xs b
+    → a.table ≡ b.table → a.station ≢ b.station → (0 < a.number) × (0 < b.number) × (a.number ≢ b.number)
+listed_apart xs s t ns a b are free i held same other =
+    let ok = free_listed xs s t ns i.0 are free i.1 in
+    let table : a.table ≡ t = ap (λ (l : Lock). l.table) i.2 in
+    let station : a.station ≡ s = ap (λ (l : Lock). l.station) i.2 in
+    let number : a.number ≡ i.0 = ap (λ (l : Lock). l.number) i.2 in
+    let beside = free_beside xs s t i.0 b ok.0 ok.1 held (sym same ∙ table) (λ e. other (station ∙ sym e)) in
+    (omega (arith, beside.0), beside.1, λ e. beside.2 (sym e ∙ number))
+
+-- a list of free records is locked
+pub apart_records : (xs : List Lock) (s t : ℕ) (ns : List ℕ) → AreRecordNumbers ns → free_records xs s t ns ≡ true → AreApart xs → AreApart (with_records xs s t ns)
+apart_records xs s t ns are free apart a b h i =
+    elim (listed_or_held xs s t ns a h) [
+      | inl j ↦ elim (listed_or_held xs s t ns b i) [
+        | inl k ↦ λ _ other. absurd (other (ap (λ (l : Lock). l.station) j.2 ∙ sym (ap (λ (l : Lock). l.station) k.2)))
+        | inr k ↦ listed_apart xs s t ns a b are free j k
+      ]
+      | inr j ↦ elim (listed_or_held xs s t ns b i) [
+        | inl k ↦ λ same other.
+            let g = listed_apart xs s t ns b a are free k j (sym same) (λ e. other (sym e)) in
+            (g.1, g.0, λ e. g.2 (sym e))
+        | inr k ↦ apart a b j k
+      ]
+    ]

@@ -2,6 +2,7 @@
 -- records count from 1.
 use Rattle.std.specs.Prelude.{◌≡◌, ◌≢◌, ◌⊎◌, ℕ, ◌<◌, Bool, true, not, ◌&&◌, ◌||◌, ◌==◌, nat_lt, List, [], ◌∷◌, ◌++◌, length, map, Option, Some, None}
 use Rattle.std.specs.List.{list_any, filter, find}
+use Rattle.lock_table.specs.Numbers.{different}
 
 -- a station's lock in a table: on the record of a number, or by the number 0 on the whole table
 pub record Lock : Type 0 where
@@ -46,6 +47,11 @@ lets_write station number l = l.station == station && covers number l
 abbrev pub free_record : List Lock → ℕ → ℕ → ℕ → Bool
 free_record locks station table number = not (list_any (bars station number) (in_table locks table))
 
+-- each of the records is free
+abbrev pub free_records : List Lock → ℕ → ℕ → List ℕ → Bool
+free_records locks station table [] = true
+free_records locks station table (n ∷ ns) = free_record locks station table n && free_records locks station table ns
+
 -- no other station has a lock in the table
 abbrev pub free_whole : List Lock → ℕ → ℕ → Bool
 free_whole locks station table = not (list_any (is_others station) (in_table locks table))
@@ -79,6 +85,10 @@ is_after station table l = nat_lt table l.table || (l.table == table && nat_lt s
 abbrev pub is_own : ℕ → ℕ → Lock → Bool
 is_own station table l = l.table == table && l.station == station
 
+-- the numbers that the station has locked in the table
+abbrev pub own_numbers : List Lock → ℕ → ℕ → List ℕ
+own_numbers locks station table = map (λ (l : Lock). l.number) (filter (is_own station table) locks)
+
 -- the station's locks in the table are on these records instead, and all others as they were
 abbrev pub with_locks : List Lock → ℕ → ℕ → List ℕ → List Lock
 with_locks locks station table numbers =
@@ -87,6 +97,10 @@ with_locks locks station table numbers =
 -- the station's lock in the table is on this record, or by 0 on the whole table
 abbrev pub with_lock : List Lock → ℕ → ℕ → ℕ → List Lock
 with_lock locks station table number = with_locks locks station table (number ∷ [])
+
+-- the station's locks in the table are on the different records of a list
+abbrev pub with_records : List Lock → ℕ → ℕ → List ℕ → List Lock
+with_records locks station table numbers = with_locks locks station table (different numbers)
 
 -- the station has no lock in the table
 abbrev pub without : List Lock → ℕ → ℕ → List Lock
@@ -109,7 +123,11 @@ IsApart a b = a.table ≡ b.table → a.station ≢ b.station → (0 < a.number)
 abbrev pub AreApart : List Lock → Type 0
 AreApart locks = (a b : Lock) → IsHeld locks a → IsHeld locks b → IsApart a b
 
--- the locks are in order of table and station, and a station has one at most in a table
+-- one lock stands before another: by its table, then by its station, then by its record number
+abbrev pub is_earlier : Lock → Lock → Bool
+is_earlier l m = is_before m.station m.table l || (is_own m.station m.table l && nat_lt l.number m.number)
+
+-- the locks are in order of table, station and record number, and no two are the same
 abbrev pub AreLocksInOrder : List Lock → Type 0
 AreLocksInOrder [] = Unit {0}
-AreLocksInOrder (l ∷ ls) = ((m : Lock) → IsHeld ls m → is_before m.station m.table l ≡ true) × AreLocksInOrder ls
+AreLocksInOrder (l ∷ ls) = ((m : Lock) → IsHeld ls m → is_earlier l m ≡ true) × AreLocksInOrder ls

@@ -1,11 +1,9 @@
--- How the locks are kept: a slot for each table and station, table by table.
-use Rattle.std.specs.Prelude.{◌≡◌, ℕ, ◌+◌, ◌-◌, ◌*◌, ◌/◌, ◌%◌, List, [], ◌∷◌, ◌++◌, length, map, Option, Some, None}
+-- How the locks are kept: a slot for each table and station, table by table. A slot is seen as the list of
+-- the numbers that the station has locked in the table.
+use Rattle.std.specs.Prelude.{◌≡◌, ℕ, ◌+◌, ◌-◌, ◌*◌, ◌/◌, ◌%◌, List, [], ◌∷◌, ◌++◌, length, map}
+use Rattle.lock_table.specs.declared.TheConstants.{MAX_RECORDS}
+use Rattle.lock_table.specs.Numbers.{AreAscending, IsTableOrRecords}
 use Rattle.lock_table.specs.Locks.{Lock, lock_of, AreApart}
-
--- the records that a slot names
-abbrev pub slot_records : Option ℕ → List ℕ
-slot_records None = []
-slot_records (Some number) = number ∷ []
 
 -- the index of the slot of a station and a table, where there are so many stations
 abbrev pub slot_index_of : ℕ → ℕ → ℕ → ℕ
@@ -29,10 +27,21 @@ abbrev pub row_from : ℕ → ℕ → List (List ℕ) → List Lock
 row_from table station slots = slot_locks (lock_of table) station slots
 
 -- the locks of all slots
-abbrev pub locks_of : ℕ → List (Option ℕ) → List Lock
-locks_of stations slots = locks_from stations 0 (map slot_records slots)
+abbrev pub locks_of : ℕ → List (List ℕ) → List Lock
+locks_of stations slots = locks_from stations 0 slots
+
+-- what a slot may be: the whole table alone or records, few enough and ascending
+pub record IsSlot (numbers : List ℕ) : Type 0 where
+  pub ascending : AreAscending numbers
+  pub allowed : IsTableOrRecords MAX_RECORDS numbers
+
+-- each slot is one
+abbrev pub EachSlot : List (List ℕ) → Type 0
+EachSlot [] = Unit {0}
+EachSlot (numbers ∷ slots) = IsSlot numbers × EachSlot slots
 
 -- there is a slot for each table and station, and no two stations are in each other's way
-pub record AreSlots (stations tables : ℕ) (slots : List (Option ℕ)) : Type 0 where
+pub record AreSlots (stations tables : ℕ) (slots : List (List ℕ)) : Type 0 where
   pub whole : length slots ≡ tables * stations
   pub apart : AreApart (locks_of stations slots)
+  pub each : EachSlot slots

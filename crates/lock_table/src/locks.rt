@@ -1,28 +1,27 @@
 //! The locks that are held.
 
-ghost use Rattle.std.specs.Prelude.{◌≡◌, ℕ, nat_lt, ◌+◌, ◌*◌, ◌<◌, ◌≤◌, ◌&&◌, ◌||◌, ◌==◌, not, is_some, true, false, List, [], length, map, IfOk};
+ghost use Rattle.std.specs.Prelude.{◌≡◌, ℕ, nat_lt, ◌+◌, ◌-◌, ◌*◌, ◌<◌, ◌≤◌, ◌&&◌, ◌||◌, ◌==◌, not, true, false, List, [], length, replicate, slice_index_or, IfOk};
 ghost use Rattle.std.specs.List.{list_any, filter};
-ghost use Rattle.lock_table.specs.Locks.{held, in_table, free_record, free_whole, may_write, holder, record_locks, with_lock, without, without_all, AreApart, AreLocksInOrder};
-ghost use Rattle.lock_table.specs.Slots.{slot_index_of, slot_records, row_from};
+ghost use Rattle.lock_table.specs.Numbers.{AreRecordNumbers, IsTableOrRecords};
+ghost use Rattle.lock_table.specs.Locks.{held, in_table, free_record, free_records, free_whole, may_write, holder, record_locks, own_numbers, with_lock, with_records, without, without_all, AreApart, AreLocksInOrder};
+ghost use Rattle.lock_table.specs.Slots.{slot_index_of, row_from, EachSlot};
 
+use crate::MAX_RECORDS;
+use crate::slot::{Slot, WHOLE_TABLE};
 use std::alloc::{AllocError, Global};
 use std::marker::Model;
 
-// The record number of a lock on the whole table.
-const WHOLE_TABLE: u32 = 0;
-
-/// The locks that stations hold in tables, which contracts see as a list in order of table and station.
+/// The locks that stations hold in tables, which contracts see as a list in order of table, station and record.
 /// Stations, tables and records count from 1, and a lock on record 0 is one on the whole table.
 ///
-/// After [`Locks::new`] no call takes memory. A call looks at the locks of one table, so it costs at most the
-/// number of stations; only [`Locks::release_all`] goes through the tables.
+/// After [`Locks::new`] no call takes memory. A call looks at the locks that are held in one table, once for each
+/// record that it names, and counts none one by one; only [`Locks::release_all`] goes through the tables.
 #[derive(Debug, Drop)]
 pub struct Locks {
     stations: u32,
     tables: u32,
-    // A slot for each table and station, table by table: the record that the station has locked there, or 0
-    // for the whole table.
-    slots: Vec<Option<u32>>,
+    // A slot for each table and station, table by table.
+    slots: Vec<Slot>,
 }
 
 impl Model for Locks {
@@ -38,12 +37,12 @@ impl Model for Locks {
 }
 
 impl Locks {
-    /// No locks, for a number of stations and of tables. An error is want of memory.
+    /// No locks, for a number of stations and of tables, with room for [`MAX_RECORDS`] locks of each station in each
+    /// table. An error is want of memory.
     pub fn new(alloc: Global, stations: u32, tables: u32) -> Result<Locks, AllocError>
         ensures value { IfOk result (λ locks. locks ≡ held stations tables []) }
     {
-        let mut slots = Vec::new(alloc);
-        slots.resize(tables as usize * stations as usize, None)?;
+        let slots = empty_slots(alloc, tables as usize * stations as usize)?;
         Ok(Locks {
             stations,
             tables,
@@ -58,7 +57,7 @@ impl Locks {
         self.stations
     }
 
-    /// Locks a record for a station that may have it. The lock replaces the one that the station had in the table.
+    /// Locks a record for a station that may have it. The lock replaces all that the station had in the table.
     pub fn lock_record(&mut self, station: u32, table: u32, number: u32)
         requires station { 1 ≤ station }
         requires stations { station ≤ self.old.stations }
@@ -68,11 +67,27 @@ impl Locks {
         requires free { free_record self.old.locks station table number ≡ true }
         ensures value { self.new ≡ held self.old.stations self.old.tables (with_lock self.old.locks station table number) }
     {
-        let index = self.slot_index(station, table);
-        self.slots[index] = Some(number);
+        self.lock_records(station, table, &[number]);
     }
 
-    /// Locks a whole table for a station that may have it. The lock replaces the one that the station had in the
+    /// Locks the records of a list for a station that may have them all. The locks replace all that the station had
+    /// in the table. A record that is listed twice is locked once.
+    pub fn lock_records(&mut self, station: u32, table: u32, numbers: &[u32])
+        requires station { 1 ≤ station }
+        requires stations { station ≤ self.old.stations }
+        requires table { 1 ≤ table }
+        requires tables { table ≤ self.old.tables }
+        requires some { 1 ≤ length numbers.now }
+        requires count_bounded { length numbers.now ≤ MAX_RECORDS }
+        requires numbers { AreRecordNumbers numbers.now }
+        requires free { free_records self.old.locks station table numbers.now ≡ true }
+        ensures value { self.new ≡ held self.old.stations self.old.tables (with_records self.old.locks station table numbers.now) }
+    {
+        let index = self.slot_index(station, table);
+        self.slots[index] = Slot::of_records(numbers);
+    }
+
+    /// Locks a whole table for a station that may have it. The lock replaces all that the station had in the
     /// table.
     pub fn lock_file(&mut self, station: u32, table: u32)
         requires station { 1 ≤ station }
@@ -83,12 +98,12 @@ impl Locks {
         ensures value { self.new ≡ held self.old.stations self.old.tables (with_lock self.old.locks station table 0) }
     {
         let index = self.slot_index(station, table);
-        self.slots[index] = Some(WHOLE_TABLE);
+        self.slots[index] = Slot::of_table();
     }
 
     /// Locks a record for a station, and answers whether it did: not where another station has a lock on the
-    /// record or on the whole table. The lock replaces the one that the station had in the table; where the
-    /// answer is false nothing has changed.
+    /// record or on the whole table. The lock replaces all that the station had in the table; where the answer is
+    /// false nothing has changed.
     pub fn try_record(&mut self, station: u32, table: u32, number: u32) -> bool
         requires station { 1 ≤ station }
         requires stations { station ≤ self.old.stations }
@@ -106,9 +121,31 @@ impl Locks {
         true
     }
 
+    /// Locks the records of a list for a station, all or none, and answers whether it did: not where another
+    /// station has a lock on one of them or on the whole table. The locks replace all that the station had in the
+    /// table; where the answer is false nothing has changed. A record that is listed twice is locked once.
+    pub fn try_records(&mut self, station: u32, table: u32, numbers: &[u32]) -> bool
+        requires station { 1 ≤ station }
+        requires stations { station ≤ self.old.stations }
+        requires table { 1 ≤ table }
+        requires tables { table ≤ self.old.tables }
+        requires some { 1 ≤ length numbers.now }
+        requires count_bounded { length numbers.now ≤ MAX_RECORDS }
+        requires numbers { AreRecordNumbers numbers.now }
+        ensures free { result ≡ free_records self.old.locks station table numbers.now }
+        ensures taken { result ≡ true → self.new ≡ held self.old.stations self.old.tables (with_records self.old.locks station table numbers.now) }
+        ensures kept { result ≡ false → self.new ≡ self.old }
+    {
+        if !self.is_free_records(station, table, numbers) {
+            return false;
+        }
+        self.lock_records(station, table, numbers);
+        true
+    }
+
     /// Locks a whole table for a station, and answers whether it did: not where another station has a lock
-    /// in it. The lock replaces the one that the station had in the table; where the answer is false nothing
-    /// has changed.
+    /// in it. The lock replaces all that the station had in the table; where the answer is false nothing has
+    /// changed.
     pub fn try_file(&mut self, station: u32, table: u32) -> bool
         requires station { 1 ≤ station }
         requires stations { station ≤ self.old.stations }
@@ -125,7 +162,7 @@ impl Locks {
         true
     }
 
-    /// Releases the station's lock in a table, if it has one.
+    /// Releases all locks that the station has in a table.
     pub fn release(&mut self, station: u32, table: u32)
         requires station { 1 ≤ station }
         requires stations { station ≤ self.old.stations }
@@ -134,7 +171,7 @@ impl Locks {
         ensures value { self.new ≡ held self.old.stations self.old.tables (without self.old.locks station table) }
     {
         let index = self.slot_index(station, table);
-        self.slots[index] = None;
+        self.slots[index] = Slot::empty();
     }
 
     /// Releases all locks of the station.
@@ -178,8 +215,9 @@ impl Locks {
         ensures value { result ≡ may_write self.now.locks station table number }
         ensures apart { AreApart self.now.locks }
         ensures order { AreLocksInOrder self.now.locks }
+        ensures own { IsTableOrRecords MAX_RECORDS (own_numbers self.now.locks station table) }
     {
-        covers(self.row(table)[station as usize - 1], number)
+        self.row(table)[station as usize - 1].covers(number)
     }
 
     /// How many locks there are on records of a table. A lock on the whole table doesn't count.
@@ -193,7 +231,7 @@ impl Locks {
         let row = self.row(table);
         let mut count = 0;
         for other in 0..self.stations {
-            count += record_count(row[other as usize]);
+            count += row[other as usize].record_count();
         }
         count
     }
@@ -206,7 +244,21 @@ impl Locks {
     {
         let row = self.row(table);
         for other in 0..self.stations {
-            if bars(row[other as usize], other + 1, station, number) {
+            if bars(&row[other as usize], other + 1, station, number) {
+                return false;
+            }
+        }
+        true
+    }
+
+    /// Whether the station may lock each of the records.
+    pub fn is_free_records(&self, station: u32, table: u32, numbers: &[u32]) -> bool
+        requires table { 1 ≤ table }
+        requires tables { table ≤ self.now.tables }
+        ensures value { result ≡ free_records self.now.locks station table numbers.now }
+    {
+        for i in 0..numbers.len() {
+            if !self.is_free_record(station, table, numbers[i]) {
                 return false;
             }
         }
@@ -221,7 +273,7 @@ impl Locks {
     {
         let row = self.row(table);
         for other in 0..self.stations {
-            if bars_table(row[other as usize], other + 1, station) {
+            if bars_table(&row[other as usize], other + 1, station) {
                 return false;
             }
         }
@@ -236,7 +288,7 @@ impl Locks {
     {
         let row = self.row(table);
         for other in 0..self.stations {
-            if is_on(row[other as usize], number) {
+            if row[other as usize].is_on(number) {
                 return other + 1;
             }
         }
@@ -256,11 +308,13 @@ impl Locks {
     }
 
     // The slots of a table, in order of station.
-    fn row(&self, table: u32) -> &[Option<u32>]
+    fn row(&self, table: u32) -> &[Slot]
         requires table { 1 ≤ table }
         requires tables { table ≤ self.now.tables }
         ensures length { length result.now ≡ self.now.stations }
-        ensures locks { in_table self.now.locks table ≡ row_from table 1 (map slot_records result.now) }
+        ensures locks { in_table self.now.locks table ≡ row_from table 1 result.now }
+        ensures each { EachSlot result.now }
+        ensures own { (station : ℕ) → 1 ≤ station → station ≤ self.now.stations → own_numbers self.now.locks station table ≡ slice_index_or result.now (station - 1) [] }
         ensures apart { AreApart self.now.locks }
         ensures order { AreLocksInOrder self.now.locks }
     {
@@ -269,47 +323,27 @@ impl Locks {
     }
 }
 
-// Whether a slot's lock is on the record or on the whole table.
-fn covers(slot: Option<u32>, number: u32) -> bool
-    ensures value { result ≡ list_any (λ n. n == number || n == 0) (slot_records slot) }
+// So many slots without locks.
+fn empty_slots(alloc: Global, count: usize) -> Result<Vec<Slot>, AllocError>
+    ensures value { IfOk result (λ slots. slots.items ≡ replicate count []) }
 {
-    match slot {
-        Some(held) => held == number || held == WHOLE_TABLE,
-        None => false,
+    let mut slots = Vec::with_capacity(alloc, count)?;
+    for i in 0..count {
+        slots.push_reserved(Slot::empty());
     }
+    Ok(slots)
 }
 
-// Whether the lock in the slot of a holder bars the station from the record.
-fn bars(slot: Option<u32>, holder: u32, station: u32, number: u32) -> bool
-    ensures value { result ≡ (not (holder == station) && list_any (λ n. n == number || n == 0) (slot_records slot)) }
+// Whether a lock in the slot of a holder bars the station from the record.
+fn bars(slot: &Slot, holder: u32, station: u32, number: u32) -> bool
+    ensures value { result ≡ (not (holder == station) && list_any (λ n. n == number || n == 0) slot.now) }
 {
-    holder != station && covers(slot, number)
+    holder != station && slot.covers(number)
 }
 
-// Whether the lock in the slot of a holder bars the station from the whole table.
-fn bars_table(slot: Option<u32>, holder: u32, station: u32) -> bool
-    ensures value { result ≡ (not (holder == station) && is_some slot) }
+// Whether a lock in the slot of a holder bars the station from the whole table.
+fn bars_table(slot: &Slot, holder: u32, station: u32) -> bool
+    ensures value { result ≡ (not (holder == station) && not (length slot.now == 0)) }
 {
-    holder != station && slot.is_some()
-}
-
-// Whether a slot's lock is on just this record, where 0 is the whole table.
-fn is_on(slot: Option<u32>, number: u32) -> bool
-    ensures value { result ≡ list_any (λ n. n == number) (slot_records slot) }
-{
-    match slot {
-        Some(held) => held == number,
-        None => false,
-    }
-}
-
-// How many records a slot has locked: one at most.
-fn record_count(slot: Option<u32>) -> u32
-    ensures value { result ≡ length (filter (λ n. nat_lt 0 n) (slot_records slot)) }
-    ensures count_bounded { result ≤ 1 }
-{
-    match slot {
-        None | Some(WHOLE_TABLE) => 0,
-        Some(_) => 1,
-    }
+    holder != station && !slot.is_empty()
 }

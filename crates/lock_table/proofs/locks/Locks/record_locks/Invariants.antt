@@ -1,10 +1,11 @@
 use Rattle.std.proofs.Common.{◌≡◌, ◌≤◌, nat_lt, length}
 use Rattle.std.specs.List.{filter}
+use Rattle.lock_table.specs.Locks.{Lock, IsHeld}
 use Rattle.lock_table.proofs.Rows.{rowed}
 use Rattle.lock_table.proofs.locks.Locks.record_locks.Given as goal
 
 abbrev pub invariant-loop-other : goal.invariant-loop-other
 invariant-loop-other l = record {
   counted : l.count ≡ length (filter (λ m. nat_lt 0 m.number) (rowed l.table l.row l.other));
-  count_bounded : l.count ≤ l.other;
+  bounded : (m : Lock) → IsHeld (rowed l.table l.row l.other) m → m.number ≤ 4294967295;
 }
