@@ -7,9 +7,9 @@
 //! then `locks.rt`.
 #![tactic(auto)]
 
-ghost use Rattle.std.specs.Prelude.{◌≡◌, ◌≢◌, ℕ, List};
+ghost use Rattle.std.specs.Prelude.{◌≡◌, ◌≢◌, ℕ, List, [], ◌∷◌};
 ghost use Rattle.lock_table.specs.Numbers.{different, AreAscending, HasAll};
-ghost use Rattle.lock_table.specs.Locks.{Lock, lock_of, with_lock, with_records, without, without_all, IsHeld};
+ghost use Rattle.lock_table.specs.Locks.{Lock, lock_of, free_record, free_records, with_lock, with_records, without, without_all, IsHeld};
 ghost use Rattle.lock_table.specs.Changes.{StayApart, StayApartAtRecord, StayApartAtRecords, StayApartAtTable, HasOnly, HasListed, HasOnlyListed, KeepsOthers, AddsOnly, AddsOnlyListed, LeavesOutOwn};
 
 mod locks;
@@ -26,6 +26,12 @@ pub fn different_numbers()
     ensures all { (numbers : List ℕ) → HasAll numbers (different numbers) }
     ensures only { (numbers : List ℕ) → HasAll (different numbers) numbers }
     ensures one_list { (xs ys : List ℕ) → AreAscending xs → AreAscending ys → HasAll xs ys → HasAll ys xs → xs ≡ ys }
+{}
+
+/// A list of one record is that record: it is free where the record is, and to lock it is to lock the record.
+pub fn list_of_one()
+    ensures free { (locks : List Lock) (station table number : ℕ) → free_records locks station table (number ∷ []) ≡ free_record locks station table number }
+    ensures taken { (locks : List Lock) (station table number : ℕ) → with_records locks station table (number ∷ []) ≡ with_lock locks station table number }
 {}
 
 /// Whatever free records or table are locked and whatever is released, stations stay apart: no record is locked by

@@ -217,7 +217,8 @@ impl Locks {
         ensures order { AreLocksInOrder self.now.locks }
         ensures own { IsTableOrRecords MAX_RECORDS (own_numbers self.now.locks station table) }
     {
-        self.row(table)[station as usize - 1].covers(number)
+        let own = station as usize - 1;
+        self.row(table)[own].covers(number)
     }
 
     /// How many locks there are on records of a table. A lock on the whole table doesn't count.

@@ -5,14 +5,18 @@ ghost use Rattle.std.specs.Prelude.{◌≡◌};
 use crate::Locks;
 use std::test::Fail;
 
+mod fifty;
+mod random;
+
 const STATIONS: u32 = 3;
 
 const TABLES: u32 = 2;
 
-// The calls of the locks. A yes is 1; a call that answers nothing has 0.
+// The calls of the locks, with the list of those that take one. A yes is 1; a call that answers nothing has 0.
 #[derive(Clone, Copy)]
 enum Call {
     TryRecord,
+    TryRecords(u32, u32, u32),
     TryFile,
     Release,
     ReleaseAll,
@@ -21,6 +25,7 @@ enum Call {
     MayWrite,
     RecordLocks,
     IsFreeRecord,
+    IsFreeRecords(u32, u32, u32),
     IsFreeWhole,
 }
 
@@ -87,6 +92,27 @@ const RECORD_FOR_TABLE: [Case; 7] = [
     (TryRecord, 2, 1, 2, 1),
 ];
 
+// Locks over a list: all or none, each record once, in place of all that the station had in the table.
+const LISTS: [Case; 17] = [
+    (TryRecords(1, 3, 1), 1, 1, 0, 1),
+    (IsFreeRecords(2, 3, 4), 2, 1, 0, 0),
+    (TryRecords(2, 3, 4), 2, 1, 0, 0),
+    (RecordLocks, 0, 1, 0, 2),
+    (TryRecord, 2, 1, 2, 1),
+    (TryFile, 2, 1, 0, 0),
+    (TryRecords(3, 3, 3), 1, 1, 0, 1),
+    (RecordLocks, 0, 1, 0, 2),
+    (HolderOfRecord, 0, 1, 1, 0),
+    (HolderOfRecord, 0, 1, 3, 1),
+    (TryRecords(2, 1, 2), 2, 1, 0, 1),
+    (RecordLocks, 0, 1, 0, 3),
+    (MayWrite, 2, 1, 1, 1),
+    (Release, 2, 1, 0, 0),
+    (TryFile, 1, 1, 0, 1),
+    (IsFreeRecords(7, 8, 9), 2, 1, 0, 0),
+    (IsFreeRecords(7, 8, 9), 1, 1, 0, 1),
+];
+
 // What is asked of a lock on a record, of one on a whole table, and of a table without locks.
 const QUERIES: [Case; 28] = [
     (IsFreeRecord, 1, 1, 4, 1),
@@ -133,6 +159,9 @@ fn answer_of(locks: &mut Locks, case: Case) -> u32
     let number = number.max(1);
     match call {
         TryRecord => u32::from(locks.try_record(station, table, number)),
+        TryRecords(a, b, c) => {
+            u32::from(locks.try_records(station, table, &[a.max(1), b.max(1), c.max(1)]))
+        }
         TryFile => u32::from(locks.try_file(station, table)),
         Release => {
             locks.release(station, table);
@@ -147,6 +176,7 @@ fn answer_of(locks: &mut Locks, case: Case) -> u32
         MayWrite => u32::from(locks.may_write(station, table, number)),
         RecordLocks => locks.record_locks(table),
         IsFreeRecord => u32::from(locks.is_free_record(station, table, number)),
+        IsFreeRecords(a, b, c) => { u32::from(locks.is_free_records(station, table, &[a, b, c])) }
         IsFreeWhole => u32::from(locks.is_free_whole(station, table)),
     }
 }
@@ -177,6 +207,12 @@ fn locks_of_three_stations_stand_in_their_tables(rt: HostRuntime) -> Result<(), 
 #[test]
 fn record_lock_replaces_table_lock(rt: HostRuntime) -> Result<(), Fail> {
     assert_eq!(rt; first_unexpected(rt, &RECORD_FOR_TABLE)?, None);
+    Ok(())
+}
+
+#[test]
+fn locks_over_a_list(rt: HostRuntime) -> Result<(), Fail> {
+    assert_eq!(rt; first_unexpected(rt, &LISTS)?, None);
     Ok(())
 }
 

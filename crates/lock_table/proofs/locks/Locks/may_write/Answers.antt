@@ -13,7 +13,7 @@ returns-clause-value c =
     let s = c.args.station in
     let row = c.row.result.now in
     let there : s - 1 < length row = omega (arith, c.row.ensures.length) in
-    let at = get_or_read row (s - 1) c.index-row-station.result there c.index-row-station.is [] in
+    let at = get_or_read row (s - 1) c.index-row-own.result there c.index-row-own.is [] in
     c.covers.ensures.value
     ∙ ap (list_any (λ n. n == c.args.number || n == 0)) at
     ∙ sym (ap (list_any (lets_write s c.args.number)) c.row.ensures.locks ∙ own_row c.args.table s c.args.number 1 (s - 1) row (omega arith) there)

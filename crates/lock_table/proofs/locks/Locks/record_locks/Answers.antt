@@ -1,6 +1,7 @@
 use Rattle.std.proofs.Common.{◌≡◌, ◌+◌, ◌<◌, ℕ, List, [], length, get_or, nat_lt, ap, sym, subst, arith}
 use Rattle.std.specs.List.{filter}
 use Rattle.std.proofs.lemmas.List.{get_or_read}
+use Rattle.std.below.core.specs.declared.int.u32.TheConstants.{MAX}
 use Rattle.lock_table.specs.declared.TheConstants.{MAX_RECORDS}
 use Rattle.lock_table.specs.Numbers.{AreAtMost, IsTableOrRecords}
 use Rattle.lock_table.specs.Locks.{HeldLocks}
@@ -25,9 +26,9 @@ overflow_add-count c =
     let slot = c.index-row-other.result in
     let there : i < length row = omega (arith, c.row-row.ensures.length, ap (λ (h : HeldLocks). h.stations) c.self.view_is) in
     let at : slot ≡ get_or row i [] = get_or_read row i slot there c.index-row-other.is [] in
-    let P : List ℕ → Type 0 = AreAtMost 4294967295 in
-    let all = small_more t 4294967295 i row there c.loop-other.invariant.bounded (subst P at c.record_count-count.ensures.bounded) in
-    let few = few_rowed c.args.self.now.locks t 4294967295 (i + 1) row c.row-row.ensures.apart c.row-row.ensures.order c.row-row.ensures.locks all in
+    let P : List ℕ → Type 0 = AreAtMost MAX in
+    let all = small_more t MAX i row there c.loop-other.invariant.bounded (subst P at c.record_count-count.ensures.bounded) in
+    let few = few_rowed c.args.self.now.locks t MAX (i + 1) row c.row-row.ensures.apart c.row-row.ensures.order c.row-row.ensures.locks all in
     let more = count_step t i row there in
     let same = ap (λ (ns : List ℕ). length (filter (λ n. nat_lt 0 n) ns)) at in
     omega (arith, few, more, same, c.loop-other.invariant.counted, c.record_count-count.ensures.value)
@@ -40,10 +41,10 @@ loop-other-preserved c =
     let slot = c.index-row-other.result in
     let there : i < length row = omega (arith, c.row-row.ensures.length, ap (λ (h : HeldLocks). h.stations) c.self.view_is) in
     let at : slot ≡ get_or row i [] = get_or_read row i slot there c.index-row-other.is [] in
-    let P : List ℕ → Type 0 = AreAtMost 4294967295 in
+    let P : List ℕ → Type 0 = AreAtMost MAX in
     let more = count_step t i row there in
     let same = ap (λ (ns : List ℕ). length (filter (λ n. nat_lt 0 n) ns)) at in
     record {
       counted = omega (arith, more, same, c.loop-other.invariant.counted, c.record_count-count.ensures.value);
-      bounded = small_more t 4294967295 i row there c.loop-other.invariant.bounded (subst P at c.record_count-count.ensures.bounded);
+      bounded = small_more t MAX i row there c.loop-other.invariant.bounded (subst P at c.record_count-count.ensures.bounded);
     }
