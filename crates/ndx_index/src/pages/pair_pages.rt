@@ -88,7 +88,7 @@ impl PairPages {
         ensures start { result.start ≡ page * PLACES }
         ensures end { result.end ≡ page * PLACES + length (page_at self.now.pages page) }
         ensures bounded { length (page_at self.now.pages page) ≤ PLACES }
-        ensures near { page * PLACES + PLACES < 2 ^ 64 }
+        ensures fits { page * PLACES + PLACES < 2 ^ 64 }
     {
         let count = usize::from(self.counts[page]);
         let start = page * PLACES;

@@ -20,5 +20,5 @@ returns c =
       start = omega arith;
       end = omega (arith, c.from-count.ensures, count_read there c.index.ensures);
       bounded = omega (arith, there.bounded, there.count);
-      near = there.near;
+      fits = there.near;
     }
