@@ -67,8 +67,8 @@ fn grow(store: &mut PageStore, free: &mut FreeList) -> Result<(), AllocError>
     Ok(())
 }
 
-/// Makes more pages free, until there are as many as wanted. An `Err` says that there was no memory, or no numbers for them;
-/// those that were made stay.
+/// Makes more pages free, until there are as many as wanted. An `Err` says that there was no memory, or no numbers
+/// for them; those that were made stay.
 pub(crate) fn make_free(
     store: &mut PageStore,
     free: &mut FreeList,

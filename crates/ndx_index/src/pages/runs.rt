@@ -56,6 +56,6 @@ pub(crate) fn push_run<T: Copy>(run: &mut Vec<T>, more: &[T])
     ensures capacity { vec_capacity run.old ≤ vec_capacity run.new }
 {
     let extended = run.extend_from_slice(more);
-    // There is room, so that it can't fail.
+    // For contracts alone: there is room, so that it can't fail.
     prove!(extended.is_ok());
 }
