@@ -1,4 +1,6 @@
 pub mod Cases
+pub mod SameValues
+pub mod SameCommands
 pub mod AreaLaws
 pub mod KeptLaws
 pub mod NextLaws

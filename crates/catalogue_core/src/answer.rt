@@ -36,7 +36,7 @@ impl Answer {
         }
     }
 
-    /// Whether the answers are the same. It is what `==` answers, said so that contracts can use it.
+    /// Whether the answers are the same: `==`, said so that contracts can use it.
     #[tactic(auto, using(dbf_fields::proofs::SameLaws::same_bytes))]
     pub fn is_same(&self, other: &Answer) -> bool
         ensures value { IsTrue result ↔ (self.now ≡ other.now) }

@@ -126,40 +126,10 @@ impl Command {
         })
     }
 
-    /// Whether the commands are the same. It is what `==` answers, said so that contracts can use it.
-    #[tactic(auto, using(dbf_fields::proofs::SameLaws::same_bytes, dbf_fields::proofs::SameLaws::same_int))]
+    /// Whether the commands are the same: `==`, said so that contracts can use it.
     pub fn is_same(&self, other: &Command) -> bool
         ensures value { IsTrue result ↔ (self.now ≡ other.now) }
     {
-        match self {
-            Command::Select(area) => matches!(other, Command::Select(its) if area == its),
-            Command::UseTable { name, exclusive } => {
-                matches!(other, Command::UseTable { name: n, exclusive: e } if name == n && exclusive == e)
-            }
-            Command::CloseTable => matches!(other, Command::CloseTable),
-            Command::Go(record) => matches!(other, Command::Go(its) if record == its),
-            Command::Top => matches!(other, Command::Top),
-            Command::Bottom => matches!(other, Command::Bottom),
-            Command::Skip(records) => matches!(other, Command::Skip(its) if records == its),
-            Command::Seek(text) => matches!(other, Command::Seek(its) if text == its),
-            Command::Order(order) => matches!(other, Command::Order(its) if order == its),
-            Command::AppendBlank => matches!(other, Command::AppendBlank),
-            Command::Replace { field, value } => {
-                matches!(other, Command::Replace { field: f, value: v } if field == f && value.is_same(v))
-            }
-            Command::Memo { field, text } => {
-                matches!(other, Command::Memo { field: f, text: t } if field == f && text == t)
-            }
-            Command::Delete => matches!(other, Command::Delete),
-            Command::Recall => matches!(other, Command::Recall),
-            Command::Pack => matches!(other, Command::Pack),
-            Command::Unlock => matches!(other, Command::Unlock),
-            Command::UnlockAll => matches!(other, Command::UnlockAll),
-            Command::Show(field) => matches!(other, Command::Show(its) if field == its),
-            Command::RecordLock => matches!(other, Command::RecordLock),
-            Command::FileLock => matches!(other, Command::FileLock),
-            Command::Ask(question) => matches!(other, Command::Ask(its) if question == its),
-            Command::Bad => matches!(other, Command::Bad),
-        }
+        self == other
     }
 }
