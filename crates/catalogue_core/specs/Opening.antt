@@ -76,12 +76,16 @@ named_index name e = record { name = name; expr = e }
 abbrev pub Keeping : Bool → Content → Indexed → NdxFile → OpenFault → Result Content OpenFault → Type 0
 Keeping reindex content index file stale outcome = IfFresh reindex (IsFresh content.table index.expr file) stale (Made (with_index content index)) outcome
 
+-- the same for the index of a source, whose key expression is this
+abbrev pub KeepingSource : Bool → Content → IndexSource → Expression → OpenFault → Result Content OpenFault → Type 0
+KeepingSource reindex content source e stale outcome = Keeping reindex content (named_index source.name e) source.file stale outcome
+
 -- the table with the index that its file is for
 abbrev pub IndexOpening : Bool → List NamedTable → Content → IndexSource → Result Content OpenFault → Type 0
 IndexOpening reindex earlier content source outcome =
     Passing ((not (is_index earlier content source.name), DuplicateIndex (next_table earlier) (next_index content)) ∷ []) (
     Then (Reading content.table.schema source.file.expr (BadExpression (next_table earlier) (next_index content))) (λ e.
-    Keeping reindex content (named_index source.name e) source.file (IndexStale (next_table earlier) (next_index content)))) outcome
+    KeepingSource reindex content source e (IndexStale (next_table earlier) (next_index content)))) outcome
 
 abbrev pub IndexesOpening : Bool → List NamedTable → Content → List IndexSource → Result Content OpenFault → Type 0
 IndexesOpening reindex earlier content [] outcome = outcome ≡ Ok content

@@ -31,6 +31,10 @@ station_in stations station = slice_index_or stations (station - 1) new_station
 abbrev pub station_at : State → ℕ → Station
 station_at s station = station_in s.stations station
 
+-- all stations but one have the areas that they had
+abbrev pub OtherStationsStay : ℕ → State → State → Type 0
+OtherStationsStay station before after = (other : ℕ) → 1 ≤ other → other ≢ station → station_at after other ≡ station_at before other
+
 -- the station's current area, where a table is open in it
 abbrev pub area_in : List Station → ℕ → Option Area
 area_in stations station = slice_index_or (station_in stations station).areas ((station_in stations station).current - 1) None

@@ -7,20 +7,20 @@ pub const MAX_AREAS: usize = 10;
 
 /// An area with a table in it.
 #[derive(Clone, Copy, Debug, PartialEq, Eq)]
-pub struct Area {
+pub(crate) struct Area {
     /// The number of the table, from 1.
-    pub table: u32,
+    pub(crate) table: u32,
     /// Whether no other station may have the table open.
-    pub exclusive: bool,
+    pub(crate) exclusive: bool,
     /// Where the area is in the table.
-    pub cursor: Cursor,
+    pub(crate) cursor: Cursor,
 }
 
 /// The areas of a station.
 #[derive(Clone, Copy, Debug)]
-pub struct Station {
+pub(crate) struct Station {
     /// The number of the current area, from 1.
-    pub current: u32,
+    pub(crate) current: u32,
     /// What is open in each area.
-    pub areas: [Option<Area>; MAX_AREAS],
+    pub(crate) areas: [Option<Area>; MAX_AREAS],
 }

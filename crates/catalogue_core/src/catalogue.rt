@@ -1,6 +1,6 @@
 //! The catalogue: the tables as they were opened, the journal of the commands since, and their state.
 
-ghost use Rattle.std.specs.Prelude.{◌≡◌, ◌≢◌, ◌↔◌, ℕ, ◌-◌, ◌<◌, ◌≤◌, [], ◌∷◌, ◌++◌, length, map, slice_get, vec_len, vec_capacity, Some, Ok, Err, IfOk, IfErr, OnErr, IsErrOf};
+ghost use Rattle.std.specs.Prelude.{◌≡◌, ◌↔◌, ◌-◌, ◌<◌, ◌≤◌, [], ◌∷◌, ◌++◌, length, map, slice_get, vec_len, vec_capacity, Some, Ok, Err, IfOk, IfErr, OnErr, IsErrOf};
 ghost use Rattle.catalogue_core.specs.declared.catalogue.TheConstants.{MAX_ENTRIES};
 ghost use Rattle.catalogue_core.specs.declared.opening.TheConstants.{MAX_TABLES};
 ghost use Rattle.catalogue_core.specs.Replay.{entry};
@@ -83,7 +83,7 @@ impl Catalogue {
     ghost use Rattle.table_core.specs.declared.refusal.Refusal.{Refusal};
     ghost use Rattle.catalogue_core.specs.Opening.{Opening};
     ghost use Rattle.catalogue_core.specs.Replay.{state_of, answer_of, with_entry, opened_at, names_of, IsLegal, AreOfStations};
-    ghost use Rattle.catalogue_core.specs.State.{table_at as content_at, station_at, IsState};
+    ghost use Rattle.catalogue_core.specs.State.{table_at as content_at, IsState, OtherStationsStay};
 
     /// Opens tables for stations: no table is open in any area, no lock is held, and the journal is empty.
     ///
@@ -141,7 +141,7 @@ impl Catalogue {
         ensures answer { IfOk result (λ done. done.1 ≡ answer_of self.old station command.now) }
         ensures entry { IfOk result (λ _. self.new ≡ with_entry self.old station command.now) }
         ensures refused { IfOk result (λ done. (refusal : Refusal) → done.1 ≡ Answer.Refused refusal → state_of self.new ≡ state_of self.old) }
-        ensures others { IfOk result (λ _. (other : ℕ) → 1 ≤ other → other ≢ station → station_at (state_of self.new) other ≡ station_at (state_of self.old) other) }
+        ensures others { IfOk result (λ _. OtherStationsStay station (state_of self.old) (state_of self.new)) }
         ensures full { IsErrOf result Stop.JournalFull ↔ (length self.old.journal ≡ MAX_ENTRIES) }
         ensures stopped { OnErr result (self.new ≡ self.old) }
     {

@@ -8,7 +8,7 @@ use table_core::Planned;
 
 /// A change of the state by a station.
 #[derive(Drop)]
-pub enum Change {
+pub(crate) enum Change {
     /// None.
     Nothing,
     /// The area of this number is the current one.
@@ -35,11 +35,11 @@ pub enum Change {
 
 /// A change that a command asks for, and its answer.
 #[derive(Drop)]
-pub struct Plan {
+pub(crate) struct Plan {
     /// What will change.
-    pub change: Change,
+    pub(crate) change: Change,
     /// What will be answered.
-    pub answer: Answer,
+    pub(crate) answer: Answer,
 }
 
 impl Plan {
@@ -47,7 +47,7 @@ impl Plan {
     ghost use Rattle.catalogue_core.specs.declared.answer.Answer.TheVariants.{Done};
 
     /// A change that is answered by OK.
-    pub fn done(change: Change) -> Plan
+    pub(crate) fn done(change: Change) -> Plan
         ensures value { result ≡ record { change = change; answer = Done } }
     {
         Plan {
@@ -57,7 +57,7 @@ impl Plan {
     }
 
     /// An answer that changes nothing.
-    pub fn answered(answer: Answer) -> Plan
+    pub(crate) fn answered(answer: Answer) -> Plan
         ensures value { result ≡ record { change = Nothing; answer = answer } }
     {
         Plan {

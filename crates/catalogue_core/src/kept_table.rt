@@ -12,7 +12,7 @@ use table_core::Table;
 /// The name under which a table was opened, and the table as it was then, which is for clauses alone and takes
 /// no bytes.
 #[derive(Drop)]
-pub struct KeptTable {
+pub(crate) struct KeptTable {
     pub(crate) name: Bytes,
     pub(crate) table: Snapshot<Table>,
 }

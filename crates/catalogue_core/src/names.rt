@@ -10,7 +10,7 @@ use std::marker::Model;
 
 /// Names, no two of them equal, in the order in which they came.
 #[derive(Drop)]
-pub struct Names {
+pub(crate) struct Names {
     names: IndexSet<Vec<u8>>,
 }
 
@@ -24,7 +24,7 @@ impl Model for Names {
 
 impl Names {
     /// No names. Takes no memory.
-    pub fn new(alloc: Global) -> Names
+    pub(crate) fn new(alloc: Global) -> Names
         ensures value { result ≡ [] }
     {
         Names {
@@ -33,7 +33,7 @@ impl Names {
     }
 
     /// The index of a name, from 0, where it is one of the names. Takes no memory.
-    pub fn index_of(&self, name: &Bytes) -> Option<usize>
+    pub(crate) fn index_of(&self, name: &Bytes) -> Option<usize>
         ensures value { result ≡ index_named self.now name.now }
         ensures inside { IfSome result (λ index. index < length self.now) }
     {
@@ -42,7 +42,7 @@ impl Names {
 
     /// Adds a name after the others, and answers whether it is new. An error where memory is refused, and then
     /// nothing has changed.
-    pub fn add(&mut self, alloc: Global, name: &Bytes) -> Result<bool, AllocError>
+    pub(crate) fn add(&mut self, alloc: Global, name: &Bytes) -> Result<bool, AllocError>
         ensures value { IfOk result (λ is_new. is_new ≡ not (includes_name self.old name.now)) }
         ensures ok { OnOk result (self.new ≡ with_name self.old name.now) }
         ensures err { OnErr result (self.new ≡ self.old) }

@@ -84,7 +84,7 @@ impl<T: Drop> From<AllocFailed<T>> for OpenFault {
 
 /// A table that is opened, under its name.
 #[derive(Drop)]
-pub struct OpenedTable {
+pub(crate) struct OpenedTable {
     pub(crate) name: Bytes,
     pub(crate) table: Table,
 }

@@ -12,7 +12,7 @@ use std::marker::Model;
 
 /// The stations with their areas. Stations, areas and tables count from 1.
 #[derive(Debug, Drop)]
-pub struct Stations {
+pub(crate) struct Stations {
     stations: Vec<Station>,
 }
 
@@ -28,7 +28,7 @@ impl Model for Stations {
 impl Stations {
     /// A number of stations, each with no table open and area 1 as the current one. An error where memory is
     /// refused.
-    pub fn new(alloc: Global, count: u32) -> Result<Stations, AllocError>
+    pub(crate) fn new(alloc: Global, count: u32) -> Result<Stations, AllocError>
         ensures value { IfOk result (λ stations. stations ≡ replicate count new_station) }
     {
         let mut stations = Vec::new(alloc);
@@ -41,7 +41,7 @@ impl Stations {
     }
 
     /// The station's current area, where a table is open in it.
-    pub fn area(&self, station: u32) -> Option<Area>
+    pub(crate) fn area(&self, station: u32) -> Option<Area>
         requires station { HasStationIn self.now station }
         ensures value { result ≡ area_in self.now station }
     {
@@ -50,7 +50,7 @@ impl Stations {
     }
 
     /// Whether the station has the table open in another area than the current one.
-    pub fn is_open_beside(&self, station: u32, table: u32) -> bool
+    pub(crate) fn is_open_beside(&self, station: u32, table: u32) -> bool
         requires station { HasStationIn self.now station }
         ensures value { result ≡ is_open_beside self.now station table }
     {
@@ -61,7 +61,7 @@ impl Stations {
     }
 
     /// Whether another station has the table open, and one of the two wants it exclusively.
-    pub fn is_in_use(&self, station: u32, table: u32, exclusive: bool) -> bool
+    pub(crate) fn is_in_use(&self, station: u32, table: u32, exclusive: bool) -> bool
         requires station { HasStationIn self.now station }
         ensures value { result ≡ is_in_use self.now station table exclusive }
     {
@@ -71,7 +71,7 @@ impl Stations {
     }
 
     /// The index of the station that has the table open exclusively, where there is one.
-    pub fn exclusive_user(&self, table: u32) -> Option<usize>
+    pub(crate) fn exclusive_user(&self, table: u32) -> Option<usize>
         ensures value { result ≡ exclusive_user self.now table }
         ensures inside { IfSome result (λ index. index < length self.now) }
     {
@@ -81,7 +81,7 @@ impl Stations {
     }
 
     /// Makes the area of a number the station's current one.
-    pub fn select(&mut self, station: u32, number: u32)
+    pub(crate) fn select(&mut self, station: u32, number: u32)
         requires station { HasStationIn self.old station }
         ensures value { self.new ≡ with_current_in self.old station number }
     {
@@ -89,7 +89,7 @@ impl Stations {
     }
 
     /// Puts this into the station's current area.
-    pub fn put_area(&mut self, station: u32, area: Option<Area>)
+    pub(crate) fn put_area(&mut self, station: u32, area: Option<Area>)
         requires station { HasStationIn self.old station }
         ensures value { self.new ≡ with_area_in self.old station area }
     {

@@ -6,7 +6,7 @@ ghost use Rattle.key_expr.specs.declared.fault.ExprFault.{ExprFault};
 ghost use Rattle.key_expr.specs.Expression.{Expression};
 ghost use Rattle.table_core.specs.Content.{has_index, with_index};
 ghost use Rattle.catalogue_core.specs.declared.opening.OpenFault.TheVariants.{BadExpression, IndexStale};
-ghost use Rattle.catalogue_core.specs.Opening.{is_index, named_index, IndexOpening, Keeping, Reading};
+ghost use Rattle.catalogue_core.specs.Opening.{is_index, named_index, IndexOpening, Keeping, KeepingSource, Reading};
 ghost use Rattle.catalogue_core.specs.Tables.{named_table};
 
 use crate::opening::{MAX_INDEXES, MAX_TABLES, OpenFault, OpenedTable};
@@ -98,8 +98,8 @@ fn keep_index(
     at: Numbers,
 ) -> Result<(), OpenFault>
     requires read { expr.fields ≡ table.old.content.table.schema }
-    ensures opened { OnOk result (Keeping reindex table.old.content (named_index source.name expr) source.file (IndexStale at.table at.index) (Ok table.new.content)) }
-    ensures refused { IfErr result (λ fault. Keeping reindex table.old.content (named_index source.name expr) source.file (IndexStale at.table at.index) (Err fault)) }
+    ensures opened { OnOk result (KeepingSource reindex table.old.content source expr (IndexStale at.table at.index) (Ok table.new.content)) }
+    ensures refused { IfErr result (λ fault. KeepingSource reindex table.old.content source expr (IndexStale at.table at.index) (Err fault)) }
     ensures added { OnOk result (table.new.content ≡ with_index table.old.content (named_index source.name expr)) }
 {
     if reindex {

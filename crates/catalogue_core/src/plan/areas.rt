@@ -17,7 +17,7 @@ use dbf_fields::Bytes;
 use std::alloc::Global;
 use table_core::{Cursor, Refusal, Table, TableFault};
 
-pub fn plan_select(state: &State, station: u32, number: u64) -> Result<Plan, Refusal>
+pub(crate) fn plan_select(state: &State, station: u32, number: u64) -> Result<Plan, Refusal>
     ensures outcome { outcome_of (seen state.now) station result ≡ select (seen state.now) station number }
     ensures can { IfOk result (λ plan. CanChange state.now station plan.change) }
 {
@@ -27,7 +27,7 @@ pub fn plan_select(state: &State, station: u32, number: u64) -> Result<Plan, Ref
     Ok(Plan::done(Change::Select(number as u32)))
 }
 
-pub fn plan_use_table(
+pub(crate) fn plan_use_table(
     state: &State,
     station: u32,
     name: &Bytes,
@@ -54,7 +54,7 @@ pub fn plan_use_table(
     })))
 }
 
-pub fn plan_unlock(state: &State, station: u32) -> Result<Plan, Refusal>
+pub(crate) fn plan_unlock(state: &State, station: u32) -> Result<Plan, Refusal>
     requires state { IsState (seen state.now) }
     requires station { HasStation (seen state.now) station }
     ensures outcome { outcome_of (seen state.now) station result ≡ unlock (seen state.now) station }
@@ -64,7 +64,7 @@ pub fn plan_unlock(state: &State, station: u32) -> Result<Plan, Refusal>
     Ok(Plan::done(Change::Unlock(area)))
 }
 
-pub fn plan_record_lock(state: &State, station: u32) -> Result<Plan, Refusal>
+pub(crate) fn plan_record_lock(state: &State, station: u32) -> Result<Plan, Refusal>
     requires state { IsState (seen state.now) }
     requires station { HasStation (seen state.now) station }
     ensures outcome { outcome_of (seen state.now) station result ≡ lock_record (seen state.now) station }
@@ -81,7 +81,7 @@ pub fn plan_record_lock(state: &State, station: u32) -> Result<Plan, Refusal>
     })
 }
 
-pub fn plan_file_lock(state: &State, station: u32) -> Result<Plan, Refusal>
+pub(crate) fn plan_file_lock(state: &State, station: u32) -> Result<Plan, Refusal>
     requires state { IsState (seen state.now) }
     requires station { HasStation (seen state.now) station }
     ensures outcome { outcome_of (seen state.now) station result ≡ lock_file (seen state.now) station }
@@ -97,7 +97,7 @@ pub fn plan_file_lock(state: &State, station: u32) -> Result<Plan, Refusal>
     })
 }
 
-pub fn plan_ask(state: &State, station: u32, question: Question) -> Result<Plan, Refusal>
+pub(crate) fn plan_ask(state: &State, station: u32, question: Question) -> Result<Plan, Refusal>
     requires state { IsState (seen state.now) }
     requires station { HasStation (seen state.now) station }
     ensures outcome { outcome_of (seen state.now) station result ≡ ask (seen state.now) station question }
@@ -108,7 +108,7 @@ pub fn plan_ask(state: &State, station: u32, question: Question) -> Result<Plan,
     Ok(Plan::answered(answer))
 }
 
-pub fn plan_show(
+pub(crate) fn plan_show(
     alloc: Global,
     state: &State,
     station: u32,

@@ -14,7 +14,7 @@ use table_core::{Cursor, Refusal, Table};
 
 /// Where a command moves the cursor.
 #[derive(Clone, Copy)]
-pub enum Move<'a> {
+pub(crate) enum Move<'a> {
     /// To the record of a number.
     Go(u64),
     /// To the first record in the order.
@@ -30,7 +30,7 @@ pub enum Move<'a> {
 }
 
 /// The plan of a move of the current area's cursor.
-pub fn plan_move(state: &State, station: u32, to: Move<'_>) -> Result<Plan, Refusal>
+pub(crate) fn plan_move(state: &State, station: u32, to: Move<'_>) -> Result<Plan, Refusal>
     requires state { IsState (seen state.now) }
     requires station { HasStation (seen state.now) station }
     ensures outcome { outcome_of (seen state.now) station result ≡ move (seen state.now) station (after_move to.entry) }

@@ -13,7 +13,7 @@ use table_core::Planned;
 
 impl State {
     /// Applies a station's change.
-    pub fn apply(&mut self, station: u32, change: Change)
+    pub(crate) fn apply(&mut self, station: u32, change: Change)
         requires state { IsState (seen self.old) }
         requires station { HasStation (seen self.old) station }
         requires can { CanChange self.old station change }

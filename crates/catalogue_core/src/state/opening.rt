@@ -17,7 +17,11 @@ use table_core::Table;
 
 impl State {
     /// The state at opening, which has the tables, no locks, and no table open in any area. An error is want of memory.
-    pub fn new(alloc: Global, opened: Vec<OpenedTable>, stations: u32) -> Result<State, AllocError>
+    pub(crate) fn new(
+        alloc: Global,
+        opened: Vec<OpenedTable>,
+        stations: u32,
+    ) -> Result<State, AllocError>
         requires count_bounded { length opened.items ≤ MAX_TABLES }
         requires named { NamesDiffer (map (λ t. t.name) opened.items) }
         ensures value { IfOk result (λ state. seen state ≡ start (opened_as stations (map named_table opened.items))) }

@@ -18,7 +18,7 @@ const NO_TABLE: TableStatus = TableStatus {
 
 impl State {
     /// The status of the tables 1 to 10, with zeros for one that does not exist.
-    pub fn table_statuses(&self) -> [TableStatus; MAX_TABLES]
+    pub(crate) fn table_statuses(&self) -> [TableStatus; MAX_TABLES]
         requires state { IsState (seen self.now) }
         ensures value { result ≡ map (table_status (seen self.now)) (counted 1 TABLES) }
     {
@@ -51,8 +51,8 @@ impl State {
         requires inside { number ≤ length (seen self.now).tables }
         ensures value { result ≡ table_holder (seen self.now) number }
     {
-        // This call tells contracts that a u32 can count the stations.
-        let _stations = self.locks.station_count();
+        // For contracts alone: a u32 counts the stations, which are as many as those of the locks.
+        let _ = self.locks.station_count();
         match self.stations.exclusive_user(number) {
             Some(index) => index as u32 + 1,
             None => self.locks.file_holder(number),
