@@ -1,6 +1,6 @@
 //! Values as commands give them.
 
-ghost use Rattle.std.specs.Prelude.{◌≡◌, ◌↔◌, IsTrue, IfOk};
+ghost use Rattle.std.specs.Prelude.{◌≡◌, IfOk};
 
 use crate::day::Day;
 use byte_io::Bytes;
@@ -44,13 +44,6 @@ impl Literal {
             Literal::BlankDate => Literal::BlankDate,
             Literal::BadDate => Literal::BadDate,
         })
-    }
-
-    /// Whether the values are the same. It is what `==` answers, said so that contracts can use it.
-    pub fn is_same(&self, other: &Literal) -> bool
-        ensures value { IsTrue result ↔ (self.now ≡ other.now) }
-    {
-        self == other
     }
 }
 
