@@ -12,7 +12,7 @@ open_listing_last [] file = append-nil (one_of file)
 open_listing_last (f ∷ files) file =
     ap (λ (w : List ℕ). one_of f ++ w) (open_listing_last files file) ∙ sym (append_assoc (one_of f) (open_listing files) (one_of file))
 
--- an empty file behind the others
+-- an empty file after the others
 pub begun_last : (files : List OpenFile) (file : OpenFile) (name : List ℕ) → file.name.items ≡ name → file.bytes.items ≡ []
     → open_listing (files ++ file ∷ []) ≡ open_listing files ++ opening name
 begun_last files file name e none = open_listing_last files file ∙ ap (λ (w : List ℕ). open_listing files ++ w) (rw (e, none) (append-nil (opening name)))

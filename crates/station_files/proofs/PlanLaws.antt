@@ -1,4 +1,4 @@
--- Files behind others.
+-- Files after others.
 use Rattle.std.proofs.Common.{◌≡◌, ℕ, ◌+◌, List, [], ◌∷◌, ◌++◌, length, map, refl, sym, ap, ◌∙◌, append_assoc, arith, Bool, true, false, cond, take, drop, get_or, ◌<◌, Option, Some, None, subst}
 use Rattle.std.specs.Prelude.{codes}
 use Rattle.std.proofs.lemmas.Grind.{common_steps}
@@ -38,7 +38,7 @@ map_last : (ps : List Planned) (p : Planned) → map file_of (ps ++ p ∷ []) �
 map_last [] p = refl
 map_last (q ∷ ps) p = ap (λ (fs : List NamedFile). file_of q ∷ fs) (map_last ps p)
 
--- a planned file behind others
+-- a planned file after others
 pub planned_last : (ps : List Planned) (p : Planned) (files : List NamedFile) → (file_of p ∷ []) ≡ files → map file_of (ps ++ p ∷ []) ≡ map file_of ps ++ files
 planned_last ps p files e = map_last ps p ∙ ap (λ (fs : List NamedFile). map file_of ps ++ fs) e
 
@@ -63,9 +63,9 @@ table_last before one two all file memos indexes e f g =
     g ∙ (ap (λ (fs : List NamedFile). fs ++ indexes) (f ∙ ap (λ (fs : List NamedFile). fs ++ memos) e)
     ∙ (append_assoc (before ++ file ∷ []) memos indexes ∙ append_assoc before (file ∷ []) (memos ++ indexes)))
 
--- more behind what stands behind
-pub behind_more : (new old before a b all : List NamedFile) → new ≡ old ++ b → old ≡ before ++ a → all ≡ a ++ b → new ≡ before ++ all
-behind_more new old before a b all e f h =
+-- more after what stands after others
+pub after_more : (new old before a b all : List NamedFile) → new ≡ old ++ b → old ≡ before ++ a → all ≡ a ++ b → new ≡ before ++ all
+after_more new old before a b all e f h =
     e ∙ (ap (λ (fs : List NamedFile). fs ++ b) f ∙ (append_assoc before a b ∙ ap (λ (fs : List NamedFile). before ++ fs) (sym h)))
 
 pub tables_more : (year month day : ℕ) (ts : List ClosedTable) (i : ℕ) (t : ClosedTable) → i < length ts → t ≡ get_or ts i t
@@ -85,9 +85,9 @@ answers_more texts i x name n lt is e at =
     ∙ ap (λ (fs : List NamedFile). answer_files 1 (take i texts) ++ fs)
     (same_name (1 + length (take i texts)) n x (front_length texts i lt ∙ sym at) ∙ ap (λ (w : List ℕ). named w x) (sym e)))
 
-map_behind : (ps qs : List Planned) → map file_of (ps ++ qs) ≡ map file_of ps ++ map file_of qs
-map_behind [] qs = refl
-map_behind (p ∷ ps) qs = ap (λ (fs : List NamedFile). file_of p ∷ fs) (map_behind ps qs)
+map_append : (ps qs : List Planned) → map file_of (ps ++ qs) ≡ map file_of ps ++ map file_of qs
+map_append [] qs = refl
+map_append (p ∷ ps) qs = ap (λ (fs : List NamedFile). file_of p ∷ fs) (map_append ps qs)
 
 -- what a run that failed at a place has written
 pub cut_at : (ps : List Planned) (files : List NamedFile) (old new : Option (List ℕ)) (i : ℕ) (p : Planned) (name : List ℕ)
@@ -99,7 +99,7 @@ cut_at ps files old new i p name all lt is e whole front =
     let left : drop i ps ≡ p ∷ drop (i + 1) ps = drop_more ps i p lt ∙ ap (λ (q : Planned). q ∷ drop (i + 1) ps) (sym is) in
     let parts : ps ≡ take i ps ++ p ∷ drop (i + 1) ps = sym (take-append-drop i ps) ∙ ap (λ (qs : List Planned). take i ps ++ qs) left in
     let order : files ≡ map file_of (take i ps) ++ file_of p ∷ map file_of (drop (i + 1) ps) =
-    sym all ∙ (ap (λ (qs : List Planned). map file_of qs) parts ∙ map_behind (take i ps) (p ∷ drop (i + 1) ps)) in
+    sym all ∙ (ap (λ (qs : List Planned). map file_of qs) parts ∙ map_append (take i ps) (p ∷ drop (i + 1) ps)) in
     let upto : map file_of (take (i + 1) ps) ≡ map file_of (take i ps) ++ file_of p ∷ [] = ap (λ (qs : List Planned). map file_of qs) here ∙ map_last (take i ps) p in
     let whole_before_fault : IsCutAt p.name old new files = record {
       before = map file_of (take i ps);

@@ -1,11 +1,14 @@
 -- The files that a run writes.
-use Rattle.std.specs.Prelude.{◌≡◌, ℕ, ◌+◌, List, [], ◌∷◌, ◌++◌, codes, flat_map, map, Option, Some, None, if◌then◌else◌}
+use Rattle.std.specs.Prelude.{◌≡◌, ℕ, ◌+◌, List, [], ◌∷◌, ◌++◌, codes, flat_map, map, Option, Some, None, take, if◌then◌else◌}
 use Rattle.std.specs.Fmt.{decimal}
+use Rattle.dbf_fields.specs.declared.day.Day.{Day}
 use Rattle.dbf_image.specs.Table.{has_memos}
-use Rattle.dbf_image.specs.Image.{image}
+use Rattle.dbf_image.specs.Image.{image, IsOutside}
 use Rattle.dbf_image.specs.Blocks.{memo_image}
 use Rattle.byte_io.specs.Sink.{grown, IsFront}
 use Rattle.ndx_index.specs.Image.{ndx_image}
+use Rattle.station_files.specs.declared.close_fault.CloseFault.{CloseFault}
+use Rattle.station_files.specs.declared.close_fault.CloseFault.TheVariants.{Write}
 use Rattle.station_files.specs.declared.named.NamedFile.{NamedFile}
 use Rattle.station_files.specs.declared.closed.ClosedTable.{ClosedTable}
 use Rattle.station_files.specs.declared.planned.Planned.{Planned}
@@ -18,7 +21,7 @@ use Rattle.station_files.specs.Writable.{has_too_many}
 abbrev pub index_bytes : IndexContent → List ℕ
 index_bytes index = ndx_image index.text index.key_len index.pairs
 
--- what a file is to hold
+-- the bytes of a file by its content
 abbrev pub bytes_of : Content → List ℕ
 bytes_of (OfTable table day) = image table.now day.year day.month day.day
 bytes_of (Memos table) = memo_image table.now
@@ -60,14 +63,22 @@ abbrev pub answer_files : ℕ → List (List ℕ) → List NamedFile
 answer_files station [] = []
 answer_files station (a ∷ rest) = record { name = answer_name station; bytes = a } ∷ answer_files (station + 1) rest
 
--- the files of a run in their order
-abbrev pub run_files : ℕ → ℕ → ℕ → List ClosedTable → List (List ℕ) → List NamedFile
-run_files year month day tables answers = tables_files year month day tables ++ answer_files 1 answers
+-- the files of a run on a day, in their order
+abbrev pub run_files : Day → List ClosedTable → List (List ℕ) → List NamedFile
+run_files today tables answers = tables_files today.year today.month today.day tables ++ answer_files 1 answers
 
 -- the number of the first table that has too many blocks, where the first table has this number
 abbrev pub first_blocked : ℕ → List ClosedTable → Option ℕ
 first_blocked number [] = None
 first_blocked number (closed ∷ rest) = if has_too_many closed.content then Some number else first_blocked (number + 1) rest
+
+-- the year can be told, and the table of this number is the first that has too many blocks
+abbrev pub IsBlockedBy : ℕ → List ClosedTable → ℕ → Type 0
+IsBlockedBy year tables number = ¬ IsOutside year × (first_blocked 1 tables ≡ Some number)
+
+-- the first of these planned files, as one list
+abbrev pub listing_of_first : ℕ → List Planned → List ℕ
+listing_of_first count planned = listing (map file_of (take count planned))
 
 -- What a failed run has written: the files before one of this name are whole, and of it, if it was begun, a
 -- front part is there.
@@ -78,3 +89,8 @@ pub record IsCutAt (name : List ℕ) (old new : Option (List ℕ)) (files : List
   pub order : files ≡ before ++ record { name = name; bytes = bytes } ∷ others
   pub whole : IsFront (grown old (listing before)) new
   pub front : IsFront new (grown old (listing (before ++ record { name = name; bytes = bytes } ∷ [])))
+
+-- where one of these files could not be written, those before it are whole; of other faults nothing is said
+abbrev pub IsCutBy : List NamedFile → Option (List ℕ) → Option (List ℕ) → CloseFault → Type 0
+IsCutBy files old new (Write name) = IsCutAt name old new files
+IsCutBy files old new fault = Unit {0}

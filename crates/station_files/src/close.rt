@@ -1,13 +1,14 @@
 //! Writing the files of a run.
 #![tactic(auto, using(byte_io::specs::Laws::Sinks::sinks))]
 
-ghost use Rattle.std.specs.Prelude.{◌≡◌, ◌≢◌, ◌+◌, ◌<◌, ◌≤◌, ◌↔◌, ◌∷◌, [], ℕ, List, Err, length, map, Some, None, true, false, OnOk, OnErr, IfErr, take};
+ghost use Rattle.std.specs.Prelude.{◌≡◌, ◌≢◌, ◌+◌, ◌<◌, ◌≤◌, ◌↔◌, ◌∷◌, [], ℕ, List, Err, length, map, Some, None, true, false, OnOk, OnErr, IfErr};
 ghost use Rattle.std.specs.List.{list_all, AllByRecursion};
+ghost use Rattle.dbf_image.specs.declared.format.TheConstants.{FIRST_YEAR, LAST_YEAR};
 ghost use Rattle.dbf_image.specs.Blocks.{memo_image};
 ghost use Rattle.dbf_image.specs.Image.{image, IsOutside};
 ghost use Rattle.byte_io.specs.Sink.{grown, is_byte, IsFront, Rises};
 ghost use Rattle.station_files.specs.Files.{files_in, listing, IsOfBytes};
-ghost use Rattle.station_files.specs.Closing.{bytes_of, file_named, file_of, run_files, first_blocked, IsCutAt};
+ghost use Rattle.station_files.specs.Closing.{bytes_of, file_named, file_of, run_files, first_blocked, listing_of_first, IsBlockedBy, IsCutBy};
 ghost use Rattle.station_files.specs.Writable.{has_too_many as has_too_many_blocks, is_writable};
 
 use crate::close_fault::CloseFault;
@@ -43,8 +44,8 @@ pub(crate) fn first_too_many(tables: &[ClosedTable]) -> Option<usize>
 
 // Writes the file of a table.
 fn write_table<S: ByteSink>(sink: &mut S, table: &TableData, day: Day) -> Result<(), SinkFault>
-    requires low { 1900 ≤ day.year }
-    requires high { day.year ≤ 2155 }
+    requires low { FIRST_YEAR ≤ day.year }
+    requires high { day.year ≤ LAST_YEAR }
     requires blocks_fit { has_too_many_blocks table.now ≡ false }
     ensures wrote { OnOk result (S.written sink.new ≡ grown (S.written sink.old) (image table.now day.year day.month day.day)) }
     ensures no_failure { OnOk result (S.failures sink.new ≡ S.failures sink.old) }
@@ -75,7 +76,7 @@ fn write_memos<S: ByteSink>(sink: &mut S, table: &TableData) -> Result<(), SinkF
     }
 }
 
-// Writes what a file is to hold.
+// Writes the content of a file.
 pub(crate) fn write_content<S: ByteSink>(
     sink: &mut S,
     content: &Content<'_>,
@@ -120,8 +121,8 @@ fn write_files<F: Folder>(folder: &mut F, planned: &[Planned<'_>]) -> Result<(),
     ensures no_failure { OnOk result (F.failures folder.new ≡ F.failures folder.old) }
     ensures failed { OnErr result (Rises (F.failures folder.old) (F.failures folder.new)) }
     ensures inside { IfErr result (λ place. place < length planned.now) }
-    ensures whole { IfErr result (λ place. IsFront (grown (F.written folder.old) (listing (map file_of (take place planned.now)))) (F.written folder.new)) }
-    ensures front { IfErr result (λ place. IsFront (F.written folder.new) (grown (F.written folder.old) (listing (map file_of (take (place + 1) planned.now))))) }
+    ensures whole { IfErr result (λ place. IsFront (grown (F.written folder.old) (listing_of_first place planned.now)) (F.written folder.new)) }
+    ensures front { IfErr result (λ place. IsFront (F.written folder.new) (grown (F.written folder.old) (listing_of_first (place + 1) planned.now))) }
     ensures bytes { OnOk result (AllByRecursion IsOfBytes (map file_of planned.now)) }
 {
     let mut place = 0;
@@ -147,16 +148,16 @@ pub fn close_files<F: Folder>(
     day: Day,
     folder: &mut F,
 ) -> Result<(), CloseFault>
-    ensures wrote { OnOk result (F.written folder.new ≡ grown (F.written folder.old) (listing (run_files day.year day.month day.day tables.now answers.now))) }
+    ensures wrote { OnOk result (F.written folder.new ≡ grown (F.written folder.old) (listing (run_files day tables.now answers.now))) }
     ensures no_failure { OnOk result (F.failures folder.new ≡ F.failures folder.old) }
     // Names and files are of bytes, so what is added to the folder's list tells them, and no other files.
-    ensures bytes { OnOk result (AllByRecursion IsOfBytes (run_files day.year day.month day.day tables.now answers.now)) }
-    ensures told { OnOk result (files_in (listing (run_files day.year day.month day.day tables.now answers.now)) ≡ run_files day.year day.month day.day tables.now answers.now) }
+    ensures bytes { OnOk result (AllByRecursion IsOfBytes (run_files day tables.now answers.now)) }
+    ensures told { OnOk result (files_in (listing (run_files day tables.now answers.now)) ≡ run_files day tables.now answers.now) }
     ensures outside { (result ≡ Err CloseFault.DateOutside) ↔ IsOutside day.year }
-    ensures blocks { (number : ℕ) → ((result ≡ Err (CloseFault.TooManyBlocks number)) ↔ ((IsOutside day.year → ⊥) × (first_blocked 1 tables.now ≡ Some number))) }
+    ensures blocks { (number : ℕ) → (result ≡ Err (CloseFault.TooManyBlocks number)) ↔ IsBlockedBy day.year tables.now number }
     ensures no_file_begun { IfErr result (λ fault. ((name : List ℕ) → fault ≢ CloseFault.Write name) → folder.new ≡ folder.old) }
     ensures failed { (name : List ℕ) → result ≡ Err (CloseFault.Write name) → Rises (F.failures folder.old) (F.failures folder.new) }
-    ensures whole_before_fault { (name : List ℕ) → result ≡ Err (CloseFault.Write name) → IsCutAt name (F.written folder.old) (F.written folder.new) (run_files day.year day.month day.day tables.now answers.now) }
+    ensures whole_before_fault { IfErr result (IsCutBy (run_files day tables.now answers.now) (F.written folder.old) (F.written folder.new)) }
 {
     if day.year < 1900 || day.year > 2155 {
         return Err(CloseFault::DateOutside);

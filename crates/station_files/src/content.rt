@@ -1,10 +1,10 @@
-//! What a file is to hold.
+//! The content of a file.
 
 use crate::closed_index::ClosedIndex;
 use dbf_fields::{Bytes, Day};
 use dbf_image::TableData;
 
-/// What a file is to hold.
+/// The content of a file that will be written.
 #[derive(Drop)]
 pub(crate) enum Content<'a> {
     /// A table, dated.

@@ -52,13 +52,9 @@ impl Source for MemorySource {
                 if bytes.as_slice().len() > MAX_FILE_BYTES {
                     return Err(LoadFault::CannotRead);
                 }
-                return match bytes.copy(alloc) {
-                    Ok(copy) => {
-                        self.loads -= 1;
-                        Ok(copy)
-                    }
-                    Err(_) => Err(LoadFault::NoMemory),
-                };
+                let copy = bytes.copy(alloc)?;
+                self.loads -= 1;
+                return Ok(copy);
             }
         }
         self.loads = self.loads.saturating_sub(1);

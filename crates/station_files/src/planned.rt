@@ -1,4 +1,4 @@
-//! A file that is to be written.
+//! A file that will be written.
 
 ghost use Rattle.std.specs.Prelude.{◌≡◌, true};
 ghost use Rattle.station_files.specs.Writable.{is_writable};
@@ -6,12 +6,12 @@ ghost use Rattle.station_files.specs.Writable.{is_writable};
 use crate::content::Content;
 use dbf_fields::Bytes;
 
-/// A file that is to be written, and can be.
+/// A file that will be written, and can be.
 #[derive(Drop)]
 pub(crate) struct Planned<'a> {
     /// Its name.
     pub name: Bytes,
-    /// What it is to hold.
+    /// Its content.
     pub content: Content<'a>,
     ghost writable: { is_writable content ≡ true },
 }

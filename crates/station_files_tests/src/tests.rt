@@ -54,7 +54,7 @@ fn source_finds_the_first_file_of_a_path(rt: HostRuntime) -> Result<(), Fail> {
     Ok(())
 }
 
-// What two files make of a folder, which takes so many bytes a write.
+// Writes two files into a folder.
 fn write_two<F: Folder>(folder: &mut F) -> Result<(), SinkFault> {
     folder.begin(b"T.DBF")?;
     write_all(folder, b"first")?;

@@ -86,7 +86,7 @@ fn wanted_files(alloc: Global) -> Result<Vec<(&'static [u8], Vec<u8>)>, Fail> {
     Ok(files)
 }
 
-// The place of the first file that is not the one wanted there, up to so many files.
+// The place of the first of `count` files that is not the one wanted there.
 fn first_other(folder: &MemoryFolder, wanted: &[(&[u8], Vec<u8>)], count: usize) -> Option<usize> {
     for i in 0..count {
         if i >= folder.files.len() || i >= wanted.len() {

@@ -1,4 +1,4 @@
-use Rattle.std.proofs.Common.{List, map, refl, subst, ap, ◌∙◌, arith}
+use Rattle.std.proofs.Common.{List, map, refl, subst, ap, ◌∙◌}
 use Rattle.std.specs.List.{AllByRecursion}
 use Rattle.station_files.specs.declared.named.NamedFile.{NamedFile}
 use Rattle.station_files.specs.Closing.{file_of}
@@ -11,8 +11,8 @@ pub returns-clause-no_file_begun : goal.returns-clause-no_file_begun
 returns-clause-no_file_begun g c h = absurd (h c.remove.result.name refl)
 
 pub returns-clause-whole_before_fault : goal.returns-clause-whole_before_fault
-returns-clause-whole_before_fault g c name e =
-    cut_at _ _ _ _ c.in-Err.place c.remove.result name c.in_ok-planned.ensures.files (rw c.deref.ensures.value at c.in-Err.ensures.inside) c.remove.ensures.value (grind (arith, e)) (rw c.deref.ensures.value at c.in-Err.ensures.whole) (rw c.deref.ensures.value at c.in-Err.ensures.front)
+returns-clause-whole_before_fault g c =
+    cut_at _ _ _ _ c.in-Err.place c.remove.result c.remove.result.name c.in_ok-planned.ensures.files (rw c.deref.ensures.value at c.in-Err.ensures.inside) c.remove.ensures.value refl (rw c.deref.ensures.value at c.in-Err.ensures.whole) (rw c.deref.ensures.value at c.in-Err.ensures.front)
 
 pub returns-in-Ok-clause-told : goal.returns-in-Ok-clause-told
 returns-in-Ok-clause-told g c =
