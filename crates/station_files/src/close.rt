@@ -54,10 +54,7 @@ fn write_table<S: ByteSink>(sink: &mut S, table: &TableData, day: Day) -> Result
     ensures front { OnErr result (IsFront (S.written sink.new) (grown (S.written sink.old) (image table.now day.year day.month day.day))) }
     ensures bytes { OnOk result (list_all is_byte (image table.now day.year day.month day.day) ≡ true) }
 {
-    match write_dbf(sink, table, day) {
-        Ok(()) => Ok(()),
-        Err(_) => Err(SinkFault),
-    }
+    write_dbf(sink, table, day).map_err(|_| SinkFault)
 }
 
 // Writes the file of a table's memos.
@@ -70,10 +67,7 @@ fn write_memos<S: ByteSink>(sink: &mut S, table: &TableData) -> Result<(), SinkF
     ensures front { OnErr result (IsFront (S.written sink.new) (grown (S.written sink.old) (memo_image table.now))) }
     ensures bytes { OnOk result (list_all is_byte (memo_image table.now) ≡ true) }
 {
-    match write_dbt(sink, table) {
-        Ok(()) => Ok(()),
-        Err(_) => Err(SinkFault),
-    }
+    write_dbt(sink, table).map_err(|_| SinkFault)
 }
 
 // Writes the content of a file.

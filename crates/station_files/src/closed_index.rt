@@ -63,9 +63,6 @@ impl ClosedIndex {
         ensures front { OnErr result (IsFront (S.written sink.new) (grown (S.written sink.old) (ndx_image self.now.text self.now.key_len self.now.pairs))) }
         ensures bytes { OnOk result (list_all is_byte (ndx_image self.now.text self.now.key_len self.now.pairs) ≡ true) }
     {
-        match write_ndx(sink, &self.expr, &self.pairs) {
-            Ok(()) => Ok(()),
-            Err(_) => Err(SinkFault),
-        }
+        write_ndx(sink, &self.expr, &self.pairs).map_err(|_| SinkFault)
     }
 }
