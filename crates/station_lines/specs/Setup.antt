@@ -1,5 +1,5 @@
 -- What a setup says: its entries in their order, or the number of its first bad line.
-use Rattle.std.specs.Prelude.{◌≡◌, ◌⊎◌, ℕ, ◌+◌, Bool, true, false, not, List, [], ◌∷◌, ◌++◌, length, nat_le, bytes_eq, codes, Option, Some, None, Result, Ok, Err, if◌then◌else◌}
+use Rattle.std.specs.Prelude.{◌≡◌, ◌⊎◌, ℕ, ◌+◌, Bool, true, false, not, List, [], ◌∷◌, ◌++◌, length, slice_get, take, nat_le, bytes_eq, codes, Option, Some, None, Result, Ok, Err, if◌then◌else◌}
 use Rattle.std.specs.List.{list_all, list_any}
 use Rattle.std.specs.Char.{is_ascii}
 use Rattle.station_lines.specs.declared.setup.entry.SetupEntry.{SetupEntry}
@@ -20,6 +20,11 @@ is_word (b ∷ bs) = has_no_gap (b ∷ bs)
 -- the line is these words, apart by blanks or tabs
 abbrev pub AreWords : List (List ℕ) → List ℕ → Type 0
 AreWords words line = HasWords words line × (list_all is_word words ≡ true)
+
+-- the words of the line are this one and those of what stands after it
+abbrev pub HasFirstWord : List ℕ → List ℕ → List ℕ → Type 0
+HasFirstWord line word rest =
+    (words : List (List ℕ)) → AreWords words line → (others : List (List ℕ)) × AreWords others rest × (words ≡ word ∷ others)
 
 -- a line without words says nothing, and one whose first word begins with `*`
 abbrev pub skips : List (List ℕ) → Bool
@@ -56,6 +61,11 @@ is_table_of table entry = false
 abbrev pub may_follow : List SetupEntry → SetupEntry → Bool
 may_follow before (Index table name ndx) = list_any (is_table_of table) before
 may_follow before entry = true
+
+-- each index's table is that of an earlier entry
+abbrev pub IndexesFollowTables : List SetupEntry → Type 0
+IndexesFollowTables entries =
+    (i : ℕ) (table name ndx : List ℕ) → slice_get entries i ≡ Some (Index table name ndx) → list_any (is_table_of table) (take i entries) ≡ true
 
 -- the line says this, which may stand after these entries
 abbrev pub IsNext : List SetupEntry → List ℕ → SetupEntry → Type 0

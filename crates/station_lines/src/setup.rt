@@ -5,7 +5,7 @@
 
 ghost use Rattle.std.specs.Prelude.{◌≡◌, ℕ, List, true, false, Result, Ok, Err, IfOk, IfErr, IsErrOf};
 ghost use Rattle.station_lines.specs.declared.setup.entry.SetupEntry.{SetupEntry as Entry};
-ghost use Rattle.station_lines.specs.Setup.{Adds, HasNextEntry, IsBadAfter, IsNext, IsSetup};
+ghost use Rattle.station_lines.specs.Setup.{Adds, HasNextEntry, IndexesFollowTables, IsBadAfter, IsNext, IsSetup};
 
 mod entry;
 mod fault;
@@ -42,11 +42,12 @@ fn add_line(alloc: Global, entries: &mut Vec<SetupEntry>, line: &[u8]) -> Result
     }
 }
 
-/// What the lines of a setup say, in their order. `Bad` tells the number of the first line that is bad; lines
-/// are counted from 1, those that are skipped too. `NoMemory` where memory is refused, which is
-/// asked for only at a line that says what may stand there, where no line before it is bad.
+/// What the lines of a setup say, in their order: each index stands after its table. `Bad` tells the number of the
+/// first line that is bad; lines are counted from 1, those that are skipped too. `NoMemory` where memory is refused,
+/// which is asked for only at a line that says what may stand there, where no line before it is bad.
 pub fn parse_setup(alloc: Global, text: &[u8]) -> Result<Vec<SetupEntry>, SetupFault>
     ensures read { IfOk result (λ entries. IsSetup text.now (Ok entries.items)) }
+    ensures tables_first { IfOk result (λ entries. IndexesFollowTables entries.items) }
     ensures early { IsErrOf result SetupFault.NoMemory → HasNextEntry text.now }
     ensures bad { (number : ℕ) → result ≡ Err (SetupFault.Bad number) → IsSetup text.now (Err number) }
 {

@@ -1,11 +1,13 @@
 -- What a text says as a setup: its lines one after another, and that it says one thing.
-use Rattle.std.proofs.Common.{◌≡◌, ℕ, List, [], ◌∷◌, ◌++◌, Bool, true, false, ◌+◌, length, Result, Ok, Err, refl, ap, ◌∙◌, sym, subst, arith, append_assoc}
-use Rattle.std.specs.Prelude.{◌⊎◌}
+use Rattle.std.proofs.Common.{◌≡◌, ℕ, List, [], ◌∷◌, ◌++◌, Bool, true, false, ◌+◌, length, take, zero, suc, Option, Some, None, Result, Ok, Err, refl, ap, ◌∙◌, sym, subst, arith, append_assoc}
+use Rattle.std.specs.Prelude.{◌⊎◌, slice_get}
+use Rattle.std.specs.List.{list_any}
 use mathlib.Core.Logic.{inl, inr}
 use Rattle.std.proofs.lemmas.List.{append-nil, length-append}
 use Rattle.station_lines.specs.declared.setup.entry.SetupEntry.{SetupEntry}
+use Rattle.station_lines.specs.declared.setup.entry.SetupEntry.TheVariants.{Index}
 use Rattle.station_lines.specs.Script.Lines.{AreLines}
-use Rattle.station_lines.specs.Setup.{IsSkipped, IsEntry, may_follow, Adds, IsBadAfter, IsNext, HasNextEntry, AddAll, IsSetup}
+use Rattle.station_lines.specs.Setup.{IsSkipped, IsEntry, may_follow, Adds, IsBadAfter, IsNext, HasNextEntry, AddAll, IsSetup, is_table_of, IndexesFollowTables}
 use Rattle.station_lines.proofs.ScriptLaws.CuttingLaws.{line_before, some_lines, one_cutting}
 use Rattle.station_lines.proofs.SetupLaws.LineLaws.{entry_not_skipped, one_entry, IsBad, bad_after, unplaced, some_meaning}
 
@@ -79,6 +81,51 @@ read_next text number entries rest line behind r next h =
 pub read_whole : (text : List ℕ) (number : ℕ) (entries : List SetupEntry) (rest : List ℕ) → IsReadTo text number entries rest → rest ≡ [] → IsSetup text (Ok entries)
 read_whole text number entries rest r none =
     (r.lines, subst (λ (ls : List (List ℕ)). AreLines ls text) (append-nil r.lines) (r.cut [] none), r.said)
+
+-- ---- each index stands after its table
+
+abbrev EarlierOrLast : {A : Type 0} → List A → A → A → ℕ → Type 0
+EarlierOrLast xs y z i =
+    ((slice_get xs i ≡ Some z) × (take i (xs ++ y ∷ []) ≡ take i xs)) ⊎ ((y ≡ z) × (take i (xs ++ y ∷ []) ≡ xs))
+
+one_more : {A : Type 0} (x : A) (xs : List A) (y z : A) (i : ℕ) → EarlierOrLast xs y z i → EarlierOrLast (x ∷ xs) y z (suc i)
+one_more x xs y z i (inl h) = inl (h.0, ap (λ zs. x ∷ zs) h.1)
+one_more x xs y z i (inr h) = inr (h.0, ap (λ zs. x ∷ zs) h.1)
+
+-- an element of a list that is one longer is an earlier one or the last, and these stand before it
+earlier_or_last : {A : Type 0} (xs : List A) (y z : A) (i : ℕ) → slice_get (xs ++ y ∷ []) i ≡ Some z → EarlierOrLast xs y z i
+earlier_or_last [] y z zero e = let same : y ≡ z = cc in inr (same, refl)
+earlier_or_last [] y z (suc i) e = absurd cc
+earlier_or_last (x ∷ xs) y z zero e = inl (e, refl)
+earlier_or_last (x ∷ xs) y z (suc i) e = one_more x xs y z i (earlier_or_last xs y z i e)
+
+by_either : (before : List SetupEntry) (entry : SetupEntry) → IndexesFollowTables before → may_follow before entry ≡ true → (i : ℕ) (table name ndx : List ℕ)
+    → EarlierOrLast before entry (Index table name ndx) i → list_any (is_table_of table) (take i (before ++ entry ∷ [])) ≡ true
+by_either before entry ordered can i table name ndx (inl h) =
+    subst (λ (es : List SetupEntry). list_any (is_table_of table) es ≡ true) (sym h.1) (ordered i table name ndx h.0)
+by_either before entry ordered can i table name ndx (inr h) =
+    subst (λ (es : List SetupEntry). list_any (is_table_of table) es ≡ true) (sym h.1) (subst (λ (e : SetupEntry). may_follow before e ≡ true) h.0 can)
+
+tables_first-last : (before : List SetupEntry) (entry : SetupEntry) → IndexesFollowTables before → may_follow before entry ≡ true → IndexesFollowTables (before ++ entry ∷ [])
+tables_first-last before entry ordered can i table name ndx at =
+    by_either before entry ordered can i table name ndx (earlier_or_last before entry (Index table name ndx) i at)
+
+tables_first-adds : (before : List SetupEntry) (line : List ℕ) (after : List SetupEntry) → IndexesFollowTables before → Adds before line after → IndexesFollowTables after
+tables_first-adds before line after ordered (inl x) = subst (λ (es : List SetupEntry). IndexesFollowTables es) (sym x.1) ordered
+tables_first-adds before line after ordered (inr x) =
+    subst (λ (es : List SetupEntry). IndexesFollowTables es) (sym x.3) (tables_first-last before x.0 ordered x.2)
+
+tables_first-all : (before : List SetupEntry) (lines : List (List ℕ)) (after : List SetupEntry) → IndexesFollowTables before → AddAll before lines after → IndexesFollowTables after
+tables_first-all before [] after ordered all = subst (λ (es : List SetupEntry). IndexesFollowTables es) (sym all) ordered
+tables_first-all before (line ∷ lines) after ordered all =
+    tables_first-all all.0 lines after (tables_first-adds before line all.0 ordered all.1) all.2
+
+no_index : IndexesFollowTables []
+no_index i table name ndx at = absurd cc
+
+-- in a setup each index stands after its table
+pub tables_first : (text : List ℕ) (entries : List SetupEntry) → IsSetup text (Ok entries) → IndexesFollowTables entries
+tables_first text entries said = tables_first-all [] said.0 entries no_index said.2
 
 -- ---- a text says something
 

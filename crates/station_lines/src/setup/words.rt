@@ -3,7 +3,7 @@
 ghost use Rattle.std.specs.Prelude.{◌≡◌, ◌≤◌, ◌<◌, [], ◌∷◌, List, ℕ, length, position, IfOk, IfSome, IfNone};
 ghost use Rattle.std.specs.List.{position_or_len};
 ghost use Rattle.station_lines.specs.Script.Words.{is_gap as gap};
-ghost use Rattle.station_lines.specs.Setup.{AreWords};
+ghost use Rattle.station_lines.specs.Setup.{AreWords, HasFirstWord};
 
 use crate::script::{is_gap, without_gaps};
 
@@ -29,7 +29,7 @@ fn word_length(text: &[u8]) -> usize
 /// The first word of a line, and what stands after it. `None` where a line has no words. Takes no memory.
 pub(crate) fn cut_first(line: &[u8]) -> Option<(&[u8], &[u8])>
     ensures words { IfSome result (λ cut. (others : List (List ℕ)) → AreWords others cut.1.now → AreWords (cut.0.now ∷ others) line.now) }
-    ensures only { IfSome result (λ cut. (words : List (List ℕ)) → AreWords words line.now → (others : List (List ℕ)) × AreWords others cut.1.now × (words ≡ cut.0.now ∷ others)) }
+    ensures only { IfSome result (λ cut. HasFirstWord line.now cut.0.now cut.1.now) }
     ensures shorter { IfSome result (λ cut. length cut.1.now < length line.now) }
     ensures none { IfNone result ((words : List (List ℕ)) → AreWords words line.now → words ≡ []) }
 {

@@ -11,7 +11,7 @@ const LENGTHS: [usize; 4] = [254, 255, 256, 65_535];
 
 const PATTERN: [u8; 10] = *b"it's long ";
 
-// A text of so many bytes, with blanks and apostrophes in it.
+// A text of `count` bytes, with blanks and apostrophes in it.
 fn text_of(alloc: Global, count: usize) -> Result<Bytes, AllocError> {
     let mut bytes = Vec::new(alloc);
     for i in 0..count {
@@ -54,7 +54,7 @@ fn texts_of_any_length_are_kept(rt: HostRuntime) -> Result<(), Fail> {
     Ok(())
 }
 
-// The same byte so many times.
+// The same byte, `count` times.
 fn run_of(alloc: Global, byte: u8, count: usize) -> Result<Bytes, AllocError> {
     Ok(Bytes::from_vec(vec![in alloc; byte; count]?))
 }

@@ -1,5 +1,5 @@
 use Rattle.std.proofs.Common.{◌≡◌, ◌+◌, arith, refl}
-use Rattle.station_lines.proofs.SetupLaws.TextLaws.{read_more, read_bad, read_next, read_whole}
+use Rattle.station_lines.proofs.SetupLaws.TextLaws.{read_more, read_bad, read_next, read_whole, tables_first}
 use Rattle.station_lines.proofs.setup.parse_setup.Goals as goal
 
 pub returns-then-not-branch-clause-bad : goal.returns-then-not-branch-clause-bad
@@ -19,3 +19,6 @@ loop-line-preserved c = record {
 
 pub returns-clause-read : goal.returns-clause-read
 returns-clause-read c = read_whole _ _ _ _ c.loop-line.invariant.read c.in_default.ensures.none
+
+pub returns-clause-tables_first : goal.returns-clause-tables_first
+returns-clause-tables_first c = tables_first _ _ (read_whole _ _ _ _ c.loop-line.invariant.read c.in_default.ensures.none)
