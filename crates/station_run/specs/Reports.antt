@@ -1,5 +1,7 @@
 -- What stations are shown for the lines of their scripts.
 use Rattle.std.specs.Prelude.{◌≡◌, ◌⊎◌, ℕ, ◌+◌, ◌<◌, ◌≤◌, List, [], ◌∷◌, ◌++◌, length, slice_get, Some}
+use Rattle.catalogue_core.specs.declared.answer.Answer.{Answer}
+use Rattle.catalogue_core.specs.declared.command.Command.{Command}
 use Rattle.catalogue_core.specs.declared.entry.Entry.{Entry}
 use Rattle.shared_catalogue.specs.declared.receipts.Receipt.{Receipt}
 use Rattle.catalogue_core.specs.declared.status.StatusRow.{StatusRow}
@@ -87,6 +89,11 @@ pub record IsWithShown (opened : Opened) (old : SessionValue) (x : Shown) (new :
   pub share : new.seat.share ≡ old.seat.share + length (receipt_in x)
   pub receipts : new.receipts ≡ old.receipts ++ receipt_in x
   pub answers : new.answers ≡ old.answers ++ shown_line x
+
+-- the same for a command, of which its answer was shown
+abbrev pub IsWithAnswer : Opened → SessionValue → Command → SessionValue → Type 0
+IsWithAnswer opened old command new =
+    (answer : Answer) × IsWithShown opened old (answered (record { command = command; answer = answer })) new
 
 -- what was shown in a session up to now, over these opened tables
 pub record HasShown (opened : Opened) (station : ℕ) (shown : List Shown) (s : SessionValue) : Type 0 where

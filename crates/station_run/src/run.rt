@@ -76,7 +76,10 @@ fn run_sessions<J: Naming + Send + Sync, G: Gate + Sync, R: Threads + Wait + Syn
         rt,
         |scope| -> Result<Vec<Session<J>>, RunFault>
             requires scripts { vec_len seats ≤ length scripts.now }
-            ensures ran { IfOk result (λ sessions. (vec_len sessions ≡ vec_len seats) × HaveRun J.opened scripts.entry.now seats.items sessions.items) × ¬ IsErrOf result RunFault.ScriptCount × IfErr result (IsFaultOfRun J.opened) }
+            ensures count { IfOk result (λ sessions. vec_len sessions ≡ vec_len seats) }
+            ensures each { IfOk result (λ sessions. HaveRun J.opened scripts.entry.now seats.items sessions.items) }
+            ensures fault { IfErr result (IsFaultOfRun J.opened) }
+            ensures no_script_count { ¬ IsErrOf result RunFault.ScriptCount }
         { run_from(scope, rt, alloc, shared, gate, seats, scripts) },
     )
 }

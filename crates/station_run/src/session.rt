@@ -1,9 +1,8 @@
 //! A station at work.
 
 ghost use Rattle.std.specs.Prelude.{◌≡◌, ◌≢◌, [], ◌∷◌, ◌++◌, OnOk, IfErr, IsErrOf};
-ghost use Rattle.catalogue_core.specs.declared.answer.Answer.{Answer as AnswerValue};
 ghost use Rattle.catalogue_core.specs.declared.status.StatusRow.{StatusRow as RowValue};
-ghost use Rattle.station_run.specs.Reports.{Shown, answered, status, meaning_of, session, new_session, IsWithShown};
+ghost use Rattle.station_run.specs.Reports.{Shown, status, meaning_of, session, new_session, IsWithShown, IsWithAnswer};
 ghost use Rattle.station_run.specs.Faults.{IsStopOf};
 ghost use Rattle.station_lines.specs.declared.script.format.TheConstants.{LF as LINE_END};
 
@@ -16,7 +15,7 @@ use std::sync::Wait;
 
 /// A station at work: its seat, what it was answered, and the text of its answer file so far.
 #[derive(Drop)]
-pub struct Session<J: Naming> {
+pub(crate) struct Session<J: Naming> {
     seat: Seat<J>,
     receipts: Receipts,
     answers: Vec<u8>,
@@ -72,7 +71,7 @@ impl<J: Naming> Session<J> {
         shared: &Shared<J>,
         command: Command,
     ) -> Result<(), Stop>
-        ensures shown { OnOk result ((answer : AnswerValue) × IsWithShown J.opened self.old (answered (record { command = command; answer = answer })) self.new) }
+        ensures shown { OnOk result (IsWithAnswer J.opened self.old command self.new) }
         ensures stop { IfErr result (IsStopOf J.opened) }
     {
         let answer = shared.perform(alloc, rt, &mut self.seat, &command)?;

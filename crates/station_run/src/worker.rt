@@ -1,4 +1,4 @@
-//! The worker of a station, which goes down its script.
+//! The worker of a station, which runs its script line by line.
 
 ghost use Rattle.std.specs.Prelude.{◌≡◌, ◌≢◌, Ok, Some, None, IfOk, IfErr, IsErrOf};
 ghost use Rattle.station_lines.specs.declared.script.line.Line.{Line as LineValue};
@@ -19,7 +19,7 @@ use std::thread::{Promise, PromisedHandle, Scope, Threads};
 
 /// That a worker runs this script at this station.
 #[derive(Drop)]
-pub struct Runs {
+pub(crate) struct Runs {
     pub(crate) station: u32,
     pub(crate) script: Snapshot<Bytes>,
 }
@@ -33,7 +33,7 @@ impl<J: Naming> Promise<Result<Session<J>, Stop>> for Runs {
 }
 
 /// A worker's thread, which ends with its session.
-pub type Worker<J> = PromisedHandle<Result<Session<J>, Stop>, Runs>;
+pub(crate) type Worker<J> = PromisedHandle<Result<Session<J>, Stop>, Runs>;
 
 // What a line means, and `None` where it is blank.
 fn parse_unless_blank(alloc: Global, text: &[u8]) -> Result<Option<Line>, AllocError>

@@ -28,7 +28,7 @@ fn source(alloc: Global, name: &[u8]) -> Result<TableSource, Fail> {
     Ok(named(alloc, name, table(alloc, &TABLE)?)?)
 }
 
-// The table of one memo, of which the first record has a text of so many bytes, under the name T.
+// The table of one memo, of which the first record has a text of `length` bytes, under the name T.
 fn long_note(alloc: Global, length: usize) -> Result<TableSource, Fail> {
     let mut memos = with_zeros(alloc, b"", 512)?;
     memos.resize(length.saturating_add(512), b'm')?;

@@ -29,7 +29,7 @@ fn take(alloc: Global, held: &mut Hoard, size: usize) {
     }
 }
 
-// So many rooms of one size, which are not touched.
+// `count` rooms of one size, which are not touched.
 fn rooms(alloc: Global, count: usize, size: usize) -> Result<Hoard, AllocError> {
     let mut rooms = Vec::new(alloc);
     for _ in 0..count {
@@ -38,7 +38,7 @@ fn rooms(alloc: Global, count: usize, size: usize) -> Result<Hoard, AllocError> 
     Ok(rooms)
 }
 
-/// Takes all memory that the process can get, but so many rooms of one size. Dropping what is answered gives it back.
+/// Takes all memory that the process can get, but `count` rooms of one size. Dropping what is answered gives it back.
 pub(super) fn hoard(alloc: Global, count: usize, size: usize) -> Result<Hoard, AllocError> {
     let mut held = Vec::with_capacity(alloc, BLOCKS)?;
     let rooms = rooms(alloc, count, size)?;

@@ -30,7 +30,7 @@ fn script_of_100_002_lines_runs_to_its_end(rt: HostRuntime) -> Result<(), Fail> 
     Ok(())
 }
 
-// A text of so many bytes between two others.
+// A text of `length` bytes between two others.
 fn between(
     alloc: Global,
     before: &[u8],
@@ -45,7 +45,7 @@ fn between(
     Ok(text)
 }
 
-// A script of a remark and of a memo's text, each of so many bytes.
+// A script of a remark and of a memo's text, each of `length` bytes.
 fn long_lines(alloc: Global, length: usize) -> Result<Vec<u8>, AllocError> {
     let mut script = between(alloc, b"* ", length, b"\nUSE T EXCLUSIVE\n")?;
     let memo = between(alloc, b"MEMO NOTE WITH \"", length, b"\"\n? NOTE\n")?;

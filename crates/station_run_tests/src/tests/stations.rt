@@ -82,7 +82,7 @@ impl Gate for Meeting {
     fn after(&self, _station: u32, _line: u64) {}
 }
 
-// Runs the scripts on a catalogue of one table for so many stations.
+// Runs the scripts on a catalogue of one table for `stations` stations.
 pub(super) fn run_on<G: Gate + Sync, R: Threads + Wait + Sync>(
     rt: &R,
     alloc: Global,
