@@ -1,8 +1,9 @@
 -- What can be written.
-use Rattle.std.specs.Prelude.{nat_lt, nat_le, ◌&&◌, not, Bool, true}
-use Rattle.dbf_image.specs.declared.format.TheConstants.{FIRST_YEAR, LAST_YEAR}
+use Rattle.std.specs.Prelude.{◌≡◌, nat_lt, Bool, false}
+use Rattle.std.proofs.Props.{props}
 use Rattle.dbf_image.specs.Table.{Table}
 use Rattle.dbf_image.specs.Blocks.{next_free}
+use Rattle.dbf_image.specs.Image.{IsOutside}
 use Rattle.station_files.specs.declared.content.Content.{Content}
 use Rattle.station_files.specs.declared.content.Content.TheVariants.{Table as OfTable, Memos, Index as OfIndex, Text}
 
@@ -10,9 +11,16 @@ use Rattle.station_files.specs.declared.content.Content.TheVariants.{Table as Of
 abbrev pub has_too_many : Table → Bool
 has_too_many table = nat_lt 4294967295 (next_free table)
 
--- a header can tell the year, and 32 bits count the blocks
-abbrev pub is_writable : Content → Bool
-is_writable (OfTable table day) = (nat_le FIRST_YEAR day.year && nat_le day.year LAST_YEAR) && not (has_too_many table.now)
-is_writable (Memos table) = not (has_too_many table.now)
-is_writable (OfIndex index) = true
-is_writable (Text text) = true
+-- it can be written: a header can tell the year of a table's date, and 32 bits count the blocks of its memos
+abbrev pub IsWritable : Content → Type 0
+IsWritable (OfTable table day) = ¬ IsOutside day.year × (has_too_many table.now ≡ false)
+IsWritable (Memos table) = has_too_many table.now ≡ false
+IsWritable (OfIndex index) = Unit {0}
+IsWritable (Text text) = Unit {0}
+
+-- there is one proof of it at most
+pub IsWritable-prop : (content : Content) → IsProp (IsWritable content)
+IsWritable-prop (OfTable table day) = hlevel props
+IsWritable-prop (Memos table) = hlevel props
+IsWritable-prop (OfIndex index) = hlevel props
+IsWritable-prop (Text text) = hlevel props

@@ -3,13 +3,12 @@
 
 ghost use Rattle.std.specs.Prelude.{◌≡◌, ◌≢◌, ◌+◌, ◌<◌, ◌≤◌, ◌↔◌, ◌∷◌, [], ℕ, List, Err, length, map, Some, None, true, false, OnOk, OnErr, IfErr};
 ghost use Rattle.std.specs.List.{list_all, AllByRecursion};
-ghost use Rattle.dbf_image.specs.declared.format.TheConstants.{FIRST_YEAR, LAST_YEAR};
 ghost use Rattle.dbf_image.specs.Blocks.{memo_image};
 ghost use Rattle.dbf_image.specs.Image.{image, IsOutside};
 ghost use Rattle.byte_io.specs.Sink.{grown, is_byte, IsFront, Rises};
 ghost use Rattle.station_files.specs.Files.{files_in, listing, IsOfBytes};
 ghost use Rattle.station_files.specs.Closing.{bytes_of, file_named, file_of, run_files, first_blocked, listing_of_first, IsBlockedBy, IsCutBy};
-ghost use Rattle.station_files.specs.Writable.{has_too_many as has_too_many_blocks, is_writable};
+ghost use Rattle.station_files.specs.Writable.{has_too_many as has_too_many_blocks, IsWritable};
 
 use crate::close_fault::CloseFault;
 use crate::closed::ClosedTable;
@@ -44,8 +43,7 @@ pub(crate) fn first_too_many(tables: &[ClosedTable]) -> Option<usize>
 
 // Writes the file of a table.
 fn write_table<S: ByteSink>(sink: &mut S, table: &TableData, day: Day) -> Result<(), SinkFault>
-    requires low { FIRST_YEAR ≤ day.year }
-    requires high { day.year ≤ LAST_YEAR }
+    requires dated { ¬ IsOutside day.year }
     requires blocks_fit { has_too_many_blocks table.now ≡ false }
     ensures wrote { OnOk result (S.written sink.new ≡ grown (S.written sink.old) (image table.now day.year day.month day.day)) }
     ensures no_failure { OnOk result (S.failures sink.new ≡ S.failures sink.old) }
@@ -75,7 +73,7 @@ pub(crate) fn write_content<S: ByteSink>(
     sink: &mut S,
     content: &Content<'_>,
 ) -> Result<(), SinkFault>
-    requires can { is_writable content.now ≡ true }
+    requires can { IsWritable content.now }
     ensures wrote { OnOk result (S.written sink.new ≡ grown (S.written sink.old) (bytes_of content.now)) }
     ensures no_failure { OnOk result (S.failures sink.new ≡ S.failures sink.old) }
     ensures failed { OnErr result (Rises (S.failures sink.old) (S.failures sink.new)) }
@@ -97,7 +95,7 @@ fn write_file<F: Folder>(
     name: &[u8],
     content: &Content<'_>,
 ) -> Result<(), SinkFault>
-    requires can { is_writable content.now ≡ true }
+    requires can { IsWritable content.now }
     ensures wrote { OnOk result (F.written folder.new ≡ grown (F.written folder.old) (listing (file_named name.now content.now ∷ []))) }
     ensures no_failure { OnOk result (F.failures folder.new ≡ F.failures folder.old) }
     ensures failed { OnErr result (Rises (F.failures folder.old) (F.failures folder.new)) }

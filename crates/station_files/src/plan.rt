@@ -1,7 +1,7 @@
 //! The files that a run will write, in their order.
 
 ghost use Rattle.std.specs.Prelude.{◌≡◌, ◌++◌, ◌≤◌, ◌∷◌, [], IfOk, OnOk, false, map, None};
-ghost use Rattle.dbf_image.specs.declared.format.TheConstants.{FIRST_YEAR, LAST_YEAR};
+ghost use Rattle.dbf_image.specs.Image.{IsOutside};
 ghost use Rattle.dbf_image.specs.Table.{has_memos as some_memo};
 ghost use Rattle.station_files.specs.Closing.{file_of, dbf_file, memo_files, index_file, table_files, tables_files, answer_files, run_files, answer_name, first_blocked};
 ghost use Rattle.station_files.specs.Writable.{has_too_many};
@@ -44,8 +44,7 @@ fn plan_records<'a>(
     closed: &'a ClosedTable,
     day: Day,
 ) -> Result<(), AllocError>
-    requires low { FIRST_YEAR ≤ day.year }
-    requires high { day.year ≤ LAST_YEAR }
+    requires dated { ¬ IsOutside day.year }
     requires blocks_fit { has_too_many closed.now.content ≡ false }
     ensures files { OnOk result (map file_of planned.new.items ≡ map file_of planned.old.items ++ dbf_file day.year day.month day.day closed.now ∷ []) }
 {
@@ -110,8 +109,7 @@ fn plan_table<'a>(
     closed: &'a ClosedTable,
     day: Day,
 ) -> Result<(), AllocError>
-    requires low { FIRST_YEAR ≤ day.year }
-    requires high { day.year ≤ LAST_YEAR }
+    requires dated { ¬ IsOutside day.year }
     requires blocks_fit { has_too_many closed.now.content ≡ false }
     ensures files { OnOk result (map file_of planned.new.items ≡ map file_of planned.old.items ++ table_files day.year day.month day.day closed.now) }
 {
@@ -128,8 +126,7 @@ fn plan_tables<'a>(
     tables: &'a [ClosedTable],
     day: Day,
 ) -> Result<(), AllocError>
-    requires low { FIRST_YEAR ≤ day.year }
-    requires high { day.year ≤ LAST_YEAR }
+    requires dated { ¬ IsOutside day.year }
     requires blocks_fit { first_blocked 1 tables.now ≡ None }
     ensures files { OnOk result (map file_of planned.new.items ≡ map file_of planned.old.items ++ tables_files day.year day.month day.day tables.now) }
 {
@@ -165,8 +162,7 @@ pub(crate) fn plan_files<'a>(
     answers: &'a [Bytes],
     day: Day,
 ) -> Result<Vec<Planned<'a>>, AllocError>
-    requires low { FIRST_YEAR ≤ day.year }
-    requires high { day.year ≤ LAST_YEAR }
+    requires dated { ¬ IsOutside day.year }
     requires blocks_fit { first_blocked 1 tables.now ≡ None }
     ensures files { IfOk result (λ planned. map file_of planned.items ≡ run_files day tables.now answers.now) }
 {

@@ -1,7 +1,6 @@
 //! A file that will be written.
 
-ghost use Rattle.std.specs.Prelude.{◌≡◌, true};
-ghost use Rattle.station_files.specs.Writable.{is_writable};
+ghost use Rattle.station_files.specs.Writable.{IsWritable, IsWritable-prop};
 
 use crate::content::Content;
 use dbf_fields::Bytes;
@@ -13,5 +12,5 @@ pub(crate) struct Planned<'a> {
     pub name: Bytes,
     /// Its content.
     pub content: Content<'a>,
-    ghost writable: { is_writable content ≡ true },
+    ghost writable: { IsWritable content } by { IsWritable-prop content },
 }
