@@ -1,4 +1,5 @@
 pub mod LoadLaws
+pub mod TablesFirst
 pub mod HandingLaws
 pub mod WholeRunLaws
 pub mod TrimmedText

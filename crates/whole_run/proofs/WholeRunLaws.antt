@@ -1,17 +1,18 @@
 -- A whole run by its parts, and the faults of its writing.
 use Rattle.std.proofs.Common.{◌≡◌, ℕ, Bool, List, Option, Some, None, length, refl}
+use Rattle.dbf_fields.specs.declared.day.Day.{Day}
 use Rattle.dbf_image.specs.Image.{IsOutside}
 use Rattle.catalogue_core.specs.Replay.{History, IsLegal, AreOfStations}
 use Rattle.station_files.specs.declared.close_fault.CloseFault.{CloseFault}
 use Rattle.station_files.specs.declared.close_fault.CloseFault.TheVariants.{DateOutside, TooManyBlocks, Write, NoMemory as NoMemoryToClose}
 use Rattle.station_files.specs.declared.closed.ClosedTable.{ClosedTable}
-use Rattle.station_files.specs.Closing.{first_blocked}
+use Rattle.station_files.specs.Closing.{first_blocked, run_files}
 use Rattle.station_files.specs.declared.named.NamedFile.{NamedFile}
 use Rattle.whole_run.specs.declared.fault.ServeFault.{ServeFault}
 use Rattle.whole_run.specs.declared.fault.ServeFault.TheVariants.{Setup, File, Refused, Run, Close, NoMemory}
 use Rattle.whole_run.specs.HandedOver.{AreHandedOver}
 use Rattle.whole_run.specs.Loading.{Read}
-use Rattle.whole_run.specs.WholeRun.{close_fault, IsAllRead, IsRun, IsWriteFault, IsWholeRun, IsServeFault}
+use Rattle.whole_run.specs.WholeRun.{close_fault, IsAllRead, IsRun, IsWriteFault, IsWholeRun, IsServeFault, IsCutWriting, IsCutRun}
 
 pub of_writing : (files : Option (List NamedFile)) (setup : List ℕ) (reindex : Bool) (year : ℕ) (fault : ServeFault) (tables : List ClosedTable) (answers : List (List ℕ)) (count : ℕ)
     → IsWholeRun files setup reindex tables answers count → IsWriteFault year tables fault → IsServeFault files setup reindex year fault
@@ -38,3 +39,16 @@ pub whole_run : (files : Option (List NamedFile)) (setup : List ℕ) (reindex : 
     → IsAllRead files setup read → IsRun reindex read h answers → IsLegal h.opened h.journal → AreOfStations h.opened h.journal → AreHandedOver h tables → IsWholeRun files setup reindex tables answers (length h.journal)
 whole_run files setup reindex read h tables answers all run legal of_stations handed =
     record { read = read; history = h; all = all; run = run; legal = legal; of_stations = of_stations; handed = handed; counted = refl }
+
+-- the run of which a file could not be written
+pub cut_run : (files : Option (List NamedFile)) (setup : List ℕ) (reindex : Bool) (today : Day) (tables : List ClosedTable) (answers : List (List ℕ)) (count : ℕ) (old new : Option (List ℕ)) (fault : ServeFault)
+    → IsWholeRun files setup reindex tables answers count → IsCutWriting (run_files today tables answers) old new fault → IsCutRun files setup reindex today old new fault
+cut_run files setup reindex today tables answers count old new (Close (Write name)) run h = (tables, answers, count, run, h)
+cut_run files setup reindex today tables answers count old new (Close DateOutside) run h = tt
+cut_run files setup reindex today tables answers count old new (Close (TooManyBlocks number)) run h = tt
+cut_run files setup reindex today tables answers count old new (Close NoMemoryToClose) run h = tt
+cut_run files setup reindex today tables answers count old new NoMemory run h = tt
+cut_run files setup reindex today tables answers count old new (Setup number) run h = tt
+cut_run files setup reindex today tables answers count old new (File path why) run h = tt
+cut_run files setup reindex today tables answers count old new (Refused why) run h = tt
+cut_run files setup reindex today tables answers count old new (Run why) run h = tt

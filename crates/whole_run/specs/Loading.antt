@@ -1,10 +1,12 @@
 -- What is read for a run: the files that the entries of a setup name.
-use Rattle.std.specs.Prelude.{◌≡◌, ◌≢◌, ◌⊎◌, ℕ, List, [], ◌∷◌, ◌++◌, Option, Some, None, bytes_eq, slice_get, slice_set, take}
+use Rattle.std.specs.Prelude.{◌≡◌, ◌≢◌, ◌⊎◌, ℕ, List, [], ◌∷◌, ◌++◌, Option, Some, None, IsSome, bytes_eq, slice_get, slice_set, take}
 use Rattle.std.specs.List.{position}
+use Rattle.dbf_image.specs.declared.fault.ImageFault.{ImageFault}
 use Rattle.dbf_image.specs.declared.fault.ImageFault.TheVariants.{NoMemory as NoRoomForImage}
 use Rattle.dbf_image.specs.DbfText.{IsDbf}
 use Rattle.dbf_image.specs.Reading.{IsImageRefusal}
 use Rattle.byte_io.specs.Sink.{Rises}
+use Rattle.ndx_index.specs.declared.fault.NdxFault.{NdxFault}
 use Rattle.ndx_index.specs.declared.fault.NdxFault.TheVariants.{NoMemory as NoRoomForIndex}
 use Rattle.ndx_index.specs.Header.{IsIndex, HasNdxFault}
 use Rattle.catalogue_core.specs.declared.source.IndexSource.{IndexSource}
@@ -63,16 +65,24 @@ pub record HasOneMore (index : IndexSource) (old new : TableSource) : Type 0 whe
   pub content : new.content ≡ old.content
   pub indexes : new.indexes.items ≡ old.indexes.items ++ index ∷ []
 
--- the table at this place, where there is one, has got one more index
-abbrev pub HasIndexAt : Option ℕ → IndexSource → List TableSource → List TableSource → Type 0
-HasIndexAt None index old new = new ≡ old
-HasIndexAt (Some place) index old new =
-    (table : TableSource) × (changed : TableSource) × (slice_get old place ≡ Some table) × HasOneMore index table changed × (new ≡ slice_set old place changed)
+-- where the first table of a name stands
+abbrev pub first_named : List ℕ → List TableSource → Option ℕ
+first_named name tables = position (λ t. bytes_eq name t.name) tables
 
--- The first table of the name has got one more index. (Where no table has the name nothing changes; in a setup
--- an index stands after its table.)
-abbrev pub HasIndex : List ℕ → IndexSource → List TableSource → List TableSource → Type 0
-HasIndex name index old new = HasIndexAt (position (λ t. bytes_eq name t.name) old) index old new
+-- the first table of the name has got one more index
+pub record HasIndex (name : List ℕ) (index : IndexSource) (old new : List TableSource) : Type 0 where
+  pub place : ℕ
+  pub table : TableSource
+  pub changed : TableSource
+  pub first : first_named name old ≡ Some place
+  pub there : slice_get old place ≡ Some table
+  pub one_more : HasOneMore index table changed
+  pub others : new ≡ slice_set old place changed
+
+-- an index can be loaded only after its table
+abbrev pub CanLoad : List TableSource → SetupEntry → Type 0
+CanLoad tables (Index table name ndx) = IsSome (first_named table tables)
+CanLoad tables entry = Unit {0}
 
 -- what an entry adds to what was read
 abbrev pub Loads : Option (List NamedFile) → SetupEntry → Read → Read → Type 0
@@ -86,6 +96,22 @@ LoadAll files [] old new = new ≡ old
 LoadAll files (entry ∷ entries) old new = (next : Read) × Loads files entry old next × LoadAll files entries next new
 
 -- ---- why an entry's files are not read
+
+-- a memo file is named and can't be read, or memory is refused
+abbrev pub IsMemoFault : Option (List ℕ) → ServeFault → Type 0
+IsMemoFault dbt fault = (fault ≡ NoMemory) ⊎ ((path : List ℕ) × (dbt ≡ Some path) × (fault ≡ File path CannotRead))
+
+-- the bytes of the file of this path are refused as a table's, with these memos, or memory is
+abbrev pub IsTableFault : List ℕ → List ℕ → Option (List ℕ) → ServeFault → Type 0
+IsTableFault path bytes memo fault =
+    (fault ≡ NoMemory)
+    ⊎ ((why : ImageFault) × (why ≢ NoRoomForImage) × IsImageRefusal why bytes memo × (fault ≡ File path (Image why)))
+
+-- the bytes of the file of this path are refused as an index's, or memory is
+abbrev pub IsIndexFault : List ℕ → List ℕ → ServeFault → Type 0
+IsIndexFault path bytes fault =
+    (fault ≡ NoMemory)
+    ⊎ ((why : NdxFault) × (why ≢ NoRoomForIndex) × HasNdxFault bytes why × (fault ≡ File path (Ndx why)))
 
 -- the entry names the path; of a table's two files the DBF is loaded first, and the DBT only where it was found
 abbrev pub IsPathIn : Option (List NamedFile) → SetupEntry → List ℕ → Type 0

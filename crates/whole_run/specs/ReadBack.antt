@@ -1,5 +1,6 @@
 -- What a run has written, read and opened again.
-use Rattle.std.specs.Prelude.{◌≡◌, ℕ, ◌+◌, ◌-◌, ◌<◌, ◌≤◌, Bool, List, [], ◌∷◌, length, map, slice_get, Option, Some, None, Result, Ok, Err, if◌then◌else◌}
+use Rattle.std.specs.Prelude.{◌≡◌, ◌↔◌, ℕ, ◌+◌, ◌-◌, ◌<◌, ◌≤◌, Bool, List, [], ◌∷◌, length, map, slice_get, Option, Some, None, Result, Ok, Err, if◌then◌else◌}
+use Rattle.dbf_fields.specs.declared.day.Day.{Day}
 use Rattle.dbf_image.specs.Table.{Table, has_memos}
 use Rattle.dbf_image.specs.Image.{image}
 use Rattle.dbf_image.specs.Blocks.{memo_image}
@@ -18,9 +19,11 @@ use Rattle.catalogue_core.specs.Opening.{IsFresh, Opening}
 use Rattle.catalogue_core.specs.Replay.{History, names_of}
 use Rattle.catalogue_core.specs.Tables.{NamedTable}
 use Rattle.station_files.specs.declared.closed.ClosedTable.{ClosedTable}
+use Rattle.station_files.specs.declared.named.NamedFile.{NamedFile}
 use Rattle.station_files.specs.ClosedIndex.{IndexContent}
 use Rattle.station_files.specs.Closing.{index_bytes}
-use Rattle.whole_run.specs.HandedOver.{end_of}
+use Rattle.whole_run.specs.HandedOver.{end_of, index_of}
+use Rattle.whole_run.specs.WholeRun.{IsServed}
 
 -- ---- an index
 
@@ -39,6 +42,15 @@ pub record IsFileFor (table : Table) (index : Indexed) (file : NdxFile) : Type 0
 -- the file of memos that is written of a table, where a field is a memo
 abbrev pub memos_of : Table → Option (List ℕ)
 memos_of table = if has_memos table.schema then Some (memo_image table) else None
+
+-- the files that are written of a table, on any day, are those of this table and of no other
+abbrev pub TableReadsBack : Table → Type 0
+TableReadsBack table = (year month day : ℕ) (read : Table) → IsDbf (image table year month day) (memos_of table) read ↔ (read ≡ table)
+
+-- whatever is read from the file that is written of an index of this table is a file of this index
+abbrev pub IndexReadsBack : Table → Indexed → Type 0
+IndexReadsBack table index =
+    (file : NdxFile) → IsIndex (index_bytes (index_of table index)) file.expr file.key_len file.pairs.items → IsFileFor table index file
 
 -- an index is read from the file that was written of it
 pub record IsIndexReadBack (index : IndexContent) (source : IndexSource) : Type 0 where
@@ -96,3 +108,9 @@ OpenAsLeft h tables =
     (year month day : ℕ) (sources : List TableSource) → AreTablesReadBack year month day tables sources
     → (reindex : Bool) (stations : ℕ) (outcome : Result (List NamedTable) OpenFault) → 1 ≤ stations → stations ≤ MAX_STATIONS
     → Opening reindex stations sources outcome → IsReopened h outcome
+
+-- what a run of this setup over these files has written opens as the run left it
+abbrev pub RunReadsBack : Option (List NamedFile) → List ℕ → Type 0
+RunReadsBack files setup =
+    (reindex : Bool) (today : Day) (old new : Option (List ℕ)) (count : ℕ) (served : IsServed files setup reindex today old new count)
+    → OpenAsLeft served.run.history served.tables

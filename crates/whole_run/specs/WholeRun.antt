@@ -1,5 +1,6 @@
 -- A whole run, from a setup and its files to the files that are written.
 use Rattle.std.specs.Prelude.{◌≡◌, ◌≢◌, ◌⊎◌, ℕ, Bool, List, length, Option, Some, None, Result, Ok, Err}
+use Rattle.dbf_fields.specs.declared.day.Day.{Day}
 use Rattle.dbf_image.specs.Image.{IsOutside}
 use Rattle.byte_io.specs.Sink.{grown}
 use Rattle.catalogue_core.specs.declared.opening.OpenFault.{OpenFault}
@@ -19,7 +20,7 @@ use Rattle.whole_run.specs.declared.fault.FileFault.{FileFault}
 use Rattle.whole_run.specs.declared.fault.FileFault.TheVariants.{CannotRead}
 use Rattle.whole_run.specs.declared.fault.ServeFault.{ServeFault}
 use Rattle.whole_run.specs.declared.fault.ServeFault.TheVariants.{Setup, File, Refused, Run, Close, NoMemory}
-use Rattle.station_files.specs.Closing.{first_blocked, run_files}
+use Rattle.station_files.specs.Closing.{first_blocked, run_files, IsCutAt, IsCutBy}
 use Rattle.station_files.specs.Files.{IsFileOf, listing}
 use Rattle.whole_run.specs.HandedOver.{AreHandedOver}
 use Rattle.whole_run.specs.Loading.{Read, nothing, LoadAll, IsFaultIn}
@@ -99,10 +100,15 @@ IsWriteFault year tables (Close (TooManyBlocks number)) = first_blocked 1 tables
 IsWriteFault year tables (Close (Write name)) = Unit {0}
 IsWriteFault year tables fault = ⊥
 
+-- where one of these files could not be written, those before it are whole; of other faults nothing is said
+abbrev pub IsCutWriting : List NamedFile → Option (List ℕ) → Option (List ℕ) → ServeFault → Type 0
+IsCutWriting files old new (Close fault) = IsCutBy files old new fault
+IsCutWriting files old new fault = Unit {0}
+
 -- ---- the whole
 
--- what the setup names was read, the scripts were run, and these are the tables and answers whose files are to be
--- written, and the number of commands
+-- what the setup names was read, the scripts were run, and these are the tables and answers that are left, and
+-- the number of commands
 pub record IsWholeRun (files : Option (List NamedFile)) (setup : List ℕ) (reindex : Bool) (tables : List ClosedTable) (answers : List (List ℕ)) (count : ℕ) : Type 0 where
   pub read : Read
   pub history : History
@@ -115,12 +121,12 @@ pub record IsWholeRun (files : Option (List NamedFile)) (setup : List ℕ) (rein
 
 -- A whole run came to its end: these are its tables and answers, none of the tables has more blocks than its file can
 -- have, and their files stand after what was written before.
-pub record IsServed (files : Option (List NamedFile)) (setup : List ℕ) (reindex : Bool) (year month day : ℕ) (old new : Option (List ℕ)) (count : ℕ) : Type 0 where
+pub record IsServed (files : Option (List NamedFile)) (setup : List ℕ) (reindex : Bool) (today : Day) (old new : Option (List ℕ)) (count : ℕ) : Type 0 where
   pub tables : List ClosedTable
   pub answers : List (List ℕ)
   pub run : IsWholeRun files setup reindex tables answers count
   pub few_blocks : first_blocked 1 tables ≡ None
-  pub written : new ≡ grown old (listing (run_files year month day tables answers))
+  pub written : new ≡ grown old (listing (run_files today tables answers))
 
 -- why a whole run does not come to its end
 abbrev pub IsServeFault : Option (List NamedFile) → List ℕ → Bool → ℕ → ServeFault → Type 0
@@ -131,3 +137,9 @@ IsServeFault files setup reindex year (Refused fault) = (read : Read) × IsAllRe
 IsServeFault files setup reindex year (Run fault) = (read : Read) × IsAllRead files setup read × IsRunFault reindex read (Run fault)
 IsServeFault files setup reindex year (Close fault) =
     (tables : List ClosedTable) × (answers : List (List ℕ)) × (count : ℕ) × IsWholeRun files setup reindex tables answers count × IsWriteFault year tables (Close fault)
+
+-- a whole run of which a file could not be written: those before it are whole; of other faults nothing is said
+abbrev pub IsCutRun : Option (List NamedFile) → List ℕ → Bool → Day → Option (List ℕ) → Option (List ℕ) → ServeFault → Type 0
+IsCutRun files setup reindex today old new (Close (Write name)) =
+    (tables : List ClosedTable) × (answers : List (List ℕ)) × (count : ℕ) × IsWholeRun files setup reindex tables answers count × IsCutAt name old new (run_files today tables answers)
+IsCutRun files setup reindex today old new fault = Unit {0}

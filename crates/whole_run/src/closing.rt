@@ -23,8 +23,8 @@ fn closed_index(alloc: Global, table: &Table, number: usize) -> Result<ClosedInd
 {
     let name = table.index_name(number).copy(alloc)?;
     let expr = table.expr(number);
-    // This call tells contracts that the expression keeps the rules on fields.
-    let _text = expr.text();
+    // For contracts alone: the expression was read for the table's fields.
+    let _ = expr.text();
     let expr = expr.copy(alloc)?;
     let pairs = table.index_pairs(alloc, number)?;
     // A pair for each record, and so no more than a file can have.
@@ -44,7 +44,7 @@ fn closed_indexes(alloc: Global, table: &Table) -> Result<Vec<ClosedIndex>, Allo
     Ok(indexes)
 }
 
-// A table under its name, as it is to be written.
+// A table under its name, with its indexes, for the writing of its files.
 fn closed_table(alloc: Global, name: Bytes, table: Table) -> Result<ClosedTable, AllocError>
     ensures named { IfOk result (λ closed. closed.name ≡ name) }
     ensures content { IfOk result (λ closed. closed.content ≡ table.content.table) }
@@ -52,8 +52,8 @@ fn closed_table(alloc: Global, name: Bytes, table: Table) -> Result<ClosedTable,
     ensures table { OnOk result (IsTable table.content.table) }
     ensures read { OnOk result (AllByRecursion (IsIndexFor table.content.table.schema) table.content.indexes) }
 {
-    // This call tells contracts what is true of every table.
-    let _count = table.record_count();
+    // For contracts alone: what is true of every table.
+    let _ = table.record_count();
     let indexes = closed_indexes(alloc, &table)?;
     Ok(ClosedTable {
         name,

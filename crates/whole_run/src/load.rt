@@ -1,13 +1,12 @@
 //! Reading what the entries of a setup name.
 
-ghost use Rattle.std.specs.Prelude.{◌≡◌, ◌≢◌, ◌⊎◌, ◌<◌, ℕ, List, length, Some, IfOk, IfErr, IfSome, OnOk, bytes_eq};
-ghost use Rattle.std.specs.List.{position};
+ghost use Rattle.std.specs.Prelude.{◌≡◌, ◌⊎◌, ◌<◌, ℕ, List, length, IfOk, IfErr, IfSome, IsSome, OnOk};
 ghost use Rattle.dbf_image.specs.DbfText.{IsDbf};
-ghost use Rattle.dbf_image.specs.Reading.{IsImageRefusal};
-ghost use Rattle.ndx_index.specs.Header.{IsIndex, HasNdxFault};
+ghost use Rattle.ndx_index.specs.Header.{IsIndex};
 ghost use Rattle.station_lines.specs.declared.setup.entry.SetupEntry.TheVariants.{Table, Index};
+ghost use Rattle.station_lines.specs.Setup.{IndexesFollowTables};
 ghost use Rattle.station_files.specs.Files.{IsFileOf};
-ghost use Rattle.whole_run.specs.Loading.{nothing, read_of, IsMemoFileOf, IsTableRead, IsIndexRead, HasIndex, Loads, LoadAll, IsEntryFault, IsFailure, IsFaultIn};
+ghost use Rattle.whole_run.specs.Loading.{nothing, read_of, first_named, IsMemoFileOf, IsTableRead, IsIndexRead, HasIndex, CanLoad, Loads, LoadAll, IsMemoFault, IsTableFault, IsIndexFault, IsEntryFault, IsFailure, IsFaultIn};
 
 use crate::fault::{FileFault, ServeFault};
 use crate::loaded::Loaded;
@@ -56,7 +55,7 @@ fn load_memos<S: Source>(
 ) -> Result<Option<Bytes>, ServeFault>
     ensures found { IfOk result (λ memo. IsMemoFileOf (S.files source.old) dbt.now memo) }
     ensures kept { S.files source.new ≡ S.files source.old }
-    ensures fault { IfErr result (λ fault. (fault ≡ ServeFault.NoMemory) ⊎ ((path : List ℕ) × (dbt.now ≡ Some path) × (fault ≡ ServeFault.File path FileFault.CannotRead))) }
+    ensures fault { IfErr result (IsMemoFault dbt.now) }
     ensures loads { OnOk result (S.failures source.new ≡ S.failures source.old) }
     ensures failure { IfErr result (IsFailure (S.files source.old) (S.failures source.old) (S.failures source.new)) }
 {
@@ -74,7 +73,7 @@ fn read_content(
     dbt: &Option<Bytes>,
 ) -> Result<TableData, ServeFault>
     ensures read { IfOk result (IsDbf dbf dbt.now) }
-    ensures fault { IfErr result (λ fault. (fault ≡ ServeFault.NoMemory) ⊎ ((why : ImageFault) × (why ≢ ImageFault.NoMemory) × IsImageRefusal why dbf dbt.now × (fault ≡ ServeFault.File path.now (FileFault.Image why)))) }
+    ensures fault { IfErr result (IsTableFault path.now dbf dbt.now) }
 {
     let memos = match dbt {
         None => None,
@@ -90,7 +89,7 @@ fn read_content(
 // The index of the bytes of its file.
 fn read_index(alloc: Global, path: &Bytes, bytes: &Bytes) -> Result<NdxFile, ServeFault>
     ensures read { IfOk result (λ file. IsIndex bytes.now file.expr file.key_len file.pairs.items) }
-    ensures fault { IfErr result (λ fault. (fault ≡ ServeFault.NoMemory) ⊎ ((why : NdxFault) × (why ≢ NdxFault.NoMemory) × HasNdxFault bytes.now why × (fault ≡ ServeFault.File path.now (FileFault.Ndx why)))) }
+    ensures fault { IfErr result (IsIndexFault path.now bytes.now) }
 {
     match read_ndx(alloc, bytes.as_slice()) {
         Ok(file) => Ok(file),
@@ -145,36 +144,36 @@ fn load_index<S: Source>(
 
 // The place of the first table of a name.
 fn place_of(tables: &[TableSource], name: &Bytes) -> Option<usize>
-    ensures value { result ≡ position (λ t. bytes_eq name.now t.name) tables.now }
+    ensures value { result ≡ first_named name.now tables.now }
     ensures inside { IfSome result (λ place. place < length tables.now) }
 {
     tables.iter().position(|table| *name == table.name)
 }
 
-// Adds an index to the first table of a name.
+// Adds an index to the first table of a name, which has been loaded.
 fn add_index(
     tables: &mut Vec<TableSource>,
     table: &Bytes,
     index: IndexSource,
 ) -> Result<(), AllocError>
+    requires loaded { IsSome (first_named table.now tables.old.items) }
     ensures added { OnOk result (HasIndex table.now index tables.old.items tables.new.items) }
 {
-    match place_of(tables, table) {
-        Some(place) => {
-            tables[place].indexes.push(index)?;
-            Ok(())
-        }
-        None => Ok(()),
-    }
+    let Some(place) = place_of(tables, table) else {
+        unreachable!();
+    };
+    tables[place].indexes.push(index)?;
+    Ok(())
 }
 
-// Loads and reads what an entry names.
+// Loads and reads what an entry names. The table of an index has been loaded.
 fn load_entry<S: Source>(
     alloc: Global,
     source: &mut S,
     entry: &SetupEntry,
     loaded: &mut Loaded,
 ) -> Result<(), ServeFault>
+    requires ready { CanLoad loaded.old.tables.items entry.now }
     ensures read { OnOk result (Loads (S.files source.old) entry.now (read_of loaded.old) (read_of loaded.new)) }
     ensures kept { S.files source.new ≡ S.files source.old }
     ensures fault { IfErr result (IsEntryFault (S.files source.old) entry.now) }
@@ -200,13 +199,14 @@ fn load_entry<S: Source>(
     }
 }
 
-/// Loads and reads what the entries of a setup name, entry by entry. The fault is that of the first entry whose
-/// files are not read.
+/// Loads and reads what the entries of a setup name, entry by entry; each index stands after its table. The fault is
+/// that of the first entry whose files are not read.
 pub(crate) fn load_entries<S: Source>(
     alloc: Global,
     source: &mut S,
     entries: &[SetupEntry],
 ) -> Result<Loaded, ServeFault>
+    requires tables_first { IndexesFollowTables entries.now }
     ensures read { IfOk result (λ loaded. LoadAll (S.files source.old) entries.now nothing (read_of loaded)) }
     ensures kept { S.files source.new ≡ S.files source.old }
     ensures fault { IfErr result (IsFaultIn (S.files source.old) entries.now) }

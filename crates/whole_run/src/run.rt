@@ -2,11 +2,11 @@
 
 ghost use Rattle.std.specs.Prelude.{◌≡◌, ◌≢◌, ◌⊎◌, ℕ, List, [], None, Ok, Err, IfOk, IfErr, OnOk};
 ghost use Rattle.byte_io.specs.Sink.{grown, Rises};
-ghost use Rattle.station_files.specs.declared.closed.ClosedTable.{ClosedTable as Table};
-ghost use Rattle.station_files.specs.Closing.{run_files, first_blocked, IsCutAt};
+ghost use Rattle.station_files.specs.Closing.{run_files, first_blocked};
 ghost use Rattle.station_files.specs.Files.{listing};
+ghost use Rattle.station_lines.specs.Setup.{IndexesFollowTables};
 ghost use Rattle.whole_run.specs.Loading.{read_of, IsFailure};
-ghost use Rattle.whole_run.specs.WholeRun.{IsAllRead, IsReadFault, IsRun, IsRunFault, IsWholeRun, IsServed, IsServeFault, IsSaid, IsWriteFault};
+ghost use Rattle.whole_run.specs.WholeRun.{IsAllRead, IsReadFault, IsRun, IsRunFault, IsServed, IsServeFault, IsSaid, IsWriteFault, IsCutWriting, IsCutRun};
 
 use crate::closing::closed_tables;
 use crate::fault::ServeFault;
@@ -28,6 +28,7 @@ fn read_setup<S: Source>(
     setup: &Bytes,
 ) -> Result<Vec<SetupEntry>, ServeFault>
     ensures said { IfOk result (λ entries. IsSaid (S.files source.old) setup.now (Ok entries.items)) }
+    ensures tables_first { IfOk result (λ entries. IndexesFollowTables entries.items) }
     ensures kept { S.files source.new ≡ S.files source.old }
     ensures fault { IfErr result (IsReadFault (S.files source.old) setup.now) }
     ensures loads { OnOk result (S.failures source.new ≡ S.failures source.old) }
@@ -76,13 +77,13 @@ fn write_files<F: Folder>(
     today: Day,
     folder: &mut F,
 ) -> Result<(), ServeFault>
-    ensures wrote { OnOk result (F.written folder.new ≡ grown (F.written folder.old) (listing (run_files today.year today.month today.day tables.now answers.now))) }
+    ensures wrote { OnOk result (F.written folder.new ≡ grown (F.written folder.old) (listing (run_files today tables.now answers.now))) }
     ensures blocks_fit { OnOk result (first_blocked 1 tables.now ≡ None) }
     ensures no_failure { OnOk result (F.failures folder.new ≡ F.failures folder.old) }
     ensures fault { IfErr result (λ fault. IsWriteFault today.year tables.now fault) }
     ensures no_file_begun { IfErr result (λ fault. ((name : List ℕ) → fault ≢ ServeFault.Close (CloseFault.Write name)) → folder.new ≡ folder.old) }
     ensures failed { (name : List ℕ) → result ≡ Err (ServeFault.Close (CloseFault.Write name)) → Rises (F.failures folder.old) (F.failures folder.new) }
-    ensures whole_before_fault { (name : List ℕ) → result ≡ Err (ServeFault.Close (CloseFault.Write name)) → IsCutAt name (F.written folder.old) (F.written folder.new) (run_files today.year today.month today.day tables.now answers.now) }
+    ensures whole_before_fault { IfErr result (IsCutWriting (run_files today tables.now answers.now) (F.written folder.old) (F.written folder.new)) }
 {
     Ok(close_files(alloc, tables, answers, today, folder)?)
 }
@@ -106,7 +107,7 @@ pub fn serve<S: Source, F: Folder, G: Gate + Sync, R: Threads + Wait + Sync>(
 ) -> Result<u64, ServeFault>
     // The files of the replay of a legal journal, whose commands are the scripts' lines, on what the setup names. What was
     // written opens as the run left it: see `written_files_read_back`.
-    ensures ran { IfOk result (IsServed (S.files source.old) setup.now reindex today.year today.month today.day (F.written folder.old) (F.written folder.new)) }
+    ensures ran { IfOk result (IsServed (S.files source.old) setup.now reindex today (F.written folder.old) (F.written folder.new)) }
     ensures no_failure { OnOk result (F.failures folder.new ≡ F.failures folder.old) }
     ensures kept { S.files source.new ≡ S.files source.old }
     ensures fault { IfErr result (IsServeFault (S.files source.old) setup.now reindex today.year) }
@@ -115,7 +116,7 @@ pub fn serve<S: Source, F: Folder, G: Gate + Sync, R: Threads + Wait + Sync>(
     ensures failure { IfErr result (IsFailure (S.files source.old) (S.failures source.old) (S.failures source.new)) }
     ensures no_file_begun { IfErr result (λ fault. ((name : List ℕ) → fault ≢ ServeFault.Close (CloseFault.Write name)) → folder.new ≡ folder.old) }
     ensures failed { (name : List ℕ) → result ≡ Err (ServeFault.Close (CloseFault.Write name)) → Rises (F.failures folder.old) (F.failures folder.new) }
-    ensures whole_before_fault { (name : List ℕ) → result ≡ Err (ServeFault.Close (CloseFault.Write name)) → (tables : List Table) × (answers : List (List ℕ)) × (count : ℕ) × IsWholeRun (S.files source.old) setup.now reindex tables answers count × IsCutAt name (F.written folder.old) (F.written folder.new) (run_files today.year today.month today.day tables answers) }
+    ensures whole_before_fault { IfErr result (IsCutRun (S.files source.old) setup.now reindex today (F.written folder.old) (F.written folder.new)) }
 {
     let loaded = read_all(alloc, source, setup)?;
     let outcome = run_loaded(rt, alloc, loaded, reindex, gate)?;

@@ -117,7 +117,7 @@ pub(crate) fn has_files(folder: &MemoryFolder, files: &[(&[u8], &[u8])]) -> bool
     folder.files.len() == files.len()
 }
 
-// What a folder has after a run of so many commands.
+// What a folder has after a run of `count` commands.
 fn folder_of<R: Threads + Wait + Sync>(
     rt: &R,
     alloc: Global,
@@ -345,7 +345,7 @@ fn is_unwritten(served: Result<u64, ServeFault>, name: &[u8]) -> bool {
     }
 }
 
-// What a folder has that takes so many calls, where this file can't be written.
+// What a folder has that takes `calls` calls, where the file of this name can't be written.
 fn folder_before<R: Threads + Wait + Sync>(
     rt: &R,
     alloc: Global,

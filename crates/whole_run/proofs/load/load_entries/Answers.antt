@@ -3,6 +3,7 @@ use Rattle.std.proofs.lemmas.Option.{slice_get-get_or}
 use Rattle.station_lines.specs.declared.setup.entry.SetupEntry.{SetupEntry}
 use Rattle.whole_run.specs.Loading.{read_of}
 use Rattle.whole_run.proofs.LoadLaws.{err_exit, loaded_more}
+use Rattle.whole_run.proofs.TablesFirst.{can_load}
 use Rattle.whole_run.proofs.load.load_entries.Goals as goal
 
 pub returns-in_err-load_entry-clause-fault : goal.returns-in_err-load_entry-clause-fault
@@ -24,3 +25,12 @@ loop-entry-preserved g c = record {
   kept = c.in_ok-load_entry.ensures.kept ∙ c.loop-entry.invariant.kept;
   loads = c.in_ok-load_entry.ensures.loads ∙ c.loop-entry.invariant.loads;
 }
+
+pub load_entry-requires : goal.load_entry-requires
+load_entry-requires g c =
+    let i = c.loop-entry.entry-index in
+    let entry = c.entry-item.result in
+    record {
+      ready = can_load _ c.args.entries.now i entry (read_of c.loop-entry.loaded) c.requires.tables_first
+          (slice_get-get_or c.args.entries.now i entry c.loop-entry-test.true ∙ ap (λ (e : SetupEntry). Some e) (sym c.entry-item.is)) c.loop-entry.invariant.read;
+    }

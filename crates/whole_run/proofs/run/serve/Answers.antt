@@ -3,7 +3,7 @@ use Rattle.std.specs.Prelude.{IsErrAnd}
 use Rattle.station_files.specs.declared.close_fault.CloseFault.TheVariants.{Write}
 use Rattle.whole_run.specs.declared.fault.ServeFault.TheVariants.{Close}
 use Rattle.whole_run.proofs.LoadLaws.{err_exit}
-use Rattle.whole_run.proofs.WholeRunLaws.{of_writing, whole_run}
+use Rattle.whole_run.proofs.WholeRunLaws.{of_writing, whole_run, cut_run}
 use Rattle.whole_run.proofs.run.serve.Goals as goal
 
 pub returns-in_err-write_files-clause-fault : goal.returns-in_err-write_files-clause-fault
@@ -15,13 +15,6 @@ pub returns-in_err-write_files-clause-no_file_begun : goal.returns-in_err-write_
 returns-in_err-write_files-clause-no_file_begun g c = err_exit _ _ c.from_residual-in_err-write_files.ensures.1 c.in_err-write_files.ensures.no_file_begun
 
 pub returns-in_err-write_files-clause-whole_before_fault : goal.returns-in_err-write_files-clause-whole_before_fault
-returns-in_err-write_files-clause-whole_before_fault g c name e =
-    let fault = c.in_err-write_files.field-0.0 in
+returns-in_err-write_files-clause-whole_before_fault g c =
     let whole = whole_run _ _ _ _ _ _ _ c.in_ok-loaded.ensures.read c.in_ok-outcome.ensures.ran c.entry_count-count.ensures.legal c.entry_count-count.ensures.of_stations c.in_ok-tables.ensures.value in
-    let same : Close (Write name) ≡ fault = subst (λ r. IsErrAnd r (λ y. y ≡ fault)) e c.from_residual-in_err-write_files.ensures.1 in (
-      c.in_ok-tables.tables.items,
-      c.in_ok-outcome.outcome.answers.items,
-      length c.in_ok-outcome.outcome.closed.journal,
-      whole,
-      rw c.deref.ensures.value at (rw c.deref-2.ensures.value at (c.in_err-write_files.ensures.whole_before_fault name (ap Err (sym same)))),
-    )
+    err_exit _ _ c.from_residual-in_err-write_files.ensures.1 (cut_run _ _ _ c.args.today _ _ _ _ _ _ whole (rw c.deref.ensures.value at (rw c.deref-2.ensures.value at c.in_err-write_files.ensures.whole_before_fault)))
