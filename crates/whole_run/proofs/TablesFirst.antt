@@ -1,5 +1,5 @@
 -- The table of an index has been loaded before it, where each index's entry stands after its table's.
-use Rattle.std.proofs.Common.{◌≡◌, ℕ, zero, suc, ◌+◌, ◌<◌, Bool, true, false, not, cond, List, [], ◌∷◌, ◌++◌, length, take, Option, Some, None, refl, sym, ap, ◌∙◌, arith}
+use Rattle.std.proofs.Common.{◌≡◌, ℕ, zero, suc, ◌+◌, ◌<◌, Bool, true, false, not, cond, List, [], ◌∷◌, length, take, Option, Some, None, refl, sym, ap, ◌∙◌, arith}
 use Rattle.std.specs.Prelude.{◌⊎◌, ◌||◌, IsSome, bytes_eq, nat_lt, slice_get, slice_set}
 use mathlib.Core.Logic.{inl, inr}
 use Rattle.std.specs.List.{list_any, position, position_or_len}

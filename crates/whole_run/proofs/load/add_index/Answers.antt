@@ -1,4 +1,4 @@
-use Rattle.std.proofs.Common.{◌≡◌, Option, Some, ap, sym, refl, ◌∙◌}
+use Rattle.std.proofs.Common.{Some, ap, sym, refl, ◌∙◌}
 use Rattle.std.proofs.lemmas.Option.{slice_get-get_or}
 use Rattle.catalogue_core.specs.declared.source.TableSource.{TableSource}
 use Rattle.whole_run.proofs.load.add_index.Goals as goal

@@ -1,7 +1,3 @@
-use Rattle.std.proofs.Common.{◌≡◌, Err, ap, length, sym, subst}
-use Rattle.std.specs.Prelude.{IsErrAnd}
-use Rattle.station_files.specs.declared.close_fault.CloseFault.TheVariants.{Write}
-use Rattle.whole_run.specs.declared.fault.ServeFault.TheVariants.{Close}
 use Rattle.whole_run.proofs.LoadLaws.{err_exit}
 use Rattle.whole_run.proofs.WholeRunLaws.{of_writing, whole_run, cut_run}
 use Rattle.whole_run.proofs.run.serve.Goals as goal
