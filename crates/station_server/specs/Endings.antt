@@ -6,6 +6,7 @@ use Rattle.std.specs.declared.io.ErrorKind.TheVariants as io
 use Rattle.clap.specs.Words.{kind_of}
 use Rattle.clap.specs.declared.error.kind.ErrorKind.{ErrorKind}
 use Rattle.clap.specs.declared.error.kind.ErrorKind.TheVariants as kind
+use Rattle.station_lines.specs.declared.script.format.TheConstants.{LF}
 use Rattle.whole_run.specs.declared.fault.ServeFault.TheVariants as serve
 use Rattle.station_server.specs.declared.program.ending.Ending.{Ending}
 use Rattle.station_server.specs.declared.program.ending.Ending.TheVariants as ended
@@ -35,15 +36,15 @@ call_status (Err ending) = ending_status ending
 
 -- on standard output where all files are written, its LF too
 abbrev pub count_line : ℕ → List ℕ
-count_line count = codes "station_server: " ++ (decimal count ++ (codes " commands" ++ 10 ∷ []))
+count_line count = codes "station_server: " ++ (decimal count ++ (codes " commands" ++ LF ∷ []))
 
 -- on standard error where standard output took no text
 abbrev pub unprinted_line : List ℕ
-unprinted_line = codes "station_server: cannot print" ++ 10 ∷ []
+unprinted_line = codes "station_server: cannot print" ++ LF ∷ []
 
 -- on standard error where an argument is no UTF-8 text
 abbrev pub no_text_line : List ℕ
-no_text_line = codes "error: an argument is no UTF-8 text" ++ 10 ∷ []
+no_text_line = codes "error: an argument is no UTF-8 text" ++ LF ∷ []
 
 -- the line for which `clap` has no text of its own: that memory was refused
 abbrev pub clap_line : ErrorKind → Option (List ℕ)

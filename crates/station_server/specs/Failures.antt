@@ -3,6 +3,7 @@ use Rattle.std.specs.Prelude.{ℕ, List, ◌++◌, ◌∷◌, [], codes}
 use Rattle.std.specs.Fmt.{decimal}
 use Rattle.station_files.specs.declared.close_fault.CloseFault.{CloseFault}
 use Rattle.station_files.specs.declared.close_fault.CloseFault.TheVariants as close
+use Rattle.station_lines.specs.declared.script.format.TheConstants.{LF}
 use Rattle.whole_run.specs.declared.fault.FileFault.{FileFault}
 use Rattle.whole_run.specs.declared.fault.FileFault.TheVariants as file
 use Rattle.whole_run.specs.declared.fault.ServeFault.{ServeFault}
@@ -57,4 +58,4 @@ reason (failure.Serve fault) = fault_reason fault
 
 -- the line that is printed, its LF too
 abbrev pub failure_line : Failure → List ℕ
-failure_line f = codes "station_server: " ++ (reason f ++ 10 ∷ [])
+failure_line f = codes "station_server: " ++ (reason f ++ LF ∷ [])

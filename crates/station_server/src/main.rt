@@ -44,7 +44,7 @@ fn read_words<R: Env + AllocGlobal>(rt: &R) -> Result<Vec<String>, Ending> {
     Ok(env::args(rt)?.collect(rt.alloc())?)
 }
 
-// The folder of the system that the new files are to go to.
+// The folder of the system for the new files.
 fn out_folder<R: Files + Drop>(
     rt: R,
     alloc: Global,

@@ -14,8 +14,8 @@ mod telling;
 #[cfg(test)]
 mod tests;
 
-pub use ending::{Ending, status_of_ending};
-pub use failure::{Failure, print_failure, status_of};
-pub use options::{Options, command, mistake_status, options_of};
-pub use serving::serve_options;
-pub use telling::{Told, fail, print_count, tell};
+pub(crate) use ending::{Ending, status_of_ending};
+pub(crate) use failure::{Failure, print_failure, status_of};
+pub(crate) use options::{Options, command, mistake_status, options_of};
+pub(crate) use serving::serve_options;
+pub(crate) use telling::{Told, fail, print_count, tell};

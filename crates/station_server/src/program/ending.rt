@@ -11,7 +11,7 @@ use whole_run::ServeFault;
 
 /// Why a call of the program did not write all files.
 #[derive(Debug, Drop)]
-pub enum Ending {
+pub(crate) enum Ending {
     /// An argument is no UTF-8 text.
     NoText,
     /// `clap` gave no options: the help is asked for, the command line is wrong, or memory was refused.
@@ -23,7 +23,7 @@ pub enum Ending {
 /// The exit status of a call of the program that did not write all files: 0 where the help is asked for, 1 where an
 /// argument, the command line, the date or the setup is bad, 2 for a file and the opening, 3 for the run and for want
 /// of memory, 4 for the writing.
-pub fn status_of_ending(ending: &Ending) -> u8
+pub(crate) fn status_of_ending(ending: &Ending) -> u8
     ensures value { result ≡ ending_status ending.now }
 {
     match ending {

@@ -13,7 +13,7 @@ use whole_run::{FileFault, ServeFault};
 
 /// Why a call of the program failed, where `clap` had nothing to object.
 #[derive(Debug, PartialEq, Eq, Drop)]
-pub enum Failure {
+pub(crate) enum Failure {
     /// The date is no calendar date of the years 1900 to 2155.
     BadDate,
     /// The whole run did not come to its end.
@@ -22,7 +22,7 @@ pub enum Failure {
 
 /// The exit status of a failure: 1 for the date and the setup, 2 for a file and the opening, 3 for the run and
 /// for want of memory, 4 for the writing.
-pub fn status_of(failure: &Failure) -> u8
+pub(crate) fn status_of(failure: &Failure) -> u8
     ensures value { result ≡ status failure.now }
 {
     match failure {
@@ -38,7 +38,7 @@ pub fn status_of(failure: &Failure) -> u8
 
 /// Prints the line that says why a call of the program failed: `station_server: `, the reason and LF. Takes no
 /// memory. An error where a write fails.
-pub fn print_failure<W: Write>(out: &mut W, failure: &Failure) -> io::Result<()>
+pub(crate) fn print_failure<W: Write>(out: &mut W, failure: &Failure) -> io::Result<()>
     ensures text { OnOk result (Appends (W.contents out.old) (W.contents out.new) (failure_line failure.now)) }
 {
     out.write_all(b"station_server: ")?;

@@ -1,11 +1,11 @@
 //! The command line.
 
 ghost use Rattle.std.specs.Prelude.{◌≡◌, ◌↔◌, codes, Some, None, true, false, IsSome, IfSome};
-ghost use Rattle.std.specs.Int.{IsInRange};
 ghost use Rattle.clap.specs.Words.{kind_of};
 ghost use Rattle.dbf_fields.specs.Date.{SaysDay};
+ghost use Rattle.dbf_image.specs.Image.{IsOutside};
 ghost use Rattle.station_server.specs.Endings.{clap_status};
-ghost use Rattle.station_server.specs.Program.{HasFlag, IsRunDate, LacksFlag, value_of};
+ghost use Rattle.station_server.specs.Program.{HasBadDate, HasFlag, HasPaths, IsRunDate, LacksFlag, value_of};
 
 use clap::error::ErrorKind;
 use clap::{Arg, ArgAction, ArgMatches, Command};
@@ -22,7 +22,7 @@ const STATUSES: &str = "Exit status:
 
 /// What the command line says.
 #[derive(Clone, Copy, Debug)]
-pub struct Options<'a> {
+pub(crate) struct Options<'a> {
     /// The path of the setup.
     pub setup: &'a str,
     /// The path of the folder that files are written to.
@@ -33,8 +33,8 @@ pub struct Options<'a> {
     pub reindex: bool,
 }
 
-/// The command line as `clap` is to read it. An error where memory is refused.
-pub fn command<'a>(alloc: Global) -> Result<Command<'a>, AllocError> {
+/// The command line, for `clap` to read. An error where memory is refused.
+pub(crate) fn command<'a>(alloc: Global) -> Result<Command<'a>, AllocError> {
     Command::new(alloc, "station_server")
         .about("Runs the scripts of stations on shared dBASE III PLUS tables")
         .after_help(STATUSES)
@@ -81,7 +81,7 @@ fn required_option<'a>(
 
 /// The exit status after a command line of which `clap` gave no options: 0 where it asks for the help, 3 where
 /// memory was refused, and else 1.
-pub fn mistake_status(error: &clap::Error) -> u8
+pub(crate) fn mistake_status(error: &clap::Error) -> u8
     ensures value { result ≡ clap_status (kind_of error.now) }
 {
     match error.kind() {
@@ -96,7 +96,7 @@ pub fn mistake_status(error: &clap::Error) -> u8
 pub(crate) fn date_of(text: &[u8]) -> Option<Day>
     ensures some { IsSome result ↔ IsRunDate text.now }
     ensures said { IfSome result (λ day. SaysDay text.now day) }
-    ensures years { IfSome result (λ day. IsInRange 1900 2155 day.year) }
+    ensures years { IfSome result (λ day. ¬ IsOutside day.year) }
 {
     match read_date(text) {
         DateCell::Is(day) => {
@@ -112,14 +112,14 @@ pub(crate) fn date_of(text: &[u8]) -> Option<Day>
 
 /// What a command line says that `clap` has read. `None` where the date is no calendar date of the years 1900
 /// to 2155. Takes no memory.
-pub fn options_of<'a>(matches: &ArgMatches<'a>) -> Option<Options<'a>>
+pub(crate) fn options_of<'a>(matches: &ArgMatches<'a>) -> Option<Options<'a>>
     ensures setup { IfSome result (λ options. value_of matches.now (codes "setup") ≡ Some options.setup.now) }
     ensures out { IfSome result (λ options. value_of matches.now (codes "out") ≡ Some options.out.now) }
     ensures today { IfSome result (λ options. IfSome (value_of matches.now (codes "today")) (λ text. SaysDay text options.today)) }
-    ensures years { IfSome result (λ options. IsInRange 1900 2155 options.today.year) }
+    ensures years { IfSome result (λ options. ¬ IsOutside options.today.year) }
     ensures reindex { IfSome result (λ options. HasFlag matches.now (codes "reindex") → options.reindex ≡ true) }
     ensures plain { IfSome result (λ options. LacksFlag matches.now (codes "reindex") → options.reindex ≡ false) }
-    ensures bad { result ≡ None → IsSome (value_of matches.now (codes "setup")) → IsSome (value_of matches.now (codes "out")) → IfSome (value_of matches.now (codes "today")) (λ text. IsRunDate text → ⊥) }
+    ensures bad { result ≡ None → HasPaths matches.now → HasBadDate matches.now }
 {
     let setup = matches.get_str("setup")?;
     let out = matches.get_str("out")?;

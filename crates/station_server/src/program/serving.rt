@@ -2,10 +2,9 @@
 
 ghost use Rattle.std.specs.Prelude.{◌≡◌, ◌≢◌, ℕ, List, Err, IfOk, IfErr, OnOk};
 ghost use Rattle.byte_io.specs.Sink.{Rises};
-ghost use Rattle.station_files.specs.declared.closed.ClosedTable.{ClosedTable as Table};
-ghost use Rattle.station_files.specs.Closing.{run_files, IsCutAt};
 ghost use Rattle.whole_run.specs.Loading.{IsFailure};
-ghost use Rattle.whole_run.specs.WholeRun.{IsServed, IsServeFault, IsWholeRun};
+ghost use Rattle.whole_run.specs.WholeRun.{IsServeFault};
+ghost use Rattle.station_server.specs.Program.{IsCutRunBy, IsServedBy};
 
 use crate::program::options::Options;
 use dbf_fields::Bytes;
@@ -19,7 +18,7 @@ use whole_run::{ServeFault, serve};
 /// Serves the whole run of a command line: of the setup of its path, on its day, and with the indexes made anew where
 /// it says so. Files are read from the source and written into the folder. The answer is how many commands were
 /// performed. See [`serve`].
-pub fn serve_options<S: Source, F: Folder, G: Gate + Sync, R: Threads + Wait + Sync>(
+pub(crate) fn serve_options<S: Source, F: Folder, G: Gate + Sync, R: Threads + Wait + Sync>(
     rt: &R,
     alloc: Global,
     options: &Options<'_>,
@@ -27,7 +26,7 @@ pub fn serve_options<S: Source, F: Folder, G: Gate + Sync, R: Threads + Wait + S
     folder: &mut F,
     gate: &G,
 ) -> Result<u64, ServeFault>
-    ensures ran { IfOk result (IsServed (S.files source.old) options.now.setup.now options.now.reindex options.now.today.year options.now.today.month options.now.today.day (F.written folder.old) (F.written folder.new)) }
+    ensures ran { IfOk result (IsServedBy (S.files source.old) options.now (F.written folder.old) (F.written folder.new)) }
     ensures no_failure { OnOk result (F.failures folder.new ≡ F.failures folder.old) }
     ensures kept { S.files source.new ≡ S.files source.old }
     ensures fault { IfErr result (IsServeFault (S.files source.old) options.now.setup.now options.now.reindex options.now.today.year) }
@@ -35,7 +34,7 @@ pub fn serve_options<S: Source, F: Folder, G: Gate + Sync, R: Threads + Wait + S
     ensures failure { IfErr result (IsFailure (S.files source.old) (S.failures source.old) (S.failures source.new)) }
     ensures no_file_begun { IfErr result (λ fault. ((name : List ℕ) → fault ≢ ServeFault.Close (CloseFault.Write name)) → folder.new ≡ folder.old) }
     ensures failed { (name : List ℕ) → result ≡ Err (ServeFault.Close (CloseFault.Write name)) → Rises (F.failures folder.old) (F.failures folder.new) }
-    ensures whole_before_fault { (name : List ℕ) → result ≡ Err (ServeFault.Close (CloseFault.Write name)) → (tables : List Table) × (answers : List (List ℕ)) × (count : ℕ) × IsWholeRun (S.files source.old) options.now.setup.now options.now.reindex tables answers count × IsCutAt name (F.written folder.old) (F.written folder.new) (run_files options.now.today.year options.now.today.month options.now.today.day tables answers) }
+    ensures whole_before_fault { IfErr result (IsCutRunBy (S.files source.old) options.now (F.written folder.old) (F.written folder.new)) }
 {
     let setup = Bytes::from_slice(alloc, options.setup.as_bytes())?;
     serve(

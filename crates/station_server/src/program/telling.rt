@@ -19,7 +19,7 @@ use whole_run::ServeFault;
 
 /// How a call of the program ends: its exit status, and whether the two streams took their texts.
 #[derive(Clone, Copy, Debug)]
-pub struct Told {
+pub(crate) struct Told {
     /// The exit status.
     pub status: ExitCode,
     /// Whether standard output took its text. Ok where there is none for it.
@@ -30,7 +30,7 @@ pub struct Told {
 
 /// Prints how many commands were performed: `station_server: N commands` and LF. Takes no memory. An error where a
 /// write fails.
-pub fn print_count<W: Write>(out: &mut W, count: u64) -> io::Result<()>
+pub(crate) fn print_count<W: Write>(out: &mut W, count: u64) -> io::Result<()>
     ensures text { OnOk result (Appends (W.contents out.old) (W.contents out.new) (count_line count)) }
 {
     write!(out, "station_server: {count} commands\n")
@@ -39,7 +39,11 @@ pub fn print_count<W: Write>(out: &mut W, count: u64) -> io::Result<()>
 /// Says how a call of the program ended, where `ended` has the number of commands or why files are not written: on
 /// standard output the number or the help, on standard error what went wrong. What a stream does not take changes no
 /// exit status. That standard output took no text is said on standard error.
-pub fn tell<O: Write, E: Write>(out: &mut O, err: &mut E, ended: &Result<u64, Ending>) -> Told
+pub(crate) fn tell<O: Write, E: Write>(
+    out: &mut O,
+    err: &mut E,
+    ended: &Result<u64, Ending>,
+) -> Told
     ensures status { exit_status result.status ≡ call_status ended.now }
     ensures count { IfOk ended.now (λ count. OnOk result.out (Appends (O.contents out.old) (O.contents out.new) (count_line count))) }
     ensures line { IfErr ended.now (λ ending. IfSome (ending_line ending) (λ line. OnOk result.err (Appends (E.contents err.old) (E.contents err.new) line))) }
@@ -91,7 +95,7 @@ fn tell_clap<O: Write, E: Write>(out: &mut O, err: &mut E, error: &clap::Error) 
 }
 
 /// Says on standard error why the program failed. Where standard error takes no text, the exit status alone tells it.
-pub fn fail<W: Write>(err: &mut W, failure: &Failure) -> Told
+pub(crate) fn fail<W: Write>(err: &mut W, failure: &Failure) -> Told
     ensures status { exit_status result.status ≡ status failure.now }
     ensures line { OnOk result.err (Appends (W.contents err.old) (W.contents err.new) (failure_line failure.now)) }
     ensures out { IsOk result.out }
