@@ -1,1 +1,5 @@
 pub mod SeatLaws
+pub mod WordLaws
+pub mod RowListLaws
+pub mod Moves
+pub mod CallLaws

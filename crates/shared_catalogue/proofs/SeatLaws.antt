@@ -1,10 +1,13 @@
 -- Lists of seats that have each station.
-use Rattle.std.proofs.Common.{◌≡◌, ◌≢◌, ◌⊎◌, ◌↔◌, ℕ, zero, suc, ◌+◌, ◌<◌, ◌≤◌, List, [], ◌∷◌, length, refl, ap, sym, ◌∙◌, subst, inl, inr, ⊎_elim, arith, zero-le}
-use Rattle.std.specs.Prelude.{Any, Result, Err, IsErrOf, slice_index_or}
+use Rattle.std.proofs.Common.{◌≡◌, ◌≢◌, ◌⊎◌, ◌↔◌, ℕ, zero, suc, ◌+◌, ◌<◌, ◌≤◌, List, [], ◌∷◌, length, refl, ap, sym, ◌∙◌, subst, inl, inr, ⊎_elim, arith, zero-le, le_of_eq}
+use Rattle.std.specs.Prelude.{Any, All, Bool, cond, ◌==◌, count_by, Result, Err, IsErrOf, slice_index_or}
 use Rattle.std.specs.List.{sum_by}
-use Rattle.std.proofs.lemmas.Bool.{cases_lt}
+use Rattle.std.proofs.lemmas.Bool.{cases_lt, cases_eq, eq-eqb, ne_eqb}
+use Rattle.std.proofs.lemmas.List.Elements.{All-nil, All-cons, All-head, All-tail, All-weaker}
 use Rattle.std.proofs.lemmas.List.Sums.{sum_by-cons}
-use Rattle.shared_catalogue.specs.Seats.{Seated, HasSeat, IsLowestMissing}
+use Rattle.catalogue_core.specs.declared.status.StatusRow.{StatusRow}
+use Rattle.shared_catalogue.specs.Seats.{Seated, HasSeat, IsLowestMissing, AgreesWith, IsWithin}
+use Rattle.shared_catalogue.specs.StatusRows.{calls_of}
 use Rattle.shared_catalogue.specs.declared.settle.SettleFault.{SettleFault}
 use Rattle.shared_catalogue.specs.declared.settle.SettleFault.TheVariants.{SeatMissing}
 
@@ -87,3 +90,62 @@ missing_here zs n a is s =
 
 pub missing_nowhere : {T : Type 0} (r : Result T SettleFault) (zs : List Seated) (n : ℕ) → ((s : ℕ) → r ≡ Err (SeatMissing s) → ⊥) → Covers zs n → (s : ℕ) → IsErrOf r (SeatMissing s) ↔ IsLowestMissing zs n s
 missing_nowhere r zs n other all s = ((λ e. absurd (other s e)), (λ is. absurd (is.2 (all s is.0 is.1))))
+
+-- ---- calls
+
+-- how many of the stations 1 to n a row names is 1 at most
+once : (m n : ℕ) → (up_to (λ s. cond (m == s) 1 0) n ≤ 1) × (n < m → up_to (λ s. cond (m == s) 1 0) n ≡ 0)
+once m zero = (zero-le, λ h. refl)
+once m (suc n) =
+    let below = once m n in
+    ⊎_elim
+    (λ (e : m ≡ suc n). let here : ◌≡◌ {A = ℕ} (cond (m == suc n) 1 0) 1 = ap (λ (b : Bool). cond b 1 0) (eq-eqb m (suc n) e) in
+    let none = below.1 (omega arith) in (omega arith, λ h. absurd (omega arith)))
+    (λ (ne : m ≢ suc n). let here : ◌≡◌ {A = ℕ} (cond (m == suc n) 1 0) 0 = ap (λ (b : Bool). cond b 1 0) (ne_eqb m (suc n) ne) in
+    let low = below.0 in (omega arith, λ h. let none = below.1 (omega arith) in omega arith))
+    (cases_eq m (suc n))
+
+up_to-add : (f g : ℕ → ℕ) (n : ℕ) → up_to (λ s. f s + g s) n ≡ up_to f n + up_to g n
+up_to-add f g zero = refl
+up_to-add f g (suc n) = let h = up_to-add f g n in omega arith
+
+up_to-same : (f g : ℕ → ℕ) (n : ℕ) → ((s : ℕ) → f s ≡ g s) → up_to f n ≡ up_to g n
+up_to-same f g zero e = refl
+up_to-same f g (suc n) e = let h = up_to-same f g n e in let k = e (suc n) in omega arith
+
+up_to-none : (n : ℕ) → up_to (λ s. 0) n ≡ 0
+up_to-none zero = refl
+up_to-none (suc n) = let h = up_to-none n in omega arith
+
+-- the calls of the stations 1 to n are no more than the rows
+named_most : (rows : List StatusRow) (n : ℕ) → up_to (λ s. count_by (λ (row : StatusRow). row.last_station == s) rows) n ≤ length rows
+named_most [] n = le_of_eq (up_to-none n)
+named_most (r ∷ rs) n =
+    let one = (once (r.last_station) n).0 in
+    let others = named_most rs n in
+    let parts = up_to-same (λ s. count_by (λ (row : StatusRow). row.last_station == s) (r ∷ rs)) (λ s. cond (r.last_station == s) 1 0 + count_by (λ (row : StatusRow). row.last_station == s) rs) n (λ s. sum_by-cons (λ (row : StatusRow). cond (row.last_station == s) 1 0) r rs) in
+    let sum = up_to-add (λ s. cond (r.last_station == s) 1 0) (λ s. count_by (λ (row : StatusRow). row.last_station == s) rs) n in
+    omega arith
+
+calls_most : (rows : List StatusRow) (n m : ℕ) → length rows ≡ suc m → up_to (calls_of rows) n ≤ m
+calls_most [] n m e = absurd (omega arith)
+calls_most (r ∷ rs) n m e = let h = named_most rs n in omega arith
+
+-- where each share is at most the calls, and the sum of the shares is at least theirs, each is the calls
+equal_each : (f : ℕ → ℕ) (zs : List Seated) → All (λ z. z.share ≤ f z.station) zs → (sum_by (λ z. z.share) zs ≤ sum_by (λ z. f z.station) zs) × (sum_by (λ z. f z.station) zs ≤ sum_by (λ z. z.share) zs → All (λ z. z.share ≡ f z.station) zs)
+equal_each f [] all = (le_of_eq refl, λ h. All-nil (λ z. z.share ≡ f z.station))
+equal_each f (z ∷ zs) all =
+    let here = All-head (λ z. z.share ≤ f z.station) z zs all in
+    let there = equal_each f zs (All-tail (λ z. z.share ≤ f z.station) z zs all) in
+    let most = there.0 in
+    let a = sum_by-cons (λ (z : Seated). z.share) z zs in
+    let b = sum_by-cons (λ (z : Seated). f z.station) z zs in
+    (omega arith, λ h. All-cons (λ z. z.share ≡ f z.station) z zs (omega arith) (there.1 (omega arith)))
+
+-- where each station has a seat, as many seats as stations are there, and the shares are the journal's length, each share is its station's calls
+pub agree : (n m : ℕ) (zs : List Seated) (rows : List StatusRow) → Covers zs n → length zs ≡ n → length rows ≡ suc m → m ≤ sum_by (λ z. z.share) zs → All (IsWithin rows) zs → All (AgreesWith rows) zs
+agree n m zs rows all many long whole told =
+    let same = (covered n zs all).1 many (calls_of rows) in
+    let most = calls_most rows n m long in
+    let each = (equal_each (calls_of rows) zs (All-weaker (IsWithin rows) (λ z. z.share ≤ calls_of rows z.station) (λ z t. t.1) zs told)).1 (omega arith) in
+    λ k d low. ((told k d low).0, each k d low)

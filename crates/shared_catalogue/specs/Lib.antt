@@ -1,2 +1,6 @@
 pub mod OwnCalls
 pub mod Seats
+pub mod RowWords
+pub mod StatusRows
+pub mod RowLaws
+pub mod Board

@@ -1,18 +1,31 @@
 -- What contracts see of a seat, and which stations have one.
 use Rattle.std.specs.Prelude.{◌≡◌, ℕ, zero, suc, ◌+◌, ◌<◌, ◌≤◌, List, [], ◌∷◌, ◌++◌, Any}
+use mathlib.Core.List.{IsPrefix}
+use Rattle.atomic_table.specs.Seated.{TableId}
+use Rattle.catalogue_core.specs.declared.status.StatusRow.{StatusRow}
+use Rattle.shared_catalogue.specs.StatusRows.{opening_row, calls_of}
 
--- the number of the station, and how many commands the seat has performed
+-- the number of the station, how many commands the seat has performed, the status rows that it knows, and how often
+-- it has looked at the board
 pub record Seated : Type 0 where
   pub station : ℕ
   pub share : ℕ
+  pub rows : List StatusRow
+  pub loads : ℕ
 
-abbrev pub seated : ℕ → ℕ → Seated
-seated station share = record { station = station; share = share }
+abbrev pub seated : ℕ → ℕ → List StatusRow → ℕ → Seated
+seated station share rows loads = record { station = station; share = share; rows = rows; loads = loads }
 
--- the name of a ledger, and how many parts it has
+-- the name of a ledger, how many parts it has, the name of a board, and the rows that its first pass knows
 pub record LotParts : Type 0 where
   pub ledger : ℕ
   pub parts : ℕ
+  pub board : TableId
+  pub rows : List StatusRow
+
+-- the name of no board
+abbrev pub no_board : TableId
+no_board = record { words = 0; slots = 0; views_name = 0; atom = 0; block = 0; offset = 0; slot_names = [] }
 
 -- some seat is the station's
 abbrev pub HasSeat : List Seated → ℕ → Type 0
@@ -22,7 +35,15 @@ HasSeat seats station = Any (λ z. z.station ≡ station) seats
 abbrev pub IsLowestMissing : List Seated → ℕ → ℕ → Type 0
 IsLowestMissing seats stations s = (1 ≤ s) × (s ≤ stations) × ¬ HasSeat seats s × ((t : ℕ) → 1 ≤ t → t < s → HasSeat seats t)
 
--- the seats of the stations 1 to n, before any command
+-- the seats of the stations 1 to n, before any command: each knows the opening row alone
 abbrev pub new_seats : ℕ → List Seated
 new_seats zero = []
-new_seats (suc n) = new_seats n ++ seated (n + 1) 0 ∷ []
+new_seats (suc n) = new_seats n ++ seated (n + 1) 0 (opening_row ∷ []) 0 ∷ []
+
+-- the rows that the seat knows are a beginning of these, and its share is the calls of its station in them
+abbrev pub AgreesWith : List StatusRow → Seated → Type 0
+AgreesWith rows z = IsPrefix z.rows rows × (z.share ≡ calls_of rows z.station)
+
+-- the rows that the seat knows are a beginning of these, and its share is no more than the calls of its station in them
+abbrev pub IsWithin : List StatusRow → Seated → Type 0
+IsWithin rows z = IsPrefix z.rows rows × (z.share ≤ calls_of rows z.station)

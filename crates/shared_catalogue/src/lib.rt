@@ -8,6 +8,7 @@
 //! Start reading at `shared.rt`; then `locked.rt` and `settle.rt`.
 #![tactic(auto)]
 
+mod board;
 mod closed;
 mod locked;
 mod lot;

@@ -1,34 +1,44 @@
-//! What is under the lock: the catalogue, and the book of its ledger.
+//! What is under the lock: the catalogue, the book of its ledger, and the writer's pass of its board.
 
-ghost use Rattle.std.specs.Prelude.{◌≡◌, ◌+◌, [], length, IfOk, OnErr, IsErrOf};
+ghost use Rattle.std.specs.Prelude.{◌≡◌, ◌+◌, [], ◌∷◌, ◌++◌, ◌<◌, length, IfOk, OnOk, OnErr, IsErrOf};
+ghost use mathlib.Core.List.{IsPrefix};
+ghost use Rattle.crossbeam_utils.specs.Seq.{cell_view};
 ghost use Rattle.catalogue_core.specs.declared.catalogue.TheConstants.{MAX_ENTRIES};
 ghost use Rattle.catalogue_core.specs.Replay.{answer_of, with_entry, IsHistoryOf};
+ghost use Rattle.shared_catalogue.specs.Board.{writer_of, first_view};
 ghost use Rattle.shared_catalogue.specs.Seats.{seated};
-ghost use Rattle.catalogue_core.specs.Status.{row};
+ghost use Rattle.shared_catalogue.specs.StatusRows.{status_rows, IsToldOfCall};
 
+use crate::board::{Board, BoardPass, Copied, Swaps, words_of_row};
 use crate::lot::Naming;
 use crate::seat::Seat;
 use catalogue_core::{Answer, Catalogue, Command, StatusRow, Stop};
 use std::alloc::Global;
 use std::marker::Model;
+use std::sync::Wait;
 use std::sync::ledger::{Book, Share};
 
 /// What is under the lock, which contracts see as the catalogue. In every value of this type the
-/// ledger's book has counted as many commands as the journal has entries, and the opened tables are
-/// those of the name.
+/// ledger's book has counted as many commands as the journal has entries, the opened tables are
+/// those of the name, and the rows of the board are those of the journal.
 #[derive(Drop)]
 pub(crate) struct LockedCatalogue<J: Naming> {
     pub(crate) catalogue: Catalogue,
     pub(crate) book: Book<J>,
     // A share of no part, into which the seats' shares are merged at the end.
     pub(crate) spare: Share<J>,
+    // The writer's pass of the board.
+    pub(crate) pass: BoardPass,
 }
 
 impl<J: Naming> Model for LockedCatalogue<J> {
     ghost use Rattle.std.specs.Prelude.{◌≡◌, length};
     ghost use Rattle.std.specs.Coded.{codes};
+    ghost use Rattle.crossbeam_utils.specs.Seq.{cell_view};
     ghost use Rattle.key_expr.specs.ExprCode.{expr_code};
     ghost use Rattle.catalogue_core.specs.Replay.{History};
+    ghost use Rattle.shared_catalogue.specs.Board.{writer_of};
+    ghost use Rattle.shared_catalogue.specs.StatusRows.{status_rows};
 
     ghost Value = { History };
 
@@ -36,21 +46,28 @@ impl<J: Naming> Model for LockedCatalogue<J> {
 
     ghost view = { λ l. l.catalogue };
 
-    ghost invariant = { λ l. (l.book.total ≡ length l.catalogue.journal) × (l.catalogue.opened ≡ J.opened) × (l.spare.parts ≡ 0) × (l.spare.amount ≡ 0) };
+    ghost invariant = { λ l. (l.book.total ≡ length l.catalogue.journal) × (l.catalogue.opened ≡ J.opened) × (l.spare.parts ≡ 0) × (l.spare.amount ≡ 0) × (l.pass.table_id ≡ J.board) × (cell_view l.pass ≡ writer_of (status_rows l.catalogue)) };
 }
 
 impl<J: Naming> LockedCatalogue<J> {
-    /// A catalogue that has performed no command, and a book that has counted none.
-    pub(crate) fn new(catalogue: Catalogue, book: Book<J>, spare: Share<J>) -> LockedCatalogue<J>
+    /// A catalogue that has performed no command, a book that has counted none, and the board's first pass.
+    pub(crate) fn new(
+        catalogue: Catalogue,
+        book: Book<J>,
+        spare: Share<J>,
+        pass: BoardPass,
+    ) -> LockedCatalogue<J>
         requires empty { catalogue.journal ≡ [] }
         requires named { catalogue.opened ≡ J.opened }
         requires book { (book.total ≡ 0) × (spare.parts ≡ 0) × (spare.amount ≡ 0) }
+        requires pass { (pass.table_id ≡ J.board) × (cell_view pass ≡ first_view) }
         ensures value { result ≡ catalogue }
     {
         LockedCatalogue {
             catalogue,
             book,
             spare,
+            pass,
         }
     }
 
@@ -65,36 +82,61 @@ impl<J: Naming> LockedCatalogue<J> {
         seat.audit(&mut self.book);
     }
 
-    /// Performs a command of the seat's station: one entry, which the book and the seat's share count. Before it the
-    /// catalogue was a history of the named tables, with as many entries as the seat had performed commands, at least.
-    pub(crate) fn perform(
+    /// Performs a command of the seat's station: one entry, which the book and the seat's share count, and whose row
+    /// is put on the board. The seat then knows all rows. Before it the catalogue was a history of the named tables,
+    /// with as many entries as the seat had performed commands, at least.
+    ///
+    /// All that takes memory comes before the entry, so that a `Stop` leaves the seat and the board too.
+    pub(crate) fn perform<R: Wait>(
         &mut self,
         alloc: Global,
+        rt: &R,
+        board: &Board,
         seat: &mut Seat<J>,
         command: &Command,
     ) -> Result<Answer, Stop>
+        requires board { board.now.table.shared.table_id ≡ J.board }
         ensures answer { IfOk result (λ answer. answer ≡ answer_of self.old seat.old.station command.now) }
         ensures entry { IfOk result (λ _. self.new ≡ with_entry self.old seat.old.station command.now) }
-        ensures share { IfOk result (λ _. seat.new ≡ seated seat.old.station (seat.old.share + 1)) }
+        ensures share { IfOk result (λ _. seat.new ≡ seated seat.old.station (seat.old.share + 1) seat.new.rows seat.new.loads) }
+        ensures rows { OnOk result (seat.new.rows ≡ status_rows self.new) }
+        ensures told { IfOk result (λ answer. IsToldOfCall seat.old.rows seat.old.station answer seat.new.rows) }
         ensures stopped { OnErr result ((self.new ≡ self.old) × (seat.new ≡ seat.old)) }
         ensures full { IsErrOf result Stop.JournalFull → length self.old.journal ≡ MAX_ENTRIES }
         ensures history { IsHistoryOf J.opened seat.old.share self.old }
     {
         self.audit(seat);
         let (_number, answer) = self.catalogue.perform(alloc, seat.station(), command)?;
-        seat.count_in(&mut self.book);
+        let row = self.catalogue.status();
+        put_up(rt, board, &mut self.pass, row, seat, &mut self.book);
         Ok(answer)
     }
+}
 
-    /// The status row of the catalogue, which is a history of the named tables, with as many entries as the seat has
-    /// performed commands, at least. Nothing changes.
-    pub(crate) fn status(&mut self, seat: &mut Seat<J>) -> StatusRow
-        ensures value { result ≡ row self.old }
-        ensures same { self.new ≡ self.old }
-        ensures seat { seat.new ≡ seat.old }
-        ensures history { IsHistoryOf J.opened seat.old.share self.old }
-    {
-        self.audit(seat);
-        self.catalogue.status()
-    }
+// Puts the next row on the board, which is that of a command of the seat's station, and counts the command in the book
+// and in the seat's share. The seat is told of the rows before it first, so that they are known to begin with all that
+// the seat knew, and then of the row.
+fn put_up<J: Naming, R: Wait>(
+    rt: &R,
+    board: &Board,
+    pass: &mut BoardPass,
+    row: StatusRow,
+    seat: &mut Seat<J>,
+    book: &mut Book<J>,
+)
+    requires board { (board.now.table.shared.table_id ≡ J.board) × (pass.old.table_id ≡ J.board) }
+    requires writer { cell_view pass.old ≡ writer_of (cell_view pass.old).rows }
+    requires next { (0 < row.journal_length) × (row.journal_length ≡ length (cell_view pass.old).rows) }
+    requires own { row.last_station ≡ seat.old.station }
+    ensures pass { (pass.new.table_id ≡ J.board) × (cell_view pass.new ≡ writer_of ((cell_view pass.old).rows ++ row ∷ [])) }
+    ensures later { IsPrefix seat.old.rows (cell_view pass.old).rows }
+    ensures seat { seat.new ≡ seated seat.old.station (seat.old.share + 1) ((cell_view pass.old).rows ++ row ∷ []) seat.new.loads }
+    ensures total { book.new.total ≡ book.old.total + 1 }
+{
+    let before = board.split_pass::<Copied>(pass);
+    seat.learn(rt, board, before, row.journal_length - 1);
+    let words = words_of_row(&row);
+    board.swap_as::<Swaps, R>(rt, pass, words);
+    let after = board.split_pass::<Copied>(pass);
+    seat.count_in(board, after, book);
 }

@@ -1,39 +1,58 @@
 //! The seats of the stations.
 
-ghost use Rattle.std.specs.Prelude.{◌≡◌, ◌+◌, ◌≤◌};
+ghost use Rattle.std.specs.Prelude.{◌≡◌, ◌+◌, ◌<◌, ◌≤◌, List, [], ◌∷◌, ◌++◌, length};
+ghost use mathlib.Core.List.{IsPrefix};
+ghost use Rattle.crossbeam_utils.specs.Seq.{cell_view};
+ghost use Rattle.catalogue_core.specs.declared.status.StatusRow.{StatusRow as RowValue};
+ghost use Rattle.shared_catalogue.specs.Board.{reader_of};
 ghost use Rattle.shared_catalogue.specs.Seats.{seated};
+ghost use Rattle.shared_catalogue.specs.StatusRows.{opening_row, last_row, IsNumbered, calls_of};
 
+use crate::board::{Board, BoardPass, Copied, Loads, row_of_words};
 use crate::lot::Naming;
+use catalogue_core::StatusRow;
 use std::marker::Model;
+use std::sync::Wait;
 use std::sync::ledger::{Book, Share};
 
-/// A station's seat: its number, and its share of the ledger, which counts the commands that the seat has
-/// performed.
+/// A station's seat: its number; its share of the ledger, which counts the commands that the seat has performed; and
+/// its pass of the status board, of which contracts see the rows that the seat knows and how often it has looked. In
+/// every value of this type the share is no more than the rows that name the station.
 #[derive(Drop)]
 pub struct Seat<J: Naming> {
     station: u32,
     share: Share<J>,
+    pass: BoardPass,
 }
 
 impl<J: Naming> Model for Seat<J> {
-    ghost use Rattle.std.specs.Prelude.{◌≡◌, ◌≤◌};
+    ghost use Rattle.std.specs.Prelude.{◌≡◌, ◌≤◌, false};
+    ghost use Rattle.crossbeam_utils.specs.Seq.{cell_view};
     ghost use Rattle.shared_catalogue.specs.Seats.{Seated, seated};
+    ghost use Rattle.shared_catalogue.specs.StatusRows.{calls_of};
 
     ghost Value = { Seated };
 
-    ghost view = { λ s. seated s.station s.share.amount };
+    ghost view = { λ s. seated s.station s.share.amount (cell_view s.pass).rows (cell_view s.pass).loads };
 
-    ghost invariant = { λ s. (s.share.parts ≡ 1) × (1 ≤ s.station) × (s.station ≤ J.opened.stations) };
+    ghost invariant = { λ s. (s.share.parts ≡ 1) × (1 ≤ s.station) × (s.station ≤ J.opened.stations) × (s.pass.table_id ≡ J.board) × ((cell_view s.pass).writes ≡ false) × (s.share.amount ≤ calls_of (cell_view s.pass).rows s.station) };
 }
 
 impl<J: Naming> Seat<J> {
-    pub(crate) fn new(station: u32, share: Share<J>) -> Seat<J>
-        requires part { share.parts ≡ 1 }
+    /// A seat that has performed nothing and knows the opening row.
+    pub(crate) fn new(station: u32, share: Share<J>, pass: BoardPass) -> Seat<J>
+        requires part { (share.parts ≡ 1) × (share.amount ≡ 0) }
         requires counted { 1 ≤ station }
         requires inside { station ≤ J.opened.stations }
-        ensures value { result ≡ seated station share.amount }
+        requires board { pass.table_id ≡ J.board }
+        requires rows { cell_view pass ≡ reader_of (opening_row ∷ []) }
+        ensures value { result ≡ seated station 0 (opening_row ∷ []) 0 }
     {
-        Seat { station, share }
+        Seat {
+            station,
+            share,
+            pass,
+        }
     }
 
     /// The number of the station, from 1.
@@ -47,11 +66,49 @@ impl<J: Naming> Seat<J> {
         self.station
     }
 
-    /// Counts one command more, in the book and in the seat's share.
-    pub(crate) fn count_in(&mut self, book: &mut Book<J>)
-        ensures total { book.new.total ≡ book.old.total + 1 }
-        ensures share { self.new ≡ seated self.old.station (self.old.share + 1) }
+    /// Reads the board. The seat then knows all rows up to the one that it read.
+    pub(crate) fn load<R: Wait>(&mut self, rt: &R, board: &Board) -> StatusRow
+        requires board { board.now.table.shared.table_id ≡ J.board }
+        ensures last { last_row self.new.rows ≡ result }
+        ensures later { IsPrefix self.old.rows self.new.rows }
+        ensures numbered { (0 < length self.new.rows) × IsNumbered self.new.rows }
+        ensures own { self.new.share ≤ calls_of self.new.rows self.new.station }
+        ensures seat { self.new ≡ seated self.old.station self.old.share self.new.rows (self.old.loads + 1) }
     {
+        let words = board.load_as::<Loads, R>(rt, &mut self.pass);
+        row_of_words(&words)
+    }
+
+    /// Tells the seat all rows that the copy of the writer's pass knows, of which the last has the length `until`. It
+    /// reads the board until it finds that row.
+    pub(crate) fn learn<R: Wait>(&mut self, rt: &R, board: &Board, copy: BoardPass, until: u64)
+        requires board { board.now.table.shared.table_id ≡ J.board }
+        requires copy { (copy.table_id ≡ J.board) × (copy.me.1 ≡ []) × (length (cell_view copy).rows ≡ until + 1) }
+        ensures rows { self.new.rows ≡ (cell_view copy).rows }
+        ensures later { IsPrefix self.old.rows self.new.rows }
+        ensures share { self.new ≡ seated self.old.station self.old.share self.new.rows self.new.loads }
+        ensures loads { self.old.loads < self.new.loads }
+    {
+        board.join_pass::<Copied>(&mut self.pass, copy);
+        for _ in rt.forever() {
+            let words = board.load_as::<Loads, R>(rt, &mut self.pass);
+            if words[0] == until {
+                return;
+            }
+        }
+        unreachable!()
+    }
+
+    /// Tells the seat one row more, which names its station, and counts the command in the book and in the seat's share.
+    pub(crate) fn count_in(&mut self, board: &Board, copy: BoardPass, book: &mut Book<J>)
+        requires board { board.now.table.shared.table_id ≡ J.board }
+        requires copy { (copy.table_id ≡ J.board) × (copy.me.1 ≡ []) }
+        requires known { 0 < length self.old.rows }
+        requires row { (row : RowValue) × ((cell_view copy).rows ≡ self.old.rows ++ row ∷ []) × (row.last_station ≡ self.old.station) }
+        ensures total { book.new.total ≡ book.old.total + 1 }
+        ensures seat { self.new ≡ seated self.old.station (self.old.share + 1) (cell_view copy).rows self.old.loads }
+    {
+        board.join_pass::<Copied>(&mut self.pass, copy);
         book.add(&mut self.share, 1);
     }
 
@@ -67,8 +124,13 @@ impl<J: Naming> Seat<J> {
     pub(crate) fn into_share(self) -> Share<J>
         ensures parts { result.parts ≡ 1 }
         ensures amount { result.amount ≡ self.share }
+        ensures own { self.share ≤ calls_of self.rows self.station }
     {
-        let Seat { station: _, share } = self;
+        let Seat {
+            station: _,
+            share,
+            pass: _,
+        } = self;
         share
     }
 }

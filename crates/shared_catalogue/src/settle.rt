@@ -1,17 +1,21 @@
 //! Settling: what the stations were answered is compared with the journal.
 
-ghost use Rattle.std.specs.Prelude.{◌≡◌, ℕ, ◌+◌, ◌^◌, ◌<◌, ◌≤◌, ◌↔◌, length, vec_len, IsTrue, IfSome, IfNone, IfOk, IsErrOf};
+ghost use Rattle.std.specs.Prelude.{◌≡◌, ℕ, ◌+◌, ◌^◌, ◌<◌, ◌≤◌, ◌↔◌, length, vec_len, All, IsTrue, IfSome, IfNone, IfOk, IsErrOf};
 ghost use Rattle.std.specs.List.{sum_by};
-ghost use Rattle.shared_catalogue.specs.OwnCalls.{AreOwn, IsLowestMismatch};
+ghost use Rattle.crossbeam_utils.specs.Seq.{cell_view};
 ghost use Rattle.catalogue_core.specs.Replay.{IsHistoryOf};
-ghost use Rattle.shared_catalogue.specs.Seats.{HasSeat, IsLowestMissing};
+ghost use Rattle.shared_catalogue.specs.OwnCalls.{AreOwn, IsLowestMismatch};
+ghost use Rattle.shared_catalogue.specs.Seats.{HasSeat, IsLowestMissing, AgreesWith, IsWithin};
+ghost use Rattle.shared_catalogue.specs.StatusRows.{status_rows};
 
+use crate::board::{Board, BoardPass, Copied};
 use crate::closed::Closed;
 use crate::locked::LockedCatalogue;
 use crate::lot::Naming;
 use crate::receipts::{Receipts, are_receipts_of};
 use crate::seat::Seat;
 use catalogue_core::Entry;
+use std::sync::Wait;
 use std::sync::ledger::Share;
 use thiserror::Error;
 
@@ -28,16 +32,20 @@ pub enum SettleFault {
 
 impl<J: Naming> LockedCatalogue<J> {
     /// See [`crate::Shared::settle`].
-    pub(crate) fn settle(
+    pub(crate) fn settle<R: Wait>(
         self,
+        rt: &R,
+        board: &Board,
         seats: Vec<Seat<J>>,
         receipts: Vec<Receipts>,
     ) -> Result<Closed, SettleFault>
+        requires board { board.now.table.shared.table_id ≡ J.board }
         requires parts { J.parts ≡ J.opened.stations }
         requires lists { vec_len receipts ≡ J.opened.stations }
         ensures opened { IfOk result (λ closed. (closed.opened ≡ J.opened) × (closed ≡ self)) }
         ensures own { IfOk result (λ closed. AreOwn closed.journal receipts.items J.opened.stations) }
         ensures counted { IfOk result (λ closed. length closed.journal ≡ sum_by (λ z. z.share) seats.items) }
+        ensures agrees { IfOk result (λ closed. All (AgreesWith (status_rows closed)) seats.items) }
         ensures mismatch { (s : ℕ) → IsErrOf result (SettleFault.ReceiptMismatch s) → IsLowestMismatch self.journal receipts.items s }
         ensures history { (s : ℕ) → IsErrOf result (SettleFault.ReceiptMismatch s) → IsHistoryOf J.opened (sum_by (λ z. z.share) seats.items) self }
         ensures missing { (s : ℕ) → IsErrOf result (SettleFault.SeatMissing s) ↔ IsLowestMissing seats.items J.opened.stations s }
@@ -46,11 +54,13 @@ impl<J: Naming> LockedCatalogue<J> {
             catalogue,
             mut book,
             spare,
+            mut pass,
         } = self;
         if let Some(station) = first_missing(&seats, catalogue.station_count()) {
             return Err(SettleFault::SeatMissing(station));
         }
-        let mut whole = merge_shares(spare, seats);
+        let length = catalogue.journal().len() as u64;
+        let mut whole = gather(rt, board, &mut pass, length, spare, seats);
         book.audit(&mut whole);
         if let Some(station) = first_mismatch(catalogue.journal(), &receipts) {
             return Err(SettleFault::ReceiptMismatch(station));
@@ -79,14 +89,26 @@ fn first_missing<J: Naming>(seats: &[Seat<J>], stations: u32) -> Option<u32>
     None
 }
 
-// All shares in one.
-fn merge_shares<J: Naming>(mut whole: Share<J>, mut seats: Vec<Seat<J>>) -> Share<J>
+// Tells each seat all rows, of which the last has the length `until`, and merges their shares into one.
+fn gather<J: Naming, R: Wait>(
+    rt: &R,
+    board: &Board,
+    pass: &mut BoardPass,
+    until: u64,
+    mut whole: Share<J>,
+    mut seats: Vec<Seat<J>>,
+) -> Share<J>
     requires spare { (whole.parts ≡ 0) × (whole.amount ≡ 0) }
+    requires board { (board.now.table.shared.table_id ≡ J.board) × (pass.old.table_id ≡ J.board) }
+    requires rows { length (cell_view pass.old).rows ≡ until + 1 }
     ensures parts { result.parts ≡ vec_len seats }
     ensures amount { result.amount ≡ sum_by (λ z. z.share) seats.items }
     ensures most { result.parts ≤ J.parts }
+    ensures within { All (IsWithin (cell_view pass.old).rows) seats.items }
 {
-    while let Some(seat) = seats.pop() {
+    while let Some(mut seat) = seats.pop() {
+        let copy = board.split_pass::<Copied>(pass);
+        seat.learn(rt, board, copy, until);
         whole.merge(seat.into_share());
     }
     whole

@@ -1,13 +1,15 @@
 //! The catalogue under one lock, which stations share.
 
-ghost use Rattle.std.specs.Prelude.{◌≡◌, ℕ, ◌+◌, ◌<◌, ◌≤◌, ◌↔◌, [], length, vec_len, IfOk, OnOk, OnErr, IsErrOf};
+ghost use Rattle.std.specs.Prelude.{◌≡◌, ℕ, ◌+◌, ◌<◌, ◌≤◌, ◌↔◌, [], length, vec_len, All, IfOk, OnOk, OnErr, IsErrOf};
 ghost use Rattle.std.specs.List.{sum_by};
+ghost use mathlib.Core.List.{IsPrefix};
 ghost use Rattle.catalogue_core.specs.declared.catalogue.TheConstants.{MAX_ENTRIES};
 ghost use Rattle.catalogue_core.specs.Replay.{History, answer_of, IsHistoryOf};
-ghost use Rattle.shared_catalogue.specs.Seats.{seated, new_seats, IsLowestMissing};
-ghost use Rattle.catalogue_core.specs.Status.{row};
 ghost use Rattle.shared_catalogue.specs.OwnCalls.{AreOwn, IsMismatch};
+ghost use Rattle.shared_catalogue.specs.Seats.{seated, new_seats, IsLowestMissing, AgreesWith};
+ghost use Rattle.shared_catalogue.specs.StatusRows.{status_rows, last_row, IsNumbered, calls_of, IsToldOfCall, AreRowsOfCall};
 
+use crate::board::{Board, Copied};
 use crate::closed::Closed;
 use crate::locked::LockedCatalogue;
 use crate::lot::{Lot, Naming};
@@ -19,10 +21,13 @@ use std::alloc::{AllocError, Global};
 use std::sync::{Mutex, Wait};
 
 /// A catalogue that stations share. It is under one lock, and whoever has the lock finds the state that
-/// the commands of the journal make of the opened tables, and a journal as long as the ledger's book.
+/// the commands of the journal make of the opened tables, and a journal as long as the ledger's book. The status board
+/// is beside the lock.
 #[derive(Drop)]
 pub struct Shared<J: Naming> {
+    board: Board,
     locked: Mutex<LockedCatalogue<J>>,
+    ghost named: { board.table.shared.table_id ≡ J.board },
 }
 
 impl<J: Naming> Shared<J> {
@@ -38,66 +43,84 @@ impl<J: Naming> Shared<J> {
         requires empty { catalogue.journal ≡ [] }
         requires opened { catalogue.opened ≡ J.opened }
         requires ledger { (lot.ledger ≡ J.name) × (lot.parts ≡ J.parts) }
+        requires board { lot.board ≡ J.board }
         requires parts { lot.parts ≡ catalogue.opened.stations }
         ensures seats { IfOk result (λ made. made.1.items ≡ new_seats J.opened.stations) }
     {
         let stations = catalogue.station_count();
-        let (book, mut whole) = lot.open::<J>();
+        let (board, mut pass, book, mut whole) = lot.open::<J>();
         let mut seats = Vec::new(alloc);
         for index in 0..stations {
             let share = whole.split_off(1, 0);
-            seats.push(Seat::new(index + 1, share))?;
+            let copy = board.split_pass::<Copied>(&mut pass);
+            seats.push(Seat::new(index + 1, share, copy))?;
         }
-        let locked = Mutex::new(LockedCatalogue::new(catalogue, book, whole));
-        Ok((Shared { locked }, seats))
+        let locked = Mutex::new(LockedCatalogue::new(catalogue, book, whole, pass));
+        Ok((Shared { board, locked }, seats))
     }
 
     /// Performs a command of the seat's station under the lock, for which it may wait, as one step: one
     /// entry of the journal, which the seat's share counts. It is answered as in the history that stood under the lock:
-    /// a legal one of these opened tables, in which the seat's own entries stand already.
+    /// a legal one of these opened tables, in which the seat's own entries stand already. In the same hold of the lock
+    /// the row of the entry is put on the board, and the seat is told of all rows up to it.
     ///
-    /// A `Stop` is the catalogue's, and then seat and catalogue are as they were: `JournalFull` says that the journal
-    /// had `MAX_ENTRIES` entries.
-    pub fn perform(
+    /// A `Stop` is the catalogue's, and then seat, board and catalogue are as they were: `JournalFull` says that the
+    /// journal had `MAX_ENTRIES` entries.
+    pub fn perform<R: Wait>(
         &self,
         alloc: Global,
-        rt: &impl Wait,
+        rt: &R,
         seat: &mut Seat<J>,
         command: &Command,
     ) -> Result<Answer, Stop>
-        ensures share { OnOk result (seat.new ≡ seated seat.old.station (seat.old.share + 1)) }
+        ensures share { OnOk result (seat.new ≡ seated seat.old.station (seat.old.share + 1) seat.new.rows seat.new.loads) }
         ensures answer { IfOk result (λ answer. (h : History) × IsHistoryOf J.opened seat.old.share h × (answer ≡ answer_of h seat.old.station command.now)) }
+        ensures rows { IfOk result (λ answer. AreRowsOfCall J.opened seat.old.share seat.old.station command.now answer seat.new.rows) }
+        ensures told { IfOk result (λ answer. IsToldOfCall seat.old.rows seat.old.station answer seat.new.rows) }
         ensures stopped { OnErr result (seat.new ≡ seat.old) }
         ensures full { IsErrOf result Stop.JournalFull → (h : History) × IsHistoryOf J.opened seat.old.share h × (length h.journal ≡ MAX_ENTRIES) }
     {
-        self.locked.lock(rt).perform(alloc, seat, command)
+        let mut locked = self.locked.lock(rt);
+        locked.perform(alloc, rt, &self.board, seat, command)
     }
 
-    /// The status row of the catalogue as it stands under the lock, for which it may wait. It is the row of a legal
-    /// history of these opened tables, in which the seat's own entries stand.
-    pub fn look(&self, rt: &impl Wait, seat: &mut Seat<J>) -> StatusRow
-        ensures row { (h : History) × IsHistoryOf J.opened seat.old.share h × (result ≡ row h) }
-        ensures seat { seat.new ≡ seat.old }
+    /// The status row that stands on the board. It takes no memory, and it doesn't take the catalogue's lock: it waits at
+    /// most until a row has been written. The row is the last that the seat then knows; the rows that it knew stand
+    /// before it or are it, and those of its own commands are among them.
+    pub fn look<R: Wait>(&self, rt: &R, seat: &mut Seat<J>) -> StatusRow
+        ensures last { last_row seat.new.rows ≡ result }
+        ensures later { IsPrefix seat.old.rows seat.new.rows }
+        ensures numbered { (0 < length seat.new.rows) × IsNumbered seat.new.rows }
+        ensures own { seat.new.share ≤ calls_of seat.new.rows seat.new.station }
+        ensures seat { seat.new ≡ seated seat.old.station seat.old.share seat.new.rows (seat.old.loads + 1) }
     {
-        self.locked.lock(rt).status(seat)
+        seat.load(rt, &self.board)
     }
 
     /// Compares what each station was answered with the journal, and closes the catalogue. The receipts
-    /// are one list for each station, in order.
+    /// are one list for each station, in order. The rows that each seat knew are those of the journal, from the first on,
+    /// and each of its commands has one of them.
     ///
     /// `SeatMissing` comes first, for the lowest station that has no seat in the list; then
     /// `ReceiptMismatch`, for the lowest station whose receipts are not its entries of the journal, which is as long as
     /// the seats' shares together. It takes no memory.
-    pub fn settle(self, seats: Vec<Seat<J>>, receipts: Vec<Receipts>) -> Result<Closed, SettleFault>
+    pub fn settle<R: Wait>(
+        self,
+        rt: &R,
+        seats: Vec<Seat<J>>,
+        receipts: Vec<Receipts>,
+    ) -> Result<Closed, SettleFault>
         requires parts { J.parts ≡ J.opened.stations }
         requires lists { vec_len receipts ≡ J.opened.stations }
         ensures opened { IfOk result (λ closed. closed.opened ≡ J.opened) }
         ensures own { IfOk result (λ closed. AreOwn closed.journal receipts.items J.opened.stations) }
         ensures counted { IfOk result (λ closed. length closed.journal ≡ sum_by (λ z. z.share) seats.items) }
+        ensures agrees { IfOk result (λ closed. All (AgreesWith (status_rows closed)) seats.items) }
         ensures mismatch { (s : ℕ) → IsErrOf result (SettleFault.ReceiptMismatch s) → IsMismatch J.opened seats.items receipts.items s }
         ensures missing { (s : ℕ) → IsErrOf result (SettleFault.SeatMissing s) ↔ IsLowestMissing seats.items J.opened.stations s }
     {
-        let Shared { locked } = self;
-        locked.into_inner().settle(seats, receipts)
+        let Shared { board, locked } = self;
+        let locked = locked.into_inner();
+        locked.settle(rt, &board, seats, receipts)
     }
 }

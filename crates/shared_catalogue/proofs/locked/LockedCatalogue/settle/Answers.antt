@@ -1,8 +1,15 @@
-use Rattle.std.proofs.Common.{◌≡◌, ◌≤◌, List, length, vec_len, Ok, Err, sym, ap, ◌∙◌, subst, arith, rules}
+use Rattle.std.proofs.Common.{◌≡◌, suc, ◌≤◌, List, length, vec_len, Ok, Err, sym, ap, ◌∙◌, subst, arith, rules, le_of_eq}
+use Rattle.std.specs.Prelude.{All}
+use Rattle.std.specs.List.{sum_by}
+use Rattle.crossbeam_utils.specs.Seq.{cell_view}
 use Rattle.catalogue_core.specs.Replay.{History}
-use Rattle.shared_catalogue.specs.Seats.{Seated, IsLowestMissing}
+use Rattle.catalogue_core.specs.declared.status.StatusRow.{StatusRow}
+use Rattle.shared_catalogue.specs.declared.board.View.{View}
+use Rattle.shared_catalogue.specs.RowLaws.{length-status_rows}
+use Rattle.shared_catalogue.specs.Seats.{Seated, IsLowestMissing, IsWithin, AgreesWith}
+use Rattle.shared_catalogue.specs.StatusRows.{status_rows}
 use Rattle.shared_catalogue.specs.declared.settle.SettleFault.TheVariants.{ReceiptMismatch}
-use Rattle.shared_catalogue.proofs.SeatLaws.{Covers, enough, missing_here, missing_nowhere}
+use Rattle.shared_catalogue.proofs.SeatLaws.{Covers, agree, enough, missing_here, missing_nowhere}
 use Rattle.shared_catalogue.proofs.locked.LockedCatalogue.settle.Goals as goal
 
 pub returns-in-Some-clause-missing : goal.returns-in-Some-clause-missing
@@ -35,5 +42,29 @@ returns-clause-counted g c =
     let none : Covers c.deref.result.now c.station_count.result = c.in_default.ensures.none in
     let many : c.station_count.result ≤ length zs = enough c.station_count.result zs (subst (λ (l : List Seated). Covers l c.station_count.result) c.deref.ensures.value none) in
     let len : vec_len c.args.seats ≡ length zs = search rules in
-    let whole : c.merge_shares-whole.result.parts ≡ g.J.Ledger.parts = omega (arith, c.merge_shares-whole.ensures.parts, c.merge_shares-whole.ensures.most, c.requires.parts, stations, many, len) in
-    ap (λ (h : History). length h.journal) c.new.ensures.value ∙ sym (c.audit.ensures.whole whole ∙ c.self.invariant.0) ∙ c.merge_shares-whole.ensures.amount
+    let whole : c.gather-whole.result.parts ≡ g.J.Ledger.parts = omega (arith, c.gather-whole.ensures.parts, c.gather-whole.ensures.most, c.requires.parts, stations, many, len) in
+    ap (λ (h : History). length h.journal) c.new.ensures.value ∙ sym (c.audit.ensures.whole whole ∙ c.self.invariant.0) ∙ c.gather-whole.ensures.amount
+
+pub gather-whole-requires-clause-rows : goal.gather-whole-requires-clause-rows
+gather-whole-requires-clause-rows g c =
+    let rows : (cell_view c.self.inside.pass).rows ≡ status_rows c.self.inside.catalogue = ap (λ (v : View). v.rows) c.self.invariant.5 in
+    omega (arith, ap length rows, length-status_rows c.self.inside.catalogue, ap length c.journal.ensures.entries)
+
+pub returns-clause-agrees : goal.returns-clause-agrees
+returns-clause-agrees g c =
+    let zs = c.args.seats.items in
+    let h = c.self.inside.catalogue in
+    let n = g.J.Naming.opened.stations in
+    let stations : c.station_count.result ≡ n = search rules in
+    let none : Covers c.deref.result.now c.station_count.result = c.in_default.ensures.none in
+    let all : Covers zs n = subst (Covers zs) stations (subst (λ (l : List Seated). Covers l c.station_count.result) c.deref.ensures.value none) in
+    let many : n ≤ length zs = enough n zs all in
+    let len : vec_len c.args.seats ≡ length zs = search rules in
+    let each : length zs ≡ n = omega (arith, c.gather-whole.ensures.parts, c.gather-whole.ensures.most, c.requires.parts, many, len) in
+    let whole : c.gather-whole.result.parts ≡ g.J.Ledger.parts = omega (arith, c.gather-whole.ensures.parts, c.requires.parts, each, len) in
+    let counted : length h.journal ≡ sum_by (λ (z : Seated). z.share) zs = sym (c.audit.ensures.whole whole ∙ c.self.invariant.0) ∙ c.gather-whole.ensures.amount in
+    let rows : (cell_view c.self.inside.pass).rows ≡ status_rows h = ap (λ (v : View). v.rows) c.self.invariant.5 in
+    let within : All (IsWithin (status_rows h)) zs = subst (λ (l : List StatusRow). All (IsWithin l) zs) rows c.gather-whole.ensures.within in
+    let long : length (status_rows h) ≡ suc (length h.journal) = omega (arith, length-status_rows h) in
+    let agreed : All (AgreesWith (status_rows h)) zs = agree n (length h.journal) zs (status_rows h) all each long (le_of_eq counted) within in
+    subst (λ (k : History). All (AgreesWith (status_rows k)) zs) (sym c.new.ensures.value) agreed
