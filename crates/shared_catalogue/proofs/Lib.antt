@@ -3,3 +3,4 @@ pub mod WordLaws
 pub mod RowListLaws
 pub mod Moves
 pub mod CallLaws
+pub mod Crossing
