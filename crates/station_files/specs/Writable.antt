@@ -12,15 +12,15 @@ abbrev pub has_too_many : Table → Bool
 has_too_many table = nat_lt 4294967295 (next_free table)
 
 -- it can be written: a header can tell the year of a table's date, and 32 bits count the blocks of its memos
-abbrev pub IsWritable : Content → Type 0
-IsWritable (OfTable table day) = ¬ IsOutside day.year × (has_too_many table.now ≡ false)
-IsWritable (Memos table) = has_too_many table.now ≡ false
-IsWritable (OfIndex index) = Unit {0}
-IsWritable (Text text) = Unit {0}
+abbrev pub CanBeWritten : Content → Type 0
+CanBeWritten (OfTable table day) = ¬ IsOutside day.year × (has_too_many table.now ≡ false)
+CanBeWritten (Memos table) = has_too_many table.now ≡ false
+CanBeWritten (OfIndex index) = Unit {0}
+CanBeWritten (Text text) = Unit {0}
 
 -- there is one proof of it at most
-pub IsWritable-prop : (content : Content) → IsProp (IsWritable content)
-IsWritable-prop (OfTable table day) = hlevel props
-IsWritable-prop (Memos table) = hlevel props
-IsWritable-prop (OfIndex index) = hlevel props
-IsWritable-prop (Text text) = hlevel props
+pub CanBeWritten-prop : (content : Content) → IsProp (CanBeWritten content)
+CanBeWritten-prop (OfTable table day) = hlevel props
+CanBeWritten-prop (Memos table) = hlevel props
+CanBeWritten-prop (OfIndex index) = hlevel props
+CanBeWritten-prop (Text text) = hlevel props

@@ -8,7 +8,7 @@ ghost use Rattle.dbf_image.specs.Image.{image, IsOutside};
 ghost use Rattle.byte_io.specs.Sink.{grown, is_byte, IsFront, Rises};
 ghost use Rattle.station_files.specs.Files.{files_in, listing, IsOfBytes};
 ghost use Rattle.station_files.specs.Closing.{bytes_of, file_named, file_of, run_files, first_blocked, listing_of_first, IsBlockedBy, IsCutBy};
-ghost use Rattle.station_files.specs.Writable.{has_too_many as has_too_many_blocks, IsWritable};
+ghost use Rattle.station_files.specs.Writable.{has_too_many as has_too_many_blocks, CanBeWritten};
 
 use crate::close_fault::CloseFault;
 use crate::closed::ClosedTable;
@@ -73,7 +73,7 @@ pub(crate) fn write_content<S: ByteSink>(
     sink: &mut S,
     content: &Content<'_>,
 ) -> Result<(), SinkFault>
-    requires can { IsWritable content.now }
+    requires can { CanBeWritten content.now }
     ensures wrote { OnOk result (S.written sink.new ≡ grown (S.written sink.old) (bytes_of content.now)) }
     ensures no_failure { OnOk result (S.failures sink.new ≡ S.failures sink.old) }
     ensures failed { OnErr result (Rises (S.failures sink.old) (S.failures sink.new)) }
@@ -95,7 +95,7 @@ fn write_file<F: Folder>(
     name: &[u8],
     content: &Content<'_>,
 ) -> Result<(), SinkFault>
-    requires can { IsWritable content.now }
+    requires can { CanBeWritten content.now }
     ensures wrote { OnOk result (F.written folder.new ≡ grown (F.written folder.old) (listing (file_named name.now content.now ∷ []))) }
     ensures no_failure { OnOk result (F.failures folder.new ≡ F.failures folder.old) }
     ensures failed { OnErr result (Rises (F.failures folder.old) (F.failures folder.new)) }

@@ -1,6 +1,6 @@
 //! A file that will be written.
 
-ghost use Rattle.station_files.specs.Writable.{IsWritable, IsWritable-prop};
+ghost use Rattle.station_files.specs.Writable.{CanBeWritten, CanBeWritten-prop};
 
 use crate::content::Content;
 use dbf_fields::Bytes;
@@ -12,5 +12,5 @@ pub(crate) struct Planned<'a> {
     pub name: Bytes,
     /// Its content.
     pub content: Content<'a>,
-    ghost writable: { IsWritable content } by { IsWritable-prop content },
+    ghost writable: { CanBeWritten content } by { CanBeWritten-prop content },
 }

@@ -9,11 +9,11 @@ one_byte : (b : ℕ) → Fits w8 b → is_byte b ≡ true
 one_byte b fits = grind (arith, nat_tests, fits)
 
 -- each element is a byte
-pub all_bytes : (bytes : List ℕ) → ((i : ℕ) → Fits w8 (get_or bytes i 0)) → list_all is_byte bytes ≡ true
-all_bytes [] fits = refl
-all_bytes (b ∷ bs) fits =
+pub slice_is_bytes : (bytes : List ℕ) → ((i : ℕ) → Fits w8 (get_or bytes i 0)) → list_all is_byte bytes ≡ true
+slice_is_bytes [] fits = refl
+slice_is_bytes (b ∷ bs) fits =
     let first : is_byte b ≡ true = one_byte b (fits 0) in
-    let rest : list_all is_byte bs ≡ true = all_bytes bs (λ i. fits (suc i)) in
+    let rest : list_all is_byte bs ≡ true = slice_is_bytes bs (λ i. fits (suc i)) in
     rw (first, rest) refl
 
 -- bytes after bytes

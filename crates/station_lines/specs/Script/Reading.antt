@@ -186,14 +186,14 @@ set_order_line a b c =
 abbrev pub replace_line : List ℕ → List ℕ → Line
 replace_line a c = with_ (name_in a) (λ f. with_ (literal_in c) (λ l. Run (command.Replace f l)))
 
-abbrev pub memo : List ℕ → List ℕ → Line
-memo a c = with_ (name_in a) (λ f. with_ (text_in c) (λ t. Run (command.Memo f t)))
+abbrev pub memo_line : List ℕ → List ℕ → Line
+memo_line a c = with_ (name_in a) (λ f. with_ (text_in c) (λ t. Run (command.Memo f t)))
 
 -- a verb and three words
 abbrev pub four : Verb → List ℕ → List ℕ → List ℕ → Line
 four verb.Set a b c = set_order_line a b c
 four verb.Replace a b c = if is_keyword (codes "WITH") b then replace_line a c else bad
-four verb.Memo a b c = if is_keyword (codes "WITH") b then memo a c else bad
+four verb.Memo a b c = if is_keyword (codes "WITH") b then memo_line a c else bad
 four other a b c = bad
 
 abbrev pub is_empty : List ℕ → Bool

@@ -3,7 +3,7 @@
 ghost use Rattle.std.specs.Prelude.{◌≡◌, true, IfOk, OnErr};
 ghost use Rattle.station_lines.specs.Script.Parts.{name_in as name_in_word};
 ghost use Rattle.station_lines.specs.Script.Keeping.{keeps_text};
-ghost use Rattle.station_lines.specs.Script.Reading.{with_, one, two, three, four, go_line, call_line, ask_line as ask_line, set_order_line as set_order_line, replace_line as replace_line, memo as memo_line};
+ghost use Rattle.station_lines.specs.Script.Reading.{with_, one, two, three, four, go_line, call_line, ask_line, set_order_line, replace_line, memo_line};
 
 use crate::script::keyword::{is_call, is_keyword};
 use crate::script::line::Line;
