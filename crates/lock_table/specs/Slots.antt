@@ -1,9 +1,9 @@
 -- How the locks are kept: a slot for each table and station, table by table. A slot is seen as the list of
 -- the numbers that the station has locked in the table.
-use Rattle.std.specs.Prelude.{◌≡◌, ℕ, ◌+◌, ◌-◌, ◌*◌, ◌/◌, ◌%◌, List, [], ◌∷◌, ◌++◌, length, map}
+use Rattle.std.specs.Prelude.{◌≡◌, ℕ, ◌≤◌, ◌+◌, ◌-◌, ◌*◌, ◌/◌, ◌%◌, List, [], ◌∷◌, ◌++◌, length, map, slice_index_or}
 use Rattle.lock_table.specs.declared.TheConstants.{MAX_RECORDS}
 use Rattle.lock_table.specs.Numbers.{AreAscending, IsTableOrRecords}
-use Rattle.lock_table.specs.Locks.{Lock, lock_of, AreApart}
+use Rattle.lock_table.specs.Locks.{Lock, lock_of, own_numbers, AreApart}
 
 -- the index of the slot of a station and a table, where there are so many stations
 abbrev pub slot_index_of : ℕ → ℕ → ℕ → ℕ
@@ -39,6 +39,10 @@ pub record IsSlot (numbers : List ℕ) : Type 0 where
 abbrev pub EachSlot : List (List ℕ) → Type 0
 EachSlot [] = Unit {0}
 EachSlot (numbers ∷ slots) = IsSlot numbers × EachSlot slots
+
+-- a table's row of slots tells what each of so many stations has locked there
+abbrev pub IsSlotRow : List Lock → ℕ → ℕ → List (List ℕ) → Type 0
+IsSlotRow locks stations table row = (station : ℕ) → 1 ≤ station → station ≤ stations → own_numbers locks station table ≡ slice_index_or row (station - 1) []
 
 -- there is a slot for each table and station, and no two stations are in each other's way
 pub record AreSlots (stations tables : ℕ) (slots : List (List ℕ)) : Type 0 where

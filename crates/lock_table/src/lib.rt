@@ -10,7 +10,7 @@
 ghost use Rattle.std.specs.Prelude.{◌≡◌, ◌≢◌, ℕ, List, [], ◌∷◌};
 ghost use Rattle.lock_table.specs.Numbers.{different, AreAscending, HasAll};
 ghost use Rattle.lock_table.specs.Locks.{Lock, lock_of, free_record, free_records, with_lock, with_records, without, without_all, IsHeld};
-ghost use Rattle.lock_table.specs.Changes.{StayApart, StayApartAtRecord, StayApartAtRecords, StayApartAtTable, HasOnly, HasListed, HasOnlyListed, KeepsOthers, AddsOnly, AddsOnlyListed, LeavesOutOwn};
+ghost use Rattle.lock_table.specs.Changes.{StayApart, StayApartAtRecord, StayApartAtTable, HasOnly, KeepsOthers, AddsOnly, LeavesOutOwn, TakingKeepsApart, TakingHoldsEach, TakingHoldsOnly, TakingKeepsOthers, TakingAddsOnly};
 
 mod locks;
 mod slot;
@@ -38,7 +38,7 @@ pub fn list_of_one()
 /// two of them, and no table in which another has a lock.
 pub fn stations_stay_apart()
     ensures records { (locks : List Lock) (station table number : ℕ) → StayApartAtRecord locks (with_lock locks station table number) station table number }
-    ensures listed { (locks : List Lock) (station table : ℕ) (numbers : List ℕ) → StayApartAtRecords locks (with_records locks station table numbers) station table numbers }
+    ensures listed { (locks : List Lock) (station table : ℕ) (numbers : List ℕ) → TakingKeepsApart locks station table numbers }
     ensures file { (locks : List Lock) (station table : ℕ) → StayApartAtTable locks (with_lock locks station table 0) station table }
     ensures released { (locks : List Lock) (station table : ℕ) → StayApart locks (without locks station table) }
     ensures all_released { (locks : List Lock) (station : ℕ) → StayApart locks (without_all locks station) }
@@ -51,10 +51,10 @@ pub fn other_locks_stay()
     ensures alone { (locks : List Lock) (station table number : ℕ) → HasOnly (with_lock locks station table number) station table number }
     ensures others_stay { (locks : List Lock) (station table number : ℕ) → KeepsOthers locks (with_lock locks station table number) station table }
     ensures taken { (locks : List Lock) (station table number : ℕ) → AddsOnly locks (with_lock locks station table number) (lock_of table station number) }
-    ensures listed_are_held { (locks : List Lock) (station table : ℕ) (numbers : List ℕ) → HasListed (with_records locks station table numbers) station table numbers }
-    ensures listed_alone { (locks : List Lock) (station table : ℕ) (numbers : List ℕ) → HasOnlyListed (with_records locks station table numbers) station table numbers }
-    ensures others_stay_beside { (locks : List Lock) (station table : ℕ) (numbers : List ℕ) → KeepsOthers locks (with_records locks station table numbers) station table }
-    ensures taken_listed { (locks : List Lock) (station table : ℕ) (numbers : List ℕ) → AddsOnlyListed locks (with_records locks station table numbers) station table numbers }
+    ensures listed_are_held { (locks : List Lock) (station table : ℕ) (numbers : List ℕ) → TakingHoldsEach locks station table numbers }
+    ensures listed_alone { (locks : List Lock) (station table : ℕ) (numbers : List ℕ) → TakingHoldsOnly locks station table numbers }
+    ensures others_stay_beside { (locks : List Lock) (station table : ℕ) (numbers : List ℕ) → TakingKeepsOthers locks station table numbers }
+    ensures taken_listed { (locks : List Lock) (station table : ℕ) (numbers : List ℕ) → TakingAddsOnly locks station table numbers }
     ensures released { (locks : List Lock) (station table : ℕ) → LeavesOutOwn locks (without locks station table) station table }
     ensures others_left { (locks : List Lock) (station table : ℕ) → KeepsOthers locks (without locks station table) station table }
     ensures all_released { (locks : List Lock) (station : ℕ) (l : Lock) → IsHeld (without_all locks station) l → IsHeld locks l × (l.station ≢ station) }

@@ -1,10 +1,10 @@
 //! The locks that are held.
 
-ghost use Rattle.std.specs.Prelude.{◌≡◌, ℕ, nat_lt, ◌+◌, ◌-◌, ◌*◌, ◌<◌, ◌≤◌, ◌&&◌, ◌||◌, ◌==◌, not, true, false, List, [], length, replicate, slice_index_or, IfOk};
+ghost use Rattle.std.specs.Prelude.{◌≡◌, ℕ, nat_lt, ◌+◌, ◌*◌, ◌<◌, ◌≤◌, ◌&&◌, ◌||◌, ◌==◌, not, true, false, List, [], length, replicate, IfOk};
 ghost use Rattle.std.specs.List.{list_any, filter};
 ghost use Rattle.lock_table.specs.Numbers.{AreRecordNumbers, IsTableOrRecords};
 ghost use Rattle.lock_table.specs.Locks.{held, in_table, free_record, free_records, free_whole, may_write, holder, record_locks, own_numbers, with_lock, with_records, without, without_all, AreApart, AreLocksInOrder};
-ghost use Rattle.lock_table.specs.Slots.{slot_index_of, row_from, EachSlot};
+ghost use Rattle.lock_table.specs.Slots.{slot_index_of, row_from, EachSlot, IsSlotRow};
 
 use crate::MAX_RECORDS;
 use crate::slot::{Slot, WHOLE_TABLE};
@@ -315,7 +315,7 @@ impl Locks {
         ensures length { length result.now ≡ self.now.stations }
         ensures locks { in_table self.now.locks table ≡ row_from table 1 result.now }
         ensures each { EachSlot result.now }
-        ensures own { (station : ℕ) → 1 ≤ station → station ≤ self.now.stations → own_numbers self.now.locks station table ≡ slice_index_or result.now (station - 1) [] }
+        ensures own { IsSlotRow self.now.locks self.now.stations table result.now }
         ensures apart { AreApart self.now.locks }
         ensures order { AreLocksInOrder self.now.locks }
     {
