@@ -150,42 +150,58 @@ fn first_unlike(
     Ok(None)
 }
 
-fn edit_of(alloc: Global, asked: Asked) -> Result<Edit, Fail> {
+// Makes an edit at the cursor, and answers the refusal's number, or 0.
+fn edited(alloc: Global, table: &mut Table, cursor: &mut Cursor, asked: Asked) -> Result<u8, Fail> {
     match asked {
-        Asked::Append => Ok(Edit::AppendBlank),
+        Asked::Append => carried(alloc, table, cursor, Edit::AppendBlank),
         Asked::Text(name, text) => {
-            let value = Literal::Text(Bytes::from_slice(alloc, text)?);
-            replace(alloc, name, value)
+            let text = Bytes::from_slice(alloc, text)?;
+            replaced(alloc, table, cursor, name, Literal::Text(text))
         }
-        Asked::Number(name, digits) => replace(alloc, name, Literal::Number { digits, scale: 0 }),
-        Asked::Truth(name, truth) => replace(alloc, name, Literal::Truth(truth)),
+        Asked::Number(name, digits) => {
+            let value = Literal::Number { digits, scale: 0 };
+            replaced(alloc, table, cursor, name, value)
+        }
+        Asked::Truth(name, truth) => replaced(alloc, table, cursor, name, Literal::Truth(truth)),
         Asked::Date(name, year, month, day) => {
             let day = day_of(year, month, day).ok_or("no such date")?;
-            replace(alloc, name, Literal::Date(day))
+            replaced(alloc, table, cursor, name, Literal::Date(day))
         }
-        Asked::BadDate(name) => replace(alloc, name, Literal::BadDate),
-        Asked::Memo(name, text) => Ok(Edit::PutMemo {
-            field: Bytes::from_slice(alloc, name)?,
-            text: Bytes::from_slice(alloc, text)?,
-        }),
-        Asked::Delete => Ok(Edit::Delete),
-        Asked::Recall => Ok(Edit::Recall),
-        Asked::Pack => Ok(Edit::Pack),
+        Asked::BadDate(name) => replaced(alloc, table, cursor, name, Literal::BadDate),
+        Asked::Memo(name, text) => {
+            let field = &Bytes::from_slice(alloc, name)?;
+            let text = &Bytes::from_slice(alloc, text)?;
+            carried(alloc, table, cursor, Edit::Memo { field, text })
+        }
+        Asked::Delete => carried(alloc, table, cursor, Edit::Delete),
+        Asked::Recall => carried(alloc, table, cursor, Edit::Recall),
+        Asked::Pack => carried(alloc, table, cursor, Edit::Pack),
     }
 }
 
-fn replace(alloc: Global, name: &[u8], value: Literal) -> Result<Edit, Fail> {
-    let field = Bytes::from_slice(alloc, name)?;
-    Ok(Edit::Replace { field, value })
+fn replaced(
+    alloc: Global,
+    table: &mut Table,
+    cursor: &mut Cursor,
+    name: &[u8],
+    value: Literal,
+) -> Result<u8, Fail> {
+    let field = &Bytes::from_slice(alloc, name)?;
+    let value = &value;
+    carried(alloc, table, cursor, Edit::Replace { field, value })
 }
 
-// Makes an edit at the cursor, and answers the refusal's number, or 0.
-fn edited(alloc: Global, table: &mut Table, cursor: &mut Cursor, asked: Asked) -> Result<u8, Fail> {
+// Plans an edit and carries it out, and answers the refusal's number, or 0.
+fn carried(
+    alloc: Global,
+    table: &mut Table,
+    cursor: &mut Cursor,
+    edit: Edit<'_>,
+) -> Result<u8, Fail> {
     if !is_cursor(table, cursor) {
         return Err("no cursor of the table".into());
     }
-    let edit = edit_of(alloc, asked)?;
-    match table.plan(alloc, cursor, &edit) {
+    match table.plan(alloc, cursor, edit) {
         Ok(planned) => {
             table.carry_out(planned, cursor);
             Ok(0)
