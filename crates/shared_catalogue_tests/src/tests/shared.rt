@@ -23,10 +23,11 @@ enum Wrong {
     FirstSeat,
 }
 
-// What is seen of a run: the status row after its calls, and how many entries there are at the end.
+// What is seen of a run: the status rows that the stations see after its calls, the last station first, and how many
+// entries there are at the end.
 #[derive(Drop)]
 struct Seen {
-    row: [u64; 23],
+    rows: Vec<[u64; 23]>,
     settled: Result<u64, SettleFault>,
 }
 
@@ -87,16 +88,18 @@ fn perform_all<J: Naming>(
     Ok(())
 }
 
-// The status row as the first seat sees it.
-fn row_at_first<J: Naming>(
+// The status rows as the seats see them one after another, the last station's first.
+fn rows_seen<J: Naming>(
+    alloc: Global,
     rt: &impl Wait,
     shared: &Shared<J>,
     seats: &mut [Seat<J>],
-) -> Result<[u64; 23], Fail> {
-    match seats.first_mut() {
-        Some(seat) => Ok(shared.look(rt, seat).words()),
-        None => Err("there is no seat".into()),
+) -> Result<Vec<[u64; 23]>, Fail> {
+    let mut rows = Vec::new(alloc);
+    for i in (0..seats.len()).rev() {
+        rows.push(shared.look(rt, &mut seats[i]).words())?;
     }
+    Ok(rows)
 }
 
 // Runs the cases on a catalogue that has performed nothing, for the ledger and the opened tables of a name.
@@ -111,24 +114,25 @@ fn run_as<J: Naming, R: Wait>(
     requires empty { catalogue.journal ≡ [] }
     requires opened { catalogue.opened ≡ J.opened }
     requires ledger { (lot.ledger ≡ J.name) × (lot.parts ≡ J.parts) }
+    requires board { lot.board ≡ J.board }
     requires parts { lot.parts ≡ catalogue.opened.stations }
 {
     let stations = catalogue.station_count();
     let (shared, mut seats) = Shared::<J>::new(alloc, catalogue, lot)?;
     let mut receipts = no_receipts(alloc, stations)?;
     perform_all(alloc, rt, &shared, &mut seats, &mut receipts, cases, wrong)?;
-    let row = row_at_first(rt, &shared, &mut seats)?;
+    let rows = rows_seen(alloc, rt, &shared, &mut seats)?;
     if wrong == Wrong::FirstSeat && !seats.is_empty() {
         seats.remove(0);
     }
     if receipts.len() != stations as usize {
         return Err("a list of receipts is gone".into());
     }
-    let settled = match shared.settle(seats, receipts) {
+    let settled = match shared.settle(rt, seats, receipts) {
         Ok(closed) => Ok(closed.entry_count()),
         Err(fault) => Err(fault),
     };
-    Ok(Seen { row, settled })
+    Ok(Seen { rows, settled })
 }
 
 // The same on the sample's tables for so many stations, under a name of its own.
@@ -140,8 +144,19 @@ fn run<R: Wait>(
     wrong: Wrong,
 ) -> Result<Seen, Fail> {
     let catalogue = open_sample(alloc, stations)?;
-    run_as::<Brand, R>(alloc, rt, Lot::new(stations), catalogue, cases, wrong)
+    let lot = Lot::new(alloc, stations)?;
+    run_as::<Brand, R>(alloc, rt, lot, catalogue, cases, wrong)
 }
+
+// Whether so many stations saw a row, and each this one.
+fn have_seen(rows: &[[u64; 23]], stations: usize, row: &[u64; 23]) -> bool {
+    rows.len() == stations && rows.iter().all(|seen| seen == row)
+}
+
+// The status row after the seven calls of two stations.
+const AFTER_SEVEN: [u64; 23] = [
+    7, 2, 2, 0, 1, 0, 0, 0, 0, 0, 0, 0, 0, 0, 0, 0, 0, 0, 0, 0, 0, 0, 0,
+];
 
 #[test]
 fn two_stations_one_record(rt: HostRuntime) -> Result<(), Fail> {
@@ -152,8 +167,16 @@ fn two_stations_one_record(rt: HostRuntime) -> Result<(), Fail> {
     ] {
         let seen = run(rt.alloc(), &rt, 2, &TWO_STATIONS, wrong)?;
         assert_eq!(rt; seen.settled, settled);
-        assert_eq!(rt; seen.row.starts_with(&[7, 2, 2, 0, 1, 0]), true);
+        assert_eq!(rt; have_seen(&seen.rows, 2, &AFTER_SEVEN), true);
     }
+    Ok(())
+}
+
+// Station 2 looks first, whose call was the seventh; the last call of station 1 was the sixth.
+#[test]
+fn status_after_seven_calls(rt: HostRuntime) -> Result<(), Fail> {
+    let seen = run(rt.alloc(), &rt, 2, &TWO_STATIONS, Wrong::Nothing)?;
+    assert_eq!(rt; have_seen(&seen.rows, 2, &AFTER_SEVEN), true);
     Ok(())
 }
 
@@ -171,6 +194,6 @@ fn status_row(rt: HostRuntime) -> Result<(), Fail> {
     row[1] = 1;
     row[2] = 2;
     row[3] = 1;
-    assert_eq!(rt; seen.row, row);
+    assert_eq!(rt; have_seen(&seen.rows, 1, &row), true);
     Ok(())
 }
