@@ -2,8 +2,8 @@
 use Rattle.std.proofs.Common.{◌≡◌, ℕ, ◌-◌, Bool, true, false, eqb, List, [], ◌∷◌, map, Option, Some, None, Result, Ok, Err, refl, ap, ◌∙◌}
 use Rattle.std.proofs.Math.Seq.{map-set_same}
 use Rattle.table_core.specs.declared.cursor.Cursor.{Cursor}
-use Rattle.table_core.specs.declared.edits.Edit.{Edit}
-use Rattle.table_core.specs.declared.edits.Edit.TheVariants as edit_of
+use Rattle.table_core.specs.EditValue.{EditValue}
+use Rattle.table_core.specs.EditValue as edit_of
 use Rattle.table_core.specs.declared.edits.planned.Target.{Target}
 use Rattle.table_core.specs.declared.refusal.Refusal.{Refusal}
 use Rattle.table_core.specs.CellFaults.{kept}
@@ -62,12 +62,12 @@ if_kept P cell act h = search (if_granted, if_found, h)
 abbrev HasIndexesOf : Content → Content × Cursor → Type 0
 HasIndexesOf content e = e.0.indexes ≡ content.indexes
 
-edit_keeps : (content : Content) (cursor : Cursor) (edit : Edit) → IfGranted (HasIndexesOf content) (edited content cursor edit)
+edit_keeps : (content : Content) (cursor : Cursor) (edit : EditValue) → IfGranted (HasIndexesOf content) (edited content cursor edit)
 edit_keeps content cursor edit_of.AppendBlank = search (if_granted)
 edit_keeps content cursor (edit_of.Replace name value) =
     if_passed (λ (t : Target). Unit {0}) (HasIndexesOf content) (edits.target content cursor name) (λ t. kept (stored (field_at content t.field) value) (λ cell. Ok (with_value content t cell, cursor)))
     (always (edits.target content cursor name)) (λ t _. if_kept (HasIndexesOf content) (stored (field_at content t.field) value) (λ cell. Ok (with_value content t cell, cursor)) (λ cell. refl))
-edit_keeps content cursor (edit_of.PutMemo name text) =
+edit_keeps content cursor (edit_of.Memo name text) =
     let act : Target → Result (Content × Cursor) Refusal = λ t. granted (eqb (field_at content t.field).kind MEMO) TypeMismatch (granted (is_memo_text text) BadText (Ok (with_value content t text, cursor))) in
     if_passed (λ (t : Target). Unit {0}) (HasIndexesOf content) (edits.target content cursor name) act (always (edits.target content cursor name)) (λ t _. search (if_granted))
 edit_keeps content cursor edit_of.Delete = search (if_found)
@@ -97,14 +97,14 @@ lock_keeps false s station area number = refl
 close_keeps : (s : State) (station : ℕ) (o : Option Area) → indexes_of (without_lock s station o).tables ≡ indexes_of s.tables
 close_keeps s station o = ap indexes_of (unlock_keeps s station o)
 
-edited_keeps : (s : State) (station : ℕ) (area : Area) (by : Edit) (act : Content × Cursor → Outcome)
+edited_keeps : (s : State) (station : ℕ) (area : Area) (by : EditValue) (act : Content × Cursor → Outcome)
     → ((e : Content × Cursor) → HasIndexesOf (table_of s area) e → IfGranted (Keeps s) (act e)) → IfGranted (Keeps s) (passed (edited (table_of s area) area.cursor by) act)
 edited_keeps s station area by act h = if_passed (HasIndexesOf (table_of s area)) (Keeps s) (edited (table_of s area) area.cursor by) act (edit_keeps (table_of s area) area.cursor by) h
 
 move_keeps : (s : State) (station : ℕ) (to : Content → Cursor → Result Cursor Refusal) → IfGranted (Keeps s) (move s station to)
 move_keeps s station to = search (if_found, if_passed_any)
 
-change_keeps : (s : State) (station : ℕ) (by : Edit) → IfGranted (Keeps s) (change_record s station by)
+change_keeps : (s : State) (station : ℕ) (by : EditValue) → IfGranted (Keeps s) (change_record s station by)
 change_keeps s station by = search (if_passed_any, edited_keeps, with_edit_keeps)
 
 command_keeps : (s : State) (station : ℕ) (command : Command) → IfGranted (Keeps s) (outcome s station command)
@@ -119,7 +119,7 @@ command_keeps s station (Seek text) = search (move_keeps)
 command_keeps s station (Order number) = search (move_keeps)
 command_keeps s station AppendBlank = search (if_found, if_granted, edited_keeps, with_edit_keeps)
 command_keeps s station (Replace field value) = change_keeps s station (edit_of.Replace field value)
-command_keeps s station (Memo field text) = change_keeps s station (edit_of.PutMemo field text)
+command_keeps s station (Memo field text) = change_keeps s station (edit_of.Memo field text)
 command_keeps s station Delete = change_keeps s station edit_of.Delete
 command_keeps s station Recall = change_keeps s station edit_of.Recall
 command_keeps s station Pack = search (if_found, if_granted, edited_keeps, with_edit_keeps)
