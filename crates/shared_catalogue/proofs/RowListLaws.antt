@@ -5,6 +5,7 @@ use Rattle.std.proofs.lemmas.Bool.{lt-ltb, eq-eqb}
 use Rattle.std.proofs.lemmas.List.Sums.{sum_by-append, sum_by-cons}
 use mathlib.Core.List.{IsPrefix}
 use Rattle.catalogue_core.specs.declared.status.StatusRow.{StatusRow}
+use Rattle.shared_catalogue.specs.RowLaws.{last_numbered}
 use Rattle.shared_catalogue.specs.StatusRows.{opening_row, last_after, last_row, NumberedFrom, IsNumbered, longer_list, calls_of}
 
 -- each list begins with itself
@@ -53,15 +54,6 @@ numbered_from-push n (x ∷ xs) r h e = (h.0, numbered_from-push (n + 1) xs r h.
 
 pub numbered-push : (xs : List StatusRow) (r : StatusRow) → IsNumbered xs → r.journal_length ≡ length xs → IsNumbered (xs ++ r ∷ [])
 numbered-push xs r h e = numbered_from-push 0 xs r h (omega arith)
-
-last_numbered_from : (n : ℕ) (x : StatusRow) (xs : List StatusRow) → NumberedFrom n (x ∷ xs) → (last_after x xs).journal_length ≡ n + length xs
-last_numbered_from n x [] h = let a = h.0 in omega arith
-last_numbered_from n x (y ∷ ys) h = let a = last_numbered_from (n + 1) y ys h.1 in omega arith
-
--- the last row has the number of the rows before it
-pub last_numbered : (xs : List StatusRow) → 0 < length xs → IsNumbered xs → (last_row xs).journal_length + 1 ≡ length xs
-last_numbered [] l h = absurd (omega arith)
-last_numbered (x ∷ xs) l h = let a = last_numbered_from 0 x xs h in omega arith
 
 longer_of : (b : Bool) (xs ys : List StatusRow) → b ≡ true → (if b then ys else xs) ≡ ys
 longer_of b xs ys e = ap (λ (t : Bool). if t then ys else xs) e

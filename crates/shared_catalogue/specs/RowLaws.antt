@@ -15,7 +15,7 @@ use Rattle.catalogue_core.specs.declared.status.TableStatus.{TableStatus}
 use Rattle.catalogue_core.specs.Replay.{Opened, History, history, start, with_entry, entry, answer_of}
 use Rattle.catalogue_core.specs.State.{new_station}
 use Rattle.catalogue_core.specs.Status.{row, last_entry, table_status, holder_beside, exclusive_user, has_exclusively}
-use Rattle.shared_catalogue.specs.StatusRows.{free_status, opening_row, row_after, status_rows}
+use Rattle.shared_catalogue.specs.StatusRows.{free_status, opening_row, row_after, status_rows, last_after, last_row, NumberedFrom, IsNumbered}
 
 -- one number more
 pub counted-push : (n from : ℕ) → counted from (suc n) ≡ counted from n ++ (from + n) ∷ []
@@ -112,3 +112,23 @@ last_entry-push journal e = at_end journal (length (journal ++ e ∷ []) - 1) (o
     at_end [] (suc n) is = absurd (omega arith)
     at_end (x ∷ xs) zero is = absurd (omega arith)
     at_end (x ∷ xs) (suc n) is = at_end xs n (omega arith)
+
+-- ---- the last row
+
+last_numbered_from : (n : ℕ) (x : StatusRow) (xs : List StatusRow) → NumberedFrom n (x ∷ xs) → (last_after x xs).journal_length ≡ n + length xs
+last_numbered_from n x [] h = let a = h.0 in omega arith
+last_numbered_from n x (y ∷ ys) h = let a = last_numbered_from (n + 1) y ys h.1 in omega arith
+
+-- the last row has the number of the rows before it
+pub last_numbered : (xs : List StatusRow) → 0 < length xs → IsNumbered xs → (last_row xs).journal_length + 1 ≡ length xs
+last_numbered [] l h = absurd (omega arith)
+last_numbered (x ∷ xs) l h = let a = last_numbered_from 0 x xs h in omega arith
+
+last_after_at : (r : StatusRow) (rows : List StatusRow) → slice_get (r ∷ rows) (length rows) ≡ Some (last_after r rows)
+last_after_at r [] = refl
+last_after_at r (x ∷ rows) = last_after_at x rows
+
+-- the last row stands after all the others
+pub last_row_at : (rows : List StatusRow) (i : ℕ) → i + 1 ≡ length rows → slice_get rows i ≡ Some (last_row rows)
+last_row_at [] i e = absurd (omega arith)
+last_row_at (r ∷ rows) i e = let same : i ≡ length rows = omega arith in ap (slice_get (r ∷ rows)) same ∙ last_after_at r rows

@@ -92,6 +92,7 @@ impl<J: Naming> Seat<J> {
         board.join_pass::<Copied>(&mut self.pass, copy);
         for _ in rt.forever() {
             let words = board.load_as::<Loads, R>(rt, &mut self.pass);
+            // The first word is the journal's length.
             if words[0] == until {
                 return;
             }

@@ -54,7 +54,7 @@ fn low_half(word: u64) -> u32
     (word % 4_294_967_296) as u32
 }
 
-// Changes nothing, and tells contracts that the row has ten tables, and that its numbers have 32 bits.
+// For contracts alone: the row has ten tables, and its numbers, but for the length, have 32 bits.
 fn audit_row(row: &StatusRow)
     ensures small { IsSmallRow row.now }
 {
@@ -65,7 +65,7 @@ fn audit_row(row: &StatusRow)
     }
 }
 
-// Changes nothing, and tells contracts that the table's numbers have 32 bits.
+// For contracts alone: the table's numbers have 32 bits.
 fn audit_status(table: &TableStatus)
     ensures small { IsSmallStatus table.now }
 {
