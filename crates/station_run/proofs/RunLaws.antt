@@ -1,21 +1,26 @@
 -- What workers do line by line, and one worker more.
-use Rattle.std.proofs.Common.{◌≡◌, ◌⊎◌, ℕ, zero, suc, ◌+◌, ◌-◌, ◌<◌, ◌≤◌, List, [], ◌∷◌, ◌++◌, length, map, Some, refl, ap, sym, subst, ◌∙◌, inl, inr, ⊎_elim, arith, length-append, zero-le}
-use Rattle.std.specs.Prelude.{slice_get, option_map, Result, Ok, Err, IfErr, IsErrAnd}
+use Rattle.std.proofs.Common.{◌≡◌, ◌⊎◌, ℕ, zero, suc, ◌+◌, ◌-◌, ◌<◌, ◌≤◌, List, [], ◌∷◌, ◌++◌, length, map, take, Some, refl, ap, sym, subst, ◌∙◌, inl, inr, ⊎_elim, arith, length-append, zero-le}
+use Rattle.std.specs.Prelude.{slice_get, option_map, All, Result, Ok, Err, IfErr, IsErrAnd}
+use mathlib.Core.List.{IsPrefix}
 use Rattle.std.proofs.lemmas.Bool.{cases_lt}
-use Rattle.std.proofs.lemmas.List.{append-nil, append_assoc, length-map}
+use Rattle.std.proofs.lemmas.List.{append-nil, append_assoc, length-map, take-append-le, take_all}
 use Rattle.std.proofs.lemmas.Option.{slice_get-map, slice_get_within, get_or_from_slice_get}
 use Rattle.catalogue_core.specs.declared.entry.Entry.{Entry}
 use Rattle.shared_catalogue.specs.declared.receipts.Receipt.{Receipt}
 use Rattle.shared_catalogue.specs.declared.settle.SettleFault.{SettleFault}
 use Rattle.shared_catalogue.specs.declared.settle.SettleFault.TheVariants.{SeatMissing, ReceiptMismatch}
 use Rattle.shared_catalogue.specs.OwnCalls.{of_station, AreOwn, IsLowestMismatch}
-use Rattle.catalogue_core.specs.Replay.{Opened}
-use Rattle.shared_catalogue.specs.Seats.{Seated, seated, new_seats, IsLowestMissing}
+use Rattle.catalogue_core.specs.declared.answer.Answer.{Answer}
+use Rattle.catalogue_core.specs.declared.status.StatusRow.{StatusRow}
+use Rattle.catalogue_core.specs.Replay.{Opened, history}
+use Rattle.shared_catalogue.specs.RowLaws.{last_numbered, last_row_at}
+use Rattle.shared_catalogue.specs.Seats.{Seated, seated, new_seats, IsLowestMissing, AgreesWith}
+use Rattle.shared_catalogue.specs.StatusRows.{status_rows, last_row, calls_of, opening_row, IsToldOfCall}
 use Rattle.station_lines.specs.declared.script.line.Line.TheVariants.{Blank}
 use Rattle.station_run.specs.declared.fault.RunFault.{RunFault}
 use Rattle.station_run.specs.declared.fault.RunFault.TheVariants.{Settle}
 use Rattle.station_run.specs.Faults.{IsSettleFaultOf, IsFaultOfRun}
-use Rattle.station_run.specs.Reports.{Shown, answered, status, SessionValue, new_session, meaning_of, shown_line, receipt_in, receipts_of, answers_of, IsShownFor, IsShownOf, AreShownOf, IsWithShown, HasShown, HasRun, HaveRun, AreSeatsInOrder, AreReports}
+use Rattle.station_run.specs.Reports.{Shown, answered, status, SessionValue, new_session, meaning_of, shown_line, receipt_in, receipts_of, answers_of, IsShownFor, IsRowIn, AreShownIn, IsShownAt, IsWithShown, HasShown, HasRun, HaveRun, AreSeatsInOrder, AreReports}
 use Rattle.station_lines.specs.Script.Lines.{BeginsWithLine}
 use Rattle.station_lines.specs.Script.Meaning.{Means}
 
@@ -36,42 +41,98 @@ blank_first script line rest (x ∷ xs) begins blank h = (line ∷ h.0, (rest, b
 shown_first : (script line rest : List ℕ) (x : Shown) (more : List Shown) → BeginsWithLine script line rest → Means line (meaning_of x) → IsShownFor rest more → IsShownFor script (x ∷ more)
 shown_first script line rest x more begins means h = (line ∷ h.0, (rest, begins, h.1), inr (means, h.2))
 
--- what is shown of a history with many entries is shown of one with fewer
-shown_least : (opened : Opened) (least n : ℕ) (x : Shown) → n ≤ least → IsShownOf opened least x → IsShownOf opened n x
-shown_least opened least n (answered r) count_bounded h = tt
-shown_least opened least n (status shown) count_bounded h =
-    let is = h.1 in
-    let entries = is.long in
-    (h.0, record { named = is.named; legal = is.legal; of_stations = is.of_stations; long = omega arith }, h.2)
+-- ---- the rows that are shown
 
-shown_of-push : (opened : Opened) (n : ℕ) (xs : List Shown) (x : Shown) → AreShownOf opened n xs → IsShownOf opened (n + length (receipts_of xs)) x → AreShownOf opened n (xs ++ x ∷ [])
-shown_of-push opened n [] x all here = let same : n + length (receipts_of []) ≡ n = omega arith in (subst (λ k. IsShownOf opened k x) same here, tt)
-shown_of-push opened n (y ∷ ys) x all here =
-    let more : n + length (receipts_of (y ∷ ys)) ≡ n + length (receipt_in y) + length (receipts_of ys) = omega (arith, length-append (receipt_in y) (receipts_of ys)) in
-    (all.0, shown_of-push opened (n + length (receipt_in y)) ys x all.1 (subst (λ k. IsShownOf opened k x) more here))
+-- what stands in a beginning stands in the whole, at the same index
+prefix_get : {A : Type 0} (xs ys : List A) (k : ℕ) (x : A) → IsPrefix xs ys → slice_get xs k ≡ Some x → slice_get ys k ≡ Some x
+prefix_get [] ys k x p h = absurd cc
+prefix_get (y ∷ xs) [] k x p h = absurd (cc (p.1))
+prefix_get (y ∷ xs) (z ∷ ys) zero x p h = cc (p.1, h)
+prefix_get (y ∷ xs) (z ∷ ys) (suc k) x p h = prefix_get xs ys k x (p.0, cc (p.1)) h
+
+prefix_take : {A : Type 0} (xs ys : List A) (n : ℕ) → IsPrefix xs ys → n ≤ length xs → take n ys ≡ take n xs
+prefix_take xs ys n p h = ap (take n) (sym p.1) ∙ take-append-le n xs p.0 h
+
+-- more rows change nothing of what was shown
+row_in-more : (rows more : List StatusRow) (station least own : ℕ) (shown : StatusRow) → IsPrefix rows more → IsRowIn rows station least own shown → IsRowIn more station least own shown
+row_in-more rows more station least own shown p h =
+    let k = shown.journal_length in
+    let within : k < length rows = slice_get_within rows k shown h.stands in
+    record {
+      stands = prefix_get rows more k shown p h.stands;
+      long = h.long;
+      calls = subst (λ (l : List StatusRow). own ≤ calls_of l station) (sym (prefix_take rows more (k + 1) p (omega arith))) h.calls;
+    }
+
+pub shown_in-more : (rows more : List StatusRow) (station least own : ℕ) (xs : List Shown) → IsPrefix rows more → AreShownIn rows station least own xs → AreShownIn more station least own xs
+shown_in-more rows more station least own [] p h = tt
+shown_in-more rows more station least own (answered r ∷ xs) p h = shown_in-more rows more station least (own + 1) xs p h
+shown_in-more rows more station least own (status shown ∷ xs) p h =
+    (row_in-more rows more station least own shown p h.0, shown_in-more rows more station shown.journal_length own xs p h.1)
+
+-- one answer more
+shown_in-answered : (rows : List StatusRow) (station least own : ℕ) (xs : List Shown) (r : Receipt) → AreShownIn rows station least own xs → AreShownIn rows station least own (xs ++ answered r ∷ [])
+shown_in-answered rows station least own [] r h = tt
+shown_in-answered rows station least own (answered q ∷ xs) r h = shown_in-answered rows station least (own + 1) xs r h
+shown_in-answered rows station least own (status shown ∷ xs) r h = (h.0, shown_in-answered rows station shown.journal_length own xs r h.1)
+
+-- one status row more, which is the last
+shown_in-status : (rows : List StatusRow) (station least own : ℕ) (xs : List Shown) (shown : StatusRow) → AreShownIn rows station least own xs → last_row rows ≡ shown → shown.journal_length + 1 ≡ length rows
+    → least + 1 ≤ length rows → own + length (receipts_of xs) ≤ calls_of rows station → AreShownIn rows station least own (xs ++ status shown ∷ [])
+shown_in-status rows station least own [] shown h last long low calls =
+    let k = shown.journal_length in
+    let all : take (k + 1) rows ≡ rows = take_all (k + 1) rows (omega arith) in
+    let mine : own ≤ calls_of rows station = omega arith in (
+      record {
+        stands = last_row_at rows k long ∙ ap Some last;
+        long = omega arith;
+        calls = subst (λ (l : List StatusRow). own ≤ calls_of l station) (sym all) mine;
+      },
+      tt,
+    )
+shown_in-status rows station least own (answered q ∷ xs) shown h last long low calls = shown_in-status rows station least (own + 1) xs shown h last long low (omega arith)
+shown_in-status rows station least own (status above ∷ xs) shown h last long low calls =
+    let within : above.journal_length < length rows = slice_get_within rows above.journal_length above h.0.stands in
+    (h.0, shown_in-status rows station above.journal_length own xs shown h.1 last long (omega arith) calls)
+
+-- something more is shown at a seat that knows more rows
+shown_in-push : (rows : List StatusRow) (z : Seated) (station : ℕ) (xs : List Shown) (x : Shown) → z.station ≡ station → AreShownIn rows station 0 0 xs → IsPrefix rows z.rows → IsShownAt z x
+    → length (receipts_of xs) ≤ z.share → AreShownIn z.rows station 0 0 (xs ++ x ∷ [])
+shown_in-push rows z station xs (answered r) same h p at count_bounded = shown_in-answered z.rows station 0 0 xs r (shown_in-more rows z.rows station 0 0 xs p h)
+shown_in-push rows z station xs (status shown) same h p at count_bounded =
+    let number = last_numbered z.rows at.some at.numbered in
+    let long : shown.journal_length + 1 ≡ length z.rows = ap (λ (r : StatusRow). r.journal_length + 1) (sym at.last) ∙ number in
+    let calls : z.share ≤ calls_of z.rows station = subst (λ (n : ℕ). z.share ≤ calls_of z.rows n) same at.own in
+    shown_in-status z.rows station 0 0 xs shown (shown_in-more rows z.rows station 0 0 xs p h) at.last long (let some = at.some in omega arith) (omega arith)
+
+-- a seat that was told of a call knows all that it knew
+pub told_later : (old new : List StatusRow) (station : ℕ) (answer : Answer) → IsToldOfCall old station answer new → IsPrefix old new
+told_later old new station answer t = (t.0 ++ t.1 ∷ [], sym (append_assoc old t.0 (t.1 ∷ [])) ∙ sym t.2)
+
+-- ---- the front of a script
 
 -- the session has shown what belongs to the front of the script, up to the rest
-abbrev pub IsUpTo : Opened → List ℕ → ℕ → List ℕ → SessionValue → Type 0
-IsUpTo opened rest station script s = (shown : List Shown) × HasShown opened station shown s × ((more : List Shown) → IsShownFor rest more → IsShownFor script (shown ++ more))
+abbrev pub IsUpTo : List ℕ → ℕ → List ℕ → SessionValue → Type 0
+IsUpTo rest station script s = (shown : List Shown) × HasShown station shown s × ((more : List Shown) → IsShownFor rest more → IsShownFor script (shown ++ more))
 
-pub up_to_start : (opened : Opened) (z : Seated) (script : List ℕ) → IsUpTo opened script z.station script (new_session z)
-up_to_start opened z script = ([], record { of_tables = tt; station_is = refl; counted = zero-le; receipts = refl; answers = refl }, λ more h. h)
+pub up_to_start : (z : Seated) (script : List ℕ) → IsUpTo script z.station script (new_session z)
+up_to_start z script = ([], record { rows = tt; station_is = refl; counted = zero-le; receipts = refl; answers = refl }, λ more h. h)
 
-pub up_to_blank : (opened : Opened) (rest line after : List ℕ) (station : ℕ) (script : List ℕ) (s : SessionValue) → IsUpTo opened rest station script s → BeginsWithLine rest line after
-    → Means line Blank → IsUpTo opened after station script s
-up_to_blank opened rest line after station script s up begins blank = (up.0, up.1, λ more h. up.2 more (blank_first rest line after more begins blank h))
+pub up_to_blank : (rest line after : List ℕ) (station : ℕ) (script : List ℕ) (s : SessionValue) → IsUpTo rest station script s → BeginsWithLine rest line after
+    → Means line Blank → IsUpTo after station script s
+up_to_blank rest line after station script s up begins blank = (up.0, up.1, λ more h. up.2 more (blank_first rest line after more begins blank h))
 
-pub up_to_shown : (opened : Opened) (rest line after : List ℕ) (station : ℕ) (script : List ℕ) (s t : SessionValue) (x : Shown) → IsUpTo opened rest station script s
-    → BeginsWithLine rest line after → Means line (meaning_of x) → IsWithShown opened s x t → IsUpTo opened after station script t
-up_to_shown opened rest line after station script s t x up begins means with =
+pub up_to_shown : (rest line after : List ℕ) (station : ℕ) (script : List ℕ) (s t : SessionValue) (x : Shown) → IsUpTo rest station script s
+    → BeginsWithLine rest line after → Means line (meaning_of x) → IsWithShown s x t → IsUpTo after station script t
+up_to_shown rest line after station script s t x up begins means with =
     let had = up.1 in
     let own : length s.receipts ≡ length (receipts_of up.0) = ap length had.receipts in
-    let count_bounded : 0 + length (receipts_of up.0) ≤ s.seat.share = omega (arith, own, had.counted) in
-    let grown : length t.receipts ≡ length s.receipts + length (receipt_in x) = ap length with.receipts ∙ length-append s.receipts (receipt_in x) in (
+    let grown : length t.receipts ≡ length s.receipts + length (receipt_in x) = ap length with.receipts ∙ length-append s.receipts (receipt_in x) in
+    let same : t.seat.station ≡ station = with.station ∙ had.station_is in (
       up.0 ++ x ∷ [],
       record {
-        of_tables = shown_of-push opened 0 up.0 x had.of_tables (shown_least opened s.seat.share (0 + length (receipts_of up.0)) x count_bounded with.of_tables);
-        station_is = with.station ∙ up.1.station_is;
+        rows = shown_in-push s.seat.rows t.seat station up.0 x same had.rows with.later with.shown (omega (arith, own, had.counted, with.share));
+        station_is = same;
         counted = omega (arith, grown, had.counted, with.share);
         receipts = with.receipts ∙ ap (λ (l : List Receipt). l ++ receipt_in x) up.1.receipts ∙ sym (receipts_of-push up.0 x);
         answers = with.answers ∙ ap (λ (l : List ℕ). l ++ shown_line x) up.1.answers ∙ sym (answers_of-push up.0 x);
@@ -79,8 +140,8 @@ up_to_shown opened rest line after station script s t x up begins means with =
       λ more h. subst (IsShownFor script) (sym (append_assoc up.0 (x ∷ []) more)) (up.2 (x ∷ more) (shown_first rest line after x more begins means h)),
     )
 
-pub up_to_end : (opened : Opened) (station : ℕ) (script : List ℕ) (s : SessionValue) → IsUpTo opened [] station script s → HasRun opened station script s
-up_to_end opened station script s up = (up.0, subst (IsShownFor script) (append-nil up.0) (up.2 [] ([], refl, tt)), up.1)
+pub up_to_end : (station : ℕ) (script : List ℕ) (s : SessionValue) → IsUpTo [] station script s → HasRun station script s
+up_to_end station script s up = (up.0, subst (IsShownFor script) (append-nil up.0) (up.2 [] ([], refl, tt)), up.1)
 
 -- ---- one worker more
 
@@ -101,20 +162,21 @@ get_last [] x (suc i) e = absurd (omega arith)
 get_last (z ∷ zs) x zero e = absurd (omega arith)
 get_last (z ∷ zs) x (suc i) e = get_last zs x i (omega arith)
 
-pub have_run-push : (opened : Opened) (scripts : List (List ℕ)) (zs : List Seated) (z : Seated) (ss : List SessionValue) (s : SessionValue) (script : List ℕ) (n : ℕ)
-    → HaveRun opened scripts zs ss → length zs ≡ n → length ss ≡ n → slice_get scripts n ≡ Some script → HasRun opened z.station script s → HaveRun opened scripts (zs ++ z ∷ []) (ss ++ s ∷ [])
-have_run-push opened scripts zs z ss s script n ran many same there has i y at =
+pub have_run-push : (scripts : List (List ℕ)) (zs : List Seated) (z : Seated) (ss : List SessionValue) (s : SessionValue) (script : List ℕ) (n : ℕ)
+    → HaveRun scripts zs ss → length zs ≡ n → length ss ≡ n → slice_get scripts n ≡ Some script → HasRun z.station script s → HaveRun scripts (zs ++ z ∷ []) (ss ++ s ∷ [])
+have_run-push scripts zs z ss s script n ran many same there has i y at =
     ⊎_elim
     (λ (old : (i < length zs) × (slice_get zs i ≡ Some y)). let r = ran i y old.1 in (r.0, r.1, get_front ss (s ∷ []) i r.0 r.2, r.3, r.4))
     (λ (new : (i ≡ length zs) × (z ≡ y)). let e = new.0 in let k : i ≡ length ss = omega arith in let at_n : n ≡ i = omega arith in
-    (s, script, get_last ss s i k, subst (λ (j : ℕ). slice_get scripts j ≡ Some script) at_n there, subst (λ (w : Seated). HasRun opened w.station script s) new.1 has))
+    (s, script, get_last ss s i k, subst (λ (j : ℕ). slice_get scripts j ≡ Some script) at_n there, subst (λ (w : Seated). HasRun w.station script s) new.1 has))
     (at_push zs z y i at)
 
 -- what the sessions did is what is reported, once their receipts are those of the journal
 pub reports : (opened : Opened) (journal : List Entry) (scripts : List (List ℕ)) (zs : List Seated) (ss : List SessionValue) (answers : List (List ℕ)) (receipts : List (List Receipt))
-    → AreSeatsInOrder opened.stations zs → HaveRun opened scripts zs ss → length ss ≡ length zs → answers ≡ map (λ s. s.answers) ss → receipts ≡ map (λ s. s.receipts) ss → AreOwn journal receipts opened.stations
+    → AreSeatsInOrder opened.stations zs → HaveRun scripts zs ss → length ss ≡ length zs → answers ≡ map (λ s. s.answers) ss → receipts ≡ map (λ s. s.receipts) ss → AreOwn journal receipts opened.stations
+    → All (AgreesWith (status_rows (history opened journal))) (map (λ s. s.seat) ss)
     → AreReports opened journal scripts answers
-reports opened journal scripts zs ss answers receipts order ran many texts lists own = record {
+reports opened journal scripts zs ss answers receipts order ran many texts lists own agree = record {
   count = ap length texts ∙ length-map ss (λ (s : SessionValue). s.answers) ∙ many ∙ order.0;
   each = λ i low.
       let at = order.1 i low in
@@ -125,11 +187,16 @@ reports opened journal scripts zs ss answers receipts order ran many texts lists
       let mine : slice_get receipts i ≡ Some s.receipts = ap (λ (l : List (List Receipt)). slice_get l i) lists ∙ (slice_get-map (λ (x : SessionValue). x.receipts) ss i ∙ ap (option_map (λ (x : SessionValue). x.receipts)) r.2) in
       let whole = own i low in
       let same : s.receipts ≡ of_station journal (i + 1) = cc in
-      (r.1, s.answers, r.3, text, record { shown = has.0; for_script = has.1; of_tables = has.2.of_tables; own = sym has.2.receipts ∙ same; lines = has.2.answers });
+      let rows = status_rows (history opened journal) in
+      let seat : slice_get (map (λ (s : SessionValue). s.seat) ss) i ≡ Some s.seat = slice_get-map (λ (x : SessionValue). x.seat) ss i ∙ ap (option_map (λ (x : SessionValue). x.seat)) r.2 in
+      let seats = map (λ (x : SessionValue). x.seat) ss in
+      let mine_of : AgreesWith rows s.seat = subst (AgreesWith rows) (get_or_from_slice_get seats i s.seat s.seat seat) (agree i s.seat (slice_get_within seats i s.seat seat)) in
+      let shown : AreShownIn rows (i + 1) 0 0 has.0 = subst (λ (n : ℕ). AreShownIn rows n 0 0 has.0) at.2 (shown_in-more s.seat.rows rows at.0.station 0 0 has.0 mine_of.0 has.2.rows) in
+      (r.1, s.answers, r.3, text, record { shown = has.0; for_script = has.1; rows = shown; own = sym has.2.receipts ∙ same; lines = has.2.answers });
 }
 
 -- each station has its seat after a run
-pub all_seated : (opened : Opened) (scripts : List (List ℕ)) (zs : List Seated) (ss : List SessionValue) → AreSeatsInOrder opened.stations zs → HaveRun opened scripts zs ss
+pub all_seated : (opened : Opened) (scripts : List (List ℕ)) (zs : List Seated) (ss : List SessionValue) → AreSeatsInOrder opened.stations zs → HaveRun scripts zs ss
     → (station : ℕ) → IsLowestMissing (map (λ s. s.seat) ss) opened.stations station → ⊥
 all_seated opened scripts zs ss order ran station missing =
     let i = station - 1 in
@@ -157,7 +224,7 @@ pub in_order : (n : ℕ) → AreSeatsInOrder n (new_seats n)
 in_order zero = (refl, λ i low. absurd (omega arith))
 in_order (suc n) =
     let below = in_order n in
-    let last = seated (n + 1) 0 in
+    let last = seated (n + 1) 0 (opening_row ∷ []) 0 in
     let many = below.0 in (
       omega (arith, length-append (new_seats n) (last ∷ [])),
       λ i low. ⊎_elim

@@ -1,14 +1,15 @@
 -- What stations are shown for the lines of their scripts.
-use Rattle.std.specs.Prelude.{◌≡◌, ◌⊎◌, ℕ, ◌+◌, ◌<◌, ◌≤◌, List, [], ◌∷◌, ◌++◌, length, slice_get, Some}
+use Rattle.std.specs.Prelude.{◌≡◌, ◌⊎◌, ℕ, ◌+◌, ◌<◌, ◌≤◌, List, [], ◌∷◌, ◌++◌, length, take, slice_get, Some}
+use mathlib.Core.List.{IsPrefix}
 use Rattle.catalogue_core.specs.declared.answer.Answer.{Answer}
 use Rattle.catalogue_core.specs.declared.command.Command.{Command}
 use Rattle.catalogue_core.specs.declared.entry.Entry.{Entry}
 use Rattle.shared_catalogue.specs.declared.receipts.Receipt.{Receipt}
 use Rattle.catalogue_core.specs.declared.status.StatusRow.{StatusRow}
 use Rattle.shared_catalogue.specs.OwnCalls.{of_station}
-use Rattle.catalogue_core.specs.Replay.{Opened, History, IsHistoryOf}
-use Rattle.catalogue_core.specs.Status.{row}
+use Rattle.catalogue_core.specs.Replay.{Opened, history}
 use Rattle.shared_catalogue.specs.Seats.{Seated}
+use Rattle.shared_catalogue.specs.StatusRows.{status_rows, last_row, IsNumbered, calls_of}
 use Rattle.station_lines.specs.declared.script.format.TheConstants.{LF}
 use Rattle.station_lines.specs.declared.script.line.Line.{Line}
 use Rattle.station_lines.specs.declared.script.line.Line.TheVariants.{Run, Status, Blank}
@@ -56,19 +57,31 @@ AreShown (line ∷ lines) (x ∷ xs) = (Means line Blank × AreShown lines (x �
 abbrev pub IsShownFor : List ℕ → List Shown → Type 0
 IsShownFor script shown = (lines : List (List ℕ)) × AreLines lines script × AreShown lines shown
 
--- the row is that of a legal history of these opened tables, with at least this number of entries
-abbrev pub IsRowOf : Opened → ℕ → StatusRow → Type 0
-IsRowOf opened least shown = (h : History) × IsHistoryOf opened least h × (shown ≡ row h)
+-- the row stands among these rows, at the index that is its length; it is no shorter than `least`, and up to it the station
+-- has `own` calls at least
+pub record IsRowIn (rows : List StatusRow) (station least own : ℕ) (shown : StatusRow) : Type 0 where
+  pub stands : slice_get rows shown.journal_length ≡ Some shown
+  pub long : least ≤ shown.journal_length
+  pub calls : own ≤ calls_of (take (shown.journal_length + 1) rows) station
 
--- a status row that is shown is one of these opened tables, where the station has had this number of answers before
-abbrev pub IsShownOf : Opened → ℕ → Shown → Type 0
-IsShownOf opened least (answered r) = Unit {0}
-IsShownOf opened least (status shown) = IsRowOf opened least shown
+-- each status row among what is shown to a station is one of these rows, no shorter than the one shown before it, and
+-- not before the entries of the answers shown before it: there were `least` and `own` of these
+abbrev pub AreShownIn : List StatusRow → ℕ → ℕ → ℕ → List Shown → Type 0
+AreShownIn rows station least own [] = Unit {0}
+AreShownIn rows station least own (answered r ∷ xs) = AreShownIn rows station least (own + 1) xs
+AreShownIn rows station least own (status shown ∷ xs) = IsRowIn rows station least own shown × AreShownIn rows station shown.journal_length own xs
 
--- so is each: in the history of a status row the entries of the answers that were shown before it stand already
-abbrev pub AreShownOf : Opened → ℕ → List Shown → Type 0
-AreShownOf opened least [] = Unit {0}
-AreShownOf opened least (x ∷ xs) = IsShownOf opened least x × AreShownOf opened (least + length (receipt_in x)) xs
+-- the row is the last that the seat knows, each of which has its index as its length, and the seat's commands are among them
+pub record IsLastRow (seat : Seated) (shown : StatusRow) : Type 0 where
+  pub last : last_row seat.rows ≡ shown
+  pub some : 0 < length seat.rows
+  pub numbered : IsNumbered seat.rows
+  pub own : seat.share ≤ calls_of seat.rows seat.station
+
+-- a status row that is shown is the last that the seat then knows
+abbrev pub IsShownAt : Seated → Shown → Type 0
+IsShownAt seat (answered r) = Unit {0}
+IsShownAt seat (status shown) = IsLastRow seat shown
 
 -- a station at work: its seat, its receipts, and the text of its answer file so far
 pub record SessionValue : Type 0 where
@@ -82,47 +95,48 @@ session seat receipts answers = record { seat = seat; receipts = receipts; answe
 abbrev pub new_session : Seated → SessionValue
 new_session seat = session seat [] []
 
--- something more was shown in a session over these opened tables, and the seat counts the commands
-pub record IsWithShown (opened : Opened) (old : SessionValue) (x : Shown) (new : SessionValue) : Type 0 where
-  pub of_tables : IsShownOf opened old.seat.share x
+-- something more was shown in a session; the seat counts the commands, and knows all rows that it knew
+pub record IsWithShown (old : SessionValue) (x : Shown) (new : SessionValue) : Type 0 where
+  pub shown : IsShownAt new.seat x
+  pub later : IsPrefix old.seat.rows new.seat.rows
   pub station : new.seat.station ≡ old.seat.station
   pub share : new.seat.share ≡ old.seat.share + length (receipt_in x)
   pub receipts : new.receipts ≡ old.receipts ++ receipt_in x
   pub answers : new.answers ≡ old.answers ++ shown_line x
 
 -- the same for a command, of which its answer was shown
-abbrev pub IsWithAnswer : Opened → SessionValue → Command → SessionValue → Type 0
-IsWithAnswer opened old command new =
-    (answer : Answer) × IsWithShown opened old (answered (record { command = command; answer = answer })) new
+abbrev pub IsWithAnswer : SessionValue → Command → SessionValue → Type 0
+IsWithAnswer old command new =
+    (answer : Answer) × IsWithShown old (answered (record { command = command; answer = answer })) new
 
--- what was shown in a session up to now, over these opened tables
-pub record HasShown (opened : Opened) (station : ℕ) (shown : List Shown) (s : SessionValue) : Type 0 where
-  pub of_tables : AreShownOf opened 0 shown
+-- what was shown in a session up to now, of the rows that its seat knows
+pub record HasShown (station : ℕ) (shown : List Shown) (s : SessionValue) : Type 0 where
+  pub rows : AreShownIn s.seat.rows station 0 0 shown
   pub station_is : s.seat.station ≡ station
   pub counted : length s.receipts ≤ s.seat.share
   pub receipts : s.receipts ≡ receipts_of shown
   pub answers : s.answers ≡ answers_of shown
 
 -- the session is the station's, and has run this script
-abbrev pub HasRun : Opened → ℕ → List ℕ → SessionValue → Type 0
-HasRun opened station script s = (shown : List Shown) × IsShownFor script shown × HasShown opened station shown s
+abbrev pub HasRun : ℕ → List ℕ → SessionValue → Type 0
+HasRun station script s = (shown : List Shown) × IsShownFor script shown × HasShown station shown s
 
 -- at each seat's index is a session of its station that has run the script of that index
-abbrev pub HaveRun : Opened → List (List ℕ) → List Seated → List SessionValue → Type 0
-HaveRun opened scripts seats sessions =
+abbrev pub HaveRun : List (List ℕ) → List Seated → List SessionValue → Type 0
+HaveRun scripts seats sessions =
     (i : ℕ) (z : Seated) → slice_get seats i ≡ Some z
-    → (s : SessionValue) × (script : List ℕ) × (slice_get sessions i ≡ Some s) × (slice_get scripts i ≡ Some script) × HasRun opened z.station script s
+    → (s : SessionValue) × (script : List ℕ) × (slice_get sessions i ≡ Some s) × (slice_get scripts i ≡ Some script) × HasRun z.station script s
 
 -- the seats are those of the stations 1 to n, in order
 abbrev pub AreSeatsInOrder : ℕ → List Seated → Type 0
 AreSeatsInOrder n seats = (length seats ≡ n) × ((i : ℕ) → i < n → (z : Seated) × (slice_get seats i ≡ Some z) × (z.station ≡ i + 1))
 
 -- what was shown for a station's script: the commands and answers among it are the station's in the journal, in
--- order, the status rows are rows of these opened tables, and the answer file has a line for each
+-- order; the status rows are rows of the journal's history, as AreShownIn says; and the answer file has a line for each
 pub record IsReport (opened : Opened) (journal : List Entry) (station : ℕ) (script answers : List ℕ) : Type 0 where
   pub shown : List Shown
   pub for_script : IsShownFor script shown
-  pub of_tables : AreShownOf opened 0 shown
+  pub rows : AreShownIn (status_rows (history opened journal)) station 0 0 shown
   pub own : receipts_of shown ≡ of_station journal station
   pub lines : answers ≡ answers_of shown
 

@@ -52,7 +52,7 @@ pub fn run_stations<J: Naming + Send + Sync, G: Gate + Sync, R: Threads + Wait +
     }
     let sessions = run_sessions(rt, alloc, &shared, gate, seats, scripts)?;
     let (seats, receipts, answers) = split_sessions(alloc, sessions)?;
-    let closed = shared.settle(seats, receipts)?;
+    let closed = shared.settle(rt, seats, receipts)?;
     Ok(Outcome { closed, answers })
 }
 
@@ -67,7 +67,7 @@ fn run_sessions<J: Naming + Send + Sync, G: Gate + Sync, R: Threads + Wait + Syn
 ) -> Result<Vec<Session<J>>, RunFault>
     requires scripts { vec_len seats ≤ length scripts.now }
     ensures count { IfOk result (λ sessions. vec_len sessions ≡ vec_len seats) }
-    ensures each { IfOk result (λ sessions. HaveRun J.opened scripts.now seats.items sessions.items) }
+    ensures each { IfOk result (λ sessions. HaveRun scripts.now seats.items sessions.items) }
     ensures fault { IfErr result (IsFaultOfRun J.opened) }
     ensures no_script_count { ¬ IsErrOf result RunFault.ScriptCount }
 {
@@ -77,7 +77,7 @@ fn run_sessions<J: Naming + Send + Sync, G: Gate + Sync, R: Threads + Wait + Syn
         |scope| -> Result<Vec<Session<J>>, RunFault>
             requires scripts { vec_len seats ≤ length scripts.now }
             ensures count { IfOk result (λ sessions. vec_len sessions ≡ vec_len seats) }
-            ensures each { IfOk result (λ sessions. HaveRun J.opened scripts.entry.now seats.items sessions.items) }
+            ensures each { IfOk result (λ sessions. HaveRun scripts.entry.now seats.items sessions.items) }
             ensures fault { IfErr result (IsFaultOfRun J.opened) }
             ensures no_script_count { ¬ IsErrOf result RunFault.ScriptCount }
         { run_from(scope, rt, alloc, shared, gate, seats, scripts) },
@@ -96,7 +96,7 @@ fn run_from<'s, E, J: Naming + Send + Sync, G: Gate + Sync, R: Threads + Wait + 
 ) -> Result<Vec<Session<J>>, RunFault>
     requires scripts { vec_len seats ≤ length scripts.now }
     ensures count { IfOk result (λ sessions. vec_len sessions ≡ vec_len seats) }
-    ensures each { IfOk result (λ sessions. HaveRun J.opened scripts.now seats.items sessions.items) }
+    ensures each { IfOk result (λ sessions. HaveRun scripts.now seats.items sessions.items) }
     ensures fault { IfErr result (IsFaultOfRun J.opened) }
     ensures no_script_count { ¬ IsErrOf result RunFault.ScriptCount }
 {

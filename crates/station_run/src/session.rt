@@ -52,7 +52,7 @@ impl<J: Naming> Session<J> {
         line: Line,
     ) -> Result<(), Stop>
         requires some { line ≢ Line.Blank }
-        ensures shown { OnOk result ((shown : Shown) × (meaning_of shown ≡ line) × IsWithShown J.opened self.old shown self.new) }
+        ensures shown { OnOk result ((shown : Shown) × (meaning_of shown ≡ line) × IsWithShown self.old shown self.new) }
         ensures stop { IfErr result (IsStopOf J.opened) }
         ensures status { line ≡ Line.Status → ¬ IsErrOf result Stop.JournalFull }
     {
@@ -71,7 +71,7 @@ impl<J: Naming> Session<J> {
         shared: &Shared<J>,
         command: Command,
     ) -> Result<(), Stop>
-        ensures shown { OnOk result (IsWithAnswer J.opened self.old command self.new) }
+        ensures shown { OnOk result (IsWithAnswer self.old command self.new) }
         ensures stop { IfErr result (IsStopOf J.opened) }
     {
         let answer = shared.perform(alloc, rt, &mut self.seat, &command)?;
@@ -83,7 +83,7 @@ impl<J: Naming> Session<J> {
 
     // Looks at the status row, and keeps its line.
     fn show_status(&mut self, alloc: Global, rt: &impl Wait, shared: &Shared<J>) -> Result<(), Stop>
-        ensures shown { OnOk result ((row : RowValue) × IsWithShown J.opened self.old (status row) self.new) }
+        ensures shown { OnOk result ((row : RowValue) × IsWithShown self.old (status row) self.new) }
         ensures stop { IfErr result (IsStopOf J.opened) }
         ensures no_journal_full { ¬ IsErrOf result Stop.JournalFull }
     {

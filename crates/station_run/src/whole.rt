@@ -30,11 +30,11 @@ pub fn run_catalogue<G: Gate + Sync, R: Threads + Wait + Sync>(
     ensures fault { IfErr result (IsFaultOfRun catalogue.opened) }
     ensures count { IsErrOf result RunFault.ScriptCount → length scripts.now ≢ catalogue.opened.stations }
 {
-    let lot = Lot::new(catalogue.station_count());
+    let lot = Lot::new(alloc, catalogue.station_count())?;
     run_as::<Brand, G, R>(rt, alloc, lot, catalogue, scripts, gate)
 }
 
-// The same for the ledger and the opened tables of a name.
+// The same for the ledger, the board and the opened tables of a name.
 fn run_as<J: Naming + Send + Sync, G: Gate + Sync, R: Threads + Wait + Sync>(
     rt: &R,
     alloc: Global,
@@ -46,6 +46,7 @@ fn run_as<J: Naming + Send + Sync, G: Gate + Sync, R: Threads + Wait + Sync>(
     requires empty { catalogue.journal ≡ [] }
     requires opened { catalogue.opened ≡ J.opened }
     requires ledger { (lot.ledger ≡ J.name) × (lot.parts ≡ J.parts) }
+    requires board { lot.board ≡ J.board }
     requires parts { lot.parts ≡ catalogue.opened.stations }
     ensures opened { IfOk result (λ outcome. outcome.closed.opened ≡ J.opened) }
     ensures scripts { IfOk result (λ _. length scripts.now ≡ J.opened.stations) }

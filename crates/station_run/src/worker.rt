@@ -29,7 +29,7 @@ impl<J: Naming> Promise<Result<Session<J>, Stop>> for Runs {
     ghost use Rattle.station_run.specs.Faults.{IsStopOf};
     ghost use Rattle.station_run.specs.Reports.{HasRun};
 
-    ghost kept_by = { λ p r. MatchResult r (HasRun J.opened p.station p.script.value) (IsStopOf J.opened) };
+    ghost kept_by = { λ p r. MatchResult r (HasRun p.station p.script.value) (IsStopOf J.opened) };
 }
 
 /// A worker's thread, which ends with its session.
@@ -55,7 +55,7 @@ fn run_script<J: Naming, G: Gate, R: Wait>(
     seat: Seat<J>,
     script: &Bytes,
 ) -> Result<Session<J>, Stop>
-    ensures ran { IfOk result (HasRun J.opened seat.station script.now) }
+    ensures ran { IfOk result (HasRun seat.station script.now) }
     ensures stop { IfErr result (IsStopOf J.opened) }
 {
     let station = seat.station();

@@ -1,6 +1,9 @@
 use Rattle.std.proofs.Common.{◌≡◌, List, length, Err, ap, subst, ◌∙◌, rules}
+use Rattle.std.specs.Prelude.{All}
 use Rattle.std.proofs.lemmas.List.{length-map}
-use Rattle.shared_catalogue.specs.Seats.{Seated, IsLowestMissing}
+use Rattle.catalogue_core.specs.Replay.{Opened, history}
+use Rattle.shared_catalogue.specs.Seats.{Seated, IsLowestMissing, AgreesWith}
+use Rattle.shared_catalogue.specs.StatusRows.{status_rows}
 use Rattle.station_run.specs.Reports.{SessionValue}
 use Rattle.station_run.proofs.RunLaws.{reports, all_seated, settle_fault, err_settled}
 use Rattle.station_run.proofs.run.run_stations.Goals as goal
@@ -9,8 +12,12 @@ pub returns-clause-reports : goal.returns-clause-reports
 returns-clause-reports g c =
     let p = c.in_ok-seats.ensures in
     let many : length c.in_ok-sessions.sessions.items ≡ length c.args.seats.items = search rules in
-    reports g.J.Naming.opened c.in_ok-closed.closed.journal c.args.scripts.now c.args.seats.items c.in_ok-sessions.sessions.items c.in_ok-seats.answers.items c.in_ok-seats.receipts.items
-    c.requires.seats c.in_ok-sessions.ensures.each many p.answers p.receipts c.in_ok-closed.ensures.own
+    let opened = g.J.Naming.opened in
+    let journal = c.in_ok-closed.closed.journal in
+    let rows : All (AgreesWith (status_rows (history opened journal))) c.in_ok-seats.seats.items = subst (λ (o : Opened). All (AgreesWith (status_rows (history o journal))) c.in_ok-seats.seats.items) c.in_ok-closed.ensures.opened c.in_ok-closed.ensures.agrees in
+    let agree = subst (All (AgreesWith (status_rows (history opened journal)))) p.seats rows in
+    reports opened c.in_ok-closed.closed.journal c.args.scripts.now c.args.seats.items c.in_ok-sessions.sessions.items c.in_ok-seats.answers.items c.in_ok-seats.receipts.items
+    c.requires.seats c.in_ok-sessions.ensures.each many p.answers p.receipts c.in_ok-closed.ensures.own agree
 
 pub returns-in_err-closed-clause-fault : goal.returns-in_err-closed-clause-fault
 returns-in_err-closed-clause-fault g c =

@@ -7,7 +7,7 @@ use Rattle.station_run.proofs.worker.run_script.Goals as goal
 pub loop-text-preserved-in_default-2 : goal.loop-text-preserved-in_default-2
 loop-text-preserved-in_default-2 g c =
     record {
-      up_to = up_to_blank g.J.Naming.opened c.loop-text.cursor c.in-Some.text.now c.next_line.new.self c.station-station.result c.args.script.now c.loop-text.session c.loop-text.invariant.up_to c.in-Some.ensures.line (c.parse_unless_blank.ensures.none cc);
+      up_to = up_to_blank c.loop-text.cursor c.in-Some.text.now c.next_line.new.self c.station-station.result c.args.script.now c.loop-text.session c.loop-text.invariant.up_to c.in-Some.ensures.line (c.parse_unless_blank.ensures.none cc);
       count = omega (arith, c.loop-text.invariant.count, c.in-Some.ensures.shorter);
     }
 
@@ -20,27 +20,25 @@ loop-text-preserved g c =
     let shown = c.in_ok-run_line.ensures.shown in
     let means : Means c.in-Some.text.now (meaning_of shown.0) = subst (Means c.in-Some.text.now) (sym shown.1) read.0 in
     record {
-      up_to = up_to_shown g.J.Naming.opened c.loop-text.cursor c.in-Some.text.now c.next_line.new.self c.station-station.result c.args.script.now c.loop-text.session c.run_line.new.self shown.0 c.loop-text.invariant.up_to c.in-Some.ensures.line means shown.2;
+      up_to = up_to_shown c.loop-text.cursor c.in-Some.text.now c.next_line.new.self c.station-station.result c.args.script.now c.loop-text.session c.run_line.new.self shown.0 c.loop-text.invariant.up_to c.in-Some.ensures.line means shown.2;
       count = omega (arith, c.loop-text.invariant.count, c.in-Some.ensures.shorter);
     }
 
 pub loop-text-init : goal.loop-text-init
 loop-text-init g c =
-    let opened = g.J.Naming.opened in
     let z = c.args.seat in
     let script = c.args.script.now in
     let same : c.lines-cursor.result ≡ script = c.lines-cursor.ensures.value ∙ c.as_slice.ensures.value in
     record {
       up_to =
-          subst (λ (s : SessionValue). IsUpTo opened c.lines-cursor.result c.station-station.result script s) (sym c.new-session.ensures.value)
-          (subst (λ k. IsUpTo opened c.lines-cursor.result k script (new_session z)) (sym c.station-station.ensures.value)
-          (subst (λ (l : List ℕ). IsUpTo opened l z.station script (new_session z)) (sym same) (up_to_start opened z script)));
+          subst (λ (s : SessionValue). IsUpTo c.lines-cursor.result c.station-station.result script s) (sym c.new-session.ensures.value)
+          (subst (λ k. IsUpTo c.lines-cursor.result k script (new_session z)) (sym c.station-station.ensures.value)
+          (subst (λ (l : List ℕ). IsUpTo l z.station script (new_session z)) (sym same) (up_to_start z script)));
       count = omega (arith, ap length same);
     }
 
 pub returns-clause-ran : goal.returns-clause-ran
 returns-clause-ran g c =
-    let opened = g.J.Naming.opened in
     let ended : c.loop-text.cursor ≡ [] = c.in_default.ensures.none in
-    subst (λ k. HasRun opened k c.args.script.now c.loop-text.session) c.station-station.ensures.value
-    (up_to_end opened c.station-station.result c.args.script.now c.loop-text.session (subst (λ (l : List ℕ). IsUpTo opened l c.station-station.result c.args.script.now c.loop-text.session) ended c.loop-text.invariant.up_to))
+    subst (λ k. HasRun k c.args.script.now c.loop-text.session) c.station-station.ensures.value
+    (up_to_end c.station-station.result c.args.script.now c.loop-text.session (subst (λ (l : List ℕ). IsUpTo l c.station-station.result c.args.script.now c.loop-text.session) ended c.loop-text.invariant.up_to))
