@@ -1,6 +1,6 @@
 -- What holds of each slot.
 use Rattle.std.proofs.Common.{ℕ, zero, suc, inl, inr, ◌-◌, ◌<◌, ◌≤◌, List, [], ◌∷◌, length, take, drop, replicate, get_or, set, slice_range, refl, arith}
-use Rattle.lock_table.specs.declared.TheConstants.{MAX_RECORDS}
+use Rattle.lock_table.specs.declared.TheConstants.{MAX_RECORD_LOCKS}
 use Rattle.lock_table.specs.Numbers.{AreRecordNumbers, different}
 use Rattle.lock_table.specs.NumberLaws.{ascending_different, records_different, length_different}
 use Rattle.lock_table.specs.Slots.{IsSlot, EachSlot}
@@ -37,7 +37,7 @@ pub slot_table : IsSlot (0 ∷ [])
 slot_table = record { ascending = (tt, tt); allowed = inl refl }
 
 -- a slot with locks on the different records of a list
-pub slot_records : (ns : List ℕ) → AreRecordNumbers ns → length ns ≤ MAX_RECORDS → IsSlot (different ns)
+pub slot_records : (ns : List ℕ) → AreRecordNumbers ns → length ns ≤ MAX_RECORD_LOCKS → IsSlot (different ns)
 slot_records ns are few = record { ascending = ascending_different ns; allowed = inr (records_different ns are, omega (arith, length_different ns)) }
 
 pub each_empty : (k : ℕ) → EachSlot (replicate k [])

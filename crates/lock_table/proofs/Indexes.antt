@@ -11,7 +11,7 @@ use Rattle.lock_table.specs.Slots.{slot_index_of, lock_at}
 pub rows_rise : (q t n : ℕ) → q < t → q * n + n ≤ t * n
 rows_rise q t n h = omega (arith, mul-le-mul_right {m = q + 1} {n = t} n (omega arith))
 
--- rows of so many columns, one after the other, that count from 1
+-- rows of a number of columns, one after the other, that count from 1
 before_pair : (q r t s n : ℕ) → r < n → 1 ≤ t → 1 ≤ s → s ≤ n → (nat_lt (q + 1) t || (q + 1 == t && nat_lt (r + 1) s)) ≡ nat_lt (q * n + r) ((t - 1) * n + (s - 1))
 before_pair q r t s n a b c d = grind (arith, nat_tests, rows_rise q (t - 1) n, rows_rise (t - 1) q n)
 
@@ -40,7 +40,7 @@ pub table_index : (n t q r : ℕ) → 0 < n → 1 ≤ t → ((lock_at n q r).tab
 table_index n t q r b c =
     row_pair (q / n) (q % n) t n (mod-lt q b) c ∙ ap (λ (x : ℕ). nat_le ((t - 1) * n) x && nat_lt x ((t - 1) * n + n)) (div-add-mod' q n)
 
--- the lock of a slot that is so many stations into a row
+-- the lock of a slot that is a number of stations into a row
 pub lock_in_row : (n t i r : ℕ) → 1 ≤ t → i < n → lock_at n ((t - 1) * n + i) r ≡ lock_of t (i + 1) r
 lock_in_row n t i r b h =
     let table : ((t - 1) * n + i) / n + 1 ≡ t = omega (arith, div-mul-add (t - 1) n i h) in

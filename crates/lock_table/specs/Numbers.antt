@@ -39,6 +39,6 @@ abbrev pub different : List ℕ → List ℕ
 different [] = []
 different (n ∷ ns) = with_number n (different ns)
 
--- what a station may have locked in a table: by 0 the whole table alone, or so many records at most
+-- what a station may have locked in a table: by 0 the whole table alone, or at most the given number of records
 abbrev pub IsTableOrRecords : ℕ → List ℕ → Type 0
 IsTableOrRecords most numbers = (numbers ≡ 0 ∷ []) ⊎ (AreRecordNumbers numbers × (length numbers ≤ most))

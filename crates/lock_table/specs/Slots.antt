@@ -1,11 +1,11 @@
 -- How the locks are kept: a slot for each table and station, table by table. A slot is seen as the list of
 -- the numbers that the station has locked in the table.
 use Rattle.std.specs.Prelude.{◌≡◌, ℕ, ◌≤◌, ◌+◌, ◌-◌, ◌*◌, ◌/◌, ◌%◌, List, [], ◌∷◌, ◌++◌, length, map, slice_index_or}
-use Rattle.lock_table.specs.declared.TheConstants.{MAX_RECORDS}
+use Rattle.lock_table.specs.declared.TheConstants.{MAX_RECORD_LOCKS}
 use Rattle.lock_table.specs.Numbers.{AreAscending, IsTableOrRecords}
 use Rattle.lock_table.specs.Locks.{Lock, lock_of, own_numbers, AreApart}
 
--- the index of the slot of a station and a table, where there are so many stations
+-- the index of the slot of a station and a table, for a number of stations
 abbrev pub slot_index_of : ℕ → ℕ → ℕ → ℕ
 slot_index_of stations station table = (table - 1) * stations + (station - 1)
 
@@ -33,14 +33,14 @@ locks_of stations slots = locks_from stations 0 slots
 -- what a slot may be: the whole table alone or records, few enough and ascending
 pub record IsSlot (numbers : List ℕ) : Type 0 where
   pub ascending : AreAscending numbers
-  pub allowed : IsTableOrRecords MAX_RECORDS numbers
+  pub allowed : IsTableOrRecords MAX_RECORD_LOCKS numbers
 
 -- each slot is one
 abbrev pub EachSlot : List (List ℕ) → Type 0
 EachSlot [] = Unit {0}
 EachSlot (numbers ∷ slots) = IsSlot numbers × EachSlot slots
 
--- a table's row of slots tells what each of so many stations has locked there
+-- a table's row of slots tells what each of a number of stations has locked there
 abbrev pub IsSlotRow : List Lock → ℕ → ℕ → List (List ℕ) → Type 0
 IsSlotRow locks stations table row = (station : ℕ) → 1 ≤ station → station ≤ stations → own_numbers locks station table ≡ slice_index_or row (station - 1) []
 

@@ -1,7 +1,7 @@
 //! Locks of stations on records and on whole tables.
 //!
 //! [`Locks`] is seen by contracts as the list of the locks that are held (`specs/Locks.antt`). A station has in a
-//! table one lock on the whole table, or locks on [`MAX_RECORDS`] records at most. Locks are given, all that are
+//! table one lock on the whole table, or locks on [`MAX_RECORD_LOCKS`] records at most. Locks are given, all that are
 //! asked for or none, exactly where no lock of another station bars one of them, and then they replace those that
 //! the station had in that table; so no record is locked by two stations. Start reading at `specs/Locks.antt`,
 //! then `locks.rt`.
@@ -18,7 +18,7 @@ mod slot;
 pub use locks::Locks;
 
 /// The most records that a station may have locked in a table.
-pub const MAX_RECORDS: usize = 50;
+pub const MAX_RECORD_LOCKS: usize = 50;
 
 /// The different numbers of a list: all of the list's numbers and no others, ascending; and only one list is so.
 pub fn different_numbers()

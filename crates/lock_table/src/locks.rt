@@ -6,7 +6,7 @@ ghost use Rattle.lock_table.specs.Numbers.{AreRecordNumbers, IsTableOrRecords};
 ghost use Rattle.lock_table.specs.Locks.{held, in_table, free_record, free_records, free_whole, may_write, holder, record_locks, own_numbers, with_lock, with_records, without, without_all, AreApart, AreLocksInOrder};
 ghost use Rattle.lock_table.specs.Slots.{slot_index_of, row_from, EachSlot, IsSlotRow};
 
-use crate::MAX_RECORDS;
+use crate::MAX_RECORD_LOCKS;
 use crate::slot::{Slot, WHOLE_TABLE};
 use std::alloc::{AllocError, Global};
 use std::marker::Model;
@@ -37,7 +37,7 @@ impl Model for Locks {
 }
 
 impl Locks {
-    /// No locks, for a number of stations and of tables, with room for [`MAX_RECORDS`] locks of each station in each
+    /// No locks, for a number of stations and of tables, with room for [`MAX_RECORD_LOCKS`] locks of each station in each
     /// table. An error is want of memory.
     pub fn new(alloc: Global, stations: u32, tables: u32) -> Result<Locks, AllocError>
         ensures value { IfOk result (λ locks. locks ≡ held stations tables []) }
@@ -78,7 +78,7 @@ impl Locks {
         requires table { 1 ≤ table }
         requires tables { table ≤ self.old.tables }
         requires some { 1 ≤ length numbers.now }
-        requires count_bounded { length numbers.now ≤ MAX_RECORDS }
+        requires count_bounded { length numbers.now ≤ MAX_RECORD_LOCKS }
         requires numbers { AreRecordNumbers numbers.now }
         requires free { free_records self.old.locks station table numbers.now ≡ true }
         ensures value { self.new ≡ held self.old.stations self.old.tables (with_records self.old.locks station table numbers.now) }
@@ -130,7 +130,7 @@ impl Locks {
         requires table { 1 ≤ table }
         requires tables { table ≤ self.old.tables }
         requires some { 1 ≤ length numbers.now }
-        requires count_bounded { length numbers.now ≤ MAX_RECORDS }
+        requires count_bounded { length numbers.now ≤ MAX_RECORD_LOCKS }
         requires numbers { AreRecordNumbers numbers.now }
         ensures free { result ≡ free_records self.old.locks station table numbers.now }
         ensures taken { result ≡ true → self.new ≡ held self.old.stations self.old.tables (with_records self.old.locks station table numbers.now) }
@@ -215,7 +215,7 @@ impl Locks {
         ensures value { result ≡ may_write self.now.locks station table number }
         ensures apart { AreApart self.now.locks }
         ensures order { AreLocksInOrder self.now.locks }
-        ensures own { IsTableOrRecords MAX_RECORDS (own_numbers self.now.locks station table) }
+        ensures own { IsTableOrRecords MAX_RECORD_LOCKS (own_numbers self.now.locks station table) }
     {
         let own = station as usize - 1;
         self.row(table)[own].covers(number)
@@ -324,7 +324,7 @@ impl Locks {
     }
 }
 
-// So many slots without locks.
+// A number of slots without locks.
 fn empty_slots(alloc: Global, count: usize) -> Result<Vec<Slot>, AllocError>
     ensures value { IfOk result (λ slots. slots.items ≡ replicate count []) }
 {

@@ -2,10 +2,10 @@
 
 ghost use Rattle.std.specs.Prelude.{◌≡◌, ℕ, nat_lt, nat_le, ◌+◌, ◌*◌, ◌<◌, ◌≤◌, ◌||◌, ◌==◌, List, [], ◌∷◌, length, take};
 ghost use Rattle.std.specs.List.{list_any, filter, insert, position_or_len};
-ghost use Rattle.lock_table.specs.declared.TheConstants.{MAX_RECORDS};
+ghost use Rattle.lock_table.specs.declared.TheConstants.{MAX_RECORD_LOCKS};
 ghost use Rattle.lock_table.specs.Numbers.{with_number, different, AreAtMost, IsTableOrRecords};
 
-use crate::MAX_RECORDS;
+use crate::MAX_RECORD_LOCKS;
 use std::marker::Model;
 
 /// The number by which a lock is on the whole table.
@@ -16,8 +16,8 @@ pub(crate) const WHOLE_TABLE: u32 = 0;
 #[derive(Debug, Drop)]
 pub(crate) struct Slot {
     count: u32,
-    // The first so many are the locked ones.
-    numbers: [u32; MAX_RECORDS],
+    // The first `count` are the locked ones.
+    numbers: [u32; MAX_RECORD_LOCKS],
 }
 
 impl Model for Slot {
@@ -25,7 +25,7 @@ impl Model for Slot {
 
     ghost view = { λ s. take s.count s.numbers };
 
-    ghost invariant = { λ s. s.count ≤ MAX_RECORDS };
+    ghost invariant = { λ s. s.count ≤ MAX_RECORD_LOCKS };
 }
 
 impl Slot {
@@ -35,7 +35,7 @@ impl Slot {
     {
         Slot {
             count: 0,
-            numbers: [0; MAX_RECORDS],
+            numbers: [0; MAX_RECORD_LOCKS],
         }
     }
 
@@ -45,13 +45,13 @@ impl Slot {
     {
         Slot {
             count: 1,
-            numbers: [WHOLE_TABLE; MAX_RECORDS],
+            numbers: [WHOLE_TABLE; MAX_RECORD_LOCKS],
         }
     }
 
     /// Locks on the different records of a list.
     pub(crate) fn of_records(numbers: &[u32]) -> Slot
-        requires count_bounded { length numbers.now ≤ MAX_RECORDS }
+        requires count_bounded { length numbers.now ≤ MAX_RECORD_LOCKS }
         ensures value { result ≡ different numbers.now }
     {
         let mut slot = Slot::empty();
@@ -70,7 +70,7 @@ impl Slot {
 
     // Puts a number among the ascending ones, unless it is one of them.
     fn insert(&mut self, number: u32)
-        requires room { length self.old < MAX_RECORDS }
+        requires room { length self.old < MAX_RECORD_LOCKS }
         ensures value { self.new ≡ with_number number self.old }
     {
         let held = self.as_slice();
@@ -83,7 +83,7 @@ impl Slot {
 
     // Puts a number before those from a place on.
     fn put(&mut self, at: usize, number: u32)
-        requires room { length self.old < MAX_RECORDS }
+        requires room { length self.old < MAX_RECORD_LOCKS }
         requires place { at ≤ length self.old }
         ensures value { self.new ≡ insert self.old at number }
     {
@@ -118,7 +118,7 @@ impl Slot {
 
     /// How many records are locked. They are not counted one by one.
     pub(crate) fn record_count(&self) -> u32
-        requires allowed { IsTableOrRecords MAX_RECORDS self.now }
+        requires allowed { IsTableOrRecords MAX_RECORD_LOCKS self.now }
         ensures value { result ≡ length (filter (λ n. nat_lt 0 n) self.now) }
         ensures bounded { AreAtMost u32.MAX self.now }
     {
@@ -128,7 +128,7 @@ impl Slot {
 
 // How many of a slot's numbers are of records.
 fn records_in(held: &[u32]) -> u32
-    requires allowed { IsTableOrRecords MAX_RECORDS held.now }
+    requires allowed { IsTableOrRecords MAX_RECORD_LOCKS held.now }
     ensures value { result ≡ length (filter (λ n. nat_lt 0 n) held.now) }
     ensures bounded { AreAtMost u32.MAX held.now }
 {

@@ -3,18 +3,18 @@
 ghost use Rattle.std.specs.Prelude.{◌≡◌, ℕ, ◌<◌, ◌≤◌, IfOk, length};
 ghost use Rattle.lock_table.specs.Numbers.{AreRecordNumbers};
 
-use crate::{Locks, MAX_RECORDS};
+use crate::{Locks, MAX_RECORD_LOCKS};
 use std::alloc::{AllocError, Global};
 use std::test::Fail;
 
 // The numbers from the limit down to 1.
 fn down_from_limit(alloc: Global) -> Result<Vec<u32>, AllocError>
     ensures records { IfOk result (λ numbers. AreRecordNumbers numbers.items) }
-    ensures count { IfOk result (λ numbers. length numbers.items ≡ MAX_RECORDS) }
+    ensures count { IfOk result (λ numbers. length numbers.items ≡ MAX_RECORD_LOCKS) }
 {
     let mut numbers = Vec::new(alloc);
-    for i in 0..MAX_RECORDS {
-        numbers.push((MAX_RECORDS - i) as u32)?;
+    for i in 0..MAX_RECORD_LOCKS {
+        numbers.push((MAX_RECORD_LOCKS - i) as u32)?;
     }
     Ok(numbers)
 }
@@ -25,7 +25,7 @@ fn writable(locks: &Locks, station: u32) -> usize
     requires stations { station ≤ locks.now.stations }
     requires tables { 1 ≤ locks.now.tables }
 {
-    (0..MAX_RECORDS as u32 + 1)
+    (0..MAX_RECORD_LOCKS as u32 + 1)
         .filter(|i| locks.may_write(station, 1, *i + 1))
         .count()
 }
@@ -33,7 +33,7 @@ fn writable(locks: &Locks, station: u32) -> usize
 #[test]
 fn fifty_locks_and_one_more(rt: HostRuntime) -> Result<(), Fail> {
     let numbers = down_from_limit(rt.alloc())?;
-    let one_more = MAX_RECORDS as u32 + 1;
+    let one_more = MAX_RECORD_LOCKS as u32 + 1;
     let mut locks = Locks::new(rt.alloc(), 2, 1)?;
     let taken = locks.try_records(1, 1, &numbers);
     assert_eq!(rt;

@@ -3,7 +3,7 @@
 ghost use Rattle.std.specs.Prelude.{◌≡◌, ℕ, ◌+◌, ◌<◌, ◌≤◌, IfOk, length};
 ghost use Rattle.lock_table.specs.Numbers.{AreRecordNumbers};
 
-use crate::{Locks, MAX_RECORDS};
+use crate::{Locks, MAX_RECORD_LOCKS};
 use std::alloc::{AllocError, Global};
 use std::test::Fail;
 
@@ -38,7 +38,7 @@ impl Random {
         ((self.state >> 33) % u64::from(limit)) as u32
     }
 
-    // The number of one of so many, from 1.
+    // The number of one of some, from 1.
     fn one_of(&mut self, count: u32) -> u32
         requires some { 1 ≤ count }
         ensures low { 1 ≤ result }
@@ -50,7 +50,7 @@ impl Random {
     // Some records: mostly few, at times as many as a station may lock.
     fn records(&mut self, alloc: Global) -> Result<Vec<u32>, AllocError>
         ensures some { IfOk result (λ numbers. 1 ≤ length numbers.items) }
-        ensures count_bounded { IfOk result (λ numbers. length numbers.items ≤ MAX_RECORDS) }
+        ensures count_bounded { IfOk result (λ numbers. length numbers.items ≤ MAX_RECORD_LOCKS) }
         ensures records { IfOk result (λ numbers. AreRecordNumbers numbers.items) }
     {
         let most = if self.below(8) == 0 { 50 } else { 3 };
@@ -182,7 +182,7 @@ fn tried(
     requires table { 1 ≤ table }
     requires table_bounded { table ≤ 3 }
     requires some { 1 ≤ length numbers.now }
-    requires count_bounded { length numbers.now ≤ MAX_RECORDS }
+    requires count_bounded { length numbers.now ≤ MAX_RECORD_LOCKS }
     requires records { AreRecordNumbers numbers.now }
     ensures stations { locks.new.stations ≡ 16 }
     ensures tables { locks.new.tables ≡ 3 }
@@ -291,7 +291,7 @@ fn changed(
     requires table { 1 ≤ table }
     requires table_bounded { table ≤ 3 }
     requires some { 1 ≤ length numbers.now }
-    requires count_bounded { length numbers.now ≤ MAX_RECORDS }
+    requires count_bounded { length numbers.now ≤ MAX_RECORD_LOCKS }
     requires records { AreRecordNumbers numbers.now }
     requires number { 1 ≤ number }
     ensures stations { locks.new.stations ≡ 16 }

@@ -1,7 +1,7 @@
 use Rattle.std.proofs.Common.{◌≡◌, ◌≢◌, inl, inr, ◌<◌, ◌≤◌, ℕ, suc, true, nat_lt, List, [], ◌∷◌, length, get_or, refl, sym, ap, subst, arith}
 use Rattle.std.specs.List.{filter}
 use Rattle.std.proofs.lemmas.Bool.Decides.{nat_tests}
-use Rattle.lock_table.specs.declared.TheConstants.{MAX_RECORDS}
+use Rattle.lock_table.specs.declared.TheConstants.{MAX_RECORD_LOCKS}
 use Rattle.lock_table.specs.Numbers.{AreRecordNumbers, IsListed, IsTableOrRecords}
 use Rattle.lock_table.proofs.slot.records_in.Goals as goal
 use Rattle.lock_table.proofs.slot.records_in.Goals.{else-held-gt0-via-then-held-gt0+else-held-eq-WHOLE_TABLE, else-held-gt0-via-else-held-gt0}
@@ -35,7 +35,7 @@ pub returns-then-held-eq-WHOLE_TABLE : goal.returns-then-held-eq-WHOLE_TABLE
 returns-then-held-eq-WHOLE_TABLE c =
     let held = c.args.held.now in
     record {
-      value = in_table MAX_RECORDS held c.requires.allowed c.if-held-gt0.true c.if-held-eq-WHOLE_TABLE.true;
+      value = in_table MAX_RECORD_LOCKS held c.requires.allowed c.if-held-gt0.true c.if-held-eq-WHOLE_TABLE.true;
       bounded = λ n h. let i = listed_at held n h in omega (arith, i.1, c.type_inv.held i.0);
     }
 
@@ -48,6 +48,6 @@ returns c =
       | else-held-gt0-via-else-held-gt0 w ↦ λ h. absurd (omega (arith, w.if-held-gt0.false))
     ] in
     record {
-      value = in_records MAX_RECORDS held c.requires.allowed other;
+      value = in_records MAX_RECORD_LOCKS held c.requires.allowed other;
       bounded = λ n h. let i = listed_at held n h in omega (arith, i.1, c.type_inv.held i.0);
     }

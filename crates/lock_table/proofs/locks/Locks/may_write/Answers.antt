@@ -1,7 +1,7 @@
 use Rattle.std.proofs.Common.{◌||◌, ◌-◌, ◌==◌, ◌∙◌, ℕ, [], List, length, ap, sym, subst, ◌<◌, arith}
 use Rattle.std.specs.List.{list_any}
 use Rattle.std.proofs.lemmas.List.{get_or_read}
-use Rattle.lock_table.specs.declared.TheConstants.{MAX_RECORDS}
+use Rattle.lock_table.specs.declared.TheConstants.{MAX_RECORD_LOCKS}
 use Rattle.lock_table.specs.Numbers.{IsTableOrRecords}
 use Rattle.lock_table.specs.Locks.{lets_write}
 use Rattle.lock_table.proofs.Each.{each_at}
@@ -22,5 +22,5 @@ pub returns-clause-own : goal.returns-clause-own
 returns-clause-own c =
     let s = c.args.station in
     let row = c.row.result.now in
-    let P : List ℕ → Type 0 = IsTableOrRecords MAX_RECORDS in
+    let P : List ℕ → Type 0 = IsTableOrRecords MAX_RECORD_LOCKS in
     subst P (sym (c.row.ensures.own s c.requires.station c.requires.stations)) (each_at row (s - 1) c.row.ensures.each (omega (arith, c.row.ensures.length))).allowed

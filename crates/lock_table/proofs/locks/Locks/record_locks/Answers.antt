@@ -2,7 +2,7 @@ use Rattle.std.proofs.Common.{◌≡◌, ◌+◌, ◌<◌, ℕ, List, [], length
 use Rattle.std.specs.List.{filter}
 use Rattle.std.proofs.lemmas.List.{get_or_read}
 use Rattle.std.below.core.specs.declared.int.u32.TheConstants.{MAX}
-use Rattle.lock_table.specs.declared.TheConstants.{MAX_RECORDS}
+use Rattle.lock_table.specs.declared.TheConstants.{MAX_RECORD_LOCKS}
 use Rattle.lock_table.specs.Numbers.{AreAtMost, IsTableOrRecords}
 use Rattle.lock_table.specs.Locks.{HeldLocks}
 use Rattle.lock_table.proofs.Each.{each_at}
@@ -15,7 +15,7 @@ record_count-count-requires c =
     let i = c.loop-other.other in
     let row = c.row-row.result.now in
     let there : i < length row = omega (arith, c.row-row.ensures.length, ap (λ (h : HeldLocks). h.stations) c.self.view_is) in
-    let P : List ℕ → Type 0 = IsTableOrRecords MAX_RECORDS in
+    let P : List ℕ → Type 0 = IsTableOrRecords MAX_RECORD_LOCKS in
     record { allowed = subst P (sym (get_or_read row i c.index-row-other.result there c.index-row-other.is [])) (each_at row i c.row-row.ensures.each there).allowed }
 
 pub overflow_add-count : goal.overflow_add-count
