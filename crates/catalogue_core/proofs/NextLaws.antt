@@ -1,21 +1,24 @@
 -- What a command's outcome keeps: it is a state of as many stations and the same tables, all other stations have
 -- the areas that they had, and the answer is no refusal. Here for the commands on locks, moves and edits.
-use Rattle.std.proofs.Common.{◌≡◌, ◌≢◌, inl, inr, ℕ, ◌-◌, ◌≤◌, Bool, true, false, List, length, slice_set, slice_index_or, Option, Some, None, Result, Ok, refl, sym, ap, subst, ◌∙◌, arith, length-set}
-use Rattle.std.proofs.lemmas.Bool.{cases_eq}
+use Rattle.std.proofs.Common.{◌≡◌, ◌≢◌, ◌⊎◌, inl, inr, ℕ, ◌-◌, ◌≤◌, Bool, true, false, nat_le, List, [], ◌∷◌, length, slice_set, slice_index_or, Option, Some, None, Result, Ok, refl, sym, ap, subst, ◌∙◌, arith, length-set}
+use Rattle.std.proofs.lemmas.Bool.{cases_eq, and_parts}
 use Rattle.std.specs.Prelude.{IfOk}
 use Rattle.std.specs.Int.{is_in_range}
+use Rattle.std.specs.List.{list_all}
 use Rattle.std.proofs.Math.Seq.{map-set_same}
 use Rattle.std.proofs.lemmas.List.{get_or-set_same, get_or-set_other}
 use Rattle.std.proofs.lemmas.Bool.Decides.{nat_tests}
 use Rattle.dbf_fields.specs.declared.field.Field.{Field}
-use Rattle.lock_table.specs.Locks.{Lock, free_record, free_whole, with_lock, without, without_all, AreApart}
-use Rattle.lock_table.specs.Laws.{apart_record, apart_whole, apart_without, apart_without_all, held_with, held_without, held_without_all}
+use Rattle.lock_table.specs.declared.TheConstants.{MAX_RECORD_LOCKS}
+use Rattle.lock_table.specs.Numbers.{IsListed, AreRecordNumbers}
+use Rattle.lock_table.specs.Locks.{Lock, free_record, free_records, free_whole, with_lock, with_records, without, without_all, IsHeld, AreApart}
+use Rattle.lock_table.specs.Laws.{apart_record, apart_records, apart_whole, apart_without, apart_without_all, held_with, listed_or_held, held_without, held_without_all}
 use Rattle.table_core.specs.declared.cursor.Cursor.{Cursor}
 use Rattle.table_core.specs.EditValue.{EditValue}
 use Rattle.table_core.specs.EditValue as edit_of
 use Rattle.table_core.specs.declared.refusal.Refusal.{Refusal}
-use Rattle.table_core.specs.declared.refusal.Refusal.TheVariants.{NoTableInUse, TableInUse, NeedsExclusive, NotLocked, EndOfFile, BadArea}
-use Rattle.table_core.specs.Content.{Content, Indexed}
+use Rattle.table_core.specs.declared.refusal.Refusal.TheVariants.{NoTableInUse, TableInUse, NeedsExclusive, NotLocked, OutOfRange, EndOfFile, BadArea, TooManyLocks}
+use Rattle.table_core.specs.Content.{Content, Indexed, record_count}
 use Rattle.table_core.specs.Cursors.{IsCursorPlace, IsCursor}
 use Rattle.table_core.specs.Edits.{edited, renumbers}
 use Rattle.table_core.specs.Laws.Edits.{IsEdited, IsGrown, grows_edited, is_edited, cursor_grows}
@@ -25,7 +28,7 @@ use Rattle.catalogue_core.specs.declared.area.Area.{Area}
 use Rattle.catalogue_core.specs.declared.area.Station.{Station}
 use Rattle.catalogue_core.specs.declared.area.TheConstants.{MAX_AREAS}
 use Rattle.catalogue_core.specs.State.{State, new_station, no_content, station_at, area_of, area_at, table_of, with_stations, with_current, with_held, without_lock, shape_of, shapes_of, IsOpenAt, HasStation, IsState}
-use Rattle.catalogue_core.specs.Step.{with_edit, can_write, can_append, select, move, append_record, writable_area, change_record, pack_table, unlock, unlock_all, lock, lock_record, lock_file}
+use Rattle.catalogue_core.specs.Step.{with_edit, can_write, can_append, select, move, append_record, writable_area, change_record, pack_table, unlock, unlock_all, lock, lock_record, lock_records, are_records, lock_file}
 use Rattle.table_core.specs.Laws.Outcomes.{of_found, of_granted, of_passed}
 use Rattle.catalogue_core.proofs.Cases.{when_ok}
 use Rattle.catalogue_core.proofs.AreaLaws.{current_index}
@@ -189,17 +192,41 @@ next_unlock_all s station ok =
     held_next s s station _ Done (same_next s station Done tt ok)
     (keep_locks s (without_all s.locks.locks station) ok (apart_without_all s.locks.locks station ok.apart) (λ l held. ok.open_ l (held_without_all s.locks.locks station l held).0))
 
--- the calls for a lock
-next_lock : (s : State) (station : ℕ) (area : Area) (number : ℕ) (free : Bool) → IsState s → HasStation s station → area_of s station ≡ Some area
-    → (free ≡ true → AreApart (with_lock s.locks.locks station area.table number)) → IsNext s station (lock free s station area number)
-next_lock s station area number true ok h is apart =
-    let P : Lock → Type 0 = λ l. (1 ≤ l.station) × IsOpenAt s l.station l.table in
-    held_next s s station _ (Truth true) (same_next s station (Truth true) tt ok) (keep_locks s (with_lock s.locks.locks station area.table number) ok (apart refl) (λ l held.
-    elim (held_with s.locks.locks station area.table number l held) [
-      | inl e ↦ subst P (sym e) (h.counted, (current_index s station, area, is, refl))
+-- each of these locks is the station's in the area's table, or was held before
+AreOwnOrHeld : State → ℕ → Area → List Lock → Type 0
+AreOwnOrHeld s station area locks = (l : Lock) → IsHeld locks l → ((l.station ≡ station) × (l.table ≡ area.table)) ⊎ IsHeld s.locks.locks l
+
+-- the calls for locks
+next_lock : (s : State) (station : ℕ) (area : Area) (locks : List Lock) (free : Bool) → IsState s → HasStation s station → area_of s station ≡ Some area
+    → AreOwnOrHeld s station area locks → (free ≡ true → AreApart locks) → IsNext s station (lock free s locks)
+unfolding AreOwnOrHeld
+next_lock s station area locks true ok h is own apart =
+    held_next s s station _ (Truth true) (same_next s station (Truth true) tt ok) (keep_locks s locks ok (apart refl) (λ l held.
+    elim (own l held) [
+      | inl e ↦
+          let open_here : IsOpenAt s station area.table = (current_index s station, area, is, refl) in
+          let P : ℕ → Type 0 = λ t. IsOpenAt s station t in
+          let Q : ℕ → Type 0 = λ n. (1 ≤ n) × IsOpenAt s n l.table in
+          subst Q (sym e.0) (h.counted, subst P (sym e.1) open_here)
       | inr was ↦ ok.open_ l was
     ]))
-next_lock s station area number false ok h is apart = same_next s station (Truth false) tt ok
+next_lock s station area locks false ok h is own apart = same_next s station (Truth false) tt ok
+
+own_lock : (s : State) (station : ℕ) (area : Area) (number : ℕ) → AreOwnOrHeld s station area (with_lock s.locks.locks station area.table number)
+unfolding AreOwnOrHeld
+own_lock s station area number l held =
+    elim (held_with s.locks.locks station area.table number l held) [
+      | inl e ↦ inl (ap (λ (m : Lock). m.station) e, ap (λ (m : Lock). m.table) e)
+      | inr was ↦ inr was
+    ]
+
+own_locks : (s : State) (station : ℕ) (area : Area) (numbers : List ℕ) → AreOwnOrHeld s station area (with_records s.locks.locks station area.table numbers)
+unfolding AreOwnOrHeld
+own_locks s station area numbers l held =
+    elim (listed_or_held s.locks.locks station area.table numbers l held) [
+      | inl e ↦ inl (ap (λ (m : Lock). m.station) e.2, ap (λ (m : Lock). m.table) e.2)
+      | inr was ↦ inr was
+    ]
 
 place_counted : (content : Content) (o : Option ℕ) (number : ℕ) → IsCursorPlace content o → o ≡ Some number → 1 ≤ number
 place_counted content o number at e = let P : Option ℕ → Type 0 = IsCursorPlace content in (subst P e at).0
@@ -209,9 +236,26 @@ next_lock_record s station ok h =
     of_found (IsNext s station) (area_of s station) NoTableInUse _ (λ area is.
     of_found (IsNext s station) area.cursor.at EndOfFile _ (λ number here.
     let one = place_counted (table_of s area) area.cursor.at number (ok.areas (station - 1) (current_index s station) area is).cursor.place here in
-    next_lock s station area number (free_record s.locks.locks station area.table number) ok h is (λ free. apart_record s.locks.locks station area.table number one free ok.apart)))
+    next_lock s station area _ (free_record s.locks.locks station area.table number) ok h is (own_lock s station area number)
+    (λ free. apart_record s.locks.locks station area.table number one free ok.apart)))
+
+-- the numbers of records of a table count from 1
+numbers_counted : (count : ℕ) (numbers : List ℕ) → list_all (is_in_range 1 count) numbers ≡ true → AreRecordNumbers numbers
+numbers_counted count [] all = tt
+numbers_counted count (n ∷ ns) all =
+    let both = and_parts (is_in_range 1 count n) (list_all (is_in_range 1 count) ns) all in
+    ((in_range count n both.0).0, numbers_counted count ns both.1)
+
+pub next_lock_records : (s : State) (station : ℕ) (numbers : List ℕ) → IsState s → HasStation s station → IfOk (lock_records s station numbers) (IsNext s station)
+next_lock_records s station numbers ok h =
+    of_found (IsNext s station) (area_of s station) NoTableInUse _ (λ area is.
+    of_granted (IsNext s station) (nat_le (length numbers) MAX_RECORD_LOCKS) TooManyLocks _ (λ _.
+    of_granted (IsNext s station) (are_records (record_count (table_of s area)) numbers) OutOfRange _ (λ there.
+    let records = numbers_counted (record_count (table_of s area)) numbers (and_parts _ _ there).1 in
+    next_lock s station area _ (free_records s.locks.locks station area.table numbers) ok h is (own_locks s station area numbers)
+    (λ free. apart_records s.locks.locks station area.table numbers records free ok.apart))))
 
 pub next_lock_file : (s : State) (station : ℕ) → IsState s → HasStation s station → IfOk (lock_file s station) (IsNext s station)
 next_lock_file s station ok h =
     of_found (IsNext s station) (area_of s station) NoTableInUse _ (λ area is.
-    next_lock s station area 0 (free_whole s.locks.locks station area.table) ok h is (λ free. apart_whole s.locks.locks station area.table free ok.apart))
+    next_lock s station area _ (free_whole s.locks.locks station area.table) ok h is (own_lock s station area 0) (λ free. apart_whole s.locks.locks station area.table free ok.apart))

@@ -11,14 +11,14 @@ use Rattle.table_core.specs.Shown.{show as shown}
 use Rattle.table_core.specs.Laws.Moves.{top_leads, bottom_leads, go_leads, skip_leads, seek_leads, set_order_leads}
 use Rattle.catalogue_core.specs.declared.answer.Answer.TheVariants.{Text, Refused}
 use Rattle.catalogue_core.specs.declared.command.Command.{Command}
-use Rattle.catalogue_core.specs.declared.command.Command.TheVariants.{Select, UseTable, CloseTable, Go, Top, Bottom, Skip, Seek, Order, AppendBlank, Replace, Memo, Delete, Recall, Pack, Unlock, UnlockAll, Show, RecordLock, FileLock, Ask, Bad}
+use Rattle.catalogue_core.specs.declared.command.Command.TheVariants.{Select, UseTable, CloseTable, Go, Top, Bottom, Skip, Seek, Order, AppendBlank, Replace, Memo, Delete, Recall, Pack, Unlock, UnlockAll, Show, RecordLock, RecordLocks, FileLock, Ask, Bad}
 use Rattle.catalogue_core.specs.declared.command.Question.{Question}
 use Rattle.catalogue_core.specs.declared.command.Question.TheVariants as question
 use Rattle.catalogue_core.specs.declared.area.Area.{Area}
 use Rattle.catalogue_core.specs.State.{State, area_of, table_of, HasStation, IsState}
 use Rattle.catalogue_core.specs.Step.{Outcome, show_field, ask, reply, outcome, settled, step}
 use Rattle.table_core.specs.Laws.Outcomes.{of_found, of_passed}
-use Rattle.catalogue_core.proofs.NextLaws.{IsNext, NoRefusal, same_next, next_select, next_move, next_append, next_change, next_pack, next_unlock, next_unlock_all, next_lock_record, next_lock_file}
+use Rattle.catalogue_core.proofs.NextLaws.{IsNext, NoRefusal, same_next, next_select, next_move, next_append, next_change, next_pack, next_unlock, next_unlock_all, next_lock_record, next_lock_records, next_lock_file}
 use Rattle.catalogue_core.proofs.UseLaws.{next_close, next_use}
 
 -- ?
@@ -58,6 +58,7 @@ next_outcome s station Unlock ok h = next_unlock s station ok
 next_outcome s station UnlockAll ok h = next_unlock_all s station ok
 next_outcome s station (Show field) ok h = next_show s station field ok
 next_outcome s station RecordLock ok h = next_lock_record s station ok h
+next_outcome s station (RecordLocks numbers) ok h = next_lock_records s station numbers ok h
 next_outcome s station FileLock ok h = next_lock_file s station ok h
 next_outcome s station (Ask q) ok h = next_ask s station q ok
 next_outcome s station Bad ok h = tt

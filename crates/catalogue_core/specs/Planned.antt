@@ -1,6 +1,8 @@
 -- What a plan makes of a state, and when it can be carried out.
-use Rattle.std.specs.Prelude.{◌≡◌, ℕ, ◌≤◌, true, Some, Result, Ok, Err}
-use Rattle.lock_table.specs.Locks.{free_record, free_whole, with_lock, without_all}
+use Rattle.std.specs.Prelude.{◌≡◌, ℕ, ◌≤◌, true, List, length, Some, Result, Ok, Err}
+use Rattle.lock_table.specs.declared.TheConstants.{MAX_RECORD_LOCKS}
+use Rattle.lock_table.specs.Numbers.{AreRecordNumbers}
+use Rattle.lock_table.specs.Locks.{free_record, free_records, free_whole, with_lock, with_records, without_all}
 use Rattle.table_core.specs.declared.cursor.Cursor.{Cursor}
 use Rattle.table_core.specs.declared.refusal.Refusal.{Refusal}
 use Rattle.table_core.specs.declared.edits.planned.Planned.{Planned}
@@ -12,7 +14,7 @@ use Rattle.table_core.specs.Planned.{changed as table_changed, cursor_after, car
 use Rattle.catalogue_core.specs.declared.answer.Answer.{Answer}
 use Rattle.catalogue_core.specs.declared.area.Area.{Area}
 use Rattle.catalogue_core.specs.declared.change.Change.{Change}
-use Rattle.catalogue_core.specs.declared.change.Change.TheVariants.{Nothing, Select, Close, Open, Move, Edit, Pack, LockRecord, LockFile, Unlock, UnlockAll}
+use Rattle.catalogue_core.specs.declared.change.Change.TheVariants.{Nothing, Select, Close, Open, Move, Edit, Pack, LockRecord, LockRecords, LockFile, Unlock, UnlockAll}
 use Rattle.catalogue_core.specs.declared.change.Plan.{Plan}
 use Rattle.catalogue_core.specs.declared.plan.moves.Move.{Move as MoveTo}
 use Rattle.catalogue_core.specs.declared.plan.moves.Move.TheVariants as move_to
@@ -50,6 +52,7 @@ state_after s station (Move area) = with_area s station (Some area)
 state_after s station (Edit area planned) = with_planned s station area planned
 state_after s station (Pack area planned) = without_lock (with_planned s station area planned) station (Some area)
 state_after s station (LockRecord area number) = with_held s (with_lock s.locks.locks station area.table number)
+state_after s station (LockRecords area records) = with_held s (with_records s.locks.locks station area.table records.items)
 state_after s station (LockFile area) = with_held s (with_lock s.locks.locks station area.table 0)
 state_after s station (Unlock area) = without_lock s station (Some area)
 state_after s station UnlockAll = with_held s (without_all s.locks.locks station)
@@ -67,11 +70,16 @@ outcome_of s station (Err refusal) = Err refusal
 abbrev pub CanEdit : WithRoom → Area → Planned → Type 0
 CanEdit w area planned = IsArea (seen w).tables area × IsPlanned (held_at w.tables area.table) planned
 
+-- there is a record to be locked, and there are no more than may be, each with a number from 1
+abbrev pub AreLockable : List ℕ → Type 0
+AreLockable records = (1 ≤ length records) × (length records ≤ MAX_RECORD_LOCKS) × AreRecordNumbers records
+
 -- the change can be made of the state
 abbrev pub CanChange : WithRoom → ℕ → Change → Type 0
 CanChange w station (Edit area planned) = CanEdit w area planned
 CanChange w station (Pack area planned) = CanEdit w area planned
 CanChange w station (LockRecord area number) = IsArea (seen w).tables area × (1 ≤ number) × (free_record w.locks.locks station area.table number ≡ true)
+CanChange w station (LockRecords area records) = IsArea (seen w).tables area × AreLockable records.items × (free_records w.locks.locks station area.table records.items ≡ true)
 CanChange w station (LockFile area) = IsArea (seen w).tables area × (free_whole w.locks.locks station area.table ≡ true)
 CanChange w station (Unlock area) = IsArea (seen w).tables area
 CanChange w station _ = Unit {0}

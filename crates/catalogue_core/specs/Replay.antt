@@ -67,7 +67,7 @@ IsOfStation opened e = (1 ≤ e.station) × (e.station ≤ opened.stations)
 abbrev pub AreOfStations : Opened → List Entry → Type 0
 AreOfStations opened journal = AllByRecursion (IsOfStation opened) journal
 
--- a history of these opened tables, with so many entries at least: each entry is of one of the stations, and each
+-- a history of these opened tables, with at least this many entries: each entry is of one of the stations, and each
 -- answer is the one that its command has at its place
 pub record IsHistoryOf (opened : Opened) (least : ℕ) (h : History) : Type 0 where
   pub named : h.opened ≡ opened

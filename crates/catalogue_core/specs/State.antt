@@ -117,12 +117,12 @@ area_with area cursor = record { table = area.table; exclusive = area.exclusive;
 abbrev pub with_cursor : State → ℕ → Area → Cursor → State
 with_cursor s station area cursor = with_area s station (Some (area_with area cursor))
 
--- the station's lock in the area's table is released, where a table is open in the area
+-- the station's locks in the area's table are released, where a table is open in the area
 abbrev pub without_lock : State → ℕ → Option Area → State
 without_lock s station None = s
 without_lock s station (Some area) = with_held s (without s.locks.locks station area.table)
 
--- no table is open in the station's current area, and the lock in the one that was open there is released
+-- no table is open in the station's current area, and the locks in the one that was open there are released
 abbrev pub closed : State → ℕ → State
 closed s station = with_area (without_lock s station (area_of s station)) station None
 
@@ -146,7 +146,7 @@ pub record IsStation (st : Station) : Type 0 where
   pub counted : 1 ≤ st.current
   pub inside : st.current ≤ MAX_AREAS
 
--- what is true of every state: there are so many tables at most, each with a name; each open area has its cursor in its table; a station
+-- what is true of every state: there are no more tables than may be, each with a name; each open area has its cursor in its table; a station
 -- has a table open in one area at most; a table that is open exclusively is open at no other station; no
 -- record is locked by two stations; and a station has locks only in tables that it has open
 pub record IsState (s : State) : Type 0 where

@@ -1,13 +1,15 @@
 -- What one command of a station does: its outcome, which is a state and an answer or the first refusal, and the
 -- step, in which a refused command leaves the state as it is.
-use Rattle.std.specs.Prelude.{ℕ, ◌+◌, Bool, true, false, not, ◌||◌, ◌==◌, if◌then◌else◌, List, length, Option, Some, None, Result, Ok, Err, is_none}
+use Rattle.std.specs.Prelude.{ℕ, ◌+◌, Bool, true, false, not, ◌&&◌, ◌||◌, ◌==◌, nat_le, if◌then◌else◌, List, length, Option, Some, None, Result, Ok, Err, is_none}
 use Rattle.std.specs.Int.{is_in_range}
-use Rattle.lock_table.specs.Locks.{free_record, free_whole, may_write, holder, with_lock, without_all}
+use Rattle.std.specs.List.{list_all}
+use Rattle.lock_table.specs.declared.TheConstants.{MAX_RECORD_LOCKS}
+use Rattle.lock_table.specs.Locks.{Lock, free_record, free_records, free_whole, may_write, holder, with_lock, with_records, without_all}
 use Rattle.table_core.specs.declared.cursor.Cursor.{Cursor}
 use Rattle.table_core.specs.EditValue.{EditValue}
 use Rattle.table_core.specs.EditValue as edit_of
 use Rattle.table_core.specs.declared.refusal.Refusal.{Refusal}
-use Rattle.table_core.specs.declared.refusal.Refusal.TheVariants.{NoTable, NoTableInUse, TableInUse, NeedsExclusive, NotLocked, EndOfFile, BadArea, AlreadyOpen, BadCommand}
+use Rattle.table_core.specs.declared.refusal.Refusal.TheVariants.{NoTable, NoTableInUse, TableInUse, NeedsExclusive, NotLocked, OutOfRange, EndOfFile, BadArea, AlreadyOpen, BadCommand, TooManyLocks}
 use Rattle.table_core.specs.Content.{Content, record_count}
 use Rattle.table_core.specs.Edits.{edited}
 use Rattle.table_core.specs.Moves.{top, bottom, go, skip, seek, set_order}
@@ -18,7 +20,7 @@ use Rattle.catalogue_core.specs.declared.answer.Answer.TheVariants.{Done, Number
 use Rattle.catalogue_core.specs.declared.area.Area.{Area}
 use Rattle.catalogue_core.specs.declared.area.TheConstants.{MAX_AREAS}
 use Rattle.catalogue_core.specs.declared.command.Command.{Command}
-use Rattle.catalogue_core.specs.declared.command.Command.TheVariants.{Select, UseTable, CloseTable, Go, Top, Bottom, Skip, Seek, Order, AppendBlank, Replace, Memo, Delete, Recall, Pack, Unlock, UnlockAll, Show, RecordLock, FileLock, Ask, Bad}
+use Rattle.catalogue_core.specs.declared.command.Command.TheVariants.{Select, UseTable, CloseTable, Go, Top, Bottom, Skip, Seek, Order, AppendBlank, Replace, Memo, Delete, Recall, Pack, Unlock, UnlockAll, Show, RecordLock, RecordLocks, FileLock, Ask, Bad}
 use Rattle.catalogue_core.specs.declared.command.Question.{Question}
 use Rattle.catalogue_core.specs.declared.command.Question.TheVariants.{Eof, Bof, Found, Deleted, Recno, Reccount}
 use Rattle.catalogue_core.specs.Names.{index_named}
@@ -97,7 +99,7 @@ change_record s station by =
     passed (writable_area s station) (λ area.
     passed (edited (table_of s area) area.cursor by) (λ e. Ok (with_edit s station area e, Done)))
 
--- PACK: the marked records are removed, and the station's lock in the table is released
+-- PACK: the marked records are removed, and the station's locks in the table are released
 abbrev pub pack_table : State → ℕ → Outcome
 pack_table s station =
     found (area_of s station) NoTableInUse (λ area.
@@ -105,7 +107,7 @@ pack_table s station =
     passed (edited (table_of s area) area.cursor edit_of.Pack) (λ e.
     Ok (without_lock (with_edit s station area e) station (Some area), Done))))
 
--- UNLOCK: the station's lock in the current area's table is released
+-- UNLOCK: the station's locks in the current area's table are released
 abbrev pub unlock : State → ℕ → Outcome
 unlock s station = found (area_of s station) NoTableInUse (λ area. Ok (without_lock s station (Some area), Done))
 
@@ -113,23 +115,34 @@ unlock s station = found (area_of s station) NoTableInUse (λ area. Ok (without_
 abbrev pub unlock_all : State → ℕ → Outcome
 unlock_all s station = Ok (with_held s (without_all s.locks.locks station), Done)
 
--- a lock that is asked for, on a record or by 0 on the table, and whether it is given
-abbrev pub lock : Bool → State → ℕ → Area → ℕ → State × Answer
-lock free s station area number =
-    if free then (with_held s (with_lock s.locks.locks station area.table number), Truth true) else (s, Truth false)
+-- locks that are asked for, and whether they are given
+abbrev pub lock : Bool → State → List Lock → State × Answer
+lock free s locks = if free then (with_held s locks, Truth true) else (s, Truth false)
 
 -- ? RLOCK(): the record at the cursor
 abbrev pub lock_record : State → ℕ → Outcome
 lock_record s station =
     found (area_of s station) NoTableInUse (λ area.
     found area.cursor.at EndOfFile (λ number.
-    Ok (lock (free_record s.locks.locks station area.table number) s station area number)))
+    Ok (lock (free_record s.locks.locks station area.table number) s (with_lock s.locks.locks station area.table number))))
+
+-- each is the number of a record, and there is one
+abbrev pub are_records : ℕ → List ℕ → Bool
+are_records count numbers = not (length numbers == 0) && list_all (is_in_range 1 count) numbers
+
+-- ? RLOCK(n,n,..): the records of a list, all or none
+abbrev pub lock_records : State → ℕ → List ℕ → Outcome
+lock_records s station numbers =
+    found (area_of s station) NoTableInUse (λ area.
+    granted (nat_le (length numbers) MAX_RECORD_LOCKS) TooManyLocks (
+    granted (are_records (record_count (table_of s area)) numbers) OutOfRange (
+    Ok (lock (free_records s.locks.locks station area.table numbers) s (with_records s.locks.locks station area.table numbers)))))
 
 -- ? FLOCK(): the whole table
 abbrev pub lock_file : State → ℕ → Outcome
 lock_file s station =
     found (area_of s station) NoTableInUse (λ area.
-    Ok (lock (free_whole s.locks.locks station area.table) s station area 0))
+    Ok (lock (free_whole s.locks.locks station area.table) s (with_lock s.locks.locks station area.table 0)))
 
 -- ?: the field's value in the record at the cursor
 abbrev pub show_field : State → ℕ → List ℕ → Outcome
@@ -176,6 +189,7 @@ outcome s station Unlock = unlock s station
 outcome s station UnlockAll = unlock_all s station
 outcome s station (Show field) = show_field s station field
 outcome s station RecordLock = lock_record s station
+outcome s station (RecordLocks numbers) = lock_records s station numbers
 outcome s station FileLock = lock_file s station
 outcome s station (Ask question) = ask s station question
 outcome s station Bad = Err BadCommand

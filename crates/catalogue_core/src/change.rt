@@ -4,7 +4,13 @@ ghost use Rattle.std.specs.Prelude.{◌≡◌};
 
 use crate::answer::Answer;
 use crate::area::Area;
+use arrayvec::ArrayVec;
+use lock_table::MAX_RECORD_LOCKS;
 use table_core::Planned;
+
+/// Records of a table, listed in any order and as often as a command lists them: a list of fixed room, since carrying
+/// out a change takes no memory.
+pub(crate) type Records = ArrayVec<u32, MAX_RECORD_LOCKS>;
 
 /// A change of the state by a station.
 #[derive(Drop)]
@@ -21,13 +27,15 @@ pub(crate) enum Change {
     Move(Area),
     /// The table of this, which is the current area, is edited.
     Edit(Area, Planned),
-    /// The table of this, which is the current area, is packed, and the station's lock in it is released.
+    /// The table of this, which is the current area, is packed, and the station's locks in it are released.
     Pack(Area, Planned),
     /// A record of the area's table is locked.
     LockRecord(Area, u32),
+    /// Records of the area's table are locked.
+    LockRecords(Area, Records),
     /// The area's table is locked.
     LockFile(Area),
-    /// The lock in the area's table is released.
+    /// The station's locks in the area's table are released.
     Unlock(Area),
     /// All locks of the station are released.
     UnlockAll,

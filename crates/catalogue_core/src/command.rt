@@ -2,6 +2,7 @@
 
 ghost use Rattle.std.specs.Prelude.{◌≡◌, ◌↔◌, IsTrue, IfOk};
 
+use crate::numbers::Numbers;
 use dbf_fields::{Bytes, Literal};
 use std::alloc::{AllocError, Global};
 
@@ -42,7 +43,7 @@ pub enum Command {
     Top,
     /// GO BOTTOM: the cursor stands at the last record in the order.
     Bottom,
-    /// SKIP: the cursor moves by so many records in the order, back where the number is below zero.
+    /// SKIP: the cursor moves by this many records in the order, back where the number is below zero.
     Skip(i64),
     /// SEEK: the cursor stands at the first record in the order whose key begins with this text.
     Seek(Bytes),
@@ -78,6 +79,8 @@ pub enum Command {
     Show(Bytes),
     /// ? RLOCK() or ? LOCK(): locks the record at the cursor, where no other station bars it.
     RecordLock,
+    /// ? RLOCK or ? LOCK with numbers in its parentheses: locks these records, all or none.
+    RecordLocks(Numbers),
     /// ? FLOCK(): locks the area's table, where no other station bars it.
     FileLock,
     /// ? with EOF(), BOF(), FOUND(), DELETED(), RECNO() or RECCOUNT().
@@ -120,6 +123,7 @@ impl Command {
             Command::UnlockAll => Command::UnlockAll,
             Command::Show(field) => Command::Show(field.copy(alloc)?),
             Command::RecordLock => Command::RecordLock,
+            Command::RecordLocks(numbers) => Command::RecordLocks(numbers.copy(alloc)?),
             Command::FileLock => Command::FileLock,
             Command::Ask(question) => Command::Ask(*question),
             Command::Bad => Command::Bad,

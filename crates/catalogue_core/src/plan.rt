@@ -16,7 +16,8 @@ use crate::change::{Change, Plan};
 use crate::command::Command;
 use crate::state::State;
 use areas::{
-    plan_ask, plan_file_lock, plan_record_lock, plan_select, plan_show, plan_unlock, plan_use_table,
+    plan_ask, plan_file_lock, plan_record_lock, plan_record_locks, plan_select, plan_show,
+    plan_unlock, plan_use_table,
 };
 use edits::{plan_append_blank, plan_change, plan_pack};
 use moves::{Move, plan_move};
@@ -86,6 +87,7 @@ fn plan_command(
         Command::UnlockAll => Ok(Plan::done(Change::UnlockAll)),
         Command::Show(field) => plan_show(alloc, state, station, field),
         Command::RecordLock => Ok(plan_record_lock(state, station)?),
+        Command::RecordLocks(numbers) => Ok(plan_record_locks(state, station, numbers)?),
         Command::FileLock => Ok(plan_file_lock(state, station)?),
         Command::Ask(question) => Ok(plan_ask(state, station, *question)?),
         Command::Bad => Err(Refusal::BadCommand.into()),

@@ -1,7 +1,7 @@
 //! The tables, the locks and the areas of all stations, which commands read and change.
 
 ghost use Rattle.std.specs.Prelude.{◌≡◌, ◌≤◌, length, map, IfSome};
-ghost use Rattle.lock_table.specs.Locks.{free_record, free_whole};
+ghost use Rattle.lock_table.specs.Locks.{free_record, free_records, free_whole};
 ghost use Rattle.catalogue_core.specs.Rooms.{seen, held_at};
 ghost use Rattle.catalogue_core.specs.State.{table_at as content_at, area_of, is_open_beside, is_in_use, IsArea, IsState, HasStation};
 ghost use Rattle.catalogue_core.specs.Step.{table_named, can_write, can_append};
@@ -125,6 +125,15 @@ impl State {
         ensures value { result ≡ free_record self.now.locks.locks station area.table number }
     {
         self.locks.is_free_record(station, area.table, number)
+    }
+
+    /// Whether the station can have locks on all of the records.
+    pub(crate) fn is_free_records(&self, station: u32, area: Area, numbers: &[u32]) -> bool
+        requires state { IsState (seen self.now) }
+        requires area { IsArea (seen self.now).tables area }
+        ensures value { result ≡ free_records self.now.locks.locks station area.table numbers.now }
+    {
+        self.locks.is_free_records(station, area.table, numbers)
     }
 
     /// Whether the station can have a lock on the table.

@@ -19,7 +19,7 @@ mod shared;
 
 pub use catalogue_core::{
     Answer, Catalogue, Command, Entry, IndexSource, MAX_AREAS, MAX_ENTRIES, MAX_INDEXES,
-    MAX_STATIONS, MAX_TABLES, OpenFault, Question, Refusal, StatusRow, Stop, TableSource,
+    MAX_STATIONS, MAX_TABLES, Numbers, OpenFault, Question, Refusal, StatusRow, Stop, TableSource,
     TableStatus,
 };
 pub use closed::Closed;

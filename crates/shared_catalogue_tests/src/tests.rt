@@ -1,5 +1,6 @@
 mod asked;
 mod cells;
+mod lists;
 mod memos;
 mod openings;
 mod performing;

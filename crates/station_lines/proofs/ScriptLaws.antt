@@ -5,6 +5,7 @@ pub mod WordLaws
 pub mod PartLaws
 pub mod TextLaws
 pub mod LiteralLaws
+pub mod ListLaws
 pub mod VerbLaws
 pub mod SoundLaws
 pub mod FoundLaws

@@ -7,6 +7,7 @@ mod command;
 pub(crate) mod format;
 mod keyword;
 mod line;
+mod list;
 mod literal;
 mod script_lines;
 mod value;

@@ -1,7 +1,7 @@
 -- The numbers and the names of refusals.
 use Rattle.std.specs.Prelude.{ℕ, List, codes}
 use Rattle.table_core.specs.declared.refusal.Refusal.{Refusal}
-use Rattle.table_core.specs.declared.refusal.Refusal.TheVariants.{NoTable, NoTableInUse, TableInUse, NeedsExclusive, NotLocked, OutOfRange, EndOfFile, BeginOfFile, NotIndexed, NoSuchField, TypeMismatch, NumberTooWide, BadDate, BadText, BadArea, AlreadyOpen, TableFull, NoSuchOrder, BadCommand}
+use Rattle.table_core.specs.declared.refusal.Refusal.TheVariants.{NoTable, NoTableInUse, TableInUse, NeedsExclusive, NotLocked, OutOfRange, EndOfFile, BeginOfFile, NotIndexed, NoSuchField, TypeMismatch, NumberTooWide, BadDate, BadText, BadArea, AlreadyOpen, TableFull, NoSuchOrder, BadCommand, TooManyLocks}
 
 abbrev code_and_name : Refusal → ℕ × List ℕ
 code_and_name NoTable = (1, codes "NoTable")
@@ -23,6 +23,7 @@ code_and_name AlreadyOpen = (16, codes "AlreadyOpen")
 code_and_name TableFull = (17, codes "TableFull")
 code_and_name NoSuchOrder = (18, codes "NoSuchOrder")
 code_and_name BadCommand = (19, codes "BadCommand")
+code_and_name TooManyLocks = (20, codes "TooManyLocks")
 
 abbrev pub code_of : Refusal → ℕ
 code_of refusal = (code_and_name refusal).0

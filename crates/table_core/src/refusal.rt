@@ -1,6 +1,6 @@
 //! Refusals.
 
-/// Why a command is refused. The numbers are those of the answer files, 1 to 19, in this order.
+/// Why a command is refused. The numbers are those of the answer files, 1 to 20, in this order.
 #[derive(Clone, Copy, Debug, PartialEq, Eq)]
 pub enum Refusal {
     /// There is no table of this name.
@@ -41,13 +41,15 @@ pub enum Refusal {
     NoSuchOrder = 18,
     /// The line is no command.
     BadCommand = 19,
+    /// The list of records to be locked has more than 50 numbers.
+    TooManyLocks = 20,
 }
 
 impl Refusal {
     ghost use Rattle.std.specs.Prelude.{◌≡◌};
     ghost use Rattle.table_core.specs.Refusals.{code_of, name_of};
 
-    /// The number of the refusal in answer files, 1 to 19.
+    /// The number of the refusal in answer files, 1 to 20.
     pub fn code(self) -> u8
         ensures value { result ≡ code_of self }
     {
@@ -78,6 +80,7 @@ impl Refusal {
             Refusal::TableFull => "TableFull",
             Refusal::NoSuchOrder => "NoSuchOrder",
             Refusal::BadCommand => "BadCommand",
+            Refusal::TooManyLocks => "TooManyLocks",
         }
     }
 }

@@ -16,10 +16,11 @@ use Rattle.table_core.specs.declared.refusal.Refusal.TheVariants.{TypeMismatch, 
 use Rattle.table_core.specs.Edits as edits
 use Rattle.table_core.specs.Outcomes.{found, granted, passed}
 use Rattle.dbf_fields.specs.declared.cell.CellFault.{CellFault}
+use Rattle.lock_table.specs.Locks.{Lock}
 use Rattle.catalogue_core.specs.declared.answer.Answer.{Answer}
 use Rattle.catalogue_core.specs.declared.area.Area.{Area}
 use Rattle.catalogue_core.specs.declared.command.Command.{Command}
-use Rattle.catalogue_core.specs.declared.command.Command.TheVariants.{Select, UseTable, CloseTable, Go, Top, Bottom, Skip, Seek, Order, AppendBlank, Replace, Memo, Delete, Recall, Pack, Unlock, UnlockAll, Show, RecordLock, FileLock, Ask, Bad}
+use Rattle.catalogue_core.specs.declared.command.Command.TheVariants.{Select, UseTable, CloseTable, Go, Top, Bottom, Skip, Seek, Order, AppendBlank, Replace, Memo, Delete, Recall, Pack, Unlock, UnlockAll, Show, RecordLock, RecordLocks, FileLock, Ask, Bad}
 use Rattle.catalogue_core.specs.declared.entry.Entry.{Entry}
 use Rattle.catalogue_core.specs.Replay.{History, after, start, state_of}
 use Rattle.catalogue_core.specs.State.{State, no_content, table_of, area_of, without_lock}
@@ -90,9 +91,9 @@ unlock_keeps s station (Some area) = refl
 with_edit_keeps : (s : State) (station : ℕ) (area : Area) (e : Content × Cursor) → HasIndexesOf (table_of s area) e → indexes_of (with_edit s station area e).tables ≡ indexes_of s.tables
 with_edit_keeps s station area e h = map-set_same (λ (c : Content). c.indexes) s.tables (area.table - 1) e.0 no_content h
 
-lock_keeps : (free : Bool) (s : State) (station : ℕ) (area : Area) (number : ℕ) → Keeps s (lock free s station area number)
-lock_keeps true s station area number = refl
-lock_keeps false s station area number = refl
+lock_keeps : (free : Bool) (s : State) (locks : List Lock) → Keeps s (lock free s locks)
+lock_keeps true s locks = refl
+lock_keeps false s locks = refl
 
 close_keeps : (s : State) (station : ℕ) (o : Option Area) → indexes_of (without_lock s station o).tables ≡ indexes_of s.tables
 close_keeps s station o = ap indexes_of (unlock_keeps s station o)
@@ -127,6 +128,7 @@ command_keeps s station Unlock = search (if_found)
 command_keeps s station UnlockAll = refl
 command_keeps s station (Show field) = search (if_found, if_passed_any)
 command_keeps s station RecordLock = search (if_found, lock_keeps)
+command_keeps s station (RecordLocks numbers) = search (if_found, if_granted, lock_keeps)
 command_keeps s station FileLock = search (if_found, lock_keeps)
 command_keeps s station (Ask question) = search (if_found)
 command_keeps s station Bad = tt

@@ -1,19 +1,23 @@
 //! Plans of the commands on areas and locks, and of those that only show.
 
-ghost use Rattle.std.specs.Prelude.{◌≡◌, Ok, IfOk, IfErr};
+ghost use Rattle.std.specs.Prelude.{◌≡◌, ◌≤◌, ◌^◌, nat_lt, true, length, Ok, IfOk, IfErr};
+ghost use Rattle.std.specs.Int.{is_in_range};
+ghost use Rattle.std.specs.List.{list_all};
 ghost use Rattle.table_core.specs.Outcomes.{IsFaultOf};
 ghost use Rattle.catalogue_core.specs.Planned.{planned, outcome_of, CanChange};
 ghost use Rattle.catalogue_core.specs.Rooms.{seen};
 ghost use Rattle.catalogue_core.specs.State.{IsState, HasStation};
-ghost use Rattle.catalogue_core.specs.Step.{select, use_table, unlock, lock_record, lock_file, show_field, ask, reply, new_cursor, record_number};
+ghost use Rattle.catalogue_core.specs.Step.{select, use_table, unlock, lock_record, lock_records, lock_file, are_records, show_field, ask, reply, new_cursor, record_number};
 ghost use Rattle.table_core.specs.Cursors.{IsCursor};
 
 use crate::answer::Answer;
 use crate::area::{Area, MAX_AREAS};
-use crate::change::{Change, Plan};
+use crate::change::{Change, Plan, Records};
 use crate::command::Question;
+use crate::numbers::Numbers;
 use crate::state::State;
 use dbf_fields::Bytes;
+use lock_table::MAX_RECORD_LOCKS;
 use std::alloc::Global;
 use table_core::{Cursor, Refusal, Table, TableFault};
 
@@ -81,6 +85,35 @@ pub(crate) fn plan_record_lock(state: &State, station: u32) -> Result<Plan, Refu
     })
 }
 
+/// The plan of locks on the records of a list, all or none.
+pub(crate) fn plan_record_locks(
+    state: &State,
+    station: u32,
+    numbers: &Numbers,
+) -> Result<Plan, Refusal>
+    requires state { IsState (seen state.now) }
+    requires station { HasStation (seen state.now) station }
+    ensures outcome { outcome_of (seen state.now) station result ≡ lock_records (seen state.now) station numbers.now }
+    ensures can { IfOk result (λ plan. CanChange state.now station plan.change) }
+{
+    let area = state.area(station).ok_or(Refusal::NoTableInUse)?;
+    let numbers = numbers.as_slice();
+    if numbers.len() > MAX_RECORD_LOCKS {
+        return Err(Refusal::TooManyLocks);
+    }
+    if !are_records(state.table(area.table).record_count(), numbers) {
+        return Err(Refusal::OutOfRange);
+    }
+    let records = records_of(numbers);
+    if !state.is_free_records(station, area, records.as_slice()) {
+        return Ok(Plan::answered(Answer::Truth(false)));
+    }
+    Ok(Plan {
+        change: Change::LockRecords(area, records),
+        answer: Answer::Truth(true),
+    })
+}
+
 pub(crate) fn plan_file_lock(state: &State, station: u32) -> Result<Plan, Refusal>
     requires state { IsState (seen state.now) }
     requires station { HasStation (seen state.now) station }
@@ -123,6 +156,33 @@ pub(crate) fn plan_show(
     let area = state.area(station).ok_or(Refusal::NoTableInUse)?;
     let text = state.table(area.table).show(alloc, &area.cursor, field)?;
     Ok(Plan::answered(Answer::Text(text)))
+}
+
+// Whether this is the number of a record of a table with this many.
+fn is_record(count: u32, number: u64) -> bool
+    ensures value { result ≡ is_in_range 1 count number }
+{
+    1 <= number && number <= u64::from(count)
+}
+
+// Whether each is the number of a record of a table with this many, and there is one.
+fn are_records(count: u32, numbers: &[u64]) -> bool
+    ensures value { result ≡ are_records count numbers.now }
+{
+    !numbers.is_empty() && numbers.iter().all(|number| is_record(count, *number))
+}
+
+// The numbers of records, of which there are not more than may be locked.
+fn records_of(numbers: &[u64]) -> Records
+    requires count_bounded { length numbers.now ≤ MAX_RECORD_LOCKS }
+    requires records { list_all (λ n. nat_lt n (2 ^ 32)) numbers.now ≡ true }
+    ensures value { result.items ≡ numbers.now }
+{
+    let mut records = Records::new();
+    for number in numbers {
+        records.push(*number as u32);
+    }
+    records
 }
 
 // The cursor with which a table is opened, before it goes to the top: in the order of the first index, where the

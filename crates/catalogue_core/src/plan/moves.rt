@@ -21,7 +21,7 @@ pub(crate) enum Move<'a> {
     Top,
     /// To the last record in the order.
     Bottom,
-    /// So many records on in the order.
+    /// The given number of records on in the order.
     Skip(i64),
     /// To the first record whose key begins with a text.
     Seek(&'a Bytes),

@@ -28,13 +28,17 @@ impl State {
             Change::Edit(area, planned) => self.edit(station, area, planned),
             Change::Pack(area, planned) => self.pack(station, area, planned),
             Change::LockRecord(area, number) => self.locks.lock_record(station, area.table, number),
+            Change::LockRecords(area, records) => {
+                self.locks
+                    .lock_records(station, area.table, records.as_slice());
+            }
             Change::LockFile(area) => self.locks.lock_file(station, area.table),
             Change::Unlock(area) => self.locks.release(station, area.table),
             Change::UnlockAll => self.locks.release_all(station),
         }
     }
 
-    // Closes the current area's table, whose lock is released, where one is open in it.
+    // Closes the current area's table, in which the locks are released, where one is open in it.
     fn close(&mut self, station: u32)
         requires state { IsState (seen self.old) }
         requires station { HasStation (seen self.old) station }
@@ -70,7 +74,7 @@ impl State {
             .put_area(station, Some(Area { cursor, ..area }));
     }
 
-    // Carries out the packing of the table of the area, which is the current one, and releases the station's lock in
+    // Carries out the packing of the table of the area, which is the current one, and releases the station's locks in
     // it.
     fn pack(&mut self, station: u32, area: Area, planned: Planned)
         requires state { IsState (seen self.old) }

@@ -3,7 +3,7 @@
 use super::sample::{first_table, named, open, open_sample};
 use dbf_fields::{Bytes, Literal, day_of};
 use dbf_image::TableData;
-use shared_catalogue::{Answer, Catalogue, Command, Question};
+use shared_catalogue::{Answer, Catalogue, Command, Numbers, Question};
 use std::alloc::Global;
 use std::test::Fail;
 
@@ -30,6 +30,7 @@ pub enum Asked {
     UnlockAll,
     Show,
     RecordLock,
+    RecordLocks(&'static [u64]),
     FileLock,
     Ask(Question),
     Bad,
@@ -46,7 +47,7 @@ pub enum Value {
     BadDate,
 }
 
-// The text of a memo: these bytes, or so many bytes `x`.
+// The text of a memo: these bytes, or the given number of bytes `x`.
 #[derive(Clone, Copy)]
 pub enum Text {
     Is(&'static [u8]),
@@ -67,7 +68,7 @@ pub enum Expected {
 // A station, its command with a name or text, and the answer.
 pub type Case = (u32, Asked, &'static [u8], Expected);
 
-// So many bytes `x`.
+// A number of bytes `x`.
 fn long_text(alloc: Global, length: usize) -> Result<Bytes, Fail> {
     let mut text = Vec::new(alloc);
     text.resize(length, b'x')?;
@@ -83,8 +84,14 @@ pub(crate) fn command_of(alloc: Global, asked: Asked, name: &[u8]) -> Result<Com
         Asked::Show => Ok(Command::Show(name)),
         Asked::Replace(value) => replace(alloc, name, value),
         Asked::Memo(text) => memo(alloc, name, text),
+        Asked::RecordLocks(numbers) => record_locks(alloc, numbers),
         other => Ok(plain(other)),
     }
+}
+
+fn record_locks(alloc: Global, numbers: &[u64]) -> Result<Command, Fail> {
+    let numbers = Numbers::from_vec(Vec::from_slice(alloc, numbers)?);
+    Ok(Command::RecordLocks(numbers))
 }
 
 fn use_table(name: Bytes, exclusive: bool) -> Command {
@@ -146,7 +153,7 @@ pub(crate) fn is_expected(answer: &Answer, expected: Expected) -> bool {
     }
 }
 
-// Whether a text is so many bytes `x`.
+// Whether a text is the given number of bytes `x`.
 pub(crate) fn is_long(text: &[u8], length: usize) -> bool {
     text.len() == length && text.iter().all(|byte| *byte == b'x')
 }
@@ -166,7 +173,11 @@ pub(crate) fn first_other(
 }
 
 // Performs a case, and tells whether its answer is the expected one and its number the next.
-fn is_answered(alloc: Global, catalogue: &mut Catalogue, case: Case) -> Result<bool, Fail> {
+pub(crate) fn is_answered(
+    alloc: Global,
+    catalogue: &mut Catalogue,
+    case: Case,
+) -> Result<bool, Fail> {
     let (station, asked, name, expected) = case;
     if station < 1 || station > catalogue.station_count() {
         return Err("there is no such station".into());

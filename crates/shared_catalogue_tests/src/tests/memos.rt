@@ -77,7 +77,7 @@ fn read_again(alloc: Global, table: &TableData) -> Result<TableData, Fail> {
     Ok(read_table(alloc, Bytes::from_vec(dbf), Some(&dbt))?)
 }
 
-// Whether a record's memo is so many bytes `x`.
+// Whether a record's memo is the given number of bytes `x`.
 fn has_long_memo(
     alloc: Global,
     table: &TableData,

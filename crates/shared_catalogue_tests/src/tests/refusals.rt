@@ -10,7 +10,7 @@ use std::test::Fail;
 // The first case that is answered otherwise.
 type FirstOther = Result<Option<usize>, Fail>;
 
-// The table of a name, with the fields AMT, BORN and NOTE and so many blank records.
+// The table of a name, with the fields AMT, BORN and NOTE and the given number of blank records.
 fn table(alloc: Global, name: &[u8], count: u32) -> Result<TableSource, Fail> {
     let fields = [
         Field::new(alloc, b"AMT", NUMBER, 6, 2)?,

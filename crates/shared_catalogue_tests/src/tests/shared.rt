@@ -51,7 +51,7 @@ fn receipt_at<J: Naming>(
     Ok(Receipt { command, answer })
 }
 
-// No receipts for so many stations.
+// No receipts, for each of the stations.
 fn no_receipts(alloc: Global, stations: u32) -> Result<Vec<Receipts>, AllocError> {
     let mut receipts = Vec::new(alloc);
     for _ in 0..stations {
@@ -68,7 +68,7 @@ fn keep(receipts: &mut [Receipts], station: u32, receipt: Receipt) -> Result<(),
     }
 }
 
-// Performs the cases, and keeps the receipts. The last one says false where that is to be wrong.
+// Performs the cases, and keeps the receipts. The last one says false where that is meant to be wrong.
 fn perform_all<J: Naming>(
     alloc: Global,
     rt: &impl Wait,
@@ -135,7 +135,7 @@ fn run_as<J: Naming, R: Wait>(
     Ok(Seen { rows, settled })
 }
 
-// The same on the sample's tables for so many stations, under a name of its own.
+// The same on the sample's tables for a number of stations, under a name of its own.
 fn run<R: Wait>(
     alloc: Global,
     rt: &R,
@@ -148,7 +148,7 @@ fn run<R: Wait>(
     run_as::<Brand, R>(alloc, rt, lot, catalogue, cases, wrong)
 }
 
-// Whether so many stations saw a row, and each this one.
+// Whether as many stations saw a row, and each this one.
 fn have_seen(rows: &[[u64; 23]], stations: usize, row: &[u64; 23]) -> bool {
     rows.len() == stations && rows.iter().all(|seen| seen == row)
 }

@@ -93,7 +93,7 @@ get_last : (xs : List ℕ) (c : ℕ) → get_or (xs ++ (c ∷ [])) (length xs) 0
 get_last [] c = refl
 get_last (x ∷ xs) c = get_last xs c
 
-close_found : (inside : List ℕ) → before_close (inside ++ codes ")") ≡ Some inside
+pub close_found : (inside : List ℕ) → before_close (inside ++ codes ")") ≡ Some inside
 close_found inside =
     let all = inside ++ codes ")" in
     let long : length all ≡ length inside + 1 = length-append inside (codes ")") in
@@ -102,7 +102,7 @@ close_found inside =
     chosen (get_or all (length all - 1) 0 == 41) _ None (ap (λ (c : ℕ). c == 41) last)
     ∙ (ap (λ (n : ℕ). Some (take n all)) less ∙ ap Some (take_front inside (codes ")")))
 
-close_is : (text inside : List ℕ) → before_close text ≡ Some inside → text ≡ inside ++ codes ")"
+pub close_is : (text inside : List ℕ) → before_close text ≡ Some inside → text ≡ inside ++ codes ")"
 close_is [] inside e = absurd cc
 close_is (b ∷ bs) inside e =
     let t = tested (get_or (b ∷ bs) (length (b ∷ bs) - 1) 0 == 41) (take (length (b ∷ bs) - 1) (b ∷ bs)) inside e in

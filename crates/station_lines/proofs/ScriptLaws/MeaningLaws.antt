@@ -1,9 +1,10 @@
 -- Each line means one thing, which is what the reader makes of it.
-use Rattle.std.proofs.Common.{◌≡◌, ℕ, List, [], ◌∷◌, ◌++◌, Bool, true, false, cond, ◌&&◌, ◌||◌, ◌≤◌, length, take, drop, Option, Some, None, refl, ap, ◌∙◌, sym, subst, arith, ℤ}
+use Rattle.std.proofs.Common.{◌≡◌, ℕ, zero, suc, ◌+◌, List, [], ◌∷◌, ◌++◌, Bool, true, false, cond, ◌&&◌, ◌||◌, ◌≤◌, length, take, drop, Option, Some, None, refl, ap, ◌∙◌, sym, subst, arith, ℤ}
 use Rattle.std.specs.Prelude.{◌⊎◌, codes, pos, bytes_eq, slice_index}
 use mathlib.Core.Logic.{inl, inr}
 use Rattle.std.specs.List.{list_all}
-use Rattle.std.proofs.lemmas.List.{append-nil}
+use Rattle.std.proofs.lemmas.List.{append-nil, length-append}
+use Rattle.std.proofs.lemmas.Slice.Eq.{bytes_eq-Decides}
 use Rattle.std.specs.Char.{to_ascii_lowercase, is_ascii_digit, is_ascii_alphabetic}
 use Rattle.std.specs.Str.{str_eq_ignore_ascii_case}
 use Rattle.std.proofs.lemmas.Bool.{false≢true, and_parts, and_from, and_left, and_right}
@@ -19,14 +20,15 @@ use Rattle.station_lines.specs.declared.script.line.Line.TheVariants.{Run, Statu
 use Rattle.station_lines.specs.declared.script.verb.Verb.{Verb}
 use Rattle.station_lines.specs.declared.script.verb.Verb.TheVariants as verb
 use Rattle.station_lines.specs.Script.Words.{is_gap, are_gaps, HasWords, begins_with_asterisk, IsBlankLine}
-use Rattle.station_lines.specs.Script.Parts.{is_keyword, is_call, is_name_word, name_in, count_in}
-use Rattle.station_lines.specs.Script.Meaning.{keyword, call, name, count, distance, text, literal, or_, IsPart, Are, Says, IsReadable, Means}
-use Rattle.station_lines.specs.Script.Reading.{without_gaps, first_word, after_word, text_in, literal_in, bad, verb_in, with_, one, go_line, ask_of, ask_line, two, three, four, is_empty, after_verb, after_one, after_two, read}
-use Rattle.station_lines.proofs.ScriptLaws.WordLaws.{is_solid, IsCutWord, is_cut, no_words, no_first, past_gaps}
-use Rattle.station_lines.proofs.ScriptLaws.PartLaws.{lower, same_text, all_lower, all_front, digits_of, keyword_word, call_word, name_word, count_word}
+use Rattle.station_lines.specs.Script.Parts.{is_keyword, is_call, is_name_word, name_in, is_count, count_in, between_commas, AreCounts, IsListCall}
+use Rattle.station_lines.specs.Script.Meaning.{keyword, call, name, count, distance, list_call, text, literal, or_, IsPart, Are, Says, IsReadable, Means}
+use Rattle.station_lines.specs.Script.Reading.{without_gaps, first_word, after_word, text_in, literal_in, bad, counts_in, arguments_in, first_some, list_line, verb_in, with_, one, go_line, locks_line, call_line, ask_of, ask_line, two, three, four, is_empty, after_verb, after_one, after_two, read}
+use Rattle.station_lines.proofs.ScriptLaws.WordLaws.{is_solid, IsCutWord, is_cut, no_words, no_first, past_gaps, take_front}
+use Rattle.station_lines.proofs.ScriptLaws.PartLaws.{lower, same_text, same_length, tested, all_lower, all_front, digits_of, keyword_word, call_word, name_word, count_word}
 use Rattle.station_lines.proofs.ScriptLaws.TextLaws.{text_found, chosen, passed}
 use Rattle.station_lines.proofs.ScriptLaws.LiteralLaws.{literal_found, literal_word, distance_word}
 use Rattle.station_lines.proofs.ScriptLaws.WordLaws.{text_whole}
+use Rattle.station_lines.proofs.ScriptLaws.ListLaws.{counts_found, arguments_found, list_word}
 use Rattle.station_lines.proofs.ScriptLaws.VerbLaws.{spelling, verb_is}
 use Rattle.station_lines.proofs.ScriptLaws.SoundLaws.{IsSaid, one_said, two_said, three_said, four_said}
 use Rattle.station_lines.proofs.ScriptLaws.FoundLaws.{line_one, line_two, line_three, line_four}
@@ -127,9 +129,9 @@ go_bottom word e =
     passed (is_keyword (codes "TOP") word) _ _ (other_keyword (codes "BOTTOM") (codes "TOP") word refl e)
     ∙ chosen (is_keyword (codes "BOTTOM") word) _ _ e
 
--- the line of a function, by its name in small letters
-abbrev call_at : List ℕ → Line
-call_at small =
+-- the line of a function, by its name in small letters, or another line
+abbrev call_at : Line → List ℕ → Line
+call_at other small =
     cond (bytes_eq small (lower (codes "RLOCK()"))) (Run command.RecordLock) (
     cond (bytes_eq small (lower (codes "LOCK()"))) (Run command.RecordLock) (
     cond (bytes_eq small (lower (codes "FLOCK()"))) (Run command.FileLock) (
@@ -138,17 +140,17 @@ call_at small =
     cond (bytes_eq small (lower (codes "FOUND()"))) (Run (command.Ask question.Found)) (
     cond (bytes_eq small (lower (codes "DELETED()"))) (Run (command.Ask question.Deleted)) (
     cond (bytes_eq small (lower (codes "RECNO()"))) (Run (command.Ask question.Recno)) (
-    cond (bytes_eq small (lower (codes "RECCOUNT()"))) (Run (command.Ask question.Reccount)) bad))))))))
+    cond (bytes_eq small (lower (codes "RECCOUNT()"))) (Run (command.Ask question.Reccount)) other))))))))
 
 name_lower : (c : ℕ) → is_name_char (to_ascii_lowercase c) ≡ is_name_char c
 name_lower c = grind (arith, nat_tests)
 
-ask_call : (f word : List ℕ) → list_all is_name_char (lower f) ≡ false → is_call f word ≡ true → ask_line word ≡ call_at (lower f)
+ask_call : (f word : List ℕ) → list_all is_name_char (lower f) ≡ false → is_call f word ≡ true → ask_line word ≡ call_at (locks_line word) (lower f)
 ask_call f word other e =
     let same : lower word ≡ lower f = same_text _ _ e in
     let no_name : list_all is_name_char word ≡ false = sym (all_lower is_name_char name_lower word) ∙ (ap (list_all is_name_char) same ∙ other) in
     let none : name_in word ≡ None = passed (is_name_word word) _ None (and_right (is_ascii_alphabetic (slice_index word 0)) (list_all is_name_char word) no_name) in
-    ap (λ (o : Option (List ℕ)). ask_of o word) none ∙ ap call_at same
+    ap (λ (o : Option (List ℕ)). ask_of o word) none ∙ ap (call_at (locks_line word)) same
 
 call_cut : (f : List ℕ) → 1 ≤ length f → list_all is_solid f ≡ true → (word : List ℕ) → is_call f word ≡ true → IsCutWord word
 call_cut f some solid word e = call_word f word some solid e
@@ -166,10 +168,131 @@ ask_lock word (inl e) = ask_call (codes "RLOCK()") word refl e
 ask_lock word (inr e) = ask_call (codes "LOCK()") word refl e
 
 ask_read : (line : List ℕ) (words : List (List ℕ)) (f : List ℕ) → 1 ≤ length f → list_all is_solid f ≡ true → list_all is_name_char (lower f) ≡ false
-    → HasWords words line → Are (keyword (codes "?") ∷ call f ∷ []) words → read line ≡ call_at (lower f)
-ask_read line words f some solid other w h =
+    → (l : Line) → ((rest : Line) → call_at rest (lower f) ≡ l) → HasWords words line → Are (keyword (codes "?") ∷ call f ∷ []) words → read line ≡ l
+ask_read line words f some solid other l made w h =
     let r = line_two line words verb.Ask (call f) (call_cut f some solid) w h in
-    r.as_two ∙ ask_call f r.second other r.is
+    r.as_two ∙ (ask_call f r.second other r.is ∙ made (locks_line r.second))
+
+-- a list of records
+
+all_back : (p : ℕ → Bool) (xs ys : List ℕ) → list_all p ys ≡ false → list_all p (xs ++ ys) ≡ false
+all_back p [] ys h = h
+all_back p (x ∷ xs) ys h = and_right (p x) (list_all p (xs ++ ys)) (all_back p xs ys h)
+
+no_list : (ns : List ℕ) → AreCounts (between_commas []) ns → ⊥
+no_list [] h = h
+no_list (n ∷ ns) h = false≢true (tested (is_count []) 0 n h.0).0
+
+lower_front : (n : ℕ) (xs : List ℕ) → lower (take n xs) ≡ take n (lower xs)
+lower_front zero [] = refl
+lower_front zero (x ∷ xs) = refl
+lower_front (suc n) [] = refl
+lower_front (suc n) (x ∷ xs) = ap (λ (ys : List ℕ). to_ascii_lowercase x ∷ ys) (lower_front n xs)
+
+none_long : (xs : List ℕ) → length xs ≡ 0 → xs ≡ []
+none_long [] h = refl
+none_long (x ∷ xs) h = absurd (omega (arith, h))
+
+-- a call with a list is no call without one
+other_call : (function f word : List ℕ) (ns : List ℕ) → IsListCall function word ns
+    → (bytes_eq (lower (take (length function) f)) (lower function) ≡ false) ⊎ (length f ≡ length function + 1) → (q : Bool) → is_call f word ≡ q → q ≡ false
+other_call function f word ns call other false e = refl
+other_call function f word ns call (inl differ) true e =
+    let long = same_length call.0 function call.3 in
+    let whole : lower word ≡ lower f = same_text (lower word) (lower f) e in
+    let front : take (length function) word ≡ call.0 = ap (take (length function)) call.2 ∙ (ap (λ (n : ℕ). take n (call.0 ++ (call.1 ++ codes ")"))) (sym long) ∙ take_front call.0 (call.1 ++ codes ")")) in
+    let name : lower call.0 ≡ lower function = same_text (lower call.0) (lower function) call.3 in
+    let same : lower (take (length function) f) ≡ lower function =
+    lower_front (length function) f ∙ (ap (take (length function)) (sym whole) ∙ (sym (lower_front (length function) word) ∙ (ap lower front ∙ name))) in
+    absurd (false≢true (sym differ ∙ (bytes_eq-Decides (lower (take (length function) f)) (lower function)).1 same))
+other_call function f word ns call (inr one_more) true e =
+    let long = same_length call.0 function call.3 in
+    let all = same_length word f e in
+    let sum : length word ≡ length call.0 + (length call.1 + 1) = ap length call.2 ∙ simp length-append in
+    absurd (no_list ns (subst (λ (xs : List ℕ). AreCounts (between_commas xs) ns) (none_long call.1 (omega (arith, long, all, sum, one_more))) call.4))
+
+-- each function without a list is another than this one
+abbrev IsOtherName : List ℕ → List ℕ → Type 0
+IsOtherName function f = (bytes_eq (lower (take (length function) f)) (lower function) ≡ false) ⊎ (length f ≡ length function + 1)
+
+record IsListName (function : List ℕ) : Type 0 where
+  rlock : IsOtherName function (codes "RLOCK()")
+  lock : IsOtherName function (codes "LOCK()")
+  flock : IsOtherName function (codes "FLOCK()")
+  eof : IsOtherName function (codes "EOF()")
+  bof : IsOtherName function (codes "BOF()")
+  found : IsOtherName function (codes "FOUND()")
+  deleted : IsOtherName function (codes "DELETED()")
+  recno : IsOtherName function (codes "RECNO()")
+  reccount : IsOtherName function (codes "RECCOUNT()")
+
+list_asked : (function word ns : List ℕ) → IsListCall function word ns → IsListName function → ask_line word ≡ locks_line word
+list_asked function word ns call other =
+    let no_name : list_all is_name_char word ≡ false =
+    ap (list_all is_name_char) call.2 ∙ all_back is_name_char call.0 (call.1 ++ codes ")") (all_back is_name_char call.1 (codes ")") refl) in
+    let none : name_in word ≡ None = passed (is_name_word word) _ None (and_right (is_ascii_alphabetic (slice_index word 0)) (list_all is_name_char word) no_name) in
+    let differs : (f : List ℕ) → IsOtherName function f → is_call f word ≡ false = λ f o. other_call function f word ns call o (is_call f word) refl in
+    ap (λ (o : Option (List ℕ)). ask_of o word) none
+    ∙ (passed (is_call (codes "RLOCK()") word) _ _ (differs (codes "RLOCK()") other.rlock)
+    ∙ (passed (is_call (codes "LOCK()") word) _ _ (differs (codes "LOCK()") other.lock)
+    ∙ (passed (is_call (codes "FLOCK()") word) _ _ (differs (codes "FLOCK()") other.flock)
+    ∙ (passed (is_call (codes "EOF()") word) _ _ (differs (codes "EOF()") other.eof)
+    ∙ (passed (is_call (codes "BOF()") word) _ _ (differs (codes "BOF()") other.bof)
+    ∙ (passed (is_call (codes "FOUND()") word) _ _ (differs (codes "FOUND()") other.found)
+    ∙ (passed (is_call (codes "DELETED()") word) _ _ (differs (codes "DELETED()") other.deleted)
+    ∙ (passed (is_call (codes "RECNO()") word) _ _ (differs (codes "RECNO()") other.recno)
+    ∙ passed (is_call (codes "RECCOUNT()") word) _ _ (differs (codes "RECCOUNT()") other.reccount)))))))))
+
+-- what begins as LOCK begins not as RLOCK
+no_rlock : (name rest : List ℕ) → str_eq_ignore_ascii_case name (codes "LOCK(") ≡ true → (q : Bool) → str_eq_ignore_ascii_case (take 6 (name ++ rest)) (codes "RLOCK(") ≡ q → q ≡ false
+no_rlock name rest e false f = refl
+no_rlock [] rest e true f = absurd (false≢true e)
+no_rlock (b ∷ bs) rest e true f =
+    let one : lower (b ∷ bs) ≡ lower (codes "LOCK(") = same_text (lower (b ∷ bs)) (lower (codes "LOCK(")) e in
+    let two : lower (take 6 (b ∷ (bs ++ rest))) ≡ lower (codes "RLOCK(") = same_text (lower (take 6 (b ∷ (bs ++ rest)))) (lower (codes "RLOCK(")) f in
+    let first : to_ascii_lowercase b ≡ 108 = ap (λ (xs : List ℕ). slice_index xs 0) one in
+    let second : to_ascii_lowercase b ≡ 114 = ap (λ (xs : List ℕ). slice_index xs 0) two in
+    absurd (omega (arith, first, second))
+
+list_line_is : (inside ns : List ℕ) → AreCounts (between_commas inside) ns → list_line (Some inside) ≡ Run (command.RecordLocks ns)
+list_line_is inside ns h = ap (λ (o : Option (List ℕ)). with_ o (λ ns. Run (command.RecordLocks ns))) (counts_found (between_commas inside) ns h)
+
+locks_cut : (ns word : List ℕ) → IsPart (or_ (list_call (codes "RLOCK(") ns) (list_call (codes "LOCK(") ns)) word → IsCutWord word
+locks_cut ns word (inl call) = list_word (codes "RLOCK(") word ns (omega arith) refl call
+locks_cut ns word (inr call) = list_word (codes "LOCK(") word ns (omega arith) refl call
+
+ask_locks : (ns word : List ℕ) → IsPart (or_ (list_call (codes "RLOCK(") ns) (list_call (codes "LOCK(") ns)) word → ask_line word ≡ Run (command.RecordLocks ns)
+ask_locks ns word (inl call) =
+    list_asked (codes "RLOCK(") word ns call (record {
+      rlock = inr refl;
+      lock = inl refl;
+      flock = inl refl;
+      eof = inl refl;
+      bof = inl refl;
+      found = inl refl;
+      deleted = inl refl;
+      recno = inl refl;
+      reccount = inl refl;
+    })
+    ∙ (ap (λ (o : Option (List ℕ)). list_line (first_some o (arguments_in (codes "LOCK(") word))) (arguments_found (codes "RLOCK(") call.0 call.1 word call.2 call.3)
+    ∙ list_line_is call.1 ns call.4)
+ask_locks ns word (inr call) =
+    let other : str_eq_ignore_ascii_case (take 6 word) (codes "RLOCK(") ≡ false =
+    ap (λ (xs : List ℕ). str_eq_ignore_ascii_case (take 6 xs) (codes "RLOCK(")) call.2 ∙ no_rlock call.0 (call.1 ++ codes ")") call.3 _ refl in
+    list_asked (codes "LOCK(") word ns call (record {
+      rlock = inl refl;
+      lock = inr refl;
+      flock = inl refl;
+      eof = inl refl;
+      bof = inl refl;
+      found = inl refl;
+      deleted = inl refl;
+      recno = inl refl;
+      reccount = inl refl;
+    })
+    ∙ (ap (λ (o : Option (List ℕ)). list_line (first_some o (arguments_in (codes "LOCK(") word))) (passed (str_eq_ignore_ascii_case (take 6 word) (codes "RLOCK(")) _ None other)
+    ∙ (ap (λ (o : Option (List ℕ)). list_line (first_some None o)) (arguments_found (codes "LOCK(") call.0 call.1 word call.2 call.3)
+    ∙ list_line_is call.1 ns call.4))
 
 skip_read : (line : List ℕ) (words : List (List ℕ)) (n : ℤ) → HasWords words line
     → (Are (keyword (codes "SKIP") ∷ distance n ∷ []) words ⊎ (Are (keyword (codes "SKIP") ∷ []) words × (n ≡ pos 1))) → read line ≡ Run (command.Skip n)
@@ -236,13 +359,16 @@ run_read line words (command.Show f) w h =
 run_read line words command.RecordLock w h =
     let r = line_two line words verb.Ask (or_ (call (codes "RLOCK()")) (call (codes "LOCK()"))) lock_cut w h in
     r.as_two ∙ ask_lock r.second r.is
-run_read line words command.FileLock w h = ask_read line words (codes "FLOCK()") (omega arith) refl refl w h
-run_read line words (command.Ask question.Eof) w h = ask_read line words (codes "EOF()") (omega arith) refl refl w h
-run_read line words (command.Ask question.Bof) w h = ask_read line words (codes "BOF()") (omega arith) refl refl w h
-run_read line words (command.Ask question.Found) w h = ask_read line words (codes "FOUND()") (omega arith) refl refl w h
-run_read line words (command.Ask question.Deleted) w h = ask_read line words (codes "DELETED()") (omega arith) refl refl w h
-run_read line words (command.Ask question.Recno) w h = ask_read line words (codes "RECNO()") (omega arith) refl refl w h
-run_read line words (command.Ask question.Reccount) w h = ask_read line words (codes "RECCOUNT()") (omega arith) refl refl w h
+run_read line words (command.RecordLocks ns) w h =
+    let r = line_two line words verb.Ask (or_ (list_call (codes "RLOCK(") ns) (list_call (codes "LOCK(") ns)) (locks_cut ns) w h in
+    r.as_two ∙ ask_locks ns r.second r.is
+run_read line words command.FileLock w h = ask_read line words (codes "FLOCK()") (omega arith) refl refl _ (λ _. refl) w h
+run_read line words (command.Ask question.Eof) w h = ask_read line words (codes "EOF()") (omega arith) refl refl _ (λ _. refl) w h
+run_read line words (command.Ask question.Bof) w h = ask_read line words (codes "BOF()") (omega arith) refl refl _ (λ _. refl) w h
+run_read line words (command.Ask question.Found) w h = ask_read line words (codes "FOUND()") (omega arith) refl refl _ (λ _. refl) w h
+run_read line words (command.Ask question.Deleted) w h = ask_read line words (codes "DELETED()") (omega arith) refl refl _ (λ _. refl) w h
+run_read line words (command.Ask question.Recno) w h = ask_read line words (codes "RECNO()") (omega arith) refl refl _ (λ _. refl) w h
+run_read line words (command.Ask question.Reccount) w h = ask_read line words (codes "RECCOUNT()") (omega arith) refl refl _ (λ _. refl) w h
 run_read line words command.Bad w h = absurd h
 
 status_read : (line : List ℕ) (words : List (List ℕ)) → HasWords words line → Says words Status → read line ≡ Status

@@ -6,11 +6,12 @@ use Rattle.std.proofs.lemmas.Bool.{and_parts}
 use Rattle.station_lines.specs.declared.script.line.Line.{Line}
 use Rattle.station_lines.specs.declared.script.verb.Verb.{Verb}
 use Rattle.station_lines.specs.declared.script.verb.Verb.TheVariants as verb
-use Rattle.station_lines.specs.Script.Parts.{is_keyword, is_call, name_in, count_in, distance_in}
+use Rattle.station_lines.specs.Script.Parts.{is_keyword, is_call, name_in, count_in, distance_in, between_commas}
 use Rattle.station_lines.specs.Script.Meaning.{IsPart, Says}
-use Rattle.station_lines.specs.Script.Reading.{text_in, literal_in, bad, with_, one, go_line, call_line, ask_of, two, three, four}
+use Rattle.station_lines.specs.Script.Reading.{text_in, literal_in, counts_in, arguments_in, first_some, list_line, bad, with_, one, go_line, locks_line, call_line, ask_of, two, three, four}
 use Rattle.station_lines.proofs.ScriptLaws.TextLaws.{text_is}
 use Rattle.station_lines.proofs.ScriptLaws.LiteralLaws.{literal_is}
+use Rattle.station_lines.proofs.ScriptLaws.ListLaws.{list_is}
 use Rattle.station_lines.proofs.ScriptLaws.VerbLaws.{spelling}
 
 -- a line that is Bad, or what the words say
@@ -40,6 +41,19 @@ go_said a b h =
     of_test (a ∷ b ∷ []) (is_keyword (codes "BOTTOM") b) _ _ (λ e. inr (h, (e, tt))) (
     of_value (a ∷ b ∷ []) (count_in b) _ (λ n e. inr (h, (e, tt)))))
 
+-- a list in the parentheses of RLOCK or of LOCK
+list_said : (a b : List ℕ) (inside : List ℕ) → IsPart (spelling verb.Ask) a → (arguments_in (codes "RLOCK(") b ≡ Some inside) ⊎ (arguments_in (codes "LOCK(") b ≡ Some inside) → IsSaid (a ∷ b ∷ []) (list_line (Some inside))
+list_said a b inside h (inl e) = of_value (a ∷ b ∷ []) (counts_in (between_commas inside)) _ (λ ns f. inr (h, (inl (list_is (codes "RLOCK(") b inside ns e f), tt)))
+list_said a b inside h (inr e) = of_value (a ∷ b ∷ []) (counts_in (between_commas inside)) _ (λ ns f. inr (h, (inr (list_is (codes "LOCK(") b inside ns e f), tt)))
+
+locks_said_by : (a b : List ℕ) → IsPart (spelling verb.Ask) a → (o p : Option (List ℕ)) → arguments_in (codes "RLOCK(") b ≡ o → arguments_in (codes "LOCK(") b ≡ p → IsSaid (a ∷ b ∷ []) (list_line (first_some o p))
+locks_said_by a b h None None e f = inl refl
+locks_said_by a b h None (Some inside) e f = list_said a b inside h (inr f)
+locks_said_by a b h (Some inside) p e f = list_said a b inside h (inl e)
+
+locks_said : (a b : List ℕ) → IsPart (spelling verb.Ask) a → IsSaid (a ∷ b ∷ []) (locks_line b)
+locks_said a b h = locks_said_by a b h (arguments_in (codes "RLOCK(") b) (arguments_in (codes "LOCK(") b) refl refl
+
 call_said : (a b : List ℕ) → IsPart (spelling verb.Ask) a → IsSaid (a ∷ b ∷ []) (call_line b)
 call_said a b h =
     of_test (a ∷ b ∷ []) (is_call (codes "RLOCK()") b) _ _ (λ e. inr (h, (inl e, tt))) (
@@ -50,7 +64,7 @@ call_said a b h =
     of_test (a ∷ b ∷ []) (is_call (codes "FOUND()") b) _ _ (λ e. inr (h, (e, tt))) (
     of_test (a ∷ b ∷ []) (is_call (codes "DELETED()") b) _ _ (λ e. inr (h, (e, tt))) (
     of_test (a ∷ b ∷ []) (is_call (codes "RECNO()") b) _ _ (λ e. inr (h, (e, tt))) (
-    of_test (a ∷ b ∷ []) (is_call (codes "RECCOUNT()") b) _ _ (λ e. inr (h, (e, tt))) (inl refl)))))))))
+    of_test (a ∷ b ∷ []) (is_call (codes "RECCOUNT()") b) _ _ (λ e. inr (h, (e, tt))) (locks_said a b h)))))))))
 
 ask_said : (a b : List ℕ) → IsPart (spelling verb.Ask) a → (o : Option (List ℕ)) → name_in b ≡ o → IsSaid (a ∷ b ∷ []) (ask_of o b)
 ask_said a b h None e = call_said a b h

@@ -1,12 +1,12 @@
 -- What a script line means: the list of commands.
 use Rattle.std.specs.Prelude.{◌≡◌, ◌⊎◌, ℕ, true, false, List, [], ◌∷◌, codes, ℤ, pos, Some}
 use Rattle.dbf_fields.specs.declared.literal.Literal.{Literal}
-use Rattle.catalogue_core.specs.declared.command.Command.TheVariants.{Select, UseTable, CloseTable, Go, Top, Bottom, Skip, Seek, Order, AppendBlank, Replace, Memo, Delete, Recall, Pack, Unlock, UnlockAll, Show, RecordLock, FileLock, Ask, Bad}
+use Rattle.catalogue_core.specs.declared.command.Command.TheVariants.{Select, UseTable, CloseTable, Go, Top, Bottom, Skip, Seek, Order, AppendBlank, Replace, Memo, Delete, Recall, Pack, Unlock, UnlockAll, Show, RecordLock, RecordLocks, FileLock, Ask, Bad}
 use Rattle.catalogue_core.specs.declared.command.Question.TheVariants.{Eof, Bof, Found, Deleted, Recno, Reccount}
 use Rattle.station_lines.specs.declared.script.line.Line.{Line}
 use Rattle.station_lines.specs.declared.script.line.Line.TheVariants.{Run, Status, Blank}
 use Rattle.station_lines.specs.Script.Words.{HasWords, IsBlankLine}
-use Rattle.station_lines.specs.Script.Parts.{is_keyword, is_call, name_in, count_in, distance_in, IsText}
+use Rattle.station_lines.specs.Script.Parts.{is_keyword, is_call, name_in, count_in, distance_in, IsListCall, IsText}
 use Rattle.station_lines.specs.Script.Literals.{IsLiteral}
 
 -- what a command's form has in a word's place
@@ -16,6 +16,7 @@ pub data Part : Type 0 where
   name : List ℕ → Part
   count : ℕ → Part
   distance : ℤ → Part
+  list_call : List ℕ → List ℕ → Part
   text : List ℕ → Part
   literal : Literal → Part
   or_ : Part → Part → Part
@@ -26,6 +27,7 @@ IsPart (call f) word = is_call f word ≡ true
 IsPart (name n) word = name_in word ≡ Some n
 IsPart (count n) word = count_in word ≡ Some n
 IsPart (distance n) word = distance_in word ≡ Some n
+IsPart (list_call f ns) word = IsListCall f word ns
 IsPart (text t) word = IsText word t
 IsPart (literal l) word = IsLiteral word l
 IsPart (or_ p q) word = IsPart p word ⊎ IsPart q word
@@ -61,6 +63,8 @@ Says words (Run Unlock) = Are (keyword (codes "UNLOCK") ∷ []) words
 Says words (Run UnlockAll) = Are (keyword (codes "UNLOCK") ∷ keyword (codes "ALL") ∷ []) words
 Says words (Run (Show f)) = Are (keyword (codes "?") ∷ name f ∷ []) words
 Says words (Run RecordLock) = Are (keyword (codes "?") ∷ or_ (call (codes "RLOCK()")) (call (codes "LOCK()")) ∷ []) words
+Says words (Run (RecordLocks ns)) =
+    Are (keyword (codes "?") ∷ or_ (list_call (codes "RLOCK(") ns) (list_call (codes "LOCK(") ns) ∷ []) words
 Says words (Run FileLock) = Are (keyword (codes "?") ∷ call (codes "FLOCK()") ∷ []) words
 Says words (Run (Ask Eof)) = Are (keyword (codes "?") ∷ call (codes "EOF()") ∷ []) words
 Says words (Run (Ask Bof)) = Are (keyword (codes "?") ∷ call (codes "BOF()") ∷ []) words

@@ -1,13 +1,13 @@
 -- What a word of a command is: a keyword, a name, a number, a text.
-use Rattle.std.specs.Prelude.{◌≡◌, ℕ, ◌-◌, Bool, true, not, ◌&&◌, ◌||◌, ◌==◌, List, [], ◌∷◌, ◌++◌, length, map, take, drop, slice_index, Option, Some, None, option_map, ℤ, pos, neg_ℤ, if◌then◌else◌}
-use Rattle.std.specs.List.{list_all}
+use Rattle.std.specs.Prelude.{◌≡◌, ℕ, ◌-◌, codes, Bool, true, not, ◌&&◌, ◌||◌, ◌==◌, List, [], ◌∷◌, ◌++◌, length, map, take, drop, slice_index, Option, Some, None, option_map, ℤ, pos, neg_ℤ, if◌then◌else◌}
+use Rattle.std.specs.List.{list_all, slice_split}
 use Rattle.std.specs.Int.{is_in_range}
 use Rattle.std.specs.Char.{is_ascii_digit, is_ascii_alphabetic, to_ascii_uppercase}
 use Rattle.std.specs.Str.{str_eq_ignore_ascii_case}
 use Rattle.dbf_fields.specs.declared.format.TheConstants.{MINUS}
 use Rattle.dbf_fields.specs.Digits.{digits_after}
 use Rattle.dbf_fields.specs.Name.{is_name_char}
-use Rattle.station_lines.specs.declared.script.format.TheConstants.{KEYWORD_LETTERS, MAX_COUNT_DIGITS, QUOTE, APOSTROPHE}
+use Rattle.station_lines.specs.declared.script.format.TheConstants.{KEYWORD_LETTERS, MAX_COUNT_DIGITS, QUOTE, APOSTROPHE, COMMA}
 
 -- A keyword in any case: its first four letters, or all of one that has fewer, and as many of the others as one
 -- likes.
@@ -39,6 +39,22 @@ is_count word = is_in_range 1 MAX_COUNT_DIGITS (length word) && list_all is_asci
 -- the number that a word is
 abbrev pub count_in : List ℕ → Option ℕ
 count_in word = if is_count word then Some (digits_after 0 word) else None
+
+-- the parts between commas
+abbrev pub between_commas : List ℕ → List (List ℕ)
+between_commas text = slice_split (λ b. b == COMMA) text
+
+-- each part is a number of 1 to 10 digits
+abbrev pub AreCounts : List (List ℕ) → List ℕ → Type 0
+AreCounts [] [] = Unit {0}
+AreCounts (part ∷ parts) (n ∷ ns) = (count_in part ≡ Some n) × AreCounts parts ns
+AreCounts parts ns = ⊥
+
+-- a function's name with its opening parenthesis, in any case, numbers apart by commas, and `)`
+abbrev pub IsListCall : List ℕ → List ℕ → List ℕ → Type 0
+IsListCall function word numbers =
+    (name : List ℕ) × (inside : List ℕ) × (word ≡ name ++ (inside ++ codes ")"))
+    × (str_eq_ignore_ascii_case name function ≡ true) × AreCounts (between_commas inside) numbers
 
 -- the number that a word is, below zero after a `-`
 abbrev pub distance_in : List ℕ → Option ℤ

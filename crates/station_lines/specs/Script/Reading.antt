@@ -11,7 +11,7 @@ use Rattle.station_lines.specs.declared.script.line.Line.TheVariants.{Run, Statu
 use Rattle.station_lines.specs.declared.script.verb.Verb.{Verb}
 use Rattle.station_lines.specs.declared.script.verb.Verb.TheVariants as verb
 use Rattle.station_lines.specs.Script.Words.{is_gap, begins_with_asterisk}
-use Rattle.station_lines.specs.Script.Parts.{is_keyword, is_call, is_quote, name_in, count_in, distance_in}
+use Rattle.station_lines.specs.Script.Parts.{is_keyword, is_call, is_quote, name_in, count_in, distance_in, between_commas}
 use Rattle.station_lines.specs.Script.Literals.{number_in, truth_in, cell_of_shown}
 use Rattle.station_lines.specs.Script.Days.{day_is}
 use Rattle.std.specs.Prelude.{refl}
@@ -62,6 +62,26 @@ text_in_part (Some part) = text_in part
 abbrev pub date_text_in : List ℕ → Option (List ℕ)
 date_text_in word =
     if str_eq_ignore_ascii_case (take 5 word) (codes "CTOD(") then text_in_part (before_close (drop 5 word)) else None
+
+-- a number before others
+abbrev pub with_count : Option ℕ → Option (List ℕ) → Option (List ℕ)
+with_count (Some n) (Some ns) = Some (n ∷ ns)
+with_count count counts = None
+
+-- the numbers that parts are
+abbrev pub counts_in : List (List ℕ) → Option (List ℕ)
+counts_in [] = Some []
+counts_in (part ∷ parts) = with_count (count_in part) (counts_in parts)
+
+-- what stands in the parentheses of a function's call
+abbrev pub arguments_in : List ℕ → List ℕ → Option (List ℕ)
+arguments_in function word =
+    if str_eq_ignore_ascii_case (take (length function) word) function then before_close (drop (length function) word) else None
+
+-- the first of two, where there is one, else the second
+abbrev pub first_some : Option (List ℕ) → Option (List ℕ) → Option (List ℕ)
+first_some None second = second
+first_some (Some x) second = Some x
 
 -- the date of a cell
 abbrev pub day_when : (cell : List ℕ) → (b : Bool) → is_date cell ≡ b → Literal
@@ -139,6 +159,15 @@ go_line word =
     else (if is_keyword (codes "BOTTOM") word then Run command.Bottom
     else with_ (count_in word) (λ n. Run (command.Go n)))
 
+-- a command that locks a list of records
+abbrev pub list_line : Option (List ℕ) → Line
+list_line None = bad
+list_line (Some list) = with_ (counts_in (between_commas list)) (λ ns. Run (command.RecordLocks ns))
+
+-- RLOCK or LOCK, with record numbers in its parentheses
+abbrev pub locks_line : List ℕ → Line
+locks_line word = list_line (first_some (arguments_in (codes "RLOCK(") word) (arguments_in (codes "LOCK(") word))
+
 -- a function that `?` asks
 abbrev pub call_line : List ℕ → Line
 call_line word =
@@ -151,7 +180,7 @@ call_line word =
     else (if is_call (codes "DELETED()") word then Run (command.Ask question.Deleted)
     else (if is_call (codes "RECNO()") word then Run (command.Ask question.Recno)
     else (if is_call (codes "RECCOUNT()") word then Run (command.Ask question.Reccount)
-    else bad))))))))
+    else locks_line word))))))))
 
 abbrev pub ask_of : Option (List ℕ) → List ℕ → Line
 ask_of (Some name) word = Run (command.Show name)

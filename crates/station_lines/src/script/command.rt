@@ -1,12 +1,13 @@
 //! Commands, by how many words they have.
 
-ghost use Rattle.std.specs.Prelude.{◌≡◌, true, IfOk, OnErr};
+ghost use Rattle.std.specs.Prelude.{◌≡◌, true, Some, IfOk, OnErr};
 ghost use Rattle.station_lines.specs.Script.Parts.{name_in as name_in_word};
 ghost use Rattle.station_lines.specs.Script.Keeping.{keeps_text};
-ghost use Rattle.station_lines.specs.Script.Reading.{with_, one, two, three, four, go_line, call_line, ask_line, set_order_line, replace_line, memo_line};
+ghost use Rattle.station_lines.specs.Script.Reading.{with_, one, two, three, four, go_line, list_line, locks_line, call_line, ask_line, set_order_line, replace_line, memo_line};
 
 use crate::script::keyword::{is_call, is_keyword};
 use crate::script::line::Line;
+use crate::script::list::{arguments_in, counts_in};
 use crate::script::literal::literal_in;
 use crate::script::value::{count_in, distance_in, in_capitals, is_name, name_in, text_in};
 use crate::script::verb::Verb;
@@ -87,30 +88,56 @@ fn seek(alloc: Global, word: &[u8]) -> Result<Line, AllocError>
     }
 }
 
-// The line of a function that `?` asks.
-fn call(word: &[u8]) -> Line
-    ensures value { result ≡ call_line word.now }
+// The line that locks a list of records.
+fn lock_listed(alloc: Global, list: &[u8]) -> Result<Line, AllocError>
+    ensures value { IfOk result (λ line. line ≡ list_line (Some list.now)) }
+    ensures early { OnErr result (keeps_text (list_line (Some list.now)) ≡ true) }
+{
+    match counts_in(alloc, list)? {
+        Some(numbers) => Ok(Line::Run(Command::RecordLocks(numbers))),
+        None => Ok(Line::Run(Command::Bad)),
+    }
+}
+
+// The line of RLOCK or LOCK with record numbers in its parentheses.
+fn lock_records(alloc: Global, word: &[u8]) -> Result<Line, AllocError>
+    ensures value { IfOk result (λ line. line ≡ locks_line word.now) }
+    ensures early { OnErr result (keeps_text (locks_line word.now) ≡ true) }
+{
+    if let Some(list) = arguments_in(b"RLOCK(", word) {
+        return lock_listed(alloc, list);
+    }
+    match arguments_in(b"LOCK(", word) {
+        Some(list) => lock_listed(alloc, list),
+        None => Ok(Line::Run(Command::Bad)),
+    }
+}
+
+// The line of a function that `?` asks. An error where memory for a list of records is refused.
+fn call(alloc: Global, word: &[u8]) -> Result<Line, AllocError>
+    ensures value { IfOk result (λ line. line ≡ call_line word.now) }
+    ensures early { OnErr result (keeps_text (call_line word.now) ≡ true) }
 {
     if is_call(word, b"RLOCK()") {
-        Line::Run(Command::RecordLock)
+        Ok(Line::Run(Command::RecordLock))
     } else if is_call(word, b"LOCK()") {
-        Line::Run(Command::RecordLock)
+        Ok(Line::Run(Command::RecordLock))
     } else if is_call(word, b"FLOCK()") {
-        Line::Run(Command::FileLock)
+        Ok(Line::Run(Command::FileLock))
     } else if is_call(word, b"EOF()") {
-        Line::Run(Command::Ask(Question::Eof))
+        Ok(Line::Run(Command::Ask(Question::Eof)))
     } else if is_call(word, b"BOF()") {
-        Line::Run(Command::Ask(Question::Bof))
+        Ok(Line::Run(Command::Ask(Question::Bof)))
     } else if is_call(word, b"FOUND()") {
-        Line::Run(Command::Ask(Question::Found))
+        Ok(Line::Run(Command::Ask(Question::Found)))
     } else if is_call(word, b"DELETED()") {
-        Line::Run(Command::Ask(Question::Deleted))
+        Ok(Line::Run(Command::Ask(Question::Deleted)))
     } else if is_call(word, b"RECNO()") {
-        Line::Run(Command::Ask(Question::Recno))
+        Ok(Line::Run(Command::Ask(Question::Recno)))
     } else if is_call(word, b"RECCOUNT()") {
-        Line::Run(Command::Ask(Question::Reccount))
+        Ok(Line::Run(Command::Ask(Question::Reccount)))
     } else {
-        Line::Run(Command::Bad)
+        lock_records(alloc, word)
     }
 }
 
@@ -121,7 +148,7 @@ fn ask(alloc: Global, word: &[u8]) -> Result<Line, AllocError>
 {
     match name_in(alloc, word)? {
         Some(name) => Ok(Line::Run(Command::Show(name))),
-        None => Ok(call(word)),
+        None => call(alloc, word),
     }
 }
 

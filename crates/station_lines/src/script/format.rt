@@ -15,6 +15,9 @@ pub const LF: u8 = b'\n';
 /// Stands before an LF that ends a line, and is a byte of the line elsewhere.
 pub(crate) const CR: u8 = b'\r';
 
+/// Stands between the numbers of a list.
+pub(crate) const COMMA: u8 = b',';
+
 /// How many letters a keyword keeps where it is shortened.
 pub(crate) const KEYWORD_LETTERS: usize = 4;
 

@@ -115,8 +115,8 @@ fn truth_in(word: &[u8]) -> Option<bool>
     }
 }
 
-// What stands before a closing parenthesis at the end.
-fn before_close(text: &[u8]) -> Option<&[u8]>
+/// What stands before a closing parenthesis at the end. Takes no memory.
+pub(crate) fn before_close(text: &[u8]) -> Option<&[u8]>
     ensures value { option_map (λ part. part.now) result ≡ part_before_close text.now }
 {
     match text {

@@ -1,4 +1,4 @@
-use catalogue_core::{Command, Question};
+use catalogue_core::{Command, Numbers, Question};
 use dbf_fields::{Bytes, Literal, day_of};
 use station_lines::{Line, lines, parse_line};
 use std::alloc::{AllocError, Global};
@@ -383,4 +383,32 @@ fn script_endings(rt: HostRuntime) {
     for (script, wanted) in cases {
         assert!(rt; are_lines(script, wanted));
     }
+}
+
+// The line that locks the records of a list.
+fn record_locks(alloc: Global, numbers: &[u64]) -> Result<Line, AllocError> {
+    let numbers = Numbers::from_vec(Vec::from_slice(alloc, numbers)?);
+    Ok(Line::Run(Command::RecordLocks(numbers)))
+}
+
+#[test]
+fn lists_of_records(rt: HostRuntime) -> Result<(), Fail> {
+    let alloc = rt.alloc();
+    let lists: [(&[u8], &[u64]); 4] = [
+        (b"? rlock(1)\n?\tLock(1)\n ? LOCK(0000000001) ", &[1]),
+        (b"? LOCK(0)", &[0]),
+        (b"? RLOCK(1,3)\n? lock(01,3)", &[1, 3]),
+        (b"? RLOCK(9999999999,7,7)", &[9_999_999_999, 7, 7]),
+    ];
+    for (script, numbers) in lists {
+        let line = record_locks(alloc, numbers)?;
+        assert!(rt; are_read(alloc, script, &line)?);
+    }
+    let one: &[u8] = b"? RLOCK()\n? lock()";
+    assert!(rt; are_read(alloc, one, &Line::Run(Command::RecordLock))?);
+    let bad: &[u8] =
+        b"? RLOCK(,1)\n? RLOCK(1,)\n? RLOCK(1,,2)\n? RLOCK(,)\n? RLOCK(12345678901)\n? RLOCK(1)x\n\
+? RLOCK(1, 2)\n? RLOCK(1\n? RLOCK 1)\n? RLOCK (1)\n? FLOCK(1)\n? RLOCK(-1)\n? RLOCK(1.)\n? XRLOCK(1)\n? RLOCK(1))";
+    assert!(rt; are_read(alloc, bad, &Line::Run(Command::Bad))?);
+    Ok(())
 }

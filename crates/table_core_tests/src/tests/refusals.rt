@@ -3,7 +3,7 @@
 use super::*;
 
 // By their numbers, from 1 on.
-const REFUSALS: [(Refusal, &str); 19] = [
+const REFUSALS: [(Refusal, &str); 20] = [
     (Refusal::NoTable, "NoTable"),
     (Refusal::NoTableInUse, "NoTableInUse"),
     (Refusal::TableInUse, "TableInUse"),
@@ -23,6 +23,7 @@ const REFUSALS: [(Refusal, &str); 19] = [
     (Refusal::TableFull, "TableFull"),
     (Refusal::NoSuchOrder, "NoSuchOrder"),
     (Refusal::BadCommand, "BadCommand"),
+    (Refusal::TooManyLocks, "TooManyLocks"),
 ];
 
 // The index of the first refusal with another number or name.
