@@ -9,7 +9,7 @@ use Rattle.catalogue_core.specs.declared.status.StatusRow.{StatusRow}
 use Rattle.catalogue_core.specs.declared.status.TableStatus.{TableStatus}
 use Rattle.catalogue_core.specs.Status.{row_words, words_of}
 use Rattle.shared_catalogue.specs.RowLaws.{counted-push}
-use Rattle.shared_catalogue.specs.RowWords.{table_in, row_of_words, u32_count, IsSmallStatus, IsSmallRow}
+use Rattle.shared_catalogue.specs.RowWords.{status_in, row_of_words, u32_count, IsSmallStatus, IsSmallRow}
 use Rattle.shared_catalogue.specs.StatusRows.{opening_row}
 
 -- one table more is read
@@ -36,7 +36,7 @@ table_back : (t : TableStatus) → IsSmallStatus t → ◌≡◌ {A = TableStatu
 table_back t s = let a = small_mod t.holder s.0 in let b = small_mod t.record_locks s.1 in λ i. record { holder = a i; record_locks = b i }
 
 -- the tables of a row are read back from its words
-tables_back : (a b c : ℕ) (ts : List TableStatus) → length ts ≡ 10 → AllByRecursion IsSmallStatus ts → map (table_in (a ∷ b ∷ c ∷ words_of ts)) (counted 1 10) ≡ ts
+tables_back : (a b c : ℕ) (ts : List TableStatus) → length ts ≡ 10 → AllByRecursion IsSmallStatus ts → map (status_in (a ∷ b ∷ c ∷ words_of ts)) (counted 1 10) ≡ ts
 tables_back a b c (t1 ∷ t2 ∷ t3 ∷ t4 ∷ t5 ∷ t6 ∷ t7 ∷ t8 ∷ t9 ∷ t10 ∷ []) e s =
     let e1 = table_back t1 s.0 in
     let e2 = table_back t2 s.1.0 in

@@ -11,8 +11,8 @@ abbrev pub u32_count : ℕ
 u32_count = 4294967296
 
 -- the status of the table of a number, from 1, in the words of a row
-abbrev pub table_in : List ℕ → ℕ → TableStatus
-table_in words number = record {
+abbrev pub status_in : List ℕ → ℕ → TableStatus
+status_in words number = record {
   holder = slice_index words (1 + 2 * number) % u32_count;
   record_locks = slice_index words (2 + 2 * number) % u32_count;
 }
@@ -23,7 +23,7 @@ row_of_words words = record {
   journal_length = slice_index words 0;
   last_station = slice_index words 1 % u32_count;
   last_answer = slice_index words 2 % u32_count;
-  tables = map (table_in words) (counted 1 MAX_TABLES);
+  tables = map (status_in words) (counted 1 MAX_TABLES);
 }
 
 -- the table's numbers have 32 bits

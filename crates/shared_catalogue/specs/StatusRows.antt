@@ -58,7 +58,7 @@ IsToldOfCall old station answer new =
     (between : List StatusRow) × (last : StatusRow)
     × (new ≡ (old ++ between) ++ last ∷ []) × (last.last_station ≡ station) × (last.last_answer ≡ answer_code answer)
 
--- in a history of these opened tables, with so many entries at least, the command is answered so; and these are the rows
+-- in a history of these opened tables, with at least this many entries, the command is answered so; and these are the rows
 -- of that history once it has been performed
 abbrev pub AreRowsOfCall : Opened → ℕ → ℕ → Command → Answer → List StatusRow → Type 0
 AreRowsOfCall opened least station command answer rows =

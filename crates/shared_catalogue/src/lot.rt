@@ -51,7 +51,7 @@ impl Model for Lot {
 }
 
 impl Lot {
-    /// A blank ledger for so many stations, and a board that shows the opening row, 23 zeros.
+    /// A blank ledger for a number of stations, and a board that shows the opening row, 23 zeros.
     ///
     /// An `Err` says that there was no memory.
     pub fn new(alloc: Global, stations: u32) -> Result<Lot, AllocError>

@@ -1,4 +1,4 @@
--- What stands so many places after or before a number in the list of the numbers from 1 on.
+-- What stands n places after or before a number in the list of the numbers from 1 on.
 use Rattle.std.proofs.Common.{◌≡◌, ℕ, ◌+◌, ◌-◌, ◌<◌, ◌≤◌, length, Some, None, ap, ◌∙◌, arith}
 use Rattle.std.specs.List.{slice_get}
 use Rattle.ndx_index.specs.Places.{back_from, counted, place_in}

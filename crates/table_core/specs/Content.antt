@@ -19,7 +19,7 @@ pub record Content : Type 0 where
   pub table : Table
   pub indexes : List Indexed
 
--- what has room without memory being taken: one more record, so many bytes of memos, one more pair in each index
+-- what has room without memory being taken: one more record, a number of bytes of memos, one more pair in each index
 pub record Room : Type 0 where
   pub for_record : Bool
   pub for_text : ℕ

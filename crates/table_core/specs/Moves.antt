@@ -55,7 +55,7 @@ forward content cursor steps =
     found cursor.at EndOfFile (λ number.
     Ok (at_place cursor (numbers content cursor.order) (place_in number (numbers content cursor.order) + steps) false))
 
--- the cursor at the record that was found so many places before, or at the first where there is none
+-- the cursor at the record that was found the given number of places before, or at the first where there is none
 abbrev pub back_at : Cursor → List ℕ → Option ℕ → Cursor
 back_at cursor ns (Some number) = at_record cursor number
 back_at cursor ns None = at_place cursor ns 0 true

@@ -52,7 +52,7 @@ pub record IsTarget (table : Table) (t : Target) : Type 0 where
   pub record_is : IsRecordOf table t.number
   pub field_is : t.field < length table.schema
 
--- a cell that can be replaced by so many bytes
+-- a cell that can be replaced by the given number of bytes
 pub record IsCellOf (table : Table) (t : Target) (width : ℕ) : Type 0 where
   pub target_is : IsTarget table t
   pub kind : kind_at table.schema t.field ≢ MEMO

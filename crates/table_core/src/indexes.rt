@@ -123,7 +123,7 @@ impl TableIndex {
         }
     }
 
-    /// The pair so many places after one that is there.
+    /// The pair `steps` places after one that is there.
     pub(crate) fn after(&self, pair: Pair, steps: u64) -> Option<Pair>
         requires sorted { AreInOrder self.now.order.pairs }
         ensures value { AtPlacesOf pair self.now.order.pairs (λ place. result ≡ slice_get self.now.order.pairs (place + steps)) }
@@ -138,7 +138,7 @@ impl TableIndex {
         here
     }
 
-    /// The pair so many places before one that is there; `None` before the first.
+    /// The pair `steps` places before one that is there; `None` before the first.
     pub(crate) fn back(&self, pair: Pair, steps: u64) -> Option<Pair>
         requires sorted { AreInOrder self.now.order.pairs }
         ensures value { AtPlacesOf pair self.now.order.pairs (λ place. result ≡ back_from self.now.order.pairs place steps) }

@@ -3,7 +3,7 @@
 ghost use Rattle.std.specs.Prelude.{◌≡◌, ◌%◌, ◌≤◌};
 ghost use Rattle.catalogue_core.specs.declared.opening.TheConstants.{MAX_TABLES};
 ghost use Rattle.catalogue_core.specs.Status.{row_words};
-ghost use Rattle.shared_catalogue.specs.RowWords.{u32_count, table_in, row_of_words, IsSmallStatus, IsSmallRow};
+ghost use Rattle.shared_catalogue.specs.RowWords.{u32_count, status_in, row_of_words, IsSmallStatus, IsSmallRow};
 
 use catalogue_core::{MAX_TABLES, StatusRow, TableStatus};
 
@@ -25,7 +25,7 @@ pub(crate) fn row_of_words(words: &[u64; 23]) -> StatusRow
         record_locks: 0,
     }; MAX_TABLES];
     for index in 0..MAX_TABLES {
-        tables[index] = table_in(words, index + 1);
+        tables[index] = status_in(words, index + 1);
     }
     StatusRow {
         journal_length: words[0],
@@ -36,10 +36,10 @@ pub(crate) fn row_of_words(words: &[u64; 23]) -> StatusRow
 }
 
 // The status of the table of a number, from 1, in the words of a row.
-fn table_in(words: &[u64; 23], number: usize) -> TableStatus
+fn status_in(words: &[u64; 23], number: usize) -> TableStatus
     requires counted { 1 ≤ number }
     requires inside { number ≤ MAX_TABLES }
-    ensures value { result ≡ table_in words.now number }
+    ensures value { result ≡ status_in words.now number }
 {
     TableStatus {
         holder: low_half(words[1 + 2 * number]),

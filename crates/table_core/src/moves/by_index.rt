@@ -34,7 +34,7 @@ pub(crate) fn last_record(index: &TableIndex, records: &GrowingTable) -> Option<
     number_of(index.order.last())
 }
 
-/// The record so many places after one.
+/// The record `steps` places after one.
 pub(crate) fn record_after(
     index: &TableIndex,
     records: &GrowingTable,
@@ -49,7 +49,7 @@ pub(crate) fn record_after(
     number_of(index.after(pair_of(&index.expr, records, number), steps))
 }
 
-/// The record so many places before one.
+/// The record `steps` places before one.
 pub(crate) fn record_before(
     index: &TableIndex,
     records: &GrowingTable,
@@ -64,7 +64,7 @@ pub(crate) fn record_before(
     number_of(index.back(pair_of(&index.expr, records, number), steps))
 }
 
-/// The record so many places before the end.
+/// The record `steps` places before the end.
 pub(crate) fn record_from_end(index: &TableIndex, records: &GrowingTable, steps: u64) -> Option<u32>
     requires some { 1 ≤ steps }
     requires follows { Follows records.now.table index.now }

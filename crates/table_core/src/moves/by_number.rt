@@ -17,7 +17,7 @@ pub(crate) fn last_number(count: u32) -> Option<u32>
     if count > 0 { Some(count) } else { None }
 }
 
-/// The number so many places after one.
+/// The number `steps` places after one.
 pub(crate) fn number_after(count: u32, number: u32, steps: u64) -> Option<u32>
     requires one { 1 ≤ number }
     requires inside { number ≤ count }
@@ -31,7 +31,7 @@ pub(crate) fn number_after(count: u32, number: u32, steps: u64) -> Option<u32>
     }
 }
 
-/// The number so many places before one.
+/// The number `steps` places before one.
 pub(crate) fn number_before(count: u32, number: u32, steps: u64) -> Option<u32>
     requires one { 1 ≤ number }
     requires inside { number ≤ count }
@@ -44,7 +44,7 @@ pub(crate) fn number_before(count: u32, number: u32, steps: u64) -> Option<u32>
     }
 }
 
-/// The number so many places before the end.
+/// The number `steps` places before the end.
 pub(crate) fn number_from_end(count: u32, steps: u64) -> Option<u32>
     requires some { 1 ≤ steps }
     ensures value { result ≡ back_from (counted 1 count) (length (counted 1 count)) steps }

@@ -54,7 +54,7 @@ impl Table {
         Ok(())
     }
 
-    /// SKIP: the cursor goes so many records on in its order, or back where the number is below 0.
+    /// SKIP: the cursor goes the given number of records on in its order, or back where the number is below 0.
     ///
     /// Past the last record it comes to the end, and before the first it stays at the first with BOF() true.
     /// `EndOfFile` for a number above 0 at the end; `BeginOfFile` for one below 0 where BOF() is true or the table
@@ -187,7 +187,7 @@ impl Table {
         Ok(())
     }
 
-    // The record so many places after one in an order.
+    // The record `steps` places after one in an order.
     fn later(&self, order: usize, number: u32, steps: u64) -> Option<u32>
         requires one { 1 ≤ number }
         requires inside { number ≤ length self.now.content.table.rows }
@@ -200,7 +200,7 @@ impl Table {
         record_after(&self.indexes[order - 1], &self.records, number, steps)
     }
 
-    // The record so many places before a record or the end in an order.
+    // The record `steps` places before a record or the end in an order.
     fn earlier(&self, order: usize, at: Option<u32>, steps: u64) -> Option<u32>
         requires place { IsCursorPlace self.now.content at }
         requires order { order ≤ length self.now.content.indexes }

@@ -139,7 +139,7 @@ impl Table {
         })
     }
 
-    // Makes room for a memo of at most so many bytes.
+    // Makes room for a memo of at most the given length.
     fn reserve_text(&mut self, length: usize) -> Result<(), AllocError>
         ensures ok { OnOk result (length ≤ self.new.room.for_text) }
         ensures same { self.new.content ≡ self.old.content }

@@ -23,7 +23,7 @@ const NAMES: [&[u8]; 7] = [b"ada", b"BOB", b"Ada", b"", b"cy", b"bob", b"Z"];
 
 // The edit of a number: every kind comes again and again.
 fn asked(number: u32) -> Asked
-    requires { number < 50 }
+    requires number { number < 50 }
 {
     let name = NAMES[(number * 3 % 7) as usize];
     match number % 10 {
