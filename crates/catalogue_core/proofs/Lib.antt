@@ -1,4 +1,5 @@
 pub mod Cases
+pub mod ListedRecords
 pub mod SameValues
 pub mod SameCommands
 pub mod AreaLaws

@@ -1,16 +1,13 @@
 -- What a command's outcome keeps: it is a state of as many stations and the same tables, all other stations have
 -- the areas that they had, and the answer is no refusal. Here for the commands on locks, moves and edits.
 use Rattle.std.proofs.Common.{◌≡◌, ◌≢◌, ◌⊎◌, inl, inr, ℕ, ◌-◌, ◌≤◌, Bool, true, false, nat_le, List, [], ◌∷◌, length, slice_set, slice_index_or, Option, Some, None, Result, Ok, refl, sym, ap, subst, ◌∙◌, arith, length-set}
-use Rattle.std.proofs.lemmas.Bool.{cases_eq, and_parts}
+use Rattle.std.proofs.lemmas.Bool.{cases_eq}
 use Rattle.std.specs.Prelude.{IfOk}
 use Rattle.std.specs.Int.{is_in_range}
-use Rattle.std.specs.List.{list_all}
 use Rattle.std.proofs.Math.Seq.{map-set_same}
 use Rattle.std.proofs.lemmas.List.{get_or-set_same, get_or-set_other}
-use Rattle.std.proofs.lemmas.Bool.Decides.{nat_tests}
 use Rattle.dbf_fields.specs.declared.field.Field.{Field}
 use Rattle.lock_table.specs.declared.TheConstants.{MAX_RECORD_LOCKS}
-use Rattle.lock_table.specs.Numbers.{IsListed, AreRecordNumbers}
 use Rattle.lock_table.specs.Locks.{Lock, free_record, free_records, free_whole, with_lock, with_records, without, without_all, IsHeld, AreApart}
 use Rattle.lock_table.specs.Laws.{apart_record, apart_records, apart_whole, apart_without, apart_without_all, held_with, listed_or_held, held_without, held_without_all}
 use Rattle.table_core.specs.declared.cursor.Cursor.{Cursor}
@@ -31,6 +28,7 @@ use Rattle.catalogue_core.specs.State.{State, new_station, no_content, station_a
 use Rattle.catalogue_core.specs.Step.{with_edit, can_write, can_append, select, move, append_record, writable_area, change_record, pack_table, unlock, unlock_all, lock, lock_record, lock_records, are_records, lock_file}
 use Rattle.table_core.specs.Laws.Outcomes.{of_found, of_granted, of_passed}
 use Rattle.catalogue_core.proofs.Cases.{when_ok}
+use Rattle.catalogue_core.proofs.ListedRecords.{in_range, listed_counted}
 use Rattle.catalogue_core.proofs.AreaLaws.{current_index}
 use Rattle.catalogue_core.proofs.KeptLaws.{keep_locks, keep_cursor, keep_edit, each_set}
 
@@ -102,9 +100,6 @@ keep_current s station number ok h no_failure =
           let was = ok.open_ l held in
           (was.0, (was.1.0, was.1.1, same (l.station - 1) was.1.0 ∙ was.1.2, was.1.3));
     }
-
-in_range : (n number : ℕ) → is_in_range 1 n number ≡ true → (1 ≤ number) × (number ≤ n)
-in_range n number e = (grind (arith, nat_tests), grind (arith, nat_tests))
 
 pub next_select : (s : State) (station number : ℕ) → IsState s → HasStation s station → IfOk (select s station number) (IsNext s station)
 next_select s station number ok h =
@@ -239,19 +234,12 @@ next_lock_record s station ok h =
     next_lock s station area _ (free_record s.locks.locks station area.table number) ok h is (own_lock s station area number)
     (λ free. apart_record s.locks.locks station area.table number one free ok.apart)))
 
--- the numbers of records of a table count from 1
-numbers_counted : (count : ℕ) (numbers : List ℕ) → list_all (is_in_range 1 count) numbers ≡ true → AreRecordNumbers numbers
-numbers_counted count [] all = tt
-numbers_counted count (n ∷ ns) all =
-    let both = and_parts (is_in_range 1 count n) (list_all (is_in_range 1 count) ns) all in
-    ((in_range count n both.0).0, numbers_counted count ns both.1)
-
 pub next_lock_records : (s : State) (station : ℕ) (numbers : List ℕ) → IsState s → HasStation s station → IfOk (lock_records s station numbers) (IsNext s station)
 next_lock_records s station numbers ok h =
     of_found (IsNext s station) (area_of s station) NoTableInUse _ (λ area is.
     of_granted (IsNext s station) (nat_le (length numbers) MAX_RECORD_LOCKS) TooManyLocks _ (λ _.
     of_granted (IsNext s station) (are_records (record_count (table_of s area)) numbers) OutOfRange _ (λ there.
-    let records = numbers_counted (record_count (table_of s area)) numbers (and_parts _ _ there).1 in
+    let records = listed_counted (record_count (table_of s area)) numbers there in
     next_lock s station area _ (free_records s.locks.locks station area.table numbers) ok h is (own_locks s station area numbers)
     (λ free. apart_records s.locks.locks station area.table numbers records free ok.apart))))
 

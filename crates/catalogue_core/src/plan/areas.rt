@@ -165,11 +165,18 @@ fn is_record(count: u32, number: u64) -> bool
     1 <= number && number <= u64::from(count)
 }
 
-// Whether each is the number of a record of a table with this many, and there is one.
+// Whether each is the number of a record of a table with this many.
+fn all_records(count: u32, numbers: &[u64]) -> bool
+    ensures value { result ≡ list_all (is_in_range 1 count) numbers.now }
+{
+    numbers.iter().all(|number| is_record(count, *number))
+}
+
+// The same, and that there is one.
 fn are_records(count: u32, numbers: &[u64]) -> bool
     ensures value { result ≡ are_records count numbers.now }
 {
-    !numbers.is_empty() && numbers.iter().all(|number| is_record(count, *number))
+    !numbers.is_empty() && all_records(count, numbers)
 }
 
 // The numbers of records, of which there are not more than may be locked.
