@@ -1,6 +1,6 @@
 -- The numbers of a list in the parentheses of a call are found, and what is found are its numbers.
-use Rattle.std.proofs.Common.{◌≡◌, ℕ, List, [], ◌∷◌, ◌++◌, Bool, true, false, cond, ◌==◌, ◌||◌, ◌≤◌, length, take, drop, Option, Some, None, refl, ap, ◌∙◌, sym, arith}
-use Rattle.std.specs.Prelude.{codes}
+use Rattle.std.proofs.Common.{◌≡◌, ℕ, List, [], ◌∷◌, ◌++◌, Bool, true, false, cond, ◌==◌, ◌&&◌, ◌||◌, ◌≤◌, length, take, drop, Option, Some, None, refl, ap, ◌∙◌, sym, arith}
+use Rattle.std.specs.Prelude.{codes, map, is_some, IsSome}
 use Rattle.std.specs.List.{list_all, slice_split, onto_first}
 use Rattle.std.specs.Char.{is_ascii_digit}
 use Rattle.std.specs.Str.{str_eq_ignore_ascii_case}
@@ -9,7 +9,7 @@ use Rattle.std.proofs.lemmas.Bool.Decides.{nat_tests}
 use Rattle.std.proofs.lemmas.List.{take-append-drop}
 use Rattle.station_lines.specs.declared.script.format.TheConstants.{COMMA}
 use Rattle.station_lines.specs.Script.Parts.{count_in, between_commas, AreCounts, IsListCall}
-use Rattle.station_lines.specs.Script.Reading.{before_close, with_count, counts_in, arguments_in}
+use Rattle.station_lines.specs.Script.Reading.{before_close, with_count, counts_in, number_or_zero, arguments_in}
 use Rattle.station_lines.proofs.ScriptLaws.TextLaws.{chosen, guarded}
 use Rattle.station_lines.proofs.ScriptLaws.LiteralLaws.{close_found, close_is}
 use Rattle.station_lines.proofs.ScriptLaws.WordLaws.{is_solid, IsCutWord, take_front, drop_front, solid_word}
@@ -42,6 +42,28 @@ counts_are (part ∷ parts) [] e = absurd (with_some (count_in part) (counts_in 
 counts_are (part ∷ parts) (n ∷ ns) e =
     let w = with_count_is (count_in part) (counts_in parts) n ns e in
     (w.first, counts_are parts ns w.others)
+
+-- where each part is a number, these are the numbers; and else there are none
+pub numbers_are : (parts : List (List ℕ)) → list_all (λ part. is_some (count_in part)) parts ≡ true → counts_in parts ≡ Some (map (λ part. number_or_zero (count_in part)) parts)
+numbers_are [] all = refl
+numbers_are (part ∷ parts) all =
+    let both = and_parts (is_some (count_in part)) (list_all (λ p. is_some (count_in p)) parts) all in
+    ap (with_count (count_in part)) (numbers_are parts both.1) ∙ front_number (count_in part) (map (λ p. number_or_zero (count_in p)) parts) both.0
+  where
+    front_number : (o : Option ℕ) (ns : List ℕ) → is_some o ≡ true → with_count o (Some ns) ≡ Some (number_or_zero o ∷ ns)
+    front_number None ns e = absurd (false≢true e)
+    front_number (Some n) ns e = refl
+
+pub numbers_none : (parts : List (List ℕ)) → list_all (λ part. is_some (count_in part)) parts ≡ false → counts_in parts ≡ None
+numbers_none [] all = absurd (false≢true (sym all))
+numbers_none (part ∷ parts) all = none_front (count_in part) (counts_in parts) (list_all (λ p. is_some (count_in p)) parts) all (numbers_none parts)
+  where
+    none_front : (o : Option ℕ) (p : Option (List ℕ)) (q : Bool) → (is_some o && q) ≡ false → (q ≡ false → p ≡ None) → with_count o p ≡ None
+    none_front None p q e h = refl
+    none_front (Some n) p q e h = ap (with_count (Some n)) (h e)
+
+pub numbers_some : (parts : List (List ℕ)) → list_all (λ part. is_some (count_in part)) parts ≡ true → IsSome (counts_in parts)
+numbers_some parts all = ap is_some (numbers_are parts all)
 
 -- the argument of a call is what stands between its name and the `)` at its end
 pub arguments_found : (function name inside word : List ℕ) → word ≡ name ++ (inside ++ codes ")") → str_eq_ignore_ascii_case name function ≡ true → arguments_in function word ≡ Some inside

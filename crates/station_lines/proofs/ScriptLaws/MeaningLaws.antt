@@ -196,20 +196,20 @@ none_long (x ∷ xs) h = absurd (omega (arith, h))
 -- a call with a list is no call without one
 other_call : (function f word : List ℕ) (ns : List ℕ) → IsListCall function word ns
     → (bytes_eq (lower (take (length function) f)) (lower function) ≡ false) ⊎ (length f ≡ length function + 1) → (q : Bool) → is_call f word ≡ q → q ≡ false
-other_call function f word ns call other false e = refl
-other_call function f word ns call (inl differ) true e =
-    let long = same_length call.0 function call.3 in
+other_call function f word ns listed other false e = refl
+other_call function f word ns listed (inl differ) true e =
+    let long = same_length listed.0 function listed.3 in
     let whole : lower word ≡ lower f = same_text (lower word) (lower f) e in
-    let front : take (length function) word ≡ call.0 = ap (take (length function)) call.2 ∙ (ap (λ (n : ℕ). take n (call.0 ++ (call.1 ++ codes ")"))) (sym long) ∙ take_front call.0 (call.1 ++ codes ")")) in
-    let name : lower call.0 ≡ lower function = same_text (lower call.0) (lower function) call.3 in
+    let front : take (length function) word ≡ listed.0 = ap (take (length function)) listed.2 ∙ (ap (λ (n : ℕ). take n (listed.0 ++ (listed.1 ++ codes ")"))) (sym long) ∙ take_front listed.0 (listed.1 ++ codes ")")) in
+    let named : lower listed.0 ≡ lower function = same_text (lower listed.0) (lower function) listed.3 in
     let same : lower (take (length function) f) ≡ lower function =
-    lower_front (length function) f ∙ (ap (take (length function)) (sym whole) ∙ (sym (lower_front (length function) word) ∙ (ap lower front ∙ name))) in
+    lower_front (length function) f ∙ (ap (take (length function)) (sym whole) ∙ (sym (lower_front (length function) word) ∙ (ap lower front ∙ named))) in
     absurd (false≢true (sym differ ∙ (bytes_eq-Decides (lower (take (length function) f)) (lower function)).1 same))
-other_call function f word ns call (inr one_more) true e =
-    let long = same_length call.0 function call.3 in
+other_call function f word ns listed (inr one_more) true e =
+    let long = same_length listed.0 function listed.3 in
     let all = same_length word f e in
-    let sum : length word ≡ length call.0 + (length call.1 + 1) = ap length call.2 ∙ simp length-append in
-    absurd (no_list ns (subst (λ (xs : List ℕ). AreCounts (between_commas xs) ns) (none_long call.1 (omega (arith, long, all, sum, one_more))) call.4))
+    let sum : length word ≡ length listed.0 + (length listed.1 + 1) = ap length listed.2 ∙ simp length-append in
+    absurd (no_list ns (subst (λ (xs : List ℕ). AreCounts (between_commas xs) ns) (none_long listed.1 (omega (arith, long, all, sum, one_more))) listed.4))
 
 -- each function without a list is another than this one
 abbrev IsOtherName : List ℕ → List ℕ → Type 0
@@ -227,11 +227,11 @@ record IsListName (function : List ℕ) : Type 0 where
   reccount : IsOtherName function (codes "RECCOUNT()")
 
 list_asked : (function word ns : List ℕ) → IsListCall function word ns → IsListName function → ask_line word ≡ locks_line word
-list_asked function word ns call other =
+list_asked function word ns listed other =
     let no_name : list_all is_name_char word ≡ false =
-    ap (list_all is_name_char) call.2 ∙ all_back is_name_char call.0 (call.1 ++ codes ")") (all_back is_name_char call.1 (codes ")") refl) in
+    ap (list_all is_name_char) listed.2 ∙ all_back is_name_char listed.0 (listed.1 ++ codes ")") (all_back is_name_char listed.1 (codes ")") refl) in
     let none : name_in word ≡ None = passed (is_name_word word) _ None (and_right (is_ascii_alphabetic (slice_index word 0)) (list_all is_name_char word) no_name) in
-    let differs : (f : List ℕ) → IsOtherName function f → is_call f word ≡ false = λ f o. other_call function f word ns call o (is_call f word) refl in
+    let differs : (f : List ℕ) → IsOtherName function f → is_call f word ≡ false = λ f o. other_call function f word ns listed o (is_call f word) refl in
     ap (λ (o : Option (List ℕ)). ask_of o word) none
     ∙ (passed (is_call (codes "RLOCK()") word) _ _ (differs (codes "RLOCK()") other.rlock)
     ∙ (passed (is_call (codes "LOCK()") word) _ _ (differs (codes "LOCK()") other.lock)
@@ -244,8 +244,8 @@ list_asked function word ns call other =
     ∙ passed (is_call (codes "RECCOUNT()") word) _ _ (differs (codes "RECCOUNT()") other.reccount)))))))))
 
 -- what begins as LOCK begins not as RLOCK
-no_rlock : (name rest : List ℕ) → str_eq_ignore_ascii_case name (codes "LOCK(") ≡ true → (q : Bool) → str_eq_ignore_ascii_case (take 6 (name ++ rest)) (codes "RLOCK(") ≡ q → q ≡ false
-no_rlock name rest e false f = refl
+no_rlock : (front rest : List ℕ) → str_eq_ignore_ascii_case front (codes "LOCK(") ≡ true → (q : Bool) → str_eq_ignore_ascii_case (take 6 (front ++ rest)) (codes "RLOCK(") ≡ q → q ≡ false
+no_rlock front rest e false f = refl
 no_rlock [] rest e true f = absurd (false≢true e)
 no_rlock (b ∷ bs) rest e true f =
     let one : lower (b ∷ bs) ≡ lower (codes "LOCK(") = same_text (lower (b ∷ bs)) (lower (codes "LOCK(")) e in
@@ -258,12 +258,12 @@ list_line_is : (inside ns : List ℕ) → AreCounts (between_commas inside) ns �
 list_line_is inside ns h = ap (λ (o : Option (List ℕ)). with_ o (λ ns. Run (command.RecordLocks ns))) (counts_found (between_commas inside) ns h)
 
 locks_cut : (ns word : List ℕ) → IsPart (or_ (list_call (codes "RLOCK(") ns) (list_call (codes "LOCK(") ns)) word → IsCutWord word
-locks_cut ns word (inl call) = list_word (codes "RLOCK(") word ns (omega arith) refl call
-locks_cut ns word (inr call) = list_word (codes "LOCK(") word ns (omega arith) refl call
+locks_cut ns word (inl listed) = list_word (codes "RLOCK(") word ns (omega arith) refl listed
+locks_cut ns word (inr listed) = list_word (codes "LOCK(") word ns (omega arith) refl listed
 
 ask_locks : (ns word : List ℕ) → IsPart (or_ (list_call (codes "RLOCK(") ns) (list_call (codes "LOCK(") ns)) word → ask_line word ≡ Run (command.RecordLocks ns)
-ask_locks ns word (inl call) =
-    list_asked (codes "RLOCK(") word ns call (record {
+ask_locks ns word (inl listed) =
+    list_asked (codes "RLOCK(") word ns listed (record {
       rlock = inr refl;
       lock = inl refl;
       flock = inl refl;
@@ -274,12 +274,12 @@ ask_locks ns word (inl call) =
       recno = inl refl;
       reccount = inl refl;
     })
-    ∙ (ap (λ (o : Option (List ℕ)). list_line (first_some o (arguments_in (codes "LOCK(") word))) (arguments_found (codes "RLOCK(") call.0 call.1 word call.2 call.3)
-    ∙ list_line_is call.1 ns call.4)
-ask_locks ns word (inr call) =
+    ∙ (ap (λ (o : Option (List ℕ)). list_line (first_some o (arguments_in (codes "LOCK(") word))) (arguments_found (codes "RLOCK(") listed.0 listed.1 word listed.2 listed.3)
+    ∙ list_line_is listed.1 ns listed.4)
+ask_locks ns word (inr listed) =
     let other : str_eq_ignore_ascii_case (take 6 word) (codes "RLOCK(") ≡ false =
-    ap (λ (xs : List ℕ). str_eq_ignore_ascii_case (take 6 xs) (codes "RLOCK(")) call.2 ∙ no_rlock call.0 (call.1 ++ codes ")") call.3 _ refl in
-    list_asked (codes "LOCK(") word ns call (record {
+    ap (λ (xs : List ℕ). str_eq_ignore_ascii_case (take 6 xs) (codes "RLOCK(")) listed.2 ∙ no_rlock listed.0 (listed.1 ++ codes ")") listed.3 _ refl in
+    list_asked (codes "LOCK(") word ns listed (record {
       rlock = inl refl;
       lock = inr refl;
       flock = inl refl;
@@ -291,8 +291,8 @@ ask_locks ns word (inr call) =
       reccount = inl refl;
     })
     ∙ (ap (λ (o : Option (List ℕ)). list_line (first_some o (arguments_in (codes "LOCK(") word))) (passed (str_eq_ignore_ascii_case (take 6 word) (codes "RLOCK(")) _ None other)
-    ∙ (ap (λ (o : Option (List ℕ)). list_line (first_some None o)) (arguments_found (codes "LOCK(") call.0 call.1 word call.2 call.3)
-    ∙ list_line_is call.1 ns call.4))
+    ∙ (ap (λ (o : Option (List ℕ)). list_line (first_some None o)) (arguments_found (codes "LOCK(") listed.0 listed.1 word listed.2 listed.3)
+    ∙ list_line_is listed.1 ns listed.4))
 
 skip_read : (line : List ℕ) (words : List (List ℕ)) (n : ℤ) → HasWords words line
     → (Are (keyword (codes "SKIP") ∷ distance n ∷ []) words ⊎ (Are (keyword (codes "SKIP") ∷ []) words × (n ≡ pos 1))) → read line ≡ Run (command.Skip n)

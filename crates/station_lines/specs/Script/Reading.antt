@@ -73,6 +73,11 @@ abbrev pub counts_in : List (List ℕ) → Option (List ℕ)
 counts_in [] = Some []
 counts_in (part ∷ parts) = with_count (count_in part) (counts_in parts)
 
+-- a number, and 0 where there is none
+abbrev pub number_or_zero : Option ℕ → ℕ
+number_or_zero None = 0
+number_or_zero (Some n) = n
+
 -- what stands in the parentheses of a function's call
 abbrev pub arguments_in : List ℕ → List ℕ → Option (List ℕ)
 arguments_in function word =

@@ -1,17 +1,16 @@
 //! Keywords and the names of functions.
 
 ghost use Rattle.std.specs.Prelude.{◌≡◌, take, drop};
-ghost use Rattle.station_lines.specs.declared.script.format.TheConstants.{KEYWORD_LETTERS};
 ghost use Rattle.station_lines.specs.Script.Parts.{is_keyword as keyword_is, is_call as call_is};
 
 use crate::script::format::KEYWORD_LETTERS;
 
-// The first letters of a keyword that a short form keeps, and the others.
-fn split(keyword: &[u8]) -> (&[u8], &[u8])
-    ensures first { result.0.now ≡ take KEYWORD_LETTERS keyword.now }
-    ensures others { result.1.now ≡ drop KEYWORD_LETTERS keyword.now }
+/// The first bytes of a text, or all of a text that has fewer, and the others. Takes no memory.
+pub(crate) fn split(text: &[u8], count: usize) -> (&[u8], &[u8])
+    ensures first { result.0.now ≡ take count text.now }
+    ensures others { result.1.now ≡ drop count text.now }
 {
-    keyword.split_at(keyword.len().min(KEYWORD_LETTERS))
+    text.split_at(text.len().min(count))
 }
 
 // The first bytes of a text, or all of a text that has fewer.
@@ -25,8 +24,8 @@ fn front(text: &[u8], count: usize) -> &[u8]
 pub(crate) fn is_keyword(word: &[u8], keyword: &[u8]) -> bool
     ensures value { result ≡ keyword_is keyword.now word.now }
 {
-    let (first, others) = split(word);
-    let (wanted, next) = split(keyword);
+    let (first, others) = split(word, KEYWORD_LETTERS);
+    let (wanted, next) = split(keyword, KEYWORD_LETTERS);
     let next = front(next, word.len().saturating_sub(KEYWORD_LETTERS));
     first.eq_ignore_ascii_case(wanted) && others.eq_ignore_ascii_case(next)
 }
