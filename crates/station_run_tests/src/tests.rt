@@ -1,5 +1,6 @@
 mod hoard;
 mod lines;
+mod rows;
 mod stations;
 mod stops;
 

@@ -25,11 +25,11 @@ pub(super) fn has_come(counter: &AtomicU64, number: u64) -> bool {
     false
 }
 
-// Lets seven lines be run in an order, one after another.
+// Lets eight lines be run in an order, one after another.
 #[derive(Drop)]
-struct InOrder {
+pub(super) struct InOrder {
     // The station and the number of each line.
-    order: [(u32, u64); 7],
+    order: [(u32, u64); 8],
     // How many lines were run.
     done: AtomicU64,
     // How often a line was run before its turn.
@@ -37,6 +37,29 @@ struct InOrder {
 }
 
 impl InOrder {
+    // The seven calls of two stations, and then a fourth line of station 1.
+    pub(super) fn of_seven_calls() -> InOrder {
+        InOrder {
+            order: [
+                (1, 1),
+                (2, 1),
+                (1, 2),
+                (2, 2),
+                (2, 3),
+                (1, 3),
+                (2, 4),
+                (1, 4),
+            ],
+            done: AtomicU64::new(0),
+            overrun: AtomicU64::new(0),
+        }
+    }
+
+    // How often a line was run before its turn.
+    pub(super) fn overruns(&self) -> u64 {
+        self.overrun.load(Ordering::SeqCst)
+    }
+
     // How many lines come before this one.
     fn place_of(&self, station: u32, line: u64) -> u64 {
         let place = self.order.iter().position(|next| *next == (station, line));
@@ -133,11 +156,7 @@ pub(super) fn ran<G: Gate + Sync, R: Threads + Wait + Sync>(
 
 #[test]
 fn two_stations_one_record(rt: HostRuntime) -> Result<(), Fail> {
-    let gate = InOrder {
-        order: [(1, 1), (2, 1), (1, 2), (2, 2), (2, 3), (1, 3), (2, 4)],
-        done: AtomicU64::new(0),
-        overrun: AtomicU64::new(0),
-    };
+    let gate = InOrder::of_seven_calls();
     let scripts: [&[u8]; 2] = [
         b"USE T\n? RLOCK()\nUNLOCK\n",
         b"USE T\n? RLOCK()\nREPLACE NAME WITH \"X\"\n? RLOCK()\n",
@@ -146,7 +165,7 @@ fn two_stations_one_record(rt: HostRuntime) -> Result<(), Fail> {
     let wanted = b"OK\n.T.\nOK\n;OK\n.F.\nREFUSED 5 NotLocked\n.T.\n;";
     assert_eq!(rt; answers.as_slice(), wanted.as_slice());
     assert_eq!(rt; entries, 7);
-    assert_eq!(rt; gate.overrun.load(Ordering::SeqCst), 0);
+    assert_eq!(rt; gate.overruns(), 0);
     Ok(())
 }
 
