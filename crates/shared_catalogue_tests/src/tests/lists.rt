@@ -87,7 +87,7 @@ fn shows(
         return Ok(false);
     }
     let words = catalogue.status().words();
-    Ok(words[..5] == row && words[5..].iter().all(|word| *word == 0))
+    Ok(words.starts_with(&row) && words.iter().skip(5).all(|word| *word == 0))
 }
 
 #[test]
