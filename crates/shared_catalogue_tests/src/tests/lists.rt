@@ -65,9 +65,7 @@ const MANY: [Case; 3] = [
 ];
 
 // The catalogue of one table for two stations.
-fn opened(alloc: Global, content: TableData) -> Result<Catalogue, Fail>
-    ensures stations { IfOk result (λ catalogue. catalogue.opened.stations ≡ 2) }
-{
+fn opened(alloc: Global, content: TableData) -> Result<Catalogue, Fail> {
     open(alloc, vec![in alloc; named(alloc, b"T", content)?]?, 2)
 }
 
