@@ -10,4 +10,5 @@ pub mod KeptRules
 pub mod KeyLengths
 pub mod Sizes
 pub mod Parsing
+pub mod ParseLaws
 pub mod NoZeros

@@ -23,15 +23,15 @@ begin_rule : (k : Kind) (ks : List Kind) (ts rest : List Token) → Begin (k ∷
 begin_rule k ks [] rest b = absurd b
 begin_rule k ks (t ∷ ts) rest b = ap rule_of_kind b.0
 
-abbrev NotPlus : List Token → Type 0
+abbrev pub NotPlus : List Token → Type 0
 NotPlus [] = Unit {0}
 NotPlus (t ∷ ts) = t.kind ≡ Plus → ⊥
 
-abbrev Follows : Sort → List Token → Type 0
+abbrev pub Follows : Sort → List Token → Type 0
 Follows a_term ts = Unit {0}
 Follows an_expr ts = NotPlus ts
 
-begin_not : (k : Kind) (ks : List Kind) (ts rest : List Token) → (k ≡ Plus → ⊥) → Begin (k ∷ ks) ts rest → NotPlus ts
+pub begin_not : (k : Kind) (ks : List Kind) (ts rest : List Token) → (k ≡ Plus → ⊥) → Begin (k ∷ ks) ts rest → NotPlus ts
 begin_not k ks [] rest h b = tt
 begin_not k ks (t ∷ ts) rest h b = λ e. h (sym b.0 ∙ e)
 

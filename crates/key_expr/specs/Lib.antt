@@ -7,6 +7,7 @@ pub mod TokenOffsets
 pub mod StrText
 pub mod Keys
 pub mod Rules
+pub mod Parse
 pub mod Windows
 pub mod ExprCode
 pub mod KeptLengths

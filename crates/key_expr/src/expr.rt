@@ -1,9 +1,9 @@
 //! Key expressions: how they are read, and the keys that they give.
 
-ghost use Rattle.std.specs.Prelude.{◌≡◌, ◌≢◌, ℕ, ◌+◌, ◌≤◌, ◌<◌, List, length, drop, take, IfOk, IfErr};
+ghost use Rattle.std.specs.Prelude.{◌≡◌, ◌≢◌, ◌↔◌, IsTrue, ℕ, ◌+◌, ◌≤◌, ◌<◌, List, length, drop, take, Some, None, IfOk, IfErr};
 ghost use Rattle.std.specs.List.{AllByRecursion};
 ghost use Rattle.dbf_fields.specs.Field.{widths};
-ghost use Rattle.key_expr.specs.declared.fault.ExprFault.TheVariants.{ExpressionTooLong};
+ghost use Rattle.key_expr.specs.declared.fault.ExprFault.TheVariants.{ExpressionTooLong, NoMemory};
 ghost use Rattle.key_expr.specs.declared.format.TheConstants.{MAX_EXPRESSION_BYTES, MAX_KEY_BYTES};
 ghost use Rattle.key_expr.specs.Grammar.{Expr};
 ghost use Rattle.key_expr.specs.TreeExpr.{expr_of};
@@ -11,7 +11,7 @@ ghost use Rattle.key_expr.specs.KeptLengths.{KeepsLengths};
 ghost use Rattle.key_expr.specs.Keys.{key, key_length, names, IsKeyWhateverMemos};
 ghost use Rattle.dbf_fields.specs.Layout.{cells_of};
 ghost use Rattle.key_expr.specs.Rules.{IsKeyText, IsFault};
-ghost use Rattle.key_expr.specs.Expression.{IsAnswer};
+ghost use Rattle.key_expr.specs.Expression.{IsAnswer, expression_in};
 
 use crate::check::check_all;
 use crate::evaluate::{Window, put};
@@ -97,7 +97,7 @@ impl KeyExpr {
     /// `NoSuchField`, `NotCharacter` for a field of another kind than is asked for there, and `BadArgument`;
     /// `KeyTooLong` for keys over 100 bytes. `NoMemory` may stand in place of what would have come after the
     /// growth that was refused, so never for a text over 488 bytes.
-    #[tactic(auto, using(crate::proofs::Parsing::memory_only, crate::proofs::Parsing::one_expr))]
+    #[tactic(auto, using(crate::proofs::Parsing::memory_only, crate::proofs::Parsing::one_expr, crate::proofs::ParseLaws::fault_none))]
     pub fn parse(alloc: Global, text: &[u8], schema: &Schema) -> Result<KeyExpr, ExprFault>
         ensures text { IfOk result (λ e. e.text ≡ text.now) }
         ensures fields { IfOk result (λ e. e.fields ≡ schema.now) }
@@ -105,6 +105,8 @@ impl KeyExpr {
         ensures only { (e : Expr) → IsKeyText schema.now text.now e → IsAnswer result e }
         ensures early { IfErr result (λ fault. MAX_EXPRESSION_BYTES < length text.now → fault ≡ ExpressionTooLong) }
         ensures refused { IfErr result (λ fault. IsFault fault schema.now text.now) }
+        ensures one { IfOk result (λ e. expression_in schema.now text.now ≡ Some e) }
+        ensures none { IfErr result (λ fault. fault ≢ NoMemory → expression_in schema.now text.now ≡ None) }
     {
         let (tree, key_len) = read_text(alloc, text, schema.fields())?;
         let text = Vec::from_slice(alloc, text)?;
@@ -155,6 +157,21 @@ impl KeyExpr {
         let mut out = Key::default();
         put(&mut out, &self.tree, &self.schema, record_bytes, whole);
         out
+    }
+
+    /// Whether a record, which is lent as its bytes, has a key, given by its bytes. The cell of a field that is the whole
+    /// expression is compared where it stands. What stands in the cells of memos doesn't matter. Takes no memory.
+    #[tactic(auto, using(crate::specs::Laws::key_but_memos, crate::proofs::KeptRules::refusal_tests, crate::proofs::KeptRules::refusal_short, crate::proofs::KeyLengths::key_length_is))]
+    pub fn has_key(&self, record_bytes: &[u8], bytes: &[u8]) -> bool
+        requires long { length record_bytes.now ≡ 1 + widths self.now.fields }
+        ensures value { IsTrue result ↔ (key (cells_of self.now.fields (drop 1 record_bytes.now)) self.now.expr ≡ bytes.now) }
+        ensures row { IsKeyWhateverMemos self.now.fields (cells_of self.now.fields (drop 1 record_bytes.now)) self.now.expr (key (cells_of self.now.fields (drop 1 record_bytes.now)) self.now.expr) }
+        ensures long { IsTrue result → length bytes.now ≡ key_length self.now.fields self.now.expr }
+    {
+        match &self.tree {
+            Tree::Field(index) => self.schema.cell_in(record_bytes, *index) == bytes,
+            _ => self.key_of(record_bytes).as_bytes() == bytes,
+        }
     }
 
     /// Whether the expression names a field, which is given by its index from 0. Takes no memory.

@@ -1,9 +1,11 @@
 //! Reads the tokens of a key expression.
 
-ghost use Rattle.std.specs.Prelude.{◌≡◌, ℕ, ◌<◌, length, List, [], ◌∷◌, IfOk, IfErr, IfSome, IfNone};
+ghost use Rattle.std.specs.Prelude.{◌≡◌, ◌↔◌, ℕ, ◌<◌, length, List, [], ◌∷◌, Some, IfOk, IfErr, IfSome, IfNone};
 ghost use Rattle.key_expr.specs.declared.token.Kind.TheVariants.{Close, Open, Comma, Name, Number, Plus, End};
 ghost use Rattle.key_expr.specs.Grammar.{Reads, a_term, an_expr, Begin, EndsPoints, EndsWith, EndsInEnd, IsWholeExpression, IsTokenRefusal, Expr};
 ghost use Rattle.key_expr.specs.declared.token.Token.{Token};
+ghost use Rattle.key_expr.specs.Parse.{expr_in};
+ghost use Rattle.key_expr.specs.Rules.{IsKeyText};
 ghost use Rattle.key_expr.specs.Tokens.{tokens_of};
 ghost use Rattle.key_expr.specs.TokenOffsets.{StandIn};
 ghost use Rattle.dbf_fields.specs.declared.field.Field.{Field};
@@ -338,9 +340,11 @@ pub(crate) fn read_tokens(
 }
 
 /// A text is read in one way: it has one list of tokens that stand in it one after the other, each of them where
-/// its bytes stand and with blanks alone between them, and these are one expression or none.
+/// its bytes stand and with blanks alone between them, and these are one expression or none. Which key expression
+/// of a schema it is, where it is one, is what a function gives.
 pub fn one_reading()
     ensures tokens { (fields : List Field) (text : List ℕ) → StandIn fields text 0 (tokens_of fields text) }
     ensures alone { (fields : List Field) (text : List ℕ) (ts : List Token) → StandIn fields text 0 ts → ts ≡ tokens_of fields text }
     ensures one { (ts : List Token) (e f : Expr) → IsWholeExpression e ts → IsWholeExpression f ts → e ≡ f }
+    ensures function { (fields : List Field) (text : List ℕ) (e : Expr) → IsKeyText fields text e ↔ (expr_in fields text ≡ Some e) }
 {}

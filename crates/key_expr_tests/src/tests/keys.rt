@@ -88,6 +88,37 @@ fn keys_are_compared_byte_by_byte(rt: HostRuntime) -> Result<(), Fail> {
     Ok(())
 }
 
+// Whether Ada's record has a key by the expression of a text.
+fn has_key(alloc: Global, text: &[u8], key: &[u8]) -> Result<bool, Fail> {
+    let schema = people(alloc)?;
+    let expr = KeyExpr::parse(alloc, text, &schema)?;
+    let record = b" Ada Lovela 3618151210".as_slice();
+    if record.len() != schema.record_length() {
+        return Err("a record of another length".into());
+    }
+    Ok(expr.has_key(record, key))
+}
+
+#[test]
+fn record_has_no_other_key(rt: HostRuntime) -> Result<(), Fail> {
+    let alloc = rt.alloc();
+    let cases: [(&[u8], &[u8], bool); 9] = [
+        (b"NAME", b"Ada Lovela", true),
+        (b"NAME", b"Ada Lovelb", false),
+        (b"NAME", b"Ada Lovel", false),
+        (b"(NAME)", b"Ada Lovela", true),
+        (b"UPPER(NAME)", b"ADA LOVELA", true),
+        (b"UPPER(NAME)", b"Ada Lovela", false),
+        (b"STR(AGE,5)+DTOC(BORN)", b"   3612/10/15", true),
+        (b"STR(AGE,5)", b"   35", false),
+        (b"STR(AGE,5)", b"", false),
+    ];
+    for (text, key, has) in cases {
+        assert_eq!(rt; has_key(alloc, text, key)?, has);
+    }
+    Ok(())
+}
+
 // Whether the expression of a text names NAME, AGE and BORN.
 fn names_of(alloc: Global, text: &[u8]) -> Result<[bool; 3], Fail> {
     let expr = KeyExpr::parse(alloc, text, &people(alloc)?)?;
