@@ -1,5 +1,5 @@
 -- What an edit makes of a table and of the cursor, or the first refusal.
-use Rattle.std.specs.Prelude.{ℕ, ◌+◌, Bool, true, false, nat_lt, ◌==◌, bytes_eq, List, [], slice_index_or, Option, Result, Ok}
+use Rattle.std.specs.Prelude.{ℕ, ◌+◌, Bool, true, false, nat_lt, ◌==◌, bytes_eq, List, [], length, slice_index_or, Option, Result, Ok}
 use Rattle.std.specs.List.{position}
 use Rattle.dbf_fields.specs.declared.field.Field.{Field}
 use Rattle.dbf_fields.specs.declared.format.TheConstants.{MEMO}
@@ -14,9 +14,9 @@ use Rattle.table_core.specs.declared.edits.planned.Target.{Target}
 use Rattle.table_core.specs.declared.refusal.Refusal.{Refusal}
 use Rattle.table_core.specs.declared.refusal.Refusal.TheVariants.{EndOfFile, NoSuchField, TypeMismatch, BadText, TableFull}
 use Rattle.table_core.specs.CellFaults.{kept}
-use Rattle.table_core.specs.Content.{Content, record_count, with_table}
+use Rattle.table_core.specs.Content.{Content, Indexed, record_count, with_index, with_table}
 use Rattle.table_core.specs.EditValue.{EditValue, AppendBlank, Replace, Memo, Delete, Recall, Pack}
-use Rattle.table_core.specs.Moves.{at_record, at_top}
+use Rattle.table_core.specs.Moves.{at_record, at_top, in_order_of}
 use Rattle.table_core.specs.Outcomes.{found, granted, passed}
 
 -- the index of the field of a name
@@ -75,6 +75,11 @@ mark content cursor deleted = found cursor.at EndOfFile (λ number. Ok (with_del
 -- PACK
 abbrev pub pack : Content → Cursor → Result (Content × Cursor) Refusal
 pack content cursor = Ok (with_kept content, at_top (with_kept content) cursor)
+
+-- INDEX ON, where it is not refused: the table has one more index, and the cursor is at the top in its order
+abbrev pub with_made_index : Content → Cursor → Indexed → Content × Cursor
+with_made_index content cursor index =
+    (with_index content index, at_top (with_index content index) (in_order_of cursor (length content.indexes + 1)))
 
 -- an edit that is asked for, as a value: what it borrows is its own
 abbrev pub edit_value : Edit → EditValue

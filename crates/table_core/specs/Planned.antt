@@ -1,35 +1,37 @@
 -- What a plan makes of a table and of the cursor, and when it can be carried out.
-use Rattle.std.specs.Prelude.{◌≡◌, ◌≢◌, ℕ, ◌+◌, ◌<◌, ◌≤◌, true, List, map, length, Result, Ok}
+use Rattle.std.specs.Prelude.{◌≡◌, ◌≢◌, ℕ, ◌+◌, ◌<◌, ◌≤◌, true, List, [], map, length, vec_capacity, Result, Ok}
 use Rattle.std.specs.List.{AllByRecursion}
 use Rattle.dbf_fields.specs.declared.format.TheConstants.{MEMO}
 use Rattle.dbf_fields.specs.Layout.{width_of}
 use Rattle.dbf_image.specs.declared.format.TheConstants.{MAX_RECORDS}
 use Rattle.dbf_image.specs.Table.{Table, kind_at, is_memo_text, packed}
 use Rattle.table_core.specs.declared.cursor.Cursor.{Cursor}
-use Rattle.table_core.specs.declared.edits.planned.RowChange.{RowChange}
-use Rattle.table_core.specs.declared.edits.planned.RowChange.TheVariants.{AddBlank, SetCell, SetMemo, SetMark, Pack}
+use Rattle.table_core.specs.declared.edits.planned.TableChange.{TableChange}
+use Rattle.table_core.specs.declared.edits.planned.TableChange.TheVariants.{AddBlank, SetCell, SetMemo, SetMark, Pack, AddIndex}
 use Rattle.table_core.specs.declared.edits.planned.Planned.{Planned}
 use Rattle.table_core.specs.declared.edits.planned.Target.{Target}
 use Rattle.table_core.specs.declared.indexes.TableIndex.{TableIndex}
 use Rattle.table_core.specs.declared.refusal.Refusal.{Refusal}
-use Rattle.table_core.specs.Content.{Content, Held, record_count, with_table}
-use Rattle.table_core.specs.Edits.{with_blank, with_value, with_deleted}
+use Rattle.table_core.specs.Content.{Content, Held, Indexed, record_count, with_index, with_table}
+use Rattle.table_core.specs.Edits.{with_blank, with_value, with_deleted, with_made_index}
 use Rattle.table_core.specs.Indexes.{Follows, indexed}
 use Rattle.table_core.specs.Moves.{at_record, at_top}
 
-abbrev pub changed_by : Content → RowChange → Content
+abbrev pub changed_by : Content → TableChange → Content
 changed_by content AddBlank = with_blank content
 changed_by content (SetCell target cell) = with_value content target cell
 changed_by content (SetMemo target text) = with_value content target text
 changed_by content (SetMark number deleted) = with_deleted content number deleted
 changed_by content (Pack indexes) = with_table content (packed content.table)
+changed_by content (AddIndex index list) = with_index content (indexed index)
 
-abbrev pub moved_by : Content → Cursor → RowChange → Cursor
+abbrev pub moved_by : Content → Cursor → TableChange → Cursor
 moved_by content cursor AddBlank = at_record cursor (record_count content + 1)
 moved_by content cursor (SetCell target cell) = cursor
 moved_by content cursor (SetMemo target text) = cursor
 moved_by content cursor (SetMark number deleted) = cursor
 moved_by content cursor (Pack indexes) = at_top (with_table content (packed content.table)) cursor
+moved_by content cursor (AddIndex index list) = (with_made_index content cursor (indexed index)).1
 
 -- the table, and the cursor, after the plan is carried out
 abbrev pub changed : Content → Planned → Content
@@ -41,6 +43,10 @@ cursor_after content cursor planned = moved_by content cursor planned.change
 -- what the plan makes of both, as the outcome of an edit
 abbrev pub carried_out : Content → Cursor → Planned → Result (Content × Cursor) Refusal
 carried_out content cursor planned = Ok (changed content planned, cursor_after content cursor planned)
+
+-- the plan adds this index, wherever the cursor is
+abbrev pub MakesIndex : Content → Indexed → Planned → Type 0
+MakesIndex content index planned = (cursor : Cursor) → Ok (with_made_index content cursor index) ≡ carried_out content cursor planned
 
 -- a record of the table
 pub record IsRecordOf (table : Table) (number : ℕ) : Type 0 where
@@ -85,12 +91,19 @@ pub record CanPack (held : Held) (indexes : List TableIndex) : Type 0 where
   pub follow : AllByRecursion (Follows (packed held.content.table)) indexes
   pub same : map indexed indexes ≡ held.content.indexes
 
-abbrev pub CanMake : Held → RowChange → Type 0
+-- the index is that of all records, and the list is empty, with room for all indexes
+pub record CanAddIndex (held : Held) (index : TableIndex) (items : List TableIndex) (capacity : ℕ) : Type 0 where
+  pub follows : Follows held.content.table index
+  pub empty : items ≡ []
+  pub room : length held.content.indexes + 1 ≤ capacity
+
+abbrev pub CanMake : Held → TableChange → Type 0
 CanMake held AddBlank = CanAdd held
 CanMake held (SetCell target cell) = CanSetCell held target (length cell)
 CanMake held (SetMemo target text) = CanSetMemo held target text
 CanMake held (SetMark number deleted) = IsRecordOf held.content.table number
 CanMake held (Pack indexes) = CanPack held indexes.items
+CanMake held (AddIndex index list) = CanAddIndex held index list.items (vec_capacity list)
 
 -- planned for the table as it stands
 abbrev pub IsPlanned : Held → Planned → Type 0

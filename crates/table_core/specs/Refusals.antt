@@ -1,7 +1,7 @@
 -- The numbers and the names of refusals.
 use Rattle.std.specs.Prelude.{ℕ, List, codes}
 use Rattle.table_core.specs.declared.refusal.Refusal.{Refusal}
-use Rattle.table_core.specs.declared.refusal.Refusal.TheVariants.{NoTable, NoTableInUse, TableInUse, NeedsExclusive, NotLocked, OutOfRange, EndOfFile, BeginOfFile, NotIndexed, NoSuchField, TypeMismatch, NumberTooWide, BadDate, BadText, BadArea, AlreadyOpen, TableFull, NoSuchOrder, BadCommand, TooManyLocks}
+use Rattle.table_core.specs.declared.refusal.Refusal.TheVariants.{NoTable, NoTableInUse, TableInUse, NeedsExclusive, NotLocked, OutOfRange, EndOfFile, BeginOfFile, NotIndexed, NoSuchField, TypeMismatch, NumberTooWide, BadDate, BadText, BadArea, AlreadyOpen, TableFull, NoSuchOrder, BadCommand, TooManyLocks, BadExpression, IndexNameUsed, TooManyIndexes}
 
 abbrev code_and_name : Refusal → ℕ × List ℕ
 code_and_name NoTable = (1, codes "NoTable")
@@ -24,6 +24,9 @@ code_and_name TableFull = (17, codes "TableFull")
 code_and_name NoSuchOrder = (18, codes "NoSuchOrder")
 code_and_name BadCommand = (19, codes "BadCommand")
 code_and_name TooManyLocks = (20, codes "TooManyLocks")
+code_and_name BadExpression = (21, codes "BadExpression")
+code_and_name IndexNameUsed = (22, codes "IndexNameUsed")
+code_and_name TooManyIndexes = (23, codes "TooManyIndexes")
 
 abbrev pub code_of : Refusal → ℕ
 code_of refusal = (code_and_name refusal).0

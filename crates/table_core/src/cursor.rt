@@ -1,7 +1,7 @@
 //! Where a station is in a table.
 
 ghost use Rattle.std.specs.Prelude.{◌≡◌, false};
-ghost use Rattle.table_core.specs.Moves.{at_record};
+ghost use Rattle.table_core.specs.Moves.{at_record, in_order_of};
 
 /// Where a station is in a table: at a record or at the end, what its last move found, and the order in
 /// which it moves.
@@ -27,6 +27,13 @@ impl Cursor {
         ensures value { result ≡ at_record self number }
     {
         self.moved(Some(number), false)
+    }
+
+    /// The same cursor in another order.
+    pub(crate) fn in_order_of(self, order: usize) -> Cursor
+        ensures value { result ≡ in_order_of self order }
+    {
+        Cursor { order, ..self }
     }
 
     /// The cursor at a record, from 1, or at the end, in the same order.

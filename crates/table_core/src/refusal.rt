@@ -1,6 +1,6 @@
 //! Refusals.
 
-/// Why a command is refused. The numbers are those of the answer files, 1 to 20, in this order.
+/// Why a command is refused. The numbers are those of the answer files, 1 to 23, in this order.
 #[derive(Clone, Copy, Debug, PartialEq, Eq)]
 pub enum Refusal {
     /// There is no table of this name.
@@ -43,13 +43,19 @@ pub enum Refusal {
     BadCommand = 19,
     /// The list of records to be locked has more than 50 numbers.
     TooManyLocks = 20,
+    /// The text is no key expression for the table's fields.
+    BadExpression = 21,
+    /// An index of some table has the name.
+    IndexNameUsed = 22,
+    /// The table has as many indexes as a table can have.
+    TooManyIndexes = 23,
 }
 
 impl Refusal {
     ghost use Rattle.std.specs.Prelude.{◌≡◌};
     ghost use Rattle.table_core.specs.Refusals.{code_of, name_of};
 
-    /// The number of the refusal in answer files, 1 to 20.
+    /// The number of the refusal in answer files, 1 to 23.
     pub fn code(self) -> u8
         ensures value { result ≡ code_of self }
     {
@@ -81,6 +87,9 @@ impl Refusal {
             Refusal::NoSuchOrder => "NoSuchOrder",
             Refusal::BadCommand => "BadCommand",
             Refusal::TooManyLocks => "TooManyLocks",
+            Refusal::BadExpression => "BadExpression",
+            Refusal::IndexNameUsed => "IndexNameUsed",
+            Refusal::TooManyIndexes => "TooManyIndexes",
         }
     }
 }

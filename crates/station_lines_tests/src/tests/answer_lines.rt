@@ -28,7 +28,7 @@ fn answers_have_their_lines(rt: HostRuntime) -> Result<(), Fail> {
 #[test]
 fn refusals_have_their_lines(rt: HostRuntime) -> Result<(), Fail> {
     let alloc = rt.alloc();
-    let cases: [(Refusal, &[u8]); 20] = [
+    let cases: [(Refusal, &[u8]); 23] = [
         (Refusal::NoTable, b"REFUSED 1 NoTable"),
         (Refusal::NoTableInUse, b"REFUSED 2 NoTableInUse"),
         (Refusal::TableInUse, b"REFUSED 3 TableInUse"),
@@ -49,6 +49,9 @@ fn refusals_have_their_lines(rt: HostRuntime) -> Result<(), Fail> {
         (Refusal::NoSuchOrder, b"REFUSED 18 NoSuchOrder"),
         (Refusal::BadCommand, b"REFUSED 19 BadCommand"),
         (Refusal::TooManyLocks, b"REFUSED 20 TooManyLocks"),
+        (Refusal::BadExpression, b"REFUSED 21 BadExpression"),
+        (Refusal::IndexNameUsed, b"REFUSED 22 IndexNameUsed"),
+        (Refusal::TooManyIndexes, b"REFUSED 23 TooManyIndexes"),
     ];
     for (refusal, line) in cases {
         let answer = Answer::Refused(refusal);

@@ -12,9 +12,9 @@ pub(crate) struct Target {
     pub(crate) field: usize,
 }
 
-/// A change of a table's rows that takes no memory.
+/// A change of a table's rows or of its indexes that takes no memory.
 #[derive(Drop)]
-pub(crate) enum RowChange {
+pub(crate) enum TableChange {
     /// A last record of blanks.
     AddBlank,
     /// A cell is replaced.
@@ -43,11 +43,18 @@ pub(crate) enum RowChange {
         /// The indexes of the others.
         indexes: Vec<TableIndex>,
     },
+    /// An index is added after the others.
+    AddIndex {
+        /// The index of all records.
+        index: TableIndex,
+        /// An empty list with room for all indexes.
+        list: Vec<TableIndex>,
+    },
 }
 
 /// An edit that was tested, with all memory that it needs: [`Table::carry_out`](crate::Table::carry_out)
 /// makes the change.
 #[derive(Drop)]
 pub struct Planned {
-    pub(crate) change: RowChange,
+    pub(crate) change: TableChange,
 }

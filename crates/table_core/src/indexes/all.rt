@@ -1,6 +1,6 @@
 //! All indexes of a table.
 
-ghost use Rattle.std.specs.Prelude.{◌≡◌, ◌≤◌, length, map, OnOk};
+ghost use Rattle.std.specs.Prelude.{◌≡◌, ◌+◌, ◌≤◌, [], ◌∷◌, ◌++◌, length, map, vec_capacity, OnOk};
 ghost use Rattle.std.specs.List.{AllByRecursion};
 ghost use Rattle.table_core.specs.Indexes.{Follows, FollowsAside, FollowsBut, HasRoom, indexed, seen_index};
 
@@ -50,6 +50,23 @@ pub(crate) fn put_in_all(indexes: &mut Vec<TableIndex>, records: &GrowingTable, 
     for index in indexes.iter_mut() {
         index.put_in(records, number);
     }
+}
+
+/// Adds an index after the others, and moves all into an empty list with room for them, so it takes no memory.
+pub(crate) fn add_in_list(
+    indexes: &mut Vec<TableIndex>,
+    index: TableIndex,
+    mut list: Vec<TableIndex>,
+)
+    requires empty { list.items ≡ [] }
+    requires room { length indexes.old.items + 1 ≤ vec_capacity list }
+    ensures added { indexes.new.items ≡ indexes.old.items ++ index ∷ [] }
+{
+    match list.append(indexes) {
+        Ok(()) => list.push_reserved(index),
+        Err(_) => unreachable!(),
+    }
+    *indexes = list;
 }
 
 /// Makes room for one more pair in each index. An `Err` says that there was no memory.

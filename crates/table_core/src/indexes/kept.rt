@@ -1,13 +1,14 @@
 //! Indexes that are made of pairs that were kept, as an index file's.
 
-ghost use Rattle.std.specs.Prelude.{◌≡◌, ◌↔◌, length, IfOk, IfSome, IsSome, IsTrue, IsPermutation, OnErr};
+ghost use Rattle.std.specs.Prelude.{◌≡◌, ◌↔◌, ◌≤◌, length, IfOk, IfSome, IsSome, IsTrue, IsPermutation, OnErr};
 ghost use Rattle.std.specs.List.{AllByRecursion};
-ghost use Rattle.key_expr.specs.Keys.{key_length};
+ghost use Rattle.dbf_image.specs.Table.{row_at};
+ghost use Rattle.key_expr.specs.Keys.{key, key_length};
 ghost use Rattle.ndx_index.specs.Index.{HaveLength};
 ghost use Rattle.ndx_index.specs.TableOrder.{order, pairs_of, IsRecordPair};
 ghost use Rattle.table_core.specs.Indexes.{Follows, indexed};
 
-use crate::indexes::{TableIndex, key_at};
+use crate::indexes::TableIndex;
 use dbf_fields::Bytes;
 use dbf_image::GrowingTable;
 use key_expr::KeyExpr;
@@ -100,5 +101,16 @@ fn is_record_pair(records: &GrowingTable, expr: &KeyExpr, pair: &Pair) -> bool
     if pair.number > records.record_count() {
         return false;
     }
-    key_at(expr, records, pair.number) == pair.key
+    has_key_at(expr, records, pair.number, pair.key.as_bytes())
+}
+
+// Whether a record, from 1, has a key by an expression that was read for the table's fields. It takes no memory.
+fn has_key_at(expr: &KeyExpr, records: &GrowingTable, number: u32, bytes: &[u8]) -> bool
+    requires one { 1 ≤ number }
+    requires inside { number ≤ length records.now.table.rows }
+    requires fields { expr.now.fields ≡ records.now.table.schema }
+    ensures value { IsTrue result ↔ (key (row_at records.now.table number).cells expr.now.expr ≡ bytes.now) }
+    ensures long { IsTrue result → length bytes.now ≡ key_length expr.now.fields expr.now.expr }
+{
+    expr.has_key(records.record(number), bytes)
 }

@@ -1,12 +1,16 @@
 //! Carrying out what was planned.
 
-ghost use Rattle.std.specs.Prelude.{◌≡◌, ◌≤◌, length};
+ghost use Rattle.std.specs.Prelude.{◌≡◌, ◌≤◌, length, vec_capacity};
+ghost use Rattle.table_core.specs.Content.{with_index};
 ghost use Rattle.table_core.specs.Edits.{with_value, with_deleted};
-ghost use Rattle.table_core.specs.Planned.{changed, cursor_after, IsMemoOf, IsPlanned, IsRecordOf};
+ghost use Rattle.table_core.specs.Indexes.{indexed};
+ghost use Rattle.table_core.specs.Planned.{changed, cursor_after, CanAddIndex, IsMemoOf, IsPlanned, IsRecordOf};
 
 use crate::cursor::Cursor;
 use crate::edits::changes::{add_blank, set_cell};
-use crate::edits::planned::{Planned, RowChange, Target};
+use crate::edits::planned::{Planned, TableChange, Target};
+use crate::indexes::TableIndex;
+use crate::indexes::all::add_in_list;
 use crate::table::Table;
 
 impl Table {
@@ -19,11 +23,11 @@ impl Table {
         ensures cursor { cursor.new ≡ cursor_after self.old.content cursor.old planned }
     {
         match planned.change {
-            RowChange::AddBlank => {
+            TableChange::AddBlank => {
                 let number = add_blank(&mut self.records, &mut self.indexes);
                 *cursor = cursor.at_record(number);
             }
-            RowChange::SetCell { target, cell } => {
+            TableChange::SetCell { target, cell } => {
                 set_cell(
                     &mut self.records,
                     &mut self.indexes,
@@ -31,14 +35,26 @@ impl Table {
                     cell.as_slice(),
                 );
             }
-            RowChange::SetMemo { target, text } => self.set_memo(target, text.as_slice()),
-            RowChange::SetMark { number, deleted } => self.set_mark(number, deleted),
-            RowChange::Pack { indexes } => {
+            TableChange::SetMemo { target, text } => self.set_memo(target, text.as_slice()),
+            TableChange::SetMark { number, deleted } => self.set_mark(number, deleted),
+            TableChange::Pack { indexes } => {
                 self.records.pack();
                 self.indexes = indexes;
                 *cursor = self.at_top(cursor);
             }
+            TableChange::AddIndex { index, list } => {
+                self.put_index(index, list);
+                *cursor = self.at_top(&cursor.in_order_of(self.index_count()));
+            }
         }
+    }
+
+    // Puts an index after the others.
+    fn put_index(&mut self, index: TableIndex, list: Vec<TableIndex>)
+        requires index { CanAddIndex self.old index list.items (vec_capacity list) }
+        ensures content { self.new.content ≡ with_index self.old.content (indexed index) }
+    {
+        add_in_list(&mut self.indexes, index, list);
     }
 
     // Replaces the text of a memo. No key depends on it, so the indexes follow as they are.

@@ -5,18 +5,20 @@ ghost use Rattle.table_core.specs.declared.cursor.Cursor.{Cursor as CursorValue}
 ghost use Rattle.table_core.specs.Cursors.{IsCursor};
 ghost use Rattle.table_core.specs.Edits.{edited, edit_value, append_blank, replace, memo, mark, pack};
 ghost use Rattle.table_core.specs.Outcomes.{IsFaultOf};
-ghost use Rattle.table_core.specs.Planned.{carried_out, IsPlanned};
+ghost use Rattle.table_core.specs.Planned.{carried_out, IsPlanned, MakesIndex};
 
 use crate::cursor::Cursor;
 use crate::edits::Edit;
-use crate::edits::planned::{Planned, RowChange};
+use crate::edits::planned::{Planned, TableChange};
 use crate::fault::TableFault;
+use crate::indexes::TableIndex;
 use crate::indexes::all::reserve_all;
 use crate::indexes::sort::packed_all;
 use crate::refusal::Refusal;
 use crate::table::Table;
 use dbf_fields::{Bytes, Literal, MEMO, encode_cell};
 use dbf_image::{MAX_RECORDS, is_memo_text};
+use key_expr::KeyExpr;
 use std::alloc::{AllocError, Global};
 
 impl Table {
@@ -61,7 +63,7 @@ impl Table {
         self.reserve_record()?;
         self.reserve_pairs()?;
         Ok(Planned {
-            change: RowChange::AddBlank,
+            change: TableChange::AddBlank,
         })
     }
 
@@ -83,7 +85,7 @@ impl Table {
         let cell = encode_cell(alloc, &self.schema().fields()[target.field], value)?;
         self.reserve_pairs()?;
         Ok(Planned {
-            change: RowChange::SetCell { target, cell },
+            change: TableChange::SetCell { target, cell },
         })
     }
 
@@ -111,7 +113,7 @@ impl Table {
         let text = text.copy(alloc)?;
         self.reserve_text(text.as_slice().len())?;
         Ok(Planned {
-            change: RowChange::SetMemo { target, text },
+            change: TableChange::SetMemo { target, text },
         })
     }
 
@@ -124,7 +126,7 @@ impl Table {
     {
         let number = cursor.at.ok_or(Refusal::EndOfFile)?;
         Ok(Planned {
-            change: RowChange::SetMark { number, deleted },
+            change: TableChange::SetMark { number, deleted },
         })
     }
 
@@ -135,7 +137,28 @@ impl Table {
     {
         let indexes = packed_all(alloc, &self.indexes, &self.records)?;
         Ok(Planned {
-            change: RowChange::Pack { indexes },
+            change: TableChange::Pack { indexes },
+        })
+    }
+
+    /// Makes an index of all records after the others, by its name and its expression, which was read for the table's
+    /// fields: INDEX ON. It changes nothing; carrying the plan out leads the cursor to the top in the new order.
+    ///
+    /// An `Err` says that there was no memory.
+    pub fn plan_index(
+        &self,
+        alloc: Global,
+        name: Bytes,
+        expr: KeyExpr,
+    ) -> Result<Planned, AllocError>
+        requires read { expr.fields ≡ self.now.content.table.schema }
+        ensures outcome { IfOk result (MakesIndex self.now.content (record { name = name; expr = expr })) }
+        ensures planned { IfOk result (λ planned. IsPlanned self.now planned) }
+    {
+        let list = Vec::with_capacity(alloc, self.indexes.len() + 1)?;
+        let index = TableIndex::new(alloc, &self.records, name, expr)?;
+        Ok(Planned {
+            change: TableChange::AddIndex { index, list },
         })
     }
 

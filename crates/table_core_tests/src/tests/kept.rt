@@ -1,4 +1,4 @@
-//! Indexes that are made of the pairs of a file.
+//! Indexes that are added: made of the pairs of a file, or of the records.
 
 use super::*;
 use key_expr::Key;
@@ -73,5 +73,64 @@ fn added_index_is_sorted(rt: HostRuntime) -> Result<(), Fail> {
     let ordered = pairs_of(alloc, &table, 1)?;
     let wanted = [pair(b'A', 2), pair(b'A', 3), pair(b'B', 1)];
     assert!(rt; ordered.as_slice() == wanted.as_slice());
+    Ok(())
+}
+
+// Makes an index on NAME as a command does: planned, and then carried out.
+fn make_index(
+    alloc: Global,
+    table: &mut Table,
+    cursor: &mut Cursor,
+    name: &[u8],
+) -> Result<(), Fail> {
+    if !is_cursor(table, cursor) {
+        return Err("no cursor of the table".into());
+    }
+    let expr = KeyExpr::parse(alloc, b"NAME", table.schema())?;
+    let planned = table.plan_index(alloc, Bytes::from_slice(alloc, name)?, expr)?;
+    table.carry_out(planned, cursor);
+    Ok(())
+}
+
+#[test]
+fn made_index_is_the_order(rt: HostRuntime) -> Result<(), Fail> {
+    let alloc = rt.alloc();
+    let mut table = three_records(alloc)?;
+    let mut cursor = at(0, 3);
+    // A record that is marked as deleted has its pair too.
+    all_edited(alloc, &mut table, &mut cursor, &[Asked::Delete])?;
+    make_index(alloc, &mut table, &mut cursor, b"X")?;
+    assert_eq!(rt; cursor, at(1, 2));
+    let wanted = [pair(b'A', 2), pair(b'A', 3), pair(b'B', 1)];
+    assert!(rt; pairs_of(alloc, &table, 1)?.as_slice() == wanted.as_slice());
+    // The second index is an order of its own, and both are kept from then on.
+    make_index(alloc, &mut table, &mut cursor, b"Y")?;
+    assert_eq!(rt; cursor, at(2, 2));
+    all_edited(
+        alloc,
+        &mut table,
+        &mut cursor,
+        &[Asked::Text(b"NAME", b"C")],
+    )?;
+    let wanted = [pair(b'A', 3), pair(b'B', 1), pair(b'C', 2)];
+    assert!(rt; pairs_of(alloc, &table, 1)?.as_slice() == wanted.as_slice());
+    assert!(rt; pairs_of(alloc, &table, 2)?.as_slice() == wanted.as_slice());
+    Ok(())
+}
+
+#[test]
+fn made_index_of_no_records(rt: HostRuntime) -> Result<(), Fail> {
+    let alloc = rt.alloc();
+    let mut table = names(alloc, 1, &[])?;
+    let mut cursor = start(1);
+    make_index(alloc, &mut table, &mut cursor, b"X")?;
+    assert_eq!(rt;
+        cursor,
+        Cursor {
+            bof: true,
+            ..start(2)
+        }
+    );
+    assert_eq!(rt; pairs_of(alloc, &table, 2)?.len(), 0);
     Ok(())
 }

@@ -3,7 +3,7 @@
 use super::*;
 
 // By their numbers, from 1 on.
-const REFUSALS: [(Refusal, &str); 20] = [
+const REFUSALS: [(Refusal, &str); 23] = [
     (Refusal::NoTable, "NoTable"),
     (Refusal::NoTableInUse, "NoTableInUse"),
     (Refusal::TableInUse, "TableInUse"),
@@ -24,6 +24,9 @@ const REFUSALS: [(Refusal, &str); 20] = [
     (Refusal::NoSuchOrder, "NoSuchOrder"),
     (Refusal::BadCommand, "BadCommand"),
     (Refusal::TooManyLocks, "TooManyLocks"),
+    (Refusal::BadExpression, "BadExpression"),
+    (Refusal::IndexNameUsed, "IndexNameUsed"),
+    (Refusal::TooManyIndexes, "TooManyIndexes"),
 ];
 
 // The index of the first refusal with another number or name.
