@@ -33,9 +33,21 @@ fn read_table_answers_each_refusal(rt: HostRuntime) -> Result<(), Fail> {
     }
     let read = read_copy(rt.alloc(), &one_memo(b"         1"), None);
     assert_eq!(rt; read.err(), Some(ImageFault::MemoFileMissing));
+    Ok(())
+}
+
+#[test]
+fn damaged_memos(rt: HostRuntime) -> Result<(), Fail> {
+    // A table that has memos may say by its first byte that it has none.
+    let mut dbf = one_memo(b"         1");
+    dbf[0] = 3;
+    let table = read_copy(rt.alloc(), &dbf, Some(&hello()))?;
+    assert_cells(rt.alloc(), &rt, &table, &[(1, 0, b"HELLO")]);
     let dbt = long_memo(rt.alloc())?;
     for (cell, fault) in [
         (b"ABC       ", ImageFault::BadMemoNumber),
+        (b"        -1", ImageFault::BadMemoNumber),
+        (b"9999999999", ImageFault::MemoOutside),
         (b"       130", ImageFault::MemoOutside),
         (b"         1", ImageFault::MemoTooLong),
     ] {
