@@ -5,8 +5,7 @@ use Rattle.std.proofs.lemmas.Bool.{lt-ltb, eq-eqb}
 use Rattle.std.proofs.lemmas.List.Sums.{sum_by-append, sum_by-cons}
 use mathlib.Core.List.{IsPrefix}
 use Rattle.catalogue_core.specs.declared.status.StatusRow.{StatusRow}
-use Rattle.shared_catalogue.specs.RowLaws.{last_numbered}
-use Rattle.shared_catalogue.specs.StatusRows.{opening_row, last_after, last_row, NumberedFrom, IsNumbered, longer_list, calls_of}
+use Rattle.shared_catalogue.specs.StatusRows.{opening_row, last_after, last_row, NumberedFrom, IsNumbered, longer_list, calls_of, HasCallMore}
 
 -- each list begins with itself
 pub prefix_self : {A : Type 0} (xs : List A) → IsPrefix xs xs
@@ -58,10 +57,6 @@ numbered-push xs r h e = numbered_from-push 0 xs r h (omega arith)
 longer_of : (b : Bool) (xs ys : List StatusRow) → b ≡ true → (if b then ys else xs) ≡ ys
 longer_of b xs ys e = ap (λ (t : Bool). if t then ys else xs) e
 
--- a list with one row more is the longer
-pub longer-push : (xs : List StatusRow) (r : StatusRow) → longer_list xs (xs ++ r ∷ []) ≡ xs ++ r ∷ []
-longer-push xs r = longer_of (nat_lt (length xs) (length (xs ++ r ∷ []))) xs (xs ++ r ∷ []) (lt-ltb _ _ (omega (arith, length-append xs (r ∷ []))))
-
 count_by-push : (xs : List StatusRow) (r : StatusRow) (station : ℕ) → r.last_station ≡ station → count_by (λ (row : StatusRow). row.last_station == station) (xs ++ r ∷ []) ≡ count_by (λ (row : StatusRow). row.last_station == station) xs + 1
 count_by-push xs r station e =
     let one : ◌≡◌ {A = ℕ} (cond (r.last_station == station) 1 0) 1 = ap (λ (b : Bool). cond b 1 0) (eq-eqb (r.last_station) station e) in
@@ -80,10 +75,18 @@ calls-prefix (x ∷ xs) (y ∷ ys) station p =
     let e : xs ++ p.0 ≡ ys = cc (p.1) in
     omega (arith, sum_by-append (λ (row : StatusRow). cond (row.last_station == station) 1 0) xs p.0, ap (count_by (λ (row : StatusRow). row.last_station == station)) e)
 
--- where the row that was loaded has the length of the last row told, the rows are those told
-pub learnt : (told rows : List StatusRow) (row : StatusRow) (until : ℕ) → IsPrefix told rows → (0 < length rows) × (last_row rows ≡ row) × IsNumbered rows → row.journal_length ≡ until → length told ≡ until + 1
-    → rows ≡ told
-learnt told rows row until p shows found many =
-    let number : (last_row rows).journal_length + 1 ≡ length rows = last_numbered rows shows.0 shows.2 in
-    let same : (last_row rows).journal_length ≡ row.journal_length = ap (λ (r : StatusRow). r.journal_length) shows.1 in
-    sym (prefix_whole told rows p (omega arith))
+-- a list with a call more is the longer
+pub longer-call : (old new : List StatusRow) (station : ℕ) → HasCallMore old station new → longer_list old new ≡ new
+longer-call old new station h =
+    let between = h.0 in
+    let long : length new ≡ length old + length between + 1 = ap length h.2 ∙ (length-append (old ++ between) (h.1 ∷ []) ∙ ap (λ n. n + 1) (length-append old between)) in
+    longer_of (nat_lt (length old) (length new)) old new (lt-ltb _ _ (omega (arith, long)))
+
+-- it has one call more, at least
+pub calls-call : (old new : List StatusRow) (station : ℕ) → HasCallMore old station new → 1 < length new → calls_of old station + 1 ≤ calls_of new station
+calls-call old new station h some =
+    let before = old ++ h.0 in
+    let long : length new ≡ length before + 1 = ap length h.2 ∙ length-append before (h.1 ∷ []) in
+    let more : calls_of new station ≡ calls_of before station + 1 = ap (λ (l : List StatusRow). calls_of l station) h.2 ∙ calls-push before h.1 station (omega (arith, long)) h.3 in
+    let least = calls-prefix old before station (h.0, refl) in
+    omega (arith, more, least)

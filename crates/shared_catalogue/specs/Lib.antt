@@ -4,3 +4,4 @@ pub mod RowWords
 pub mod StatusRows
 pub mod RowLaws
 pub mod Board
+pub mod Locked

@@ -1,8 +1,9 @@
 -- What contracts see of a seat, and which stations have one.
-use Rattle.std.specs.Prelude.{◌≡◌, ℕ, zero, suc, ◌+◌, ◌<◌, ◌≤◌, List, [], ◌∷◌, ◌++◌, Any}
+use Rattle.std.specs.Prelude.{◌≡◌, false, ℕ, zero, suc, ◌+◌, ◌<◌, ◌≤◌, List, [], ◌∷◌, ◌++◌, Any}
 use mathlib.Core.List.{IsPrefix}
 use Rattle.atomic_table.specs.Seated.{TableId}
 use Rattle.catalogue_core.specs.declared.status.StatusRow.{StatusRow}
+use Rattle.shared_catalogue.specs.declared.board.View.{View}
 use Rattle.shared_catalogue.specs.StatusRows.{opening_row, calls_of}
 
 -- the number of the station, how many commands the seat has performed, the status rows that it knows, and how often
@@ -15,6 +16,16 @@ pub record Seated : Type 0 where
 
 abbrev pub seated : ℕ → ℕ → List StatusRow → ℕ → Seated
 seated station share rows loads = record { station = station; share = share; rows = rows; loads = loads }
+
+-- what holds of every seat: one part, a station of the opened ones, a pass of the named board that reads, and a share
+-- that is no more than the rows that name the station
+pub record IsSeat (stations : ℕ) (named : TableId) (station parts share : ℕ) (board : TableId) (view : View) : Type 0 where
+  pub part : parts ≡ 1
+  pub counted : 1 ≤ station
+  pub inside : station ≤ stations
+  pub of_board : board ≡ named
+  pub reads : view.writes ≡ false
+  pub own : share ≤ calls_of view.rows station
 
 -- the name of a ledger, how many parts it has, the name of a board, and the rows that its first pass knows
 pub record LotParts : Type 0 where

@@ -52,6 +52,10 @@ abbrev pub calls_of : List StatusRow → ℕ → ℕ
 calls_of [] station = 0
 calls_of (first ∷ others) station = count_by (λ r. r.last_station == station) others
 
+-- the new list begins with the old one, is longer, and ends with a row of this station
+abbrev pub HasCallMore : List StatusRow → ℕ → List StatusRow → Type 0
+HasCallMore old station new = (between : List StatusRow) × (last : StatusRow) × (new ≡ (old ++ between) ++ last ∷ []) × (last.last_station ≡ station)
+
 -- the new list begins with the old one, is longer, and ends with a row of this station and answer
 abbrev pub IsToldOfCall : List StatusRow → ℕ → Answer → List StatusRow → Type 0
 IsToldOfCall old station answer new =

@@ -15,10 +15,8 @@ pub struct View {
     pub writes: bool,
     /// The rows that it knows, the opening row first.
     pub rows: LinkedList<StatusRow>,
-    /// The rows that it knew when it was last told of others.
-    pub had: LinkedList<StatusRow>,
-    /// The rows that it was last told.
-    pub told: LinkedList<StatusRow>,
+    /// The rows of the seat that it noted last. Only the writer's notes any.
+    pub noted: LinkedList<StatusRow>,
     /// How often the board was loaded with it.
     pub loads: u64,
 }
@@ -52,7 +50,16 @@ impl Outcome<[u64; 23], View> for Loads {
     ghost then = { IsLoadOf };
 }
 
-/// A split of the writer's pass, and the join of such a copy into a seat's pass.
+/// A load, by the writer.
+pub struct WriterLoads;
+
+impl Outcome<[u64; 23], View> for WriterLoads {
+    ghost use Rattle.shared_catalogue.specs.Board.{IsWriterLoadOf};
+
+    ghost then = { IsWriterLoadOf };
+}
+
+/// A split of a pass, and the join of a copy of the writer's into a seat's.
 pub struct Copied;
 
 impl Split<View> for Copied {
@@ -67,6 +74,17 @@ impl Join<View> for Copied {
     ghost use Rattle.shared_catalogue.specs.Board.{joined_view, spent_view};
 
     ghost both = { joined_view };
+
+    ghost spent = { spent_view };
+}
+
+/// The join of a copy of a seat's pass into the writer's.
+pub struct Noted;
+
+impl Join<View> for Noted {
+    ghost use Rattle.shared_catalogue.specs.Board.{noting_view, spent_view};
+
+    ghost both = { noting_view };
 
     ghost spent = { spent_view };
 }

@@ -1,6 +1,6 @@
 //! What is under the lock: the catalogue, the book of its ledger, and the writer's pass of its board.
 
-ghost use Rattle.std.specs.Prelude.{◌≡◌, ◌+◌, [], ◌∷◌, ◌++◌, ◌<◌, length, IfOk, OnOk, OnErr, IsErrOf};
+ghost use Rattle.std.specs.Prelude.{◌≡◌, ◌+◌, [], ◌∷◌, ◌++◌, ◌<◌, true, length, IfOk, OnOk, OnErr, IsErrOf};
 ghost use mathlib.Core.List.{IsPrefix};
 ghost use Rattle.crossbeam_utils.specs.Seq.{cell_view};
 ghost use Rattle.catalogue_core.specs.declared.catalogue.TheConstants.{MAX_ENTRIES};
@@ -9,7 +9,7 @@ ghost use Rattle.shared_catalogue.specs.Board.{writer_of, first_view};
 ghost use Rattle.shared_catalogue.specs.Seats.{seated};
 ghost use Rattle.shared_catalogue.specs.StatusRows.{status_rows, IsToldOfCall};
 
-use crate::board::{Board, BoardPass, Copied, Swaps, words_of_row};
+use crate::board::{Board, BoardPass, Copied, Noted, Swaps, words_of_row};
 use crate::lot::Naming;
 use crate::seat::Seat;
 use catalogue_core::{Answer, Catalogue, Command, StatusRow, Stop};
@@ -32,13 +32,11 @@ pub(crate) struct LockedCatalogue<J: Naming> {
 }
 
 impl<J: Naming> Model for LockedCatalogue<J> {
-    ghost use Rattle.std.specs.Prelude.{◌≡◌, length};
     ghost use Rattle.std.specs.Coded.{codes};
     ghost use Rattle.crossbeam_utils.specs.Seq.{cell_view};
     ghost use Rattle.key_expr.specs.ExprCode.{expr_code};
     ghost use Rattle.catalogue_core.specs.Replay.{History};
-    ghost use Rattle.shared_catalogue.specs.Board.{writer_of};
-    ghost use Rattle.shared_catalogue.specs.StatusRows.{status_rows};
+    ghost use Rattle.shared_catalogue.specs.Locked.{IsLocked};
 
     ghost Value = { History };
 
@@ -46,7 +44,7 @@ impl<J: Naming> Model for LockedCatalogue<J> {
 
     ghost view = { λ l. l.catalogue };
 
-    ghost invariant = { λ l. (l.book.total ≡ length l.catalogue.journal) × (l.catalogue.opened ≡ J.opened) × (l.spare.parts ≡ 0) × (l.spare.amount ≡ 0) × (l.pass.table_id ≡ J.board) × (cell_view l.pass ≡ writer_of (status_rows l.catalogue)) };
+    ghost invariant = { λ l. IsLocked J.opened J.board l.catalogue l.book.total l.spare.parts l.spare.amount l.pass.table_id (cell_view l.pass) };
 }
 
 impl<J: Naming> LockedCatalogue<J> {
@@ -101,6 +99,7 @@ impl<J: Naming> LockedCatalogue<J> {
         ensures share { IfOk result (λ _. seat.new ≡ seated seat.old.station (seat.old.share + 1) seat.new.rows seat.new.loads) }
         ensures rows { OnOk result (seat.new.rows ≡ status_rows self.new) }
         ensures told { IfOk result (λ answer. IsToldOfCall seat.old.rows seat.old.station answer seat.new.rows) }
+        ensures loads { OnOk result (seat.new.loads ≡ seat.old.loads) }
         ensures stopped { OnErr result ((self.new ≡ self.old) × (seat.new ≡ seat.old)) }
         ensures full { IsErrOf result Stop.JournalFull → length self.old.journal ≡ MAX_ENTRIES }
         ensures history { IsHistoryOf J.opened seat.old.share self.old }
@@ -113,9 +112,9 @@ impl<J: Naming> LockedCatalogue<J> {
     }
 }
 
-// Puts the next row on the board, which is that of a command of the seat's station, and counts the command in the book
-// and in the seat's share. The seat is told of the rows before it first, so that they are known to begin with all that
-// the seat knew, and then of the row.
+// Puts the next row on the board, which is that of a command of the seat's station, counts the command in the book and
+// in the seat's share, and tells the seat of all rows. The writer's pass notes what the seat knows before it swaps the
+// row in: the swap then tells contracts that this was a beginning of the rows before it. Nothing is read.
 fn put_up<J: Naming, R: Wait>(
     rt: &R,
     board: &Board,
@@ -125,18 +124,18 @@ fn put_up<J: Naming, R: Wait>(
     book: &mut Book<J>,
 )
     requires board { (board.now.table.shared.table_id ≡ J.board) × (pass.old.table_id ≡ J.board) }
-    requires writer { cell_view pass.old ≡ writer_of (cell_view pass.old).rows }
+    requires writer { (cell_view pass.old).writes ≡ true }
     requires next { (0 < row.journal_length) × (row.journal_length ≡ length (cell_view pass.old).rows) }
     requires own { row.last_station ≡ seat.old.station }
     ensures pass { (pass.new.table_id ≡ J.board) × (cell_view pass.new ≡ writer_of ((cell_view pass.old).rows ++ row ∷ [])) }
     ensures later { IsPrefix seat.old.rows (cell_view pass.old).rows }
-    ensures seat { seat.new ≡ seated seat.old.station (seat.old.share + 1) ((cell_view pass.old).rows ++ row ∷ []) seat.new.loads }
+    ensures seat { seat.new ≡ seated seat.old.station (seat.old.share + 1) ((cell_view pass.old).rows ++ row ∷ []) seat.old.loads }
     ensures total { book.new.total ≡ book.old.total + 1 }
 {
-    let before = board.split_pass::<Copied>(pass);
-    seat.learn(rt, board, before, row.journal_length - 1);
+    let known = seat.copy_pass(board);
+    board.join_pass::<Noted>(pass, known);
     let words = words_of_row(&row);
     board.swap_as::<Swaps, R>(rt, pass, words);
-    let after = board.split_pass::<Copied>(pass);
-    seat.count_in(board, after, book);
+    let copy = board.split_pass::<Copied>(pass);
+    seat.count_in(board, copy, book);
 }

@@ -1,12 +1,11 @@
 //! The seats of the stations.
 
-ghost use Rattle.std.specs.Prelude.{◌≡◌, ◌+◌, ◌<◌, ◌≤◌, List, [], ◌∷◌, ◌++◌, length};
+ghost use Rattle.std.specs.Prelude.{◌≡◌, ◌+◌, ◌<◌, ◌≤◌, [], ◌∷◌, length};
 ghost use mathlib.Core.List.{IsPrefix};
 ghost use Rattle.crossbeam_utils.specs.Seq.{cell_view};
-ghost use Rattle.catalogue_core.specs.declared.status.StatusRow.{StatusRow as RowValue};
 ghost use Rattle.shared_catalogue.specs.Board.{reader_of};
 ghost use Rattle.shared_catalogue.specs.Seats.{seated};
-ghost use Rattle.shared_catalogue.specs.StatusRows.{opening_row, last_row, IsNumbered, calls_of};
+ghost use Rattle.shared_catalogue.specs.StatusRows.{opening_row, last_row, IsNumbered, calls_of, HasCallMore};
 
 use crate::board::{Board, BoardPass, Copied, Loads, row_of_words};
 use crate::lot::Naming;
@@ -26,16 +25,14 @@ pub struct Seat<J: Naming> {
 }
 
 impl<J: Naming> Model for Seat<J> {
-    ghost use Rattle.std.specs.Prelude.{◌≡◌, ◌≤◌, false};
     ghost use Rattle.crossbeam_utils.specs.Seq.{cell_view};
-    ghost use Rattle.shared_catalogue.specs.Seats.{Seated, seated};
-    ghost use Rattle.shared_catalogue.specs.StatusRows.{calls_of};
+    ghost use Rattle.shared_catalogue.specs.Seats.{Seated, seated, IsSeat};
 
     ghost Value = { Seated };
 
     ghost view = { λ s. seated s.station s.share.amount (cell_view s.pass).rows (cell_view s.pass).loads };
 
-    ghost invariant = { λ s. (s.share.parts ≡ 1) × (1 ≤ s.station) × (s.station ≤ J.opened.stations) × (s.pass.table_id ≡ J.board) × ((cell_view s.pass).writes ≡ false) × (s.share.amount ≤ calls_of (cell_view s.pass).rows s.station) };
+    ghost invariant = { λ s. IsSeat J.opened.stations J.board s.station s.share.parts s.share.amount s.pass.table_id (cell_view s.pass) };
 }
 
 impl<J: Naming> Seat<J> {
@@ -79,33 +76,22 @@ impl<J: Naming> Seat<J> {
         row_of_words(&words)
     }
 
-    /// Tells the seat all rows that the copy of the writer's pass knows, of which the last has the length `until`. It
-    /// reads the board until it finds that row.
-    pub(crate) fn learn<R: Wait>(&mut self, rt: &R, board: &Board, copy: BoardPass, until: u64)
+    /// A copy of the seat's pass, which knows the same rows.
+    pub(crate) fn copy_pass(&mut self, board: &Board) -> BoardPass
         requires board { board.now.table.shared.table_id ≡ J.board }
-        requires copy { (copy.table_id ≡ J.board) × (copy.me.1 ≡ []) × (length (cell_view copy).rows ≡ until + 1) }
-        ensures rows { self.new.rows ≡ (cell_view copy).rows }
-        ensures later { IsPrefix self.old.rows self.new.rows }
-        ensures share { self.new ≡ seated self.old.station self.old.share self.new.rows self.new.loads }
-        ensures loads { self.old.loads < self.new.loads }
+        ensures copy { (result.table_id ≡ J.board) × (result.me.1 ≡ []) × ((cell_view result).rows ≡ self.old.rows) }
+        ensures same { self.new ≡ self.old }
     {
-        board.join_pass::<Copied>(&mut self.pass, copy);
-        for _ in rt.forever() {
-            let words = board.load_as::<Loads, R>(rt, &mut self.pass);
-            // The first word is the journal's length.
-            if words[0] == until {
-                return;
-            }
-        }
-        unreachable!()
+        board.split_pass::<Copied>(&mut self.pass)
     }
 
-    /// Tells the seat one row more, which names its station, and counts the command in the book and in the seat's share.
+    /// Tells the seat all rows that the copy of the writer's pass knows, of which the last is that of a command of its
+    /// station, and counts the command in the book and in the seat's share.
     pub(crate) fn count_in(&mut self, board: &Board, copy: BoardPass, book: &mut Book<J>)
         requires board { board.now.table.shared.table_id ≡ J.board }
         requires copy { (copy.table_id ≡ J.board) × (copy.me.1 ≡ []) }
-        requires known { 0 < length self.old.rows }
-        requires row { (row : RowValue) × ((cell_view copy).rows ≡ self.old.rows ++ row ∷ []) × (row.last_station ≡ self.old.station) }
+        requires second { 1 < length (cell_view copy).rows }
+        requires row { HasCallMore self.old.rows self.old.station (cell_view copy).rows }
         ensures total { book.new.total ≡ book.old.total + 1 }
         ensures seat { self.new ≡ seated self.old.station (self.old.share + 1) (cell_view copy).rows self.old.loads }
     {

@@ -1,6 +1,7 @@
 //! Settling: what the stations were answered is compared with the journal.
 
-ghost use Rattle.std.specs.Prelude.{◌≡◌, ℕ, ◌+◌, ◌^◌, ◌<◌, ◌≤◌, ◌↔◌, length, vec_len, All, IsTrue, IfSome, IfNone, IfOk, IsErrOf};
+ghost use Rattle.std.specs.Prelude.{◌≡◌, ℕ, ◌^◌, ◌<◌, ◌≤◌, ◌↔◌, true, [], length, vec_len, All, IsTrue, IfSome, IfNone, IfOk, IsErrOf};
+ghost use mathlib.Core.List.{IsPrefix};
 ghost use Rattle.std.specs.List.{sum_by};
 ghost use Rattle.crossbeam_utils.specs.Seq.{cell_view};
 ghost use Rattle.catalogue_core.specs.Replay.{IsHistoryOf};
@@ -8,7 +9,7 @@ ghost use Rattle.shared_catalogue.specs.OwnCalls.{AreOwn, IsLowestMismatch};
 ghost use Rattle.shared_catalogue.specs.Seats.{HasSeat, IsLowestMissing, AgreesWith, IsWithin};
 ghost use Rattle.shared_catalogue.specs.StatusRows.{status_rows};
 
-use crate::board::{Board, BoardPass, Copied};
+use crate::board::{Board, BoardPass, Noted, WriterLoads};
 use crate::closed::Closed;
 use crate::locked::LockedCatalogue;
 use crate::lot::Naming;
@@ -59,8 +60,7 @@ impl<J: Naming> LockedCatalogue<J> {
         if let Some(station) = first_missing(&seats, catalogue.station_count()) {
             return Err(SettleFault::SeatMissing(station));
         }
-        let length = catalogue.journal().len() as u64;
-        let mut whole = gather(rt, board, &mut pass, length, spare, seats);
+        let mut whole = gather(rt, board, &mut pass, spare, seats);
         book.audit(&mut whole);
         if let Some(station) = first_mismatch(catalogue.journal(), &receipts) {
             return Err(SettleFault::ReceiptMismatch(station));
@@ -89,26 +89,39 @@ fn first_missing<J: Naming>(seats: &[Seat<J>], stations: u32) -> Option<u32>
     None
 }
 
-// Tells each seat all rows, of which the last has the length `until`, and merges their shares into one.
+// Tells contracts that the rows which a copy of a seat's pass knows are a beginning of the writer's. It changes nothing.
+// It reads the board, since only a step on the board's cell tells that.
+fn compare_rows<R: Wait>(rt: &R, board: &Board, pass: &mut BoardPass, copy: BoardPass)
+    requires board { (pass.old.table_id ≡ board.now.table.shared.table_id) × (copy.table_id ≡ pass.old.table_id) }
+    requires copy { copy.me.1 ≡ [] }
+    requires writer { (cell_view pass.old).writes ≡ true }
+    ensures later { IsPrefix (cell_view copy).rows (cell_view pass.old).rows }
+    ensures pass { (pass.new.table_id ≡ pass.old.table_id) × ((cell_view pass.new).writes ≡ true) }
+    ensures rows { (cell_view pass.new).rows ≡ (cell_view pass.old).rows }
+{
+    board.join_pass::<Noted>(pass, copy);
+    board.load_as::<WriterLoads, R>(rt, pass);
+}
+
+// Compares what each seat knows with the writer's rows, and merges the seats' shares into one.
 fn gather<J: Naming, R: Wait>(
     rt: &R,
     board: &Board,
     pass: &mut BoardPass,
-    until: u64,
     mut whole: Share<J>,
     mut seats: Vec<Seat<J>>,
 ) -> Share<J>
     requires spare { (whole.parts ≡ 0) × (whole.amount ≡ 0) }
     requires board { (board.now.table.shared.table_id ≡ J.board) × (pass.old.table_id ≡ J.board) }
-    requires rows { length (cell_view pass.old).rows ≡ until + 1 }
+    requires writer { (cell_view pass.old).writes ≡ true }
     ensures parts { result.parts ≡ vec_len seats }
     ensures amount { result.amount ≡ sum_by (λ z. z.share) seats.items }
     ensures most { result.parts ≤ J.parts }
     ensures within { All (IsWithin (cell_view pass.old).rows) seats.items }
 {
     while let Some(mut seat) = seats.pop() {
-        let copy = board.split_pass::<Copied>(pass);
-        seat.learn(rt, board, copy, until);
+        let copy = seat.copy_pass(board);
+        compare_rows(rt, board, pass, copy);
         whole.merge(seat.into_share());
     }
     whole

@@ -65,7 +65,7 @@ impl<J: Naming> Shared<J> {
     /// Performs a command of the seat's station under the lock, for which it may wait, as one step: one
     /// entry of the journal, which the seat's share counts. It is answered as in the history that stood under the lock:
     /// a legal one of these opened tables, in which the seat's own entries stand already. In the same hold of the lock
-    /// the row of the entry is put on the board, and the seat is told of all rows up to it.
+    /// the row of the entry is put on the board, which is not read, and the seat is told of all rows up to it.
     ///
     /// A `Stop` is the catalogue's, and then seat, board and catalogue are as they were: `JournalFull` says that the
     /// journal had `MAX_ENTRIES` entries.
@@ -80,6 +80,7 @@ impl<J: Naming> Shared<J> {
         ensures answer { IfOk result (λ answer. (h : History) × IsHistoryOf J.opened seat.old.share h × (answer ≡ answer_of h seat.old.station command.now)) }
         ensures rows { IfOk result (λ answer. AreRowsOfCall J.opened seat.old.share seat.old.station command.now answer seat.new.rows) }
         ensures told { IfOk result (λ answer. IsToldOfCall seat.old.rows seat.old.station answer seat.new.rows) }
+        ensures loads { OnOk result (seat.new.loads ≡ seat.old.loads) }
         ensures stopped { OnErr result (seat.new ≡ seat.old) }
         ensures full { IsErrOf result Stop.JournalFull → (h : History) × IsHistoryOf J.opened seat.old.share h × (length h.journal ≡ MAX_ENTRIES) }
     {

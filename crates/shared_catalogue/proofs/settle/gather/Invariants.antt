@@ -1,4 +1,4 @@
-use Rattle.std.proofs.Common.{◌≡◌, ◌+◌, ◌≤◌, List, ◌++◌, vec_len}
+use Rattle.std.proofs.Common.{◌≡◌, ◌+◌, ◌≤◌, true, List, ◌++◌, vec_len}
 use Rattle.std.specs.Prelude.{All}
 use Rattle.std.specs.List.{sum_by}
 use Rattle.crossbeam_utils.specs.Seq.{cell_view}
@@ -11,6 +11,7 @@ invariant-loop-seat g l = record {
   amount : l.whole.amount + sum_by (λ (z : Seated). z.share) l.seats.items ≡ sum_by (λ (z : Seated). z.share) l.initial.seats.items;
   most : l.whole.parts ≤ g.J.Ledger.parts;
   table : l.pass.table_id ≡ g.J.Naming.board;
+  writes : (cell_view l.pass).writes ≡ true;
   rows : (cell_view l.pass).rows ≡ (cell_view l.fn.pass).rows;
   within : (done : List Seated) × (l.initial.seats.items ≡ l.seats.items ++ done) × All (IsWithin (cell_view l.fn.pass).rows) done;
 }

@@ -5,11 +5,12 @@ use Rattle.shared_catalogue.proofs.locked.LockedCatalogue.new.Goals as goal
 
 pub invariant_of-result : goal.invariant_of-result
 invariant_of-result g c =
-    let r = c.requires in (
-      r.book.0 ∙ sym (ap length r.empty),
-      r.named,
-      r.book.1,
-      r.book.2,
-      r.pass.0,
-      r.pass.1 ∙ ap writer_of (sym (status_rows-start c.args.catalogue r.empty)),
-    )
+    let r = c.requires in
+    record {
+      counted = r.book.0 ∙ sym (ap length r.empty);
+      of_tables = r.named;
+      no_part = r.book.1;
+      no_amount = r.book.2;
+      of_board = r.pass.0;
+      rows = r.pass.1 ∙ ap writer_of (sym (status_rows-start c.args.catalogue r.empty));
+    }

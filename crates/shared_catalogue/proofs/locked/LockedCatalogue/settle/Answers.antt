@@ -43,12 +43,7 @@ returns-clause-counted g c =
     let many : c.station_count.result ≤ length zs = enough c.station_count.result zs (subst (λ (l : List Seated). Covers l c.station_count.result) c.deref.ensures.value none) in
     let len : vec_len c.args.seats ≡ length zs = search rules in
     let whole : c.gather-whole.result.parts ≡ g.J.Ledger.parts = omega (arith, c.gather-whole.ensures.parts, c.gather-whole.ensures.most, c.requires.parts, stations, many, len) in
-    ap (λ (h : History). length h.journal) c.new.ensures.value ∙ sym (c.audit.ensures.whole whole ∙ c.self.invariant.0) ∙ c.gather-whole.ensures.amount
-
-pub gather-whole-requires-clause-rows : goal.gather-whole-requires-clause-rows
-gather-whole-requires-clause-rows g c =
-    let rows : (cell_view c.self.inside.pass).rows ≡ status_rows c.self.inside.catalogue = ap (λ (v : View). v.rows) c.self.invariant.5 in
-    omega (arith, ap length rows, length-status_rows c.self.inside.catalogue, ap length c.journal.ensures.entries)
+    ap (λ (h : History). length h.journal) c.new.ensures.value ∙ sym (c.audit.ensures.whole whole ∙ c.self.invariant.counted) ∙ c.gather-whole.ensures.amount
 
 pub returns-clause-agrees : goal.returns-clause-agrees
 returns-clause-agrees g c =
@@ -62,8 +57,8 @@ returns-clause-agrees g c =
     let len : vec_len c.args.seats ≡ length zs = search rules in
     let each : length zs ≡ n = omega (arith, c.gather-whole.ensures.parts, c.gather-whole.ensures.most, c.requires.parts, many, len) in
     let whole : c.gather-whole.result.parts ≡ g.J.Ledger.parts = omega (arith, c.gather-whole.ensures.parts, c.requires.parts, each, len) in
-    let counted : length h.journal ≡ sum_by (λ (z : Seated). z.share) zs = sym (c.audit.ensures.whole whole ∙ c.self.invariant.0) ∙ c.gather-whole.ensures.amount in
-    let rows : (cell_view c.self.inside.pass).rows ≡ status_rows h = ap (λ (v : View). v.rows) c.self.invariant.5 in
+    let counted : length h.journal ≡ sum_by (λ (z : Seated). z.share) zs = sym (c.audit.ensures.whole whole ∙ c.self.invariant.counted) ∙ c.gather-whole.ensures.amount in
+    let rows : (cell_view c.self.inside.pass).rows ≡ status_rows h = ap (λ (v : View). v.rows) c.self.invariant.rows in
     let within : All (IsWithin (status_rows h)) zs = subst (λ (l : List StatusRow). All (IsWithin l) zs) rows c.gather-whole.ensures.within in
     let long : length (status_rows h) ≡ suc (length h.journal) = omega (arith, length-status_rows h) in
     let agreed : All (AgreesWith (status_rows h)) zs = agree n (length h.journal) zs (status_rows h) all each long (le_of_eq counted) within in

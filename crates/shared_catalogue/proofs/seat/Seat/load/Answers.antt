@@ -6,7 +6,7 @@ use Rattle.shared_catalogue.proofs.RowListLaws.{calls-prefix}
 use Rattle.shared_catalogue.proofs.seat.Seat.load.Goals as goal
 
 pub load_as-words-requires : goal.load_as-words-requires
-load_as-words-requires g c = (search rules, (search rules, (c.self.invariant.3 ∙ sym c.requires.board, loads _ _ c.self.invariant.4)))
+load_as-words-requires g c = (search rules, (search rules, (c.self.invariant.of_board ∙ sym c.requires.board, loads _ _ c.self.invariant.reads)))
 
 pub invariant_of-self : goal.invariant_of-self
 invariant_of-self g c =
@@ -14,8 +14,8 @@ invariant_of-self g c =
     let l = c.load_as-words.ensures in
     let old = (cell_view c.self.inside.pass).rows in
     let new = (cell_view c.load_as-words.new.pass).rows in
-    let counted : c.self.inside.share.amount ≤ calls_of new c.self.inside.station = omega (arith, k.5, calls-prefix old new c.self.inside.station l.rule.0) in
-    (k.0, k.1, k.2, l.cell.0 ∙ k.3, l.rule.4, counted)
+    let counted : c.self.inside.share.amount ≤ calls_of new c.self.inside.station = omega (arith, k.own, calls-prefix old new c.self.inside.station l.rule.later) in
+    record { part = k.part; counted = k.counted; inside = k.inside; of_board = l.cell.0 ∙ k.of_board; reads = l.rule.reads; own = counted }
 
 pub returns-clause-own : goal.returns-clause-own
 returns-clause-own g c =
@@ -23,4 +23,4 @@ returns-clause-own g c =
     let l = c.load_as-words.ensures in
     let old = (cell_view c.self.inside.pass).rows in
     let new = (cell_view c.load_as-words.new.pass).rows in
-    omega (arith, k.5, calls-prefix old new c.self.inside.station l.rule.0)
+    omega (arith, k.own, calls-prefix old new c.self.inside.station l.rule.later)
