@@ -4,6 +4,7 @@ pub mod SameValues
 pub mod SameCommands
 pub mod AreaLaws
 pub mod KeptLaws
+pub mod AddedLaws
 pub mod NextLaws
 pub mod UseLaws
 pub mod StepLaws

@@ -1,6 +1,6 @@
--- What holds of the outcome of every command: what is true of every state stays true, the tables have the fields and
--- indexes that they had, all other stations have the areas that they had, and the answer is no refusal. So a
--- refused command leaves the state as it was.
+-- What holds of the outcome of every command: what is true of every state stays true, the tables have the fields that
+-- they had, and the indexes that they had first among theirs, all other stations have the areas that they had, and the
+-- answer is no refusal. So a refused command leaves the state as it was.
 use Rattle.std.proofs.Common.{◌≡◌, ℕ, Ok, Err, List, refl, subst}
 use Rattle.std.specs.Prelude.{IfOk}
 use Rattle.table_core.specs.EditValue as edit_of
