@@ -6,6 +6,7 @@ pub mod AreaLaws
 pub mod KeptLaws
 pub mod AddedLaws
 pub mod NextLaws
+pub mod IndexOnLaws
 pub mod UseLaws
 pub mod StepLaws
 pub mod StartLaws

@@ -12,7 +12,7 @@ use Rattle.catalogue_core.specs.declared.opening.TheConstants.{MAX_TABLES}
 use Rattle.catalogue_core.specs.declared.change.Plan.{Plan}
 use Rattle.catalogue_core.specs.Planned.{planned, state_after}
 use Rattle.catalogue_core.specs.Tables.{NamedTable}
-use Rattle.catalogue_core.specs.Replay.{Opened, History, history, opened_at, opened_as, after, start, LegalFrom, IsOfStation}
+use Rattle.catalogue_core.specs.Replay.{Opened, History, history, opened_at, opened_as, after, start, state_of, LegalFrom, IsOfStation}
 use Rattle.catalogue_core.specs.declared.command.Command.{Command}
 use Rattle.catalogue_core.specs.State.{State, new_station, no_content, table_at, schemas_of, KeepIndexes, IsState, HasStation}
 use Rattle.catalogue_core.specs.Step.{Outcome, outcome, settled, step}
@@ -107,6 +107,13 @@ kept_tables opened s journal kept =
 -- at most ten tables were opened
 pub few_tables : (opened : Opened) (s : State) (journal : List Entry) → IsKept opened s journal → length opened.tables ≤ MAX_TABLES
 few_tables opened s journal kept = omega (arith, kept_tables opened s journal kept, kept.ok.count_bounded)
+
+-- the indexes with which the tables were opened are the first of those that they have
+pub kept_indexes : {opened : Opened} {s : State} {journal : List Entry} {h : History} → IsKept opened s journal → history opened journal ≡ h → KeepIndexes (map (λ (t : NamedTable). t.content) h.opened.tables) (state_of h).tables
+kept_indexes {opened} {s} {journal} {h} kept is =
+    let P : State → Type 0 = λ t. KeepIndexes (map (λ (u : NamedTable). u.content) opened.tables) t.tables in
+    let Q : History → Type 0 = λ g. KeepIndexes (map (λ (u : NamedTable). u.content) g.opened.tables) (state_of g).tables in
+    subst Q is (subst P kept.replayed kept.indexes)
 
 same_fields_at : (xs ys : List Content) (number : ℕ) → schemas_of xs ≡ schemas_of ys → (table_at xs number).table.schema ≡ (table_at ys number).table.schema
 same_fields_at xs ys number e =
