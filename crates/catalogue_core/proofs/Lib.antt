@@ -4,7 +4,9 @@ pub mod SameValues
 pub mod SameCommands
 pub mod AreaLaws
 pub mod KeptLaws
+pub mod AddedLaws
 pub mod NextLaws
+pub mod IndexOnLaws
 pub mod UseLaws
 pub mod StepLaws
 pub mod StartLaws

@@ -1,12 +1,11 @@
 -- What a command's outcome keeps: it is a state of as many stations and the same tables, all other stations have
 -- the areas that they had, and the answer is no refusal. Here for the commands on locks, moves and edits.
-use Rattle.std.proofs.Common.{◌≡◌, ◌≢◌, ◌⊎◌, inl, inr, ℕ, ◌-◌, ◌≤◌, Bool, true, false, nat_le, List, [], ◌∷◌, length, slice_set, slice_index_or, Option, Some, None, Result, Ok, refl, sym, ap, subst, ◌∙◌, arith, length-set}
+use Rattle.std.proofs.Common.{◌≡◌, ◌≢◌, ◌⊎◌, inl, inr, ℕ, ◌-◌, ◌≤◌, Bool, true, false, nat_le, List, length, slice_set, slice_index_or, Option, Some, None, Result, Ok, refl, sym, ap, subst, ◌∙◌, arith, length-set}
 use Rattle.std.proofs.lemmas.Bool.{cases_eq}
 use Rattle.std.specs.Prelude.{IfOk}
 use Rattle.std.specs.Int.{is_in_range}
 use Rattle.std.proofs.Math.Seq.{map-set_same}
 use Rattle.std.proofs.lemmas.List.{get_or-set_same, get_or-set_other}
-use Rattle.dbf_fields.specs.declared.field.Field.{Field}
 use Rattle.lock_table.specs.declared.TheConstants.{MAX_RECORD_LOCKS}
 use Rattle.lock_table.specs.Locks.{Lock, free_record, free_records, free_whole, with_lock, with_records, without, without_all, IsHeld, AreApart}
 use Rattle.lock_table.specs.Laws.{apart_record, apart_records, apart_whole, apart_without, apart_without_all, held_with, listed_or_held, held_without, held_without_all}
@@ -15,7 +14,7 @@ use Rattle.table_core.specs.EditValue.{EditValue}
 use Rattle.table_core.specs.EditValue as edit_of
 use Rattle.table_core.specs.declared.refusal.Refusal.{Refusal}
 use Rattle.table_core.specs.declared.refusal.Refusal.TheVariants.{NoTableInUse, TableInUse, NeedsExclusive, NotLocked, OutOfRange, EndOfFile, BadArea, TooManyLocks}
-use Rattle.table_core.specs.Content.{Content, Indexed, record_count}
+use Rattle.table_core.specs.Content.{Content, record_count}
 use Rattle.table_core.specs.Cursors.{IsCursorPlace, IsCursor}
 use Rattle.table_core.specs.Edits.{edited, renumbers}
 use Rattle.table_core.specs.Laws.Edits.{IsEdited, IsGrown, grows_edited, is_edited, cursor_grows}
@@ -24,12 +23,13 @@ use Rattle.catalogue_core.specs.declared.answer.Answer.TheVariants.{Done, Truth,
 use Rattle.catalogue_core.specs.declared.area.Area.{Area}
 use Rattle.catalogue_core.specs.declared.area.Station.{Station}
 use Rattle.catalogue_core.specs.declared.area.TheConstants.{MAX_AREAS}
-use Rattle.catalogue_core.specs.State.{State, new_station, no_content, station_at, area_of, area_at, table_of, with_stations, with_current, with_held, without_lock, shape_of, shapes_of, IsOpenAt, HasStation, IsState}
+use Rattle.catalogue_core.specs.State.{State, new_station, no_content, station_at, area_of, area_at, table_of, with_stations, with_current, with_held, without_lock, schemas_of, KeepIndexes, IsOpenAt, HasStation, IsState}
 use Rattle.catalogue_core.specs.Step.{with_edit, can_write, can_append, select, move, append_record, writable_area, change_record, pack_table, unlock, unlock_all, lock, lock_record, lock_records, are_records, lock_file}
 use Rattle.table_core.specs.Laws.Outcomes.{of_found, of_granted, of_passed}
 use Rattle.catalogue_core.proofs.Cases.{when_ok}
 use Rattle.catalogue_core.proofs.ListedRecords.{in_range, listed_counted}
 use Rattle.catalogue_core.proofs.AreaLaws.{current_index}
+use Rattle.catalogue_core.proofs.AddedLaws.{first_same, keep_same, keep_set}
 use Rattle.catalogue_core.proofs.KeptLaws.{keep_locks, keep_cursor, keep_edit, each_set}
 
 abbrev pub NoRefusal : Answer → Type 0
@@ -40,13 +40,14 @@ pub record IsNext (s : State) (station : ℕ) (end : State × Answer) : Type 0 w
   pub state : IsState end.0
   pub stations : length end.0.stations ≡ length s.stations
   pub names : end.0.names ≡ s.names
-  pub shapes : shapes_of end.0.tables ≡ shapes_of s.tables
+  pub fields : schemas_of end.0.tables ≡ schemas_of s.tables
+  pub indexes : KeepIndexes s.tables end.0.tables
   pub others : (b : ℕ) → b ≢ station - 1 → slice_index_or end.0.stations b new_station ≡ slice_index_or s.stations b new_station
   pub answer : NoRefusal end.1
 
 -- nothing changes
 pub same_next : (s : State) (station : ℕ) (answer : Answer) → NoRefusal answer → IsState s → IsNext s station (s, answer)
-same_next s station answer no_failure ok = record { state = ok; stations = refl; names = refl; shapes = refl; others = λ b _. refl; answer = no_failure }
+same_next s station answer no_failure ok = record { state = ok; stations = refl; names = refl; fields = refl; indexes = keep_same s.tables s.tables refl; others = λ b _. refl; answer = no_failure }
 
 -- the areas of the station change
 pub put_next : (s : State) (station : ℕ) (st : Station) (answer : Answer) → NoRefusal answer → IsState (with_stations s (slice_set s.stations (station - 1) st)) → IsNext s station (with_stations s (slice_set s.stations (station - 1) st), answer)
@@ -54,7 +55,8 @@ put_next s station st answer no_failure ok = record {
   state = ok;
   stations = length-set s.stations (station - 1) st;
   names = refl;
-  shapes = refl;
+  fields = refl;
+  indexes = keep_same s.tables s.tables refl;
   others = λ b n. get_or-set_other s.stations (station - 1) b st new_station n;
   answer = no_failure;
 }
@@ -65,7 +67,8 @@ held_next s t station locks answer next ok = record {
   state = ok;
   stations = next.stations;
   names = next.names;
-  shapes = next.shapes;
+  fields = next.fields;
+  indexes = next.indexes;
   others = next.others;
   answer = next.answer;
 }
@@ -117,16 +120,14 @@ next_move s station to ok h leads =
     let at = when_ok (IsCursor (table_of s area)) (to (table_of s area) area.cursor) cursor (leads (table_of s area) area.cursor old.cursor) e in
     put_next s station _ Done tt (keep_cursor s station area cursor ok h is at)))
 
-same_shape : (a b : Content) → a.table.schema ≡ b.table.schema → a.indexes ≡ b.indexes → shape_of a ≡ shape_of b
-same_shape a b e f = ap (λ (fields : List Field). (fields, a.indexes)) e ∙ ap (λ (indexes : List Indexed). (b.table.schema, indexes)) f
-
 -- a table and its cursor are edited
 edit_next : (s : State) (station : ℕ) (area : Area) (e : Content × Cursor) → IsEdited (table_of s area) e → IsState (with_edit s station area e) → IsNext s station (with_edit s station area e, Done)
 edit_next s station area e good ok = record {
   state = ok;
   stations = length-set s.stations (station - 1) _;
   names = refl;
-  shapes = map-set_same shape_of s.tables (area.table - 1) e.0 no_content (same_shape e.0 (table_of s area) good.fields good.indexes);
+  fields = map-set_same (λ (content : Content). content.table.schema) s.tables (area.table - 1) e.0 no_content good.fields;
+  indexes = keep_set s.tables (area.table - 1) e.0 (first_same (table_of s area).indexes e.0.indexes good.indexes);
   others = λ b n. get_or-set_other s.stations (station - 1) b _ new_station n;
   answer = tt;
 }

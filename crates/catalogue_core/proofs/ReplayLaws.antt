@@ -4,7 +4,7 @@ use Rattle.std.specs.Prelude.{IfOk}
 use Rattle.std.specs.List.{AllByRecursion}
 use Rattle.std.proofs.Math.ListN.{get_or-map}
 use Rattle.dbf_fields.specs.declared.field.Field.{Field}
-use Rattle.table_core.specs.Content.{Content, Indexed}
+use Rattle.table_core.specs.Content.{Content}
 use Rattle.catalogue_core.specs.declared.catalogue.TheConstants.{MAX_ENTRIES}
 use Rattle.catalogue_core.specs.declared.entry.Entry.{Entry}
 use Rattle.catalogue_core.specs.Kept.{IsKept}
@@ -12,10 +12,11 @@ use Rattle.catalogue_core.specs.declared.opening.TheConstants.{MAX_TABLES}
 use Rattle.catalogue_core.specs.declared.change.Plan.{Plan}
 use Rattle.catalogue_core.specs.Planned.{planned, state_after}
 use Rattle.catalogue_core.specs.Tables.{NamedTable}
-use Rattle.catalogue_core.specs.Replay.{Opened, History, history, opened_at, opened_as, after, start, LegalFrom, IsOfStation}
+use Rattle.catalogue_core.specs.Replay.{Opened, History, history, opened_at, opened_as, after, start, state_of, LegalFrom, IsOfStation}
 use Rattle.catalogue_core.specs.declared.command.Command.{Command}
-use Rattle.catalogue_core.specs.State.{State, new_station, no_content, table_at, shape_of, shapes_of, IsState, HasStation}
+use Rattle.catalogue_core.specs.State.{State, new_station, no_content, table_at, schemas_of, KeepIndexes, IsState, HasStation}
 use Rattle.catalogue_core.specs.Step.{Outcome, outcome, settled, step}
+use Rattle.catalogue_core.proofs.AddedLaws.{keep_same, keep_then}
 use Rattle.catalogue_core.proofs.NextLaws.{IsNext}
 use Rattle.catalogue_core.proofs.StartLaws.{start_is}
 use Rattle.catalogue_core.proofs.StepLaws.{next_outcome}
@@ -42,12 +43,13 @@ has_station s station ok h i = record { counted = h; inside = i; each = ok.each 
 pub record IsStepped (s t : State) (station : ℕ) : Type 0 where
   pub state : IsState t
   pub stations : length t.stations ≡ length s.stations
-  pub shapes : shapes_of t.tables ≡ shapes_of s.tables
+  pub fields : schemas_of t.tables ≡ schemas_of s.tables
+  pub indexes : KeepIndexes s.tables t.tables
   pub others : (b : ℕ) → b ≢ station - 1 → slice_index_or t.stations b new_station ≡ slice_index_or s.stations b new_station
 
 stepped_settled : (s : State) (station : ℕ) (o : Outcome) → IsState s → IfOk o (IsNext s station) → IsStepped s (settled s o).0 station
-stepped_settled s station (Ok end) ok next = record { state = next.state; stations = next.stations; shapes = next.shapes; others = next.others }
-stepped_settled s station (Err refusal) ok next = record { state = ok; stations = refl; shapes = refl; others = λ b _. refl }
+stepped_settled s station (Ok end) ok next = record { state = next.state; stations = next.stations; fields = next.fields; indexes = next.indexes; others = next.others }
+stepped_settled s station (Err refusal) ok next = record { state = ok; stations = refl; fields = refl; indexes = keep_same s.tables s.tables refl; others = λ b _. refl }
 
 pub is_stepped : (s : State) (station : ℕ) (command : Command) → IsState s → HasStation s station → IsStepped s (step s station command).0 station
 is_stepped s station command ok has = stepped_settled s station (outcome s station command) ok (next_outcome s station command ok has)
@@ -76,7 +78,8 @@ kept_push opened s journal e kept has answer count_bounded =
       count_bounded = omega (arith, length-append journal (e ∷ []));
       ok = next.state;
       stations = next.stations ∙ kept.stations;
-      shapes = next.shapes ∙ kept.shapes;
+      fields = next.fields ∙ kept.fields;
+      indexes = keep_then (map (λ t. t.content) opened.tables) s.tables (step s e.station e.command).0.tables kept.indexes next.indexes;
     }
 
 -- what was just opened is kept by the state at opening
@@ -91,24 +94,32 @@ opened_kept n tables s at count_bounded =
       count_bounded = omega arith;
       ok = subst P (sym at) (start_is opened count_bounded);
       stations = ap (λ (t : State). length t.stations) at ∙ length-replicate n new_station;
-      shapes = ap (λ (t : State). shapes_of t.tables) at;
+      fields = ap (λ (t : State). schemas_of t.tables) at;
+      indexes = keep_same (map (λ t. t.content) tables) s.tables (ap (λ (t : State). t.tables) at);
     }
 
 -- there are as many tables as were opened
 pub kept_tables : (opened : Opened) (s : State) (journal : List Entry) → IsKept opened s journal → length s.tables ≡ length opened.tables
 kept_tables opened s journal kept =
-    sym (length-map s.tables shape_of) ∙ ap (λ (shapes : List (List Field × List Indexed)). length shapes) kept.shapes
-    ∙ length-map (map (λ (t : NamedTable). t.content) opened.tables) shape_of ∙ length-map opened.tables (λ (t : NamedTable). t.content)
+    sym (length-map s.tables (λ (content : Content). content.table.schema)) ∙ ap (λ (schemas : List (List Field)). length schemas) kept.fields
+    ∙ length-map (map (λ (t : NamedTable). t.content) opened.tables) (λ (content : Content). content.table.schema) ∙ length-map opened.tables (λ (t : NamedTable). t.content)
 
 -- at most ten tables were opened
 pub few_tables : (opened : Opened) (s : State) (journal : List Entry) → IsKept opened s journal → length opened.tables ≤ MAX_TABLES
 few_tables opened s journal kept = omega (arith, kept_tables opened s journal kept, kept.ok.count_bounded)
 
-same_shape_at : (xs ys : List Content) (number : ℕ) → shapes_of xs ≡ shapes_of ys → (table_at xs number).table.schema ≡ (table_at ys number).table.schema
-same_shape_at xs ys number e =
-    ap (λ (shape : List Field × List Indexed). shape.0)
-    (sym (get_or-map shape_of xs (number - 1) no_content) ∙ ap (λ (l : List (List Field × List Indexed)). get_or l (number - 1) (shape_of no_content)) e ∙ get_or-map shape_of ys (number - 1) no_content)
+-- the indexes with which the tables were opened are the first of those that they have
+pub kept_indexes : {opened : Opened} {s : State} {journal : List Entry} {h : History} → IsKept opened s journal → history opened journal ≡ h → KeepIndexes (map (λ (t : NamedTable). t.content) h.opened.tables) (state_of h).tables
+kept_indexes {opened} {s} {journal} {h} kept is =
+    let P : State → Type 0 = λ t. KeepIndexes (map (λ (u : NamedTable). u.content) opened.tables) t.tables in
+    let Q : History → Type 0 = λ g. KeepIndexes (map (λ (u : NamedTable). u.content) g.opened.tables) (state_of g).tables in
+    subst Q is (subst P kept.replayed kept.indexes)
+
+same_fields_at : (xs ys : List Content) (number : ℕ) → schemas_of xs ≡ schemas_of ys → (table_at xs number).table.schema ≡ (table_at ys number).table.schema
+same_fields_at xs ys number e =
+    sym (get_or-map (λ (content : Content). content.table.schema) xs (number - 1) no_content)
+    ∙ ap (λ (l : List (List Field)). get_or l (number - 1) no_content.table.schema) e ∙ get_or-map (λ (content : Content). content.table.schema) ys (number - 1) no_content
 
 -- a table has the fields with which it was opened
 pub kept_fields : (opened : Opened) (s : State) (journal : List Entry) (number : ℕ) → IsKept opened s journal → (table_at s.tables number).table.schema ≡ (opened_at opened number).table.schema
-kept_fields opened s journal number kept = same_shape_at s.tables (map (λ (t : NamedTable). t.content) opened.tables) number kept.shapes
+kept_fields opened s journal number kept = same_fields_at s.tables (map (λ (t : NamedTable). t.content) opened.tables) number kept.fields

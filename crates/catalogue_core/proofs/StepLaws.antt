@@ -1,6 +1,6 @@
--- What holds of the outcome of every command: what is true of every state stays true, the tables have the fields and
--- indexes that they had, all other stations have the areas that they had, and the answer is no refusal. So a
--- refused command leaves the state as it was.
+-- What holds of the outcome of every command: what is true of every state stays true, the tables have the fields that
+-- they had, and the indexes that they had first among theirs, all other stations have the areas that they had, and the
+-- answer is no refusal. So a refused command leaves the state as it was.
 use Rattle.std.proofs.Common.{◌≡◌, ℕ, Ok, Err, List, refl, subst}
 use Rattle.std.specs.Prelude.{IfOk}
 use Rattle.table_core.specs.EditValue as edit_of
@@ -11,7 +11,7 @@ use Rattle.table_core.specs.Shown.{show as shown}
 use Rattle.table_core.specs.Laws.Moves.{top_leads, bottom_leads, go_leads, skip_leads, seek_leads, set_order_leads}
 use Rattle.catalogue_core.specs.declared.answer.Answer.TheVariants.{Text, Refused}
 use Rattle.catalogue_core.specs.declared.command.Command.{Command}
-use Rattle.catalogue_core.specs.declared.command.Command.TheVariants.{Select, UseTable, CloseTable, Go, Top, Bottom, Skip, Seek, Order, AppendBlank, Replace, Memo, Delete, Recall, Pack, Unlock, UnlockAll, Show, RecordLock, RecordLocks, FileLock, Ask, Bad}
+use Rattle.catalogue_core.specs.declared.command.Command.TheVariants.{Select, UseTable, CloseTable, Go, Top, Bottom, Skip, Seek, Order, AppendBlank, Replace, Memo, Delete, Recall, Pack, IndexOn, Unlock, UnlockAll, Show, RecordLock, RecordLocks, FileLock, Ask, Bad}
 use Rattle.catalogue_core.specs.declared.command.Question.{Question}
 use Rattle.catalogue_core.specs.declared.command.Question.TheVariants as question
 use Rattle.catalogue_core.specs.declared.area.Area.{Area}
@@ -19,6 +19,7 @@ use Rattle.catalogue_core.specs.State.{State, area_of, table_of, HasStation, IsS
 use Rattle.catalogue_core.specs.Step.{Outcome, show_field, ask, reply, outcome, settled, step}
 use Rattle.table_core.specs.Laws.Outcomes.{of_found, of_passed}
 use Rattle.catalogue_core.proofs.NextLaws.{IsNext, NoRefusal, same_next, next_select, next_move, next_append, next_change, next_pack, next_unlock, next_unlock_all, next_lock_record, next_lock_records, next_lock_file}
+use Rattle.catalogue_core.proofs.IndexOnLaws.{next_index_on}
 use Rattle.catalogue_core.proofs.UseLaws.{next_close, next_use}
 
 -- ?
@@ -54,6 +55,7 @@ next_outcome s station (Memo field text) ok h = next_change s station (edit_of.M
 next_outcome s station Delete ok h = next_change s station edit_of.Delete ok h refl
 next_outcome s station Recall ok h = next_change s station edit_of.Recall ok h refl
 next_outcome s station Pack ok h = next_pack s station ok h
+next_outcome s station (IndexOn text name) ok h = next_index_on s station text name ok h
 next_outcome s station Unlock ok h = next_unlock s station ok
 next_outcome s station UnlockAll ok h = next_unlock_all s station ok
 next_outcome s station (Show field) ok h = next_show s station field ok

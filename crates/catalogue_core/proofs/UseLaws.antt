@@ -16,10 +16,11 @@ use Rattle.table_core.specs.Laws.Moves.{top_leads}
 use Rattle.catalogue_core.specs.declared.answer.Answer.TheVariants.{Done}
 use Rattle.catalogue_core.specs.declared.area.Area.{Area}
 use Rattle.catalogue_core.specs.declared.area.Station.{Station}
-use Rattle.catalogue_core.specs.State.{State, new_station, station_at, area_of, area_at, table_at, has_open, bars_use, is_open_beside, is_in_use, with_area, without_lock, closed, shapes_of, HasStation, IsArea, IsState}
+use Rattle.catalogue_core.specs.State.{State, new_station, station_at, area_of, area_at, table_at, has_open, bars_use, is_open_beside, is_in_use, with_area, without_lock, closed, schemas_of, HasStation, IsArea, IsState}
 use Rattle.catalogue_core.specs.Step.{numbered, table_named, new_cursor, opened, use_table}
 use Rattle.table_core.specs.Laws.Outcomes.{of_found, of_granted, of_passed}
 use Rattle.catalogue_core.proofs.Cases.{when_ok}
+use Rattle.catalogue_core.proofs.AddedLaws.{keep_same}
 use Rattle.catalogue_core.proofs.AreaLaws.{current_index, put, station_put, has_still, area_put, open_cases, still_open, none_at, none_beside}
 use Rattle.catalogue_core.proofs.KeptLaws.{Fits, keep_all, keep_empty, none_some, some_is, true_false}
 use Rattle.catalogue_core.proofs.NextLaws.{IsNext, keep_without}
@@ -47,7 +48,8 @@ emptied s u station stations tables names ok h none =
         state = kept;
         stations = length-set u.stations (station - 1) (put u station None) ∙ ap (λ (l : List Station). length l) stations;
         names = names;
-        shapes = ap shapes_of tables;
+        fields = ap schemas_of tables;
+        indexes = keep_same s.tables u.tables tables;
         others = λ b n. get_or-set_other u.stations (station - 1) b (put u station None) new_station n ∙ ap (λ (l : List Station). slice_index_or l b new_station) stations;
         answer = tt;
       };
@@ -133,7 +135,8 @@ opened_next s c station y closed_is ok = record {
   state = ok;
   stations = length-set c.stations (station - 1) (put c station (Some y)) ∙ closed_is.next.stations;
   names = closed_is.next.names;
-  shapes = closed_is.next.shapes;
+  fields = closed_is.next.fields;
+  indexes = closed_is.next.indexes;
   others = λ b n. get_or-set_other c.stations (station - 1) b (put c station (Some y)) new_station n ∙ closed_is.next.others b n;
   answer = tt;
 }

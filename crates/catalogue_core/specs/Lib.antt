@@ -1,5 +1,6 @@
 pub mod Names
 pub mod State
+pub mod IndexOn
 pub mod Step
 pub mod Tables
 pub mod Opening

@@ -1,11 +1,13 @@
 -- What a plan makes of a state, and when it can be carried out.
-use Rattle.std.specs.Prelude.{◌≡◌, ℕ, ◌≤◌, true, List, length, Some, Result, Ok, Err}
+use Rattle.std.specs.Prelude.{◌≡◌, ℕ, ◌≤◌, true, List, length, Some, Result, Ok, Err, IsOk}
 use Rattle.lock_table.specs.declared.TheConstants.{MAX_RECORD_LOCKS}
 use Rattle.lock_table.specs.Numbers.{AreRecordNumbers}
 use Rattle.lock_table.specs.Locks.{free_record, free_records, free_whole, with_lock, with_records, without_all}
 use Rattle.table_core.specs.declared.cursor.Cursor.{Cursor}
 use Rattle.table_core.specs.declared.refusal.Refusal.{Refusal}
 use Rattle.table_core.specs.declared.edits.planned.Planned.{Planned}
+use Rattle.table_core.specs.declared.fault.TableFault.{TableFault}
+use Rattle.table_core.specs.declared.fault.TableFault.TheVariants.{Refused, NoMemory}
 use Rattle.table_core.specs.Content.{Content}
 use Rattle.table_core.specs.EditValue.{EditValue}
 use Rattle.table_core.specs.Moves.{top, bottom, go, skip, seek, set_order}
@@ -65,6 +67,11 @@ planned s station plan = (state_after s station plan.change, plan.answer)
 abbrev pub outcome_of : State → ℕ → Result Plan Refusal → Outcome
 outcome_of s station (Ok plan) = Ok (planned s station plan)
 outcome_of s station (Err refusal) = Err refusal
+
+-- a fault is the refusal of the outcome, and want of memory comes only where the first tests pass
+abbrev pub IsFaultAfter : {X Y : Type 0} → TableFault → Result X Refusal → Result Y Refusal → Type 0
+IsFaultAfter (Refused refusal) first outcome = outcome ≡ Err refusal
+IsFaultAfter NoMemory first outcome = IsOk first
 
 -- the area's table has the room that the edit is planned for
 abbrev pub CanEdit : WithRoom → Area → Planned → Type 0

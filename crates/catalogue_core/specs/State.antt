@@ -170,9 +170,14 @@ pub record HasStationIn (stations : List Station) (station : ℕ) : Type 0 where
 abbrev pub HasStation : State → ℕ → Type 0
 HasStation s station = HasStationIn s.stations station
 
--- a table's fields and indexes, which no command changes
-abbrev pub shape_of : Content → List Field × List Indexed
-shape_of content = (content.table.schema, content.indexes)
+-- the tables' fields, which no command changes
+abbrev pub schemas_of : List Content → List (List Field)
+schemas_of tables = map (λ content. content.table.schema) tables
 
-abbrev pub shapes_of : List Content → List (List Field × List Indexed)
-shapes_of tables = map shape_of tables
+-- the indexes that were there are the first ones
+abbrev pub AreFirst : List Indexed → List Indexed → Type 0
+AreFirst was now = (added : List Indexed) × (now ≡ was ++ added)
+
+-- each table has the indexes that it had, and after them maybe others
+abbrev pub KeepIndexes : List Content → List Content → Type 0
+KeepIndexes was now = (number : ℕ) → AreFirst (table_at was number).indexes (table_at now number).indexes

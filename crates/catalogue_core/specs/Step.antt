@@ -5,13 +5,14 @@ use Rattle.std.specs.Int.{is_in_range}
 use Rattle.std.specs.List.{list_all}
 use Rattle.lock_table.specs.declared.TheConstants.{MAX_RECORD_LOCKS}
 use Rattle.lock_table.specs.Locks.{Lock, free_record, free_records, free_whole, may_write, holder, with_lock, with_records, without_all}
+use Rattle.key_expr.specs.Expression.{expression_in}
 use Rattle.table_core.specs.declared.cursor.Cursor.{Cursor}
 use Rattle.table_core.specs.EditValue.{EditValue}
 use Rattle.table_core.specs.EditValue as edit_of
 use Rattle.table_core.specs.declared.refusal.Refusal.{Refusal}
-use Rattle.table_core.specs.declared.refusal.Refusal.TheVariants.{NoTable, NoTableInUse, TableInUse, NeedsExclusive, NotLocked, OutOfRange, EndOfFile, BadArea, AlreadyOpen, BadCommand, TooManyLocks}
+use Rattle.table_core.specs.declared.refusal.Refusal.TheVariants.{NoTable, NoTableInUse, TableInUse, NeedsExclusive, NotLocked, OutOfRange, EndOfFile, BadArea, AlreadyOpen, BadCommand, TooManyLocks, BadExpression}
 use Rattle.table_core.specs.Content.{Content, record_count}
-use Rattle.table_core.specs.Edits.{edited}
+use Rattle.table_core.specs.Edits.{edited, with_made_index}
 use Rattle.table_core.specs.Moves.{top, bottom, go, skip, seek, set_order}
 use Rattle.table_core.specs.Outcomes.{found, granted, passed}
 use Rattle.table_core.specs.Shown.{show as shown, is_deleted}
@@ -20,9 +21,10 @@ use Rattle.catalogue_core.specs.declared.answer.Answer.TheVariants.{Done, Number
 use Rattle.catalogue_core.specs.declared.area.Area.{Area}
 use Rattle.catalogue_core.specs.declared.area.TheConstants.{MAX_AREAS}
 use Rattle.catalogue_core.specs.declared.command.Command.{Command}
-use Rattle.catalogue_core.specs.declared.command.Command.TheVariants.{Select, UseTable, CloseTable, Go, Top, Bottom, Skip, Seek, Order, AppendBlank, Replace, Memo, Delete, Recall, Pack, Unlock, UnlockAll, Show, RecordLock, RecordLocks, FileLock, Ask, Bad}
+use Rattle.catalogue_core.specs.declared.command.Command.TheVariants.{Select, UseTable, CloseTable, Go, Top, Bottom, Skip, Seek, Order, AppendBlank, Replace, Memo, Delete, Recall, Pack, IndexOn, Unlock, UnlockAll, Show, RecordLock, RecordLocks, FileLock, Ask, Bad}
 use Rattle.catalogue_core.specs.declared.command.Question.{Question}
 use Rattle.catalogue_core.specs.declared.command.Question.TheVariants.{Eof, Bof, Found, Deleted, Recno, Reccount}
+use Rattle.catalogue_core.specs.IndexOn.{index_early, index_target, new_index}
 use Rattle.catalogue_core.specs.Names.{index_named}
 use Rattle.catalogue_core.specs.State.{State, area_of, table_of, table_at, is_open_beside, is_in_use, with_table_at, with_held, with_area, with_current, with_cursor, without_lock, closed}
 
@@ -107,6 +109,14 @@ pack_table s station =
     passed (edited (table_of s area) area.cursor edit_of.Pack) (λ e.
     Ok (without_lock (with_edit s station area e) station (Some area), Done))))
 
+-- INDEX ON: the table has one more index, which is the order, and the cursor is at its top
+abbrev pub index_on : State → ℕ → List ℕ → List ℕ → Outcome
+index_on s station text name =
+    passed (index_target s station name) (λ area.
+    found (expression_in (table_of s area).table.schema text) BadExpression (λ e.
+    passed (new_index s area name e) (λ index.
+    Ok (with_edit s station area (with_made_index (table_of s area) area.cursor index), Done))))
+
 -- UNLOCK: the station's locks in the current area's table are released
 abbrev pub unlock : State → ℕ → Outcome
 unlock s station = found (area_of s station) NoTableInUse (λ area. Ok (without_lock s station (Some area), Done))
@@ -185,6 +195,7 @@ outcome s station (Memo field text) = change_record s station (edit_of.Memo fiel
 outcome s station Delete = change_record s station edit_of.Delete
 outcome s station Recall = change_record s station edit_of.Recall
 outcome s station Pack = pack_table s station
+outcome s station (IndexOn text name) = index_on s station text name
 outcome s station Unlock = unlock s station
 outcome s station UnlockAll = unlock_all s station
 outcome s station (Show field) = show_field s station field
@@ -193,6 +204,12 @@ outcome s station (RecordLocks numbers) = lock_records s station numbers
 outcome s station FileLock = lock_file s station
 outcome s station (Ask question) = ask s station question
 outcome s station Bad = Err BadCommand
+
+-- what is tested of a command before it asks for memory: all, but of INDEX ON no more than its name, its table, and how
+-- long its text is, since the expression is read in memory
+abbrev pub early_outcome : State → ℕ → Command → Outcome
+early_outcome s station (IndexOn text name) = passed (index_early s station text name) (λ _. Ok (s, Done))
+early_outcome s station command = outcome s station command
 
 -- an outcome as a step from a state: a refusal is the answer, and leaves the state
 abbrev pub settled : State → Outcome → State × Answer

@@ -83,7 +83,7 @@ impl Catalogue {
     ghost use Rattle.table_core.specs.declared.refusal.Refusal.{Refusal};
     ghost use Rattle.catalogue_core.specs.Opening.{Opening};
     ghost use Rattle.catalogue_core.specs.Replay.{state_of, answer_of, with_entry, opened_at, names_of, IsLegal, AreOfStations};
-    ghost use Rattle.catalogue_core.specs.State.{table_at as content_at, IsState, OtherStationsStay};
+    ghost use Rattle.catalogue_core.specs.State.{table_at as content_at, IsState, KeepIndexes, OtherStationsStay};
 
     /// Opens tables for stations: no table is open in any area, no lock is held, and the journal is empty.
     ///
@@ -126,9 +126,10 @@ impl Catalogue {
     /// stations.
     ///
     /// `JournalFull` is tested first, and comes exactly where the journal has 4,294,967,295 entries. Then the
-    /// command is planned, and all of its tests come before the plan takes memory. `NoMemory` comes from the
-    /// plan of a command that no test refuses, or from the journal's entry, which a refused command has too.
-    /// After `JournalFull` and `NoMemory` the catalogue is as it was.
+    /// command is planned, and all of its tests come before the plan takes memory, but for the last of INDEX ON, whose
+    /// expression is read in memory before `BadExpression`, `IndexNameUsed` and `TooManyIndexes` can be told. `NoMemory`
+    /// comes from the plan of a command that no test before it refuses, or from the journal's entry, which a refused
+    /// command has too. After `JournalFull` and `NoMemory` the catalogue is as it was.
     pub fn perform(
         &mut self,
         alloc: Global,
@@ -208,9 +209,11 @@ impl Catalogue {
         self.state.table(number)
     }
 
-    /// All tables with their indexes, as they stand now, in order. It takes no memory.
+    /// All tables with their indexes, as they stand now, in order. The indexes with which a table was opened are the first
+    /// of those that it has. It takes no memory.
     pub fn into_tables(self) -> Vec<Table>
         ensures value { map (λ t. t.content) result.items ≡ (state_of self).tables }
+        ensures indexes { KeepIndexes (map (λ t. t.content) self.opened.tables) (state_of self).tables }
     {
         self.state.into_tables()
     }

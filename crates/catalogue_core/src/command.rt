@@ -71,6 +71,13 @@ pub enum Command {
     Recall,
     /// PACK: the records that are marked as deleted go.
     Pack,
+    /// INDEX ON: the table has one more index, which is the order.
+    IndexOn {
+        /// The text of the key expression.
+        expr: Bytes,
+        /// The index's name.
+        name: Bytes,
+    },
     /// UNLOCK: the area's lock is released.
     Unlock,
     /// UNLOCK ALL: the locks of all areas are released.
@@ -119,6 +126,10 @@ impl Command {
             Command::Delete => Command::Delete,
             Command::Recall => Command::Recall,
             Command::Pack => Command::Pack,
+            Command::IndexOn { expr, name } => Command::IndexOn {
+                expr: expr.copy(alloc)?,
+                name: name.copy(alloc)?,
+            },
             Command::Unlock => Command::Unlock,
             Command::UnlockAll => Command::UnlockAll,
             Command::Show(field) => Command::Show(field.copy(alloc)?),

@@ -1,14 +1,14 @@
 //! What a command will change, and what it will be answered: the refusals of each command, in order.
 
 ghost use Rattle.std.specs.Prelude.{◌≡◌, Ok, IfOk, IfErr, IsOk, OnErr};
-ghost use Rattle.table_core.specs.Outcomes.{IsFaultOf};
-ghost use Rattle.catalogue_core.specs.Planned.{planned, CanChange};
+ghost use Rattle.catalogue_core.specs.Planned.{planned, CanChange, IsFaultAfter};
 ghost use Rattle.catalogue_core.specs.Rooms.{seen};
 ghost use Rattle.catalogue_core.specs.State.{IsState, HasStation};
-ghost use Rattle.catalogue_core.specs.Step.{outcome, step};
+ghost use Rattle.catalogue_core.specs.Step.{early_outcome, outcome, step};
 
 mod areas;
 mod edits;
+mod index_on;
 mod moves;
 
 use crate::answer::Answer;
@@ -20,13 +20,15 @@ use areas::{
     plan_unlock, plan_use_table,
 };
 use edits::{plan_append_blank, plan_change, plan_pack};
+use index_on::plan_index_on;
 use moves::{Move, plan_move};
 use std::alloc::{AllocError, Global};
 use table_core::{Edit, Refusal, TableFault};
 
 /// The plan of a station's command, with all memory that it needs; a refused command has the plan to answer its
 /// refusal. Nothing changes yet, but for room that is made. An error where memory is refused, and only after all
-/// tests: a refused command always has a plan.
+/// tests: a refused command always has a plan, but for an INDEX ON whose name, table and length of text are good, since
+/// its expression is read in memory before the refusals that come after these are told.
 pub(crate) fn plan(
     alloc: Global,
     state: &mut State,
@@ -37,7 +39,7 @@ pub(crate) fn plan(
     requires station { HasStation (seen state.old) station }
     ensures stepped { IfOk result (λ plan. planned (seen state.old) station plan ≡ step (seen state.old) station command.now) }
     ensures can { IfOk result (λ plan. CanChange state.new station plan.change) }
-    ensures early { OnErr result (IsOk (outcome (seen state.old) station command.now)) }
+    ensures early { OnErr result (IsOk (early_outcome (seen state.old) station command.now)) }
     ensures same { seen state.new ≡ seen state.old }
 {
     match plan_command(alloc, state, station, command) {
@@ -58,7 +60,7 @@ fn plan_command(
     requires station { HasStation (seen state.old) station }
     ensures planned { IfOk result (λ plan. outcome (seen state.old) station command.now ≡ Ok (planned (seen state.old) station plan)) }
     ensures can { IfOk result (λ plan. CanChange state.new station plan.change) }
-    ensures refused { IfErr result (λ fault. IsFaultOf fault (outcome (seen state.old) station command.now)) }
+    ensures refused { IfErr result (λ fault. IsFaultAfter fault (early_outcome (seen state.old) station command.now) (outcome (seen state.old) station command.now)) }
     ensures same { seen state.new ≡ seen state.old }
 {
     match command {
@@ -83,6 +85,7 @@ fn plan_command(
         Command::Delete => plan_change(alloc, state, station, Edit::Delete),
         Command::Recall => plan_change(alloc, state, station, Edit::Recall),
         Command::Pack => plan_pack(alloc, state, station),
+        Command::IndexOn { expr, name } => plan_index_on(alloc, state, station, expr, name),
         Command::Unlock => Ok(plan_unlock(state, station)?),
         Command::UnlockAll => Ok(Plan::done(Change::UnlockAll)),
         Command::Show(field) => plan_show(alloc, state, station, field),

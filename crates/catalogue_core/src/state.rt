@@ -1,7 +1,10 @@
 //! The tables, the locks and the areas of all stations, which commands read and change.
 
 ghost use Rattle.std.specs.Prelude.{◌≡◌, ◌≤◌, length, map, IfSome};
+ghost use Rattle.std.specs.List.{list_any};
 ghost use Rattle.lock_table.specs.Locks.{free_record, free_records, free_whole};
+ghost use Rattle.table_core.specs.Content.{has_index};
+ghost use Rattle.catalogue_core.specs.IndexOn.{is_any_index};
 ghost use Rattle.catalogue_core.specs.Rooms.{seen, held_at};
 ghost use Rattle.catalogue_core.specs.State.{table_at as content_at, area_of, is_open_beside, is_in_use, IsArea, IsState, HasStation};
 ghost use Rattle.catalogue_core.specs.Step.{table_named, can_write, can_append};
@@ -80,6 +83,13 @@ impl State {
         }
     }
 
+    /// Whether an index of one of the tables has the name.
+    pub(crate) fn is_any_index(&self, name: &Bytes) -> bool
+        ensures value { result ≡ is_any_index (seen self.now).tables name.now }
+    {
+        any_has_index(&self.tables, name)
+    }
+
     /// Whether the station has the table open in another area than the current one.
     pub(crate) fn is_open_beside(&self, station: u32, table: u32) -> bool
         requires station { HasStation (seen self.now) station }
@@ -144,4 +154,10 @@ impl State {
     {
         self.locks.is_free_whole(station, area.table)
     }
+}
+
+fn any_has_index(tables: &[Table], name: &Bytes) -> bool
+    ensures value { result ≡ list_any (λ t. has_index t.content name.now) tables.now }
+{
+    tables.iter().any(|table| table.has_index(name))
 }
