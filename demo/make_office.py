@@ -1,5 +1,5 @@
 #!/usr/bin/env python3
-"""Makes the demo office's files: three DBF tables, one of them with memos, and five NDX indexes.
+"""Makes the demo office's files: four DBF tables, one of them with memos, and five NDX indexes.
 
 Written from the published layouts of dBASE III PLUS alone. Nothing of the server is used, so that the
 server meets the files of another maker. Every run makes the same files.
@@ -176,9 +176,21 @@ def stock():
     return table, [("BYCODE", "CODE", codes)]
 
 
+def staff():
+    """The staff list has no index: a station makes one."""
+    fields = [("NAME", "C", 20, 0), ("BORN", "D", 8, 0), ("ROOM", "N", 3, 0)]
+    table = Table("STAFF", fields)
+    some = Numbers(4)
+    for i in range(24):
+        name = f"{LAST[i % len(LAST)]}, {FIRST[some.below(len(FIRST))]}"
+        born = date(1925, 1, 1) + timedelta(days=some.below(14000))
+        table.add(name, born, 101 + i // 2, deleted=i == 11)
+    return table, []
+
+
 def main():
     folder = Path(sys.argv[1]) if len(sys.argv) > 1 else Path(__file__).parent
-    for table, indexes in (ledger(), members(), stock()):
+    for table, indexes in (ledger(), members(), stock(), staff()):
         dbf, dbt = table.images()
         (folder / f"{table.name}.DBF").write_bytes(dbf)
         if dbt is not None:

@@ -54,8 +54,9 @@ fn up_to(bytes: Vec<u8>, limit: usize) -> Result<Vec<u8>, LoadFault>
 
 /// The bytes that a reader has left, whole. Room is taken at once for as many as are expected.
 ///
-/// `CannotRead` says that the reader failed, or that the bytes are more than the limit: where that many are
-/// expected, no room is asked for. `NoMemory` says that room was refused.
+/// `CannotRead` says that the reader failed, that there are fewer bytes than expected (a file that was cut since its
+/// length was asked for), or that they are more than the limit: where that many are expected, no room is asked for.
+/// `NoMemory` says that room was refused.
 pub fn read_whole<R: Read + Drop>(
     alloc: Global,
     reader: R,
@@ -65,9 +66,13 @@ pub fn read_whole<R: Read + Drop>(
     requires within { limit ≤ MAX_FILE_BYTES }
     ensures whole { IfOk result (λ bytes. IfSome (R.remaining reader) (λ all. bytes.items ≡ all)) }
     ensures short { IfOk result (λ bytes. vec_len bytes ≤ limit) }
+    ensures expected { IfOk result (λ bytes. expected ≤ vec_len bytes) }
     ensures early { limit < expected → result ≡ Err LoadFault.CannotRead }
 {
     let mut bytes = room_for(alloc, expected, limit)?;
     reader.take(limit as u64 + 1).read_to_end(&mut bytes)?;
+    if (bytes.len() as u64) < expected {
+        return Err(LoadFault::CannotRead);
+    }
     up_to(bytes, limit)
 }

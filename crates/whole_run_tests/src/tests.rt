@@ -3,6 +3,7 @@
 mod again;
 mod dates;
 mod day;
+mod made;
 mod setups;
 mod stale;
 

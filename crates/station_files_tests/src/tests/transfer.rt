@@ -73,10 +73,11 @@ fn reading_is_whole_or_refused(rt: HostRuntime) -> Result<(), Fail> {
     let alloc = rt.alloc();
     let over = Err(LoadFault::CannotRead);
     // The bytes, how many are expected, the limit, and how many are read.
-    let cases: [(&[u8], u64, usize, Result<Option<usize>, LoadFault>); 9] = [
+    let cases: [(&[u8], u64, usize, Result<Option<usize>, LoadFault>); 10] = [
         (b"0123456789", 10, 10, Ok(Some(10))),
         (b"0123456789", 0, 10, Ok(Some(10))),
         (b"0123456789", 3, 1000, Ok(Some(10))),
+        (b"0123456789", 11, 1000, over),
         (b"0123456789", 10, 9, over),
         (b"0123456789", 0, 9, over),
         (b"0123456789", 11, 10, over),

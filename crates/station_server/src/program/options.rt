@@ -7,6 +7,7 @@ ghost use Rattle.dbf_image.specs.Image.{IsOutside};
 ghost use Rattle.station_server.specs.Endings.{clap_status};
 ghost use Rattle.station_server.specs.Program.{HasBadDate, HasFlag, HasPaths, IsRunDate, LacksFlag, value_of};
 
+use clap::builder::ValueParser;
 use clap::error::ErrorKind;
 use clap::{Arg, ArgAction, ArgMatches, Command};
 use dbf_fields::{DateCell, Day, read_date};
@@ -64,7 +65,7 @@ pub(crate) fn command<'a>(alloc: Global) -> Result<Command<'a>, AllocError> {
         )
 }
 
-// An option that has to be given once, with a value.
+// An option that has to be given once, with a value that is not empty: an empty folder's name would mean the root.
 fn required_option<'a>(
     alloc: Global,
     name: &'a str,
@@ -77,6 +78,7 @@ fn required_option<'a>(
         .help(help)
         .required(true)
         .action(ArgAction::Set)
+        .value_parser(ValueParser::NonEmptyString)
 }
 
 /// The exit status after a command line of which `clap` gave no options: 0 where it asks for the help, 3 where

@@ -121,7 +121,29 @@ fn first_other(alloc: Global, cases: &[(&[&str], &str)]) -> Result<Option<usize>
 
 #[test]
 fn command_line_faults(rt: HostRuntime) -> Result<(), Fail> {
-    let cases: [(&[&str], &str); 6] = [
+    let cases: [(&[&str], &str); 8] = [
+        (
+            &[
+                "station_server",
+                "--setup",
+                "A",
+                "--out",
+                "",
+                "--today",
+                "19870315",
+            ],
+            "error: a value is required for '--out <DIR>' but none was supplied
+
+For more information, try '--help'.
+",
+        ),
+        (
+            &["station_server", "--setup="],
+            "error: a value is required for '--setup <FILE>' but none was supplied
+
+For more information, try '--help'.
+",
+        ),
         (
             &["station_server", "--setup", "A.SET"],
             "error: the following required arguments were not provided:
