@@ -102,11 +102,14 @@ fn keep_index(
     ensures refused { IfErr result (λ fault. KeepingSource reindex table.old.content source expr (IndexStale at.table at.index) (Err fault)) }
     ensures added { OnOk result (table.new.content ≡ with_index table.old.content (named_index source.name expr)) }
 {
+    let IndexSource { name, file } = source;
     if reindex {
-        table.add_index(alloc, source.name, expr)?;
+        // The file's pairs are let go before those of the records are made.
+        drop(file);
+        table.add_index(alloc, name, expr)?;
         return Ok(());
     }
-    keep_file(alloc, table, source.name, expr, source.file, at)
+    keep_file(alloc, table, name, expr, file, at)
 }
 
 // Adds the index by its file's pairs, where the file is of the table as it is.

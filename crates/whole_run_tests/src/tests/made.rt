@@ -147,7 +147,8 @@ fn made_indexes_are_opened_again(rt: HostRuntime) -> Result<(), Fail> {
     let alloc = rt.alloc();
     let written = folder_of_made(&rt, alloc)?;
     let mut source = office(alloc, SETUP_AGAIN, b"USE T\nSET ORDER TO 7\nGO TOP\n? RECNO()\n")?;
-    for file in written.files {
+    for file in &written.files {
+        let file = named(alloc, file.name.as_slice(), file.bytes.as_slice())?;
         source.files.push(file)?;
     }
     let mut folder = MemoryFolder::new(alloc);
