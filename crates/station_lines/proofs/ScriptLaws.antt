@@ -6,8 +6,11 @@ pub mod PartLaws
 pub mod TextLaws
 pub mod LiteralLaws
 pub mod ListLaws
+pub mod EndLaws
 pub mod VerbLaws
 pub mod SoundLaws
 pub mod FoundLaws
+pub mod IndexLaws
+pub mod ReadLaws
 pub mod MeaningLaws
 pub mod KeepingLaws

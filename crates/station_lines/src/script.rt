@@ -4,7 +4,9 @@
 //! `specs/Script/Meaning.antt`. Start reading there, then at `script/line.rt`.
 
 mod command;
+mod end;
 pub(crate) mod format;
+mod index;
 mod keyword;
 mod line;
 mod list;

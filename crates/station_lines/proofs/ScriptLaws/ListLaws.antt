@@ -1,5 +1,5 @@
 -- The numbers of a list in the parentheses of a call are found, and what is found are its numbers.
-use Rattle.std.proofs.Common.{◌≡◌, ℕ, List, [], ◌∷◌, ◌++◌, Bool, true, false, cond, ◌==◌, ◌&&◌, ◌||◌, ◌≤◌, length, take, drop, Option, Some, None, refl, ap, ◌∙◌, sym, arith}
+use Rattle.std.proofs.Common.{◌≡◌, ℕ, List, [], ◌∷◌, ◌++◌, Bool, true, false, cond, ◌==◌, ◌&&◌, ◌≤◌, length, take, drop, Option, Some, None, refl, ap, ◌∙◌, sym, arith}
 use Rattle.std.specs.Prelude.{codes, map, is_some, IsSome}
 use Rattle.std.specs.List.{list_all, slice_split, onto_first}
 use Rattle.std.specs.Char.{is_ascii_digit}
@@ -13,7 +13,7 @@ use Rattle.station_lines.specs.Script.Reading.{before_close, with_count, counts_
 use Rattle.station_lines.proofs.ScriptLaws.TextLaws.{chosen, guarded}
 use Rattle.station_lines.proofs.ScriptLaws.LiteralLaws.{close_found, close_is}
 use Rattle.station_lines.proofs.ScriptLaws.WordLaws.{is_solid, IsCutWord, take_front, drop_front, solid_word}
-use Rattle.station_lines.proofs.ScriptLaws.PartLaws.{like, same_length, all_both, weaker, solid_lower, digits_of, solid_digit}
+use Rattle.station_lines.proofs.ScriptLaws.PartLaws.{like, same_length, all_both, solid_lower, digits_of, solid_digit}
 
 pub counts_found : (parts : List (List ℕ)) (ns : List ℕ) → AreCounts parts ns → counts_in parts ≡ Some ns
 counts_found [] [] h = refl

@@ -13,13 +13,14 @@ use Rattle.dbf_fields.specs.Number.{whole_part, fraction_part}
 use Rattle.dbf_fields.specs.Date.{is_date}
 use Rattle.dbf_fields.specs.declared.literal.Literal.{Literal}
 use Rattle.dbf_fields.specs.declared.literal.Literal.TheVariants.{Text, Number, Truth, Date, BlankDate, BadDate}
+use Rattle.station_lines.specs.Script.Words.{begins_word}
 use Rattle.station_lines.specs.Script.Parts.{is_quote, IsText, count_in, distance_in}
 use Rattle.station_lines.specs.Script.Literals.{is_number_word, decimal_in, number_in, truth_in, without_sign, IsDateCall, IsDateValue, cell_of_shown, IsLiteral}
 use Rattle.station_lines.specs.Script.Reading.{text_in, before_close, text_in_part, date_text_in, day_when, date_literal, date_in, truth_or_date_in, number_or_other_in, text_or_other_in, literal_in}
 use Rattle.station_lines.proofs.ScriptLaws.TextLaws.{chosen, passed, guarded, text_found, text_is}
 use Rattle.station_lines.proofs.ScriptLaws.Dates.{date_said, bad_date}
 use Rattle.station_lines.proofs.ScriptLaws.LineLaws.{last_at}
-use Rattle.station_lines.proofs.ScriptLaws.WordLaws.{is_solid, Whole, IsCutWord, starts, take_front, drop_front, not_true, solid_word, solid_whole, solid_starts, whole_append, text_whole}
+use Rattle.station_lines.proofs.ScriptLaws.WordLaws.{is_solid, Whole, IsCutWord, take_front, drop_front, not_true, solid_word, solid_whole, solid_starts, whole_append, text_whole}
 use Rattle.station_lines.proofs.ScriptLaws.PartLaws.{lower, same_text, all_lower, all_front, like, same_length, weaker, tested, solid_lower, call_word, digits_of, solid_digit}
 
 -- ---- numbers
@@ -301,7 +302,7 @@ literal_found word (Date day) h = date_complete word h.0 (Date day) h.1 h.2
 literal_found word BlankDate h = date_complete word h.0 BlankDate h.1 h.2
 literal_found word BadDate h = date_complete word h.0 BadDate h.1 h.2
 
-name_starts : (name rest : List ℕ) → list_all is_solid name ≡ true → length name ≡ 5 → starts (name ++ rest) ≡ true
+name_starts : (name rest : List ℕ) → list_all is_solid name ≡ true → length name ≡ 5 → begins_word (name ++ rest) ≡ true
 name_starts [] rest h five = absurd (omega (arith, five))
 name_starts (b ∷ bs) rest h five = solid_starts b bs h
 

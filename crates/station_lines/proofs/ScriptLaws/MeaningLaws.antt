@@ -7,7 +7,7 @@ use Rattle.std.proofs.lemmas.List.{append-nil, length-append}
 use Rattle.std.proofs.lemmas.Slice.Eq.{bytes_eq-Decides}
 use Rattle.std.specs.Char.{to_ascii_lowercase, is_ascii_digit, is_ascii_alphabetic}
 use Rattle.std.specs.Str.{str_eq_ignore_ascii_case}
-use Rattle.std.proofs.lemmas.Bool.{false≢true, and_parts, and_from, and_left, and_right}
+use Rattle.std.proofs.lemmas.Bool.{false≢true, and_parts, and_from, and_right}
 use Rattle.std.proofs.lemmas.Bool.Decides.{nat_tests}
 use Rattle.dbf_fields.specs.Name.{is_name_char}
 use Rattle.dbf_fields.specs.declared.literal.Literal.{Literal}
@@ -17,94 +17,22 @@ use Rattle.catalogue_core.specs.declared.command.Question.TheVariants as questio
 use Rattle.station_lines.specs.declared.script.format.TheConstants.{KEYWORD_LETTERS}
 use Rattle.station_lines.specs.declared.script.line.Line.{Line}
 use Rattle.station_lines.specs.declared.script.line.Line.TheVariants.{Run, Status, Blank}
-use Rattle.station_lines.specs.declared.script.verb.Verb.{Verb}
 use Rattle.station_lines.specs.declared.script.verb.Verb.TheVariants as verb
 use Rattle.station_lines.specs.Script.Words.{is_gap, are_gaps, HasWords, begins_with_asterisk, IsBlankLine}
 use Rattle.station_lines.specs.Script.Parts.{is_keyword, is_call, is_name_word, name_in, is_count, count_in, between_commas, AreCounts, IsListCall}
 use Rattle.station_lines.specs.Script.Meaning.{keyword, call, name, count, distance, list_call, text, literal, or_, IsPart, Are, Says, IsReadable, Means}
-use Rattle.station_lines.specs.Script.Reading.{without_gaps, first_word, after_word, text_in, literal_in, bad, counts_in, arguments_in, first_some, list_line, verb_in, with_, one, go_line, locks_line, call_line, ask_of, ask_line, two, three, four, is_empty, after_verb, after_one, after_two, read}
-use Rattle.station_lines.proofs.ScriptLaws.WordLaws.{is_solid, IsCutWord, is_cut, no_words, no_first, past_gaps, take_front}
-use Rattle.station_lines.proofs.ScriptLaws.PartLaws.{lower, same_text, same_length, tested, all_lower, all_front, digits_of, keyword_word, call_word, name_word, count_word}
+use Rattle.station_lines.specs.Script.Reading.{without_gaps, first_word, text_in, literal_in, bad, arguments_in, first_some, list_line, with_, go_line, locks_line, ask_of, ask_line, is_empty, read}
+use Rattle.station_lines.proofs.ScriptLaws.WordLaws.{is_solid, IsCutWord, no_first, past_gaps, take_front}
+use Rattle.station_lines.proofs.ScriptLaws.PartLaws.{lower, same_text, same_length, other_keyword, tested, all_lower, all_front, digits_of, keyword_word, call_word, name_word, count_word}
 use Rattle.station_lines.proofs.ScriptLaws.TextLaws.{text_found, chosen, passed}
 use Rattle.station_lines.proofs.ScriptLaws.LiteralLaws.{literal_found, literal_word, distance_word}
 use Rattle.station_lines.proofs.ScriptLaws.WordLaws.{text_whole}
 use Rattle.station_lines.proofs.ScriptLaws.ListLaws.{counts_found, arguments_found, list_word}
-use Rattle.station_lines.proofs.ScriptLaws.VerbLaws.{spelling, verb_is}
-use Rattle.station_lines.proofs.ScriptLaws.SoundLaws.{IsSaid, one_said, two_said, three_said, four_said}
 use Rattle.station_lines.proofs.ScriptLaws.FoundLaws.{line_one, line_two, line_three, line_four}
-
--- ---- what is made of a line is readable, or Bad
-
-abbrev IsRead : List ℕ → Line → Type 0
-IsRead line l = (l ≡ bad) ⊎ IsReadable line l
-
--- what the words of a line say
-said : (line : List ℕ) (words : List (List ℕ)) (l : Line) → HasWords words line → Says words l → IsReadable line l
-said line words (Run c) w h = (words, w, h)
-said line words Status w h = (words, w, h)
-said line words Blank w h = absurd h
-
-read_said : (line : List ℕ) (words : List (List ℕ)) (l : Line) → HasWords words line → IsSaid words l → IsRead line l
-read_said line words l w (inl e) = inl e
-read_said line words l w (inr h) = inr (said line words l w h)
-
--- the first word before other words
-front_word : (line : List ℕ) (words : List (List ℕ)) → HasWords words (after_word line) → HasWords (first_word line ∷ words) line
-front_word line words w = let c = is_cut line in (c.gap, after_word line, c.whole, c.gaps, c.ends, w)
-
-by_empty : (line : List ℕ) (q : Bool) (x y : Line) → (q ≡ true → IsRead line x) → (q ≡ false → IsRead line y) → IsRead line (cond q x y)
-by_empty line true x y f g = f refl
-by_empty line false x y f g = g refl
-
-read_three : (line : List ℕ) (v : Verb) (a b c rest : List ℕ) → IsPart (spelling v) a
-    → ((words : List (List ℕ)) → HasWords words rest → HasWords (a ∷ b ∷ c ∷ words) line) → IsRead line (after_two v b c rest)
-read_three line v a b c rest h front =
-    by_empty line (is_empty (first_word rest)) (three v b c) _
-    (λ e. read_said line (a ∷ b ∷ c ∷ []) (three v b c) (front [] (no_words rest e)) (three_said v a b c h))
-    (λ e. by_empty line (is_empty (first_word (after_word rest))) (four v b c (first_word rest)) bad
-    (λ f. read_said line (a ∷ b ∷ c ∷ first_word rest ∷ []) (four v b c (first_word rest)) (front (first_word rest ∷ []) (front_word rest [] (no_words (after_word rest) f))) (four_said v a b c (first_word rest) h))
-    (λ f. inl refl))
-
-read_two : (line : List ℕ) (v : Verb) (a b rest : List ℕ) → IsPart (spelling v) a
-    → ((words : List (List ℕ)) → HasWords words rest → HasWords (a ∷ b ∷ words) line) → IsRead line (after_one v b rest)
-read_two line v a b rest h front =
-    by_empty line (is_empty (first_word rest)) (two v b) _
-    (λ e. read_said line (a ∷ b ∷ []) (two v b) (front [] (no_words rest e)) (two_said v a b h))
-    (λ e. read_three line v a b (first_word rest) (after_word rest) h (λ words w. front (first_word rest ∷ words) (front_word rest words w)))
-
-read_one : (line : List ℕ) (v : Verb) (a rest : List ℕ) → IsPart (spelling v) a
-    → ((words : List (List ℕ)) → HasWords words rest → HasWords (a ∷ words) line) → IsRead line (after_verb v rest)
-read_one line v a rest h front =
-    by_empty line (is_empty (first_word rest)) (one v) _
-    (λ e. read_said line (a ∷ []) (one v) (front [] (no_words rest e)) (one_said v a h))
-    (λ e. read_two line v a (first_word rest) (after_word rest) h (λ words w. front (first_word rest ∷ words) (front_word rest words w)))
-
-by_verb : (line : List ℕ) (o : Option Verb) → verb_in (first_word line) ≡ o → IsRead line (with_ o (λ v. after_verb v (after_word line)))
-by_verb line None e = inl refl
-by_verb line (Some v) e = read_one line v (first_word line) (after_word line) (verb_is (first_word line) v e) (λ words w. front_word line words w)
-
-star_front : (word rest : List ℕ) → begins_with_asterisk word ≡ true → begins_with_asterisk (word ++ rest) ≡ true
-star_front [] rest h = absurd (false≢true h)
-star_front (b ∷ bs) rest h = h
-
-remark : (line : List ℕ) (p q : Bool) → is_empty (first_word line) ≡ p → begins_with_asterisk (first_word line) ≡ q → (p || q) ≡ true → IsBlankLine line
-remark line true q e f h = (line, [], sym (append-nil line), no_words line e, inl refl)
-remark line false true e f h = let c = is_cut line in (c.gap, first_word line ++ after_word line, c.whole, c.gaps, inr (star_front (first_word line) (after_word line) f))
-remark line false false e f h = absurd (false≢true h)
-
-pub is_read : (line : List ℕ) → IsRead line (read line)
-is_read line =
-    by_empty line (is_empty (first_word line) || begins_with_asterisk (first_word line)) Blank _
-    (λ e. inr (remark line (is_empty (first_word line)) (begins_with_asterisk (first_word line)) refl refl e))
-    (λ e. by_verb line (verb_in (first_word line)) refl)
+use Rattle.station_lines.proofs.ScriptLaws.IndexLaws.{line_index}
+use Rattle.station_lines.proofs.ScriptLaws.ReadLaws.{IsRead, is_read}
 
 -- ---- what is readable is what is made of the line
-
-other_keyword : (k j word : List ℕ) → bytes_eq (lower (take KEYWORD_LETTERS k)) (lower (take KEYWORD_LETTERS j)) ≡ false → is_keyword k word ≡ true → is_keyword j word ≡ false
-other_keyword k j word differ e =
-    let p = and_parts (str_eq_ignore_ascii_case (take KEYWORD_LETTERS word) (take KEYWORD_LETTERS k)) _ e in
-    let head : lower (take KEYWORD_LETTERS word) ≡ lower (take KEYWORD_LETTERS k) = same_text _ _ p.0 in
-    and_left (str_eq_ignore_ascii_case (take KEYWORD_LETTERS word) (take KEYWORD_LETTERS j)) _ (ap (λ (xs : List ℕ). bytes_eq xs (lower (take KEYWORD_LETTERS j))) head ∙ differ)
 
 digit_lower : (c : ℕ) → is_ascii_digit (to_ascii_lowercase c) ≡ is_ascii_digit c
 digit_lower c = grind (arith, nat_tests)
@@ -349,6 +277,7 @@ run_read line words (command.Memo f t) w h =
 run_read line words command.Delete w h = line_one line words verb.Delete w h
 run_read line words command.Recall w h = line_one line words verb.Recall w h
 run_read line words command.Pack w h = line_one line words verb.Pack w h
+run_read line words (command.IndexOn e n) w h = line_index line words e n w h
 run_read line words command.Unlock w h = line_one line words verb.Unlock w h
 run_read line words command.UnlockAll w h =
     let r = line_two line words verb.Unlock (keyword (codes "ALL")) (keyword_cut (codes "ALL") (omega arith) refl refl) w h in

@@ -1,10 +1,10 @@
 -- Each part of a command is cut off whole.
 use Rattle.std.proofs.Common.{◌≡◌, ℕ, suc, zero, List, [], ◌∷◌, ◌++◌, Bool, true, false, cond, ◌-◌, ◌≤◌, length, map, take, drop, Some, None, refl, ap, ◌∙◌, sym, arith}
-use Rattle.std.specs.Prelude.{bytes_eq}
+use Rattle.std.specs.Prelude.{bytes_eq, slice_index}
 use Rattle.std.specs.List.{list_all}
 use Rattle.std.specs.Char.{is_ascii_digit, is_ascii_alphabetic, to_ascii_lowercase}
 use Rattle.std.specs.Str.{str_eq_ignore_ascii_case}
-use Rattle.std.proofs.lemmas.Bool.{false≢true, and_parts, and_from}
+use Rattle.std.proofs.lemmas.Bool.{false≢true, and_parts, and_from, and_left}
 use Rattle.std.proofs.lemmas.Bool.Decides.{nat_tests}
 use Rattle.std.proofs.lemmas.List.{take-append-drop, length-map}
 use Rattle.std.proofs.lemmas.Slice.Eq.{bytes_eq-Decides}
@@ -64,15 +64,22 @@ front_some zero (x ∷ xs) h = omega arith
 front_some (suc n) [] h = h
 front_some (suc n) (x ∷ xs) h = omega arith
 
+-- a keyword in any case is solid
+pub keyword_solid : (k word : List ℕ) → list_all is_solid (take KEYWORD_LETTERS k) ≡ true → list_all is_solid (drop KEYWORD_LETTERS k) ≡ true
+    → is_keyword k word ≡ true → list_all is_solid word ≡ true
+keyword_solid k word first others e =
+    let p = and_parts (str_eq_ignore_ascii_case (take KEYWORD_LETTERS word) (take KEYWORD_LETTERS k)) _ e in
+    let front = like is_solid solid_lower (take KEYWORD_LETTERS word) (take KEYWORD_LETTERS k) p.0 first in
+    let back = like is_solid solid_lower (drop KEYWORD_LETTERS word) (take (length word - KEYWORD_LETTERS) (drop KEYWORD_LETTERS k)) p.1 (all_front is_solid (length word - KEYWORD_LETTERS) (drop KEYWORD_LETTERS k) others) in
+    let all = all_both is_solid (take KEYWORD_LETTERS word) (drop KEYWORD_LETTERS word) front back in
+    rw (take-append-drop KEYWORD_LETTERS word) at all
+
 pub keyword_word : (k word : List ℕ) → 1 ≤ length (take KEYWORD_LETTERS k) → list_all is_solid (take KEYWORD_LETTERS k) ≡ true → list_all is_solid (drop KEYWORD_LETTERS k) ≡ true
     → is_keyword k word ≡ true → IsCutWord word
 keyword_word k word some first others e =
     let p = and_parts (str_eq_ignore_ascii_case (take KEYWORD_LETTERS word) (take KEYWORD_LETTERS k)) _ e in
     let long = same_length (take KEYWORD_LETTERS word) (take KEYWORD_LETTERS k) p.0 in
-    let front = like is_solid solid_lower (take KEYWORD_LETTERS word) (take KEYWORD_LETTERS k) p.0 first in
-    let back = like is_solid solid_lower (drop KEYWORD_LETTERS word) (take (length word - KEYWORD_LETTERS) (drop KEYWORD_LETTERS k)) p.1 (all_front is_solid (length word - KEYWORD_LETTERS) (drop KEYWORD_LETTERS k) others) in
-    let all = all_both is_solid (take KEYWORD_LETTERS word) (drop KEYWORD_LETTERS word) front back in
-    word_of_solid word (front_some KEYWORD_LETTERS word (omega (arith, some, long))) (rw (take-append-drop KEYWORD_LETTERS word) at all)
+    word_of_solid word (front_some KEYWORD_LETTERS word (omega (arith, some, long))) (keyword_solid k word first others e)
 
 -- what passes one test passes another
 pub weaker : (p q : ℕ → Bool) → ((c : ℕ) → p c ≡ true → q c ≡ true) → (xs : List ℕ) → list_all p xs ≡ true → list_all q xs ≡ true
@@ -85,15 +92,25 @@ solid_name c h = grind (arith, nat_tests, h)
 pub solid_digit : (c : ℕ) → is_ascii_digit c ≡ true → is_solid c ≡ true
 solid_digit c h = grind (arith, nat_tests, h)
 
+-- a keyword is no other one that begins with other letters
+pub other_keyword : (k j word : List ℕ) → bytes_eq (lower (take KEYWORD_LETTERS k)) (lower (take KEYWORD_LETTERS j)) ≡ false → is_keyword k word ≡ true → is_keyword j word ≡ false
+other_keyword k j word differ e =
+    let p = and_parts (str_eq_ignore_ascii_case (take KEYWORD_LETTERS word) (take KEYWORD_LETTERS k)) _ e in
+    let head : lower (take KEYWORD_LETTERS word) ≡ lower (take KEYWORD_LETTERS k) = same_text _ _ p.0 in
+    and_left (str_eq_ignore_ascii_case (take KEYWORD_LETTERS word) (take KEYWORD_LETTERS j)) _ (ap (λ (xs : List ℕ). bytes_eq xs (lower (take KEYWORD_LETTERS j))) head ∙ differ)
+
 pub tested : {X : Type 0} (q : Bool) (x y : X) → cond q (Some x) None ≡ Some y → (q ≡ true) × (x ≡ y)
 tested true x y e = (refl, cc)
 tested false x y e = absurd cc
 
+pub name_solid : (word name : List ℕ) → name_in word ≡ Some name → list_all is_solid word ≡ true
+name_solid word name e =
+    let t = and_parts (is_ascii_alphabetic (slice_index word 0)) (list_all is_name_char word) (tested (is_name_word word) _ name e).0 in
+    weaker is_name_char is_solid solid_name word t.1
+
 pub name_word : (word name : List ℕ) → name_in word ≡ Some name → IsCutWord word
 name_word [] name e = absurd (false≢true (tested (is_name_word []) [] name e).0)
-name_word (b ∷ bs) name e =
-    let t = and_parts (is_ascii_alphabetic b) (list_all is_name_char (b ∷ bs)) (tested (is_name_word (b ∷ bs)) _ name e).0 in
-    solid_word b bs (weaker is_name_char is_solid solid_name (b ∷ bs) t.1)
+name_word (b ∷ bs) name e = solid_word b bs (name_solid (b ∷ bs) name e)
 
 pub digits_of : (word : List ℕ) (n : ℕ) → count_in word ≡ Some n → list_all is_ascii_digit word ≡ true
 digits_of word n e = (and_parts _ (list_all is_ascii_digit word) (tested (is_count word) _ n e).0).1

@@ -18,7 +18,7 @@ use Rattle.station_lines.proofs.ScriptLaws.VerbLaws.{spelling}
 abbrev pub IsSaid : List (List ℕ) → Line → Type 0
 IsSaid words line = (line ≡ bad) ⊎ Says words line
 
-of_value : {X : Type 0} (words : List (List ℕ)) (o : Option X) (make : X → Line) → ((x : X) → o ≡ Some x → IsSaid words (make x)) → IsSaid words (with_ o make)
+pub of_value : {X : Type 0} (words : List (List ℕ)) (o : Option X) (make : X → Line) → ((x : X) → o ≡ Some x → IsSaid words (make x)) → IsSaid words (with_ o make)
 of_value words None make h = inl refl
 of_value words (Some x) make h = h x refl
 

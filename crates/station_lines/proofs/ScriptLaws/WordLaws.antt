@@ -6,7 +6,7 @@ use mathlib.Core.Logic.{inl, inr}
 use Rattle.std.proofs.lemmas.Bool.{false≢true, eqb-true, and_parts}
 use Rattle.std.proofs.lemmas.Bool.Decides.{nat_tests}
 use Rattle.std.proofs.lemmas.List.{append-nil, length-append, take-append-drop}
-use Rattle.station_lines.specs.Script.Words.{is_gap, are_gaps, ends_word}
+use Rattle.station_lines.specs.Script.Words.{is_gap, are_gaps, begins_word, ends_word}
 use Rattle.station_lines.specs.Script.Parts.{is_quote, IsText}
 use Rattle.station_lines.specs.Script.Reading.{without_gaps, quote_after, word_length, first_word, after_word, is_empty}
 
@@ -18,13 +18,9 @@ is_solid b = not (is_gap b) && not (is_quote b)
 abbrev pub Whole : List ℕ → Type 0
 Whole word = (ys : List ℕ) → word_length 0 (word ++ ys) ≡ length word + word_length 0 ys
 
-abbrev pub starts : List ℕ → Bool
-starts [] = false
-starts (b ∷ bs) = not (is_gap b)
-
 pub record IsCutWord (word : List ℕ) : Type 0 where
   pub whole : Whole word
-  pub start : starts word ≡ true
+  pub start : begins_word word ≡ true
 
 pub not_true : (b : Bool) → not b ≡ true → b ≡ false
 not_true true e = absurd (false≢true e)
@@ -40,7 +36,7 @@ solid_whole (b ∷ bs) h ys =
     let more = solid_whole bs p.1 ys in
     rw (gap, quote) (omega (arith, more))
 
-pub solid_starts : (b : ℕ) (bs : List ℕ) → list_all is_solid (b ∷ bs) ≡ true → starts (b ∷ bs) ≡ true
+pub solid_starts : (b : ℕ) (bs : List ℕ) → list_all is_solid (b ∷ bs) ≡ true → begins_word (b ∷ bs) ≡ true
 solid_starts b bs h =
     let p = and_parts (is_solid b) (list_all is_solid bs) h in
     (and_parts (not (is_gap b)) (not (is_quote b)) p.0).0
@@ -84,7 +80,7 @@ pub past_gaps : (gap xs : List ℕ) → are_gaps gap ≡ true → without_gaps (
 past_gaps [] xs h = refl
 past_gaps (b ∷ gap) xs h = let p = and_parts (is_gap b) (are_gaps gap) h in rw p.0 (past_gaps gap xs p.1)
 
-pub no_gaps : (word ys : List ℕ) → starts word ≡ true → without_gaps (word ++ ys) ≡ word ++ ys
+pub no_gaps : (word ys : List ℕ) → begins_word word ≡ true → without_gaps (word ++ ys) ≡ word ++ ys
 no_gaps [] ys h = absurd (false≢true h)
 no_gaps (b ∷ bs) ys h = rw (not_true (is_gap b) h) refl
 
@@ -167,20 +163,20 @@ is_cut line =
     }
 
 -- what is left begins with no blank
-left_or : (b : ℕ) (bs : List ℕ) (q : Bool) → is_gap b ≡ q → (without_gaps bs ≡ []) ⊎ (starts (without_gaps bs) ≡ true)
-    → (cond q (without_gaps bs) (b ∷ bs) ≡ []) ⊎ (starts (cond q (without_gaps bs) (b ∷ bs)) ≡ true)
+left_or : (b : ℕ) (bs : List ℕ) (q : Bool) → is_gap b ≡ q → (without_gaps bs ≡ []) ⊎ (begins_word (without_gaps bs) ≡ true)
+    → (cond q (without_gaps bs) (b ∷ bs) ≡ []) ⊎ (begins_word (cond q (without_gaps bs) (b ∷ bs)) ≡ true)
 left_or b bs true e others = others
 left_or b bs false e others = inr (rw e refl)
 
-pub left_starts : (line : List ℕ) → (without_gaps line ≡ []) ⊎ (starts (without_gaps line) ≡ true)
+pub left_starts : (line : List ℕ) → (without_gaps line ≡ []) ⊎ (begins_word (without_gaps line) ≡ true)
 left_starts [] = inl refl
 left_starts (b ∷ bs) = left_or b bs (is_gap b) refl (left_starts bs)
 
-no_more : (xs : List ℕ) → starts xs ≡ true → length (take (word_length 0 xs) xs) ≡ 0 → ⊥
+no_more : (xs : List ℕ) → begins_word xs ≡ true → length (take (word_length 0 xs) xs) ≡ 0 → ⊥
 no_more [] h e = false≢true h
 no_more (b ∷ bs) h e = let out : is_gap b ≡ false = not_true (is_gap b) h in let f = rw out at e in absurd (omega (arith, f))
 
-left_empty : (line : List ℕ) → (without_gaps line ≡ []) ⊎ (starts (without_gaps line) ≡ true) → length (first_word line) ≡ 0 → without_gaps line ≡ []
+left_empty : (line : List ℕ) → (without_gaps line ≡ []) ⊎ (begins_word (without_gaps line) ≡ true) → length (first_word line) ≡ 0 → without_gaps line ≡ []
 left_empty line (inl e) n = e
 left_empty line (inr h) n = absurd (no_more (without_gaps line) h n)
 

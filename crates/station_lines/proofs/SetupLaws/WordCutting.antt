@@ -7,10 +7,10 @@ use Rattle.std.proofs.lemmas.Bool.{false≢true, and_parts, and_from}
 use Rattle.std.proofs.lemmas.Bool.Decides.{nat_tests}
 use Rattle.std.proofs.lemmas.List.{append-nil, length-append, take-append-drop}
 use Rattle.std.proofs.lemmas.List.Sums.{prefix_len-le-length}
-use Rattle.station_lines.specs.Script.Words.{is_gap, are_gaps, ends_word, HasWords}
+use Rattle.station_lines.specs.Script.Words.{begins_word, is_gap, are_gaps, ends_word, HasWords}
 use Rattle.station_lines.specs.Script.Reading.{without_gaps}
 use Rattle.station_lines.specs.Setup.{has_no_gap, is_word, AreWords}
-use Rattle.station_lines.proofs.ScriptLaws.WordLaws.{starts, past_gaps, no_gaps, no_word, gap_split, left_starts}
+use Rattle.station_lines.proofs.ScriptLaws.WordLaws.{past_gaps, no_gaps, no_word, gap_split, left_starts}
 
 not_below : (b : Bool) (n : ℕ) → cond b (Some n) None ≡ None → b ≡ false
 not_below true n e = absurd cc
@@ -55,11 +55,11 @@ word_or b bs false e h =
     rw next (and_from (not (is_gap b)) (has_no_gap (take (gap_at bs) bs)) (ap not e) (before_gap bs))
 
 -- what stands before the first blank or tab is a word, where none stands at the front
-word_there : (text : List ℕ) → starts text ≡ true → is_word (take (gap_at text) text) ≡ true
+word_there : (text : List ℕ) → begins_word text ≡ true → is_word (take (gap_at text) text) ≡ true
 word_there [] h = absurd (false≢true h)
 word_there (b ∷ bs) h = word_or b bs (is_gap b) refl h
 
-some_start : (text : List ℕ) → (text ≡ []) ⊎ (starts text ≡ true) → 0 < length text → starts text ≡ true
+some_start : (text : List ℕ) → (text ≡ []) ⊎ (begins_word text ≡ true) → 0 < length text → begins_word text ≡ true
 some_start text (inl e) h = absurd (let none : length text ≡ 0 = ap length e in omega (arith, none, h))
 some_start text (inr s) h = s
 
@@ -68,7 +68,7 @@ pub first_of_words : (line text : List ℕ) (n : ℕ) → text ≡ without_gaps 
     → (others : List (List ℕ)) → AreWords others (drop n text) → AreWords (take n text ∷ others) line
 first_of_words line text n is some at others are =
     let s = gap_split line in
-    let start : starts text ≡ true = some_start text (subst (λ (x : List ℕ). (x ≡ []) ⊎ (starts x ≡ true)) (sym is) (left_starts line)) some in
+    let start : begins_word text ≡ true = some_start text (subst (λ (x : List ℕ). (x ≡ []) ⊎ (begins_word x ≡ true)) (sym is) (left_starts line)) some in
     let whole : line ≡ s.gap ++ (take n text ++ drop n text) =
     s.whole ∙ ap (λ (x : List ℕ). s.gap ++ x) (sym is ∙ sym (take-append-drop n text)) in
     let ends : ends_word (drop n text) ≡ true = rw at (ends_there text) in
@@ -79,7 +79,7 @@ gap_some : (b : ℕ) (bs : List ℕ) (q : Bool) → is_gap b ≡ q → not q ≡
 gap_some b bs true e h = absurd (false≢true h)
 gap_some b bs false e h = omega arith
 
-gap_after : (text : List ℕ) → starts text ≡ true → 0 < gap_at text
+gap_after : (text : List ℕ) → begins_word text ≡ true → 0 < gap_at text
 gap_after [] h = absurd (false≢true h)
 gap_after (b ∷ bs) h = gap_some b bs (is_gap b) refl h
 
@@ -98,7 +98,7 @@ pub shorter_after : (line text : List ℕ) (n : ℕ) → text ≡ without_gaps l
     → length (drop n text) < length line
 shorter_after line text n is some at =
     let s = gap_split line in
-    let start : starts text ≡ true = some_start text (subst (λ (x : List ℕ). (x ≡ []) ⊎ (starts x ≡ true)) (sym is) (left_starts line)) some in
+    let start : begins_word text ≡ true = some_start text (subst (λ (x : List ℕ). (x ≡ []) ⊎ (begins_word x ≡ true)) (sym is) (left_starts line)) some in
     let more : 0 < n = rw at (gap_after text start) in
     let less = less_left n text more some in
     let long : length line ≡ length s.gap + length text = ap length (s.whole ∙ ap (λ (x : List ℕ). s.gap ++ x) (sym is)) ∙ length-append s.gap text in
@@ -153,7 +153,7 @@ one_word (x ∷ v) (y ∷ w) r s hv hw er es e =
     let h = one_word v w r s p.1 q.1 er es cc in
     (ap (λ (z : ℕ). z ∷ v) same ∙ ap (λ (zs : List ℕ). y ∷ zs) h.0, h.1)
 
-word_starts : (word : List ℕ) → is_word word ≡ true → starts word ≡ true
+word_starts : (word : List ℕ) → is_word word ≡ true → begins_word word ≡ true
 word_starts [] h = absurd (false≢true h)
 word_starts (b ∷ bs) h = (and_parts (not (is_gap b)) (has_no_gap bs) h).0
 

@@ -1,15 +1,15 @@
 -- What a script line means: the list of commands.
 use Rattle.std.specs.Prelude.{◌≡◌, ◌⊎◌, ℕ, true, false, List, [], ◌∷◌, codes, ℤ, pos, Some}
 use Rattle.dbf_fields.specs.declared.literal.Literal.{Literal}
-use Rattle.catalogue_core.specs.declared.command.Command.TheVariants.{Select, UseTable, CloseTable, Go, Top, Bottom, Skip, Seek, Order, AppendBlank, Replace, Memo, Delete, Recall, Pack, Unlock, UnlockAll, Show, RecordLock, RecordLocks, FileLock, Ask, Bad}
+use Rattle.catalogue_core.specs.declared.command.Command.TheVariants.{Select, UseTable, CloseTable, Go, Top, Bottom, Skip, Seek, Order, AppendBlank, Replace, Memo, Delete, Recall, Pack, IndexOn, Unlock, UnlockAll, Show, RecordLock, RecordLocks, FileLock, Ask, Bad}
 use Rattle.catalogue_core.specs.declared.command.Question.TheVariants.{Eof, Bof, Found, Deleted, Recno, Reccount}
 use Rattle.station_lines.specs.declared.script.line.Line.{Line}
 use Rattle.station_lines.specs.declared.script.line.Line.TheVariants.{Run, Status, Blank}
 use Rattle.station_lines.specs.Script.Words.{HasWords, IsBlankLine}
-use Rattle.station_lines.specs.Script.Parts.{is_keyword, is_call, name_in, count_in, distance_in, IsListCall, IsText}
+use Rattle.station_lines.specs.Script.Parts.{is_keyword, is_call, name_in, count_in, distance_in, is_phrase, IsListCall, IsText}
 use Rattle.station_lines.specs.Script.Literals.{IsLiteral}
 
--- what a command's form has in a word's place
+-- what a command's form has in a word's place; a phrase may hold blanks and tabs
 pub data Part : Type 0 where
   keyword : List ℕ → Part
   call : List ℕ → Part
@@ -19,6 +19,7 @@ pub data Part : Type 0 where
   list_call : List ℕ → List ℕ → Part
   text : List ℕ → Part
   literal : Literal → Part
+  phrase : List ℕ → Part
   or_ : Part → Part → Part
 
 abbrev pub IsPart : Part → List ℕ → Type 0
@@ -30,6 +31,7 @@ IsPart (distance n) word = distance_in word ≡ Some n
 IsPart (list_call f ns) word = IsListCall f word ns
 IsPart (text t) word = IsText word t
 IsPart (literal l) word = IsLiteral word l
+IsPart (phrase p) word = (word ≡ p) × (is_phrase p ≡ true)
 IsPart (or_ p q) word = IsPart p word ⊎ IsPart q word
 
 -- the words are of this form, each one its part
@@ -38,7 +40,8 @@ Are [] [] = Unit {0}
 Are (part ∷ parts) (word ∷ words) = IsPart part word × Are parts words
 Are parts words = ⊥
 
--- the words of each command, and of DISPLAY STATUS
+-- The words of each command, and of DISPLAY STATUS. In INDEX ON the last two words are TO and the name, and all that
+-- stands between ON and them is the expression.
 abbrev pub Says : List (List ℕ) → Line → Type 0
 Says words (Run (Select n)) = Are (keyword (codes "SELECT") ∷ count n ∷ []) words
 Says words (Run (UseTable n false)) = Are (keyword (codes "USE") ∷ name n ∷ []) words
@@ -59,6 +62,8 @@ Says words (Run (Memo f t)) = Are (keyword (codes "MEMO") ∷ name f ∷ keyword
 Says words (Run Delete) = Are (keyword (codes "DELETE") ∷ []) words
 Says words (Run Recall) = Are (keyword (codes "RECALL") ∷ []) words
 Says words (Run Pack) = Are (keyword (codes "PACK") ∷ []) words
+Says words (Run (IndexOn e n)) =
+    Are (keyword (codes "INDEX") ∷ keyword (codes "ON") ∷ phrase e ∷ keyword (codes "TO") ∷ name n ∷ []) words
 Says words (Run Unlock) = Are (keyword (codes "UNLOCK") ∷ []) words
 Says words (Run UnlockAll) = Are (keyword (codes "UNLOCK") ∷ keyword (codes "ALL") ∷ []) words
 Says words (Run (Show f)) = Are (keyword (codes "?") ∷ name f ∷ []) words

@@ -1,5 +1,5 @@
 -- What a word of a command is: a keyword, a name, a number, a text.
-use Rattle.std.specs.Prelude.{◌≡◌, ℕ, ◌-◌, codes, Bool, true, not, ◌&&◌, ◌||◌, ◌==◌, List, [], ◌∷◌, ◌++◌, length, map, take, drop, slice_index, Option, Some, None, option_map, ℤ, pos, neg_ℤ, if◌then◌else◌}
+use Rattle.std.specs.Prelude.{◌≡◌, ℕ, ◌-◌, codes, Bool, true, not, ◌&&◌, ◌||◌, ◌==◌, List, [], ◌∷◌, ◌++◌, length, map, reverse, take, drop, slice_index, Option, Some, None, option_map, ℤ, pos, neg_ℤ, if◌then◌else◌}
 use Rattle.std.specs.List.{list_all, slice_split}
 use Rattle.std.specs.Int.{is_in_range}
 use Rattle.std.specs.Char.{is_ascii_digit, is_ascii_alphabetic, to_ascii_uppercase}
@@ -8,6 +8,7 @@ use Rattle.dbf_fields.specs.declared.format.TheConstants.{MINUS}
 use Rattle.dbf_fields.specs.Digits.{digits_after}
 use Rattle.dbf_fields.specs.Name.{is_name_char}
 use Rattle.station_lines.specs.declared.script.format.TheConstants.{KEYWORD_LETTERS, MAX_COUNT_DIGITS, QUOTE, APOSTROPHE, COMMA}
+use Rattle.station_lines.specs.Script.Words.{begins_word}
 
 -- A keyword in any case: its first four letters, or all of one that has fewer, and as many of the others as one
 -- likes.
@@ -31,6 +32,10 @@ is_name_word word = is_ascii_alphabetic (slice_index word 0) && list_all is_name
 -- the name that a word is, folded to capitals
 abbrev pub name_in : List ℕ → Option (List ℕ)
 name_in word = if is_name_word word then Some (capitals word) else None
+
+-- Some bytes, among which blanks and tabs may stand, but not first and not last. A quote is a byte like any other.
+abbrev pub is_phrase : List ℕ → Bool
+is_phrase text = begins_word text && begins_word (reverse text)
 
 -- 1 to 10 digits
 abbrev pub is_count : List ℕ → Bool

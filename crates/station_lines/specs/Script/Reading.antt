@@ -1,5 +1,5 @@
 -- What the reader makes of a line, word by word. What a line means is defined apart from this, in Meaning.
-use Rattle.std.specs.Prelude.{◌≡◌, ℕ, ◌+◌, ◌-◌, suc, Bool, true, false, ◌&&◌, ◌||◌, ◌==◌, List, [], ◌∷◌, length, take, drop, slice_index, bytes_eq, codes, ℤ, pos, position, Option, Some, None, if◌then◌else◌}
+use Rattle.std.specs.Prelude.{◌≡◌, ℕ, ◌+◌, ◌-◌, suc, Bool, true, false, not, ◌&&◌, ◌||◌, ◌==◌, List, [], ◌∷◌, length, reverse, take, drop, slice_index, bytes_eq, codes, ℤ, pos, position, Option, Some, None, if◌then◌else◌}
 use Rattle.std.specs.Str.{str_eq_ignore_ascii_case}
 use Rattle.dbf_fields.specs.Date.{is_date, year_in, month_in, day_in}
 use Rattle.dbf_fields.specs.declared.literal.Literal.{Literal}
@@ -38,6 +38,23 @@ first_word line = take (word_length 0 (without_gaps line)) (without_gaps line)
 
 abbrev pub after_word : List ℕ → List ℕ
 after_word line = drop (word_length 0 (without_gaps line)) (without_gaps line)
+
+-- what is left before the blanks and tabs at the end
+abbrev pub without_end_gaps : List ℕ → List ℕ
+without_end_gaps text = reverse (without_gaps (reverse text))
+
+-- what is left after the bytes at the front that are no blanks and no tabs
+abbrev pub from_gap : List ℕ → List ℕ
+from_gap [] = []
+from_gap (b ∷ bs) = if is_gap b then b ∷ bs else from_gap bs
+
+-- what is left before the last word, of which no byte is a blank or a tab; a quote is a byte like any other
+abbrev pub before_last : List ℕ → List ℕ
+before_last line = reverse (from_gap (reverse (without_end_gaps line)))
+
+-- the last word of a line, and nothing where it has none
+abbrev pub last_word : List ℕ → List ℕ
+last_word line = drop (length (before_last line)) (without_end_gaps line)
 
 -- what stands before the last byte, where that has this offset
 abbrev pub text_before : Option ℕ → List ℕ → Option (List ℕ)
@@ -119,7 +136,7 @@ text_or_other_in None word = number_or_other_in (number_in word) word
 abbrev pub literal_in : List ℕ → Option Literal
 literal_in word = text_or_other_in (text_in word) word
 
--- the first word of a command
+-- the first word of a command, but for INDEX
 abbrev pub verb_in : List ℕ → Option Verb
 verb_in word =
     if is_keyword (codes "SELECT") word then Some verb.Select
@@ -246,8 +263,23 @@ after_one v a rest = if is_empty (first_word rest) then two v a else after_two v
 abbrev pub after_verb : Verb → List ℕ → Line
 after_verb v rest = if is_empty (first_word rest) then one v else after_one v (first_word rest) (after_word rest)
 
+-- what is made of an expression, a word that is to be TO, and one that is to be a name
+abbrev pub index_line : List ℕ → List ℕ → List ℕ → Line
+index_line expr to word =
+    if is_empty expr || not (is_keyword (codes "TO") to) then bad else with_ (name_in word) (λ n. Run (command.IndexOn expr n))
+
+-- the last two words, and what stands before them
+abbrev pub after_on : List ℕ → Line
+after_on rest =
+    index_line (without_gaps (without_end_gaps (before_last (before_last rest)))) (last_word (before_last rest)) (last_word rest)
+
+-- ON and what stands after it
+abbrev pub after_index : List ℕ → Line
+after_index rest = if is_keyword (codes "ON") (first_word rest) then after_on (after_word rest) else bad
+
 -- what is made of a line
 abbrev pub read : List ℕ → Line
 read line =
     if is_empty (first_word line) || begins_with_asterisk (first_word line) then Blank
-    else with_ (verb_in (first_word line)) (λ v. after_verb v (after_word line))
+    else (if is_keyword (codes "INDEX") (first_word line) then after_index (after_word line)
+    else with_ (verb_in (first_word line)) (λ v. after_verb v (after_word line)))

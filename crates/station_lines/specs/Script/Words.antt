@@ -1,5 +1,5 @@
 -- The words of a script line.
-use Rattle.std.specs.Prelude.{◌≡◌, ◌⊎◌, ℕ, Bool, true, false, ◌||◌, ◌==◌, List, [], ◌∷◌, ◌++◌}
+use Rattle.std.specs.Prelude.{◌≡◌, ◌⊎◌, ℕ, Bool, true, false, not, ◌||◌, ◌==◌, List, [], ◌∷◌, ◌++◌}
 use Rattle.std.specs.List.{list_all}
 use Rattle.dbf_fields.specs.declared.format.TheConstants.{BLANK, ASTERISK}
 use Rattle.station_lines.specs.declared.script.format.TheConstants.{TAB}
@@ -11,6 +11,11 @@ is_gap b = b == BLANK || b == TAB
 -- blanks and tabs, or nothing
 abbrev pub are_gaps : List ℕ → Bool
 are_gaps text = list_all is_gap text
+
+-- a byte is next that is no blank and no tab
+abbrev pub begins_word : List ℕ → Bool
+begins_word [] = false
+begins_word (b ∷ bs) = not (is_gap b)
 
 -- nothing is next, or a blank or a tab
 abbrev pub ends_word : List ℕ → Bool

@@ -7,6 +7,8 @@ ghost use Rattle.station_lines.specs.Script.Keeping.{keeps_text};
 ghost use Rattle.station_lines.specs.Script.Reading.{read, after_verb};
 
 use crate::script::command::{four_words, one_word, three_words, two_words};
+use crate::script::index::after_index;
+use crate::script::keyword::is_keyword;
 use crate::script::verb::{Verb, verb_of};
 use crate::script::word::cut_word;
 use catalogue_core::Command;
@@ -66,6 +68,9 @@ fn read_line(alloc: Global, line: &[u8]) -> Result<Line, AllocError>
     let (first, words) = cut_word(line);
     if first.is_empty() || is_remark(first) {
         return Ok(Line::Blank);
+    }
+    if is_keyword(first, b"INDEX") {
+        return after_index(alloc, words);
     }
     match verb_of(first) {
         Some(verb) => parse_words(alloc, verb, words),

@@ -5,7 +5,7 @@ ghost use Rattle.station_lines.specs.Script.Reading.{verb_in};
 
 use crate::script::keyword::is_keyword;
 
-/// The first word of a command.
+/// The first word of a command, but for INDEX: the words after each of these are cut off one after another.
 #[derive(Clone, Copy, Debug, PartialEq, Eq)]
 pub(crate) enum Verb {
     /// SELECT
