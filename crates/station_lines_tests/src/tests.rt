@@ -1,4 +1,5 @@
 mod answer_lines;
+mod index_on;
 mod long_lines;
 mod long_setup;
 mod script;

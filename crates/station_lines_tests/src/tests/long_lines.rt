@@ -92,6 +92,19 @@ fn words_and_gaps_of_any_length_are_read(rt: HostRuntime) -> Result<(), Fail> {
 }
 
 #[test]
+fn expressions_of_any_length_are_kept(rt: HostRuntime) -> Result<(), Fail> {
+    let alloc = rt.alloc();
+    for count in LENGTHS {
+        let text = text_of(alloc, count)?;
+        let expr = joined(alloc, b"(", text.as_slice(), b")")?;
+        let line = joined(alloc, b"INDEX ON ", expr.as_slice(), b" TO x")?;
+        let wanted = line_of(alloc, Keeps::IndexOn, b"X", expr.as_slice())?;
+        assert!(rt; are_read(alloc, line.as_slice(), &wanted)?);
+    }
+    Ok(())
+}
+
+#[test]
 fn names_of_any_length_are_kept(rt: HostRuntime) -> Result<(), Fail> {
     let alloc = rt.alloc();
     for count in LENGTHS {

@@ -37,6 +37,7 @@ pub(crate) enum Keeps {
     Seek,
     Show,
     Memo,
+    IndexOn,
     ReplaceText,
     ReplaceNumber(i128, u8),
     ReplaceTruth(bool),
@@ -69,6 +70,10 @@ pub(crate) fn line_of(alloc: Global, keeps: Keeps, name: &[u8], text: &[u8]) -> 
         Keeps::Seek => Ok(Line::Run(Command::Seek(text))),
         Keeps::Show => Ok(Line::Run(Command::Show(field))),
         Keeps::Memo => Ok(Line::Run(Command::Memo { field, text })),
+        Keeps::IndexOn => Ok(Line::Run(Command::IndexOn {
+            expr: text,
+            name: field,
+        })),
         _ => {
             let value = value_of(keeps, text)?;
             Ok(Line::Run(Command::Replace { field, value }))
@@ -77,7 +82,7 @@ pub(crate) fn line_of(alloc: Global, keeps: Keeps, name: &[u8], text: &[u8]) -> 
 }
 
 // The same for commands that keep a name or a text.
-fn first_misread_of_names(
+pub(crate) fn first_misread_of_names(
     alloc: Global,
     cases: &[(&[u8], Keeps, &[u8], &[u8])],
 ) -> Result<Option<usize>, Fail> {
@@ -179,7 +184,7 @@ fn commands_of_functions() -> [(&'static [u8], Line); 9] {
     ]
 }
 
-const COMMANDS_OF_NAMES: [(&[u8], Keeps, &[u8], &[u8]); 6] = [
+const COMMANDS_OF_NAMES: [(&[u8], Keeps, &[u8], &[u8]); 7] = [
     (
         b"USE PEOPLE\nUSE people\n\tuse  People ",
         Keeps::Use(false),
@@ -209,6 +214,12 @@ const COMMANDS_OF_NAMES: [(&[u8], Keeps, &[u8], &[u8]); 6] = [
         Keeps::Memo,
         b"NOTE",
         b"",
+    ),
+    (
+        b"INDEX ON NAME TO X\nINDE ON NAME TO X\n\tindex  on NAME\tto  x ",
+        Keeps::IndexOn,
+        b"X",
+        b"NAME",
     ),
     (
         b"? NAME_2\n?\tName_2\n ? name_2 ",
