@@ -1,4 +1,4 @@
--- The names of what is read from written files are those of the opening.
+-- The names of what is read from written files are those of the tables and indexes at the end.
 use Rattle.std.proofs.Common.{◌≡◌, ℕ, suc, ◌+◌, ◌-◌, ◌<◌, List, [], ◌∷◌, length, map, Option, Some, refl, sym, ap, subst, ◌∙◌, arith, get_or}
 use Rattle.std.specs.List.{slice_get}
 use Rattle.std.specs.Option.{option_map}
@@ -15,8 +15,8 @@ use Rattle.station_files.specs.declared.closed.ClosedTable.{ClosedTable}
 use Rattle.station_files.specs.ClosedIndex.{IndexContent}
 use Rattle.whole_run.specs.HandedOver.{index_of, end_of, IsHandedOver, AreHandedOver}
 use Rattle.whole_run.specs.ReadBack.{AreIndexesReadBack, AreTablesReadBack}
-use Rattle.whole_run.proofs.Headings.{Heading, index_names, source_names, heading, source_heading}
-use Rattle.whole_run.proofs.IndexesKept.{replay_keeps}
+use Rattle.whole_run.proofs.Headings.{Heading, index_names, source_names, headings, source_heading}
+use Rattle.whole_run.proofs.IndexesKept.{replay_count}
 
 abbrev pub closed_heading : ClosedTable → Heading
 closed_heading closed = (closed.name, map (λ (i : IndexContent). i.name) closed.indexes.items)
@@ -43,51 +43,41 @@ same_names : (table : Table) (indexes : List Indexed) → map (λ (i : IndexCont
 same_names table [] = refl
 same_names table (x ∷ xs) = ap (λ (l : List (List ℕ)). x.name ∷ l) (same_names table xs)
 
-no_table : NamedTable
-no_table = record { name = []; content = no_content }
+closed_at : (closed : ClosedTable) (name : List ℕ) (names : List (List ℕ)) → closed.name ≡ name → map (λ (i : IndexContent). i.name) closed.indexes.items ≡ names → closed_heading closed ≡ (let h : Heading = (name, names) in h)
+closed_at closed name names e f = pair_of closed.name name (map (λ (i : IndexContent). i.name) closed.indexes.items) names e f
 
--- the table of this number has at the end the indexes with which it was opened
-end_indexes : (h : History) (i : ℕ) → i < length h.opened.tables → (end_of h (i + 1)).indexes ≡ (get_or h.opened.tables i no_table).content.indexes
-end_indexes h i low =
-    let f : Content → List Indexed = λ c. c.indexes in
-    let g : NamedTable → Content = λ t. t.content in
-    let opened : List NamedTable = h.opened.tables in
-    let left : List Content = (state_of h).tables in
-    let kept : map f left ≡ map f (map g opened) = replay_keeps h in
-    let back : i + 1 - 1 ≡ i = omega arith in
-    let many : length (map g opened) ≡ length opened = length-map opened g in
-    let there : i < length left = omega (arith, low, ap length kept, length-map left f, length-map (map g opened) f, many) in
-    ap (λ (k : ℕ). f (get_or left k no_content)) back
-    ∙ sym (get_or-map f left i no_content [] there)
-    ∙ ap (λ (l : List (List Indexed)). get_or l i []) kept
-    ∙ get_or-map f (map g opened) i no_content [] (omega (arith, low, many))
-    ∙ ap f (get_or-map g opened i no_table no_content low)
+-- a table that is handed over has this name, and its indexes are these
+IsHandedAs : Option (List ℕ) → Content → ClosedTable → Type 0
+IsHandedAs name content closed = (name ≡ Some closed.name) × (map (λ (i : IndexContent). i.name) closed.indexes.items ≡ index_names content)
 
-handed_heading : (h : History) (i : ℕ) (closed : ClosedTable) → i < length h.opened.tables → IsHandedOver h (i + 1) closed → closed_heading closed ≡ heading (get_or h.opened.tables i no_table)
-handed_heading h i closed low own =
-    let t : NamedTable = get_or h.opened.tables i no_table in
+handed_as : (h : History) (i : ℕ) (closed : ClosedTable) → IsHandedOver h (i + 1) closed → IsHandedAs (slice_get (names_of h.opened) i) (get_or (state_of h).tables i no_content) closed
+unfolding IsHandedAs
+handed_as h i closed own =
     let back : i + 1 - 1 ≡ i = omega arith in
-    let at : slice_get h.opened.tables i ≡ Some t = slice_get-get_or h.opened.tables i no_table low in
     let named : slice_get (names_of h.opened) i ≡ Some closed.name = subst (λ (k : ℕ). slice_get (names_of h.opened) k ≡ Some closed.name) back own.named in
-    let mapped : slice_get (names_of h.opened) i ≡ option_map (λ (x : NamedTable). x.name) (slice_get h.opened.tables i) = slice_get-map (λ (x : NamedTable). x.name) h.opened.tables i in
-    let found : Some closed.name ≡ Some t.name = sym named ∙ mapped ∙ ap (λ (o : Option NamedTable). option_map (λ (x : NamedTable). x.name) o) at in
-    let name : closed.name ≡ t.name = cc in
-    let indexes : map (λ (i : IndexContent). i.name) closed.indexes.items ≡ index_names t.content =
-    ap (λ (l : List IndexContent). map (λ (i : IndexContent). i.name) l) own.indexes ∙ same_names (end_of h (i + 1)).table (end_of h (i + 1)).indexes
-    ∙ ap (λ (l : List Indexed). map (λ (i : Indexed). i.name) l) (end_indexes h i low) in
-    pair_of closed.name t.name (map (λ (i : IndexContent). i.name) closed.indexes.items) (index_names t.content) name indexes
+    let content : Content = end_of h (i + 1) in
+    let indexes : map (λ (i : IndexContent). i.name) closed.indexes.items ≡ index_names content =
+    ap (λ (l : List IndexContent). map (λ (i : IndexContent). i.name) l) own.indexes ∙ same_names content.table content.indexes in
+    (named, subst (λ (k : ℕ). map (λ (i : IndexContent). i.name) closed.indexes.items ≡ index_names (get_or (state_of h).tables k no_content)) back indexes)
 
-each_heading : (tables : List ClosedTable) (opened : List NamedTable) → length tables ≡ length opened
-    → ((i : ℕ) → i < length opened → (closed : ClosedTable) × (slice_get tables i ≡ Some closed) × (closed_heading closed ≡ heading (get_or opened i no_table))) → map closed_heading tables ≡ map heading opened
-each_heading [] [] long each = refl
-each_heading [] (y ∷ ys) long each = absurd (omega arith)
-each_heading (x ∷ xs) [] long each = absurd (omega arith)
-each_heading (x ∷ xs) (y ∷ ys) long each =
+each_heading : (tables : List ClosedTable) (names : List (List ℕ)) (contents : List Content) → length tables ≡ length names → length contents ≡ length names
+    → ((i : ℕ) → i < length names → (closed : ClosedTable) × (slice_get tables i ≡ Some closed) × IsHandedAs (slice_get names i) (get_or contents i no_content) closed) → map closed_heading tables ≡ headings names contents
+unfolding IsHandedAs
+each_heading [] [] contents long many each = refl
+each_heading [] (n ∷ ns) contents long many each = absurd (omega arith)
+each_heading (x ∷ xs) [] contents long many each = absurd (omega arith)
+each_heading (x ∷ xs) (n ∷ ns) [] long many each = absurd (omega arith)
+each_heading (x ∷ xs) (n ∷ ns) (t ∷ ts) long many each =
     let first = each 0 (omega arith) in
     let same : first.0 ≡ x = cc in
-    let head : closed_heading x ≡ heading y = ap closed_heading (sym same) ∙ first.2 in
-    let rest = each_heading xs ys (omega arith) (λ i low. each (suc i) (omega arith)) in
+    let named : first.0.name ≡ n = cc in
+    let head : closed_heading x ≡ (let h : Heading = (n, index_names t) in h) = ap closed_heading (sym same) ∙ closed_at first.0 n (index_names t) named first.2.1 in
+    let rest = each_heading xs ns ts (omega arith) (omega arith) (λ i low. each (suc i) (omega arith)) in
     cc
 
-pub handed_headings : (h : History) (tables : List ClosedTable) → AreHandedOver h tables → map closed_heading tables ≡ map heading h.opened.tables
-handed_headings h tables handed = each_heading tables h.opened.tables handed.count (λ i low. let r = handed.each i low in (r.0, r.1, handed_heading h i r.0 low r.2))
+pub handed_headings : (h : History) (tables : List ClosedTable) → AreHandedOver h tables → map closed_heading tables ≡ headings (names_of h.opened) (state_of h).tables
+handed_headings h tables handed =
+    let named : length (names_of h.opened) ≡ length h.opened.tables = length-map h.opened.tables (λ (t : NamedTable). t.name) in
+    each_heading tables (names_of h.opened) (state_of h).tables (handed.count ∙ sym named) (replay_count h ∙ sym named) (λ i low.
+    let r = handed.each i (omega (arith, low, named)) in
+    (r.0, r.1, handed_as h i r.0 r.2))

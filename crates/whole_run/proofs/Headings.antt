@@ -33,6 +33,12 @@ heading t = (t.name, index_names t.content)
 abbrev pub source_heading : TableSource → Heading
 source_heading s = (s.name, source_names s.indexes.items)
 
+-- those of tables under their names
+abbrev pub headings : List (List ℕ) → List Content → List Heading
+headings [] ts = []
+headings (name ∷ names) [] = []
+headings (name ∷ names) (t ∷ ts) = (name, index_names t) ∷ headings names ts
+
 -- an index of one of the tables, or one of these, has the name
 abbrev pub is_index_name : List Heading → List (List ℕ) → List ℕ → Bool
 is_index_name before own name = list_any (λ (t : Heading). includes_name t.1 name) before || includes_name own name
@@ -53,7 +59,7 @@ AreNewTables before (t ∷ ts) = IsNewTable before t × AreNewTables (before ++ 
 
 -- ---- tests by names
 
-any_index : (name : List ℕ) (xs : List Indexed) → list_any (λ (i : Indexed). bytes_eq name i.name) xs ≡ includes_name (map (λ (i : Indexed). i.name) xs) name
+pub any_index : (name : List ℕ) (xs : List Indexed) → list_any (λ (i : Indexed). bytes_eq name i.name) xs ≡ includes_name (map (λ (i : Indexed). i.name) xs) name
 any_index name [] = refl
 any_index name (x ∷ xs) = ap (λ (b : Bool). bytes_eq name x.name || b) (any_index name xs)
 

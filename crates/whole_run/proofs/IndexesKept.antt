@@ -1,6 +1,9 @@
--- No command changes which indexes a table has.
-use Rattle.std.proofs.Common.{◌≡◌, ℕ, ◌-◌, Bool, true, false, eqb, List, [], ◌∷◌, map, Option, Some, None, Result, Ok, Err, refl, ap, ◌∙◌}
+-- Only INDEX ON changes which indexes a table has, and the name of the one that it makes is new among all indexes.
+use Rattle.std.proofs.Common.{◌≡◌, ℕ, ◌-◌, Bool, true, false, eqb, nat_lt, List, [], ◌∷◌, length, map, Option, Some, None, Result, Ok, Err, refl, sym, ap, subst, ◌∙◌, length-set}
+use Rattle.std.specs.Prelude.{not}
 use Rattle.std.proofs.Math.Seq.{map-set_same}
+use Rattle.std.proofs.lemmas.List.{length-map}
+use Rattle.key_expr.specs.Expression.{Expression, expression_in}
 use Rattle.table_core.specs.declared.cursor.Cursor.{Cursor}
 use Rattle.table_core.specs.EditValue.{EditValue}
 use Rattle.table_core.specs.EditValue as edit_of
@@ -8,24 +11,29 @@ use Rattle.table_core.specs.declared.edits.planned.Target.{Target}
 use Rattle.table_core.specs.declared.refusal.Refusal.{Refusal}
 use Rattle.table_core.specs.CellFaults.{kept}
 use Rattle.table_core.specs.Content.{Content, Indexed}
-use Rattle.table_core.specs.Edits.{edited, field_at, with_value}
+use Rattle.table_core.specs.Edits.{edited, field_at, with_value, with_made_index}
 use Rattle.dbf_fields.specs.Cell.{stored}
 use Rattle.dbf_fields.specs.declared.format.TheConstants.{MEMO}
 use Rattle.dbf_image.specs.Table.{is_memo_text}
-use Rattle.table_core.specs.declared.refusal.Refusal.TheVariants.{TypeMismatch, BadText}
+use Rattle.table_core.specs.declared.refusal.Refusal.TheVariants.{TypeMismatch, BadText, BadExpression, IndexNameUsed, TooManyIndexes}
 use Rattle.table_core.specs.Edits as edits
 use Rattle.table_core.specs.Outcomes.{found, granted, passed}
 use Rattle.dbf_fields.specs.declared.cell.CellFault.{CellFault}
 use Rattle.lock_table.specs.Locks.{Lock}
 use Rattle.catalogue_core.specs.declared.answer.Answer.{Answer}
+use Rattle.catalogue_core.specs.declared.answer.Answer.TheVariants.{Done}
 use Rattle.catalogue_core.specs.declared.area.Area.{Area}
 use Rattle.catalogue_core.specs.declared.command.Command.{Command}
-use Rattle.catalogue_core.specs.declared.command.Command.TheVariants.{Select, UseTable, CloseTable, Go, Top, Bottom, Skip, Seek, Order, AppendBlank, Replace, Memo, Delete, Recall, Pack, Unlock, UnlockAll, Show, RecordLock, RecordLocks, FileLock, Ask, Bad}
+use Rattle.catalogue_core.specs.declared.command.Command.TheVariants.{Select, UseTable, CloseTable, Go, Top, Bottom, Skip, Seek, Order, AppendBlank, Replace, Memo, Delete, Recall, Pack, IndexOn, Unlock, UnlockAll, Show, RecordLock, RecordLocks, FileLock, Ask, Bad}
 use Rattle.catalogue_core.specs.declared.entry.Entry.{Entry}
-use Rattle.catalogue_core.specs.Replay.{History, after, start, state_of}
+use Rattle.catalogue_core.specs.declared.opening.TheConstants.{MAX_INDEXES}
+use Rattle.catalogue_core.specs.IndexOn.{is_any_index, index_target, new_index}
+use Rattle.catalogue_core.specs.Replay.{History, after, start, state_of, names_of}
 use Rattle.catalogue_core.specs.State.{State, no_content, table_of, area_of, without_lock}
-use Rattle.catalogue_core.specs.Step.{Outcome, outcome, step, settled, lock, with_edit, move, change_record}
+use Rattle.catalogue_core.specs.Step.{Outcome, outcome, step, settled, lock, with_edit, move, change_record, index_on}
 use Rattle.catalogue_core.specs.Tables.{NamedTable}
+use Rattle.whole_run.proofs.Headings.{Heading, heading, headings, AreNewTables}
+use Rattle.whole_run.proofs.NewNames.{added}
 
 -- ---- the outcomes of tests in a row
 
@@ -108,40 +116,106 @@ move_keeps s station to = search (if_found, if_passed_any)
 change_keeps : (s : State) (station : ℕ) (by : EditValue) → IfGranted (Keeps s) (change_record s station by)
 change_keeps s station by = search (if_passed_any, edited_keeps, with_edit_keeps)
 
-command_keeps : (s : State) (station : ℕ) (command : Command) → IfGranted (Keeps s) (outcome s station command)
-command_keeps s station (Select number) = search (if_granted)
-command_keeps s station (UseTable name exclusive) = search (if_found, if_granted, if_passed_any, close_keeps)
-command_keeps s station CloseTable = close_keeps s station (area_of s station)
-command_keeps s station (Go number) = search (move_keeps)
-command_keeps s station Top = search (move_keeps)
-command_keeps s station Bottom = search (move_keeps)
-command_keeps s station (Skip steps) = search (move_keeps)
-command_keeps s station (Seek text) = search (move_keeps)
-command_keeps s station (Order number) = search (move_keeps)
-command_keeps s station AppendBlank = search (if_found, if_granted, edited_keeps, with_edit_keeps)
-command_keeps s station (Replace field value) = change_keeps s station (edit_of.Replace field value)
-command_keeps s station (Memo field text) = change_keeps s station (edit_of.Memo field text)
-command_keeps s station Delete = change_keeps s station edit_of.Delete
-command_keeps s station Recall = change_keeps s station edit_of.Recall
-command_keeps s station Pack = search (if_found, if_granted, edited_keeps, with_edit_keeps)
-command_keeps s station Unlock = search (if_found)
-command_keeps s station UnlockAll = refl
-command_keeps s station (Show field) = search (if_found, if_passed_any)
-command_keeps s station RecordLock = search (if_found, lock_keeps)
-command_keeps s station (RecordLocks numbers) = search (if_found, if_granted, lock_keeps)
-command_keeps s station FileLock = search (if_found, lock_keeps)
-command_keeps s station (Ask question) = search (if_found)
-command_keeps s station Bad = tt
+-- it is another command than INDEX ON
+abbrev IsOther : Command → Type 0
+IsOther (IndexOn text name) = ⊥
+IsOther _ = Unit {0}
 
-settled_keeps : (s : State) (o : Outcome) → IfGranted (Keeps s) o → Keeps s (settled s o)
-settled_keeps s (Ok end) h = h
-settled_keeps s (Err refusal) h = refl
+command_keeps : (s : State) (station : ℕ) (command : Command) → IsOther command → IfGranted (Keeps s) (outcome s station command)
+command_keeps s station (Select number) other = search (if_granted)
+command_keeps s station (UseTable name exclusive) other = search (if_found, if_granted, if_passed_any, close_keeps)
+command_keeps s station CloseTable other = close_keeps s station (area_of s station)
+command_keeps s station (Go number) other = search (move_keeps)
+command_keeps s station Top other = search (move_keeps)
+command_keeps s station Bottom other = search (move_keeps)
+command_keeps s station (Skip steps) other = search (move_keeps)
+command_keeps s station (Seek text) other = search (move_keeps)
+command_keeps s station (Order number) other = search (move_keeps)
+command_keeps s station AppendBlank other = search (if_found, if_granted, edited_keeps, with_edit_keeps)
+command_keeps s station (Replace field value) other = change_keeps s station (edit_of.Replace field value)
+command_keeps s station (Memo field text) other = change_keeps s station (edit_of.Memo field text)
+command_keeps s station Delete other = change_keeps s station edit_of.Delete
+command_keeps s station Recall other = change_keeps s station edit_of.Recall
+command_keeps s station Pack other = search (if_found, if_granted, edited_keeps, with_edit_keeps)
+command_keeps s station (IndexOn text name) other = absurd other
+command_keeps s station Unlock other = search (if_found)
+command_keeps s station UnlockAll other = refl
+command_keeps s station (Show field) other = search (if_found, if_passed_any)
+command_keeps s station RecordLock other = search (if_found, lock_keeps)
+command_keeps s station (RecordLocks numbers) other = search (if_found, if_granted, lock_keeps)
+command_keeps s station FileLock other = search (if_found, lock_keeps)
+command_keeps s station (Ask question) other = search (if_found)
+command_keeps s station Bad other = tt
+
+-- ---- INDEX ON
+
+-- there are as many tables, and where each name was new at its place, each is
+record IsNewStill (s : State) (end : State × Answer) : Type 0 where
+  count : length end.0.tables ≡ length s.tables
+  new : (names : List (List ℕ)) → AreNewTables [] (headings names s.tables) → AreNewTables [] (headings names end.0.tables)
+
+same_headings : (names : List (List ℕ)) (ts us : List Content) → indexes_of ts ≡ indexes_of us → headings names ts ≡ headings names us
+same_headings [] ts us e = refl
+same_headings (n ∷ ns) [] [] e = refl
+same_headings (n ∷ ns) [] (u ∷ us) e = absurd cc
+same_headings (n ∷ ns) (t ∷ ts) [] e = absurd cc
+same_headings (n ∷ ns) (t ∷ ts) (u ∷ us) e =
+    let first : t.indexes ≡ u.indexes = cc in
+    let others : indexes_of ts ≡ indexes_of us = cc in
+    let rest = same_headings ns ts us others in
+    cc
+
+same_still : (s : State) (o : Outcome) → IfGranted (Keeps s) o → IfGranted (IsNewStill s) o
+same_still s (Err refusal) h = tt
+same_still s (Ok end) h = record {
+  count = sym (length-map end.0.tables (λ (c : Content). c.indexes)) ∙ ap length h ∙ length-map s.tables (λ (c : Content). c.indexes);
+  new = λ names was. subst (λ (ts : List Heading). AreNewTables [] ts) (sym (same_headings names end.0.tables s.tables h)) was;
+}
+
+-- the name is that of no index, and the table can have one more
+if_new : {Y : Type 0} (P : Y → Type 0) (used few : Bool) (index : Indexed) (act : Indexed → Result Y Refusal) → (used ≡ false → few ≡ true → IfGranted P (act index))
+    → IfGranted P (passed (granted (not used) IndexNameUsed (granted few TooManyIndexes (Ok index))) act)
+if_new P true few index act h = tt
+if_new P false true index act h = h refl refl
+if_new P false false index act h = tt
+
+index_on_still : (s : State) (station : ℕ) (text name : List ℕ) → IfGranted (IsNewStill s) (index_on s station text name)
+index_on_still s station text name =
+    if_passed_any (IsNewStill s) (index_target s station name) _ (λ area.
+    if_found (IsNewStill s) (expression_in (table_of s area).table.schema text) BadExpression _ (λ e.
+    let index : Indexed = record { name = name; expr = e } in
+    let act : Indexed → Outcome = λ i. Ok (with_edit s station area (with_made_index (table_of s area) area.cursor i), Done) in
+    if_new (IsNewStill s) (is_any_index s.tables name) (nat_lt (length (table_of s area).indexes) MAX_INDEXES) index act (λ none few. record {
+      count = length-set s.tables (area.table - 1) _;
+      new = λ names was. added [] names s.tables (area.table - 1) index refl none few was;
+    })))
+
+outcome_still : (s : State) (station : ℕ) (command : Command) → IfGranted (IsNewStill s) (outcome s station command)
+outcome_still s station (IndexOn text name) = index_on_still s station text name
+outcome_still s station command = same_still s (outcome s station command) (command_keeps s station command tt)
+
+settled_still : (s : State) (o : Outcome) → IfGranted (IsNewStill s) o → IsNewStill s (settled s o)
+settled_still s (Ok end) h = h
+settled_still s (Err refusal) h = record { count = refl; new = λ names was. was }
 
 -- ---- a journal
 
-after_keeps : (s : State) (journal : List Entry) → indexes_of (after s journal).tables ≡ indexes_of s.tables
-after_keeps s [] = refl
-after_keeps s (e ∷ es) = after_keeps (step s e.station e.command).0 es ∙ settled_keeps s (outcome s e.station e.command) (command_keeps s e.station e.command)
+pub after_count : (s : State) (journal : List Entry) → length (after s journal).tables ≡ length s.tables
+after_count s [] = refl
+after_count s (e ∷ es) = after_count (step s e.station e.command).0 es ∙ (settled_still s (outcome s e.station e.command) (outcome_still s e.station e.command)).count
 
-pub replay_keeps : (h : History) → indexes_of (state_of h).tables ≡ indexes_of (map (λ (t : NamedTable). t.content) h.opened.tables)
-replay_keeps h = after_keeps (start h.opened) h.journal
+after_new : (s : State) (journal : List Entry) (names : List (List ℕ)) → AreNewTables [] (headings names s.tables) → AreNewTables [] (headings names (after s journal).tables)
+after_new s [] names was = was
+after_new s (e ∷ es) names was = after_new (step s e.station e.command).0 es names ((settled_still s (outcome s e.station e.command) (outcome_still s e.station e.command)).new names was)
+
+-- there are as many tables as were opened
+pub replay_count : (h : History) → length (state_of h).tables ≡ length h.opened.tables
+replay_count h = after_count (start h.opened) h.journal ∙ length-map h.opened.tables (λ (t : NamedTable). t.content)
+
+opened_headings : (ts : List NamedTable) → headings (map (λ (t : NamedTable). t.name) ts) (map (λ (t : NamedTable). t.content) ts) ≡ map heading ts
+opened_headings [] = refl
+opened_headings (t ∷ ts) = ap (λ (l : List Heading). heading t ∷ l) (opened_headings ts)
+
+-- where each name was new at its place at opening, so is each at the end
+pub replay_new : (h : History) → AreNewTables [] (map heading h.opened.tables) → AreNewTables [] (headings (names_of h.opened) (state_of h).tables)
+replay_new h opened = after_new (start h.opened) h.journal (names_of h.opened) (subst (λ (ts : List Heading). AreNewTables [] ts) (sym (opened_headings h.opened.tables)) opened)

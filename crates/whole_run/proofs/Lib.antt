@@ -4,7 +4,8 @@ pub mod HandingLaws
 pub mod WholeRunLaws
 pub mod TrimmedText
 pub mod WrittenFiles
-pub mod IndexesKept
 pub mod Headings
+pub mod NewNames
+pub mod IndexesKept
 pub mod HandedNames
 pub mod OpenLaws

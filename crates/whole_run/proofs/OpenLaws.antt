@@ -19,7 +19,7 @@ use Rattle.catalogue_core.specs.declared.opening.OpenFault.TheVariants.{NoStatio
 use Rattle.catalogue_core.specs.declared.source.IndexSource.{IndexSource}
 use Rattle.catalogue_core.specs.declared.source.TableSource.{TableSource}
 use Rattle.catalogue_core.specs.Opening.{Passing, Then, Made, Reading, IsFresh, IfFresh, IndexOpening, IndexesOpening, TableOpening, TablesOpening, Opening, next_table, next_index, is_index, has_table, table_tests, count_tests, without_indexes}
-use Rattle.catalogue_core.specs.Replay.{History}
+use Rattle.catalogue_core.specs.Replay.{History, names_of, state_of}
 use Rattle.catalogue_core.specs.Tables.{NamedTable}
 use Rattle.station_files.specs.declared.closed.ClosedTable.{ClosedTable}
 use Rattle.station_files.specs.ClosedIndex.{IndexContent}
@@ -27,8 +27,9 @@ use Rattle.station_files.specs.Closing.{first_blocked}
 use Rattle.station_files.specs.Writable.{has_too_many}
 use Rattle.whole_run.specs.HandedOver.{index_of, end_of, IsIndexFor, IsHandedOver, AreHandedOver}
 use Rattle.whole_run.specs.ReadBack.{IsFileFor, trimmed_expression, trimmed_index, with_trimmed, IsIndexReadBack, AreIndexesReadBack, IsTableReadBack, AreTablesReadBack, IsOpenedAsLeft, IsReopened, OpenAsLeft}
-use Rattle.whole_run.proofs.Headings.{Heading, index_names, source_names, heading, source_heading, is_index_name, AreNewIndexes, IsNewTable, AreNewTables, is_index-names, has_table-names, passing_ok, table_opened, tables_opened}
-use Rattle.whole_run.proofs.HandedNames.{read_headings, handed_headings}
+use Rattle.whole_run.proofs.Headings.{Heading, index_names, source_names, heading, headings, source_heading, is_index_name, AreNewIndexes, IsNewTable, AreNewTables, is_index-names, has_table-names, passing_ok, table_opened, tables_opened}
+use Rattle.whole_run.proofs.IndexesKept.{replay_new}
+use Rattle.whole_run.proofs.HandedNames.{closed_heading, read_headings, handed_headings}
 use Rattle.whole_run.proofs.HandingLaws.{get_front, get_last}
 use Rattle.whole_run.proofs.WrittenFiles.{read_again, file_for}
 
@@ -272,9 +273,12 @@ opens_as_left given seats read h tables start handed blocks_fit year month day s
     (r.0, r.1, subst (λ (k : ℕ). IsHandedOver h k r.0) there r.2)) blocks_fit in
     let began = passing_ok (count_tests (length read) seats) (TablesOpening given none read) h.opened.tables start in
     let first = tables_opened given none read h.opened.tables began.1 in
-    let same : map source_heading sources ≡ map source_heading read = read_headings year month day tables sources back ∙ handed_headings h tables handed ∙ first.0 in
-    let new : AreNewTables [] (map source_heading sources) = subst (λ (l : List Heading). AreNewTables [] l) (sym same) first.1 in
-    let many : length sources ≡ length read = sym (length-map sources source_heading) ∙ ap length same ∙ length-map read source_heading in
+    let same : map source_heading sources ≡ headings (names_of h.opened) (state_of h).tables = read_headings year month day tables sources back ∙ handed_headings h tables handed in
+    let opened : AreNewTables [] (map heading h.opened.tables) = subst (λ (l : List Heading). AreNewTables [] l) (sym first.0) first.1 in
+    let new : AreNewTables [] (map source_heading sources) = subst (λ (l : List Heading). AreNewTables [] l) (sym same) (replay_new h opened) in
+    let many : length sources ≡ length read =
+    sym (length-map sources source_heading) ∙ ap length (read_headings year month day tables sources back) ∙ length-map tables closed_heading ∙ handed.count
+    ∙ sym (length-map h.opened.tables heading) ∙ ap length first.0 ∙ length-map read source_heading in
     let fits : nat_le (length sources) MAX_TABLES ≡ true = ap (λ (k : ℕ). nat_le k MAX_TABLES) many ∙ third_passed (nat_le 1 seats) (nat_le seats MAX_STATIONS) (nat_le (length read) MAX_TABLES) NoStation TooManyStations TooManyTables began.0 in
     as_left h n outcome (omega (arith, handed.count))
     (of_tests P (count_tests (length sources) stations) (TablesOpening reindex none sources) outcome
