@@ -1,5 +1,6 @@
 mod asked;
 mod cells;
+mod index_on;
 mod lists;
 mod memos;
 mod openings;

@@ -26,6 +26,7 @@ pub enum Asked {
     Delete,
     Recall,
     Pack,
+    IndexOn(&'static [u8]),
     Unlock,
     UnlockAll,
     Show,
@@ -84,6 +85,7 @@ pub(crate) fn command_of(alloc: Global, asked: Asked, name: &[u8]) -> Result<Com
         Asked::Show => Ok(Command::Show(name)),
         Asked::Replace(value) => replace(alloc, name, value),
         Asked::Memo(text) => memo(alloc, name, text),
+        Asked::IndexOn(text) => index_on(alloc, text, name),
         Asked::RecordLocks(numbers) => record_locks(alloc, numbers),
         other => Ok(plain(other)),
     }
@@ -92,6 +94,11 @@ pub(crate) fn command_of(alloc: Global, asked: Asked, name: &[u8]) -> Result<Com
 fn record_locks(alloc: Global, numbers: &[u64]) -> Result<Command, Fail> {
     let numbers = Numbers::from_vec(Vec::from_slice(alloc, numbers)?);
     Ok(Command::RecordLocks(numbers))
+}
+
+fn index_on(alloc: Global, text: &[u8], name: Bytes) -> Result<Command, Fail> {
+    let expr = Bytes::from_slice(alloc, text)?;
+    Ok(Command::IndexOn { expr, name })
 }
 
 fn use_table(name: Bytes, exclusive: bool) -> Command {
@@ -179,12 +186,23 @@ pub(crate) fn is_answered(
     case: Case,
 ) -> Result<bool, Fail> {
     let (station, asked, name, expected) = case;
+    let command = command_of(alloc, asked, name)?;
+    performs(alloc, catalogue, station, &command, expected)
+}
+
+// Performs a station's command, and tells whether its answer is the expected one and its number the next.
+pub(crate) fn performs(
+    alloc: Global,
+    catalogue: &mut Catalogue,
+    station: u32,
+    command: &Command,
+    expected: Expected,
+) -> Result<bool, Fail> {
     if station < 1 || station > catalogue.station_count() {
         return Err("there is no such station".into());
     }
     let before = catalogue.journal().len() as u64;
-    let command = command_of(alloc, asked, name)?;
-    let (number, answer) = catalogue.perform(alloc, station, &command)?;
+    let (number, answer) = catalogue.perform(alloc, station, command)?;
     Ok(number > before && number - 1 == before && is_expected(&answer, expected))
 }
 

@@ -1,9 +1,8 @@
 //! The faults of opening, in order, and the indexes that are taken over.
 
 use super::asked::{Asked, Case, Expected, first_other};
-use super::sample::open;
-use dbf_fields::{Bytes, CHARACTER, Field, Schema};
-use dbf_image::TableData;
+use super::sample::{open, three_records};
+use dbf_fields::Bytes;
 use key_expr::{ExprFault, Key};
 use ndx_index::{NdxFile, Pair};
 use shared_catalogue::{Catalogue, IndexSource, OpenFault, Question, TableSource};
@@ -29,19 +28,6 @@ const X: Index = (b"X", b"NAME", 1, PAIRS);
 const LONG: Index = (b"Y", b"NAME", 2, PAIRS);
 
 const BAD: Index = (b"Z", b"NAME+", 1, PAIRS);
-
-// A table with the field NAME of one character, and the records B, A, A.
-fn three_records(alloc: Global) -> Result<TableData, Fail> {
-    let fields = [Field::new(alloc, b"NAME", CHARACTER, 1, 0)?];
-    let mut table = TableData::empty(alloc, Schema::new(alloc, &fields)?);
-    for record in [b" B", b" A", b" A"] {
-        if table.record_count() > 2 || table.schema().record_length() != 2 {
-            return Err("no such table".into());
-        }
-        table.append_record(record)?;
-    }
-    Ok(table)
-}
 
 fn index_of(alloc: Global, index: Index) -> Result<IndexSource, Fail> {
     let (name, expr, key_len, letters) = index;

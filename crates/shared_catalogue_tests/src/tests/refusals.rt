@@ -1,4 +1,5 @@
 //! Every refusal of every command but `TableFull`, each alone and before those that come after it in the command's order.
+//! Those of INDEX ON are in `index_on.rt`.
 
 use super::asked::{Asked, Case, Expected, Text, Value, first_other};
 use super::sample::{blank_table, named, open};

@@ -1,0 +1,210 @@
+//! INDEX ON: its refusals in their order, and that an index that was made is kept by all later writes.
+
+use super::asked::{Asked, Case, Expected, Value, first_other};
+use super::sample::{named, open, three_records};
+use shared_catalogue::{Catalogue, Question};
+use std::alloc::Global;
+use std::test::Fail;
+
+// The catalogue of the tables T and U, each with the records B, A, A, for two stations.
+fn opened(alloc: Global) -> Result<Catalogue, Fail> {
+    let first = named(alloc, b"T", three_records(alloc)?)?;
+    let second = named(alloc, b"U", three_records(alloc)?)?;
+    open(alloc, vec![in alloc; first, second]?, 2)
+}
+
+// The name, then the table, then its exclusive use are asked for.
+const BEFORE_THE_EXPRESSION: [Case; 9] = [
+    (1, Asked::IndexOn(b"NAME+"), b"", Expected::Refused(19)),
+    (1, Asked::IndexOn(b"NAME+"), b"9X", Expected::Refused(19)),
+    (1, Asked::IndexOn(b"NAME+"), b"X-1", Expected::Refused(19)),
+    (
+        1,
+        Asked::IndexOn(b"NAME+"),
+        b"LONGNAME9",
+        Expected::Refused(19),
+    ),
+    (1, Asked::IndexOn(b"NAME+"), b"X", Expected::Refused(2)),
+    (1, Asked::Use, b"T", Expected::Ok),
+    (1, Asked::IndexOn(b"NAME+"), b"X", Expected::Refused(4)),
+    (1, Asked::IndexOn(b"NAME"), b"X", Expected::Refused(4)),
+    (1, Asked::UseExclusive, b"T", Expected::Ok),
+];
+
+// The index is the order, the cursor is at the top, and the last refusals are told.
+const MADE: [Case; 14] = [
+    (1, Asked::Bottom, b"", Expected::Ok),
+    (1, Asked::IndexOn(b"upper( name )"), b"X", Expected::Ok),
+    (1, Asked::Ask(Question::Recno), b"", Expected::Number(2)),
+    (1, Asked::Seek, b"B", Expected::Ok),
+    (1, Asked::Ask(Question::Recno), b"", Expected::Number(1)),
+    (1, Asked::Order(2), b"", Expected::Refused(18)),
+    (1, Asked::IndexOn(b""), b"Y", Expected::Refused(21)),
+    (1, Asked::IndexOn(b"NAME+"), b"Y", Expected::Refused(21)),
+    (1, Asked::IndexOn(b"ZIP"), b"Y", Expected::Refused(21)),
+    (1, Asked::IndexOn(b"ZIP"), b"X", Expected::Refused(21)),
+    (1, Asked::IndexOn(&[b' '; 489]), b"X", Expected::Refused(21)),
+    (1, Asked::IndexOn(b"NAME"), b"X", Expected::Refused(22)),
+    (
+        1,
+        Asked::IndexOn(b"NAME"),
+        b"LONGNAME9",
+        Expected::Refused(19),
+    ),
+    (1, Asked::Ask(Question::Recno), b"", Expected::Number(1)),
+];
+
+// Seven are the most, and a name that is used is told before that.
+const SEVEN: [Case; 9] = [
+    (1, Asked::IndexOn(b"NAME"), b"A1", Expected::Ok),
+    (1, Asked::IndexOn(b"NAME"), b"A2", Expected::Ok),
+    (1, Asked::IndexOn(b"NAME"), b"A3", Expected::Ok),
+    (1, Asked::IndexOn(b"NAME"), b"A4", Expected::Ok),
+    (1, Asked::IndexOn(b"NAME"), b"A5", Expected::Ok),
+    (1, Asked::IndexOn(b"NAME"), b"A6", Expected::Ok),
+    (1, Asked::IndexOn(b"NAME"), b"A6", Expected::Refused(22)),
+    (1, Asked::IndexOn(b"NAME"), b"A7", Expected::Refused(23)),
+    (1, Asked::Order(7), b"", Expected::Ok),
+];
+
+// No table has an index of the name of another's, though nobody has that table open.
+const OF_ALL_TABLES: [Case; 4] = [
+    (1, Asked::UseExclusive, b"U", Expected::Ok),
+    (1, Asked::IndexOn(b"NAME"), b"A3", Expected::Refused(22)),
+    (1, Asked::IndexOn(b"NAME"), b"NAME_8_X", Expected::Ok),
+    (1, Asked::Order(1), b"", Expected::Ok),
+];
+
+// Whether the first table's index of a number, from 1, has this name and this text.
+fn has_index(catalogue: &Catalogue, number: usize, name: &[u8], text: &[u8]) -> bool {
+    if catalogue.table_count() == 0 {
+        return false;
+    }
+    let table = catalogue.table(1);
+    if number < 1 || number > table.index_count() {
+        return false;
+    }
+    table.index_name(number).as_slice() == name && table.expr(number).text() == text
+}
+
+#[test]
+fn index_on(rt: HostRuntime) -> Result<(), Fail> {
+    let alloc = rt.alloc();
+    let mut catalogue = opened(alloc)?;
+    assert_eq!(rt;
+        first_other(alloc, &mut catalogue, &BEFORE_THE_EXPRESSION)?,
+        None
+    );
+    assert_eq!(rt; first_other(alloc, &mut catalogue, &MADE)?, None);
+    assert_eq!(rt; first_other(alloc, &mut catalogue, &SEVEN)?, None);
+    assert_eq!(rt; first_other(alloc, &mut catalogue, &OF_ALL_TABLES)?, None);
+    assert!(rt; has_index(&catalogue, 1, b"X", b"upper( name )"));
+    assert!(rt; has_index(&catalogue, 7, b"A6", b"NAME"));
+    Ok(())
+}
+
+// Seven indexes, by three orders: that of the letters' bytes, that of the letters in capitals, and that of both.
+const INDEXED: [Case; 9] = [
+    (1, Asked::UseExclusive, b"T", Expected::Ok),
+    (1, Asked::IndexOn(b"NAME"), b"X1", Expected::Ok),
+    (1, Asked::IndexOn(b"UPPER(NAME)"), b"X2", Expected::Ok),
+    (1, Asked::IndexOn(b"NAME+NAME"), b"X3", Expected::Ok),
+    (1, Asked::IndexOn(b"SUBSTR(NAME,1,1)"), b"X4", Expected::Ok),
+    (1, Asked::IndexOn(b"UPPER(NAME+NAME)"), b"X5", Expected::Ok),
+    (1, Asked::IndexOn(b"(NAME)"), b"X6", Expected::Ok),
+    (1, Asked::IndexOn(b"UPPER(NAME)+NAME"), b"X7", Expected::Ok),
+    (1, Asked::Close, b"", Expected::Ok),
+];
+
+// Which of the three orders each index has.
+const ORDERS: [usize; 7] = [0, 1, 0, 0, 1, 0, 2];
+
+const APPENDED: [Case; 3] = [
+    (1, Asked::Use, b"T", Expected::Ok),
+    (2, Asked::Use, b"T", Expected::Ok),
+    (2, Asked::Append, b"", Expected::Ok),
+];
+
+// Record 4 is `a`.
+const REPLACED: [Case; 2] = [
+    (2, Asked::RecordLock, b"", Expected::Truth(true)),
+    (2, Asked::Replace(Value::Text(b"a")), b"NAME", Expected::Ok),
+];
+
+// Record 2 is `a`, and marked as deleted.
+const DELETED: [Case; 4] = [
+    (1, Asked::Go(2), b"", Expected::Ok),
+    (1, Asked::RecordLock, b"", Expected::Truth(true)),
+    (1, Asked::Replace(Value::Text(b"a")), b"NAME", Expected::Ok),
+    (1, Asked::Delete, b"", Expected::Ok),
+];
+
+const PACKED: [Case; 4] = [
+    (1, Asked::Close, b"", Expected::Ok),
+    (2, Asked::Close, b"", Expected::Ok),
+    (2, Asked::UseExclusive, b"T", Expected::Ok),
+    (2, Asked::Pack, b"", Expected::Ok),
+];
+
+// Commands, and the records in the three orders after them.
+type Step = (&'static [Case], [&'static [u32]; 3]);
+
+const STEPS: [Step; 5] = [
+    (&INDEXED, [&[2, 3, 1], &[2, 3, 1], &[2, 3, 1]]),
+    (&APPENDED, [&[4, 2, 3, 1], &[4, 2, 3, 1], &[4, 2, 3, 1]]),
+    (&REPLACED, [&[2, 3, 1, 4], &[2, 3, 4, 1], &[2, 3, 4, 1]]),
+    (&DELETED, [&[3, 1, 2, 4], &[2, 3, 4, 1], &[3, 2, 4, 1]]),
+    (&PACKED, [&[2, 1, 3], &[2, 3, 1], &[2, 3, 1]]),
+];
+
+// Whether the first table's index of a number, from 1, has these records in this order.
+fn is_order(
+    alloc: Global,
+    catalogue: &Catalogue,
+    number: usize,
+    records: &[u32],
+) -> Result<bool, Fail> {
+    if catalogue.table_count() == 0 {
+        return Ok(false);
+    }
+    let table = catalogue.table(1);
+    if number < 1 || number > table.index_count() {
+        return Ok(false);
+    }
+    let pairs = table.index_pairs(alloc, number)?;
+    if pairs.len() != records.len() {
+        return Ok(false);
+    }
+    for i in 0..records.len() {
+        if pairs.get(i).number != records[i] {
+            return Ok(false);
+        }
+    }
+    Ok(true)
+}
+
+// Whether each of the seven indexes has the records in its order.
+fn are_orders(
+    alloc: Global,
+    catalogue: &Catalogue,
+    orders: [&'static [u32]; 3],
+) -> Result<bool, Fail> {
+    for i in 0..7 {
+        let order = ORDERS[i];
+        if order > 2 || !is_order(alloc, catalogue, i + 1, orders[order])? {
+            return Ok(false);
+        }
+    }
+    Ok(true)
+}
+
+#[test]
+fn made_index_is_kept(rt: HostRuntime) -> Result<(), Fail> {
+    let alloc = rt.alloc();
+    let mut catalogue = opened(alloc)?;
+    for (cases, orders) in STEPS {
+        assert_eq!(rt; first_other(alloc, &mut catalogue, cases)?, None);
+        assert!(rt; are_orders(alloc, &catalogue, orders)?);
+    }
+    Ok(())
+}
