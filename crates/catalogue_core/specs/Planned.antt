@@ -3,6 +3,7 @@ use Rattle.std.specs.Prelude.{◌≡◌, ℕ, ◌≤◌, true, List, length, Som
 use Rattle.lock_table.specs.declared.TheConstants.{MAX_RECORD_LOCKS}
 use Rattle.lock_table.specs.Numbers.{AreRecordNumbers}
 use Rattle.lock_table.specs.Locks.{free_record, free_records, free_whole, with_lock, with_records, without_all}
+use Rattle.key_expr.specs.Expression.{Expression}
 use Rattle.table_core.specs.declared.cursor.Cursor.{Cursor}
 use Rattle.table_core.specs.declared.refusal.Refusal.{Refusal}
 use Rattle.table_core.specs.declared.edits.planned.Planned.{Planned}
@@ -11,10 +12,12 @@ use Rattle.table_core.specs.declared.fault.TableFault.TheVariants.{Refused, NoMe
 use Rattle.table_core.specs.Content.{Content}
 use Rattle.table_core.specs.EditValue.{EditValue}
 use Rattle.table_core.specs.Moves.{top, bottom, go, skip, seek, set_order}
-use Rattle.table_core.specs.Edits.{edited}
+use Rattle.table_core.specs.Edits.{edited, with_made_index}
 use Rattle.table_core.specs.Planned.{changed as table_changed, cursor_after, carried_out, IsPlanned}
 use Rattle.catalogue_core.specs.declared.answer.Answer.{Answer}
+use Rattle.catalogue_core.specs.declared.answer.Answer.TheVariants.{Done}
 use Rattle.catalogue_core.specs.declared.area.Area.{Area}
+use Rattle.catalogue_core.specs.declared.command.Command.{Command}
 use Rattle.catalogue_core.specs.declared.change.Change.{Change}
 use Rattle.catalogue_core.specs.declared.change.Change.TheVariants.{Nothing, Select, Close, Open, Move, Edit, Pack, LockRecord, LockRecords, LockFile, Unlock, UnlockAll}
 use Rattle.catalogue_core.specs.declared.change.Plan.{Plan}
@@ -22,7 +25,8 @@ use Rattle.catalogue_core.specs.declared.plan.moves.Move.{Move as MoveTo}
 use Rattle.catalogue_core.specs.declared.plan.moves.Move.TheVariants as move_to
 use Rattle.catalogue_core.specs.Rooms.{WithRoom, seen, held_at}
 use Rattle.catalogue_core.specs.State.{State, table_of, with_current, with_area, with_held, without_lock, closed, IsArea}
-use Rattle.catalogue_core.specs.Step.{Outcome, with_edit}
+use Rattle.catalogue_core.specs.IndexOn.{index_early}
+use Rattle.catalogue_core.specs.Step.{Outcome, with_edit, early_outcome, outcome, index_on}
 
 -- what a move makes of a table's cursor
 abbrev pub after_move : MoveTo → Content → Cursor → Result Cursor Refusal
@@ -72,6 +76,18 @@ outcome_of s station (Err refusal) = Err refusal
 abbrev pub IsFaultAfter : {X Y : Type 0} → TableFault → Result X Refusal → Result Y Refusal → Type 0
 IsFaultAfter (Refused refusal) first outcome = outcome ≡ Err refusal
 IsFaultAfter NoMemory first outcome = IsOk first
+
+-- a fault of the plan of a command, and of an INDEX ON of a text and a name
+abbrev pub IsPlanFault : State → ℕ → Command → TableFault → Type 0
+IsPlanFault s station command fault = IsFaultAfter fault (early_outcome s station command) (outcome s station command)
+
+abbrev pub IsIndexOnFault : State → ℕ → List ℕ → List ℕ → TableFault → Type 0
+IsIndexOnFault s station text name fault = IsFaultAfter fault (index_early s station text name) (index_on s station text name)
+
+-- an INDEX ON of a text and a name that is not refused makes the index of the name and this expression in this area
+abbrev pub IsNewIndex : State → ℕ → List ℕ → List ℕ → Area × Expression → Type 0
+IsNewIndex s station text name made =
+    index_on s station text name ≡ Ok (with_edit s station made.0 (with_made_index (table_of s made.0) made.0.cursor (record { name = name; expr = made.1 })), Done)
 
 -- the area's table has the room that the edit is planned for
 abbrev pub CanEdit : WithRoom → Area → Planned → Type 0

@@ -1,7 +1,7 @@
 //! What a command will change, and what it will be answered: the refusals of each command, in order.
 
 ghost use Rattle.std.specs.Prelude.{◌≡◌, Ok, IfOk, IfErr, IsOk, OnErr};
-ghost use Rattle.catalogue_core.specs.Planned.{planned, CanChange, IsFaultAfter};
+ghost use Rattle.catalogue_core.specs.Planned.{planned, CanChange, IsPlanFault};
 ghost use Rattle.catalogue_core.specs.Rooms.{seen};
 ghost use Rattle.catalogue_core.specs.State.{IsState, HasStation};
 ghost use Rattle.catalogue_core.specs.Step.{early_outcome, outcome, step};
@@ -60,7 +60,7 @@ fn plan_command(
     requires station { HasStation (seen state.old) station }
     ensures planned { IfOk result (λ plan. outcome (seen state.old) station command.now ≡ Ok (planned (seen state.old) station plan)) }
     ensures can { IfOk result (λ plan. CanChange state.new station plan.change) }
-    ensures refused { IfErr result (λ fault. IsFaultAfter fault (early_outcome (seen state.old) station command.now) (outcome (seen state.old) station command.now)) }
+    ensures refused { IfErr result (IsPlanFault (seen state.old) station command.now) }
     ensures same { seen state.new ≡ seen state.old }
 {
     match command {

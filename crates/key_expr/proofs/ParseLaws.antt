@@ -9,7 +9,7 @@ use Rattle.key_expr.specs.declared.format.TheConstants.{MAX_EXPRESSION_BYTES}
 use Rattle.dbf_fields.specs.declared.field.Field.{Field}
 use Rattle.key_expr.specs.Grammar.{Expr, upper, Begin, EndsPoints, EndsWith, Sort, a_term, an_expr, Reads, one_term, sum, field_term, parens_term, upper_term, substr_term, str_term, dtoc_term, IsWholeExpression, str}
 use Rattle.key_expr.specs.Expression.{Expression, expression_in}
-use Rattle.key_expr.specs.Parse.{Parsed, before_close, windowed, term_first, added, summed, expression_first, whole, kinds_of, expr_of_tokens, where_kept, expr_in}
+use Rattle.key_expr.specs.Parse.{Parsed, in_parentheses, windowed, term_first, added, summed, expression_first, whole, kinds_of, expr_of_tokens, where_kept, expr_in}
 use Rattle.key_expr.specs.declared.fault.ExprFault.TheVariants.{NoMemory}
 use Rattle.key_expr.specs.Rules.{broken_rule, IsKeyText, IsFault}
 use Rattle.key_expr.specs.Tokens.{tokens_of}
@@ -41,7 +41,7 @@ IsParsed so (Some (e, ks)) ts = (rest : List Token) × Reads so e ts rest × (ki
 
 closed_parsed : (f : Expr → Expr) (parsed : Parsed) (ts us : List Token)
     → ((e : Expr) (vs rest : List Token) → Reads an_expr e us vs → Begin (Close ∷ []) vs rest → Reads a_term (f e) ts rest)
-    → IsParsed an_expr parsed us → IsParsed a_term (before_close f parsed) ts
+    → IsParsed an_expr parsed us → IsParsed a_term (in_parentheses f parsed) ts
 closed_parsed f (Some (e, Close ∷ ks)) ts us rule p = let b = begins (Close ∷ []) ks p.0 p.2 in (b.0, rule e p.0 b.0 p.1 b.1, b.2)
 closed_parsed f parsed ts us rule p = tt
 

@@ -63,3 +63,7 @@ AgreeButMemos fields cs ds = (i : ℕ) → IsNoMemo fields i → get_or cs i [] 
 -- it is the key of the cells, and of all others that are the same but for those of memos
 abbrev pub IsKeyWhateverMemos : List Field → List (List ℕ) → Expr → List ℕ → Type 0
 IsKeyWhateverMemos fields known e bytes = (cells : List (List ℕ)) → AgreeButMemos fields known cells → bytes ≡ key cells e
+
+-- the cells have one key, whatever stands in those of memos
+abbrev pub HasKeyWhateverMemos : List Field → List (List ℕ) → Expr → Type 0
+HasKeyWhateverMemos fields known e = IsKeyWhateverMemos fields known e (key known e)

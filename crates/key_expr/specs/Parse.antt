@@ -14,9 +14,9 @@ abbrev pub Parsed : Type 0
 Parsed = Option (Expr × List Kind)
 
 -- what is made of an expression before a closing parenthesis
-abbrev pub before_close : (Expr → Expr) → Parsed → Parsed
-before_close f (Some (e, Close ∷ rest)) = Some (f e, rest)
-before_close f parsed = None
+abbrev pub in_parentheses : (Expr → Expr) → Parsed → Parsed
+in_parentheses f (Some (e, Close ∷ rest)) = Some (f e, rest)
+in_parentheses f parsed = None
 
 -- what is made of the expression in a SUBSTR
 abbrev pub windowed : Parsed → Parsed
@@ -26,8 +26,8 @@ windowed parsed = None
 -- a term that stands first; `inside` parses the expressions in it
 abbrev pub term_first : (List Kind → Parsed) → List Kind → Parsed
 term_first inside (Name p ∷ rest) = Some (field p, rest)
-term_first inside (Open ∷ rest) = before_close (λ e. e) (inside rest)
-term_first inside (Upper ∷ Open ∷ rest) = before_close upper (inside rest)
+term_first inside (Open ∷ rest) = in_parentheses (λ e. e) (inside rest)
+term_first inside (Upper ∷ Open ∷ rest) = in_parentheses upper (inside rest)
 term_first inside (Substr ∷ Open ∷ rest) = windowed (inside rest)
 term_first inside (Str ∷ Open ∷ Name p ∷ Close ∷ rest) = Some (str p None None, rest)
 term_first inside (Str ∷ Open ∷ Name p ∷ Comma ∷ Number n ∷ Close ∷ rest) = Some (str p (Some n) None, rest)

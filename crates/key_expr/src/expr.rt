@@ -8,7 +8,7 @@ ghost use Rattle.key_expr.specs.declared.format.TheConstants.{MAX_EXPRESSION_BYT
 ghost use Rattle.key_expr.specs.Grammar.{Expr};
 ghost use Rattle.key_expr.specs.TreeExpr.{expr_of};
 ghost use Rattle.key_expr.specs.KeptLengths.{KeepsLengths};
-ghost use Rattle.key_expr.specs.Keys.{key, key_length, names, IsKeyWhateverMemos};
+ghost use Rattle.key_expr.specs.Keys.{key, key_length, names, HasKeyWhateverMemos, IsKeyWhateverMemos};
 ghost use Rattle.dbf_fields.specs.Layout.{cells_of};
 ghost use Rattle.key_expr.specs.Rules.{IsKeyText, IsFault};
 ghost use Rattle.key_expr.specs.Expression.{IsAnswer, expression_in};
@@ -165,7 +165,7 @@ impl KeyExpr {
     pub fn has_key(&self, record_bytes: &[u8], bytes: &[u8]) -> bool
         requires long { length record_bytes.now ≡ 1 + widths self.now.fields }
         ensures value { IsTrue result ↔ (key (cells_of self.now.fields (drop 1 record_bytes.now)) self.now.expr ≡ bytes.now) }
-        ensures row { IsKeyWhateverMemos self.now.fields (cells_of self.now.fields (drop 1 record_bytes.now)) self.now.expr (key (cells_of self.now.fields (drop 1 record_bytes.now)) self.now.expr) }
+        ensures row { HasKeyWhateverMemos self.now.fields (cells_of self.now.fields (drop 1 record_bytes.now)) self.now.expr }
         ensures long { IsTrue result → length bytes.now ≡ key_length self.now.fields self.now.expr }
     {
         match &self.tree {

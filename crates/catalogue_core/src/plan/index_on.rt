@@ -8,13 +8,11 @@ ghost use Rattle.key_expr.specs.declared.format.TheConstants.{MAX_EXPRESSION_BYT
 ghost use Rattle.key_expr.specs.Expression.{Expression, expression_in};
 ghost use Rattle.table_core.specs.declared.fault.TableFault.TheVariants.{Refused, NoMemory};
 ghost use Rattle.table_core.specs.declared.refusal.Refusal.TheVariants.{BadExpression};
-ghost use Rattle.table_core.specs.Edits.{with_made_index};
-ghost use Rattle.catalogue_core.specs.declared.answer.Answer.TheVariants.{Done};
-ghost use Rattle.catalogue_core.specs.IndexOn.{index_early, index_target, is_index_name as is_name, new_index};
-ghost use Rattle.catalogue_core.specs.Planned.{planned, CanChange, IsFaultAfter};
+ghost use Rattle.catalogue_core.specs.IndexOn.{index_target, is_index_name as is_name, new_index};
+ghost use Rattle.catalogue_core.specs.Planned.{planned, CanChange, IsIndexOnFault, IsNewIndex};
 ghost use Rattle.catalogue_core.specs.Rooms.{seen};
 ghost use Rattle.catalogue_core.specs.State.{area_of, table_of, IsState, HasStation, IsArea};
-ghost use Rattle.catalogue_core.specs.Step.{index_on, with_edit};
+ghost use Rattle.catalogue_core.specs.Step.{index_on};
 
 use crate::area::Area;
 use crate::change::{Change, Plan};
@@ -109,10 +107,10 @@ fn find_new_index(
 ) -> Result<(Area, KeyExpr), TableFault>
     requires state { IsState (seen state.now) }
     requires station { HasStation (seen state.now) station }
-    ensures made { IfOk result (λ made. index_on (seen state.now) station text.now name.now ≡ Ok (with_edit (seen state.now) station made.0 (with_made_index (table_of (seen state.now) made.0) made.0.cursor (record { name = name.now; expr = made.1 })), Done)) }
+    ensures made { IfOk result (IsNewIndex (seen state.now) station text.now name.now) }
     ensures is_area { IfOk result (λ made. IsArea (seen state.now).tables made.0) }
     ensures fields { IfOk result (λ made. made.1.fields ≡ (table_of (seen state.now) made.0).table.schema) }
-    ensures refused { IfErr result (λ fault. IsFaultAfter fault (index_early (seen state.now) station text.now name.now) (index_on (seen state.now) station text.now name.now)) }
+    ensures refused { IfErr result (IsIndexOnFault (seen state.now) station text.now name.now) }
 {
     let area = find_index_target(state, station, name)?;
     let expr = read_key(alloc, text.as_slice(), state.table(area.table).schema())?;
@@ -131,7 +129,7 @@ pub(crate) fn plan_index_on(
     requires station { HasStation (seen state.now) station }
     ensures planned { IfOk result (λ plan. index_on (seen state.now) station text.now name.now ≡ Ok (planned (seen state.now) station plan)) }
     ensures can { IfOk result (λ plan. CanChange state.now station plan.change) }
-    ensures refused { IfErr result (λ fault. IsFaultAfter fault (index_early (seen state.now) station text.now name.now) (index_on (seen state.now) station text.now name.now)) }
+    ensures refused { IfErr result (IsIndexOnFault (seen state.now) station text.now name.now) }
 {
     let (area, expr) = find_new_index(alloc, state, station, text, name)?;
     let index = state.plan_index(alloc, area, name.copy(alloc)?, expr)?;
