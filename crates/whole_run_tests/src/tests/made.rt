@@ -105,10 +105,7 @@ fn index_file(alloc: Global, expression: &[u8]) -> Result<Vec<u8>, AllocError> {
 }
 
 // What is written by the run in which the indexes are made.
-fn folder_of_made<R: Threads + Wait + Sync>(
-    rt: &R,
-    alloc: Global,
-) -> Result<MemoryFolder, Fail> {
+fn folder_of_made<R: Threads + Wait + Sync>(rt: &R, alloc: Global) -> Result<MemoryFolder, Fail> {
     let mut source = office(alloc, SETUP, SCRIPT)?;
     source.files.push(named(alloc, b"names.dbf", &NAMES)?)?;
     let mut folder = MemoryFolder::new(alloc);
@@ -121,7 +118,11 @@ fn folder_of_made<R: Threads + Wait + Sync>(
 // The place of the first index whose file isn't the one that is meant: X by its own text, the others by NAME.
 fn first_other_file(alloc: Global, folder: &MemoryFolder) -> Result<Option<usize>, Fail> {
     for (index, name) in INDEX_FILES.iter().enumerate() {
-        let text: &[u8] = if index == 0 { b"upper( name )" } else { b"NAME" };
+        let text: &[u8] = if index == 0 {
+            b"upper( name )"
+        } else {
+            b"NAME"
+        };
         let wanted = index_file(alloc, text)?;
         if !has_file(folder, index.saturating_add(1), name, wanted.as_slice()) {
             return Ok(Some(index));
@@ -146,7 +147,11 @@ fn made_indexes_are_written(rt: HostRuntime) -> Result<(), Fail> {
 fn made_indexes_are_opened_again(rt: HostRuntime) -> Result<(), Fail> {
     let alloc = rt.alloc();
     let written = folder_of_made(&rt, alloc)?;
-    let mut source = office(alloc, SETUP_AGAIN, b"USE T\nSET ORDER TO 7\nGO TOP\n? RECNO()\n")?;
+    let mut source = office(
+        alloc,
+        SETUP_AGAIN,
+        b"USE T\nSET ORDER TO 7\nGO TOP\n? RECNO()\n",
+    )?;
     for file in &written.files {
         let file = named(alloc, file.name.as_slice(), file.bytes.as_slice())?;
         source.files.push(file)?;
