@@ -1,0 +1,86 @@
+-- How a run of a disk's calls goes on, and what a crash in it leaves.
+use Rattle.std.proofs.Common.{inl, inr, ⊎_elim, ℕ, arith}
+use Rattle.files_in_place.specs.Folder.{Folder}
+use Rattle.files_in_place.specs.Disk.{AfterStep, ComesBy, Shrinks, Elapses, LeavesOnly}
+
+-- a relation between folders that holds of no step and of two
+pub record IsStep (step : Folder → Folder → Type 0) : Type 0 where
+  pub still : (d : Folder) → step d d
+  pub both : (a b c : Folder) → step a b → step b c → step a c
+
+-- what shrinks follows by no step
+pub stays : (step : Folder → Folder → Type 0) → IsStep step → (old new : Folder → Type 0) → Shrinks old new → ComesBy step old new
+stays step is old new shrinks c now = (c, shrinks c now, is.still c)
+
+-- a step that says more, where the outcomes before it allow it
+pub comes_by : (step more : Folder → Folder → Type 0) (old new : Folder → Type 0) → ComesBy step old new → ((d : Folder) → old d → (c : Folder) → step d c → more d c) → ComesBy more old new
+comes_by step more old new follows by c now =
+    let from = follows c now in
+    (from.0, from.1, by from.0 from.1 c from.2)
+
+pub comes_both : (step : Folder → Folder → Type 0) → IsStep step → (old mid new : Folder → Type 0) → ComesBy step old mid → ComesBy step mid new → ComesBy step old new
+comes_both step is old mid new first second c now =
+    let from = second c now in
+    let start = first from.0 from.1 in
+    (start.0, start.1, is.both start.0 from.0 c start.2 from.2)
+
+module _ {D : Type 0} (moment : D → ℕ) (left_since : D → ℕ → Folder → Type 0) (may_leave : D → Folder → Type 0) (only_now : (disk : D) (c : Folder) → left_since disk (moment disk) c → may_leave disk c) where
+  -- before the first call
+  pub started : (old : D) (P : Folder → Type 0) → ((c : Folder) → may_leave old c → P c) → LeavesOnly moment left_since old old P
+  started old P here = record { later = omega arith; each = λ c left. here c (only_now old c left); before = λ t c le left. inl left }
+
+  -- one call more, after which a crash leaves what has P
+  pub goes_on : (old mid new : D) (P : Folder → Type 0) → LeavesOnly moment left_since old mid P → Elapses (moment mid) (moment new) (left_since mid) (left_since new) (may_leave new)
+      → ((c : Folder) → may_leave new c → P c) → LeavesOnly moment left_since old new P
+  goes_on old mid new P so_far time here = record {
+    later = omega (arith, so_far.later, time.later);
+    each = λ c left. ⊎_elim (so_far.each c) (here c) (time.nothing_else (moment old) c so_far.later left);
+    before = λ t c le left. ⊎_elim (so_far.before t c le) (λ now. inr (here c now)) (time.nothing_else t c (omega (arith, le, so_far.later)) left);
+  }
+
+  -- a run more, in which a crash at any moment leaves what has Q
+  pub runs_on : (old mid new : D) (P Q : Folder → Type 0) → LeavesOnly moment left_since old mid P → LeavesOnly moment left_since mid new Q → ((c : Folder) → Q c → P c) → LeavesOnly moment left_since old new P
+  runs_on old mid new P Q so_far next here = record {
+    later = omega (arith, so_far.later, next.later);
+    each = λ c left. ⊎_elim (so_far.each c) (here c) (next.before (moment old) c so_far.later left);
+    before = λ t c le left. ⊎_elim (so_far.before t c le) (λ now. inr (here c now)) (next.before t c (omega (arith, le, so_far.later)) left);
+  }
+
+  pub leaves_by : (old new : D) (P Q : Folder → Type 0) → LeavesOnly moment left_since old new P → ((c : Folder) → P c → Q c) → LeavesOnly moment left_since old new Q
+  leaves_by old new P Q leaves by = record {
+    later = leaves.later;
+    each = λ c left. by c (leaves.each c left);
+    before = λ t c le left. ⊎_elim (λ was. inl was) (λ now. inr (by c now)) (leaves.before t c le left);
+  }
+
+  -- From old to new each outcome of a crash makes steps: at the end, and at any moment.
+  pub record Steps (step : Folder → Folder → Type 0) (old new : D) : Type 0 where
+    pub crash : ComesBy step (may_leave old) (may_leave new)
+    pub moments : LeavesOnly moment left_since old new (AfterStep step (may_leave old))
+
+  pub no_call : (step : Folder → Folder → Type 0) → IsStep step → (old : D) → Steps step old old
+  no_call step is old = record {
+    crash = λ c now. (c, now, is.still c);
+    moments = started old (AfterStep step (may_leave old)) (λ c now. (c, now, is.still c));
+  }
+
+  pub one_call : (step : Folder → Folder → Type 0) → IsStep step → (old new : D) → Elapses (moment old) (moment new) (left_since old) (left_since new) (may_leave new) → ComesBy step (may_leave old) (may_leave new) → Steps step old new
+  one_call step is old new time crash = record {
+    crash = crash;
+    moments = goes_on old old new (AfterStep step (may_leave old)) (no_call step is old).moments time crash;
+  }
+
+  pub and_then : (step : Folder → Folder → Type 0) → IsStep step → (old mid new : D) → Steps step old mid → Steps step mid new → Steps step old new
+  and_then step is old mid new first second = record {
+    crash = comes_both step is (may_leave old) (may_leave mid) (may_leave new) first.crash second.crash;
+    moments = runs_on old mid new (AfterStep step (may_leave old)) (AfterStep step (may_leave mid)) first.moments second.moments (λ c from.
+        let start = first.crash from.0 from.1 in
+        (start.0, start.1, is.both start.0 from.0 c start.2 from.2));
+  }
+
+  -- a step that says more
+  pub steps_by : (step more : Folder → Folder → Type 0) (old new : D) → Steps step old new → ((d c : Folder) → step d c → more d c) → Steps more old new
+  steps_by step more old new steps by = record {
+    crash = comes_by step more (may_leave old) (may_leave new) steps.crash (λ d was c recovered_by. by d c recovered_by);
+    moments = leaves_by old new (AfterStep step (may_leave old)) (AfterStep more (may_leave old)) steps.moments (λ c from. (from.0, from.1, by from.0 c from.2));
+  }

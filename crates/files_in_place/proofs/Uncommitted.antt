@@ -1,0 +1,210 @@
+-- Folders of a set that has no list yet.
+use Rattle.std.proofs.Common.{◌≡◌, ◌≢◌, inl, inr, List, [], ◌∷◌, Bool, true, false, Option, None, Some, IsSome, ℕ, refl, sym, ◌∙◌, ap, subst, not, ◌&&◌}
+use Rattle.std.proofs.lemmas.Bool.{cases_Bool, both_ways}
+use Rattle.std.proofs.lemmas.Slice.Eq.{bytes_eq-Decides}
+use Rattle.std.specs.List.{AllByRecursion, list_all}
+use Rattle.std.specs.Str.{bytes_eq}
+use Rattle.files_in_place.specs.Folder.{Name, Folder, SameBut, is_reserved, temporary, list_name, list_bytes}
+use Rattle.files_in_place.specs.Disk.{AfterStep, ComesBy, Shrinks, IsSynced, Elapses, LeavesOnly}
+use Rattle.files_in_place.specs.Recovery.{IsClean, SameFree, HasOldFiles, CanClean}
+use Rattle.files_in_place.specs.Staged.{is_staged, is_file_name, is_dots, is_name_byte, IsUncommitted, IsStagedAs, IsFreeFor, AreStaged, AreLeft, AreReady, RunsUncommitted}
+use Rattle.files_in_place.proofs.Runs.{started, goes_on, runs_on, leaves_by}
+use Rattle.files_in_place.proofs.Meaning.{free_other, temporary-inj}
+use Rattle.files_in_place.proofs.Ending.{unlisted_finished, finished_without, without_same}
+
+both_true : (a b : Bool) → not a && b ≡ true → a ≡ false
+both_true true b is = absurd (both_ways false refl is)
+both_true false b is = refl
+
+pub second_true : (a b : Bool) → not a && b ≡ true → b ≡ true
+second_true true b is = absurd (both_ways false refl is)
+second_true false b is = is
+
+-- a file's name isn't reserved
+pub name_free : (n : Name) → is_file_name n ≡ true → is_reserved n ≡ false
+name_free n is = both_true (is_reserved n) _ is
+
+-- a name of the set is a file's name
+pub staged_fit : (names : List Name) (n : Name) → AllByRecursion (λ name. is_file_name name ≡ true) names → is_staged names n ≡ true → is_file_name n ≡ true
+staged_fit [] n fit staged = absurd (both_ways false refl staged)
+staged_fit (name ∷ names) n fit staged = elim (cases_Bool (bytes_eq name n)) [
+  | inl same ↦ ap is_file_name (sym ((bytes_eq-Decides name n).0 same)) ∙ fit.0
+  | inr other ↦ staged_fit names n fit.1 (sym (rw other refl) ∙ staged)
+]
+
+pub staged_free : (names : List Name) (n : Name) → AllByRecursion (λ name. is_file_name name ≡ true) names → is_staged names n ≡ true → is_reserved n ≡ false
+staged_free names n fit staged = name_free n (staged_fit names n fit staged)
+
+-- no reserved name is in the set
+pub reserved_unstaged : (names : List Name) (n : Name) → AllByRecursion (λ name. is_file_name name ≡ true) names → is_reserved n ≡ true → is_staged names n ≡ false
+reserved_unstaged names n fit res = elim (cases_Bool (is_staged names n)) [
+  | inl staged ↦ absurd (both_ways (is_reserved n) (staged_free names n fit staged) res)
+  | inr not ↦ not
+]
+
+-- the temporary name of a file isn't the list's
+pub apart_from_list : (n : Name) → is_reserved n ≡ false → temporary n ≢ list_name
+apart_from_list n free same = free_other n (126 ∷ 108 ∷ 105 ∷ 115 ∷ 116 ∷ []) free refl (temporary-inj n _ same)
+
+pub list_apart : temporary list_name ≢ list_name
+list_apart same = free_other (108 ∷ 105 ∷ 115 ∷ 116 ∷ []) (126 ∷ 108 ∷ 105 ∷ 115 ∷ 116 ∷ []) refl refl (sym (temporary-inj _ _ (temporary-inj _ _ same)))
+
+-- a reserved name beside the list's, to which something happens
+pub record IsTemporary (lies : Name) : Type 0 where
+  pub res : is_reserved lies ≡ true
+  pub apart : lies ≢ list_name
+
+pub free_temporary : (names : List Name) (lies : Name) → IsFreeFor names lies → IsTemporary lies
+free_temporary names lies is =
+    let free : is_reserved is.0 ≡ false = name_free is.0 is.3 in
+    record { res = ap is_reserved is.1; apart = λ same. apart_from_list is.0 free (sym is.1 ∙ same) }
+
+pub staged_temporary : (names : List Name) (lies : Name) → AllByRecursion (λ name. is_file_name name ≡ true) names → IsStagedAs names lies → IsTemporary lies
+staged_temporary names lies fit is =
+    let free : is_reserved is.0 ≡ false = staged_free names is.0 fit is.2 in
+    record { res = ap is_reserved is.1; apart = λ same. apart_from_list is.0 free (sym is.1 ∙ same) }
+
+pub list_temporary : IsTemporary (temporary list_name)
+list_temporary = record { res = refl; apart = list_apart }
+
+-- what a crash leaves are the old files
+pub uncommitted_old : (folder : Folder) (outcomes : Folder → Type 0) → IsUncommitted folder outcomes → (c : Folder) → outcomes c → HasOldFiles folder c
+uncommitted_old folder outcomes un c now = record {
+  same = un.same c now;
+  recovers = λ n. finished_without c (unlisted_finished c (un.none_left c now)) n ∙ without_same folder c (un.same c now) n;
+}
+
+pub old_files_from : (old new c : Folder) → SameFree old new → HasOldFiles new c → HasOldFiles old c
+old_files_from old new c same has = record {
+  same = λ n free. has.same n free ∙ same n free;
+  recovers = λ n. has.recovers n ∙ without_same old new same n;
+}
+
+pub un_shrinks : (old new : Folder) (before after : Folder → Type 0) → new ≡ old → Shrinks before after → IsUncommitted old before → IsUncommitted new after
+un_shrinks old new before after same shrinks un = record {
+  no_list = ap (λ (f : Folder). f list_name) same ∙ un.no_list;
+  none_left = λ c now. un.none_left c (shrinks c now);
+  same = λ c now n free. un.same c (shrinks c now) n free ∙ ap (λ (f : Folder). f n) (sym same);
+}
+
+pub step_free : (lies : Name) (old new : Folder) → IsTemporary lies → SameBut lies old new → SameFree old new
+step_free lies old new is others n free = others n (free_other n lies free is.res)
+
+pub un_step : (lies : Name) (old new : Folder) (before after : Folder → Type 0) → IsTemporary lies → SameBut lies old new → ComesBy (SameBut lies) before after → IsUncommitted old before → IsUncommitted new after
+un_step lies old new before after is others comes un = record {
+  no_list = others list_name (λ same. is.apart (sym same)) ∙ un.no_list;
+  none_left = λ c now. let from = comes c now in from.2 list_name (λ same. is.apart (sym same)) ∙ un.none_left from.0 from.1;
+  same = λ c now n free.
+      let from = comes c now in
+      let other = free_other n lies free is.res in
+      from.2 n other ∙ un.same from.0 from.1 n free ∙ sym (others n other);
+}
+
+pub un_after : (lies : Name) (folder : Folder) (before : Folder → Type 0) → IsTemporary lies → IsUncommitted folder before → (c : Folder) → AfterStep (SameBut lies) before c → HasOldFiles folder c
+un_after lies folder before is un c from =
+    uncommitted_old folder (AfterStep (SameBut lies) before)
+    (un_step lies folder folder before (AfterStep (SameBut lies) before) is (λ n other. refl) (λ d now. now) un) c from
+
+pub un_can_clean : (folder : Folder) (outcomes : Folder → Type 0) → IsUncommitted folder outcomes → CanClean folder outcomes
+un_can_clean folder outcomes un = record {
+  finished = unlisted_finished folder un.no_list;
+  always = λ c now. unlisted_finished c (un.none_left c now);
+  same = un.same;
+}
+
+pub clean_uncommitted : (folder : Folder) (is_whole : Name → Type 0) (outcomes : Folder → Type 0) → IsClean folder → IsSynced folder is_whole outcomes → IsUncommitted folder outcomes
+clean_uncommitted folder is_whole outcomes clean synced = record {
+  no_list = clean list_name refl;
+  none_left = λ c now. synced.only c now list_name ∙ clean list_name refl;
+  same = λ c now n free. synced.only c now n;
+}
+
+none_some : (lies : Name) → None ≡ Some lies → ⊥
+none_some lies same = absurd (cc same)
+
+-- a set without files
+pub staged_none : (names : List Name) (folder : Folder) (is_whole is_new : Name → Type 0) (outcomes : Folder → Type 0) → names ≡ [] → IsClean folder → IsSynced folder is_whole outcomes
+    → AreStaged names None folder is_whole is_new outcomes
+staged_none names folder is_whole is_new outcomes none clean synced =
+    let P : List Name → Type 0 = λ l. AreStaged l None folder is_whole is_new outcomes in
+    let empty : AreStaged [] None folder is_whole is_new outcomes = record {
+      fit = tt;
+      there = λ n staged. absurd (both_ways false refl staged);
+      no_other = λ n unstaged. clean (temporary n) refl;
+      whole = λ n other. synced.whole n;
+      named = λ lies same. absurd (none_some lies same);
+      fresh = λ lies same. absurd (none_some lies same);
+      uncommitted = clean_uncommitted folder is_whole outcomes clean synced;
+    } in
+    subst P (sym none) empty
+
+abbrev name_in : Option Name → Name
+name_in None = []
+name_in (Some name) = name
+
+pub some_inj : (a b : Name) → Some a ≡ Some b → a ≡ b
+some_inj a b same = ap name_in same
+
+-- where a set is being written, nothing of it counts
+pub staged_left : (names : List Name) (current : Option Name) (folder : Folder) (is_whole is_new : Name → Type 0) (outcomes : Folder → Type 0) → AreStaged names current folder is_whole is_new outcomes → AreLeft folder is_whole outcomes
+staged_left names current folder is_whole is_new outcomes staged = record {
+  whole = λ n free. staged.whole n (λ same.
+      let is = staged.named n same in
+      both_ways (is_reserved n) free (ap is_reserved is.1));
+  uncommitted = staged.uncommitted;
+}
+
+pub left_shrinks : (old new : Folder) (old_whole new_whole : Name → Type 0) (before after : Folder → Type 0) → new ≡ old → ((n : Name) → old_whole n → new_whole n) → Shrinks before after → AreLeft old old_whole before → AreLeft new new_whole after
+left_shrinks old new old_whole new_whole before after same kept shrinks left = record {
+  whole = λ n free. kept n (left.whole n free);
+  uncommitted = un_shrinks old new before after same shrinks left.uncommitted;
+}
+
+pub left_step : (lies : Name) (old new : Folder) (old_whole new_whole : Name → Type 0) (before after : Folder → Type 0) → IsTemporary lies → SameBut lies old new → ((n : Name) → n ≢ lies → old_whole n → new_whole n) → ComesBy (SameBut lies) before after
+    → AreLeft old old_whole before → AreLeft new new_whole after
+left_step lies old new old_whole new_whole before after is others kept comes left = record {
+  whole = λ n free. kept n (free_other n lies free is.res) (left.whole n free);
+  uncommitted = un_step lies old new before after is others comes left.uncommitted;
+}
+
+pub list_ready : (names : List Name) (current : Option Name) (old new : Folder) (old_whole is_new new_whole : Name → Type 0) (before after : Folder → Type 0) → AreStaged names current old old_whole is_new before → SameBut (temporary list_name) old new
+    → new (temporary list_name) ≡ Some (list_bytes names) → ((n : Name) → new_whole n) → IsUncommitted new after → AreReady names new new_whole after
+list_ready names current old new old_whole is_new new_whole before after staged others list whole un = record {
+  fit = staged.fit;
+  there = λ n is.
+      let free = staged_free names n staged.fit is in
+      let P : Option (List ℕ) → Type 0 = λ o. IsSome o in
+      subst P (sym (others (temporary n) (λ met. free_other n list_name free refl (temporary-inj n list_name met)))) (staged.there n is);
+  list = list;
+  whole = whole;
+  uncommitted = un;
+}
+
+module _ {D : Type 0} (moment : D → ℕ) (left_since : D → ℕ → Folder → Type 0) (seen : D → Folder) (may_leave : D → Folder → Type 0) (only_now : (disk : D) (c : Folder) → left_since disk (moment disk) c → may_leave disk c) where
+  pub run_none : (old : D) → IsUncommitted (seen old) (may_leave old) → RunsUncommitted moment left_since seen may_leave old old
+  run_none old un = record {
+    same = λ n free. refl;
+    uncommitted = un;
+    moments = started moment left_since may_leave only_now old (HasOldFiles (seen old)) (uncommitted_old (seen old) (may_leave old) un);
+  }
+
+  -- one call more
+  pub run_call : (old mid new : D) → RunsUncommitted moment left_since seen may_leave old mid → Elapses (moment mid) (moment new) (left_since mid) (left_since new) (may_leave new)
+      → SameFree (seen mid) (seen new) → IsUncommitted (seen new) (may_leave new) → RunsUncommitted moment left_since seen may_leave old new
+  run_call old mid new run time same un =
+      let whole : SameFree (seen old) (seen new) = λ n free. same n free ∙ run.same n free in
+      record {
+        same = whole;
+        uncommitted = un;
+        moments = goes_on moment left_since may_leave only_now old mid new (HasOldFiles (seen old)) run.moments time
+            (λ c now. old_files_from (seen old) (seen new) c whole (uncommitted_old (seen new) (may_leave new) un c now));
+      }
+
+  -- some calls more
+  pub run_calls : (old mid new : D) (P : Folder → Type 0) → RunsUncommitted moment left_since seen may_leave old mid → LeavesOnly moment left_since mid new P → ((c : Folder) → P c → HasOldFiles (seen mid) c)
+      → SameFree (seen mid) (seen new) → IsUncommitted (seen new) (may_leave new) → RunsUncommitted moment left_since seen may_leave old new
+  run_calls old mid new P run next means same un = record {
+    same = λ n free. same n free ∙ run.same n free;
+    uncommitted = un;
+    moments = runs_on moment left_since may_leave only_now old mid new (HasOldFiles (seen old)) P run.moments next (λ c has. old_files_from (seen old) (seen mid) c run.same (means c has));
+  }

@@ -1,0 +1,83 @@
+use Rattle.std.proofs.Common.{◌≡◌, ◌≢◌, ◌++◌, List, Some, rules, subst, sym, ◌∙◌, ap, option_map}
+use Rattle.files_in_place.specs.declared.phase.Phase.TheVariants.{Staging}
+use Rattle.files_in_place.specs.Folder.{Name, Folder, SameBut, temporary}
+use Rattle.files_in_place.specs.Disk.{LeavesOnly}
+use Rattle.files_in_place.specs.Recovery.{HasOldFiles}
+use Rattle.files_in_place.specs.Staged.{Set}
+use Rattle.files_in_place.proofs.Runs.{started}
+use Rattle.files_in_place.proofs.Uncommitted.{uncommitted_old, staged_left, staged_temporary, left_step, run_none, run_call, step_free, some_inj}
+use Rattle.files_in_place.proofs.Sets.{held_staged, staged_written}
+use Rattle.files_in_place.proofs.file_set.FileSet.write.Goals as goal
+
+pub append-requires : goal.append-requires
+append-requires g c = record {
+  new = λ promised.
+      let phase : c.self.inside.phase ≡ Staging = search rules in
+      let staged = held_staged c.self.inside.phase c.self.inside.names.items c.self.inside.current (g.D.Disk.seen c.self.inside.disk) (g.D.Disk.is_whole c.self.inside.disk) (g.D.Disk.is_new c.self.inside.disk) (g.D.Disk.may_leave c.self.inside.disk) phase (c.self.invariant promised) in
+      let is : c.self.inside.current ≡ Some c.as_slice.result.now = search rules in
+      staged.fresh c.as_slice.result.now is;
+}
+
+pub invariant_of-self : goal.invariant_of-self
+invariant_of-self g c promised =
+    let phase : c.self.inside.phase ≡ Staging = search rules in
+    let staged = held_staged c.self.inside.phase c.self.inside.names.items c.self.inside.current (g.D.Disk.seen c.self.inside.disk) (g.D.Disk.is_whole c.self.inside.disk) (g.D.Disk.is_new c.self.inside.disk) (g.D.Disk.may_leave c.self.inside.disk) phase (c.self.invariant promised) in
+    let is : c.self.inside.current ≡ Some c.as_slice.result.now = search rules in
+    let temp = staged_temporary c.self.inside.names.items c.as_slice.result.now staged.fit (staged.named c.as_slice.result.now is) in
+    let left = left_step c.as_slice.result.now (g.D.Disk.seen c.self.inside.disk) (g.D.Disk.seen c.append.new.self) (g.D.Disk.is_whole c.self.inside.disk) (g.D.Disk.is_whole c.append.new.self) (g.D.Disk.may_leave c.self.inside.disk) (g.D.Disk.may_leave c.append.new.self) temp c.append.ensures.others c.append.ensures.whole c.append.ensures.crash
+    (staged_left c.self.inside.names.items c.self.inside.current (g.D.Disk.seen c.self.inside.disk) (g.D.Disk.is_whole c.self.inside.disk) (g.D.Disk.is_new c.self.inside.disk) (g.D.Disk.may_leave c.self.inside.disk) staged) in
+    left
+
+pub invariant_of-self-2 : goal.invariant_of-self-2
+invariant_of-self-2 g c promised =
+    let phase : c.self.inside.phase ≡ Staging = search rules in
+    let staged = held_staged c.self.inside.phase c.self.inside.names.items c.self.inside.current (g.D.Disk.seen c.self.inside.disk) (g.D.Disk.is_whole c.self.inside.disk) (g.D.Disk.is_new c.self.inside.disk) (g.D.Disk.may_leave c.self.inside.disk) phase (c.self.invariant promised) in
+    let is : c.self.inside.current ≡ Some c.as_slice.result.now = search rules in
+    let temp = staged_temporary c.self.inside.names.items c.as_slice.result.now staged.fit (staged.named c.as_slice.result.now is) in
+    let left = left_step c.as_slice.result.now (g.D.Disk.seen c.self.inside.disk) (g.D.Disk.seen c.append.new.self) (g.D.Disk.is_whole c.self.inside.disk) (g.D.Disk.is_whole c.append.new.self) (g.D.Disk.may_leave c.self.inside.disk) (g.D.Disk.may_leave c.append.new.self) temp c.append.ensures.others c.append.ensures.whole c.append.ensures.crash
+    (staged_left c.self.inside.names.items c.self.inside.current (g.D.Disk.seen c.self.inside.disk) (g.D.Disk.is_whole c.self.inside.disk) (g.D.Disk.is_new c.self.inside.disk) (g.D.Disk.may_leave c.self.inside.disk) staged) in
+    staged_written c.self.inside.names.items c.self.inside.current (g.D.Disk.seen c.self.inside.disk) (g.D.Disk.seen c.append.new.self) (g.D.Disk.is_whole c.self.inside.disk) (g.D.Disk.is_new c.self.inside.disk) (g.D.Disk.is_whole c.append.new.self) (g.D.Disk.is_new c.append.new.self) (g.D.Disk.may_leave c.self.inside.disk) (g.D.Disk.may_leave c.append.new.self) c.as_slice.result.now c.args.bytes.now staged
+    is c.append.ensures.others (c.in_ok-append.ensures.done promised) c.append.ensures.whole c.in_ok-append.ensures.new left.uncommitted
+
+pub returns-in_err-append-clause-any_moment : goal.returns-in_err-append-clause-any_moment
+returns-in_err-append-clause-any_moment g c promised staging =
+    let phase : c.self.inside.phase ≡ Staging = search rules in
+    let staged = held_staged c.self.inside.phase c.self.inside.names.items c.self.inside.current (g.D.Disk.seen c.self.inside.disk) (g.D.Disk.is_whole c.self.inside.disk) (g.D.Disk.is_new c.self.inside.disk) (g.D.Disk.may_leave c.self.inside.disk) phase (c.self.invariant promised) in
+    let is : c.self.inside.current ≡ Some c.as_slice.result.now = search rules in
+    let temp = staged_temporary c.self.inside.names.items c.as_slice.result.now staged.fit (staged.named c.as_slice.result.now is) in
+    let left = left_step c.as_slice.result.now (g.D.Disk.seen c.self.inside.disk) (g.D.Disk.seen c.append.new.self) (g.D.Disk.is_whole c.self.inside.disk) (g.D.Disk.is_whole c.append.new.self) (g.D.Disk.may_leave c.self.inside.disk) (g.D.Disk.may_leave c.append.new.self) temp c.append.ensures.others c.append.ensures.whole c.append.ensures.crash
+    (staged_left c.self.inside.names.items c.self.inside.current (g.D.Disk.seen c.self.inside.disk) (g.D.Disk.is_whole c.self.inside.disk) (g.D.Disk.is_new c.self.inside.disk) (g.D.Disk.may_leave c.self.inside.disk) staged) in
+    let run = run_call g.D.Disk.moment g.D.Disk.left_since g.D.Disk.seen g.D.Disk.may_leave g.met.D.Disk.only_now c.self.inside.disk c.self.inside.disk c.append.new.self (run_none g.D.Disk.moment g.D.Disk.left_since g.D.Disk.seen g.D.Disk.may_leave g.met.D.Disk.only_now c.self.inside.disk staged.uncommitted) c.append.ensures.time (step_free c.as_slice.result.now (g.D.Disk.seen c.self.inside.disk) (g.D.Disk.seen c.append.new.self) temp c.append.ensures.others) left.uncommitted in
+    subst (λ (s : Set g.row.D.Denot). LeavesOnly g.D.Disk.moment g.D.Disk.left_since s.disk c.append.new.self (HasOldFiles (g.D.Disk.seen s.disk))) c.self.view_is
+    run.moments
+
+pub returns-in_err-append-clause-others : goal.returns-in_err-append-clause-others
+returns-in_err-append-clause-others g c =
+    let is : c.self.inside.current ≡ Some c.as_slice.result.now = search rules in
+    let here : (n : Name) → c.self.inside.current ≢ Some n → g.D.Disk.seen c.append.new.self n ≡ g.D.Disk.seen c.self.inside.disk n = λ n other. c.append.ensures.others n (λ same. other (is ∙ ap (λ (m : Name). Some m) (sym same))) in
+    subst (λ (s : Set g.row.D.Denot). (n : Name) → s.current ≢ Some n → g.D.Disk.seen c.append.new.self n ≡ g.D.Disk.seen s.disk n) c.self.view_is here
+
+pub returns-clause-any_moment : goal.returns-clause-any_moment
+returns-clause-any_moment g c promised staging =
+    let phase : c.self.inside.phase ≡ Staging = search rules in
+    let staged = held_staged c.self.inside.phase c.self.inside.names.items c.self.inside.current (g.D.Disk.seen c.self.inside.disk) (g.D.Disk.is_whole c.self.inside.disk) (g.D.Disk.is_new c.self.inside.disk) (g.D.Disk.may_leave c.self.inside.disk) phase (c.self.invariant promised) in
+    let is : c.self.inside.current ≡ Some c.as_slice.result.now = search rules in
+    let temp = staged_temporary c.self.inside.names.items c.as_slice.result.now staged.fit (staged.named c.as_slice.result.now is) in
+    let left = left_step c.as_slice.result.now (g.D.Disk.seen c.self.inside.disk) (g.D.Disk.seen c.append.new.self) (g.D.Disk.is_whole c.self.inside.disk) (g.D.Disk.is_whole c.append.new.self) (g.D.Disk.may_leave c.self.inside.disk) (g.D.Disk.may_leave c.append.new.self) temp c.append.ensures.others c.append.ensures.whole c.append.ensures.crash
+    (staged_left c.self.inside.names.items c.self.inside.current (g.D.Disk.seen c.self.inside.disk) (g.D.Disk.is_whole c.self.inside.disk) (g.D.Disk.is_new c.self.inside.disk) (g.D.Disk.may_leave c.self.inside.disk) staged) in
+    let run = run_call g.D.Disk.moment g.D.Disk.left_since g.D.Disk.seen g.D.Disk.may_leave g.met.D.Disk.only_now c.self.inside.disk c.self.inside.disk c.append.new.self (run_none g.D.Disk.moment g.D.Disk.left_since g.D.Disk.seen g.D.Disk.may_leave g.met.D.Disk.only_now c.self.inside.disk staged.uncommitted) c.append.ensures.time (step_free c.as_slice.result.now (g.D.Disk.seen c.self.inside.disk) (g.D.Disk.seen c.append.new.self) temp c.append.ensures.others) left.uncommitted in
+    subst (λ (s : Set g.row.D.Denot). LeavesOnly g.D.Disk.moment g.D.Disk.left_since s.disk c.append.new.self (HasOldFiles (g.D.Disk.seen s.disk))) c.self.view_is
+    run.moments
+
+pub returns-clause-others : goal.returns-clause-others
+returns-clause-others g c =
+    let is : c.self.inside.current ≡ Some c.as_slice.result.now = search rules in
+    let here : (n : Name) → c.self.inside.current ≢ Some n → g.D.Disk.seen c.append.new.self n ≡ g.D.Disk.seen c.self.inside.disk n = λ n other. c.append.ensures.others n (λ same. other (is ∙ ap (λ (m : Name). Some m) (sym same))) in
+    subst (λ (s : Set g.row.D.Denot). (n : Name) → s.current ≢ Some n → g.D.Disk.seen c.append.new.self n ≡ g.D.Disk.seen s.disk n) c.self.view_is here
+
+pub returns-clause-written : goal.returns-clause-written
+returns-clause-written g c promised =
+    let is : c.self.inside.current ≡ Some c.as_slice.result.now = search rules in
+    let here : (m : Name) → c.self.inside.current ≡ Some m → g.D.Disk.seen c.append.new.self m ≡ option_map (λ content. content ++ c.args.bytes.now) (g.D.Disk.seen c.self.inside.disk m) =
+    λ m same. subst (λ (k : Name). g.D.Disk.seen c.append.new.self k ≡ option_map (λ content. content ++ c.args.bytes.now) (g.D.Disk.seen c.self.inside.disk k)) (some_inj c.as_slice.result.now m (sym is ∙ same)) (c.in_ok-append.ensures.done promised) in
+    subst (λ (s : Set g.row.D.Denot). (m : Name) → s.current ≡ Some m → g.D.Disk.seen c.append.new.self m ≡ option_map (λ content. content ++ c.args.bytes.now) (g.D.Disk.seen s.disk m)) c.self.view_is here

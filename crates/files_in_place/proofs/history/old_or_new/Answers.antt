@@ -1,0 +1,5 @@
+use Rattle.files_in_place.proofs.Histories.{old_or_new_ends}
+use Rattle.files_in_place.proofs.history.old_or_new.Goals as goal
+
+pub returns : goal.returns
+returns c = old_or_new_ends

@@ -1,0 +1,18 @@
+-- Why a call failed, where a call of the system or of the disk did.
+use Rattle.std.specs.Prelude.{◌≡◌, ◌≢◌}
+use Rattle.std.specs.IoError.{error_kind}
+use Rattle.std.specs.declared.io.Error.{Error}
+use Rattle.std.specs.declared.io.ErrorKind.TheVariants.{OutOfMemory}
+use Rattle.files_in_place.specs.declared.faults.DiskFault.{DiskFault}
+use Rattle.files_in_place.specs.declared.faults.DiskFault.TheVariants as of_disk
+use Rattle.files_in_place.specs.declared.faults.SetFault.{SetFault}
+use Rattle.files_in_place.specs.declared.faults.SetFault.TheVariants as of_set
+
+abbrev pub set_fault_of : DiskFault → SetFault
+set_fault_of of_disk.NoMemory = of_set.NoMemory
+set_fault_of of_disk.Failed = of_set.Failed
+
+-- what a call of the disk answers where the system refuses: that memory was refused, or that the disk failed
+pub record IsDiskFaultOf (error : Error) (fault : DiskFault) : Type 0 where
+  pub memory : error_kind error ≡ OutOfMemory → fault ≡ of_disk.NoMemory
+  pub other : error_kind error ≢ OutOfMemory → fault ≡ of_disk.Failed

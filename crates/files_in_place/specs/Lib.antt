@@ -1,0 +1,6 @@
+pub mod Folder
+pub mod Disk
+pub mod Recovery
+pub mod Staged
+pub mod History
+pub mod Faults

@@ -1,0 +1,105 @@
+-- A set of new files, and a folder before and after they have their names.
+use Rattle.std.specs.Prelude.{◌≡◌, ◌≢◌, ◌⊎◌, ℕ, List, [], ◌∷◌, Bool, true, false, not, ◌&&◌, ◌||◌, ◌==◌, Option, None, Some, IsSome, if◌then◌else◌}
+use Rattle.std.specs.List.{AllByRecursion, list_any, list_all}
+use Rattle.std.specs.Str.{bytes_eq}
+use Rattle.files_in_place.specs.declared.phase.Phase.{Phase}
+use Rattle.files_in_place.specs.declared.phase.Phase.TheVariants.{Staging, Failed, Ended}
+use Rattle.files_in_place.specs.Folder.{Name, Folder, is_reserved, temporary, list_name, list_bytes}
+use Rattle.files_in_place.specs.Disk.{LeavesOnly}
+use Rattle.files_in_place.specs.Recovery.{RecoversTo, SameFree, HasOldFiles}
+
+-- What contracts see of a set: its disk, the names of its files, the temporary name of the file that is being written,
+-- and how far it is.
+pub record Set (D : Type 0) : Type 0 where
+  pub disk : D
+  pub names : List Name
+  pub current : Option Name
+  pub phase : Phase
+
+-- whether the set has a file of the name
+abbrev pub is_staged : List Name → Name → Bool
+is_staged names name = list_any (λ staged. bytes_eq staged name) names
+
+-- no NUL, no line feed, no slash
+abbrev pub is_name_byte : ℕ → Bool
+is_name_byte b = not (b == 0) && (not (b == 10) && not (b == 47))
+
+-- no bytes, one dot or two dots
+abbrev pub is_dots : Name → Bool
+is_dots name = bytes_eq name [] || (bytes_eq name (46 ∷ []) || bytes_eq name (46 ∷ 46 ∷ []))
+
+-- a name that a file of a set may have
+abbrev pub is_file_name : Name → Bool
+is_file_name name = not (is_reserved name) && (not (is_dots name) && list_all is_name_byte name)
+
+-- The folder once the set is in place: at each name of the set the bytes that were staged, at each other name what was
+-- there, and no reserved name.
+abbrev pub with_staged : List Name → Folder → Folder
+with_staged names folder name =
+    if is_reserved name then None
+    else if is_staged names name then folder (temporary name)
+    else folder name
+
+-- What a crash leaves stands for the old files or for the new ones, all of them.
+abbrev pub IsOldOrNew : List Name → Folder → Folder → Type 0
+IsOldOrNew names old new = HasOldFiles old new ⊎ RecoversTo (with_staged names old) new
+
+-- each name that is neither reserved nor one of the set has what it had
+abbrev pub SameUnstaged : List Name → Folder → Folder → Type 0
+SameUnstaged names old new = (n : Name) → is_reserved n ≡ false → is_staged names n ≡ false → new n ≡ old n
+
+-- There is no list, whatever a crash leaves, and the names that aren't reserved have what is seen.
+pub record IsUncommitted (folder : Folder) (outcomes : Folder → Type 0) : Type 0 where
+  pub no_list : folder list_name ≡ None
+  pub none_left : (c : Folder) → outcomes c → c list_name ≡ None
+  pub same : (c : Folder) → outcomes c → SameFree folder c
+
+-- it is the temporary name of a file of the set
+abbrev pub IsStagedAs : List Name → Name → Type 0
+IsStagedAs names lies = (n : Name) × (lies ≡ temporary n) × (is_staged names n ≡ true)
+
+-- it is the temporary name of a file that the set doesn't have and may have
+abbrev pub IsFreeFor : List Name → Name → Type 0
+IsFreeFor names lies = (n : Name) × (lies ≡ temporary n) × (is_staged names n ≡ false) × (is_file_name n ≡ true)
+
+-- The files of the set are there under their temporary names, all but the one that is being written are on the disk, and no
+-- other reserved name has a file.
+pub record AreStaged (names : List Name) (current : Option Name) (folder : Folder) (is_whole is_new : Name → Type 0) (outcomes : Folder → Type 0) : Type 0 where
+  pub fit : AllByRecursion (λ name. is_file_name name ≡ true) names
+  pub there : (n : Name) → is_staged names n ≡ true → IsSome (folder (temporary n))
+  pub no_other : (n : Name) → is_staged names n ≡ false → folder (temporary n) ≡ None
+  pub whole : (n : Name) → current ≢ Some n → is_whole n
+  pub named : (lies : Name) → current ≡ Some lies → IsStagedAs names lies
+  pub fresh : (lies : Name) → current ≡ Some lies → is_new lies
+  pub uncommitted : IsUncommitted folder outcomes
+
+-- Files of the set may be there in part, and nothing of them counts.
+pub record AreLeft (folder : Folder) (is_whole : Name → Type 0) (outcomes : Folder → Type 0) : Type 0 where
+  pub whole : (n : Name) → is_reserved n ≡ false → is_whole n
+  pub uncommitted : IsUncommitted folder outcomes
+
+-- what is true of a disk in each phase of a set
+abbrev pub HoldsInPhase : Phase → List Name → Option Name → Folder → (Name → Type 0) → (Name → Type 0) → (Folder → Type 0) → Type 0
+HoldsInPhase Staging names current folder is_whole is_new outcomes = AreStaged names current folder is_whole is_new outcomes
+HoldsInPhase Failed names current folder is_whole is_new outcomes = AreLeft folder is_whole outcomes
+HoldsInPhase Ended names current folder is_whole is_new outcomes = Unit {0}
+
+-- All files of the set are on the disk, and so are their names in the list's temporary file.
+pub record AreReady (names : List Name) (folder : Folder) (is_whole : Name → Type 0) (outcomes : Folder → Type 0) : Type 0 where
+  pub fit : AllByRecursion (λ name. is_file_name name ≡ true) names
+  pub there : (n : Name) → is_staged names n ≡ true → IsSome (folder (temporary n))
+  pub list : folder (temporary list_name) ≡ Some (list_bytes names)
+  pub whole : (n : Name) → is_whole n
+  pub uncommitted : IsUncommitted folder outcomes
+
+-- A run of calls in which there is no list: each name that isn't reserved has what it had, and a crash at any moment leaves
+-- the old files.
+pub record RunsUncommitted {D : Type 0} (moment : D → ℕ) (left_since : D → ℕ → Folder → Type 0) (seen : D → Folder) (may_leave : D → Folder → Type 0) (old new : D) : Type 0 where
+  pub same : SameFree (seen old) (seen new)
+  pub uncommitted : IsUncommitted (seen new) (may_leave new)
+  pub moments : LeavesOnly moment left_since old new (HasOldFiles (seen old))
+
+-- The old files are there or the new ones, all of them, and each other name has what it had.
+pub record IsPut (names : List Name) (old new : Folder) : Type 0 where
+  pub either : IsOldOrNew names old new
+  pub others : SameUnstaged names old new

@@ -1,0 +1,61 @@
+//! Files of reserved names are removed.
+
+ghost use Rattle.std.specs.Prelude.{◌≡◌, None, true, false, OnOk, IsErrOf};
+ghost use Rattle.files_in_place.specs.declared.faults.DiskFault.TheVariants.{Failed};
+ghost use Rattle.files_in_place.specs.Folder.{Name, is_reserved, without_reserved};
+ghost use Rattle.files_in_place.specs.Disk.{AfterStep, ComesBy, LeavesOnly, IsSynced, HasCause};
+ghost use Rattle.files_in_place.specs.Recovery.{LosesReserved, AreRemoved, CanClean, HasOldFiles};
+
+use crate::disk::Disk;
+use crate::faults::DiskFault;
+use crate::names::is_reserved;
+use byte_io::Bytes;
+use std::alloc::Global;
+
+// Removes a file if its name is reserved.
+fn remove_if_reserved<D: Disk>(disk: &mut D, name: &[u8]) -> Result<(), DiskFault>
+    ensures done { D.keeps_promises → OnOk result (is_reserved name.now ≡ true → D.seen disk.new name.now ≡ None) }
+    ensures others { D.keeps_promises → OnOk result (LosesReserved (D.seen disk.old) (D.seen disk.new)) }
+    ensures whole { (n : Name) → D.is_whole disk.old n → D.is_whole disk.new n }
+    ensures crash { ComesBy LosesReserved (D.may_leave disk.old) (D.may_leave disk.new) }
+    ensures any_moment { LeavesOnly D.moment D.left_since disk.old disk.new (AfterStep LosesReserved (D.may_leave disk.old)) }
+    ensures cause { HasCause (D.faults disk.old) (D.faults disk.new) (IsErrOf result Failed) }
+{
+    if !is_reserved(name) {
+        return Ok(());
+    }
+    disk.remove(name)?;
+    Ok(())
+}
+
+// Removes each of the files whose name is reserved.
+fn remove_reserved<D: Disk>(disk: &mut D, names: &[Bytes]) -> Result<(), DiskFault>
+    ensures done { D.keeps_promises → OnOk result (AreRemoved names.now (D.seen disk.new)) }
+    ensures others { D.keeps_promises → OnOk result (LosesReserved (D.seen disk.old) (D.seen disk.new)) }
+    ensures whole { (n : Name) → D.is_whole disk.old n → D.is_whole disk.new n }
+    ensures crash { ComesBy LosesReserved (D.may_leave disk.old) (D.may_leave disk.new) }
+    ensures any_moment { LeavesOnly D.moment D.left_since disk.old disk.new (AfterStep LosesReserved (D.may_leave disk.old)) }
+    ensures cause { HasCause (D.faults disk.old) (D.faults disk.new) (IsErrOf result Failed) }
+{
+    let [name, rest @ ..] = names else {
+        return Ok(());
+    };
+    remove_if_reserved(disk, name.as_slice())?;
+    remove_reserved(disk, rest)?;
+    Ok(())
+}
+
+// Removes all files of reserved names, where recovery has nothing else to do.
+pub(crate) fn clean<D: Disk>(alloc: Global, disk: &mut D) -> Result<(), DiskFault>
+    requires whole { D.keeps_promises → (n : Name) → is_reserved n ≡ false → D.is_whole disk.old n }
+    requires can { D.keeps_promises → CanClean (D.seen disk.old) (D.may_leave disk.old) }
+    ensures done { D.keeps_promises → OnOk result ((n : Name) → D.seen disk.new n ≡ without_reserved (D.seen disk.old) n) }
+    ensures synced { D.keeps_promises → OnOk result (IsSynced (D.seen disk.new) (D.is_whole disk.new) (D.may_leave disk.new)) }
+    ensures any_moment { D.keeps_promises → LeavesOnly D.moment D.left_since disk.old disk.new (HasOldFiles (D.seen disk.old)) }
+    ensures cause { HasCause (D.faults disk.old) (D.faults disk.new) (IsErrOf result Failed) }
+{
+    let names = disk.list(alloc)?;
+    remove_reserved(disk, &names)?;
+    disk.sync_folder()?;
+    Ok(())
+}

@@ -1,0 +1,29 @@
+//! A set of new files takes its place in a folder, all of them or none, whatever crashes and whenever.
+//!
+//! A [`Disk`] is one folder, and says what a crash may leave. A [`FileSet`] is written file by file under temporary
+//! names; [`FileSet::finish`] puts all of its files in place, and [`FileSet::abandon`] removes them. [`recover`] is called
+//! before anything is read: it finishes what a crash left, or removes it, and may crash too. [`old_or_new`] says it of any
+//! number of crashes.
+//!
+//! Start with `recovered` in specs/Folder.antt, then specs/Staged.antt and `file_set.rt`. What is believed of a disk
+//! stands at the calls of [`Disk`].
+#![tactic(auto)]
+
+mod clean;
+mod commit;
+mod disk;
+mod faults;
+mod file_set;
+mod history;
+mod names;
+mod new_name;
+mod phase;
+mod recovery;
+mod stage;
+
+pub use disk::Disk;
+pub use faults::{DiskFault, SetFault};
+pub use file_set::FileSet;
+pub use history::old_or_new;
+pub use phase::Phase;
+pub use recovery::recover;

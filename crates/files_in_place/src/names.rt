@@ -1,0 +1,95 @@
+//! Names of files, and lists of them.
+
+ghost use Rattle.std.specs.Prelude.{◌≡◌, IfOk};
+ghost use Rattle.files_in_place.specs.Folder.{is_reserved, temporary, list_bytes, lines_of};
+ghost use Rattle.files_in_place.specs.Staged.{is_staged, is_name_byte, is_dots, is_file_name};
+ghost use Rattle.std.specs.List.{list_all};
+
+use byte_io::Bytes;
+use std::alloc::{AllocError, Global};
+
+// Whether a name is kept for this crate's own files: whether it begins with ~.
+pub(crate) fn is_reserved(name: &[u8]) -> bool
+    ensures value { result ≡ is_reserved name.now }
+{
+    match name {
+        [first, ..] => *first == b'~',
+        [] => false,
+    }
+}
+
+// Whether a name is empty, one dot or two dots.
+fn is_dots(name: &[u8]) -> bool
+    ensures value { result ≡ is_dots name.now }
+{
+    name == b"".as_slice() || name == b".".as_slice() || name == b"..".as_slice()
+}
+
+// Whether each byte may stand in a file's name.
+fn has_name_bytes(name: &[u8]) -> bool
+    ensures value { result ≡ list_all is_name_byte name.now }
+{
+    for b in name {
+        if *b == 0 || *b == b'\n' || *b == b'/' {
+            return false;
+        }
+    }
+    true
+}
+
+// Whether a file of a set may have the name.
+pub(crate) fn is_file_name(name: &[u8]) -> bool
+    ensures value { result ≡ is_file_name name.now }
+{
+    !is_reserved(name) && !is_dots(name) && has_name_bytes(name)
+}
+
+// Whether the name is one of the names.
+pub(crate) fn is_staged(names: &[Bytes], name: &[u8]) -> bool
+    ensures value { result ≡ is_staged names.now name.now }
+{
+    for staged in names {
+        if staged.as_slice() == name {
+            return true;
+        }
+    }
+    false
+}
+
+// The temporary name of a new file.
+pub(crate) fn temporary_name(alloc: Global, name: &[u8]) -> Result<Bytes, AllocError>
+    ensures value { IfOk result (λ lies. lies ≡ temporary name.now) }
+{
+    let mut lies = vec![in alloc; b'~']?;
+    lies.extend_from_slice(name)?;
+    Ok(Bytes::from_vec(lies))
+}
+
+// A line for each name.
+pub(crate) fn list_bytes(alloc: Global, names: &[Bytes]) -> Result<Vec<u8>, AllocError>
+    ensures value { IfOk result (λ list. list.items ≡ list_bytes names.now) }
+{
+    let mut list = Vec::new(alloc);
+    for name in names {
+        list.extend_from_slice(name.as_slice())?;
+        list.push(b'\n')?;
+    }
+    Ok(list)
+}
+
+// The whole lines of a list.
+pub(crate) fn split_names(alloc: Global, list: &[u8]) -> Result<Vec<Bytes>, AllocError>
+    ensures value { IfOk result (λ names. names.items ≡ lines_of list.now) }
+{
+    let mut names = Vec::new(alloc);
+    let mut line = Vec::new(alloc);
+    for b in list {
+        if *b == b'\n' {
+            names.push(Bytes::from_vec(line))?;
+            line = Vec::new(alloc);
+        } else {
+            line.push(*b)?;
+        }
+    }
+    Ok(names)
+}

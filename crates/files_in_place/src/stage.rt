@@ -1,0 +1,87 @@
+//! New files are written under temporary names.
+
+ghost use Rattle.std.specs.Prelude.{◌≡◌, ◌≢◌, [], None, Some, OnOk, IsErrOf};
+ghost use Rattle.files_in_place.specs.declared.faults.DiskFault.TheVariants.{Failed};
+ghost use Rattle.files_in_place.specs.Folder.{Name, SameBut, temporary, list_name, list_bytes};
+ghost use Rattle.files_in_place.specs.Disk.{AfterStep, ComesBy, Shrinks, Elapses, LeavesOnly, HasCause};
+ghost use Rattle.files_in_place.specs.Staged.{IsFreeFor, AreStaged, AreLeft, AreReady, RunsUncommitted};
+
+use crate::disk::Disk;
+use crate::faults::DiskFault;
+use byte_io::Bytes;
+
+// At `Ok` all bytes of the file that was being written are on the disk, if there is one.
+pub(crate) fn sync_current<D: Disk>(disk: &mut D, current: &Option<Bytes>) -> Result<(), DiskFault>
+    ensures whole { OnOk result (((n : Name) → current.now ≢ Some n → D.is_whole disk.old n) → (n : Name) → D.is_whole disk.new n) }
+    ensures seen { D.seen disk.new ≡ D.seen disk.old }
+    ensures kept { (n : Name) → D.is_whole disk.old n → D.is_whole disk.new n }
+    ensures crash { Shrinks (D.may_leave disk.old) (D.may_leave disk.new) }
+    ensures time { Elapses (D.moment disk.old) (D.moment disk.new) (D.left_since disk.old) (D.left_since disk.new) (D.may_leave disk.new) }
+    ensures cause { HasCause (D.faults disk.old) (D.faults disk.new) (IsErrOf result Failed) }
+{
+    let Some(lies) = current else {
+        return Ok(());
+    };
+    disk.sync_file(lies.as_slice())?;
+    Ok(())
+}
+
+// Begins an empty file after the one that was being written is on the disk.
+pub(crate) fn begin_file<D: Disk>(
+    disk: &mut D,
+    names: &[Bytes],
+    current: &Option<Bytes>,
+    lies: &[u8],
+) -> Result<(), DiskFault>
+    requires staged { D.keeps_promises → AreStaged names.now current.now (D.seen disk.old) (D.is_whole disk.old) (D.is_new disk.old) (D.may_leave disk.old) }
+    requires free { D.keeps_promises → IsFreeFor names.now lies.now }
+    ensures empty { D.keeps_promises → OnOk result (D.seen disk.new lies.now ≡ Some []) }
+    ensures others { SameBut lies.now (D.seen disk.old) (D.seen disk.new) }
+    ensures whole { D.keeps_promises → OnOk result ((n : Name) → n ≢ lies.now → D.is_whole disk.new n) }
+    ensures new { OnOk result (D.is_new disk.new lies.now) }
+    ensures left { D.keeps_promises → AreLeft (D.seen disk.new) (D.is_whole disk.new) (D.may_leave disk.new) }
+    ensures run { D.keeps_promises → RunsUncommitted D.moment D.left_since D.seen D.may_leave disk.old disk.new }
+    ensures cause { HasCause (D.faults disk.old) (D.faults disk.new) (IsErrOf result Failed) }
+{
+    sync_current(disk, current)?;
+    disk.create(lies)?;
+    Ok(())
+}
+
+// Writes a file under a name that has none. At `Ok` all its bytes are on the disk.
+pub(crate) fn write_whole<D: Disk>(disk: &mut D, name: &[u8], bytes: &[u8]) -> Result<(), DiskFault>
+    requires free { D.keeps_promises → D.seen disk.old name.now ≡ None }
+    ensures done { D.keeps_promises → OnOk result (D.seen disk.new name.now ≡ Some bytes.now) }
+    ensures durable { OnOk result (D.is_whole disk.new name.now) }
+    ensures others { SameBut name.now (D.seen disk.old) (D.seen disk.new) }
+    ensures whole { (n : Name) → n ≢ name.now → D.is_whole disk.old n → D.is_whole disk.new n }
+    ensures crash { ComesBy (SameBut name.now) (D.may_leave disk.old) (D.may_leave disk.new) }
+    // A crash at any moment of the call leaves each other name as it might have left it before.
+    ensures any_moment { LeavesOnly D.moment D.left_since disk.old disk.new (AfterStep (SameBut name.now) (D.may_leave disk.old)) }
+    ensures cause { HasCause (D.faults disk.old) (D.faults disk.new) (IsErrOf result Failed) }
+{
+    disk.create(name)?;
+    disk.append(name, bytes)?;
+    disk.sync_file(name)?;
+    Ok(())
+}
+
+// Writes the list of the names under its temporary name, after the file that was being written is on the disk.
+pub(crate) fn write_list<D: Disk>(
+    disk: &mut D,
+    names: &[Bytes],
+    current: &Option<Bytes>,
+    list: &[u8],
+) -> Result<(), DiskFault>
+    requires staged { D.keeps_promises → AreStaged names.now current.now (D.seen disk.old) (D.is_whole disk.old) (D.is_new disk.old) (D.may_leave disk.old) }
+    requires list { list.now ≡ list_bytes names.now }
+    ensures others { SameBut (temporary list_name) (D.seen disk.old) (D.seen disk.new) }
+    ensures ready { D.keeps_promises → OnOk result (AreReady names.now (D.seen disk.new) (D.is_whole disk.new) (D.may_leave disk.new)) }
+    ensures left { D.keeps_promises → AreLeft (D.seen disk.new) (D.is_whole disk.new) (D.may_leave disk.new) }
+    ensures run { D.keeps_promises → RunsUncommitted D.moment D.left_since D.seen D.may_leave disk.old disk.new }
+    ensures cause { HasCause (D.faults disk.old) (D.faults disk.new) (IsErrOf result Failed) }
+{
+    sync_current(disk, current)?;
+    write_whole(disk, b"~~~list", list)?;
+    Ok(())
+}
