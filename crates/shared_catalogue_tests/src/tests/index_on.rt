@@ -87,19 +87,26 @@ fn has_index(catalogue: &Catalogue, number: usize, name: &[u8], text: &[u8]) -> 
     table.index_name(number).as_slice() == name && table.expr(number).text() == text
 }
 
+// The cases, in their order.
+const PARTS: [&[Case]; 4] = [&BEFORE_THE_EXPRESSION, &MADE, &SEVEN, &OF_ALL_TABLES];
+
+// The first part with a case that is answered otherwise.
+fn first_other_part(alloc: Global, catalogue: &mut Catalogue) -> Result<Option<usize>, Fail> {
+    for i in 0..PARTS.len() {
+        if first_other(alloc, catalogue, PARTS[i])?.is_some() {
+            return Ok(Some(i));
+        }
+    }
+    Ok(None)
+}
+
 #[test]
 fn index_on(rt: HostRuntime) -> Result<(), Fail> {
-    let alloc = rt.alloc();
-    let mut catalogue = opened(alloc)?;
-    assert_eq!(rt;
-        first_other(alloc, &mut catalogue, &BEFORE_THE_EXPRESSION)?,
-        None
+    let mut catalogue = opened(rt.alloc())?;
+    assert_eq!(rt; first_other_part(rt.alloc(), &mut catalogue)?, None);
+    assert!(rt;
+        has_index(&catalogue, 1, b"X", b"upper( name )") && has_index(&catalogue, 7, b"A6", b"NAME")
     );
-    assert_eq!(rt; first_other(alloc, &mut catalogue, &MADE)?, None);
-    assert_eq!(rt; first_other(alloc, &mut catalogue, &SEVEN)?, None);
-    assert_eq!(rt; first_other(alloc, &mut catalogue, &OF_ALL_TABLES)?, None);
-    assert!(rt; has_index(&catalogue, 1, b"X", b"upper( name )"));
-    assert!(rt; has_index(&catalogue, 7, b"A6", b"NAME"));
     Ok(())
 }
 
@@ -198,13 +205,21 @@ fn are_orders(
     Ok(true)
 }
 
+// The first step after which a case is answered otherwise, or an index has another order.
+fn first_other_step(alloc: Global, catalogue: &mut Catalogue) -> Result<Option<usize>, Fail> {
+    for i in 0..STEPS.len() {
+        let (cases, orders) = STEPS[i];
+        let is_answered = first_other(alloc, catalogue, cases)?.is_none();
+        if !is_answered || !are_orders(alloc, catalogue, orders)? {
+            return Ok(Some(i));
+        }
+    }
+    Ok(None)
+}
+
 #[test]
 fn made_index_is_kept(rt: HostRuntime) -> Result<(), Fail> {
-    let alloc = rt.alloc();
-    let mut catalogue = opened(alloc)?;
-    for (cases, orders) in STEPS {
-        assert_eq!(rt; first_other(alloc, &mut catalogue, cases)?, None);
-        assert!(rt; are_orders(alloc, &catalogue, orders)?);
-    }
+    let mut catalogue = opened(rt.alloc())?;
+    assert_eq!(rt; first_other_step(rt.alloc(), &mut catalogue)?, None);
     Ok(())
 }

@@ -42,6 +42,37 @@ const CLOSED: [Case; 3] = [
 
 const USED: [Case; 1] = [(1, Asked::Use, b"T", Expected::Ok)];
 
+const UNLOCKED: [Case; 1] = [(1, Asked::Unlock, b"", Expected::Ok)];
+
+// What is done before the status row is looked at.
+#[derive(Clone, Copy)]
+enum Step {
+    Cases(&'static [Case]),
+    // Station 1 asks for locks on the records 1 to a number, the last one first.
+    LocksTo(u64, Expected),
+    // Station 2 names one record 51 times, and is refused.
+    Repeated,
+    // Station 1 can write each of the first 50 records, and not the 51st.
+    Writes,
+}
+
+// The steps, and how the status row then begins.
+const LISTS: [(Step, [u64; 5]); 5] = [
+    (Step::Cases(&LISTED), [7, 1, 2, 0, 2]),
+    (Step::Cases(&FREED), [8, 2, 2, 0, 3]),
+    (Step::Cases(&REFUSED), [11, 2, 106, 0, 3]),
+    (Step::Repeated, [12, 2, 120, 0, 3]),
+    (Step::Cases(&CLOSED), [15, 2, 2, 0, 3]),
+];
+
+const FIFTY: [(Step, [u64; 5]); 5] = [
+    (Step::Cases(&USED), [1, 1, 0, 0, 0]),
+    (Step::LocksTo(50, Expected::Truth(true)), [2, 1, 2, 0, 50]),
+    (Step::LocksTo(51, Expected::Refused(20)), [3, 1, 120, 0, 50]),
+    (Step::Writes, [105, 1, 105, 0, 50]),
+    (Step::Cases(&UNLOCKED), [106, 1, 0, 0, 0]),
+];
+
 // The catalogue of one table for two stations.
 fn opened(alloc: Global, content: TableData) -> Result<Catalogue, Fail> {
     open(alloc, vec![in alloc; named(alloc, b"T", content)?]?, 2)
@@ -75,59 +106,6 @@ fn has_row(catalogue: &Catalogue, row: [u64; 5]) -> bool {
     words.starts_with(&row) && words.iter().skip(5).all(|word| *word == 0)
 }
 
-// Whether the cases are answered as expected, and then the status row begins so and has zeros after it.
-fn shows(
-    alloc: Global,
-    catalogue: &mut Catalogue,
-    cases: &[Case],
-    row: [u64; 5],
-) -> Result<bool, Fail> {
-    Ok(first_other(alloc, catalogue, cases)?.is_none() && has_row(catalogue, row))
-}
-
-// Whether a station's command is answered as expected, and then the status row begins so and has zeros after it.
-fn shows_after(
-    alloc: Global,
-    catalogue: &mut Catalogue,
-    station: u32,
-    command: &Command,
-    expected: Expected,
-    row: [u64; 5],
-) -> Result<bool, Fail> {
-    Ok(performs(alloc, catalogue, station, command, expected)? && has_row(catalogue, row))
-}
-
-// Whether 51 numbers are refused, though they are one.
-fn refuses_repeated(alloc: Global, catalogue: &mut Catalogue) -> Result<bool, Fail> {
-    let command = repeated_lock(alloc)?;
-    let expected = Expected::Refused(20);
-    shows_after(alloc, catalogue, 2, &command, expected, [12, 2, 120, 0, 3])
-}
-
-#[test]
-fn locks_over_a_list(rt: HostRuntime) -> Result<(), Fail> {
-    let alloc = rt.alloc();
-    let mut catalogue = opened(alloc, table(alloc, &WITH_CYD)?)?;
-    assert!(rt; shows(alloc, &mut catalogue, &LISTED, [7, 1, 2, 0, 2])?);
-    assert!(rt; shows(alloc, &mut catalogue, &FREED, [8, 2, 2, 0, 3])?);
-    assert!(rt; shows(alloc, &mut catalogue, &REFUSED, [11, 2, 106, 0, 3])?);
-    assert!(rt; refuses_repeated(alloc, &mut catalogue)?);
-    assert!(rt; shows(alloc, &mut catalogue, &CLOSED, [15, 2, 2, 0, 3])?);
-    Ok(())
-}
-
-// Whether station 1 gets locks on 50 records, and none on 51.
-fn locks_fifty(alloc: Global, catalogue: &mut Catalogue) -> Result<bool, Fail> {
-    let fifty = locks_to(alloc, 50)?;
-    let more = locks_to(alloc, 51)?;
-    let truth = Expected::Truth(true);
-    let refused = Expected::Refused(20);
-    Ok(
-        shows_after(alloc, catalogue, 1, &fifty, truth, [2, 1, 2, 0, 50])?
-            && shows_after(alloc, catalogue, 1, &more, refused, [3, 1, 120, 0, 50])?,
-    )
-}
-
 // Whether station 1 can write each of the first 50 records, and not the 51st.
 fn writes_fifty(alloc: Global, catalogue: &mut Catalogue) -> Result<bool, Fail> {
     for number in 1..52 {
@@ -146,15 +124,45 @@ fn writes_fifty(alloc: Global, catalogue: &mut Catalogue) -> Result<bool, Fail> 
     Ok(true)
 }
 
-const UNLOCKED: [Case; 1] = [(1, Asked::Unlock, b"", Expected::Ok)];
+// Whether the commands of a step are answered as expected.
+fn is_step_answered(alloc: Global, catalogue: &mut Catalogue, step: Step) -> Result<bool, Fail> {
+    match step {
+        Step::Cases(cases) => Ok(first_other(alloc, catalogue, cases)?.is_none()),
+        Step::LocksTo(last, expected) => {
+            performs(alloc, catalogue, 1, &locks_to(alloc, last)?, expected)
+        }
+        Step::Repeated => {
+            let command = repeated_lock(alloc)?;
+            performs(alloc, catalogue, 2, &command, Expected::Refused(20))
+        }
+        Step::Writes => writes_fifty(alloc, catalogue),
+    }
+}
+
+// The index of the first step that is answered otherwise, or after which the status row is another.
+fn first_other_step(
+    alloc: Global,
+    catalogue: &mut Catalogue,
+    steps: &[(Step, [u64; 5])],
+) -> Result<Option<usize>, Fail> {
+    for i in 0..steps.len() {
+        if !is_step_answered(alloc, catalogue, steps[i].0)? || !has_row(catalogue, steps[i].1) {
+            return Ok(Some(i));
+        }
+    }
+    Ok(None)
+}
+
+#[test]
+fn locks_over_a_list(rt: HostRuntime) -> Result<(), Fail> {
+    let mut catalogue = opened(rt.alloc(), table(rt.alloc(), &WITH_CYD)?)?;
+    assert_eq!(rt; first_other_step(rt.alloc(), &mut catalogue, &LISTS)?, None);
+    Ok(())
+}
 
 #[test]
 fn fifty_locks_and_one_more(rt: HostRuntime) -> Result<(), Fail> {
-    let alloc = rt.alloc();
-    let mut catalogue = opened(alloc, long_table(alloc)?)?;
-    assert!(rt; shows(alloc, &mut catalogue, &USED, [1, 1, 0, 0, 0])?);
-    assert!(rt; locks_fifty(alloc, &mut catalogue)?);
-    assert!(rt; writes_fifty(alloc, &mut catalogue)?);
-    assert!(rt; shows(alloc, &mut catalogue, &UNLOCKED, [106, 1, 0, 0, 0])?);
+    let mut catalogue = opened(rt.alloc(), long_table(rt.alloc())?)?;
+    assert_eq!(rt; first_other_step(rt.alloc(), &mut catalogue, &FIFTY)?, None);
     Ok(())
 }
