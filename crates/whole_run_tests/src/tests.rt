@@ -3,6 +3,7 @@
 mod again;
 mod dates;
 mod day;
+mod devices;
 mod made;
 mod setups;
 mod stale;
@@ -89,7 +90,7 @@ pub(crate) fn serve_in<R: Threads + Wait + Sync>(
 }
 
 // Serves a setup with a script, in 1987.
-fn serve_setup<R: Threads + Wait + Sync>(
+pub(crate) fn serve_setup<R: Threads + Wait + Sync>(
     rt: &R,
     alloc: Global,
     setup: &[u8],
@@ -119,7 +120,7 @@ pub(crate) fn has_files(folder: &MemoryFolder, files: &[(&[u8], &[u8])]) -> bool
 }
 
 // What a folder has after a run of `count` commands.
-fn folder_of<R: Threads + Wait + Sync>(
+pub(crate) fn folder_of<R: Threads + Wait + Sync>(
     rt: &R,
     alloc: Global,
     setup: &[u8],
@@ -335,46 +336,6 @@ fn index_is_made_anew_where_it_is_asked(rt: HostRuntime) -> Result<(), Fail> {
         Ok(3)
     );
     assert!(rt; has_file(&folder, 2, b"STATION1.TXT", b"OK\nOK\n2\n"));
-    Ok(())
-}
-
-// Whether a run ends since this file can't be written.
-fn is_unwritten(served: Result<u64, ServeFault>, name: &[u8]) -> bool {
-    match served {
-        Err(ServeFault::Close(CloseFault::Write(file))) => file.as_slice() == name,
-        _ => false,
-    }
-}
-
-// What a folder has that takes `calls` calls, where the file of this name can't be written.
-fn folder_before<R: Threads + Wait + Sync>(
-    rt: &R,
-    alloc: Global,
-    calls: u64,
-    name: &[u8],
-) -> Result<MemoryFolder, Fail> {
-    let setup = b"TABLE T empty.dbf\nINDEX T X x.ndx\nSTATION s.prg\n";
-    let mut folder = MemoryFolder::new(alloc);
-    folder.calls = calls;
-    if is_unwritten(serve_setup(rt, alloc, setup, b"", &mut folder)?, name) {
-        Ok(folder)
-    } else {
-        Err("another ending".into())
-    }
-}
-
-// The calls are: begin and write of T.DBF, begin and write of X.NDX.
-#[test]
-fn folder_fails_at_first_write(rt: HostRuntime) -> Result<(), Fail> {
-    let cases: [(u64, &[u8], &[(&[u8], &[u8])]); 3] = [
-        (0, b"T.DBF", &[]),
-        (1, b"T.DBF", &[(b"T.DBF", b"")]),
-        (2, b"X.NDX", &[(b"T.DBF", &EMPTY)]),
-    ];
-    for (calls, name, files) in cases {
-        let folder = folder_before(&rt, rt.alloc(), calls, name)?;
-        assert!(rt; has_files(&folder, files));
-    }
     Ok(())
 }
 

@@ -3,8 +3,10 @@
 use super::asked::{Asked, Case, Expected, first_other};
 use super::sample::{open, three_records};
 use dbf_fields::Bytes;
+use dbf_image::TableData;
 use key_expr::{ExprFault, Key};
 use ndx_index::{NdxFile, Pair};
+use sample_files::{EMPTY, table};
 use shared_catalogue::{Catalogue, IndexSource, OpenFault, Question, TableSource};
 use std::alloc::Global;
 use std::test::Fail;
@@ -68,19 +70,21 @@ fn sources_of(alloc: Global, all: &[Source]) -> Result<Vec<TableSource>, Fail> {
     Ok(sources)
 }
 
-// The fault of opening a table T with an index on NAME of these pairs.
+// The fault of opening a table with an index on NAME of these pairs.
 fn fault_of(
     alloc: Global,
+    content: TableData,
     key_len: usize,
     pairs: &'static [(u8, u32)],
     reindex: bool,
 ) -> Result<Option<OpenFault>, Fail> {
-    let mut source = source_of(alloc, (b"T", &[]))?;
-    source
-        .indexes
-        .push(index_of(alloc, (b"X", b"NAME", key_len, pairs))?)?;
-    let sources = vec![in alloc; source]?;
-    Ok(Catalogue::open(alloc, sources, 1, reindex).err())
+    let index = index_of(alloc, (b"X", b"NAME", key_len, pairs))?;
+    let source = TableSource {
+        name: Bytes::from_slice(alloc, b"T")?,
+        content,
+        indexes: vec![in alloc; index]?,
+    };
+    Ok(Catalogue::open(alloc, vec![in alloc; source]?, 1, reindex).err())
 }
 
 // The first case that is answered otherwise by two stations' catalogue of one table.
@@ -200,7 +204,7 @@ fn reversed_equal_keys(rt: HostRuntime) -> Result<(), Fail> {
 }
 
 #[test]
-fn stale_indexes_are_refused(rt: HostRuntime) -> Result<(), Fail> {
+fn stale_indexes(rt: HostRuntime) -> Result<(), Fail> {
     let alloc = rt.alloc();
     let cases: [(usize, &'static [(u8, u32)], bool); 8] = [
         (1, PAIRS, false),
@@ -211,20 +215,35 @@ fn stale_indexes_are_refused(rt: HostRuntime) -> Result<(), Fail> {
         (1, &[(b'A', 2), (b'A', 2), (b'B', 1)], true),
         // Record number 0.
         (1, &[(b'A', 0), (b'A', 3), (b'B', 1)], true),
-        // Another key length, and no record.
+        // Another key length.
         (2, PAIRS, true),
+        // No pair.
         (1, &[], true),
         // The key of another record.
         (1, &[(b'A', 2), (b'B', 3), (b'B', 1)], true),
     ];
     for (key_len, pairs, stale) in cases {
-        let wanted = if stale {
-            Some(OpenFault::IndexStale(1, 1))
-        } else {
+        let wanted = stale.then_some(OpenFault::IndexStale(1, 1));
+        assert_eq!(rt;
+            fault_of(alloc, three_records(alloc)?, key_len, pairs, false)?,
+            wanted
+        );
+        assert_eq!(rt;
+            fault_of(alloc, three_records(alloc)?, key_len, pairs, true)?,
             None
-        };
-        assert_eq!(rt; fault_of(alloc, key_len, pairs, false)?, wanted);
-        assert_eq!(rt; fault_of(alloc, key_len, pairs, true)?, None);
+        );
+    }
+    Ok(())
+}
+
+// Without records all indexes have the same pairs, but not the same length of keys.
+#[test]
+fn stale_indexes_of_no_record(rt: HostRuntime) -> Result<(), Fail> {
+    let alloc = rt.alloc();
+    let stale = Some(OpenFault::IndexStale(1, 1));
+    for (key_len, reindex, wanted) in [(9, false, stale), (9, true, None), (10, false, None)] {
+        let fault = fault_of(alloc, table(alloc, &EMPTY)?, key_len, &[], reindex)?;
+        assert_eq!(rt; fault, wanted);
     }
     Ok(())
 }
