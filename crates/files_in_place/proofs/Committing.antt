@@ -3,13 +3,13 @@ use Rattle.std.proofs.Common.{◌≡◌, ◌≢◌, inl, inr, List, [], ◌∷�
 use Rattle.std.proofs.lemmas.Bool.{cases_Bool, both_ways, cond-true, cond-false}
 use Rattle.std.specs.List.{list_any, list_all, AllByRecursion}
 use Rattle.std.specs.Str.{bytes_eq}
-use Rattle.files_in_place.specs.Folder.{Name, Folder, SameBut, is_reserved, temporary, list_name, list_bytes, names_in, is_listed, first_of, recovered, without_reserved}
+use Rattle.files_in_place.specs.Folder.{Name, Folder, is_reserved, temporary, list_name, list_bytes, names_in, is_listed}
 use Rattle.files_in_place.specs.Disk.{AfterStep, SameButTwo, HasMoved, MayMove, IsDurable}
-use Rattle.files_in_place.specs.Recovery.{RecoversTo, SameFree, HasOldFiles, StillRecovers}
-use Rattle.files_in_place.specs.Staged.{is_staged, is_file_name, is_name_byte, is_dots, with_staged, IsOldOrNew, SameUnstaged, IsUncommitted, AreReady, IsPut}
+use Rattle.files_in_place.specs.Recovery.{RecoversTo, SameFree, StillRecovers}
+use Rattle.files_in_place.specs.Staged.{is_staged, is_file_name, is_name_byte, is_dots, with_staged, IsUncommitted, AreReady, IsPut}
 use Rattle.files_in_place.proofs.NameLists.{lines_of-list_bytes}
 use Rattle.files_in_place.proofs.Meaning.{free_other, temporary-inj, recovered_by, recovered_free, recovered_reserved, first_there}
-use Rattle.files_in_place.proofs.Uncommitted.{second_true, name_free, staged_free, apart_from_list, list_apart, uncommitted_old}
+use Rattle.files_in_place.proofs.Uncommitted.{second_true, staged_free, apart_from_list, uncommitted_old}
 
 -- a file's name has no line feed
 byte_no_feed : (b : ℕ) → is_name_byte b ≡ true → b ≢ 10

@@ -6,7 +6,7 @@ use Rattle.std.specs.List.{list_any, AllByRecursion, Contains}
 use Rattle.std.specs.Str.{bytes_eq}
 use Rattle.files_in_place.specs.Folder.{Name, Folder, is_reserved, temporary, list_name, names_in, is_listed, recovered, without_reserved}
 use Rattle.files_in_place.specs.Disk.{AfterStep, Settles, IsSynced}
-use Rattle.files_in_place.specs.Recovery.{IsFinished, RecoversTo, SameFree, LosesReserved, KeepsRecovery, CanRename, CanClean, HasOldFiles, StillRecovers, AreRemoved, AreListed, AreRenamed, IsClean}
+use Rattle.files_in_place.specs.Recovery.{IsFinished, SameFree, LosesReserved, KeepsRecovery, CanRename, CanClean, HasOldFiles, StillRecovers, AreRemoved, AreListed, AreRenamed, IsClean}
 use Rattle.files_in_place.proofs.Meaning.{recovered_by, recovered_by-none, recovered_free, recovered_reserved, recovered_same, same_list, lost_same}
 
 -- each name of a list is in it

@@ -1,17 +1,17 @@
 -- A set while it is written, and when it is put in place.
-use Rattle.std.proofs.Common.{◌≡◌, ◌≢◌, ◌⊎◌, ◌++◌, if◌then◌else◌, inl, inr, List, [], ◌∷◌, Bool, true, false, ◌||◌, Option, None, Some, IsSome, option_map, ℕ, refl, sym, ◌∙◌, ap, subst}
-use Rattle.std.proofs.lemmas.Bool.{cases_Bool, both_ways, cond-true, cond-false}
+use Rattle.std.proofs.Common.{◌≡◌, ◌≢◌, ◌⊎◌, ◌++◌, if◌then◌else◌, inl, inr, List, [], ◌∷◌, true, false, Option, None, Some, IsSome, option_map, ℕ, refl, sym, ◌∙◌, ap, subst}
+use Rattle.std.proofs.lemmas.Bool.{cases_Bool, both_ways, cond-true}
 use Rattle.std.proofs.lemmas.Slice.Eq.{bytes_eq-Decides}
 use Rattle.std.specs.List.{AllByRecursion}
 use Rattle.std.specs.Str.{bytes_eq}
 use Rattle.files_in_place.specs.Folder.{Name, Folder, SameBut, is_reserved, temporary, list_name, without_reserved}
-use Rattle.files_in_place.specs.Recovery.{IsClean, RecoversTo, SameFree, HasOldFiles}
+use Rattle.files_in_place.specs.Recovery.{IsClean, SameFree, HasOldFiles}
 use Rattle.files_in_place.specs.declared.phase.Phase.{Phase}
 use Rattle.files_in_place.specs.declared.phase.Phase.TheVariants.{Staging, Failed, Ended}
-use Rattle.files_in_place.specs.Staged.{is_staged, is_file_name, with_staged, IsStagedAs, IsUncommitted, AreStaged, AreLeft, HoldsInPhase, IsPut}
+use Rattle.files_in_place.specs.Staged.{is_staged, is_file_name, with_staged, IsUncommitted, AreStaged, AreLeft, HoldsInPhase, IsPut}
 use Rattle.files_in_place.proofs.Meaning.{free_other, temporary-inj, same_name}
 use Rattle.files_in_place.proofs.Ending.{without_res}
-use Rattle.files_in_place.proofs.Uncommitted.{staged_free, staged_left, old_files_from, some_inj}
+use Rattle.files_in_place.proofs.Uncommitted.{staged_left, old_files_from, some_inj}
 
 -- a name among the names and one more
 more_staged : (names : List Name) (name n : Name) → is_staged (names ++ name ∷ []) n ≡ true → (is_staged names n ≡ true) ⊎ (name ≡ n)

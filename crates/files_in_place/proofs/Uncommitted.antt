@@ -2,13 +2,13 @@
 use Rattle.std.proofs.Common.{◌≡◌, ◌≢◌, inl, inr, List, [], ◌∷◌, Bool, true, false, Option, None, Some, IsSome, ℕ, refl, sym, ◌∙◌, ap, subst, not, ◌&&◌}
 use Rattle.std.proofs.lemmas.Bool.{cases_Bool, both_ways}
 use Rattle.std.proofs.lemmas.Slice.Eq.{bytes_eq-Decides}
-use Rattle.std.specs.List.{AllByRecursion, list_all}
+use Rattle.std.specs.List.{AllByRecursion}
 use Rattle.std.specs.Str.{bytes_eq}
 use Rattle.files_in_place.specs.Folder.{Name, Folder, SameBut, is_reserved, temporary, list_name, list_bytes}
 use Rattle.files_in_place.specs.Disk.{AfterStep, ComesBy, Shrinks, IsSynced, Elapses, LeavesOnly}
 use Rattle.files_in_place.specs.Recovery.{IsClean, SameFree, HasOldFiles, CanClean}
-use Rattle.files_in_place.specs.Staged.{is_staged, is_file_name, is_dots, is_name_byte, IsUncommitted, IsStagedAs, IsFreeFor, AreStaged, AreLeft, AreReady, RunsUncommitted}
-use Rattle.files_in_place.proofs.Runs.{started, goes_on, runs_on, leaves_by}
+use Rattle.files_in_place.specs.Staged.{is_staged, is_file_name, IsUncommitted, IsStagedAs, IsFreeFor, AreStaged, AreLeft, AreReady, RunsUncommitted}
+use Rattle.files_in_place.proofs.Runs.{started, goes_on, runs_on}
 use Rattle.files_in_place.proofs.Meaning.{free_other, temporary-inj}
 use Rattle.files_in_place.proofs.Ending.{unlisted_finished, finished_without, without_same}
 

@@ -4,3 +4,4 @@ pub mod Recovery
 pub mod Staged
 pub mod History
 pub mod Faults
+pub mod System

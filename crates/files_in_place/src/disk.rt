@@ -14,7 +14,7 @@ use std::alloc::Global;
 /// Its ghost members are a model of what reads show and of what a crash leaves, by what POSIX says of `rename` and `fsync`
 /// and what file systems with a journal keep. A type whose files are outside of its value, as a folder of the system,
 /// can't prove that they follow a model: so the clauses that speak of values stand under `keeps_promises`. Such a
-/// type leaves that fact open, and what is proved of this trait holds of it if its folder follows the model.
+/// type doesn't claim it, and what is proved of every disk holds of its folder as far as that follows the model.
 ///
 /// Of the files of a call that fails nothing is said but what the clauses name.
 pub trait Disk {

@@ -3,7 +3,7 @@
 //! A [`Disk`] is one folder, and says what a crash may leave. A [`FileSet`] is written file by file under temporary
 //! names; [`FileSet::finish`] puts all of its files in place, and [`FileSet::abandon`] removes them. [`recover`] is called
 //! before anything is read: it finishes what a crash left, or removes it, and may crash too. [`old_or_new`] says it of any
-//! number of crashes.
+//! number of crashes. [`SystemDisk`] is a folder of the system, and [`lock_folder`] keeps it for one run at a time.
 //!
 //! Start with `recovered` in specs/Folder.antt, then specs/Staged.antt and `file_set.rt`. What is believed of a disk
 //! stands at the calls of [`Disk`].
@@ -14,16 +14,22 @@ mod commit;
 mod disk;
 mod faults;
 mod file_set;
+mod folder_lock;
 mod history;
 mod names;
 mod new_name;
 mod phase;
 mod recovery;
 mod stage;
+mod system_calls;
+mod system_disk;
+mod system_file;
 
 pub use disk::Disk;
 pub use faults::{DiskFault, SetFault};
 pub use file_set::FileSet;
+pub use folder_lock::{FolderLock, LockFault, lock_folder};
 pub use history::old_or_new;
 pub use phase::Phase;
 pub use recovery::recover;
+pub use system_disk::SystemDisk;

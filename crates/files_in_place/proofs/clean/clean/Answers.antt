@@ -1,4 +1,4 @@
-use Rattle.std.proofs.Common.{◌≡◌, false, subst, sym, ◌∙◌, ap, inl, inr}
+use Rattle.std.proofs.Common.{subst, sym, ◌∙◌, ap, inl, inr}
 use Rattle.std.proofs.lemmas.Bool.{cases_Bool}
 use Rattle.files_in_place.specs.Folder.{Name, Folder, is_reserved}
 use Rattle.files_in_place.specs.Disk.{AfterStep, IsSynced}

@@ -5,8 +5,7 @@ use Rattle.files_in_place.specs.Recovery.{StillRecovers}
 use Rattle.files_in_place.specs.Staged.{IsPut}
 use Rattle.files_in_place.proofs.Runs.{started, goes_on, runs_on}
 use Rattle.files_in_place.proofs.Meaning.{same_name}
-use Rattle.files_in_place.proofs.Ending.{settled, recovered_each}
-use Rattle.files_in_place.proofs.Uncommitted.{un_shrinks}
+use Rattle.files_in_place.proofs.Ending.{settled}
 use Rattle.files_in_place.proofs.Committing.{put_old, naming_means, named_means, recovering_means, list_durable}
 use Rattle.files_in_place.proofs.commit.commit.Goals as goal
 

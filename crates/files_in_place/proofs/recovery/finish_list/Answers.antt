@@ -1,5 +1,5 @@
 use Rattle.std.proofs.Common.{◌≡◌, List, subst, sym, ◌∙◌, ap, Some}
-use Rattle.files_in_place.specs.Folder.{Name, Folder, list_name, lines_of, names_in, recovered}
+use Rattle.files_in_place.specs.Folder.{Name, Folder, list_name, lines_of, names_in}
 use Rattle.files_in_place.specs.Disk.{AfterStep, IsSynced}
 use Rattle.files_in_place.specs.Recovery.{KeepsRecovery, CanRename, AreListed, AreRenamed, IsFinished, StillRecovers}
 use Rattle.files_in_place.proofs.Runs.{one_call, and_then, stays, leaves_by}

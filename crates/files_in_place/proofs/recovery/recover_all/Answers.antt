@@ -1,5 +1,4 @@
 use Rattle.std.proofs.Common.{sym, ◌∙◌}
-use Rattle.files_in_place.specs.Folder.{Folder}
 use Rattle.files_in_place.specs.Recovery.{HasOldFiles, StillRecovers}
 use Rattle.files_in_place.proofs.Runs.{runs_on}
 use Rattle.files_in_place.proofs.Ending.{synced_can_clean, finished_without, cleaning_means}

@@ -1,6 +1,5 @@
-use Rattle.std.proofs.Common.{◌≡◌, ◌≢◌, None, subst, sym, ◌∙◌, ap}
-use Rattle.files_in_place.specs.Folder.{Name, Folder, temporary}
-use Rattle.files_in_place.specs.Staged.{AreLeft}
+use Rattle.std.proofs.Common.{◌∙◌, ap}
+use Rattle.files_in_place.specs.Folder.{Folder}
 use Rattle.files_in_place.proofs.Uncommitted.{free_temporary, staged_left, left_shrinks, left_step, run_none, run_call, step_free}
 use Rattle.files_in_place.proofs.stage.begin_file.Goals as goal
 

@@ -1,7 +1,6 @@
-use Rattle.std.proofs.Common.{◌≡◌, ◌≢◌, None, Some, IsSome, true, refl, subst, sym, ◌∙◌, ap, inl, inr}
-use Rattle.files_in_place.specs.Folder.{Name, Folder, SameBut, temporary, list_name, list_bytes}
+use Rattle.std.proofs.Common.{Some, refl, subst, sym, ◌∙◌, ap, inl, inr}
+use Rattle.files_in_place.specs.Folder.{Name, Folder, SameBut, temporary, list_name}
 use Rattle.files_in_place.specs.Disk.{AfterStep}
-use Rattle.files_in_place.specs.Staged.{AreLeft, is_staged}
 use Rattle.files_in_place.proofs.Meaning.{same_name}
 use Rattle.files_in_place.proofs.Uncommitted.{list_temporary, staged_left, left_shrinks, left_step, un_after, reserved_unstaged, list_ready, run_none, run_call, run_calls, step_free}
 use Rattle.files_in_place.proofs.stage.write_list.Goals as goal

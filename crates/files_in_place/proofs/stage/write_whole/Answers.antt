@@ -1,5 +1,4 @@
-use Rattle.std.proofs.Common.{sym, subst}
-use Rattle.files_in_place.specs.Folder.{Folder, SameBut}
+use Rattle.files_in_place.specs.Folder.{SameBut}
 use Rattle.files_in_place.proofs.Runs.{one_call, and_then, stays}
 use Rattle.files_in_place.proofs.Meaning.{same_but_step}
 use Rattle.files_in_place.proofs.stage.write_whole.Goals as goal

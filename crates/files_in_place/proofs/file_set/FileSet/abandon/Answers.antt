@@ -1,6 +1,6 @@
-use Rattle.std.proofs.Common.{◌≡◌, ◌≢◌, List, [], None, rules, subst, sym, ◌∙◌, ap}
-use Rattle.files_in_place.specs.declared.phase.Phase.TheVariants.{Staging, Ended}
-use Rattle.files_in_place.specs.Folder.{Name, Folder, without_reserved}
+use Rattle.std.proofs.Common.{◌≡◌, ◌≢◌, rules, subst}
+use Rattle.files_in_place.specs.declared.phase.Phase.TheVariants.{Ended}
+use Rattle.files_in_place.specs.Folder.{Name, without_reserved}
 use Rattle.files_in_place.specs.Disk.{LeavesOnly}
 use Rattle.files_in_place.specs.Recovery.{HasOldFiles}
 use Rattle.files_in_place.specs.Staged.{Set}

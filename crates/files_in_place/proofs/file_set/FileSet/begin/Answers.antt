@@ -1,6 +1,6 @@
-use Rattle.std.proofs.Common.{◌≡◌, ◌++◌, ◌∷◌, List, [], Some, refl, rules, subst, sym, ◌∙◌, ap}
+use Rattle.std.proofs.Common.{◌≡◌, ◌++◌, ◌∷◌, List, [], Some, rules, subst, sym, ◌∙◌, ap}
 use Rattle.files_in_place.specs.declared.phase.Phase.TheVariants.{Staging}
-use Rattle.files_in_place.specs.Folder.{Name, Folder, SameBut, temporary}
+use Rattle.files_in_place.specs.Folder.{Name, SameBut, temporary}
 use Rattle.files_in_place.specs.Disk.{LeavesOnly}
 use Rattle.files_in_place.specs.Recovery.{HasOldFiles}
 use Rattle.files_in_place.specs.Staged.{Set, AreStaged, HoldsInPhase, is_staged}

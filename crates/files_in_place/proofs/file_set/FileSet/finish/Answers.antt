@@ -1,11 +1,11 @@
-use Rattle.std.proofs.Common.{◌≡◌, List, [], None, rules, subst, sym, ◌∙◌, ap}
+use Rattle.std.proofs.Common.{◌≡◌, List, rules, subst, sym, ◌∙◌, ap}
 use Rattle.files_in_place.specs.declared.phase.Phase.TheVariants.{Staging}
 use Rattle.files_in_place.specs.Folder.{Name, Folder, SameBut, temporary, list_name, list_bytes}
 use Rattle.files_in_place.specs.Disk.{LeavesOnly}
 use Rattle.files_in_place.specs.Recovery.{HasOldFiles}
 use Rattle.files_in_place.specs.Staged.{Set, AreStaged, AreReady, IsPut, IsOldOrNew, SameUnstaged, with_staged}
 use Rattle.files_in_place.proofs.Runs.{started, runs_on, leaves_by}
-use Rattle.files_in_place.proofs.Uncommitted.{uncommitted_old, staged_none}
+use Rattle.files_in_place.proofs.Uncommitted.{staged_none}
 use Rattle.files_in_place.proofs.Committing.{put_old}
 use Rattle.files_in_place.proofs.Sets.{held_staged, with_staged_same, put_from, put_of_old, put_clean}
 use Rattle.files_in_place.proofs.file_set.FileSet.finish.Goals as goal

@@ -1,11 +1,10 @@
-use Rattle.std.proofs.Common.{◌≡◌, ◌≢◌, ◌++◌, List, Some, rules, subst, sym, ◌∙◌, ap, option_map}
+use Rattle.std.proofs.Common.{◌≡◌, ◌≢◌, ◌++◌, Some, rules, subst, sym, ◌∙◌, ap, option_map}
 use Rattle.files_in_place.specs.declared.phase.Phase.TheVariants.{Staging}
-use Rattle.files_in_place.specs.Folder.{Name, Folder, SameBut, temporary}
+use Rattle.files_in_place.specs.Folder.{Name}
 use Rattle.files_in_place.specs.Disk.{LeavesOnly}
 use Rattle.files_in_place.specs.Recovery.{HasOldFiles}
 use Rattle.files_in_place.specs.Staged.{Set}
-use Rattle.files_in_place.proofs.Runs.{started}
-use Rattle.files_in_place.proofs.Uncommitted.{uncommitted_old, staged_left, staged_temporary, left_step, run_none, run_call, step_free, some_inj}
+use Rattle.files_in_place.proofs.Uncommitted.{staged_left, staged_temporary, left_step, run_none, run_call, step_free, some_inj}
 use Rattle.files_in_place.proofs.Sets.{held_staged, staged_written}
 use Rattle.files_in_place.proofs.file_set.FileSet.write.Goals as goal
 

@@ -1,0 +1,89 @@
+//! A new file of a folder of the system.
+
+ghost use Rattle.std.specs.Prelude.{◌≡◌, IfOk};
+
+use crate::faults::DiskFault;
+use crate::system_calls::{has_folder, in_folder, uninterrupted};
+use byte_io::Bytes;
+use std::alloc::Global;
+use std::fs::{OpenFile, OpenOptions};
+use std::io::Write;
+use std::rt::Files;
+
+// A file that takes bytes until it is synced, and its name.
+#[derive(Drop)]
+pub(crate) struct SystemFile<R: Files + Drop> {
+    name: Bytes,
+    file: R::File,
+}
+
+// Whether a folder has the name that a temporary name stands for.
+fn stands_for_folder<R: Files>(
+    rt: &R,
+    alloc: Global,
+    folder: &str,
+    name: &[u8],
+) -> Result<bool, DiskFault> {
+    match name {
+        [first, own @ ..] if *first == b'~' => has_folder(rt, alloc, folder, own),
+        _ => Ok(false),
+    }
+}
+
+impl<R: Files + Drop> SystemFile<R> {
+    // Makes an empty file under a name that has nothing, not even a link. A temporary name that stands for a folder's is
+    // refused: no rename would put the file there.
+    pub(crate) fn create(
+        rt: &R,
+        alloc: Global,
+        folder: &str,
+        name: &[u8],
+    ) -> Result<SystemFile<R>, DiskFault>
+        ensures name { IfOk result (λ made. made.name ≡ name.now) }
+    {
+        if stands_for_folder(rt, alloc, folder, name)? {
+            return Err(DiskFault::Failed);
+        }
+        let path = in_folder(alloc, folder, name)?;
+        let name = Bytes::from_slice(alloc, name)?;
+        let file = OpenOptions::new()
+            .write(true)
+            .create_new(true)
+            .open(rt, path.as_str())?;
+        Ok(SystemFile { name, file })
+    }
+}
+
+// Writes all of the bytes to the file created last, which has to be that of the name. std's `write_all` goes on after a
+// short write, and after one that a signal interrupts.
+pub(crate) fn append_to<R: Files + Drop>(
+    current: &mut Option<SystemFile<R>>,
+    name: &[u8],
+    bytes: &[u8],
+) -> Result<(), DiskFault> {
+    let Some(current) = current else {
+        return Err(DiskFault::Failed);
+    };
+    if current.name.as_slice() != name {
+        return Err(DiskFault::Failed);
+    }
+    current.file.write_all(bytes)?;
+    Ok(())
+}
+
+// Syncs the file created last, which has to be that of the name, and closes it. It takes no more bytes, whatever comes of
+// it: after a failed sync nothing is believed of them, even if a later one succeeds. What closing answers isn't looked
+// at, since the bytes are on the disk then.
+pub(crate) fn sync_once<R: Files + Drop>(
+    current: Option<SystemFile<R>>,
+    name: &[u8],
+) -> Result<(), DiskFault> {
+    let Some(current) = current else {
+        return Err(DiskFault::Failed);
+    };
+    if current.name.as_slice() != name {
+        return Err(DiskFault::Failed);
+    }
+    uninterrupted(|| current.file.sync_all())?;
+    Ok(())
+}
