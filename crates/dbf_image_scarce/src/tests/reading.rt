@@ -1,0 +1,136 @@
+//! Calls that make a table or a memo of what they borrow.
+
+use crate::tests::ENOUGH;
+use crate::tests::sample::{DBF, is_written, memo_file, sample, sink};
+use dbf_fields::{Bytes, MEMO};
+use dbf_image::*;
+use scarce::{Attempt, refusals};
+use std::alloc::{AllocError, Global};
+use std::process::Abort;
+use std::test::Fail;
+
+// What the calls are made on.
+#[derive(Drop)]
+struct Sample {
+    dbt: [u8; 1024],
+    table: TableData,
+    growing: GrowingTable,
+    sink: MemorySink,
+}
+
+fn make_sample(alloc: Global) -> Result<Sample, Fail> {
+    Ok(Sample {
+        dbt: memo_file(),
+        table: sample(alloc)?,
+        growing: sample(alloc)?.into_growing(),
+        sink: sink(alloc)?,
+    })
+}
+
+// The sample's table is wanted.
+fn table_attempt(sample: &mut Sample, answer: Result<TableData, AllocError>) -> Attempt {
+    match answer {
+        Ok(table) => Attempt::right_if(is_written(&mut sample.sink, &table, &DBF, &sample.dbt)),
+        Err(AllocError) => Attempt::Refused,
+    }
+}
+
+// The table of the sample's files, of which the call takes the first.
+fn reading_attempt(alloc: Global, sample: &mut Sample) -> Attempt {
+    let Ok(dbf) = Bytes::from_slice(alloc, &DBF) else {
+        return Attempt::Refused;
+    };
+    match read_table(alloc, dbf, Some(&sample.dbt)) {
+        Ok(table) => table_attempt(sample, Ok(table)),
+        Err(fault) => Attempt::refused_if(fault == ImageFault::NoMemory),
+    }
+}
+
+fn memo_attempt(answer: Result<Bytes, AllocError>) -> Attempt {
+    match answer {
+        Ok(text) => Attempt::right_if(text.as_slice() == b"HELLO".as_slice()),
+        Err(AllocError) => Attempt::Refused,
+    }
+}
+
+// The first memo of a file of memos.
+fn block_attempt(alloc: Global, dbt: &[u8]) -> Attempt {
+    match read_memo(alloc, dbt, 1) {
+        Ok(text) => memo_attempt(Ok(text)),
+        Err(fault) => Attempt::refused_if(fault == ImageFault::NoMemory),
+    }
+}
+
+// The memo of a table's first record.
+fn table_memo_attempt(alloc: Global, table: &TableData) -> Attempt {
+    if table.record_count() < 1 || table.schema().fields().len() < 2 {
+        return Attempt::Wrong;
+    }
+    if table.schema().fields()[1].kind != MEMO {
+        return Attempt::Wrong;
+    }
+    memo_attempt(table.memo(alloc, 1, 1))
+}
+
+// The same of a table that is changed in place.
+fn growing_memo_attempt(alloc: Global, table: &GrowingTable) -> Attempt {
+    if table.record_count() < 1 || table.schema().fields().len() < 2 {
+        return Attempt::Wrong;
+    }
+    if table.schema().fields()[1].kind != MEMO {
+        return Attempt::Wrong;
+    }
+    memo_attempt(table.memo(alloc, 1, 1))
+}
+
+// A call of the table.
+#[derive(Clone, Copy, Debug)]
+enum Called {
+    ReadTable,
+    ReadMemo,
+    TableCopy,
+    TableMemo,
+    GrowingContent,
+    GrowingMemo,
+}
+
+// How a call of the table ends.
+fn attempt_of(alloc: Global, sample: &mut Sample, called: Called) -> Attempt {
+    match called {
+        Called::ReadTable => reading_attempt(alloc, sample),
+        Called::ReadMemo => block_attempt(alloc, &sample.dbt),
+        Called::TableCopy => {
+            let answer = sample.table.copy(alloc);
+            table_attempt(sample, answer)
+        }
+        Called::TableMemo => table_memo_attempt(alloc, &sample.table),
+        Called::GrowingContent => {
+            let answer = sample.growing.content(alloc);
+            table_attempt(sample, answer)
+        }
+        Called::GrowingMemo => growing_memo_attempt(alloc, &sample.growing),
+    }
+}
+
+#[test]
+fn each_request_is_refused_in_turn(rt: HostRuntime) -> Result<(), Fail> {
+    let alloc = rt.alloc();
+    for called in [
+        Called::ReadTable,
+        Called::ReadMemo,
+        Called::TableCopy,
+        Called::TableMemo,
+        Called::GrowingContent,
+        Called::GrowingMemo,
+    ] {
+        let mut sample = make_sample(alloc)?;
+        let ample = attempt_of(alloc, &mut sample, called);
+        let found = refusals(alloc, ENOUGH, || attempt_of(alloc, &mut sample, called))?.unwrap_or(
+            0,
+        );
+        println!(rt; "{called:?}: {found}")?;
+        assert_eq!(rt; ample, Attempt::Right);
+        assert!(rt; 0 < found);
+    }
+    Ok(())
+}
