@@ -1,5 +1,5 @@
 -- Why a call failed, where a call of the system or of the disk did.
-use Rattle.std.specs.Prelude.{◌≡◌, ◌≢◌}
+use Rattle.std.specs.Prelude.{◌≡◌, ◌≢◌, ◌⊎◌}
 use Rattle.std.specs.IoError.{error_kind}
 use Rattle.std.specs.declared.io.Error.{Error}
 use Rattle.std.specs.declared.io.ErrorKind.TheVariants.{OutOfMemory}
@@ -16,3 +16,7 @@ set_fault_of of_disk.Failed = of_set.Failed
 pub record IsDiskFaultOf (error : Error) (fault : DiskFault) : Type 0 where
   pub memory : error_kind error ≡ OutOfMemory → fault ≡ of_disk.NoMemory
   pub other : error_kind error ≢ OutOfMemory → fault ≡ of_disk.Failed
+
+-- memory was refused, or the disk failed: no refusal by the set itself
+abbrev pub IsOfDisk : SetFault → Type 0
+IsOfDisk fault = (fault ≡ of_set.NoMemory) ⊎ (fault ≡ of_set.Failed)

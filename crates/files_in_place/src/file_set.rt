@@ -1,11 +1,12 @@
 //! A set of new files, written in pieces.
 
-ghost use Rattle.std.specs.Prelude.{◌≡◌, ◌≢◌, ◌++◌, ◌∷◌, [], true, false, None, Some, Err, option_map, OnOk, OnErr, IsErrOf};
+ghost use Rattle.std.specs.Prelude.{◌≡◌, ◌≢◌, ◌++◌, ◌∷◌, [], true, false, None, Some, Err, IfErr, IsSome, option_map, OnOk, OnErr, IsErrOf};
 ghost use Rattle.files_in_place.specs.declared.phase.Phase.TheVariants.{Staging, Ended};
 ghost use Rattle.files_in_place.specs.Folder.{Name, SameBut, temporary, without_reserved};
 ghost use Rattle.files_in_place.specs.Disk.{LeavesOnly, IsSynced, HasCause};
 ghost use Rattle.files_in_place.specs.Recovery.{IsClean, SameFree, HasOldFiles};
 ghost use Rattle.files_in_place.specs.Staged.{Set, is_file_name, is_staged, with_staged, IsOldOrNew, SameUnstaged};
+ghost use Rattle.files_in_place.specs.Faults.{IsOfDisk};
 ghost use Rattle.files_in_place.specs.declared.faults.SetFault.TheVariants as F;
 
 use crate::clean::clean;
@@ -78,9 +79,13 @@ impl<D: Disk + Drop> FileSet<D> {
         ensures others { SameBut (temporary name.now) (D.seen self.old.disk) (D.seen self.new.disk) }
         ensures staging { OnOk result (self.new.phase ≡ Staging) }
         ensures closed { self.old.phase ≢ Staging → (result ≡ Err F.Closed) × (self.new ≡ self.old) }
-        ensures bad_name { self.old.phase ≡ Staging → is_file_name name.now ≡ false → result ≡ Err F.BadName }
-        ensures same_name { self.old.phase ≡ Staging → is_file_name name.now ≡ true → is_staged self.old.names name.now ≡ true → result ≡ Err F.SameName }
+        ensures bad_name { self.old.phase ≡ Staging → is_file_name name.now ≡ false → (result ≡ Err F.BadName) × (self.new ≡ self.old) }
+        ensures same_name { self.old.phase ≡ Staging → is_file_name name.now ≡ true → is_staged self.old.names name.now ≡ true → (result ≡ Err F.SameName) × (self.new ≡ self.old) }
+        // Nothing else refuses a file but want of memory and a failure of the disk.
+        ensures open { self.old.phase ≡ Staging → is_file_name name.now ≡ true → is_staged self.old.names name.now ≡ false → IfErr result IsOfDisk }
         ensures unchanged { OnErr result (self.new.phase ≡ Staging → self.new ≡ self.old) }
+        // The set can still be abandoned.
+        ensures not_ended { self.old.phase ≢ Ended → self.new.phase ≢ Ended }
         // A crash at any moment leaves the old files.
         ensures any_moment { D.keeps_promises → self.old.phase ≡ Staging → LeavesOnly D.moment D.left_since self.old.disk self.new.disk (HasOldFiles (D.seen self.old.disk)) }
         ensures cause { HasCause (D.faults self.old.disk) (D.faults self.new.disk) (IsErrOf result F.Failed) }
@@ -108,6 +113,10 @@ impl<D: Disk + Drop> FileSet<D> {
         ensures staging { OnOk result (self.new.phase ≡ Staging) }
         ensures closed { self.old.phase ≢ Staging → (result ≡ Err F.Closed) × (self.new ≡ self.old) }
         ensures not_begun { self.old.phase ≡ Staging → self.old.current ≡ None → (result ≡ Err F.NotBegun) × (self.new ≡ self.old) }
+        ensures open { self.old.phase ≡ Staging → IsSome self.old.current → IfErr result IsOfDisk }
+        ensures unchanged { OnErr result (self.new.phase ≡ Staging → self.new ≡ self.old) }
+        // The set can still be abandoned.
+        ensures not_ended { self.old.phase ≢ Ended → self.new.phase ≢ Ended }
         // A crash at any moment leaves the old files.
         ensures any_moment { D.keeps_promises → self.old.phase ≡ Staging → LeavesOnly D.moment D.left_since self.old.disk self.new.disk (HasOldFiles (D.seen self.old.disk)) }
         ensures cause { HasCause (D.faults self.old.disk) (D.faults self.new.disk) (IsErrOf result F.Failed) }
@@ -134,6 +143,7 @@ impl<D: Disk + Drop> FileSet<D> {
         ensures empty { OnOk result ((self.new.names ≡ []) × (self.new.current ≡ None)) }
         ensures staging { OnOk result (self.new.phase ≡ Staging) }
         ensures closed { self.old.phase ≢ Staging → (result ≡ Err F.Closed) × (self.new ≡ self.old) }
+        ensures open { self.old.phase ≡ Staging → IfErr result IsOfDisk }
         ensures unchanged { OnErr result (self.new.phase ≡ Staging → self.new ≡ self.old) }
         // A crash at any moment leaves a folder of which recovery makes the old files or the new ones, all of them.
         ensures any_moment { D.keeps_promises → self.old.phase ≡ Staging → LeavesOnly D.moment D.left_since self.old.disk self.new.disk (IsOldOrNew self.old.names (D.seen self.old.disk)) }
@@ -163,6 +173,7 @@ impl<D: Disk + Drop> FileSet<D> {
         ensures empty { OnOk result ((self.new.names ≡ []) × (self.new.current ≡ None)) }
         ensures staging { OnOk result (self.new.phase ≡ Staging) }
         ensures closed { self.old.phase ≡ Ended → (result ≡ Err F.Closed) × (self.new ≡ self.old) }
+        ensures open { self.old.phase ≢ Ended → IfErr result IsOfDisk }
         // A crash at any moment leaves the old files.
         ensures any_moment { D.keeps_promises → self.old.phase ≢ Ended → LeavesOnly D.moment D.left_since self.old.disk self.new.disk (HasOldFiles (D.seen self.old.disk)) }
         ensures cause { HasCause (D.faults self.old.disk) (D.faults self.new.disk) (IsErrOf result F.Failed) }

@@ -1,7 +1,8 @@
 //! What is tested and taken before a file of a set is begun.
 
-ghost use Rattle.std.specs.Prelude.{◌≡◌, ◌<◌, true, false, Err, IfOk, OnOk, vec_len, vec_capacity};
+ghost use Rattle.std.specs.Prelude.{◌≡◌, ◌<◌, true, false, Err, IfOk, IfErr, IsOk, OnOk, vec_len, vec_capacity};
 ghost use Rattle.files_in_place.specs.declared.faults.SetFault.TheVariants as F;
+ghost use Rattle.files_in_place.specs.Faults.{IsOfDisk};
 ghost use Rattle.files_in_place.specs.Folder.{temporary};
 ghost use Rattle.files_in_place.specs.Staged.{is_file_name, is_staged};
 
@@ -23,6 +24,7 @@ fn allow(names: &[Bytes], name: &[u8]) -> Result<(), SetFault>
     ensures free { OnOk result (is_staged names.now name.now ≡ false) }
     ensures bad_name { is_file_name name.now ≡ false → result ≡ Err F.BadName }
     ensures same_name { is_file_name name.now ≡ true → is_staged names.now name.now ≡ true → result ≡ Err F.SameName }
+    ensures open { is_file_name name.now ≡ true → is_staged names.now name.now ≡ false → IsOk result }
     ensures no_failure { (result ≡ Err F.Failed) → ⊥ }
 {
     if !is_file_name(name) {
@@ -48,6 +50,7 @@ pub(crate) fn new_name(
     ensures room { OnOk result (vec_len names.new < vec_capacity names.new) }
     ensures bad_name { is_file_name name.now ≡ false → result ≡ Err F.BadName }
     ensures same_name { is_file_name name.now ≡ true → is_staged names.old.items name.now ≡ true → result ≡ Err F.SameName }
+    ensures open { is_file_name name.now ≡ true → is_staged names.old.items name.now ≡ false → IfErr result IsOfDisk }
     ensures no_failure { (result ≡ Err F.Failed) → ⊥ }
 {
     allow(names, name)?;
