@@ -3,9 +3,10 @@
 
     python3 make_tables.py FOLDER RECORDS [LINES]
 
-T.DBF has RECORDS records of 60 bytes, BYCODE.NDX is its index on CODE, and the scripts have LINES commands
-(10,000 if left out) after their USE. Written from the published layouts of dBASE III PLUS alone, and the same
-in every run. Codes are scattered over the records, so that the index's order is not that of the records.
+T.DBF has RECORDS records of 60 bytes, BYCODE.NDX, BYNAME.NDX and BYREST.NDX are its indexes on CODE, NAME and REST, and the
+scripts have LINES commands (10,000 if left out) after their USE. MARKED.DBF is the same table with each tenth record marked as
+deleted. Written from the published layouts of dBASE III PLUS alone, and the same in every run. Codes and rests are scattered over
+the records, so that an index's order is not that of the records.
 """
 
 import random
@@ -15,45 +16,53 @@ from pathlib import Path
 
 FIELDS = [("CODE", "C", 12, 0), ("NAME", "C", 24, 0), ("AMOUNT", "N", 10, 2), ("REST", "C", 13, 0)]
 STEP = 7919  # a prime that divides no number of records in use: record n has the code n * STEP mod RECORDS
+OTHER_STEP = 104729  # another such prime, for REST
 SCRIPTS = ["EMPTY", "MIXED", "BYNUMBER"]
+INDEXES = [("BYCODE", "CODE", 0), ("BYNAME", "NAME", 1), ("BYREST", "REST", 3)]
 
 
 def code(number):
     return f"C{number:07}"
 
 
-def write_table(path, records):
+def cells(n, records):
+    """The cells of the record n + 1, by their fields' order."""
+    own, rest = code(n * STEP % records), f"R{n * OTHER_STEP % records:07}"
+    texts = (f"{own:<12}", f"{'NAME ' + str(n + 1):<24}", f"{n % 100000 / 100:>10.2f}", f"{rest:<13}")
+    return [text.encode("ascii") for text in texts]
+
+
+def write_table(path, rows, marked=0):
+    """Each `marked`-th record is marked as deleted, if that is not 0."""
     head = 32 + 32 * len(FIELDS) + 1
     width = 1 + sum(field[2] for field in FIELDS)
     assert width == 60
     with open(path, "wb") as out:
-        out.write(struct.pack("<4BIHH20x", 3, 87, 3, 2, records, head, width))
+        out.write(struct.pack("<4BIHH20x", 3, 87, 3, 2, len(rows), head, width))
         for name, kind, size, decimals in FIELDS:
             out.write(struct.pack("<11sc4xBB14x", name.encode(), kind.encode(), size, decimals))
         out.write(b"\r")
-        for n in range(records):
-            own = code(n * STEP % records)
-            out.write(f" {own:<12}{'NAME ' + str(n + 1):<24}{n % 100000 / 100:>10.2f}{'REST':<13}".encode("ascii"))
+        for number, row in enumerate(rows, 1):
+            out.write((b"*" if marked and number % marked == 0 else b" ") + b"".join(row))
         out.write(b"\x1a")
 
 
-def write_index(path, records):
-    """Bottom up, with full pages: the leaves first, then level by level, the root last."""
-    length = 12
-    size = 8 + length
+def write_index(path, field, keys):
+    """Bottom up, with full pages: the leaves first, then level by level, the root last. `keys` are those of the records."""
+    length = len(keys[0])
+    size = 4 * ((length + 11) // 4)
     most = 504 // size
-    back = pow(STEP, -1, records)  # the record of the code c is c * back mod records
+    pairs = sorted(zip(keys, range(1, len(keys) + 1)))
     first, children = 1, []  # a level's first page, and the greatest key of each of its pages
     with open(path, "wb") as out:
         out.write(bytes(512))
-        for low in range(0, records, most):
-            high = min(low + most, records)
-            page = struct.pack("<I", high - low)
-            for c in range(low, high):
-                key = code(c).ljust(length).encode("ascii")
-                page += struct.pack("<II", 0, c * back % records + 1) + key
+        for low in range(0, len(pairs), most):
+            group = pairs[low : low + most]
+            page = struct.pack("<I", len(group))
+            for key, number in group:
+                page += struct.pack("<II", 0, number) + key.ljust(size - 8, b"\0")
             out.write(page.ljust(512, b"\0"))
-            children.append(key)
+            children.append(group[-1][0])
         pages = 1 + len(children)
         while len(children) > 1:
             cuts = list(range(0, len(children), most + 1)) + [len(children)]
@@ -63,14 +72,14 @@ def write_index(path, records):
             for low, high in zip(cuts, cuts[1:]):
                 page = struct.pack("<I", high - low - 1)
                 for child in range(low, high - 1):
-                    page += struct.pack("<II", first + child, 0) + children[child]
+                    page += struct.pack("<II", first + child, 0) + children[child].ljust(size - 8, b"\0")
                 page += struct.pack("<I", first + high - 1)
                 out.write(page.ljust(512, b"\0"))
                 above.append(children[high - 1])
             first, children = pages, above
             pages += len(above)
         out.seek(0)
-        out.write(struct.pack("<IIIHHHHHBB", pages - 1, pages, 0, length, most, 0, size, 0, 0, 0) + b"CODE")
+        out.write(struct.pack("<IIIHHHHHBB", pages - 1, pages, 0, length, most, 0, size, 0, 0, 0) + field.encode())
 
 
 def mixed(records):
@@ -109,17 +118,28 @@ def write_script(path, commands, lines):
     path.write_text(text)
 
 
+def write_setup(path, table, indexes, script):
+    lines = [f"INDEX T {name} {name}.NDX\n" for name, _, _ in indexes]
+    path.write_text(f"TABLE T {table}\n{''.join(lines)}STATION {script}.PRG\n")
+
+
 def main():
     folder, records = Path(sys.argv[1]), int(sys.argv[2])
     lines = int(sys.argv[3]) if len(sys.argv) > 3 else 10000
-    write_table(folder / "T.DBF", records)
-    write_index(folder / "BYCODE.NDX", records)
+    rows = [cells(n, records) for n in range(records)]
+    write_table(folder / "T.DBF", rows)
+    write_table(folder / "MARKED.DBF", rows, 10)
+    for name, field, place in INDEXES:
+        write_index(folder / f"{name}.NDX", field, [row[place] for row in rows])
     (folder / "EMPTY.PRG").write_text("")
+    (folder / "PACK.PRG").write_text("USE T EXCLUSIVE\nPACK\n")
     write_script(folder / "MIXED.PRG", mixed(records), lines)
     write_script(folder / "BYNUMBER.PRG", by_number(records), lines)
     for script in SCRIPTS:
-        for kind, index in (("PLAIN", ""), ("INDEXED", "INDEX T BYCODE BYCODE.NDX\n")):
-            (folder / f"{kind}-{script}.SET").write_text(f"TABLE T T.DBF\n{index}STATION {script}.PRG\n")
+        for kind, indexes in (("PLAIN", []), ("INDEXED", INDEXES[:1]), ("THREE", INDEXES)):
+            write_setup(folder / f"{kind}-{script}.SET", "T.DBF", indexes, script)
+    for script in ("EMPTY", "PACK"):
+        write_setup(folder / f"MARKED-{script}.SET", "MARKED.DBF", INDEXES, script)
 
 
 main()

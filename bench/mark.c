@@ -1,0 +1,311 @@
+/* A mark to measure by: reads a table and indexes on character fields, looks over both, and writes them anew, as the server
+ * does where its scripts are empty. By hand, with no care for memos, damaged files' names or want of memory.
+ *
+ *     mark OLD.DBF NEW.DBF [OLD.NDX NEW.NDX]...
+ *
+ * What is checked: the headers, each page of an index read once and inside the file, each key the one of its record, each record
+ * once, and the order of keys and record numbers. What is written has the date 1987-03-15, so it is the server's, byte by byte.
+ */
+
+#include <stdint.h>
+#include <stdio.h>
+#include <stdlib.h>
+#include <string.h>
+
+enum { PAGE = 512, FIELD = 32, MOST_LEVELS = 32, BUFFER = 65536 };
+
+struct bytes {
+    unsigned char *at;
+    size_t length;
+};
+
+struct table {
+    struct bytes file;
+    uint32_t records;
+    unsigned header, width;
+};
+
+/* The pairs of an index in order, as the numbers of their records: a key stands in its record, at an offset. */
+struct index {
+    const char *text;
+    unsigned key, size, offset;
+    uint32_t *numbers, count;
+};
+
+static void fail(const char *why)
+{
+    fprintf(stderr, "mark: %s\n", why);
+    exit(2);
+}
+
+static void *room(size_t bytes)
+{
+    void *at = malloc(bytes ? bytes : 1);
+    if (!at)
+        fail("no memory");
+    return at;
+}
+
+static unsigned u16(const unsigned char *at)
+{
+    return at[0] | at[1] << 8;
+}
+
+static uint32_t u32(const unsigned char *at)
+{
+    return at[0] | at[1] << 8 | at[2] << 16 | (uint32_t)at[3] << 24;
+}
+
+static void put_u16(unsigned char *at, unsigned number)
+{
+    at[0] = number & 255;
+    at[1] = number >> 8;
+}
+
+static void put_u32(unsigned char *at, uint32_t number)
+{
+    put_u16(at, number & 65535);
+    put_u16(at + 2, number >> 16);
+}
+
+static struct bytes read_file(const char *path)
+{
+    FILE *file = fopen(path, "rb");
+    if (!file || fseek(file, 0, SEEK_END))
+        fail("a file can't be read");
+    struct bytes bytes = { 0, (size_t)ftell(file) };
+    rewind(file);
+    bytes.at = room(bytes.length);
+    if (fread(bytes.at, 1, bytes.length, file) != bytes.length)
+        fail("a file can't be read");
+    fclose(file);
+    return bytes;
+}
+
+static FILE *new_file(const char *path)
+{
+    FILE *file = fopen(path, "wb");
+    if (!file)
+        fail("a file can't be written");
+    setvbuf(file, 0, _IOFBF, BUFFER);
+    return file;
+}
+
+static void put(FILE *file, const void *bytes, size_t length)
+{
+    if (fwrite(bytes, 1, length, file) != length)
+        fail("a file can't be written");
+}
+
+static void end_file(FILE *file)
+{
+    if (fclose(file))
+        fail("a file can't be written");
+}
+
+static struct table read_table(const char *path)
+{
+    struct table table = { read_file(path), 0, 0, 0 };
+    unsigned char *at = table.file.at;
+    if (table.file.length < 65 || at[0] != 3)
+        fail("no table");
+    table.records = u32(at + 4);
+    table.header = u16(at + 8);
+    table.width = u16(at + 10);
+    if (table.header < 65 || table.header + (uint64_t)table.records * table.width > table.file.length)
+        fail("a table is cut");
+    return table;
+}
+
+static void write_table(const struct table *table, const char *path)
+{
+    static const unsigned char date[3] = { 87, 3, 15 }, mark = 0x1a;
+    FILE *file = new_file(path);
+    memcpy(table->file.at + 1, date, 3);
+    put(file, table->file.at, table->header + (size_t)table->records * table->width);
+    put(file, &mark, 1);
+    end_file(file);
+}
+
+/* Where the field of a name begins in a record. */
+static unsigned field_offset(const struct table *table, const char *name, unsigned width)
+{
+    unsigned offset = 1;
+    for (unsigned at = FIELD; at + FIELD < table->header; at += FIELD) {
+        const unsigned char *field = table->file.at + at;
+        if (!strncmp((const char *)field, name, 11)) {
+            if (field[11] != 'C' || field[16] != width)
+                fail("an index on another field");
+            return offset;
+        }
+        offset += field[16];
+    }
+    fail("no such field");
+    return 0;
+}
+
+static const unsigned char *record_key(const struct table *table, const struct index *index, uint32_t number)
+{
+    return table->file.at + table->header + (size_t)(number - 1) * table->width + index->offset;
+}
+
+/* What is known while an index's pages are walked. */
+struct walk {
+    const struct table *table;
+    struct index *index;
+    struct bytes file;
+    unsigned char *seen_page, *seen_record;
+};
+
+static void take_leaf(struct walk *walk, const unsigned char *page, uint32_t keys)
+{
+    struct index *index = walk->index;
+    for (uint32_t i = 0; i < keys; i++) {
+        const unsigned char *pair = page + 4 + i * index->size;
+        uint32_t number = u32(pair + 4);
+        if (number < 1 || number > walk->table->records || walk->seen_record[number]++)
+            fail("a record that is not there, or twice");
+        if (memcmp(pair + 8, record_key(walk->table, index, number), index->key))
+            fail("another key than the record's");
+        index->numbers[index->count++] = number;
+    }
+}
+
+/* Pages below a page, in order. A page whose first pointer is not 0 is an inner one. */
+static void walk_page(struct walk *walk, uint32_t number, unsigned depth)
+{
+    struct index *index = walk->index;
+    if (depth > MOST_LEVELS || number < 1 || (number + 1ull) * PAGE > walk->file.length || walk->seen_page[number]++)
+        fail("a page outside, or twice");
+    const unsigned char *page = walk->file.at + (size_t)number * PAGE;
+    uint32_t keys = u32(page);
+    if (keys > (PAGE - 8) / index->size)
+        fail("too many keys of a page");
+    if (u32(page + 4) == 0) {
+        take_leaf(walk, page, keys);
+        return;
+    }
+    for (uint32_t i = 0; i <= keys; i++)
+        walk_page(walk, u32(page + 4 + i * index->size), depth + 1);
+}
+
+static void check_order(const struct table *table, const struct index *index)
+{
+    for (uint32_t i = 1; i < index->count; i++) {
+        uint32_t left = index->numbers[i - 1], right = index->numbers[i];
+        int order = memcmp(record_key(table, index, left), record_key(table, index, right), index->key);
+        if (order > 0 || (order == 0 && left > right))
+            fail("pairs out of order");
+    }
+}
+
+static struct index read_index(const struct table *table, const char *path)
+{
+    struct index index = { 0 };
+    struct walk walk = { table, &index, read_file(path), 0, 0 };
+    unsigned char *header = walk.file.at;
+    if (walk.file.length < PAGE || u16(header + 16) || header[23])
+        fail("no index");
+    index.text = strndup((char *)header + 24, PAGE - 24);
+    index.key = u16(header + 12);
+    index.size = u16(header + 18);
+    if (index.key < 1 || index.key > 100 || index.size < index.key + 8 || index.size > PAGE - 8)
+        fail("no index");
+    index.offset = field_offset(table, index.text, index.key);
+    index.numbers = room((size_t)table->records * 4);
+    walk.seen_page = calloc(walk.file.length / PAGE + 1, 1);
+    walk.seen_record = calloc((size_t)table->records + 1, 1);
+    if (!walk.seen_page || !walk.seen_record)
+        fail("no memory");
+    walk_page(&walk, u32(header), 0);
+    if (index.count != table->records)
+        fail("a record without a key");
+    check_order(table, &index);
+    free(walk.seen_page);
+    free(walk.seen_record);
+    free(walk.file.at);
+    return index;
+}
+
+static void put_pair(unsigned char *at, const struct table *table, const struct index *index, uint32_t child, uint32_t number, uint32_t of)
+{
+    put_u32(at, child);
+    put_u32(at + 4, number);
+    memcpy(at + 8, record_key(table, index, of), index->key);
+}
+
+/* Writes the pages above `count` ones from page `first` on; `last` has the last record under each, and then of each new page. */
+static uint32_t write_level(FILE *file, const struct table *table, const struct index *index, uint32_t first, uint32_t *last, uint32_t count)
+{
+    unsigned size = 4 * ((index->key + 11) / 4), most = (PAGE - 8) / size;
+    uint32_t pages = 0;
+    for (uint32_t at = 0; at < count;) {
+        unsigned char page[PAGE] = { 0 };
+        uint32_t left = count - at, children = left == most + 2 ? most : left < most + 1 ? left : most + 1;
+        put_u32(page, children - 1);
+        for (uint32_t i = 0; i + 1 < children; i++)
+            put_pair(page + 4 + i * size, table, index, first + at + i, 0, last[at + i]);
+        put_u32(page + 4 + (children - 1) * size, first + at + children - 1);
+        put(file, page, PAGE);
+        at += children;
+        last[pages++] = last[at - 1];
+    }
+    return pages;
+}
+
+static uint32_t write_leaves(FILE *file, const struct table *table, const struct index *index, uint32_t *last)
+{
+    unsigned size = 4 * ((index->key + 11) / 4), most = (PAGE - 8) / size;
+    uint32_t pages = 0, at = 0;
+    do {
+        unsigned char page[PAGE] = { 0 };
+        uint32_t count = index->count - at < most ? index->count - at : most;
+        put_u32(page, count);
+        for (uint32_t i = 0; i < count; i++)
+            put_pair(page + 4 + i * size, table, index, 0, index->numbers[at + i], index->numbers[at + i]);
+        put(file, page, PAGE);
+        at += count;
+        last[pages++] = count ? index->numbers[at - 1] : 0;
+    } while (at < index->count);
+    return pages;
+}
+
+static void write_index(const struct table *table, const struct index *index, const char *path)
+{
+    unsigned size = 4 * ((index->key + 11) / 4);
+    unsigned char header[PAGE] = { 0 };
+    FILE *file = new_file(path);
+    uint32_t *last = room(((size_t)index->count + 1) * 4);
+    put(file, header, PAGE);
+    uint32_t first = 1, count = write_leaves(file, table, index, last);
+    while (count > 1) {
+        uint32_t above = write_level(file, table, index, first, last, count);
+        first += count;
+        count = above;
+    }
+    put_u32(header, first);
+    put_u32(header + 4, first + 1);
+    put_u16(header + 12, index->key);
+    put_u16(header + 14, (PAGE - 8) / size);
+    put_u16(header + 18, size);
+    memcpy(header + 24, index->text, strlen(index->text));
+    rewind(file);
+    put(file, header, PAGE);
+    end_file(file);
+    free(last);
+}
+
+int main(int words, char **word)
+{
+    if (words < 3 || words % 2 == 0)
+        fail("usage: mark OLD.DBF NEW.DBF [OLD.NDX NEW.NDX]...");
+    struct table table = read_table(word[1]);
+    unsigned count = (words - 3) / 2;
+    struct index *indexes = room(count * sizeof *indexes);
+    for (unsigned i = 0; i < count; i++)
+        indexes[i] = read_index(&table, word[3 + 2 * i]);
+    write_table(&table, word[2]);
+    for (unsigned i = 0; i < count; i++)
+        write_index(&table, &indexes[i], word[4 + 2 * i]);
+    return 0;
+}
