@@ -1,0 +1,4 @@
+pub mod Positions
+pub mod ShownLaws
+pub mod Steps
+pub mod Fronts

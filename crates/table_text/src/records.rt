@@ -1,0 +1,108 @@
+//! The records of a table as text.
+
+ghost use Rattle.std.specs.Prelude.{◌≡◌, length, IfOk, OnOk, OnErr};
+ghost use Rattle.byte_io.specs.Sink.{grown, IsFront, Rises};
+ghost use Rattle.table_text.specs.Csv.{csv_text};
+ghost use Rattle.table_text.specs.Records.{heading_with, records_text};
+
+use crate::columns::{NUMBER_HEADING, append_aligned, append_names, column_widths, number_width};
+use crate::csv::append_csv_heading;
+use crate::fault::TextFault;
+use crate::format::LF;
+use crate::lines::{ColumnLayout, LineFormat, write_lines};
+use crate::memo_form::MemoForm;
+use crate::selection::Selection;
+use byte_io::ByteSink;
+use dbf_fields::{BLANK, Field, NUMBER};
+use dbf_image::TableData;
+use std::alloc::{AllocError, Global};
+
+// The line of headings.
+fn heading(
+    alloc: Global,
+    fields: &[Field],
+    number_width: usize,
+    widths: &[usize],
+) -> Result<Vec<u8>, AllocError>
+    requires widths { length widths.now ≡ length fields.now }
+    ensures value { IfOk result (λ line. line.items ≡ heading_with number_width widths.now fields.now) }
+{
+    let mut line = Vec::new(alloc);
+    append_aligned(&mut line, NUMBER, number_width, NUMBER_HEADING)?;
+    line.extend_from_slice(&[BLANK, BLANK])?;
+    append_names(&mut line, fields, widths)?;
+    line.push(LF)?;
+    Ok(line)
+}
+
+/// Writes a table as people read it: a line of headings, and a line for each record that is shown, with its number,
+/// `*` where it is marked as deleted, and its cells.
+///
+/// Columns are as wide as what is shown in them, but the last isn't filled up with blanks. Record numbers and numbers
+/// stand at the right. Dates are shown as MM/DD/YY. Of a memo `memos` says how much is shown. A byte that is no printable
+/// character of ASCII is shown as a backslash, `x` and two digits to the base 16, and a backslash twice. The records are
+/// gone through once for each column, to see how wide it is, and once more to be written, each as a line of its own: the
+/// memory that is taken is that of one line and of one memo.
+///
+/// `NoMemory` says that there was no memory, for the widths, a line or a memo, and `Sink` that the sink failed. It has
+/// then taken a front part of the text, which may be nothing.
+#[tactic(auto, using(byte_io::specs::Laws::Sinks::front_same, byte_io::specs::Laws::Sinks::front_grown))]
+pub fn write_records<S: ByteSink>(
+    alloc: Global,
+    sink: &mut S,
+    table: &TableData,
+    selection: Selection,
+    memos: MemoForm,
+) -> Result<(), TextFault>
+    ensures wrote { OnOk result (S.written sink.new ≡ grown (S.written sink.old) (records_text table.now selection memos)) }
+    ensures no_failure { OnOk result (S.failures sink.new ≡ S.failures sink.old) }
+    ensures failed { result ≡ Err TextFault.Sink → Rises (S.failures sink.old) (S.failures sink.new) }
+    ensures unfailed { result ≡ Err TextFault.NoMemory → S.failures sink.new ≡ S.failures sink.old }
+    // What the sink held before the call it still holds.
+    ensures kept { IsFront (S.written sink.old) (S.written sink.new) }
+    // What it has after a fault is a front part of the text.
+    ensures front { OnErr result (IsFront (S.written sink.new) (grown (S.written sink.old) (records_text table.now selection memos))) }
+{
+    let number_width = number_width(alloc, table)?;
+    let widths = column_widths(alloc, table, selection, memos)?;
+    let heading = heading(alloc, table.schema().fields(), number_width, &widths)?;
+    let format = LineFormat::Columns(ColumnLayout {
+        number_width,
+        widths,
+        memos,
+    });
+    write_lines(alloc, sink, table, selection, &heading, &format)
+}
+
+/// Writes the records of a table that are shown as CSV: a line of the fields' names, and a line for each record, each
+/// line ended by CR and LF.
+///
+/// A memo stands whole, a number without the blanks around it, a date as its eight digits, and every other cell without
+/// the blanks at its end. Bytes stand as they are. A text with a comma, a quote, a CR or an LF stands between quotes, with
+/// each of its quotes twice; so does an empty text that is alone in its line. Where `deleted_column` says so a last
+/// column `deleted` tells `true` of the records that are marked as deleted, and `false` of the others.
+///
+/// `NoMemory` says that there was no memory for a line or a memo, and `Sink` that the sink failed. It has then taken a
+/// front part of the text, which may be nothing.
+#[tactic(auto, using(byte_io::specs::Laws::Sinks::front_same, byte_io::specs::Laws::Sinks::front_grown))]
+pub fn write_csv<S: ByteSink>(
+    alloc: Global,
+    sink: &mut S,
+    table: &TableData,
+    selection: Selection,
+    deleted_column: bool,
+) -> Result<(), TextFault>
+    ensures wrote { OnOk result (S.written sink.new ≡ grown (S.written sink.old) (csv_text table.now selection deleted_column)) }
+    ensures no_failure { OnOk result (S.failures sink.new ≡ S.failures sink.old) }
+    ensures failed { result ≡ Err TextFault.Sink → Rises (S.failures sink.old) (S.failures sink.new) }
+    ensures unfailed { result ≡ Err TextFault.NoMemory → S.failures sink.new ≡ S.failures sink.old }
+    // What the sink held before the call it still holds.
+    ensures kept { IsFront (S.written sink.old) (S.written sink.new) }
+    // What it has after a fault is a front part of the text.
+    ensures front { OnErr result (IsFront (S.written sink.new) (grown (S.written sink.old) (csv_text table.now selection deleted_column))) }
+{
+    let mut heading = Vec::new(alloc);
+    append_csv_heading(&mut heading, table, deleted_column)?;
+    let format = LineFormat::Csv(deleted_column);
+    write_lines(alloc, sink, table, selection, &heading, &format)
+}
