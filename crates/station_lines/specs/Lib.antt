@@ -1,4 +1,6 @@
 pub mod AnswerLines
+pub mod CommandLines
+pub mod JournalLines
 pub mod Script
 pub mod Setup
 pub mod SetupReading

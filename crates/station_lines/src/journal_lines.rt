@@ -1,0 +1,163 @@
+//! The journal as a file: a line an entry.
+
+ghost use Rattle.std.specs.Prelude.{◌≡◌, ◌==◌, List, [], ℕ, position, IfOk, IfSome, IfNone};
+ghost use Rattle.std.specs.Fmt.{decimal};
+ghost use Rattle.dbf_fields.specs.declared.format.TheConstants.{BLANK};
+ghost use Rattle.station_lines.specs.AnswerLines.{line_of};
+ghost use Rattle.station_lines.specs.CommandLines.{text_of_command};
+ghost use Rattle.station_lines.specs.JournalLines.{entry_and, lines_and, is_plain_number, HaveSmallNumbers, IsNoNumber, BeginsWithNumber, BeginsWithNoNumber, BeginsWithPart, BeginsWithNoPart, BeginsWithEntry, BeginsWithNoEntry};
+
+use crate::answer_lines::answer_line;
+use crate::command_lines::command_line;
+use crate::script::format::LF;
+use catalogue_core::{Answer, Command};
+use dbf_fields::{BLANK, Bytes, ZERO_DIGIT, are_digits};
+use std::alloc::{AllocError, Global};
+
+// The line that shows these parts of an entry.
+fn line_of_parts(
+    alloc: Global,
+    station: u32,
+    command: &[u8],
+    answer: &[u8],
+) -> Result<Bytes, AllocError>
+    ensures value { IfOk result (λ line. line ≡ entry_and (station, command.now, answer.now) []) }
+{
+    let command_len = command.len();
+    let answer_len = answer.len();
+    let counts = format!(in alloc; "{station} {command_len} {answer_len} ")?;
+    let mut line = Vec::from_slice(alloc, counts.as_bytes())?;
+    line.extend_from_slice(command)?;
+    line.push(BLANK)?;
+    line.extend_from_slice(answer)?;
+    line.push(LF)?;
+    Ok(Bytes::from_vec(line))
+}
+
+/// The line of an entry of the journal, with the LF that ends it, as `1 12 2 APPEND BLANK OK`: the station's number, how
+/// many bytes the command's line and the answer's line have, and these two lines, apart by one blank. An error where
+/// memory is refused.
+pub fn entry_line(
+    alloc: Global,
+    station: u32,
+    command: &Command,
+    answer: &Answer,
+) -> Result<Bytes, AllocError>
+    ensures value { IfOk result (λ line. line ≡ entry_and (station, text_of_command command.now, line_of answer.now) []) }
+{
+    let command = command_line(alloc, command)?;
+    let answer = answer_line(alloc, answer)?;
+    line_of_parts(alloc, station, command.as_slice(), answer.as_slice())
+}
+
+/// An entry that is cut off a journal's text, and what stands after its line.
+#[derive(Clone, Copy, Debug)]
+pub struct CutEntry<'a> {
+    /// The station's number.
+    pub station: u64,
+    /// The line of the command.
+    pub command: &'a [u8],
+    /// The line of the answer.
+    pub answer: &'a [u8],
+    /// What stands after the entry's line.
+    pub rest: &'a [u8],
+}
+
+// Whether a text is digits, and no zero before others.
+fn is_plain(text: &[u8]) -> bool
+    ensures value { result ≡ is_plain_number text.now }
+{
+    !text.is_empty() && (text.len() == 1 || text[0] != ZERO_DIGIT) && are_digits(text)
+}
+
+// The number that a text is as it is written.
+fn plain_number(text: &[u8]) -> Option<u64>
+    ensures found { IfSome result (λ n. text.now ≡ decimal n) }
+    ensures none { IfNone result (IsNoNumber text.now) }
+{
+    if !is_plain(text) {
+        return None;
+    }
+    let Ok(digits) = str::from_utf8(text) else {
+        return None;
+    };
+    match digits.parse::<u64>() {
+        Ok(number) => Some(number),
+        Err(_) => None,
+    }
+}
+
+// Where the first blank stands.
+fn blank_in(text: &[u8]) -> Option<usize>
+    ensures value { result ≡ position (λ b. b == BLANK) text.now }
+{
+    text.iter().position(|byte| *byte == BLANK)
+}
+
+// A number that is first in a text, with a blank after it, and what stands after this.
+fn cut_number(text: &[u8]) -> Option<(u64, &[u8])>
+    ensures found { IfSome result (λ cut. BeginsWithNumber text.now cut.0 cut.1.now) }
+    ensures none { IfNone result (BeginsWithNoNumber text.now) }
+{
+    let Some(end) = blank_in(text) else {
+        return None;
+    };
+    let (digits, _) = text.split_at(end);
+    let (_, rest) = text.split_at(end + 1);
+    match plain_number(digits) {
+        Some(number) => Some((number, rest)),
+        None => None,
+    }
+}
+
+// As many bytes as are asked for, where this byte stands after them, and what stands after this.
+fn cut_part(text: &[u8], count: u64, end: u8) -> Option<(&[u8], &[u8])>
+    ensures found { IfSome result (λ cut. BeginsWithPart text.now count end cut.0.now cut.1.now) }
+    ensures none { IfNone result (BeginsWithNoPart text.now count end) }
+{
+    if count >= text.len() as u64 {
+        return None;
+    }
+    let count = count as usize;
+    if text[count] != end {
+        return None;
+    }
+    let (part, _) = text.split_at(count);
+    let (_, rest) = text.split_at(count + 1);
+    Some((part, rest))
+}
+
+/// The entry whose line is first in a journal's text, and what stands after it. `None` where no entry's line is first:
+/// an entry's line is cut back into its parts, in one way. Takes no memory.
+pub fn cut_entry(text: &[u8]) -> Option<CutEntry<'_>>
+    ensures found { IfSome result (λ cut. BeginsWithEntry text.now (cut.station, cut.command.now, cut.answer.now) cut.rest.now) }
+    ensures none { IfNone result (BeginsWithNoEntry text.now) }
+{
+    let Some((station, after_station)) = cut_number(text) else {
+        return None;
+    };
+    let Some((command_len, after_command_len)) = cut_number(after_station) else {
+        return None;
+    };
+    let Some((answer_len, lines)) = cut_number(after_command_len) else {
+        return None;
+    };
+    let Some((command, after_command)) = cut_part(lines, command_len, BLANK) else {
+        return None;
+    };
+    let Some((answer, rest)) = cut_part(after_command, answer_len, LF) else {
+        return None;
+    };
+    Some(CutEntry {
+        station,
+        command,
+        answer,
+        rest,
+    })
+}
+
+/// Lines of a journal are cut into what they show in one way: no text is the lines of these entries and of others.
+#[tactic(auto, using(crate::proofs::JournalLaws::lines_one))]
+pub fn one_journal()
+    ensures one { (a b : List (ℕ × List ℕ × List ℕ)) → HaveSmallNumbers a → HaveSmallNumbers b → lines_and a [] ≡ lines_and b [] → a ≡ b }
+{}
