@@ -78,9 +78,11 @@ impl Hoard {
     /// Takes all that is left, and leaves these bytes in one piece. False where there is no room any more.
     pub fn leave(&mut self, bytes: usize) -> bool {
         self.take_all();
-        if bytes == 0 {
-            return true;
-        }
+        bytes == 0 || self.let_go(bytes)
+    }
+
+    /// Lets go these bytes in one piece, beside what is left already. False where there is no room any more.
+    pub fn let_go(&mut self, bytes: usize) -> bool {
         let Some(room) = self.rooms.pop() else {
             return false;
         };
