@@ -5,7 +5,7 @@ use Rattle.std.proofs.lemmas.Slice.Eq.{bytes_eq-Decides}
 use Rattle.std.specs.Str.{bytes_eq}
 use Rattle.files_in_place.specs.Folder.{Name, Folder, is_reserved, temporary, first_of}
 use Rattle.files_in_place.specs.Staged.{is_staged, with_staged}
-use Rattle.files_in_place.specs.Written.{Call, Begins, Writes, begun_last, is_name, with_more, written, with_written, Writing, HasBegun, HasWritten, LeadsTo}
+use Rattle.files_in_place.specs.Written.{Call, Begins, Writes, begun_last, is_called, with_more, written, with_written, Writing, HasBegun, HasWritten, LeadsTo}
 use Rattle.files_in_place.proofs.Meaning.{free_other, temporary-inj, same_name, first_there}
 use Rattle.files_in_place.proofs.Sets.{more_staged, unstaged_before, unstaged_other}
 use Rattle.files_in_place.proofs.Uncommitted.{some_inj}
@@ -77,7 +77,7 @@ none_some name current none some = cc
 
 -- a write at the temporary name of n, by which file was begun last
 written_at : (last : Option Name) (bytes : List ℕ) (was now : Writing) (n : Name) → was.current ≡ option_map temporary last → HasWritten bytes was now
-    → now.folder (temporary n) ≡ with_more (is_name last n) bytes (was.folder (temporary n))
+    → now.folder (temporary n) ≡ with_more (is_called last n) bytes (was.folder (temporary n))
 written_at None bytes was now n current wrote = wrote.others (temporary n) (none_some (temporary n) was.current current)
 written_at (Some name) bytes was now n current wrote = elim (same_name name n) [
   | inl same ↦
@@ -98,13 +98,13 @@ holds_more before old bytes was now holds wrote =
     record {
       staged = λ n is.
           let staged : is_staged was.names n ≡ true = sym (ap (λ (l : List Name). is_staged l n) wrote.names) ∙ is in
-          written_at (begun_last before) bytes was now n holds.current wrote ∙ ap (with_more (is_name (begun_last before) n) bytes) (holds.staged n staged);
+          written_at (begun_last before) bytes was now n holds.current wrote ∙ ap (with_more (is_called (begun_last before) n) bytes) (holds.staged n staged);
       there = λ n is.
           let staged : is_staged was.names n ≡ true = sym (ap (λ (l : List Name). is_staged l n) wrote.names) ∙ is in
-          more_there (is_name (begun_last before) n) bytes (written before n) (holds.there n staged);
+          more_there (is_called (begun_last before) n) bytes (written before n) (holds.there n staged);
       none = λ n is.
           let unstaged : is_staged was.names n ≡ false = sym (ap (λ (l : List Name). is_staged l n) wrote.names) ∙ is in
-          more_none (is_name (begun_last before) n) bytes (written before n) (holds.none n unstaged);
+          more_none (is_called (begun_last before) n) bytes (written before n) (holds.none n unstaged);
       free = λ n free. written_free (begun_last before) bytes was now n holds.current wrote free ∙ holds.free n free;
       current = wrote.current ∙ holds.current;
     }

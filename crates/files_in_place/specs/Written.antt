@@ -16,9 +16,9 @@ begun_last (Begins name ∷ before) = Some name
 begun_last (Writes bytes ∷ before) = begun_last before
 
 -- whether it is this name
-abbrev pub is_name : Option Name → Name → Bool
-is_name None n = false
-is_name (Some name) n = bytes_eq name n
+abbrev pub is_called : Option Name → Name → Bool
+is_called None n = false
+is_called (Some name) n = bytes_eq name n
 
 -- with these bytes at the end, if it is the file begun last
 abbrev pub with_more : Bool → List ℕ → Option (List ℕ) → Option (List ℕ)
@@ -28,7 +28,7 @@ with_more is_last bytes content = if is_last then option_map (λ before. before 
 abbrev pub written : List Call → Folder
 written [] n = None
 written (Begins name ∷ before) n = if bytes_eq name n then Some [] else written before n
-written (Writes bytes ∷ before) n = with_more (is_name (begun_last before) n) bytes (written before n)
+written (Writes bytes ∷ before) n = with_more (is_called (begun_last before) n) bytes (written before n)
 
 -- The folder with what the calls have written under the names of their files. No reserved name has a file.
 abbrev pub with_written : List Call → Folder → Folder
