@@ -6,3 +6,4 @@ pub mod Uncommitted
 pub mod Committing
 pub mod Sets
 pub mod Histories
+pub mod WrittenFiles

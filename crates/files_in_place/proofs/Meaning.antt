@@ -106,6 +106,9 @@ removes_reserved name d c reserved removes = record {
   ];
 }
 
+pub loses_follows : (name : Name) (old new : Folder → Type 0) → is_reserved name ≡ true → ComesBy (MayRemove name) old new → ComesBy LosesReserved old new
+loses_follows name old new reserved removes = comes_by (MayRemove name) LosesReserved old new removes (λ d was c by. removes_reserved name d c reserved by)
+
 -- where recovery has nothing else to do, losing files of reserved names changes nothing
 pub lost_same : (d c : Folder) → IsFinished d → LosesReserved d c → (n : Name) → recovered c n ≡ recovered d n
 lost_same d c finished loses n = elim (cases_Bool (is_reserved n)) [

@@ -1,7 +1,7 @@
 -- How a run of a disk's calls goes on, and what a crash in it leaves.
 use Rattle.std.proofs.Common.{inl, inr, ⊎_elim, ℕ, arith}
 use Rattle.files_in_place.specs.Folder.{Folder}
-use Rattle.files_in_place.specs.Disk.{AfterStep, ComesBy, Shrinks, Elapses, LeavesOnly}
+use Rattle.files_in_place.specs.Disk.{AfterStep, ComesBy, Shrinks, Elapses, LeavesOnly, Steps}
 
 -- a relation between folders that holds of no step and of two
 pub record IsStep (step : Folder → Folder → Type 0) : Type 0 where
@@ -53,24 +53,13 @@ module _ {D : Type 0} (moment : D → ℕ) (left_since : D → ℕ → Folder �
     before = λ t c le left. ⊎_elim (λ was. inl was) (λ now. inr (by c now)) (leaves.before t c le left);
   }
 
-  -- From old to new each outcome of a crash makes steps: at the end, and at any moment.
-  pub record Steps (step : Folder → Folder → Type 0) (old new : D) : Type 0 where
-    pub crash : ComesBy step (may_leave old) (may_leave new)
-    pub moments : LeavesOnly moment left_since old new (AfterStep step (may_leave old))
-
-  pub no_call : (step : Folder → Folder → Type 0) → IsStep step → (old : D) → Steps step old old
+  pub no_call : (step : Folder → Folder → Type 0) → IsStep step → (old : D) → Steps moment left_since may_leave step old old
   no_call step is old = record {
     crash = λ c now. (c, now, is.still c);
     moments = started old (AfterStep step (may_leave old)) (λ c now. (c, now, is.still c));
   }
 
-  pub one_call : (step : Folder → Folder → Type 0) → IsStep step → (old new : D) → Elapses (moment old) (moment new) (left_since old) (left_since new) (may_leave new) → ComesBy step (may_leave old) (may_leave new) → Steps step old new
-  one_call step is old new time crash = record {
-    crash = crash;
-    moments = goes_on old old new (AfterStep step (may_leave old)) (no_call step is old).moments time crash;
-  }
-
-  pub and_then : (step : Folder → Folder → Type 0) → IsStep step → (old mid new : D) → Steps step old mid → Steps step mid new → Steps step old new
+  pub and_then : (step : Folder → Folder → Type 0) → IsStep step → (old mid new : D) → Steps moment left_since may_leave step old mid → Steps moment left_since may_leave step mid new → Steps moment left_since may_leave step old new
   and_then step is old mid new first second = record {
     crash = comes_both step is (may_leave old) (may_leave mid) (may_leave new) first.crash second.crash;
     moments = runs_on old mid new (AfterStep step (may_leave old)) (AfterStep step (may_leave mid)) first.moments second.moments (λ c from.
@@ -78,9 +67,19 @@ module _ {D : Type 0} (moment : D → ℕ) (left_since : D → ℕ → Folder �
         (start.0, start.1, is.both start.0 from.0 c start.2 from.2));
   }
 
-  -- a step that says more
-  pub steps_by : (step more : Folder → Folder → Type 0) (old new : D) → Steps step old new → ((d c : Folder) → step d c → more d c) → Steps more old new
-  steps_by step more old new steps by = record {
-    crash = comes_by step more (may_leave old) (may_leave new) steps.crash (λ d was c recovered_by. by d c recovered_by);
-    moments = leaves_by old new (AfterStep step (may_leave old)) (AfterStep more (may_leave old)) steps.moments (λ c from. (from.0, from.1, by from.0 c from.2));
-  }
+  -- one call more, by the step
+  pub then_call : (step : Folder → Folder → Type 0) → IsStep step → (old mid new : D) → Steps moment left_since may_leave step old mid → Elapses (moment mid) (moment new) (left_since mid) (left_since new) (may_leave new) → ComesBy step (may_leave mid) (may_leave new)
+      → Steps moment left_since may_leave step old new
+  then_call step is old mid new so_far time crash =
+      and_then step is old mid new so_far (record { crash = crash; moments = goes_on mid mid new (AfterStep step (may_leave mid)) (no_call step is mid).moments time crash })
+
+  -- one call more, after which a crash leaves nothing that it didn't leave before
+  pub then_shrinks : (step : Folder → Folder → Type 0) → IsStep step → (old mid new : D) → Steps moment left_since may_leave step old mid → Elapses (moment mid) (moment new) (left_since mid) (left_since new) (may_leave new) → Shrinks (may_leave mid) (may_leave new)
+      → Steps moment left_since may_leave step old new
+  then_shrinks step is old mid new so_far time shrinks = then_call step is old mid new so_far time (stays step is (may_leave mid) (may_leave new) shrinks)
+
+  pub one_call : (step : Folder → Folder → Type 0) → IsStep step → (old new : D) → Elapses (moment old) (moment new) (left_since old) (left_since new) (may_leave new) → ComesBy step (may_leave old) (may_leave new) → Steps moment left_since may_leave step old new
+  one_call step is old new time crash = then_call step is old old new (no_call step is old) time crash
+
+  pub one_shrinks : (step : Folder → Folder → Type 0) → IsStep step → (old new : D) → Elapses (moment old) (moment new) (left_since old) (left_since new) (may_leave new) → Shrinks (may_leave old) (may_leave new) → Steps moment left_since may_leave step old new
+  one_shrinks step is old new time shrinks = then_shrinks step is old old new (no_call step is old) time shrinks

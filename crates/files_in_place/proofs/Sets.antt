@@ -6,15 +6,17 @@ use Rattle.std.specs.List.{AllByRecursion}
 use Rattle.std.specs.Str.{bytes_eq}
 use Rattle.files_in_place.specs.Folder.{Name, Folder, SameBut, is_reserved, temporary, list_name, without_reserved}
 use Rattle.files_in_place.specs.Recovery.{IsClean, SameFree, HasOldFiles}
-use Rattle.files_in_place.specs.declared.phase.Phase.{Phase}
 use Rattle.files_in_place.specs.declared.phase.Phase.TheVariants.{Staging, Failed, Ended}
-use Rattle.files_in_place.specs.Staged.{is_staged, is_file_name, with_staged, IsUncommitted, AreStaged, AreLeft, HoldsInPhase, IsPut}
+use Rattle.files_in_place.specs.Staged.{is_staged, is_file_name, with_staged, IsUncommitted, AreStaged, AreLeft, HoldsInPhase, RunsUncommitted, IsPut, IsOldOrNew, SameUnstaged}
+use Rattle.files_in_place.specs.Disk.{LeavesOnly}
+use Rattle.files_in_place.proofs.Runs.{started, runs_on, leaves_by}
+use Rattle.files_in_place.proofs.Committing.{put_old}
 use Rattle.files_in_place.proofs.Meaning.{free_other, temporary-inj, same_name}
 use Rattle.files_in_place.proofs.Ending.{without_res}
 use Rattle.files_in_place.proofs.Uncommitted.{staged_left, old_files_from, some_inj}
 
 -- a name among the names and one more
-more_staged : (names : List Name) (name n : Name) → is_staged (names ++ name ∷ []) n ≡ true → (is_staged names n ≡ true) ⊎ (name ≡ n)
+pub more_staged : (names : List Name) (name n : Name) → is_staged (names ++ name ∷ []) n ≡ true → (is_staged names n ≡ true) ⊎ (name ≡ n)
 more_staged [] name n is = elim (cases_Bool (bytes_eq name n)) [
   | inl same ↦ inr ((bytes_eq-Decides name n).0 same)
   | inr other ↦ absurd (both_ways false refl (sym (rw other refl) ∙ is))
@@ -41,13 +43,13 @@ self_staged (x ∷ names) name = elim (cases_Bool (bytes_eq x name)) [
   | inr other ↦ rw other (self_staged names name)
 ]
 
-unstaged_before : (names : List Name) (name n : Name) → is_staged (names ++ name ∷ []) n ≡ false → is_staged names n ≡ false
+pub unstaged_before : (names : List Name) (name n : Name) → is_staged (names ++ name ∷ []) n ≡ false → is_staged names n ≡ false
 unstaged_before names name n is = elim (cases_Bool (is_staged names n)) [
   | inl staged ↦ absurd (both_ways (is_staged (names ++ name ∷ []) n) is (still_staged names name n staged))
   | inr unstaged ↦ unstaged
 ]
 
-unstaged_other : (names : List Name) (name n : Name) → is_staged (names ++ name ∷ []) n ≡ false → n ≢ name
+pub unstaged_other : (names : List Name) (name n : Name) → is_staged (names ++ name ∷ []) n ≡ false → n ≢ name
 unstaged_other names name n is same = both_ways (is_staged (names ++ name ∷ []) n) is (ap (is_staged (names ++ name ∷ [])) same ∙ self_staged names name)
 
 fit_more : (names : List Name) (name : Name) → AllByRecursion (λ m. is_file_name m ≡ true) names → is_file_name name ≡ true → AllByRecursion (λ m. is_file_name m ≡ true) (names ++ name ∷ [])
@@ -58,15 +60,23 @@ other_temporary : (lies name n : Name) → lies ≡ temporary name → n ≢ nam
 other_temporary lies name n is other same = other (temporary-inj n name (same ∙ is))
 
 -- what is true in each phase
-pub held_staged : (phase : Phase) (names : List Name) (current : Option Name) (folder : Folder) (is_whole is_new : Name → Type 0) (outcomes : Folder → Type 0) → phase ≡ Staging → HoldsInPhase phase names current folder is_whole is_new outcomes
-    → AreStaged names current folder is_whole is_new outcomes
-held_staged phase names current folder is_whole is_new outcomes is holds = subst (λ (p : Phase). HoldsInPhase p names current folder is_whole is_new outcomes) is holds
+pub in_staging : (names : List Name) (current : Option Name) (folder : Folder) (is_whole is_new : Name → Type 0) (outcomes : Folder → Type 0) → AreStaged names current folder is_whole is_new outcomes → HoldsInPhase Staging names current folder is_whole is_new outcomes
+in_staging names current folder is_whole is_new outcomes staged = record {
+  staged = λ is. staged;
+  left = λ going. staged_left names current folder is_whole is_new outcomes staged;
+}
 
-pub held_left : (phase : Phase) (names : List Name) (current : Option Name) (folder : Folder) (is_whole is_new : Name → Type 0) (outcomes : Folder → Type 0) → phase ≢ Ended → HoldsInPhase phase names current folder is_whole is_new outcomes
-    → AreLeft folder is_whole outcomes
-held_left Staging names current folder is_whole is_new outcomes going holds = staged_left names current folder is_whole is_new outcomes holds
-held_left Failed names current folder is_whole is_new outcomes going holds = holds
-held_left Ended names current folder is_whole is_new outcomes going holds = absurd (going refl)
+pub in_failed : (names : List Name) (current : Option Name) (folder : Folder) (is_whole is_new : Name → Type 0) (outcomes : Folder → Type 0) → AreLeft folder is_whole outcomes → HoldsInPhase Failed names current folder is_whole is_new outcomes
+in_failed names current folder is_whole is_new outcomes left = record { staged = λ is. absurd (failed_apart is); left = λ going. left }
+  where
+    failed_apart : Failed ≡ Staging → ⊥
+    failed_apart same = cc
+
+pub in_ended : (names : List Name) (current : Option Name) (folder : Folder) (is_whole is_new : Name → Type 0) (outcomes : Folder → Type 0) → HoldsInPhase Ended names current folder is_whole is_new outcomes
+in_ended names current folder is_whole is_new outcomes = record { staged = λ is. absurd (ended_apart is); left = λ going. absurd (going refl) }
+  where
+    ended_apart : Ended ≡ Staging → ⊥
+    ended_apart same = cc
 
 -- one file more is begun
 pub staged_more : (names : List Name) (current : Option Name) (old new : Folder) (old_whole old_new new_whole is_new : Name → Type 0) (before after : Folder → Type 0) (name lies : Name) → AreStaged names current old old_whole old_new before
@@ -147,3 +157,25 @@ put_clean names old new is n res = is n ∙ cond-true (is_reserved n) None (if i
 
 pub abandoned_clean : (old new : Folder) → ((n : Name) → new n ≡ without_reserved old n) → IsClean new
 abandoned_clean old new is n res = is n ∙ without_res old n res
+
+module _ {D : Type 0} (moment : D → ℕ) (left_since : D → ℕ → Folder → Type 0) (seen : D → Folder) (is_whole : D → Name → Type 0) (may_leave : D → Folder → Type 0) (only_now : (disk : D) (c : Folder) → left_since disk (moment disk) c → may_leave disk c) where
+  -- before a set is put in place
+  pub put_none : (names : List Name) (old : D) → IsUncommitted (seen old) (may_leave old) → LeavesOnly moment left_since old old (IsPut names (seen old))
+  put_none names old un = started moment left_since may_leave only_now old (IsPut names (seen old)) (put_old names (seen old) (may_leave old) un)
+
+  -- while its list is written
+  pub put_listed : (names : List Name) (old mid : D) → RunsUncommitted moment left_since seen is_whole may_leave old mid → LeavesOnly moment left_since old mid (IsPut names (seen old))
+  put_listed names old mid run = leaves_by moment left_since may_leave only_now old mid (HasOldFiles (seen old)) (IsPut names (seen old)) run.moments (put_of_old names (seen old))
+
+  -- and to the end
+  pub put_all : (names listed : List Name) (old mid new : D) → listed ≡ names → AllByRecursion (λ name. is_file_name name ≡ true) names → SameBut (temporary list_name) (seen old) (seen mid) → RunsUncommitted moment left_since seen is_whole may_leave old mid
+      → LeavesOnly moment left_since mid new (IsPut listed (seen mid)) → LeavesOnly moment left_since old new (IsPut names (seen old))
+  put_all names listed old mid new same fit others run put =
+      runs_on moment left_since may_leave only_now old mid new (IsPut names (seen old)) (IsPut listed (seen mid)) (put_listed names old mid run) put
+      (λ c is. put_from names (seen old) (seen mid) c fit others (subst (λ (l : List Name). IsPut l (seen mid) c) same is))
+
+  pub put_either : (names : List Name) (old new : D) → LeavesOnly moment left_since old new (IsPut names (seen old)) → LeavesOnly moment left_since old new (IsOldOrNew names (seen old))
+  put_either names old new put = leaves_by moment left_since may_leave only_now old new (IsPut names (seen old)) (IsOldOrNew names (seen old)) put (λ c is. is.either)
+
+  pub put_others : (names : List Name) (old new : D) → LeavesOnly moment left_since old new (IsPut names (seen old)) → LeavesOnly moment left_since old new (SameUnstaged names (seen old))
+  put_others names old new put = leaves_by moment left_since may_leave only_now old new (IsPut names (seen old)) (SameUnstaged names (seen old)) put (λ c is. is.others)

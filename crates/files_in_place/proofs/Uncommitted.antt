@@ -5,7 +5,7 @@ use Rattle.std.proofs.lemmas.Slice.Eq.{bytes_eq-Decides}
 use Rattle.std.specs.List.{AllByRecursion}
 use Rattle.std.specs.Str.{bytes_eq}
 use Rattle.files_in_place.specs.Folder.{Name, Folder, SameBut, is_reserved, temporary, list_name, list_bytes}
-use Rattle.files_in_place.specs.Disk.{AfterStep, ComesBy, Shrinks, IsSynced, Elapses, LeavesOnly}
+use Rattle.files_in_place.specs.Disk.{AfterStep, ComesBy, Shrinks, IsSynced, Elapses, Steps}
 use Rattle.files_in_place.specs.Recovery.{IsClean, SameFree, HasOldFiles, CanClean}
 use Rattle.files_in_place.specs.Staged.{is_staged, is_file_name, IsUncommitted, IsStagedAs, IsFreeFor, AreStaged, AreLeft, AreReady, RunsUncommitted}
 use Rattle.files_in_place.proofs.Runs.{started, goes_on, runs_on}
@@ -180,31 +180,57 @@ list_ready names current old new old_whole is_new new_whole before after staged 
   uncommitted = un;
 }
 
-module _ {D : Type 0} (moment : D → ℕ) (left_since : D → ℕ → Folder → Type 0) (seen : D → Folder) (may_leave : D → Folder → Type 0) (only_now : (disk : D) (c : Folder) → left_since disk (moment disk) c → may_leave disk c) where
-  pub run_none : (old : D) → IsUncommitted (seen old) (may_leave old) → RunsUncommitted moment left_since seen may_leave old old
-  run_none old un = record {
+module _ {D : Type 0} (moment : D → ℕ) (left_since : D → ℕ → Folder → Type 0) (seen : D → Folder) (is_whole : D → Name → Type 0) (may_leave : D → Folder → Type 0) (only_now : (disk : D) (c : Folder) → left_since disk (moment disk) c → may_leave disk c) where
+  pub run_none : (old : D) → AreLeft (seen old) (is_whole old) (may_leave old) → RunsUncommitted moment left_since seen is_whole may_leave old old
+  run_none old left = record {
     same = λ n free. refl;
-    uncommitted = un;
-    moments = started moment left_since may_leave only_now old (HasOldFiles (seen old)) (uncommitted_old (seen old) (may_leave old) un);
+    left = left;
+    moments = started moment left_since may_leave only_now old (HasOldFiles (seen old)) (uncommitted_old (seen old) (may_leave old) left.uncommitted);
   }
 
   -- one call more
-  pub run_call : (old mid new : D) → RunsUncommitted moment left_since seen may_leave old mid → Elapses (moment mid) (moment new) (left_since mid) (left_since new) (may_leave new)
-      → SameFree (seen mid) (seen new) → IsUncommitted (seen new) (may_leave new) → RunsUncommitted moment left_since seen may_leave old new
-  run_call old mid new run time same un =
+  run_call : (old mid new : D) → RunsUncommitted moment left_since seen is_whole may_leave old mid → Elapses (moment mid) (moment new) (left_since mid) (left_since new) (may_leave new)
+      → SameFree (seen mid) (seen new) → AreLeft (seen new) (is_whole new) (may_leave new) → RunsUncommitted moment left_since seen is_whole may_leave old new
+  run_call old mid new run time same left =
       let whole : SameFree (seen old) (seen new) = λ n free. same n free ∙ run.same n free in
       record {
         same = whole;
-        uncommitted = un;
+        left = left;
         moments = goes_on moment left_since may_leave only_now old mid new (HasOldFiles (seen old)) run.moments time
-            (λ c now. old_files_from (seen old) (seen new) c whole (uncommitted_old (seen new) (may_leave new) un c now));
+            (λ c now. old_files_from (seen old) (seen new) c whole (uncommitted_old (seen new) (may_leave new) left.uncommitted c now));
       }
 
-  -- some calls more
-  pub run_calls : (old mid new : D) (P : Folder → Type 0) → RunsUncommitted moment left_since seen may_leave old mid → LeavesOnly moment left_since mid new P → ((c : Folder) → P c → HasOldFiles (seen mid) c)
-      → SameFree (seen mid) (seen new) → IsUncommitted (seen new) (may_leave new) → RunsUncommitted moment left_since seen may_leave old new
-  run_calls old mid new P run next means same un = record {
-    same = λ n free. same n free ∙ run.same n free;
-    uncommitted = un;
-    moments = runs_on moment left_since may_leave only_now old mid new (HasOldFiles (seen old)) P run.moments next (λ c has. old_files_from (seen old) (seen mid) c run.same (means c has));
+  -- one call more, which changes no file
+  pub run_shrinks : (old mid new : D) → RunsUncommitted moment left_since seen is_whole may_leave old mid → seen new ≡ seen mid → ((n : Name) → is_whole mid n → is_whole new n)
+      → Elapses (moment mid) (moment new) (left_since mid) (left_since new) (may_leave new) → Shrinks (may_leave mid) (may_leave new) → RunsUncommitted moment left_since seen is_whole may_leave old new
+  run_shrinks old mid new run same kept time shrinks =
+      run_call old mid new run time (λ n free. ap (λ (f : Folder). f n) same) (left_shrinks (seen mid) (seen new) (is_whole mid) (is_whole new) (may_leave mid) (may_leave new) same kept shrinks run.left)
+
+  -- the first call for a set, which changes no file
+  pub run_synced : (names : List Name) (current : Option Name) (old new : D) (is_new : Name → Type 0) → AreStaged names current (seen old) (is_whole old) is_new (may_leave old) → seen new ≡ seen old → ((n : Name) → is_whole old n → is_whole new n)
+      → Elapses (moment old) (moment new) (left_since old) (left_since new) (may_leave new) → Shrinks (may_leave old) (may_leave new) → RunsUncommitted moment left_since seen is_whole may_leave old new
+  run_synced names current old new is_new staged same kept time shrinks =
+      run_shrinks old old new (run_none old (staged_left names current (seen old) (is_whole old) is_new (may_leave old) staged)) same kept time shrinks
+
+  -- one call more, for a file of a temporary name
+  pub run_step : (lies : Name) (old mid new : D) → RunsUncommitted moment left_since seen is_whole may_leave old mid → IsTemporary lies → SameBut lies (seen mid) (seen new) → ((n : Name) → n ≢ lies → is_whole mid n → is_whole new n)
+      → Elapses (moment mid) (moment new) (left_since mid) (left_since new) (may_leave new) → ComesBy (SameBut lies) (may_leave mid) (may_leave new) → RunsUncommitted moment left_since seen is_whole may_leave old new
+  run_step lies old mid new run is others kept time crash =
+      run_call old mid new run time (step_free lies (seen mid) (seen new) is others) (left_step lies (seen mid) (seen new) (is_whole mid) (is_whole new) (may_leave mid) (may_leave new) is others kept crash run.left)
+
+  -- some calls more, for a file of a temporary name
+  pub run_steps : (lies : Name) (old mid new : D) → RunsUncommitted moment left_since seen is_whole may_leave old mid → IsTemporary lies → SameBut lies (seen mid) (seen new) → ((n : Name) → n ≢ lies → is_whole mid n → is_whole new n)
+      → Steps moment left_since may_leave (SameBut lies) mid new → RunsUncommitted moment left_since seen is_whole may_leave old new
+  run_steps lies old mid new run is others kept steps = record {
+    same = λ n free. step_free lies (seen mid) (seen new) is others n free ∙ run.same n free;
+    left = left_step lies (seen mid) (seen new) (is_whole mid) (is_whole new) (may_leave mid) (may_leave new) is others kept steps.crash run.left;
+    moments = runs_on moment left_since may_leave only_now old mid new (HasOldFiles (seen old)) (AfterStep (SameBut lies) (may_leave mid)) run.moments steps.moments
+        (λ c has. old_files_from (seen old) (seen mid) c run.same (un_after lies (seen mid) (may_leave mid) is run.left.uncommitted c has));
   }
+
+  -- bytes are written to the file of a set that was begun last
+  pub run_written : (names : List Name) (current : Option Name) (lies : Name) (old new : D) (is_new : Name → Type 0) → AreStaged names current (seen old) (is_whole old) is_new (may_leave old) → current ≡ Some lies
+      → SameBut lies (seen old) (seen new) → ((n : Name) → n ≢ lies → is_whole old n → is_whole new n) → Elapses (moment old) (moment new) (left_since old) (left_since new) (may_leave new) → ComesBy (SameBut lies) (may_leave old) (may_leave new)
+      → RunsUncommitted moment left_since seen is_whole may_leave old new
+  run_written names current lies old new is_new staged is others kept time crash =
+      run_step lies old old new (run_none old (staged_left names current (seen old) (is_whole old) is_new (may_leave old) staged)) (staged_temporary names lies staged.fit (staged.named lies is)) others kept time crash

@@ -61,6 +61,12 @@ pub record LeavesOnly {D : Type 0} (moment : D → ℕ) (left_since : D → ℕ 
   -- for a run that began earlier
   pub before : (t : ℕ) (c : Folder) → t ≤ moment old → left_since new t c → left_since old t c ⊎ P c
 
+-- A run of calls in which each outcome of a crash comes by this step from one that was possible before the run: at its end,
+-- and at any moment of it.
+pub record Steps {D : Type 0} (moment : D → ℕ) (left_since : D → ℕ → Folder → Type 0) (may_leave : D → Folder → Type 0) (step : Folder → Folder → Type 0) (old new : D) : Type 0 where
+  pub crash : ComesBy step (may_leave old) (may_leave new)
+  pub moments : LeavesOnly moment left_since old new (AfterStep step (may_leave old))
+
 -- a failure is told only where the disk has failed since
 pub record HasCause (before now : ℕ) (failed : Type 0) : Type 0 where
   pub later : before ≤ now

@@ -3,7 +3,7 @@ use Rattle.std.specs.Prelude.{◌≡◌, ◌≢◌, ◌⊎◌, ℕ, List, [], �
 use Rattle.std.specs.List.{AllByRecursion, list_any, list_all}
 use Rattle.std.specs.Str.{bytes_eq}
 use Rattle.files_in_place.specs.declared.phase.Phase.{Phase}
-use Rattle.files_in_place.specs.declared.phase.Phase.TheVariants.{Staging, Failed, Ended}
+use Rattle.files_in_place.specs.declared.phase.Phase.TheVariants.{Staging, Ended}
 use Rattle.files_in_place.specs.Folder.{Name, Folder, is_reserved, temporary, list_name, list_bytes}
 use Rattle.files_in_place.specs.Disk.{LeavesOnly}
 use Rattle.files_in_place.specs.Recovery.{RecoversTo, SameFree, HasOldFiles}
@@ -78,11 +78,11 @@ pub record AreLeft (folder : Folder) (is_whole : Name → Type 0) (outcomes : Fo
   pub whole : (n : Name) → is_reserved n ≡ false → is_whole n
   pub uncommitted : IsUncommitted folder outcomes
 
--- what is true of a disk in each phase of a set
-abbrev pub HoldsInPhase : Phase → List Name → Option Name → Folder → (Name → Type 0) → (Name → Type 0) → (Folder → Type 0) → Type 0
-HoldsInPhase Staging names current folder is_whole is_new outcomes = AreStaged names current folder is_whole is_new outcomes
-HoldsInPhase Failed names current folder is_whole is_new outcomes = AreLeft folder is_whole outcomes
-HoldsInPhase Ended names current folder is_whole is_new outcomes = Unit {0}
+-- What is true of a disk in each phase of a set: while it is written its files are staged, and nothing of it counts until it
+-- is put in place or removed. Of a set that has ended nothing is known.
+pub record HoldsInPhase (phase : Phase) (names : List Name) (current : Option Name) (folder : Folder) (is_whole is_new : Name → Type 0) (outcomes : Folder → Type 0) : Type 0 where
+  pub staged : phase ≡ Staging → AreStaged names current folder is_whole is_new outcomes
+  pub left : phase ≢ Ended → AreLeft folder is_whole outcomes
 
 -- All files of the set are on the disk, and so are their names in the list's temporary file.
 pub record AreReady (names : List Name) (folder : Folder) (is_whole : Name → Type 0) (outcomes : Folder → Type 0) : Type 0 where
@@ -92,11 +92,11 @@ pub record AreReady (names : List Name) (folder : Folder) (is_whole : Name → T
   pub whole : (n : Name) → is_whole n
   pub uncommitted : IsUncommitted folder outcomes
 
--- A run of calls in which there is no list: each name that isn't reserved has what it had, and a crash at any moment leaves
--- the old files.
-pub record RunsUncommitted {D : Type 0} (moment : D → ℕ) (left_since : D → ℕ → Folder → Type 0) (seen : D → Folder) (may_leave : D → Folder → Type 0) (old new : D) : Type 0 where
+-- A run of calls in which there is no list: each name that isn't reserved has what it had, nothing of the set counts, and a
+-- crash at any moment leaves the old files.
+pub record RunsUncommitted {D : Type 0} (moment : D → ℕ) (left_since : D → ℕ → Folder → Type 0) (seen : D → Folder) (is_whole : D → Name → Type 0) (may_leave : D → Folder → Type 0) (old new : D) : Type 0 where
   pub same : SameFree (seen old) (seen new)
-  pub uncommitted : IsUncommitted (seen new) (may_leave new)
+  pub left : AreLeft (seen new) (is_whole new) (may_leave new)
   pub moments : LeavesOnly moment left_since old new (HasOldFiles (seen old))
 
 -- The old files are there or the new ones, all of them, and each other name has what it had.

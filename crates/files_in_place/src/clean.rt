@@ -3,7 +3,7 @@
 ghost use Rattle.std.specs.Prelude.{◌≡◌, None, true, false, OnOk, IsErrOf};
 ghost use Rattle.files_in_place.specs.declared.faults.DiskFault.TheVariants.{Failed};
 ghost use Rattle.files_in_place.specs.Folder.{Name, is_reserved, without_reserved};
-ghost use Rattle.files_in_place.specs.Disk.{AfterStep, ComesBy, LeavesOnly, IsSynced, HasCause};
+ghost use Rattle.files_in_place.specs.Disk.{LeavesOnly, Steps, IsSynced, HasCause};
 ghost use Rattle.files_in_place.specs.Recovery.{LosesReserved, AreRemoved, CanClean, HasOldFiles};
 
 use crate::disk::Disk;
@@ -17,8 +17,7 @@ fn remove_if_reserved<D: Disk>(disk: &mut D, name: &[u8]) -> Result<(), DiskFaul
     ensures done { D.keeps_promises → OnOk result (is_reserved name.now ≡ true → D.seen disk.new name.now ≡ None) }
     ensures others { D.keeps_promises → OnOk result (LosesReserved (D.seen disk.old) (D.seen disk.new)) }
     ensures whole { (n : Name) → D.is_whole disk.old n → D.is_whole disk.new n }
-    ensures crash { ComesBy LosesReserved (D.may_leave disk.old) (D.may_leave disk.new) }
-    ensures any_moment { LeavesOnly D.moment D.left_since disk.old disk.new (AfterStep LosesReserved (D.may_leave disk.old)) }
+    ensures steps { Steps D.moment D.left_since D.may_leave LosesReserved disk.old disk.new }
     ensures cause { HasCause (D.faults disk.old) (D.faults disk.new) (IsErrOf result Failed) }
 {
     if !is_reserved(name) {
@@ -33,8 +32,7 @@ fn remove_reserved<D: Disk>(disk: &mut D, names: &[Bytes]) -> Result<(), DiskFau
     ensures done { D.keeps_promises → OnOk result (AreRemoved names.now (D.seen disk.new)) }
     ensures others { D.keeps_promises → OnOk result (LosesReserved (D.seen disk.old) (D.seen disk.new)) }
     ensures whole { (n : Name) → D.is_whole disk.old n → D.is_whole disk.new n }
-    ensures crash { ComesBy LosesReserved (D.may_leave disk.old) (D.may_leave disk.new) }
-    ensures any_moment { LeavesOnly D.moment D.left_since disk.old disk.new (AfterStep LosesReserved (D.may_leave disk.old)) }
+    ensures steps { Steps D.moment D.left_since D.may_leave LosesReserved disk.old disk.new }
     ensures cause { HasCause (D.faults disk.old) (D.faults disk.new) (IsErrOf result Failed) }
 {
     let [name, rest @ ..] = names else {

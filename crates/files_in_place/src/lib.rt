@@ -24,6 +24,7 @@ mod stage;
 mod system_calls;
 mod system_disk;
 mod system_file;
+mod written;
 
 pub use disk::Disk;
 pub use faults::{DiskFault, SetFault};
@@ -33,3 +34,4 @@ pub use history::old_or_new;
 pub use phase::Phase;
 pub use recovery::recover;
 pub use system_disk::SystemDisk;
+pub use written::files_hold_what_was_written;

@@ -3,7 +3,7 @@
 ghost use Rattle.std.specs.Prelude.{◌≡◌, true, false, None, OnOk, IsErrOf};
 ghost use Rattle.files_in_place.specs.declared.faults.DiskFault.TheVariants.{Failed};
 ghost use Rattle.files_in_place.specs.Folder.{Name, is_reserved, temporary, is_listed, recovered};
-ghost use Rattle.files_in_place.specs.Disk.{AfterStep, ComesBy, LeavesOnly, IsSynced, HasCause};
+ghost use Rattle.files_in_place.specs.Disk.{LeavesOnly, Steps, IsSynced, HasCause};
 ghost use Rattle.files_in_place.specs.Recovery.{AreListed, AreRenamed, CanRename, KeepsRecovery, IsClean, IsFinished, RecoversTo, SameUnlisted, StillRecovers};
 
 use crate::clean::clean;
@@ -22,8 +22,7 @@ fn finish_one<D: Disk>(alloc: Global, disk: &mut D, name: &[u8]) -> Result<(), D
     ensures keeps { D.keeps_promises → OnOk result (KeepsRecovery (D.seen disk.old) (D.seen disk.new)) }
     ensures can { D.keeps_promises → OnOk result (CanRename (D.seen disk.new) (D.may_leave disk.new)) }
     ensures whole { OnOk result (((n : Name) → D.is_whole disk.old n) → (n : Name) → D.is_whole disk.new n) }
-    ensures crash { D.keeps_promises → ComesBy KeepsRecovery (D.may_leave disk.old) (D.may_leave disk.new) }
-    ensures any_moment { D.keeps_promises → LeavesOnly D.moment D.left_since disk.old disk.new (AfterStep KeepsRecovery (D.may_leave disk.old)) }
+    ensures steps { D.keeps_promises → Steps D.moment D.left_since D.may_leave KeepsRecovery disk.old disk.new }
     ensures cause { HasCause (D.faults disk.old) (D.faults disk.new) (IsErrOf result Failed) }
 {
     if is_reserved(name) {
@@ -45,8 +44,7 @@ fn finish<D: Disk>(alloc: Global, disk: &mut D, names: &[Bytes]) -> Result<(), D
     ensures gone { D.keeps_promises → OnOk result ((n : Name) → D.seen disk.old (temporary n) ≡ None → D.seen disk.new (temporary n) ≡ None) }
     ensures keeps { D.keeps_promises → OnOk result (KeepsRecovery (D.seen disk.old) (D.seen disk.new)) }
     ensures whole { OnOk result (((n : Name) → D.is_whole disk.old n) → (n : Name) → D.is_whole disk.new n) }
-    ensures crash { D.keeps_promises → ComesBy KeepsRecovery (D.may_leave disk.old) (D.may_leave disk.new) }
-    ensures any_moment { D.keeps_promises → LeavesOnly D.moment D.left_since disk.old disk.new (AfterStep KeepsRecovery (D.may_leave disk.old)) }
+    ensures steps { D.keeps_promises → Steps D.moment D.left_since D.may_leave KeepsRecovery disk.old disk.new }
     ensures cause { HasCause (D.faults disk.old) (D.faults disk.new) (IsErrOf result Failed) }
 {
     let [name, rest @ ..] = names else {

@@ -3,8 +3,8 @@
 ghost use Rattle.std.specs.Prelude.{◌≡◌, ◌≢◌, [], None, Some, OnOk, IsErrOf};
 ghost use Rattle.files_in_place.specs.declared.faults.DiskFault.TheVariants.{Failed};
 ghost use Rattle.files_in_place.specs.Folder.{Name, SameBut, temporary, list_name, list_bytes};
-ghost use Rattle.files_in_place.specs.Disk.{AfterStep, ComesBy, Shrinks, Elapses, LeavesOnly, HasCause};
-ghost use Rattle.files_in_place.specs.Staged.{IsFreeFor, AreStaged, AreLeft, AreReady, RunsUncommitted};
+ghost use Rattle.files_in_place.specs.Disk.{Shrinks, Elapses, Steps, HasCause};
+ghost use Rattle.files_in_place.specs.Staged.{IsFreeFor, AreStaged, AreReady, RunsUncommitted};
 
 use crate::disk::Disk;
 use crate::faults::DiskFault;
@@ -39,8 +39,7 @@ pub(crate) fn begin_file<D: Disk>(
     ensures others { SameBut lies.now (D.seen disk.old) (D.seen disk.new) }
     ensures whole { D.keeps_promises → OnOk result ((n : Name) → n ≢ lies.now → D.is_whole disk.new n) }
     ensures new { OnOk result (D.is_new disk.new lies.now) }
-    ensures left { D.keeps_promises → AreLeft (D.seen disk.new) (D.is_whole disk.new) (D.may_leave disk.new) }
-    ensures run { D.keeps_promises → RunsUncommitted D.moment D.left_since D.seen D.may_leave disk.old disk.new }
+    ensures run { D.keeps_promises → RunsUncommitted D.moment D.left_since D.seen D.is_whole D.may_leave disk.old disk.new }
     ensures cause { HasCause (D.faults disk.old) (D.faults disk.new) (IsErrOf result Failed) }
 {
     sync_current(disk, current)?;
@@ -55,9 +54,8 @@ pub(crate) fn write_whole<D: Disk>(disk: &mut D, name: &[u8], bytes: &[u8]) -> R
     ensures durable { OnOk result (D.is_whole disk.new name.now) }
     ensures others { SameBut name.now (D.seen disk.old) (D.seen disk.new) }
     ensures whole { (n : Name) → n ≢ name.now → D.is_whole disk.old n → D.is_whole disk.new n }
-    ensures crash { ComesBy (SameBut name.now) (D.may_leave disk.old) (D.may_leave disk.new) }
     // A crash at any moment of the call leaves each other name as it might have left it before.
-    ensures any_moment { LeavesOnly D.moment D.left_since disk.old disk.new (AfterStep (SameBut name.now) (D.may_leave disk.old)) }
+    ensures steps { Steps D.moment D.left_since D.may_leave (SameBut name.now) disk.old disk.new }
     ensures cause { HasCause (D.faults disk.old) (D.faults disk.new) (IsErrOf result Failed) }
 {
     disk.create(name)?;
@@ -77,8 +75,7 @@ pub(crate) fn write_list<D: Disk>(
     requires list { list.now ≡ list_bytes names.now }
     ensures others { SameBut (temporary list_name) (D.seen disk.old) (D.seen disk.new) }
     ensures ready { D.keeps_promises → OnOk result (AreReady names.now (D.seen disk.new) (D.is_whole disk.new) (D.may_leave disk.new)) }
-    ensures left { D.keeps_promises → AreLeft (D.seen disk.new) (D.is_whole disk.new) (D.may_leave disk.new) }
-    ensures run { D.keeps_promises → RunsUncommitted D.moment D.left_since D.seen D.may_leave disk.old disk.new }
+    ensures run { D.keeps_promises → RunsUncommitted D.moment D.left_since D.seen D.is_whole D.may_leave disk.old disk.new }
     ensures cause { HasCause (D.faults disk.old) (D.faults disk.new) (IsErrOf result Failed) }
 {
     sync_current(disk, current)?;

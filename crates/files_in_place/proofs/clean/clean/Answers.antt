@@ -3,37 +3,35 @@ use Rattle.std.proofs.lemmas.Bool.{cases_Bool}
 use Rattle.files_in_place.specs.Folder.{Name, Folder, is_reserved}
 use Rattle.files_in_place.specs.Disk.{AfterStep, IsSynced}
 use Rattle.files_in_place.specs.Recovery.{LosesReserved, AreRemoved, HasOldFiles}
-use Rattle.files_in_place.proofs.Runs.{one_call, and_then, stays, leaves_by}
+use Rattle.files_in_place.proofs.Runs.{one_shrinks, then_shrinks, and_then, leaves_by}
 use Rattle.files_in_place.proofs.Meaning.{loses_step}
 use Rattle.files_in_place.proofs.Ending.{loses_means, cleaned, removed_each, settled}
 use Rattle.files_in_place.proofs.clean.clean.Goals as goal
 
 pub returns-in_err-names-clause-any_moment : goal.returns-in_err-names-clause-any_moment
 returns-in_err-names-clause-any_moment g c promised =
-    let asked = one_call g.D.Disk.moment g.D.Disk.left_since g.D.Disk.may_leave g.met.D.Disk.only_now LosesReserved loses_step c.args.disk.now c.list.new.self c.list.ensures.time (stays LosesReserved loses_step (g.D.Disk.may_leave c.args.disk.now) (g.D.Disk.may_leave c.list.new.self) c.list.ensures.crash) in
+    let asked = one_shrinks g.D.Disk.moment g.D.Disk.left_since g.D.Disk.may_leave g.met.D.Disk.only_now LosesReserved loses_step c.args.disk.now c.list.new.self c.list.ensures.time c.list.ensures.crash in
     leaves_by g.D.Disk.moment g.D.Disk.left_since g.D.Disk.may_leave g.met.D.Disk.only_now c.args.disk.now c.list.new.self (AfterStep LosesReserved (g.D.Disk.may_leave c.args.disk.now)) (HasOldFiles (g.D.Disk.seen c.args.disk.now)) asked.moments (loses_means (g.D.Disk.seen c.args.disk.now) (g.D.Disk.may_leave c.args.disk.now) (c.requires.can promised))
 
 pub returns-in_err-remove_reserved-clause-any_moment : goal.returns-in_err-remove_reserved-clause-any_moment
 returns-in_err-remove_reserved-clause-any_moment g c promised =
-    let asked = one_call g.D.Disk.moment g.D.Disk.left_since g.D.Disk.may_leave g.met.D.Disk.only_now LosesReserved loses_step c.args.disk.now c.list.new.self c.list.ensures.time (stays LosesReserved loses_step (g.D.Disk.may_leave c.args.disk.now) (g.D.Disk.may_leave c.list.new.self) c.list.ensures.crash) in
-    let to_removed = and_then g.D.Disk.moment g.D.Disk.left_since g.D.Disk.may_leave g.met.D.Disk.only_now LosesReserved loses_step c.args.disk.now c.list.new.self c.remove_reserved.new.disk asked (record { crash = c.remove_reserved.ensures.crash; moments = c.remove_reserved.ensures.any_moment }) in
-    leaves_by g.D.Disk.moment g.D.Disk.left_since g.D.Disk.may_leave g.met.D.Disk.only_now c.args.disk.now c.remove_reserved.new.disk (AfterStep LosesReserved (g.D.Disk.may_leave c.args.disk.now)) (HasOldFiles (g.D.Disk.seen c.args.disk.now)) to_removed.moments (loses_means (g.D.Disk.seen c.args.disk.now) (g.D.Disk.may_leave c.args.disk.now) (c.requires.can promised))
+    let asked = one_shrinks g.D.Disk.moment g.D.Disk.left_since g.D.Disk.may_leave g.met.D.Disk.only_now LosesReserved loses_step c.args.disk.now c.list.new.self c.list.ensures.time c.list.ensures.crash in
+    let removed = and_then g.D.Disk.moment g.D.Disk.left_since g.D.Disk.may_leave g.met.D.Disk.only_now LosesReserved loses_step c.args.disk.now c.list.new.self c.remove_reserved.new.disk asked c.remove_reserved.ensures.steps in
+    leaves_by g.D.Disk.moment g.D.Disk.left_since g.D.Disk.may_leave g.met.D.Disk.only_now c.args.disk.now c.remove_reserved.new.disk (AfterStep LosesReserved (g.D.Disk.may_leave c.args.disk.now)) (HasOldFiles (g.D.Disk.seen c.args.disk.now)) removed.moments (loses_means (g.D.Disk.seen c.args.disk.now) (g.D.Disk.may_leave c.args.disk.now) (c.requires.can promised))
 
 pub returns-in_err-sync_folder-clause-any_moment : goal.returns-in_err-sync_folder-clause-any_moment
 returns-in_err-sync_folder-clause-any_moment g c promised =
-    let asked = one_call g.D.Disk.moment g.D.Disk.left_since g.D.Disk.may_leave g.met.D.Disk.only_now LosesReserved loses_step c.args.disk.now c.list.new.self c.list.ensures.time (stays LosesReserved loses_step (g.D.Disk.may_leave c.args.disk.now) (g.D.Disk.may_leave c.list.new.self) c.list.ensures.crash) in
-    let to_removed = and_then g.D.Disk.moment g.D.Disk.left_since g.D.Disk.may_leave g.met.D.Disk.only_now LosesReserved loses_step c.args.disk.now c.list.new.self c.remove_reserved.new.disk asked (record { crash = c.remove_reserved.ensures.crash; moments = c.remove_reserved.ensures.any_moment }) in
-    let synced = one_call g.D.Disk.moment g.D.Disk.left_since g.D.Disk.may_leave g.met.D.Disk.only_now LosesReserved loses_step c.remove_reserved.new.disk c.sync_folder.new.self c.sync_folder.ensures.time (stays LosesReserved loses_step (g.D.Disk.may_leave c.remove_reserved.new.disk) (g.D.Disk.may_leave c.sync_folder.new.self) c.sync_folder.ensures.crash) in
-    let to_synced = and_then g.D.Disk.moment g.D.Disk.left_since g.D.Disk.may_leave g.met.D.Disk.only_now LosesReserved loses_step c.args.disk.now c.remove_reserved.new.disk c.sync_folder.new.self to_removed synced in
-    leaves_by g.D.Disk.moment g.D.Disk.left_since g.D.Disk.may_leave g.met.D.Disk.only_now c.args.disk.now c.sync_folder.new.self (AfterStep LosesReserved (g.D.Disk.may_leave c.args.disk.now)) (HasOldFiles (g.D.Disk.seen c.args.disk.now)) to_synced.moments (loses_means (g.D.Disk.seen c.args.disk.now) (g.D.Disk.may_leave c.args.disk.now) (c.requires.can promised))
+    let asked = one_shrinks g.D.Disk.moment g.D.Disk.left_since g.D.Disk.may_leave g.met.D.Disk.only_now LosesReserved loses_step c.args.disk.now c.list.new.self c.list.ensures.time c.list.ensures.crash in
+    let removed = and_then g.D.Disk.moment g.D.Disk.left_since g.D.Disk.may_leave g.met.D.Disk.only_now LosesReserved loses_step c.args.disk.now c.list.new.self c.remove_reserved.new.disk asked c.remove_reserved.ensures.steps in
+    let synced = then_shrinks g.D.Disk.moment g.D.Disk.left_since g.D.Disk.may_leave g.met.D.Disk.only_now LosesReserved loses_step c.args.disk.now c.remove_reserved.new.disk c.sync_folder.new.self removed c.sync_folder.ensures.time c.sync_folder.ensures.crash in
+    leaves_by g.D.Disk.moment g.D.Disk.left_since g.D.Disk.may_leave g.met.D.Disk.only_now c.args.disk.now c.sync_folder.new.self (AfterStep LosesReserved (g.D.Disk.may_leave c.args.disk.now)) (HasOldFiles (g.D.Disk.seen c.args.disk.now)) synced.moments (loses_means (g.D.Disk.seen c.args.disk.now) (g.D.Disk.may_leave c.args.disk.now) (c.requires.can promised))
 
 pub returns-clause-any_moment : goal.returns-clause-any_moment
 returns-clause-any_moment g c promised =
-    let asked = one_call g.D.Disk.moment g.D.Disk.left_since g.D.Disk.may_leave g.met.D.Disk.only_now LosesReserved loses_step c.args.disk.now c.list.new.self c.list.ensures.time (stays LosesReserved loses_step (g.D.Disk.may_leave c.args.disk.now) (g.D.Disk.may_leave c.list.new.self) c.list.ensures.crash) in
-    let to_removed = and_then g.D.Disk.moment g.D.Disk.left_since g.D.Disk.may_leave g.met.D.Disk.only_now LosesReserved loses_step c.args.disk.now c.list.new.self c.remove_reserved.new.disk asked (record { crash = c.remove_reserved.ensures.crash; moments = c.remove_reserved.ensures.any_moment }) in
-    let synced = one_call g.D.Disk.moment g.D.Disk.left_since g.D.Disk.may_leave g.met.D.Disk.only_now LosesReserved loses_step c.remove_reserved.new.disk c.sync_folder.new.self c.sync_folder.ensures.time (stays LosesReserved loses_step (g.D.Disk.may_leave c.remove_reserved.new.disk) (g.D.Disk.may_leave c.sync_folder.new.self) c.sync_folder.ensures.crash) in
-    let to_synced = and_then g.D.Disk.moment g.D.Disk.left_since g.D.Disk.may_leave g.met.D.Disk.only_now LosesReserved loses_step c.args.disk.now c.remove_reserved.new.disk c.sync_folder.new.self to_removed synced in
-    leaves_by g.D.Disk.moment g.D.Disk.left_since g.D.Disk.may_leave g.met.D.Disk.only_now c.args.disk.now c.sync_folder.new.self (AfterStep LosesReserved (g.D.Disk.may_leave c.args.disk.now)) (HasOldFiles (g.D.Disk.seen c.args.disk.now)) to_synced.moments (loses_means (g.D.Disk.seen c.args.disk.now) (g.D.Disk.may_leave c.args.disk.now) (c.requires.can promised))
+    let asked = one_shrinks g.D.Disk.moment g.D.Disk.left_since g.D.Disk.may_leave g.met.D.Disk.only_now LosesReserved loses_step c.args.disk.now c.list.new.self c.list.ensures.time c.list.ensures.crash in
+    let removed = and_then g.D.Disk.moment g.D.Disk.left_since g.D.Disk.may_leave g.met.D.Disk.only_now LosesReserved loses_step c.args.disk.now c.list.new.self c.remove_reserved.new.disk asked c.remove_reserved.ensures.steps in
+    let synced = then_shrinks g.D.Disk.moment g.D.Disk.left_since g.D.Disk.may_leave g.met.D.Disk.only_now LosesReserved loses_step c.args.disk.now c.remove_reserved.new.disk c.sync_folder.new.self removed c.sync_folder.ensures.time c.sync_folder.ensures.crash in
+    leaves_by g.D.Disk.moment g.D.Disk.left_since g.D.Disk.may_leave g.met.D.Disk.only_now c.args.disk.now c.sync_folder.new.self (AfterStep LosesReserved (g.D.Disk.may_leave c.args.disk.now)) (HasOldFiles (g.D.Disk.seen c.args.disk.now)) synced.moments (loses_means (g.D.Disk.seen c.args.disk.now) (g.D.Disk.may_leave c.args.disk.now) (c.requires.can promised))
 
 pub returns-clause-done : goal.returns-clause-done
 returns-clause-done g c promised =

@@ -2,7 +2,7 @@ use Rattle.std.proofs.Common.{◌≡◌, List, subst, sym, ◌∙◌, ap, Some}
 use Rattle.files_in_place.specs.Folder.{Name, Folder, list_name, lines_of, names_in}
 use Rattle.files_in_place.specs.Disk.{AfterStep, IsSynced}
 use Rattle.files_in_place.specs.Recovery.{KeepsRecovery, CanRename, AreListed, AreRenamed, IsFinished, StillRecovers}
-use Rattle.files_in_place.proofs.Runs.{one_call, and_then, stays, leaves_by}
+use Rattle.files_in_place.proofs.Runs.{one_shrinks, then_shrinks, and_then, leaves_by}
 use Rattle.files_in_place.proofs.Meaning.{goes_on_step}
 use Rattle.files_in_place.proofs.Ending.{can_rename, keeps_means, listed_each, taken_finished, settled}
 use Rattle.files_in_place.proofs.recovery.finish_list.Goals as goal
@@ -22,35 +22,33 @@ finish-requires-clause-listed g c promised =
 
 pub returns-in_err-list-clause-any_moment : goal.returns-in_err-list-clause-any_moment
 returns-in_err-list-clause-any_moment g c promised =
-    let asked = one_call g.D.Disk.moment g.D.Disk.left_since g.D.Disk.may_leave g.met.D.Disk.only_now KeepsRecovery goes_on_step c.args.disk.now c.read.new.self c.read.ensures.time (stays KeepsRecovery goes_on_step (g.D.Disk.may_leave c.args.disk.now) (g.D.Disk.may_leave c.read.new.self) c.read.ensures.crash) in
+    let asked = one_shrinks g.D.Disk.moment g.D.Disk.left_since g.D.Disk.may_leave g.met.D.Disk.only_now KeepsRecovery goes_on_step c.args.disk.now c.read.new.self c.read.ensures.time c.read.ensures.crash in
     leaves_by g.D.Disk.moment g.D.Disk.left_since g.D.Disk.may_leave g.met.D.Disk.only_now c.args.disk.now c.read.new.self (AfterStep KeepsRecovery (g.D.Disk.may_leave c.args.disk.now)) (StillRecovers (g.D.Disk.seen c.args.disk.now)) asked.moments (keeps_means (g.D.Disk.seen c.args.disk.now) (g.D.Disk.may_leave c.args.disk.now) (c.requires.synced promised).only)
 
 pub returns-in_err-names-clause-any_moment : goal.returns-in_err-names-clause-any_moment
 returns-in_err-names-clause-any_moment g c promised =
-    let asked = one_call g.D.Disk.moment g.D.Disk.left_since g.D.Disk.may_leave g.met.D.Disk.only_now KeepsRecovery goes_on_step c.args.disk.now c.read.new.self c.read.ensures.time (stays KeepsRecovery goes_on_step (g.D.Disk.may_leave c.args.disk.now) (g.D.Disk.may_leave c.read.new.self) c.read.ensures.crash) in
+    let asked = one_shrinks g.D.Disk.moment g.D.Disk.left_since g.D.Disk.may_leave g.met.D.Disk.only_now KeepsRecovery goes_on_step c.args.disk.now c.read.new.self c.read.ensures.time c.read.ensures.crash in
     leaves_by g.D.Disk.moment g.D.Disk.left_since g.D.Disk.may_leave g.met.D.Disk.only_now c.args.disk.now c.read.new.self (AfterStep KeepsRecovery (g.D.Disk.may_leave c.args.disk.now)) (StillRecovers (g.D.Disk.seen c.args.disk.now)) asked.moments (keeps_means (g.D.Disk.seen c.args.disk.now) (g.D.Disk.may_leave c.args.disk.now) (c.requires.synced promised).only)
 
 pub returns-in_err-finish-clause-any_moment : goal.returns-in_err-finish-clause-any_moment
 returns-in_err-finish-clause-any_moment g c promised =
-    let asked = one_call g.D.Disk.moment g.D.Disk.left_since g.D.Disk.may_leave g.met.D.Disk.only_now KeepsRecovery goes_on_step c.args.disk.now c.read.new.self c.read.ensures.time (stays KeepsRecovery goes_on_step (g.D.Disk.may_leave c.args.disk.now) (g.D.Disk.may_leave c.read.new.self) c.read.ensures.crash) in
-    let to_taken = and_then g.D.Disk.moment g.D.Disk.left_since g.D.Disk.may_leave g.met.D.Disk.only_now KeepsRecovery goes_on_step c.args.disk.now c.read.new.self c.finish.new.disk asked (record { crash = c.finish.ensures.crash promised; moments = c.finish.ensures.any_moment promised }) in
-    leaves_by g.D.Disk.moment g.D.Disk.left_since g.D.Disk.may_leave g.met.D.Disk.only_now c.args.disk.now c.finish.new.disk (AfterStep KeepsRecovery (g.D.Disk.may_leave c.args.disk.now)) (StillRecovers (g.D.Disk.seen c.args.disk.now)) to_taken.moments (keeps_means (g.D.Disk.seen c.args.disk.now) (g.D.Disk.may_leave c.args.disk.now) (c.requires.synced promised).only)
+    let asked = one_shrinks g.D.Disk.moment g.D.Disk.left_since g.D.Disk.may_leave g.met.D.Disk.only_now KeepsRecovery goes_on_step c.args.disk.now c.read.new.self c.read.ensures.time c.read.ensures.crash in
+    let taken = and_then g.D.Disk.moment g.D.Disk.left_since g.D.Disk.may_leave g.met.D.Disk.only_now KeepsRecovery goes_on_step c.args.disk.now c.read.new.self c.finish.new.disk asked (c.finish.ensures.steps promised) in
+    leaves_by g.D.Disk.moment g.D.Disk.left_since g.D.Disk.may_leave g.met.D.Disk.only_now c.args.disk.now c.finish.new.disk (AfterStep KeepsRecovery (g.D.Disk.may_leave c.args.disk.now)) (StillRecovers (g.D.Disk.seen c.args.disk.now)) taken.moments (keeps_means (g.D.Disk.seen c.args.disk.now) (g.D.Disk.may_leave c.args.disk.now) (c.requires.synced promised).only)
 
 pub returns-in_err-sync_folder-clause-any_moment : goal.returns-in_err-sync_folder-clause-any_moment
 returns-in_err-sync_folder-clause-any_moment g c promised =
-    let asked = one_call g.D.Disk.moment g.D.Disk.left_since g.D.Disk.may_leave g.met.D.Disk.only_now KeepsRecovery goes_on_step c.args.disk.now c.read.new.self c.read.ensures.time (stays KeepsRecovery goes_on_step (g.D.Disk.may_leave c.args.disk.now) (g.D.Disk.may_leave c.read.new.self) c.read.ensures.crash) in
-    let to_taken = and_then g.D.Disk.moment g.D.Disk.left_since g.D.Disk.may_leave g.met.D.Disk.only_now KeepsRecovery goes_on_step c.args.disk.now c.read.new.self c.finish.new.disk asked (record { crash = c.finish.ensures.crash promised; moments = c.finish.ensures.any_moment promised }) in
-    let synced = one_call g.D.Disk.moment g.D.Disk.left_since g.D.Disk.may_leave g.met.D.Disk.only_now KeepsRecovery goes_on_step c.finish.new.disk c.sync_folder.new.self c.sync_folder.ensures.time (stays KeepsRecovery goes_on_step (g.D.Disk.may_leave c.finish.new.disk) (g.D.Disk.may_leave c.sync_folder.new.self) c.sync_folder.ensures.crash) in
-    let to_synced = and_then g.D.Disk.moment g.D.Disk.left_since g.D.Disk.may_leave g.met.D.Disk.only_now KeepsRecovery goes_on_step c.args.disk.now c.finish.new.disk c.sync_folder.new.self to_taken synced in
-    leaves_by g.D.Disk.moment g.D.Disk.left_since g.D.Disk.may_leave g.met.D.Disk.only_now c.args.disk.now c.sync_folder.new.self (AfterStep KeepsRecovery (g.D.Disk.may_leave c.args.disk.now)) (StillRecovers (g.D.Disk.seen c.args.disk.now)) to_synced.moments (keeps_means (g.D.Disk.seen c.args.disk.now) (g.D.Disk.may_leave c.args.disk.now) (c.requires.synced promised).only)
+    let asked = one_shrinks g.D.Disk.moment g.D.Disk.left_since g.D.Disk.may_leave g.met.D.Disk.only_now KeepsRecovery goes_on_step c.args.disk.now c.read.new.self c.read.ensures.time c.read.ensures.crash in
+    let taken = and_then g.D.Disk.moment g.D.Disk.left_since g.D.Disk.may_leave g.met.D.Disk.only_now KeepsRecovery goes_on_step c.args.disk.now c.read.new.self c.finish.new.disk asked (c.finish.ensures.steps promised) in
+    let synced = then_shrinks g.D.Disk.moment g.D.Disk.left_since g.D.Disk.may_leave g.met.D.Disk.only_now KeepsRecovery goes_on_step c.args.disk.now c.finish.new.disk c.sync_folder.new.self taken c.sync_folder.ensures.time c.sync_folder.ensures.crash in
+    leaves_by g.D.Disk.moment g.D.Disk.left_since g.D.Disk.may_leave g.met.D.Disk.only_now c.args.disk.now c.sync_folder.new.self (AfterStep KeepsRecovery (g.D.Disk.may_leave c.args.disk.now)) (StillRecovers (g.D.Disk.seen c.args.disk.now)) synced.moments (keeps_means (g.D.Disk.seen c.args.disk.now) (g.D.Disk.may_leave c.args.disk.now) (c.requires.synced promised).only)
 
 pub returns-clause-any_moment : goal.returns-clause-any_moment
 returns-clause-any_moment g c promised =
-    let asked = one_call g.D.Disk.moment g.D.Disk.left_since g.D.Disk.may_leave g.met.D.Disk.only_now KeepsRecovery goes_on_step c.args.disk.now c.read.new.self c.read.ensures.time (stays KeepsRecovery goes_on_step (g.D.Disk.may_leave c.args.disk.now) (g.D.Disk.may_leave c.read.new.self) c.read.ensures.crash) in
-    let to_taken = and_then g.D.Disk.moment g.D.Disk.left_since g.D.Disk.may_leave g.met.D.Disk.only_now KeepsRecovery goes_on_step c.args.disk.now c.read.new.self c.finish.new.disk asked (record { crash = c.finish.ensures.crash promised; moments = c.finish.ensures.any_moment promised }) in
-    let synced = one_call g.D.Disk.moment g.D.Disk.left_since g.D.Disk.may_leave g.met.D.Disk.only_now KeepsRecovery goes_on_step c.finish.new.disk c.sync_folder.new.self c.sync_folder.ensures.time (stays KeepsRecovery goes_on_step (g.D.Disk.may_leave c.finish.new.disk) (g.D.Disk.may_leave c.sync_folder.new.self) c.sync_folder.ensures.crash) in
-    let to_synced = and_then g.D.Disk.moment g.D.Disk.left_since g.D.Disk.may_leave g.met.D.Disk.only_now KeepsRecovery goes_on_step c.args.disk.now c.finish.new.disk c.sync_folder.new.self to_taken synced in
-    leaves_by g.D.Disk.moment g.D.Disk.left_since g.D.Disk.may_leave g.met.D.Disk.only_now c.args.disk.now c.sync_folder.new.self (AfterStep KeepsRecovery (g.D.Disk.may_leave c.args.disk.now)) (StillRecovers (g.D.Disk.seen c.args.disk.now)) to_synced.moments (keeps_means (g.D.Disk.seen c.args.disk.now) (g.D.Disk.may_leave c.args.disk.now) (c.requires.synced promised).only)
+    let asked = one_shrinks g.D.Disk.moment g.D.Disk.left_since g.D.Disk.may_leave g.met.D.Disk.only_now KeepsRecovery goes_on_step c.args.disk.now c.read.new.self c.read.ensures.time c.read.ensures.crash in
+    let taken = and_then g.D.Disk.moment g.D.Disk.left_since g.D.Disk.may_leave g.met.D.Disk.only_now KeepsRecovery goes_on_step c.args.disk.now c.read.new.self c.finish.new.disk asked (c.finish.ensures.steps promised) in
+    let synced = then_shrinks g.D.Disk.moment g.D.Disk.left_since g.D.Disk.may_leave g.met.D.Disk.only_now KeepsRecovery goes_on_step c.args.disk.now c.finish.new.disk c.sync_folder.new.self taken c.sync_folder.ensures.time c.sync_folder.ensures.crash in
+    leaves_by g.D.Disk.moment g.D.Disk.left_since g.D.Disk.may_leave g.met.D.Disk.only_now c.args.disk.now c.sync_folder.new.self (AfterStep KeepsRecovery (g.D.Disk.may_leave c.args.disk.now)) (StillRecovers (g.D.Disk.seen c.args.disk.now)) synced.moments (keeps_means (g.D.Disk.seen c.args.disk.now) (g.D.Disk.may_leave c.args.disk.now) (c.requires.synced promised).only)
 
 pub returns-clause-finished : goal.returns-clause-finished
 returns-clause-finished g c promised =

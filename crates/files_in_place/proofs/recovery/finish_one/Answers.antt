@@ -2,7 +2,7 @@ use Rattle.std.proofs.Common.{◌≡◌, false, IsSome, rules, subst, sym, inl, 
 use Rattle.files_in_place.specs.Folder.{Name, Folder, is_reserved, temporary}
 use Rattle.files_in_place.specs.Disk.{SameButTwo, HasMoved, IsDurable}
 use Rattle.files_in_place.specs.Recovery.{KeepsRecovery}
-use Rattle.files_in_place.proofs.Runs.{one_call, and_then, stays}
+use Rattle.files_in_place.proofs.Runs.{one_shrinks, then_call}
 use Rattle.files_in_place.proofs.Meaning.{same_name, goes_on_step, can_shrinks, finish_kept, finish_follows, finish_seen, finish_can}
 use Rattle.files_in_place.proofs.recovery.finish_one.Goals as goal
 
@@ -16,53 +16,27 @@ rename-requires-clause-durable g c promised =
     subst (λ (f : Folder). IsDurable c.as_slice-2.result.now f (g.D.Disk.may_leave c.has.new.self)) (sym c.has.ensures.seen)
     (finish_kept c.args.name.now (g.D.Disk.seen c.args.disk.now) (g.D.Disk.may_leave c.has.new.self) can free (c.requires.listed promised) there c.as_slice-2.result.now lies)
 
-pub returns-in_err-rename-clause-crash : goal.returns-in_err-rename-clause-crash
-returns-in_err-rename-clause-crash g c promised =
+pub returns-in_err-rename-clause-steps : goal.returns-in_err-rename-clause-steps
+returns-in_err-rename-clause-steps g c promised =
     let free : is_reserved c.args.name.now ≡ false = search rules in
     let lies : c.as_slice-2.result.now ≡ temporary c.args.name.now = search rules in
     let found = c.in_ok-has.ensures.found promised in
     let there : IsSome (g.D.Disk.seen c.args.disk.now (temporary c.args.name.now)) = search (rules, found) in
     let can = can_shrinks (g.D.Disk.seen c.args.disk.now) (g.D.Disk.may_leave c.args.disk.now) (g.D.Disk.may_leave c.has.new.self) (c.requires.can promised) c.has.ensures.crash in
-    let asked = one_call g.D.Disk.moment g.D.Disk.left_since g.D.Disk.may_leave g.met.D.Disk.only_now KeepsRecovery goes_on_step c.args.disk.now c.has.new.self c.has.ensures.time (stays KeepsRecovery goes_on_step (g.D.Disk.may_leave c.args.disk.now) (g.D.Disk.may_leave c.has.new.self) c.has.ensures.crash) in
-    let taken = one_call g.D.Disk.moment g.D.Disk.left_since g.D.Disk.may_leave g.met.D.Disk.only_now KeepsRecovery goes_on_step c.has.new.self c.rename.new.self c.rename.ensures.time (finish_follows c.args.name.now (g.D.Disk.seen c.args.disk.now) (g.D.Disk.may_leave c.has.new.self) can free (c.requires.listed promised) there c.as_slice-2.result.now (g.D.Disk.may_leave c.rename.new.self) lies c.rename.ensures.crash) in
-    let both = and_then g.D.Disk.moment g.D.Disk.left_since g.D.Disk.may_leave g.met.D.Disk.only_now KeepsRecovery goes_on_step c.args.disk.now c.has.new.self c.rename.new.self asked taken in
-    both.crash
+    let asked = one_shrinks g.D.Disk.moment g.D.Disk.left_since g.D.Disk.may_leave g.met.D.Disk.only_now KeepsRecovery goes_on_step c.args.disk.now c.has.new.self c.has.ensures.time c.has.ensures.crash in
+    then_call g.D.Disk.moment g.D.Disk.left_since g.D.Disk.may_leave g.met.D.Disk.only_now KeepsRecovery goes_on_step c.args.disk.now c.has.new.self c.rename.new.self asked c.rename.ensures.time
+    (finish_follows c.args.name.now (g.D.Disk.seen c.args.disk.now) (g.D.Disk.may_leave c.has.new.self) can free (c.requires.listed promised) there c.as_slice-2.result.now (g.D.Disk.may_leave c.rename.new.self) lies c.rename.ensures.crash)
 
-pub returns-in_err-rename-clause-any_moment : goal.returns-in_err-rename-clause-any_moment
-returns-in_err-rename-clause-any_moment g c promised =
+pub returns-clause-steps : goal.returns-clause-steps
+returns-clause-steps g c promised =
     let free : is_reserved c.args.name.now ≡ false = search rules in
     let lies : c.as_slice-2.result.now ≡ temporary c.args.name.now = search rules in
     let found = c.in_ok-has.ensures.found promised in
     let there : IsSome (g.D.Disk.seen c.args.disk.now (temporary c.args.name.now)) = search (rules, found) in
     let can = can_shrinks (g.D.Disk.seen c.args.disk.now) (g.D.Disk.may_leave c.args.disk.now) (g.D.Disk.may_leave c.has.new.self) (c.requires.can promised) c.has.ensures.crash in
-    let asked = one_call g.D.Disk.moment g.D.Disk.left_since g.D.Disk.may_leave g.met.D.Disk.only_now KeepsRecovery goes_on_step c.args.disk.now c.has.new.self c.has.ensures.time (stays KeepsRecovery goes_on_step (g.D.Disk.may_leave c.args.disk.now) (g.D.Disk.may_leave c.has.new.self) c.has.ensures.crash) in
-    let taken = one_call g.D.Disk.moment g.D.Disk.left_since g.D.Disk.may_leave g.met.D.Disk.only_now KeepsRecovery goes_on_step c.has.new.self c.rename.new.self c.rename.ensures.time (finish_follows c.args.name.now (g.D.Disk.seen c.args.disk.now) (g.D.Disk.may_leave c.has.new.self) can free (c.requires.listed promised) there c.as_slice-2.result.now (g.D.Disk.may_leave c.rename.new.self) lies c.rename.ensures.crash) in
-    let both = and_then g.D.Disk.moment g.D.Disk.left_since g.D.Disk.may_leave g.met.D.Disk.only_now KeepsRecovery goes_on_step c.args.disk.now c.has.new.self c.rename.new.self asked taken in
-    both.moments
-
-pub returns-clause-crash : goal.returns-clause-crash
-returns-clause-crash g c promised =
-    let free : is_reserved c.args.name.now ≡ false = search rules in
-    let lies : c.as_slice-2.result.now ≡ temporary c.args.name.now = search rules in
-    let found = c.in_ok-has.ensures.found promised in
-    let there : IsSome (g.D.Disk.seen c.args.disk.now (temporary c.args.name.now)) = search (rules, found) in
-    let can = can_shrinks (g.D.Disk.seen c.args.disk.now) (g.D.Disk.may_leave c.args.disk.now) (g.D.Disk.may_leave c.has.new.self) (c.requires.can promised) c.has.ensures.crash in
-    let asked = one_call g.D.Disk.moment g.D.Disk.left_since g.D.Disk.may_leave g.met.D.Disk.only_now KeepsRecovery goes_on_step c.args.disk.now c.has.new.self c.has.ensures.time (stays KeepsRecovery goes_on_step (g.D.Disk.may_leave c.args.disk.now) (g.D.Disk.may_leave c.has.new.self) c.has.ensures.crash) in
-    let taken = one_call g.D.Disk.moment g.D.Disk.left_since g.D.Disk.may_leave g.met.D.Disk.only_now KeepsRecovery goes_on_step c.has.new.self c.rename.new.self c.rename.ensures.time (finish_follows c.args.name.now (g.D.Disk.seen c.args.disk.now) (g.D.Disk.may_leave c.has.new.self) can free (c.requires.listed promised) there c.as_slice-2.result.now (g.D.Disk.may_leave c.rename.new.self) lies c.rename.ensures.crash) in
-    let both = and_then g.D.Disk.moment g.D.Disk.left_since g.D.Disk.may_leave g.met.D.Disk.only_now KeepsRecovery goes_on_step c.args.disk.now c.has.new.self c.rename.new.self asked taken in
-    both.crash
-
-pub returns-clause-any_moment : goal.returns-clause-any_moment
-returns-clause-any_moment g c promised =
-    let free : is_reserved c.args.name.now ≡ false = search rules in
-    let lies : c.as_slice-2.result.now ≡ temporary c.args.name.now = search rules in
-    let found = c.in_ok-has.ensures.found promised in
-    let there : IsSome (g.D.Disk.seen c.args.disk.now (temporary c.args.name.now)) = search (rules, found) in
-    let can = can_shrinks (g.D.Disk.seen c.args.disk.now) (g.D.Disk.may_leave c.args.disk.now) (g.D.Disk.may_leave c.has.new.self) (c.requires.can promised) c.has.ensures.crash in
-    let asked = one_call g.D.Disk.moment g.D.Disk.left_since g.D.Disk.may_leave g.met.D.Disk.only_now KeepsRecovery goes_on_step c.args.disk.now c.has.new.self c.has.ensures.time (stays KeepsRecovery goes_on_step (g.D.Disk.may_leave c.args.disk.now) (g.D.Disk.may_leave c.has.new.self) c.has.ensures.crash) in
-    let taken = one_call g.D.Disk.moment g.D.Disk.left_since g.D.Disk.may_leave g.met.D.Disk.only_now KeepsRecovery goes_on_step c.has.new.self c.rename.new.self c.rename.ensures.time (finish_follows c.args.name.now (g.D.Disk.seen c.args.disk.now) (g.D.Disk.may_leave c.has.new.self) can free (c.requires.listed promised) there c.as_slice-2.result.now (g.D.Disk.may_leave c.rename.new.self) lies c.rename.ensures.crash) in
-    let both = and_then g.D.Disk.moment g.D.Disk.left_since g.D.Disk.may_leave g.met.D.Disk.only_now KeepsRecovery goes_on_step c.args.disk.now c.has.new.self c.rename.new.self asked taken in
-    both.moments
+    let asked = one_shrinks g.D.Disk.moment g.D.Disk.left_since g.D.Disk.may_leave g.met.D.Disk.only_now KeepsRecovery goes_on_step c.args.disk.now c.has.new.self c.has.ensures.time c.has.ensures.crash in
+    then_call g.D.Disk.moment g.D.Disk.left_since g.D.Disk.may_leave g.met.D.Disk.only_now KeepsRecovery goes_on_step c.args.disk.now c.has.new.self c.rename.new.self asked c.rename.ensures.time
+    (finish_follows c.args.name.now (g.D.Disk.seen c.args.disk.now) (g.D.Disk.may_leave c.has.new.self) can free (c.requires.listed promised) there c.as_slice-2.result.now (g.D.Disk.may_leave c.rename.new.self) lies c.rename.ensures.crash)
 
 pub returns-clause-keeps : goal.returns-clause-keeps
 returns-clause-keeps g c promised =

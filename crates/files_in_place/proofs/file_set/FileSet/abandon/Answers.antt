@@ -1,23 +1,23 @@
-use Rattle.std.proofs.Common.{◌≡◌, ◌≢◌, rules, subst}
+use Rattle.std.proofs.Common.{◌≡◌, ◌≢◌, None, rules, subst}
 use Rattle.files_in_place.specs.declared.phase.Phase.TheVariants.{Ended}
 use Rattle.files_in_place.specs.Folder.{Name, without_reserved}
 use Rattle.files_in_place.specs.Disk.{LeavesOnly}
 use Rattle.files_in_place.specs.Recovery.{HasOldFiles}
 use Rattle.files_in_place.specs.Staged.{Set}
 use Rattle.files_in_place.proofs.Uncommitted.{staged_none, un_can_clean}
-use Rattle.files_in_place.proofs.Sets.{held_left, abandoned_clean}
+use Rattle.files_in_place.proofs.Sets.{in_staging, in_ended, abandoned_clean}
 use Rattle.files_in_place.proofs.file_set.FileSet.abandon.Goals as goal
 
 pub clean-requires-clause-whole : goal.clean-requires-clause-whole
 clean-requires-clause-whole g c promised =
     let going : c.self.inside.phase ≢ Ended = search rules in
-    let left = held_left c.self.inside.phase c.self.inside.names.items c.self.inside.current (g.D.Disk.seen c.self.inside.disk) (g.D.Disk.is_whole c.self.inside.disk) (g.D.Disk.is_new c.self.inside.disk) (g.D.Disk.may_leave c.self.inside.disk) going (c.self.invariant promised) in
+    let left = (c.self.invariant promised).left going in
     left.whole
 
 pub clean-requires-clause-can : goal.clean-requires-clause-can
 clean-requires-clause-can g c promised =
     let going : c.self.inside.phase ≢ Ended = search rules in
-    let left = held_left c.self.inside.phase c.self.inside.names.items c.self.inside.current (g.D.Disk.seen c.self.inside.disk) (g.D.Disk.is_whole c.self.inside.disk) (g.D.Disk.is_new c.self.inside.disk) (g.D.Disk.may_leave c.self.inside.disk) going (c.self.invariant promised) in
+    let left = (c.self.invariant promised).left going in
     un_can_clean (g.D.Disk.seen c.self.inside.disk) (g.D.Disk.may_leave c.self.inside.disk) left.uncommitted
 
 pub returns-in_err-clean-clause-any_moment : goal.returns-in_err-clean-clause-any_moment
@@ -36,5 +36,10 @@ returns-clause-done g c promised =
 
 pub invariant_of-self-2 : goal.invariant_of-self-2
 invariant_of-self-2 g c promised =
-    staged_none c.new.result.items (g.D.Disk.seen c.clean.new.disk) (g.D.Disk.is_whole c.clean.new.disk) (g.D.Disk.is_new c.clean.new.disk) (g.D.Disk.may_leave c.clean.new.disk) c.new.ensures.items
-    (abandoned_clean (g.D.Disk.seen c.self.inside.disk) (g.D.Disk.seen c.clean.new.disk) (c.in_ok-clean.ensures.done promised)) (c.in_ok-clean.ensures.synced promised)
+    in_staging c.new.result.items None (g.D.Disk.seen c.clean.new.disk) (g.D.Disk.is_whole c.clean.new.disk) (g.D.Disk.is_new c.clean.new.disk) (g.D.Disk.may_leave c.clean.new.disk)
+    (staged_none c.new.result.items (g.D.Disk.seen c.clean.new.disk) (g.D.Disk.is_whole c.clean.new.disk) (g.D.Disk.is_new c.clean.new.disk) (g.D.Disk.may_leave c.clean.new.disk) c.new.ensures.items
+    (abandoned_clean (g.D.Disk.seen c.self.inside.disk) (g.D.Disk.seen c.clean.new.disk) (c.in_ok-clean.ensures.done promised)) (c.in_ok-clean.ensures.synced promised))
+
+pub invariant_of-self : goal.invariant_of-self
+invariant_of-self g c promised =
+    in_ended c.self.inside.names.items c.self.inside.current (g.D.Disk.seen c.clean.new.disk) (g.D.Disk.is_whole c.clean.new.disk) (g.D.Disk.is_new c.clean.new.disk) (g.D.Disk.may_leave c.clean.new.disk)

@@ -1,19 +1,16 @@
-use Rattle.std.proofs.Common.{◌≡◌, List, rules, subst, sym, ◌∙◌, ap}
+use Rattle.std.proofs.Common.{◌≡◌, List, None, rules, subst, sym, ◌∙◌, ap}
 use Rattle.files_in_place.specs.declared.phase.Phase.TheVariants.{Staging}
-use Rattle.files_in_place.specs.Folder.{Name, Folder, SameBut, temporary, list_name, list_bytes}
+use Rattle.files_in_place.specs.Folder.{Name, SameBut, temporary, list_name, list_bytes}
 use Rattle.files_in_place.specs.Disk.{LeavesOnly}
-use Rattle.files_in_place.specs.Recovery.{HasOldFiles}
-use Rattle.files_in_place.specs.Staged.{Set, AreStaged, AreReady, IsPut, IsOldOrNew, SameUnstaged, with_staged}
-use Rattle.files_in_place.proofs.Runs.{started, runs_on, leaves_by}
+use Rattle.files_in_place.specs.Staged.{Set, AreStaged, AreReady, IsOldOrNew, SameUnstaged, with_staged}
 use Rattle.files_in_place.proofs.Uncommitted.{staged_none}
-use Rattle.files_in_place.proofs.Committing.{put_old}
-use Rattle.files_in_place.proofs.Sets.{held_staged, with_staged_same, put_from, put_of_old, put_clean}
+use Rattle.files_in_place.proofs.Sets.{in_staging, in_failed, in_ended, with_staged_same, put_clean, put_none, put_listed, put_all, put_either, put_others}
 use Rattle.files_in_place.proofs.file_set.FileSet.finish.Goals as goal
 
 pub write_list-requires-clause-staged : goal.write_list-requires-clause-staged
 write_list-requires-clause-staged g c promised =
     let phase : c.self.inside.phase ≡ Staging = search rules in
-    let staged = held_staged c.self.inside.phase c.self.inside.names.items c.self.inside.current (g.D.Disk.seen c.self.inside.disk) (g.D.Disk.is_whole c.self.inside.disk) (g.D.Disk.is_new c.self.inside.disk) (g.D.Disk.may_leave c.self.inside.disk) phase (c.self.invariant promised) in
+    let staged = (c.self.invariant promised).staged phase in
     let names : c.deref-2.result.now ≡ c.self.inside.names.items = c.deref-2.ensures.value in
     subst (λ (l : List Name). AreStaged l c.self.inside.current (g.D.Disk.seen c.self.inside.disk) (g.D.Disk.is_whole c.self.inside.disk) (g.D.Disk.is_new c.self.inside.disk) (g.D.Disk.may_leave c.self.inside.disk)) (sym names) staged
 
@@ -32,103 +29,61 @@ commit-requires g c = record {
 pub returns-in_err-list-clause-any_moment : goal.returns-in_err-list-clause-any_moment
 returns-in_err-list-clause-any_moment g c promised staging =
     let phase : c.self.inside.phase ≡ Staging = ap (λ (s : Set g.row.D.Denot). s.phase) c.self.view_is ∙ staging in
-    let staged = held_staged c.self.inside.phase c.self.inside.names.items c.self.inside.current (g.D.Disk.seen c.self.inside.disk) (g.D.Disk.is_whole c.self.inside.disk) (g.D.Disk.is_new c.self.inside.disk) (g.D.Disk.may_leave c.self.inside.disk) phase (c.self.invariant promised) in
-    let P : Folder → Type 0 = IsPut c.self.inside.names.items (g.D.Disk.seen c.self.inside.disk) in
-    let start = started g.D.Disk.moment g.D.Disk.left_since g.D.Disk.may_leave g.met.D.Disk.only_now c.self.inside.disk P (put_old c.self.inside.names.items (g.D.Disk.seen c.self.inside.disk) (g.D.Disk.may_leave c.self.inside.disk) staged.uncommitted) in
-    let left = leaves_by g.D.Disk.moment g.D.Disk.left_since g.D.Disk.may_leave g.met.D.Disk.only_now c.self.inside.disk c.self.inside.disk P (IsOldOrNew c.self.inside.names.items (g.D.Disk.seen c.self.inside.disk)) start (λ f is. is.either) in
+    let put = put_none g.D.Disk.moment g.D.Disk.left_since g.D.Disk.seen g.D.Disk.is_whole g.D.Disk.may_leave g.met.D.Disk.only_now c.self.inside.names.items c.self.inside.disk ((c.self.invariant promised).staged phase).uncommitted in
     subst (λ (s : Set g.row.D.Denot). LeavesOnly g.D.Disk.moment g.D.Disk.left_since s.disk s.disk (IsOldOrNew s.names (g.D.Disk.seen s.disk))) c.self.view_is
-    left
+    (put_either g.D.Disk.moment g.D.Disk.left_since g.D.Disk.seen g.D.Disk.is_whole g.D.Disk.may_leave g.met.D.Disk.only_now c.self.inside.names.items c.self.inside.disk c.self.inside.disk put)
 
 pub returns-in_err-list-clause-others : goal.returns-in_err-list-clause-others
 returns-in_err-list-clause-others g c promised staging =
     let phase : c.self.inside.phase ≡ Staging = ap (λ (s : Set g.row.D.Denot). s.phase) c.self.view_is ∙ staging in
-    let staged = held_staged c.self.inside.phase c.self.inside.names.items c.self.inside.current (g.D.Disk.seen c.self.inside.disk) (g.D.Disk.is_whole c.self.inside.disk) (g.D.Disk.is_new c.self.inside.disk) (g.D.Disk.may_leave c.self.inside.disk) phase (c.self.invariant promised) in
-    let P : Folder → Type 0 = IsPut c.self.inside.names.items (g.D.Disk.seen c.self.inside.disk) in
-    let start = started g.D.Disk.moment g.D.Disk.left_since g.D.Disk.may_leave g.met.D.Disk.only_now c.self.inside.disk P (put_old c.self.inside.names.items (g.D.Disk.seen c.self.inside.disk) (g.D.Disk.may_leave c.self.inside.disk) staged.uncommitted) in
-    let left = leaves_by g.D.Disk.moment g.D.Disk.left_since g.D.Disk.may_leave g.met.D.Disk.only_now c.self.inside.disk c.self.inside.disk P (SameUnstaged c.self.inside.names.items (g.D.Disk.seen c.self.inside.disk)) start (λ f is. is.others) in
+    let put = put_none g.D.Disk.moment g.D.Disk.left_since g.D.Disk.seen g.D.Disk.is_whole g.D.Disk.may_leave g.met.D.Disk.only_now c.self.inside.names.items c.self.inside.disk ((c.self.invariant promised).staged phase).uncommitted in
     subst (λ (s : Set g.row.D.Denot). LeavesOnly g.D.Disk.moment g.D.Disk.left_since s.disk s.disk (SameUnstaged s.names (g.D.Disk.seen s.disk))) c.self.view_is
-    left
+    (put_others g.D.Disk.moment g.D.Disk.left_since g.D.Disk.seen g.D.Disk.is_whole g.D.Disk.may_leave g.met.D.Disk.only_now c.self.inside.names.items c.self.inside.disk c.self.inside.disk put)
 
 pub returns-in_err-write_list-clause-any_moment : goal.returns-in_err-write_list-clause-any_moment
 returns-in_err-write_list-clause-any_moment g c promised staging =
-    let phase : c.self.inside.phase ≡ Staging = search rules in
-    let staged = held_staged c.self.inside.phase c.self.inside.names.items c.self.inside.current (g.D.Disk.seen c.self.inside.disk) (g.D.Disk.is_whole c.self.inside.disk) (g.D.Disk.is_new c.self.inside.disk) (g.D.Disk.may_leave c.self.inside.disk) phase (c.self.invariant promised) in
-    let P : Folder → Type 0 = IsPut c.self.inside.names.items (g.D.Disk.seen c.self.inside.disk) in
-    let written = leaves_by g.D.Disk.moment g.D.Disk.left_since g.D.Disk.may_leave g.met.D.Disk.only_now c.self.inside.disk c.write_list.new.disk (HasOldFiles (g.D.Disk.seen c.self.inside.disk)) P (c.write_list.ensures.run promised).moments (put_of_old c.self.inside.names.items (g.D.Disk.seen c.self.inside.disk)) in
-    let left = leaves_by g.D.Disk.moment g.D.Disk.left_since g.D.Disk.may_leave g.met.D.Disk.only_now c.self.inside.disk c.write_list.new.disk P (IsOldOrNew c.self.inside.names.items (g.D.Disk.seen c.self.inside.disk)) written (λ f is. is.either) in
+    let put = put_listed g.D.Disk.moment g.D.Disk.left_since g.D.Disk.seen g.D.Disk.is_whole g.D.Disk.may_leave g.met.D.Disk.only_now c.self.inside.names.items c.self.inside.disk c.write_list.new.disk (c.write_list.ensures.run promised) in
     subst (λ (s : Set g.row.D.Denot). LeavesOnly g.D.Disk.moment g.D.Disk.left_since s.disk c.write_list.new.disk (IsOldOrNew s.names (g.D.Disk.seen s.disk))) c.self.view_is
-    left
+    (put_either g.D.Disk.moment g.D.Disk.left_since g.D.Disk.seen g.D.Disk.is_whole g.D.Disk.may_leave g.met.D.Disk.only_now c.self.inside.names.items c.self.inside.disk c.write_list.new.disk put)
 
 pub returns-in_err-write_list-clause-others : goal.returns-in_err-write_list-clause-others
 returns-in_err-write_list-clause-others g c promised staging =
-    let phase : c.self.inside.phase ≡ Staging = search rules in
-    let staged = held_staged c.self.inside.phase c.self.inside.names.items c.self.inside.current (g.D.Disk.seen c.self.inside.disk) (g.D.Disk.is_whole c.self.inside.disk) (g.D.Disk.is_new c.self.inside.disk) (g.D.Disk.may_leave c.self.inside.disk) phase (c.self.invariant promised) in
-    let P : Folder → Type 0 = IsPut c.self.inside.names.items (g.D.Disk.seen c.self.inside.disk) in
-    let written = leaves_by g.D.Disk.moment g.D.Disk.left_since g.D.Disk.may_leave g.met.D.Disk.only_now c.self.inside.disk c.write_list.new.disk (HasOldFiles (g.D.Disk.seen c.self.inside.disk)) P (c.write_list.ensures.run promised).moments (put_of_old c.self.inside.names.items (g.D.Disk.seen c.self.inside.disk)) in
-    let left = leaves_by g.D.Disk.moment g.D.Disk.left_since g.D.Disk.may_leave g.met.D.Disk.only_now c.self.inside.disk c.write_list.new.disk P (SameUnstaged c.self.inside.names.items (g.D.Disk.seen c.self.inside.disk)) written (λ f is. is.others) in
+    let put = put_listed g.D.Disk.moment g.D.Disk.left_since g.D.Disk.seen g.D.Disk.is_whole g.D.Disk.may_leave g.met.D.Disk.only_now c.self.inside.names.items c.self.inside.disk c.write_list.new.disk (c.write_list.ensures.run promised) in
     subst (λ (s : Set g.row.D.Denot). LeavesOnly g.D.Disk.moment g.D.Disk.left_since s.disk c.write_list.new.disk (SameUnstaged s.names (g.D.Disk.seen s.disk))) c.self.view_is
-    left
+    (put_others g.D.Disk.moment g.D.Disk.left_since g.D.Disk.seen g.D.Disk.is_whole g.D.Disk.may_leave g.met.D.Disk.only_now c.self.inside.names.items c.self.inside.disk c.write_list.new.disk put)
 
 pub returns-in_err-commit-clause-any_moment : goal.returns-in_err-commit-clause-any_moment
 returns-in_err-commit-clause-any_moment g c promised staging =
     let phase : c.self.inside.phase ≡ Staging = search rules in
-    let staged = held_staged c.self.inside.phase c.self.inside.names.items c.self.inside.current (g.D.Disk.seen c.self.inside.disk) (g.D.Disk.is_whole c.self.inside.disk) (g.D.Disk.is_new c.self.inside.disk) (g.D.Disk.may_leave c.self.inside.disk) phase (c.self.invariant promised) in
-    let listed : c.deref-4.result.now ≡ c.self.inside.names.items = c.deref-4.ensures.value in
-    let others : SameBut (temporary list_name) (g.D.Disk.seen c.self.inside.disk) (g.D.Disk.seen c.write_list.new.disk) = c.write_list.ensures.others in
-    let P : Folder → Type 0 = IsPut c.self.inside.names.items (g.D.Disk.seen c.self.inside.disk) in
-    let written = leaves_by g.D.Disk.moment g.D.Disk.left_since g.D.Disk.may_leave g.met.D.Disk.only_now c.self.inside.disk c.write_list.new.disk (HasOldFiles (g.D.Disk.seen c.self.inside.disk)) P (c.write_list.ensures.run promised).moments (put_of_old c.self.inside.names.items (g.D.Disk.seen c.self.inside.disk)) in
-    let put = runs_on g.D.Disk.moment g.D.Disk.left_since g.D.Disk.may_leave g.met.D.Disk.only_now c.self.inside.disk c.write_list.new.disk c.commit.new.disk P (IsPut c.deref-4.result.now (g.D.Disk.seen c.write_list.new.disk)) written (c.commit.ensures.any_moment promised)
-    (λ f is. put_from c.self.inside.names.items (g.D.Disk.seen c.self.inside.disk) (g.D.Disk.seen c.write_list.new.disk) f staged.fit others (subst (λ (l : List Name). IsPut l (g.D.Disk.seen c.write_list.new.disk) f) listed is)) in
-    let left = leaves_by g.D.Disk.moment g.D.Disk.left_since g.D.Disk.may_leave g.met.D.Disk.only_now c.self.inside.disk c.commit.new.disk P (IsOldOrNew c.self.inside.names.items (g.D.Disk.seen c.self.inside.disk)) put (λ f is. is.either) in
+    let put = put_all g.D.Disk.moment g.D.Disk.left_since g.D.Disk.seen g.D.Disk.is_whole g.D.Disk.may_leave g.met.D.Disk.only_now c.self.inside.names.items c.deref-4.result.now c.self.inside.disk c.write_list.new.disk c.commit.new.disk c.deref-4.ensures.value ((c.self.invariant promised).staged phase).fit c.write_list.ensures.others (c.write_list.ensures.run promised) (c.commit.ensures.any_moment promised) in
     subst (λ (s : Set g.row.D.Denot). LeavesOnly g.D.Disk.moment g.D.Disk.left_since s.disk c.commit.new.disk (IsOldOrNew s.names (g.D.Disk.seen s.disk))) c.self.view_is
-    left
+    (put_either g.D.Disk.moment g.D.Disk.left_since g.D.Disk.seen g.D.Disk.is_whole g.D.Disk.may_leave g.met.D.Disk.only_now c.self.inside.names.items c.self.inside.disk c.commit.new.disk put)
 
 pub returns-in_err-commit-clause-others : goal.returns-in_err-commit-clause-others
 returns-in_err-commit-clause-others g c promised staging =
     let phase : c.self.inside.phase ≡ Staging = search rules in
-    let staged = held_staged c.self.inside.phase c.self.inside.names.items c.self.inside.current (g.D.Disk.seen c.self.inside.disk) (g.D.Disk.is_whole c.self.inside.disk) (g.D.Disk.is_new c.self.inside.disk) (g.D.Disk.may_leave c.self.inside.disk) phase (c.self.invariant promised) in
-    let listed : c.deref-4.result.now ≡ c.self.inside.names.items = c.deref-4.ensures.value in
-    let others : SameBut (temporary list_name) (g.D.Disk.seen c.self.inside.disk) (g.D.Disk.seen c.write_list.new.disk) = c.write_list.ensures.others in
-    let P : Folder → Type 0 = IsPut c.self.inside.names.items (g.D.Disk.seen c.self.inside.disk) in
-    let written = leaves_by g.D.Disk.moment g.D.Disk.left_since g.D.Disk.may_leave g.met.D.Disk.only_now c.self.inside.disk c.write_list.new.disk (HasOldFiles (g.D.Disk.seen c.self.inside.disk)) P (c.write_list.ensures.run promised).moments (put_of_old c.self.inside.names.items (g.D.Disk.seen c.self.inside.disk)) in
-    let put = runs_on g.D.Disk.moment g.D.Disk.left_since g.D.Disk.may_leave g.met.D.Disk.only_now c.self.inside.disk c.write_list.new.disk c.commit.new.disk P (IsPut c.deref-4.result.now (g.D.Disk.seen c.write_list.new.disk)) written (c.commit.ensures.any_moment promised)
-    (λ f is. put_from c.self.inside.names.items (g.D.Disk.seen c.self.inside.disk) (g.D.Disk.seen c.write_list.new.disk) f staged.fit others (subst (λ (l : List Name). IsPut l (g.D.Disk.seen c.write_list.new.disk) f) listed is)) in
-    let left = leaves_by g.D.Disk.moment g.D.Disk.left_since g.D.Disk.may_leave g.met.D.Disk.only_now c.self.inside.disk c.commit.new.disk P (SameUnstaged c.self.inside.names.items (g.D.Disk.seen c.self.inside.disk)) put (λ f is. is.others) in
+    let put = put_all g.D.Disk.moment g.D.Disk.left_since g.D.Disk.seen g.D.Disk.is_whole g.D.Disk.may_leave g.met.D.Disk.only_now c.self.inside.names.items c.deref-4.result.now c.self.inside.disk c.write_list.new.disk c.commit.new.disk c.deref-4.ensures.value ((c.self.invariant promised).staged phase).fit c.write_list.ensures.others (c.write_list.ensures.run promised) (c.commit.ensures.any_moment promised) in
     subst (λ (s : Set g.row.D.Denot). LeavesOnly g.D.Disk.moment g.D.Disk.left_since s.disk c.commit.new.disk (SameUnstaged s.names (g.D.Disk.seen s.disk))) c.self.view_is
-    left
+    (put_others g.D.Disk.moment g.D.Disk.left_since g.D.Disk.seen g.D.Disk.is_whole g.D.Disk.may_leave g.met.D.Disk.only_now c.self.inside.names.items c.self.inside.disk c.commit.new.disk put)
 
 pub returns-clause-any_moment : goal.returns-clause-any_moment
 returns-clause-any_moment g c promised staging =
     let phase : c.self.inside.phase ≡ Staging = search rules in
-    let staged = held_staged c.self.inside.phase c.self.inside.names.items c.self.inside.current (g.D.Disk.seen c.self.inside.disk) (g.D.Disk.is_whole c.self.inside.disk) (g.D.Disk.is_new c.self.inside.disk) (g.D.Disk.may_leave c.self.inside.disk) phase (c.self.invariant promised) in
-    let listed : c.deref-4.result.now ≡ c.self.inside.names.items = c.deref-4.ensures.value in
-    let others : SameBut (temporary list_name) (g.D.Disk.seen c.self.inside.disk) (g.D.Disk.seen c.write_list.new.disk) = c.write_list.ensures.others in
-    let P : Folder → Type 0 = IsPut c.self.inside.names.items (g.D.Disk.seen c.self.inside.disk) in
-    let written = leaves_by g.D.Disk.moment g.D.Disk.left_since g.D.Disk.may_leave g.met.D.Disk.only_now c.self.inside.disk c.write_list.new.disk (HasOldFiles (g.D.Disk.seen c.self.inside.disk)) P (c.write_list.ensures.run promised).moments (put_of_old c.self.inside.names.items (g.D.Disk.seen c.self.inside.disk)) in
-    let put = runs_on g.D.Disk.moment g.D.Disk.left_since g.D.Disk.may_leave g.met.D.Disk.only_now c.self.inside.disk c.write_list.new.disk c.commit.new.disk P (IsPut c.deref-4.result.now (g.D.Disk.seen c.write_list.new.disk)) written (c.commit.ensures.any_moment promised)
-    (λ f is. put_from c.self.inside.names.items (g.D.Disk.seen c.self.inside.disk) (g.D.Disk.seen c.write_list.new.disk) f staged.fit others (subst (λ (l : List Name). IsPut l (g.D.Disk.seen c.write_list.new.disk) f) listed is)) in
-    let left = leaves_by g.D.Disk.moment g.D.Disk.left_since g.D.Disk.may_leave g.met.D.Disk.only_now c.self.inside.disk c.commit.new.disk P (IsOldOrNew c.self.inside.names.items (g.D.Disk.seen c.self.inside.disk)) put (λ f is. is.either) in
+    let put = put_all g.D.Disk.moment g.D.Disk.left_since g.D.Disk.seen g.D.Disk.is_whole g.D.Disk.may_leave g.met.D.Disk.only_now c.self.inside.names.items c.deref-4.result.now c.self.inside.disk c.write_list.new.disk c.commit.new.disk c.deref-4.ensures.value ((c.self.invariant promised).staged phase).fit c.write_list.ensures.others (c.write_list.ensures.run promised) (c.commit.ensures.any_moment promised) in
     subst (λ (s : Set g.row.D.Denot). LeavesOnly g.D.Disk.moment g.D.Disk.left_since s.disk c.commit.new.disk (IsOldOrNew s.names (g.D.Disk.seen s.disk))) c.self.view_is
-    left
+    (put_either g.D.Disk.moment g.D.Disk.left_since g.D.Disk.seen g.D.Disk.is_whole g.D.Disk.may_leave g.met.D.Disk.only_now c.self.inside.names.items c.self.inside.disk c.commit.new.disk put)
 
 pub returns-clause-others : goal.returns-clause-others
 returns-clause-others g c promised staging =
     let phase : c.self.inside.phase ≡ Staging = search rules in
-    let staged = held_staged c.self.inside.phase c.self.inside.names.items c.self.inside.current (g.D.Disk.seen c.self.inside.disk) (g.D.Disk.is_whole c.self.inside.disk) (g.D.Disk.is_new c.self.inside.disk) (g.D.Disk.may_leave c.self.inside.disk) phase (c.self.invariant promised) in
-    let listed : c.deref-4.result.now ≡ c.self.inside.names.items = c.deref-4.ensures.value in
-    let others : SameBut (temporary list_name) (g.D.Disk.seen c.self.inside.disk) (g.D.Disk.seen c.write_list.new.disk) = c.write_list.ensures.others in
-    let P : Folder → Type 0 = IsPut c.self.inside.names.items (g.D.Disk.seen c.self.inside.disk) in
-    let written = leaves_by g.D.Disk.moment g.D.Disk.left_since g.D.Disk.may_leave g.met.D.Disk.only_now c.self.inside.disk c.write_list.new.disk (HasOldFiles (g.D.Disk.seen c.self.inside.disk)) P (c.write_list.ensures.run promised).moments (put_of_old c.self.inside.names.items (g.D.Disk.seen c.self.inside.disk)) in
-    let put = runs_on g.D.Disk.moment g.D.Disk.left_since g.D.Disk.may_leave g.met.D.Disk.only_now c.self.inside.disk c.write_list.new.disk c.commit.new.disk P (IsPut c.deref-4.result.now (g.D.Disk.seen c.write_list.new.disk)) written (c.commit.ensures.any_moment promised)
-    (λ f is. put_from c.self.inside.names.items (g.D.Disk.seen c.self.inside.disk) (g.D.Disk.seen c.write_list.new.disk) f staged.fit others (subst (λ (l : List Name). IsPut l (g.D.Disk.seen c.write_list.new.disk) f) listed is)) in
-    let left = leaves_by g.D.Disk.moment g.D.Disk.left_since g.D.Disk.may_leave g.met.D.Disk.only_now c.self.inside.disk c.commit.new.disk P (SameUnstaged c.self.inside.names.items (g.D.Disk.seen c.self.inside.disk)) put (λ f is. is.others) in
+    let put = put_all g.D.Disk.moment g.D.Disk.left_since g.D.Disk.seen g.D.Disk.is_whole g.D.Disk.may_leave g.met.D.Disk.only_now c.self.inside.names.items c.deref-4.result.now c.self.inside.disk c.write_list.new.disk c.commit.new.disk c.deref-4.ensures.value ((c.self.invariant promised).staged phase).fit c.write_list.ensures.others (c.write_list.ensures.run promised) (c.commit.ensures.any_moment promised) in
     subst (λ (s : Set g.row.D.Denot). LeavesOnly g.D.Disk.moment g.D.Disk.left_since s.disk c.commit.new.disk (SameUnstaged s.names (g.D.Disk.seen s.disk))) c.self.view_is
-    left
+    (put_others g.D.Disk.moment g.D.Disk.left_since g.D.Disk.seen g.D.Disk.is_whole g.D.Disk.may_leave g.met.D.Disk.only_now c.self.inside.names.items c.self.inside.disk c.commit.new.disk put)
 
 pub returns-clause-done : goal.returns-clause-done
 returns-clause-done g c promised =
     let phase : c.self.inside.phase ≡ Staging = search rules in
-    let staged = held_staged c.self.inside.phase c.self.inside.names.items c.self.inside.current (g.D.Disk.seen c.self.inside.disk) (g.D.Disk.is_whole c.self.inside.disk) (g.D.Disk.is_new c.self.inside.disk) (g.D.Disk.may_leave c.self.inside.disk) phase (c.self.invariant promised) in
+    let staged = (c.self.invariant promised).staged phase in
     let listed : c.deref-4.result.now ≡ c.self.inside.names.items = c.deref-4.ensures.value in
     let others : SameBut (temporary list_name) (g.D.Disk.seen c.self.inside.disk) (g.D.Disk.seen c.write_list.new.disk) = c.write_list.ensures.others in
     let done : (n : Name) → g.D.Disk.seen c.commit.new.disk n ≡ with_staged c.self.inside.names.items (g.D.Disk.seen c.self.inside.disk) n = λ n. c.in_ok-commit.ensures.done promised n ∙ ap (λ (l : List Name). with_staged l (g.D.Disk.seen c.write_list.new.disk) n) listed ∙ with_staged_same c.self.inside.names.items (g.D.Disk.seen c.self.inside.disk) (g.D.Disk.seen c.write_list.new.disk) staged.fit others n in
@@ -136,13 +91,18 @@ returns-clause-done g c promised =
 
 pub invariant_of-self : goal.invariant_of-self
 invariant_of-self g c promised =
-    c.write_list.ensures.left promised
+    in_failed c.self.inside.names.items c.self.inside.current (g.D.Disk.seen c.write_list.new.disk) (g.D.Disk.is_whole c.write_list.new.disk) (g.D.Disk.is_new c.write_list.new.disk) (g.D.Disk.may_leave c.write_list.new.disk) (c.write_list.ensures.run promised).left
+
+pub invariant_of-self-in_err-commit : goal.invariant_of-self-in_err-commit
+invariant_of-self-in_err-commit g c promised =
+    in_ended c.self.inside.names.items c.self.inside.current (g.D.Disk.seen c.commit.new.disk) (g.D.Disk.is_whole c.commit.new.disk) (g.D.Disk.is_new c.commit.new.disk) (g.D.Disk.may_leave c.commit.new.disk)
 
 pub invariant_of-self-2 : goal.invariant_of-self-2
 invariant_of-self-2 g c promised =
     let phase : c.self.inside.phase ≡ Staging = search rules in
-    let staged = held_staged c.self.inside.phase c.self.inside.names.items c.self.inside.current (g.D.Disk.seen c.self.inside.disk) (g.D.Disk.is_whole c.self.inside.disk) (g.D.Disk.is_new c.self.inside.disk) (g.D.Disk.may_leave c.self.inside.disk) phase (c.self.invariant promised) in
+    let staged = (c.self.invariant promised).staged phase in
     let listed : c.deref-4.result.now ≡ c.self.inside.names.items = c.deref-4.ensures.value in
     let others : SameBut (temporary list_name) (g.D.Disk.seen c.self.inside.disk) (g.D.Disk.seen c.write_list.new.disk) = c.write_list.ensures.others in
     let done : (n : Name) → g.D.Disk.seen c.commit.new.disk n ≡ with_staged c.self.inside.names.items (g.D.Disk.seen c.self.inside.disk) n = λ n. c.in_ok-commit.ensures.done promised n ∙ ap (λ (l : List Name). with_staged l (g.D.Disk.seen c.write_list.new.disk) n) listed ∙ with_staged_same c.self.inside.names.items (g.D.Disk.seen c.self.inside.disk) (g.D.Disk.seen c.write_list.new.disk) staged.fit others n in
-    staged_none c.new.result.items (g.D.Disk.seen c.commit.new.disk) (g.D.Disk.is_whole c.commit.new.disk) (g.D.Disk.is_new c.commit.new.disk) (g.D.Disk.may_leave c.commit.new.disk) c.new.ensures.items (put_clean c.self.inside.names.items (g.D.Disk.seen c.self.inside.disk) (g.D.Disk.seen c.commit.new.disk) done) (c.in_ok-commit.ensures.synced promised)
+    in_staging c.new.result.items None (g.D.Disk.seen c.commit.new.disk) (g.D.Disk.is_whole c.commit.new.disk) (g.D.Disk.is_new c.commit.new.disk) (g.D.Disk.may_leave c.commit.new.disk)
+    (staged_none c.new.result.items (g.D.Disk.seen c.commit.new.disk) (g.D.Disk.is_whole c.commit.new.disk) (g.D.Disk.is_new c.commit.new.disk) (g.D.Disk.may_leave c.commit.new.disk) c.new.ensures.items (put_clean c.self.inside.names.items (g.D.Disk.seen c.self.inside.disk) (g.D.Disk.seen c.commit.new.disk) done) (c.in_ok-commit.ensures.synced promised))

@@ -4,15 +4,15 @@ use Rattle.files_in_place.specs.Folder.{Name}
 use Rattle.files_in_place.specs.Disk.{LeavesOnly}
 use Rattle.files_in_place.specs.Recovery.{HasOldFiles}
 use Rattle.files_in_place.specs.Staged.{Set}
-use Rattle.files_in_place.proofs.Uncommitted.{staged_left, staged_temporary, left_step, run_none, run_call, step_free, some_inj}
-use Rattle.files_in_place.proofs.Sets.{held_staged, staged_written}
+use Rattle.files_in_place.proofs.Uncommitted.{run_written, some_inj}
+use Rattle.files_in_place.proofs.Sets.{in_staging, in_failed, staged_written}
 use Rattle.files_in_place.proofs.file_set.FileSet.write.Goals as goal
 
 pub append-requires : goal.append-requires
 append-requires g c = record {
   new = λ promised.
       let phase : c.self.inside.phase ≡ Staging = search rules in
-      let staged = held_staged c.self.inside.phase c.self.inside.names.items c.self.inside.current (g.D.Disk.seen c.self.inside.disk) (g.D.Disk.is_whole c.self.inside.disk) (g.D.Disk.is_new c.self.inside.disk) (g.D.Disk.may_leave c.self.inside.disk) phase (c.self.invariant promised) in
+      let staged = (c.self.invariant promised).staged phase in
       let is : c.self.inside.current ≡ Some c.as_slice.result.now = search rules in
       staged.fresh c.as_slice.result.now is;
 }
@@ -20,33 +20,27 @@ append-requires g c = record {
 pub invariant_of-self : goal.invariant_of-self
 invariant_of-self g c promised =
     let phase : c.self.inside.phase ≡ Staging = search rules in
-    let staged = held_staged c.self.inside.phase c.self.inside.names.items c.self.inside.current (g.D.Disk.seen c.self.inside.disk) (g.D.Disk.is_whole c.self.inside.disk) (g.D.Disk.is_new c.self.inside.disk) (g.D.Disk.may_leave c.self.inside.disk) phase (c.self.invariant promised) in
+    let staged = (c.self.invariant promised).staged phase in
     let is : c.self.inside.current ≡ Some c.as_slice.result.now = search rules in
-    let temp = staged_temporary c.self.inside.names.items c.as_slice.result.now staged.fit (staged.named c.as_slice.result.now is) in
-    let left = left_step c.as_slice.result.now (g.D.Disk.seen c.self.inside.disk) (g.D.Disk.seen c.append.new.self) (g.D.Disk.is_whole c.self.inside.disk) (g.D.Disk.is_whole c.append.new.self) (g.D.Disk.may_leave c.self.inside.disk) (g.D.Disk.may_leave c.append.new.self) temp c.append.ensures.others c.append.ensures.whole c.append.ensures.crash
-    (staged_left c.self.inside.names.items c.self.inside.current (g.D.Disk.seen c.self.inside.disk) (g.D.Disk.is_whole c.self.inside.disk) (g.D.Disk.is_new c.self.inside.disk) (g.D.Disk.may_leave c.self.inside.disk) staged) in
-    left
+    let run = run_written g.D.Disk.moment g.D.Disk.left_since g.D.Disk.seen g.D.Disk.is_whole g.D.Disk.may_leave g.met.D.Disk.only_now c.self.inside.names.items c.self.inside.current c.as_slice.result.now c.self.inside.disk c.append.new.self (g.D.Disk.is_new c.self.inside.disk) staged is c.append.ensures.others c.append.ensures.whole c.append.ensures.time c.append.ensures.crash in
+    in_failed c.self.inside.names.items c.self.inside.current (g.D.Disk.seen c.append.new.self) (g.D.Disk.is_whole c.append.new.self) (g.D.Disk.is_new c.append.new.self) (g.D.Disk.may_leave c.append.new.self) run.left
 
 pub invariant_of-self-2 : goal.invariant_of-self-2
 invariant_of-self-2 g c promised =
     let phase : c.self.inside.phase ≡ Staging = search rules in
-    let staged = held_staged c.self.inside.phase c.self.inside.names.items c.self.inside.current (g.D.Disk.seen c.self.inside.disk) (g.D.Disk.is_whole c.self.inside.disk) (g.D.Disk.is_new c.self.inside.disk) (g.D.Disk.may_leave c.self.inside.disk) phase (c.self.invariant promised) in
+    let staged = (c.self.invariant promised).staged phase in
     let is : c.self.inside.current ≡ Some c.as_slice.result.now = search rules in
-    let temp = staged_temporary c.self.inside.names.items c.as_slice.result.now staged.fit (staged.named c.as_slice.result.now is) in
-    let left = left_step c.as_slice.result.now (g.D.Disk.seen c.self.inside.disk) (g.D.Disk.seen c.append.new.self) (g.D.Disk.is_whole c.self.inside.disk) (g.D.Disk.is_whole c.append.new.self) (g.D.Disk.may_leave c.self.inside.disk) (g.D.Disk.may_leave c.append.new.self) temp c.append.ensures.others c.append.ensures.whole c.append.ensures.crash
-    (staged_left c.self.inside.names.items c.self.inside.current (g.D.Disk.seen c.self.inside.disk) (g.D.Disk.is_whole c.self.inside.disk) (g.D.Disk.is_new c.self.inside.disk) (g.D.Disk.may_leave c.self.inside.disk) staged) in
-    staged_written c.self.inside.names.items c.self.inside.current (g.D.Disk.seen c.self.inside.disk) (g.D.Disk.seen c.append.new.self) (g.D.Disk.is_whole c.self.inside.disk) (g.D.Disk.is_new c.self.inside.disk) (g.D.Disk.is_whole c.append.new.self) (g.D.Disk.is_new c.append.new.self) (g.D.Disk.may_leave c.self.inside.disk) (g.D.Disk.may_leave c.append.new.self) c.as_slice.result.now c.args.bytes.now staged
-    is c.append.ensures.others (c.in_ok-append.ensures.done promised) c.append.ensures.whole c.in_ok-append.ensures.new left.uncommitted
+    let run = run_written g.D.Disk.moment g.D.Disk.left_since g.D.Disk.seen g.D.Disk.is_whole g.D.Disk.may_leave g.met.D.Disk.only_now c.self.inside.names.items c.self.inside.current c.as_slice.result.now c.self.inside.disk c.append.new.self (g.D.Disk.is_new c.self.inside.disk) staged is c.append.ensures.others c.append.ensures.whole c.append.ensures.time c.append.ensures.crash in
+    in_staging c.self.inside.names.items c.self.inside.current (g.D.Disk.seen c.append.new.self) (g.D.Disk.is_whole c.append.new.self) (g.D.Disk.is_new c.append.new.self) (g.D.Disk.may_leave c.append.new.self)
+    (staged_written c.self.inside.names.items c.self.inside.current (g.D.Disk.seen c.self.inside.disk) (g.D.Disk.seen c.append.new.self) (g.D.Disk.is_whole c.self.inside.disk) (g.D.Disk.is_new c.self.inside.disk) (g.D.Disk.is_whole c.append.new.self) (g.D.Disk.is_new c.append.new.self) (g.D.Disk.may_leave c.self.inside.disk) (g.D.Disk.may_leave c.append.new.self) c.as_slice.result.now c.args.bytes.now staged
+    is c.append.ensures.others (c.in_ok-append.ensures.done promised) c.append.ensures.whole c.in_ok-append.ensures.new run.left.uncommitted)
 
 pub returns-in_err-append-clause-any_moment : goal.returns-in_err-append-clause-any_moment
 returns-in_err-append-clause-any_moment g c promised staging =
     let phase : c.self.inside.phase ≡ Staging = search rules in
-    let staged = held_staged c.self.inside.phase c.self.inside.names.items c.self.inside.current (g.D.Disk.seen c.self.inside.disk) (g.D.Disk.is_whole c.self.inside.disk) (g.D.Disk.is_new c.self.inside.disk) (g.D.Disk.may_leave c.self.inside.disk) phase (c.self.invariant promised) in
+    let staged = (c.self.invariant promised).staged phase in
     let is : c.self.inside.current ≡ Some c.as_slice.result.now = search rules in
-    let temp = staged_temporary c.self.inside.names.items c.as_slice.result.now staged.fit (staged.named c.as_slice.result.now is) in
-    let left = left_step c.as_slice.result.now (g.D.Disk.seen c.self.inside.disk) (g.D.Disk.seen c.append.new.self) (g.D.Disk.is_whole c.self.inside.disk) (g.D.Disk.is_whole c.append.new.self) (g.D.Disk.may_leave c.self.inside.disk) (g.D.Disk.may_leave c.append.new.self) temp c.append.ensures.others c.append.ensures.whole c.append.ensures.crash
-    (staged_left c.self.inside.names.items c.self.inside.current (g.D.Disk.seen c.self.inside.disk) (g.D.Disk.is_whole c.self.inside.disk) (g.D.Disk.is_new c.self.inside.disk) (g.D.Disk.may_leave c.self.inside.disk) staged) in
-    let run = run_call g.D.Disk.moment g.D.Disk.left_since g.D.Disk.seen g.D.Disk.may_leave g.met.D.Disk.only_now c.self.inside.disk c.self.inside.disk c.append.new.self (run_none g.D.Disk.moment g.D.Disk.left_since g.D.Disk.seen g.D.Disk.may_leave g.met.D.Disk.only_now c.self.inside.disk staged.uncommitted) c.append.ensures.time (step_free c.as_slice.result.now (g.D.Disk.seen c.self.inside.disk) (g.D.Disk.seen c.append.new.self) temp c.append.ensures.others) left.uncommitted in
+    let run = run_written g.D.Disk.moment g.D.Disk.left_since g.D.Disk.seen g.D.Disk.is_whole g.D.Disk.may_leave g.met.D.Disk.only_now c.self.inside.names.items c.self.inside.current c.as_slice.result.now c.self.inside.disk c.append.new.self (g.D.Disk.is_new c.self.inside.disk) staged is c.append.ensures.others c.append.ensures.whole c.append.ensures.time c.append.ensures.crash in
     subst (λ (s : Set g.row.D.Denot). LeavesOnly g.D.Disk.moment g.D.Disk.left_since s.disk c.append.new.self (HasOldFiles (g.D.Disk.seen s.disk))) c.self.view_is
     run.moments
 
@@ -59,12 +53,9 @@ returns-in_err-append-clause-others g c =
 pub returns-clause-any_moment : goal.returns-clause-any_moment
 returns-clause-any_moment g c promised staging =
     let phase : c.self.inside.phase ≡ Staging = search rules in
-    let staged = held_staged c.self.inside.phase c.self.inside.names.items c.self.inside.current (g.D.Disk.seen c.self.inside.disk) (g.D.Disk.is_whole c.self.inside.disk) (g.D.Disk.is_new c.self.inside.disk) (g.D.Disk.may_leave c.self.inside.disk) phase (c.self.invariant promised) in
+    let staged = (c.self.invariant promised).staged phase in
     let is : c.self.inside.current ≡ Some c.as_slice.result.now = search rules in
-    let temp = staged_temporary c.self.inside.names.items c.as_slice.result.now staged.fit (staged.named c.as_slice.result.now is) in
-    let left = left_step c.as_slice.result.now (g.D.Disk.seen c.self.inside.disk) (g.D.Disk.seen c.append.new.self) (g.D.Disk.is_whole c.self.inside.disk) (g.D.Disk.is_whole c.append.new.self) (g.D.Disk.may_leave c.self.inside.disk) (g.D.Disk.may_leave c.append.new.self) temp c.append.ensures.others c.append.ensures.whole c.append.ensures.crash
-    (staged_left c.self.inside.names.items c.self.inside.current (g.D.Disk.seen c.self.inside.disk) (g.D.Disk.is_whole c.self.inside.disk) (g.D.Disk.is_new c.self.inside.disk) (g.D.Disk.may_leave c.self.inside.disk) staged) in
-    let run = run_call g.D.Disk.moment g.D.Disk.left_since g.D.Disk.seen g.D.Disk.may_leave g.met.D.Disk.only_now c.self.inside.disk c.self.inside.disk c.append.new.self (run_none g.D.Disk.moment g.D.Disk.left_since g.D.Disk.seen g.D.Disk.may_leave g.met.D.Disk.only_now c.self.inside.disk staged.uncommitted) c.append.ensures.time (step_free c.as_slice.result.now (g.D.Disk.seen c.self.inside.disk) (g.D.Disk.seen c.append.new.self) temp c.append.ensures.others) left.uncommitted in
+    let run = run_written g.D.Disk.moment g.D.Disk.left_since g.D.Disk.seen g.D.Disk.is_whole g.D.Disk.may_leave g.met.D.Disk.only_now c.self.inside.names.items c.self.inside.current c.as_slice.result.now c.self.inside.disk c.append.new.self (g.D.Disk.is_new c.self.inside.disk) staged is c.append.ensures.others c.append.ensures.whole c.append.ensures.time c.append.ensures.crash in
     subst (λ (s : Set g.row.D.Denot). LeavesOnly g.D.Disk.moment g.D.Disk.left_since s.disk c.append.new.self (HasOldFiles (g.D.Disk.seen s.disk))) c.self.view_is
     run.moments
 

@@ -1,0 +1,272 @@
+//! A folder of the system: what recovery makes of it, what a set leaves in it, and its lock.
+
+use files_in_place::{
+    Disk, DiskFault, FileSet, LockFault, SetFault, SystemDisk, lock_folder, recover,
+};
+use std::alloc::Global;
+use std::os::unix::fs::symlink;
+use std::test::Fail;
+use std::{fs, io};
+
+// A name, and what its file holds.
+type TextFile = (&'static str, &'static str);
+
+fn path_in(rt: &HostRuntime, folder: &str, name: &str) -> io::Result<String> {
+    Ok(format!(in rt.alloc(); "{folder}/{name}")?)
+}
+
+// A folder with the files, where the test runs.
+fn make_folder(rt: &HostRuntime, folder: &str, files: &[TextFile]) -> io::Result<()> {
+    if fs::exists(rt, folder)? {
+        fs::remove_dir_all(rt, folder)?;
+    }
+    fs::create_dir(rt, folder)?;
+    for (name, text) in files {
+        let path = path_in(rt, folder, name)?;
+        fs::write(rt, path.as_str(), text.as_bytes())?;
+    }
+    Ok(())
+}
+
+fn count_entries(rt: &HostRuntime, folder: &str) -> io::Result<usize> {
+    let mut count = 0usize;
+    for entry in fs::read_dir(rt, folder)? {
+        entry?;
+        count = count.saturating_add(1);
+    }
+    Ok(count)
+}
+
+// Whether the folder has the files, and no more.
+fn has_just(rt: &HostRuntime, folder: &str, files: &[TextFile]) -> io::Result<bool> {
+    for (name, text) in files {
+        let path = path_in(rt, folder, name)?;
+        if !fs::exists(rt, path.as_str())? {
+            return Ok(false);
+        }
+        if fs::read_to_string(rt, path.as_str())?.as_str() != *text {
+            return Ok(false);
+        }
+    }
+    Ok(count_entries(rt, folder)? == files.len())
+}
+
+fn open_disk(
+    rt: &HostRuntime,
+    alloc: Global,
+    folder: &str,
+) -> Result<SystemDisk<HostRuntime>, Fail> {
+    Ok(SystemDisk::open(rt.clone()?, alloc, folder)?)
+}
+
+fn recover_folder(rt: &HostRuntime, alloc: Global, folder: &str) -> Result<bool, Fail> {
+    let mut disk = open_disk(rt, alloc, folder)?;
+    Ok(recover(alloc, &mut disk).is_ok())
+}
+
+// What a crash left, and what recovery makes of it: once the list has its name the new files, and before it the old ones.
+const RECOVERED: [(&[TextFile], &[TextFile]); 4] = [
+    (
+        &[
+            ("A", "new a"),
+            ("B", "old b"),
+            ("C", "another"),
+            ("~B", "new b"),
+            ("~~list", "A\nB\n"),
+        ],
+        &[("A", "new a"), ("B", "new b"), ("C", "another")],
+    ),
+    (&[("~D", "new d"), ("~~list", "D\n")], &[("D", "new d")]),
+    (
+        &[("A", "old a"), ("~A", "new a"), ("~~~list", "A\n")],
+        &[("A", "old a")],
+    ),
+    (&[("A", "old a")], &[("A", "old a")]),
+];
+
+#[test]
+fn what_a_crash_left_is_finished_or_removed(rt: HostRuntime) -> Result<(), Fail> {
+    let alloc = rt.alloc();
+    let folder = "recovered_folder";
+    for (left, recovered) in RECOVERED {
+        make_folder(&rt, folder, left)?;
+        let ended = recover_folder(&rt, alloc, folder)?;
+        assert!(rt; ended && has_just(&rt, folder, recovered)?);
+    }
+    fs::remove_dir_all(&rt, folder)?;
+    Ok(())
+}
+
+// Two new files, one of them in two pieces.
+fn write_two<D: Disk + Drop>(set: &mut FileSet<D>) -> Result<(), SetFault> {
+    set.begin(b"A")?;
+    set.write(b"new")?;
+    set.write(b" a")?;
+    set.begin(b"B")?;
+    set.write(b"new b")
+}
+
+const OLD: [TextFile; 2] = [("A", "old a"), ("C", "another")];
+
+const NEW: [TextFile; 3] = [("A", "new a"), ("B", "new b"), ("C", "another")];
+
+// Writes the two files, and puts them in place or abandons them.
+fn write_set(rt: &HostRuntime, alloc: Global, folder: &str, is_put: bool) -> Result<bool, Fail> {
+    let mut set = FileSet::new(alloc, open_disk(rt, alloc, folder)?);
+    write_two(&mut set)?;
+    if is_put {
+        set.finish()?;
+        has_just(rt, folder, &NEW).map_err(Fail::from)
+    } else {
+        set.abandon()?;
+        has_just(rt, folder, &OLD).map_err(Fail::from)
+    }
+}
+
+#[test]
+fn a_set_is_put_in_place_or_abandoned(rt: HostRuntime) -> Result<(), Fail> {
+    let alloc = rt.alloc();
+    let folder = "folder_of_a_set";
+    for is_put in [false, true] {
+        make_folder(&rt, folder, &OLD)?;
+        assert!(rt; write_set(&rt, alloc, folder, is_put)?);
+    }
+    fs::remove_dir_all(&rt, folder)?;
+    Ok(())
+}
+
+// Whether the set's file is there and what the link led to is as it was.
+fn replaces_link(rt: &HostRuntime, alloc: Global, folder: &str) -> Result<bool, Fail> {
+    let led_to = [("kept", "kept")];
+    make_folder(rt, "led_to", &led_to)?;
+    make_folder(rt, folder, &[("C", "another")])?;
+    symlink(rt, "../led_to/kept", path_in(rt, folder, "A")?.as_str())?;
+    symlink(rt, "../led_to/none", path_in(rt, folder, "B")?.as_str())?;
+    let is_new = write_set(rt, alloc, folder, true)?;
+    let is_kept = has_just(rt, "led_to", &led_to)?;
+    fs::remove_dir_all(rt, "led_to")?;
+    Ok(is_new && is_kept)
+}
+
+#[test]
+fn a_link_is_replaced_and_not_followed(rt: HostRuntime) -> Result<(), Fail> {
+    let alloc = rt.alloc();
+    let folder = "folder_of_links";
+    assert!(rt; replaces_link(&rt, alloc, folder)?);
+    fs::remove_dir_all(&rt, folder)?;
+    Ok(())
+}
+
+// Whether a link without an end goes and a folder stays, both of reserved names.
+fn removes_link_only(rt: &HostRuntime, alloc: Global, folder: &str) -> Result<bool, Fail> {
+    make_folder(rt, folder, &[("A", "old a")])?;
+    let inner = path_in(rt, folder, "~folder")?;
+    fs::create_dir(rt, inner.as_str())?;
+    symlink(rt, "none", path_in(rt, folder, "~link")?.as_str())?;
+    let ended = recover_folder(rt, alloc, folder)?;
+    let is_folder_there = fs::exists(rt, inner.as_str())?;
+    fs::remove_dir(rt, inner.as_str())?;
+    Ok(ended && is_folder_there && has_just(rt, folder, &[("A", "old a")])?)
+}
+
+#[test]
+fn reserved_names_are_removed_but_folders(rt: HostRuntime) -> Result<(), Fail> {
+    let alloc = rt.alloc();
+    let folder = "folder_of_reserved_names";
+    assert!(rt; removes_link_only(&rt, alloc, folder)?);
+    fs::remove_dir_all(&rt, folder)?;
+    Ok(())
+}
+
+// Whether a list that is a link stops recovery, and nothing is touched.
+fn refuses_linked_list(rt: &HostRuntime, alloc: Global, folder: &str) -> Result<bool, Fail> {
+    let files = [("A", "old a"), ("list", "A\n"), ("~A", "new a")];
+    make_folder(rt, folder, &files)?;
+    let list = path_in(rt, folder, "~~list")?;
+    symlink(rt, "list", list.as_str())?;
+    let ended = recover_folder(rt, alloc, folder)?;
+    fs::remove_file(rt, list.as_str())?;
+    Ok(!ended && has_just(rt, folder, &files)?)
+}
+
+#[test]
+fn a_list_that_is_a_link_is_a_failure(rt: HostRuntime) -> Result<(), Fail> {
+    let alloc = rt.alloc();
+    let folder = "folder_of_a_linked_list";
+    assert!(rt; refuses_linked_list(&rt, alloc, folder)?);
+    fs::remove_dir_all(&rt, folder)?;
+    Ok(())
+}
+
+// Whether a file of a folder's name isn't begun, and the old files are there after that.
+fn refuses_name_of_folder(rt: &HostRuntime, alloc: Global, folder: &str) -> Result<bool, Fail> {
+    make_folder(rt, folder, &[("A", "old a")])?;
+    let inner = path_in(rt, folder, "B")?;
+    fs::create_dir(rt, inner.as_str())?;
+    let mut set = FileSet::new(alloc, open_disk(rt, alloc, folder)?);
+    let is_refused = write_two(&mut set) == Err(SetFault::Failed);
+    set.abandon()?;
+    fs::remove_dir(rt, inner.as_str())?;
+    Ok(is_refused && has_just(rt, folder, &[("A", "old a")])?)
+}
+
+#[test]
+fn no_file_takes_the_name_of_a_folder(rt: HostRuntime) -> Result<(), Fail> {
+    let alloc = rt.alloc();
+    let folder = "folder_of_a_folder";
+    assert!(rt; refuses_name_of_folder(&rt, alloc, folder)?);
+    fs::remove_dir_all(&rt, folder)?;
+    Ok(())
+}
+
+#[test]
+fn what_is_no_folder_is_not_opened(rt: HostRuntime) -> Result<(), Fail> {
+    let alloc = rt.alloc();
+    make_folder(&rt, "folder_of_a_file", &[("A", "old a")])?;
+    for path in ["no folder has this name", "folder_of_a_file/A", ""] {
+        let opened = SystemDisk::open(rt.clone()?, alloc, path);
+        let locked = lock_folder(&rt, path);
+        assert!(rt;
+            opened.err() == Some(DiskFault::Failed) && locked.err() == Some(LockFault::Failed)
+        );
+    }
+    fs::remove_dir_all(&rt, "folder_of_a_file")?;
+    Ok(())
+}
+
+#[test]
+fn bytes_go_to_the_file_made_last_until_it_is_synced(rt: HostRuntime) -> Result<(), Fail> {
+    let alloc = rt.alloc();
+    let folder = "folder_of_one_file";
+    make_folder(&rt, folder, &[])?;
+    let mut disk = open_disk(&rt, alloc, folder)?;
+    let before = disk.append(b"~A", b"a").is_err() && disk.sync_file(b"~A").is_err();
+    disk.create(b"~A")?;
+    let other = disk.append(b"~B", b"b").is_err() && disk.create(b"~A").is_err();
+    disk.append(b"~A", b"a")?;
+    disk.sync_file(b"~A")?;
+    let after = disk.append(b"~A", b"a").is_err();
+    assert!(rt; before && other && after && has_just(&rt, folder, &[("~A", "a")])?);
+    fs::remove_dir_all(&rt, folder)?;
+    Ok(())
+}
+
+// Whether a second lock is refused while the first is held, and given after it; and whether no file was made.
+fn is_locked_once(rt: &HostRuntime, folder: &str) -> Result<bool, Fail> {
+    make_folder(rt, folder, &OLD)?;
+    let first = lock_folder(rt, folder)?;
+    let second = lock_folder(rt, folder).err();
+    drop(first);
+    let third = lock_folder(rt, folder)?;
+    let is_same = has_just(rt, folder, &OLD)?;
+    drop(third);
+    Ok(second == Some(LockFault::InUse) && is_same)
+}
+
+#[test]
+fn a_folder_is_locked_once(rt: HostRuntime) -> Result<(), Fail> {
+    let folder = "locked_folder";
+    assert!(rt; is_locked_once(&rt, folder)?);
+    fs::remove_dir_all(&rt, folder)?;
+    Ok(())
+}
