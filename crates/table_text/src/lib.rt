@@ -1,10 +1,12 @@
 //! Tables as text.
 //!
-//! [`write_records`] writes a table as people read it, and [`write_fields`] what its fields are. Both write into a
-//! [`byte_io::ByteSink`], line by line: no text of a whole table is built.
+//! [`write_records`] writes a table as people read it, [`write_csv`] the same records as CSV, and [`write_fields`] what its
+//! fields are. They write into a [`byte_io::ByteSink`], line by line: no text of a whole table is built. Which records are
+//! shown a [`Selection`] says, and how much of memos a [`MemoForm`].
 //!
-//! Start with specs/Selection.antt (which records are shown), specs/Shown.antt (what is shown of a cell) and
-//! specs/Records.antt (the text of a table), then read src/records.rt.
+//! Start with specs/Selection.antt (which records are shown), specs/Shown.antt (what is shown of a cell),
+//! specs/Records.antt (the text of a table), specs/Csv.antt and specs/Structure.antt, then read src/records.rt and
+//! src/structure.rt.
 #![tactic(auto)]
 
 mod columns;

@@ -1,6 +1,6 @@
 //! Which records are shown.
 
-ghost use Rattle.std.specs.Prelude.{◌≡◌, ◌≤◌, length};
+ghost use Rattle.std.specs.Prelude.{◌≡◌, ◌≤◌, false, length};
 ghost use Rattle.dbf_image.specs.Table.{Table};
 ghost use Rattle.table_text.specs.Selection.{is_selected};
 
@@ -20,7 +20,9 @@ pub struct Selection {
 
 impl Selection {
     /// All records that are not marked as deleted.
-    pub fn kept() -> Selection {
+    pub fn kept() -> Selection
+        ensures value { result ≡ record { first = 1; last = u32.MAX; with_deleted = false } }
+    {
         Selection {
             first: 1,
             last: u32::MAX,

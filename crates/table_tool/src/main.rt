@@ -1,0 +1,42 @@
+//! Shows dBASE III PLUS tables.
+//!
+//! The program reads a table, with its memos, and prints it as people read it, as CSV, or what its fields are. This file
+//! has `main`: it reads the command line, has the table shown, and has its end told. The commands are in `program.rt`;
+//! what is printed of a table is defined in the crate `table_text`.
+#![tactic(auto)]
+
+mod program;
+
+use crate::program::{Ending, StreamSink, command, ending_of, options_of, show_file, tell};
+use station_files::DiskSource;
+use std::env;
+use std::io::Write;
+use std::process::ExitCode;
+use std::rt::{Env, Files, Runtime};
+
+/// Runs the program. Its exit status is that of [`tell`].
+fn main(rt: HostRuntime) -> ExitCode {
+    match run_program(&rt, rt.stdout()) {
+        Ok(()) => ExitCode::SUCCESS,
+        Err(ending) => tell(&mut rt.stdout(), &mut rt.stderr(), &ending),
+    }
+}
+
+// Reads the command line and shows what it asks for on a stream.
+fn run_program<R: Runtime + AllocGlobal, W: Write + Drop>(rt: &R, out: W) -> Result<(), Ending> {
+    let alloc = rt.alloc();
+    let words = read_words(rt)?;
+    let matches = command(alloc)?.try_get_matches_from(words.as_slice())?;
+    let Some(options) = options_of(&matches) else {
+        return Err(Ending::BadRange);
+    };
+    let mut source = DiskSource::new(rt.clone()?);
+    let mut sink = StreamSink::new(out);
+    let shown = show_file(alloc, &mut source, &mut sink, &options);
+    ending_of(alloc, shown, sink.is_closed(), options.table)
+}
+
+// The words of the command line, the program's name too.
+fn read_words<R: Env + AllocGlobal>(rt: &R) -> Result<Vec<String>, Ending> {
+    Ok(env::args(rt)?.collect(rt.alloc())?)
+}

@@ -1,0 +1,134 @@
+//! How a call of the program ends that shows no table, or not all of it.
+
+use crate::program::showing::ShowFault;
+use clap::error::ErrorKind;
+use dbf_image::ImageFault;
+use station_files::LoadFault;
+use std::alloc::{AllocError, Global};
+use std::io;
+use std::io::Write;
+use std::process::ExitCode;
+use table_text::TextFault;
+
+/// Why a call of the program did not show a table.
+#[derive(Debug, Drop)]
+pub(crate) enum Ending {
+    /// An argument is no UTF-8 text.
+    NoText,
+    /// `clap` gave no options: the help is asked for, the command line is wrong, or memory was refused.
+    CommandLine(clap::Error),
+    /// The range of records is none.
+    BadRange,
+    /// Memory was refused.
+    NoMemory,
+    /// The table of this path can't be shown.
+    Table(String, ShowFault),
+    /// The output failed.
+    Output,
+}
+
+// A fault in reading the arguments: a want of memory, and else that one is no UTF-8 text.
+impl From<io::Error> for Ending {
+    fn from(error: io::Error) -> Ending {
+        match error.kind() {
+            io::ErrorKind::OutOfMemory => Ending::NoMemory,
+            _ => Ending::NoText,
+        }
+    }
+}
+
+impl From<AllocError> for Ending {
+    fn from(_refused: AllocError) -> Ending {
+        Ending::NoMemory
+    }
+}
+
+impl From<clap::Error> for Ending {
+    fn from(error: clap::Error) -> Ending {
+        Ending::CommandLine(error)
+    }
+}
+
+// Whether a fault is a want of memory.
+fn is_no_memory(fault: ShowFault) -> bool {
+    matches!(
+        fault,
+        ShowFault::Load(LoadFault::NoMemory)
+            | ShowFault::Table(ImageFault::NoMemory)
+            | ShowFault::Text(TextFault::NoMemory)
+    )
+}
+
+/// What a fault of showing the table of a path ends in. A sink that failed since nobody reads it any more is no fault.
+pub(crate) fn ending_of(
+    alloc: Global,
+    shown: Result<(), ShowFault>,
+    is_closed: bool,
+    path: &str,
+) -> Result<(), Ending> {
+    match shown {
+        Ok(()) => Ok(()),
+        Err(ShowFault::Text(TextFault::Sink)) => {
+            if is_closed {
+                Ok(())
+            } else {
+                Err(Ending::Output)
+            }
+        }
+        Err(fault) => {
+            if is_no_memory(fault) {
+                return Err(Ending::NoMemory);
+            }
+            Err(Ending::Table(String::from_str(alloc, path)?, fault))
+        }
+    }
+}
+
+// The exit status: 0 where the help is asked for, 1 for the command line, 2 for a file, 3 for want of memory, 4 for the
+// output.
+fn status_of(ending: &Ending) -> u8 {
+    match ending {
+        Ending::NoText => 1,
+        Ending::BadRange => 1,
+        Ending::CommandLine(error) => match error.kind() {
+            ErrorKind::DisplayHelp => 0,
+            ErrorKind::OutOfMemory => 3,
+            _ => 1,
+        },
+        Ending::Table(_, _) => 2,
+        Ending::NoMemory => 3,
+        Ending::Output => 4,
+    }
+}
+
+// Why a table can't be shown.
+fn print_fault<W: Write>(err: &mut W, path: &str, fault: ShowFault) -> io::Result<()> {
+    match fault {
+        ShowFault::Load(cause) => write!(err, "table_tool: {path}: {cause}\n"),
+        ShowFault::Table(cause) => write!(err, "table_tool: {path}: {cause}\n"),
+        ShowFault::Text(cause) => write!(err, "table_tool: {path}: {cause}\n"),
+    }
+}
+
+fn print_ending<O: Write, E: Write>(out: &mut O, err: &mut E, ending: &Ending) -> io::Result<()> {
+    match ending {
+        Ending::NoText => err.write_all(b"table_tool: an argument is no UTF-8 text\n"),
+        Ending::CommandLine(error) => match error.kind() {
+            ErrorKind::DisplayHelp => write!(out, "{error}"),
+            _ => write!(err, "{error}"),
+        },
+        Ending::BadRange => {
+            err.write_all(b"table_tool: --records wants a number N or a range N-M\n")
+        }
+        Ending::NoMemory => err.write_all(b"table_tool: out of memory\n"),
+        Ending::Table(path, fault) => print_fault(err, path.as_str(), *fault),
+        Ending::Output => err.write_all(b"table_tool: the output failed\n"),
+    }
+}
+
+/// Says how a call of the program ended, and answers its exit status, which no stream that fails changes.
+pub(crate) fn tell<O: Write, E: Write>(out: &mut O, err: &mut E, ending: &Ending) -> ExitCode {
+    // A stream that takes no text changes nothing.
+    let _ = print_ending(out, err, ending);
+    ExitCode::from(status_of(ending))
+}

@@ -1,0 +1,125 @@
+//! A table that is read and shown.
+
+ghost use Rattle.std.specs.Prelude.{◌≡◌, OnOk, OnErr, IfOk, option_copied};
+ghost use Rattle.byte_io.specs.Sink.{grown, IsFront};
+ghost use Rattle.table_tool.specs.View.{view_text, IsMemoFile, IsShown};
+
+use crate::program::options::{Options, View};
+use dbf_fields::{Bytes, Day};
+use dbf_image::{ByteSink, ImageFault, TableData, read_table};
+use station_files::{LoadFault, Source};
+use std::alloc::Global;
+use table_text::{TextFault, header_date, write_csv, write_fields, write_records};
+
+/// Why a table was not shown, or not whole.
+#[derive(Clone, Copy, Debug, PartialEq, Eq)]
+pub(crate) enum ShowFault {
+    /// The table's file, or that of its memos, can't be read.
+    Load(LoadFault),
+    /// The files are no table.
+    Table(ImageFault),
+    /// The text was not written.
+    Text(TextFault),
+}
+
+impl From<LoadFault> for ShowFault {
+    ghost use Rattle.std.specs.Prelude.{◌≡◌};
+    ghost use Rattle.table_tool.specs.declared.program.showing.ShowFault.TheVariants.{Load};
+
+    ghost from_gives = { λ cause fault. fault ≡ Load cause };
+
+    fn from(cause: LoadFault) -> ShowFault {
+        ShowFault::Load(cause)
+    }
+}
+
+impl From<ImageFault> for ShowFault {
+    ghost use Rattle.std.specs.Prelude.{◌≡◌};
+    ghost use Rattle.table_tool.specs.declared.program.showing.ShowFault.TheVariants.{Table};
+
+    ghost from_gives = { λ cause fault. fault ≡ Table cause };
+
+    fn from(cause: ImageFault) -> ShowFault {
+        ShowFault::Table(cause)
+    }
+}
+
+impl From<TextFault> for ShowFault {
+    ghost use Rattle.std.specs.Prelude.{◌≡◌};
+    ghost use Rattle.table_tool.specs.declared.program.showing.ShowFault.TheVariants.{Text};
+
+    ghost from_gives = { λ cause fault. fault ≡ Text cause };
+
+    fn from(cause: TextFault) -> ShowFault {
+        ShowFault::Text(cause)
+    }
+}
+
+// The text of a table that is asked for, into a sink.
+fn write_view<S: ByteSink>(
+    alloc: Global,
+    sink: &mut S,
+    table: &TableData,
+    date: Option<Day>,
+    view: View,
+) -> Result<(), TextFault>
+    ensures wrote { OnOk result (S.written sink.new ≡ grown (S.written sink.old) (view_text table.now date view)) }
+    ensures no_failure { OnOk result (S.failures sink.new ≡ S.failures sink.old) }
+    ensures kept { IsFront (S.written sink.old) (S.written sink.new) }
+    ensures front { OnErr result (IsFront (S.written sink.new) (grown (S.written sink.old) (view_text table.now date view))) }
+{
+    match view {
+        View::Records(selection, memos) => write_records(alloc, sink, table, selection, memos),
+        View::Csv(selection, deleted_column) => {
+            write_csv(alloc, sink, table, selection, deleted_column)
+        }
+        View::Fields => write_fields(alloc, sink, table, date),
+    }
+}
+
+// The file of memos, where its path is given.
+fn load_memos<F: Source>(
+    alloc: Global,
+    source: &mut F,
+    path: Option<&str>,
+) -> Result<Option<Bytes>, LoadFault>
+    ensures found { IfOk result (λ memos. IsMemoFile (F.files source.old) (option_copied path.entry) memos) }
+    ensures kept { F.files source.new ≡ F.files source.old }
+{
+    match path {
+        Some(path) => Ok(Some(source.load(alloc, path.as_bytes())?)),
+        None => Ok(None),
+    }
+}
+
+fn bytes_of(memos: &Option<Bytes>) -> Option<&[u8]>
+    ensures value { option_copied result ≡ memos.now }
+{
+    match memos {
+        Some(bytes) => Some(bytes.as_slice()),
+        None => None,
+    }
+}
+
+/// Reads the table of a command line, and its memos, and writes what is asked for into a sink.
+///
+/// A fault of `Load` or `Table` says that nothing was written; after one of `Text` the sink has a front part of the text.
+#[tactic(auto, using(byte_io::specs::Laws::Sinks::front_same))]
+pub(crate) fn show_file<F: Source, S: ByteSink>(
+    alloc: Global,
+    source: &mut F,
+    sink: &mut S,
+    options: &Options<'_>,
+) -> Result<(), ShowFault>
+    // What was written is the text of the table whose files these are.
+    ensures shown { OnOk result (IsShown (F.files source.old) options.now.table.now (option_copied options.now.memos) options.now.view (S.written sink.old) (S.written sink.new)) }
+    ensures no_failure { OnOk result (S.failures sink.new ≡ S.failures sink.old) }
+    ensures kept { IsFront (S.written sink.old) (S.written sink.new) }
+{
+    let dbf = source.load(alloc, options.table.as_bytes())?;
+    let date = header_date(dbf.as_slice());
+    let memos = load_memos(alloc, source, options.memos)?;
+    let table = read_table(alloc, dbf, bytes_of(&memos))?;
+    write_view(alloc, sink, &table, date, options.view)?;
+    Ok(())
+}
