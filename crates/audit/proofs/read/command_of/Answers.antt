@@ -1,0 +1,20 @@
+use Rattle.std.proofs.Common.{◌∙◌}
+use Rattle.audit.proofs.AuditLaws.{not_run, differ, other_line, is_line}
+use Rattle.audit.proofs.read.command_of.Goals as goal
+
+pub returns-in_default-clause-none : goal.returns-in_default-clause-none
+returns-in_default-clause-none c _ = not_run c.args.line.now c.in_ok-command.field-0 c.in_default.not-Run c.in_ok-command.ensures.one
+
+pub returns-then-not-is_same-clause-none : goal.returns-then-not-is_same-clause-none
+returns-then-not-is_same-clause-none c _ =
+    other_line c.args.line.now c.as_slice.result.now c.in-Run.command
+    (λ other m. c.in_ok-command.ensures.one other m ∙ c.in-Run.is)
+    (c.as_slice.ensures.value ∙ c.in_ok-written.ensures.value)
+    (differ c.is_same.result c.as_slice.result.now c.args.line.now c.is_same.ensures.value c.if-not-is_same.true)
+
+pub returns-clause-found : goal.returns-clause-found
+returns-clause-found c =
+    is_line c.args.line.now c.as_slice.result.now c.in-Run.command
+    (rw c.in-Run.is at c.in_ok-command.ensures.read)
+    (c.as_slice.ensures.value ∙ c.in_ok-written.ensures.value)
+    (c.is_same.ensures.value.0 c.if-not-is_same.false)

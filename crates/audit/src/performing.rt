@@ -1,0 +1,106 @@
+//! Performing the entries of a journal once more.
+
+ghost use Rattle.std.specs.Prelude.{◌≡◌, ◌≤◌, [], length, IfOk, IfErr};
+ghost use Rattle.catalogue_core.specs.Replay.{answer_of, with_entry};
+ghost use Rattle.station_lines.specs.AnswerLines.{line_of};
+ghost use Rattle.audit.specs.Audits.{IsJournalOf, HoldsFirst, Continues, IsStopFault, IsDifferenceOf, IsAnswerFault, IsFaultAt, Refutes, IsAuditFault, RefutesAll};
+
+use crate::fault::{AuditFault, Difference};
+use crate::read::{ReadEntry, is_same, read_entry};
+use catalogue_core::{Catalogue, Stop};
+use dbf_fields::Bytes;
+use station_lines::{answer_line, command_line};
+use std::alloc::{AllocError, Global};
+
+// What is said of an entry whose answer is another.
+fn difference(
+    alloc: Global,
+    number: u64,
+    entry: &ReadEntry<'_>,
+    performed: Bytes,
+) -> Result<Difference, AllocError>
+    ensures said { IfOk result (IsDifferenceOf number entry.now.station entry.now.command entry.now.answer.now performed) }
+{
+    let command = command_line(alloc, &entry.command)?;
+    let told = Bytes::from_slice(alloc, entry.answer)?;
+    Ok(Difference {
+        number,
+        station: entry.station,
+        command,
+        told,
+        performed,
+    })
+}
+
+// The fault of an entry whose answer is another.
+fn answer_fault(alloc: Global, number: u64, entry: &ReadEntry<'_>, performed: Bytes) -> AuditFault
+    ensures said { IsAnswerFault number entry.now.station entry.now.command entry.now.answer.now performed result }
+{
+    match difference(alloc, number, entry, performed) {
+        Ok(difference) => AuditFault::Differs(difference),
+        Err(_) => AuditFault::NoMemory,
+    }
+}
+
+// Performs an entry's command, and answers the line of its answer.
+fn perform_entry(
+    alloc: Global,
+    catalogue: &mut Catalogue,
+    entry: &ReadEntry<'_>,
+) -> Result<Bytes, AuditFault>
+    requires counted { 1 ≤ entry.now.station }
+    requires inside { entry.now.station ≤ catalogue.old.opened.stations }
+    ensures answer { IfOk result (λ line. line ≡ line_of (answer_of catalogue.old entry.now.station entry.now.command)) }
+    ensures entered { IfOk result (λ _. catalogue.new ≡ with_entry catalogue.old entry.now.station entry.now.command) }
+    ensures fault { IfErr result (IsStopFault catalogue.old) }
+{
+    match catalogue.perform(alloc, entry.station, &entry.command) {
+        Ok((_, answer)) => Ok(answer_line(alloc, &answer)?),
+        Err(Stop::JournalFull) => Err(AuditFault::TooLong),
+        Err(Stop::NoMemory) => Err(AuditFault::NoMemory),
+    }
+}
+
+// Performs the entry whose line is first in a text, compares its answer, and answers what stands after its line.
+fn audit_entry<'a>(
+    alloc: Global,
+    catalogue: &mut Catalogue,
+    text: &'a [u8],
+) -> Result<&'a [u8], AuditFault>
+    ensures holds { IfOk result (λ rest. HoldsFirst catalogue.old text.now catalogue.new rest.now) }
+    ensures continues { IfOk result (λ rest. Continues catalogue.old text.now catalogue.new rest.now) }
+    ensures fault { IfErr result (IsFaultAt catalogue.old text.now) }
+    ensures refuted { IfErr result (Refutes catalogue.old text.now) }
+{
+    let number = catalogue.journal().len() as u64 + 1;
+    let stations = catalogue.station_count();
+    let Some(entry) = read_entry(alloc, stations, text)? else {
+        return Err(AuditFault::NoEntry(number));
+    };
+    let performed = perform_entry(alloc, catalogue, &entry)?;
+    if !is_same(performed.as_slice(), entry.answer) {
+        return Err(answer_fault(alloc, number, &entry, performed));
+    }
+    Ok(entry.rest)
+}
+
+/// Performs the entries of a journal's text once more, one after another, on a catalogue that was just opened, and
+/// compares each answer. It answers how many there are, where all hold: the text is then the catalogue's journal.
+///
+/// At a fault the text is the journal of no legal history on the opened tables, but where memory was refused.
+pub fn audit(alloc: Global, catalogue: &mut Catalogue, text: &[u8]) -> Result<u64, AuditFault>
+    requires at_opening { catalogue.old.journal ≡ [] }
+    ensures opened { IfOk result (λ _. catalogue.new.opened ≡ catalogue.old.opened) }
+    ensures holds { IfOk result (λ _. IsJournalOf catalogue.old.opened text.now catalogue.new.journal) }
+    ensures counted { IfOk result (λ count. count ≡ length catalogue.new.journal) }
+    // No journal of a legal history has this text.
+    ensures refuted { IfErr result (RefutesAll catalogue.old.opened text.now) }
+    // The lines before the fault hold.
+    ensures fault { IfErr result (IsAuditFault catalogue.old.opened text.now) }
+{
+    let mut rest = text;
+    while !rest.is_empty() {
+        rest = audit_entry(alloc, catalogue, rest)?;
+    }
+    Ok(catalogue.journal().len() as u64)
+}

@@ -1,0 +1,80 @@
+//! Reading an entry of a journal's text.
+
+ghost use Rattle.std.specs.Prelude.{◌≡◌, ◌↔◌, ◌≤◌, Ok, None, IfOk, IfSome, IsTrue};
+ghost use Rattle.audit.specs.Audits.{IsLineOfCommand, IsNoCommandLine, BeginsWithCommand, BeginsWithNoCommand, IsOnlyFirst};
+
+use catalogue_core::Command;
+use station_lines::{Line, command_line, cut_entry, parse_line};
+use std::alloc::{AllocError, Global};
+
+/// An entry that was read, and what stands after its line.
+#[derive(Debug, Drop)]
+pub(crate) struct ReadEntry<'a> {
+    /// The station, from 1.
+    pub station: u32,
+    /// The command.
+    pub command: Command,
+    /// The line of the answer.
+    pub answer: &'a [u8],
+    /// What stands after the entry's line.
+    pub rest: &'a [u8],
+}
+
+/// Whether two texts are the same.
+#[tactic(auto, using(dbf_fields::proofs::SameLaws::same_bytes))]
+pub(crate) fn is_same(left: &[u8], right: &[u8]) -> bool
+    ensures value { IsTrue result ↔ (left.now ≡ right.now) }
+{
+    left == right
+}
+
+// The command whose line this is.
+fn command_of(alloc: Global, line: &[u8]) -> Result<Option<Command>, AllocError>
+    ensures found { IfOk result (λ found. IfSome found (IsLineOfCommand line.now)) }
+    ensures none { result ≡ Ok None → IsNoCommandLine line.now }
+{
+    let Line::Run(command) = parse_line(alloc, line)? else {
+        return Ok(None);
+    };
+    let written = command_line(alloc, &command)?;
+    if !is_same(written.as_slice(), line) {
+        return Ok(None);
+    }
+    Ok(Some(command))
+}
+
+// Whether a number is one of so many stations.
+fn is_station(number: u64, stations: u32) -> bool
+    ensures value { IsTrue result ↔ ((1 ≤ number) × (number ≤ stations)) }
+{
+    number >= 1 && number <= u64::from(stations)
+}
+
+/// The entry whose line is first in a journal's text: of one of so many stations, and with a command that a line means.
+/// `None` where no such entry's line is first. An error where memory is refused.
+pub(crate) fn read_entry(
+    alloc: Global,
+    stations: u32,
+    text: &[u8],
+) -> Result<Option<ReadEntry<'_>>, AllocError>
+    ensures found { IfOk result (λ found. IfSome found (λ e. BeginsWithCommand stations text.now e.station e.command e.answer.now e.rest.now)) }
+    ensures only { IfOk result (λ found. IfSome found (λ e. IsOnlyFirst stations text.now e.station e.command e.answer.now e.rest.now)) }
+    ensures none { result ≡ Ok None → BeginsWithNoCommand stations text.now }
+{
+    let Some(cut) = cut_entry(text) else {
+        return Ok(None);
+    };
+    if !is_station(cut.station, stations) {
+        return Ok(None);
+    }
+    let station = cut.station as u32;
+    match command_of(alloc, cut.command)? {
+        None => Ok(None),
+        Some(command) => Ok(Some(ReadEntry {
+            station,
+            command,
+            answer: cut.answer,
+            rest: cut.rest,
+        })),
+    }
+}
