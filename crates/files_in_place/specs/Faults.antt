@@ -7,6 +7,8 @@ use Rattle.files_in_place.specs.declared.faults.DiskFault.{DiskFault}
 use Rattle.files_in_place.specs.declared.faults.DiskFault.TheVariants as of_disk
 use Rattle.files_in_place.specs.declared.faults.SetFault.{SetFault}
 use Rattle.files_in_place.specs.declared.faults.SetFault.TheVariants as of_set
+use Rattle.files_in_place.specs.declared.folder_lock.LockFault.{LockFault}
+use Rattle.files_in_place.specs.declared.folder_lock.LockFault.TheVariants as of_lock
 
 abbrev pub set_fault_of : DiskFault → SetFault
 set_fault_of of_disk.NoMemory = of_set.NoMemory
@@ -16,6 +18,11 @@ set_fault_of of_disk.Failed = of_set.Failed
 pub record IsDiskFaultOf (error : Error) (fault : DiskFault) : Type 0 where
   pub memory : error_kind error ≡ OutOfMemory → fault ≡ of_disk.NoMemory
   pub other : error_kind error ≢ OutOfMemory → fault ≡ of_disk.Failed
+
+-- what a lock answers where the system refuses: the same of these two, and never that another run has the folder
+pub record IsLockFaultOf (error : Error) (fault : LockFault) : Type 0 where
+  pub memory : error_kind error ≡ OutOfMemory → fault ≡ of_lock.NoMemory
+  pub other : error_kind error ≢ OutOfMemory → fault ≡ of_lock.Failed
 
 -- memory was refused, or the disk failed: no refusal by the set itself
 abbrev pub IsOfDisk : SetFault → Type 0

@@ -30,6 +30,10 @@ pub enum LockFault {
 }
 
 impl From<io::Error> for LockFault {
+    ghost use Rattle.files_in_place.specs.Faults.{IsLockFaultOf};
+
+    ghost from_gives = { λ error fault. IsLockFaultOf error fault };
+
     fn from(error: io::Error) -> Self {
         if error.kind() == io::ErrorKind::OutOfMemory {
             LockFault::NoMemory

@@ -3,7 +3,8 @@
 //! A [`Disk`] is one folder, and says what a crash may leave. A [`FileSet`] is written file by file under temporary
 //! names; [`FileSet::finish`] puts all of its files in place, and [`FileSet::abandon`] removes them. [`recover`] is called
 //! before anything is read: it finishes what a crash left, or removes it, and may crash too. [`old_or_new`] says it of any
-//! number of crashes. [`SystemDisk`] is a folder of the system, and [`lock_folder`] keeps it for one run at a time.
+//! number of crashes, and [`files_hold_what_was_written`] what the new files hold. [`SystemDisk`] is a folder of the
+//! system, and [`lock_folder`] keeps it for one run at a time.
 //!
 //! Start with `recovered` in specs/Folder.antt, then specs/Staged.antt and `file_set.rt`. What is believed of a disk
 //! stands at the calls of [`Disk`].
