@@ -40,7 +40,8 @@ impl<D: Disk + Drop> Model for FileSet<D> {
 
     ghost view = { λ s. record { disk = s.disk; names = s.names.items; current = s.current; phase = s.phase } };
 
-    ghost invariant = { λ s. D.keeps_promises → HoldsInPhase s.phase s.names.items s.current (D.seen s.disk) (D.is_whole s.disk) (D.is_new s.disk) (D.may_leave s.disk) };
+    ghost invariant = { λ s. D.keeps_promises →
+        HoldsInPhase s.phase s.names.items s.current (D.seen s.disk) (D.is_whole s.disk) (D.is_new s.disk) (D.may_leave s.disk) };
 }
 
 impl<D: Disk + Drop> FileSet<D> {
@@ -80,14 +81,16 @@ impl<D: Disk + Drop> FileSet<D> {
         ensures staging { OnOk result (self.new.phase ≡ Staging) }
         ensures closed { self.old.phase ≢ Staging → (result ≡ Err F.Closed) × (self.new ≡ self.old) }
         ensures bad_name { self.old.phase ≡ Staging → is_file_name name.now ≡ false → (result ≡ Err F.BadName) × (self.new ≡ self.old) }
-        ensures same_name { self.old.phase ≡ Staging → is_file_name name.now ≡ true → is_staged self.old.names name.now ≡ true → (result ≡ Err F.SameName) × (self.new ≡ self.old) }
+        ensures same_name { self.old.phase ≡ Staging → is_file_name name.now ≡ true → is_staged self.old.names name.now ≡ true
+            → (result ≡ Err F.SameName) × (self.new ≡ self.old) }
         // Nothing else refuses a file but want of memory and a failure of the disk.
         ensures open { self.old.phase ≡ Staging → is_file_name name.now ≡ true → is_staged self.old.names name.now ≡ false → IfErr result IsOfDisk }
         ensures unchanged { OnErr result (self.new.phase ≡ Staging → self.new ≡ self.old) }
         // The set can still be abandoned.
         ensures not_ended { self.old.phase ≢ Ended → self.new.phase ≢ Ended }
         // A crash at any moment leaves the old files.
-        ensures any_moment { D.keeps_promises → self.old.phase ≡ Staging → LeavesOnly D.moment D.left_since self.old.disk self.new.disk (HasOldFiles (D.seen self.old.disk)) }
+        ensures any_moment { D.keeps_promises → self.old.phase ≡ Staging
+            → LeavesOnly D.moment D.left_since self.old.disk self.new.disk (HasOldFiles (D.seen self.old.disk)) }
         ensures cause { HasCause (D.faults self.old.disk) (D.faults self.new.disk) (IsErrOf result F.Failed) }
     {
         if self.phase != Phase::Staging {
@@ -106,7 +109,8 @@ impl<D: Disk + Drop> FileSet<D> {
     /// Writes all of the bytes at the end of the file begun last. After a failure of the disk the set can only be
     /// abandoned.
     pub fn write(&mut self, bytes: &[u8]) -> Result<(), SetFault>
-        ensures written { D.keeps_promises → OnOk result ((lies : Name) → self.old.current ≡ Some lies → D.seen self.new.disk lies ≡ option_map (λ content. content ++ bytes.now) (D.seen self.old.disk lies)) }
+        ensures written { D.keeps_promises → OnOk result ((lies : Name) → self.old.current ≡ Some lies
+            → D.seen self.new.disk lies ≡ option_map (λ content. content ++ bytes.now) (D.seen self.old.disk lies)) }
         ensures others { (n : Name) → self.old.current ≢ Some n → D.seen self.new.disk n ≡ D.seen self.old.disk n }
         ensures names { self.new.names ≡ self.old.names }
         ensures current { self.new.current ≡ self.old.current }
@@ -118,7 +122,8 @@ impl<D: Disk + Drop> FileSet<D> {
         // The set can still be abandoned.
         ensures not_ended { self.old.phase ≢ Ended → self.new.phase ≢ Ended }
         // A crash at any moment leaves the old files.
-        ensures any_moment { D.keeps_promises → self.old.phase ≡ Staging → LeavesOnly D.moment D.left_since self.old.disk self.new.disk (HasOldFiles (D.seen self.old.disk)) }
+        ensures any_moment { D.keeps_promises → self.old.phase ≡ Staging
+            → LeavesOnly D.moment D.left_since self.old.disk self.new.disk (HasOldFiles (D.seen self.old.disk)) }
         ensures cause { HasCause (D.faults self.old.disk) (D.faults self.new.disk) (IsErrOf result F.Failed) }
     {
         if self.phase != Phase::Staging {
@@ -146,9 +151,11 @@ impl<D: Disk + Drop> FileSet<D> {
         ensures open { self.old.phase ≡ Staging → IfErr result IsOfDisk }
         ensures unchanged { OnErr result (self.new.phase ≡ Staging → self.new ≡ self.old) }
         // A crash at any moment leaves a folder of which recovery makes the old files or the new ones, all of them.
-        ensures any_moment { D.keeps_promises → self.old.phase ≡ Staging → LeavesOnly D.moment D.left_since self.old.disk self.new.disk (IsOldOrNew self.old.names (D.seen self.old.disk)) }
+        ensures any_moment { D.keeps_promises → self.old.phase ≡ Staging
+            → LeavesOnly D.moment D.left_since self.old.disk self.new.disk (IsOldOrNew self.old.names (D.seen self.old.disk)) }
         // It leaves no other file touched, even before recovery.
-        ensures others { D.keeps_promises → self.old.phase ≡ Staging → LeavesOnly D.moment D.left_since self.old.disk self.new.disk (SameUnstaged self.old.names (D.seen self.old.disk)) }
+        ensures others { D.keeps_promises → self.old.phase ≡ Staging
+            → LeavesOnly D.moment D.left_since self.old.disk self.new.disk (SameUnstaged self.old.names (D.seen self.old.disk)) }
         ensures cause { HasCause (D.faults self.old.disk) (D.faults self.new.disk) (IsErrOf result F.Failed) }
     {
         if self.phase != Phase::Staging {
@@ -175,7 +182,8 @@ impl<D: Disk + Drop> FileSet<D> {
         ensures closed { self.old.phase ≡ Ended → (result ≡ Err F.Closed) × (self.new ≡ self.old) }
         ensures open { self.old.phase ≢ Ended → IfErr result IsOfDisk }
         // A crash at any moment leaves the old files.
-        ensures any_moment { D.keeps_promises → self.old.phase ≢ Ended → LeavesOnly D.moment D.left_since self.old.disk self.new.disk (HasOldFiles (D.seen self.old.disk)) }
+        ensures any_moment { D.keeps_promises → self.old.phase ≢ Ended
+            → LeavesOnly D.moment D.left_since self.old.disk self.new.disk (HasOldFiles (D.seen self.old.disk)) }
         ensures cause { HasCause (D.faults self.old.disk) (D.faults self.new.disk) (IsErrOf result F.Failed) }
     {
         if self.phase == Phase::Ended {
