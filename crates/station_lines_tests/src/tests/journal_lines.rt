@@ -1,0 +1,214 @@
+//! Lines of a journal, as they are written by hand, and what is cut off them.
+
+use catalogue_core::{Answer, Command, Refusal};
+use dbf_fields::Bytes;
+use station_lines::{Line, cut_entry, entry_line, parse_line};
+use std::alloc::{AllocError, Global};
+use std::test::Fail;
+
+// An answer, of a text its bytes.
+#[derive(Clone, Copy)]
+enum Said {
+    Done,
+    Number(u64),
+    Truth(bool),
+    Text(&'static [u8]),
+    Refused(Refusal),
+}
+
+// The station, a line of a command, its answer, and the line of the entry: the command's line and the answer's.
+const ENTRIES: [(u32, &[u8], Said, &[u8]); 12] = [
+    (1, b"appe blan", Said::Done, b"1 12 2 APPEND BLANK OK\n"),
+    (
+        16,
+        b"? lock(16,17)",
+        Said::Truth(false),
+        b"16 14 3 ? RLOCK(16,17) .F.\n",
+    ),
+    (2, b"? recno()", Said::Number(31), b"2 9 2 ? RECNO() 31\n"),
+    (2, b"? notes", Said::Text(b""), b"2 7 0 ? NOTES \n"),
+    (
+        3,
+        b"use staff excl",
+        Said::Refused(Refusal::TableInUse),
+        b"3 19 20 USE STAFF EXCLUSIVE REFUSED 3 TableInUse\n",
+    ),
+    (
+        3,
+        b"frob",
+        Said::Refused(Refusal::BadCommand),
+        b"3 3 21 BAD REFUSED 19 BadCommand\n",
+    ),
+    (
+        4,
+        b"seek 'it is \"x\"'",
+        Said::Truth(true),
+        b"4 16 3 SEEK 'it is \"x\"' .T.\n",
+    ),
+    (
+        4,
+        b"seek \"it's\"",
+        Said::Truth(true),
+        b"4 11 3 SEEK \"it's\" .T.\n",
+    ),
+    (
+        5,
+        b"memo notes with '\x80\xff\x1a\r 1 2 3 '",
+        Said::Done,
+        b"5 29 2 MEMO NOTES WITH \"\x80\xff\x1a\r 1 2 3 \" OK\n",
+    ),
+    (
+        10,
+        b"? notes",
+        Said::Text(b"\r\n1 12 2 APPEND BLANK OK\n"),
+        b"10 7 25 ? NOTES \r\n1 12 2 APPEND BLANK OK\n\n",
+    ),
+    (
+        10,
+        b"? notes",
+        Said::Text(b"\x1a\x1a\n\0 \xff"),
+        b"10 7 6 ? NOTES \x1a\x1a\n\0 \xff\n",
+    ),
+    (
+        4_294_967_295,
+        b"pack",
+        Said::Done,
+        b"4294967295 4 2 PACK OK\n",
+    ),
+];
+
+// What stands after a line: nothing, another line, or bytes that are none.
+const RESTS: [&[u8]; 3] = [b"", b"1 4 2 PACK OK\n", b"\n"];
+
+// Texts that begin with no entry's line: each is cut off, or has one thing wrong.
+const NO_ENTRIES: [&[u8]; 20] = [
+    b"",
+    b"\n",
+    b"1",
+    b"1 ",
+    b" 1 4 2 PACK OK\n",
+    b"1 4 2",
+    b"1 4 2 PACK",
+    b"1 4 2 PACK OK",
+    b"1 4 2 PACK O\n",
+    b"1 4 2 PACK OK\r\n",
+    b"1 4 1 PACK OK\n",
+    b"1 5 2 PACK OK\n",
+    b"01 4 2 PACK OK\n",
+    b"1 04 2 PACK OK\n",
+    b"1  4 2 PACK OK\n",
+    b"1 4 00000000002 PACK OK\n",
+    b"+1 4 2 PACK OK\n",
+    b"1 18446744073709551616 2 PACK OK\n",
+    b"1 18446744073709551615 2 PACK OK\n",
+    b"1 4 \xb2 PACK OK\n",
+];
+
+fn answer_of(alloc: Global, said: Said) -> Result<Answer, AllocError> {
+    Ok(match said {
+        Said::Done => Answer::Done,
+        Said::Number(number) => Answer::Number(number),
+        Said::Truth(truth) => Answer::Truth(truth),
+        Said::Text(text) => Answer::Text(Bytes::from_slice(alloc, text)?),
+        Said::Refused(refusal) => Answer::Refused(refusal),
+    })
+}
+
+// The line of an entry, whose command is that of a line.
+fn written(
+    alloc: Global,
+    station: u32,
+    line: &[u8],
+    said: Said,
+) -> Result<Option<Bytes>, AllocError> {
+    let Line::Run(command) = parse_line(alloc, line)? else {
+        return Ok(None);
+    };
+    let answer = answer_of(alloc, said)?;
+    Ok(Some(entry_line(alloc, station, &command, &answer)?))
+}
+
+// Whether a line, with these bytes after it, is cut off them, and its parts make the line again.
+fn is_cut_back(alloc: Global, station: u32, line: &[u8], rest: &[u8]) -> Result<bool, AllocError> {
+    let mut text = Vec::from_slice(alloc, line)?;
+    text.extend_from_slice(rest)?;
+    let Some(cut) = cut_entry(text.as_slice()) else {
+        return Ok(false);
+    };
+    let mut again = Vec::new(alloc);
+    let counts = format!(in alloc;
+        "{} {} {} ",
+        cut.station,
+        cut.command.len(),
+        cut.answer.len()
+    )?;
+    again.extend_from_slice(counts.as_bytes())?;
+    again.extend_from_slice(cut.command)?;
+    again.extend_from_slice(b" ")?;
+    again.extend_from_slice(cut.answer)?;
+    again.extend_from_slice(b"\n")?;
+    Ok(cut.station == u64::from(station) && again.as_slice() == line && cut.rest == rest)
+}
+
+// The index of the first entry that has another line.
+fn first_miswritten(alloc: Global) -> Result<Option<usize>, AllocError> {
+    for i in 0..ENTRIES.len() {
+        let (station, line, said, wanted) = ENTRIES[i];
+        let Some(text) = written(alloc, station, line, said)? else {
+            return Ok(Some(i));
+        };
+        if text.as_slice() != wanted {
+            return Ok(Some(i));
+        }
+    }
+    Ok(None)
+}
+
+// The index of the first entry whose line is not cut back.
+fn first_miscut(alloc: Global, rest: &[u8]) -> Result<Option<usize>, AllocError> {
+    for i in 0..ENTRIES.len() {
+        let (station, _, _, line) = ENTRIES[i];
+        if !is_cut_back(alloc, station, line, rest)? {
+            return Ok(Some(i));
+        }
+    }
+    Ok(None)
+}
+
+#[test]
+fn entries_have_their_lines(rt: HostRuntime) -> Result<(), Fail> {
+    assert_eq!(rt; first_miswritten(rt.alloc())?, None);
+    Ok(())
+}
+
+#[test]
+fn entries_are_cut_back(rt: HostRuntime) -> Result<(), Fail> {
+    for rest in RESTS {
+        assert_eq!(rt; first_miscut(rt.alloc(), rest)?, None);
+    }
+    Ok(())
+}
+
+#[test]
+fn other_texts_begin_with_no_entry(rt: HostRuntime) -> Result<(), Fail> {
+    for text in NO_ENTRIES {
+        assert!(rt; cut_entry(text).is_none());
+    }
+    Ok(())
+}
+
+// A MEMO of 65,535 bytes, its line with quotes, and its answer as long.
+#[test]
+fn a_long_memo_is_cut_back(rt: HostRuntime) -> Result<(), Fail> {
+    let alloc = rt.alloc();
+    let mut text = Vec::new(alloc);
+    for i in 0..65_535_u32 {
+        text.push((i % 256) as u8)?;
+    }
+    let command = Command::Show(Bytes::from_slice(alloc, b"NOTES")?);
+    let answer = Answer::Text(Bytes::from_vec(text));
+    let line = entry_line(alloc, 7, &command, &answer)?;
+    assert!(rt; line.as_slice().starts_with(b"7 7 65535 ? NOTES \0\x01"));
+    assert!(rt; is_cut_back(alloc, 7, line.as_slice(), b"\n")?);
+    Ok(())
+}
