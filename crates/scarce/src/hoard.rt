@@ -78,11 +78,9 @@ impl Hoard {
     /// Takes all that is left, and leaves these bytes in one piece. False where there is no room any more.
     pub fn leave(&mut self, bytes: usize) -> bool {
         self.take_all();
-        bytes == 0 || self.let_go(bytes)
-    }
-
-    /// Lets go these bytes in one piece, beside what is left already. False where there is no room any more.
-    pub fn let_go(&mut self, bytes: usize) -> bool {
+        if bytes == 0 {
+            return true;
+        }
         let Some(room) = self.rooms.pop() else {
             return false;
         };
