@@ -179,6 +179,7 @@ impl<D: Disk + Drop> FileSet<D> {
         ensures synced { D.keeps_promises → OnOk result (IsSynced (D.seen self.new.disk) (D.is_whole self.new.disk) (D.may_leave self.new.disk)) }
         ensures empty { OnOk result ((self.new.names ≡ []) × (self.new.current ≡ None)) }
         ensures staging { OnOk result (self.new.phase ≡ Staging) }
+        ensures ended { OnErr result (self.new.phase ≡ Ended) }
         ensures closed { self.old.phase ≡ Ended → (result ≡ Err F.Closed) × (self.new ≡ self.old) }
         ensures open { self.old.phase ≢ Ended → IfErr result IsOfDisk }
         // A crash at any moment leaves the old files.

@@ -3,3 +3,4 @@ pub mod PlanLaws
 pub mod ListingLaws
 pub mod ReadingLaws
 pub mod ByteLaws
+pub mod PlacedLaws

@@ -2,3 +2,4 @@ pub mod Files
 pub mod ClosedIndex
 pub mod Writable
 pub mod Closing
+pub mod Placed

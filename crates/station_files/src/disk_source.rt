@@ -6,11 +6,15 @@ use crate::source::{LoadFault, MAX_FILE_BYTES, Source};
 use crate::transfer::read_whole;
 use dbf_fields::Bytes;
 use std::alloc::Global;
-use std::fs::{File, OpenFile};
+use std::fs::{self, File, Metadata};
+use std::io::{self, ErrorKind};
 use std::rt::Files;
 
-/// The files of the system, by their paths. A relative path begins at the folder in which the program
-/// runs. Contracts know nothing of what a file of the system holds.
+// How often a call that a signal interrupts is made.
+const MAX_TRIES: usize = 1000;
+
+/// The regular files of the system, by their paths; a link is followed. A relative path begins at the folder in which the
+/// program runs. Contracts know nothing of what a file of the system holds.
 #[derive(Drop)]
 pub struct DiskSource<R: Files + Drop> {
     rt: R,
@@ -23,11 +27,26 @@ impl<R: Files + Drop> DiskSource<R> {
     }
 }
 
-// The bytes of a file, read into room that is taken at once for as many as the system says that it has.
+// What the system says of a path.
+fn look_at<R: Files>(rt: &R, path: &str) -> io::Result<Metadata> {
+    for _ in 0..MAX_TRIES {
+        match fs::metadata(rt, path) {
+            Err(e) if e.kind() == ErrorKind::Interrupted => {}
+            ended => return ended,
+        }
+    }
+    Err(io::Error::from(ErrorKind::Interrupted))
+}
+
+// The bytes of a file, read into room that is taken at once for as many as the system says that it has. What is no regular
+// file is not opened: a pipe would make that wait.
 fn read_file<R: Files>(rt: &R, alloc: Global, path: &str) -> Result<Vec<u8>, LoadFault> {
+    let found = look_at(rt, path)?;
+    if !found.is_file() {
+        return Err(LoadFault::CannotRead);
+    }
     let file = File::open(rt, path)?;
-    let expected = file.metadata()?.len();
-    read_whole(alloc, file, expected, MAX_FILE_BYTES)
+    read_whole(alloc, file, found.len(), MAX_FILE_BYTES)
 }
 
 impl<R: Files + Drop> Source for DiskSource<R> {
@@ -35,6 +54,8 @@ impl<R: Files + Drop> Source for DiskSource<R> {
 
     ghost failures = { λ _. None };
 
+    /// The bytes of the file of a path. `CannotRead` too where the path is that of a folder, a pipe or a device, at once; and
+    /// where the file has become shorter since its length was asked for.
     fn load(&mut self, alloc: Global, path: &[u8]) -> Result<Bytes, LoadFault> {
         let Ok(path) = str::from_utf8(path) else {
             return Err(LoadFault::CannotRead);

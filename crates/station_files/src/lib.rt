@@ -1,8 +1,9 @@
 //! Files, by their paths and names: where they are read from and where they are written to.
 //!
 //! A [`Source`] is read from and a [`Folder`] is written to. [`MemorySource`] and [`MemoryFolder`] keep files in
-//! memory, and contracts know them whole; [`DiskSource`] and [`DiskFolder`] are files of the system, of which no
-//! contract says what they hold. [`close_files`] writes the files of a run into a folder; which they are is
+//! memory, and contracts know them whole; [`DiskSource`] has the files of the system, of which no contract says what they
+//! hold. A [`DiskFolder`] writes new files for a folder of a disk, which take their places all together, whatever crashes;
+//! `specs/Placed.antt` defines what that means. [`close_files`] writes the files of a run into a folder; which they are is
 //! defined in `specs/Closing.antt`. Start reading there.
 #![tactic(auto)]
 
@@ -14,8 +15,10 @@ mod content;
 mod disk_folder;
 mod disk_source;
 mod folder;
+mod listing;
 mod memory_folder;
 mod memory_source;
+mod missing_folder;
 mod named;
 mod plan;
 mod planned;
@@ -31,6 +34,7 @@ pub use disk_source::DiskSource;
 pub use folder::Folder;
 pub use memory_folder::{MemoryFolder, OpenFile};
 pub use memory_source::MemorySource;
+pub use missing_folder::MissingFolder;
 pub use named::NamedFile;
 pub use source::{LoadFault, MAX_FILE_BYTES, Source};
-pub use transfer::{read_whole, write_part};
+pub use transfer::read_whole;

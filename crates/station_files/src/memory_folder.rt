@@ -1,10 +1,10 @@
 //! Files in memory, that were written.
 
-ghost use Rattle.std.specs.Prelude.{◌≡◌, ◌+◌, []};
+ghost use Rattle.std.specs.Prelude.{◌≡◌, ◌+◌, [], IfOk};
 
 use crate::folder::Folder;
 use dbf_image::{ByteSink, Failures, SinkFault};
-use std::alloc::Global;
+use std::alloc::{AllocError, Global};
 
 /// A file that is being written.
 #[derive(Debug, Drop)]
@@ -13,6 +13,33 @@ pub struct OpenFile {
     pub name: Vec<u8>,
     /// What has been written so far.
     pub bytes: Vec<u8>,
+}
+
+impl OpenFile {
+    // Of no name, and empty.
+    fn new(alloc: Global) -> OpenFile {
+        OpenFile {
+            name: Vec::new(alloc),
+            bytes: Vec::new(alloc),
+        }
+    }
+}
+
+// Files with room for names and contents of up to so many bytes.
+fn spare_files(
+    alloc: Global,
+    count: usize,
+    name_length: usize,
+    file_length: usize,
+) -> Result<Vec<OpenFile>, AllocError> {
+    let mut spare = Vec::new(alloc);
+    for _ in 0..count {
+        let mut file = OpenFile::new(alloc);
+        file.name.reserve(name_length)?;
+        file.bytes.reserve(file_length)?;
+        spare.push(file)?;
+    }
+    Ok(spare)
 }
 
 /// A folder in memory. It fails where memory runs out, and where it was told to.
@@ -27,6 +54,8 @@ pub struct MemoryFolder {
     pub most: usize,
     /// How often a call has failed.
     pub failures: Failures,
+    // Files that are not begun yet, with room.
+    spare: Vec<OpenFile>,
 }
 
 impl MemoryFolder {
@@ -41,7 +70,25 @@ impl MemoryFolder {
             calls: u64::MAX,
             most: usize::MAX,
             failures: Failures::none(),
+            spare: Vec::new(alloc),
         }
+    }
+
+    /// A folder without files that has the memory for so many: for the list of them, and for each a name of up to `name_length`
+    /// bytes and a content of up to `file_length` bytes. Where these suffice no call takes memory. An error where memory is refused.
+    pub fn with_room(
+        alloc: Global,
+        files: usize,
+        name_length: usize,
+        file_length: usize,
+    ) -> Result<MemoryFolder, AllocError>
+        ensures files { IfOk result (λ folder. folder.files.items ≡ []) }
+        ensures failures { IfOk result (λ folder. folder.failures ≡ 0) }
+    {
+        let mut folder = MemoryFolder::new(alloc);
+        folder.files.reserve(files)?;
+        folder.spare = spare_files(alloc, files, name_length, file_length)?;
+        Ok(folder)
     }
 
     // One more call has failed.
@@ -90,13 +137,15 @@ impl Folder for MemoryFolder {
         if self.calls == 0 {
             return Err(self.fail());
         }
-        let Ok(name) = Vec::from_slice(self.alloc, name) else {
+        let mut file = match self.spare.pop() {
+            Some(spare) => spare,
+            None => OpenFile::new(self.alloc),
+        };
+        file.name.clear();
+        file.bytes.clear();
+        if file.name.extend_from_slice(name).is_err() {
             return Err(self.fail());
-        };
-        let file = OpenFile {
-            name,
-            bytes: Vec::new(self.alloc),
-        };
+        }
         if self.files.push(file).is_err() {
             return Err(self.fail());
         }

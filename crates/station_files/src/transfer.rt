@@ -1,29 +1,11 @@
-//! Bytes between memory and a device: one write, and a whole reading.
+//! Bytes from a device: a whole reading.
 
-ghost use Rattle.std.specs.Prelude.{◌≡◌, ◌<◌, ◌≤◌, [], length, take, vec_len, vec_capacity, Ok, Err, IfOk, IfErr, IfSome, OnErr};
-ghost use Rattle.std.specs.Io.KnownBytes.{Appends, Keeps};
+ghost use Rattle.std.specs.Prelude.{◌≡◌, ◌<◌, ◌≤◌, [], vec_len, vec_capacity, Ok, Err, IfOk, IfErr, IfSome};
 ghost use Rattle.station_files.specs.declared.source.TheConstants.{MAX_FILE_BYTES};
 
 use crate::source::LoadFault;
-use dbf_image::SinkFault;
 use std::alloc::Global;
-use std::io::{Read, Write};
-
-/// Writes bytes from the front of the slice, at least one where there is one, and says how many. It calls the
-/// writer once.
-///
-/// An `Err` says that the writer failed or took none of the bytes, and that it holds what it held.
-pub fn write_part<W: Write>(out: &mut W, bytes: &[u8]) -> Result<usize, SinkFault>
-    ensures within { IfOk result (λ n. n ≤ length bytes.now) }
-    ensures some { IfOk result (λ n. 0 < length bytes.now → 0 < n) }
-    ensures wrote { IfOk result (λ n. Appends (W.contents out.old) (W.contents out.new) (take n bytes.now)) }
-    ensures unwritten { OnErr result (Keeps (W.contents out.old) (W.contents out.new)) }
-{
-    match out.write(bytes) {
-        Ok(count) if count > 0 || bytes.is_empty() => Ok(count),
-        _ => Err(SinkFault),
-    }
-}
+use std::io::Read;
 
 // Room for as many bytes as are expected, and one more, so that a reading of them sees their end without more room.
 fn room_for(alloc: Global, expected: u64, limit: usize) -> Result<Vec<u8>, LoadFault>

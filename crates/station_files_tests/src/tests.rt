@@ -1,7 +1,9 @@
 use dbf_fields::Bytes;
 use dbf_image::{ByteSink, Failures, SinkFault, write_all};
+use files_in_place::{SetFault, SystemDisk, recover};
 use station_files::{
-    DiskFolder, DiskSource, Folder, LoadFault, MemoryFolder, MemorySource, NamedFile, Source,
+    DiskFolder, DiskSource, Folder, LoadFault, MemoryFolder, MemorySource, MissingFolder,
+    NamedFile, Source,
 };
 use std::alloc::{AllocError, Global};
 use std::fs;
@@ -97,11 +99,19 @@ fn folder_fails_where_it_is_told_to(rt: HostRuntime) -> Result<(), Fail> {
     Ok(())
 }
 
-// Writes two files into the folder that the test runs in.
-fn write_here(rt: &HostRuntime, alloc: Global) -> Result<bool, Fail> {
-    let path = String::from_str(alloc, ".")?;
-    let mut folder = DiskFolder::new(rt.clone()?, alloc, path);
-    Ok(write_two(&mut folder).is_ok())
+// New files for a new folder, where the test runs.
+fn new_files(
+    rt: &HostRuntime,
+    alloc: Global,
+    folder: &str,
+) -> Result<DiskFolder<SystemDisk<HostRuntime>>, Fail> {
+    if fs::exists(rt, folder)? {
+        fs::remove_dir_all(rt, folder)?;
+    }
+    fs::create_dir(rt, folder)?;
+    let mut disk = SystemDisk::open(rt.clone()?, alloc, folder)?;
+    recover(alloc, &mut disk)?;
+    Ok(DiskFolder::new(alloc, disk))
 }
 
 // The place of the first path that is not answered by `CannotRead`.
@@ -117,23 +127,70 @@ fn first_loaded<S: Source>(alloc: Global, source: &mut S, paths: &[&[u8]]) -> Op
 #[test]
 fn files_of_the_system_are_written_and_read(rt: HostRuntime) -> Result<(), Fail> {
     let alloc = rt.alloc();
-    assert!(rt; write_here(&rt, alloc)?);
+    let mut folder = new_files(&rt, alloc, "written")?;
+    assert_eq!(rt; write_two(&mut folder), Ok(()));
     let mut source = DiskSource::new(rt.clone()?);
-    assert!(rt; loads(alloc, &mut source, b"T.DBF", b"first"));
-    assert!(rt; loads(alloc, &mut source, b"T.DBT", b"second"));
-    let unread: [&[u8]; 5] = [b"no_such_file", b".", b"", b"a\0b", b"\xff"];
-    assert_eq!(rt; first_loaded(alloc, &mut source, &unread), None);
-    fs::remove_file(&rt, "T.DBF")?;
-    fs::remove_file(&rt, "T.DBT")?;
+    assert!(rt; cannot_load(alloc, &mut source, b"written/T.DBF"));
+    assert_eq!(rt; folder.finish(), Ok(()));
+    assert!(rt; loads(alloc, &mut source, b"written/T.DBF", b"first"));
+    assert!(rt; loads(alloc, &mut source, b"written/T.DBT", b"second"));
+    fs::remove_dir_all(&rt, "written")?;
     Ok(())
 }
 
 #[test]
-fn folder_that_is_not_there_fails(rt: HostRuntime) -> Result<(), Fail> {
+fn what_is_no_regular_file_is_not_read(rt: HostRuntime) -> Result<(), Fail> {
+    let mut source = DiskSource::new(rt.clone()?);
+    let unread: [&[u8]; 6] = [b"no_such_file", b".", b"/dev/null", b"", b"a\0b", b"\xff"];
+    assert_eq!(rt; first_loaded(rt.alloc(), &mut source, &unread), None);
+    Ok(())
+}
+
+#[test]
+fn abandoned_files_are_gone(rt: HostRuntime) -> Result<(), Fail> {
     let alloc = rt.alloc();
-    let path = String::from_str(alloc, "no_such_folder")?;
-    let mut folder = DiskFolder::new(rt.clone()?, alloc, path);
-    assert_eq!(rt; folder.begin(b"T.DBF"), Err(SinkFault));
-    assert_eq!(rt; folder.write(b"x"), Err(SinkFault));
+    let mut folder = new_files(&rt, alloc, "abandoned")?;
+    fs::write(&rt, "abandoned/T.DBF", b"old")?;
+    assert_eq!(rt; write_two(&mut folder), Ok(()));
+    assert_eq!(rt; folder.abandon(), Ok(()));
+    let mut source = DiskSource::new(rt.clone()?);
+    assert!(rt; loads(alloc, &mut source, b"abandoned/T.DBF", b"old"));
+    assert!(rt; cannot_load(alloc, &mut source, b"abandoned/~T.DBF"));
+    fs::remove_dir_all(&rt, "abandoned")?;
+    Ok(())
+}
+
+#[test]
+fn why_a_file_was_not_begun(rt: HostRuntime) -> Result<(), Fail> {
+    let mut folder = new_files(&rt, rt.alloc(), "refused")?;
+    let names: [(&[u8], Option<SetFault>); 4] = [
+        (b"N.DBF", None),
+        (b"~N.DBF", Some(SetFault::BadName)),
+        (b"a/b", Some(SetFault::BadName)),
+        (b"N.DBF", Some(SetFault::SameName)),
+    ];
+    for (name, fault) in names {
+        let begun = folder.begin(name).is_ok();
+        assert!(rt; begun == fault.is_none() && folder.fault() == fault);
+    }
+    fs::remove_dir_all(&rt, "refused")?;
+    Ok(())
+}
+
+#[test]
+fn folder_that_is_not_there_takes_no_file(rt: HostRuntime) {
+    assert_eq!(rt; MissingFolder.begin(b"T.DBF"), Err(SinkFault));
+    assert_eq!(rt; MissingFolder.write(b"x"), Err(SinkFault));
+}
+
+#[test]
+fn folder_with_room_keeps_files(rt: HostRuntime) -> Result<(), Fail> {
+    let alloc = rt.alloc();
+    for files in [0, 1, 2] {
+        let mut folder = MemoryFolder::with_room(alloc, files, 5, 6)?;
+        assert_eq!(rt; write_two(&mut folder), Ok(()));
+        assert_eq!(rt; folder.files[0].bytes.as_slice(), b"first".as_slice());
+        assert_eq!(rt; folder.files[1].bytes.as_slice(), b"second".as_slice());
+    }
     Ok(())
 }

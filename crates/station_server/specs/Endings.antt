@@ -6,11 +6,21 @@ use Rattle.std.specs.declared.io.ErrorKind.TheVariants as io
 use Rattle.clap.specs.Words.{kind_of}
 use Rattle.clap.specs.declared.error.kind.ErrorKind.{ErrorKind}
 use Rattle.clap.specs.declared.error.kind.ErrorKind.TheVariants as kind
+use Rattle.files_in_place.specs.declared.faults.DiskFault.{DiskFault}
+use Rattle.files_in_place.specs.declared.faults.DiskFault.TheVariants as disk
+use Rattle.files_in_place.specs.declared.faults.SetFault.{SetFault}
+use Rattle.files_in_place.specs.declared.faults.SetFault.TheVariants as set
+use Rattle.files_in_place.specs.declared.folder_lock.LockFault.{LockFault}
+use Rattle.files_in_place.specs.declared.folder_lock.LockFault.TheVariants as lock
 use Rattle.station_lines.specs.declared.script.format.TheConstants.{LF}
+use Rattle.station_files.specs.declared.close_fault.CloseFault.TheVariants as close
+use Rattle.whole_run.specs.declared.fault.ServeFault.{ServeFault}
 use Rattle.whole_run.specs.declared.fault.ServeFault.TheVariants as serve
 use Rattle.station_server.specs.declared.program.ending.Ending.{Ending}
 use Rattle.station_server.specs.declared.program.ending.Ending.TheVariants as ended
+use Rattle.station_server.specs.declared.program.failure.Failure.{Failure}
 use Rattle.station_server.specs.declared.program.failure.Failure.TheVariants as failure
+use Rattle.station_server.specs.declared.program.failure.FolderFault.TheVariants as folder
 use Rattle.station_server.specs.Failures.{failure_line, status}
 
 -- ---- the exit status
@@ -63,3 +73,27 @@ ending_line (ended.Failed why) = Some (failure_line why)
 abbrev pub unread_arguments : IoKind → Ending
 unread_arguments io.OutOfMemory = ended.Failed (failure.Serve serve.NoMemory)
 unread_arguments _ = ended.NoText
+
+-- ---- the folder for the new files
+
+-- why it can't be opened
+abbrev pub unopened_folder : DiskFault → Failure
+unopened_folder disk.NoMemory = failure.Serve serve.NoMemory
+unopened_folder disk.Failed = failure.Folder folder.Unopened
+
+-- why it can't be locked
+abbrev pub unlocked_folder : LockFault → Failure
+unlocked_folder lock.InUse = failure.Folder folder.InUse
+unlocked_folder lock.NoMemory = failure.Serve serve.NoMemory
+unlocked_folder lock.Failed = failure.Folder folder.Unopened
+
+-- why what an earlier run left is not brought to its end
+abbrev pub unrecovered_folder : DiskFault → Failure
+unrecovered_folder disk.NoMemory = failure.Serve serve.NoMemory
+unrecovered_folder disk.Failed = failure.Folder folder.Unrecovered
+
+-- why a run failed, where the folder says why its last call failed that has: a file that was not written for want of memory
+-- is no fault of the disk
+abbrev pub given_up : Option SetFault → ServeFault → ServeFault
+given_up (Some set.NoMemory) (serve.Close (close.Write name)) = serve.NoMemory
+given_up why fault = fault

@@ -8,6 +8,8 @@ use Rattle.whole_run.specs.declared.fault.FileFault.{FileFault}
 use Rattle.whole_run.specs.declared.fault.FileFault.TheVariants as file
 use Rattle.whole_run.specs.declared.fault.ServeFault.{ServeFault}
 use Rattle.whole_run.specs.declared.fault.ServeFault.TheVariants as serve
+use Rattle.station_server.specs.declared.program.failure.FolderFault.{FolderFault}
+use Rattle.station_server.specs.declared.program.failure.FolderFault.TheVariants as folder
 use Rattle.station_server.specs.declared.program.failure.Failure.{Failure}
 use Rattle.station_server.specs.declared.program.failure.Failure.TheVariants as failure
 use Rattle.station_server.specs.FaultNames.{close_name, image_name, ndx_name, open_name, run_name}
@@ -24,6 +26,7 @@ fault_status (serve.Close fault) = 4
 abbrev pub status : Failure → ℕ
 status failure.BadDate = 1
 status (failure.Serve fault) = fault_status fault
+status (failure.Folder fault) = 4
 
 abbrev pub file_reason : FileFault → List ℕ
 file_reason file.CannotRead = codes "cannot read"
@@ -52,9 +55,18 @@ fault_reason (serve.Run fault) = codes "run: " ++ run_name fault
 fault_reason (serve.Close fault) = close_reason fault
 fault_reason serve.NoMemory = codes "run: NoMemory"
 
+-- why the folder for the new files has not got them
+abbrev pub folder_reason : FolderFault → List ℕ
+folder_reason folder.InUse = codes "another run writes into the folder"
+folder_reason folder.Unopened = codes "cannot open the folder"
+folder_reason folder.Unrecovered = codes "cannot recover the folder"
+folder_reason folder.Unwritten = codes "cannot write the new files"
+folder_reason folder.Unfinished = codes "not all new files are in place: the next start goes on"
+
 abbrev pub reason : Failure → List ℕ
 reason failure.BadDate = codes "bad date"
 reason (failure.Serve fault) = fault_reason fault
+reason (failure.Folder fault) = folder_reason fault
 
 -- the line that is printed, its LF too
 abbrev pub failure_line : Failure → List ℕ

@@ -1,12 +1,18 @@
 -- The command line: which texts are the date of a run, and which values its options have.
-use Rattle.std.specs.Prelude.{◌≡◌, ◌⊎◌, ℕ, true, List, Option, Some, None, IsSome, IfSome, codes}
+use Rattle.std.specs.Prelude.{◌≡◌, ◌⊎◌, ℕ, true, false, List, Option, Some, None, IsSome, IfSome, codes}
 use Rattle.clap.specs.Words.{first_value, found_of, one_text}
 use Rattle.clap.specs.declared.parser.matches.ArgMatches.{ArgMatches}
 use Rattle.dbf_fields.specs.Date.{is_date, year_in}
 use Rattle.dbf_image.specs.Image.{IsOutside}
+use Rattle.files_in_place.specs.Folder.{Name, Folder, is_reserved}
+use Rattle.station_files.specs.declared.closed.ClosedTable.{ClosedTable}
 use Rattle.station_files.specs.declared.named.NamedFile.{NamedFile}
+use Rattle.station_files.specs.Closing.{run_files}
+use Rattle.station_files.specs.Files.{file_at, files_in, listing}
 use Rattle.whole_run.specs.declared.fault.ServeFault.{ServeFault}
-use Rattle.whole_run.specs.WholeRun.{IsServed, IsCutRun}
+use Rattle.whole_run.specs.WholeRun.{IsServed, IsServeFault, IsWholeRun, IsCutRun}
+use Rattle.station_server.specs.declared.program.failure.Failure.{Failure}
+use Rattle.station_server.specs.declared.program.failure.Failure.TheVariants.{BadDate, Serve, Folder as OfFolder}
 use Rattle.station_server.specs.declared.program.options.Options.{Options}
 
 -- eight digits that are a calendar date, of a year that a header can tell
@@ -41,3 +47,21 @@ IsServedBy files options = IsServed files options.setup.now options.reindex opti
 -- a file of the run that the options ask for could not be written
 abbrev pub IsCutRunBy : Option (List NamedFile) → Options → Option (List ℕ) → Option (List ℕ) → ServeFault → Type 0
 IsCutRunBy files options = IsCutRun files options.setup.now options.reindex options.today
+
+-- the folder has these files, each of them under its name, and no reserved name
+pub record HasFiles (files : List NamedFile) (folder : Folder) : Type 0 where
+  pub there : (name : Name) (bytes : List ℕ) → is_reserved name ≡ false → file_at files name ≡ Some bytes → folder name ≡ Some bytes
+  pub clean : (name : Name) → is_reserved name ≡ true → folder name ≡ None
+
+-- The run that the options ask for came to its end: these are its tables and answers, and the folder has their files.
+pub record IsInPlace (files : Option (List NamedFile)) (options : Options) (folder : Folder) (count : ℕ) : Type 0 where
+  pub tables : List ClosedTable
+  pub answers : List (List ℕ)
+  pub run : IsWholeRun files options.setup.now options.reindex tables answers count
+  pub placed : HasFiles (files_in (listing (run_files options.today tables answers))) folder
+
+-- why the files of the run that the options ask for are not in place
+abbrev pub IsPlaceFault : Option (List NamedFile) → Options → Failure → Type 0
+IsPlaceFault files options BadDate = ⊥
+IsPlaceFault files options (Serve fault) = IsServeFault files options.setup.now options.reindex options.today.year fault
+IsPlaceFault files options (OfFolder fault) = Unit {0}

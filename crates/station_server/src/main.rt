@@ -9,18 +9,21 @@
 
 mod program;
 
-ghost use Rattle.std.specs.Prelude.{◌≡◌, IfOk, string_bytes};
+ghost use Rattle.std.specs.Prelude.{◌≡◌, ◌++◌, ◌∷◌, [], IfOk};
 
-use crate::program::{Ending, Failure, Options, command, options_of, serve_options, tell};
-use station_files::{DiskFolder, DiskSource};
+use crate::program::{
+    Ending, Failure, InPlace, Options, command, options_of, serve_in_place, serve_options, tell,
+};
+use files_in_place::{DiskFault, SystemDisk, lock_folder};
+use station_files::{DiskSource, MissingFolder};
 use station_run::OpenGate;
-use std::alloc::{AllocError, Global};
+use std::alloc::Global;
 use std::env;
+use std::fs::{self, File};
 use std::process::ExitCode;
 use std::rt::{Env, Files, Runtime};
 use std::sync::Wait;
 use std::thread::Threads;
-use whole_run::ServeFault;
 
 /// Runs the program. What it prints and its exit status are those of [`tell`]. A stream that takes no text changes
 /// nothing of them: where all files are written the status is 0.
@@ -30,13 +33,15 @@ fn main(rt: HostRuntime) -> ExitCode {
 }
 
 // Reads the command line and serves the run. The answer is how many commands were performed.
-fn run_program<R: Runtime + AllocGlobal + Threads + Wait + Sync>(rt: &R) -> Result<u64, Ending> {
+fn run_program<R: Runtime + Files<File = File> + AllocGlobal + Threads + Wait + Sync>(
+    rt: &R,
+) -> Result<u64, Ending> {
     let words = read_words(rt)?;
     let matches = command(rt.alloc())?.try_get_matches_from(words.as_slice())?;
     let Some(options) = options_of(&matches) else {
         return Err(Ending::Failed(Failure::BadDate));
     };
-    Ok(serve_files(rt, &options)?)
+    serve_files(rt, &options)
 }
 
 // The words of the command line, the program's name too.
@@ -45,24 +50,39 @@ fn read_words<R: Env + AllocGlobal>(rt: &R) -> Result<Vec<String>, Ending> {
 }
 
 // The folder of the system for the new files.
-fn out_folder<R: Files + Drop>(
+fn open_out<R: Files + Drop>(
     rt: R,
     alloc: Global,
     options: &Options<'_>,
-) -> Result<DiskFolder<R>, AllocError>
-    ensures path { IfOk result (λ folder. string_bytes folder.path ≡ options.now.out.now) }
+) -> Result<SystemDisk<R>, DiskFault>
+    ensures path { IfOk result (λ disk. disk.path ≡ options.now.out.now ++ 47 ∷ []) }
 {
-    let path = String::from_str(alloc, options.out)?;
-    Ok(DiskFolder::new(rt, alloc, path))
+    SystemDisk::open(rt, alloc, options.out)
 }
 
-// Serves the run over files of the system.
-fn serve_files<R: Runtime + AllocGlobal + Threads + Wait + Sync>(
+// Serves the run over files of the system. No other run writes into the folder meanwhile.
+fn serve_files<R: Runtime + Files<File = File> + AllocGlobal + Threads + Wait + Sync>(
     rt: &R,
     options: &Options<'_>,
-) -> Result<u64, ServeFault> {
+) -> Result<u64, Ending> {
     let alloc = rt.alloc();
     let mut source = DiskSource::new(rt.clone()?);
-    let mut folder = out_folder(rt.clone()?, alloc, options)?;
-    serve_options(rt, alloc, options, &mut source, &mut folder, &OpenGate)
+    if let Ok(false) = fs::exists(rt, options.out) {
+        // There is nothing to recover, and the first file can't be written.
+        let mut folder = MissingFolder;
+        let count = serve_options(rt, alloc, options, &mut source, &mut folder, &OpenGate)?;
+        return Ok(count);
+    }
+    let lock = lock_folder(rt, options.out)?;
+    let disk = open_out(rt.clone()?, alloc, options)?;
+    let InPlace { ended, disk: _ } = serve_in_place(
+        rt,
+        alloc,
+        options,
+        &mut source,
+        disk,
+        &OpenGate,
+    );
+    drop(lock);
+    Ok(ended?)
 }

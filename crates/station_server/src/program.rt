@@ -1,12 +1,14 @@
 //! The program around a run: its command line, the run that it asks for, and what the program says at its end.
 //!
-//! [`Options`] is what the command line says, and [`serve_options`] serves the run of it. [`Ending`] is why files are
+//! [`Options`] is what the command line says. [`serve_options`] serves the run of it, and [`serve_in_place`] does so over a
+//! folder of a disk, whose new files take their places all together. [`Ending`] is why files are
 //! not written, [`Failure`] why there was no run or why it failed, and [`tell`] what the user gets: a line on standard
 //! output or standard error, and an exit status. The lines and the statuses are defined in `specs/Endings.antt` and
 //! `specs/Failures.antt`. Start reading there.
 
 mod ending;
 mod failure;
+mod in_place;
 mod names;
 mod options;
 mod serving;
@@ -15,7 +17,8 @@ mod telling;
 mod tests;
 
 pub(crate) use ending::{Ending, status_of_ending};
-pub(crate) use failure::{Failure, print_failure, status_of};
+pub(crate) use failure::{Failure, FolderFault, print_failure, status_of};
+pub(crate) use in_place::{InPlace, serve_in_place};
 pub(crate) use options::{Options, command, mistake_status, options_of};
 pub(crate) use serving::serve_options;
 pub(crate) use telling::{Told, fail, print_count, tell};

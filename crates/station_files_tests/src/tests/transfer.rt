@@ -1,23 +1,8 @@
-use dbf_image::SinkFault;
-use station_files::{LoadFault, MAX_FILE_BYTES, read_whole, write_part};
+use station_files::{LoadFault, MAX_FILE_BYTES, read_whole};
 use std::alloc::Global;
 use std::io;
-use std::io::{Read, Write};
+use std::io::Read;
 use std::test::Fail;
-
-// A writer that fails.
-#[derive(Drop)]
-struct BrokenWriter;
-
-impl Write for BrokenWriter {
-    fn write(&mut self, _bytes: &[u8]) -> io::Result<usize> {
-        Err(io::Error::from(io::ErrorKind::StorageFull))
-    }
-
-    fn flush(&mut self) -> io::Result<()> {
-        Ok(())
-    }
-}
 
 // A reader that fails after its bytes.
 #[derive(Drop)]
@@ -33,25 +18,6 @@ impl Read for BrokenReader<'_> {
         }
         self.rest.read(room)
     }
-}
-
-#[test]
-fn write_tells_what_was_taken(rt: HostRuntime) -> Result<(), Fail> {
-    let mut room = [0; 4];
-    let mut out: &mut [u8] = &mut room;
-    let cases: [(&[u8], Result<usize, SinkFault>); 5] = [
-        (b"ab", Ok(2)),
-        (b"", Ok(0)),
-        (b"cde", Ok(2)),
-        (b"f", Err(SinkFault)),
-        (b"", Ok(0)),
-    ];
-    for (bytes, told) in cases {
-        assert_eq!(rt; write_part(&mut out, bytes), told);
-    }
-    assert_eq!(rt; room, *b"abcd");
-    assert_eq!(rt; write_part(&mut BrokenWriter, b"a"), Err(SinkFault));
-    Ok(())
 }
 
 // How many bytes are read, where they are those that the reader has. No limit is over that of files, as reading asks.

@@ -3,8 +3,9 @@
 ghost use Rattle.std.specs.Prelude.{◌≡◌};
 ghost use Rattle.station_server.specs.Endings.{ending_status};
 
-use crate::program::failure::{Failure, status_of};
+use crate::program::failure::{Failure, FolderFault, status_of};
 use crate::program::options::mistake_status;
+use files_in_place::{DiskFault, LockFault};
 use std::alloc::AllocError;
 use std::io;
 use whole_run::ServeFault;
@@ -82,5 +83,48 @@ impl From<ServeFault> for Ending {
 
     fn from(fault: ServeFault) -> Ending {
         Ending::Failed(Failure::Serve(fault))
+    }
+}
+
+impl From<Failure> for Ending {
+    ghost use Rattle.std.specs.Prelude.{◌≡◌};
+    ghost use Rattle.station_server.specs.declared.program.ending.Ending.TheVariants.{Failed};
+
+    ghost from_gives = { λ failure ending. ending ≡ Failed failure };
+
+    fn from(failure: Failure) -> Ending {
+        Ending::Failed(failure)
+    }
+}
+
+// A fault in opening the folder for the new files.
+impl From<DiskFault> for Ending {
+    ghost use Rattle.std.specs.Prelude.{◌≡◌};
+    ghost use Rattle.station_server.specs.declared.program.ending.Ending.TheVariants.{Failed};
+    ghost use Rattle.station_server.specs.Endings.{unopened_folder};
+
+    ghost from_gives = { λ fault ending. ending ≡ Failed (unopened_folder fault) };
+
+    fn from(fault: DiskFault) -> Ending {
+        match fault {
+            DiskFault::NoMemory => Ending::Failed(Failure::Serve(ServeFault::NoMemory)),
+            DiskFault::Failed => Ending::Failed(Failure::Folder(FolderFault::Unopened)),
+        }
+    }
+}
+
+impl From<LockFault> for Ending {
+    ghost use Rattle.std.specs.Prelude.{◌≡◌};
+    ghost use Rattle.station_server.specs.declared.program.ending.Ending.TheVariants.{Failed};
+    ghost use Rattle.station_server.specs.Endings.{unlocked_folder};
+
+    ghost from_gives = { λ fault ending. ending ≡ Failed (unlocked_folder fault) };
+
+    fn from(fault: LockFault) -> Ending {
+        match fault {
+            LockFault::InUse => Ending::Failed(Failure::Folder(FolderFault::InUse)),
+            LockFault::NoMemory => Ending::Failed(Failure::Serve(ServeFault::NoMemory)),
+            LockFault::Failed => Ending::Failed(Failure::Folder(FolderFault::Unopened)),
+        }
     }
 }

@@ -2,7 +2,7 @@
 
 ghost use Rattle.std.specs.Prelude.{◌≡◌, ◌++◌, OnOk};
 ghost use Rattle.std.specs.Io.KnownBytes.{Appends};
-ghost use Rattle.station_server.specs.Failures.{close_reason, fault_reason, file_reason, failure_line, reason, status, unread_file, unwritten};
+ghost use Rattle.station_server.specs.Failures.{close_reason, fault_reason, file_reason, folder_reason, failure_line, reason, status, unread_file, unwritten};
 
 use crate::program::names::{close_name, image_name, ndx_name, open_name, run_name};
 use dbf_fields::Bytes;
@@ -11,6 +11,21 @@ use std::io;
 use std::io::Write;
 use whole_run::{FileFault, ServeFault};
 
+/// Why the folder for the new files has not got them.
+#[derive(Clone, Copy, Debug, PartialEq, Eq)]
+pub(crate) enum FolderFault {
+    /// Another run writes into it.
+    InUse,
+    /// It can't be opened.
+    Unopened,
+    /// What an earlier run left in it was not brought to its end.
+    Unrecovered,
+    /// The new files were not written whole, and none of them is in place.
+    Unwritten,
+    /// Not all new files are in place, and the next start goes on.
+    Unfinished,
+}
+
 /// Why a call of the program failed, where `clap` had nothing to object.
 #[derive(Debug, PartialEq, Eq, Drop)]
 pub(crate) enum Failure {
@@ -18,10 +33,12 @@ pub(crate) enum Failure {
     BadDate,
     /// The whole run did not come to its end.
     Serve(ServeFault),
+    /// The folder for the new files has not got them.
+    Folder(FolderFault),
 }
 
 /// The exit status of a failure: 1 for the date and the setup, 2 for a file and the opening, 3 for the run and
-/// for want of memory, 4 for the writing.
+/// for want of memory, 4 for the writing and its folder.
 pub(crate) fn status_of(failure: &Failure) -> u8
     ensures value { result ≡ status failure.now }
 {
@@ -33,6 +50,7 @@ pub(crate) fn status_of(failure: &Failure) -> u8
         Failure::Serve(ServeFault::Run(_)) => 3,
         Failure::Serve(ServeFault::NoMemory) => 3,
         Failure::Serve(ServeFault::Close(_)) => 4,
+        Failure::Folder(_) => 4,
     }
 }
 
@@ -53,6 +71,20 @@ fn print_reason<W: Write>(out: &mut W, failure: &Failure) -> io::Result<()>
     match failure {
         Failure::BadDate => out.write_all(b"bad date"),
         Failure::Serve(fault) => print_fault(out, fault),
+        Failure::Folder(fault) => out.write_all(folder_text(*fault).as_bytes()),
+    }
+}
+
+// Why the folder for the new files has not got them.
+fn folder_text(fault: FolderFault) -> &'static str
+    ensures value { result.now ≡ folder_reason fault }
+{
+    match fault {
+        FolderFault::InUse => "another run writes into the folder",
+        FolderFault::Unopened => "cannot open the folder",
+        FolderFault::Unrecovered => "cannot recover the folder",
+        FolderFault::Unwritten => "cannot write the new files",
+        FolderFault::Unfinished => "not all new files are in place: the next start goes on",
     }
 }
 

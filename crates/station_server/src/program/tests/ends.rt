@@ -1,15 +1,21 @@
 //! How calls of the program end: what is written, what is printed, and the exit status.
 
-use crate::program::{Ending, Failure, Options, command, serve_options, tell};
+use crate::program::{
+    Ending, Failure, FolderFault, InPlace, Options, command, serve_in_place, serve_options, tell,
+};
 use dbf_fields::{Bytes, day_of};
 use dbf_image::Failures;
+use files_in_place::{DiskFault, LockFault, SystemDisk};
 use station_files::{CloseFault, MemoryFolder, MemorySource, NamedFile};
 use station_run::OpenGate;
 use std::alloc::{AllocError, Global};
-use std::io;
 use std::io::Write;
 use std::process::ExitCode;
+use std::rt::Runtime;
+use std::sync::Wait;
 use std::test::Fail;
+use std::thread::Threads;
+use std::{fs, io};
 use whole_run::ServeFault;
 
 // The DBF file of a table with one field of characters, A, one byte wide, without records, dated 1985-01-02.
@@ -30,17 +36,22 @@ fn named(alloc: Global, name: &[u8], bytes: &[u8]) -> Result<NamedFile, AllocErr
     })
 }
 
-#[test]
-fn tables_are_dated_by_the_command_line(rt: HostRuntime) -> Result<(), Fail> {
-    let alloc = rt.alloc();
+// A setup of a table and a script, and these.
+fn one_table(alloc: Global) -> Result<MemorySource, AllocError> {
     let setup = named(alloc, b"A.SET", b"TABLE T t.dbf\nSTATION s.prg\n")?;
     let table = named(alloc, b"t.dbf", &TABLE)?;
     let script = named(alloc, b"s.prg", b"USE T\n")?;
-    let mut source = MemorySource {
+    Ok(MemorySource {
         files: vec![in alloc; setup, table, script]?,
         loads: u64::MAX,
         failures: Failures::none(),
-    };
+    })
+}
+
+#[test]
+fn tables_are_dated_by_the_command_line(rt: HostRuntime) -> Result<(), Fail> {
+    let alloc = rt.alloc();
+    let mut source = one_table(alloc)?;
     let mut folder = MemoryFolder::new(alloc);
     let options = Options {
         setup: "A.SET",
@@ -52,6 +63,48 @@ fn tables_are_dated_by_the_command_line(rt: HostRuntime) -> Result<(), Fail> {
     assert_eq!(rt; served, Ok(1));
     let written = folder.files.first().ok_or("a file")?;
     assert!(rt; written.bytes.as_slice().starts_with(&[0x03, 87, 3, 15]));
+    Ok(())
+}
+
+// A run over a new folder of the system, in which an earlier run has left a file that is to get its name, and one that isn't.
+fn serve_here<R: Runtime + AllocGlobal + Threads + Wait + Sync>(
+    rt: &R,
+    source: &mut MemorySource,
+) -> Result<Result<u64, Failure>, Fail> {
+    let alloc = rt.alloc();
+    if fs::exists(rt, "placed")? {
+        fs::remove_dir_all(rt, "placed")?;
+    }
+    fs::create_dir(rt, "placed")?;
+    fs::write(rt, "placed/~LAST.TXT", b"of the run before")?;
+    fs::write(rt, "placed/~~list", b"LAST.TXT\n")?;
+    fs::write(rt, "placed/~LOST.TXT", b"of no run")?;
+    let options = Options {
+        setup: "A.SET",
+        out: "placed",
+        today: day_of(1987, 3, 15).ok_or("a date")?,
+        reindex: false,
+    };
+    let disk = SystemDisk::open(rt.clone()?, alloc, options.out)?;
+    let InPlace { ended, disk: _ } = serve_in_place(rt, alloc, &options, source, disk, &OpenGate);
+    Ok(ended)
+}
+
+#[test]
+fn files_take_their_places(rt: HostRuntime) -> Result<(), Fail> {
+    let mut source = one_table(rt.alloc())?;
+    assert_eq!(rt; serve_here(&rt, &mut source)?, Ok(1));
+    for (name, is_there) in [
+        ("placed/T.DBF", true),
+        ("placed/STATION1.TXT", true),
+        ("placed/LAST.TXT", true),
+        ("placed/~~list", false),
+        ("placed/~T.DBF", false),
+        ("placed/~LOST.TXT", false),
+    ] {
+        assert!(rt; fs::exists(&rt, name)? == is_there);
+    }
+    fs::remove_dir_all(&rt, "placed")?;
     Ok(())
 }
 
@@ -132,6 +185,29 @@ For more information, try '--help'.
         ),
     ];
     assert_eq!(rt; first_untold(alloc, &cases)?, None);
+    Ok(())
+}
+
+#[test]
+fn each_end_at_the_folder_has_its_status_and_line(rt: HostRuntime) -> Result<(), Fail> {
+    let of_folder = |fault| Err(Ending::Failed(Failure::Folder(fault)));
+    let in_use = "station_server: another run writes into the folder\n";
+    let unopened = "station_server: cannot open the folder\n";
+    let unrecovered = "station_server: cannot recover the folder\n";
+    let unwritten = "station_server: cannot write the new files\n";
+    let unfinished = "station_server: not all new files are in place: the next start goes on\n";
+    let no_memory = "station_server: run: NoMemory\n";
+    let cases = [
+        (Err(Ending::from(LockFault::InUse)), 4, "", in_use),
+        (Err(Ending::from(LockFault::Failed)), 4, "", unopened),
+        (Err(Ending::from(LockFault::NoMemory)), 3, "", no_memory),
+        (Err(Ending::from(DiskFault::Failed)), 4, "", unopened),
+        (Err(Ending::from(DiskFault::NoMemory)), 3, "", no_memory),
+        (of_folder(FolderFault::Unrecovered), 4, "", unrecovered),
+        (of_folder(FolderFault::Unwritten), 4, "", unwritten),
+        (of_folder(FolderFault::Unfinished), 4, "", unfinished),
+    ];
+    assert_eq!(rt; first_untold(rt.alloc(), &cases)?, None);
     Ok(())
 }
 

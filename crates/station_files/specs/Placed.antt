@@ -1,0 +1,58 @@
+-- New files that are written for a folder of a disk, and the folder once they have their places.
+use Rattle.std.specs.Prelude.{◌≡◌, ◌⊎◌, ℕ, List, [], ◌∷◌, ◌++◌, Option, Some, None, map, false, if◌then◌else◌}
+use Rattle.std.specs.List.{AllByRecursion}
+use Rattle.files_in_place.specs.Folder.{Name, Folder, is_reserved, temporary, first_of}
+use Rattle.files_in_place.specs.Recovery.{HasOldFiles, RecoversTo}
+use Rattle.files_in_place.specs.Staged.{Set, is_staged}
+use Rattle.files_in_place.specs.declared.faults.SetFault.{SetFault}
+use Rattle.station_files.specs.declared.named.NamedFile.{NamedFile}
+use Rattle.station_files.specs.Files.{file_at, files_in, listing, IsOfBytes}
+
+-- What contracts see of new files for a folder of a disk: their set, the files as one list, how often a call has failed, and
+-- why the last one did that has.
+pub record NewFiles (D : Type 0) : Type 0 where
+  pub set : Set D
+  pub written : List ℕ
+  pub failures : ℕ
+  pub fault : Option SetFault
+
+-- the folder with these files in the place of those of their names, and without the files of reserved names
+abbrev pub with_files : List NamedFile → Folder → Folder
+with_files files folder name = if is_reserved name then None else first_of (file_at files name) (folder name)
+
+abbrev pub names_of : List NamedFile → List Name
+names_of files = map (λ file. file.name) files
+
+-- the disk has each of these files under its temporary name
+abbrev pub AreTemporary : List NamedFile → Folder → Type 0
+AreTemporary files folder = AllByRecursion (λ file. folder (temporary file.name) ≡ Some file.bytes) files
+
+-- the file that is being written is the last of these, and no other has its name
+pub record IsBegunLast (files : List NamedFile) (current : Option Name) : Type 0 where
+  pub before : List NamedFile
+  pub last : NamedFile
+  pub order : files ≡ before ++ last ∷ []
+  pub begun : current ≡ Some (temporary last.name)
+  pub other : is_staged (names_of before) last.name ≡ false
+
+-- the file that is being written, where there is one, is the last of these
+abbrev pub IsCurrent : List NamedFile → Option Name → Type 0
+IsCurrent files None = files ≡ []
+IsCurrent files (Some lies) = IsBegunLast files (Some lies)
+
+-- The files of the set are those of the list, and the disk has them under their temporary names.
+pub record AreWritten (written : List ℕ) (names : List Name) (current : Option Name) (folder : Folder) : Type 0 where
+  pub files : List NamedFile
+  pub listed : written ≡ listing files
+  pub bytes : AllByRecursion IsOfBytes files
+  pub named : names ≡ names_of files
+  pub there : AreTemporary files folder
+  pub last : IsCurrent files current
+
+-- the folder has the files of the list in their places, and else what it had
+abbrev pub IsPlaced : List ℕ → Folder → Folder → Type 0
+IsPlaced written old new = (n : Name) → new n ≡ with_files (files_in written) old n
+
+-- what a crash leaves stands for the old files, or for those of the list in their places, all of them
+abbrev pub IsOldOrPlaced : List ℕ → Folder → Folder → Type 0
+IsOldOrPlaced written old left = HasOldFiles old left ⊎ RecoversTo (with_files (files_in written) old) left
