@@ -189,6 +189,7 @@ fn folder_with_room_keeps_files(rt: HostRuntime) -> Result<(), Fail> {
     for files in [0, 1, 2] {
         let mut folder = MemoryFolder::with_room(alloc, files, 5, 6)?;
         assert_eq!(rt; write_two(&mut folder), Ok(()));
+        assert_eq!(rt; folder.files.len(), 2);
         assert_eq!(rt; folder.files[0].bytes.as_slice(), b"first".as_slice());
         assert_eq!(rt; folder.files[1].bytes.as_slice(), b"second".as_slice());
     }
