@@ -5,7 +5,8 @@
 
 The model is mark.c, which cc builds; without cc, and without the program sqlite3, their columns stay empty. Each job is done five
 times, by turns with the others, and the least processor time of each counts, of the process and of the system for it. Where the
-model writes the same files, they are compared byte by byte.
+model writes the same files, they are compared byte by byte. The commands of a script are SQLite's by statements.py. Memory is the
+greatest of a run by the size of the files that it reads, where GNU time is.
 """
 
 import os
@@ -17,6 +18,7 @@ import sys
 from pathlib import Path
 
 RUNS = 5
+TIME = "/usr/bin/time"
 INDEXES = ["BYCODE", "BYNAME", "BYREST"]
 
 
@@ -92,6 +94,19 @@ class Bench:
         shutil.copyfile(self.folder / f"{count}.db", copy)
         return processor_seconds([self.sqlite, str(copy), commands], self.folder)
 
+    def commands(self, count, script):
+        """The time of a script's commands on a copy of a base, by an interpreter that is started for them."""
+        copy = self.folder / "copy.db"
+        shutil.copyfile(self.folder / f"{count}.db", copy)
+        statements = Path(__file__).resolve().parent / "statements.py"
+        return processor_seconds([sys.executable, str(statements), str(copy), script], self.folder)
+
+    def memory(self, setup, *options):
+        """The greatest memory of a run, in bytes."""
+        words = [self.program, "--setup", setup, "--out", str(fresh(self.out)), "--today", "19870315", *options]
+        done = subprocess.run([TIME, "-f", "%M", *words], cwd=self.folder, capture_output=True, text=True, check=True)
+        return 1024 * int(done.stderr)
+
     def least(self, jobs):
         """The least time of each job, by turns; None where there is no job."""
         times = [[job() for job in jobs if job] for _ in range(RUNS)]
@@ -105,6 +120,17 @@ def told(seconds, beside):
 
 def show(job, seconds, model, base):
     print(f"  {job:40} {seconds:8.3f} s   {told(seconds, model)}   {told(seconds, base)}")
+
+
+def show_memory(bench):
+    print("\n  greatest memory, times the files that are read")
+    for kind, count in (("PLAIN", 0), ("INDEXED", 1), ("THREE", 3)):
+        files = [bench.folder / name for name in ["T.DBF", *(f"{it}.NDX" for it in INDEXES[:count])]]
+        size = sum(path.stat().st_size for path in files)
+        for options in ([], ["--reindex"]) if count else ([],):
+            memory = bench.memory(f"{kind}-EMPTY.SET", *options)
+            job = " ".join([f"read and write all, {count} indexes", *options])
+            print(f"  {job:40} {memory / 1e6:8.1f} MB {memory / size:5.1f}")
 
 
 def main():
@@ -121,14 +147,20 @@ def main():
     reindex = bench.sqlite and (lambda: bench.base(3, "REINDEX"))
     seconds, beside = bench.least([lambda: bench.server("THREE-EMPTY.SET", "--reindex"), reindex])
     show("the same with --reindex, 3 indexes", seconds, None, beside)
+    statements = bench.sqlite and (lambda: bench.commands(1, "MIXED.PRG"))
+    seconds, beside = bench.least([lambda: bench.server("INDEXED-MIXED.SET"), statements])
+    show("MIXED.PRG, 1 index", seconds, None, beside)
     pack = bench.sqlite and (lambda: bench.base(3, "delete from t where marked; VACUUM"))
     jobs = [lambda: bench.server("MARKED-EMPTY.SET"), lambda: bench.server("MARKED-PACK.SET"), pack]
     empty, packed, beside = bench.least(jobs)
     show("PACK over that, 3 indexes, a tenth marked", packed - empty, None, beside)
+    if os.path.exists(TIME):
+        show_memory(bench)
     for name in ("new", "made"):
         shutil.rmtree(bench.folder / name, ignore_errors=True)
     for name in ("0.db", "1.db", "3.db", "copy.db", "into.db", "mark"):
         (bench.folder / name).unlink(missing_ok=True)
 
 
-main()
+if __name__ == "__main__":
+    main()

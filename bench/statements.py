@@ -1,0 +1,46 @@
+#!/usr/bin/env python3
+"""Performs the commands of a script of make_tables.py on a SQLite base of beside.py, in one transaction.
+
+    python3 statements.py BASE SCRIPT
+
+The cursor is kept here; each command is one prepared statement, and those that move by the order ask the index.
+"""
+
+import sqlite3
+import sys
+
+WIDTHS = {"CODE": 12, "NAME": 24, "REST": 13}
+MOVES = {
+    "SKIP": "select rowid from t where (code, rowid) > (select code, rowid from t where rowid = ?) order by code, rowid limit 1",
+    "SKIP -1": "select rowid from t where (code, rowid) < (select code, rowid from t where rowid = ?) order by code desc, rowid desc limit 1",
+}
+SEEK = "select rowid from t where code >= ? order by code, rowid limit 1"
+APPEND = f"insert into t values (' ', '{'':12}', '{'':24}', 0, '{'':13}')"
+
+
+def replace(base, at, rest):
+    field, _, value = rest.partition(" WITH ")
+    cell = value.strip('"').ljust(WIDTHS[field]) if field in WIDTHS else float(value)
+    base.execute(f"update t set {field.lower()} = ? where rowid = ?", (cell, at))
+
+
+def main():
+    base = sqlite3.connect(sys.argv[1], isolation_level=None)
+    base.execute("begin")
+    at = 1
+    for line in open(sys.argv[2]).read().splitlines()[1:]:
+        word, _, rest = line.partition(" ")
+        if line in MOVES:
+            (at,) = base.execute(MOVES[line], (at,)).fetchone()
+        elif word == "SEEK":
+            (at,) = base.execute(SEEK, (rest.strip('"'),)).fetchone()
+        elif word == "APPEND":
+            at = base.execute(APPEND).lastrowid
+        elif word == "GO":
+            at = int(rest)
+        else:
+            replace(base, at, rest)
+    base.execute("commit")
+
+
+main()
