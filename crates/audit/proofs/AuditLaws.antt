@@ -1,6 +1,6 @@
 -- What an audit has found, entry by entry.
 use Rattle.std.proofs.Common.{◌≡◌, ◌≢◌, ℕ, Bool, true, false, Result, Ok, Err, ◌+◌, ◌^◌, ◌<◌, ◌≤◌, List, [], ◌∷◌, ◌++◌, length, map, refl, ap, ◌∙◌, sym, subst, arith}
-use Rattle.std.specs.Prelude.{IsTrue, ◌↔◌, ◌==◌, IfErr, IsErrAnd}
+use Rattle.std.specs.Prelude.{IsTrue, ◌↔◌, ◌==◌, IfErr, OnErr, IsErrAnd}
 use Rattle.std.proofs.lemmas.Bool.{false≢true, eqb-true}
 use Rattle.std.proofs.lemmas.Bool.Decides.{nat_tests}
 use Rattle.std.specs.Fmt.{decimal}
@@ -15,7 +15,8 @@ use Rattle.catalogue_core.specs.Step.{step}
 use Rattle.catalogue_core.proofs.ReplayLaws.{after-push, legal-push, all-push}
 use Rattle.station_lines.specs.declared.script.format.TheConstants.{LF}
 use Rattle.station_lines.specs.declared.script.line.Line.{Line}
-use Rattle.station_lines.specs.declared.script.line.Line.TheVariants.{Run}
+use Rattle.station_lines.specs.declared.script.line.Line.TheVariants.{Run, Status, Blank}
+use Rattle.station_lines.specs.Script.Keeping.{keeps_text}
 use Rattle.station_lines.specs.Script.Meaning.{Means}
 use Rattle.station_lines.specs.AnswerLines.{line_of}
 use Rattle.station_lines.specs.CommandLines.{text_of_command, IsOfALine}
@@ -26,7 +27,7 @@ use Rattle.station_lines.proofs.JournalLaws.{entry_one}
 use Rattle.audit.specs.declared.fault.AuditFault.{AuditFault}
 use Rattle.audit.specs.declared.fault.AuditFault.TheVariants.{NoEntry, Differs, TooLong, NoMemory}
 use Rattle.audit.specs.declared.fault.Difference.{Difference}
-use Rattle.audit.specs.Audits.{AreOfLines, IsJournalOf, IsContinuedBy, IsLineOfCommand, IsNoCommandLine, BeginsWithCommand, BeginsWithNoCommand, IsOnlyFirst, HoldsFirst, Continues, IsStopFault, IsDifferenceOf, IsAnswerFault, IsDifferenceAt, IsFaultAt, Refutes, HasHeld, IsAuditFault, RefutesAll}
+use Rattle.audit.specs.Audits.{AreOfLines, IsJournalOf, IsContinuedBy, IsLineOfCommand, IsNoCommandLine, IsCommand, MeansACommand, BeginsWithCommand, BeginsWithNoCommand, BeginsWithReadable, IsOnlyFirst, HoldsFirst, Continues, IsStopFault, IsDifferenceOf, IsAnswerFault, IsDifferenceAt, IsFaultAt, Refutes, HasHeld, IsAuditFault, RefutesAll}
 
 -- ---- reading a line
 
@@ -141,6 +142,47 @@ only_first stations text station line answer rest command few long first is s c 
       rest_is = same.rest_is;
     }
 
+-- ---- what memory is taken for
+
+pub on_err : {T E P : Type 0} (r : Result T E) → P → OnErr r P
+on_err (Ok x) p = tt
+on_err (Err e) p = p
+
+command_keeps : (meaning : Line) → keeps_text meaning ≡ true → IsCommand meaning
+command_keeps (Run command) kept = tt
+command_keeps Status kept = absurd (false≢true kept)
+command_keeps Blank kept = absurd (false≢true kept)
+
+-- memory is taken for a line that keeps a text, and so means a command
+pub keeping_means : (line : List ℕ) → ((meaning : Line) → Means line meaning → keeps_text meaning ≡ true) → MeansACommand line
+keeping_means line kept meaning m = command_keeps meaning (kept meaning m)
+
+-- a line with one meaning, a command
+pub run_means : (line : List ℕ) (meaning : Line) (command : Command) → ((other : Line) → Means line other → other ≡ meaning) → meaning ≡ Run command → MeansACommand line
+run_means line meaning command only is other m = subst IsCommand (sym (only other m ∙ is)) tt
+
+-- the line of a command means it
+pub line_means_one : (command : Command) → IsOfALine command → MeansACommand (text_of_command command)
+line_means_one command of_a_line other m =
+    subst IsCommand (one_meaning (text_of_command command) (Run command) other (text_means command (text_of_command command) refl of_a_line) m) tt
+
+pub readable : (stations : ℕ) (text : List ℕ) (station : ℕ) (line answer rest : List ℕ) → BeginsWithEntry text (station, line, answer) rest → 1 ≤ station → station ≤ stations → MeansACommand line
+    → BeginsWithReadable stations text
+readable stations text station line answer rest first one inside means = record {
+  station = station;
+  line = line;
+  answer = answer;
+  rest = rest;
+  is = first.is;
+  counted = one;
+  inside = inside;
+  means = means;
+}
+
+command_readable : (stations : ℕ) (text : List ℕ) (station : ℕ) (command : Command) (answer rest : List ℕ) → BeginsWithCommand stations text station command answer rest → BeginsWithReadable stations text
+command_readable stations text station command answer rest first =
+    readable stations text station (text_of_command command) answer rest first.line first.counted first.inside (line_means_one command first.of_a_line)
+
 -- ---- a step of an audit
 
 -- the fault that `?` hands on
@@ -193,11 +235,12 @@ refuted_answer h text rest station command told performed d only is other e es g
     = g.legal.0 ∙ (λ i. (step (state_of h) (sym same.station_is i) (sym same.command_is i)).1) in
     other (is ∙ (sym (ap line_of answers) ∙ sym same.answer_is))
 
-pub stop_at : (h : History) (text : List ℕ) (fault : AuditFault) → IsStopFault h fault → IsFaultAt h text fault
-stop_at h text (NoEntry n) stop = absurd stop
-stop_at h text (Differs d) stop = absurd stop
-stop_at h text TooLong stop = stop
-stop_at h text NoMemory stop = tt
+pub stop_at : (h : History) (text rest : List ℕ) (station : ℕ) (command : Command) (told : List ℕ) (fault : AuditFault) → BeginsWithCommand h.opened.stations text station command told rest → IsStopFault h fault
+    → IsFaultAt h text fault
+stop_at h text rest station command told (NoEntry n) first stop = absurd stop
+stop_at h text rest station command told (Differs d) first stop = absurd stop
+stop_at h text rest station command told TooLong first stop = stop
+stop_at h text rest station command told NoMemory first stop = command_readable h.opened.stations text station command told rest first
 
 pub stop_refutes : (h : History) (text : List ℕ) (fault : AuditFault) → IsStopFault h fault → Refutes h text fault
 stop_refutes h text (NoEntry n) stop = absurd stop
@@ -228,7 +271,7 @@ pub answer_at : (h : History) (text rest : List ℕ) (number station : ℕ) (com
 answer_at h text rest number station command told performed (NoEntry n) first is other place of = absurd of
 answer_at h text rest number station command told performed (Differs d) first is other place of = difference_at h text rest number station command told performed d first is other place of
 answer_at h text rest number station command told performed TooLong first is other place of = absurd of
-answer_at h text rest number station command told performed NoMemory first is other place of = tt
+answer_at h text rest number station command told performed NoMemory first is other place of = command_readable h.opened.stations text station command told rest first
 
 pub answer_refutes : (h : History) (text rest : List ℕ) (number station : ℕ) (command : Command) (told performed : List ℕ) (fault : AuditFault)
     → IsOnlyFirst h.opened.stations text station command told rest → performed ≡ line_of (answer_of h station command) → performed ≢ told
@@ -321,6 +364,29 @@ refuted_all opened text h rest NoMemory audited some none = tt
 
 pub at_fault : (opened : Opened) (text : List ℕ) (h : History) (rest : List ℕ) (fault : AuditFault) → HasAudited opened text h rest → IsFaultAt h rest fault → IsAuditFault opened text fault
 at_fault opened text h rest fault audited at = record { history = h; rest = rest; held = audited.held; at = at }
+
+-- a text that begins with entries, and goes on with a line for which memory is taken, begins with one
+first_readable : (opened : Opened) (journal : List Entry) (text rest : List ℕ) → text ≡ lines_and (map line_parts journal) rest → AreOfStations opened journal → AreOfLines journal
+    → BeginsWithReadable opened.stations rest → BeginsWithReadable opened.stations text
+first_readable opened [] text rest is stations lines next = subst (BeginsWithReadable opened.stations) (sym is) next
+first_readable opened (e ∷ es) text rest is stations lines next = record {
+  station = e.station;
+  line = text_of_command e.command;
+  answer = line_of e.answer;
+  rest = lines_and (map line_parts es) rest;
+  is = is;
+  counted = stations.0.0;
+  inside = stations.0.1;
+  means = line_means_one e.command lines.0;
+}
+
+-- memory is refused only where the first line takes it
+pub early_fault : (opened : Opened) (text : List ℕ) (h : History) (rest : List ℕ) (fault : AuditFault) → HasAudited opened text h rest → IsFaultAt h rest fault → fault ≡ NoMemory
+    → BeginsWithReadable opened.stations text
+early_fault opened text h rest fault audited at is =
+    let next : BeginsWithReadable h.opened.stations rest = subst (IsFaultAt h rest) is at in
+    subst (λ (o : Opened). BeginsWithReadable o.stations text) audited.held.named
+    (first_readable h.opened h.journal text rest audited.held.text_is audited.held.of_stations audited.held.of_lines next)
 
 -- at the end all holds
 pub at_end : (opened : Opened) (text : List ℕ) (h : History) (rest : List ℕ) → HasAudited opened text h rest → rest ≡ [] → length h.journal ≤ MAX_ENTRIES → IsJournalOf opened text h.journal

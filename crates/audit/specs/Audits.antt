@@ -5,9 +5,12 @@ use Rattle.catalogue_core.specs.declared.catalogue.TheConstants.{MAX_ENTRIES}
 use Rattle.catalogue_core.specs.declared.command.Command.{Command}
 use Rattle.catalogue_core.specs.declared.entry.Entry.{Entry}
 use Rattle.catalogue_core.specs.Replay.{Opened, History, state_of, answer_of, with_entry, LegalFrom, IsLegal, AreOfStations}
+use Rattle.station_lines.specs.declared.script.line.Line.{Line}
+use Rattle.station_lines.specs.declared.script.line.Line.TheVariants.{Run}
 use Rattle.station_lines.specs.AnswerLines.{line_of}
 use Rattle.station_lines.specs.CommandLines.{text_of_command, IsOfALine}
 use Rattle.station_lines.specs.JournalLines.{entry_and, lines_and, line_parts, journal_text, BeginsWithEntry}
+use Rattle.station_lines.specs.Script.Meaning.{Means}
 use Rattle.audit.specs.declared.fault.AuditFault.{AuditFault}
 use Rattle.audit.specs.declared.fault.AuditFault.TheVariants.{NoEntry, Differs, TooLong, NoMemory}
 use Rattle.audit.specs.declared.fault.Difference.{Difference}
@@ -71,6 +74,29 @@ IsOnlyFirst stations text station command answer rest =
     (s : ℕ) (c : Command) (a r : List ℕ) → 1 ≤ s → s ≤ stations → IsOfALine c → text ≡ entry_and (s, text_of_command c, a) r
     → IsSameFirst station command answer rest s c a r
 
+-- ---- what memory is taken for
+
+-- a line's meaning is a command
+abbrev pub IsCommand : Line → Type 0
+IsCommand (Run command) = Unit {0}
+IsCommand meaning = ⊥
+
+-- the line means a command, in whatever spelling
+abbrev pub MeansACommand : List ℕ → Type 0
+MeansACommand line = (meaning : Line) → Means line meaning → IsCommand meaning
+
+-- The first line is that of an entry of one of the stations, whose command's line means a command: memory is taken for
+-- such a line alone.
+pub record BeginsWithReadable (stations : ℕ) (text : List ℕ) : Type 0 where
+  pub station : ℕ
+  pub line : List ℕ
+  pub answer : List ℕ
+  pub rest : List ℕ
+  pub is : text ≡ entry_and (station, line, answer) rest
+  pub counted : 1 ≤ station
+  pub inside : station ≤ stations
+  pub means : MeansACommand line
+
 -- ---- a step of an audit
 
 -- the history goes on with the entry whose line is first
@@ -116,12 +142,12 @@ IsAnswerFault number station command told performed (Differs d) = IsDifferenceOf
 IsAnswerFault number station command told performed NoMemory = Unit {0}
 IsAnswerFault number station command told performed fault = ⊥
 
--- why the history does not go on with the text
+-- why the history does not go on with the text; memory was refused only for a line that takes it
 abbrev pub IsFaultAt : History → List ℕ → AuditFault → Type 0
 IsFaultAt h text (NoEntry number) = BeginsWithNoCommand h.opened.stations text × (number ≡ length h.journal + 1)
 IsFaultAt h text (Differs d) = IsDifferenceAt h text d
 IsFaultAt h text TooLong = length h.journal ≡ MAX_ENTRIES
-IsFaultAt h text NoMemory = Unit {0}
+IsFaultAt h text NoMemory = BeginsWithReadable h.opened.stations text
 
 -- with no entries whose text this is the history goes on; of want of memory nothing is said
 abbrev pub Refutes : History → List ℕ → AuditFault → Type 0

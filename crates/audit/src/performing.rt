@@ -3,7 +3,7 @@
 ghost use Rattle.std.specs.Prelude.{◌≡◌, ◌≤◌, [], length, IfOk, IfErr};
 ghost use Rattle.catalogue_core.specs.Replay.{answer_of, with_entry};
 ghost use Rattle.station_lines.specs.AnswerLines.{line_of};
-ghost use Rattle.audit.specs.Audits.{IsJournalOf, HoldsFirst, Continues, IsStopFault, IsDifferenceOf, IsAnswerFault, IsFaultAt, Refutes, IsAuditFault, RefutesAll};
+ghost use Rattle.audit.specs.Audits.{IsJournalOf, BeginsWithReadable, HoldsFirst, Continues, IsStopFault, IsDifferenceOf, IsAnswerFault, IsFaultAt, Refutes, IsAuditFault, RefutesAll};
 
 use crate::fault::{AuditFault, Difference};
 use crate::read::{ReadEntry, is_same, read_entry};
@@ -87,7 +87,9 @@ fn audit_entry<'a>(
 /// Performs the entries of a journal's text once more, one after another, on a catalogue that was just opened, and
 /// compares each answer. It answers how many there are, where all hold: the text is then the catalogue's journal.
 ///
-/// At a fault the text is the journal of no legal history on the opened tables, but where memory was refused.
+/// At a fault the text is the journal of no legal history on the opened tables, but where memory was refused. Memory is
+/// taken only for the line of an entry of one of the stations, whose command's line means a command: an empty text holds,
+/// and where another line is first the fault is [`AuditFault::NoEntry`].
 pub fn audit(alloc: Global, catalogue: &mut Catalogue, text: &[u8]) -> Result<u64, AuditFault>
     requires at_opening { catalogue.old.journal ≡ [] }
     ensures opened { IfOk result (λ _. catalogue.new.opened ≡ catalogue.old.opened) }
@@ -97,6 +99,8 @@ pub fn audit(alloc: Global, catalogue: &mut Catalogue, text: &[u8]) -> Result<u6
     ensures refuted { IfErr result (RefutesAll catalogue.old.opened text.now) }
     // The lines before the fault hold.
     ensures fault { IfErr result (IsAuditFault catalogue.old.opened text.now) }
+    // Memory is refused only where it is taken.
+    ensures early { IfErr result (λ fault. fault ≡ AuditFault.NoMemory → BeginsWithReadable catalogue.old.opened.stations text.now) }
 {
     let mut rest = text;
     while !rest.is_empty() {

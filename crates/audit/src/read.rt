@@ -1,7 +1,7 @@
 //! Reading an entry of a journal's text.
 
-ghost use Rattle.std.specs.Prelude.{◌≡◌, ◌↔◌, ◌≤◌, Ok, None, IfOk, IfSome, IsTrue};
-ghost use Rattle.audit.specs.Audits.{IsLineOfCommand, IsNoCommandLine, BeginsWithCommand, BeginsWithNoCommand, IsOnlyFirst};
+ghost use Rattle.std.specs.Prelude.{◌≡◌, ◌↔◌, ◌≤◌, Ok, None, IfOk, IfSome, IsTrue, OnErr};
+ghost use Rattle.audit.specs.Audits.{IsLineOfCommand, IsNoCommandLine, MeansACommand, BeginsWithCommand, BeginsWithNoCommand, BeginsWithReadable, IsOnlyFirst};
 
 use catalogue_core::Command;
 use station_lines::{Line, command_line, cut_entry, parse_line};
@@ -28,10 +28,11 @@ pub(crate) fn is_same(left: &[u8], right: &[u8]) -> bool
     left == right
 }
 
-// The command whose line this is.
+// The command whose line this is. Memory is taken only where the line means a command.
 fn command_of(alloc: Global, line: &[u8]) -> Result<Option<Command>, AllocError>
     ensures found { IfOk result (λ found. IfSome found (IsLineOfCommand line.now)) }
     ensures none { result ≡ Ok None → IsNoCommandLine line.now }
+    ensures early { OnErr result (MeansACommand line.now) }
 {
     let Line::Run(command) = parse_line(alloc, line)? else {
         return Ok(None);
@@ -51,7 +52,8 @@ fn is_station(number: u64, stations: u32) -> bool
 }
 
 /// The entry whose line is first in a journal's text: of one of so many stations, and with a command that a line means.
-/// `None` where no such entry's line is first. An error where memory is refused.
+/// `None` where no such entry's line is first. An error where memory is refused, which is taken only for a line of one of
+/// the stations whose command's line means a command.
 pub(crate) fn read_entry(
     alloc: Global,
     stations: u32,
@@ -60,6 +62,7 @@ pub(crate) fn read_entry(
     ensures found { IfOk result (λ found. IfSome found (λ e. BeginsWithCommand stations text.now e.station e.command e.answer.now e.rest.now)) }
     ensures only { IfOk result (λ found. IfSome found (λ e. IsOnlyFirst stations text.now e.station e.command e.answer.now e.rest.now)) }
     ensures none { result ≡ Ok None → BeginsWithNoCommand stations text.now }
+    ensures early { OnErr result (BeginsWithReadable stations text.now) }
 {
     let Some(cut) = cut_entry(text) else {
         return Ok(None);

@@ -1,2 +1,3 @@
 mod journals;
 mod sample;
+mod texts;

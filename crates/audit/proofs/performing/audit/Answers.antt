@@ -1,4 +1,4 @@
-use Rattle.audit.proofs.AuditLaws.{at_first, audited_more, refuted_all, at_fault, at_end, shorter, all_read, not_empty, err_exit}
+use Rattle.audit.proofs.AuditLaws.{at_first, audited_more, refuted_all, at_fault, early_fault, at_end, shorter, all_read, not_empty, err_exit}
 use Rattle.audit.proofs.performing.audit.Goals as goal
 
 pub loop-rest-init : goal.loop-rest-init
@@ -19,6 +19,10 @@ returns-in_err-rest-clause-refuted c =
 pub returns-in_err-rest-clause-fault : goal.returns-in_err-rest-clause-fault
 returns-in_err-rest-clause-fault c =
     err_exit _ _ c.from_residual.ensures.1 (at_fault _ _ _ _ c.in_err-rest.field-0.0 c.loop-rest.invariant c.in_err-rest.ensures.fault)
+
+pub returns-in_err-rest-clause-early : goal.returns-in_err-rest-clause-early
+returns-in_err-rest-clause-early c =
+    err_exit _ _ c.from_residual.ensures.1 (early_fault _ _ _ _ c.in_err-rest.field-0.0 c.loop-rest.invariant c.in_err-rest.ensures.fault)
 
 pub returns-clause-opened : goal.returns-clause-opened
 returns-clause-opened c = c.loop-rest.invariant.held.named

@@ -1,8 +1,12 @@
 use Rattle.std.proofs.Common.{ℕ, ◌+◌, List, length, ap, sym, subst, ◌∙◌, Ok}
 use Rattle.catalogue_core.specs.declared.entry.Entry.{Entry}
-use Rattle.audit.specs.Audits.{BeginsWithCommand, BeginsWithNoCommand, IsOnlyFirst}
+use Rattle.audit.specs.Audits.{BeginsWithCommand, BeginsWithNoCommand, BeginsWithReadable, IsOnlyFirst}
 use Rattle.audit.proofs.AuditLaws.{err_exit, stop_at, stop_refutes, answer_at, answer_refutes, holds_first, continues_first, refuted_line, differ}
 use Rattle.audit.proofs.performing.audit_entry.Goals as goal
+
+pub returns-in_err-entry-clause-fault : goal.returns-in_err-entry-clause-fault
+returns-in_err-entry-clause-fault c =
+    err_exit _ _ c.from_residual.ensures.1 (subst (λ (n : ℕ). BeginsWithReadable n c.args.text.now) c.station_count-stations.ensures.value c.in_err-entry.ensures.early)
 
 pub returns-in_default-clause-fault : goal.returns-in_default-clause-fault
 returns-in_default-clause-fault c =
@@ -16,7 +20,10 @@ returns-in_default-clause-refuted c =
 
 pub returns-in_err-performed-clause-fault : goal.returns-in_err-performed-clause-fault
 returns-in_err-performed-clause-fault c =
-    err_exit _ _ c.from_residual-in_err-performed.ensures.1 (stop_at c.args.catalogue.now c.args.text.now c.in_err-performed.field-0.0 c.in_err-performed.ensures.fault)
+    let e = c.in-Some.entry in
+    let first = subst (λ (n : ℕ). BeginsWithCommand n c.args.text.now e.station e.command e.answer.now e.rest.now) c.station_count-stations.ensures.value (rw c.in-Some.is at c.in_ok-entry.ensures.found) in
+    err_exit _ _ c.from_residual-in_err-performed.ensures.1
+    (stop_at c.args.catalogue.now c.args.text.now e.rest.now e.station e.command e.answer.now c.in_err-performed.field-0.0 first c.in_err-performed.ensures.fault)
 
 pub returns-in_err-performed-clause-refuted : goal.returns-in_err-performed-clause-refuted
 returns-in_err-performed-clause-refuted c =

@@ -1,5 +1,5 @@
 use Rattle.std.proofs.Common.{◌∙◌}
-use Rattle.audit.proofs.AuditLaws.{not_run, differ, other_line, is_line}
+use Rattle.audit.proofs.AuditLaws.{not_run, differ, other_line, is_line, on_err, keeping_means, run_means}
 use Rattle.audit.proofs.read.command_of.Goals as goal
 
 pub returns-in_default-clause-none : goal.returns-in_default-clause-none
@@ -18,3 +18,9 @@ returns-clause-found c =
     (rw c.in-Run.is at c.in_ok-command.ensures.read)
     (c.as_slice.ensures.value ∙ c.in_ok-written.ensures.value)
     (c.is_same.ensures.value.0 c.if-not-is_same.false)
+
+pub returns-in_err-command-clause-early : goal.returns-in_err-command-clause-early
+returns-in_err-command-clause-early c = on_err _ (keeping_means c.args.line.now c.in_err-command.ensures.early)
+
+pub returns-in_err-written-clause-early : goal.returns-in_err-written-clause-early
+returns-in_err-written-clause-early c = on_err _ (run_means c.args.line.now c.in_ok-command.field-0 c.in-Run.command c.in_ok-command.ensures.one c.in-Run.is)

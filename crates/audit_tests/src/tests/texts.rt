@@ -1,0 +1,56 @@
+//! Journals with texts of any bytes.
+
+use super::sample::{audited, joined};
+use std::alloc::Global;
+use std::test::Fail;
+
+// Texts with quotes of either kind, with a tab and with bytes over 127.
+const LINES: [&[u8]; 7] = [
+    b"1 15 2 USE T EXCLUSIVE OK\n",
+    b"1 21 2 MEMO NOTE WITH \"it's\" OK\n",
+    b"1 6 4 ? NOTE it's\n",
+    b"1 23 2 REPLACE NAME WITH 'a\"b' OK\n",
+    b"1 6 3 ? NAME a\"b\n",
+    b"1 21 2 MEMO NOTE WITH \"\x80\t\xfe!\" OK\n",
+    b"1 6 4 ? NOTE \x80\t\xfe!\n",
+];
+
+#[test]
+fn texts_of_any_bytes_hold(rt: HostRuntime) -> Result<(), Fail> {
+    let alloc = rt.alloc();
+    let text = joined(alloc, &LINES)?;
+    assert_eq!(rt; audited(alloc, 1, text.as_slice())?, Ok(7));
+    Ok(())
+}
+
+// Adds a byte, so often, to a text.
+fn push_often(text: &mut Vec<u8>, byte: u8, times: u32) -> Result<(), Fail> {
+    for _ in 0..times {
+        text.push(byte)?;
+    }
+    Ok(())
+}
+
+// The journal of a memo of 65,535 bytes: its command's line has 17 more.
+fn long_journal(alloc: Global) -> Result<Vec<u8>, Fail> {
+    let mut text = joined(
+        alloc,
+        &[
+            b"1 15 2 USE T EXCLUSIVE OK\n",
+            b"1 65552 2 MEMO NOTE WITH \"",
+        ],
+    )?;
+    push_often(&mut text, b'x', 65_535)?;
+    text.extend_from_slice(b"\" OK\n1 6 65535 ? NOTE ")?;
+    push_often(&mut text, b'x', 65_535)?;
+    text.push(b'\n')?;
+    Ok(text)
+}
+
+#[test]
+fn a_memo_of_65535_bytes_holds(rt: HostRuntime) -> Result<(), Fail> {
+    let alloc = rt.alloc();
+    let text = long_journal(alloc)?;
+    assert_eq!(rt; audited(alloc, 1, text.as_slice())?, Ok(3));
+    Ok(())
+}
