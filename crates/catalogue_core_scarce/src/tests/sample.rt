@@ -1,0 +1,77 @@
+//! The tables and the catalogue that the tests open.
+
+use catalogue_core::{Catalogue, IndexSource, TableSource};
+use dbf_fields::{Bytes, CHARACTER, DATE, Field, MEMO, NUMBER, Schema};
+use dbf_image::TableData;
+use ndx_index::NdxFile;
+use std::alloc::{AllocError, Global};
+use std::test::Fail;
+
+// The fields NAME, AMT, BORN and NOTE.
+fn schema(alloc: Global) -> Result<Schema, Fail> {
+    let fields = vec![in alloc;
+        Field::new(alloc, b"NAME", CHARACTER, 10, 0)?,
+        Field::new(alloc, b"AMT", NUMBER, 6, 2)?,
+        Field::new(alloc, b"BORN", DATE, 8, 0)?,
+        Field::new(alloc, b"NOTE", MEMO, 10, 0)?,
+    ]?;
+    Ok(Schema::new(alloc, &fields)?)
+}
+
+// The records of the table STAFF. The second is the first by name, and the third is marked as deleted.
+const RECORDS: [&[u8]; 3] = [
+    b" BOB         1.0019870302          ",
+    b" ADA         2.00                  ",
+    b"*DAN         3.0019870101          ",
+];
+
+// A table of these records.
+fn data(alloc: Global, records: &[&[u8]]) -> Result<TableData, Fail> {
+    let mut data = TableData::empty(alloc, schema(alloc)?);
+    for record in records {
+        if data.record_count() > 2 || data.schema().record_length() != record.len() {
+            return Err("no such table".into());
+        }
+        data.append_record(record)?;
+    }
+    Ok(data)
+}
+
+// An index, whose pairs are made of the records.
+fn index(alloc: Global, name: &[u8], expr: &[u8]) -> Result<IndexSource, AllocError> {
+    let file = NdxFile {
+        expr: Bytes::from_slice(alloc, expr)?,
+        key_len: 10,
+        pairs: Vec::new(alloc),
+    };
+    Ok(IndexSource {
+        name: Bytes::from_slice(alloc, name)?,
+        file,
+    })
+}
+
+// The table EMPTY, without records and indexes.
+fn empty(alloc: Global) -> Result<TableSource, Fail> {
+    Ok(TableSource {
+        name: Bytes::from_slice(alloc, b"EMPTY")?,
+        content: data(alloc, &[])?,
+        indexes: Vec::new(alloc),
+    })
+}
+
+// The table STAFF, with two indexes.
+fn staff(alloc: Global) -> Result<TableSource, Fail> {
+    let by_name = index(alloc, b"BYNAME", b"NAME")?;
+    let by_upper = index(alloc, b"BYUPPER", b"UPPER(NAME)")?;
+    Ok(TableSource {
+        name: Bytes::from_slice(alloc, b"STAFF")?,
+        content: data(alloc, &RECORDS)?,
+        indexes: vec![in alloc; by_name, by_upper]?,
+    })
+}
+
+// The catalogue of both tables for two stations.
+pub(super) fn open(alloc: Global) -> Result<Catalogue, Fail> {
+    let sources = vec![in alloc; empty(alloc)?, staff(alloc)?]?;
+    Ok(Catalogue::open(alloc, sources, 2, true)?)
+}
