@@ -1,4 +1,5 @@
 pub mod Positions
 pub mod ShownLaws
 pub mod Steps
+pub mod SelectedLaws
 pub mod Fronts

@@ -1,6 +1,7 @@
--- The steps of loops over records.
-use Rattle.std.proofs.Common.{◌≡◌, ℕ, suc, ◌+◌, ◌-◌, ◌<◌, true, false, List, ◌∷◌, length, max, refl, ap, ◌∙◌, arith}
-use Rattle.std.specs.List.{filter, fold, range_with_len}
+-- The steps of loops over the numbers of records.
+use Rattle.std.proofs.Common.{◌≡◌, ℕ, ◌+◌, ◌<◌, true, false, List, ◌∷◌, length, get_or, drop, max, refl, sym, ap, ◌∙◌}
+use Rattle.std.proofs.lemmas.List.{drop_more}
+use Rattle.std.specs.List.{filter, fold}
 use Rattle.dbf_fields.specs.declared.field.Field.{Field}
 use Rattle.dbf_image.specs.Table.{Table}
 use Rattle.table_text.specs.declared.memo_form.MemoForm.{MemoForm}
@@ -8,23 +9,26 @@ use Rattle.table_text.specs.declared.selection.Selection.{Selection}
 use Rattle.table_text.specs.Columns.{cell_shown}
 use Rattle.table_text.specs.Selection.{is_selected}
 
--- the numbers of the records that are left, where the first of them is looked at
-pub numbers-next : (i n : ℕ) → i < n → range_with_len (i + 1) (n - i) ≡ (i + 1) ∷ range_with_len (i + 1 + 1) (n - (i + 1))
-numbers-next i n lt =
-    let one : n - i ≡ suc (n - (i + 1)) = omega arith in
-    ap (range_with_len (i + 1)) one
+-- the numbers that are left, where the first of them is looked at
+pub left-next : (numbers : List ℕ) (i number : ℕ) → i < length numbers → number ≡ get_or numbers i 0
+    → drop i numbers ≡ number ∷ drop (i + 1) numbers
+left-next numbers i number lt is = drop_more numbers i 0 lt ∙ ap (λ (n : ℕ). n ∷ drop (i + 1) numbers) (sym is)
 
--- those that are selected of n records from one on
-abbrev pub selected_from : Table → Selection → ℕ → ℕ → List ℕ
-selected_from table selection first n = filter (is_selected table selection) (range_with_len first n)
+-- those of the numbers that are selected
+abbrev pub selected_of : Table → Selection → List ℕ → List ℕ
+selected_of table selection numbers = filter (is_selected table selection) numbers
 
-pub selected-taken : (table : Table) (selection : Selection) (i n : ℕ) → i < n → is_selected table selection (i + 1) ≡ true
-    → selected_from table selection (i + 1) (n - i) ≡ (i + 1) ∷ selected_from table selection (i + 1 + 1) (n - (i + 1))
-selected-taken table selection i n lt taken = ap (filter (is_selected table selection)) (numbers-next i n lt) ∙ (rw taken refl)
+pub selected-taken : (table : Table) (selection : Selection) (numbers : List ℕ) (i number : ℕ)
+    → i < length numbers → number ≡ get_or numbers i 0 → is_selected table selection number ≡ true
+    → selected_of table selection (drop i numbers) ≡ number ∷ selected_of table selection (drop (i + 1) numbers)
+selected-taken table selection numbers i number lt is taken =
+    ap (filter (is_selected table selection)) (left-next numbers i number lt is) ∙ (rw taken refl)
 
-pub selected-passed : (table : Table) (selection : Selection) (i n : ℕ) → i < n → is_selected table selection (i + 1) ≡ false
-    → selected_from table selection (i + 1) (n - i) ≡ selected_from table selection (i + 1 + 1) (n - (i + 1))
-selected-passed table selection i n lt passed = ap (filter (is_selected table selection)) (numbers-next i n lt) ∙ (rw passed refl)
+pub selected-passed : (table : Table) (selection : Selection) (numbers : List ℕ) (i number : ℕ)
+    → i < length numbers → number ≡ get_or numbers i 0 → is_selected table selection number ≡ false
+    → selected_of table selection (drop i numbers) ≡ selected_of table selection (drop (i + 1) numbers)
+selected-passed table selection numbers i number lt is passed =
+    ap (filter (is_selected table selection)) (left-next numbers i number lt is) ∙ (rw passed refl)
 
 -- the widest of a width and what is shown in a column of these records
 abbrev pub widest : Table → MemoForm → ℕ → Field → ℕ → List ℕ → ℕ

@@ -1,5 +1,6 @@
 -- Texts in columns.
-use Rattle.std.specs.Prelude.{ℕ, ◌+◌, ◌-◌, not, ◌&&◌, ◌==◌, List, [], ◌∷◌, ◌++◌, length, max, replicate, slice_index, codes, if◌then◌else◌}
+use Rattle.std.specs.Prelude.{ℕ, ◌+◌, ◌-◌, not, ◌&&◌, ◌==◌, max, codes, if◌then◌else◌}
+use Rattle.std.specs.Prelude.{List, [], ◌∷◌, ◌++◌, length, replicate, slice_index}
 use Rattle.std.specs.List.{fold}
 use Rattle.std.specs.Fmt.{decimal}
 use Rattle.dbf_fields.specs.declared.field.Field.{Field}
@@ -7,8 +8,6 @@ use Rattle.dbf_fields.specs.NumberText.{right_justified}
 use Rattle.dbf_fields.specs.declared.format.TheConstants.{BLANK, NUMBER}
 use Rattle.dbf_image.specs.Table.{Table, cell_at}
 use Rattle.table_text.specs.declared.memo_form.MemoForm.{MemoForm}
-use Rattle.table_text.specs.declared.selection.Selection.{Selection}
-use Rattle.table_text.specs.Selection.{selected}
 use Rattle.table_text.specs.Shown.{shown_cell}
 
 -- a text before as many blanks as fill the width
@@ -28,23 +27,23 @@ columns_text widths text index (f ∷ fs) = BLANK ∷ (aligned f.kind (slice_ind
 abbrev pub cell_shown : Table → MemoForm → ℕ → ℕ → Field → List ℕ
 cell_shown table memos number index f = shown_cell memos f.kind (cell_at table number index)
 
--- how wide the column of a field is: as its name, or as the widest text that is shown in it
-abbrev pub column_width : Table → Selection → MemoForm → ℕ → Field → ℕ
-column_width table selection memos index f =
-    fold (λ width number. max width (length (cell_shown table memos number index f))) (length f.name) (selected table selection)
+-- how wide the column of a field is: as its name, or as the widest text that is shown in it of the records of these numbers
+abbrev pub column_width : Table → List ℕ → MemoForm → ℕ → Field → ℕ
+column_width table shown memos index f =
+    fold (λ width number. max width (length (cell_shown table memos number index f))) (length f.name) shown
 
 -- the last column isn't filled up with blanks at its end
-abbrev pub filled_width : Table → Selection → MemoForm → ℕ → Field → ℕ
-filled_width table selection memos index f =
-    if (index + 1 == length table.schema) && not (f.kind == NUMBER) then 0 else column_width table selection memos index f
+abbrev pub filled_width : Table → List ℕ → MemoForm → ℕ → Field → ℕ
+filled_width table shown memos index f =
+    if (index + 1 == length table.schema) && not (f.kind == NUMBER) then 0 else column_width table shown memos index f
 
 -- the widths that the columns are filled up to, from the field with this index on
-abbrev pub widths_from : Table → Selection → MemoForm → ℕ → List Field → List ℕ
-widths_from table selection memos index [] = []
-widths_from table selection memos index (f ∷ fs) = filled_width table selection memos index f ∷ widths_from table selection memos (index + 1) fs
+abbrev pub widths_from : Table → List ℕ → MemoForm → ℕ → List Field → List ℕ
+widths_from table shown memos index [] = []
+widths_from table shown memos index (f ∷ fs) = filled_width table shown memos index f ∷ widths_from table shown memos (index + 1) fs
 
-abbrev pub column_widths : Table → Selection → MemoForm → List ℕ
-column_widths table selection memos = widths_from table selection memos 0 table.schema
+abbrev pub column_widths : Table → List ℕ → MemoForm → List ℕ
+column_widths table shown memos = widths_from table shown memos 0 table.schema
 
 -- the heading of the column of record numbers
 abbrev pub number_heading : List ℕ

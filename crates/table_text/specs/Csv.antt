@@ -1,5 +1,5 @@
 -- The records of a table as CSV.
-use Rattle.std.specs.Prelude.{ℕ, ◌+◌, Bool, not, ◌&&◌, ◌||◌, ◌==◌, List, [], ◌∷◌, ◌++◌, length, codes, if◌then◌else◌}
+use Rattle.std.specs.Prelude.{ℕ, ◌+◌, Bool, not, ◌&&◌, ◌||◌, ◌==◌, List, [], ◌∷◌, ◌++◌, length, codes, Option, if◌then◌else◌}
 use Rattle.std.specs.List.{flat_map, list_any}
 use Rattle.dbf_fields.specs.declared.field.Field.{Field}
 use Rattle.dbf_fields.specs.declared.format.TheConstants.{MEMO, NUMBER}
@@ -66,5 +66,6 @@ csv_line deleted_column table number =
     csv_fields (csv_cell deleted_column table number) 0 table.schema ++ (mark_field deleted_column (row_at table number).deleted ++ CR ∷ LF ∷ [])
 
 -- the records that are shown: the names of the fields, and a line for each record
-abbrev pub csv_text : Table → Selection → Bool → List ℕ
-csv_text table selection deleted_column = csv_heading deleted_column table ++ flat_map (csv_line deleted_column table) (selected table selection)
+abbrev pub csv_text : Table → Option (List ℕ) → Selection → Bool → List ℕ
+csv_text table order selection deleted_column =
+    csv_heading deleted_column table ++ flat_map (csv_line deleted_column table) (selected table order selection)

@@ -4,10 +4,8 @@ use Rattle.std.specs.List.{flat_map}
 use Rattle.dbf_image.specs.Table.{Table}
 use Rattle.table_text.specs.declared.lines.LineFormat.{LineFormat}
 use Rattle.table_text.specs.declared.lines.LineFormat.TheVariants.{Columns, Csv}
-use Rattle.table_text.specs.declared.selection.Selection.{Selection}
 use Rattle.table_text.specs.Csv.{csv_line}
 use Rattle.table_text.specs.Records.{line_with}
-use Rattle.table_text.specs.Selection.{selected}
 
 abbrev pub line_in : LineFormat → Table → ℕ → List ℕ
 line_in (Columns layout) table number = line_with layout.number_width layout.widths.items layout.memos table number
@@ -18,6 +16,6 @@ abbrev pub HasWidths : LineFormat → Table → Type 0
 HasWidths (Columns layout) table = length layout.widths.items ≡ length table.schema
 HasWidths (Csv deleted_column) table = Unit {0}
 
--- the lines of the records that are shown
-abbrev pub lines_in : LineFormat → Table → Selection → List ℕ
-lines_in format table selection = flat_map (line_in format table) (selected table selection)
+-- the lines of the records of these numbers
+abbrev pub lines_in : LineFormat → Table → List ℕ → List ℕ
+lines_in format table shown = flat_map (line_in format table) shown

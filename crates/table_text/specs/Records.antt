@@ -1,5 +1,5 @@
 -- The text of a table: a line of headings, and a line for each record that is shown.
-use Rattle.std.specs.Prelude.{ℕ, Bool, List, [], ◌∷◌, ◌++◌, if◌then◌else◌}
+use Rattle.std.specs.Prelude.{ℕ, Bool, List, [], ◌∷◌, ◌++◌, Option, if◌then◌else◌}
 use Rattle.std.specs.List.{flat_map}
 use Rattle.std.specs.Fmt.{decimal}
 use Rattle.dbf_fields.specs.declared.field.Field.{Field}
@@ -23,16 +23,21 @@ heading_with width widths fields =
 -- a record's line, in columns of these widths: its number, its mark and its cells
 abbrev pub line_with : ℕ → List ℕ → MemoForm → Table → ℕ → List ℕ
 line_with width widths memos table number =
-    aligned NUMBER width (decimal number) ++ (BLANK ∷ mark_of (row_at table number).deleted ∷ (columns_text widths (cell_shown table memos number) 0 table.schema ++ LF ∷ []))
+    aligned NUMBER width (decimal number)
+    ++ (BLANK ∷ mark_of (row_at table number).deleted ∷ (columns_text widths (cell_shown table memos number) 0 table.schema ++ LF ∷ []))
 
--- the line of headings of a table
-abbrev pub heading_line : Table → Selection → MemoForm → List ℕ
-heading_line table selection memos = heading_with (number_width table) (column_widths table selection memos) table.schema
+-- the line of headings of a table of which the records of these numbers are shown
+abbrev pub heading_line : Table → List ℕ → MemoForm → List ℕ
+heading_line table shown memos = heading_with (number_width table) (column_widths table shown memos) table.schema
 
 -- the line of the record of a number
-abbrev pub record_line : Table → Selection → MemoForm → ℕ → List ℕ
-record_line table selection memos number = line_with (number_width table) (column_widths table selection memos) memos table number
+abbrev pub record_line : Table → List ℕ → MemoForm → ℕ → List ℕ
+record_line table shown memos number = line_with (number_width table) (column_widths table shown memos) memos table number
 
--- the text of a table: the headings, and the line of each record that is shown
-abbrev pub records_text : Table → Selection → MemoForm → List ℕ
-records_text table selection memos = heading_line table selection memos ++ flat_map (record_line table selection memos) (selected table selection)
+-- the headings, and the line of each record of these numbers
+abbrev pub text_of : Table → List ℕ → MemoForm → List ℕ
+text_of table shown memos = heading_line table shown memos ++ flat_map (record_line table shown memos) shown
+
+-- the text of a table: the headings, and the line of each record that is shown, in the order in which they are
+abbrev pub records_text : Table → Option (List ℕ) → Selection → MemoForm → List ℕ
+records_text table order selection memos = text_of table (selected table order selection) memos

@@ -1,15 +1,28 @@
 -- Which records of a table are shown.
-use Rattle.std.specs.Prelude.{ℕ, Bool, not, ◌&&◌, ◌||◌, List, length}
+use Rattle.std.specs.Prelude.{ℕ, Bool, not, ◌&&◌, ◌||◌, List, length, Option, Some, None}
 use Rattle.std.specs.List.{filter, range_with_len}
 use Rattle.std.specs.Int.{is_in_range}
 use Rattle.dbf_image.specs.Table.{Table, row_at}
 use Rattle.table_text.specs.declared.selection.Selection.{Selection}
 
--- the record's number is one of those that are asked for, and the record is kept, or marked ones are shown too
-abbrev pub is_selected : Table → Selection → ℕ → Bool
-is_selected table selection number =
+-- there is a record of the number
+abbrev pub has_record : Table → ℕ → Bool
+has_record table number = is_in_range 1 (length table.rows) number
+
+-- the number is one of those that are asked for, and the record is kept, or marked ones are shown too
+abbrev pub is_asked_for : Table → Selection → ℕ → Bool
+is_asked_for table selection number =
     is_in_range selection.first selection.last number && (selection.with_deleted || not (row_at table number).deleted)
 
--- the numbers of the records that are shown: of all records from 1 on, in their order, those that are selected
-abbrev pub selected : Table → Selection → List ℕ
-selected table selection = filter (is_selected table selection) (range_with_len 1 (length table.rows))
+-- the record of the number is shown
+abbrev pub is_selected : Table → Selection → ℕ → Bool
+is_selected table selection number = has_record table number && is_asked_for table selection number
+
+-- the numbers of records in the order in which they are shown: those that are given, or all from 1 on
+abbrev pub numbers_in : Table → Option (List ℕ) → List ℕ
+numbers_in table None = range_with_len 1 (length table.rows)
+numbers_in table (Some numbers) = numbers
+
+-- the numbers of the records that are shown: of the numbers in their order those that are selected
+abbrev pub selected : Table → Option (List ℕ) → Selection → List ℕ
+selected table order selection = filter (is_selected table selection) (numbers_in table order)

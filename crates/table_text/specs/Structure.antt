@@ -1,14 +1,20 @@
 -- The fields of a table as text.
-use Rattle.std.specs.Prelude.{◌≡◌, ◌≤◌, ℕ, ◌+◌, ◌==◌, List, [], ◌∷◌, ◌++◌, length, slice_index, Option, Some, None, codes, if◌then◌else◌}
+use Rattle.std.specs.Prelude.{◌≡◌, ◌≤◌, ℕ, ◌+◌, ◌==◌, codes, Option, Some, None, if◌then◌else◌}
+use Rattle.std.specs.Prelude.{List, [], ◌∷◌, ◌++◌, length, slice_index}
 use Rattle.std.specs.Fmt.{decimal}
 use Rattle.dbf_fields.specs.declared.day.Day.{Day}
 use Rattle.dbf_fields.specs.declared.field.Field.{Field}
 use Rattle.dbf_fields.specs.declared.format.TheConstants.{BLANK, CHARACTER, DATE, LOGICAL, NUMBER, SLASH}
+use Rattle.dbf_fields.specs.Day.{IsDay}
 use Rattle.dbf_fields.specs.Digits.{last_digits}
 use Rattle.dbf_image.specs.Table.{Table}
 use Rattle.table_text.specs.declared.format.TheConstants.{LF}
 use Rattle.table_text.specs.declared.structure.TheConstants.{DECIMALS_COLUMN, FIRST_HEADER_YEAR, KIND_COLUMN, NAME_COLUMN, NUMBER_COLUMN, WIDTH_COLUMN}
 use Rattle.table_text.specs.Columns.{aligned}
+
+-- the second to the fourth byte tell a day of the calendar
+abbrev pub TellsDay : List ℕ → Type 0
+TellsDay bytes = IsDay (FIRST_HEADER_YEAR + slice_index bytes 1) (slice_index bytes 2) (slice_index bytes 3)
 
 -- the date that a file's header tells in three bytes: the year less 1900, the month and the day of the month
 pub record IsHeaderDate (bytes : List ℕ) (day : Day) : Type 0 where
@@ -40,7 +46,9 @@ abbrev pub numbered_name : ℕ → Field → List ℕ
 numbered_name number f = aligned NUMBER NUMBER_COLUMN (decimal number) ++ (BLANK ∷ aligned CHARACTER NAME_COLUMN f.name)
 
 abbrev pub kind_and_width : Field → List ℕ
-kind_and_width f = BLANK ∷ (aligned CHARACTER KIND_COLUMN (kind_word f.kind) ++ (BLANK ∷ (aligned NUMBER WIDTH_COLUMN (decimal f.width) ++ decimals_part f)))
+kind_and_width f =
+    BLANK ∷ (aligned CHARACTER KIND_COLUMN (kind_word f.kind)
+    ++ (BLANK ∷ (aligned NUMBER WIDTH_COLUMN (decimal f.width) ++ decimals_part f)))
 
 -- a field's line
 abbrev pub field_line : ℕ → Field → List ℕ

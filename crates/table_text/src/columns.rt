@@ -1,12 +1,14 @@
 //! Texts in columns.
 
-ghost use Rattle.std.specs.Prelude.{◌≡◌, ◌++◌, ◌∷◌, [], ◌≤◌, ◌<◌, length, replicate, IfOk, OnOk};
+ghost use Rattle.std.specs.Prelude.{◌≡◌, ◌++◌, ◌∷◌, [], ◌≤◌, ◌<◌, length, replicate, option_copied, IfOk, OnOk};
 ghost use Rattle.dbf_image.specs.Table.{kind_at};
 ghost use Rattle.dbf_fields.specs.declared.format.TheConstants.{BLANK as BLANK_BYTE};
-ghost use Rattle.table_text.specs.Columns.{aligned, cell_shown, columns_text, column_width as width_of_column, filled_width as width_filled, column_widths as widths_of, number_width as width_of_numbers};
+ghost use Rattle.table_text.specs.Columns.{aligned, cell_shown, columns_text, column_width as width_of_column};
+ghost use Rattle.table_text.specs.Columns.{filled_width as width_filled, column_widths as widths_of, number_width as width_of_numbers};
+ghost use Rattle.table_text.specs.Selection.{selected};
 
 use crate::memo_form::MemoForm;
-use crate::selection::Selection;
+use crate::selection::{Selection, number_at, number_count};
 use crate::shown::show_cell;
 use dbf_fields::{BLANK, Field, NUMBER};
 use dbf_image::TableData;
@@ -88,6 +90,7 @@ fn column_width(
     alloc: Global,
     text: &mut Vec<u8>,
     table: &TableData,
+    order: Option<&[u32]>,
     selection: Selection,
     index: usize,
     field: &Field,
@@ -95,11 +98,11 @@ fn column_width(
 ) -> Result<usize, AllocError>
     requires index { index < length table.now.schema }
     requires kind { kind_at table.now.schema index ≡ field.now.kind }
-    ensures value { IfOk result (λ width. width ≡ width_of_column table.now selection memos index field.now) }
+    ensures value { IfOk result (λ width. width ≡ width_of_column table.now (selected table.now (option_copied order.entry) selection) memos index field.now) }
 {
     let mut width = field.name.as_slice().len();
-    for earlier in 0..table.record_count() {
-        let number = earlier + 1;
+    for place in 0..number_count(table, order) {
+        let number = number_at(table, order, place);
         if selection.takes(table, number) {
             show_cell(alloc, text, table, number, index, field.kind, memos)?;
             width = width.max(text.as_slice().len());
@@ -113,6 +116,7 @@ fn filled_width(
     alloc: Global,
     text: &mut Vec<u8>,
     table: &TableData,
+    order: Option<&[u32]>,
     selection: Selection,
     index: usize,
     field: &Field,
@@ -120,14 +124,14 @@ fn filled_width(
 ) -> Result<usize, AllocError>
     requires index { index < length table.now.schema }
     requires kind { kind_at table.now.schema index ≡ field.now.kind }
-    ensures value { IfOk result (λ width. width ≡ width_filled table.now selection memos index field.now) }
+    ensures value { IfOk result (λ width. width ≡ width_filled table.now (selected table.now (option_copied order.entry) selection) memos index field.now) }
 {
     let fields = table.schema().fields();
     let is_last = index + 1 == fields.len();
     if is_last && field.kind != NUMBER {
         return Ok(0);
     }
-    column_width(alloc, text, table, selection, index, field, memos)
+    column_width(alloc, text, table, order, selection, index, field, memos)
 }
 
 /// The widths that the columns of a table are filled up to.
@@ -136,17 +140,20 @@ fn filled_width(
 pub(crate) fn column_widths(
     alloc: Global,
     table: &TableData,
+    order: Option<&[u32]>,
     selection: Selection,
     memos: MemoForm,
 ) -> Result<Vec<usize>, AllocError>
-    ensures value { IfOk result (λ widths. widths.items ≡ widths_of table.now selection memos) }
+    ensures value { IfOk result (λ widths. widths.items ≡ widths_of table.now (selected table.now (option_copied order.entry) selection) memos) }
     ensures many { IfOk result (λ widths. length widths.items ≡ length table.now.schema) }
 {
     let mut text = Vec::new(alloc);
     let mut widths = Vec::new(alloc);
     let fields = table.schema().fields();
     for (index, field) in fields.iter().enumerate() {
-        widths.push(filled_width(alloc, &mut text, table, selection, index, field, memos)?)?;
+        widths.push(filled_width(
+            alloc, &mut text, table, order, selection, index, field, memos,
+        )?)?;
     }
     Ok(widths)
 }

@@ -23,5 +23,5 @@ mod structure;
 pub use fault::TextFault;
 pub use memo_form::MemoForm;
 pub use records::{write_csv, write_records};
-pub use selection::Selection;
+pub use selection::{Selection, each_is_shown_once};
 pub use structure::{FIRST_HEADER_YEAR, header_date, write_fields};

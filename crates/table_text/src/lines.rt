@@ -1,18 +1,19 @@
 //! The lines of the records that are shown, one after the other into a sink.
 
-ghost use Rattle.std.specs.Prelude.{◌≡◌, ◌++◌, ◌≤◌, length, OnOk, OnErr};
+ghost use Rattle.std.specs.Prelude.{◌≡◌, ◌++◌, ◌≤◌, length, option_copied, OnOk, OnErr};
 ghost use Rattle.byte_io.specs.Output.{Puts};
 ghost use Rattle.byte_io.specs.Sink.{grown, IsFront, Rises};
 ghost use Rattle.table_text.specs.Lines.{line_in, lines_in, HasWidths};
 ghost use Rattle.table_text.specs.Output.{PutsFront};
-ghost use Rattle.table_text.specs.Records.{line_with, mark_of as mark_in};
+ghost use Rattle.table_text.specs.Selection.{selected};
+ghost use Rattle.table_text.specs.Records.{mark_of as mark_in};
 
 use crate::columns::{append_aligned, append_cells};
 use crate::csv::append_csv_line;
 use crate::fault::TextFault;
 use crate::format::LF;
 use crate::memo_form::MemoForm;
-use crate::selection::Selection;
+use crate::selection::{Selection, number_at, number_count};
 use byte_io::{ByteSink, SinkWriter};
 use dbf_fields::{ASTERISK, BLANK, NUMBER};
 use dbf_image::TableData;
@@ -56,7 +57,7 @@ fn append_record(
     requires number { 1 ≤ number }
     requires inside { number ≤ length table.now.rows }
     requires widths { length layout.now.widths.items ≡ length table.now.schema }
-    ensures ok { OnOk result (line.new.items ≡ line.old.items ++ line_with layout.now.number_width layout.now.widths.items layout.now.memos table.now number) }
+    ensures ok { OnOk result (line.new.items ≡ line.old.items ++ line_in (LineFormat.Columns layout.now) table.now number) }
 {
     let digits = format!(in alloc; "{number}")?;
     append_aligned(line, NUMBER, layout.number_width, digits.as_bytes())?;
@@ -101,17 +102,18 @@ fn put_lines<S: ByteSink>(
     alloc: Global,
     out: &mut SinkWriter<'_, S>,
     table: &TableData,
+    order: Option<&[u32]>,
     selection: Selection,
     format: &LineFormat,
 ) -> Result<(), AllocError>
     requires widths { HasWidths format.now table.now }
-    ensures put { OnOk result (Puts out.old (lines_in format.now table.now selection) out.new) }
-    ensures front { PutsFront out.old (lines_in format.now table.now selection) out.new }
+    ensures put { OnOk result (Puts out.old (lines_in format.now table.now (selected table.now (option_copied order.entry) selection)) out.new) }
+    ensures front { PutsFront out.old (lines_in format.now table.now (selected table.now (option_copied order.entry) selection)) out.new }
 {
     let mut line = Vec::new(alloc);
     let mut text = Vec::new(alloc);
-    for earlier in 0..table.record_count() {
-        let number = earlier + 1;
+    for place in 0..number_count(table, order) {
+        let number = number_at(table, order, place);
         if selection.takes(table, number) {
             line.clear();
             append_line(alloc, &mut line, &mut text, table, number, format)?;
@@ -129,21 +131,22 @@ pub(crate) fn write_lines<S: ByteSink>(
     alloc: Global,
     sink: &mut S,
     table: &TableData,
+    order: Option<&[u32]>,
     selection: Selection,
     heading: &[u8],
     format: &LineFormat,
 ) -> Result<(), TextFault>
     requires widths { HasWidths format.now table.now }
-    ensures wrote { OnOk result (S.written sink.new ≡ grown (S.written sink.old) (heading.now ++ lines_in format.now table.now selection)) }
+    ensures wrote { OnOk result (S.written sink.new ≡ grown (S.written sink.old) (heading.now ++ lines_in format.now table.now (selected table.now (option_copied order.entry) selection))) }
     ensures no_failure { OnOk result (S.failures sink.new ≡ S.failures sink.old) }
     ensures failed { result ≡ Err TextFault.Sink → Rises (S.failures sink.old) (S.failures sink.new) }
     ensures unfailed { result ≡ Err TextFault.NoMemory → S.failures sink.new ≡ S.failures sink.old }
     ensures kept { IsFront (S.written sink.old) (S.written sink.new) }
-    ensures front { OnErr result (IsFront (S.written sink.new) (grown (S.written sink.old) (heading.now ++ lines_in format.now table.now selection))) }
+    ensures front { OnErr result (IsFront (S.written sink.new) (grown (S.written sink.old) (heading.now ++ lines_in format.now table.now (selected table.now (option_copied order.entry) selection)))) }
 {
     let mut out = SinkWriter::new(sink);
     out.put(heading);
-    let put = put_lines(alloc, &mut out, table, selection, format);
+    let put = put_lines(alloc, &mut out, table, order, selection, format);
     out.flush()?;
     put?;
     Ok(())

@@ -1,6 +1,6 @@
 //! The records of a table as text.
 
-ghost use Rattle.std.specs.Prelude.{◌≡◌, length, IfOk, OnOk, OnErr};
+ghost use Rattle.std.specs.Prelude.{◌≡◌, length, option_copied, IfOk, OnOk, OnErr};
 ghost use Rattle.byte_io.specs.Sink.{grown, IsFront, Rises};
 ghost use Rattle.table_text.specs.Csv.{csv_text};
 ghost use Rattle.table_text.specs.Records.{heading_with, records_text};
@@ -36,7 +36,8 @@ fn heading(
 }
 
 /// Writes a table as people read it: a line of headings, and a line for each record that is shown, with its number,
-/// `*` where it is marked as deleted, and its cells.
+/// `*` where it is marked as deleted, and its cells. Records are shown in the order of the numbers that are given; one that
+/// is no record's is passed over. Where none are given they are shown by their numbers.
 ///
 /// Columns are as wide as what is shown in them, but the last isn't filled up with blanks. Record numbers and numbers
 /// stand at the right. Dates are shown as MM/DD/YY. Of a memo `memos` says how much is shown. A byte that is no printable
@@ -51,31 +52,32 @@ pub fn write_records<S: ByteSink>(
     alloc: Global,
     sink: &mut S,
     table: &TableData,
+    order: Option<&[u32]>,
     selection: Selection,
     memos: MemoForm,
 ) -> Result<(), TextFault>
-    ensures wrote { OnOk result (S.written sink.new ≡ grown (S.written sink.old) (records_text table.now selection memos)) }
+    ensures wrote { OnOk result (S.written sink.new ≡ grown (S.written sink.old) (records_text table.now (option_copied order.entry) selection memos)) }
     ensures no_failure { OnOk result (S.failures sink.new ≡ S.failures sink.old) }
     ensures failed { result ≡ Err TextFault.Sink → Rises (S.failures sink.old) (S.failures sink.new) }
     ensures unfailed { result ≡ Err TextFault.NoMemory → S.failures sink.new ≡ S.failures sink.old }
     // What the sink held before the call it still holds.
     ensures kept { IsFront (S.written sink.old) (S.written sink.new) }
     // What it has after a fault is a front part of the text.
-    ensures front { OnErr result (IsFront (S.written sink.new) (grown (S.written sink.old) (records_text table.now selection memos))) }
+    ensures front { OnErr result (IsFront (S.written sink.new) (grown (S.written sink.old) (records_text table.now (option_copied order.entry) selection memos))) }
 {
     let number_width = number_width(alloc, table)?;
-    let widths = column_widths(alloc, table, selection, memos)?;
+    let widths = column_widths(alloc, table, order, selection, memos)?;
     let heading = heading(alloc, table.schema().fields(), number_width, &widths)?;
     let format = LineFormat::Columns(ColumnLayout {
         number_width,
         widths,
         memos,
     });
-    write_lines(alloc, sink, table, selection, &heading, &format)
+    write_lines(alloc, sink, table, order, selection, &heading, &format)
 }
 
 /// Writes the records of a table that are shown as CSV: a line of the fields' names, and a line for each record, each
-/// line ended by CR and LF.
+/// line ended by CR and LF. They stand in the same order as in [`write_records`].
 ///
 /// A memo stands whole, a number without the blanks around it, a date as its eight digits, and every other cell without
 /// the blanks at its end. Bytes stand as they are. A text with a comma, a quote, a CR or an LF stands between quotes, with
@@ -89,20 +91,21 @@ pub fn write_csv<S: ByteSink>(
     alloc: Global,
     sink: &mut S,
     table: &TableData,
+    order: Option<&[u32]>,
     selection: Selection,
     deleted_column: bool,
 ) -> Result<(), TextFault>
-    ensures wrote { OnOk result (S.written sink.new ≡ grown (S.written sink.old) (csv_text table.now selection deleted_column)) }
+    ensures wrote { OnOk result (S.written sink.new ≡ grown (S.written sink.old) (csv_text table.now (option_copied order.entry) selection deleted_column)) }
     ensures no_failure { OnOk result (S.failures sink.new ≡ S.failures sink.old) }
     ensures failed { result ≡ Err TextFault.Sink → Rises (S.failures sink.old) (S.failures sink.new) }
     ensures unfailed { result ≡ Err TextFault.NoMemory → S.failures sink.new ≡ S.failures sink.old }
     // What the sink held before the call it still holds.
     ensures kept { IsFront (S.written sink.old) (S.written sink.new) }
     // What it has after a fault is a front part of the text.
-    ensures front { OnErr result (IsFront (S.written sink.new) (grown (S.written sink.old) (csv_text table.now selection deleted_column))) }
+    ensures front { OnErr result (IsFront (S.written sink.new) (grown (S.written sink.old) (csv_text table.now (option_copied order.entry) selection deleted_column))) }
 {
     let mut heading = Vec::new(alloc);
     append_csv_heading(&mut heading, table, deleted_column)?;
     let format = LineFormat::Csv(deleted_column);
-    write_lines(alloc, sink, table, selection, &heading, &format)
+    write_lines(alloc, sink, table, order, selection, &heading, &format)
 }

@@ -1,10 +1,10 @@
 //! The fields of a table as text.
 
-ghost use Rattle.std.specs.Prelude.{◌≡◌, ◌≤◌, ◌+◌, ◌++◌, ◌↔◌, ◌^◌, ◌<◌, length, slice_index, IsSome, IfSome, IfOk, OnOk, OnErr};
+ghost use Rattle.std.specs.Prelude.{◌≡◌, ◌≤◌, ◌++◌, ◌↔◌, ◌^◌, ◌<◌, length, IsSome, IfSome, IfOk, OnOk, OnErr};
 ghost use Rattle.byte_io.specs.Sink.{grown, IsFront, Rises};
-ghost use Rattle.dbf_fields.specs.Day.{IsDay};
 ghost use Rattle.dbf_fields.specs.Digits.{last_digits};
-ghost use Rattle.table_text.specs.Structure.{count_line, date_line, date_words, decimals_part, field_line, field_lines, fields_text, kind_and_width, kind_word as word_of_kind, numbered_name, IsHeaderDate};
+ghost use Rattle.table_text.specs.Structure.{count_line, date_line, date_words, decimals_part, field_line, field_lines, fields_text};
+ghost use Rattle.table_text.specs.Structure.{kind_and_width, kind_word as word_of_kind, numbered_name, IsHeaderDate, TellsDay};
 
 use crate::columns::append_aligned;
 use crate::fault::TextFault;
@@ -34,7 +34,7 @@ const HEADING: &[u8] = b"Field Name       Kind      Width Decimals";
 /// it or tell no date of the calendar. Takes no memory.
 pub fn header_date(bytes: &[u8]) -> Option<Day>
     ensures some { IfSome result (λ day. IsHeaderDate bytes.now day) }
-    ensures only { IsSome result ↔ ((4 ≤ length bytes.now) × IsDay (FIRST_HEADER_YEAR + slice_index bytes.now 1) (slice_index bytes.now 2) (slice_index bytes.now 3)) }
+    ensures only { IsSome result ↔ ((4 ≤ length bytes.now) × TellsDay bytes.now) }
 {
     if bytes.len() < 4 {
         return None;

@@ -1,5 +1,5 @@
 -- What of a table is shown.
-use Rattle.std.specs.Prelude.{◌≡◌, ℕ, List, Option, Some, None, IfSome}
+use Rattle.std.specs.Prelude.{◌≡◌, ℕ, List, Option, Some, None, IfSome, option_copied}
 use Rattle.dbf_fields.specs.declared.day.Day.{Day}
 use Rattle.dbf_image.specs.DbfText.{IsDbf}
 use Rattle.dbf_image.specs.Table.{Table}
@@ -9,14 +9,16 @@ use Rattle.station_files.specs.Files.{IsFileOf}
 use Rattle.table_text.specs.Csv.{csv_text}
 use Rattle.table_text.specs.Records.{records_text}
 use Rattle.table_text.specs.Structure.{fields_text, IsHeaderDate}
+use Rattle.table_tool.specs.Order.{IsOrder}
+use Rattle.table_tool.specs.declared.program.options.Options.{Options}
 use Rattle.table_tool.specs.declared.program.options.View.{View}
 use Rattle.table_tool.specs.declared.program.options.View.TheVariants.{Records, Csv, Fields}
 
--- the text of a table that was asked for
-abbrev pub view_text : Table → Option Day → View → List ℕ
-view_text table date (Records selection memos) = records_text table selection memos
-view_text table date (Csv selection deleted_column) = csv_text table selection deleted_column
-view_text table date Fields = fields_text table date
+-- the text of a table that was asked for, its records in this order
+abbrev pub view_text : Table → Option Day → Option (List ℕ) → View → List ℕ
+view_text table date order (Records selection memos) = records_text table order selection memos
+view_text table date order (Csv selection deleted_column) = csv_text table order selection deleted_column
+view_text table date order Fields = fields_text table date
 
 -- the file of memos that a table is read with: none, or that of the path
 abbrev pub IsMemoFile : Option (List NamedFile) → Option (List ℕ) → Option (List ℕ) → Type 0
@@ -24,15 +26,17 @@ IsMemoFile files None dbt = dbt ≡ None
 IsMemoFile files (Some path) None = ⊥
 IsMemoFile files (Some path) (Some bytes) = IsFileOf files path bytes
 
--- What a sink has after a table was shown: the text that was asked for, of the table whose files stand at these paths. The
--- date is the one that its header tells.
-pub record IsShown (files : Option (List NamedFile)) (path : List ℕ) (memo_path : Option (List ℕ)) (view : View) (old new : Option (List ℕ)) : Type 0 where
+-- What a sink has after a table was shown: the text that was asked for, of the table whose files stand at the paths of the
+-- options, in the order of the index. The date is the one that the table's header tells.
+pub record IsShown (files : Option (List NamedFile)) (options : Options) (old new : Option (List ℕ)) : Type 0 where
   pub dbf : List ℕ
   pub dbt : Option (List ℕ)
   pub date : Option Day
   pub table : Table
-  pub table_file : IsFileOf files path dbf
-  pub memo_file : IsMemoFile files memo_path dbt
+  pub order : Option (List ℕ)
+  pub table_file : IsFileOf files options.table.now dbf
+  pub memo_file : IsMemoFile files (option_copied options.memos) dbt
   pub dated : IfSome date (IsHeaderDate dbf)
   pub is : IsDbf dbf dbt table
-  pub wrote : new ≡ grown old (view_text table date view)
+  pub ordered : IsOrder files (option_copied options.order) (option_copied options.from) table order
+  pub wrote : new ≡ grown old (view_text table date order options.view)

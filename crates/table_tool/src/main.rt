@@ -33,7 +33,7 @@ fn run_program<R: Runtime + AllocGlobal, W: Write + Drop>(rt: &R, out: W) -> Res
     let mut source = DiskSource::new(rt.clone()?);
     let mut sink = StreamSink::new(out);
     let shown = show_file(alloc, &mut source, &mut sink, &options);
-    ending_of(alloc, shown, sink.is_closed(), options.table)
+    ending_of(alloc, shown, sink.is_closed(), &options)
 }
 
 // The words of the command line, the program's name too.

@@ -6,6 +6,7 @@
 
 mod ending;
 mod options;
+mod order;
 mod range;
 mod showing;
 mod stream;

@@ -63,7 +63,7 @@ fn records_are_lines_of_csv(rt: HostRuntime) -> Result<(), Fail> {
             last,
             with_deleted,
         };
-        write_csv(alloc, &mut sink, &table, selection, deleted_column)?;
+        write_csv(alloc, &mut sink, &table, None, selection, deleted_column)?;
         assert_eq!(rt; ascii_of(alloc, &sink.bytes)?.as_slice(), text.as_bytes());
     }
     Ok(())
@@ -83,8 +83,39 @@ fn single_fields_are_no_empty_lines(rt: HostRuntime) -> Result<(), Fail> {
     ];
     for (deleted_column, text) in cases {
         let mut sink = MemorySink::new(alloc);
-        write_csv(alloc, &mut sink, &table, Selection::kept(), deleted_column)?;
+        write_csv(
+            alloc,
+            &mut sink,
+            &table,
+            None,
+            Selection::kept(),
+            deleted_column,
+        )?;
         assert_eq!(rt; sink.bytes.as_slice(), text);
     }
+    Ok(())
+}
+
+#[test]
+fn csv_stands_in_the_order_of_the_numbers(rt: HostRuntime) -> Result<(), Fail> {
+    let alloc = rt.alloc();
+    let mut table = table_of(alloc, &[(b"N".as_slice(), NUMBER, 3, 0)])?;
+    for record in [b" 123", b"   7", b"*  5"] {
+        add(&mut table, record)?;
+    }
+    let mut sink = MemorySink::new(alloc);
+    let numbers: &[u32] = &[2, 3, 9, 1];
+    write_csv(
+        alloc,
+        &mut sink,
+        &table,
+        Some(numbers),
+        Selection::kept(),
+        true,
+    )?;
+    assert_eq!(rt;
+        sink.bytes.as_slice(),
+        b"N,deleted\r\n7,false\r\n123,false\r\n".as_slice()
+    );
     Ok(())
 }

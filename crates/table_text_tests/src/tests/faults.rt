@@ -35,8 +35,8 @@ fn write(
     way: u8,
 ) -> Result<(), TextFault> {
     match way {
-        0 => write_records(alloc, sink, table, Selection::kept(), MemoForm::Whole),
-        1 => write_csv(alloc, sink, table, Selection::kept(), false),
+        0 => write_records(alloc, sink, table, None, Selection::kept(), MemoForm::Whole),
+        1 => write_csv(alloc, sink, table, None, Selection::kept(), false),
         _ => write_fields(alloc, sink, table, None),
     }
 }

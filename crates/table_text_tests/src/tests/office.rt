@@ -97,6 +97,7 @@ fn office_tables_are_read_as_printed(rt: HostRuntime) -> Result<(), Fail> {
             alloc,
             &mut sink,
             &table,
+            None,
             Selection::kept(),
             MemoForm::FirstLine,
         )?;

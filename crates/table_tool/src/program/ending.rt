@@ -1,8 +1,12 @@
 //! How a call of the program ends that shows no table, or not all of it.
 
+use crate::program::options::Options;
+use crate::program::order::OrderFault;
 use crate::program::showing::ShowFault;
 use clap::error::ErrorKind;
 use dbf_image::ImageFault;
+use key_expr::ExprFault;
+use ndx_index::NdxFault;
 use station_files::LoadFault;
 use std::alloc::{AllocError, Global};
 use std::io;
@@ -21,7 +25,7 @@ pub(crate) enum Ending {
     BadRange,
     /// Memory was refused.
     NoMemory,
-    /// The table of this path can't be shown.
+    /// The table can't be shown for a fault of the file of this path, or of another that its table has.
     Table(String, ShowFault),
     /// The output failed.
     Output,
@@ -56,15 +60,34 @@ fn is_no_memory(fault: ShowFault) -> bool {
         ShowFault::Load(LoadFault::NoMemory)
             | ShowFault::Table(ImageFault::NoMemory)
             | ShowFault::Text(TextFault::NoMemory)
+    ) || is_order_no_memory(fault)
+}
+
+// Whether a fault of an index is one.
+fn is_order_no_memory(fault: ShowFault) -> bool {
+    matches!(
+        fault,
+        ShowFault::Order(OrderFault::NoMemory)
+            | ShowFault::Order(OrderFault::Load(LoadFault::NoMemory))
+            | ShowFault::Order(OrderFault::Index(NdxFault::NoMemory))
+            | ShowFault::Order(OrderFault::Expression(ExprFault::NoMemory))
     )
 }
 
-/// What a fault of showing the table of a path ends in. A sink that failed since nobody reads it any more is no fault.
+// The path of the index, where the fault is one of it, and else of the table.
+fn faulty_path<'a>(options: &Options<'a>, fault: ShowFault) -> &'a str {
+    match (fault, options.order) {
+        (ShowFault::Order(_), Some(path)) => path,
+        _ => options.table,
+    }
+}
+
+/// What a fault of showing what the options ask for ends in. A sink that failed since nobody reads it any more is no fault.
 pub(crate) fn ending_of(
     alloc: Global,
     shown: Result<(), ShowFault>,
     is_closed: bool,
-    path: &str,
+    options: &Options<'_>,
 ) -> Result<(), Ending> {
     match shown {
         Ok(()) => Ok(()),
@@ -79,6 +102,7 @@ pub(crate) fn ending_of(
             if is_no_memory(fault) {
                 return Err(Ending::NoMemory);
             }
+            let path = faulty_path(options, fault);
             Err(Ending::Table(String::from_str(alloc, path)?, fault))
         }
     }
@@ -86,7 +110,7 @@ pub(crate) fn ending_of(
 
 // The exit status: 0 where the help is asked for, 1 for the command line, 2 for a file, 3 for want of memory, 4 for the
 // output.
-fn status_of(ending: &Ending) -> u8 {
+pub(crate) fn status_of(ending: &Ending) -> u8 {
     match ending {
         Ending::NoText => 1,
         Ending::BadRange => 1,
@@ -106,6 +130,7 @@ fn print_fault<W: Write>(err: &mut W, path: &str, fault: ShowFault) -> io::Resul
     match fault {
         ShowFault::Load(cause) => write!(err, "table_tool: {path}: {cause}\n"),
         ShowFault::Table(cause) => write!(err, "table_tool: {path}: {cause}\n"),
+        ShowFault::Order(cause) => write!(err, "table_tool: {path}: {cause}\n"),
         ShowFault::Text(cause) => write!(err, "table_tool: {path}: {cause}\n"),
     }
 }

@@ -12,6 +12,7 @@ use table_text::{MemoForm, Selection};
 // What the help tells after the commands.
 const EXAMPLES: &str = "Examples:
   table_tool show MEMBERS.DBF --memo MEMBERS.DBT --records 1-20
+  table_tool show MEMBERS.DBF --memo MEMBERS.DBT --order NAMES.NDX --from M
   table_tool fields STOCK.DBF
   table_tool csv LEDGER.DBF --deleted --deleted-column > LEDGER.CSV
 
@@ -40,6 +41,10 @@ pub(crate) struct Options<'a> {
     pub table: &'a str,
     /// The path of the file of its memos.
     pub memos: Option<&'a str>,
+    /// The path of the index in whose order records are shown.
+    pub order: Option<&'a str>,
+    /// The text from which keys are shown in that order.
+    pub from: Option<&'a str>,
     /// What is shown of it.
     pub view: View,
 }
@@ -121,7 +126,20 @@ fn with_records<'a>(alloc: Global, command: Command<'a>) -> Result<Command<'a>, 
             alloc,
             "deleted",
             "Print records that are marked as deleted, too",
-        ))
+        ))?
+        .arg(option(
+            alloc,
+            "order",
+            "FILE.NDX",
+            "Print them in the order of this index of the table",
+        ))?
+        .arg(option(
+            alloc,
+            "from",
+            "TEXT",
+            "Only from the first key on that is not less than TEXT",
+        )
+        .requires_arg("order")?)
 }
 
 fn option<'a>(alloc: Global, name: &'a str, value_name: &'a str, help: &'a str) -> Arg<'a> {
@@ -178,6 +196,8 @@ pub(crate) fn options_of<'a>(matches: &ArgMatches<'a>) -> Option<Options<'a>> {
     Some(Options {
         table: matches.get_str("table")?,
         memos: matches.get_str("memo"),
+        order: matches.get_str("order"),
+        from: matches.get_str("from"),
         view: view_of(name, matches)?,
     })
 }

@@ -1,10 +1,13 @@
 //! A table that is read and shown.
 
 ghost use Rattle.std.specs.Prelude.{◌≡◌, OnOk, OnErr, IfOk, option_copied};
+ghost use Rattle.std.specs.Option.{option_map};
 ghost use Rattle.byte_io.specs.Sink.{grown, IsFront};
+ghost use Rattle.table_tool.specs.Order.{from_text, IsOrder};
 ghost use Rattle.table_tool.specs.View.{view_text, IsMemoFile, IsShown};
 
 use crate::program::options::{Options, View};
+use crate::program::order::{OrderFault, read_order};
 use dbf_fields::{Bytes, Day};
 use dbf_image::{ByteSink, ImageFault, TableData, read_table};
 use station_files::{LoadFault, Source};
@@ -18,6 +21,8 @@ pub(crate) enum ShowFault {
     Load(LoadFault),
     /// The files are no table.
     Table(ImageFault),
+    /// The records can't be shown in the order of the index.
+    Order(OrderFault),
     /// The text was not written.
     Text(TextFault),
 }
@@ -44,6 +49,17 @@ impl From<ImageFault> for ShowFault {
     }
 }
 
+impl From<OrderFault> for ShowFault {
+    ghost use Rattle.std.specs.Prelude.{◌≡◌};
+    ghost use Rattle.table_tool.specs.declared.program.showing.ShowFault.TheVariants.{Order};
+
+    ghost from_gives = { λ cause fault. fault ≡ Order cause };
+
+    fn from(cause: OrderFault) -> ShowFault {
+        ShowFault::Order(cause)
+    }
+}
+
 impl From<TextFault> for ShowFault {
     ghost use Rattle.std.specs.Prelude.{◌≡◌};
     ghost use Rattle.table_tool.specs.declared.program.showing.ShowFault.TheVariants.{Text};
@@ -55,23 +71,26 @@ impl From<TextFault> for ShowFault {
     }
 }
 
-// The text of a table that is asked for, into a sink.
+// The text of a table that is asked for, its records in an order, into a sink.
 fn write_view<S: ByteSink>(
     alloc: Global,
     sink: &mut S,
     table: &TableData,
     date: Option<Day>,
+    order: Option<&[u32]>,
     view: View,
 ) -> Result<(), TextFault>
-    ensures wrote { OnOk result (S.written sink.new ≡ grown (S.written sink.old) (view_text table.now date view)) }
+    ensures wrote { OnOk result (S.written sink.new ≡ grown (S.written sink.old) (view_text table.now date (option_copied order.entry) view)) }
     ensures no_failure { OnOk result (S.failures sink.new ≡ S.failures sink.old) }
     ensures kept { IsFront (S.written sink.old) (S.written sink.new) }
-    ensures front { OnErr result (IsFront (S.written sink.new) (grown (S.written sink.old) (view_text table.now date view))) }
+    ensures front { OnErr result (IsFront (S.written sink.new) (grown (S.written sink.old) (view_text table.now date (option_copied order.entry) view))) }
 {
     match view {
-        View::Records(selection, memos) => write_records(alloc, sink, table, selection, memos),
+        View::Records(selection, memos) => {
+            write_records(alloc, sink, table, order, selection, memos)
+        }
         View::Csv(selection, deleted_column) => {
-            write_csv(alloc, sink, table, selection, deleted_column)
+            write_csv(alloc, sink, table, order, selection, deleted_column)
         }
         View::Fields => write_fields(alloc, sink, table, date),
     }
@@ -101,9 +120,48 @@ fn bytes_of(memos: &Option<Bytes>) -> Option<&[u8]>
     }
 }
 
-/// Reads the table of a command line, and its memos, and writes what is asked for into a sink.
+// The table, and the numbers of its records in the order of the index whose path is given.
+fn load_order<F: Source>(
+    alloc: Global,
+    source: &mut F,
+    path: Option<&str>,
+    from: Option<&str>,
+    table: TableData,
+) -> Result<(TableData, Option<Vec<u32>>), OrderFault>
+    ensures table { IfOk result (λ read. read.0 ≡ table) }
+    ensures order { IfOk result (λ read. IsOrder (F.files source.old) (option_copied path.entry) (option_copied from.entry) table (option_map (λ numbers. numbers.items) read.1)) }
+    ensures kept { F.files source.new ≡ F.files source.old }
+{
+    let Some(path) = path else {
+        return Ok((table, None));
+    };
+    let (table, numbers) = read_order(alloc, source, path, text_of(from), table)?;
+    Ok((table, Some(numbers)))
+}
+
+// The text that keys are looked for from; no key is less than the empty one.
+fn text_of<'a>(from: Option<&'a str>) -> &'a [u8]
+    ensures value { result.now ≡ from_text (option_copied from.entry) }
+{
+    match from {
+        Some(text) => text.as_bytes(),
+        None => b"",
+    }
+}
+
+fn numbers_of(numbers: &Option<Vec<u32>>) -> Option<&[u32]>
+    ensures value { option_copied result ≡ option_map (λ list. list.items) numbers.now }
+{
+    match numbers {
+        Some(numbers) => Some(numbers.as_slice()),
+        None => None,
+    }
+}
+
+/// Reads the table of a command line, its memos and the index that orders it, and writes what is asked for into a sink.
 ///
-/// A fault of `Load` or `Table` says that nothing was written; after one of `Text` the sink has a front part of the text.
+/// A fault of `Load`, `Table` or `Order` says that nothing was written; after one of `Text` the sink has a front part of the
+/// text.
 #[tactic(auto, using(byte_io::specs::Laws::Sinks::front_same))]
 pub(crate) fn show_file<F: Source, S: ByteSink>(
     alloc: Global,
@@ -112,7 +170,7 @@ pub(crate) fn show_file<F: Source, S: ByteSink>(
     options: &Options<'_>,
 ) -> Result<(), ShowFault>
     // What was written is the text of the table whose files these are.
-    ensures shown { OnOk result (IsShown (F.files source.old) options.now.table.now (option_copied options.now.memos) options.now.view (S.written sink.old) (S.written sink.new)) }
+    ensures shown { OnOk result (IsShown (F.files source.old) options.now (S.written sink.old) (S.written sink.new)) }
     ensures no_failure { OnOk result (S.failures sink.new ≡ S.failures sink.old) }
     ensures kept { IsFront (S.written sink.old) (S.written sink.new) }
 {
@@ -120,6 +178,7 @@ pub(crate) fn show_file<F: Source, S: ByteSink>(
     let date = header_date(dbf.as_slice());
     let memos = load_memos(alloc, source, options.memos)?;
     let table = read_table(alloc, dbf, bytes_of(&memos))?;
-    write_view(alloc, sink, &table, date, options.view)?;
+    let (table, order) = load_order(alloc, source, options.order, options.from, table)?;
+    write_view(alloc, sink, &table, date, numbers_of(&order), options.view)?;
     Ok(())
 }

@@ -1,10 +1,11 @@
-use Rattle.std.proofs.Common.{◌≡◌, ◌+◌, ◌-◌, length}
-use Rattle.table_text.proofs.Steps.{selected_from, widest}
+use Rattle.std.proofs.Common.{◌≡◌, ℕ, List, drop, length, option_copied}
+use Rattle.table_text.specs.Selection.{numbers_in}
+use Rattle.table_text.proofs.Steps.{selected_of, widest}
 use Rattle.table_text.proofs.columns.column_width.Given as goal
 
 -- the widest text so far and those that are left make the column's width
-abbrev pub invariant-loop-earlier : goal.invariant-loop-earlier
-invariant-loop-earlier l =
-    let count = length l.table.rows in
-    widest l.table l.memos l.index l.field l.width (selected_from l.table l.selection (l.earlier + 1) (count - l.earlier))
-    ≡ widest l.table l.memos l.index l.field (length l.field.name) (selected_from l.table l.selection 1 count)
+abbrev pub invariant-loop-place : goal.invariant-loop-place
+invariant-loop-place l =
+    let numbers = numbers_in l.table (option_copied l.order) in
+    let width_with = λ (width : ℕ) (left : List ℕ). widest l.table l.memos l.index l.field width (selected_of l.table l.selection left) in
+    width_with l.width (drop l.place numbers) ≡ width_with (length l.field.name) numbers

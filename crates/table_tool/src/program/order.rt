@@ -1,0 +1,160 @@
+//! The order of an index file, in which records are shown.
+
+ghost use Rattle.std.specs.Prelude.{◌≡◌, ◌≢◌, ◌↔◌, ◌++◌, ◌≤◌, [], ℕ, Err, IfOk, IfErr, IsTrue, length, map, option_copied};
+ghost use Rattle.ndx_index.specs.Order.{reaches as reaches_text};
+ghost use Rattle.ndx_index.specs.TableOrder.{order as order_of};
+ghost use Rattle.key_expr.specs.Grammar.{Expr};
+ghost use Rattle.key_expr.specs.Rules.{IsKeyText};
+ghost use Rattle.table_core.specs.Content.{order_at};
+ghost use Rattle.table_tool.specs.Order.{from_text, numbers_from as numbers_of_pairs, AreKeysOf, IsOrderOf, IsStale};
+
+use dbf_fields::Bytes;
+use dbf_image::TableData;
+use key_expr::{ExprFault, KeyExpr};
+use ndx_index::{NdxFault, NdxFile, Pair, PairList, read_ndx};
+use station_files::{LoadFault, Source};
+use std::alloc::{AllocError, Global};
+use table_core::Table;
+use thiserror::Error;
+
+/// Why records can't be shown in the order of an index file.
+#[derive(Clone, Copy, Debug, PartialEq, Eq, Error)]
+pub(crate) enum OrderFault {
+    /// The file can't be read.
+    #[error("{0}")]
+    Load(LoadFault),
+    /// Its bytes are no index.
+    #[error("{0}")]
+    Index(NdxFault),
+    /// Its text is no key expression for the table's fields.
+    #[error("its key expression is not one for the table: {0}")]
+    Expression(ExprFault),
+    /// Its pairs are not those of the table's records.
+    #[error("the index is stale: its keys are not those of the table's records")]
+    Stale,
+    /// Memory was refused.
+    #[error("out of memory")]
+    NoMemory,
+}
+
+impl From<AllocError> for OrderFault {
+    ghost use Rattle.std.specs.Prelude.{◌≡◌};
+    ghost use Rattle.table_tool.specs.declared.program.order.OrderFault.TheVariants.{NoMemory};
+
+    ghost from_gives = { λ _ fault. fault ≡ NoMemory };
+
+    fn from(_refused: AllocError) -> OrderFault {
+        OrderFault::NoMemory
+    }
+}
+
+impl From<LoadFault> for OrderFault {
+    ghost use Rattle.std.specs.Prelude.{◌≡◌};
+    ghost use Rattle.table_tool.specs.declared.program.order.OrderFault.TheVariants.{Load};
+
+    ghost from_gives = { λ cause fault. fault ≡ Load cause };
+
+    fn from(cause: LoadFault) -> OrderFault {
+        OrderFault::Load(cause)
+    }
+}
+
+impl From<NdxFault> for OrderFault {
+    ghost use Rattle.std.specs.Prelude.{◌≡◌};
+    ghost use Rattle.table_tool.specs.declared.program.order.OrderFault.TheVariants.{Index};
+
+    ghost from_gives = { λ cause fault. fault ≡ Index cause };
+
+    fn from(cause: NdxFault) -> OrderFault {
+        OrderFault::Index(cause)
+    }
+}
+
+impl From<ExprFault> for OrderFault {
+    ghost use Rattle.std.specs.Prelude.{◌≡◌};
+    ghost use Rattle.table_tool.specs.declared.program.order.OrderFault.TheVariants.{Expression};
+
+    ghost from_gives = { λ cause fault. fault ≡ Expression cause };
+
+    fn from(cause: ExprFault) -> OrderFault {
+        OrderFault::Expression(cause)
+    }
+}
+
+// Whether a key isn't less than a text.
+fn reaches(pair: &Pair, text: &[u8]) -> bool
+    ensures value { result ≡ reaches_text text.now pair.now }
+{
+    !pair.key.as_bytes().cmp(text).is_lt()
+}
+
+// The numbers of the pairs whose keys aren't less than a text.
+fn numbers_from(alloc: Global, pairs: &PairList, text: &[u8]) -> Result<Vec<u32>, AllocError>
+    ensures value { IfOk result (λ numbers. numbers.items ≡ numbers_of_pairs text.now pairs.now.pairs) }
+{
+    let mut numbers = Vec::new(alloc);
+    for at in 0..pairs.len() {
+        let pair = pairs.get(at);
+        if reaches(&pair, text) {
+            numbers.push(pair.number)?;
+        }
+    }
+    Ok(numbers)
+}
+
+// The table with the index of a file alone, where the file's pairs are those of its records.
+fn with_index(
+    alloc: Global,
+    table: TableData,
+    file: NdxFile,
+    expr: KeyExpr,
+) -> Result<Table, OrderFault>
+    requires read { expr.fields ≡ table.schema }
+    ensures table { IfOk result (λ indexed. indexed.content.table ≡ table) }
+    ensures one { IfOk result (λ indexed. length indexed.content.indexes ≡ 1) }
+    ensures order { IfOk result (λ indexed. order_at indexed.content 1 ≡ order_of table expr.expr) }
+    ensures own { IfOk result (λ _. AreKeysOf table expr.expr file.key_len file.pairs.items) }
+    ensures stale { IfErr result (λ fault. fault ≡ OrderFault.Stale → AreKeysOf table expr.expr file.key_len file.pairs.items → ⊥) }
+{
+    let NdxFile {
+        expr: name,
+        key_len,
+        pairs,
+    } = file;
+    if key_len != expr.key_len() {
+        return Err(OrderFault::Stale);
+    }
+    let mut indexed = Table::without_indexes(alloc, table);
+    match indexed.add_kept_index(alloc, name, expr, pairs) {
+        Ok(true) => Ok(indexed),
+        Ok(false) => Err(OrderFault::Stale),
+        Err(_) => Err(OrderFault::NoMemory),
+    }
+}
+
+/// The table, and the numbers of its records in the order of the index file of a path, from the first key on that isn't less
+/// than a text.
+///
+/// `Load` says that the file can't be read, `Index` that it is no index, `Expression` that its text is no key expression for
+/// the table's fields, and `Stale` that its keys are not those of the table's records. `NoMemory` says that there was no memory,
+/// which each of the first three may say too.
+pub(crate) fn read_order<F: Source>(
+    alloc: Global,
+    source: &mut F,
+    path: &str,
+    text: &[u8],
+    table: TableData,
+) -> Result<(TableData, Vec<u32>), OrderFault>
+    ensures table { IfOk result (λ read. read.0 ≡ table) }
+    ensures order { IfOk result (λ read. IsOrderOf (F.files source.old) path.now text.now table read.1.items) }
+    ensures stale { IfErr result (λ fault. fault ≡ OrderFault.Stale → IsStale (F.files source.old) path.now table) }
+    ensures kept { F.files source.new ≡ F.files source.old }
+{
+    let bytes = source.load(alloc, path.as_bytes())?;
+    let file = read_ndx(alloc, bytes.as_slice())?;
+    let expr = KeyExpr::parse(alloc, file.expr.as_slice(), table.schema())?;
+    let indexed = with_index(alloc, table, file, expr)?;
+    let pairs = indexed.index_pairs(alloc, 1)?;
+    let numbers = numbers_from(alloc, &pairs, text)?;
+    Ok((indexed.into_data(), numbers))
+}
