@@ -4,12 +4,15 @@
 //! that is made again and again with a little more each time meets its first refusal at one request after another.
 //!
 //! What the call works on is made before, and the call is made once with ample memory: the stack has grown then, and a hoard
-//! leaves it no room. While a hoard is held nothing is printed, and answers are compared by their values.
+//! leaves it no room. While a hoard is held nothing is printed, and answers are compared by their values. [`thread_refusals`]
+//! does the same for a call that starts a thread.
 #![tactic(auto)]
 
 mod hoard;
+mod threads;
 
 pub use crate::hoard::Hoard;
+pub use crate::threads::{ThreadRefusals, thread_refusals};
 use std::alloc::{AllocError, Global};
 
 /// How an attempt at a call ended that takes memory.
