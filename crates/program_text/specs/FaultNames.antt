@@ -1,0 +1,74 @@
+-- The names of faults, without what they carry.
+use Rattle.std.specs.Prelude.{ℕ, List, codes}
+use Rattle.dbf_image.specs.declared.fault.ImageFault.{ImageFault}
+use Rattle.dbf_image.specs.declared.fault.ImageFault.TheVariants as image
+use Rattle.ndx_index.specs.declared.fault.NdxFault.{NdxFault}
+use Rattle.ndx_index.specs.declared.fault.NdxFault.TheVariants as ndx
+use Rattle.catalogue_core.specs.declared.catalogue.Stop.{Stop}
+use Rattle.catalogue_core.specs.declared.catalogue.Stop.TheVariants as stop
+use Rattle.catalogue_core.specs.declared.opening.OpenFault.{OpenFault}
+use Rattle.catalogue_core.specs.declared.opening.OpenFault.TheVariants as opening
+use Rattle.shared_catalogue.specs.declared.settle.SettleFault.{SettleFault}
+use Rattle.shared_catalogue.specs.declared.settle.SettleFault.TheVariants as settle
+use Rattle.station_run.specs.declared.fault.RunFault.{RunFault}
+use Rattle.station_run.specs.declared.fault.RunFault.TheVariants as run
+use Rattle.station_files.specs.declared.close_fault.CloseFault.{CloseFault}
+use Rattle.station_files.specs.declared.close_fault.CloseFault.TheVariants as close
+
+abbrev pub image_name : ImageFault → List ℕ
+image_name image.Truncated = codes "Truncated"
+image_name image.BadVersion = codes "BadVersion"
+image_name image.BadHeaderLength = codes "BadHeaderLength"
+image_name image.BadSchema = codes "BadSchema"
+image_name image.BadRecordLength = codes "BadRecordLength"
+image_name image.TooManyRecords = codes "TooManyRecords"
+image_name image.MemoFileMissing = codes "MemoFileMissing"
+image_name image.BadMemoNumber = codes "BadMemoNumber"
+image_name image.MemoOutside = codes "MemoOutside"
+image_name image.MemoTooLong = codes "MemoTooLong"
+image_name image.NoMemory = codes "NoMemory"
+
+abbrev pub ndx_name : NdxFault → List ℕ
+ndx_name ndx.Truncated = codes "Truncated"
+ndx_name ndx.NumericIndex = codes "NumericIndex"
+ndx_name ndx.UniqueIndex = codes "UniqueIndex"
+ndx_name ndx.BadKeyLength = codes "BadKeyLength"
+ndx_name ndx.BadRecordSize = codes "BadRecordSize"
+ndx_name ndx.PageOutside = codes "PageOutside"
+ndx_name ndx.PageTwice = codes "PageTwice"
+ndx_name ndx.TooManyEntries = codes "TooManyEntries"
+ndx_name ndx.MixedPage = codes "MixedPage"
+ndx_name ndx.NoMemory = codes "NoMemory"
+
+abbrev pub open_name : OpenFault → List ℕ
+open_name opening.NoStation = codes "NoStation"
+open_name opening.TooManyStations = codes "TooManyStations"
+open_name opening.TooManyTables = codes "TooManyTables"
+open_name (opening.DuplicateTable table) = codes "DuplicateTable"
+open_name (opening.TooManyIndexes table) = codes "TooManyIndexes"
+open_name (opening.DuplicateIndex table index) = codes "DuplicateIndex"
+open_name (opening.BadExpression table index fault) = codes "BadExpression"
+open_name (opening.IndexStale table index) = codes "IndexStale"
+open_name opening.NoMemory = codes "NoMemory"
+
+abbrev pub stop_name : Stop → List ℕ
+stop_name stop.JournalFull = codes "JournalFull"
+stop_name stop.NoMemory = codes "NoMemory"
+
+abbrev pub settle_name : SettleFault → List ℕ
+settle_name (settle.SeatMissing station) = codes "SeatMissing"
+settle_name (settle.ReceiptMismatch station) = codes "ReceiptMismatch"
+
+-- of a run that was stopped or not settled the name is that of the fault for which it was
+abbrev pub run_name : RunFault → List ℕ
+run_name run.ScriptCount = codes "ScriptCount"
+run_name (run.NoThread station) = codes "NoThread"
+run_name (run.Stopped station why) = stop_name why
+run_name (run.Settle why) = settle_name why
+run_name run.NoMemory = codes "NoMemory"
+
+abbrev pub close_name : CloseFault → List ℕ
+close_name close.DateOutside = codes "DateOutside"
+close_name (close.TooManyBlocks table) = codes "TooManyBlocks"
+close_name close.NoMemory = codes "NoMemory"
+close_name (close.Write name) = codes "Write"

@@ -1,0 +1,4 @@
+pub mod Dates
+pub mod FaultNames
+pub mod Placing
+pub mod Reasons

@@ -1,0 +1,110 @@
+//! The names of faults, without what they carry.
+
+ghost use Rattle.std.specs.Prelude.{◌≡◌};
+ghost use Rattle.program_text.specs.FaultNames.{close_name as name_of_close, image_name as name_of_image, ndx_name as name_of_ndx, open_name as name_of_opening, run_name as name_of_run, settle_name as name_of_settling, stop_name as name_of_stop};
+
+use dbf_image::ImageFault;
+use ndx_index::NdxFault;
+use shared_catalogue::{OpenFault, SettleFault, Stop};
+use station_files::CloseFault;
+use station_run::RunFault;
+
+/// The name of the fault for which bytes are no table.
+pub(crate) fn image_name(fault: ImageFault) -> &'static str
+    ensures value { result.now ≡ name_of_image fault }
+{
+    match fault {
+        ImageFault::Truncated => "Truncated",
+        ImageFault::BadVersion => "BadVersion",
+        ImageFault::BadHeaderLength => "BadHeaderLength",
+        ImageFault::BadSchema => "BadSchema",
+        ImageFault::BadRecordLength => "BadRecordLength",
+        ImageFault::TooManyRecords => "TooManyRecords",
+        ImageFault::MemoFileMissing => "MemoFileMissing",
+        ImageFault::BadMemoNumber => "BadMemoNumber",
+        ImageFault::MemoOutside => "MemoOutside",
+        ImageFault::MemoTooLong => "MemoTooLong",
+        ImageFault::NoMemory => "NoMemory",
+    }
+}
+
+/// The name of the fault for which an index file is refused.
+pub(crate) fn ndx_name(fault: NdxFault) -> &'static str
+    ensures value { result.now ≡ name_of_ndx fault }
+{
+    match fault {
+        NdxFault::Truncated => "Truncated",
+        NdxFault::NumericIndex => "NumericIndex",
+        NdxFault::UniqueIndex => "UniqueIndex",
+        NdxFault::BadKeyLength => "BadKeyLength",
+        NdxFault::BadRecordSize => "BadRecordSize",
+        NdxFault::PageOutside => "PageOutside",
+        NdxFault::PageTwice => "PageTwice",
+        NdxFault::TooManyEntries => "TooManyEntries",
+        NdxFault::MixedPage => "MixedPage",
+        NdxFault::NoMemory => "NoMemory",
+    }
+}
+
+/// The name of the fault for which a catalogue can't be opened.
+pub(crate) fn open_name(fault: OpenFault) -> &'static str
+    ensures value { result.now ≡ name_of_opening fault }
+{
+    match fault {
+        OpenFault::NoStation => "NoStation",
+        OpenFault::TooManyStations => "TooManyStations",
+        OpenFault::TooManyTables => "TooManyTables",
+        OpenFault::DuplicateTable(_) => "DuplicateTable",
+        OpenFault::TooManyIndexes(_) => "TooManyIndexes",
+        OpenFault::DuplicateIndex(_, _) => "DuplicateIndex",
+        OpenFault::BadExpression(_, _, _) => "BadExpression",
+        OpenFault::IndexStale(_, _) => "IndexStale",
+        OpenFault::NoMemory => "NoMemory",
+    }
+}
+
+/// The name of the fault for which a worker was stopped.
+fn stop_name(stop: Stop) -> &'static str
+    ensures value { result.now ≡ name_of_stop stop }
+{
+    match stop {
+        Stop::JournalFull => "JournalFull",
+        Stop::NoMemory => "NoMemory",
+    }
+}
+
+/// The name of the fault for which a catalogue was not settled.
+fn settle_name(fault: SettleFault) -> &'static str
+    ensures value { result.now ≡ name_of_settling fault }
+{
+    match fault {
+        SettleFault::SeatMissing(_) => "SeatMissing",
+        SettleFault::ReceiptMismatch(_) => "ReceiptMismatch",
+    }
+}
+
+/// The name of the fault for which the stations' run did not come to its end. Where it was stopped or not settled
+/// this is the name of the fault that is carried.
+pub(crate) fn run_name(fault: RunFault) -> &'static str
+    ensures value { result.now ≡ name_of_run fault }
+{
+    match fault {
+        RunFault::ScriptCount => "ScriptCount",
+        RunFault::NoThread(_) => "NoThread",
+        RunFault::Stopped(_, stop) => stop_name(stop),
+        RunFault::Settle(fault) => settle_name(fault),
+        RunFault::NoMemory => "NoMemory",
+    }
+}
+
+/// The name of the fault for which the files were not written.
+pub(crate) fn close_name(fault: &CloseFault) -> &'static str
+    ensures value { result.now ≡ name_of_close fault.now }
+{
+    match fault {
+        CloseFault::DateOutside => "DateOutside",
+        CloseFault::TooManyBlocks(_) => "TooManyBlocks",
+        CloseFault::NoMemory => "NoMemory",
+        CloseFault::Write(_) => "Write",
+    }
+}

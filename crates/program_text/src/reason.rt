@@ -1,0 +1,88 @@
+//! Why a whole run did not come to its end, as programs print it.
+
+ghost use Rattle.std.specs.Prelude.{◌≡◌, ◌++◌, OnOk};
+ghost use Rattle.std.specs.Io.KnownBytes.{Appends};
+ghost use Rattle.program_text.specs.Reasons.{close_reason, fault_reason, fault_status as status_of_fault, file_reason, unread_file, unwritten};
+
+use crate::names::{close_name, image_name, ndx_name, open_name, run_name};
+use dbf_fields::Bytes;
+use station_files::CloseFault;
+use std::io;
+use std::io::Write;
+use whole_run::{FileFault, ServeFault};
+
+/// The exit status of a program whose whole run did not come to its end: 1 for the setup, 2 for a file and the opening, 3
+/// for the run and for want of memory, 4 for the writing.
+pub fn fault_status(fault: &ServeFault) -> u8
+    ensures value { result ≡ status_of_fault fault.now }
+{
+    match fault {
+        ServeFault::Setup(_) => 1,
+        ServeFault::File(_, _) => 2,
+        ServeFault::Refused(_) => 2,
+        ServeFault::Run(_) => 3,
+        ServeFault::NoMemory => 3,
+        ServeFault::Close(_) => 4,
+    }
+}
+
+/// Prints why a whole run did not come to its end. Takes no memory. An error where a write fails.
+pub fn print_fault<W: Write>(out: &mut W, fault: &ServeFault) -> io::Result<()>
+    ensures text { OnOk result (Appends (W.contents out.old) (W.contents out.new) (fault_reason fault.now)) }
+{
+    match fault {
+        ServeFault::Setup(number) => write!(out, "setup line {number} is bad"),
+        ServeFault::File(path, fault) => print_file(out, path, *fault),
+        ServeFault::Refused(fault) => print_both(out, b"open: ", open_name(*fault)),
+        ServeFault::Run(fault) => print_both(out, b"run: ", run_name(*fault)),
+        ServeFault::Close(fault) => print_close(out, fault),
+        ServeFault::NoMemory => out.write_all(b"run: NoMemory"),
+    }
+}
+
+fn print_file<W: Write>(out: &mut W, path: &Bytes, fault: FileFault) -> io::Result<()>
+    ensures text { OnOk result (Appends (W.contents out.old) (W.contents out.new) (unread_file path.now fault)) }
+{
+    out.write_all(path.as_slice())?;
+    print_both(out, b": ", file_name(fault))?;
+    Ok(())
+}
+
+// Why a file was not read.
+fn file_name(fault: FileFault) -> &'static str
+    ensures value { result.now ≡ file_reason fault }
+{
+    match fault {
+        FileFault::CannotRead => "cannot read",
+        FileFault::Image(fault) => image_name(fault),
+        FileFault::Ndx(fault) => ndx_name(fault),
+    }
+}
+
+fn print_close<W: Write>(out: &mut W, fault: &CloseFault) -> io::Result<()>
+    ensures text { OnOk result (Appends (W.contents out.old) (W.contents out.new) (close_reason fault.now)) }
+{
+    match fault {
+        CloseFault::Write(name) => print_unwritten(out, name),
+        CloseFault::DateOutside => print_both(out, b"close: ", close_name(fault)),
+        CloseFault::TooManyBlocks(_) => print_both(out, b"close: ", close_name(fault)),
+        CloseFault::NoMemory => print_both(out, b"close: ", close_name(fault)),
+    }
+}
+
+fn print_unwritten<W: Write>(out: &mut W, name: &Bytes) -> io::Result<()>
+    ensures text { OnOk result (Appends (W.contents out.old) (W.contents out.new) (unwritten name.now)) }
+{
+    out.write_all(b"cannot write ")?;
+    out.write_all(name.as_slice())?;
+    Ok(())
+}
+
+// Prints a text and a name after it.
+fn print_both<W: Write>(out: &mut W, before: &[u8], name: &str) -> io::Result<()>
+    ensures text { OnOk result (Appends (W.contents out.old) (W.contents out.new) (before.now ++ name.now)) }
+{
+    out.write_all(before)?;
+    out.write_all(name.as_bytes())?;
+    Ok(())
+}

@@ -1,0 +1,23 @@
+use Rattle.std.proofs.Common.{refl, ap}
+use Rattle.station_audit.specs.declared.program.failure.Failure.TheVariants.{Serve}
+use Rattle.station_audit.proofs.ProgramLaws.{err_exit}
+use Rattle.station_audit.proofs.WritingLaws.{unwritten_audit, unwritten_tables, no_close}
+use Rattle.station_audit.proofs.program.writing.audit_into.Goals as goal
+
+pub returns-in_err-catalogue-clause-fault : goal.returns-in_err-catalogue-clause-fault
+returns-in_err-catalogue-clause-fault g c = err_exit _ _ c.from_residual.ensures.1 (unwritten_audit _ _ _ c.in_err-catalogue.field-0.0 c.in_err-catalogue.ensures.fault)
+
+pub returns-in_err-catalogue-clause-no_file_begun : goal.returns-in_err-catalogue-clause-no_file_begun
+returns-in_err-catalogue-clause-no_file_begun g c = err_exit _ _ c.from_residual.ensures.1 (λ _. refl)
+
+pub returns-in_err-catalogue-clause-failed : goal.returns-in_err-catalogue-clause-failed
+returns-in_err-catalogue-clause-failed g c name e =
+    absurd (no_close _ _ _ name (err_exit _ _ c.from_residual.ensures.1 c.in_err-catalogue.ensures.fault) e)
+
+pub returns-in_err-write_tables-clause-fault : goal.returns-in_err-write_tables-clause-fault
+returns-in_err-write_tables-clause-fault g c =
+    err_exit _ _ c.from_residual-in_err-write_tables.ensures.1 (unwritten_tables _ _ _ _ c.in_err-write_tables.field-0.0 c.in_ok-catalogue.ensures.audited c.in_err-write_tables.ensures.fault)
+
+pub returns-in_err-write_tables-clause-no_file_begun : goal.returns-in_err-write_tables-clause-no_file_begun
+returns-in_err-write_tables-clause-no_file_begun g c =
+    err_exit _ _ c.from_residual-in_err-write_tables.ensures.1 (λ other. c.in_err-write_tables.ensures.no_file_begun (λ name e. other name (ap Serve e)))

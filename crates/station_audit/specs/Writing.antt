@@ -1,0 +1,42 @@
+-- The tables at the end of a journal that was audited, written into a folder.
+use Rattle.std.specs.Prelude.{◌≡◌, ℕ, List, length, Option}
+use Rattle.dbf_fields.specs.declared.day.Day.{Day}
+use Rattle.catalogue_core.specs.Replay.{History}
+use Rattle.files_in_place.specs.Folder.{Folder}
+use Rattle.station_files.specs.declared.closed.ClosedTable.{ClosedTable}
+use Rattle.station_files.specs.declared.named.NamedFile.{NamedFile}
+use Rattle.station_files.specs.Files.{files_in, listing}
+use Rattle.program_text.specs.Placing.{HasFiles}
+use Rattle.whole_run.specs.declared.fault.ServeFault.TheVariants as serve
+use Rattle.whole_run.specs.HandedOver.{AreHandedOver}
+use Rattle.whole_run.specs.TablesWritten.{AreTablesWritten, IsTablesFault, dated_files}
+use Rattle.station_audit.specs.declared.program.failure.Failure.{Failure}
+use Rattle.station_audit.specs.declared.program.failure.Failure.TheVariants.{Serve, Folder as OfFolder}
+use Rattle.station_audit.specs.declared.program.options.Options.{Options}
+use Rattle.station_audit.specs.Program.{IsAuditedTo, IsFailedBy}
+
+-- all entries hold, there are so many, and the files of the tables at their end stand after what was written before
+pub record IsWrittenBy (files : Option (List NamedFile)) (options : Options) (today : Day) (old new : Option (List ℕ)) (count : ℕ) : Type 0 where
+  pub history : History
+  pub audited : IsAuditedTo files options history
+  pub counted : count ≡ length history.journal
+  pub wrote : AreTablesWritten history today old new
+
+-- why the tables are not written: all entries hold, and their files can't be written; or it is not said that all hold
+abbrev pub IsUnwritten : Option (List NamedFile) → Options → ℕ → Failure → Type 0
+IsUnwritten files options year (Serve (serve.Close why)) = (h : History) × IsAuditedTo files options h × IsTablesFault h year (serve.Close why)
+IsUnwritten files options year why = IsFailedBy files options why
+
+-- all entries hold, there are so many, and the folder has the files of the tables at their end
+pub record AreInPlace (files : Option (List NamedFile)) (options : Options) (today : Day) (folder : Folder) (count : ℕ) : Type 0 where
+  pub history : History
+  pub tables : List ClosedTable
+  pub audited : IsAuditedTo files options history
+  pub counted : count ≡ length history.journal
+  pub handed : AreHandedOver history tables
+  pub placed : HasFiles (files_in (listing (dated_files today tables))) folder
+
+-- why the files of the tables are not in place
+abbrev pub IsPlaceFailure : Option (List NamedFile) → Options → ℕ → Failure → Type 0
+IsPlaceFailure files options year (OfFolder fault) = Unit {0}
+IsPlaceFailure files options year why = IsUnwritten files options year why

@@ -1,0 +1,25 @@
+//! The program around an audit: its command line, the audit that it asks for, and what the program says at its end.
+//!
+//! [`Options`] is what the command line says, and [`audit_options`] audits the journal of it; [`audit_in_place`] writes the
+//! tables at its end too, into a folder of a disk, where they take their places all together. [`Ending`] is why it is not
+//! said that all entries hold, [`Failure`] why the audit failed, and [`tell`] what the user gets: a line on standard output
+//! or standard error, and an exit status. What an audit of files is is defined in `specs/Program.antt`, what
+//! is written in `specs/Writing.antt`; the lines and the statuses are in `specs/Endings.antt`. Start reading there.
+
+mod auditing;
+mod ending;
+mod failure;
+mod in_place;
+mod options;
+mod telling;
+#[cfg(test)]
+mod tests;
+mod writing;
+
+pub(crate) use auditing::audit_options;
+pub(crate) use ending::{Ending, status_of_ending};
+pub(crate) use failure::{Failure, print_failure, status_of};
+pub(crate) use in_place::{InPlace, audit_in_place};
+pub(crate) use options::{Options, Written, command, mistake_status, options_of};
+pub(crate) use telling::tell;
+pub(crate) use writing::audit_into;

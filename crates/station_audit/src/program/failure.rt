@@ -1,0 +1,152 @@
+//! Why a call of the program failed, and what it says then.
+
+ghost use Rattle.std.specs.Prelude.{◌≡◌, OnOk};
+ghost use Rattle.std.specs.Io.KnownBytes.{Appends};
+ghost use Rattle.station_audit.specs.Endings.{audit_reason, difference_reason, entry_named, failure_line, performed_answer, reason, status, told_answer};
+
+use audit::{AuditFault, Difference};
+use program_text::{FolderFault, fault_status, folder_text, print_fault};
+use std::alloc::AllocError;
+use std::io;
+use std::io::Write;
+use whole_run::ServeFault;
+
+/// Why a call of the program failed, where `clap` had nothing to object.
+#[derive(Debug, PartialEq, Eq, Drop)]
+pub(crate) enum Failure {
+    /// The date is no calendar date of the years 1900 to 2155.
+    BadDate,
+    /// The tables were not opened as a run opens them or not written, or memory was refused.
+    Serve(ServeFault),
+    /// The journal can't be read.
+    Unread,
+    /// An entry does not hold.
+    Audit(AuditFault),
+    /// The folder for the written tables has not got them.
+    Folder(FolderFault),
+}
+
+impl From<AllocError> for Failure {
+    ghost use Rattle.std.specs.Prelude.{◌≡◌};
+    ghost use Rattle.station_audit.specs.declared.program.failure.Failure.TheVariants.{Serve};
+    ghost use Rattle.whole_run.specs.declared.fault.ServeFault.TheVariants.{NoMemory};
+
+    ghost from_gives = { λ _ failure. failure ≡ Serve NoMemory };
+
+    fn from(_refused: AllocError) -> Failure {
+        Failure::Serve(ServeFault::NoMemory)
+    }
+}
+
+impl From<ServeFault> for Failure {
+    ghost use Rattle.std.specs.Prelude.{◌≡◌};
+    ghost use Rattle.station_audit.specs.declared.program.failure.Failure.TheVariants.{Serve};
+
+    ghost from_gives = { λ fault failure. failure ≡ Serve fault };
+
+    fn from(fault: ServeFault) -> Failure {
+        Failure::Serve(fault)
+    }
+}
+
+// Want of memory in the audit is that of the whole program.
+impl From<AuditFault> for Failure {
+    ghost use Rattle.std.specs.Prelude.{◌≡◌};
+    ghost use Rattle.station_audit.specs.Program.{audit_failure};
+
+    ghost from_gives = { λ fault failure. failure ≡ audit_failure fault };
+
+    fn from(fault: AuditFault) -> Failure {
+        match fault {
+            AuditFault::NoMemory => Failure::Serve(ServeFault::NoMemory),
+            fault => Failure::Audit(fault),
+        }
+    }
+}
+
+/// The exit status of a failure: as the server's, which is 1 for the date and the setup, 2 for a file and the opening, 3
+/// for want of memory and 4 for the writing and its folder; 5 where an entry does not hold.
+pub(crate) fn status_of(failure: &Failure) -> u8
+    ensures value { result ≡ status failure.now }
+{
+    match failure {
+        Failure::BadDate => 1,
+        Failure::Serve(fault) => fault_status(fault),
+        Failure::Unread => 2,
+        Failure::Audit(_) => 5,
+        Failure::Folder(_) => 4,
+    }
+}
+
+/// Prints the line that says why a call of the program failed: `station_audit: `, the reason and LF. Takes no memory. An
+/// error where a write fails.
+pub(crate) fn print_failure<W: Write>(out: &mut W, failure: &Failure) -> io::Result<()>
+    ensures text { OnOk result (Appends (W.contents out.old) (W.contents out.new) (failure_line failure.now)) }
+{
+    out.write_all(b"station_audit: ")?;
+    print_reason(out, failure)?;
+    out.write_all(b"\n")?;
+    Ok(())
+}
+
+fn print_reason<W: Write>(out: &mut W, failure: &Failure) -> io::Result<()>
+    ensures text { OnOk result (Appends (W.contents out.old) (W.contents out.new) (reason failure.now)) }
+{
+    match failure {
+        Failure::BadDate => out.write_all(b"bad date"),
+        Failure::Serve(fault) => print_fault(out, fault),
+        Failure::Unread => out.write_all(b"cannot read the journal"),
+        Failure::Audit(fault) => print_audit(out, fault),
+        Failure::Folder(fault) => out.write_all(folder_text(*fault).as_bytes()),
+    }
+}
+
+// Why not all entries hold.
+fn print_audit<W: Write>(out: &mut W, fault: &AuditFault) -> io::Result<()>
+    ensures text { OnOk result (Appends (W.contents out.old) (W.contents out.new) (audit_reason fault.now)) }
+{
+    match fault {
+        AuditFault::NoEntry(number) => {
+            write!(out, "entry {number}: no entry of a station stands here")
+        }
+        AuditFault::Differs(difference) => print_difference(out, difference),
+        AuditFault::TooLong => out.write_all(b"there are too many entries"),
+        AuditFault::NoMemory => out.write_all(b"run: NoMemory"),
+    }
+}
+
+// An entry whose answer is another, and both answers, each in a line of its own.
+fn print_difference<W: Write>(out: &mut W, difference: &Difference) -> io::Result<()>
+    ensures text { OnOk result (Appends (W.contents out.old) (W.contents out.new) (difference_reason difference.now)) }
+{
+    print_entry(out, difference)?;
+    print_told(out, difference)?;
+    print_performed(out, difference)?;
+    Ok(())
+}
+
+fn print_entry<W: Write>(out: &mut W, difference: &Difference) -> io::Result<()>
+    ensures text { OnOk result (Appends (W.contents out.old) (W.contents out.new) (entry_named difference.now)) }
+{
+    let number = difference.number;
+    let station = difference.station;
+    write!(out, "entry {number}: station {station}: ")?;
+    out.write_all(difference.command.as_slice())?;
+    Ok(())
+}
+
+fn print_told<W: Write>(out: &mut W, difference: &Difference) -> io::Result<()>
+    ensures text { OnOk result (Appends (W.contents out.old) (W.contents out.new) (told_answer difference.now)) }
+{
+    out.write_all(b"\n  the journal says: ")?;
+    out.write_all(difference.told.as_slice())?;
+    Ok(())
+}
+
+fn print_performed<W: Write>(out: &mut W, difference: &Difference) -> io::Result<()>
+    ensures text { OnOk result (Appends (W.contents out.old) (W.contents out.new) (performed_answer difference.now)) }
+{
+    out.write_all(b"\n  the answer is: ")?;
+    out.write_all(difference.performed.as_slice())?;
+    Ok(())
+}

@@ -1,0 +1,2 @@
+mod audits;
+mod ends;

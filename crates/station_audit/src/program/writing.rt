@@ -1,0 +1,36 @@
+//! An audit whose tables are written at the journal's end.
+
+ghost use Rattle.std.specs.Prelude.{◌≡◌, ◌≢◌, ℕ, List, Err, IfOk, IfErr, OnOk};
+ghost use Rattle.byte_io.specs.Sink.{Rises};
+ghost use Rattle.station_audit.specs.declared.program.failure.Failure.TheVariants.{Serve};
+ghost use Rattle.station_audit.specs.Writing.{IsWrittenBy, IsUnwritten};
+
+use crate::program::auditing::audited_tables;
+use crate::program::failure::Failure;
+use crate::program::options::Options;
+use dbf_fields::Day;
+use station_files::{CloseFault, Folder, Source};
+use std::alloc::Global;
+use whole_run::{ServeFault, write_tables};
+
+/// Audits the journal of a command line, and writes the tables and indexes at its end into the folder, dated: where the
+/// journal is that of a run these are the run's. Nothing is written where an entry does not hold. The answer is how many
+/// entries hold.
+pub(crate) fn audit_into<S: Source, F: Folder>(
+    alloc: Global,
+    options: &Options<'_>,
+    today: Day,
+    source: &mut S,
+    folder: &mut F,
+) -> Result<u64, Failure>
+    ensures wrote { IfOk result (IsWrittenBy (S.files source.old) options.now today (F.written folder.old) (F.written folder.new)) }
+    ensures no_failure { OnOk result (F.failures folder.new ≡ F.failures folder.old) }
+    ensures fault { IfErr result (IsUnwritten (S.files source.old) options.now today.year) }
+    ensures kept { S.files source.new ≡ S.files source.old }
+    ensures no_file_begun { IfErr result (λ failure. ((name : List ℕ) → failure ≢ Serve (ServeFault.Close (CloseFault.Write name))) → folder.new ≡ folder.old) }
+    ensures failed { (name : List ℕ) → result ≡ Err (Serve (ServeFault.Close (CloseFault.Write name))) → Rises (F.failures folder.old) (F.failures folder.new) }
+{
+    let catalogue = audited_tables(alloc, options, source)?;
+    write_tables(alloc, &catalogue, today, folder)?;
+    Ok(catalogue.journal().len() as u64)
+}
