@@ -8,7 +8,6 @@ use Rattle.files_in_place.specs.declared.phase.Phase.TheVariants.{Staging, Faile
 use Rattle.files_in_place.specs.declared.faults.SetFault.{SetFault}
 use Rattle.files_in_place.specs.declared.faults.SetFault.TheVariants as set
 use Rattle.station_files.specs.declared.named.NamedFile.{NamedFile}
-use Rattle.station_files.specs.Closing.{run_files}
 use Rattle.station_files.specs.Files.{file_at, files_in, listing}
 use Rattle.station_files.specs.Placed.{with_files, IsPlaced}
 use Rattle.whole_run.specs.declared.fault.ServeFault.TheVariants as serve
@@ -17,7 +16,7 @@ use Rattle.station_server.specs.declared.program.failure.Failure.TheVariants.{Se
 use Rattle.station_server.specs.declared.program.failure.FolderFault.{FolderFault}
 use Rattle.station_server.specs.declared.program.failure.FolderFault.TheVariants as folder
 use Rattle.station_server.specs.declared.program.options.Options.{Options}
-use Rattle.station_server.specs.Program.{HasFiles, IsInPlace, IsPlaceFault, IsServedBy}
+use Rattle.station_server.specs.Program.{asked_files, HasFiles, IsInPlace, IsPlaceFault, IsServedBy}
 
 some_is : (a b : List ℕ) → Some a ≡ Some b → a ≡ b
 some_is a b same = ap (λ (o : Option (List ℕ)). elim o [ Some m ↦ m | None ↦ a ]) same
@@ -35,12 +34,12 @@ has_files files old new placed = record {
 pub in_place : (files : Option (List NamedFile)) (options : Options) (count : ℕ) (begun written : List ℕ) (old new : Files) → IsServedBy files options (Some begun) (Some written) count → begun ≡ [] → IsPlaced written old new
     → IsInPlace files options new count
 in_place files options count begun written old new served none placed =
-    let listed = from_none begun (listing (run_files options.today served.tables served.answers)) written none served.written in
+    let listed = from_none begun (listing (asked_files options served.tables served.answers served.run.history.journal)) written none served.written in
     record {
       tables = served.tables;
       answers = served.answers;
       run = served.run;
-      placed = has_files (files_in (listing (run_files options.today served.tables served.answers))) old new (λ n. placed n ∙ ap (λ (l : List ℕ). with_files (files_in l) old n) listed);
+      placed = has_files (files_in (listing (asked_files options served.tables served.answers served.run.history.journal))) old new (λ n. placed n ∙ ap (λ (l : List ℕ). with_files (files_in l) old n) listed);
     }
 
 by_folder : (files : Option (List NamedFile)) (options : Options) (r : Failure) (fault : FolderFault) → r ≡ Folder fault → IsPlaceFault files options r

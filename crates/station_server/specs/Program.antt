@@ -1,16 +1,20 @@
 -- The command line: which texts are the date of a run, and which values its options have.
-use Rattle.std.specs.Prelude.{◌≡◌, ◌⊎◌, ℕ, true, false, List, Option, Some, None, IsSome, IfSome, codes}
+use Rattle.std.specs.Prelude.{◌≡◌, ◌⊎◌, ℕ, Bool, true, false, List, Option, Some, None, IsSome, IfSome, codes, if◌then◌else◌}
 use Rattle.clap.specs.Words.{first_value, found_of, one_text}
 use Rattle.clap.specs.declared.parser.matches.ArgMatches.{ArgMatches}
+use Rattle.dbf_fields.specs.declared.day.Day.{Day}
 use Rattle.dbf_fields.specs.Date.{is_date, year_in}
 use Rattle.dbf_image.specs.Image.{IsOutside}
+use Rattle.byte_io.specs.Sink.{grown}
+use Rattle.catalogue_core.specs.declared.entry.Entry.{Entry}
 use Rattle.files_in_place.specs.Folder.{Name, Folder, is_reserved}
 use Rattle.station_files.specs.declared.closed.ClosedTable.{ClosedTable}
 use Rattle.station_files.specs.declared.named.NamedFile.{NamedFile}
-use Rattle.station_files.specs.Closing.{run_files}
+use Rattle.station_files.specs.Closing.{first_blocked, run_files}
 use Rattle.station_files.specs.Files.{file_at, files_in, listing}
 use Rattle.whole_run.specs.declared.fault.ServeFault.{ServeFault}
-use Rattle.whole_run.specs.WholeRun.{IsServed, IsServeFault, IsWholeRun, IsCutRun}
+use Rattle.whole_run.specs.JournalFile.{and_journal, IsCutRunWithJournal}
+use Rattle.whole_run.specs.WholeRun.{IsServeFault, IsWholeRun, IsCutRun}
 use Rattle.station_server.specs.declared.program.failure.Failure.{Failure}
 use Rattle.station_server.specs.declared.program.failure.Failure.TheVariants.{BadDate, Serve, Folder as OfFolder}
 use Rattle.station_server.specs.declared.program.options.Options.{Options}
@@ -40,13 +44,28 @@ HasPaths matches = IsSome (value_of matches (codes "setup")) × IsSome (value_of
 abbrev pub HasBadDate : ArgMatches → Type 0
 HasBadDate matches = IfSome (value_of matches (codes "today")) (λ text. ¬ IsRunDate text)
 
--- the run that the options ask for, over these files, came to its end
-abbrev pub IsServedBy : Option (List NamedFile) → Options → Option (List ℕ) → Option (List ℕ) → ℕ → Type 0
-IsServedBy files options = IsServed files options.setup.now options.reindex options.today
+-- the files of a run of these tables, answers and journal that the options ask for: the journal's only where it is asked for
+abbrev pub asked_files : Options → List ClosedTable → List (List ℕ) → List Entry → List NamedFile
+asked_files options tables answers journal =
+    if options.journal then and_journal (run_files options.today tables answers) journal else run_files options.today tables answers
+
+-- The run that the options ask for, over these files, came to its end: these are its tables and answers, none of the tables
+-- has more blocks than its file can have, and its files stand after what was written before.
+pub record IsServedBy (files : Option (List NamedFile)) (options : Options) (old new : Option (List ℕ)) (count : ℕ) : Type 0 where
+  pub tables : List ClosedTable
+  pub answers : List (List ℕ)
+  pub run : IsWholeRun files options.setup.now options.reindex tables answers count
+  pub few_blocks : first_blocked 1 tables ≡ None
+  pub written : new ≡ grown old (listing (asked_files options tables answers run.history.journal))
+
+-- a file of a run could not be written, with or without the journal's
+abbrev pub IsCutRunAs : Bool → Option (List NamedFile) → List ℕ → Bool → Day → Option (List ℕ) → Option (List ℕ) → ServeFault → Type 0
+IsCutRunAs true = IsCutRunWithJournal
+IsCutRunAs false = IsCutRun
 
 -- a file of the run that the options ask for could not be written
 abbrev pub IsCutRunBy : Option (List NamedFile) → Options → Option (List ℕ) → Option (List ℕ) → ServeFault → Type 0
-IsCutRunBy files options = IsCutRun files options.setup.now options.reindex options.today
+IsCutRunBy files options = IsCutRunAs options.journal files options.setup.now options.reindex options.today
 
 -- the folder has these files, each of them under its name, and no reserved name
 pub record HasFiles (files : List NamedFile) (folder : Folder) : Type 0 where
@@ -58,7 +77,7 @@ pub record IsInPlace (files : Option (List NamedFile)) (options : Options) (fold
   pub tables : List ClosedTable
   pub answers : List (List ℕ)
   pub run : IsWholeRun files options.setup.now options.reindex tables answers count
-  pub placed : HasFiles (files_in (listing (run_files options.today tables answers))) folder
+  pub placed : HasFiles (files_in (listing (asked_files options tables answers run.history.journal))) folder
 
 -- why the files of the run that the options ask for are not in place
 abbrev pub IsPlaceFault : Option (List NamedFile) → Options → Failure → Type 0

@@ -1,9 +1,7 @@
 -- The names of what is read from written files are those of the tables and indexes at the end.
 use Rattle.std.proofs.Common.{◌≡◌, ℕ, suc, ◌+◌, ◌-◌, ◌<◌, List, [], ◌∷◌, length, map, Option, Some, refl, sym, ap, subst, ◌∙◌, arith, get_or}
 use Rattle.std.specs.List.{slice_get}
-use Rattle.std.specs.Option.{option_map}
-use Rattle.std.proofs.lemmas.List.{length-map, get_or-map}
-use Rattle.std.proofs.lemmas.Option.{slice_get-get_or, slice_get-map}
+use Rattle.std.proofs.lemmas.List.{length-map}
 use Rattle.dbf_image.specs.Table.{Table}
 use Rattle.table_core.specs.Content.{Content, Indexed}
 use Rattle.catalogue_core.specs.declared.source.IndexSource.{IndexSource}

@@ -3,7 +3,7 @@ use Rattle.std.proofs.Common.{◌≡◌, ℕ, ◌-◌, Bool, true, false, eqb, n
 use Rattle.std.specs.Prelude.{not}
 use Rattle.std.proofs.Math.Seq.{map-set_same}
 use Rattle.std.proofs.lemmas.List.{length-map}
-use Rattle.key_expr.specs.Expression.{Expression, expression_in}
+use Rattle.key_expr.specs.Expression.{expression_in}
 use Rattle.table_core.specs.declared.cursor.Cursor.{Cursor}
 use Rattle.table_core.specs.EditValue.{EditValue}
 use Rattle.table_core.specs.EditValue as edit_of
@@ -27,7 +27,7 @@ use Rattle.catalogue_core.specs.declared.command.Command.{Command}
 use Rattle.catalogue_core.specs.declared.command.Command.TheVariants.{Select, UseTable, CloseTable, Go, Top, Bottom, Skip, Seek, Order, AppendBlank, Replace, Memo, Delete, Recall, Pack, IndexOn, Unlock, UnlockAll, Show, RecordLock, RecordLocks, FileLock, Ask, Bad}
 use Rattle.catalogue_core.specs.declared.entry.Entry.{Entry}
 use Rattle.catalogue_core.specs.declared.opening.TheConstants.{MAX_INDEXES}
-use Rattle.catalogue_core.specs.IndexOn.{is_any_index, index_target, new_index}
+use Rattle.catalogue_core.specs.IndexOn.{is_any_index, index_target}
 use Rattle.catalogue_core.specs.Replay.{History, after, start, state_of, names_of}
 use Rattle.catalogue_core.specs.State.{State, no_content, table_of, area_of, without_lock}
 use Rattle.catalogue_core.specs.Step.{Outcome, outcome, step, settled, lock, with_edit, move, change_record, index_on}

@@ -9,3 +9,7 @@ pub mod NewNames
 pub mod IndexesKept
 pub mod HandedNames
 pub mod OpenLaws
+pub mod OpenedLaws
+pub mod CopyLaws
+pub mod WritingLaws
+pub mod JournalFileLaws

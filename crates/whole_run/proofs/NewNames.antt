@@ -10,7 +10,7 @@ use Rattle.table_core.specs.Content.{Content, Indexed, with_index, has_index}
 use Rattle.catalogue_core.specs.declared.opening.TheConstants.{MAX_INDEXES}
 use Rattle.catalogue_core.specs.Names.{includes_name}
 use Rattle.catalogue_core.specs.State.{no_content}
-use Rattle.whole_run.proofs.Headings.{Heading, index_names, headings, is_index_name, AreNewIndexes, IsNewTable, AreNewTables, any_index}
+use Rattle.whole_run.proofs.Headings.{Heading, index_names, headings, AreNewIndexes, IsNewTable, AreNewTables, any_index}
 
 -- an index of one of the tables has the name
 abbrev pub has_name : List Heading → List ℕ → Bool

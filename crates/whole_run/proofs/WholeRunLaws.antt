@@ -35,7 +35,7 @@ none_at None h = refl
 none_at (Some n) h = absurd (h n refl)
 
 -- a whole run by its parts
-pub whole_run : (files : Option (List NamedFile)) (setup : List ℕ) (reindex : Bool) (read : Read) (h : History) (tables : List ClosedTable) (answers : List (List ℕ))
+abbrev pub whole_run : (files : Option (List NamedFile)) (setup : List ℕ) (reindex : Bool) (read : Read) (h : History) (tables : List ClosedTable) (answers : List (List ℕ))
     → IsAllRead files setup read → IsRun reindex read h answers → IsLegal h.opened h.journal → AreOfStations h.opened h.journal → AreHandedOver h tables → IsWholeRun files setup reindex tables answers (length h.journal)
 whole_run files setup reindex read h tables answers all run legal of_stations handed =
     record { read = read; history = h; all = all; run = run; legal = legal; of_stations = of_stations; handed = handed; counted = refl }

@@ -32,8 +32,8 @@ fn closed_index(alloc: Global, table: &Table, number: usize) -> Result<ClosedInd
     Ok(ClosedIndex::new(name, expr, pairs))
 }
 
-// The indexes of a table, in order.
-fn closed_indexes(alloc: Global, table: &Table) -> Result<Vec<ClosedIndex>, AllocError>
+/// The indexes of a table, in order. An error where memory is refused.
+pub(crate) fn closed_indexes(alloc: Global, table: &Table) -> Result<Vec<ClosedIndex>, AllocError>
     ensures value { IfOk result (λ indexes. indexes.items ≡ map (index_of table.now.content.table) table.now.content.indexes) }
     ensures read { OnOk result (AllByRecursion (IsIndexFor table.now.content.table.schema) table.now.content.indexes) }
 {

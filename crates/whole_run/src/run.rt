@@ -38,8 +38,12 @@ fn read_setup<S: Source>(
     Ok(parse_setup(alloc, text.as_slice())?)
 }
 
-// Reads the setup of a path, and then what it names.
-fn read_all<S: Source>(alloc: Global, source: &mut S, setup: &Bytes) -> Result<Loaded, ServeFault>
+/// Reads the setup of a path, and then what it names.
+pub(crate) fn read_all<S: Source>(
+    alloc: Global,
+    source: &mut S,
+    setup: &Bytes,
+) -> Result<Loaded, ServeFault>
     ensures read { IfOk result (λ loaded. IsAllRead (S.files source.old) setup.now (read_of loaded)) }
     ensures kept { S.files source.new ≡ S.files source.old }
     ensures fault { IfErr result (IsReadFault (S.files source.old) setup.now) }
@@ -50,8 +54,8 @@ fn read_all<S: Source>(alloc: Global, source: &mut S, setup: &Bytes) -> Result<L
     load_entries(alloc, source, &entries)
 }
 
-// Opens the tables and runs the scripts.
-fn run_loaded<G: Gate + Sync, R: Threads + Wait + Sync>(
+/// Opens the tables and runs the scripts.
+pub(crate) fn run_loaded<G: Gate + Sync, R: Threads + Wait + Sync>(
     rt: &R,
     alloc: Global,
     loaded: Loaded,
@@ -69,8 +73,8 @@ fn run_loaded<G: Gate + Sync, R: Threads + Wait + Sync>(
     Ok(run_catalogue(rt, alloc, catalogue, &scripts, gate)?)
 }
 
-// Writes the files of tables and answers.
-fn write_files<F: Folder>(
+/// Writes the files of tables and answers.
+pub(crate) fn write_files<F: Folder>(
     alloc: Global,
     tables: &[ClosedTable],
     answers: &[Bytes],

@@ -32,6 +32,8 @@ pub(crate) struct Options<'a> {
     pub today: Day,
     /// Whether the indexes are made anew from the records, in place of being read.
     pub reindex: bool,
+    /// Whether the journal is written too.
+    pub journal: bool,
 }
 
 /// The command line, for `clap` to read. An error where memory is refused.
@@ -61,6 +63,12 @@ pub(crate) fn command<'a>(alloc: Global) -> Result<Command<'a>, AllocError> {
             Arg::new(alloc, "reindex")
                 .long("reindex")
                 .help("Make the indexes anew from the records")
+                .action(ArgAction::SetTrue),
+        )?
+        .arg(
+            Arg::new(alloc, "journal")
+                .long("journal")
+                .help("Write the journal too, as JOURNAL.TXT")
                 .action(ArgAction::SetTrue),
         )
 }
@@ -121,16 +129,20 @@ pub(crate) fn options_of<'a>(matches: &ArgMatches<'a>) -> Option<Options<'a>>
     ensures years { IfSome result (λ options. ¬ IsOutside options.today.year) }
     ensures reindex { IfSome result (λ options. HasFlag matches.now (codes "reindex") → options.reindex ≡ true) }
     ensures plain { IfSome result (λ options. LacksFlag matches.now (codes "reindex") → options.reindex ≡ false) }
+    ensures journal { IfSome result (λ options. HasFlag matches.now (codes "journal") → options.journal ≡ true) }
+    ensures no_journal { IfSome result (λ options. LacksFlag matches.now (codes "journal") → options.journal ≡ false) }
     ensures bad { result ≡ None → HasPaths matches.now → HasBadDate matches.now }
 {
     let setup = matches.get_str("setup")?;
     let out = matches.get_str("out")?;
     let today = date_of(matches.get_str("today")?.as_bytes())?;
     let reindex = matches.get_flag("reindex");
+    let journal = matches.get_flag("journal");
     Some(Options {
         setup,
         out,
         today,
         reindex,
+        journal,
     })
 }

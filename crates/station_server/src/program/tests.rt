@@ -53,6 +53,7 @@ fn command_line_is_read(rt: HostRuntime) -> Result<(), Fail> {
         "--reindex",
         "--setup",
         "A.SET",
+        "--journal",
         "--out=OUT",
         "--today",
         "19870315",
@@ -62,12 +63,12 @@ fn command_line_is_read(rt: HostRuntime) -> Result<(), Fail> {
     assert_eq!(rt; options.setup, "A.SET");
     assert_eq!(rt; options.out, "OUT");
     assert_eq!(rt; Some(options.today), day_of(1987, 3, 15));
-    assert!(rt; options.reindex);
+    assert!(rt; options.reindex && options.journal);
     Ok(())
 }
 
 #[test]
-fn command_line_without_reindex(rt: HostRuntime) -> Result<(), Fail> {
+fn command_line_without_flags(rt: HostRuntime) -> Result<(), Fail> {
     let words = [
         "station_server",
         "--today",
@@ -79,7 +80,7 @@ fn command_line_without_reindex(rt: HostRuntime) -> Result<(), Fail> {
     ];
     let matches = command(rt.alloc())?.try_get_matches_from(words.as_slice())?;
     let options = options_of(&matches).ok_or("options")?;
-    assert!(rt; !options.reindex);
+    assert!(rt; !options.reindex && !options.journal);
     Ok(())
 }
 
@@ -216,6 +217,7 @@ Options:
       --out <DIR>         The folder for the written files, which has to exist
       --today <YYYYMMDD>  The date that the written tables tell, of 1900 to 2155
       --reindex           Make the indexes anew from the records
+      --journal           Write the journal too, as JOURNAL.TXT
   -h, --help              Print help
 
 Exit status:

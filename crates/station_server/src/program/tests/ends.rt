@@ -58,6 +58,7 @@ fn tables_are_dated_by_the_command_line(rt: HostRuntime) -> Result<(), Fail> {
         out: "OUT",
         today: day_of(1987, 3, 15).ok_or("a date")?,
         reindex: false,
+        journal: false,
     };
     let served = serve_options(&rt, alloc, &options, &mut source, &mut folder, &OpenGate);
     assert_eq!(rt; served, Ok(1));
@@ -84,6 +85,7 @@ fn serve_here<R: Runtime + AllocGlobal + Threads + Wait + Sync>(
         out: "placed",
         today: day_of(1987, 3, 15).ok_or("a date")?,
         reindex: false,
+        journal: true,
     };
     let disk = SystemDisk::open(rt.clone()?, alloc, options.out)?;
     let InPlace { ended, disk: _ } = serve_in_place(rt, alloc, &options, source, disk, &OpenGate);
@@ -97,6 +99,7 @@ fn files_take_their_places(rt: HostRuntime) -> Result<(), Fail> {
     for (name, is_there) in [
         ("placed/T.DBF", true),
         ("placed/STATION1.TXT", true),
+        ("placed/JOURNAL.TXT", true),
         ("placed/LAST.TXT", true),
         ("placed/~~list", false),
         ("placed/~T.DBF", false),

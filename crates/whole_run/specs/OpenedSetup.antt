@@ -1,0 +1,35 @@
+-- The tables of a setup, opened as a run opens them, and nothing run.
+use Rattle.std.specs.Prelude.{◌≡◌, ◌≢◌, ℕ, Bool, List, length, Option, Ok, Err}
+use Rattle.catalogue_core.specs.declared.opening.OpenFault.TheVariants.{NoMemory as NoMemoryToOpen}
+use Rattle.catalogue_core.specs.Opening.{Opening}
+use Rattle.catalogue_core.specs.Replay.{Opened}
+use Rattle.station_files.specs.declared.named.NamedFile.{NamedFile}
+use Rattle.whole_run.specs.declared.fault.ServeFault.{ServeFault}
+use Rattle.whole_run.specs.declared.fault.ServeFault.TheVariants.{Setup, File, Refused, NoMemory}
+use Rattle.whole_run.specs.Loading.{Read}
+use Rattle.whole_run.specs.WholeRun.{IsAllRead, IsReadFault}
+
+-- these are the tables that were read, opened for a station a script
+pub record IsOpenedFrom (reindex : Bool) (read : Read) (opened : Opened) : Type 0 where
+  pub opening : Opening reindex (length read.scripts) read.tables (Ok opened.tables)
+  pub stations : opened.stations ≡ length read.scripts
+
+-- why they are not opened
+abbrev pub IsOpenFault : Bool → Read → ServeFault → Type 0
+IsOpenFault reindex read NoMemory = Unit {0}
+IsOpenFault reindex read (Refused fault) = (fault ≢ NoMemoryToOpen) × Opening reindex (length read.scripts) read.tables (Err fault)
+IsOpenFault reindex read fault = ⊥
+
+-- these are the tables that the setup of this path names, opened for a station a script
+pub record IsOpenedBy (files : Option (List NamedFile)) (setup : List ℕ) (reindex : Bool) (opened : Opened) : Type 0 where
+  pub read : Read
+  pub all : IsAllRead files setup read
+  pub from : IsOpenedFrom reindex read opened
+
+-- why the setup's tables are not opened
+abbrev pub IsUnopened : Option (List NamedFile) → List ℕ → Bool → ServeFault → Type 0
+IsUnopened files setup reindex NoMemory = Unit {0}
+IsUnopened files setup reindex (Setup number) = IsReadFault files setup (Setup number)
+IsUnopened files setup reindex (File path fault) = IsReadFault files setup (File path fault)
+IsUnopened files setup reindex (Refused fault) = (read : Read) × IsAllRead files setup read × IsOpenFault reindex read (Refused fault)
+IsUnopened files setup reindex fault = ⊥

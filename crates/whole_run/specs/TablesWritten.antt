@@ -1,0 +1,37 @@
+-- The tables and indexes of a catalogue, written as they stand now.
+use Rattle.std.specs.Prelude.{◌≡◌, ℕ, List, [], Option, None}
+use Rattle.dbf_fields.specs.declared.day.Day.{Day}
+use Rattle.byte_io.specs.Sink.{grown}
+use Rattle.catalogue_core.specs.Replay.{History}
+use Rattle.station_files.specs.declared.close_fault.CloseFault.TheVariants.{Write}
+use Rattle.station_files.specs.declared.closed.ClosedTable.{ClosedTable}
+use Rattle.station_files.specs.declared.named.NamedFile.{NamedFile}
+use Rattle.station_files.specs.Closing.{first_blocked, run_files, IsCutAt}
+use Rattle.station_files.specs.Files.{listing}
+use Rattle.whole_run.specs.declared.fault.ServeFault.{ServeFault}
+use Rattle.whole_run.specs.declared.fault.ServeFault.TheVariants.{Close, NoMemory}
+use Rattle.whole_run.specs.HandedOver.{AreHandedOver}
+use Rattle.whole_run.specs.WholeRun.{IsWriteFault}
+
+-- the files of tables and their indexes on a day: those of a run without the answers
+abbrev pub dated_files : Day → List ClosedTable → List NamedFile
+dated_files today tables = run_files today tables []
+
+-- These are the tables at the history's end, none of them has more blocks than its file can have, and their files stand
+-- after what was written before.
+pub record AreTablesWritten (h : History) (today : Day) (old new : Option (List ℕ)) : Type 0 where
+  pub tables : List ClosedTable
+  pub handed : AreHandedOver h tables
+  pub few_blocks : first_blocked 1 tables ≡ None
+  pub written : new ≡ grown old (listing (dated_files today tables))
+
+-- why the tables at the history's end are not written, or not all
+abbrev pub IsTablesFault : History → ℕ → ServeFault → Type 0
+IsTablesFault h year NoMemory = Unit {0}
+IsTablesFault h year (Close fault) = (tables : List ClosedTable) × AreHandedOver h tables × IsWriteFault year tables (Close fault)
+IsTablesFault h year fault = ⊥
+
+-- where a file of theirs could not be written, those before it are whole; of other faults nothing is said
+abbrev pub IsCutTables : History → Day → Option (List ℕ) → Option (List ℕ) → ServeFault → Type 0
+IsCutTables h today old new (Close (Write name)) = (tables : List ClosedTable) × AreHandedOver h tables × IsCutAt name old new (dated_files today tables)
+IsCutTables h today old new fault = Unit {0}

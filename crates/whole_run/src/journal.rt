@@ -1,0 +1,121 @@
+//! The journal's file, written entry by entry.
+#![tactic(auto, using(byte_io::specs::Laws::Sinks::sinks))]
+
+ghost use Rattle.std.specs.Prelude.{◌≡◌, ◌∷◌, [], ℕ, List, Err, OnOk, OnErr, IfErr};
+ghost use Rattle.byte_io.specs.Output.{Puts};
+ghost use Rattle.byte_io.specs.Sink.{grown, IsFront, Rises};
+ghost use Rattle.station_files.specs.Files.{listing};
+ghost use Rattle.station_lines.specs.JournalLines.{journal_text};
+ghost use Rattle.whole_run.specs.JournalFile.{journal_file, journal_under, PutsFront, IsJournalFault};
+
+use crate::fault::ServeFault;
+use byte_io::{ByteSink, SinkFault, SinkWriter};
+use dbf_fields::Bytes;
+use shared_catalogue::Closed;
+use station_files::{CloseFault, Folder};
+use station_lines::entry_line;
+use std::alloc::{AllocError, Global};
+
+// Why the journal's lines were not written, or not all.
+#[derive(Clone, Copy, Debug, PartialEq, Eq)]
+enum LinesFault {
+    // The sink failed.
+    Sink,
+    // Memory was refused.
+    NoMemory,
+}
+
+impl From<AllocError> for LinesFault {
+    ghost use Rattle.std.specs.Prelude.{◌≡◌};
+    ghost use Rattle.whole_run.specs.declared.journal.LinesFault.TheVariants.{NoMemory};
+
+    ghost from_gives = { λ _ fault. fault ≡ NoMemory };
+
+    fn from(_refused: AllocError) -> LinesFault {
+        LinesFault::NoMemory
+    }
+}
+
+impl From<SinkFault> for LinesFault {
+    ghost use Rattle.std.specs.Prelude.{◌≡◌};
+    ghost use Rattle.whole_run.specs.declared.journal.LinesFault.TheVariants.{Sink};
+
+    ghost from_gives = { λ _ fault. fault ≡ Sink };
+
+    fn from(_failed: SinkFault) -> LinesFault {
+        LinesFault::Sink
+    }
+}
+
+// Puts the lines of the journal's entries, in its order. An `Err` says that there was no memory: those before were put.
+fn put_lines<S: ByteSink>(
+    alloc: Global,
+    out: &mut SinkWriter<'_, S>,
+    closed: &Closed,
+) -> Result<(), AllocError>
+    ensures put { OnOk result (Puts out.old (journal_text closed.now.journal) out.new) }
+    ensures front { PutsFront out.old (journal_text closed.now.journal) out.new }
+{
+    for earlier in 0..closed.entry_count() {
+        let entry = closed.entry(earlier + 1);
+        let line = entry_line(alloc, entry.station, &entry.command, &entry.answer)?;
+        out.put(line.as_slice());
+    }
+    Ok(())
+}
+
+// Writes the lines of the journal's entries into a sink.
+fn write_lines<S: ByteSink>(alloc: Global, sink: &mut S, closed: &Closed) -> Result<(), LinesFault>
+    ensures wrote { OnOk result (S.written sink.new ≡ grown (S.written sink.old) (journal_text closed.now.journal)) }
+    ensures no_failure { OnOk result (S.failures sink.new ≡ S.failures sink.old) }
+    ensures failed { result ≡ Err LinesFault.Sink → Rises (S.failures sink.old) (S.failures sink.new) }
+    ensures kept { IsFront (S.written sink.old) (S.written sink.new) }
+    ensures front { OnErr result (IsFront (S.written sink.new) (grown (S.written sink.old) (journal_text closed.now.journal))) }
+{
+    let mut out = SinkWriter::new(sink);
+    let put = put_lines(alloc, &mut out, closed);
+    out.flush()?;
+    put?;
+    Ok(())
+}
+
+// Begins a file of this name, and writes the journal into it.
+fn write_file<F: Folder>(
+    alloc: Global,
+    folder: &mut F,
+    name: &[u8],
+    closed: &Closed,
+) -> Result<(), LinesFault>
+    ensures wrote { OnOk result (F.written folder.new ≡ grown (F.written folder.old) (listing (journal_under name.now closed.now.journal ∷ []))) }
+    ensures no_failure { OnOk result (F.failures folder.new ≡ F.failures folder.old) }
+    ensures failed { result ≡ Err LinesFault.Sink → Rises (F.failures folder.old) (F.failures folder.new) }
+    ensures kept { IsFront (F.written folder.old) (F.written folder.new) }
+    ensures front { OnErr result (IsFront (F.written folder.new) (grown (F.written folder.old) (listing (journal_under name.now closed.now.journal ∷ [])))) }
+{
+    folder.begin(name)?;
+    write_lines(alloc, folder, closed)
+}
+
+/// Writes the journal's file into the folder: JOURNAL.TXT, a line an entry. Its text is never whole in memory.
+///
+/// `Close(Write(JOURNAL.TXT))` says that the folder failed, and `NoMemory` that memory was refused; a front part of the file
+/// is written then, or the file is not begun.
+pub(crate) fn write_journal<F: Folder>(
+    alloc: Global,
+    closed: &Closed,
+    folder: &mut F,
+) -> Result<(), ServeFault>
+    ensures wrote { OnOk result (F.written folder.new ≡ grown (F.written folder.old) (listing (journal_file closed.now.journal ∷ []))) }
+    ensures no_failure { OnOk result (F.failures folder.new ≡ F.failures folder.old) }
+    ensures fault { IfErr result IsJournalFault }
+    ensures failed { (name : List ℕ) → result ≡ Err (ServeFault.Close (CloseFault.Write name)) → Rises (F.failures folder.old) (F.failures folder.new) }
+    ensures kept { IsFront (F.written folder.old) (F.written folder.new) }
+    ensures front { OnErr result (IsFront (F.written folder.new) (grown (F.written folder.old) (listing (journal_file closed.now.journal ∷ [])))) }
+{
+    let name = Bytes::from_slice(alloc, b"JOURNAL.TXT")?;
+    match write_file(alloc, folder, name.as_slice(), closed) {
+        Ok(()) => Ok(()),
+        Err(LinesFault::Sink) => Err(ServeFault::Close(CloseFault::Write(name))),
+        Err(LinesFault::NoMemory) => Err(ServeFault::NoMemory),
+    }
+}

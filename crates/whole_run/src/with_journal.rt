@@ -1,0 +1,87 @@
+//! The whole run whose journal is written too.
+
+ghost use Rattle.std.specs.Prelude.{◌≡◌, ◌≢◌, ℕ, List, Err, None, IfOk, IfErr, OnOk};
+ghost use Rattle.byte_io.specs.Sink.{grown, Rises};
+ghost use Rattle.station_files.specs.Closing.{run_files, first_blocked};
+ghost use Rattle.station_files.specs.Files.{listing};
+ghost use Rattle.whole_run.specs.JournalFile.{and_journal, IsCutWithJournal, IsServedWithJournal, IsCutRunWithJournal};
+ghost use Rattle.whole_run.specs.Loading.{IsFailure};
+ghost use Rattle.whole_run.specs.WholeRun.{IsServeFault, IsWriteFault};
+
+use crate::copying::copied_tables;
+use crate::fault::ServeFault;
+use crate::journal::write_journal;
+use crate::run::{read_all, run_loaded, write_files};
+use dbf_fields::{Bytes, Day};
+use shared_catalogue::Closed;
+use station_files::{CloseFault, ClosedTable, Folder, Source};
+use station_run::Gate;
+use std::alloc::Global;
+use std::sync::Wait;
+use std::thread::Threads;
+
+// Writes the files of tables and answers, and the journal's after them.
+fn write_with_journal<F: Folder>(
+    alloc: Global,
+    tables: &[ClosedTable],
+    answers: &[Bytes],
+    closed: &Closed,
+    today: Day,
+    folder: &mut F,
+) -> Result<(), ServeFault>
+    ensures wrote { OnOk result (F.written folder.new ≡ grown (F.written folder.old) (listing (and_journal (run_files today tables.now answers.now) closed.now.journal))) }
+    ensures blocks_fit { OnOk result (first_blocked 1 tables.now ≡ None) }
+    ensures no_failure { OnOk result (F.failures folder.new ≡ F.failures folder.old) }
+    ensures fault { IfErr result (λ fault. IsWriteFault today.year tables.now fault) }
+    ensures no_file_begun { IfErr result (λ fault. fault ≢ ServeFault.NoMemory → ((name : List ℕ) → fault ≢ ServeFault.Close (CloseFault.Write name)) → folder.new ≡ folder.old) }
+    ensures failed { (name : List ℕ) → result ≡ Err (ServeFault.Close (CloseFault.Write name)) → Rises (F.failures folder.old) (F.failures folder.new) }
+    ensures whole_before_fault { IfErr result (IsCutWithJournal (run_files today tables.now answers.now) closed.now.journal (F.written folder.old) (F.written folder.new)) }
+{
+    write_files(alloc, tables, answers, today, folder)?;
+    write_journal(alloc, closed, folder)?;
+    Ok(())
+}
+
+/// A whole run as [`serve`] makes it, which writes one file more: after the tables, indexes and answers the journal, as
+/// JOURNAL.TXT. It answers the number of commands, which is that of the file's lines' entries.
+///
+/// The tables are copied once for the writing, since the journal is read after them; the journal itself is written entry by
+/// entry. The faults are those of [`serve`], in its order. Only `Close(Write(..))` and `NoMemory` may come when files are
+/// begun.
+///
+/// [`serve`]: crate::serve
+pub fn serve_with_journal<S: Source, F: Folder, G: Gate + Sync, R: Threads + Wait + Sync>(
+    rt: &R,
+    alloc: Global,
+    setup: &Bytes,
+    today: Day,
+    reindex: bool,
+    source: &mut S,
+    folder: &mut F,
+    gate: &G,
+) -> Result<u64, ServeFault>
+    // As `serve` has it; the last file has the text of the journal of which this speaks.
+    ensures ran { IfOk result (IsServedWithJournal (S.files source.old) setup.now reindex today (F.written folder.old) (F.written folder.new)) }
+    ensures no_failure { OnOk result (F.failures folder.new ≡ F.failures folder.old) }
+    ensures kept { S.files source.new ≡ S.files source.old }
+    ensures fault { IfErr result (IsServeFault (S.files source.old) setup.now reindex today.year) }
+    ensures loads { OnOk result (S.failures source.new ≡ S.failures source.old) }
+    ensures failure { IfErr result (IsFailure (S.files source.old) (S.failures source.old) (S.failures source.new)) }
+    ensures no_file_begun { IfErr result (λ fault. fault ≢ ServeFault.NoMemory → ((name : List ℕ) → fault ≢ ServeFault.Close (CloseFault.Write name)) → folder.new ≡ folder.old) }
+    ensures failed { (name : List ℕ) → result ≡ Err (ServeFault.Close (CloseFault.Write name)) → Rises (F.failures folder.old) (F.failures folder.new) }
+    ensures whole_before_fault { IfErr result (IsCutRunWithJournal (S.files source.old) setup.now reindex today (F.written folder.old) (F.written folder.new)) }
+{
+    let loaded = read_all(alloc, source, setup)?;
+    let outcome = run_loaded(rt, alloc, loaded, reindex, gate)?;
+    let count = outcome.closed.entry_count();
+    let tables = copied_tables(alloc, &outcome.closed)?;
+    write_with_journal(
+        alloc,
+        &tables,
+        &outcome.answers,
+        &outcome.closed,
+        today,
+        folder,
+    )?;
+    Ok(count)
+}
