@@ -1,0 +1,9 @@
+use Rattle.office_check.proofs.FindingLaws.{state_of_read}
+use Rattle.office_check.proofs.freshness.state_of.Goals as goal
+
+pub returns : goal.returns
+returns c = record {
+  state = state_of_read c.args.records.now.table c.args.file.now c.in-Ok.expr.expr c.state_with.result
+      (rw (c.as_slice.ensures.value, c.schema.ensures.value) at c.in-Ok.ensures.read)
+      c.state_with.ensures.state;
+}

@@ -1,0 +1,121 @@
+-- What is found at the entries of a setup.
+use Rattle.std.specs.Prelude.{◌≡◌, ◌≢◌, ◌⊎◌, ℕ, Bool, true, false, List, [], ◌∷◌, length, slice_get, count_by, Option, Some, None, Result, Ok, Err}
+use Rattle.std.specs.List.{position}
+use Rattle.dbf_image.specs.declared.fault.ImageFault.{ImageFault}
+use Rattle.dbf_image.specs.declared.fault.ImageFault.TheVariants.{NoMemory as NoRoomForTable}
+use Rattle.dbf_image.specs.DbfText.{IsDbf}
+use Rattle.dbf_image.specs.Reading.{IsImageRefusal}
+use Rattle.dbf_image.specs.Table.{Table as Content}
+use Rattle.ndx_index.specs.declared.fault.NdxFault.TheVariants.{NoMemory as NoRoomForIndex}
+use Rattle.ndx_index.specs.declared.read.NdxFile.{NdxFile}
+use Rattle.ndx_index.specs.Header.{IsIndex, HasNdxFault}
+use Rattle.station_files.specs.declared.named.NamedFile.{NamedFile}
+use Rattle.station_files.specs.Files.{IsFileOf}
+use Rattle.station_lines.specs.declared.setup.entry.SetupEntry.{SetupEntry}
+use Rattle.station_lines.specs.declared.setup.entry.SetupEntry.TheVariants.{Table, Index, Station}
+use Rattle.station_lines.specs.Setup.{is_table_of}
+use Rattle.office_check.specs.declared.fault.EntryFault.{EntryFault}
+use Rattle.office_check.specs.declared.fault.EntryFault.TheVariants.{CannotRead, CannotReadMemos, NoTable, NoIndex}
+use Rattle.office_check.specs.declared.finding.Finding.{Finding}
+use Rattle.office_check.specs.declared.finding.Finding.TheVariants as found
+use Rattle.office_check.specs.declared.finding.IndexFinding.{IndexFinding}
+use Rattle.office_check.specs.declared.freshness.IndexState.{IndexState}
+use Rattle.office_check.specs.declared.freshness.IndexState.TheVariants.{Fresh, NoTable as HasNoTable}
+use Rattle.office_check.specs.Freshness.{IsState}
+use Rattle.office_check.specs.declared.finding.TableCounts.{TableCounts}
+
+-- ---- the files of an entry
+
+-- the bytes of a file of memos: none is named, or it is that of the path, or it can't be read
+abbrev pub IsMemosLook : Option (List NamedFile) → Option (List ℕ) → Result (Option (List ℕ)) EntryFault → Type 0
+IsMemosLook files None (Ok memos) = memos ≡ None
+IsMemosLook files (Some path) (Ok memos) = (bytes : List ℕ) × IsFileOf files path bytes × (memos ≡ Some bytes)
+IsMemosLook files None (Err fault) = ⊥
+IsMemosLook files (Some path) (Err fault) = fault ≡ CannotReadMemos
+
+-- the bytes of its two files are those of the table, or are refused as a table's
+abbrev pub IsTableContent : List ℕ → Option (List ℕ) → Result Content EntryFault → Type 0
+IsTableContent dbf memos (Ok table) = IsDbf dbf memos table
+IsTableContent dbf memos (Err fault) = (why : ImageFault) × (why ≢ NoRoomForTable) × IsImageRefusal why dbf memos × (fault ≡ NoTable why)
+
+-- the table of the files of these paths, or why there is none
+abbrev pub IsReadTable : Option (List NamedFile) → List ℕ → Option (List ℕ) → Result Content EntryFault → Type 0
+IsReadTable files dbf dbt look =
+    (bytes : List ℕ) × (memos : Option (List ℕ)) × IsFileOf files dbf bytes × IsMemosLook files dbt (Ok memos) × IsTableContent bytes memos look
+
+abbrev pub IsTableLook : Option (List NamedFile) → List ℕ → Option (List ℕ) → Result Content EntryFault → Type 0
+IsTableLook files dbf dbt (Err CannotRead) = Unit {0}
+IsTableLook files dbf dbt (Err CannotReadMemos) = IsMemosLook files dbt (Err CannotReadMemos)
+IsTableLook files dbf dbt look = IsReadTable files dbf dbt look
+
+-- the index of the file of a path, or why there is none
+abbrev pub IsIndexLook : Option (List NamedFile) → List ℕ → Result NdxFile EntryFault → Type 0
+IsIndexLook files ndx (Ok file) = (bytes : List ℕ) × IsFileOf files ndx bytes × IsIndex bytes file.expr file.key_len file.pairs.items
+IsIndexLook files ndx (Err CannotRead) = Unit {0}
+IsIndexLook files ndx (Err (NoIndex fault)) = (fault ≢ NoRoomForIndex) × (bytes : List ℕ) × IsFileOf files ndx bytes × HasNdxFault bytes fault
+IsIndexLook files ndx (Err fault) = ⊥
+
+-- ---- what is found
+
+-- all records, and those that are marked as deleted
+pub record IsCounts (table : Content) (counts : TableCounts) : Type 0 where
+  pub all : counts.records ≡ length table.rows
+  pub marked : counts.marked ≡ count_by (λ row. row.deleted) table.rows
+
+-- where the first entry of a table of this name stands
+abbrev pub first_table : List ℕ → List SetupEntry → Option ℕ
+first_table name entries = position (is_table_of name) entries
+
+-- the files of a table's entry are those of this table
+abbrev pub IsTableOf : Option (List NamedFile) → SetupEntry → Content → Type 0
+IsTableOf files (Table name dbf dbt) table = IsTableLook files dbf dbt (Ok table)
+IsTableOf files (Index own name ndx) table = ⊥
+IsTableOf files (Station script) table = ⊥
+
+-- the table that the first entry of this name names
+pub record IsNamed (files : Option (List NamedFile)) (entries : List SetupEntry) (name : List ℕ) (table : Content) : Type 0 where
+  pub place : ℕ
+  pub entry : SetupEntry
+  pub first : first_table name entries ≡ Some place
+  pub there : slice_get entries place ≡ Some entry
+  pub table_of : IsTableOf files entry table
+
+-- what an index's file is beside the table of a name
+abbrev pub IsBeside : Option (List NamedFile) → List SetupEntry → List ℕ → NdxFile → IndexState → Type 0
+IsBeside files entries name file state = (state ≡ HasNoTable) ⊎ ((table : Content) × IsNamed files entries name table × IsState table file state)
+
+abbrev pub IsIndexFinding : Option (List NamedFile) → List SetupEntry → List ℕ → List ℕ → IndexFinding → Type 0
+IsIndexFinding files entries table ndx found =
+    (file : NdxFile) × IsIndexLook files ndx (Ok file) × (found.keys ≡ length file.pairs.items) × IsBeside files entries table file found.state
+
+-- what is found at an entry among the entries of a setup: what its files are, or why they are refused
+abbrev pub IsFinding : Option (List NamedFile) → List SetupEntry → SetupEntry → Finding → Type 0
+IsFinding files entries (Table name dbf dbt) (found.Table counts) = (table : Content) × IsTableLook files dbf dbt (Ok table) × IsCounts table counts
+IsFinding files entries (Table name dbf dbt) (found.Refused fault) = IsTableLook files dbf dbt (Err fault)
+IsFinding files entries (Index table name ndx) (found.Index index) = IsIndexFinding files entries table ndx index
+IsFinding files entries (Index table name ndx) (found.Refused fault) = IsIndexLook files ndx (Err fault)
+IsFinding files entries (Station script) found.Script = (bytes : List ℕ) × IsFileOf files script bytes
+IsFinding files entries (Station script) (found.Refused fault) = fault ≡ CannotRead
+IsFinding files entries entry finding = ⊥
+
+-- a finding for each of some entries among all
+abbrev pub AreFindingsOf : Option (List NamedFile) → List SetupEntry → List SetupEntry → List Finding → Type 0
+AreFindingsOf files all [] [] = Unit {0}
+AreFindingsOf files all [] (finding ∷ findings) = ⊥
+AreFindingsOf files all (entry ∷ entries) [] = ⊥
+AreFindingsOf files all (entry ∷ entries) (finding ∷ findings) = IsFinding files all entry finding × AreFindingsOf files all entries findings
+
+-- a finding for each entry of a setup
+abbrev pub AreFindings : Option (List NamedFile) → List SetupEntry → List Finding → Type 0
+AreFindings files entries findings = AreFindingsOf files entries entries findings
+
+-- the index is the table's as it is
+abbrev pub is_fresh : IndexState → Bool
+is_fresh Fresh = true
+is_fresh _ = false
+
+-- the files of the entry are good
+abbrev pub is_good : Finding → Bool
+is_good (found.Refused fault) = false
+is_good (found.Index index) = is_fresh index.state
+is_good finding = true

@@ -1,0 +1,37 @@
+-- What the file of an index is beside its table.
+use Rattle.std.specs.Prelude.{◌≡◌, ◌≢◌, IsPermutation}
+use Rattle.dbf_image.specs.Table.{Table}
+use Rattle.key_expr.specs.declared.fault.ExprFault.TheVariants.{NoMemory}
+use Rattle.key_expr.specs.Grammar.{Expr}
+use Rattle.key_expr.specs.Keys.{key_length}
+use Rattle.key_expr.specs.Rules.{IsKeyText, IsFault}
+use Rattle.ndx_index.specs.declared.read.NdxFile.{NdxFile}
+use Rattle.ndx_index.specs.TableOrder.{pairs_of}
+use Rattle.office_check.specs.declared.freshness.IndexState.{IndexState}
+use Rattle.office_check.specs.declared.freshness.IndexState.TheVariants.{Fresh, NoTable, NoExpression, OtherLength, Stale}
+
+-- the text of the file is this key expression for the fields of the table
+abbrev pub HasExpression : Table → NdxFile → Expr → Type 0
+HasExpression table file e = IsKeyText table.schema file.expr e
+
+-- the file's keys are as long as the expression's
+abbrev pub HasLength : Table → NdxFile → Expr → Type 0
+HasLength table file e = file.key_len ≡ key_length table.schema e
+
+-- its pairs are those of the table's records, each as often
+abbrev pub HasPairs : Table → NdxFile → Expr → Type 0
+HasPairs table file e = IsPermutation (pairs_of table e) file.pairs.items
+
+-- what a file of this key expression is beside a table
+abbrev pub IsStateWith : Table → NdxFile → Expr → IndexState → Type 0
+IsStateWith table file e NoTable = ⊥
+IsStateWith table file e (NoExpression fault) = ⊥
+IsStateWith table file e (OtherLength own wanted) = (own ≡ file.key_len) × (wanted ≡ key_length table.schema e) × (HasLength table file e → ⊥)
+IsStateWith table file e Stale = HasLength table file e × (HasPairs table file e → ⊥)
+IsStateWith table file e Fresh = HasLength table file e × HasPairs table file e
+
+-- what a file is beside a table
+abbrev pub IsState : Table → NdxFile → IndexState → Type 0
+IsState table file NoTable = Unit {0}
+IsState table file (NoExpression fault) = (fault ≢ NoMemory) × IsFault fault table.schema file.expr
+IsState table file state = (e : Expr) × HasExpression table file e × IsStateWith table file e state

@@ -1,0 +1,4 @@
+pub mod Freshness
+pub mod Findings
+pub mod Looks
+pub mod Lines

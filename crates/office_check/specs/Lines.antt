@@ -1,0 +1,129 @@
+-- What is found at the entries of a setup, in words.
+use Rattle.std.specs.Prelude.{ℕ, List, [], ◌∷◌, ◌++◌, Some, codes}
+use Rattle.std.specs.Fmt.{decimal}
+use Rattle.dbf_image.specs.declared.fault.ImageFault.{ImageFault}
+use Rattle.dbf_image.specs.declared.fault.ImageFault.TheVariants as image
+use Rattle.key_expr.specs.declared.fault.ExprFault.{ExprFault}
+use Rattle.key_expr.specs.declared.fault.ExprFault.TheVariants as expression
+use Rattle.ndx_index.specs.declared.fault.NdxFault.{NdxFault}
+use Rattle.ndx_index.specs.declared.fault.NdxFault.TheVariants as index
+use Rattle.station_lines.specs.declared.script.format.TheConstants.{LF}
+use Rattle.station_lines.specs.declared.setup.entry.SetupEntry.{SetupEntry}
+use Rattle.station_lines.specs.declared.setup.entry.SetupEntry.TheVariants.{Table, Index, Station}
+use Rattle.office_check.specs.declared.fault.EntryFault.{EntryFault}
+use Rattle.office_check.specs.declared.fault.EntryFault.TheVariants.{CannotRead, CannotReadMemos, NoTable, NoIndex}
+use Rattle.office_check.specs.declared.finding.Finding.{Finding}
+use Rattle.office_check.specs.declared.finding.Finding.TheVariants as found
+use Rattle.office_check.specs.declared.finding.TableCounts.{TableCounts}
+use Rattle.office_check.specs.declared.freshness.IndexState.{IndexState}
+use Rattle.office_check.specs.declared.freshness.IndexState.TheVariants.{Fresh, NoTable as HasNoTable, NoExpression, OtherLength, Stale}
+
+-- why bytes are no table
+abbrev pub table_refusal : ImageFault → List ℕ
+table_refusal image.Truncated = codes "the file is too short"
+table_refusal image.BadVersion = codes "the file is of no known version"
+table_refusal image.BadHeaderLength = codes "the header's length is bad"
+table_refusal image.BadSchema = codes "the fields are no schema"
+table_refusal image.BadRecordLength = codes "the records' length is bad"
+table_refusal image.TooManyRecords = codes "there are too many records"
+table_refusal image.MemoFileMissing = codes "the file of memos is missing"
+table_refusal image.BadMemoNumber = codes "a memo's number is bad"
+table_refusal image.MemoOutside = codes "a memo is outside its file"
+table_refusal image.MemoTooLong = codes "a memo is too long"
+table_refusal image.NoMemory = codes "out of memory"
+
+-- why bytes are no index
+abbrev pub index_refusal : NdxFault → List ℕ
+index_refusal index.Truncated = codes "the file is shorter than a header page"
+index_refusal index.NumericIndex = codes "the keys are numbers or dates"
+index_refusal index.UniqueIndex = codes "the index leaves out equal keys"
+index_refusal index.BadKeyLength = codes "the key length is none of 1 to 100"
+index_refusal index.BadRecordSize = codes "the size of a key record is impossible"
+index_refusal index.PageOutside = codes "a page lies outside the file"
+index_refusal index.PageTwice = codes "a page is met twice"
+index_refusal index.TooManyEntries = codes "a page has too many entries"
+index_refusal index.MixedPage = codes "a page is neither a leaf nor an inner page"
+index_refusal index.NoMemory = codes "out of memory"
+
+-- why a text is no key expression
+abbrev pub expression_refusal : ExprFault → List ℕ
+expression_refusal expression.ExpressionTooLong = codes "the text is too long"
+expression_refusal (expression.BadSyntax offset) = codes "the text is bad"
+expression_refusal expression.NoSuchField = codes "a field is missing"
+expression_refusal expression.NotCharacter = codes "a field is of another kind"
+expression_refusal expression.BadArgument = codes "an argument is bad"
+expression_refusal expression.KeyTooLong = codes "the keys are too long"
+expression_refusal expression.NoMemory = codes "out of memory"
+
+-- where it is bad
+abbrev pub offset_words : ExprFault → List ℕ
+offset_words (expression.BadSyntax offset) = codes " at offset " ++ decimal offset
+offset_words _ = []
+
+abbrev pub refusal_words : EntryFault → List ℕ
+refusal_words CannotRead = codes "can't be read"
+refusal_words CannotReadMemos = codes "can't be read"
+refusal_words (NoTable why) = codes "no table: " ++ table_refusal why
+refusal_words (NoIndex why) = codes "no index: " ++ index_refusal why
+
+-- the length of the keys and that of the expression's
+abbrev pub length_words : ℕ → ℕ → List ℕ
+length_words own wanted = decimal own ++ (codes ", not " ++ decimal wanted)
+
+-- how many records there are, and how many of them are marked
+abbrev pub counts_words : TableCounts → List ℕ
+counts_words counts = decimal counts.records ++ (codes " records, " ++ (decimal counts.marked ++ codes " marked: good"))
+
+-- what the file of an index is beside its table
+abbrev pub state_begin : IndexState → List ℕ
+state_begin Fresh = codes "good"
+state_begin HasNoTable = codes "its table is refused"
+state_begin (NoExpression why) = codes "no key expression for its table: "
+state_begin (OtherLength own wanted) = codes "stale: the length of its keys is not its expression's; --reindex makes it anew: "
+state_begin Stale = codes "stale: its pairs are not those of the table's records; --reindex makes it anew"
+
+abbrev pub state_rest : IndexState → List ℕ
+state_rest (NoExpression why) = expression_refusal why ++ offset_words why
+state_rest (OtherLength own wanted) = length_words own wanted
+state_rest _ = []
+
+abbrev pub state_words : IndexState → List ℕ
+state_words state = state_begin state ++ state_rest state
+
+-- what was found
+abbrev pub finding_words : Finding → List ℕ
+finding_words (found.Table counts) = counts_words counts
+finding_words (found.Index index) = decimal index.keys ++ (codes " keys: " ++ state_words index.state)
+finding_words found.Script = codes "good"
+finding_words (found.Refused fault) = refusal_words fault
+
+-- the name of a table or an index
+abbrev pub entry_name : SetupEntry → List ℕ
+entry_name (Table name dbf dbt) = name
+entry_name (Index table name ndx) = name
+entry_name (Station script) = codes "STATION"
+
+-- the path that is told: of a table's two the DBF's, but where its memos can't be read
+abbrev pub entry_path : SetupEntry → Finding → List ℕ
+entry_path (Table name dbf (Some dbt)) (found.Refused CannotReadMemos) = dbt
+entry_path (Table name dbf dbt) finding = dbf
+entry_path (Index table name ndx) finding = ndx
+entry_path (Station script) finding = script
+
+-- a line: a name, a path and words, with two blanks between them
+abbrev pub words_line : List ℕ → List ℕ → List ℕ → List ℕ
+words_line name path words = name ++ (codes "  " ++ (path ++ (codes "  " ++ (words ++ LF ∷ []))))
+
+-- a line of its own for the memos of a table that is good
+abbrev pub memo_line : SetupEntry → Finding → List ℕ
+memo_line (Table name dbf (Some dbt)) (found.Table counts) = words_line name dbt (codes "good")
+memo_line entry finding = []
+
+abbrev pub entry_lines : SetupEntry → Finding → List ℕ
+entry_lines entry finding = words_line (entry_name entry) (entry_path entry finding) (finding_words finding) ++ memo_line entry finding
+
+-- the lines of the entries, in their order
+abbrev pub lines_of : List SetupEntry → List Finding → List ℕ
+lines_of [] findings = []
+lines_of (entry ∷ entries) [] = []
+lines_of (entry ∷ entries) (finding ∷ findings) = entry_lines entry finding ++ lines_of entries findings

@@ -1,0 +1,272 @@
+//! What is found, in words.
+
+ghost use Rattle.std.specs.Prelude.{◌≡◌, ◌++◌, length, IfOk, OnOk};
+ghost use Rattle.std.specs.Fmt.{decimal};
+ghost use Rattle.office_check.specs.Lines.{counts_words, expression_refusal, finding_words, index_refusal, length_words, offset_words, refusal_words, table_refusal};
+ghost use Rattle.office_check.specs.Lines.{state_begin as begin_of_state, state_rest, state_words};
+ghost use Rattle.office_check.specs.Lines.{entry_lines, entry_name as name_in, entry_path as path_in, lines_of, memo_line, words_line};
+
+use crate::fault::EntryFault;
+use crate::finding::{Finding, TableCounts};
+use crate::freshness::IndexState;
+use dbf_image::ImageFault;
+use key_expr::ExprFault;
+use ndx_index::NdxFault;
+use station_lines::{LF, SetupEntry};
+use std::alloc::{AllocError, Global};
+
+fn table_words(why: ImageFault) -> &'static [u8]
+    ensures value { result.now ≡ table_refusal why }
+{
+    match why {
+        ImageFault::Truncated => b"the file is too short",
+        ImageFault::BadVersion => b"the file is of no known version",
+        ImageFault::BadHeaderLength => b"the header's length is bad",
+        ImageFault::BadSchema => b"the fields are no schema",
+        ImageFault::BadRecordLength => b"the records' length is bad",
+        ImageFault::TooManyRecords => b"there are too many records",
+        ImageFault::MemoFileMissing => b"the file of memos is missing",
+        ImageFault::BadMemoNumber => b"a memo's number is bad",
+        ImageFault::MemoOutside => b"a memo is outside its file",
+        ImageFault::MemoTooLong => b"a memo is too long",
+        ImageFault::NoMemory => b"out of memory",
+    }
+}
+
+fn index_words(why: NdxFault) -> &'static [u8]
+    ensures value { result.now ≡ index_refusal why }
+{
+    match why {
+        NdxFault::Truncated => b"the file is shorter than a header page",
+        NdxFault::NumericIndex => b"the keys are numbers or dates",
+        NdxFault::UniqueIndex => b"the index leaves out equal keys",
+        NdxFault::BadKeyLength => b"the key length is none of 1 to 100",
+        NdxFault::BadRecordSize => b"the size of a key record is impossible",
+        NdxFault::PageOutside => b"a page lies outside the file",
+        NdxFault::PageTwice => b"a page is met twice",
+        NdxFault::TooManyEntries => b"a page has too many entries",
+        NdxFault::MixedPage => b"a page is neither a leaf nor an inner page",
+        NdxFault::NoMemory => b"out of memory",
+    }
+}
+
+fn append_refusal(text: &mut Vec<u8>, fault: EntryFault) -> Result<(), AllocError>
+    ensures ok { OnOk result (text.new.items ≡ text.old.items ++ refusal_words fault) }
+{
+    match fault {
+        EntryFault::CannotRead => text.extend_from_slice(b"can't be read"),
+        EntryFault::CannotReadMemos => text.extend_from_slice(b"can't be read"),
+        EntryFault::NoTable(why) => {
+            text.extend_from_slice(b"no table: ")?;
+            text.extend_from_slice(table_words(why))
+        }
+        EntryFault::NoIndex(why) => {
+            text.extend_from_slice(b"no index: ")?;
+            text.extend_from_slice(index_words(why))
+        }
+    }
+}
+
+fn append_number(alloc: Global, text: &mut Vec<u8>, number: usize) -> Result<(), AllocError>
+    ensures ok { OnOk result (text.new.items ≡ text.old.items ++ decimal number) }
+{
+    let digits = format!(in alloc; "{number}")?;
+    text.extend_from_slice(digits.as_bytes())
+}
+
+fn append_counts(alloc: Global, text: &mut Vec<u8>, counts: TableCounts) -> Result<(), AllocError>
+    ensures ok { OnOk result (text.new.items ≡ text.old.items ++ counts_words counts) }
+{
+    append_number(alloc, text, counts.records as usize)?;
+    text.extend_from_slice(b" records, ")?;
+    append_number(alloc, text, counts.marked as usize)?;
+    text.extend_from_slice(b" marked: good")
+}
+
+fn expression_words(why: ExprFault) -> &'static [u8]
+    ensures value { result.now ≡ expression_refusal why }
+{
+    match why {
+        ExprFault::ExpressionTooLong => b"the text is too long",
+        ExprFault::BadSyntax(_) => b"the text is bad",
+        ExprFault::NoSuchField => b"a field is missing",
+        ExprFault::NotCharacter => b"a field is of another kind",
+        ExprFault::BadArgument => b"an argument is bad",
+        ExprFault::KeyTooLong => b"the keys are too long",
+        ExprFault::NoMemory => b"out of memory",
+    }
+}
+
+// Where a text is no key expression.
+fn append_offset(alloc: Global, text: &mut Vec<u8>, why: ExprFault) -> Result<(), AllocError>
+    ensures ok { OnOk result (text.new.items ≡ text.old.items ++ offset_words why) }
+{
+    match why {
+        ExprFault::BadSyntax(offset) => {
+            text.extend_from_slice(b" at offset ")?;
+            append_number(alloc, text, offset)
+        }
+        _ => Ok(()),
+    }
+}
+
+fn append_lengths(
+    alloc: Global,
+    text: &mut Vec<u8>,
+    own: usize,
+    wanted: usize,
+) -> Result<(), AllocError>
+    ensures ok { OnOk result (text.new.items ≡ text.old.items ++ length_words own wanted) }
+{
+    append_number(alloc, text, own)?;
+    text.extend_from_slice(b", not ")?;
+    append_number(alloc, text, wanted)
+}
+
+fn state_begin(state: IndexState) -> &'static [u8]
+    ensures value { result.now ≡ begin_of_state state }
+{
+    match state {
+        IndexState::Fresh => b"good",
+        IndexState::NoTable => b"its table is refused",
+        IndexState::NoExpression(_) => b"no key expression for its table: ",
+        IndexState::OtherLength(_, _) => {
+            b"stale: the length of its keys is not its expression's; --reindex makes it anew: "
+        }
+        IndexState::Stale => {
+            b"stale: its pairs are not those of the table's records; --reindex makes it anew"
+        }
+    }
+}
+
+fn append_state_rest(alloc: Global, text: &mut Vec<u8>, state: IndexState) -> Result<(), AllocError>
+    ensures ok { OnOk result (text.new.items ≡ text.old.items ++ state_rest state) }
+{
+    match state {
+        IndexState::NoExpression(why) => {
+            text.extend_from_slice(expression_words(why))?;
+            append_offset(alloc, text, why)
+        }
+        IndexState::OtherLength(own, wanted) => append_lengths(alloc, text, own, wanted),
+        _ => Ok(()),
+    }
+}
+
+// What an index is beside its table.
+fn append_state(alloc: Global, text: &mut Vec<u8>, state: IndexState) -> Result<(), AllocError>
+    ensures ok { OnOk result (text.new.items ≡ text.old.items ++ state_words state) }
+{
+    text.extend_from_slice(state_begin(state))?;
+    append_state_rest(alloc, text, state)
+}
+
+fn append_finding(alloc: Global, text: &mut Vec<u8>, finding: Finding) -> Result<(), AllocError>
+    ensures ok { OnOk result (text.new.items ≡ text.old.items ++ finding_words finding) }
+{
+    match finding {
+        Finding::Table(counts) => append_counts(alloc, text, counts),
+        Finding::Index(index) => {
+            append_number(alloc, text, index.keys)?;
+            text.extend_from_slice(b" keys: ")?;
+            append_state(alloc, text, index.state)
+        }
+        Finding::Script => text.extend_from_slice(b"good"),
+        Finding::Refused(fault) => append_refusal(text, fault),
+    }
+}
+
+fn entry_name(entry: &SetupEntry) -> &[u8]
+    ensures value { result.now ≡ name_in entry.now }
+{
+    match entry {
+        SetupEntry::Table { name, .. } => name.as_slice(),
+        SetupEntry::Index { name, .. } => name.as_slice(),
+        SetupEntry::Station { .. } => b"STATION",
+    }
+}
+
+// The path of an entry that is told.
+fn entry_path(entry: &SetupEntry, finding: Finding) -> &[u8]
+    ensures value { result.now ≡ path_in entry.now finding }
+{
+    match entry {
+        SetupEntry::Table { dbf, dbt, .. } => match (dbt, finding) {
+            (Some(dbt), Finding::Refused(EntryFault::CannotReadMemos)) => dbt.as_slice(),
+            _ => dbf.as_slice(),
+        },
+        SetupEntry::Index { ndx, .. } => ndx.as_slice(),
+        SetupEntry::Station { script } => script.as_slice(),
+    }
+}
+
+// A line of a name, a path and words.
+fn append_line(text: &mut Vec<u8>, name: &[u8], path: &[u8], words: &[u8]) -> Result<(), AllocError>
+    ensures ok { OnOk result (text.new.items ≡ text.old.items ++ words_line name.now path.now words.now) }
+{
+    text.extend_from_slice(name)?;
+    text.extend_from_slice(b"  ")?;
+    text.extend_from_slice(path)?;
+    text.extend_from_slice(b"  ")?;
+    text.extend_from_slice(words)?;
+    text.push(LF)?;
+    Ok(())
+}
+
+// The line of the memos of a table that is good.
+fn append_memo_line(
+    text: &mut Vec<u8>,
+    entry: &SetupEntry,
+    finding: Finding,
+) -> Result<(), AllocError>
+    ensures ok { OnOk result (text.new.items ≡ text.old.items ++ memo_line entry.now finding) }
+{
+    match (entry, finding) {
+        (
+            SetupEntry::Table {
+                name,
+                dbt: Some(dbt),
+                ..
+            },
+            Finding::Table(_),
+        ) => append_line(text, name.as_slice(), dbt.as_slice(), b"good"),
+        _ => Ok(()),
+    }
+}
+
+fn append_entry(
+    alloc: Global,
+    text: &mut Vec<u8>,
+    entry: &SetupEntry,
+    finding: Finding,
+) -> Result<(), AllocError>
+    ensures ok { OnOk result (text.new.items ≡ text.old.items ++ entry_lines entry.now finding) }
+{
+    let mut words = Vec::new(alloc);
+    append_finding(alloc, &mut words, finding)?;
+    append_line(
+        text,
+        entry_name(entry),
+        entry_path(entry, finding),
+        words.as_slice(),
+    )?;
+    append_memo_line(text, entry, finding)
+}
+
+/// What was found at the entries, in words: a line for each, and one more for the memos of a table that is good. There is a
+/// finding for each entry.
+///
+/// An `Err` says that there was no memory.
+pub fn findings_text(
+    alloc: Global,
+    entries: &[SetupEntry],
+    findings: &[Finding],
+) -> Result<Vec<u8>, AllocError>
+    requires one_each { length findings.now ≡ length entries.now }
+    ensures value { IfOk result (λ text. text.items ≡ lines_of entries.now findings.now) }
+{
+    let mut text = Vec::new(alloc);
+    for (index, entry) in entries.iter().enumerate() {
+        append_entry(alloc, &mut text, entry, findings[index])?;
+    }
+    Ok(text)
+}

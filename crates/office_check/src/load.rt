@@ -1,0 +1,126 @@
+//! The files of an entry.
+
+ghost use Rattle.std.specs.Prelude.{◌≡◌, ◌+◌, ◌≤◌, length, count_by, IfOk, IfSome};
+ghost use Rattle.station_files.specs.Files.{IsFileOf};
+ghost use Rattle.office_check.specs.Findings.{IsMemosLook, IsTableContent, IsTableLook, IsIndexLook, IsCounts};
+
+use crate::fault::EntryFault;
+use crate::finding::{Finding, TableCounts};
+use dbf_fields::Bytes;
+use dbf_image::{ImageFault, TableData, read_table};
+use ndx_index::{NdxFault, NdxFile, read_ndx};
+use station_files::{LoadFault, Source};
+use std::alloc::{AllocError, Global};
+
+/// The bytes of the file of a path; `None` where it can't be read.
+///
+/// An `Err` says that there was no memory.
+pub(crate) fn load_file<S: Source>(
+    alloc: Global,
+    source: &mut S,
+    path: &Bytes,
+) -> Result<Option<Bytes>, AllocError>
+    ensures found { IfOk result (λ read. IfSome read (λ bytes. IsFileOf (S.files source.old) path.now bytes)) }
+    ensures kept { S.files source.new ≡ S.files source.old }
+{
+    match source.load(alloc, path.as_slice()) {
+        Ok(bytes) => Ok(Some(bytes)),
+        Err(LoadFault::CannotRead) => Ok(None),
+        Err(LoadFault::NoMemory) => Err(AllocError),
+    }
+}
+
+// The bytes of a file of memos, where one is named.
+fn load_memos<S: Source>(
+    alloc: Global,
+    source: &mut S,
+    path: &Option<Bytes>,
+) -> Result<Result<Option<Bytes>, EntryFault>, AllocError>
+    ensures found { IfOk result (λ look. IsMemosLook (S.files source.old) path.now look) }
+    ensures kept { S.files source.new ≡ S.files source.old }
+{
+    let Some(path) = path else {
+        return Ok(Ok(None));
+    };
+    match load_file(alloc, source, path)? {
+        Some(bytes) => Ok(Ok(Some(bytes))),
+        None => Ok(Err(EntryFault::CannotReadMemos)),
+    }
+}
+
+// The table of the bytes of its files.
+fn read_content(
+    alloc: Global,
+    dbf: Bytes,
+    dbt: &Option<Bytes>,
+) -> Result<Result<TableData, EntryFault>, AllocError>
+    ensures read { IfOk result (λ look. IsTableContent dbf dbt.now look) }
+{
+    let memos = match dbt {
+        None => None,
+        Some(bytes) => Some(bytes.as_slice()),
+    };
+    match read_table(alloc, dbf, memos) {
+        Ok(table) => Ok(Ok(table)),
+        Err(ImageFault::NoMemory) => Err(AllocError),
+        Err(fault) => Ok(Err(EntryFault::NoTable(fault))),
+    }
+}
+
+/// The table of the files of these paths, or why there is none.
+///
+/// An `Err` says that there was no memory.
+pub(crate) fn load_table<S: Source>(
+    alloc: Global,
+    source: &mut S,
+    dbf: &Bytes,
+    dbt: &Option<Bytes>,
+) -> Result<Result<TableData, EntryFault>, AllocError>
+    ensures look { IfOk result (λ look. IsTableLook (S.files source.old) dbf.now dbt.now look) }
+    ensures kept { S.files source.new ≡ S.files source.old }
+{
+    let Some(bytes) = load_file(alloc, source, dbf)? else {
+        return Ok(Err(EntryFault::CannotRead));
+    };
+    match load_memos(alloc, source, dbt)? {
+        Ok(memos) => read_content(alloc, bytes, &memos),
+        Err(fault) => Ok(Err(fault)),
+    }
+}
+
+/// The index of the file of a path, or why there is none.
+///
+/// An `Err` says that there was no memory.
+pub(crate) fn load_index<S: Source>(
+    alloc: Global,
+    source: &mut S,
+    ndx: &Bytes,
+) -> Result<Result<NdxFile, EntryFault>, AllocError>
+    ensures look { IfOk result (λ look. IsIndexLook (S.files source.old) ndx.now look) }
+    ensures kept { S.files source.new ≡ S.files source.old }
+{
+    let Some(bytes) = load_file(alloc, source, ndx)? else {
+        return Ok(Err(EntryFault::CannotRead));
+    };
+    match read_ndx(alloc, bytes.as_slice()) {
+        Ok(file) => Ok(Ok(file)),
+        Err(NdxFault::NoMemory) => Err(AllocError),
+        Err(fault) => Ok(Err(EntryFault::NoIndex(fault))),
+    }
+}
+
+/// How many records a table has, and how many of them are marked as deleted.
+pub(crate) fn counts_of(table: &TableData) -> TableCounts
+    ensures counts { IsCounts table.now result }
+{
+    let mut marked = 0;
+    for earlier in 0..table.record_count() {
+        if table.is_deleted(earlier + 1) {
+            marked += 1;
+        }
+    }
+    TableCounts {
+        records: table.record_count(),
+        marked,
+    }
+}
