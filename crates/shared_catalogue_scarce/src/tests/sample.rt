@@ -1,0 +1,90 @@
+//! The table and the catalogue that the tests open, and commands with their answers.
+
+ghost use Rattle.std.specs.Prelude.{◌≡◌, [], IfOk};
+
+use dbf_fields::{Bytes, CHARACTER, Field, Literal, Schema};
+use dbf_image::TableData;
+use shared_catalogue::{Answer, Catalogue, Command, OpenFault, Refusal, TableSource};
+use std::alloc::{AllocError, Global};
+use std::test::Fail;
+
+// The table of the field NAME, three characters wide, and the records BOB and ADA.
+pub(super) fn sample(alloc: Global) -> Result<TableData, Fail> {
+    let name = Field::new(alloc, b"NAME", CHARACTER, 3, 0)?;
+    let mut data = TableData::empty(alloc, Schema::new(alloc, &[name])?);
+    for record in [b" BOB", b" ADA"] {
+        if data.record_count() > 2 || data.schema().record_length() != 4 {
+            return Err("no such table".into());
+        }
+        data.append_record(record)?;
+    }
+    Ok(data)
+}
+
+// A copy of a table under the name T.
+fn source(alloc: Global, data: &TableData) -> Result<TableSource, AllocError> {
+    Ok(TableSource {
+        name: Bytes::from_slice(alloc, b"T")?,
+        content: data.copy(alloc)?,
+        indexes: Vec::new(alloc),
+    })
+}
+
+// The catalogue of a copy of a table for two stations.
+pub(super) fn open(alloc: Global, data: &TableData) -> Result<Catalogue, OpenFault>
+    ensures stations { IfOk result (λ catalogue. catalogue.opened.stations ≡ 2) }
+    ensures empty { IfOk result (λ catalogue. catalogue.journal ≡ []) }
+{
+    let Ok(table) = source(alloc, data) else {
+        return Err(OpenFault::NoMemory);
+    };
+    match vec![in alloc; table] {
+        Ok(sources) => Catalogue::open(alloc, sources, 2, false),
+        Err(_) => Err(OpenFault::NoMemory),
+    }
+}
+
+// A command at the seat of an index, and its answer.
+#[derive(Drop)]
+pub(super) struct Case {
+    pub(super) seat: usize,
+    pub(super) command: Command,
+    pub(super) answer: Answer,
+}
+
+fn given(seat: usize, command: Command, answer: Answer) -> Case {
+    Case {
+        seat,
+        command,
+        answer,
+    }
+}
+
+// REPLACE of a field by EVE.
+fn replace(alloc: Global, field: &[u8]) -> Result<Command, AllocError> {
+    Ok(Command::Replace {
+        field: Bytes::from_slice(alloc, field)?,
+        value: Literal::Text(Bytes::from_slice(alloc, b"EVE")?),
+    })
+}
+
+// Commands of both stations, one after another: edits of the first, which has the table for itself, and a refusal.
+pub(super) fn cases(alloc: Global) -> Result<Vec<Case>, AllocError> {
+    let name = Bytes::from_slice(alloc, b"T")?;
+    let field = Bytes::from_slice(alloc, b"NAME")?;
+    let text = Bytes::from_slice(alloc, b"EVE")?;
+    let exclusive = Command::UseTable {
+        name,
+        exclusive: true,
+    };
+    let no_field = Answer::Refused(Refusal::NoSuchField);
+    Ok(vec![in alloc;
+        given(0, exclusive, Answer::Done),
+        given(1, Command::Select(2), Answer::Done),
+        given(0, Command::AppendBlank, Answer::Done),
+        given(0, replace(alloc, b"NAME")?, Answer::Done),
+        given(0, replace(alloc, b"ZIP")?, no_field),
+        given(0, Command::Show(field), Answer::Text(text)),
+        given(0, Command::Pack, Answer::Done),
+    ]?)
+}
