@@ -4,6 +4,7 @@ mod again;
 mod dates;
 mod day;
 mod devices;
+mod journals;
 mod made;
 mod setups;
 mod stale;
@@ -22,7 +23,7 @@ use std::thread::Threads;
 use whole_run::{FileFault, ServeFault, serve};
 
 // The path of each setup here.
-const SETUP: &[u8] = b"S.SET";
+pub(crate) const SETUP: &[u8] = b"S.SET";
 
 pub(crate) fn named(alloc: Global, name: &[u8], bytes: &[u8]) -> Result<NamedFile, AllocError> {
     Ok(NamedFile {

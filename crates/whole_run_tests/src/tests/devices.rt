@@ -21,7 +21,7 @@ const TWO_ANSWERS: &[u8] = b"OK\n2\n";
 const EMPTY_INDEXED: &[u8] = b"TABLE T empty.dbf\nINDEX T X x.ndx\nSTATION nothing\n";
 
 // A folder of which this many calls succeed, and which takes this many bytes a call of `write` at most.
-fn failing_folder(alloc: Global, calls: u64, most: usize) -> MemoryFolder {
+pub(crate) fn failing_folder(alloc: Global, calls: u64, most: usize) -> MemoryFolder {
     let mut folder = MemoryFolder::new(alloc);
     folder.calls = calls;
     folder.most = most;
@@ -29,7 +29,7 @@ fn failing_folder(alloc: Global, calls: u64, most: usize) -> MemoryFolder {
 }
 
 // The name of the file that a run couldn't write, if so it ended.
-fn unwritten(served: Result<u64, ServeFault>) -> Option<Bytes> {
+pub(crate) fn unwritten(served: Result<u64, ServeFault>) -> Option<Bytes> {
     match served {
         Err(ServeFault::Close(CloseFault::Write(name))) => Some(name),
         _ => None,
@@ -84,7 +84,7 @@ fn is_part(file: &OpenFile, whole: &OpenFile) -> bool {
 
 // Whether a folder has the files of a whole run before the one of this name, of that one a front part or nothing, and
 // no other file.
-fn is_cut_at(folder: &MemoryFolder, whole: &MemoryFolder, name: &[u8]) -> bool {
+pub(crate) fn is_cut_at(folder: &MemoryFolder, whole: &MemoryFolder, name: &[u8]) -> bool {
     let mut place = 0;
     for file in &whole.files {
         if file.name.as_slice() == name {
