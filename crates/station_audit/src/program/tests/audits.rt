@@ -66,10 +66,10 @@ fn source_with(alloc: Global, journal: &[u8]) -> Result<MemorySource, AllocError
 }
 
 // What an audit says of a journal of the table.
-fn audited(
+fn audited<'a>(
     alloc: Global,
-    setup: &str,
-    journal: &str,
+    setup: &'a str,
+    journal: &'a str,
     text: &[u8],
 ) -> Result<Result<u64, Failure>, AllocError> {
     let mut source = source_with(alloc, text)?;
