@@ -13,12 +13,12 @@ use Rattle.office_check.specs.declared.fault.EntryFault.TheVariants.{CannotRead,
 use Rattle.dbf_image.specs.Growing.{Growing}
 use Rattle.office_check.specs.declared.finding.Finding.{Finding}
 use Rattle.office_check.specs.Findings.{IsFinding, IsMemosLook, IsTableContent, IsTableLook, IsTableOf, AreFindingsOf}
-use Rattle.office_check.specs.Looks.{IsKept, AreKept}
+use Rattle.office_check.specs.Looks.{IsKeptTable, AreKeptTables}
 use Rattle.key_expr.specs.Grammar.{Expr}
 use Rattle.ndx_index.specs.declared.read.NdxFile.{NdxFile}
 use Rattle.office_check.specs.declared.freshness.IndexState.{IndexState}
 use Rattle.office_check.specs.declared.freshness.IndexState.TheVariants.{Fresh, NoTable as HasNoTable, NoExpression, OtherLength, Stale}
-use Rattle.office_check.specs.Freshness.{HasExpression, IsState, IsStateWith}
+use Rattle.office_check.specs.Freshness.{HasExpression, IsIndexState, IsIndexStateWith}
 
 found_last : (files : Option (List NamedFile)) (all entries : List SetupEntry) (findings : List Finding) (entry : SetupEntry) (finding : Finding)
     → AreFindingsOf files all entries findings → IsFinding files all entry finding → AreFindingsOf files all (entries ++ entry ∷ []) (findings ++ finding ∷ [])
@@ -46,21 +46,21 @@ one_each files all (e ∷ es) (g ∷ gs) h = ap suc (one_each files all es gs h.
 
 -- one more table is kept, that of the next entry
 pub kept_more : (files : Option (List NamedFile)) (entries : List SetupEntry) (tables : List (Option Growing)) (entry : SetupEntry) (table : Option Growing)
-    → AreKept files entries tables → length tables < length entries → entry ≡ get_or entries (length tables) entry → IsKept files entry table
-    → AreKept files entries (tables ++ table ∷ [])
+    → AreKeptTables files entries tables → length tables < length entries → entry ≡ get_or entries (length tables) entry → IsKeptTable files entry table
+    → AreKeptTables files entries (tables ++ table ∷ [])
 kept_more files [] tables entry table h lt is k = absurd (omega (arith, lt))
-kept_more files (e ∷ es) [] entry table h lt is k = (subst (λ (x : SetupEntry). IsKept files x table) is k, tt)
+kept_more files (e ∷ es) [] entry table h lt is k = (subst (λ (x : SetupEntry). IsKeptTable files x table) is k, tt)
 kept_more files (e ∷ es) (t ∷ ts) entry table h lt is k = (h.0, kept_more files es ts entry table h.1 (omega (arith, lt)) is k)
 
 -- a table that is kept is that of the entry at its place
 pub kept_at : (files : Option (List NamedFile)) (entries : List SetupEntry) (tables : List (Option Growing)) (place : ℕ) (records : Growing)
-    → AreKept files entries tables → slice_get tables place ≡ Some (Some records)
+    → AreKeptTables files entries tables → slice_get tables place ≡ Some (Some records)
     → (entry : SetupEntry) × (slice_get entries place ≡ Some entry) × IsTableOf files entry records.table
 kept_at files entries [] place records h at = absurd cc
 kept_at files [] (t ∷ ts) place records h at = absurd h
 kept_at files (e ∷ es) (t ∷ ts) zero records h at =
     let is : t ≡ Some records = cc in
-    (e, refl, subst (λ (x : Option Growing). IsKept files e x) is h.0)
+    (e, refl, subst (λ (x : Option Growing). IsKeptTable files e x) is h.0)
 kept_at files (e ∷ es) (t ∷ ts) (suc place) records h at = kept_at files es ts place records h.1 at
 
 -- the record of the next number
@@ -89,7 +89,7 @@ look_of_read files dbf dbt bytes memos (Err (NoTable why)) f m h = (bytes, memos
 look_of_read files dbf dbt bytes memos (Err (NoIndex why)) f m h = (bytes, memos, f, m, h)
 
 -- the state of a file whose key expression was read
-pub state_of_read : (table : Table) (file : NdxFile) (e : Expr) (state : IndexState) → HasExpression table file e → IsStateWith table file e state → IsState table file state
+pub state_of_read : (table : Table) (file : NdxFile) (e : Expr) (state : IndexState) → HasExpression table file e → IsIndexStateWith table file e state → IsIndexState table file state
 state_of_read table file e Fresh h s = (e, h, s)
 state_of_read table file e HasNoTable h s = absurd s
 state_of_read table file e (NoExpression why) h s = absurd s

@@ -21,7 +21,7 @@ use Rattle.office_check.specs.declared.finding.Finding.TheVariants as found
 use Rattle.office_check.specs.declared.finding.IndexFinding.{IndexFinding}
 use Rattle.office_check.specs.declared.freshness.IndexState.{IndexState}
 use Rattle.office_check.specs.declared.freshness.IndexState.TheVariants.{Fresh, NoTable as HasNoTable}
-use Rattle.office_check.specs.Freshness.{IsState}
+use Rattle.office_check.specs.Freshness.{IsIndexState}
 use Rattle.office_check.specs.declared.finding.TableCounts.{TableCounts}
 
 -- ---- the files of an entry
@@ -82,7 +82,7 @@ pub record IsNamed (files : Option (List NamedFile)) (entries : List SetupEntry)
 
 -- what an index's file is beside the table of a name
 abbrev pub IsBeside : Option (List NamedFile) → List SetupEntry → List ℕ → NdxFile → IndexState → Type 0
-IsBeside files entries name file state = (state ≡ HasNoTable) ⊎ ((table : Content) × IsNamed files entries name table × IsState table file state)
+IsBeside files entries name file state = (state ≡ HasNoTable) ⊎ ((table : Content) × IsNamed files entries name table × IsIndexState table file state)
 
 abbrev pub IsIndexFinding : Option (List NamedFile) → List SetupEntry → List ℕ → List ℕ → IndexFinding → Type 0
 IsIndexFinding files entries table ndx found =

@@ -23,15 +23,15 @@ abbrev pub HasPairs : Table → NdxFile → Expr → Type 0
 HasPairs table file e = IsPermutation (pairs_of table e) file.pairs.items
 
 -- what a file of this key expression is beside a table
-abbrev pub IsStateWith : Table → NdxFile → Expr → IndexState → Type 0
-IsStateWith table file e NoTable = ⊥
-IsStateWith table file e (NoExpression fault) = ⊥
-IsStateWith table file e (OtherLength own wanted) = (own ≡ file.key_len) × (wanted ≡ key_length table.schema e) × (HasLength table file e → ⊥)
-IsStateWith table file e Stale = HasLength table file e × (HasPairs table file e → ⊥)
-IsStateWith table file e Fresh = HasLength table file e × HasPairs table file e
+abbrev pub IsIndexStateWith : Table → NdxFile → Expr → IndexState → Type 0
+IsIndexStateWith table file e NoTable = ⊥
+IsIndexStateWith table file e (NoExpression fault) = ⊥
+IsIndexStateWith table file e (OtherLength own wanted) = (own ≡ file.key_len) × (wanted ≡ key_length table.schema e) × (HasLength table file e → ⊥)
+IsIndexStateWith table file e Stale = HasLength table file e × (HasPairs table file e → ⊥)
+IsIndexStateWith table file e Fresh = HasLength table file e × HasPairs table file e
 
 -- what a file is beside a table
-abbrev pub IsState : Table → NdxFile → IndexState → Type 0
-IsState table file NoTable = Unit {0}
-IsState table file (NoExpression fault) = (fault ≢ NoMemory) × IsFault fault table.schema file.expr
-IsState table file state = (e : Expr) × HasExpression table file e × IsStateWith table file e state
+abbrev pub IsIndexState : Table → NdxFile → IndexState → Type 0
+IsIndexState table file NoTable = Unit {0}
+IsIndexState table file (NoExpression fault) = (fault ≢ NoMemory) × IsFault fault table.schema file.expr
+IsIndexState table file state = (e : Expr) × HasExpression table file e × IsIndexStateWith table file e state

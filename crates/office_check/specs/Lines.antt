@@ -115,15 +115,15 @@ abbrev pub words_line : List ℕ → List ℕ → List ℕ → List ℕ
 words_line name path words = name ++ (codes "  " ++ (path ++ (codes "  " ++ (words ++ LF ∷ []))))
 
 -- a line of its own for the memos of a table that is good
-abbrev pub memo_line : SetupEntry → Finding → List ℕ
-memo_line (Table name dbf (Some dbt)) (found.Table counts) = words_line name dbt (codes "good")
-memo_line entry finding = []
+abbrev pub memos_line : SetupEntry → Finding → List ℕ
+memos_line (Table name dbf (Some dbt)) (found.Table counts) = words_line name dbt (codes "good")
+memos_line entry finding = []
 
 abbrev pub entry_lines : SetupEntry → Finding → List ℕ
-entry_lines entry finding = words_line (entry_name entry) (entry_path entry finding) (finding_words finding) ++ memo_line entry finding
+entry_lines entry finding = words_line (entry_name entry) (entry_path entry finding) (finding_words finding) ++ memos_line entry finding
 
 -- the lines of the entries, in their order
-abbrev pub lines_of : List SetupEntry → List Finding → List ℕ
-lines_of [] findings = []
-lines_of (entry ∷ entries) [] = []
-lines_of (entry ∷ entries) (finding ∷ findings) = entry_lines entry finding ++ lines_of entries findings
+abbrev pub setup_lines : List SetupEntry → List Finding → List ℕ
+setup_lines [] findings = []
+setup_lines (entry ∷ entries) [] = []
+setup_lines (entry ∷ entries) (finding ∷ findings) = entry_lines entry finding ++ setup_lines entries findings

@@ -5,7 +5,7 @@ ghost use Rattle.std.specs.List.{AllByRecursion};
 ghost use Rattle.dbf_image.specs.Table.{row_at};
 ghost use Rattle.key_expr.specs.Keys.{key};
 ghost use Rattle.ndx_index.specs.TableOrder.{order, pairs_of, IsRecordPair};
-ghost use Rattle.office_check.specs.Freshness.{IsState, IsStateWith};
+ghost use Rattle.office_check.specs.Freshness.{IsIndexState, IsIndexStateWith};
 
 use dbf_image::GrowingTable;
 use key_expr::{ExprFault, KeyExpr};
@@ -35,7 +35,7 @@ pub(crate) fn state_of(
     records: &GrowingTable,
     file: &mut NdxFile,
 ) -> Result<IndexState, AllocError>
-    ensures state { IfOk result (IsState records.now.table file.old) }
+    ensures state { IfOk result (IsIndexState records.now.table file.old) }
 {
     let expr = match KeyExpr::parse(alloc, file.expr.as_slice(), records.schema()) {
         Ok(expr) => expr,
@@ -48,7 +48,7 @@ pub(crate) fn state_of(
 // The same where its text is a key expression.
 fn state_with(records: &GrowingTable, expr: &KeyExpr, file: &mut NdxFile) -> IndexState
     requires fields { expr.now.fields ≡ records.now.table.schema }
-    ensures state { IsStateWith records.now.table file.old expr.now.expr result }
+    ensures state { IsIndexStateWith records.now.table file.old expr.now.expr result }
 {
     if file.key_len != expr.key_len() {
         return IndexState::OtherLength(file.key_len, expr.key_len());

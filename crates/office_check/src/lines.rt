@@ -4,7 +4,7 @@ ghost use Rattle.std.specs.Prelude.{◌≡◌, ◌++◌, length, IfOk, OnOk};
 ghost use Rattle.std.specs.Fmt.{decimal};
 ghost use Rattle.office_check.specs.Lines.{counts_words, expression_refusal, finding_words, index_refusal, length_words, offset_words, refusal_words, table_refusal};
 ghost use Rattle.office_check.specs.Lines.{state_begin as begin_of_state, state_rest, state_words};
-ghost use Rattle.office_check.specs.Lines.{entry_lines, entry_name as name_in, entry_path as path_in, lines_of, memo_line, words_line};
+ghost use Rattle.office_check.specs.Lines.{entry_lines, entry_name as name_in, entry_path as path_in, setup_lines, memos_line, words_line};
 
 use crate::fault::EntryFault;
 use crate::finding::{Finding, TableCounts};
@@ -218,7 +218,7 @@ fn append_memo_line(
     entry: &SetupEntry,
     finding: Finding,
 ) -> Result<(), AllocError>
-    ensures ok { OnOk result (text.new.items ≡ text.old.items ++ memo_line entry.now finding) }
+    ensures ok { OnOk result (text.new.items ≡ text.old.items ++ memos_line entry.now finding) }
 {
     match (entry, finding) {
         (
@@ -262,7 +262,7 @@ pub fn findings_text(
     findings: &[Finding],
 ) -> Result<Vec<u8>, AllocError>
     requires one_each { length findings.now ≡ length entries.now }
-    ensures value { IfOk result (λ text. text.items ≡ lines_of entries.now findings.now) }
+    ensures value { IfOk result (λ text. text.items ≡ setup_lines entries.now findings.now) }
 {
     let mut text = Vec::new(alloc);
     for (index, entry) in entries.iter().enumerate() {

@@ -8,7 +8,7 @@ ghost use Rattle.station_lines.specs.declared.setup.entry.SetupEntry.TheVariants
 ghost use Rattle.station_lines.specs.Setup.{is_table_of as is_entry_of};
 ghost use Rattle.office_check.specs.Findings.{first_table, is_fresh as is_fresh_state, is_good as is_good_one};
 ghost use Rattle.office_check.specs.Findings.{AreFindings, IsBeside, IsNamed};
-ghost use Rattle.office_check.specs.Looks.{AreKept, IsLook};
+ghost use Rattle.office_check.specs.Looks.{AreKeptTables, IsLook};
 
 use crate::fault::EntryFault;
 use crate::finding::{Finding, IndexFinding};
@@ -73,7 +73,7 @@ fn table_named<'a>(
     tables: &'a [Option<GrowingTable>],
     table: &Bytes,
 ) -> Option<&'a GrowingTable>
-    ensures named { (files : Option (List NamedFile)) → AreKept files entries.now tables.now → IfSome result (λ records. IsNamed files entries.now table.now records.now.table) }
+    ensures named { (files : Option (List NamedFile)) → AreKeptTables files entries.now tables.now → IfSome result (λ records. IsNamed files entries.now table.now records.now.table) }
 {
     let place = place_of(entries, table)?;
     match tables.get(place) {
@@ -90,7 +90,7 @@ fn beside_table(
     table: &Bytes,
     file: &mut NdxFile,
 ) -> Result<IndexState, AllocError>
-    ensures state { (files : Option (List NamedFile)) → AreKept files entries.now tables.now → IfOk result (IsBeside files entries.now table.now file.old) }
+    ensures state { (files : Option (List NamedFile)) → AreKeptTables files entries.now tables.now → IfOk result (IsBeside files entries.now table.now file.old) }
 {
     match table_named(entries, tables, table) {
         Some(records) => state_of(alloc, records, file),
@@ -107,7 +107,7 @@ fn look_at_index<S: Source>(
     table: &Bytes,
     ndx: &Bytes,
 ) -> Result<Look, AllocError>
-    requires tables { AreKept (S.files source.old) entries.now tables.now }
+    requires tables { AreKeptTables (S.files source.old) entries.now tables.now }
     ensures look { (name : List ℕ) → IfOk result (IsLook (S.files source.old) entries.now (Index table.now name ndx.now)) }
     ensures kept { S.files source.new ≡ S.files source.old }
 {
@@ -154,7 +154,7 @@ fn look_at<S: Source>(
     tables: &[Option<GrowingTable>],
     entry: &SetupEntry,
 ) -> Result<Look, AllocError>
-    requires tables { AreKept (S.files source.old) entries.now tables.now }
+    requires tables { AreKeptTables (S.files source.old) entries.now tables.now }
     ensures look { IfOk result (IsLook (S.files source.old) entries.now entry.now) }
     ensures kept { S.files source.new ≡ S.files source.old }
 {
