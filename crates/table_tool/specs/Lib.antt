@@ -1,3 +1,4 @@
 pub mod View
 pub mod Order
+pub mod Check
 pub mod Range

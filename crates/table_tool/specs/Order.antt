@@ -17,7 +17,7 @@ pub record AreKeysOf (table : Table) (e : Expr) (key_len : ℕ) (pairs : List Pa
   pub whole : IsPermutation (pairs_of table e) pairs
 
 -- what a file is as an index for a table: its key expression for the table's fields, the length of its keys, and its pairs
-pub record IsIndexFor (bytes : List ℕ) (table : Table) (e : Expr) (key_len : ℕ) (pairs : List Pair) : Type 0 where
+pub record IsIndexForTable (bytes : List ℕ) (table : Table) (e : Expr) (key_len : ℕ) (pairs : List Pair) : Type 0 where
   pub text : List ℕ
   pub is : IsIndex bytes text key_len pairs
   pub says : IsKeyText table.schema text e
@@ -39,7 +39,7 @@ pub record IsOrderOf (files : Option (List NamedFile)) (path text : List ℕ) (t
   pub expr : Expr
   pub key_len : ℕ
   pub pairs : List Pair
-  pub index : IsIndexFor bytes table expr key_len pairs
+  pub index : IsIndexForTable bytes table expr key_len pairs
   pub own : AreKeysOf table expr key_len pairs
   pub ordered : numbers ≡ numbers_from text (order table expr)
 
@@ -50,7 +50,7 @@ pub record IsStale (files : Option (List NamedFile)) (path : List ℕ) (table : 
   pub expr : Expr
   pub key_len : ℕ
   pub pairs : List Pair
-  pub index : IsIndexFor bytes table expr key_len pairs
+  pub index : IsIndexForTable bytes table expr key_len pairs
   pub others : AreKeysOf table expr key_len pairs → ⊥
 
 -- the order in which records are shown: none is given, or that of the index file of the path

@@ -1,13 +1,16 @@
-//! Shows dBASE III PLUS tables.
+//! Shows dBASE III PLUS tables, and checks setups of them.
 //!
-//! The program reads a table, with its memos, and prints it as people read it, as CSV, or what its fields are. This file
-//! has `main`: it reads the command line, has the table shown, and has its end told. The commands are in `program.rt`;
+//! The program reads a table, with its memos, and prints it as people read it, as CSV, or what its fields are; or it looks at
+//! every file that a setup names. This file has `main`: it reads the command line, has the table shown, and has its end told. The commands are in `program.rt`;
 //! what is printed of a table is defined in the crate `table_text`.
 #![tactic(auto)]
 
 mod program;
 
-use crate::program::{Ending, StreamSink, command, ending_of, options_of, show_file, tell};
+use crate::program::{
+    Ending, StreamSink, check_ending, check_setup, command, ending_of, options_of, setup_of,
+    show_file, tell,
+};
 use station_files::DiskSource;
 use std::env;
 use std::io::Write;
@@ -27,11 +30,15 @@ fn run_program<R: Runtime + AllocGlobal, W: Write + Drop>(rt: &R, out: W) -> Res
     let alloc = rt.alloc();
     let words = read_words(rt)?;
     let matches = command(alloc)?.try_get_matches_from(words.as_slice())?;
+    let mut source = DiskSource::new(rt.clone()?);
+    let mut sink = StreamSink::new(out);
+    if let Some(setup) = setup_of(&matches) {
+        let checked = check_setup(alloc, &mut source, &mut sink, setup);
+        return check_ending(alloc, checked, sink.is_closed(), setup);
+    }
     let Some(options) = options_of(&matches) else {
         return Err(Ending::BadRange);
     };
-    let mut source = DiskSource::new(rt.clone()?);
-    let mut sink = StreamSink::new(out);
     let shown = show_file(alloc, &mut source, &mut sink, &options);
     ending_of(alloc, shown, sink.is_closed(), &options)
 }

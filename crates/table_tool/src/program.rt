@@ -1,9 +1,11 @@
-//! The program around a table that is shown: its command line, the table that is read and shown, and what is said at its
-//! end.
+//! The program around a table that is shown and a setup that is checked: its command line, what is read and told, and what
+//! is said at its end.
 //!
-//! [`Options`] is what the command line says, and [`show_file`] shows what it asks for. [`Ending`] is why a table is not
-//! shown, and [`tell`] what the user gets: a line on standard error, and an exit status.
+//! [`Options`] is what the command line says of a table, and [`show_file`] shows what it asks for; [`check_setup`] looks at the
+//! files of a setup. [`Ending`] is why a table is not shown or a setup is bad, and [`tell`] what the user gets: a line on
+//! standard error, and an exit status.
 
+mod checking;
 mod ending;
 mod options;
 mod order;
@@ -11,7 +13,8 @@ mod range;
 mod showing;
 mod stream;
 
-pub(crate) use ending::{Ending, ending_of, tell};
-pub(crate) use options::{command, options_of};
+pub(crate) use checking::check_setup;
+pub(crate) use ending::{Ending, check_ending, ending_of, tell};
+pub(crate) use options::{command, options_of, setup_of};
 pub(crate) use showing::show_file;
 pub(crate) use stream::StreamSink;

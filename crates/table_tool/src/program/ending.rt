@@ -1,5 +1,6 @@
 //! How a call of the program ends that shows no table, or not all of it.
 
+use crate::program::checking::CheckFault;
 use crate::program::options::Options;
 use crate::program::order::OrderFault;
 use crate::program::showing::ShowFault;
@@ -27,6 +28,10 @@ pub(crate) enum Ending {
     NoMemory,
     /// The table can't be shown for a fault of the file of this path, or of another that its table has.
     Table(String, ShowFault),
+    /// The setup of this path can't be checked.
+    Setup(String, CheckFault),
+    /// The server would not open all that the setup names, which has been told.
+    NotOpened,
     /// The output failed.
     Output,
 }
@@ -108,7 +113,29 @@ pub(crate) fn ending_of(
     }
 }
 
-// The exit status: 0 where the help is asked for, 1 for the command line, 2 for a file, 3 for want of memory, 4 for the
+/// What a check of the setup of a path ends in.
+pub(crate) fn check_ending(
+    alloc: Global,
+    checked: Result<bool, CheckFault>,
+    is_closed: bool,
+    path: &str,
+) -> Result<(), Ending> {
+    match checked {
+        Ok(true) => Ok(()),
+        Ok(false) => Err(Ending::NotOpened),
+        Err(CheckFault::NoMemory) => Err(Ending::NoMemory),
+        Err(CheckFault::Sink) => {
+            if is_closed {
+                Ok(())
+            } else {
+                Err(Ending::Output)
+            }
+        }
+        Err(fault) => Err(Ending::Setup(String::from_str(alloc, path)?, fault)),
+    }
+}
+
+// The exit status: 0 where the help is asked for, 1 for the command line, 2 for a file or a setup, 3 for want of memory, 4 for the
 // output.
 pub(crate) fn status_of(ending: &Ending) -> u8 {
     match ending {
@@ -120,6 +147,8 @@ pub(crate) fn status_of(ending: &Ending) -> u8 {
             _ => 1,
         },
         Ending::Table(_, _) => 2,
+        Ending::Setup(_, _) => 2,
+        Ending::NotOpened => 2,
         Ending::NoMemory => 3,
         Ending::Output => 4,
     }
@@ -147,6 +176,8 @@ fn print_ending<O: Write, E: Write>(out: &mut O, err: &mut E, ending: &Ending) -
         }
         Ending::NoMemory => err.write_all(b"table_tool: out of memory\n"),
         Ending::Table(path, fault) => print_fault(err, path.as_str(), *fault),
+        Ending::Setup(path, fault) => write!(err, "table_tool: {path}: {fault}\n"),
+        Ending::NotOpened => Ok(()),
         Ending::Output => err.write_all(b"table_tool: the output failed\n"),
     }
 }

@@ -14,12 +14,13 @@ const EXAMPLES: &str = "Examples:
   table_tool show MEMBERS.DBF --memo MEMBERS.DBT --records 1-20
   table_tool show MEMBERS.DBF --memo MEMBERS.DBT --order NAMES.NDX --from M
   table_tool fields STOCK.DBF
+  table_tool check OFFICE.SET
   table_tool csv LEDGER.DBF --deleted --deleted-column > LEDGER.CSV
 
 Exit status:
-  0  the table is shown, or the reader of the output is gone
+  0  the table is shown, or the server would open the setup, or the reader of the output is gone
   1  the command line is bad
-  2  a file can't be read, or is no table
+  2  a file can't be read or is no table, or the server would not open the setup
   3  memory was refused
   4  the output failed";
 
@@ -58,7 +59,8 @@ pub(crate) fn command<'a>(alloc: Global) -> Result<Command<'a>, AllocError> {
         .arg_required_else_help(true)
         .subcommand(show_command(alloc)?)?
         .subcommand(fields_command(alloc)?)?
-        .subcommand(csv_command(alloc)?)
+        .subcommand(csv_command(alloc)?)?
+        .subcommand(check_command(alloc)?)
 }
 
 fn show_command<'a>(alloc: Global) -> Result<Command<'a>, AllocError> {
@@ -92,6 +94,19 @@ fn csv_command<'a>(alloc: Global) -> Result<Command<'a>, AllocError> {
         "deleted-column",
         "Tell in a last column which records are marked",
     ))
+}
+
+fn check_command<'a>(alloc: Global) -> Result<Command<'a>, AllocError> {
+    Command::new(alloc, "check")
+        .about("Looks at every file of a setup, and says whether the server would open all")
+        .arg(
+            Arg::new(alloc, "setup")
+                .value_name("OFFICE.SET")
+                .help("The setup")
+                .required(true)
+                .action(ArgAction::Set)
+                .value_parser(ValueParser::NonEmptyString),
+        )
 }
 
 // A command with the paths of a table.
@@ -187,6 +202,14 @@ fn view_of(name: &str, matches: &ArgMatches<'_>) -> Option<View> {
         "fields" => Some(View::Fields),
         "csv" => Some(View::Csv(selection_of(matches)?, matches.get_flag("deleted-column"))),
         _ => Some(View::Records(selection_of(matches)?, memo_form(matches.get_flag("memos")))),
+    }
+}
+
+/// The path of the setup that a command line asks to check, where it does. Takes no memory.
+pub(crate) fn setup_of<'a>(matches: &ArgMatches<'a>) -> Option<&'a str> {
+    match matches.subcommand()? {
+        ("check", matches) => matches.get_str("setup"),
+        _ => None,
     }
 }
 

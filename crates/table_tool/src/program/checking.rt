@@ -1,0 +1,132 @@
+//! A setup that is checked.
+
+ghost use Rattle.std.specs.Prelude.{◌≡◌, ℕ, Err, IfOk};
+ghost use Rattle.byte_io.specs.Sink.{IsFront};
+ghost use Rattle.table_tool.specs.Check.{verdict_words, HasBadSetupLine, IsTold, IsVerdict};
+
+use dbf_fields::Bytes;
+use dbf_image::{ByteSink, SinkFault, write_all};
+use office_check::{findings_text, look_at_all};
+use station_files::{LoadFault, Source};
+use station_lines::{SetupFault, parse_setup};
+use std::alloc::{AllocError, Global};
+use thiserror::Error;
+use whole_run::{ServeFault, open_setup};
+
+/// Why a setup was not checked.
+#[derive(Clone, Copy, Debug, PartialEq, Eq, Error)]
+pub(crate) enum CheckFault {
+    /// The setup can't be read.
+    #[error("cannot read")]
+    CannotRead,
+    /// Its line of this number is bad.
+    #[error("setup line {0} is bad")]
+    BadLine(usize),
+    /// Memory was refused.
+    #[error("out of memory")]
+    NoMemory,
+    /// The sink failed.
+    #[error("the sink failed")]
+    Sink,
+}
+
+impl From<AllocError> for CheckFault {
+    ghost use Rattle.std.specs.Prelude.{◌≡◌};
+    ghost use Rattle.table_tool.specs.declared.program.checking.CheckFault.TheVariants.{NoMemory};
+
+    ghost from_gives = { λ _ fault. fault ≡ NoMemory };
+
+    fn from(_refused: AllocError) -> CheckFault {
+        CheckFault::NoMemory
+    }
+}
+
+impl From<LoadFault> for CheckFault {
+    ghost use Rattle.table_tool.specs.Check.{check_load_fault};
+    ghost use Rattle.std.specs.Prelude.{◌≡◌};
+
+    ghost from_gives = { λ cause fault. fault ≡ check_load_fault cause };
+
+    fn from(cause: LoadFault) -> CheckFault {
+        match cause {
+            LoadFault::CannotRead => CheckFault::CannotRead,
+            LoadFault::NoMemory => CheckFault::NoMemory,
+        }
+    }
+}
+
+impl From<SetupFault> for CheckFault {
+    ghost use Rattle.table_tool.specs.Check.{check_setup_fault};
+    ghost use Rattle.std.specs.Prelude.{◌≡◌};
+
+    ghost from_gives = { λ cause fault. fault ≡ check_setup_fault cause };
+
+    fn from(cause: SetupFault) -> CheckFault {
+        match cause {
+            SetupFault::Bad(number) => CheckFault::BadLine(number),
+            SetupFault::NoMemory => CheckFault::NoMemory,
+        }
+    }
+}
+
+impl From<SinkFault> for CheckFault {
+    ghost use Rattle.std.specs.Prelude.{◌≡◌};
+    ghost use Rattle.table_tool.specs.declared.program.checking.CheckFault.TheVariants.{Sink};
+
+    ghost from_gives = { λ _ fault. fault ≡ Sink };
+
+    fn from(_failed: SinkFault) -> CheckFault {
+        CheckFault::Sink
+    }
+}
+
+// Whether the server opens all that a setup names.
+fn server_opens<F: Source>(alloc: Global, source: &mut F, setup: &str) -> Result<bool, AllocError>
+    ensures opens { IfOk result (IsVerdict (F.files source.old) setup.now) }
+    ensures kept { F.files source.new ≡ F.files source.old }
+{
+    let path = Bytes::from_slice(alloc, setup.as_bytes())?;
+    match open_setup(alloc, &path, false, source) {
+        Ok(_) => Ok(true),
+        Err(ServeFault::NoMemory) => Err(AllocError),
+        Err(_) => Ok(false),
+    }
+}
+
+fn verdict_line(opens: bool) -> &'static [u8]
+    ensures value { result.now ≡ verdict_words opens }
+{
+    if opens {
+        b"good: the server opens all\n"
+    } else {
+        b"bad: the server opens nothing\n"
+    }
+}
+
+/// Looks at every file that the setup of a path names, and tells what is found, a line a file, and whether the server would open
+/// all, which it answers too.
+///
+/// `CannotRead` says that the setup can't be read, and `BadLine` that its line of this number is bad; then nothing is told.
+/// `Sink` says that the sink failed, and `NoMemory` that there was no memory.
+#[tactic(auto, using(byte_io::specs::Laws::Sinks::front_same))]
+pub(crate) fn check_setup<F: Source, S: ByteSink>(
+    alloc: Global,
+    source: &mut F,
+    sink: &mut S,
+    setup: &str,
+) -> Result<bool, CheckFault>
+    // It says that the server would open all exactly where `open_setup`, which the server begins with, opens it.
+    ensures opens { IfOk result (IsVerdict (F.files source.old) setup.now) }
+    ensures told { IfOk result (λ opens. IsTold (F.files source.old) setup.now opens (S.written sink.old) (S.written sink.new)) }
+    ensures bad_line { (number : ℕ) → result ≡ Err (CheckFault.BadLine number) → HasBadSetupLine (F.files source.old) setup.now number }
+    ensures kept { IsFront (S.written sink.old) (S.written sink.new) }
+{
+    let text = source.load(alloc, setup.as_bytes())?;
+    let entries = parse_setup(alloc, text.as_slice())?;
+    let findings = look_at_all(alloc, source, &entries)?;
+    let mut report = findings_text(alloc, &entries, &findings)?;
+    let opens = server_opens(alloc, source, setup)?;
+    report.extend_from_slice(verdict_line(opens))?;
+    write_all(sink, &report)?;
+    Ok(opens)
+}
