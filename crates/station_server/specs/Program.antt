@@ -1,5 +1,5 @@
 -- The command line: which texts are the date of a run, and which values its options have.
-use Rattle.std.specs.Prelude.{◌≡◌, ◌⊎◌, ℕ, Bool, true, false, List, Option, Some, None, IsSome, IfSome, codes, if◌then◌else◌}
+use Rattle.std.specs.Prelude.{◌≡◌, ◌≢◌, ◌⊎◌, ℕ, Bool, true, false, List, Option, Some, None, IsSome, IfSome, codes, if◌then◌else◌}
 use Rattle.clap.specs.Words.{first_value, found_of, one_text}
 use Rattle.clap.specs.declared.parser.matches.ArgMatches.{ArgMatches}
 use Rattle.dbf_fields.specs.declared.day.Day.{Day}
@@ -12,7 +12,9 @@ use Rattle.station_files.specs.declared.closed.ClosedTable.{ClosedTable}
 use Rattle.station_files.specs.declared.named.NamedFile.{NamedFile}
 use Rattle.station_files.specs.Closing.{first_blocked, run_files}
 use Rattle.station_files.specs.Files.{file_at, files_in, listing}
+use Rattle.station_files.specs.declared.close_fault.CloseFault.TheVariants.{Write}
 use Rattle.whole_run.specs.declared.fault.ServeFault.{ServeFault}
+use Rattle.whole_run.specs.declared.fault.ServeFault.TheVariants.{Close, NoMemory}
 use Rattle.whole_run.specs.JournalFile.{and_journal, IsCutRunWithJournal}
 use Rattle.whole_run.specs.WholeRun.{IsServeFault, IsWholeRun, IsCutRun}
 use Rattle.station_server.specs.declared.program.failure.Failure.{Failure}
@@ -66,6 +68,10 @@ IsCutRunAs false = IsCutRun
 -- a file of the run that the options ask for could not be written
 abbrev pub IsCutRunBy : Option (List NamedFile) → Options → Option (List ℕ) → Option (List ℕ) → ServeFault → Type 0
 IsCutRunBy files options = IsCutRunAs options.journal files options.setup.now options.reindex options.today
+
+-- it holds unless files may be begun: a file could not be written, or memory was refused where the journal is asked for
+abbrev pub UnlessBegunBy : Options → ServeFault → Type 0 → Type 0
+UnlessBegunBy options fault holds = (options.journal ≡ true → fault ≢ NoMemory) → ((name : List ℕ) → fault ≢ Close (Write name)) → holds
 
 -- the folder has these files, each of them under its name, and no reserved name
 pub record HasFiles (files : List NamedFile) (folder : Folder) : Type 0 where

@@ -1,5 +1,5 @@
 -- The journal as the last file of a run.
-use Rattle.std.specs.Prelude.{◌≡◌, ◌⊎◌, ℕ, Bool, List, [], ◌∷◌, ◌++◌, codes, Option, None}
+use Rattle.std.specs.Prelude.{◌≡◌, ◌≢◌, ◌⊎◌, ℕ, Bool, List, [], ◌∷◌, ◌++◌, codes, Option, None}
 use Rattle.dbf_fields.specs.declared.day.Day.{Day}
 use Rattle.byte_io.specs.Output.{Puts}
 use Rattle.byte_io.specs.Sink.{grown}
@@ -32,6 +32,10 @@ journal_file journal = journal_under journal_name journal
 abbrev pub and_journal : List NamedFile → List Entry → List NamedFile
 and_journal files journal = files ++ journal_file journal ∷ []
 
+-- the files of a run, and the journal's after them
+abbrev pub all_files : Day → List ClosedTable → List (List ℕ) → List Entry → List NamedFile
+all_files today tables answers journal = and_journal (run_files today tables answers) journal
+
 -- ---- writing it
 
 -- a front part of these bytes was put into a writer, and this is left of them
@@ -56,6 +60,14 @@ abbrev pub IsCutWithJournal : List NamedFile → List Entry → Option (List ℕ
 IsCutWithJournal files journal old new (Close (Write name)) = IsCutAt name old new (and_journal files journal)
 IsCutWithJournal files journal old new NoMemory = (new ≡ old) ⊎ IsCutAt journal_name old new (and_journal files journal)
 IsCutWithJournal files journal old new fault = Unit {0}
+
+-- the same of the files of a run
+abbrev pub IsCutFiles : Day → List ClosedTable → List (List ℕ) → List Entry → Option (List ℕ) → Option (List ℕ) → ServeFault → Type 0
+IsCutFiles today tables answers journal old new fault = IsCutWithJournal (run_files today tables answers) journal old new fault
+
+-- it holds unless files may be begun: memory was refused, or a file could not be written
+abbrev pub UnlessBegun : ServeFault → Type 0 → Type 0
+UnlessBegun fault holds = fault ≢ NoMemory → ((name : List ℕ) → fault ≢ Close (Write name)) → holds
 
 -- ---- the whole
 

@@ -1,10 +1,10 @@
 //! The whole run whose journal is written too.
 
-ghost use Rattle.std.specs.Prelude.{◌≡◌, ◌≢◌, ℕ, List, Err, None, IfOk, IfErr, OnOk};
+ghost use Rattle.std.specs.Prelude.{◌≡◌, ℕ, List, Err, None, IfOk, IfErr, OnOk};
 ghost use Rattle.byte_io.specs.Sink.{grown, Rises};
-ghost use Rattle.station_files.specs.Closing.{run_files, first_blocked};
+ghost use Rattle.station_files.specs.Closing.{first_blocked};
 ghost use Rattle.station_files.specs.Files.{listing};
-ghost use Rattle.whole_run.specs.JournalFile.{and_journal, IsCutWithJournal, IsServedWithJournal, IsCutRunWithJournal};
+ghost use Rattle.whole_run.specs.JournalFile.{all_files, IsCutFiles, IsServedWithJournal, IsCutRunWithJournal, UnlessBegun};
 ghost use Rattle.whole_run.specs.Loading.{IsFailure};
 ghost use Rattle.whole_run.specs.WholeRun.{IsServeFault, IsWriteFault};
 
@@ -29,13 +29,13 @@ fn write_with_journal<F: Folder>(
     today: Day,
     folder: &mut F,
 ) -> Result<(), ServeFault>
-    ensures wrote { OnOk result (F.written folder.new ≡ grown (F.written folder.old) (listing (and_journal (run_files today tables.now answers.now) closed.now.journal))) }
+    ensures wrote { OnOk result (F.written folder.new ≡ grown (F.written folder.old) (listing (all_files today tables.now answers.now closed.now.journal))) }
     ensures blocks_fit { OnOk result (first_blocked 1 tables.now ≡ None) }
     ensures no_failure { OnOk result (F.failures folder.new ≡ F.failures folder.old) }
     ensures fault { IfErr result (λ fault. IsWriteFault today.year tables.now fault) }
-    ensures no_file_begun { IfErr result (λ fault. fault ≢ ServeFault.NoMemory → ((name : List ℕ) → fault ≢ ServeFault.Close (CloseFault.Write name)) → folder.new ≡ folder.old) }
+    ensures no_file_begun { IfErr result (λ fault. UnlessBegun fault (folder.new ≡ folder.old)) }
     ensures failed { (name : List ℕ) → result ≡ Err (ServeFault.Close (CloseFault.Write name)) → Rises (F.failures folder.old) (F.failures folder.new) }
-    ensures whole_before_fault { IfErr result (IsCutWithJournal (run_files today tables.now answers.now) closed.now.journal (F.written folder.old) (F.written folder.new)) }
+    ensures whole_before_fault { IfErr result (IsCutFiles today tables.now answers.now closed.now.journal (F.written folder.old) (F.written folder.new)) }
 {
     write_files(alloc, tables, answers, today, folder)?;
     write_journal(alloc, closed, folder)?;
@@ -67,7 +67,7 @@ pub fn serve_with_journal<S: Source, F: Folder, G: Gate + Sync, R: Threads + Wai
     ensures fault { IfErr result (IsServeFault (S.files source.old) setup.now reindex today.year) }
     ensures loads { OnOk result (S.failures source.new ≡ S.failures source.old) }
     ensures failure { IfErr result (IsFailure (S.files source.old) (S.failures source.old) (S.failures source.new)) }
-    ensures no_file_begun { IfErr result (λ fault. fault ≢ ServeFault.NoMemory → ((name : List ℕ) → fault ≢ ServeFault.Close (CloseFault.Write name)) → folder.new ≡ folder.old) }
+    ensures no_file_begun { IfErr result (λ fault. UnlessBegun fault (folder.new ≡ folder.old)) }
     ensures failed { (name : List ℕ) → result ≡ Err (ServeFault.Close (CloseFault.Write name)) → Rises (F.failures folder.old) (F.failures folder.new) }
     ensures whole_before_fault { IfErr result (IsCutRunWithJournal (S.files source.old) setup.now reindex today (F.written folder.old) (F.written folder.new)) }
 {

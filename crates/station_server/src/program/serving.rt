@@ -1,10 +1,10 @@
 //! The whole run that a command line asks for.
 
-ghost use Rattle.std.specs.Prelude.{◌≡◌, ◌≢◌, ℕ, List, true, Err, IfOk, IfErr, OnOk};
+ghost use Rattle.std.specs.Prelude.{◌≡◌, ℕ, List, Err, IfOk, IfErr, OnOk};
 ghost use Rattle.byte_io.specs.Sink.{Rises};
 ghost use Rattle.whole_run.specs.Loading.{IsFailure};
 ghost use Rattle.whole_run.specs.WholeRun.{IsServeFault};
-ghost use Rattle.station_server.specs.Program.{IsCutRunBy, IsServedBy};
+ghost use Rattle.station_server.specs.Program.{IsCutRunBy, IsServedBy, UnlessBegunBy};
 
 use crate::program::options::Options;
 use dbf_fields::Bytes;
@@ -33,7 +33,7 @@ pub(crate) fn serve_options<S: Source, F: Folder, G: Gate + Sync, R: Threads + W
     ensures loads { OnOk result (S.failures source.new ≡ S.failures source.old) }
     ensures failure { IfErr result (IsFailure (S.files source.old) (S.failures source.old) (S.failures source.new)) }
     // Memory may be refused in the writing of the journal's file, and else only before any file is begun.
-    ensures no_file_begun { IfErr result (λ fault. (options.now.journal ≡ true → fault ≢ ServeFault.NoMemory) → ((name : List ℕ) → fault ≢ ServeFault.Close (CloseFault.Write name)) → folder.new ≡ folder.old) }
+    ensures no_file_begun { IfErr result (λ fault. UnlessBegunBy options.now fault (folder.new ≡ folder.old)) }
     ensures failed { (name : List ℕ) → result ≡ Err (ServeFault.Close (CloseFault.Write name)) → Rises (F.failures folder.old) (F.failures folder.new) }
     ensures whole_before_fault { IfErr result (IsCutRunBy (S.files source.old) options.now (F.written folder.old) (F.written folder.new)) }
 {
