@@ -12,6 +12,8 @@ mod order;
 mod range;
 mod showing;
 mod stream;
+#[cfg(test)]
+mod tests;
 
 pub(crate) use checking::check_setup;
 pub(crate) use ending::{Ending, check_ending, ending_of, tell};

@@ -1,0 +1,145 @@
+//! Setups that are looked at. What is expected is written down by hand.
+
+use dbf_fields::Bytes;
+use dbf_image::Failures;
+use office_check::{all_are_good, findings_text, look_at_all};
+use sample_files::{EMPTY_INDEX, NOTE, TABLE, with_zeros};
+use station_files::{MemorySource, NamedFile};
+use station_lines::parse_setup;
+use std::alloc::{AllocError, Global};
+use std::process::Abort;
+use std::test::*;
+
+// The leaf of the index of BOB, record 1, and ADA, record 2, by NAME: the count, and of each key no child, the record number,
+// the key and two bytes that fill it up.
+const LEAF: &[u8] = b"\x02\0\0\0\0\0\0\0\x02\0\0\0ADA       \0\0\0\0\0\0\x01\0\0\0BOB       ";
+
+// The table of BOB and ADA.
+fn bob_and_ada(alloc: Global) -> Result<Vec<u8>, AllocError> {
+    let mut bytes = Vec::from_slice(alloc, &TABLE[..65])?;
+    bytes.extend_from_slice(b" BOB        ADA       \x1a")?;
+    Ok(bytes)
+}
+
+// An index file: the key expression's text, the length of its keys and the leaf.
+fn index(alloc: Global, text: &[u8], key_len: u8) -> Result<Vec<u8>, AllocError> {
+    let mut head = Vec::from_slice(alloc, &EMPTY_INDEX[..12])?;
+    head.push(key_len)?;
+    head.extend_from_slice(&EMPTY_INDEX[13..24])?;
+    head.extend_from_slice(text)?;
+    let mut bytes = with_zeros(alloc, head.as_slice(), 512)?;
+    bytes.extend_from_slice(with_zeros(alloc, LEAF, 512)?.as_slice())?;
+    Ok(bytes)
+}
+
+// The files of a memo: the block 0, and a text in the block 1.
+fn memos(alloc: Global) -> Result<Vec<u8>, AllocError> {
+    let mut bytes = with_zeros(alloc, b"\x02", 512)?;
+    bytes.extend_from_slice(b"A note\x1a")?;
+    Ok(bytes)
+}
+
+fn files(alloc: Global) -> Result<MemorySource, Fail> {
+    let mut files = Vec::new(alloc);
+    let swapped = bob_and_ada(alloc)?;
+    let by_name = index(alloc, b"NAME", 10)?;
+    let by_town = index(alloc, b"TOWN", 10)?;
+    let by_part = index(alloc, b"SUBSTR(NAME,1,4)", 10)?;
+    let notes = memos(alloc)?;
+    let contents: [(&[u8], &[u8]); 10] = [
+        (b"T.DBF", &TABLE),
+        (b"S.DBF", swapped.as_slice()),
+        (b"S.NDX", by_name.as_slice()),
+        (b"TOWN.NDX", by_town.as_slice()),
+        (b"PART.NDX", by_part.as_slice()),
+        (b"BAD.DBF", b"\x03"),
+        (b"BAD.NDX", b""),
+        (b"NOTE.DBF", &NOTE),
+        (b"NOTE.DBT", notes.as_slice()),
+        (b"A.PRG", b"USE GOOD\n"),
+    ];
+    for (name, bytes) in contents {
+        files.push(NamedFile {
+            name: Bytes::from_slice(alloc, name)?,
+            bytes: Bytes::from_slice(alloc, bytes)?,
+        })?;
+    }
+    Ok(MemorySource {
+        files,
+        loads: 99,
+        failures: Failures::none(),
+    })
+}
+
+// Setups, what is told of them, and whether all is good.
+const CASES: [(&str, &str, bool); 3] = [
+    (
+        "TABLE GOOD S.DBF
+INDEX GOOD BYNAME S.NDX
+TABLE NOTES NOTE.DBF NOTE.DBT
+STATION A.PRG
+",
+        "GOOD  S.DBF  2 records, 0 marked: good
+BYNAME  S.NDX  2 keys: good
+NOTES  NOTE.DBF  1 records, 0 marked: good
+NOTES  NOTE.DBT  good
+STATION  A.PRG  good
+",
+        true,
+    ),
+    (
+        "TABLE GOOD S.DBF
+TABLE OTHER T.DBF
+INDEX OTHER STALE S.NDX
+INDEX GOOD BYTOWN TOWN.NDX
+INDEX GOOD BYPART PART.NDX
+INDEX GOOD BYNAME S.NDX
+",
+        "GOOD  S.DBF  2 records, 0 marked: good
+OTHER  T.DBF  2 records, 0 marked: good
+STALE  S.NDX  2 keys: stale: its pairs are not those of the table's records; --reindex makes it anew
+BYTOWN  TOWN.NDX  2 keys: no key expression for its table: a field is missing
+BYPART  PART.NDX  2 keys: stale: the length of its keys is not its expression's; --reindex makes it anew: 10, not 4
+BYNAME  S.NDX  2 keys: good
+",
+        false,
+    ),
+    (
+        "TABLE BAD BAD.DBF
+INDEX BAD BYNAME S.NDX
+TABLE GONE GONE.DBF GONE.DBT
+TABLE MEMOS NOTE.DBF
+TABLE LOST NOTE.DBF GONE.DBT
+TABLE GOOD T.DBF
+INDEX GOOD EMPTY BAD.NDX
+INDEX GOOD LOST GONE.NDX
+STATION B.PRG
+",
+        "BAD  BAD.DBF  no table: the file is too short
+BYNAME  S.NDX  2 keys: its table is refused
+GONE  GONE.DBF  can't be read
+MEMOS  NOTE.DBF  no table: the file of memos is missing
+LOST  GONE.DBT  can't be read
+GOOD  T.DBF  2 records, 0 marked: good
+EMPTY  BAD.NDX  no index: the file is shorter than a header page
+LOST  GONE.NDX  can't be read
+STATION  B.PRG  can't be read
+",
+        false,
+    ),
+];
+
+#[test]
+fn each_file_of_a_setup_is_told(rt: HostRuntime) -> Result<(), Fail> {
+    let alloc = rt.alloc();
+    for (setup, told, good) in CASES {
+        let entries = parse_setup(alloc, setup.as_bytes())?;
+        let findings = look_at_all(alloc, &mut files(alloc)?, &entries)?;
+        let text = findings_text(alloc, &entries, &findings)?;
+        assert_eq!(rt;
+            (text.as_slice(), all_are_good(&findings)),
+            (told.as_bytes(), good)
+        );
+    }
+    Ok(())
+}
