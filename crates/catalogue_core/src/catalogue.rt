@@ -218,6 +218,16 @@ impl Catalogue {
         self.state.into_tables()
     }
 
+    /// All tables with their indexes, as they stand now, in order, and the entries of the journal. It takes no memory.
+    pub fn into_parts(self) -> (Vec<Table>, Vec<Entry>)
+        ensures tables { map (λ t. t.content) result.0.items ≡ (state_of self).tables }
+        ensures indexes { KeepIndexes (map (λ t. t.content) self.opened.tables) (state_of self).tables }
+        ensures entries { result.1.items ≡ self.journal }
+    {
+        let Catalogue { state, journal, .. } = self;
+        (state.into_tables(), journal)
+    }
+
     #[tactic(auto, using(crate::proofs::ReplayLaws::kept_tables))]
     /// The table of a number, from 1, as it stands now. It has the fields with which it was opened. An error where
     /// memory is refused.

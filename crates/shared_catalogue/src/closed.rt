@@ -70,6 +70,15 @@ impl Closed {
         self.catalogue.into_tables()
     }
 
+    /// All tables at the end, with their indexes, in order, and the entries of the journal. It takes no memory.
+    pub fn into_parts(self) -> (Vec<Table>, Vec<Entry>)
+        ensures tables { map (λ t. t.content) result.0.items ≡ (state_of self).tables }
+        ensures count { length result.0.items ≡ length self.opened.tables }
+        ensures entries { result.1.items ≡ self.journal }
+    {
+        self.catalogue.into_parts()
+    }
+
     /// How many entries the journal has. Each is of one of the stations, and each answer in it is the one that its
     /// command has at its place.
     pub fn entry_count(&self) -> u64

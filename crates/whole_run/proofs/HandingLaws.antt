@@ -10,10 +10,10 @@ use Rattle.key_expr.specs.Keys.{key_length}
 use Rattle.ndx_index.specs.declared.pair.Pair.{Pair}
 use Rattle.ndx_index.specs.Laws.RecordOrders.{length-order}
 use Rattle.table_core.specs.Content.{Content, Held, Indexed, pairs_by, key_length_by}
-use Rattle.catalogue_core.specs.Replay.{History, state_of}
+use Rattle.catalogue_core.specs.Replay.{History, names_of, state_of}
 use Rattle.catalogue_core.specs.State.{no_content}
 use Rattle.station_files.specs.ClosedIndex.{index_with}
-use Rattle.whole_run.specs.HandedOver.{end_of, index_of, IsIndexFor}
+use Rattle.whole_run.specs.HandedOver.{end_of, index_of, AreEndOf, IsIndexFor}
 
 -- there are not more pairs than records
 pub few_pairs : (content : Content) (at : Option Indexed) → length (pairs_by content at) ≤ length content.table.rows
@@ -70,3 +70,8 @@ taken_table h before t rest e =
 
 pub taken_count : (h : History) (before : List Held) (t : Held) (rest : List Held) → map (λ (x : Held). x.content) (before ++ t ∷ rest) ≡ (state_of h).tables → length (before ++ t ∷ rest) ≡ length (state_of h).tables
 taken_count h before t rest e = sym (length-map (before ++ t ∷ rest) (λ (x : Held). x.content)) ∙ ap length e
+
+-- tables that are a history's at its end, under its names
+pub are_end_of : (h : History) (names : List (List ℕ)) (tables : List Held) → names ≡ names_of h.opened → map (λ (x : Held). x.content) tables ≡ (state_of h).tables → length tables ≡ length h.opened.tables
+    → AreEndOf h names (map (λ (x : Held). x.content) tables)
+are_end_of h names tables named ends count = record { named = named; ends = ends; count = length-map tables (λ (x : Held). x.content) ∙ count }

@@ -37,3 +37,9 @@ pub record IsHandedOver (h : History) (number : ℕ) (closed : ClosedTable) : Ty
 pub record AreHandedOver (h : History) (tables : List ClosedTable) : Type 0 where
   pub count : length tables ≡ length h.opened.tables
   pub each : (i : ℕ) → i < length h.opened.tables → (closed : ClosedTable) × (slice_get tables i ≡ Some closed) × IsHandedOver h (i + 1) closed
+
+-- these are the names of a history's tables, and its tables at its end, in their order
+pub record AreEndOf (h : History) (names : List (List ℕ)) (tables : List Content) : Type 0 where
+  pub named : names ≡ names_of h.opened
+  pub ends : tables ≡ (state_of h).tables
+  pub count : length tables ≡ length h.opened.tables

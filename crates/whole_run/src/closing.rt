@@ -5,11 +5,11 @@ ghost use Rattle.std.specs.List.{AllByRecursion};
 ghost use Rattle.std.specs.Option.{option_map};
 ghost use Rattle.dbf_image.specs.Table.{IsTable};
 ghost use Rattle.table_core.specs.Content.{index_at};
-ghost use Rattle.catalogue_core.specs.Replay.{names_of};
-ghost use Rattle.whole_run.specs.HandedOver.{index_of, IsIndexFor, AreHandedOver};
+ghost use Rattle.catalogue_core.specs.Replay.{History, names_of};
+ghost use Rattle.whole_run.specs.HandedOver.{index_of, IsIndexFor, AreEndOf, AreHandedOver};
 
 use dbf_fields::Bytes;
-use shared_catalogue::Closed;
+use shared_catalogue::{Closed, Entry};
 use station_files::{ClosedIndex, ClosedTable};
 use std::alloc::{AllocError, Global};
 use table_core::Table;
@@ -73,16 +73,41 @@ fn table_names(alloc: Global, closed: &Closed) -> Result<Vec<Bytes>, AllocError>
     Ok(names)
 }
 
+// Tables under these names, with their indexes, as they are handed over of each catalogue that has them.
+fn handed_over(
+    alloc: Global,
+    names: &[Bytes],
+    tables: Vec<Table>,
+) -> Result<Vec<ClosedTable>, AllocError>
+    requires as_many { length names.now ≡ length tables.items }
+    ensures value { IfOk result (λ closed. (h : History) → AreEndOf h names.now (map (λ t. t.content) tables.items) → AreHandedOver h closed.items) }
+{
+    let mut closed = Vec::new(alloc);
+    for table in tables {
+        let name = names[closed.len()].copy(alloc)?;
+        closed.push(closed_table(alloc, name, table)?)?;
+    }
+    Ok(closed)
+}
+
 /// The tables of a closed catalogue with their indexes. The tables' records are not copied, the pairs of indexes are. An
 /// error where memory is refused.
 pub(crate) fn closed_tables(alloc: Global, closed: Closed) -> Result<Vec<ClosedTable>, AllocError>
     ensures value { IfOk result (λ tables. AreHandedOver closed tables.items) }
 {
     let names = table_names(alloc, &closed)?;
-    let mut tables = Vec::new(alloc);
-    for table in closed.into_tables() {
-        let name = names[tables.len()].copy(alloc)?;
-        tables.push(closed_table(alloc, name, table)?)?;
-    }
-    Ok(tables)
+    handed_over(alloc, &names, closed.into_tables())
+}
+
+/// The same, and the entries of the journal.
+pub(crate) fn closed_parts(
+    alloc: Global,
+    closed: Closed,
+) -> Result<(Vec<ClosedTable>, Vec<Entry>), AllocError>
+    ensures tables { IfOk result (λ parts. AreHandedOver closed parts.0.items) }
+    ensures entries { IfOk result (λ parts. parts.1.items ≡ closed.journal) }
+{
+    let names = table_names(alloc, &closed)?;
+    let (tables, journal) = closed.into_parts();
+    Ok((handed_over(alloc, &names, tables)?, journal))
 }

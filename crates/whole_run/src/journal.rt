@@ -11,7 +11,7 @@ ghost use Rattle.whole_run.specs.JournalFile.{journal_file, journal_under, PutsF
 use crate::fault::ServeFault;
 use byte_io::{ByteSink, SinkFault, SinkWriter};
 use dbf_fields::Bytes;
-use shared_catalogue::Closed;
+use shared_catalogue::Entry;
 use station_files::{CloseFault, Folder};
 use station_lines::entry_line;
 use std::alloc::{AllocError, Global};
@@ -51,13 +51,12 @@ impl From<SinkFault> for LinesFault {
 fn put_lines<S: ByteSink>(
     alloc: Global,
     out: &mut SinkWriter<'_, S>,
-    closed: &Closed,
+    journal: &[Entry],
 ) -> Result<(), AllocError>
-    ensures put { OnOk result (Puts out.old (journal_text closed.now.journal) out.new) }
-    ensures front { PutsFront out.old (journal_text closed.now.journal) out.new }
+    ensures put { OnOk result (Puts out.old (journal_text journal.now) out.new) }
+    ensures front { PutsFront out.old (journal_text journal.now) out.new }
 {
-    for earlier in 0..closed.entry_count() {
-        let entry = closed.entry(earlier + 1);
+    for entry in journal {
         let line = entry_line(alloc, entry.station, &entry.command, &entry.answer)?;
         out.put(line.as_slice());
     }
@@ -65,15 +64,19 @@ fn put_lines<S: ByteSink>(
 }
 
 // Writes the lines of the journal's entries into a sink.
-fn write_lines<S: ByteSink>(alloc: Global, sink: &mut S, closed: &Closed) -> Result<(), LinesFault>
-    ensures wrote { OnOk result (S.written sink.new ≡ grown (S.written sink.old) (journal_text closed.now.journal)) }
+fn write_lines<S: ByteSink>(
+    alloc: Global,
+    sink: &mut S,
+    journal: &[Entry],
+) -> Result<(), LinesFault>
+    ensures wrote { OnOk result (S.written sink.new ≡ grown (S.written sink.old) (journal_text journal.now)) }
     ensures no_failure { OnOk result (S.failures sink.new ≡ S.failures sink.old) }
     ensures failed { result ≡ Err LinesFault.Sink → Rises (S.failures sink.old) (S.failures sink.new) }
     ensures kept { IsFront (S.written sink.old) (S.written sink.new) }
-    ensures front { OnErr result (IsFront (S.written sink.new) (grown (S.written sink.old) (journal_text closed.now.journal))) }
+    ensures front { OnErr result (IsFront (S.written sink.new) (grown (S.written sink.old) (journal_text journal.now))) }
 {
     let mut out = SinkWriter::new(sink);
-    let put = put_lines(alloc, &mut out, closed);
+    let put = put_lines(alloc, &mut out, journal);
     out.flush()?;
     put?;
     Ok(())
@@ -84,16 +87,16 @@ fn write_file<F: Folder>(
     alloc: Global,
     folder: &mut F,
     name: &[u8],
-    closed: &Closed,
+    journal: &[Entry],
 ) -> Result<(), LinesFault>
-    ensures wrote { OnOk result (F.written folder.new ≡ grown (F.written folder.old) (listing (journal_under name.now closed.now.journal ∷ []))) }
+    ensures wrote { OnOk result (F.written folder.new ≡ grown (F.written folder.old) (listing (journal_under name.now journal.now ∷ []))) }
     ensures no_failure { OnOk result (F.failures folder.new ≡ F.failures folder.old) }
     ensures failed { result ≡ Err LinesFault.Sink → Rises (F.failures folder.old) (F.failures folder.new) }
     ensures kept { IsFront (F.written folder.old) (F.written folder.new) }
-    ensures front { OnErr result (IsFront (F.written folder.new) (grown (F.written folder.old) (listing (journal_under name.now closed.now.journal ∷ [])))) }
+    ensures front { OnErr result (IsFront (F.written folder.new) (grown (F.written folder.old) (listing (journal_under name.now journal.now ∷ [])))) }
 {
     folder.begin(name)?;
-    write_lines(alloc, folder, closed)
+    write_lines(alloc, folder, journal)
 }
 
 /// Writes the journal's file into the folder: JOURNAL.TXT, a line an entry. Its text is never whole in memory.
@@ -102,18 +105,18 @@ fn write_file<F: Folder>(
 /// is written then, or the file is not begun.
 pub(crate) fn write_journal<F: Folder>(
     alloc: Global,
-    closed: &Closed,
+    journal: &[Entry],
     folder: &mut F,
 ) -> Result<(), ServeFault>
-    ensures wrote { OnOk result (F.written folder.new ≡ grown (F.written folder.old) (listing (journal_file closed.now.journal ∷ []))) }
+    ensures wrote { OnOk result (F.written folder.new ≡ grown (F.written folder.old) (listing (journal_file journal.now ∷ []))) }
     ensures no_failure { OnOk result (F.failures folder.new ≡ F.failures folder.old) }
     ensures fault { IfErr result IsJournalFault }
     ensures failed { (name : List ℕ) → result ≡ Err (ServeFault.Close (CloseFault.Write name)) → Rises (F.failures folder.old) (F.failures folder.new) }
     ensures kept { IsFront (F.written folder.old) (F.written folder.new) }
-    ensures front { OnErr result (IsFront (F.written folder.new) (grown (F.written folder.old) (listing (journal_file closed.now.journal ∷ [])))) }
+    ensures front { OnErr result (IsFront (F.written folder.new) (grown (F.written folder.old) (listing (journal_file journal.now ∷ [])))) }
 {
     let name = Bytes::from_slice(alloc, b"JOURNAL.TXT")?;
-    match write_file(alloc, folder, name.as_slice(), closed) {
+    match write_file(alloc, folder, name.as_slice(), journal) {
         Ok(()) => Ok(()),
         Err(LinesFault::Sink) => Err(ServeFault::Close(CloseFault::Write(name))),
         Err(LinesFault::NoMemory) => Err(ServeFault::NoMemory),

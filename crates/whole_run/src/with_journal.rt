@@ -8,12 +8,12 @@ ghost use Rattle.whole_run.specs.JournalFile.{all_files, IsCutFiles, IsServedWit
 ghost use Rattle.whole_run.specs.Loading.{IsFailure};
 ghost use Rattle.whole_run.specs.WholeRun.{IsServeFault, IsWriteFault};
 
-use crate::copying::copied_tables;
+use crate::closing::closed_parts;
 use crate::fault::ServeFault;
 use crate::journal::write_journal;
 use crate::run::{read_all, run_loaded, write_files};
 use dbf_fields::{Bytes, Day};
-use shared_catalogue::Closed;
+use shared_catalogue::Entry;
 use station_files::{CloseFault, ClosedTable, Folder, Source};
 use station_run::Gate;
 use std::alloc::Global;
@@ -25,28 +25,27 @@ fn write_with_journal<F: Folder>(
     alloc: Global,
     tables: &[ClosedTable],
     answers: &[Bytes],
-    closed: &Closed,
+    journal: &[Entry],
     today: Day,
     folder: &mut F,
 ) -> Result<(), ServeFault>
-    ensures wrote { OnOk result (F.written folder.new ≡ grown (F.written folder.old) (listing (all_files today tables.now answers.now closed.now.journal))) }
+    ensures wrote { OnOk result (F.written folder.new ≡ grown (F.written folder.old) (listing (all_files today tables.now answers.now journal.now))) }
     ensures blocks_fit { OnOk result (first_blocked 1 tables.now ≡ None) }
     ensures no_failure { OnOk result (F.failures folder.new ≡ F.failures folder.old) }
     ensures fault { IfErr result (λ fault. IsWriteFault today.year tables.now fault) }
     ensures no_file_begun { IfErr result (λ fault. UnlessBegun fault (folder.new ≡ folder.old)) }
     ensures failed { (name : List ℕ) → result ≡ Err (ServeFault.Close (CloseFault.Write name)) → Rises (F.failures folder.old) (F.failures folder.new) }
-    ensures whole_before_fault { IfErr result (IsCutFiles today tables.now answers.now closed.now.journal (F.written folder.old) (F.written folder.new)) }
+    ensures whole_before_fault { IfErr result (IsCutFiles today tables.now answers.now journal.now (F.written folder.old) (F.written folder.new)) }
 {
     write_files(alloc, tables, answers, today, folder)?;
-    write_journal(alloc, closed, folder)?;
+    write_journal(alloc, journal, folder)?;
     Ok(())
 }
 
 /// A whole run as [`serve`] makes it, which writes one file more: after the tables, indexes and answers the journal, as
 /// JOURNAL.TXT. It answers the number of commands, which is that of the file's lines' entries.
 ///
-/// The tables are copied once for the writing, since the journal is read after them; the journal itself is written entry by
-/// entry. The faults are those of [`serve`], in its order. Only `Close(Write(..))` and `NoMemory` may come when files are
+/// The journal is written entry by entry, so that its text is never whole in memory. The faults are those of [`serve`], in its order. Only `Close(Write(..))` and `NoMemory` may come when files are
 /// begun.
 ///
 /// [`serve`]: crate::serve
@@ -74,14 +73,7 @@ pub fn serve_with_journal<S: Source, F: Folder, G: Gate + Sync, R: Threads + Wai
     let loaded = read_all(alloc, source, setup)?;
     let outcome = run_loaded(rt, alloc, loaded, reindex, gate)?;
     let count = outcome.closed.entry_count();
-    let tables = copied_tables(alloc, &outcome.closed)?;
-    write_with_journal(
-        alloc,
-        &tables,
-        &outcome.answers,
-        &outcome.closed,
-        today,
-        folder,
-    )?;
+    let (tables, journal) = closed_parts(alloc, outcome.closed)?;
+    write_with_journal(alloc, &tables, &outcome.answers, &journal, today, folder)?;
     Ok(count)
 }

@@ -4,5 +4,5 @@ use Rattle.whole_run.specs.JournalFile.{PutsAllBut}
 use Rattle.whole_run.proofs.journal.put_lines.Given as goal
 
 -- all is put but the lines of the entries that are left
-abbrev pub invariant-loop-earlier : goal.invariant-loop-earlier
-invariant-loop-earlier g l = PutsAllBut l.fn.out (journal_text l.closed.journal) (journal_text (drop l.earlier l.closed.journal)) l.out
+abbrev pub invariant-loop-entry : goal.invariant-loop-entry
+invariant-loop-entry g l = PutsAllBut l.fn.out (journal_text l.journal) (journal_text (drop l.entry-index l.journal)) l.out

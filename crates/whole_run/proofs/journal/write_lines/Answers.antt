@@ -19,6 +19,6 @@ returns-in_err-put-clause-front g c =
     let begun = g.S.ByteSink.written c.args.sink.now in
     let some = c.put_lines-put.ensures.front in
     let all = due_all _ _ begun (g.S.ByteSink.failures c.args.sink.now) some.1.front some.1.put.1 c.new-out.ensures.wanted in
-    let text = grown begun (journal_text c.args.closed.now.journal) in
+    let text = grown begun (journal_text c.args.journal.now) in
     let h = subst (λ (w : Option (List ℕ)). IsFront w text) (sym (c.in_ok-flush.ensures.wrote ∙ all)) (front_of_whole begun some.1.front some.0 _ some.1.whole) in
     search (h, rules)

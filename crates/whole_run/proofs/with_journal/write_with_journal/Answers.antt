@@ -15,7 +15,7 @@ returns-in_err-write_files-clause-no_file_begun g c = err_exit _ _ c.from_residu
 pub returns-in_err-write_files-clause-whole_before_fault : goal.returns-in_err-write_files-clause-whole_before_fault
 returns-in_err-write_files-clause-whole_before_fault g c =
     err_exit _ _ c.from_residual.ensures.1
-    (cut_before_journal _ c.args.closed.now.journal _ _ _ (λ unwritten. ap g.F.ByteSink.written (c.in_err-write_files.ensures.no_file_begun unwritten)) c.in_err-write_files.ensures.whole_before_fault)
+    (cut_before_journal _ c.args.journal.now _ _ _ (λ unwritten. ap g.F.ByteSink.written (c.in_err-write_files.ensures.no_file_begun unwritten)) c.in_err-write_files.ensures.whole_before_fault)
 
 pub returns-in_err-write_journal-clause-fault : goal.returns-in_err-write_journal-clause-fault
 returns-in_err-write_journal-clause-fault g c = err_exit _ _ c.from_residual-in_err-write_journal.ensures.1 (journal_fault c.args.today.year c.args.tables.now _ c.in_err-write_journal.ensures.fault)
