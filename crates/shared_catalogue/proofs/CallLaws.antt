@@ -1,9 +1,11 @@
 -- The row of a command that was performed.
-use Rattle.std.proofs.Common.{◌≡◌, ℕ, ◌+◌, ◌<◌, [], ◌∷◌, ◌++◌, length, ap, sym, ◌∙◌, arith, length-append}
+use Rattle.std.proofs.Common.{◌≡◌, ℕ, ◌+◌, ◌<◌, [], ◌∷◌, ◌++◌, Some, length, ap, sym, ◌∙◌, arith, length-append}
 use Rattle.catalogue_core.specs.declared.command.Command.{Command}
+use Rattle.catalogue_core.specs.declared.entry.Entry.{Entry}
 use Rattle.catalogue_core.specs.declared.status.StatusRow.{StatusRow}
 use Rattle.catalogue_core.specs.Replay.{History, with_entry, entry, answer_of}
-use Rattle.catalogue_core.specs.Status.{row, entry_station, answer_code_of, answer_code}
+use Rattle.catalogue_core.specs.Status.{row, last_entry, entry_station, answer_code_of, answer_code}
+use Rattle.shared_catalogue.specs.Board.{known_of, with_next, all_of}
 use Rattle.shared_catalogue.specs.RowLaws.{status_rows-entry, length-status_rows, last_entry-push}
 use Rattle.shared_catalogue.specs.StatusRows.{status_rows}
 
@@ -32,3 +34,18 @@ row_of_call h n station command r next is =
 pub rows_with : (h n : History) (station : ℕ) (command : Command) (r : StatusRow) → n ≡ with_entry h station command → r ≡ row n → status_rows h ++ r ∷ [] ≡ status_rows n
 rows_with h n station command r next is =
     ap (λ (x : StatusRow). status_rows h ++ x ∷ []) (is ∙ ap row next) ∙ sym (status_rows-entry h station command) ∙ ap status_rows (sym next)
+
+-- its entry is the last
+pub last_of_call : (h n : History) (station : ℕ) (command : Command) → n ≡ with_entry h station command → last_entry n.journal ≡ Some (entry station command (answer_of h station command))
+last_of_call h n station command next = ap (λ (k : History). last_entry k.journal) next ∙ last_entry-push h.journal (entry station command (answer_of h station command))
+
+pub entry_of_call : (h n : History) (station : ℕ) (command : Command) (e : Entry) → n ≡ with_entry h station command → last_entry n.journal ≡ Some e → e ≡ entry station command (answer_of h station command)
+entry_of_call h n station command e next last =
+    let same : Some e ≡ Some (entry station command (answer_of h station command)) = sym last ∙ last_of_call h n station command next in cc (same)
+
+-- with its row and its entry all is known of the history after the command
+pub all_with : (h n : History) (station : ℕ) (command : Command) (e : Entry) → n ≡ with_entry h station command → last_entry n.journal ≡ Some e → with_next (all_of h) (row n) e ≡ all_of n
+all_with h n station command e next last =
+    let rows = rows_with h n station command (row n) next (λ i. row n) in
+    let entries : h.journal ++ e ∷ [] ≡ n.journal = (λ i. h.journal ++ entry_of_call h n station command e next last i ∷ []) ∙ ap (λ (k : History). k.journal) (sym next) in
+    λ i. known_of (rows i) (entries i)

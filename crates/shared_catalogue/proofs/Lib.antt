@@ -1,6 +1,8 @@
 pub mod SeatLaws
 pub mod WordLaws
 pub mod RowListLaws
+pub mod KnownLaws
+pub mod ReceiptLaws
 pub mod Moves
 pub mod CallLaws
 pub mod Crossing

@@ -1,11 +1,11 @@
 -- Beginnings of one list, and lists of rows.
-use Rattle.std.proofs.Common.{◌≡◌, ℕ, ◌+◌, ◌<◌, ◌≤◌, Bool, true, false, List, [], ◌∷◌, ◌++◌, length, refl, ap, sym, ◌∙◌, arith, append_assoc, length-append, zero-le}
-use Rattle.std.specs.Prelude.{nat_lt, ◌==◌, cond, count_by, if◌then◌else◌}
-use Rattle.std.proofs.lemmas.Bool.{lt-ltb, eq-eqb}
+use Rattle.std.proofs.Common.{◌≡◌, ℕ, ◌+◌, ◌<◌, ◌≤◌, Bool, List, [], ◌∷◌, ◌++◌, length, refl, ap, sym, ◌∙◌, arith, append_assoc, length-append, zero-le}
+use Rattle.std.specs.Prelude.{◌==◌, cond, count_by}
+use Rattle.std.proofs.lemmas.Bool.{eq-eqb}
 use Rattle.std.proofs.lemmas.List.Sums.{sum_by-append, sum_by-cons}
 use mathlib.Core.List.{IsPrefix}
 use Rattle.catalogue_core.specs.declared.status.StatusRow.{StatusRow}
-use Rattle.shared_catalogue.specs.StatusRows.{opening_row, last_after, last_row, NumberedFrom, IsNumbered, longer_list, calls_of, HasCallMore}
+use Rattle.shared_catalogue.specs.StatusRows.{opening_row, last_after, last_row, NumberedFrom, IsNumbered, calls_of}
 
 -- each list begins with itself
 pub prefix_self : {A : Type 0} (xs : List A) → IsPrefix xs xs
@@ -32,14 +32,6 @@ prefix_whole (x ∷ xs) (y ∷ ys) p le =
 pub prefix_length : {A : Type 0} (xs ys : List A) → IsPrefix xs ys → length xs ≤ length ys
 prefix_length xs ys p = omega (arith, sym (ap length p.1) ∙ length-append xs p.0)
 
--- the longer of two beginnings is a beginning
-longer_by : (b : Bool) (xs ys zs : List StatusRow) → IsPrefix xs zs → IsPrefix ys zs → IsPrefix (if b then ys else xs) zs
-longer_by true xs ys zs p q = q
-longer_by false xs ys zs p q = p
-
-pub prefix_longer : (xs ys zs : List StatusRow) → IsPrefix xs zs → IsPrefix ys zs → IsPrefix (longer_list xs ys) zs
-prefix_longer xs ys zs p q = longer_by (nat_lt (length xs) (length ys)) xs ys zs p q
-
 last_after-push : (x : StatusRow) (xs : List StatusRow) (r : StatusRow) → last_after x (xs ++ r ∷ []) ≡ r
 last_after-push x [] r = refl
 last_after-push x (y ∷ ys) r = last_after-push y ys r
@@ -54,18 +46,18 @@ numbered_from-push n (x ∷ xs) r h e = (h.0, numbered_from-push (n + 1) xs r h.
 pub numbered-push : (xs : List StatusRow) (r : StatusRow) → IsNumbered xs → r.journal_length ≡ length xs → IsNumbered (xs ++ r ∷ [])
 numbered-push xs r h e = numbered_from-push 0 xs r h (omega arith)
 
-longer_of : (b : Bool) (xs ys : List StatusRow) → b ≡ true → (if b then ys else xs) ≡ ys
-longer_of b xs ys e = ap (λ (t : Bool). if t then ys else xs) e
-
-count_by-push : (xs : List StatusRow) (r : StatusRow) (station : ℕ) → r.last_station ≡ station → count_by (λ (row : StatusRow). row.last_station == station) (xs ++ r ∷ []) ≡ count_by (λ (row : StatusRow). row.last_station == station) xs + 1
-count_by-push xs r station e =
-    let one : ◌≡◌ {A = ℕ} (cond (r.last_station == station) 1 0) 1 = ap (λ (b : Bool). cond b 1 0) (eq-eqb (r.last_station) station e) in
-    omega (arith, sum_by-append (λ (row : StatusRow). cond (row.last_station == station) 1 0) xs (r ∷ []), sum_by-cons (λ (row : StatusRow). cond (row.last_station == station) 1 0) r [], one)
+-- one more row is one more call where it names the station
+pub calls-one : (xs : List StatusRow) (r : StatusRow) (station : ℕ) → 0 < length xs → calls_of (xs ++ r ∷ []) station ≡ calls_of xs station + cond (r.last_station == station) 1 0
+calls-one [] r station some = absurd (omega arith)
+calls-one (x ∷ xs) r station some =
+    let calls : StatusRow → ℕ = λ (row : StatusRow). cond (row.last_station == station) 1 0 in
+    omega (arith, sum_by-append calls xs (r ∷ []), sum_by-cons calls r [])
 
 -- one more row of the station is one more call
 pub calls-push : (xs : List StatusRow) (r : StatusRow) (station : ℕ) → 0 < length xs → r.last_station ≡ station → calls_of (xs ++ r ∷ []) station ≡ calls_of xs station + 1
-calls-push [] r station some e = absurd (omega arith)
-calls-push (x ∷ xs) r station some e = count_by-push xs r station e
+calls-push xs r station some e =
+    let one : ◌≡◌ {A = ℕ} (cond (r.last_station == station) 1 0) 1 = ap (λ (b : Bool). cond b 1 0) (eq-eqb (r.last_station) station e) in
+    omega (arith, calls-one xs r station some, one)
 
 -- a list that begins with another has at least its calls
 pub calls-prefix : (xs ys : List StatusRow) (station : ℕ) → IsPrefix xs ys → calls_of xs station ≤ calls_of ys station
@@ -74,19 +66,3 @@ calls-prefix (x ∷ xs) [] station p = absurd (cc (p.1))
 calls-prefix (x ∷ xs) (y ∷ ys) station p =
     let e : xs ++ p.0 ≡ ys = cc (p.1) in
     omega (arith, sum_by-append (λ (row : StatusRow). cond (row.last_station == station) 1 0) xs p.0, ap (count_by (λ (row : StatusRow). row.last_station == station)) e)
-
--- a list with a call more is the longer
-pub longer-call : (old new : List StatusRow) (station : ℕ) → HasCallMore old station new → longer_list old new ≡ new
-longer-call old new station h =
-    let between = h.0 in
-    let long : length new ≡ length old + length between + 1 = ap length h.2 ∙ (length-append (old ++ between) (h.1 ∷ []) ∙ ap (λ n. n + 1) (length-append old between)) in
-    longer_of (nat_lt (length old) (length new)) old new (lt-ltb _ _ (omega (arith, long)))
-
--- it has one call more, at least
-pub calls-call : (old new : List StatusRow) (station : ℕ) → HasCallMore old station new → 1 < length new → calls_of old station + 1 ≤ calls_of new station
-calls-call old new station h some =
-    let before = old ++ h.0 in
-    let long : length new ≡ length before + 1 = ap length h.2 ∙ length-append before (h.1 ∷ []) in
-    let more : calls_of new station ≡ calls_of before station + 1 = ap (λ (l : List StatusRow). calls_of l station) h.2 ∙ calls-push before h.1 station (omega (arith, long)) h.3 in
-    let least = calls-prefix old before station (h.0, refl) in
-    omega (arith, more, least)

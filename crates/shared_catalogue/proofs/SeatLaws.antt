@@ -6,7 +6,8 @@ use Rattle.std.proofs.lemmas.Bool.{cases_lt, cases_eq, eq-eqb, ne_eqb}
 use Rattle.std.proofs.lemmas.List.Elements.{All-nil, All-cons, All-head, All-tail, All-weaker}
 use Rattle.std.proofs.lemmas.List.Sums.{sum_by-cons}
 use Rattle.catalogue_core.specs.declared.status.StatusRow.{StatusRow}
-use Rattle.shared_catalogue.specs.Seats.{Seated, HasSeat, IsLowestMissing, AgreesWith, IsWithin}
+use Rattle.shared_catalogue.specs.declared.board.Known.{Known}
+use Rattle.shared_catalogue.specs.Seats.{Seated, HasSeat, AreSeated, IsLowestMissing, AgreesWith, IsWithin}
 use Rattle.shared_catalogue.specs.StatusRows.{calls_of}
 use Rattle.shared_catalogue.specs.declared.settle.SettleFault.{SettleFault}
 use Rattle.shared_catalogue.specs.declared.settle.SettleFault.TheVariants.{SeatMissing}
@@ -27,9 +28,6 @@ module _ {X : Type 0} (P : X → Type 0) where
 
   pub any_none : Any P [] → ⊥
   any_none h = let l = h.2 in omega arith
-
-abbrev pub Covers : List Seated → ℕ → Type 0
-Covers zs n = (s : ℕ) → 1 ≤ s → s ≤ n → HasSeat zs s
 
 -- the list without one seat of the station
 pub record Without (zs : List Seated) (s : ℕ) : Type 0 where
@@ -62,7 +60,7 @@ abbrev pub up_to : (ℕ → ℕ) → ℕ → ℕ
 up_to f zero = 0
 up_to f (suc n) = up_to f n + f (suc n)
 
-pub covered : (n : ℕ) (zs : List Seated) → Covers zs n → (n ≤ length zs) × (length zs ≡ n → (f : ℕ → ℕ) → sum_by (λ z. f z.station) zs ≡ up_to f n)
+pub covered : (n : ℕ) (zs : List Seated) → AreSeated zs n → (n ≤ length zs) × (length zs ≡ n → (f : ℕ → ℕ) → sum_by (λ z. f z.station) zs ≡ up_to f n)
 covered zero zs all = (zero-le, none zs)
   where
     none : (zs : List Seated) → length zs ≡ zero → (f : ℕ → ℕ) → sum_by (λ z. f z.station) zs ≡ up_to f zero
@@ -73,7 +71,7 @@ covered (suc n) zs all =
     let below = covered n o.rest (λ s low high. o.others s (λ (e : s ≡ suc n). omega arith) (all s low (omega arith))) in
     (let a = o.shorter in let b = below.0 in omega arith, λ e f. let a = o.shorter in let b = below.1 (omega arith) f in let d = o.sums f in omega arith)
 
-pub enough : (n : ℕ) (zs : List Seated) → Covers zs n → n ≤ length zs
+pub enough : (n : ℕ) (zs : List Seated) → AreSeated zs n → n ≤ length zs
 enough n zs all = (covered n zs all).0
 
 lowest_once : (zs : List Seated) (n a s : ℕ) → IsLowestMissing zs n a → IsLowestMissing zs n s → a ≡ s
@@ -88,7 +86,7 @@ pub missing_here : {T : Type 0} (zs : List Seated) (n a : ℕ) → IsLowestMissi
 missing_here zs n a is s =
     ((λ e. let same : a ≡ s = cc in subst (IsLowestMissing zs n) same is), (λ other. ap (λ k. Err (SeatMissing k)) (lowest_once zs n a s is other)))
 
-pub missing_nowhere : {T : Type 0} (r : Result T SettleFault) (zs : List Seated) (n : ℕ) → ((s : ℕ) → r ≡ Err (SeatMissing s) → ⊥) → Covers zs n → (s : ℕ) → IsErrOf r (SeatMissing s) ↔ IsLowestMissing zs n s
+pub missing_nowhere : {T : Type 0} (r : Result T SettleFault) (zs : List Seated) (n : ℕ) → ((s : ℕ) → r ≡ Err (SeatMissing s) → ⊥) → AreSeated zs n → (s : ℕ) → IsErrOf r (SeatMissing s) ↔ IsLowestMissing zs n s
 missing_nowhere r zs n other all s = ((λ e. absurd (other s e)), (λ is. absurd (is.2 (all s is.0 is.1))))
 
 -- ---- calls
@@ -143,9 +141,10 @@ equal_each f (z ∷ zs) all =
     (omega arith, λ h. All-cons (λ z. z.share ≡ f z.station) z zs (omega arith) (there.1 (omega arith)))
 
 -- where each station has a seat, as many seats as stations are there, and the shares are the journal's length, each share is its station's calls
-pub agree : (n m : ℕ) (zs : List Seated) (rows : List StatusRow) → Covers zs n → length zs ≡ n → length rows ≡ suc m → m ≤ sum_by (λ z. z.share) zs → All (IsWithin rows) zs → All (AgreesWith rows) zs
-agree n m zs rows all many long whole told =
+pub agree : (n m : ℕ) (zs : List Seated) (known : Known) → AreSeated zs n → length zs ≡ n → length known.rows ≡ suc m → m ≤ sum_by (λ z. z.share) zs → All (IsWithin known) zs → All (AgreesWith known.rows) zs
+agree n m zs known all many long whole within =
+    let rows = known.rows in
     let same = (covered n zs all).1 many (calls_of rows) in
     let most = calls_most rows n m long in
-    let each = (equal_each (calls_of rows) zs (All-weaker (IsWithin rows) (λ z. z.share ≤ calls_of rows z.station) (λ z t. t.1) zs told)).1 (omega arith) in
-    λ k d low. ((told k d low).0, each k d low)
+    let each = (equal_each (calls_of rows) zs (All-weaker (IsWithin known) (λ z. z.share ≤ calls_of rows z.station) (λ z t. t.calls) zs within)).1 (omega arith) in
+    λ k d low. ((within k d low).rows, each k d low)

@@ -1,5 +1,5 @@
 -- Lists of status rows: those of a history, and those that a station knows.
-use Rattle.std.specs.Prelude.{◌≡◌, ℕ, ◌+◌, ◌==◌, nat_lt, if◌then◌else◌, count_by, List, [], ◌∷◌, ◌++◌, length, map, take, replicate}
+use Rattle.std.specs.Prelude.{◌≡◌, ℕ, ◌+◌, ◌==◌, count_by, List, [], ◌∷◌, ◌++◌, length, map, take, replicate}
 use Rattle.ndx_index.specs.Places.{counted}
 use Rattle.catalogue_core.specs.declared.answer.Answer.{Answer}
 use Rattle.catalogue_core.specs.declared.command.Command.{Command}
@@ -43,18 +43,10 @@ NumberedFrom n (r ∷ rs) = (r.journal_length ≡ n) × NumberedFrom (n + 1) rs
 abbrev pub IsNumbered : List StatusRow → Type 0
 IsNumbered rows = NumberedFrom 0 rows
 
--- the longer of two lists
-abbrev pub longer_list : List StatusRow → List StatusRow → List StatusRow
-longer_list xs ys = if nat_lt (length xs) (length ys) then ys else xs
-
 -- how many rows after the first name the station: its calls
 abbrev pub calls_of : List StatusRow → ℕ → ℕ
 calls_of [] station = 0
 calls_of (first ∷ others) station = count_by (λ r. r.last_station == station) others
-
--- the new list begins with the old one, is longer, and ends with a row of this station
-abbrev pub HasCallMore : List StatusRow → ℕ → List StatusRow → Type 0
-HasCallMore old station new = (between : List StatusRow) × (last : StatusRow) × (new ≡ (old ++ between) ++ last ∷ []) × (last.last_station ≡ station)
 
 -- the new list begins with the old one, is longer, and ends with a row of this station and answer
 abbrev pub IsToldOfCall : List StatusRow → ℕ → Answer → List StatusRow → Type 0

@@ -2,8 +2,8 @@
 //!
 //! [`Shared::new`] puts an opened [`Catalogue`] under the lock and makes a [`Seat`] for each station; by its seat a
 //! station performs commands, each as one step in one hold of the lock, and looks at the status row.
-//! [`Shared::settle`] takes the seats back, compares what each station was answered with the journal, and gives the
-//! catalogue at its end. What commands do is `catalogue_core`'s, whose items can be had from here.
+//! [`Shared::settle`] takes the seats back and gives the catalogue at its end, whose journal has what each station was
+//! answered. What commands do is `catalogue_core`'s, whose items can be had from here.
 //!
 //! Start reading at `shared.rt`; then `locked.rt` and `settle.rt`.
 #![tactic(auto)]
@@ -12,7 +12,7 @@ mod board;
 mod closed;
 mod locked;
 mod lot;
-mod receipts;
+mod receipt;
 mod seat;
 mod settle;
 mod shared;
@@ -24,7 +24,7 @@ pub use catalogue_core::{
 };
 pub use closed::Closed;
 pub use lot::{Lot, Naming};
-pub use receipts::{Receipt, Receipts};
+pub use receipt::Receipt;
 pub use seat::Seat;
 pub use settle::SettleFault;
 pub use shared::Shared;

@@ -1,26 +1,26 @@
 //! What is under the lock: the catalogue, the book of its ledger, and the writer's pass of its board.
 
-ghost use Rattle.std.specs.Prelude.{◌≡◌, ◌+◌, [], ◌∷◌, ◌++◌, ◌<◌, true, length, IfOk, OnOk, OnErr, IsErrOf};
-ghost use mathlib.Core.List.{IsPrefix};
+ghost use Rattle.std.specs.Prelude.{◌≡◌, ◌+◌, [], ◌∷◌, ◌++◌, length, IfOk, OnOk, OnErr, IsErrOf};
 ghost use Rattle.crossbeam_utils.specs.Seq.{cell_view};
 ghost use Rattle.catalogue_core.specs.declared.catalogue.TheConstants.{MAX_ENTRIES};
 ghost use Rattle.catalogue_core.specs.Replay.{answer_of, with_entry, IsHistoryOf};
-ghost use Rattle.shared_catalogue.specs.Board.{writer_of, first_view};
+ghost use Rattle.shared_catalogue.specs.Board.{first_view};
+ghost use Rattle.shared_catalogue.specs.OwnCalls.{receipt};
 ghost use Rattle.shared_catalogue.specs.Seats.{seated};
 ghost use Rattle.shared_catalogue.specs.StatusRows.{status_rows, IsToldOfCall};
 
-use crate::board::{Board, BoardPass, Copied, Noted, Swaps, words_of_row};
+use crate::board::{Board, BoardPass};
 use crate::lot::Naming;
 use crate::seat::Seat;
-use catalogue_core::{Answer, Catalogue, Command, StatusRow, Stop};
+use catalogue_core::{Answer, Catalogue, Command, Stop};
 use std::alloc::Global;
-use std::marker::Model;
+use std::marker::{Brand, Model};
 use std::sync::Wait;
 use std::sync::ledger::{Book, Share};
 
 /// What is under the lock, which contracts see as the catalogue. In every value of this type the
 /// ledger's book has counted as many commands as the journal has entries, the opened tables are
-/// those of the name, and the rows of the board are those of the journal.
+/// those of the name, and the rows and entries that the board's writer knows are those of the journal.
 #[derive(Drop)]
 pub(crate) struct LockedCatalogue<J: Naming> {
     pub(crate) catalogue: Catalogue,
@@ -81,8 +81,8 @@ impl<J: Naming> LockedCatalogue<J> {
     }
 
     /// Performs a command of the seat's station: one entry, which the book and the seat's share count, and whose row
-    /// is put on the board. The seat then knows all rows. Before it the catalogue was a history of the named tables,
-    /// with as many entries as the seat had performed commands, at least.
+    /// is put on the board. The seat then knows all rows, and has the command and its answer as a receipt. Before it
+    /// the catalogue was a history of the named tables, with as many entries as the seat had performed commands, at least.
     ///
     /// All that takes memory comes before the entry, so that a `Stop` leaves the seat and the board too.
     pub(crate) fn perform<R: Wait>(
@@ -96,7 +96,8 @@ impl<J: Naming> LockedCatalogue<J> {
         requires board { board.now.table.shared.table_id ≡ J.board }
         ensures answer { IfOk result (λ answer. answer ≡ answer_of self.old seat.old.station command.now) }
         ensures entry { IfOk result (λ _. self.new ≡ with_entry self.old seat.old.station command.now) }
-        ensures share { IfOk result (λ _. seat.new ≡ seated seat.old.station (seat.old.share + 1) seat.new.rows seat.new.loads) }
+        ensures share { IfOk result (λ _. seat.new ≡ seated seat.old.station (seat.old.share + 1) seat.new.rows seat.new.receipts seat.new.loads) }
+        ensures receipt { IfOk result (λ answer. seat.new.receipts ≡ seat.old.receipts ++ receipt command.now answer ∷ []) }
         ensures rows { OnOk result (seat.new.rows ≡ status_rows self.new) }
         ensures told { IfOk result (λ answer. IsToldOfCall seat.old.rows seat.old.station answer seat.new.rows) }
         ensures loads { OnOk result (seat.new.loads ≡ seat.old.loads) }
@@ -106,36 +107,8 @@ impl<J: Naming> LockedCatalogue<J> {
     {
         self.audit(seat);
         let (_number, answer) = self.catalogue.perform(alloc, seat.station(), command)?;
-        let row = self.catalogue.status();
-        put_up(rt, board, &mut self.pass, row, seat, &mut self.book);
+        // Which entry is the last is picked for contracts, at `Brand`.
+        seat.put_up::<Brand, R>(rt, board, &mut self.pass, &self.catalogue, &mut self.book);
         Ok(answer)
     }
-}
-
-// Puts the next row on the board, which is that of a command of the seat's station, counts the command in the book and
-// in the seat's share, and tells the seat of all rows. The writer's pass notes what the seat knows before it swaps the
-// row in: the swap then tells contracts that this was a beginning of the rows before it. Nothing is read.
-fn put_up<J: Naming, R: Wait>(
-    rt: &R,
-    board: &Board,
-    pass: &mut BoardPass,
-    row: StatusRow,
-    seat: &mut Seat<J>,
-    book: &mut Book<J>,
-)
-    requires board { (board.now.table.shared.table_id ≡ J.board) × (pass.old.table_id ≡ J.board) }
-    requires writer { (cell_view pass.old).writes ≡ true }
-    requires next { (0 < row.journal_length) × (row.journal_length ≡ length (cell_view pass.old).rows) }
-    requires own { row.last_station ≡ seat.old.station }
-    ensures pass { (pass.new.table_id ≡ J.board) × (cell_view pass.new ≡ writer_of ((cell_view pass.old).rows ++ row ∷ [])) }
-    ensures later { IsPrefix seat.old.rows (cell_view pass.old).rows }
-    ensures seat { seat.new ≡ seated seat.old.station (seat.old.share + 1) ((cell_view pass.old).rows ++ row ∷ []) seat.old.loads }
-    ensures total { book.new.total ≡ book.old.total + 1 }
-{
-    let known = seat.copy_pass(board);
-    board.join_pass::<Noted>(pass, known);
-    let words = words_of_row(&row);
-    board.swap_as::<Swaps, R>(rt, pass, words);
-    let copy = board.split_pass::<Copied>(pass);
-    seat.count_in(board, copy, book);
 }

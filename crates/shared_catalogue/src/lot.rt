@@ -45,7 +45,7 @@ impl Model for Lot {
 
     ghost Value = { LotParts };
 
-    ghost view = { λ l. record { ledger = l.blank.name; parts = l.blank.parts; board = l.board.table.shared.table_id; rows = (cell_view l.writer).rows } };
+    ghost view = { λ l. record { ledger = l.blank.name; parts = l.blank.parts; board = l.board.table.shared.table_id; rows = (cell_view l.writer).known.rows } };
 
     ghost invariant = { λ l. (l.writer.table_id ≡ l.board.table.shared.table_id) × (cell_view l.writer ≡ first_view) };
 }

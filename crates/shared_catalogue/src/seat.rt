@@ -1,22 +1,28 @@
 //! The seats of the stations.
 
-ghost use Rattle.std.specs.Prelude.{◌≡◌, ◌+◌, ◌<◌, ◌≤◌, [], ◌∷◌, length};
+ghost use Rattle.std.specs.Prelude.{◌≡◌, ◌+◌, ◌<◌, ◌≤◌, true, [], ◌∷◌, ◌++◌, length, Some};
 ghost use mathlib.Core.List.{IsPrefix};
 ghost use Rattle.crossbeam_utils.specs.Seq.{cell_view};
-ghost use Rattle.shared_catalogue.specs.Board.{reader_of};
-ghost use Rattle.shared_catalogue.specs.Seats.{seated};
-ghost use Rattle.shared_catalogue.specs.StatusRows.{opening_row, last_row, IsNumbered, calls_of, HasCallMore};
+ghost use Rattle.catalogue_core.specs.Status.{row as row_of, last_entry};
+ghost use Rattle.shared_catalogue.specs.Board.{known_of, with_next, writer_of, reader_of};
+ghost use Rattle.shared_catalogue.specs.OwnCalls.{receipt_of};
+ghost use Rattle.shared_catalogue.specs.Seats.{seated, seated_after, IsWithin};
+ghost use Rattle.shared_catalogue.specs.StatusRows.{opening_row, last_row, IsNumbered, calls_of};
 
-use crate::board::{Board, BoardPass, Copied, Loads, row_of_words};
+use crate::board::{
+    Answered, Board, BoardPass, Copied, Entering, Loads, Noted, Swaps, compare_known, row_of_words,
+    words_of_row,
+};
 use crate::lot::Naming;
-use catalogue_core::StatusRow;
+use catalogue_core::{Catalogue, StatusRow};
 use std::marker::Model;
 use std::sync::Wait;
 use std::sync::ledger::{Book, Share};
 
 /// A station's seat: its number; its share of the ledger, which counts the commands that the seat has performed; and
-/// its pass of the status board, of which contracts see the rows that the seat knows and how often it has looked. In
-/// every value of this type the share is no more than the rows that name the station.
+/// its pass of the status board, of which contracts see the rows that the seat knows, its commands with what each was
+/// answered, and how often it has looked. In every value of this type the share is no more than the rows that name the
+/// station, and the answered commands, as many as the share, are among the station's entries that the pass knows.
 #[derive(Drop)]
 pub struct Seat<J: Naming> {
     station: u32,
@@ -30,7 +36,7 @@ impl<J: Naming> Model for Seat<J> {
 
     ghost Value = { Seated };
 
-    ghost view = { λ s. seated s.station s.share.amount (cell_view s.pass).rows (cell_view s.pass).loads };
+    ghost view = { λ s. seated s.station s.share.amount (cell_view s.pass).known.rows (cell_view s.pass).receipts (cell_view s.pass).loads };
 
     ghost invariant = { λ s. IsSeat J.opened.stations J.board s.station s.share.parts s.share.amount s.pass.table_id (cell_view s.pass) };
 }
@@ -42,8 +48,8 @@ impl<J: Naming> Seat<J> {
         requires counted { 1 ≤ station }
         requires inside { station ≤ J.opened.stations }
         requires board { pass.table_id ≡ J.board }
-        requires rows { cell_view pass ≡ reader_of (opening_row ∷ []) }
-        ensures value { result ≡ seated station 0 (opening_row ∷ []) 0 }
+        requires rows { cell_view pass ≡ reader_of (known_of (opening_row ∷ []) []) }
+        ensures value { result ≡ seated station 0 (opening_row ∷ []) [] 0 }
     {
         Seat {
             station,
@@ -70,32 +76,43 @@ impl<J: Naming> Seat<J> {
         ensures later { IsPrefix self.old.rows self.new.rows }
         ensures numbered { (0 < length self.new.rows) × IsNumbered self.new.rows }
         ensures own { self.new.share ≤ calls_of self.new.rows self.new.station }
-        ensures seat { self.new ≡ seated self.old.station self.old.share self.new.rows (self.old.loads + 1) }
+        ensures seat { self.new ≡ seated self.old.station self.old.share self.new.rows self.old.receipts (self.old.loads + 1) }
     {
         let words = board.load_as::<Loads, R>(rt, &mut self.pass);
         row_of_words(&words)
     }
 
-    /// A copy of the seat's pass, which knows the same rows.
-    pub(crate) fn copy_pass(&mut self, board: &Board) -> BoardPass
-        requires board { board.now.table.shared.table_id ≡ J.board }
-        ensures copy { (result.table_id ≡ J.board) × (result.me.1 ≡ []) × ((cell_view result).rows ≡ self.old.rows) }
-        ensures same { self.new ≡ self.old }
-    {
-        board.split_pass::<Copied>(&mut self.pass)
-    }
-
-    /// Tells the seat all rows that the copy of the writer's pass knows, of which the last is that of a command of its
-    /// station, and counts the command in the book and in the seat's share.
-    pub(crate) fn count_in(&mut self, board: &Board, copy: BoardPass, book: &mut Book<J>)
-        requires board { board.now.table.shared.table_id ≡ J.board }
-        requires copy { (copy.table_id ≡ J.board) × (copy.me.1 ≡ []) }
-        requires second { 1 < length (cell_view copy).rows }
-        requires row { HasCallMore self.old.rows self.old.station (cell_view copy).rows }
+    /// Puts the row of the catalogue's last entry on the board, which is that of a command of the seat's station, counts the
+    /// command in the book and in the seat's share, and tells the seat of all rows and entries: the entry's command and
+    /// answer are its receipt. The writer's pass notes what the seat knows before it swaps the row in: the swap then tells
+    /// contracts that this was a part of what the pass knew. Nothing is read.
+    ///
+    /// `E` is the entry, for contracts alone.
+    pub(crate) fn put_up<E: Entering, R: Wait>(
+        &mut self,
+        rt: &R,
+        board: &Board,
+        pass: &mut BoardPass,
+        catalogue: &Catalogue,
+        book: &mut Book<J>,
+    )
+        requires board { (board.now.table.shared.table_id ≡ J.board) × (pass.old.table_id ≡ J.board) }
+        requires writer { (cell_view pass.old).writes ≡ true }
+        requires next { (0 < (row_of catalogue.now).journal_length) × ((row_of catalogue.now).journal_length ≡ length (cell_view pass.old).known.rows) }
+        requires own { (row_of catalogue.now).last_station ≡ self.old.station }
+        requires entry { last_entry catalogue.now.journal ≡ Some E.entry }
+        ensures pass { (pass.new.table_id ≡ J.board) × (cell_view pass.new ≡ writer_of (with_next (cell_view pass.old).known (row_of catalogue.now) E.entry)) }
+        ensures later { IsPrefix self.old.rows (cell_view pass.old).known.rows }
+        ensures seat { self.new ≡ seated_after self.old ((cell_view pass.old).known.rows ++ row_of catalogue.now ∷ []) (receipt_of E.entry) }
         ensures total { book.new.total ≡ book.old.total + 1 }
-        ensures seat { self.new ≡ seated self.old.station (self.old.share + 1) (cell_view copy).rows self.old.loads }
     {
-        board.join_pass::<Copied>(&mut self.pass, copy);
+        let known = board.split_pass::<Copied>(&mut self.pass);
+        board.join_pass::<Noted>(pass, known);
+        let row = catalogue.status();
+        let words = words_of_row(&row);
+        board.swap_as::<Swaps<E>, R>(rt, pass, words);
+        let copy = board.split_pass::<Copied>(pass);
+        board.join_pass::<Answered<E>>(&mut self.pass, copy);
         book.add(&mut self.share, 1);
     }
 
@@ -108,16 +125,23 @@ impl<J: Naming> Seat<J> {
         book.audit(&mut self.share);
     }
 
-    pub(crate) fn into_share(self) -> Share<J>
+    /// The seat's share. Tells contracts that what the seat knows is a part of what the writer's pass knows.
+    pub(crate) fn give_up<R: Wait>(self, rt: &R, board: &Board, pass: &mut BoardPass) -> Share<J>
+        requires board { (board.now.table.shared.table_id ≡ J.board) × (pass.old.table_id ≡ J.board) }
+        requires writer { (cell_view pass.old).writes ≡ true }
         ensures parts { result.parts ≡ 1 }
         ensures amount { result.amount ≡ self.share }
-        ensures own { self.share ≤ calls_of self.rows self.station }
+        ensures within { IsWithin (cell_view pass.old).known self }
+        ensures pass { (pass.new.table_id ≡ J.board) × ((cell_view pass.new).writes ≡ true) }
+        ensures known { (cell_view pass.new).known ≡ (cell_view pass.old).known }
     {
         let Seat {
             station: _,
             share,
-            pass: _,
+            pass: mut own,
         } = self;
+        let copy = board.split_pass::<Copied>(&mut own);
+        compare_known(rt, board, pass, copy);
         share
     }
 }

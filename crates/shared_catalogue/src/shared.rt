@@ -1,19 +1,18 @@
 //! The catalogue under one lock, which stations share.
 
-ghost use Rattle.std.specs.Prelude.{◌≡◌, ℕ, ◌+◌, ◌<◌, ◌≤◌, ◌↔◌, [], length, vec_len, All, IfOk, OnOk, OnErr, IsErrOf};
+ghost use Rattle.std.specs.Prelude.{◌≡◌, ℕ, ◌+◌, ◌<◌, ◌≤◌, ◌↔◌, [], ◌∷◌, ◌++◌, length, All, IfOk, OnOk, OnErr, IsErrOf};
 ghost use Rattle.std.specs.List.{sum_by};
 ghost use mathlib.Core.List.{IsPrefix};
 ghost use Rattle.catalogue_core.specs.declared.catalogue.TheConstants.{MAX_ENTRIES};
 ghost use Rattle.catalogue_core.specs.Replay.{History, answer_of, IsHistoryOf};
-ghost use Rattle.shared_catalogue.specs.OwnCalls.{AreOwn, IsMismatch};
-ghost use Rattle.shared_catalogue.specs.Seats.{seated, new_seats, IsLowestMissing, AgreesWith};
+ghost use Rattle.shared_catalogue.specs.OwnCalls.{receipt};
+ghost use Rattle.shared_catalogue.specs.Seats.{seated, new_seats, AreSeated, IsLowestMissing, IsOwn, AgreesWith};
 ghost use Rattle.shared_catalogue.specs.StatusRows.{status_rows, last_row, IsNumbered, calls_of, IsToldOfCall, AreRowsOfCall};
 
 use crate::board::{Board, Copied};
 use crate::closed::Closed;
 use crate::locked::LockedCatalogue;
 use crate::lot::{Lot, Naming};
-use crate::receipts::Receipts;
 use crate::seat::Seat;
 use crate::settle::SettleFault;
 use catalogue_core::{Answer, Catalogue, Command, StatusRow, Stop};
@@ -65,7 +64,8 @@ impl<J: Naming> Shared<J> {
     /// Performs a command of the seat's station under the lock, for which it may wait, as one step: one
     /// entry of the journal, which the seat's share counts. It is answered as in the history that stood under the lock:
     /// a legal one of these opened tables, in which the seat's own entries stand already. In the same hold of the lock
-    /// the row of the entry is put on the board, which is not read, and the seat is told of all rows up to it.
+    /// the row of the entry is put on the board, which is not read, and the seat is told of all rows up to it. For contracts
+    /// the seat keeps the command and the answer as a receipt, which takes no memory.
     ///
     /// A `Stop` is the catalogue's, and then seat, board and catalogue are as they were: `JournalFull` says that the
     /// journal had `MAX_ENTRIES` entries.
@@ -76,7 +76,8 @@ impl<J: Naming> Shared<J> {
         seat: &mut Seat<J>,
         command: &Command,
     ) -> Result<Answer, Stop>
-        ensures share { OnOk result (seat.new ≡ seated seat.old.station (seat.old.share + 1) seat.new.rows seat.new.loads) }
+        ensures share { OnOk result (seat.new ≡ seated seat.old.station (seat.old.share + 1) seat.new.rows seat.new.receipts seat.new.loads) }
+        ensures receipt { IfOk result (λ answer. seat.new.receipts ≡ seat.old.receipts ++ receipt command.now answer ∷ []) }
         ensures answer { IfOk result (λ answer. (h : History) × IsHistoryOf J.opened seat.old.share h × (answer ≡ answer_of h seat.old.station command.now)) }
         ensures rows { IfOk result (λ answer. AreRowsOfCall J.opened seat.old.share seat.old.station command.now answer seat.new.rows) }
         ensures told { IfOk result (λ answer. IsToldOfCall seat.old.rows seat.old.station answer seat.new.rows) }
@@ -96,35 +97,27 @@ impl<J: Naming> Shared<J> {
         ensures later { IsPrefix seat.old.rows seat.new.rows }
         ensures numbered { (0 < length seat.new.rows) × IsNumbered seat.new.rows }
         ensures own { seat.new.share ≤ calls_of seat.new.rows seat.new.station }
-        ensures seat { seat.new ≡ seated seat.old.station seat.old.share seat.new.rows (seat.old.loads + 1) }
+        ensures seat { seat.new ≡ seated seat.old.station seat.old.share seat.new.rows seat.old.receipts (seat.old.loads + 1) }
     {
         seat.load(rt, &self.board)
     }
 
-    /// Compares what each station was answered with the journal, and closes the catalogue. The receipts
-    /// are one list for each station, in order. The rows that each seat knew are those of the journal, from the first on,
-    /// and each of its commands has one of them.
+    /// Closes the catalogue. What each station was answered is its entries of the journal, in order: a seat's receipts are
+    /// all of them. The journal is as long as the seats' shares together. The rows that each seat knew are those of the
+    /// journal, from the first on, and each of its commands has one of them.
     ///
-    /// `SeatMissing` comes first, for the lowest station that has no seat in the list; then
-    /// `ReceiptMismatch`, for the lowest station whose receipts are not its entries of the journal, which is as long as
-    /// the seats' shares together. It takes no memory.
-    pub fn settle<R: Wait>(
-        self,
-        rt: &R,
-        seats: Vec<Seat<J>>,
-        receipts: Vec<Receipts>,
-    ) -> Result<Closed, SettleFault>
+    /// `SeatMissing` comes for the lowest station that has no seat in the list. It takes no memory.
+    pub fn settle<R: Wait>(self, rt: &R, seats: Vec<Seat<J>>) -> Result<Closed, SettleFault>
         requires parts { J.parts ≡ J.opened.stations }
-        requires lists { vec_len receipts ≡ J.opened.stations }
         ensures opened { IfOk result (λ closed. closed.opened ≡ J.opened) }
-        ensures own { IfOk result (λ closed. AreOwn closed.journal receipts.items J.opened.stations) }
+        ensures seated { IfOk result (λ _. AreSeated seats.items J.opened.stations) }
+        ensures own { IfOk result (λ closed. All (IsOwn closed.journal) seats.items) }
         ensures counted { IfOk result (λ closed. length closed.journal ≡ sum_by (λ z. z.share) seats.items) }
         ensures agrees { IfOk result (λ closed. All (AgreesWith (status_rows closed)) seats.items) }
-        ensures mismatch { (s : ℕ) → IsErrOf result (SettleFault.ReceiptMismatch s) → IsMismatch J.opened seats.items receipts.items s }
         ensures missing { (s : ℕ) → IsErrOf result (SettleFault.SeatMissing s) ↔ IsLowestMissing seats.items J.opened.stations s }
     {
         let Shared { board, locked } = self;
         let locked = locked.into_inner();
-        locked.settle(rt, &board, seats, receipts)
+        locked.settle(rt, &board, seats)
     }
 }

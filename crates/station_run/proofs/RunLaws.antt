@@ -1,25 +1,24 @@
 -- What workers do line by line, and one worker more.
 use Rattle.std.proofs.Common.{◌≡◌, ◌⊎◌, ℕ, zero, suc, ◌+◌, ◌-◌, ◌<◌, ◌≤◌, List, [], ◌∷◌, ◌++◌, length, map, take, Some, refl, ap, sym, subst, ◌∙◌, inl, inr, ⊎_elim, arith, length-append, zero-le}
-use Rattle.std.specs.Prelude.{slice_get, option_map, All, Result, Ok, Err, IfErr, IsErrAnd}
+use Rattle.std.specs.Prelude.{slice_get, option_map, All, Result, IfErr}
 use mathlib.Core.List.{IsPrefix}
 use Rattle.std.proofs.lemmas.Bool.{cases_lt}
 use Rattle.std.proofs.lemmas.List.{append-nil, append_assoc, length-map, take-append-le, take_all}
 use Rattle.std.proofs.lemmas.Option.{slice_get-map, slice_get_within, get_or_from_slice_get}
 use Rattle.catalogue_core.specs.declared.entry.Entry.{Entry}
-use Rattle.shared_catalogue.specs.declared.receipts.Receipt.{Receipt}
+use Rattle.shared_catalogue.specs.declared.receipt.Receipt.{Receipt}
 use Rattle.shared_catalogue.specs.declared.settle.SettleFault.{SettleFault}
-use Rattle.shared_catalogue.specs.declared.settle.SettleFault.TheVariants.{SeatMissing, ReceiptMismatch}
-use Rattle.shared_catalogue.specs.OwnCalls.{of_station, AreOwn, IsLowestMismatch}
+use Rattle.shared_catalogue.specs.declared.settle.SettleFault.TheVariants.{SeatMissing}
+use Rattle.shared_catalogue.specs.OwnCalls.{of_station}
 use Rattle.catalogue_core.specs.declared.answer.Answer.{Answer}
 use Rattle.catalogue_core.specs.declared.status.StatusRow.{StatusRow}
 use Rattle.catalogue_core.specs.Replay.{Opened, history}
 use Rattle.shared_catalogue.specs.RowLaws.{last_numbered, last_row_at}
-use Rattle.shared_catalogue.specs.Seats.{Seated, seated, new_seats, IsLowestMissing, AgreesWith}
+use Rattle.shared_catalogue.specs.Seats.{Seated, seated, new_seats, IsLowestMissing, IsOwn, AgreesWith}
 use Rattle.shared_catalogue.specs.StatusRows.{status_rows, last_row, calls_of, opening_row, IsToldOfCall}
 use Rattle.station_lines.specs.declared.script.line.Line.TheVariants.{Blank}
 use Rattle.station_run.specs.declared.fault.RunFault.{RunFault}
-use Rattle.station_run.specs.declared.fault.RunFault.TheVariants.{Settle}
-use Rattle.station_run.specs.Faults.{IsSettleFaultOf, IsFaultOfRun}
+use Rattle.station_run.specs.Faults.{IsFaultOfRun}
 use Rattle.station_run.specs.Reports.{Shown, answered, status, SessionValue, new_session, meaning_of, shown_line, receipt_in, receipts_of, answers_of, IsShownFor, IsRowIn, AreShownIn, IsShownAt, IsWithShown, HasShown, HasRun, HaveRun, AreSeatsInOrder, AreReports}
 use Rattle.station_lines.specs.Script.Lines.{BeginsWithLine}
 use Rattle.station_lines.specs.Script.Meaning.{Means}
@@ -112,36 +111,37 @@ told_later old new station answer t = (t.0 ++ t.1 ∷ [], sym (append_assoc old 
 -- ---- the front of a script
 
 -- the session has shown what belongs to the front of the script, up to the rest
-abbrev pub IsUpTo : List ℕ → ℕ → List ℕ → SessionValue → Type 0
-IsUpTo rest station script s = (shown : List Shown) × HasShown station shown s × ((more : List Shown) → IsShownFor rest more → IsShownFor script (shown ++ more))
+abbrev pub IsUpTo : List ℕ → Seated → List ℕ → SessionValue → Type 0
+IsUpTo rest seat script s = (shown : List Shown) × HasShown seat shown s × ((more : List Shown) → IsShownFor rest more → IsShownFor script (shown ++ more))
 
-pub up_to_start : (z : Seated) (script : List ℕ) → IsUpTo script z.station script (new_session z)
-up_to_start z script = ([], record { rows = tt; station_is = refl; counted = zero-le; receipts = refl; answers = refl }, λ more h. h)
+pub up_to_start : (z : Seated) (script : List ℕ) → IsUpTo script z script (new_session z)
+up_to_start z script = ([], record { rows = tt; station_is = refl; counted = zero-le; receipts = sym (append-nil z.receipts); answers = refl }, λ more h. h)
 
-pub up_to_blank : (rest line after : List ℕ) (station : ℕ) (script : List ℕ) (s : SessionValue) → IsUpTo rest station script s → BeginsWithLine rest line after
-    → Means line Blank → IsUpTo after station script s
-up_to_blank rest line after station script s up begins blank = (up.0, up.1, λ more h. up.2 more (blank_first rest line after more begins blank h))
+pub up_to_blank : (rest line after : List ℕ) (z : Seated) (script : List ℕ) (s : SessionValue) → IsUpTo rest z script s → BeginsWithLine rest line after
+    → Means line Blank → IsUpTo after z script s
+up_to_blank rest line after z script s up begins blank = (up.0, up.1, λ more h. up.2 more (blank_first rest line after more begins blank h))
 
-pub up_to_shown : (rest line after : List ℕ) (station : ℕ) (script : List ℕ) (s t : SessionValue) (x : Shown) → IsUpTo rest station script s
-    → BeginsWithLine rest line after → Means line (meaning_of x) → IsWithShown s x t → IsUpTo after station script t
-up_to_shown rest line after station script s t x up begins means with =
+pub up_to_shown : (rest line after : List ℕ) (z : Seated) (script : List ℕ) (s t : SessionValue) (x : Shown) → IsUpTo rest z script s
+    → BeginsWithLine rest line after → Means line (meaning_of x) → IsWithShown s x t → IsUpTo after z script t
+up_to_shown rest line after z script s t x up begins means with =
     let had = up.1 in
-    let own : length s.receipts ≡ length (receipts_of up.0) = ap length had.receipts in
-    let grown : length t.receipts ≡ length s.receipts + length (receipt_in x) = ap length with.receipts ∙ length-append s.receipts (receipt_in x) in
-    let same : t.seat.station ≡ station = with.station ∙ had.station_is in (
+    let own = receipts_of up.0 in
+    let all : receipts_of (up.0 ++ x ∷ []) ≡ own ++ receipt_in x = receipts_of-push up.0 x in
+    let grown : length (receipts_of (up.0 ++ x ∷ [])) ≡ length own + length (receipt_in x) = ap length all ∙ length-append own (receipt_in x) in
+    let same : t.seat.station ≡ z.station = with.station ∙ had.station_is in (
       up.0 ++ x ∷ [],
       record {
-        rows = shown_in-push s.seat.rows t.seat station up.0 x same had.rows with.later with.shown (omega (arith, own, had.counted, with.share));
+        rows = shown_in-push s.seat.rows t.seat z.station up.0 x same had.rows with.later with.shown (omega (arith, had.counted, with.share));
         station_is = same;
         counted = omega (arith, grown, had.counted, with.share);
-        receipts = with.receipts ∙ ap (λ (l : List Receipt). l ++ receipt_in x) up.1.receipts ∙ sym (receipts_of-push up.0 x);
+        receipts = with.receipts ∙ (ap (λ (l : List Receipt). l ++ receipt_in x) had.receipts ∙ (append_assoc z.receipts own (receipt_in x) ∙ ap (λ (l : List Receipt). z.receipts ++ l) (sym all)));
         answers = with.answers ∙ ap (λ (l : List ℕ). l ++ shown_line x) up.1.answers ∙ sym (answers_of-push up.0 x);
       },
       λ more h. subst (IsShownFor script) (sym (append_assoc up.0 (x ∷ []) more)) (up.2 (x ∷ more) (shown_first rest line after x more begins means h)),
     )
 
-pub up_to_end : (station : ℕ) (script : List ℕ) (s : SessionValue) → IsUpTo [] station script s → HasRun station script s
-up_to_end station script s up = (up.0, subst (IsShownFor script) (append-nil up.0) (up.2 [] ([], refl, tt)), up.1)
+pub up_to_end : (z : Seated) (script : List ℕ) (s : SessionValue) → IsUpTo [] z script s → HasRun z script s
+up_to_end z script s up = (up.0, subst (IsShownFor script) (append-nil up.0) (up.2 [] ([], refl, tt)), up.1)
 
 -- ---- one worker more
 
@@ -163,20 +163,20 @@ get_last (z ∷ zs) x zero e = absurd (omega arith)
 get_last (z ∷ zs) x (suc i) e = get_last zs x i (omega arith)
 
 pub have_run-push : (scripts : List (List ℕ)) (zs : List Seated) (z : Seated) (ss : List SessionValue) (s : SessionValue) (script : List ℕ) (n : ℕ)
-    → HaveRun scripts zs ss → length zs ≡ n → length ss ≡ n → slice_get scripts n ≡ Some script → HasRun z.station script s → HaveRun scripts (zs ++ z ∷ []) (ss ++ s ∷ [])
+    → HaveRun scripts zs ss → length zs ≡ n → length ss ≡ n → slice_get scripts n ≡ Some script → HasRun z script s → HaveRun scripts (zs ++ z ∷ []) (ss ++ s ∷ [])
 have_run-push scripts zs z ss s script n ran many same there has i y at =
     ⊎_elim
     (λ (old : (i < length zs) × (slice_get zs i ≡ Some y)). let r = ran i y old.1 in (r.0, r.1, get_front ss (s ∷ []) i r.0 r.2, r.3, r.4))
     (λ (new : (i ≡ length zs) × (z ≡ y)). let e = new.0 in let k : i ≡ length ss = omega arith in let at_n : n ≡ i = omega arith in
-    (s, script, get_last ss s i k, subst (λ (j : ℕ). slice_get scripts j ≡ Some script) at_n there, subst (λ (w : Seated). HasRun w.station script s) new.1 has))
+    (s, script, get_last ss s i k, subst (λ (j : ℕ). slice_get scripts j ≡ Some script) at_n there, subst (λ (w : Seated). HasRun w script s) new.1 has))
     (at_push zs z y i at)
 
--- what the sessions did is what is reported, once their receipts are those of the journal
-pub reports : (opened : Opened) (journal : List Entry) (scripts : List (List ℕ)) (zs : List Seated) (ss : List SessionValue) (answers : List (List ℕ)) (receipts : List (List Receipt))
-    → AreSeatsInOrder opened.stations zs → HaveRun scripts zs ss → length ss ≡ length zs → answers ≡ map (λ s. s.answers) ss → receipts ≡ map (λ s. s.receipts) ss → AreOwn journal receipts opened.stations
+-- what the sessions did is what is reported, once their seats' receipts are the entries of the journal
+pub reports : (opened : Opened) (journal : List Entry) (scripts : List (List ℕ)) (zs : List Seated) (ss : List SessionValue) (answers : List (List ℕ))
+    → AreSeatsInOrder opened.stations zs → HaveRun scripts zs ss → length ss ≡ length zs → answers ≡ map (λ s. s.answers) ss → All (IsOwn journal) (map (λ s. s.seat) ss)
     → All (AgreesWith (status_rows (history opened journal))) (map (λ s. s.seat) ss)
     → AreReports opened journal scripts answers
-reports opened journal scripts zs ss answers receipts order ran many texts lists own agree = record {
+reports opened journal scripts zs ss answers order ran many texts own agree = record {
   count = ap length texts ∙ length-map ss (λ (s : SessionValue). s.answers) ∙ many ∙ order.0;
   each = λ i low.
       let at = order.1 i low in
@@ -184,15 +184,15 @@ reports opened journal scripts zs ss answers receipts order ran many texts lists
       let s = r.0 in
       let has = r.4 in
       let text : slice_get answers i ≡ Some s.answers = ap (λ (l : List (List ℕ)). slice_get l i) texts ∙ (slice_get-map (λ (x : SessionValue). x.answers) ss i ∙ ap (option_map (λ (x : SessionValue). x.answers)) r.2) in
-      let mine : slice_get receipts i ≡ Some s.receipts = ap (λ (l : List (List Receipt)). slice_get l i) lists ∙ (slice_get-map (λ (x : SessionValue). x.receipts) ss i ∙ ap (option_map (λ (x : SessionValue). x.receipts)) r.2) in
-      let whole = own i low in
-      let same : s.receipts ≡ of_station journal (i + 1) = cc in
       let rows = status_rows (history opened journal) in
       let seat : slice_get (map (λ (s : SessionValue). s.seat) ss) i ≡ Some s.seat = slice_get-map (λ (x : SessionValue). x.seat) ss i ∙ ap (option_map (λ (x : SessionValue). x.seat)) r.2 in
       let seats = map (λ (x : SessionValue). x.seat) ss in
       let mine_of : AgreesWith rows s.seat = subst (AgreesWith rows) (get_or_from_slice_get seats i s.seat s.seat seat) (agree i s.seat (slice_get_within seats i s.seat seat)) in
+      let entries : IsOwn journal s.seat = subst (IsOwn journal) (get_or_from_slice_get seats i s.seat s.seat seat) (own i s.seat (slice_get_within seats i s.seat seat)) in
+      let station : s.seat.station ≡ i + 1 = has.2.station_is ∙ at.2 in
+      let receipts : s.seat.receipts ≡ receipts_of has.0 = has.2.receipts ∙ ap (λ (l : List Receipt). l ++ receipts_of has.0) at.3 in
       let shown : AreShownIn rows (i + 1) 0 0 has.0 = subst (λ (n : ℕ). AreShownIn rows n 0 0 has.0) at.2 (shown_in-more s.seat.rows rows at.0.station 0 0 has.0 mine_of.0 has.2.rows) in
-      (r.1, s.answers, r.3, text, record { shown = has.0; for_script = has.1; rows = shown; own = sym has.2.receipts ∙ same; lines = has.2.answers });
+      (r.1, s.answers, r.3, text, record { shown = has.0; for_script = has.1; rows = shown; own = sym receipts ∙ (entries ∙ ap (of_station journal) station); lines = has.2.answers });
 }
 
 -- each station has its seat after a run
@@ -206,29 +206,21 @@ all_seated opened scripts zs ss order ran station missing =
     let number : r.0.seat.station ≡ station = omega (arith, r.4.2.station_is, at.2, missing.0) in
     missing.2 (i, r.0.seat, slice_get_within (map (λ (s : SessionValue). s.seat) ss) i r.0.seat seat, get_or_from_slice_get (map (λ (s : SessionValue). s.seat) ss) i r.0.seat r.0.seat seat, number)
 
--- a run that is not settled has the seat of each station, and a station whose receipts are not those of the journal
-pub settle_fault : (opened : Opened) (seats : List Seated) (receipts : List (List Receipt)) (fault : SettleFault) → length receipts ≡ opened.stations
-    → ((station : ℕ) → fault ≡ SeatMissing station → IsLowestMissing seats opened.stations station) → ((station : ℕ) → IsLowestMissing seats opened.stations station → ⊥)
-    → ((station : ℕ) → fault ≡ ReceiptMismatch station → (journal : List Entry) × IsLowestMismatch journal receipts station) → IsSettleFaultOf opened fault
-settle_fault opened seats receipts (SeatMissing station) many missing none mismatch = none station (missing station refl)
-settle_fault opened seats receipts (ReceiptMismatch station) many missing none mismatch =
-    let lowest = (mismatch station refl).1 in (lowest.counted, omega (arith, lowest.inside, many))
-
--- a run that ends by such a fault
-pub err_settled : {T : Type 0} (fault : SettleFault) (r : Result T RunFault) (opened : Opened) → IsErrAnd r (λ y. y ≡ Settle fault) → IsSettleFaultOf opened fault → IfErr r (IsFaultOfRun opened)
-err_settled fault (Ok x) opened same settled = tt
-err_settled fault (Err e) opened same settled = rw same settled
+-- so no run ends because it is not settled
+pub none_unsettled : {T : Type 0} (r : Result T RunFault) (opened : Opened) (seats : List Seated) (fault : SettleFault) → ((station : ℕ) → fault ≡ SeatMissing station → IsLowestMissing seats opened.stations station)
+    → ((station : ℕ) → IsLowestMissing seats opened.stations station → ⊥) → IfErr r (IsFaultOfRun opened)
+none_unsettled r opened seats (SeatMissing station) missing none = absurd (none station (missing station refl))
 
 -- new seats are in order
 pub in_order : (n : ℕ) → AreSeatsInOrder n (new_seats n)
 in_order zero = (refl, λ i low. absurd (omega arith))
 in_order (suc n) =
     let below = in_order n in
-    let last = seated (n + 1) 0 (opening_row ∷ []) 0 in
+    let last = seated (n + 1) 0 (opening_row ∷ []) [] 0 in
     let many = below.0 in (
       omega (arith, length-append (new_seats n) (last ∷ [])),
       λ i low. ⊎_elim
-          (λ (l : i < n). let h = below.1 i l in let r : (z : Seated) × (slice_get (new_seats (suc n)) i ≡ Some z) × (z.station ≡ i + 1) = (h.0, get_front (new_seats n) (last ∷ []) i h.0 h.1, h.2) in r)
-          (λ (l : n ≤ i). let k : i ≡ length (new_seats n) = omega arith in let e : n + 1 ≡ i + 1 = omega arith in let r : (z : Seated) × (slice_get (new_seats (suc n)) i ≡ Some z) × (z.station ≡ i + 1) = (last, get_last (new_seats n) last i k, e) in r)
+          (λ (l : i < n). let h = below.1 i l in let r : (z : Seated) × (slice_get (new_seats (suc n)) i ≡ Some z) × (z.station ≡ i + 1) × (z.receipts ≡ []) = (h.0, get_front (new_seats n) (last ∷ []) i h.0 h.1, h.2, h.3) in r)
+          (λ (l : n ≤ i). let k : i ≡ length (new_seats n) = omega arith in let e : n + 1 ≡ i + 1 = omega arith in let r : (z : Seated) × (slice_get (new_seats (suc n)) i ≡ Some z) × (z.station ≡ i + 1) × (z.receipts ≡ []) = (last, get_last (new_seats n) last i k, e, refl) in r)
           (cases_lt i n),
     )

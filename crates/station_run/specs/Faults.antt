@@ -3,8 +3,6 @@ use Rattle.std.specs.Prelude.{ℕ, ◌≤◌}
 use Rattle.catalogue_core.specs.declared.catalogue.Stop.{Stop}
 use Rattle.catalogue_core.specs.declared.catalogue.Stop.TheVariants as stop
 use Rattle.catalogue_core.specs.declared.catalogue.TheConstants.{MAX_ENTRIES}
-use Rattle.shared_catalogue.specs.declared.settle.SettleFault.{SettleFault}
-use Rattle.shared_catalogue.specs.declared.settle.SettleFault.TheVariants.{SeatMissing, ReceiptMismatch}
 use Rattle.catalogue_core.specs.Replay.{Opened, History, IsHistoryOf}
 use Rattle.station_run.specs.declared.fault.RunFault.{RunFault}
 use Rattle.station_run.specs.declared.fault.RunFault.TheVariants.{ScriptCount, NoThread, Stopped, Settle, NoMemory}
@@ -18,15 +16,10 @@ abbrev pub IsStopOf : Opened → Stop → Type 0
 IsStopOf opened stop.NoMemory = Unit {0}
 IsStopOf opened stop.JournalFull = (h : History) × IsHistoryOf opened MAX_ENTRIES h
 
--- why a run is not settled: each station has its seat
-abbrev pub IsSettleFaultOf : Opened → SettleFault → Type 0
-IsSettleFaultOf opened (SeatMissing station) = ⊥
-IsSettleFaultOf opened (ReceiptMismatch station) = IsStationOf opened station
-
--- a fault of a run names a station that there is
+-- a fault of a run names a station that there is; each station has its seat, so that a run that comes to its end is settled
 abbrev pub IsFaultOfRun : Opened → RunFault → Type 0
 IsFaultOfRun opened ScriptCount = Unit {0}
 IsFaultOfRun opened (NoThread station) = IsStationOf opened station
 IsFaultOfRun opened (Stopped station why) = IsStationOf opened station × IsStopOf opened why
-IsFaultOfRun opened (Settle fault) = IsSettleFaultOf opened fault
+IsFaultOfRun opened (Settle fault) = ⊥
 IsFaultOfRun opened NoMemory = Unit {0}

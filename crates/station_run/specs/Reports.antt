@@ -4,7 +4,7 @@ use mathlib.Core.List.{IsPrefix}
 use Rattle.catalogue_core.specs.declared.answer.Answer.{Answer}
 use Rattle.catalogue_core.specs.declared.command.Command.{Command}
 use Rattle.catalogue_core.specs.declared.entry.Entry.{Entry}
-use Rattle.shared_catalogue.specs.declared.receipts.Receipt.{Receipt}
+use Rattle.shared_catalogue.specs.declared.receipt.Receipt.{Receipt}
 use Rattle.catalogue_core.specs.declared.status.StatusRow.{StatusRow}
 use Rattle.shared_catalogue.specs.OwnCalls.{of_station}
 use Rattle.catalogue_core.specs.Replay.{Opened, history}
@@ -83,25 +83,24 @@ abbrev pub IsShownAt : Seated → Shown → Type 0
 IsShownAt seat (answered r) = Unit {0}
 IsShownAt seat (status shown) = IsLastRow seat shown
 
--- a station at work: its seat, its receipts, and the text of its answer file so far
+-- a station at work: its seat, and the text of its answer file so far
 pub record SessionValue : Type 0 where
   pub seat : Seated
-  pub receipts : List Receipt
   pub answers : List ℕ
 
-abbrev pub session : Seated → List Receipt → List ℕ → SessionValue
-session seat receipts answers = record { seat = seat; receipts = receipts; answers = answers }
+abbrev pub session : Seated → List ℕ → SessionValue
+session seat answers = record { seat = seat; answers = answers }
 
 abbrev pub new_session : Seated → SessionValue
-new_session seat = session seat [] []
+new_session seat = session seat []
 
--- something more was shown in a session; the seat counts the commands, and knows all rows that it knew
+-- something more was shown in a session; the seat counts the commands, has their receipts, and knows all rows that it knew
 pub record IsWithShown (old : SessionValue) (x : Shown) (new : SessionValue) : Type 0 where
   pub shown : IsShownAt new.seat x
   pub later : IsPrefix old.seat.rows new.seat.rows
   pub station : new.seat.station ≡ old.seat.station
   pub share : new.seat.share ≡ old.seat.share + length (receipt_in x)
-  pub receipts : new.receipts ≡ old.receipts ++ receipt_in x
+  pub receipts : new.seat.receipts ≡ old.seat.receipts ++ receipt_in x
   pub answers : new.answers ≡ old.answers ++ shown_line x
 
 -- the same for a command, of which its answer was shown
@@ -109,27 +108,28 @@ abbrev pub IsWithAnswer : SessionValue → Command → SessionValue → Type 0
 IsWithAnswer old command new =
     (answer : Answer) × IsWithShown old (answered (record { command = command; answer = answer })) new
 
--- what was shown in a session up to now, of the rows that its seat knows
-pub record HasShown (station : ℕ) (shown : List Shown) (s : SessionValue) : Type 0 where
-  pub rows : AreShownIn s.seat.rows station 0 0 shown
-  pub station_is : s.seat.station ≡ station
-  pub counted : length s.receipts ≤ s.seat.share
-  pub receipts : s.receipts ≡ receipts_of shown
+-- what was shown up to now in the session of a seat, of the rows that the seat knows now
+pub record HasShown (seat : Seated) (shown : List Shown) (s : SessionValue) : Type 0 where
+  pub rows : AreShownIn s.seat.rows seat.station 0 0 shown
+  pub station_is : s.seat.station ≡ seat.station
+  pub counted : length (receipts_of shown) ≤ s.seat.share
+  pub receipts : s.seat.receipts ≡ seat.receipts ++ receipts_of shown
   pub answers : s.answers ≡ answers_of shown
 
--- the session is the station's, and has run this script
-abbrev pub HasRun : ℕ → List ℕ → SessionValue → Type 0
-HasRun station script s = (shown : List Shown) × IsShownFor script shown × HasShown station shown s
+-- the session began with this seat, and has run this script
+abbrev pub HasRun : Seated → List ℕ → SessionValue → Type 0
+HasRun seat script s = (shown : List Shown) × IsShownFor script shown × HasShown seat shown s
 
--- at each seat's index is a session of its station that has run the script of that index
+-- at each seat's index is its session, which has run the script of that index
 abbrev pub HaveRun : List (List ℕ) → List Seated → List SessionValue → Type 0
 HaveRun scripts seats sessions =
     (i : ℕ) (z : Seated) → slice_get seats i ≡ Some z
-    → (s : SessionValue) × (script : List ℕ) × (slice_get sessions i ≡ Some s) × (slice_get scripts i ≡ Some script) × HasRun z.station script s
+    → (s : SessionValue) × (script : List ℕ) × (slice_get sessions i ≡ Some s) × (slice_get scripts i ≡ Some script) × HasRun z script s
 
--- the seats are those of the stations 1 to n, in order
+-- the seats are those of the stations 1 to n, in order, and have no receipts yet
 abbrev pub AreSeatsInOrder : ℕ → List Seated → Type 0
-AreSeatsInOrder n seats = (length seats ≡ n) × ((i : ℕ) → i < n → (z : Seated) × (slice_get seats i ≡ Some z) × (z.station ≡ i + 1))
+AreSeatsInOrder n seats =
+    (length seats ≡ n) × ((i : ℕ) → i < n → (z : Seated) × (slice_get seats i ≡ Some z) × (z.station ≡ i + 1) × (z.receipts ≡ []))
 
 -- what was shown for a station's script: the commands and answers among it are the station's in the journal, in
 -- order; the status rows are rows of the journal's history, as AreShownIn says; and the answer file has a line for each

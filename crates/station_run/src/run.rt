@@ -9,7 +9,7 @@ use crate::gate::Gate;
 use crate::session::Session;
 use crate::worker::{Worker, start_worker};
 use dbf_fields::Bytes;
-use shared_catalogue::{Closed, Naming, Receipts, Seat, Shared};
+use shared_catalogue::{Closed, Naming, Seat, Shared};
 use std::alloc::Global;
 use std::sync::Wait;
 use std::thread;
@@ -25,12 +25,12 @@ pub struct Outcome {
 }
 
 /// Runs each station's script in a thread of its own, and settles the catalogue. The seats are all those
-/// of this `Shared`, in the order of the stations; the scripts stand in that order too.
+/// of this `Shared`, in the order of the stations, which have performed no command yet; the scripts stand in that order too.
 ///
 /// The faults, in order: `ScriptCount` where there are not as many scripts as seats; `NoThread` where no
 /// thread could be started for a station; `Stopped` for the lowest station whose worker was stopped (the
-/// others go on to their scripts' ends); `Settle`, which never says that a seat is missing; and `NoMemory`, which may
-/// come wherever memory is taken.
+/// others go on to their scripts' ends); and `NoMemory`, which may come wherever memory is taken. `Settle` never comes,
+/// since each station has its seat.
 pub fn run_stations<J: Naming + Send + Sync, G: Gate + Sync, R: Threads + Wait + Sync>(
     rt: &R,
     alloc: Global,
@@ -51,8 +51,8 @@ pub fn run_stations<J: Naming + Send + Sync, G: Gate + Sync, R: Threads + Wait +
         return Err(RunFault::ScriptCount);
     }
     let sessions = run_sessions(rt, alloc, &shared, gate, seats, scripts)?;
-    let (seats, receipts, answers) = split_sessions(alloc, sessions)?;
-    let closed = shared.settle(rt, seats, receipts)?;
+    let (seats, answers) = split_sessions(alloc, sessions)?;
+    let closed = shared.settle(rt, seats)?;
     Ok(Outcome { closed, answers })
 }
 
@@ -117,28 +117,24 @@ fn run_from<'s, E, J: Naming + Send + Sync, G: Gate + Sync, R: Threads + Wait + 
     }
 }
 
-// The seats, the receipts and the answers of the sessions, each in order.
+// The seats and the answers of the sessions, each in order.
 fn split_sessions<J: Naming>(
     alloc: Global,
     sessions: Vec<Session<J>>,
-) -> Result<(Vec<Seat<J>>, Vec<Receipts>, Vec<Bytes>), RunFault>
+) -> Result<(Vec<Seat<J>>, Vec<Bytes>), RunFault>
     ensures seats { IfOk result (λ parts. parts.0.items ≡ map (λ s. s.seat) sessions.items) }
-    ensures receipts { IfOk result (λ parts. parts.1.items ≡ map (λ s. s.receipts) sessions.items) }
-    ensures answers { IfOk result (λ parts. parts.2.items ≡ map (λ s. s.answers) sessions.items) }
+    ensures answers { IfOk result (λ parts. parts.1.items ≡ map (λ s. s.answers) sessions.items) }
     ensures fault { IfErr result (IsFaultOfRun J.opened) }
     ensures no_script_count { ¬ IsErrOf result RunFault.ScriptCount }
 {
     let mut seats = Vec::new(alloc);
-    let mut receipts = Vec::new(alloc);
     let mut answers = Vec::new(alloc);
     for session in sessions {
         seats.reserve(1)?;
-        receipts.reserve(1)?;
         answers.reserve(1)?;
-        let (seat, own, text) = session.into_parts();
+        let (seat, text) = session.into_parts();
         seats.push_reserved(seat);
-        receipts.push_reserved(own);
         answers.push_reserved(text);
     }
-    Ok((seats, receipts, answers))
+    Ok((seats, answers))
 }

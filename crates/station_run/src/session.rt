@@ -7,17 +7,16 @@ ghost use Rattle.station_run.specs.Faults.{IsStopOf};
 ghost use Rattle.station_lines.specs.declared.script.format.TheConstants.{LF as LINE_END};
 
 use dbf_fields::Bytes;
-use shared_catalogue::{Answer, Command, Naming, Receipt, Receipts, Seat, Shared, Stop};
+use shared_catalogue::{Command, Naming, Seat, Shared, Stop};
 use station_lines::{LF, Line, answer_line, status_line};
 use std::alloc::{AllocError, Global};
 use std::marker::Model;
 use std::sync::Wait;
 
-/// A station at work: its seat, what it was answered, and the text of its answer file so far.
+/// A station at work: its seat, and the text of its answer file so far.
 #[derive(Drop)]
 pub(crate) struct Session<J: Naming> {
     seat: Seat<J>,
-    receipts: Receipts,
     answers: Vec<u8>,
 }
 
@@ -26,7 +25,7 @@ impl<J: Naming> Model for Session<J> {
 
     ghost Value = { SessionValue };
 
-    ghost view = { λ s. session s.seat s.receipts s.answers.items };
+    ghost view = { λ s. session s.seat s.answers.items };
 }
 
 impl<J: Naming> Session<J> {
@@ -36,7 +35,6 @@ impl<J: Naming> Session<J> {
     {
         Session {
             seat,
-            receipts: Receipts::new(alloc),
             answers: Vec::new(alloc),
         }
     }
@@ -63,7 +61,7 @@ impl<J: Naming> Session<J> {
         }
     }
 
-    // Performs a command, and keeps its receipt and the line of its answer.
+    // Performs a command, and keeps the line of its answer.
     fn run_command(
         &mut self,
         alloc: Global,
@@ -77,7 +75,6 @@ impl<J: Naming> Session<J> {
         let answer = shared.perform(alloc, rt, &mut self.seat, &command)?;
         let text = answer_line(alloc, &answer)?;
         self.push_line(&text)?;
-        self.receipts.push(Receipt { command, answer })?;
         Ok(())
     }
 
@@ -95,24 +92,19 @@ impl<J: Naming> Session<J> {
 
     // Adds a line to the text of the answer file.
     fn push_line(&mut self, text: &Bytes) -> Result<(), AllocError>
-        ensures ok { OnOk result (self.new ≡ session self.old.seat self.old.receipts (self.old.answers ++ (text.now ++ LINE_END ∷ []))) }
+        ensures ok { OnOk result (self.new ≡ session self.old.seat (self.old.answers ++ (text.now ++ LINE_END ∷ []))) }
     {
         self.answers.extend_from_slice(text.as_slice())?;
         self.answers.push(LF)?;
         Ok(())
     }
 
-    /// The seat, the receipts and the text of the answer file.
-    pub(crate) fn into_parts(self) -> (Seat<J>, Receipts, Bytes)
+    /// The seat and the text of the answer file.
+    pub(crate) fn into_parts(self) -> (Seat<J>, Bytes)
         ensures seat { result.0 ≡ self.seat }
-        ensures receipts { result.1 ≡ self.receipts }
-        ensures answers { result.2 ≡ self.answers }
+        ensures answers { result.1 ≡ self.answers }
     {
-        let Session {
-            seat,
-            receipts,
-            answers,
-        } = self;
-        (seat, receipts, Bytes::from_vec(answers))
+        let Session { seat, answers } = self;
+        (seat, Bytes::from_vec(answers))
     }
 }

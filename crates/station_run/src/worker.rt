@@ -17,23 +17,23 @@ use std::snapshot::Snapshot;
 use std::sync::Wait;
 use std::thread::{Promise, PromisedHandle, Scope, Threads};
 
-/// That a worker runs this script at this station.
+/// That a worker runs this script at this seat.
 #[derive(Drop)]
-pub(crate) struct Runs {
-    pub(crate) station: u32,
+pub(crate) struct Runs<J: Naming> {
+    pub(crate) seat: Snapshot<Seat<J>>,
     pub(crate) script: Snapshot<Bytes>,
 }
 
-impl<J: Naming> Promise<Result<Session<J>, Stop>> for Runs {
+impl<J: Naming> Promise<Result<Session<J>, Stop>> for Runs<J> {
     ghost use Rattle.std.specs.Prelude.{MatchResult};
     ghost use Rattle.station_run.specs.Faults.{IsStopOf};
     ghost use Rattle.station_run.specs.Reports.{HasRun};
 
-    ghost kept_by = { λ p r. MatchResult r (HasRun p.station p.script.value) (IsStopOf J.opened) };
+    ghost kept_by = { λ p r. MatchResult r (HasRun p.seat.value p.script.value) (IsStopOf J.opened) };
 }
 
 /// A worker's thread, which ends with its session.
-pub(crate) type Worker<J> = PromisedHandle<Result<Session<J>, Stop>, Runs>;
+pub(crate) type Worker<J> = PromisedHandle<Result<Session<J>, Stop>, Runs<J>>;
 
 // What a line means, and `None` where it is blank.
 fn parse_unless_blank(alloc: Global, text: &[u8]) -> Result<Option<Line>, AllocError>
@@ -55,7 +55,7 @@ fn run_script<J: Naming, G: Gate, R: Wait>(
     seat: Seat<J>,
     script: &Bytes,
 ) -> Result<Session<J>, Stop>
-    ensures ran { IfOk result (HasRun seat.station script.now) }
+    ensures ran { IfOk result (HasRun seat script.now) }
     ensures stop { IfErr result (IsStopOf J.opened) }
 {
     let station = seat.station();
@@ -90,13 +90,13 @@ pub(crate) fn start_worker<
     seat: Seat<J>,
     script: &'s Bytes,
 ) -> Result<Worker<J>, RunFault>
-    ensures ok { IfOk result (λ worker. (worker.promise.station ≡ seat.station) × (worker.promise.script.value ≡ script.now)) }
+    ensures ok { IfOk result (λ worker. (worker.promise.seat.value ≡ seat) × (worker.promise.script.value ≡ script.now)) }
     ensures fault { IfErr result (IsFaultOfRun J.opened) }
     ensures no_script_count { ¬ IsErrOf result RunFault.ScriptCount }
 {
     let station = seat.station();
     let promise = Runs {
-        station,
+        seat: Snapshot::of(&seat),
         script: Snapshot::of(script),
     };
     match scope.spawn_with(

@@ -94,7 +94,7 @@ fn faults_of_opening_have_their_texts(rt: HostRuntime) -> Result<(), Fail> {
 #[test]
 fn faults_of_a_run_have_their_texts(rt: HostRuntime) -> Result<(), Fail> {
     let alloc = rt.alloc();
-    let cases: [(RunFault, &str); 7] = [
+    let cases: [(RunFault, &str); 6] = [
         (
             RunFault::ScriptCount,
             "there are not as many scripts as stations",
@@ -111,10 +111,6 @@ fn faults_of_a_run_have_their_texts(rt: HostRuntime) -> Result<(), Fail> {
         (
             RunFault::Settle(SettleFault::SeatMissing(1)),
             "not settled: the seat of station 1 is missing",
-        ),
-        (
-            RunFault::Settle(SettleFault::ReceiptMismatch(16)),
-            "not settled: the receipts of station 16 are not those of the journal",
         ),
         (RunFault::NoMemory, "out of memory"),
     ];

@@ -1,4 +1,4 @@
-//! A catalogue that is put under its lock, and receipts that are kept.
+//! A catalogue that is put under its lock, and tables that are copied out of it.
 
 ghost use Rattle.std.specs.Prelude.{◌≡◌, []};
 
@@ -6,9 +6,7 @@ use super::ENOUGH;
 use super::sample::{open, sample};
 use dbf_image::TableData;
 use scarce::{Attempt, refusals};
-use shared_catalogue::{
-    Answer, Catalogue, Command, Lot, Naming, OpenFault, Receipt, Receipts, Shared,
-};
+use shared_catalogue::{Catalogue, Lot, Naming, OpenFault, Shared};
 use std::alloc::{AllocError, Global};
 use std::marker::Brand;
 use std::process::Abort;
@@ -65,25 +63,6 @@ fn content_attempt(alloc: Global, catalogue: &Catalogue) -> Attempt {
     }
 }
 
-// A receipt of a command that takes no memory itself.
-fn receipt() -> Receipt {
-    Receipt {
-        command: Command::Top,
-        answer: Answer::Done,
-    }
-}
-
-// How a receipt is kept: as the only one, or not at all.
-fn receipt_attempt(receipts: &mut Receipts) -> Attempt {
-    match receipts.push(receipt()) {
-        Ok(()) => {
-            let all = receipts.as_slice();
-            Attempt::right_if(all.len() == 1 && all[0] == receipt())
-        }
-        Err(AllocError) => Attempt::refused_if(receipts.as_slice().is_empty()),
-    }
-}
-
 #[test]
 fn each_request_is_refused_in_turn(rt: HostRuntime) -> Result<(), Fail> {
     let alloc = rt.alloc();
@@ -91,18 +70,6 @@ fn each_request_is_refused_in_turn(rt: HostRuntime) -> Result<(), Fail> {
     let ample = making_attempt(alloc, &rt, &data);
     let found = refusals(alloc, ENOUGH, || making_attempt(alloc, &rt, &data))?.unwrap_or(0);
     println!(rt; "Catalogue::open, Lot::new, Shared::new: {found}")?;
-    assert_eq!(rt; ample, Attempt::Right);
-    assert!(rt; 0 < found);
-    Ok(())
-}
-
-#[test]
-fn each_refused_receipt_leaves_the_others(rt: HostRuntime) -> Result<(), Fail> {
-    let alloc = rt.alloc();
-    let ample = receipt_attempt(&mut Receipts::new(alloc));
-    let mut receipts = Receipts::new(alloc);
-    let found = refusals(alloc, ENOUGH, || receipt_attempt(&mut receipts))?.unwrap_or(0);
-    println!(rt; "Receipts::push: {found}")?;
     assert_eq!(rt; ample, Attempt::Right);
     assert!(rt; 0 < found);
     Ok(())

@@ -5,9 +5,7 @@ ghost use Rattle.std.specs.Prelude.{◌≡◌, []};
 use super::ENOUGH;
 use super::sample::{Case, cases, open, sample};
 use scarce::{Attempt, Hoard, refusals};
-use shared_catalogue::{
-    Catalogue, Lot, Naming, Receipt, Receipts, Seat, SettleFault, Shared, StatusRow, Stop,
-};
+use shared_catalogue::{Catalogue, Lot, Naming, Seat, SettleFault, Shared, StatusRow, Stop};
 use std::alloc::{AllocError, Global};
 use std::marker::Brand;
 use std::process::Abort;
@@ -75,44 +73,6 @@ fn stops_of_all<J: Naming, R: Wait>(
     Some(all)
 }
 
-// The receipts of a station's cases, in order.
-fn receipts_at(alloc: Global, cases: &[Case], seat: usize) -> Result<Receipts, AllocError> {
-    let mut receipts = Receipts::new(alloc);
-    for case in cases {
-        if case.seat == seat {
-            receipts.push(receipt_of(alloc, case)?)?;
-        }
-    }
-    Ok(receipts)
-}
-
-fn receipt_of(alloc: Global, case: &Case) -> Result<Receipt, AllocError> {
-    let command = case.command.copy(alloc)?;
-    Ok(Receipt {
-        command,
-        answer: case.answer.copy(alloc)?,
-    })
-}
-
-// What is made before a run: its cases, the receipts of both stations, and a hoard for the settling.
-#[derive(Drop)]
-struct Parts {
-    cases: Vec<Case>,
-    receipts: Vec<Receipts>,
-    hoard: Hoard,
-}
-
-fn make_parts(alloc: Global) -> Result<Parts, AllocError> {
-    let cases = cases(alloc)?;
-    let first = receipts_at(alloc, &cases, 0)?;
-    let second = receipts_at(alloc, &cases, 1)?;
-    Ok(Parts {
-        cases,
-        receipts: vec![in alloc; first, second]?,
-        hoard: Hoard::new(alloc, 1, 64)?,
-    })
-}
-
 // What is found of a run: how often its cases were stopped, and how many entries were settled.
 #[derive(Drop)]
 struct Found {
@@ -126,7 +86,8 @@ fn run_as<J: Naming, R: Wait>(
     rt: &R,
     lot: Lot,
     catalogue: Catalogue,
-    made: Parts,
+    cases: &[Case],
+    mut hoard: Hoard,
     is_scarce: bool,
 ) -> Option<Found>
     requires empty { catalogue.journal ≡ [] }
@@ -135,20 +96,11 @@ fn run_as<J: Naming, R: Wait>(
     requires board { lot.board ≡ J.board }
     requires parts { lot.parts ≡ catalogue.opened.stations }
 {
-    let stations = catalogue.station_count();
-    let Parts {
-        cases,
-        receipts,
-        mut hoard,
-    } = made;
     match Shared::<J>::new(alloc, catalogue, lot) {
         Ok((shared, mut seats)) => {
-            if receipts.len() != stations as usize {
-                return None;
-            }
-            let stops = stops_of_all(alloc, rt, &shared, &mut seats, &cases, is_scarce);
+            let stops = stops_of_all(alloc, rt, &shared, &mut seats, cases, is_scarce);
             let _ = hoard.leave(0);
-            let settled = match shared.settle(rt, seats, receipts) {
+            let settled = match shared.settle(rt, seats) {
                 Ok(closed) => Ok(closed.entry_count()),
                 Err(fault) => Err(fault),
             };
@@ -160,10 +112,19 @@ fn run_as<J: Naming, R: Wait>(
 
 // The same on the sample's table, under a name of its own.
 fn run<R: Wait>(alloc: Global, rt: &R, is_scarce: bool) -> Result<Option<Found>, Fail> {
-    let parts = make_parts(alloc)?;
+    let cases = cases(alloc)?;
+    let hoard = Hoard::new(alloc, 1, 64)?;
     let catalogue = open(alloc, &sample(alloc)?)?;
     let lot = Lot::new(alloc, 2)?;
-    Ok(run_as::<Brand, R>(alloc, rt, lot, catalogue, parts, is_scarce))
+    Ok(run_as::<Brand, R>(
+        alloc,
+        rt,
+        lot,
+        catalogue,
+        cases.as_slice(),
+        hoard,
+        is_scarce,
+    ))
 }
 
 // How often all cases are stopped; `None` where seven entries are not settled.

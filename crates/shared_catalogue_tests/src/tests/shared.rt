@@ -5,23 +5,11 @@ ghost use Rattle.std.specs.Prelude.{◌≡◌, []};
 use super::asked::{Asked, Case, Expected, command_of, is_expected};
 use super::sample::open_sample;
 use super::stations::TWO_STATIONS;
-use shared_catalogue::{
-    Answer, Catalogue, Lot, Naming, Receipt, Receipts, Seat, SettleFault, Shared,
-};
-use std::alloc::{AllocError, Global};
+use shared_catalogue::{Catalogue, Lot, Naming, Seat, SettleFault, Shared};
+use std::alloc::Global;
 use std::marker::Brand;
 use std::sync::Wait;
 use std::test::Fail;
-
-// What is wrong where a catalogue is settled.
-#[derive(Clone, Copy, PartialEq, Eq)]
-enum Wrong {
-    Nothing,
-    // The receipt of the last call says false.
-    LastAnswer,
-    // The seat of station 1 is gone.
-    FirstSeat,
-}
 
 // What is seen of a run: the status rows that the stations see after its calls, the last station first, and how many
 // entries there are at the end.
@@ -31,14 +19,14 @@ struct Seen {
     settled: Result<u64, SettleFault>,
 }
 
-// Performs a case at its station's seat, and answers the receipt, where the answer is the expected one.
-fn receipt_at<J: Naming>(
+// Performs a case at its station's seat. It fails where the answer is not the expected one.
+fn perform<J: Naming>(
     alloc: Global,
     rt: &impl Wait,
     shared: &Shared<J>,
     seats: &mut [Seat<J>],
     case: Case,
-) -> Result<Receipt, Fail> {
+) -> Result<(), Fail> {
     let (station, asked, name, expected) = case;
     let Some(seat) = seats.get_mut((station as usize).wrapping_sub(1)) else {
         return Err("there is no such seat".into());
@@ -48,42 +36,19 @@ fn receipt_at<J: Naming>(
     if !is_expected(&answer, expected) {
         return Err("another answer".into());
     }
-    Ok(Receipt { command, answer })
+    Ok(())
 }
 
-// No receipts, for each of the stations.
-fn no_receipts(alloc: Global, stations: u32) -> Result<Vec<Receipts>, AllocError> {
-    let mut receipts = Vec::new(alloc);
-    for _ in 0..stations {
-        receipts.push(Receipts::new(alloc))?;
-    }
-    Ok(receipts)
-}
-
-// Puts a receipt to those of its station.
-fn keep(receipts: &mut [Receipts], station: u32, receipt: Receipt) -> Result<(), Fail> {
-    match receipts.get_mut((station as usize).wrapping_sub(1)) {
-        Some(own) => Ok(own.push(receipt)?),
-        None => Err("there is no such station".into()),
-    }
-}
-
-// Performs the cases, and keeps the receipts. The last one says false where that is meant to be wrong.
+// Performs the cases in order.
 fn perform_all<J: Naming>(
     alloc: Global,
     rt: &impl Wait,
     shared: &Shared<J>,
     seats: &mut [Seat<J>],
-    receipts: &mut [Receipts],
     cases: &[Case],
-    wrong: Wrong,
 ) -> Result<(), Fail> {
-    for i in 0..cases.len() {
-        let mut receipt = receipt_at(alloc, rt, shared, seats, cases[i])?;
-        if wrong == Wrong::LastAnswer && i == cases.len() - 1 {
-            receipt.answer = Answer::Truth(false);
-        }
-        keep(receipts, cases[i].0, receipt)?;
+    for case in cases {
+        perform(alloc, rt, shared, seats, *case)?;
     }
     Ok(())
 }
@@ -102,14 +67,15 @@ fn rows_seen<J: Naming>(
     Ok(rows)
 }
 
-// Runs the cases on a catalogue that has performed nothing, for the ledger and the opened tables of a name.
+// Runs the cases on a catalogue that has performed nothing, for the ledger and the opened tables of a name, and settles it
+// with all seats, or without that of station 1.
 fn run_as<J: Naming, R: Wait>(
     alloc: Global,
     rt: &R,
     lot: Lot,
     catalogue: Catalogue,
     cases: &[Case],
-    wrong: Wrong,
+    without_first: bool,
 ) -> Result<Seen, Fail>
     requires empty { catalogue.journal ≡ [] }
     requires opened { catalogue.opened ≡ J.opened }
@@ -117,18 +83,13 @@ fn run_as<J: Naming, R: Wait>(
     requires board { lot.board ≡ J.board }
     requires parts { lot.parts ≡ catalogue.opened.stations }
 {
-    let stations = catalogue.station_count();
     let (shared, mut seats) = Shared::<J>::new(alloc, catalogue, lot)?;
-    let mut receipts = no_receipts(alloc, stations)?;
-    perform_all(alloc, rt, &shared, &mut seats, &mut receipts, cases, wrong)?;
+    perform_all(alloc, rt, &shared, &mut seats, cases)?;
     let rows = rows_seen(alloc, rt, &shared, &mut seats)?;
-    if wrong == Wrong::FirstSeat && !seats.is_empty() {
+    if without_first && !seats.is_empty() {
         seats.remove(0);
     }
-    if receipts.len() != stations as usize {
-        return Err("a list of receipts is gone".into());
-    }
-    let settled = match shared.settle(rt, seats, receipts) {
+    let settled = match shared.settle(rt, seats) {
         Ok(closed) => Ok(closed.entry_count()),
         Err(fault) => Err(fault),
     };
@@ -141,11 +102,11 @@ fn run<R: Wait>(
     rt: &R,
     stations: u32,
     cases: &[Case],
-    wrong: Wrong,
+    without_first: bool,
 ) -> Result<Seen, Fail> {
     let catalogue = open_sample(alloc, stations)?;
     let lot = Lot::new(alloc, stations)?;
-    run_as::<Brand, R>(alloc, rt, lot, catalogue, cases, wrong)
+    run_as::<Brand, R>(alloc, rt, lot, catalogue, cases, without_first)
 }
 
 // Whether as many stations saw a row, and each this one.
@@ -160,12 +121,8 @@ const AFTER_SEVEN: [u64; 23] = [
 
 #[test]
 fn two_stations_one_record(rt: HostRuntime) -> Result<(), Fail> {
-    for (wrong, settled) in [
-        (Wrong::Nothing, Ok(7)),
-        (Wrong::LastAnswer, Err(SettleFault::ReceiptMismatch(2))),
-        (Wrong::FirstSeat, Err(SettleFault::SeatMissing(1))),
-    ] {
-        let seen = run(rt.alloc(), &rt, 2, &TWO_STATIONS, wrong)?;
+    for (without_first, settled) in [(false, Ok(7)), (true, Err(SettleFault::SeatMissing(1)))] {
+        let seen = run(rt.alloc(), &rt, 2, &TWO_STATIONS, without_first)?;
         assert_eq!(rt; seen.settled, settled);
         assert_eq!(rt; have_seen(&seen.rows, 2, &AFTER_SEVEN), true);
     }
@@ -175,7 +132,7 @@ fn two_stations_one_record(rt: HostRuntime) -> Result<(), Fail> {
 // Station 2 looks first, whose call was the seventh; the last call of station 1 was the sixth.
 #[test]
 fn status_after_seven_calls(rt: HostRuntime) -> Result<(), Fail> {
-    let seen = run(rt.alloc(), &rt, 2, &TWO_STATIONS, Wrong::Nothing)?;
+    let seen = run(rt.alloc(), &rt, 2, &TWO_STATIONS, false)?;
     assert_eq!(rt; have_seen(&seen.rows, 2, &AFTER_SEVEN), true);
     Ok(())
 }
@@ -188,7 +145,7 @@ const FILE_LOCKED: [Case; 3] = [
 
 #[test]
 fn status_row(rt: HostRuntime) -> Result<(), Fail> {
-    let seen = run(rt.alloc(), &rt, 1, &FILE_LOCKED, Wrong::Nothing)?;
+    let seen = run(rt.alloc(), &rt, 1, &FILE_LOCKED, false)?;
     let mut row = [0; 23];
     row[0] = 3;
     row[1] = 1;

@@ -33,7 +33,7 @@ impl Gate for FirstLines {
     }
 }
 
-// A script of one line, or of one whose answers, receipts and entries take over 500 MB.
+// A script of one line, or of one whose answers and entries take over 390 MB.
 fn script(alloc: Global, hungry: bool) -> Result<Bytes, AllocError> {
     let mut text = Vec::from_slice(alloc, b"USE T\n")?;
     if hungry {

@@ -12,8 +12,8 @@ invariant-loop-seat g l = record {
   most : l.whole.parts ≤ g.J.Ledger.parts;
   table : l.pass.table_id ≡ g.J.Naming.board;
   writes : (cell_view l.pass).writes ≡ true;
-  rows : (cell_view l.pass).rows ≡ (cell_view l.fn.pass).rows;
-  within : (done : List Seated) × (l.initial.seats.items ≡ l.seats.items ++ done) × All (IsWithin (cell_view l.fn.pass).rows) done;
+  known : (cell_view l.pass).known ≡ (cell_view l.fn.pass).known;
+  within : (done : List Seated) × (l.initial.seats.items ≡ l.seats.items ++ done) × All (IsWithin (cell_view l.fn.pass).known) done;
 }
 
 abbrev pub decreases-loop-seat : goal.decreases-loop-seat

@@ -21,6 +21,6 @@ returns-in-Ok-clause-each g t c =
     let slen : length old ≡ n = search rules in
     let within : n < length c.args.scripts.now = search rules in
     let there : slice_get c.args.scripts.now n ≡ Some script = slice_get-get_or c.args.scripts.now n script within ∙ ap Some (sym c.index-scripts-len.is) in
-    let has : HasRun z.station script s = subst (λ (l : List ℕ). HasRun z.station l s) p.ok.1 (subst (λ k. HasRun k c.in_ok-worker.worker.promise.script.value s) p.ok.0 kept) in
+    let has : HasRun z script s = subst (λ (l : List ℕ). HasRun z l s) p.ok.1 (subst (λ (k : Seated). HasRun k c.in_ok-worker.worker.promise.script.value s) p.ok.0 kept) in
     let new = have_run-push c.args.scripts.now zs z old s script n c.in_ok-sessions.ensures.each zlen slen there has in
     subst (λ (l : List Seated). HaveRun c.args.scripts.now l c.push_reserved.new.self.items) (sym c.in-Some.ensures.items) (subst (λ (l : List SessionValue). HaveRun c.args.scripts.now (zs ++ z ∷ []) l) (sym items) new)

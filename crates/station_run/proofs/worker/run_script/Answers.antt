@@ -1,5 +1,5 @@
 use Rattle.std.proofs.Common.{◌≡◌, List, ℕ, [], length, ap, sym, subst, ◌∙◌, arith}
-use Rattle.station_run.specs.Reports.{meaning_of, SessionValue, new_session, HasRun}
+use Rattle.station_run.specs.Reports.{meaning_of, SessionValue, new_session}
 use Rattle.station_lines.specs.Script.Meaning.{Means}
 use Rattle.station_run.proofs.RunLaws.{IsUpTo, up_to_start, up_to_blank, up_to_shown, up_to_end}
 use Rattle.station_run.proofs.worker.run_script.Goals as goal
@@ -7,7 +7,7 @@ use Rattle.station_run.proofs.worker.run_script.Goals as goal
 pub loop-text-preserved-in_default-2 : goal.loop-text-preserved-in_default-2
 loop-text-preserved-in_default-2 g c =
     record {
-      up_to = up_to_blank c.loop-text.cursor c.in-Some.text.now c.next_line.new.self c.station-station.result c.args.script.now c.loop-text.session c.loop-text.invariant.up_to c.in-Some.ensures.line (c.parse_unless_blank.ensures.none cc);
+      up_to = up_to_blank c.loop-text.cursor c.in-Some.text.now c.next_line.new.self c.args.seat c.args.script.now c.loop-text.session c.loop-text.invariant.up_to c.in-Some.ensures.line (c.parse_unless_blank.ensures.none cc);
       count = omega (arith, c.loop-text.invariant.count, c.in-Some.ensures.shorter);
     }
 
@@ -20,7 +20,7 @@ loop-text-preserved g c =
     let shown = c.in_ok-run_line.ensures.shown in
     let means : Means c.in-Some.text.now (meaning_of shown.0) = subst (Means c.in-Some.text.now) (sym shown.1) read.0 in
     record {
-      up_to = up_to_shown c.loop-text.cursor c.in-Some.text.now c.next_line.new.self c.station-station.result c.args.script.now c.loop-text.session c.run_line.new.self shown.0 c.loop-text.invariant.up_to c.in-Some.ensures.line means shown.2;
+      up_to = up_to_shown c.loop-text.cursor c.in-Some.text.now c.next_line.new.self c.args.seat c.args.script.now c.loop-text.session c.run_line.new.self shown.0 c.loop-text.invariant.up_to c.in-Some.ensures.line means shown.2;
       count = omega (arith, c.loop-text.invariant.count, c.in-Some.ensures.shorter);
     }
 
@@ -31,14 +31,12 @@ loop-text-init g c =
     let same : c.lines-cursor.result ≡ script = c.lines-cursor.ensures.value ∙ c.as_slice.ensures.value in
     record {
       up_to =
-          subst (λ (s : SessionValue). IsUpTo c.lines-cursor.result c.station-station.result script s) (sym c.new-session.ensures.value)
-          (subst (λ k. IsUpTo c.lines-cursor.result k script (new_session z)) (sym c.station-station.ensures.value)
-          (subst (λ (l : List ℕ). IsUpTo l z.station script (new_session z)) (sym same) (up_to_start z script)));
+          subst (λ (s : SessionValue). IsUpTo c.lines-cursor.result z script s) (sym c.new-session.ensures.value)
+          (subst (λ (l : List ℕ). IsUpTo l z script (new_session z)) (sym same) (up_to_start z script));
       count = omega (arith, ap length same);
     }
 
 pub returns-clause-ran : goal.returns-clause-ran
 returns-clause-ran g c =
     let ended : c.loop-text.cursor ≡ [] = c.in_default.ensures.none in
-    subst (λ k. HasRun k c.args.script.now c.loop-text.session) c.station-station.ensures.value
-    (up_to_end c.station-station.result c.args.script.now c.loop-text.session (subst (λ (l : List ℕ). IsUpTo l c.station-station.result c.args.script.now c.loop-text.session) ended c.loop-text.invariant.up_to))
+    up_to_end c.args.seat c.args.script.now c.loop-text.session (subst (λ (l : List ℕ). IsUpTo l c.args.seat c.args.script.now c.loop-text.session) ended c.loop-text.invariant.up_to)

@@ -4,7 +4,7 @@ use Rattle.station_run.proofs.worker.run_script.Given as goal
 
 abbrev pub invariant-loop-text : goal.invariant-loop-text
 invariant-loop-text g l = record {
-  up_to : IsUpTo l.cursor l.station l.script l.session;
+  up_to : IsUpTo l.cursor l.fn.seat l.script l.session;
   count : l.number + length l.cursor ≤ length l.script;
 }
 

@@ -1,15 +1,15 @@
-use Rattle.std.proofs.Common.{◌≡◌, suc, ◌≤◌, List, length, vec_len, Ok, Err, sym, ap, ◌∙◌, subst, arith, rules, le_of_eq}
+use Rattle.std.proofs.Common.{◌≡◌, ◌≤◌, List, length, vec_len, Ok, sym, ap, ◌∙◌, subst, arith, rules}
 use Rattle.std.specs.Prelude.{All}
 use Rattle.std.specs.List.{sum_by}
 use Rattle.crossbeam_utils.specs.Seq.{cell_view}
 use Rattle.catalogue_core.specs.Replay.{History}
-use Rattle.catalogue_core.specs.declared.status.StatusRow.{StatusRow}
+use Rattle.shared_catalogue.specs.declared.board.Known.{Known}
 use Rattle.shared_catalogue.specs.declared.board.View.{View}
-use Rattle.shared_catalogue.specs.RowLaws.{length-status_rows}
-use Rattle.shared_catalogue.specs.Seats.{Seated, IsLowestMissing, IsWithin, AgreesWith}
+use Rattle.shared_catalogue.specs.Board.{all_of}
+use Rattle.shared_catalogue.specs.Seats.{Seated, AreSeated, IsLowestMissing, IsWithin, IsOwn, AgreesWith}
 use Rattle.shared_catalogue.specs.StatusRows.{status_rows}
-use Rattle.shared_catalogue.specs.declared.settle.SettleFault.TheVariants.{ReceiptMismatch}
-use Rattle.shared_catalogue.proofs.SeatLaws.{Covers, agree, enough, missing_here, missing_nowhere}
+use Rattle.shared_catalogue.proofs.ReceiptLaws.{settled}
+use Rattle.shared_catalogue.proofs.SeatLaws.{enough, missing_here, missing_nowhere}
 use Rattle.shared_catalogue.proofs.locked.LockedCatalogue.settle.Goals as goal
 
 pub returns-in-Some-clause-missing : goal.returns-in-Some-clause-missing
@@ -19,31 +19,48 @@ returns-in-Some-clause-missing g c =
     let some : IsLowestMissing c.deref.result.now c.station_count.result c.in-Some.station = c.in-Some.ensures.some in
     missing_here zs g.J.Naming.opened.stations c.in-Some.station (subst (λ n. IsLowestMissing zs n c.in-Some.station) stations (subst (λ (l : List Seated). IsLowestMissing l c.station_count.result c.in-Some.station) c.deref.ensures.value some))
 
-pub returns-in-Some-first_mismatch-clause-missing : goal.returns-in-Some-first_mismatch-clause-missing
-returns-in-Some-first_mismatch-clause-missing g c =
-    let zs = c.args.seats.items in
-    let stations : c.station_count.result ≡ g.J.Naming.opened.stations = search rules in
-    let none : Covers c.deref.result.now c.station_count.result = c.in_default.ensures.none in
-    let all : Covers zs g.J.Naming.opened.stations = subst (Covers zs) stations (subst (λ (l : List Seated). Covers l c.station_count.result) c.deref.ensures.value none) in
-    missing_nowhere (Err (ReceiptMismatch c.in-Some-first_mismatch.station)) zs g.J.Naming.opened.stations (λ s e. cc) all
-
 pub returns-clause-missing : goal.returns-clause-missing
 returns-clause-missing g c =
     let zs = c.args.seats.items in
     let stations : c.station_count.result ≡ g.J.Naming.opened.stations = search rules in
-    let none : Covers c.deref.result.now c.station_count.result = c.in_default.ensures.none in
-    let all : Covers zs g.J.Naming.opened.stations = subst (Covers zs) stations (subst (λ (l : List Seated). Covers l c.station_count.result) c.deref.ensures.value none) in
+    let none : AreSeated c.deref.result.now c.station_count.result = c.in_default.ensures.none in
+    let all : AreSeated zs g.J.Naming.opened.stations = subst (AreSeated zs) stations (subst (λ (l : List Seated). AreSeated l c.station_count.result) c.deref.ensures.value none) in
     missing_nowhere (Ok c.new.result) zs g.J.Naming.opened.stations (λ s e. cc) all
+
+pub returns-clause-seated : goal.returns-clause-seated
+returns-clause-seated g c =
+    let zs = c.args.seats.items in
+    let stations : c.station_count.result ≡ g.J.Naming.opened.stations = search rules in
+    let none : AreSeated c.deref.result.now c.station_count.result = c.in_default.ensures.none in
+    subst (AreSeated zs) stations (subst (λ (l : List Seated). AreSeated l c.station_count.result) c.deref.ensures.value none)
 
 pub returns-clause-counted : goal.returns-clause-counted
 returns-clause-counted g c =
     let zs = c.args.seats.items in
     let stations : c.station_count.result ≡ g.J.Naming.opened.stations = search rules in
-    let none : Covers c.deref.result.now c.station_count.result = c.in_default.ensures.none in
-    let many : c.station_count.result ≤ length zs = enough c.station_count.result zs (subst (λ (l : List Seated). Covers l c.station_count.result) c.deref.ensures.value none) in
+    let none : AreSeated c.deref.result.now c.station_count.result = c.in_default.ensures.none in
+    let many : c.station_count.result ≤ length zs = enough c.station_count.result zs (subst (λ (l : List Seated). AreSeated l c.station_count.result) c.deref.ensures.value none) in
     let len : vec_len c.args.seats ≡ length zs = search rules in
     let whole : c.gather-whole.result.parts ≡ g.J.Ledger.parts = omega (arith, c.gather-whole.ensures.parts, c.gather-whole.ensures.most, c.requires.parts, stations, many, len) in
     ap (λ (h : History). length h.journal) c.new.ensures.value ∙ sym (c.audit.ensures.whole whole ∙ c.self.invariant.counted) ∙ c.gather-whole.ensures.amount
+
+pub returns-clause-own : goal.returns-clause-own
+returns-clause-own g c =
+    let zs = c.args.seats.items in
+    let h = c.self.inside.catalogue in
+    let n = g.J.Naming.opened.stations in
+    let stations : c.station_count.result ≡ n = search rules in
+    let none : AreSeated c.deref.result.now c.station_count.result = c.in_default.ensures.none in
+    let all : AreSeated zs n = subst (AreSeated zs) stations (subst (λ (l : List Seated). AreSeated l c.station_count.result) c.deref.ensures.value none) in
+    let many : n ≤ length zs = enough n zs all in
+    let len : vec_len c.args.seats ≡ length zs = search rules in
+    let each : length zs ≡ n = omega (arith, c.gather-whole.ensures.parts, c.gather-whole.ensures.most, c.requires.parts, many, len) in
+    let whole : c.gather-whole.result.parts ≡ g.J.Ledger.parts = omega (arith, c.gather-whole.ensures.parts, c.requires.parts, each, len) in
+    let counted : length h.journal ≡ sum_by (λ (z : Seated). z.share) zs = sym (c.audit.ensures.whole whole ∙ c.self.invariant.counted) ∙ c.gather-whole.ensures.amount in
+    let known : (cell_view c.self.inside.pass).known ≡ all_of h = ap (λ (v : View). v.known) c.self.invariant.all in
+    let within : All (IsWithin (all_of h)) zs = subst (λ (k : Known). All (IsWithin k) zs) known c.gather-whole.ensures.within in
+    let both = settled h n zs all each counted within in
+    subst (λ (k : History). All (IsOwn k.journal) zs) (sym c.new.ensures.value) both.1
 
 pub returns-clause-agrees : goal.returns-clause-agrees
 returns-clause-agrees g c =
@@ -51,15 +68,14 @@ returns-clause-agrees g c =
     let h = c.self.inside.catalogue in
     let n = g.J.Naming.opened.stations in
     let stations : c.station_count.result ≡ n = search rules in
-    let none : Covers c.deref.result.now c.station_count.result = c.in_default.ensures.none in
-    let all : Covers zs n = subst (Covers zs) stations (subst (λ (l : List Seated). Covers l c.station_count.result) c.deref.ensures.value none) in
+    let none : AreSeated c.deref.result.now c.station_count.result = c.in_default.ensures.none in
+    let all : AreSeated zs n = subst (AreSeated zs) stations (subst (λ (l : List Seated). AreSeated l c.station_count.result) c.deref.ensures.value none) in
     let many : n ≤ length zs = enough n zs all in
     let len : vec_len c.args.seats ≡ length zs = search rules in
     let each : length zs ≡ n = omega (arith, c.gather-whole.ensures.parts, c.gather-whole.ensures.most, c.requires.parts, many, len) in
     let whole : c.gather-whole.result.parts ≡ g.J.Ledger.parts = omega (arith, c.gather-whole.ensures.parts, c.requires.parts, each, len) in
     let counted : length h.journal ≡ sum_by (λ (z : Seated). z.share) zs = sym (c.audit.ensures.whole whole ∙ c.self.invariant.counted) ∙ c.gather-whole.ensures.amount in
-    let rows : (cell_view c.self.inside.pass).rows ≡ status_rows h = ap (λ (v : View). v.rows) c.self.invariant.rows in
-    let within : All (IsWithin (status_rows h)) zs = subst (λ (l : List StatusRow). All (IsWithin l) zs) rows c.gather-whole.ensures.within in
-    let long : length (status_rows h) ≡ suc (length h.journal) = omega (arith, length-status_rows h) in
-    let agreed : All (AgreesWith (status_rows h)) zs = agree n (length h.journal) zs (status_rows h) all each long (le_of_eq counted) within in
-    subst (λ (k : History). All (AgreesWith (status_rows k)) zs) (sym c.new.ensures.value) agreed
+    let known : (cell_view c.self.inside.pass).known ≡ all_of h = ap (λ (v : View). v.known) c.self.invariant.all in
+    let within : All (IsWithin (all_of h)) zs = subst (λ (k : Known). All (IsWithin k) zs) known c.gather-whole.ensures.within in
+    let both = settled h n zs all each counted within in
+    subst (λ (k : History). All (AgreesWith (status_rows k)) zs) (sym c.new.ensures.value) both.0

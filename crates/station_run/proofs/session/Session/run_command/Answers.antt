@@ -7,7 +7,7 @@ use Rattle.station_run.proofs.session.Session.run_command.Goals as goal
 pub returns-clause-shown : goal.returns-clause-shown
 returns-clause-shown g c =
     let old : c.self.inside.seat ≡ c.args.self.now.seat = search rules in
-    let new : c.perform.new.seat ≡ c.self-2.inside.seat = search rules in
+    let new : c.perform.new.seat ≡ c.push_line.new.self.seat = search rules in
     let later : IsPrefix c.self.inside.seat.rows c.perform.new.seat.rows = told_later _ _ _ _ c.in_ok-answer.ensures.told in (
       c.in_ok-answer.answer,
       record {

@@ -2,7 +2,7 @@ use Rattle.std.proofs.Common.{◌≡◌, true, ap, ◌∙◌, rules}
 use Rattle.crossbeam_utils.specs.Seq.{cell_view}
 use Rattle.shared_catalogue.specs.declared.board.View.{View}
 use Rattle.shared_catalogue.proofs.Moves.{notes, writer_loads}
-use Rattle.shared_catalogue.proofs.settle.compare_rows.Goals as goal
+use Rattle.shared_catalogue.proofs.board.compare_known.Goals as goal
 
 pub join_pass-requires : goal.join_pass-requires
 join_pass-requires g c = (search rules, (search rules, ((c.requires.board.0, c.requires.board.1, c.requires.copy), notes _ _ _ _)))
