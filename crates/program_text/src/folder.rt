@@ -1,7 +1,9 @@
-//! Why the folder for new files has not got them.
+//! Why new files have not got into their folder.
 
 ghost use Rattle.std.specs.Prelude.{◌≡◌};
 ghost use Rattle.program_text.specs.Reasons.{folder_reason};
+
+use files_in_place::{DiskFault, LockFault};
 
 /// Why the folder for the new files has not got them.
 #[derive(Clone, Copy, Debug, PartialEq, Eq)]
@@ -28,5 +30,44 @@ pub fn folder_text(fault: FolderFault) -> &'static str
         FolderFault::Unrecovered => "cannot recover the folder",
         FolderFault::Unwritten => "cannot write the new files",
         FolderFault::Unfinished => "not all new files are in place: the next start goes on",
+    }
+}
+
+/// Why new files are not in place, where that is no fault of the run itself.
+#[derive(Clone, Copy, Debug, PartialEq, Eq)]
+pub enum PlaceFault {
+    /// Memory was refused.
+    NoMemory,
+    /// The folder has not got them.
+    Folder(FolderFault),
+}
+
+// A fault in opening the folder.
+impl From<DiskFault> for PlaceFault {
+    ghost use Rattle.std.specs.Prelude.{◌≡◌};
+    ghost use Rattle.program_text.specs.PlaceFaults.{unopened_folder};
+
+    ghost from_gives = { λ fault place. place ≡ unopened_folder fault };
+
+    fn from(fault: DiskFault) -> PlaceFault {
+        match fault {
+            DiskFault::NoMemory => PlaceFault::NoMemory,
+            DiskFault::Failed => PlaceFault::Folder(FolderFault::Unopened),
+        }
+    }
+}
+
+impl From<LockFault> for PlaceFault {
+    ghost use Rattle.std.specs.Prelude.{◌≡◌};
+    ghost use Rattle.program_text.specs.PlaceFaults.{unlocked_folder};
+
+    ghost from_gives = { λ fault place. place ≡ unlocked_folder fault };
+
+    fn from(fault: LockFault) -> PlaceFault {
+        match fault {
+            LockFault::InUse => PlaceFault::Folder(FolderFault::InUse),
+            LockFault::NoMemory => PlaceFault::NoMemory,
+            LockFault::Failed => PlaceFault::Folder(FolderFault::Unopened),
+        }
     }
 }

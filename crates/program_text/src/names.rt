@@ -79,7 +79,6 @@ fn settle_name(fault: SettleFault) -> &'static str
 {
     match fault {
         SettleFault::SeatMissing(_) => "SeatMissing",
-        SettleFault::ReceiptMismatch(_) => "ReceiptMismatch",
     }
 }
 

@@ -1,2 +1,3 @@
 pub mod ProgramLaws
+pub mod RunJournals
 pub mod WritingLaws

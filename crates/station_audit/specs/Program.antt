@@ -1,6 +1,5 @@
 -- The audit that a command line asks for.
 use Rattle.std.specs.Prelude.{◌≡◌, ◌⊎◌, ℕ, List, length, codes, Option, Some, None, IsSome, IfSome}
-use Rattle.clap.specs.Words.{first_value, found_of, one_text}
 use Rattle.clap.specs.declared.parser.matches.ArgMatches.{ArgMatches}
 use Rattle.byte_io.specs.Sink.{Rises}
 use Rattle.dbf_fields.specs.Date.{SaysDay}
@@ -8,7 +7,7 @@ use Rattle.dbf_image.specs.Image.{IsOutside}
 use Rattle.catalogue_core.specs.Replay.{Opened, History}
 use Rattle.station_files.specs.declared.named.NamedFile.{NamedFile}
 use Rattle.station_files.specs.Files.{IsFileOf, IsTooLong}
-use Rattle.program_text.specs.Dates.{IsRunDate}
+use Rattle.program_text.specs.CommandLine.{value_of}
 use Rattle.audit.specs.declared.fault.AuditFault.{AuditFault}
 use Rattle.audit.specs.declared.fault.AuditFault.TheVariants as fault
 use Rattle.audit.specs.Audits.{IsJournalOf, RefutesAll, IsAuditFault}
@@ -22,25 +21,9 @@ use Rattle.station_audit.specs.declared.program.options.Written.{Written}
 
 -- ---- the command line
 
--- the value of the option of a name
-abbrev pub value_of : ArgMatches → List ℕ → Option (List ℕ)
-value_of matches name = first_value (found_of matches) name
-
--- the flag of a name is given
-abbrev pub HasFlag : ArgMatches → List ℕ → Type 0
-HasFlag matches name = one_text (found_of matches) name ≡ Some (codes "true")
-
--- the flag of a name is not given: nothing is read of it, or its default
-abbrev pub LacksFlag : ArgMatches → List ℕ → Type 0
-LacksFlag matches name = (one_text (found_of matches) name ≡ None) ⊎ (one_text (found_of matches) name ≡ Some (codes "false"))
-
 -- the paths of the setup and of the journal are given
 abbrev pub HasPaths : ArgMatches → Type 0
 HasPaths matches = IsSome (value_of matches (codes "setup")) × IsSome (value_of matches (codes "journal"))
-
--- the date that is given is not one of a run
-abbrev pub HasBadDate : ArgMatches → Type 0
-HasBadDate matches = IfSome (value_of matches (codes "today")) (λ text. ¬ IsRunDate text)
 
 -- what the command line says of the written tables: nothing, where it has not both the folder and the day
 abbrev pub SaysWritten : ArgMatches → Option Written → Type 0

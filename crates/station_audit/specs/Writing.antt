@@ -6,10 +6,13 @@ use Rattle.files_in_place.specs.Folder.{Folder}
 use Rattle.station_files.specs.declared.closed.ClosedTable.{ClosedTable}
 use Rattle.station_files.specs.declared.named.NamedFile.{NamedFile}
 use Rattle.station_files.specs.Files.{files_in, listing}
+use Rattle.program_text.specs.declared.folder.PlaceFault.TheVariants as place
+use Rattle.program_text.specs.PlaceFaults.{IsOfOpenFolder}
 use Rattle.program_text.specs.Placing.{HasFiles}
+use Rattle.station_files.specs.declared.close_fault.CloseFault.TheVariants.{Write}
 use Rattle.whole_run.specs.declared.fault.ServeFault.TheVariants as serve
 use Rattle.whole_run.specs.HandedOver.{AreHandedOver}
-use Rattle.whole_run.specs.TablesWritten.{AreTablesWritten, IsTablesFault, dated_files}
+use Rattle.whole_run.specs.TablesWritten.{AreTablesWritten, IsCutTables, IsTablesFault, dated_files}
 use Rattle.station_audit.specs.declared.program.failure.Failure.{Failure}
 use Rattle.station_audit.specs.declared.program.failure.Failure.TheVariants.{Serve, Folder as OfFolder}
 use Rattle.station_audit.specs.declared.program.options.Options.{Options}
@@ -27,6 +30,12 @@ abbrev pub IsUnwritten : Option (List NamedFile) → Options → ℕ → Failure
 IsUnwritten files options year (Serve (serve.Close why)) = (h : History) × IsAuditedTo files options h × IsTablesFault h year (serve.Close why)
 IsUnwritten files options year why = IsFailedBy files options why
 
+-- Where a file could not be written, all entries hold, and the files before it are whole. Of other failures nothing is said.
+abbrev pub IsCutAudit : Option (List NamedFile) → Options → Day → Option (List ℕ) → Option (List ℕ) → Failure → Type 0
+IsCutAudit files options today old new (Serve (serve.Close (Write name))) =
+    (h : History) × IsAuditedTo files options h × IsCutTables h today old new (serve.Close (Write name))
+IsCutAudit files options today old new why = Unit {0}
+
 -- all entries hold, there are so many, and the folder has the files of the tables at their end
 pub record AreInPlace (files : Option (List NamedFile)) (options : Options) (today : Day) (folder : Folder) (count : ℕ) : Type 0 where
   pub history : History
@@ -38,5 +47,5 @@ pub record AreInPlace (files : Option (List NamedFile)) (options : Options) (tod
 
 -- why the files of the tables are not in place
 abbrev pub IsPlaceFailure : Option (List NamedFile) → Options → ℕ → Failure → Type 0
-IsPlaceFailure files options year (OfFolder fault) = Unit {0}
+IsPlaceFailure files options year (OfFolder fault) = IsOfOpenFolder (place.Folder fault)
 IsPlaceFailure files options year why = IsUnwritten files options year why

@@ -15,7 +15,8 @@ use crate::program::{
     Ending, Failure, InPlace, Options, Written, audit_in_place, audit_into, audit_options, command,
     options_of, tell,
 };
-use files_in_place::{DiskFault, SystemDisk, lock_folder};
+use files_in_place::SystemDisk;
+use program_text::{PlaceFault, lock_out};
 use station_files::{DiskSource, MissingFolder};
 use std::alloc::Global;
 use std::env;
@@ -56,10 +57,10 @@ fn open_out<R: Files + Drop>(
     rt: R,
     alloc: Global,
     written: &Written<'_>,
-) -> Result<SystemDisk<R>, DiskFault>
+) -> Result<SystemDisk<R>, PlaceFault>
     ensures path { IfOk result (λ disk. disk.path ≡ written.now.out.now ++ 47 ∷ []) }
 {
-    SystemDisk::open(rt, alloc, written.out)
+    Ok(SystemDisk::open(rt, alloc, written.out)?)
 }
 
 // Audits the journal and writes the tables over files of the system. No other run writes into the folder meanwhile.
@@ -77,7 +78,7 @@ fn audit_to_files<R: Runtime + Files<File = File> + AllocGlobal>(
         let count = audit_into(alloc, options, today, &mut source, &mut folder)?;
         return Ok(count);
     }
-    let lock = lock_folder(rt, written.out)?;
+    let lock = lock_out(rt, written.out)?;
     let disk = open_out(rt.clone()?, alloc, written)?;
     let InPlace { ended, disk: _ } = audit_in_place(alloc, options, today, &mut source, disk);
     drop(lock);

@@ -4,12 +4,14 @@
 //! tables at its end too, into a folder of a disk, where they take their places all together. [`Ending`] is why it is not
 //! said that all entries hold, [`Failure`] why the audit failed, and [`tell`] what the user gets: a line on standard output
 //! or standard error, and an exit status. What an audit of files is is defined in `specs/Program.antt`, what
-//! is written in `specs/Writing.antt`; the lines and the statuses are in `specs/Endings.antt`. Start reading there.
+//! is written in `specs/Writing.antt`; the lines and the statuses are in `specs/Endings.antt`. Start reading there. That the
+//! journal of a run holds is a law, in `law.rt`.
 
 mod auditing;
 mod ending;
 mod failure;
 mod in_place;
+mod law;
 mod options;
 mod telling;
 #[cfg(test)]
@@ -17,9 +19,9 @@ mod tests;
 mod writing;
 
 pub(crate) use auditing::audit_options;
-pub(crate) use ending::{Ending, status_of_ending};
+pub(crate) use ending::Ending;
 pub(crate) use failure::{Failure, print_failure, status_of};
 pub(crate) use in_place::{InPlace, audit_in_place};
-pub(crate) use options::{Options, Written, command, mistake_status, options_of};
+pub(crate) use options::{Options, Written, command, options_of};
 pub(crate) use telling::tell;
 pub(crate) use writing::audit_into;

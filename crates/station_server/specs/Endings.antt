@@ -1,40 +1,23 @@
 -- How a call of the program ends: its exit status, and what is printed then.
-use Rattle.std.specs.Prelude.{ℕ, List, ◌++◌, ◌∷◌, [], codes, Option, Some, None, Result, Ok, Err}
+use Rattle.std.specs.Prelude.{ℕ, List, ◌++◌, ◌∷◌, [], codes, Option, Some, Result, Ok, Err}
 use Rattle.std.specs.Fmt.{decimal}
 use Rattle.std.specs.declared.io.ErrorKind.{ErrorKind as IoKind}
 use Rattle.std.specs.declared.io.ErrorKind.TheVariants as io
 use Rattle.clap.specs.Words.{kind_of}
-use Rattle.clap.specs.declared.error.kind.ErrorKind.{ErrorKind}
-use Rattle.clap.specs.declared.error.kind.ErrorKind.TheVariants as kind
-use Rattle.files_in_place.specs.declared.faults.DiskFault.{DiskFault}
-use Rattle.files_in_place.specs.declared.faults.DiskFault.TheVariants as disk
-use Rattle.files_in_place.specs.declared.faults.SetFault.{SetFault}
-use Rattle.files_in_place.specs.declared.faults.SetFault.TheVariants as set
-use Rattle.files_in_place.specs.declared.folder_lock.LockFault.{LockFault}
-use Rattle.files_in_place.specs.declared.folder_lock.LockFault.TheVariants as lock
 use Rattle.station_lines.specs.declared.script.format.TheConstants.{LF}
-use Rattle.station_files.specs.declared.close_fault.CloseFault.TheVariants as close
-use Rattle.whole_run.specs.declared.fault.ServeFault.{ServeFault}
 use Rattle.whole_run.specs.declared.fault.ServeFault.TheVariants as serve
+use Rattle.program_text.specs.Telling.{mistake_line, mistake_status, no_text_line, no_text_status, unprinted_line as unprinted_line_of}
 use Rattle.station_server.specs.declared.program.ending.Ending.{Ending}
 use Rattle.station_server.specs.declared.program.ending.Ending.TheVariants as ended
-use Rattle.station_server.specs.declared.program.failure.Failure.{Failure}
 use Rattle.station_server.specs.declared.program.failure.Failure.TheVariants as failure
-use Rattle.station_server.specs.declared.program.failure.FolderFault.TheVariants as folder
 use Rattle.station_server.specs.Failures.{failure_line, status}
 
 -- ---- the exit status
 
--- where `clap` gave no options: the help is asked for, memory was refused, or there is a mistake
-abbrev pub clap_status : ErrorKind → ℕ
-clap_status kind.DisplayHelp = 0
-clap_status kind.OutOfMemory = 3
-clap_status _ = 1
-
 -- where the files are not written, or not all
 abbrev pub ending_status : Ending → ℕ
-ending_status ended.NoText = 1
-ending_status (ended.CommandLine error) = clap_status (kind_of error)
+ending_status ended.NoText = no_text_status
+ending_status (ended.CommandLine error) = mistake_status (kind_of error)
 ending_status (ended.Failed why) = status why
 
 -- of a call: the number of commands where all files are written, and else why they are not
@@ -50,21 +33,12 @@ count_line count = codes "station_server: " ++ (decimal count ++ (codes " comman
 
 -- on standard error where standard output took no text
 abbrev pub unprinted_line : List ℕ
-unprinted_line = codes "station_server: cannot print" ++ LF ∷ []
-
--- on standard error where an argument is no UTF-8 text
-abbrev pub no_text_line : List ℕ
-no_text_line = codes "error: an argument is no UTF-8 text" ++ LF ∷ []
-
--- the line for which `clap` has no text of its own: that memory was refused
-abbrev pub clap_line : ErrorKind → Option (List ℕ)
-clap_line kind.OutOfMemory = Some (failure_line (failure.Serve serve.NoMemory))
-clap_line _ = None
+unprinted_line = unprinted_line_of (codes "station_server")
 
 -- on standard error where the files are not written; `None` where it is a text of `clap`
 abbrev pub ending_line : Ending → Option (List ℕ)
 ending_line ended.NoText = Some no_text_line
-ending_line (ended.CommandLine error) = clap_line (kind_of error)
+ending_line (ended.CommandLine error) = mistake_line (codes "station_server") (kind_of error)
 ending_line (ended.Failed why) = Some (failure_line why)
 
 -- ---- the arguments
@@ -73,27 +47,3 @@ ending_line (ended.Failed why) = Some (failure_line why)
 abbrev pub unread_arguments : IoKind → Ending
 unread_arguments io.OutOfMemory = ended.Failed (failure.Serve serve.NoMemory)
 unread_arguments _ = ended.NoText
-
--- ---- the folder for the new files
-
--- why it can't be opened
-abbrev pub unopened_folder : DiskFault → Failure
-unopened_folder disk.NoMemory = failure.Serve serve.NoMemory
-unopened_folder disk.Failed = failure.Folder folder.Unopened
-
--- why it can't be locked
-abbrev pub unlocked_folder : LockFault → Failure
-unlocked_folder lock.InUse = failure.Folder folder.InUse
-unlocked_folder lock.NoMemory = failure.Serve serve.NoMemory
-unlocked_folder lock.Failed = failure.Folder folder.Unopened
-
--- why what an earlier run left is not brought to its end
-abbrev pub unrecovered_folder : DiskFault → Failure
-unrecovered_folder disk.NoMemory = failure.Serve serve.NoMemory
-unrecovered_folder disk.Failed = failure.Folder folder.Unrecovered
-
--- why a run failed, where the folder says why its last call failed that has: a file that was not written for want of memory
--- is no fault of the disk
-abbrev pub given_up : Option SetFault → ServeFault → ServeFault
-given_up (Some set.NoMemory) (serve.Close (close.Write name)) = serve.NoMemory
-given_up why fault = fault

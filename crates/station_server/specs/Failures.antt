@@ -1,67 +1,23 @@
 -- What the program says of a call that failed: a line on standard error, and an exit status.
 use Rattle.std.specs.Prelude.{ℕ, List, ◌++◌, ◌∷◌, [], codes}
-use Rattle.std.specs.Fmt.{decimal}
-use Rattle.station_files.specs.declared.close_fault.CloseFault.{CloseFault}
-use Rattle.station_files.specs.declared.close_fault.CloseFault.TheVariants as close
 use Rattle.station_lines.specs.declared.script.format.TheConstants.{LF}
-use Rattle.whole_run.specs.declared.fault.FileFault.{FileFault}
-use Rattle.whole_run.specs.declared.fault.FileFault.TheVariants as file
-use Rattle.whole_run.specs.declared.fault.ServeFault.{ServeFault}
 use Rattle.whole_run.specs.declared.fault.ServeFault.TheVariants as serve
-use Rattle.station_server.specs.declared.program.failure.FolderFault.{FolderFault}
-use Rattle.station_server.specs.declared.program.failure.FolderFault.TheVariants as folder
+use Rattle.program_text.specs.declared.folder.PlaceFault.{PlaceFault}
+use Rattle.program_text.specs.declared.folder.PlaceFault.TheVariants as place
+use Rattle.program_text.specs.Reasons.{fault_reason, fault_status, folder_reason}
 use Rattle.station_server.specs.declared.program.failure.Failure.{Failure}
 use Rattle.station_server.specs.declared.program.failure.Failure.TheVariants as failure
-use Rattle.station_server.specs.FaultNames.{close_name, image_name, ndx_name, open_name, run_name}
 
-abbrev pub fault_status : ServeFault → ℕ
-fault_status (serve.Setup number) = 1
-fault_status (serve.File path fault) = 2
-fault_status (serve.Refused fault) = 2
-fault_status (serve.Run fault) = 3
-fault_status serve.NoMemory = 3
-fault_status (serve.Close fault) = 4
+-- where new files are not in place
+abbrev pub place_failure : PlaceFault → Failure
+place_failure place.NoMemory = failure.Serve serve.NoMemory
+place_failure (place.Folder fault) = failure.Folder fault
 
 -- the exit status
 abbrev pub status : Failure → ℕ
 status failure.BadDate = 1
 status (failure.Serve fault) = fault_status fault
 status (failure.Folder fault) = 4
-
-abbrev pub file_reason : FileFault → List ℕ
-file_reason file.CannotRead = codes "cannot read"
-file_reason (file.Image fault) = image_name fault
-file_reason (file.Ndx fault) = ndx_name fault
-
--- why the file of a path was not read
-abbrev pub unread_file : List ℕ → FileFault → List ℕ
-unread_file path fault = path ++ (codes ": " ++ file_reason fault)
-
--- that the file of a name was not written
-abbrev pub unwritten : List ℕ → List ℕ
-unwritten name = codes "cannot write " ++ name
-
-abbrev pub close_reason : CloseFault → List ℕ
-close_reason (close.Write name) = unwritten name
-close_reason (close.TooManyBlocks table) = codes "close: " ++ close_name (close.TooManyBlocks table)
-close_reason close.DateOutside = codes "close: " ++ close_name close.DateOutside
-close_reason close.NoMemory = codes "close: " ++ close_name close.NoMemory
-
-abbrev pub fault_reason : ServeFault → List ℕ
-fault_reason (serve.Setup number) = codes "setup line " ++ (decimal number ++ codes " is bad")
-fault_reason (serve.File path fault) = unread_file path fault
-fault_reason (serve.Refused fault) = codes "open: " ++ open_name fault
-fault_reason (serve.Run fault) = codes "run: " ++ run_name fault
-fault_reason (serve.Close fault) = close_reason fault
-fault_reason serve.NoMemory = codes "run: NoMemory"
-
--- why the folder for the new files has not got them
-abbrev pub folder_reason : FolderFault → List ℕ
-folder_reason folder.InUse = codes "another run writes into the folder"
-folder_reason folder.Unopened = codes "cannot open the folder"
-folder_reason folder.Unrecovered = codes "cannot recover the folder"
-folder_reason folder.Unwritten = codes "cannot write the new files"
-folder_reason folder.Unfinished = codes "not all new files are in place: the next start goes on"
 
 abbrev pub reason : Failure → List ℕ
 reason failure.BadDate = codes "bad date"

@@ -1,4 +1,3 @@
 pub mod Program
-pub mod FaultNames
 pub mod Failures
 pub mod Endings

@@ -1,50 +1,31 @@
--- The command line: which texts are the date of a run, and which values its options have.
-use Rattle.std.specs.Prelude.{◌≡◌, ◌≢◌, ◌⊎◌, ℕ, Bool, true, false, List, Option, Some, None, IsSome, IfSome, codes, if◌then◌else◌}
-use Rattle.clap.specs.Words.{first_value, found_of, one_text}
+-- What the command line asks for: the run, its files, and where they are written.
+use Rattle.std.specs.Prelude.{◌≡◌, ◌≢◌, ℕ, Bool, true, false, List, Option, None, IsSome, codes, if◌then◌else◌}
 use Rattle.clap.specs.declared.parser.matches.ArgMatches.{ArgMatches}
 use Rattle.dbf_fields.specs.declared.day.Day.{Day}
-use Rattle.dbf_fields.specs.Date.{is_date, year_in}
-use Rattle.dbf_image.specs.Image.{IsOutside}
 use Rattle.byte_io.specs.Sink.{grown}
 use Rattle.catalogue_core.specs.declared.entry.Entry.{Entry}
-use Rattle.files_in_place.specs.Folder.{Name, Folder, is_reserved}
+use Rattle.files_in_place.specs.Folder.{Folder}
 use Rattle.station_files.specs.declared.closed.ClosedTable.{ClosedTable}
 use Rattle.station_files.specs.declared.named.NamedFile.{NamedFile}
 use Rattle.station_files.specs.Closing.{first_blocked, run_files}
-use Rattle.station_files.specs.Files.{file_at, files_in, listing}
+use Rattle.station_files.specs.Files.{files_in, listing}
 use Rattle.station_files.specs.declared.close_fault.CloseFault.TheVariants.{Write}
 use Rattle.whole_run.specs.declared.fault.ServeFault.{ServeFault}
 use Rattle.whole_run.specs.declared.fault.ServeFault.TheVariants.{Close, NoMemory}
 use Rattle.whole_run.specs.JournalFile.{and_journal, IsCutRunWithJournal}
+use Rattle.whole_run.specs.Loading.{IsFailure}
 use Rattle.whole_run.specs.WholeRun.{IsServeFault, IsWholeRun, IsCutRun}
+use Rattle.program_text.specs.declared.folder.PlaceFault.TheVariants as place
+use Rattle.program_text.specs.CommandLine.{value_of}
+use Rattle.program_text.specs.PlaceFaults.{IsOfOpenFolder}
+use Rattle.program_text.specs.Placing.{HasFiles}
 use Rattle.station_server.specs.declared.program.failure.Failure.{Failure}
 use Rattle.station_server.specs.declared.program.failure.Failure.TheVariants.{BadDate, Serve, Folder as OfFolder}
 use Rattle.station_server.specs.declared.program.options.Options.{Options}
 
--- eight digits that are a calendar date, of a year that a header can tell
-pub record IsRunDate (text : List ℕ) : Type 0 where
-  pub real : is_date text ≡ true
-  pub years : ¬ IsOutside (year_in text)
-
--- the value of the option of a name
-abbrev pub value_of : ArgMatches → List ℕ → Option (List ℕ)
-value_of matches name = first_value (found_of matches) name
-
--- the flag of a name is given
-abbrev pub HasFlag : ArgMatches → List ℕ → Type 0
-HasFlag matches name = one_text (found_of matches) name ≡ Some (codes "true")
-
--- the flag of a name is not given: nothing is read of it, or its default
-abbrev pub LacksFlag : ArgMatches → List ℕ → Type 0
-LacksFlag matches name = (one_text (found_of matches) name ≡ None) ⊎ (one_text (found_of matches) name ≡ Some (codes "false"))
-
 -- the paths of the setup and of the folder are given
 abbrev pub HasPaths : ArgMatches → Type 0
 HasPaths matches = IsSome (value_of matches (codes "setup")) × IsSome (value_of matches (codes "out"))
-
--- the date that is given is not one of a run
-abbrev pub HasBadDate : ArgMatches → Type 0
-HasBadDate matches = IfSome (value_of matches (codes "today")) (λ text. ¬ IsRunDate text)
 
 -- the files of a run of these tables, answers and journal that the options ask for: the journal's only where it is asked for
 abbrev pub asked_files : Options → List ClosedTable → List (List ℕ) → List Entry → List NamedFile
@@ -73,11 +54,6 @@ IsCutRunBy files options = IsCutRunAs options.journal files options.setup.now op
 abbrev pub UnlessBegunBy : Options → ServeFault → Type 0 → Type 0
 UnlessBegunBy options fault holds = (options.journal ≡ true → fault ≢ NoMemory) → ((name : List ℕ) → fault ≢ Close (Write name)) → holds
 
--- the folder has these files, each of them under its name, and no reserved name
-pub record HasFiles (files : List NamedFile) (folder : Folder) : Type 0 where
-  pub there : (name : Name) (bytes : List ℕ) → is_reserved name ≡ false → file_at files name ≡ Some bytes → folder name ≡ Some bytes
-  pub clean : (name : Name) → is_reserved name ≡ true → folder name ≡ None
-
 -- The run that the options ask for came to its end: these are its tables and answers, and the folder has their files.
 pub record IsInPlace (files : Option (List NamedFile)) (options : Options) (folder : Folder) (count : ℕ) : Type 0 where
   pub tables : List ClosedTable
@@ -89,4 +65,9 @@ pub record IsInPlace (files : Option (List NamedFile)) (options : Options) (fold
 abbrev pub IsPlaceFault : Option (List NamedFile) → Options → Failure → Type 0
 IsPlaceFault files options BadDate = ⊥
 IsPlaceFault files options (Serve fault) = IsServeFault files options.setup.now options.reindex options.today.year fault
-IsPlaceFault files options (OfFolder fault) = Unit {0}
+IsPlaceFault files options (OfFolder fault) = IsOfOpenFolder (place.Folder fault)
+
+-- what a failure says of the count of loads that failed
+abbrev pub IsLoadFailure : Option (List NamedFile) → Option ℕ → Option ℕ → Failure → Type 0
+IsLoadFailure files before after (Serve fault) = IsFailure files before after fault
+IsLoadFailure files before after why = after ≡ before

@@ -14,7 +14,8 @@ ghost use Rattle.std.specs.Prelude.{◌≡◌, ◌++◌, ◌∷◌, [], IfOk};
 use crate::program::{
     Ending, Failure, InPlace, Options, command, options_of, serve_in_place, serve_options, tell,
 };
-use files_in_place::{DiskFault, SystemDisk, lock_folder};
+use files_in_place::SystemDisk;
+use program_text::{PlaceFault, lock_out};
 use station_files::{DiskSource, MissingFolder};
 use station_run::OpenGate;
 use std::alloc::Global;
@@ -54,10 +55,10 @@ fn open_out<R: Files + Drop>(
     rt: R,
     alloc: Global,
     options: &Options<'_>,
-) -> Result<SystemDisk<R>, DiskFault>
+) -> Result<SystemDisk<R>, PlaceFault>
     ensures path { IfOk result (λ disk. disk.path ≡ options.now.out.now ++ 47 ∷ []) }
 {
-    SystemDisk::open(rt, alloc, options.out)
+    Ok(SystemDisk::open(rt, alloc, options.out)?)
 }
 
 // Serves the run over files of the system. No other run writes into the folder meanwhile.
@@ -73,7 +74,7 @@ fn serve_files<R: Runtime + Files<File = File> + AllocGlobal + Threads + Wait + 
         let count = serve_options(rt, alloc, options, &mut source, &mut folder, &OpenGate)?;
         return Ok(count);
     }
-    let lock = lock_folder(rt, options.out)?;
+    let lock = lock_out(rt, options.out)?;
     let disk = open_out(rt.clone()?, alloc, options)?;
     let InPlace { ended, disk: _ } = serve_in_place(
         rt,

@@ -9,16 +9,15 @@
 mod ending;
 mod failure;
 mod in_place;
-mod names;
 mod options;
 mod serving;
 mod telling;
 #[cfg(test)]
 mod tests;
 
-pub(crate) use ending::{Ending, status_of_ending};
-pub(crate) use failure::{Failure, FolderFault, print_failure, status_of};
+pub(crate) use ending::Ending;
+pub(crate) use failure::{Failure, print_failure, status_of};
 pub(crate) use in_place::{InPlace, serve_in_place};
-pub(crate) use options::{Options, command, mistake_status, options_of};
+pub(crate) use options::{Options, command, options_of};
 pub(crate) use serving::serve_options;
-pub(crate) use telling::{Told, fail, print_count, tell};
+pub(crate) use telling::tell;

@@ -72,7 +72,8 @@ UnlessBegun fault holds = fault ≢ NoMemory → ((name : List ℕ) → fault �
 -- ---- the whole
 
 -- A whole run came to its end: its files stand after what was written before, and after them that of its journal.
-pub record IsServedWithJournal (files : Option (List NamedFile)) (setup : List ℕ) (reindex : Bool) (today : Day) (old new : Option (List ℕ)) (count : ℕ) : Type 0 where
+pub record IsServedWithJournal (files : Option (List NamedFile)) (setup : List ℕ) (reindex : Bool) (today : Day)
+    (old new : Option (List ℕ)) (count : ℕ) : Type 0 where
   pub tables : List ClosedTable
   pub answers : List (List ℕ)
   pub run : IsWholeRun files setup reindex tables answers count
@@ -80,7 +81,8 @@ pub record IsServedWithJournal (files : Option (List NamedFile)) (setup : List �
   pub written : new ≡ grown old (listing (and_journal (run_files today tables answers) run.history.journal))
 
 -- a whole run of which the file of this name could not be written, or not whole: those before it are whole
-pub record IsCutRunAt (files : Option (List NamedFile)) (setup : List ℕ) (reindex : Bool) (today : Day) (old new : Option (List ℕ)) (name : List ℕ) : Type 0 where
+pub record IsCutRunAt (files : Option (List NamedFile)) (setup : List ℕ) (reindex : Bool) (today : Day)
+    (old new : Option (List ℕ)) (name : List ℕ) : Type 0 where
   pub tables : List ClosedTable
   pub answers : List (List ℕ)
   pub count : ℕ

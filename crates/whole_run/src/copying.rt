@@ -6,8 +6,8 @@ ghost use Rattle.dbf_image.specs.Table.{IsTable};
 ghost use Rattle.whole_run.specs.HandedOver.{index_of, IsIndexFor, AreHandedOver};
 
 use crate::closing::closed_indexes;
-use crate::named_tables::NamedTables;
 use dbf_fields::Bytes;
+use shared_catalogue::Catalogue;
 use station_files::ClosedTable;
 use std::alloc::{AllocError, Global};
 use table_core::Table;
@@ -32,17 +32,17 @@ fn copied_table(alloc: Global, name: &Bytes, table: &Table) -> Result<ClosedTabl
     })
 }
 
-/// Copies of the tables with their indexes, as they stand now. An error where memory is refused.
-pub(crate) fn copied_tables<T: NamedTables>(
+/// Copies of a catalogue's tables with their indexes, as they stand now. An error where memory is refused.
+pub(crate) fn copied_tables(
     alloc: Global,
-    tables: &T,
+    catalogue: &Catalogue,
 ) -> Result<Vec<ClosedTable>, AllocError>
-    ensures value { IfOk result (λ copies. AreHandedOver (T.history tables.now) copies.items) }
+    ensures value { IfOk result (λ copies. AreHandedOver catalogue.now copies.items) }
 {
     let mut copies = Vec::new(alloc);
-    for i in 0..tables.count() {
+    for i in 0..catalogue.table_count() {
         let number = i as u32 + 1;
-        let copy = copied_table(alloc, tables.name(number), tables.numbered(number))?;
+        let copy = copied_table(alloc, catalogue.table_name(number), catalogue.table(number))?;
         copies.push(copy)?;
     }
     Ok(copies)

@@ -12,7 +12,6 @@ mod fault;
 mod journal;
 mod load;
 mod loaded;
-mod named_tables;
 mod opening;
 mod read_back;
 mod run;

@@ -1,6 +1,7 @@
 //! Whole runs over files in memory. What is expected is written down from the published layouts and dBASE's rules.
 
 mod again;
+mod audited;
 mod dates;
 mod day;
 mod devices;

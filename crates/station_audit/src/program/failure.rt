@@ -5,7 +5,7 @@ ghost use Rattle.std.specs.Io.KnownBytes.{Appends};
 ghost use Rattle.station_audit.specs.Endings.{audit_reason, difference_reason, entry_named, failure_line, performed_answer, reason, status, told_answer};
 
 use audit::{AuditFault, Difference};
-use program_text::{FolderFault, fault_status, folder_text, print_fault};
+use program_text::{FolderFault, PlaceFault, fault_status, folder_text, print_fault};
 use std::alloc::AllocError;
 use std::io;
 use std::io::Write;
@@ -60,6 +60,20 @@ impl From<AuditFault> for Failure {
         match fault {
             AuditFault::NoMemory => Failure::Serve(ServeFault::NoMemory),
             fault => Failure::Audit(fault),
+        }
+    }
+}
+
+impl From<PlaceFault> for Failure {
+    ghost use Rattle.std.specs.Prelude.{◌≡◌};
+    ghost use Rattle.station_audit.specs.Endings.{place_failure};
+
+    ghost from_gives = { λ fault failure. failure ≡ place_failure fault };
+
+    fn from(fault: PlaceFault) -> Failure {
+        match fault {
+            PlaceFault::NoMemory => Failure::Serve(ServeFault::NoMemory),
+            PlaceFault::Folder(fault) => Failure::Folder(fault),
         }
     }
 }

@@ -1,23 +1,19 @@
 //! An audit over the folder of a disk, in which the tables at the journal's end take their places all together.
 
-ghost use Rattle.std.specs.Prelude.{◌≡◌, ◌≢◌, [], IfOk, IfErr, OnOk};
-ghost use Rattle.files_in_place.specs.declared.phase.Phase.TheVariants.{Ended};
+ghost use Rattle.std.specs.Prelude.{◌≡◌, [], IfOk, IfErr, OnOk};
 ghost use Rattle.files_in_place.specs.Disk.{IsSynced};
-ghost use Rattle.program_text.specs.declared.folder.FolderFault.TheVariants.{Unfinished, Unwritten};
-ghost use Rattle.station_audit.specs.declared.program.failure.Failure.TheVariants.{Serve, Folder};
-ghost use Rattle.station_audit.specs.Endings.{given_up, unrecovered_folder};
+ghost use Rattle.station_audit.specs.Endings.{given_up_audit};
+ghost use Rattle.station_audit.specs.Program.{IsLoadFailure};
 ghost use Rattle.station_audit.specs.Writing.{AreInPlace, IsPlaceFailure};
-ghost use Rattle.whole_run.specs.declared.fault.ServeFault.TheVariants.{NoMemory};
 
 use crate::program::failure::Failure;
 use crate::program::options::Options;
 use crate::program::writing::audit_into;
 use dbf_fields::Day;
-use files_in_place::{Disk, DiskFault, SetFault, recover};
-use program_text::FolderFault;
-use station_files::{CloseFault, DiskFolder, Source};
+use files_in_place::{Disk, recover};
+use program_text::{give_up, unfinished, unrecovered};
+use station_files::{DiskFolder, Source};
 use std::alloc::Global;
-use whole_run::ServeFault;
 
 /// How an audit over the folder of a disk ended, and the disk then.
 #[derive(Drop)]
@@ -28,42 +24,17 @@ pub(crate) struct InPlace<D: Disk + Drop> {
     pub disk: D,
 }
 
-// Why an earlier run's files were not brought to their end.
-fn unrecovered(fault: DiskFault) -> Failure
-    ensures value { result ≡ unrecovered_folder fault }
+// Removes the new files, and says why the audit failed.
+fn give_up_audit<D: Disk + Drop>(folder: &mut DiskFolder<D>, failure: Failure) -> Failure
+    ensures value { result ≡ given_up_audit folder.old.fault failure }
 {
-    match fault {
-        DiskFault::NoMemory => Failure::Serve(ServeFault::NoMemory),
-        DiskFault::Failed => Failure::Folder(FolderFault::Unrecovered),
-    }
-}
-
-// Removes the new files, and says why the audit failed. A file that was not written for want of memory is no fault of the
-// disk.
-fn give_up<D: Disk + Drop>(folder: &mut DiskFolder<D>, failure: Failure) -> Failure
-    ensures value { result ≡ given_up folder.old.fault failure }
-{
-    // Where it fails the next start removes them.
-    let _ = folder.abandon();
-    match (failure, folder.fault()) {
-        (Failure::Serve(ServeFault::Close(CloseFault::Write(_))), Some(SetFault::NoMemory)) => {
-            Failure::Serve(ServeFault::NoMemory)
+    match failure {
+        Failure::Serve(fault) => Failure::Serve(give_up(folder, fault)),
+        other => {
+            // Where it fails the next start removes them.
+            let _ = folder.abandon();
+            other
         }
-        (failure, _) => failure,
-    }
-}
-
-// Why the new files are not in place, where the last call on them failed for this. Those that can be removed are.
-fn unfinished<D: Disk + Drop>(folder: &mut DiskFolder<D>, fault: SetFault) -> Failure
-    // Where nothing can be removed any more, files may be in place.
-    ensures ended { folder.old.set.phase ≡ Ended → result ≡ Folder Unfinished }
-    ensures memory { folder.old.set.phase ≢ Ended → fault ≡ SetFault.NoMemory → result ≡ Serve NoMemory }
-    ensures other { folder.old.set.phase ≢ Ended → fault ≢ SetFault.NoMemory → result ≡ Folder Unwritten }
-{
-    match (folder.abandon(), fault) {
-        (Err(SetFault::Closed), _) => Failure::Folder(FolderFault::Unfinished),
-        (_, SetFault::NoMemory) => Failure::Serve(ServeFault::NoMemory),
-        (_, _) => Failure::Folder(FolderFault::Unwritten),
     }
 }
 
@@ -80,13 +51,15 @@ fn place_tables<S: Source, D: Disk + Drop>(
     ensures synced { D.keeps_promises → OnOk result (IsSynced (D.seen folder.new.set.disk) (D.is_whole folder.new.set.disk) (D.may_leave folder.new.set.disk)) }
     ensures fault { IfErr result (IsPlaceFailure (S.files source.old) options.now today.year) }
     ensures kept { S.files source.new ≡ S.files source.old }
+    ensures loads { OnOk result (S.failures source.new ≡ S.failures source.old) }
+    ensures failure { IfErr result (IsLoadFailure (S.files source.old) options.now (S.failures source.old) (S.failures source.new)) }
 {
     match audit_into(alloc, options, today, source, folder) {
         Ok(count) => match folder.finish() {
             Ok(()) => Ok(count),
-            Err(fault) => Err(unfinished(folder, fault)),
+            Err(fault) => Err(Failure::from(unfinished(folder, fault))),
         },
-        Err(failure) => Err(give_up(folder, failure)),
+        Err(failure) => Err(give_up_audit(folder, failure)),
     }
 }
 
@@ -106,11 +79,13 @@ pub(crate) fn audit_in_place<S: Source, D: Disk + Drop>(
     ensures synced { D.keeps_promises → OnOk result.ended (IsSynced (D.seen result.disk) (D.is_whole result.disk) (D.may_leave result.disk)) }
     ensures fault { IfErr result.ended (IsPlaceFailure (S.files source.old) options.now today.year) }
     ensures kept { S.files source.new ≡ S.files source.old }
+    ensures loads { OnOk result.ended (S.failures source.new ≡ S.failures source.old) }
+    ensures failure { IfErr result.ended (IsLoadFailure (S.files source.old) options.now (S.failures source.old) (S.failures source.new)) }
 {
     let mut disk = disk;
     if let Err(fault) = recover(alloc, &mut disk) {
         return InPlace {
-            ended: Err(unrecovered(fault)),
+            ended: Err(Failure::from(unrecovered(fault))),
             disk,
         };
     }

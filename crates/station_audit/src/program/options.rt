@@ -1,12 +1,10 @@
 //! The command line.
 
 ghost use Rattle.std.specs.Prelude.{◌≡◌, codes, Some, None, true, false, IfSome};
-ghost use Rattle.clap.specs.Words.{kind_of};
-ghost use Rattle.station_audit.specs.Endings.{clap_status};
-ghost use Rattle.station_audit.specs.Program.{HasBadDate, HasFlag, HasPaths, LacksFlag, SaysWritten, value_of};
+ghost use Rattle.program_text.specs.CommandLine.{HasBadDate, HasFlag, LacksFlag, value_of};
+ghost use Rattle.station_audit.specs.Program.{HasPaths, SaysWritten};
 
 use clap::builder::ValueParser;
-use clap::error::ErrorKind;
 use clap::{Arg, ArgAction, ArgMatches, Command};
 use dbf_fields::Day;
 use program_text::date_of;
@@ -86,18 +84,6 @@ fn path_option<'a>(alloc: Global, name: &'a str, value_name: &'a str, help: &'a 
         .help(help)
         .action(ArgAction::Set)
         .value_parser(ValueParser::NonEmptyString)
-}
-
-/// The exit status after a command line of which `clap` gave no options: 0 where it asks for the help, 3 where
-/// memory was refused, and else 1.
-pub(crate) fn mistake_status(error: &clap::Error) -> u8
-    ensures value { result ≡ clap_status (kind_of error.now) }
-{
-    match error.kind() {
-        ErrorKind::DisplayHelp => 0,
-        ErrorKind::OutOfMemory => 3,
-        _ => 1,
-    }
 }
 
 // What a command line says of the written tables: nothing, where it has not both the folder and the day. `None` where the

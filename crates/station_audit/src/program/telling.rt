@@ -4,28 +4,16 @@
 ghost use Rattle.std.specs.Prelude.{◌≡◌, IfErr, IfOk, IfSome, IsErr, IsOk, OnOk};
 ghost use Rattle.std.specs.Io.KnownBytes.{Appends};
 ghost use Rattle.std.specs.Process.{exit_status};
-ghost use Rattle.clap.specs.Words.{kind_of};
-ghost use Rattle.station_audit.specs.Endings.{call_status, clap_line, clap_status, count_line, ending_line, ending_status, failure_line, status, unprinted_line};
+ghost use Rattle.station_audit.specs.Endings.{call_status, count_line, ending_line, ending_status, failure_line, status, unprinted_line};
 
-use crate::program::ending::{Ending, status_of_ending};
+use crate::program::ending::Ending;
 use crate::program::failure::{Failure, print_failure, status_of};
-use crate::program::options::mistake_status;
-use clap::error::ErrorKind;
+use program_text::{Told, tell_mistake, tell_no_text, told_by_error, told_by_output};
 use std::io;
 use std::io::Write;
-use std::process::ExitCode;
-use whole_run::ServeFault;
 
-/// How a call of the program ends: its exit status, and whether the two streams took their texts.
-#[derive(Clone, Copy, Debug)]
-pub(crate) struct Told {
-    /// The exit status.
-    pub status: ExitCode,
-    /// Whether standard output took its text. Ok where there is none for it.
-    pub out: io::Result<()>,
-    /// Whether standard error took its text. Ok where there is none for it.
-    pub err: io::Result<()>,
-}
+// The program's name, as it begins what is printed.
+const PROGRAM: &str = "station_audit";
 
 /// Prints how many entries hold: `station_audit: N entries hold` and LF. Takes no memory. An error where a write fails.
 pub(crate) fn print_count<W: Write>(out: &mut W, count: u64) -> io::Result<()>
@@ -50,7 +38,7 @@ pub(crate) fn tell<O: Write, E: Write>(
     match ended {
         Ok(count) => {
             let printed = print_count(out, *count);
-            told_by_output(err, 0, printed)
+            told_by_output(err, PROGRAM, 0, printed)
         }
         Err(ending) => tell_ending(out, err, ending),
     }
@@ -63,32 +51,9 @@ fn tell_ending<O: Write, E: Write>(out: &mut O, err: &mut E, ending: &Ending) ->
     ensures unprinted { IsErr result.out → OnOk result.err (Appends (E.contents err.old) (E.contents err.new) unprinted_line) }
 {
     match ending {
-        Ending::NoText => {
-            let printed = err.write_all(b"error: an argument is no UTF-8 text\n");
-            told_by_error(status_of_ending(ending), printed)
-        }
-        Ending::CommandLine(error) => tell_clap(out, err, error),
+        Ending::NoText => tell_no_text(err),
+        Ending::CommandLine(error) => tell_mistake(out, err, PROGRAM, error),
         Ending::Failed(failure) => fail(err, failure),
-    }
-}
-
-// Prints what `clap` says of a command line: the help on standard output, a mistake on standard error. It has no text
-// where memory was refused.
-fn tell_clap<O: Write, E: Write>(out: &mut O, err: &mut E, error: &clap::Error) -> Told
-    ensures status { exit_status result.status ≡ clap_status (kind_of error.now) }
-    ensures line { IfSome (clap_line (kind_of error.now)) (λ line. OnOk result.err (Appends (E.contents err.old) (E.contents err.new) line)) }
-    ensures unprinted { IsErr result.out → OnOk result.err (Appends (E.contents err.old) (E.contents err.new) unprinted_line) }
-{
-    match error.kind() {
-        ErrorKind::OutOfMemory => fail(err, &Failure::Serve(ServeFault::NoMemory)),
-        ErrorKind::DisplayHelp => {
-            let printed = write!(out, "{error}");
-            told_by_output(err, mistake_status(error), printed)
-        }
-        _ => {
-            let printed = write!(err, "{error}");
-            told_by_error(mistake_status(error), printed)
-        }
     }
 }
 
@@ -100,34 +65,4 @@ pub(crate) fn fail<W: Write>(err: &mut W, failure: &Failure) -> Told
 {
     let printed = print_failure(err, failure);
     told_by_error(status_of(failure), printed)
-}
-
-// What was told by standard error alone.
-fn told_by_error(code: u8, printed: io::Result<()>) -> Told
-    ensures status { exit_status result.status ≡ code }
-    ensures out { IsOk result.out }
-    ensures err { result.err ≡ printed }
-{
-    Told {
-        status: ExitCode::from(code),
-        out: Ok(()),
-        err: printed,
-    }
-}
-
-// What was told by standard output. Where it took no text, standard error is told so.
-fn told_by_output<W: Write>(err: &mut W, code: u8, printed: io::Result<()>) -> Told
-    ensures status { exit_status result.status ≡ code }
-    ensures out { result.out ≡ printed }
-    ensures unprinted { IsErr printed → OnOk result.err (Appends (W.contents err.old) (W.contents err.new) unprinted_line) }
-{
-    let told = match printed {
-        Ok(()) => Ok(()),
-        Err(_) => err.write_all(b"station_audit: cannot print\n"),
-    };
-    Told {
-        status: ExitCode::from(code),
-        out: printed,
-        err: told,
-    }
 }

@@ -3,7 +3,8 @@
 ghost use Rattle.std.specs.Prelude.{◌≡◌, ◌≢◌, ℕ, List, Err, IfOk, IfErr, OnOk};
 ghost use Rattle.byte_io.specs.Sink.{Rises};
 ghost use Rattle.station_audit.specs.declared.program.failure.Failure.TheVariants.{Serve};
-ghost use Rattle.station_audit.specs.Writing.{IsWrittenBy, IsUnwritten};
+ghost use Rattle.station_audit.specs.Program.{IsLoadFailure};
+ghost use Rattle.station_audit.specs.Writing.{IsCutAudit, IsWrittenBy, IsUnwritten};
 
 use crate::program::auditing::audited_tables;
 use crate::program::failure::Failure;
@@ -27,8 +28,12 @@ pub(crate) fn audit_into<S: Source, F: Folder>(
     ensures no_failure { OnOk result (F.failures folder.new ≡ F.failures folder.old) }
     ensures fault { IfErr result (IsUnwritten (S.files source.old) options.now today.year) }
     ensures kept { S.files source.new ≡ S.files source.old }
+    // A file can't be read only where a load has failed, or where it is over the limit.
+    ensures loads { OnOk result (S.failures source.new ≡ S.failures source.old) }
+    ensures failure { IfErr result (IsLoadFailure (S.files source.old) options.now (S.failures source.old) (S.failures source.new)) }
     ensures no_file_begun { IfErr result (λ failure. ((name : List ℕ) → failure ≢ Serve (ServeFault.Close (CloseFault.Write name))) → folder.new ≡ folder.old) }
     ensures failed { (name : List ℕ) → result ≡ Err (Serve (ServeFault.Close (CloseFault.Write name))) → Rises (F.failures folder.old) (F.failures folder.new) }
+    ensures whole_before_fault { IfErr result (IsCutAudit (S.files source.old) options.now today (F.written folder.old) (F.written folder.new)) }
 {
     let catalogue = audited_tables(alloc, options, source)?;
     write_tables(alloc, &catalogue, today, folder)?;

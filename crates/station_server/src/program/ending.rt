@@ -1,11 +1,7 @@
 //! How a call of the program ends that writes no files, or not all.
 
-ghost use Rattle.std.specs.Prelude.{◌≡◌};
-ghost use Rattle.station_server.specs.Endings.{ending_status};
-
-use crate::program::failure::{Failure, FolderFault, status_of};
-use crate::program::options::mistake_status;
-use files_in_place::{DiskFault, LockFault};
+use crate::program::failure::Failure;
+use program_text::PlaceFault;
 use std::alloc::AllocError;
 use std::io;
 use whole_run::ServeFault;
@@ -19,19 +15,6 @@ pub(crate) enum Ending {
     CommandLine(clap::Error),
     /// The date is bad, or the run did not come to its end.
     Failed(Failure),
-}
-
-/// The exit status of a call of the program that did not write all files: 0 where the help is asked for, 1 where an
-/// argument, the command line, the date or the setup is bad, 2 for a file and the opening, 3 for the run and for want
-/// of memory, 4 for the writing.
-pub(crate) fn status_of_ending(ending: &Ending) -> u8
-    ensures value { result ≡ ending_status ending.now }
-{
-    match ending {
-        Ending::NoText => 1,
-        Ending::CommandLine(error) => mistake_status(error),
-        Ending::Failed(failure) => status_of(failure),
-    }
 }
 
 // A fault in reading the arguments: a want of memory, and else that one is no UTF-8 text.
@@ -97,34 +80,18 @@ impl From<Failure> for Ending {
     }
 }
 
-// A fault in opening the folder for the new files.
-impl From<DiskFault> for Ending {
+// A fault in locking or opening the folder for the new files.
+impl From<PlaceFault> for Ending {
     ghost use Rattle.std.specs.Prelude.{◌≡◌};
     ghost use Rattle.station_server.specs.declared.program.ending.Ending.TheVariants.{Failed};
-    ghost use Rattle.station_server.specs.Endings.{unopened_folder};
+    ghost use Rattle.station_server.specs.Failures.{place_failure};
 
-    ghost from_gives = { λ fault ending. ending ≡ Failed (unopened_folder fault) };
+    ghost from_gives = { λ fault ending. ending ≡ Failed (place_failure fault) };
 
-    fn from(fault: DiskFault) -> Ending {
+    fn from(fault: PlaceFault) -> Ending {
         match fault {
-            DiskFault::NoMemory => Ending::Failed(Failure::Serve(ServeFault::NoMemory)),
-            DiskFault::Failed => Ending::Failed(Failure::Folder(FolderFault::Unopened)),
-        }
-    }
-}
-
-impl From<LockFault> for Ending {
-    ghost use Rattle.std.specs.Prelude.{◌≡◌};
-    ghost use Rattle.station_server.specs.declared.program.ending.Ending.TheVariants.{Failed};
-    ghost use Rattle.station_server.specs.Endings.{unlocked_folder};
-
-    ghost from_gives = { λ fault ending. ending ≡ Failed (unlocked_folder fault) };
-
-    fn from(fault: LockFault) -> Ending {
-        match fault {
-            LockFault::InUse => Ending::Failed(Failure::Folder(FolderFault::InUse)),
-            LockFault::NoMemory => Ending::Failed(Failure::Serve(ServeFault::NoMemory)),
-            LockFault::Failed => Ending::Failed(Failure::Folder(FolderFault::Unopened)),
+            PlaceFault::NoMemory => Ending::Failed(Failure::Serve(ServeFault::NoMemory)),
+            PlaceFault::Folder(fault) => Ending::Failed(Failure::Folder(fault)),
         }
     }
 }

@@ -1,23 +1,19 @@
 //! The whole run over the folder of a disk, whose new files take their places all together.
 
-ghost use Rattle.std.specs.Prelude.{◌≡◌, ◌≢◌, [], IfOk, IfErr, OnOk};
-ghost use Rattle.files_in_place.specs.declared.phase.Phase.TheVariants.{Ended};
+ghost use Rattle.std.specs.Prelude.{◌≡◌, [], IfOk, IfErr, OnOk};
 ghost use Rattle.files_in_place.specs.Disk.{IsSynced};
-ghost use Rattle.station_server.specs.declared.program.failure.Failure.TheVariants.{Serve, Folder};
-ghost use Rattle.station_server.specs.Endings.{given_up, unrecovered_folder};
-ghost use Rattle.station_server.specs.Program.{IsInPlace, IsPlaceFault};
-ghost use Rattle.whole_run.specs.declared.fault.ServeFault.TheVariants.{NoMemory};
+ghost use Rattle.station_server.specs.Program.{IsInPlace, IsLoadFailure, IsPlaceFault};
 
-use crate::program::failure::{Failure, FolderFault};
+use crate::program::failure::Failure;
 use crate::program::options::Options;
 use crate::program::serving::serve_options;
-use files_in_place::{Disk, DiskFault, SetFault, recover};
-use station_files::{CloseFault, DiskFolder, Source};
+use files_in_place::{Disk, recover};
+use program_text::{give_up, unfinished, unrecovered};
+use station_files::{DiskFolder, Source};
 use station_run::Gate;
 use std::alloc::Global;
 use std::sync::Wait;
 use std::thread::Threads;
-use whole_run::ServeFault;
 
 /// How a run over the folder of a disk ended, and the disk then.
 #[derive(Drop)]
@@ -26,44 +22,6 @@ pub(crate) struct InPlace<D: Disk + Drop> {
     pub ended: Result<u64, Failure>,
     /// The disk.
     pub disk: D,
-}
-
-// Why an earlier run's files were not brought to their end.
-fn unrecovered(fault: DiskFault) -> Failure
-    ensures value { result ≡ unrecovered_folder fault }
-{
-    match fault {
-        DiskFault::NoMemory => Failure::Serve(ServeFault::NoMemory),
-        DiskFault::Failed => Failure::Folder(FolderFault::Unrecovered),
-    }
-}
-
-// Removes the new files, and says why the run failed. A file that was not written for want of memory is no fault of the disk.
-fn give_up<D: Disk + Drop>(folder: &mut DiskFolder<D>, fault: ServeFault) -> Failure
-    ensures value { result ≡ Serve (given_up folder.old.fault fault) }
-{
-    // Where it fails the next start removes them.
-    let _ = folder.abandon();
-    match (fault, folder.fault()) {
-        (ServeFault::Close(CloseFault::Write(_)), Some(SetFault::NoMemory)) => {
-            Failure::Serve(ServeFault::NoMemory)
-        }
-        (fault, _) => Failure::Serve(fault),
-    }
-}
-
-// Why the new files are not in place, where the last call on them failed for this. Those that can be removed are.
-fn unfinished<D: Disk + Drop>(folder: &mut DiskFolder<D>, fault: SetFault) -> Failure
-    // Where nothing can be removed any more, files may be in place.
-    ensures ended { folder.old.set.phase ≡ Ended → result ≡ Folder FolderFault.Unfinished }
-    ensures memory { folder.old.set.phase ≢ Ended → fault ≡ SetFault.NoMemory → result ≡ Serve NoMemory }
-    ensures other { folder.old.set.phase ≢ Ended → fault ≢ SetFault.NoMemory → result ≡ Folder FolderFault.Unwritten }
-{
-    match (folder.abandon(), fault) {
-        (Err(SetFault::Closed), _) => Failure::Folder(FolderFault::Unfinished),
-        (_, SetFault::NoMemory) => Failure::Serve(ServeFault::NoMemory),
-        (_, _) => Failure::Folder(FolderFault::Unwritten),
-    }
 }
 
 // Serves the run into the folder, and puts its files in place.
@@ -80,13 +38,15 @@ fn serve_into<S: Source, D: Disk + Drop, G: Gate + Sync, R: Threads + Wait + Syn
     ensures synced { D.keeps_promises → OnOk result (IsSynced (D.seen folder.new.set.disk) (D.is_whole folder.new.set.disk) (D.may_leave folder.new.set.disk)) }
     ensures fault { IfErr result (IsPlaceFault (S.files source.old) options.now) }
     ensures kept { S.files source.new ≡ S.files source.old }
+    ensures loads { OnOk result (S.failures source.new ≡ S.failures source.old) }
+    ensures failure { IfErr result (IsLoadFailure (S.files source.old) (S.failures source.old) (S.failures source.new)) }
 {
     match serve_options(rt, alloc, options, source, folder, gate) {
         Ok(count) => match folder.finish() {
             Ok(()) => Ok(count),
-            Err(fault) => Err(unfinished(folder, fault)),
+            Err(fault) => Err(Failure::from(unfinished(folder, fault))),
         },
-        Err(fault) => Err(give_up(folder, fault)),
+        Err(fault) => Err(Failure::Serve(give_up(folder, fault))),
     }
 }
 
@@ -106,11 +66,14 @@ pub(crate) fn serve_in_place<S: Source, D: Disk + Drop, G: Gate + Sync, R: Threa
     ensures synced { D.keeps_promises → OnOk result.ended (IsSynced (D.seen result.disk) (D.is_whole result.disk) (D.may_leave result.disk)) }
     ensures fault { IfErr result.ended (IsPlaceFault (S.files source.old) options.now) }
     ensures kept { S.files source.new ≡ S.files source.old }
+    // A file can't be read only where a load has failed, or where it is over the limit.
+    ensures loads { OnOk result.ended (S.failures source.new ≡ S.failures source.old) }
+    ensures failure { IfErr result.ended (IsLoadFailure (S.files source.old) (S.failures source.old) (S.failures source.new)) }
 {
     let mut disk = disk;
     if let Err(fault) = recover(alloc, &mut disk) {
         return InPlace {
-            ended: Err(unrecovered(fault)),
+            ended: Err(Failure::from(unrecovered(fault))),
             disk,
         };
     }

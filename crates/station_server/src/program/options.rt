@@ -1,16 +1,15 @@
 //! The command line.
 
-ghost use Rattle.std.specs.Prelude.{◌≡◌, ◌↔◌, codes, Some, None, true, false, IsSome, IfSome};
-ghost use Rattle.clap.specs.Words.{kind_of};
+ghost use Rattle.std.specs.Prelude.{◌≡◌, codes, Some, None, true, false, IfSome};
 ghost use Rattle.dbf_fields.specs.Date.{SaysDay};
 ghost use Rattle.dbf_image.specs.Image.{IsOutside};
-ghost use Rattle.station_server.specs.Endings.{clap_status};
-ghost use Rattle.station_server.specs.Program.{HasBadDate, HasFlag, HasPaths, IsRunDate, LacksFlag, value_of};
+ghost use Rattle.program_text.specs.CommandLine.{HasBadDate, HasFlag, LacksFlag, value_of};
+ghost use Rattle.station_server.specs.Program.{HasPaths};
 
 use clap::builder::ValueParser;
-use clap::error::ErrorKind;
 use clap::{Arg, ArgAction, ArgMatches, Command};
-use dbf_fields::{DateCell, Day, read_date};
+use dbf_fields::Day;
+use program_text::date_of;
 use std::alloc::{AllocError, Global};
 
 // What the help tells after the options.
@@ -87,37 +86,6 @@ fn required_option<'a>(
         .required(true)
         .action(ArgAction::Set)
         .value_parser(ValueParser::NonEmptyString)
-}
-
-/// The exit status after a command line of which `clap` gave no options: 0 where it asks for the help, 3 where
-/// memory was refused, and else 1.
-pub(crate) fn mistake_status(error: &clap::Error) -> u8
-    ensures value { result ≡ clap_status (kind_of error.now) }
-{
-    match error.kind() {
-        ErrorKind::DisplayHelp => 0,
-        ErrorKind::OutOfMemory => 3,
-        _ => 1,
-    }
-}
-
-/// The date that a text is: eight digits `YYYYMMDD` of a calendar date of the years 1900 to 2155. `None` for
-/// every other text. Takes no memory.
-pub(crate) fn date_of(text: &[u8]) -> Option<Day>
-    ensures some { IsSome result ↔ IsRunDate text.now }
-    ensures said { IfSome result (λ day. SaysDay text.now day) }
-    ensures years { IfSome result (λ day. ¬ IsOutside day.year) }
-{
-    match read_date(text) {
-        DateCell::Is(day) => {
-            if day.year < 1900 || day.year > 2155 {
-                return None;
-            }
-            Some(day)
-        }
-        DateCell::Blank => None,
-        DateCell::Odd => None,
-    }
 }
 
 /// What a command line says that `clap` has read. `None` where the date is no calendar date of the years 1900

@@ -1,11 +1,11 @@
 mod ends;
 
-use crate::program::options::date_of;
-use crate::program::{Failure, command, mistake_status, options_of, print_failure, status_of};
+use crate::program::{Failure, command, options_of, print_failure, status_of};
 use dbf_fields::{Bytes, day_of};
 use dbf_image::ImageFault;
 use key_expr::ExprFault;
 use ndx_index::NdxFault;
+use program_text::{date_of, mistake_status};
 use shared_catalogue::{OpenFault, SettleFault, Stop};
 use station_files::CloseFault;
 use station_run::RunFault;
@@ -349,11 +349,6 @@ fn failures_of_the_run(rt: HostRuntime) -> Result<(), Fail> {
             stopped(RunFault::Settle(SettleFault::SeatMissing(1))),
             3,
             "station_server: run: SeatMissing\n",
-        ),
-        (
-            stopped(RunFault::Settle(SettleFault::ReceiptMismatch(1))),
-            3,
-            "station_server: run: ReceiptMismatch\n",
         ),
         (
             stopped(RunFault::NoMemory),

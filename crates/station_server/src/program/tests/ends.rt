@@ -1,11 +1,12 @@
 //! How calls of the program end: what is written, what is printed, and the exit status.
 
 use crate::program::{
-    Ending, Failure, FolderFault, InPlace, Options, command, serve_in_place, serve_options, tell,
+    Ending, Failure, InPlace, Options, command, serve_in_place, serve_options, tell,
 };
 use dbf_fields::{Bytes, day_of};
 use dbf_image::Failures;
 use files_in_place::{DiskFault, LockFault, SystemDisk};
+use program_text::{FolderFault, PlaceFault};
 use station_files::{CloseFault, MemoryFolder, MemorySource, NamedFile};
 use station_run::OpenGate;
 use std::alloc::{AllocError, Global};
@@ -191,6 +192,16 @@ For more information, try '--help'.
     Ok(())
 }
 
+// A call that got no lock on the folder.
+fn unlocked(fault: LockFault) -> Result<u64, Ending> {
+    Err(Ending::from(PlaceFault::from(fault)))
+}
+
+// A call that could not open the folder.
+fn unopened_by(fault: DiskFault) -> Result<u64, Ending> {
+    Err(Ending::from(PlaceFault::from(fault)))
+}
+
 #[test]
 fn each_end_at_the_folder_has_its_status_and_line(rt: HostRuntime) -> Result<(), Fail> {
     let of_folder = |fault| Err(Ending::Failed(Failure::Folder(fault)));
@@ -201,11 +212,11 @@ fn each_end_at_the_folder_has_its_status_and_line(rt: HostRuntime) -> Result<(),
     let unfinished = "station_server: not all new files are in place: the next start goes on\n";
     let no_memory = "station_server: run: NoMemory\n";
     let cases = [
-        (Err(Ending::from(LockFault::InUse)), 4, "", in_use),
-        (Err(Ending::from(LockFault::Failed)), 4, "", unopened),
-        (Err(Ending::from(LockFault::NoMemory)), 3, "", no_memory),
-        (Err(Ending::from(DiskFault::Failed)), 4, "", unopened),
-        (Err(Ending::from(DiskFault::NoMemory)), 3, "", no_memory),
+        (unlocked(LockFault::InUse), 4, "", in_use),
+        (unlocked(LockFault::Failed), 4, "", unopened),
+        (unlocked(LockFault::NoMemory), 3, "", no_memory),
+        (unopened_by(DiskFault::Failed), 4, "", unopened),
+        (unopened_by(DiskFault::NoMemory), 3, "", no_memory),
         (of_folder(FolderFault::Unrecovered), 4, "", unrecovered),
         (of_folder(FolderFault::Unwritten), 4, "", unwritten),
         (of_folder(FolderFault::Unfinished), 4, "", unfinished),

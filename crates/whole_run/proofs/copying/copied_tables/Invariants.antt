@@ -5,8 +5,8 @@ use Rattle.whole_run.specs.HandedOver.{IsHandedOver}
 use Rattle.whole_run.proofs.copying.copied_tables.Given as goal
 
 abbrev pub invariant-loop-i : goal.invariant-loop-i
-invariant-loop-i g l =
-    let h = g.T.NamedTables.history l.tables in
+invariant-loop-i l =
+    let h = l.catalogue in
     record {
       count : length l.copies.items ≡ l.i;
       each : (j : ℕ) → j < l.i → (t : ClosedTable) × (slice_get l.copies.items j ≡ Some t) × IsHandedOver h (j + 1) t;

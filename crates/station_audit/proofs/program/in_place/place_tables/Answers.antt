@@ -1,6 +1,7 @@
 use Rattle.std.proofs.Common.{sym, subst}
+use Rattle.station_audit.specs.Program.{IsLoadFailure}
 use Rattle.station_audit.specs.Writing.{IsPlaceFailure}
-use Rattle.station_audit.proofs.WritingLaws.{in_place, unfinished_failure, given_up_failure}
+use Rattle.station_audit.proofs.WritingLaws.{in_place, unplaced, unplaced_load, given_up_failure, given_up_load}
 use Rattle.station_audit.proofs.program.in_place.place_tables.Goals as goal
 
 pub returns-in-Ok-finish-clause-placed : goal.returns-in-Ok-finish-clause-placed
@@ -9,11 +10,17 @@ returns-in-Ok-finish-clause-placed g c promised =
     (g.D.Disk.seen c.finish.new.self.set.disk) c.in-Ok.ensures.wrote c.requires.written (c.in-Ok-finish.ensures.placed promised)
 
 pub returns-in-Err-finish-clause-fault : goal.returns-in-Err-finish-clause-fault
-returns-in-Err-finish-clause-fault g c =
-    unfinished_failure (g.S.Source.files c.args.source.now) c.args.options.now c.args.today.year c.finish.new.self.set.phase c.in-Err-finish.fault c.unfinished.result c.unfinished.ensures.ended c.unfinished.ensures.memory
-    c.unfinished.ensures.other
+returns-in-Err-finish-clause-fault g c = unplaced (g.S.Source.files c.args.source.now) c.args.options.now c.args.today.year c.unfinished.result c.from.result c.from.ensures c.unfinished.ensures.of_open_folder
+
+pub returns-in-Err-finish-clause-failure : goal.returns-in-Err-finish-clause-failure
+returns-in-Err-finish-clause-failure g c = unplaced_load (g.S.Source.files c.args.source.now) c.args.options.now _ _ c.unfinished.result c.from.result c.from.ensures c.in-Ok.ensures.loads
 
 pub returns-in-Err-clause-fault : goal.returns-in-Err-clause-fault
 returns-in-Err-clause-fault g c =
-    subst (IsPlaceFailure (g.S.Source.files c.args.source.now) c.args.options.now c.args.today.year) (sym c.give_up.ensures.value)
+    subst (IsPlaceFailure (g.S.Source.files c.args.source.now) c.args.options.now c.args.today.year) (sym c.give_up_audit.ensures.value)
     (given_up_failure (g.S.Source.files c.args.source.now) c.args.options.now c.args.today.year _ _ c.in-Err.ensures.fault)
+
+pub returns-in-Err-clause-failure : goal.returns-in-Err-clause-failure
+returns-in-Err-clause-failure g c =
+    subst (IsLoadFailure (g.S.Source.files c.args.source.now) c.args.options.now (g.S.Source.failures c.args.source.now) (g.S.Source.failures c.audit_into.new.source)) (sym c.give_up_audit.ensures.value)
+    (given_up_load (g.S.Source.files c.args.source.now) c.args.options.now (g.S.Source.failures c.args.source.now) (g.S.Source.failures c.audit_into.new.source) _ _ c.in-Err.ensures.failure)

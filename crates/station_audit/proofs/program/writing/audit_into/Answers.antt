@@ -1,7 +1,7 @@
 use Rattle.std.proofs.Common.{refl, ap}
 use Rattle.station_audit.specs.declared.program.failure.Failure.TheVariants.{Serve}
 use Rattle.station_audit.proofs.ProgramLaws.{err_exit}
-use Rattle.station_audit.proofs.WritingLaws.{unwritten_audit, unwritten_tables, no_close}
+use Rattle.station_audit.proofs.WritingLaws.{unwritten_audit, unwritten_tables, no_close, loaded_tables, uncut_audit, cut_audit}
 use Rattle.station_audit.proofs.program.writing.audit_into.Goals as goal
 
 pub returns-in_err-catalogue-clause-fault : goal.returns-in_err-catalogue-clause-fault
@@ -21,3 +21,18 @@ returns-in_err-write_tables-clause-fault g c =
 pub returns-in_err-write_tables-clause-no_file_begun : goal.returns-in_err-write_tables-clause-no_file_begun
 returns-in_err-write_tables-clause-no_file_begun g c =
     err_exit _ _ c.from_residual-in_err-write_tables.ensures.1 (λ other. c.in_err-write_tables.ensures.no_file_begun (λ name e. other name (ap Serve e)))
+
+pub returns-in_err-catalogue-clause-failure : goal.returns-in_err-catalogue-clause-failure
+returns-in_err-catalogue-clause-failure g c = err_exit _ _ c.from_residual.ensures.1 c.in_err-catalogue.ensures.failure
+
+pub returns-in_err-catalogue-clause-whole_before_fault : goal.returns-in_err-catalogue-clause-whole_before_fault
+returns-in_err-catalogue-clause-whole_before_fault g c = err_exit _ _ c.from_residual.ensures.1 (uncut_audit _ _ c.args.today _ _ c.in_err-catalogue.field-0.0 c.in_err-catalogue.ensures.fault)
+
+pub returns-in_err-write_tables-clause-failure : goal.returns-in_err-write_tables-clause-failure
+returns-in_err-write_tables-clause-failure g c =
+    err_exit _ _ c.from_residual-in_err-write_tables.ensures.1 (loaded_tables _ _ c.args.today.year _ _ _ c.in_err-write_tables.field-0.0 c.in_ok-catalogue.ensures.audited c.in_ok-catalogue.ensures.loads c.in_err-write_tables.ensures.fault)
+
+pub returns-in_err-write_tables-clause-whole_before_fault : goal.returns-in_err-write_tables-clause-whole_before_fault
+returns-in_err-write_tables-clause-whole_before_fault g c =
+    err_exit _ _ c.from_residual-in_err-write_tables.ensures.1
+    (cut_audit _ _ c.args.today _ _ _ c.in_err-write_tables.field-0.0 c.in_ok-catalogue.ensures.audited c.in_err-write_tables.ensures.whole_before_fault)

@@ -1,4 +1,4 @@
-use Rattle.station_server.proofs.Printing.{appends_then}
+use Rattle.program_text.proofs.Printing.{appends_then}
 use Rattle.station_server.proofs.program.failure.print_failure.Goals as goal
 
 pub returns : goal.returns

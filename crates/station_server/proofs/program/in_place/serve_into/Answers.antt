@@ -1,4 +1,4 @@
-use Rattle.station_server.proofs.InPlaceLaws.{in_place, unfinished_fault}
+use Rattle.station_server.proofs.InPlaceLaws.{given_up_fault, given_up_load, in_place, unplaced, unplaced_load}
 use Rattle.station_server.proofs.program.in_place.serve_into.Goals as goal
 
 pub returns-in-Ok-finish-clause-placed : goal.returns-in-Ok-finish-clause-placed
@@ -7,5 +7,13 @@ returns-in-Ok-finish-clause-placed g c promised =
     c.in-Ok.ensures.ran c.requires.written (c.in-Ok-finish.ensures.placed promised)
 
 pub returns-in-Err-finish-clause-fault : goal.returns-in-Err-finish-clause-fault
-returns-in-Err-finish-clause-fault g c =
-    unfinished_fault (g.S.Source.files c.args.source.now) c.args.options.now c.finish.new.self.set.phase c.in-Err-finish.fault c.unfinished.result c.unfinished.ensures.ended c.unfinished.ensures.memory c.unfinished.ensures.other
+returns-in-Err-finish-clause-fault g c = unplaced (g.S.Source.files c.args.source.now) c.args.options.now c.unfinished.result c.from.result c.from.ensures c.unfinished.ensures.of_open_folder
+
+pub returns-in-Err-finish-clause-failure : goal.returns-in-Err-finish-clause-failure
+returns-in-Err-finish-clause-failure g c = unplaced_load (g.S.Source.files c.args.source.now) _ _ c.unfinished.result c.from.result c.from.ensures c.in-Ok.ensures.loads
+
+pub returns-in-Err-clause-fault : goal.returns-in-Err-clause-fault
+returns-in-Err-clause-fault g c = given_up_fault (g.S.Source.files c.args.source.now) c.args.options.now _ _ _ c.give_up.ensures.value c.in-Err.ensures.fault
+
+pub returns-in-Err-clause-failure : goal.returns-in-Err-clause-failure
+returns-in-Err-clause-failure g c = given_up_load (g.S.Source.files c.args.source.now) (g.S.Source.failures c.args.source.now) (g.S.Source.failures c.serve_options.new.source) _ _ _ c.give_up.ensures.value c.in-Err.ensures.failure

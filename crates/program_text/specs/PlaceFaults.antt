@@ -1,0 +1,42 @@
+-- Why new files are not in place: what a fault of their disk, their lock or their run says.
+use Rattle.std.specs.Prelude.{Option, Some}
+use Rattle.files_in_place.specs.declared.faults.DiskFault.{DiskFault}
+use Rattle.files_in_place.specs.declared.faults.DiskFault.TheVariants as disk
+use Rattle.files_in_place.specs.declared.faults.SetFault.{SetFault}
+use Rattle.files_in_place.specs.declared.faults.SetFault.TheVariants as set
+use Rattle.files_in_place.specs.declared.folder_lock.LockFault.{LockFault}
+use Rattle.files_in_place.specs.declared.folder_lock.LockFault.TheVariants as lock
+use Rattle.station_files.specs.declared.close_fault.CloseFault.TheVariants as close
+use Rattle.whole_run.specs.declared.fault.ServeFault.{ServeFault}
+use Rattle.whole_run.specs.declared.fault.ServeFault.TheVariants as serve
+use Rattle.program_text.specs.declared.folder.FolderFault.TheVariants as folder
+use Rattle.program_text.specs.declared.folder.PlaceFault.{PlaceFault}
+use Rattle.program_text.specs.declared.folder.PlaceFault.TheVariants as place
+
+-- why the folder can't be opened
+abbrev pub unopened_folder : DiskFault → PlaceFault
+unopened_folder disk.NoMemory = place.NoMemory
+unopened_folder disk.Failed = place.Folder folder.Unopened
+
+-- why it can't be locked
+abbrev pub unlocked_folder : LockFault → PlaceFault
+unlocked_folder lock.InUse = place.Folder folder.InUse
+unlocked_folder lock.NoMemory = place.NoMemory
+unlocked_folder lock.Failed = place.Folder folder.Unopened
+
+-- why what an earlier run left is not brought to its end
+abbrev pub unrecovered_folder : DiskFault → PlaceFault
+unrecovered_folder disk.NoMemory = place.NoMemory
+unrecovered_folder disk.Failed = place.Folder folder.Unrecovered
+
+-- why a run failed, where the folder says why its last call failed that has: a file that was not written for want of memory
+-- is no fault of the disk
+abbrev pub given_up : Option SetFault → ServeFault → ServeFault
+given_up (Some set.NoMemory) (serve.Close (close.Write name)) = serve.NoMemory
+given_up why fault = fault
+
+-- so may a fault come of a folder that was locked and opened
+abbrev pub IsOfOpenFolder : PlaceFault → Type 0
+IsOfOpenFolder (place.Folder folder.InUse) = ⊥
+IsOfOpenFolder (place.Folder folder.Unopened) = ⊥
+IsOfOpenFolder fault = Unit {0}

@@ -1,0 +1,36 @@
+-- What a program says at its end, where that is the same for all of them: the exit status, and what is printed.
+use Rattle.std.specs.Prelude.{ℕ, List, ◌++◌, ◌∷◌, [], codes, Option, Some, None}
+use Rattle.clap.specs.declared.error.kind.ErrorKind.{ErrorKind}
+use Rattle.clap.specs.declared.error.kind.ErrorKind.TheVariants as kind
+use Rattle.station_lines.specs.declared.script.format.TheConstants.{LF}
+
+-- ---- the exit status
+
+-- where an argument is no UTF-8 text
+abbrev pub no_text_status : ℕ
+no_text_status = 1
+
+-- where `clap` gave no options: the help is asked for, memory was refused, or there is a mistake
+abbrev pub mistake_status : ErrorKind → ℕ
+mistake_status kind.DisplayHelp = 0
+mistake_status kind.OutOfMemory = 3
+mistake_status _ = 1
+
+-- ---- what is printed
+
+-- on standard error where standard output took no text of this program
+abbrev pub unprinted_line : List ℕ → List ℕ
+unprinted_line program = program ++ (codes ": cannot print" ++ LF ∷ [])
+
+-- on standard error where an argument is no UTF-8 text
+abbrev pub no_text_line : List ℕ
+no_text_line = codes "error: an argument is no UTF-8 text" ++ LF ∷ []
+
+-- on standard error where this program was refused memory
+abbrev pub no_memory_line : List ℕ → List ℕ
+no_memory_line program = program ++ (codes ": run: NoMemory" ++ LF ∷ [])
+
+-- the line for which `clap` has no text of its own: that memory was refused
+abbrev pub mistake_line : List ℕ → ErrorKind → Option (List ℕ)
+mistake_line program kind.OutOfMemory = Some (no_memory_line program)
+mistake_line program _ = None

@@ -1,0 +1,56 @@
+//! New files that take their places in a folder all together, and what is said where they don't.
+
+ghost use Rattle.std.specs.Prelude.{◌≡◌, ◌≢◌};
+ghost use Rattle.files_in_place.specs.declared.phase.Phase.TheVariants.{Ended};
+ghost use Rattle.program_text.specs.PlaceFaults.{IsOfOpenFolder, given_up, unrecovered_folder};
+
+use crate::folder::{FolderFault, PlaceFault};
+use files_in_place::{Disk, DiskFault, FolderLock, SetFault, lock_folder};
+use station_files::{CloseFault, DiskFolder};
+use std::fs::File;
+use std::rt::Files;
+use whole_run::ServeFault;
+
+/// Locks the folder for the new files, without waiting: see [`lock_folder`].
+pub fn lock_out<R: Files<File = File>>(rt: &R, path: &str) -> Result<FolderLock, PlaceFault> {
+    Ok(lock_folder(rt, path)?)
+}
+
+/// Why an earlier run's files were not brought to their end.
+pub fn unrecovered(fault: DiskFault) -> PlaceFault
+    ensures value { result ≡ unrecovered_folder fault }
+    ensures of_open_folder { IsOfOpenFolder result }
+{
+    match fault {
+        DiskFault::NoMemory => PlaceFault::NoMemory,
+        DiskFault::Failed => PlaceFault::Folder(FolderFault::Unrecovered),
+    }
+}
+
+/// Removes the new files of a run that failed for this, and says why it did: a file that was not written for want of memory
+/// is no fault of the disk.
+pub fn give_up<D: Disk + Drop>(folder: &mut DiskFolder<D>, fault: ServeFault) -> ServeFault
+    ensures value { result ≡ given_up folder.old.fault fault }
+{
+    // Where it fails the next start removes them.
+    let _ = folder.abandon();
+    match (fault, folder.fault()) {
+        (ServeFault::Close(CloseFault::Write(_)), Some(SetFault::NoMemory)) => ServeFault::NoMemory,
+        (fault, _) => fault,
+    }
+}
+
+/// Why the new files are not in place, where the last call on them failed for this. Those that can be removed are.
+pub fn unfinished<D: Disk + Drop>(folder: &mut DiskFolder<D>, fault: SetFault) -> PlaceFault
+    // Where nothing can be removed any more, files may be in place.
+    ensures ended { folder.old.set.phase ≡ Ended → result ≡ PlaceFault.Folder FolderFault.Unfinished }
+    ensures memory { folder.old.set.phase ≢ Ended → fault ≡ SetFault.NoMemory → result ≡ PlaceFault.NoMemory }
+    ensures other { folder.old.set.phase ≢ Ended → fault ≢ SetFault.NoMemory → result ≡ PlaceFault.Folder FolderFault.Unwritten }
+    ensures of_open_folder { IsOfOpenFolder result }
+{
+    match (folder.abandon(), fault) {
+        (Err(SetFault::Closed), _) => PlaceFault::Folder(FolderFault::Unfinished),
+        (_, SetFault::NoMemory) => PlaceFault::NoMemory,
+        (_, _) => PlaceFault::Folder(FolderFault::Unwritten),
+    }
+}

@@ -1,0 +1,87 @@
+-- The journal of a run: its commands are those of the scripts' lines.
+use Rattle.std.proofs.Common.{◌≡◌, ℕ, ◌+◌, ◌-◌, ◌<◌, ◌≤◌, Bool, true, false, cond, List, [], ◌∷◌, Option, map, refl, sym, ◌∙◌, subst, inl, inr, arith, eq-eqb}
+use Rattle.std.specs.Prelude.{◌==◌, filter}
+use Rattle.std.specs.List.{AllByRecursion}
+use Rattle.std.proofs.lemmas.Bool.{false≢true}
+use Rattle.catalogue_core.specs.declared.catalogue.TheConstants.{MAX_ENTRIES}
+use Rattle.catalogue_core.specs.declared.entry.Entry.{Entry}
+use Rattle.catalogue_core.specs.Replay.{Opened, AreOfStations}
+use Rattle.shared_catalogue.specs.declared.receipt.Receipt.{Receipt}
+use Rattle.shared_catalogue.specs.OwnCalls.{receipt_of, of_station}
+use Rattle.station_lines.specs.CommandLines.{IsOfALine}
+use Rattle.station_lines.specs.JournalLines.{journal_text}
+use Rattle.station_files.specs.declared.closed.ClosedTable.{ClosedTable}
+use Rattle.station_files.specs.declared.named.NamedFile.{NamedFile}
+use Rattle.station_run.specs.Reports.{Shown, answered, status, AreShown, receipts_of, AreReports}
+use Rattle.audit.specs.declared.fault.AuditFault.{AuditFault}
+use Rattle.audit.specs.declared.fault.AuditFault.TheVariants.{NoEntry, Differs, TooLong, NoMemory}
+use Rattle.audit.specs.Audits.{AreOfLines, IsJournalOf, RefutesAll}
+use Rattle.whole_run.specs.OpenedSetup.{IsOpenedBy}
+use Rattle.whole_run.specs.WholeRun.{IsWholeRun}
+
+-- the command of the receipt is one that a line means
+abbrev IsOfLine : Receipt → Type 0
+IsOfLine r = IsOfALine r.command
+
+-- the commands among what is shown for lines are those that the lines mean
+shown_of_lines : (lines : List (List ℕ)) (shown : List Shown) → AreShown lines shown → AllByRecursion IsOfLine (receipts_of shown)
+shown_of_lines [] [] h = tt
+shown_of_lines [] (x ∷ xs) h = absurd h
+shown_of_lines (line ∷ lines) [] h = tt
+shown_of_lines (line ∷ lines) (answered r ∷ xs) h =
+    elim h [ inl blank ↦ shown_of_lines lines (answered r ∷ xs) blank.1 | inr next ↦ ((line, next.0), shown_of_lines lines xs next.1) ]
+shown_of_lines (line ∷ lines) (status row ∷ xs) h =
+    elim h [ inl blank ↦ shown_of_lines lines (status row ∷ xs) blank.1 | inr next ↦ shown_of_lines lines xs next.1 ]
+
+-- one entry, which is the station's or not
+own_entry : (station : ℕ) (e : Entry) (own : List Entry) (mine : Bool) → (e.station == station) ≡ mine → AllByRecursion IsOfLine (map receipt_of (cond mine (e ∷ own) own))
+    → (e.station ≡ station → IsOfALine e.command) × AllByRecursion IsOfLine (map receipt_of own)
+own_entry station e own true is h = (λ same. h.0, h.1)
+own_entry station e own false is h = (λ same. absurd (false≢true (sym is ∙ eq-eqb e.station station same)), h)
+
+-- where a station's commands are of lines, its entries' are
+own_of_lines : (station : ℕ) (journal : List Entry) → AllByRecursion IsOfLine (of_station journal station) → AllByRecursion (λ (e : Entry). e.station ≡ station → IsOfALine e.command) journal
+own_of_lines station [] h = tt
+own_of_lines station (e ∷ es) h =
+    let both = own_entry station e (filter (λ (x : Entry). x.station == station) es) (e.station == station) refl h in
+    (both.0, own_of_lines station es both.1)
+
+-- each entry is of one of the stations
+all_of_lines : (stations : ℕ) (journal : List Entry) → ((i : ℕ) → i < stations → AllByRecursion (λ (e : Entry). e.station ≡ i + 1 → IsOfALine e.command) journal)
+    → AllByRecursion (λ (e : Entry). (1 ≤ e.station) × (e.station ≤ stations)) journal → AreOfLines journal
+all_of_lines stations [] own of = tt
+all_of_lines stations (e ∷ es) own of =
+    let low : e.station - 1 < stations = omega (arith, of.0.0, of.0.1) in
+    let at : e.station ≡ (e.station - 1) + 1 = omega (arith, of.0.0) in
+    ((own (e.station - 1) low).0 at, all_of_lines stations es (λ i less. (own i less).1) of.1)
+
+-- the commands of a run's journal are those of lines
+of_lines : (opened : Opened) (journal : List Entry) (scripts answers : List (List ℕ)) → AreReports opened journal scripts answers → AreOfStations opened journal → AreOfLines journal
+of_lines opened journal scripts answers reports of =
+    all_of_lines opened.stations journal
+    (λ i low.
+    let report = (reports.each i low).4 in
+    let lines = report.for_script in
+    own_of_lines (i + 1) journal (subst (AllByRecursion IsOfLine) report.own (shown_of_lines lines.0 report.shown lines.2)))
+    of
+
+pub journal_of_run : (files : Option (List NamedFile)) (setup : List ℕ) (reindex : Bool) (tables : List ClosedTable) (answers : List (List ℕ)) (count : ℕ) (run : IsWholeRun files setup reindex tables answers count)
+    → count ≤ MAX_ENTRIES → IsJournalOf run.history.opened (journal_text run.history.journal) run.history.journal
+journal_of_run files setup reindex tables answers count run few = record {
+  text_is = refl;
+  legal = run.legal;
+  of_stations = run.of_stations;
+  of_lines = of_lines run.history.opened run.history.journal run.read.scripts answers run.run.reports run.of_stations;
+  few = subst (λ (n : ℕ). n ≤ MAX_ENTRIES) run.counted few;
+}
+
+pub opened_by : (files : Option (List NamedFile)) (setup : List ℕ) (reindex : Bool) (tables : List ClosedTable) (answers : List (List ℕ)) (count : ℕ) (run : IsWholeRun files setup reindex tables answers count)
+    → IsOpenedBy files setup reindex run.history.opened
+opened_by files setup reindex tables answers count run = record { read = run.read; all = run.all; from = record { opening = run.run.opened; stations = run.run.stations } }
+
+-- where the text is a journal's, only want of memory refutes nothing
+pub only_memory : (opened : Opened) (text : List ℕ) (journal : List Entry) (fault : AuditFault) → IsJournalOf opened text journal → RefutesAll opened text fault → fault ≡ NoMemory
+only_memory opened text journal (NoEntry n) is refuted = absurd (refuted journal is)
+only_memory opened text journal (Differs d) is refuted = absurd (refuted journal is)
+only_memory opened text journal TooLong is refuted = absurd (refuted journal is)
+only_memory opened text journal NoMemory is refuted = refl

@@ -1,0 +1,14 @@
+//! The journal that a run has written holds in an audit.
+
+ghost use Rattle.std.specs.Prelude.{ℕ, List, Option};
+ghost use Rattle.station_files.specs.declared.named.NamedFile.{NamedFile};
+ghost use Rattle.station_audit.specs.Laws.{HoldsInAudits, OpensAsAnAudit, WritesAJournal};
+
+/// A law: the last file of a run whose journal is written, as `whole_run`'s `serve_with_journal` writes it, is the journal of
+/// a legal history on the tables as they were opened, and an audit of it on these tables says that all entries hold, or that
+/// memory was refused.
+pub(crate) fn journals_of_runs_hold()
+    ensures opened { (files : Option (List NamedFile)) (setup : List ℕ) → OpensAsAnAudit files setup }
+    ensures journal { (files : Option (List NamedFile)) (setup : List ℕ) → WritesAJournal files setup }
+    ensures holds { (files : Option (List NamedFile)) (setup : List ℕ) → HoldsInAudits files setup }
+{}

@@ -1,0 +1,108 @@
+//! The journal of a run of sixteen stations, performed once more.
+
+use crate::tests::{SETUP, has_file, office};
+use audit::audit;
+use dbf_fields::{Bytes, day_of};
+use station_files::{MemoryFolder, MemorySource};
+use station_run::OpenGate;
+use std::alloc::{AllocError, Global};
+use std::sync::Wait;
+use std::test::Fail;
+use std::thread::Threads;
+use whole_run::{open_setup, serve_with_journal, write_tables};
+
+const STATIONS: u64 = 16;
+
+// How often each station goes through its eight lines.
+const ROUNDS: usize = 250;
+
+// How many lines that is.
+const LINES: u64 = 2_000;
+
+// The lines of a round. While another station has the table's lock, those that need it are refused.
+const ROUND: &[u8] = b"USE L
+? FLOCK()
+APPEND BLANK
+REPLACE NAME WITH \"STAR\"
+SEEK \"STAR\"
+? RECNO()
+DELETE
+UNLOCK
+";
+
+// A script of the rounds.
+fn rounds(alloc: Global) -> Result<Vec<u8>, AllocError> {
+    let mut script = Vec::new(alloc);
+    for _ in 0..ROUNDS {
+        script.extend_from_slice(ROUND)?;
+    }
+    Ok(script)
+}
+
+// Sixteen stations that write into one table, which has an index, and its files.
+fn sixteen(alloc: Global) -> Result<MemorySource, AllocError> {
+    let mut setup = Vec::from_slice(alloc, b"TABLE L empty.dbf\nINDEX L X x.ndx\n")?;
+    for _ in 0..STATIONS {
+        setup.extend_from_slice(b"STATION s.prg\n")?;
+    }
+    office(alloc, setup.as_slice(), rounds(alloc)?.as_slice())
+}
+
+// What a run writes, its journal last.
+fn served<R: Threads + Wait + Sync>(
+    rt: &R,
+    alloc: Global,
+    source: &mut MemorySource,
+) -> Result<MemoryFolder, Fail> {
+    let setup = Bytes::from_slice(alloc, SETUP)?;
+    let today = day_of(1987, 3, 15).ok_or("a date")?;
+    let mut folder = MemoryFolder::new(alloc);
+    match serve_with_journal(
+        rt,
+        alloc,
+        &setup,
+        today,
+        false,
+        source,
+        &mut folder,
+        &OpenGate,
+    ) {
+        Ok(count) if count == STATIONS * LINES => Ok(folder),
+        _ => Err("another count of commands".into()),
+    }
+}
+
+// The tables at the end of a journal that holds, as they are written.
+fn audited(alloc: Global, source: &mut MemorySource, journal: &[u8]) -> Result<MemoryFolder, Fail> {
+    let setup = Bytes::from_slice(alloc, SETUP)?;
+    let today = day_of(1987, 3, 15).ok_or("a date")?;
+    let mut catalogue = open_setup(alloc, &setup, false, source).map_err(|_| "no tables")?;
+    match audit(alloc, &mut catalogue, journal) {
+        Ok(count) if count == STATIONS * LINES => {}
+        _ => return Err("an entry does not hold".into()),
+    }
+    let mut folder = MemoryFolder::new(alloc);
+    write_tables(alloc, &catalogue, today, &mut folder).map_err(|_| "no files")?;
+    Ok(folder)
+}
+
+// Whether a folder's first files are the other's.
+fn begins_with(folder: &MemoryFolder, other: &MemoryFolder) -> bool {
+    for (place, file) in other.files.iter().enumerate() {
+        if !has_file(folder, place, file.name.as_slice(), file.bytes.as_slice()) {
+            return false;
+        }
+    }
+    true
+}
+
+#[test]
+fn journal_of_sixteen_stations_holds(rt: HostRuntime) -> Result<(), Fail> {
+    let alloc = rt.alloc();
+    let mut source = sixteen(alloc)?;
+    let folder = served(&rt, alloc, &mut source)?;
+    let journal = folder.files.last().ok_or("a journal")?;
+    let again = audited(alloc, &mut source, journal.bytes.as_slice())?;
+    assert!(rt; again.files.len() == 2 && begins_with(&folder, &again));
+    Ok(())
+}
