@@ -1,1 +1,4 @@
 pub mod FindingLaws
+pub mod AppendLaws
+pub mod TallyLaws
+pub mod DamageLaws

@@ -1,5 +1,5 @@
 -- What is found at the entries of a setup.
-use Rattle.std.specs.Prelude.{◌≡◌, ◌≢◌, ◌⊎◌, ℕ, Bool, true, false, List, [], ◌∷◌, length, slice_get, count_by, Option, Some, None, Result, Ok, Err}
+use Rattle.std.specs.Prelude.{◌≡◌, ◌≢◌, ℕ, Bool, true, false, List, [], ◌∷◌, ◌++◌, length, slice_get, count_by, Option, Some, None, Result, Ok, Err}
 use Rattle.std.specs.List.{position}
 use Rattle.dbf_image.specs.declared.fault.ImageFault.{ImageFault}
 use Rattle.dbf_image.specs.declared.fault.ImageFault.TheVariants.{NoMemory as NoRoomForTable}
@@ -80,34 +80,41 @@ pub record IsNamed (files : Option (List NamedFile)) (entries : List SetupEntry)
   pub there : slice_get entries place ≡ Some entry
   pub table_of : IsTableOf files entry table
 
--- what an index's file is beside the table of a name
-abbrev pub IsBeside : Option (List NamedFile) → List SetupEntry → List ℕ → NdxFile → IndexState → Type 0
-IsBeside files entries name file state = (state ≡ HasNoTable) ⊎ ((table : Content) × IsNamed files entries name table × IsIndexState table file state)
+-- there is no such entry, or what was found at it is a refusal
+abbrev pub IsRefusedAt : List Finding → Option ℕ → Type 0
+IsRefusedAt findings None = Unit {0}
+IsRefusedAt findings (Some place) = (fault : EntryFault) × (slice_get findings place ≡ Some (found.Refused fault))
 
-abbrev pub IsIndexFinding : Option (List NamedFile) → List SetupEntry → List ℕ → List ℕ → IndexFinding → Type 0
-IsIndexFinding files entries table ndx found =
-    (file : NdxFile) × IsIndexLook files ndx (Ok file) × (found.keys ≡ length file.pairs.items) × IsBeside files entries table file found.state
+-- what an index's file is beside the table of a name, by the entries before its own and what was found at them
+abbrev pub IsBeside : Option (List NamedFile) → List SetupEntry → List Finding → List ℕ → NdxFile → IndexState → Type 0
+IsBeside files before findings name file HasNoTable = IsRefusedAt findings (first_table name before)
+IsBeside files before findings name file state = (table : Content) × IsNamed files before name table × IsIndexState table file state
 
--- what is found at an entry among the entries of a setup: what its files are, or why they are refused
-abbrev pub IsFinding : Option (List NamedFile) → List SetupEntry → SetupEntry → Finding → Type 0
-IsFinding files entries (Table name dbf dbt) (found.Table counts) = (table : Content) × IsTableLook files dbf dbt (Ok table) × IsCounts table counts
-IsFinding files entries (Table name dbf dbt) (found.Refused fault) = IsTableLook files dbf dbt (Err fault)
-IsFinding files entries (Index table name ndx) (found.Index index) = IsIndexFinding files entries table ndx index
-IsFinding files entries (Index table name ndx) (found.Refused fault) = IsIndexLook files ndx (Err fault)
-IsFinding files entries (Station script) found.Script = (bytes : List ℕ) × IsFileOf files script bytes
-IsFinding files entries (Station script) (found.Refused fault) = fault ≡ CannotRead
-IsFinding files entries entry finding = ⊥
+abbrev pub IsIndexFinding : Option (List NamedFile) → List SetupEntry → List Finding → List ℕ → List ℕ → IndexFinding → Type 0
+IsIndexFinding files before findings table ndx found =
+    (file : NdxFile) × IsIndexLook files ndx (Ok file) × (found.keys ≡ length file.pairs.items) × IsBeside files before findings table file found.state
 
--- a finding for each of some entries among all
-abbrev pub AreFindingsOf : Option (List NamedFile) → List SetupEntry → List SetupEntry → List Finding → Type 0
-AreFindingsOf files all [] [] = Unit {0}
-AreFindingsOf files all [] (finding ∷ findings) = ⊥
-AreFindingsOf files all (entry ∷ entries) [] = ⊥
-AreFindingsOf files all (entry ∷ entries) (finding ∷ findings) = IsFinding files all entry finding × AreFindingsOf files all entries findings
+-- what is found at an entry after others: what its files are, or why they are refused
+abbrev pub IsFinding : Option (List NamedFile) → List SetupEntry → List Finding → SetupEntry → Finding → Type 0
+IsFinding files before findings (Table name dbf dbt) (found.Table counts) = (table : Content) × IsTableLook files dbf dbt (Ok table) × IsCounts table counts
+IsFinding files before findings (Table name dbf dbt) (found.Refused fault) = IsTableLook files dbf dbt (Err fault)
+IsFinding files before findings (Index table name ndx) (found.Index index) = IsIndexFinding files before findings table ndx index
+IsFinding files before findings (Index table name ndx) (found.Refused fault) = IsIndexLook files ndx (Err fault)
+IsFinding files before findings (Station script) found.Script = (bytes : List ℕ) × IsFileOf files script bytes
+IsFinding files before findings (Station script) (found.Refused fault) = fault ≡ CannotRead
+IsFinding files before findings entry finding = ⊥
+
+-- a finding for each of the entries after others
+abbrev pub AreFindingsAfter : Option (List NamedFile) → List SetupEntry → List Finding → List SetupEntry → List Finding → Type 0
+AreFindingsAfter files before findings [] [] = Unit {0}
+AreFindingsAfter files before findings [] (finding ∷ more) = ⊥
+AreFindingsAfter files before findings (entry ∷ entries) [] = ⊥
+AreFindingsAfter files before findings (entry ∷ entries) (finding ∷ more) =
+    IsFinding files before findings entry finding × AreFindingsAfter files (before ++ entry ∷ []) (findings ++ finding ∷ []) entries more
 
 -- a finding for each entry of a setup
 abbrev pub AreFindings : Option (List NamedFile) → List SetupEntry → List Finding → Type 0
-AreFindings files entries findings = AreFindingsOf files entries entries findings
+AreFindings files entries findings = AreFindingsAfter files [] [] entries findings
 
 -- the index is the table's as it is
 abbrev pub is_fresh : IndexState → Bool

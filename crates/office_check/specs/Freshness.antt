@@ -7,6 +7,7 @@ use Rattle.key_expr.specs.Keys.{key_length}
 use Rattle.key_expr.specs.Rules.{IsKeyText, IsFault}
 use Rattle.ndx_index.specs.declared.read.NdxFile.{NdxFile}
 use Rattle.ndx_index.specs.TableOrder.{pairs_of}
+use Rattle.office_check.specs.Damage.{damage_of}
 use Rattle.office_check.specs.declared.freshness.IndexState.{IndexState}
 use Rattle.office_check.specs.declared.freshness.IndexState.TheVariants.{Fresh, NoTable, NoExpression, OtherLength, Stale}
 
@@ -27,11 +28,11 @@ abbrev pub IsIndexStateWith : Table → NdxFile → Expr → IndexState → Type
 IsIndexStateWith table file e NoTable = ⊥
 IsIndexStateWith table file e (NoExpression fault) = ⊥
 IsIndexStateWith table file e (OtherLength own wanted) = (own ≡ file.key_len) × (wanted ≡ key_length table.schema e) × (HasLength table file e → ⊥)
-IsIndexStateWith table file e Stale = HasLength table file e × (HasPairs table file e → ⊥)
+IsIndexStateWith table file e (Stale damage) = HasLength table file e × (HasPairs table file e → ⊥) × (damage ≡ damage_of table e file.pairs.items)
 IsIndexStateWith table file e Fresh = HasLength table file e × HasPairs table file e
 
 -- what a file is beside a table
 abbrev pub IsIndexState : Table → NdxFile → IndexState → Type 0
-IsIndexState table file NoTable = Unit {0}
+IsIndexState table file NoTable = ⊥
 IsIndexState table file (NoExpression fault) = (fault ≢ NoMemory) × IsFault fault table.schema file.expr
 IsIndexState table file state = (e : Expr) × HasExpression table file e × IsIndexStateWith table file e state

@@ -1,5 +1,5 @@
 -- What is found at the entries of a setup, in words.
-use Rattle.std.specs.Prelude.{ℕ, List, [], ◌∷◌, ◌++◌, Some, codes}
+use Rattle.std.specs.Prelude.{ℕ, List, [], ◌∷◌, ◌++◌, Option, Some, None, codes}
 use Rattle.std.specs.Fmt.{decimal}
 use Rattle.dbf_image.specs.declared.fault.ImageFault.{ImageFault}
 use Rattle.dbf_image.specs.declared.fault.ImageFault.TheVariants as image
@@ -10,6 +10,8 @@ use Rattle.ndx_index.specs.declared.fault.NdxFault.TheVariants as index
 use Rattle.station_lines.specs.declared.script.format.TheConstants.{LF}
 use Rattle.station_lines.specs.declared.setup.entry.SetupEntry.{SetupEntry}
 use Rattle.station_lines.specs.declared.setup.entry.SetupEntry.TheVariants.{Table, Index, Station}
+use Rattle.office_check.specs.declared.damage.ForeignPair.{ForeignPair}
+use Rattle.office_check.specs.declared.damage.IndexDamage.{IndexDamage}
 use Rattle.office_check.specs.declared.fault.EntryFault.{EntryFault}
 use Rattle.office_check.specs.declared.fault.EntryFault.TheVariants.{CannotRead, CannotReadMemos, NoTable, NoIndex}
 use Rattle.office_check.specs.declared.finding.Finding.{Finding}
@@ -17,6 +19,7 @@ use Rattle.office_check.specs.declared.finding.Finding.TheVariants as found
 use Rattle.office_check.specs.declared.finding.TableCounts.{TableCounts}
 use Rattle.office_check.specs.declared.freshness.IndexState.{IndexState}
 use Rattle.office_check.specs.declared.freshness.IndexState.TheVariants.{Fresh, NoTable as HasNoTable, NoExpression, OtherLength, Stale}
+use Rattle.office_check.specs.ShownKey.{shown_key}
 
 -- why bytes are no table
 abbrev pub table_refusal : ImageFault → List ℕ
@@ -74,17 +77,40 @@ length_words own wanted = decimal own ++ (codes ", not " ++ decimal wanted)
 abbrev pub counts_words : TableCounts → List ℕ
 counts_words counts = decimal counts.records ++ (codes " records, " ++ (decimal counts.marked ++ codes " marked: good"))
 
+-- how many pairs are foreign, missing and doubled
+abbrev pub damage_counts : IndexDamage → List ℕ
+damage_counts damage = decimal damage.foreign ++ (codes " foreign, " ++ (decimal damage.missing ++ (codes " missing, " ++ (decimal damage.doubled ++ codes " doubled"))))
+
+-- the key of the record of a foreign pair's number, which is another, or that there is none
+abbrev pub record_key_words : Option (List ℕ) → List ℕ
+record_key_words (Some key) = codes ", not " ++ shown_key key
+record_key_words None = codes ", and there is no such record"
+
+-- a foreign pair
+abbrev pub foreign_words : ForeignPair → List ℕ
+foreign_words pair =
+    codes "pair " ++ (decimal pair.pair_number ++ (codes ", record " ++ (decimal pair.record_number ++ (codes ", key " ++ (shown_key pair.key ++ record_key_words pair.record_key)))))
+
+-- the first of them, where there is one
+abbrev pub first_words : Option ForeignPair → List ℕ
+first_words None = []
+first_words (Some pair) = codes "; the first foreign is " ++ foreign_words pair
+
+abbrev pub damage_words : IndexDamage → List ℕ
+damage_words damage = damage_counts damage ++ (first_words damage.first_foreign ++ codes "; --reindex makes it anew")
+
 -- what the file of an index is beside its table
 abbrev pub state_begin : IndexState → List ℕ
 state_begin Fresh = codes "good"
 state_begin HasNoTable = codes "its table is refused"
 state_begin (NoExpression why) = codes "no key expression for its table: "
 state_begin (OtherLength own wanted) = codes "stale: the length of its keys is not its expression's; --reindex makes it anew: "
-state_begin Stale = codes "stale: its pairs are not those of the table's records; --reindex makes it anew"
+state_begin (Stale damage) = codes "stale: "
 
 abbrev pub state_rest : IndexState → List ℕ
 state_rest (NoExpression why) = expression_refusal why ++ offset_words why
 state_rest (OtherLength own wanted) = length_words own wanted
+state_rest (Stale damage) = damage_words damage
 state_rest _ = []
 
 abbrev pub state_words : IndexState → List ℕ

@@ -13,7 +13,7 @@ pub struct TableCounts {
 }
 
 /// What an index's file is.
-#[derive(Clone, Copy, Debug, PartialEq, Eq)]
+#[derive(Clone, Copy, PartialEq, Eq)]
 pub struct IndexFinding {
     /// How many keys it has.
     pub keys: usize,
@@ -22,7 +22,7 @@ pub struct IndexFinding {
 }
 
 /// What is found at an entry of a setup.
-#[derive(Clone, Copy, Debug, PartialEq, Eq)]
+#[derive(Clone, Copy, PartialEq, Eq)]
 pub enum Finding {
     /// Its files are those of a table.
     Table(TableCounts),

@@ -3,14 +3,18 @@
 ghost use Rattle.std.specs.Prelude.{◌≡◌, ◌++◌, length, IfOk, OnOk};
 ghost use Rattle.std.specs.Fmt.{decimal};
 ghost use Rattle.office_check.specs.Lines.{counts_words, expression_refusal, finding_words, index_refusal, length_words, offset_words, refusal_words, table_refusal};
+ghost use Rattle.office_check.specs.Lines.{damage_counts, damage_words, first_words, foreign_words, record_key_words};
 ghost use Rattle.office_check.specs.Lines.{state_begin as begin_of_state, state_rest, state_words};
+ghost use Rattle.office_check.specs.ShownKey.{shown_key};
 ghost use Rattle.office_check.specs.Lines.{entry_lines, entry_name as name_in, entry_path as path_in, setup_lines, memos_line, words_line};
 
+use crate::damage::{ForeignPair, IndexDamage};
 use crate::fault::EntryFault;
 use crate::finding::{Finding, TableCounts};
 use crate::freshness::IndexState;
+use crate::shown_key::append_key;
 use dbf_image::ImageFault;
-use key_expr::ExprFault;
+use key_expr::{ExprFault, Key};
 use ndx_index::NdxFault;
 use station_lines::{LF, SetupEntry};
 use std::alloc::{AllocError, Global};
@@ -123,8 +127,8 @@ fn append_lengths(
     append_number(alloc, text, wanted)
 }
 
-fn state_begin(state: IndexState) -> &'static [u8]
-    ensures value { result.now ≡ begin_of_state state }
+fn state_begin(state: &IndexState) -> &'static [u8]
+    ensures value { result.now ≡ begin_of_state state.now }
 {
     match state {
         IndexState::Fresh => b"good",
@@ -133,45 +137,115 @@ fn state_begin(state: IndexState) -> &'static [u8]
         IndexState::OtherLength(_, _) => {
             b"stale: the length of its keys is not its expression's; --reindex makes it anew: "
         }
-        IndexState::Stale => {
-            b"stale: its pairs are not those of the table's records; --reindex makes it anew"
-        }
+        IndexState::Stale(_) => b"stale: ",
     }
 }
 
-fn append_state_rest(alloc: Global, text: &mut Vec<u8>, state: IndexState) -> Result<(), AllocError>
-    ensures ok { OnOk result (text.new.items ≡ text.old.items ++ state_rest state) }
+// How many pairs are foreign, missing and doubled.
+fn append_damage_counts(
+    alloc: Global,
+    text: &mut Vec<u8>,
+    damage: &IndexDamage,
+) -> Result<(), AllocError>
+    ensures ok { OnOk result (text.new.items ≡ text.old.items ++ damage_counts damage.now) }
+{
+    append_number(alloc, text, damage.foreign)?;
+    text.extend_from_slice(b" foreign, ")?;
+    append_number(alloc, text, damage.missing)?;
+    text.extend_from_slice(b" missing, ")?;
+    append_number(alloc, text, damage.doubled)?;
+    text.extend_from_slice(b" doubled")
+}
+
+// The key of the record of a foreign pair's number.
+fn append_record_key(text: &mut Vec<u8>, key: &Option<Key>) -> Result<(), AllocError>
+    ensures ok { OnOk result (text.new.items ≡ text.old.items ++ record_key_words key.now) }
+{
+    match key {
+        Some(key) => {
+            text.extend_from_slice(b", not ")?;
+            append_key(text, key.as_bytes())
+        }
+        None => text.extend_from_slice(b", and there is no such record"),
+    }
+}
+
+fn append_foreign(alloc: Global, text: &mut Vec<u8>, pair: &ForeignPair) -> Result<(), AllocError>
+    ensures ok { OnOk result (text.new.items ≡ text.old.items ++ foreign_words pair.now) }
+{
+    text.extend_from_slice(b"pair ")?;
+    append_number(alloc, text, pair.pair_number)?;
+    text.extend_from_slice(b", record ")?;
+    append_number(alloc, text, pair.record_number as usize)?;
+    text.extend_from_slice(b", key ")?;
+    append_key(text, pair.key.as_bytes())?;
+    append_record_key(text, &pair.record_key)
+}
+
+// The first foreign pair, where there is one.
+fn append_first(
+    alloc: Global,
+    text: &mut Vec<u8>,
+    first: &Option<ForeignPair>,
+) -> Result<(), AllocError>
+    ensures ok { OnOk result (text.new.items ≡ text.old.items ++ first_words first.now) }
+{
+    match first {
+        Some(pair) => {
+            text.extend_from_slice(b"; the first foreign is ")?;
+            append_foreign(alloc, text, pair)
+        }
+        None => Ok(()),
+    }
+}
+
+// In what the pairs of a stale index differ from the table's.
+fn append_damage(alloc: Global, text: &mut Vec<u8>, damage: &IndexDamage) -> Result<(), AllocError>
+    ensures ok { OnOk result (text.new.items ≡ text.old.items ++ damage_words damage.now) }
+{
+    append_damage_counts(alloc, text, damage)?;
+    append_first(alloc, text, &damage.first_foreign)?;
+    text.extend_from_slice(b"; --reindex makes it anew")
+}
+
+fn append_state_rest(
+    alloc: Global,
+    text: &mut Vec<u8>,
+    state: &IndexState,
+) -> Result<(), AllocError>
+    ensures ok { OnOk result (text.new.items ≡ text.old.items ++ state_rest state.now) }
 {
     match state {
         IndexState::NoExpression(why) => {
-            text.extend_from_slice(expression_words(why))?;
-            append_offset(alloc, text, why)
+            text.extend_from_slice(expression_words(*why))?;
+            append_offset(alloc, text, *why)
         }
-        IndexState::OtherLength(own, wanted) => append_lengths(alloc, text, own, wanted),
+        IndexState::OtherLength(own, wanted) => append_lengths(alloc, text, *own, *wanted),
+        IndexState::Stale(damage) => append_damage(alloc, text, damage),
         _ => Ok(()),
     }
 }
 
 // What an index is beside its table.
-fn append_state(alloc: Global, text: &mut Vec<u8>, state: IndexState) -> Result<(), AllocError>
-    ensures ok { OnOk result (text.new.items ≡ text.old.items ++ state_words state) }
+fn append_state(alloc: Global, text: &mut Vec<u8>, state: &IndexState) -> Result<(), AllocError>
+    ensures ok { OnOk result (text.new.items ≡ text.old.items ++ state_words state.now) }
 {
     text.extend_from_slice(state_begin(state))?;
     append_state_rest(alloc, text, state)
 }
 
-fn append_finding(alloc: Global, text: &mut Vec<u8>, finding: Finding) -> Result<(), AllocError>
-    ensures ok { OnOk result (text.new.items ≡ text.old.items ++ finding_words finding) }
+fn append_finding(alloc: Global, text: &mut Vec<u8>, finding: &Finding) -> Result<(), AllocError>
+    ensures ok { OnOk result (text.new.items ≡ text.old.items ++ finding_words finding.now) }
 {
     match finding {
-        Finding::Table(counts) => append_counts(alloc, text, counts),
+        Finding::Table(counts) => append_counts(alloc, text, *counts),
         Finding::Index(index) => {
             append_number(alloc, text, index.keys)?;
             text.extend_from_slice(b" keys: ")?;
-            append_state(alloc, text, index.state)
+            append_state(alloc, text, &index.state)
         }
         Finding::Script => text.extend_from_slice(b"good"),
-        Finding::Refused(fault) => append_refusal(text, fault),
+        Finding::Refused(fault) => append_refusal(text, *fault),
     }
 }
 
@@ -186,8 +260,8 @@ fn entry_name(entry: &SetupEntry) -> &[u8]
 }
 
 // The path of an entry that is told.
-fn entry_path(entry: &SetupEntry, finding: Finding) -> &[u8]
-    ensures value { result.now ≡ path_in entry.now finding }
+fn entry_path<'a>(entry: &'a SetupEntry, finding: &Finding) -> &'a [u8]
+    ensures value { result.now ≡ path_in entry.now finding.now }
 {
     match entry {
         SetupEntry::Table { dbf, dbt, .. } => match (dbt, finding) {
@@ -216,9 +290,9 @@ fn append_line(text: &mut Vec<u8>, name: &[u8], path: &[u8], words: &[u8]) -> Re
 fn append_memo_line(
     text: &mut Vec<u8>,
     entry: &SetupEntry,
-    finding: Finding,
+    finding: &Finding,
 ) -> Result<(), AllocError>
-    ensures ok { OnOk result (text.new.items ≡ text.old.items ++ memos_line entry.now finding) }
+    ensures ok { OnOk result (text.new.items ≡ text.old.items ++ memos_line entry.now finding.now) }
 {
     match (entry, finding) {
         (
@@ -237,9 +311,9 @@ fn append_entry(
     alloc: Global,
     text: &mut Vec<u8>,
     entry: &SetupEntry,
-    finding: Finding,
+    finding: &Finding,
 ) -> Result<(), AllocError>
-    ensures ok { OnOk result (text.new.items ≡ text.old.items ++ entry_lines entry.now finding) }
+    ensures ok { OnOk result (text.new.items ≡ text.old.items ++ entry_lines entry.now finding.now) }
 {
     let mut words = Vec::new(alloc);
     append_finding(alloc, &mut words, finding)?;
@@ -266,7 +340,7 @@ pub fn findings_text(
 {
     let mut text = Vec::new(alloc);
     for (index, entry) in entries.iter().enumerate() {
-        append_entry(alloc, &mut text, entry, findings[index])?;
+        append_entry(alloc, &mut text, entry, &findings[index])?;
     }
     Ok(text)
 }

@@ -1,8 +1,10 @@
 //! The files of an entry.
 
-ghost use Rattle.std.specs.Prelude.{◌≡◌, ◌+◌, ◌≤◌, length, count_by, IfOk, IfSome};
+ghost use Rattle.std.specs.Prelude.{◌≡◌, ◌+◌, ◌≤◌, ℕ, List, Option, length, count_by, IfOk, IfSome};
+ghost use Rattle.station_files.specs.declared.named.NamedFile.{NamedFile};
 ghost use Rattle.station_files.specs.Files.{IsFileOf};
 ghost use Rattle.office_check.specs.Findings.{IsMemosLook, IsTableContent, IsTableLook, IsIndexLook, IsCounts};
+ghost use Rattle.office_check.specs.LoadCounts.{IsFileLoad, IsMemosLoad, IsTableLoad, IsIndexLoad};
 
 use crate::fault::EntryFault;
 use crate::finding::{Finding, TableCounts};
@@ -21,6 +23,7 @@ pub(crate) fn load_file<S: Source>(
     path: &Bytes,
 ) -> Result<Option<Bytes>, AllocError>
     ensures found { IfOk result (λ read. IfSome read (λ bytes. IsFileOf (S.files source.old) path.now bytes)) }
+    ensures loads { IfOk result (IsFileLoad (S.files source.old) path.now (S.failures source.old) (S.failures source.new)) }
     ensures kept { S.files source.new ≡ S.files source.old }
 {
     match source.load(alloc, path.as_slice()) {
@@ -37,6 +40,7 @@ fn load_memos<S: Source>(
     path: &Option<Bytes>,
 ) -> Result<Result<Option<Bytes>, EntryFault>, AllocError>
     ensures found { IfOk result (λ look. IsMemosLook (S.files source.old) path.now look) }
+    ensures loads { IfOk result (IsMemosLoad (S.files source.old) path.now (S.failures source.old) (S.failures source.new)) }
     ensures kept { S.files source.new ≡ S.files source.old }
 {
     let Some(path) = path else {
@@ -55,6 +59,7 @@ fn read_content(
     dbt: &Option<Bytes>,
 ) -> Result<Result<TableData, EntryFault>, AllocError>
     ensures read { IfOk result (λ look. IsTableContent dbf dbt.now look) }
+    ensures loaded { (files : Option (List NamedFile)) (path : List ℕ) (memos : Option (List ℕ)) (n : Option ℕ) → IfOk result (IsTableLoad files path memos n n) }
 {
     let memos = match dbt {
         None => None,
@@ -77,6 +82,7 @@ pub(crate) fn load_table<S: Source>(
     dbt: &Option<Bytes>,
 ) -> Result<Result<TableData, EntryFault>, AllocError>
     ensures look { IfOk result (λ look. IsTableLook (S.files source.old) dbf.now dbt.now look) }
+    ensures loads { IfOk result (IsTableLoad (S.files source.old) dbf.now dbt.now (S.failures source.old) (S.failures source.new)) }
     ensures kept { S.files source.new ≡ S.files source.old }
 {
     let Some(bytes) = load_file(alloc, source, dbf)? else {
@@ -97,6 +103,7 @@ pub(crate) fn load_index<S: Source>(
     ndx: &Bytes,
 ) -> Result<Result<NdxFile, EntryFault>, AllocError>
     ensures look { IfOk result (λ look. IsIndexLook (S.files source.old) ndx.now look) }
+    ensures loads { IfOk result (IsIndexLoad (S.files source.old) ndx.now (S.failures source.old) (S.failures source.new)) }
     ensures kept { S.files source.new ≡ S.files source.old }
 {
     let Some(bytes) = load_file(alloc, source, ndx)? else {

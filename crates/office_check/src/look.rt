@@ -1,13 +1,15 @@
 //! A look at what each entry of a setup names.
 
-ghost use Rattle.std.specs.Prelude.{◌≡◌, ℕ, List, Option, length, IfOk, IfSome};
+ghost use Rattle.std.specs.Prelude.{◌≡◌, ℕ, List, [], Option, MatchOption, length, IfOk, IsOk};
 ghost use Rattle.std.specs.List.{list_all};
 ghost use Rattle.station_files.specs.declared.named.NamedFile.{NamedFile};
 ghost use Rattle.station_lines.specs.declared.setup.entry.SetupEntry.{SetupEntry as Entry};
 ghost use Rattle.station_lines.specs.declared.setup.entry.SetupEntry.TheVariants.{Table, Index, Station};
 ghost use Rattle.station_lines.specs.Setup.{is_table_of as is_entry_of};
 ghost use Rattle.office_check.specs.Findings.{first_table, is_fresh as is_fresh_state, is_good as is_good_one};
-ghost use Rattle.office_check.specs.Findings.{AreFindings, IsBeside, IsNamed};
+ghost use Rattle.office_check.specs.declared.finding.Finding.{Finding as Found};
+ghost use Rattle.office_check.specs.Findings.{AreFindings, IsBeside, IsNamed, IsRefusedAt};
+ghost use Rattle.office_check.specs.LoadCounts.{AreEntryLoads, IsEntryLoad};
 ghost use Rattle.office_check.specs.Looks.{AreKeptTables, IsLook};
 
 use crate::fault::EntryFault;
@@ -35,7 +37,8 @@ fn look_at_table<S: Source>(
     dbf: &Bytes,
     dbt: &Option<Bytes>,
 ) -> Result<Look, AllocError>
-    ensures look { (entries : List Entry) (name : List ℕ) → IfOk result (IsLook (S.files source.old) entries (Table name dbf.now dbt.now)) }
+    ensures look { (before : List Entry) (findings : List Found) (name : List ℕ) → IfOk result (IsLook (S.files source.old) before findings (Table name dbf.now dbt.now)) }
+    ensures loads { (name : List ℕ) → IfOk result (λ look. IsEntryLoad (S.files source.old) (S.failures source.old) (S.failures source.new) (Table name dbf.now dbt.now) look.finding) }
     ensures kept { S.files source.new ≡ S.files source.old }
 {
     match load_table(alloc, source, dbf, dbt)? {
@@ -69,30 +72,33 @@ fn place_of(entries: &[SetupEntry], table: &Bytes) -> Option<usize>
 
 // The table that the first entry of this name names, where it is kept.
 fn table_named<'a>(
-    entries: &[SetupEntry],
+    before: &[SetupEntry],
     tables: &'a [Option<GrowingTable>],
     table: &Bytes,
 ) -> Option<&'a GrowingTable>
-    ensures named { (files : Option (List NamedFile)) → AreKeptTables files entries.now tables.now → IfSome result (λ records. IsNamed files entries.now table.now records.now.table) }
+    ensures named { (files : Option (List NamedFile)) (findings : List Found) → AreKeptTables files before.now findings tables.now
+        → MatchOption result (IsRefusedAt findings (first_table table.now before.now)) (λ records. IsNamed files before.now table.now records.now.table) }
 {
-    let place = place_of(entries, table)?;
+    let place = place_of(before, table)?;
     match tables.get(place) {
         Some(Some(records)) => Some(records),
-        _ => None,
+        Some(None) => None,
+        None => None,
     }
 }
 
 // What an index's file is beside the table of this name.
 fn beside_table(
     alloc: Global,
-    entries: &[SetupEntry],
+    before: &[SetupEntry],
     tables: &[Option<GrowingTable>],
     table: &Bytes,
-    file: &mut NdxFile,
+    file: &NdxFile,
 ) -> Result<IndexState, AllocError>
-    ensures state { (files : Option (List NamedFile)) → AreKeptTables files entries.now tables.now → IfOk result (IsBeside files entries.now table.now file.old) }
+    ensures state { (files : Option (List NamedFile)) (findings : List Found) → AreKeptTables files before.now findings tables.now
+        → IfOk result (IsBeside files before.now findings table.now file.now) }
 {
-    match table_named(entries, tables, table) {
+    match table_named(before, tables, table) {
         Some(records) => state_of(alloc, records, file),
         None => Ok(IndexState::NoTable),
     }
@@ -102,19 +108,20 @@ fn beside_table(
 fn look_at_index<S: Source>(
     alloc: Global,
     source: &mut S,
-    entries: &[SetupEntry],
+    before: &[SetupEntry],
     tables: &[Option<GrowingTable>],
     table: &Bytes,
     ndx: &Bytes,
 ) -> Result<Look, AllocError>
-    requires tables { AreKeptTables (S.files source.old) entries.now tables.now }
-    ensures look { (name : List ℕ) → IfOk result (IsLook (S.files source.old) entries.now (Index table.now name ndx.now)) }
+    ensures look { (findings : List Found) (name : List ℕ) → AreKeptTables (S.files source.old) before.now findings tables.now
+        → IfOk result (IsLook (S.files source.old) before.now findings (Index table.now name ndx.now)) }
+    ensures loads { (name : List ℕ) → IfOk result (λ look. IsEntryLoad (S.files source.old) (S.failures source.old) (S.failures source.new) (Index table.now name ndx.now) look.finding) }
     ensures kept { S.files source.new ≡ S.files source.old }
 {
     match load_index(alloc, source, ndx)? {
-        Ok(mut file) => {
+        Ok(file) => {
             let keys = file.pairs.len();
-            let state = beside_table(alloc, entries, tables, table, &mut file)?;
+            let state = beside_table(alloc, before, tables, table, &file)?;
             Ok(Look {
                 finding: Finding::Index(IndexFinding { keys, state }),
                 table: None,
@@ -133,7 +140,8 @@ fn look_at_script<S: Source>(
     source: &mut S,
     script: &Bytes,
 ) -> Result<Look, AllocError>
-    ensures look { (entries : List Entry) → IfOk result (IsLook (S.files source.old) entries (Station script.now)) }
+    ensures look { (before : List Entry) (findings : List Found) → IfOk result (IsLook (S.files source.old) before findings (Station script.now)) }
+    ensures loads { IfOk result (λ look. IsEntryLoad (S.files source.old) (S.failures source.old) (S.failures source.new) (Station script.now) look.finding) }
     ensures kept { S.files source.new ≡ S.files source.old }
 {
     let finding = match load_file(alloc, source, script)? {
@@ -150,25 +158,26 @@ fn look_at_script<S: Source>(
 fn look_at<S: Source>(
     alloc: Global,
     source: &mut S,
-    entries: &[SetupEntry],
+    before: &[SetupEntry],
     tables: &[Option<GrowingTable>],
     entry: &SetupEntry,
 ) -> Result<Look, AllocError>
-    requires tables { AreKeptTables (S.files source.old) entries.now tables.now }
-    ensures look { IfOk result (IsLook (S.files source.old) entries.now entry.now) }
+    ensures look { (findings : List Found) → AreKeptTables (S.files source.old) before.now findings tables.now
+        → IfOk result (IsLook (S.files source.old) before.now findings entry.now) }
+    ensures loads { IfOk result (λ look. IsEntryLoad (S.files source.old) (S.failures source.old) (S.failures source.new) entry.now look.finding) }
     ensures kept { S.files source.new ≡ S.files source.old }
 {
     match entry {
         SetupEntry::Table { dbf, dbt, .. } => look_at_table(alloc, source, dbf, dbt),
         SetupEntry::Index { table, ndx, .. } => {
-            look_at_index(alloc, source, entries, tables, table, ndx)
+            look_at_index(alloc, source, before, tables, table, ndx)
         }
         SetupEntry::Station { script } => look_at_script(alloc, source, script),
     }
 }
 
 /// What is found at each entry of a setup, whatever was found at the others. The tables are kept to the end, since each
-/// index is compared with the table that it names.
+/// index is compared with the table that it names, among the entries before it.
 ///
 /// An `Err` says that there was no memory.
 pub fn look_at_all<S: Source>(
@@ -178,30 +187,32 @@ pub fn look_at_all<S: Source>(
 ) -> Result<Vec<Finding>, AllocError>
     ensures found { IfOk result (λ findings. AreFindings (S.files source.old) entries.now findings.items) }
     ensures one_each { IfOk result (λ findings. length findings.items ≡ length entries.now) }
+    ensures loads { IfOk result (λ findings. AreEntryLoads (S.files source.old) (S.failures source.old) (S.failures source.new) entries.now findings.items) }
+    ensures early { entries.now ≡ [] → IsOk result }
     ensures kept { S.files source.new ≡ S.files source.old }
 {
     let mut findings = Vec::new(alloc);
     let mut tables = Vec::new(alloc);
-    for entry in entries {
-        let Look { finding, table } = look_at(alloc, source, entries, &tables, entry)?;
+    for (index, entry) in entries.iter().enumerate() {
+        let Look { finding, table } = look_at(alloc, source, &entries[..index], &tables, entry)?;
         findings.push(finding)?;
         tables.push(table)?;
     }
     Ok(findings)
 }
 
-fn is_good(finding: Finding) -> bool
-    ensures value { result ≡ is_good_one finding }
+fn is_good(finding: &Finding) -> bool
+    ensures value { result ≡ is_good_one finding.now }
 {
     match finding {
         Finding::Refused(_) => false,
-        Finding::Index(index) => is_fresh(index.state),
+        Finding::Index(index) => is_fresh(&index.state),
         _ => true,
     }
 }
 
-fn is_fresh(state: IndexState) -> bool
-    ensures value { result ≡ is_fresh_state state }
+fn is_fresh(state: &IndexState) -> bool
+    ensures value { result ≡ is_fresh_state state.now }
 {
     matches!(state, IndexState::Fresh)
 }
@@ -210,5 +221,5 @@ fn is_fresh(state: IndexState) -> bool
 pub fn all_are_good(findings: &[Finding]) -> bool
     ensures value { result ≡ list_all is_good_one findings.now }
 {
-    findings.iter().all(|finding| is_good(*finding))
+    findings.iter().all(|finding| is_good(finding))
 }

@@ -22,13 +22,13 @@ fn bob_and_ada(alloc: Global) -> Result<Vec<u8>, AllocError> {
 }
 
 // An index file: the key expression's text, the length of its keys and the leaf.
-fn index(alloc: Global, text: &[u8], key_len: u8) -> Result<Vec<u8>, AllocError> {
+fn index(alloc: Global, text: &[u8], key_len: u8, leaf: &[u8]) -> Result<Vec<u8>, AllocError> {
     let mut head = Vec::from_slice(alloc, &EMPTY_INDEX[..12])?;
     head.push(key_len)?;
     head.extend_from_slice(&EMPTY_INDEX[13..24])?;
     head.extend_from_slice(text)?;
     let mut bytes = with_zeros(alloc, head.as_slice(), 512)?;
-    bytes.extend_from_slice(with_zeros(alloc, LEAF, 512)?.as_slice())?;
+    bytes.extend_from_slice(with_zeros(alloc, leaf, 512)?.as_slice())?;
     Ok(bytes)
 }
 
@@ -42,9 +42,9 @@ fn memos(alloc: Global) -> Result<Vec<u8>, AllocError> {
 fn files(alloc: Global) -> Result<MemorySource, Fail> {
     let mut files = Vec::new(alloc);
     let swapped = bob_and_ada(alloc)?;
-    let by_name = index(alloc, b"NAME", 10)?;
-    let by_town = index(alloc, b"TOWN", 10)?;
-    let by_part = index(alloc, b"SUBSTR(NAME,1,4)", 10)?;
+    let by_name = index(alloc, b"NAME", 10, LEAF)?;
+    let by_town = index(alloc, b"TOWN", 10, LEAF)?;
+    let by_part = index(alloc, b"SUBSTR(NAME,1,4)", 10, LEAF)?;
     let notes = memos(alloc)?;
     let contents: [(&[u8], &[u8]); 10] = [
         (b"T.DBF", &TABLE),
@@ -97,7 +97,7 @@ INDEX GOOD BYNAME S.NDX
 ",
         "GOOD  S.DBF  2 records, 0 marked: good
 OTHER  T.DBF  2 records, 0 marked: good
-STALE  S.NDX  2 keys: stale: its pairs are not those of the table's records; --reindex makes it anew
+STALE  S.NDX  2 keys: stale: 2 foreign, 2 missing, 0 doubled; the first foreign is pair 1, record 2, key \"ADA       \", not \"BOB       \"; --reindex makes it anew
 BYTOWN  TOWN.NDX  2 keys: no key expression for its table: a field is missing
 BYPART  PART.NDX  2 keys: stale: the length of its keys is not its expression's; --reindex makes it anew: 10, not 4
 BYNAME  S.NDX  2 keys: good
@@ -140,6 +140,88 @@ fn each_file_of_a_setup_is_told(rt: HostRuntime) -> Result<(), Fail> {
             (text.as_slice(), all_are_good(&findings)),
             (told.as_bytes(), good)
         );
+    }
+    Ok(())
+}
+
+// Leaves of the index of BOB, record 1, and ADA, record 2, by NAME, that aren't the table's, and what is told of them.
+const STALE: [(&[u8], &str); 9] = [
+    // No pair of BOB.
+    (
+        b"\x01\0\0\0\0\0\0\0\x02\0\0\0ADA       ",
+        "1 keys: stale: 0 foreign, 1 missing, 0 doubled; --reindex makes it anew",
+    ),
+    // ADA's twice.
+    (
+        b"\x03\0\0\0\0\0\0\0\x02\0\0\0ADA       \0\0\0\0\0\0\x02\0\0\0ADA       \0\0\0\0\0\0\x01\0\0\0BOB       ",
+        "3 keys: stale: 0 foreign, 0 missing, 1 doubled; --reindex makes it anew",
+    ),
+    // Three times, and none of BOB.
+    (
+        b"\x03\0\0\0\0\0\0\0\x02\0\0\0ADA       \0\0\0\0\0\0\x02\0\0\0ADA       \0\0\0\0\0\0\x02\0\0\0ADA       ",
+        "3 keys: stale: 0 foreign, 1 missing, 2 doubled; --reindex makes it anew",
+    ),
+    // Another key of BOB's record.
+    (
+        b"\x02\0\0\0\0\0\0\0\x02\0\0\0ADA       \0\0\0\0\0\0\x01\0\0\0BOX       ",
+        "2 keys: stale: 1 foreign, 1 missing, 0 doubled; the first foreign is pair 2, record 1, key \"BOX       \", not \"BOB       \"; --reindex makes it anew",
+    ),
+    // The keys of one another.
+    (
+        b"\x02\0\0\0\0\0\0\0\x01\0\0\0ADA       \0\0\0\0\0\0\x02\0\0\0BOB       ",
+        "2 keys: stale: 2 foreign, 2 missing, 0 doubled; the first foreign is pair 1, record 1, key \"ADA       \", not \"BOB       \"; --reindex makes it anew",
+    ),
+    // A record 0.
+    (
+        b"\x03\0\0\0\0\0\0\0\x02\0\0\0ADA       \0\0\0\0\0\0\0\0\0\0BOB       \0\0\0\0\0\0\x01\0\0\0BOB       ",
+        "3 keys: stale: 1 foreign, 0 missing, 0 doubled; the first foreign is pair 2, record 0, key \"BOB       \", and there is no such record; --reindex makes it anew",
+    ),
+    // A record past the last.
+    (
+        b"\x03\0\0\0\0\0\0\0\x02\0\0\0ADA       \0\0\0\0\0\0\x01\0\0\0BOB       \0\0\0\0\0\0\x03\0\0\0EVE       ",
+        "3 keys: stale: 1 foreign, 0 missing, 0 doubled; the first foreign is pair 3, record 3, key \"EVE       \", and there is no such record; --reindex makes it anew",
+    ),
+    // Bytes that are not printed as they are.
+    (
+        b"\x02\0\0\0\0\0\0\0\x02\0\0\0ADA       \0\0\0\0\0\0\x01\0\0\0\"\\~\x7f\x80\xff\x1a\x09\x00 ",
+        "2 keys: stale: 1 foreign, 1 missing, 0 doubled; the first foreign is pair 2, record 1, key \"\\\"\\\\~\\x7f\\x80\\xff\\x1a\\x09\\x00 \", not \"BOB       \"; --reindex makes it anew",
+    ),
+    // Nothing is stale where the pairs stand in another order.
+    (
+        b"\x02\0\0\0\0\0\0\0\x01\0\0\0BOB       \0\0\0\0\0\0\x02\0\0\0ADA       ",
+        "2 keys: good",
+    ),
+];
+
+// The table of BOB and ADA, and the index of this leaf.
+fn beside(alloc: Global, leaf: &[u8]) -> Result<MemorySource, Fail> {
+    let mut files = Vec::new(alloc);
+    files.push(NamedFile {
+        name: Bytes::from_slice(alloc, b"S.DBF")?,
+        bytes: Bytes::from_vec(bob_and_ada(alloc)?),
+    })?;
+    files.push(NamedFile {
+        name: Bytes::from_slice(alloc, b"X.NDX")?,
+        bytes: Bytes::from_vec(index(alloc, b"NAME", 10, leaf)?),
+    })?;
+    Ok(MemorySource {
+        files,
+        loads: 2,
+        failures: Failures::none(),
+    })
+}
+
+#[test]
+fn stale_indexes_are_told_in_detail(rt: HostRuntime) -> Result<(), Fail> {
+    let alloc = rt.alloc();
+    let entries = parse_setup(alloc, b"TABLE GOOD S.DBF\nINDEX GOOD BYNAME X.NDX\n")?;
+    for (leaf, told) in STALE {
+        let findings = look_at_all(alloc, &mut beside(alloc, leaf)?, &entries)?;
+        let text = findings_text(alloc, &entries, &findings)?;
+        let line = format!(in alloc;
+            "GOOD  S.DBF  2 records, 0 marked: good\nBYNAME  X.NDX  {told}\n"
+        )?;
+        assert_eq!(rt; text.as_slice(), line.as_bytes());
     }
     Ok(())
 }

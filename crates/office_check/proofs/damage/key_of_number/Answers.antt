@@ -1,11 +1,12 @@
-use Rattle.std.proofs.Common.{◌≡◌, ℕ, List, drop, sym, ap, subst, ◌∙◌}
+use Rattle.std.proofs.Common.{◌≡◌, ℕ, Bool, true, cond, List, drop, Some, None, sym, ap, subst, ◌∙◌}
 use Rattle.dbf_fields.specs.declared.field.Field.{Field}
 use Rattle.dbf_fields.specs.Layout.{cells_of}
 use Rattle.dbf_image.specs.Store.{cells_with}
 use Rattle.dbf_image.specs.Table.{Row, row_at}
 use Rattle.key_expr.specs.Keys.{key, AgreeButMemos}
 use Rattle.ndx_index.specs.Laws.RecordKeys.{cells_agree}
-use Rattle.office_check.proofs.freshness.has_key_at.Goals as goal
+use Rattle.office_check.specs.Damage.{has_record}
+use Rattle.office_check.proofs.damage.key_of_number.Goals as goal
 
 pub returns : goal.returns
 returns c =
@@ -15,5 +16,7 @@ returns c =
     let bytes : List ℕ = drop 1 c.record.result.now in
     let cells : List (List ℕ) = cells_with fields bytes own.memos in
     let agree : AgreeButMemos e.fields (cells_of e.fields bytes) cells = subst (λ (fs : List Field). AgreeButMemos fs (cells_of fs bytes) cells) (sym c.requires.fields) (cells_agree fields bytes own.memos) in
-    let same : key (row_at c.args.records.now.table c.args.number).cells e.expr ≡ key (cells_of e.fields bytes) e.expr = ap (λ (r : Row). key r.cells e.expr) own.is ∙ sym (c.has_key.ensures.row cells agree) in
-    let has = c.has_key.ensures.value in record { value = (λ h. same ∙ has.0 h, λ k. has.1 (sym same ∙ k)) }
+    let wanted : List ℕ = key (row_at c.args.records.now.table c.args.number).cells e.expr in
+    let same : c.key_of.result ≡ wanted = c.key_of.ensures.row cells agree ∙ sym (ap (λ (r : Row). key r.cells e.expr) own.is) in
+    let there : has_record c.args.records.now.table c.args.number ≡ true = sym c.has_record.ensures.value ∙ c.if-not-has_record.false in
+    record { value = ap (λ (k : List ℕ). Some k) same ∙ sym (ap (λ (b : Bool). cond b (Some wanted) None) there) }

@@ -1,0 +1,52 @@
+-- What happens to the count of loads that failed.
+use Rattle.std.specs.Prelude.{◌≡◌, ◌⊎◌, ℕ, List, [], ◌∷◌, Option, Some, None, Result, Err}
+use Rattle.byte_io.specs.Sink.{Rises}
+use Rattle.dbf_image.specs.Table.{Table as Content}
+use Rattle.ndx_index.specs.declared.read.NdxFile.{NdxFile}
+use Rattle.station_files.specs.declared.named.NamedFile.{NamedFile}
+use Rattle.station_files.specs.Files.{IsTooLong}
+use Rattle.station_lines.specs.declared.setup.entry.SetupEntry.{SetupEntry}
+use Rattle.office_check.specs.declared.fault.EntryFault.{EntryFault}
+use Rattle.office_check.specs.declared.fault.EntryFault.TheVariants.{CannotRead, CannotReadMemos}
+use Rattle.office_check.specs.declared.finding.Finding.{Finding}
+use Rattle.office_check.specs.declared.finding.Finding.TheVariants.{Refused}
+use Rattle.office_check.specs.Lines.{entry_path}
+
+-- one more load failed, or the file of the path is over the limit
+abbrev pub IsFailedLoad : Option (List NamedFile) → List ℕ → Option ℕ → Option ℕ → Type 0
+IsFailedLoad files path before after = Rises before after ⊎ IsTooLong files path
+
+-- by whether the bytes of a path's file were had
+abbrev pub IsFileLoad : Option (List NamedFile) → List ℕ → Option ℕ → Option ℕ → Option (List ℕ) → Type 0
+IsFileLoad files path before after None = IsFailedLoad files path before after
+IsFileLoad files path before after (Some bytes) = after ≡ before
+
+-- the same of a file of memos, where one is named
+abbrev pub IsMemosLoad : Option (List NamedFile) → Option (List ℕ) → Option ℕ → Option ℕ → Result (Option (List ℕ)) EntryFault → Type 0
+IsMemosLoad files (Some path) before after (Err fault) = IsFailedLoad files path before after
+IsMemosLoad files path before after look = after ≡ before
+
+-- of the two files of a table
+abbrev pub IsTableLoad : Option (List NamedFile) → List ℕ → Option (List ℕ) → Option ℕ → Option ℕ → Result Content EntryFault → Type 0
+IsTableLoad files dbf dbt before after (Err CannotRead) = IsFailedLoad files dbf before after
+IsTableLoad files dbf (Some dbt) before after (Err CannotReadMemos) = IsFailedLoad files dbt before after
+IsTableLoad files dbf dbt before after look = after ≡ before
+
+-- and of an index's file
+abbrev pub IsIndexLoad : Option (List NamedFile) → List ℕ → Option ℕ → Option ℕ → Result NdxFile EntryFault → Type 0
+IsIndexLoad files ndx before after (Err CannotRead) = IsFailedLoad files ndx before after
+IsIndexLoad files ndx before after look = after ≡ before
+
+-- at an entry a load failed just where it is found that a file can't be read, but for a file over the limit
+abbrev pub IsEntryLoad : Option (List NamedFile) → Option ℕ → Option ℕ → SetupEntry → Finding → Type 0
+IsEntryLoad files before after entry (Refused CannotRead) = IsFailedLoad files (entry_path entry (Refused CannotRead)) before after
+IsEntryLoad files before after entry (Refused CannotReadMemos) = IsFailedLoad files (entry_path entry (Refused CannotReadMemos)) before after
+IsEntryLoad files before after entry finding = after ≡ before
+
+-- the same at each of some entries, one after another
+abbrev pub AreEntryLoads : Option (List NamedFile) → Option ℕ → Option ℕ → List SetupEntry → List Finding → Type 0
+AreEntryLoads files before after [] [] = after ≡ before
+AreEntryLoads files before after [] (finding ∷ findings) = ⊥
+AreEntryLoads files before after (entry ∷ entries) [] = ⊥
+AreEntryLoads files before after (entry ∷ entries) (finding ∷ findings) =
+    (next : Option ℕ) × IsEntryLoad files before next entry finding × AreEntryLoads files next after entries findings
