@@ -18,7 +18,7 @@ use Rattle.whole_run.specs.declared.fault.ServeFault.{ServeFault}
 use Rattle.whole_run.specs.declared.fault.ServeFault.TheVariants.{NoMemory as NoMemoryToServe}
 use Rattle.whole_run.specs.OpenedSetup.{IsOpenedBy, IsUnopened}
 use Rattle.table_tool.specs.declared.program.checking.CheckFault.{CheckFault}
-use Rattle.table_tool.specs.declared.program.checking.CheckFault.TheVariants.{CannotRead, BadLine, NoMemory}
+use Rattle.table_tool.specs.declared.program.checking.CheckFault.TheVariants.{CannotRead, BadLine, NoMemory, Sink}
 
 abbrev pub check_load_fault : LoadFault → CheckFault
 check_load_fault load.CannotRead = CannotRead
@@ -49,3 +49,10 @@ pub record IsTold (files : Option (List NamedFile)) (path : List ℕ) (opens : B
 -- the setup of this path has a bad line, this one first
 abbrev pub HasBadSetupLine : Option (List NamedFile) → List ℕ → ℕ → Type 0
 HasBadSetupLine files path number = (text : List ℕ) × IsFileOf files path text × IsSetup text (Err number)
+
+-- after this fault nothing was told: after each but a failure of the sink
+abbrev pub TellsNothing : CheckFault → Type 0
+TellsNothing CannotRead = Unit {0}
+TellsNothing (BadLine number) = Unit {0}
+TellsNothing NoMemory = Unit {0}
+TellsNothing Sink = ⊥

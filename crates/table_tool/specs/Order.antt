@@ -4,12 +4,15 @@ use Rattle.dbf_image.specs.Table.{Table}
 use Rattle.key_expr.specs.Grammar.{Expr}
 use Rattle.key_expr.specs.Keys.{key_length}
 use Rattle.key_expr.specs.Rules.{IsKeyText}
+use Rattle.ndx_index.specs.declared.fault.NdxFault.{NdxFault}
 use Rattle.ndx_index.specs.declared.pair.Pair.{Pair}
-use Rattle.ndx_index.specs.Header.{IsIndex}
+use Rattle.ndx_index.specs.Header.{IsIndex, header_refusal}
 use Rattle.ndx_index.specs.Order.{reaches}
 use Rattle.ndx_index.specs.TableOrder.{order, pairs_of}
 use Rattle.station_files.specs.declared.named.NamedFile.{NamedFile}
 use Rattle.station_files.specs.Files.{IsFileOf}
+use Rattle.table_tool.specs.declared.program.order.OrderFault.{OrderFault}
+use Rattle.table_tool.specs.declared.program.order.OrderFault.TheVariants.{Load, Index}
 
 -- keys of this length, in these pairs, are those of the table by the expression: each record's pair as often as it is there
 pub record AreKeysOf (table : Table) (e : Expr) (key_len : ℕ) (pairs : List Pair) : Type 0 where
@@ -58,3 +61,8 @@ abbrev pub IsOrder : Option (List NamedFile) → Option (List ℕ) → Option (L
 IsOrder files None from table numbers = numbers ≡ None
 IsOrder files (Some path) from table None = ⊥
 IsOrder files (Some path) from table (Some numbers) = IsOrderOf files path (from_text from) table numbers
+
+-- the file was not loaded, or this is the first rule that its header page breaks, where it breaks one
+abbrev pub IsTestedFirst : Option (List NamedFile) → List ℕ → OrderFault → Type 0
+IsTestedFirst files path (Load cause) = Unit {0}
+IsTestedFirst files path fault = (bytes : List ℕ) × IsFileOf files path bytes × ((broken : NdxFault) → header_refusal bytes ≡ Some broken → fault ≡ Index broken)

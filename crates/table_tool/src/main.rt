@@ -1,15 +1,16 @@
-//! Shows dBASE III PLUS tables, and checks setups of them.
+//! Shows dBASE III PLUS tables and indexes, and checks setups of them.
 //!
-//! The program reads a table, with its memos, and prints it as people read it, as CSV, or what its fields are; or it looks at
-//! every file that a setup names. This file has `main`: it reads the command line, has the table shown, and has its end told. The commands are in `program.rt`;
-//! what is printed of a table is defined in the crate `table_text`.
+//! The program reads a table, with its memos, and prints it as people read it, as CSV, or what its fields are; or it
+//! prints the pages of an index, or looks at every file that a setup names. This file has `main`: it reads the command line, has
+//! the table shown, and has its end told. The commands are in `program.rt`; what is printed of a table is defined in the crate
+//! `table_text`, and of an index in `index_tree`.
 #![tactic(auto)]
 
 mod program;
 
 use crate::program::{
-    Ending, StreamSink, check_ending, check_setup, command, ending_of, options_of, setup_of,
-    show_file, tell,
+    Ending, StreamSink, check_ending, check_setup, command, ending_of, index_of, options_of,
+    setup_of, show_file, show_tree, tell, tree_ending,
 };
 use station_files::DiskSource;
 use std::env;
@@ -35,6 +36,10 @@ fn run_program<R: Runtime + AllocGlobal, W: Write + Drop>(rt: &R, out: W) -> Res
     if let Some(setup) = setup_of(&matches) {
         let checked = check_setup(alloc, &mut source, &mut sink, setup);
         return check_ending(alloc, checked, sink.is_closed(), setup);
+    }
+    if let Some(index) = index_of(&matches) {
+        let shown = show_tree(alloc, &mut source, &mut sink, index);
+        return tree_ending(alloc, shown, sink.is_closed(), index);
     }
     let Some(options) = options_of(&matches) else {
         return Err(Ending::BadRange);

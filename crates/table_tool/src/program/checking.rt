@@ -1,8 +1,9 @@
 //! A setup that is checked.
 
-ghost use Rattle.std.specs.Prelude.{◌≡◌, ℕ, Err, IfOk};
+ghost use Rattle.std.specs.Prelude.{◌≡◌, ℕ, Err, IfOk, IfErr};
 ghost use Rattle.byte_io.specs.Sink.{IsFront};
-ghost use Rattle.table_tool.specs.Check.{verdict_words, HasBadSetupLine, IsTold, IsVerdict};
+ghost use Rattle.station_files.specs.Files.{IsUnreadable};
+ghost use Rattle.table_tool.specs.Check.{verdict_words, HasBadSetupLine, IsTold, IsVerdict, TellsNothing};
 
 use dbf_fields::Bytes;
 use dbf_image::{ByteSink, SinkFault, write_all};
@@ -120,6 +121,9 @@ pub(crate) fn check_setup<F: Source, S: ByteSink>(
     ensures told { IfOk result (λ opens. IsTold (F.files source.old) setup.now opens (S.written sink.old) (S.written sink.new)) }
     ensures bad_line { (number : ℕ) → result ≡ Err (CheckFault.BadLine number) → HasBadSetupLine (F.files source.old) setup.now number }
     ensures kept { IsFront (S.written sink.old) (S.written sink.new) }
+    // Where no load can give the setup the answer is that, whether there is memory or not.
+    ensures early { IsUnreadable (F.files source.old) setup.now → result ≡ Err CheckFault.CannotRead }
+    ensures untold { IfErr result (λ fault. TellsNothing fault → S.written sink.new ≡ S.written sink.old) }
 {
     let text = source.load(alloc, setup.as_bytes())?;
     let entries = parse_setup(alloc, text.as_slice())?;

@@ -87,7 +87,28 @@ fn faulty_path<'a>(options: &Options<'a>, fault: ShowFault) -> &'a str {
     }
 }
 
-/// What a fault of showing what the options ask for ends in. A sink that failed since nobody reads it any more is no fault.
+// What a fault ends in, where it is one of the file of this path or of the output. A sink that failed since nobody reads it any
+// more is no fault.
+fn fault_ending(
+    alloc: Global,
+    fault: ShowFault,
+    is_closed: bool,
+    path: &str,
+) -> Result<(), Ending> {
+    if fault == ShowFault::Text(TextFault::Sink) {
+        return if is_closed {
+            Ok(())
+        } else {
+            Err(Ending::Output)
+        };
+    }
+    if is_no_memory(fault) {
+        return Err(Ending::NoMemory);
+    }
+    Err(Ending::Table(String::from_str(alloc, path)?, fault))
+}
+
+/// What a fault of showing what the options ask for ends in.
 pub(crate) fn ending_of(
     alloc: Global,
     shown: Result<(), ShowFault>,
@@ -96,20 +117,20 @@ pub(crate) fn ending_of(
 ) -> Result<(), Ending> {
     match shown {
         Ok(()) => Ok(()),
-        Err(ShowFault::Text(TextFault::Sink)) => {
-            if is_closed {
-                Ok(())
-            } else {
-                Err(Ending::Output)
-            }
-        }
-        Err(fault) => {
-            if is_no_memory(fault) {
-                return Err(Ending::NoMemory);
-            }
-            let path = faulty_path(options, fault);
-            Err(Ending::Table(String::from_str(alloc, path)?, fault))
-        }
+        Err(fault) => fault_ending(alloc, fault, is_closed, faulty_path(options, fault)),
+    }
+}
+
+/// What a fault of showing the index file of a path ends in.
+pub(crate) fn tree_ending(
+    alloc: Global,
+    shown: Result<(), ShowFault>,
+    is_closed: bool,
+    path: &str,
+) -> Result<(), Ending> {
+    match shown {
+        Ok(()) => Ok(()),
+        Err(fault) => fault_ending(alloc, fault, is_closed, path),
     }
 }
 

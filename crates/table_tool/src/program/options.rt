@@ -15,10 +15,11 @@ const EXAMPLES: &str = "Examples:
   table_tool show MEMBERS.DBF --memo MEMBERS.DBT --order NAMES.NDX --from M
   table_tool fields STOCK.DBF
   table_tool check OFFICE.SET
+  table_tool tree NAMES.NDX
   table_tool csv LEDGER.DBF --deleted --deleted-column > LEDGER.CSV
 
 Exit status:
-  0  the table is shown, or the server would open the setup, or the reader of the output is gone
+  0  the table or the index is shown, or the server would open the setup, or the reader of the output is gone
   1  the command line is bad
   2  a file can't be read or is no table, or the server would not open the setup
   3  memory was refused
@@ -53,14 +54,15 @@ pub(crate) struct Options<'a> {
 /// The command line, for `clap` to read. An error where memory is refused.
 pub(crate) fn command<'a>(alloc: Global) -> Result<Command<'a>, AllocError> {
     Command::new(alloc, "table_tool")
-        .about("Shows dBASE III PLUS tables")
+        .about("Shows dBASE III PLUS tables and indexes")
         .after_help(EXAMPLES)
         .subcommand_required(true)
         .arg_required_else_help(true)
         .subcommand(show_command(alloc)?)?
         .subcommand(fields_command(alloc)?)?
         .subcommand(csv_command(alloc)?)?
-        .subcommand(check_command(alloc)?)
+        .subcommand(check_command(alloc)?)?
+        .subcommand(tree_command(alloc)?)
 }
 
 fn show_command<'a>(alloc: Global) -> Result<Command<'a>, AllocError> {
@@ -103,6 +105,19 @@ fn check_command<'a>(alloc: Global) -> Result<Command<'a>, AllocError> {
             Arg::new(alloc, "setup")
                 .value_name("OFFICE.SET")
                 .help("The setup")
+                .required(true)
+                .action(ArgAction::Set)
+                .value_parser(ValueParser::NonEmptyString),
+        )
+}
+
+fn tree_command<'a>(alloc: Global) -> Result<Command<'a>, AllocError> {
+    Command::new(alloc, "tree")
+        .about("Prints the header of an index file, and its pages as a tree")
+        .arg(
+            Arg::new(alloc, "index")
+                .value_name("FILE.NDX")
+                .help("The index, which may be damaged")
                 .required(true)
                 .action(ArgAction::Set)
                 .value_parser(ValueParser::NonEmptyString),
@@ -209,6 +224,14 @@ fn view_of(name: &str, matches: &ArgMatches<'_>) -> Option<View> {
 pub(crate) fn setup_of<'a>(matches: &ArgMatches<'a>) -> Option<&'a str> {
     match matches.subcommand()? {
         ("check", matches) => matches.get_str("setup"),
+        _ => None,
+    }
+}
+
+/// The path of the index file that a command line asks to show, where it does. Takes no memory.
+pub(crate) fn index_of<'a>(matches: &ArgMatches<'a>) -> Option<&'a str> {
+    match matches.subcommand()? {
+        ("tree", matches) => matches.get_str("index"),
         _ => None,
     }
 }

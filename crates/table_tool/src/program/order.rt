@@ -6,7 +6,8 @@ ghost use Rattle.ndx_index.specs.TableOrder.{order as order_of};
 ghost use Rattle.key_expr.specs.Grammar.{Expr};
 ghost use Rattle.key_expr.specs.Rules.{IsKeyText};
 ghost use Rattle.table_core.specs.Content.{order_at};
-ghost use Rattle.table_tool.specs.Order.{from_text, numbers_from as numbers_of_pairs, AreKeysOf, IsOrderOf, IsStale};
+ghost use Rattle.station_files.specs.Files.{IsUnreadable};
+ghost use Rattle.table_tool.specs.Order.{from_text, numbers_from as numbers_of_pairs, AreKeysOf, IsOrderOf, IsStale, IsTestedFirst};
 
 use dbf_fields::Bytes;
 use dbf_image::TableData;
@@ -149,6 +150,10 @@ pub(crate) fn read_order<F: Source>(
     ensures order { IfOk result (λ read. IsOrderOf (F.files source.old) path.now text.now table read.1.items) }
     ensures stale { IfErr result (λ fault. fault ≡ OrderFault.Stale → IsStale (F.files source.old) path.now table) }
     ensures kept { F.files source.new ≡ F.files source.old }
+    // Where no load can give the file the answer is that, whether there is memory or not,
+    ensures unread { IsUnreadable (F.files source.old) path.now → result ≡ Err (OrderFault.Load LoadFault.CannotRead) }
+    // and where its header page breaks a rule the answer is that, once it is loaded.
+    ensures early { IfErr result (IsTestedFirst (F.files source.old) path.now) }
 {
     let bytes = source.load(alloc, path.as_bytes())?;
     let file = read_ndx(alloc, bytes.as_slice())?;

@@ -1,8 +1,9 @@
 //! Tests of the program: its command lines, what it prints of a table in memory, and how it ends.
 
 use crate::program::checking::{CheckFault, check_setup};
-use crate::program::ending::{Ending, check_ending, ending_of, status_of};
-use crate::program::options::{Options, View, command, options_of, setup_of};
+use crate::program::ending::{Ending, check_ending, ending_of, status_of, tree_ending};
+use crate::program::indexing::show_tree;
+use crate::program::options::{Options, View, command, index_of, options_of, setup_of};
 use crate::program::order::OrderFault;
 use crate::program::range::range_of;
 use crate::program::showing::{ShowFault, show_file};
@@ -238,7 +239,7 @@ fn usage_status(alloc: Global, words: &[&str]) -> Result<u8, Fail> {
 
 #[test]
 fn bad_command_lines_end_with_one(rt: HostRuntime) -> Result<(), Fail> {
-    let cases: [(&[&str], u8); 11] = [
+    let cases: [(&[&str], u8); 14] = [
         (&["table_tool", "--help"], 0),
         (&["table_tool", "show", "--help"], 0),
         (&["table_tool"], 1),
@@ -250,6 +251,9 @@ fn bad_command_lines_end_with_one(rt: HostRuntime) -> Result<(), Fail> {
         (&["table_tool", "show", "T.DBF", "--memo", ""], 1),
         (&["table_tool", "show", "T.DBF", "--records", "x"], 1),
         (&["table_tool", "csv", "T.DBF", "--records", "1-"], 1),
+        (&["table_tool", "tree", "--help"], 0),
+        (&["table_tool", "tree"], 1),
+        (&["table_tool", "tree", "S.NDX", "--records", "1"], 1),
     ];
     for (words, status) in cases {
         assert_eq!(rt; usage_status(rt.alloc(), words)?, status);
@@ -357,7 +361,7 @@ good: the server opens all
             &["table_tool", "check", "STALE.SET"],
             Ok(false),
             "T  T.DBF  2 records, 0 marked: good
-BYNAME  S.NDX  2 keys: stale: its pairs are not those of the table's records; --reindex makes it anew
+BYNAME  S.NDX  2 keys: stale: 2 foreign, 2 missing, 0 doubled; the first foreign is pair 1, record 2, key \"ADA       \", not \"BOB       \"; --reindex makes it anew
 STATION  A.PRG  good
 bad: the server opens nothing
 ",
@@ -410,6 +414,79 @@ fn checks_have_their_statuses(rt: HostRuntime) -> Result<(), Fail> {
     ];
     for (checked, is_closed, status) in cases {
         assert_eq!(rt; check_status(rt.alloc(), checked, is_closed), status);
+    }
+    Ok(())
+}
+
+// What the program prints of the index that a command line asks to show, or why it prints nothing.
+fn tree_of(alloc: Global, words: &[&str]) -> Result<(Result<(), ShowFault>, Vec<u8>), Fail> {
+    let matches = command(alloc)?.try_get_matches_from(words)?;
+    let path = index_of(&matches).ok_or("no index")?;
+    let mut sink = MemorySink::new(alloc);
+    let shown = show_tree(alloc, &mut files(alloc)?, &mut sink, path);
+    Ok((shown, sink.bytes))
+}
+
+// Whether the index of a path is told so, and that ends so.
+fn is_shown_so(
+    alloc: Global,
+    path: &str,
+    ended: Result<(), ShowFault>,
+    text: &str,
+) -> Result<bool, Fail> {
+    let (shown, printed) = tree_of(alloc, &["table_tool", "tree", path])?;
+    Ok(shown == ended && printed.as_slice() == text.as_bytes())
+}
+
+#[test]
+fn indexes_are_shown_as_trees(rt: HostRuntime) -> Result<(), Fail> {
+    let cases: [(&str, Result<(), ShowFault>, &str); 3] = [
+        (
+            "S.NDX",
+            Ok(()),
+            "Root page: 1
+Pages by the header: 2
+Key length: 10
+Key record size: 20
+Key type: 0 (characters)
+Unique flag: 0 (equal keys are kept)
+Key expression: \"NAME\"
+page 1  leaf  2 keys  \"ADA       \" to \"BOB       \"
+",
+        ),
+        (
+            "BAD.NDX",
+            Ok(()),
+            "No page is read: the file is shorter than a header page\n",
+        ),
+        ("NONE.NDX", Err(ShowFault::Load(LoadFault::CannotRead)), ""),
+    ];
+    for (path, ended, text) in cases {
+        assert!(rt; is_shown_so(rt.alloc(), path, ended, text)?);
+    }
+    Ok(())
+}
+
+// The exit status of a tree, and 0 where it ends well.
+fn tree_status(alloc: Global, shown: Result<(), ShowFault>, is_closed: bool) -> u8 {
+    match tree_ending(alloc, shown, is_closed, "S.NDX") {
+        Ok(()) => 0,
+        Err(ending) => status_of(&ending),
+    }
+}
+
+#[test]
+fn trees_have_their_statuses(rt: HostRuntime) -> Result<(), Fail> {
+    let cases = [
+        (Ok(()), false, 0),
+        (Err(ShowFault::Load(LoadFault::CannotRead)), false, 2),
+        (Err(ShowFault::Load(LoadFault::NoMemory)), false, 3),
+        (Err(ShowFault::Text(TextFault::NoMemory)), false, 3),
+        (Err(ShowFault::Text(TextFault::Sink)), false, 4),
+        (Err(ShowFault::Text(TextFault::Sink)), true, 0),
+    ];
+    for (shown, is_closed, status) in cases {
+        assert_eq!(rt; tree_status(rt.alloc(), shown, is_closed), status);
     }
     Ok(())
 }

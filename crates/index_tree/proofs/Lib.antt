@@ -1,0 +1,9 @@
+pub mod Fronts
+pub mod GoodTree
+pub mod KeyBounds
+pub mod Levels
+pub mod PageLemmas
+pub mod Parts
+pub mod Positions
+pub mod Sinks
+pub mod WalkSteps

@@ -1,0 +1,5 @@
+pub mod Shown
+pub mod HeaderText
+pub mod PageText
+pub mod TreeText
+pub mod Walk

@@ -1,0 +1,12 @@
+-- An index file that is shown.
+use Rattle.std.specs.Prelude.{◌≡◌, ℕ, List, Option}
+use Rattle.byte_io.specs.Sink.{grown}
+use Rattle.index_tree.specs.TreeText.{tree_text}
+use Rattle.station_files.specs.declared.named.NamedFile.{NamedFile}
+use Rattle.station_files.specs.Files.{IsFileOf}
+
+-- what a sink has after the index file of a path was shown: the text of its header and its pages
+pub record IsTreeShown (files : Option (List NamedFile)) (path : List ℕ) (old new : Option (List ℕ)) : Type 0 where
+  pub bytes : List ℕ
+  pub found : IsFileOf files path bytes
+  pub wrote : new ≡ grown old (tree_text bytes)
