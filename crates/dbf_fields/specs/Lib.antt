@@ -5,6 +5,7 @@ pub mod Schema
 pub mod Day
 pub mod Padding
 pub mod Digits
+pub mod TwoWords
 pub mod Number
 pub mod NumberText
 pub mod Logical

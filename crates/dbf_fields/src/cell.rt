@@ -83,7 +83,7 @@ pub fn encode_cell(alloc: Global, field: &Field, value: &Literal) -> Result<Byte
             Ok(padded(alloc, text.as_slice(), width)?)
         }
         Literal::Number { digits, scale } if field.kind == NUMBER => {
-            Ok(number_cell(alloc, field.width, field.decimals, *digits, *scale)?)
+            Ok(number_cell(alloc, field.width, field.decimals, digits.get(), *scale)?)
         }
         Literal::Truth(truth) if field.kind == LOGICAL => {
             Ok(padded(alloc, &truth_text(*truth), width)?)

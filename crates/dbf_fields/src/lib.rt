@@ -20,6 +20,7 @@ mod number;
 mod number_text;
 mod schema;
 mod trim;
+mod whole_number;
 
 pub use byte_io::Bytes;
 pub use cell::{CellFault, encode_cell};
@@ -38,3 +39,4 @@ pub use number::{number_parts, read_number};
 pub use number_text::{MAX_NUMBER_TEXT, NumberText};
 pub use schema::{Schema, SchemaFault};
 pub use trim::trimmed;
+pub use whole_number::WholeNumber;

@@ -3,6 +3,7 @@
 ghost use Rattle.std.specs.Prelude.{◌≡◌, IfOk};
 
 use crate::day::Day;
+use crate::whole_number::WholeNumber;
 use byte_io::Bytes;
 use std::alloc::{AllocError, Global};
 
@@ -14,7 +15,7 @@ pub enum Literal {
     /// A number: the whole number of all its digits, and how many of them stand after the point.
     Number {
         /// All digits as one whole number, with the sign.
-        digits: i128,
+        digits: WholeNumber,
         /// How many of the digits stand after the point.
         scale: u8,
     },
@@ -36,7 +37,7 @@ impl Literal {
         Ok(match self {
             Literal::Text(text) => Literal::Text(text.copy(alloc)?),
             Literal::Number { digits, scale } => Literal::Number {
-                digits: *digits,
+                digits: WholeNumber::new(digits.get()),
                 scale: *scale,
             },
             Literal::Truth(truth) => Literal::Truth(*truth),
@@ -59,7 +60,7 @@ impl PartialEq for Literal {
         match self {
             Literal::Text(text) => matches!(other, Literal::Text(its) if text == its),
             Literal::Number { digits, scale } => {
-                matches!(other, Literal::Number { digits: d, scale: s } if digits == d && scale == s)
+                matches!(other, Literal::Number { digits: d, scale: s } if digits.get() == d.get() && scale == s)
             }
             Literal::Truth(truth) => matches!(other, Literal::Truth(its) if truth == its),
             Literal::Date(day) => matches!(other, Literal::Date(its) if day == its),

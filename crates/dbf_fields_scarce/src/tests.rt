@@ -138,7 +138,7 @@ fn encoding_attempt_of(alloc: Global, sample: &Sample, called: Called) -> Attemp
     match called {
         Called::EncodeNumber => {
             let number = Literal::Number {
-                digits: 75,
+                digits: WholeNumber::new(75),
                 scale: 1,
             };
             encoding_attempt(alloc, sample, 1, &number, b"  7.50")

@@ -65,7 +65,7 @@ fn value_of_each_kind(alloc: Global) -> Result<[(Literal, u8); 5], Fail> {
     let day = day_of(1984, 2, 29).ok_or("a date")?;
     let text = Bytes::from_slice(alloc, b"T")?;
     let number = Literal::Number {
-        digits: 5,
+        digits: WholeNumber::new(5),
         scale: 0,
     };
     Ok([
@@ -137,7 +137,17 @@ fn number_cells(rt: HostRuntime) -> Result<(), Fail> {
         (100, 0, b"100.00"),
     ];
     for (digits, scale, cell) in cases {
-        assert!(rt; keeps(alloc, &amount, &Literal::Number { digits, scale }, cell));
+        assert!(rt;
+            keeps(
+                alloc,
+                &amount,
+                &Literal::Number {
+                    digits: WholeNumber::new(digits),
+                    scale
+                },
+                cell
+            )
+        );
     }
     let too_wide = [
         (1000, 0),
@@ -152,7 +162,10 @@ fn number_cells(rt: HostRuntime) -> Result<(), Fail> {
         (i128::MIN, 39),
     ];
     for (digits, scale) in too_wide {
-        let value = Literal::Number { digits, scale };
+        let value = Literal::Number {
+            digits: WholeNumber::new(digits),
+            scale,
+        };
         assert!(rt; refuses(alloc, &amount, &value, CellFault::NumberTooWide));
     }
     Ok(())
@@ -187,7 +200,10 @@ fn wide_and_narrow_number_cells(rt: HostRuntime) -> Result<(), Fail> {
         (19, 18, 0, 0, b""),
     ];
     for (width, decimals, digits, scale, cell) in cases {
-        let number = Literal::Number { digits, scale };
+        let number = Literal::Number {
+            digits: WholeNumber::new(digits),
+            scale,
+        };
         assert!(rt; is_number_cell(alloc, (width, decimals), &number, cell)?);
     }
     Ok(())
@@ -256,7 +272,10 @@ fn cells_refuse_values_in_order(rt: HostRuntime) -> Result<(), Fail> {
         (NUMBER, 4, 2, -100, 2, CellFault::NumberTooWide),
     ];
     for (kind, width, decimals, digits, scale, fault) in numbers {
-        let value = Literal::Number { digits, scale };
+        let value = Literal::Number {
+            digits: WholeNumber::new(digits),
+            scale,
+        };
         assert!(rt; kind_refuses(alloc, (kind, width, decimals), &value, fault)?);
     }
     let dates = [
@@ -268,4 +287,20 @@ fn cells_refuse_values_in_order(rt: HostRuntime) -> Result<(), Fail> {
         assert!(rt; kind_refuses(alloc, (kind, width, 0), &Literal::BadDate, fault)?);
     }
     Ok(())
+}
+
+#[test]
+fn whole_numbers_come_back(rt: HostRuntime) {
+    for number in [
+        0,
+        1,
+        -1,
+        18446744073709551615,
+        18446744073709551616,
+        -18446744073709551616,
+        i128::MAX,
+        i128::MIN,
+    ] {
+        assert!(rt; WholeNumber::new(number).get() == number);
+    }
 }

@@ -114,7 +114,7 @@ pub(crate) fn value_text(alloc: Global, value: &Literal) -> Result<Bytes, AllocE
 {
     match value {
         Literal::Text(text) => quoted(alloc, text.as_slice()),
-        Literal::Number { digits, scale } => number_text(alloc, *digits, *scale),
+        Literal::Number { digits, scale } => number_text(alloc, digits.get(), *scale),
         Literal::Truth(true) => Bytes::from_slice(alloc, b".T."),
         Literal::Truth(false) => Bytes::from_slice(alloc, b".F."),
         Literal::Date(day) => date_call(alloc, &day_text(day)),

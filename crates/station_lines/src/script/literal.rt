@@ -11,8 +11,8 @@ ghost use Rattle.station_lines.specs.Script.Reading.{date_of as cell_date, date_
 use crate::script::format::MAX_LITERAL_DIGITS;
 use crate::script::value::text_in;
 use dbf_fields::{
-    Bytes, DateCell, Literal, MINUS, PLUS, SLASH, ZERO_DIGIT, are_digits, number_of_digits,
-    number_parts, read_date,
+    Bytes, DateCell, Literal, MINUS, PLUS, SLASH, WholeNumber, ZERO_DIGIT, are_digits,
+    number_of_digits, number_parts, read_date,
 };
 use std::alloc::{AllocError, Global};
 
@@ -189,7 +189,10 @@ pub(crate) fn literal_in(alloc: Global, word: &[u8]) -> Result<Option<Literal>, 
         return Ok(Some(Literal::Text(Bytes::from_slice(alloc, text)?)));
     }
     if let Some((digits, scale)) = number_in(word) {
-        return Ok(Some(Literal::Number { digits, scale }));
+        return Ok(Some(Literal::Number {
+            digits: WholeNumber::new(digits),
+            scale,
+        }));
     }
     if let Some(truth) = truth_in(word) {
         return Ok(Some(Literal::Truth(truth)));

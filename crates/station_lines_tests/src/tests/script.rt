@@ -1,5 +1,5 @@
 use catalogue_core::{Command, Numbers, Question};
-use dbf_fields::{Bytes, Literal, day_of};
+use dbf_fields::{Bytes, Literal, WholeNumber, day_of};
 use station_lines::{Line, lines, parse_line};
 use std::alloc::{AllocError, Global};
 use std::test::Fail;
@@ -48,7 +48,10 @@ pub(crate) enum Keeps {
 
 fn value_of(keeps: Keeps, text: Bytes) -> Result<Literal, Fail> {
     Ok(match keeps {
-        Keeps::ReplaceNumber(digits, scale) => Literal::Number { digits, scale },
+        Keeps::ReplaceNumber(digits, scale) => Literal::Number {
+            digits: WholeNumber::new(digits),
+            scale,
+        },
         Keeps::ReplaceTruth(truth) => Literal::Truth(truth),
         Keeps::ReplaceDate(year, month, day) => {
             Literal::Date(day_of(year, month, day).ok_or("a date")?)

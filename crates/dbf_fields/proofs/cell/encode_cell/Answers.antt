@@ -11,8 +11,8 @@ returns-in_ok-number_cell-in-Number-clause-wide c = length-number_cell _ _ _ _ c
 
 pub returns-in_ok-number_cell-in-Number-clause-number_again : goal.returns-in_ok-number_cell-in-Number-clause-number_again
 returns-in_ok-number_cell-in-Number-clause-number_again c =
-    let fits : FitsSigned w128 c.in-Number.digits = search rules in
-    let cell = rw (to_z-of_z w128 c.in-Number.digits fits) at c.in_ok-number_cell-in-Number.ensures.value in
+    let fits : FitsSigned w128 c.get.result = search rules in
+    let cell = rw (to_z-of_z w128 c.get.result fits, c.get.ensures.value) at c.in_ok-number_cell-in-Number.ensures.value in
     rw c.in-Number.is (same_number_again c.args.field.now.width c.args.field.now.decimals c.in-Number.digits c.in-Number.scale c.in_ok-number_cell-in-Number.field-0 cell)
 
 pub returns-in_ok-padded-in-Date-clause-date_again : goal.returns-in_ok-padded-in-Date-clause-date_again
