@@ -13,7 +13,7 @@ pub(crate) const FIRST_YEAR: u16 = 1900;
 pub(crate) const LAST_YEAR: u16 = 2155;
 
 /// How many bytes stand before the descriptors.
-pub(crate) const HEADER: usize = 32;
+pub const HEADER: usize = 32;
 
 /// How many bytes the descriptor of a field has.
 pub(crate) const DESCRIPTOR: usize = 32;
@@ -37,7 +37,7 @@ pub(crate) const END_OF_FILE: u8 = 0x1a;
 pub const MAX_RECORDS: u32 = 1_000_000_000;
 
 /// How many bytes a block of the file of memos has.
-pub(crate) const BLOCK: usize = 512;
+pub const BLOCK: usize = 512;
 
 /// The byte that ends a memo's text.
 pub(crate) const MEMO_END: u8 = 0x1a;

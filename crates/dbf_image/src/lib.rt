@@ -2,7 +2,7 @@
 //!
 //! [`read_table`] reads the two files, and says why where the bytes are no table: it answers a table
 //! exactly where the bytes are files of that table, and else the fault of the first test that fails.
-//! [`read_memo`] reads the text of one block in the same way. A [`TableData`] keeps the table in memory:
+//! [`read_memo`] reads the text of one block in the same way; [`memo_block`] tells the block that a memo's cell names. A [`TableData`] keeps the table in memory:
 //! contracts see its fields and its rows, in which the cell of a memo is its text. A [`GrowingTable`] is a
 //! table that is changed in place: room is made first, then no change can fail, and every change says
 //! which rows the table has then. A [`MemoStore`] keeps texts under numbers, in blocks that are used again.
@@ -28,10 +28,10 @@ pub use byte_io::{
 pub use dbf::read::read_table;
 pub use dbf::write::write_dbf;
 pub use dbt::blocks::next_free_block;
-pub use dbt::memo::read_memo;
+pub use dbt::memo::{memo_block, read_memo};
 pub use dbt::write::write_dbt;
 pub use fault::ImageFault;
-pub use format::{MAX_MEMO_BYTES, MAX_RECORDS};
+pub use format::{BLOCK, HEADER, MAX_MEMO_BYTES, MAX_RECORDS};
 pub use memo_store::MemoStore;
 pub use table::growing::GrowingTable;
 pub use table::{TableData, is_memo_text};

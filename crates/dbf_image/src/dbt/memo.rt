@@ -17,9 +17,11 @@ use dbf_fields::{Bytes, are_digits, number_of_digits, trimmed};
 use memchr::memchr;
 use std::alloc::{AllocError, Global};
 
-/// The number of a block in a memo's cell: 0 is no memo, and `None` a cell that has no number.
+/// The number of the block that a memo's cell of a DBF file names: digits between blanks, as dBASE III PLUS writes them; 0,
+/// or a blank cell, is no memo. `None` is a cell that has no number. Such a cell has at most
+/// [`MEMO_WIDTH`](dbf_fields::MEMO_WIDTH) bytes.
 #[tactic(auto, unfolding(crate::specs::Memo::memo_number))]
-pub(crate) fn number_of(cell: &[u8]) -> Option<u64>
+pub fn memo_block(cell: &[u8]) -> Option<u64>
     requires count_bounded { length cell.now ≤ MEMO_WIDTH }
     ensures value { result ≡ memo_number cell.now }
 {

@@ -14,7 +14,7 @@ ghost use Rattle.dbf_image.specs.Store.{text_of, IsMemo, IsStore};
 ghost use Rattle.dbf_image.specs.Reading.{text_tests, memo_tests, memo_text, cell_tests, cells_tests, rows_tests, IsRefusal};
 ghost use Rattle.dbf_image.specs.Spans.{AreEnds, table_memo_tests};
 
-use crate::dbt::memo::{block_ends, number_of, span_at};
+use crate::dbt::memo::{block_ends, memo_block, span_at};
 use crate::fault::ImageFault;
 use crate::format::BLOCK;
 use crate::memo_store::MemoStore;
@@ -93,7 +93,7 @@ fn number_of_cell(
     ensures text { IfOk result (λ number. text_of memos.new.texts.texts number ≡ memo_text dbt.now cell.now) }
     ensures refused { IfErr result (λ fault. IsRefusal fault (memo_tests dbt.now cell.now)) }
 {
-    match number_of(cell) {
+    match memo_block(cell) {
         None => Err(ImageFault::BadMemoNumber),
         Some(0) => Ok(0),
         Some(block) => number_of_block(dbt, ends, block, memos),
