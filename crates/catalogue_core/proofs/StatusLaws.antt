@@ -1,8 +1,8 @@
 -- The numbers of a status row, table by table.
-use Rattle.std.proofs.Common.{◌≡◌, ℕ, zero, suc, ◌+◌, ◌*◌, ◌-◌, ◌<◌, List, [], ◌∷◌, ◌++◌, length, map, take, replicate, set, get_or, refl, ap, sym, subst, ◌∙◌, arith, length-append}
+use Rattle.std.proofs.Common.{◌≡◌, ℕ, suc, ◌+◌, ◌*◌, ◌-◌, ◌<◌, List, [], ◌∷◌, ◌++◌, length, map, take, replicate, set, get_or, refl, ap, sym, subst, ◌∙◌, arith, length-append}
 use Rattle.std.proofs.Math.Seq.{set-append_seam}
 use Rattle.std.proofs.lemmas.List.{append_assoc, length-map, length-take-le, map-append, take_more}
-use Rattle.ndx_index.specs.Laws.Counting.{length-counted}
+use Rattle.ndx_index.specs.Laws.Counting.{length-counted, counted-push}
 use Rattle.ndx_index.specs.Places.{counted}
 use Rattle.catalogue_core.specs.declared.status.TableStatus.{TableStatus}
 use Rattle.catalogue_core.specs.Status.{words_of}
@@ -43,10 +43,6 @@ row_more x y z ts i d row ten low is =
     ap (λ (l : List ℕ). set (set l (3 + 2 * i) t.holder) (4 + 2 * i) t.record_locks) (is ∙ ap (λ n. front ++ replicate n 0) zeros)
     ∙ subst (λ n. set (set (front ++ replicate (suc (suc rest)) 0) (3 + 2 * i) t.holder) n t.record_locks ≡ (front ++ (t.holder ∷ t.record_locks ∷ [])) ++ replicate rest 0) next (put_two front rest (3 + 2 * i) t.holder t.record_locks long)
     ∙ ap (λ (l : List ℕ). (x ∷ y ∷ z ∷ l) ++ replicate rest 0) (sym more)
-
-counted-push : (n from : ℕ) → counted from (suc n) ≡ counted from n ++ (from + n) ∷ []
-counted-push zero from = let m : from ≡ from + 0 = omega arith in ap (λ k. k ∷ []) m
-counted-push (suc n) from = let m : from + 1 + n ≡ from + suc n = omega arith in ap (λ (l : List ℕ). from ∷ l) (counted-push n (from + 1) ∙ ap (λ k. counted (from + 1) n ++ k ∷ []) m)
 
 -- the status of one table more
 pub statuses_more : (f : ℕ → TableStatus) (i : ℕ) (none : TableStatus) (statuses : List TableStatus) → i < 10

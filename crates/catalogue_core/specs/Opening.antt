@@ -10,7 +10,7 @@ use Rattle.key_expr.specs.declared.fault.ExprFault.TheVariants.{NoMemory as NoRo
 use Rattle.key_expr.specs.Expression.{Expression}
 use Rattle.key_expr.specs.Keys.{key_length}
 use Rattle.key_expr.specs.Rules.{IsKeyText, IsFault}
-use Rattle.ndx_index.specs.declared.read.NdxFile.{NdxFile}
+use Rattle.ndx_index.specs.declared.ndx_file.NdxFile.{NdxFile}
 use Rattle.ndx_index.specs.TableOrder.{pairs_of}
 use Rattle.table_core.specs.Content.{Content, Indexed, with_index, has_index}
 use Rattle.catalogue_core.specs.declared.opening.TheConstants.{MAX_STATIONS, MAX_TABLES, MAX_INDEXES}
@@ -62,7 +62,7 @@ Reading fields text bad (Err fault) = ((fault ≡ NoMemory) × (length text ≤ 
 -- the file's keys are as long as the expression's, and its pairs are those of the table's records, each as often
 pub record IsFresh (table : Table) (e : Expression) (file : NdxFile) : Type 0 where
   pub long : file.key_len ≡ key_length e.fields e.expr
-  pub pairs : IsPermutation (pairs_of table e.expr) file.pairs.items
+  pub pairs : IsPermutation (pairs_of table e.expr) file.pairs.pairs
 
 -- the file is of the table as it is, and then the rest; it is not asked where indexes are built anew
 abbrev pub IfFresh : {X : Type 0} → Bool → Type 0 → OpenFault → (Result X OpenFault → Type 0) → Result X OpenFault → Type 0

@@ -2,10 +2,10 @@
 use Rattle.std.proofs.Common.{Option, None, Some, Result, Ok, Err, IfOk, ◌≡◌, ℕ, suc, ◌+◌, ◌<◌, ◌≤◌, ◌^◌, List, [], ◌∷◌, ◌++◌, map, length, length-append, get_or, set, refl, ap, sym, ◌∙◌, subst, inl, inr, arith}
 use Rattle.std.specs.List.{AllByRecursion, insert}
 use Rattle.std.proofs.lemmas.Bool.{cases_eq, cases_lt}
-use Rattle.std.proofs.lemmas.List.{append-nil, map-append, length-map, length-set, set-set, set_at, get_or_at, get_or-set_same, get_or-set_other, get_or_append_left}
+use Rattle.std.proofs.lemmas.List.{append-nil, map-append, length-map, length-set, set-set, set_at, get_or_at, get_or-set_same, get_or-set_other, get_or_append_left, get_or_default}
 use Rattle.ndx_index.specs.declared.pair.Pair.{Pair}
 use Rattle.ndx_index.specs.Order.{AreInOrder}
-use Rattle.ndx_index.specs.Slots.{no_pair}
+use Rattle.ndx_index.specs.Slots.{no_pair, slot_at}
 use Rattle.ndx_index.specs.PageStore.{Page, page_in, no_page, with_pairs, with_links}
 use Rattle.ndx_index.specs.declared.pages.root.Root.{Root}
 use Rattle.ndx_index.specs.IndexTree.{pairs_under, pairs_of_levels, pairs_in, joined, total, here, uses, uses_of_levels, IsTree, IsTreeOfLevels, IsPlain, AllBefore, AllFrom, Parted}
@@ -62,6 +62,9 @@ IsFirst ps first = first ≡ get_or ps 0 first
 first_is : (ps : List Pair) → 0 < length ps → IsFirst ps (get_or ps 0 no_pair)
 first_is [] some = absurd (omega arith)
 first_is (p ∷ ps) some = refl
+
+pub is_first : (ps : List Pair) (first : Pair) → 0 < length ps → first ≡ slot_at ps 0 → IsFirst ps first
+is_first ps first some is = is ∙ get_or_default ps 0 no_pair first some
 
 -- the first of them does
 parts_new : (d : ℕ) (a : List Page) (p : ℕ) (ps : List Pair) (first : Pair) → IsFirst ps first → CanAppend d a p ps → PartsNew d a p ps first

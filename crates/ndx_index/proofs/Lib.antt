@@ -18,6 +18,7 @@ pub mod Texts
 pub mod RunLaws
 pub mod PageLaws
 pub mod KeyNumbers
+pub mod EntryOrder
 pub mod BoundLaws
 pub mod Bisection
 pub mod TwinLaws

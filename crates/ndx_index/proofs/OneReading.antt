@@ -4,7 +4,7 @@ use Rattle.std.specs.Prelude.{IfOk, IfErr}
 use Rattle.ndx_index.specs.declared.pair.Pair.{Pair}
 use Rattle.ndx_index.specs.declared.fault.NdxFault.{NdxFault}
 use Rattle.ndx_index.specs.declared.fault.NdxFault.TheVariants.{Truncated, NumericIndex, UniqueIndex, BadKeyLength, BadRecordSize, PageOutside, PageTwice, TooManyEntries, MixedPage, NoMemory}
-use Rattle.ndx_index.specs.declared.read.NdxFile.{NdxFile}
+use Rattle.ndx_index.specs.declared.ndx_file.NdxFile.{NdxFile}
 use Rattle.ndx_index.specs.Header.{header_refusal, ndx_header, IsIndex, HasNdxFault}
 use Rattle.ndx_index.specs.Reading.{IsOnly}
 use Rattle.ndx_index.proofs.Laws.{visits_from_tree, one_walk}
@@ -33,9 +33,9 @@ unbroken bytes text key_len pairs e is (inr broken) =
     absurd cc
 
 pub only_from : (bytes text : List ℕ) (key_len : ℕ) (pairs : List Pair) (r : Result NdxFile NdxFault)
-    → IfOk r (λ file. IsIndex bytes file.expr file.key_len file.pairs.items) → IfErr r (λ e. e ≢ NoMemory → HasNdxFault bytes e) → IsIndex bytes text key_len pairs → IsOnly text key_len pairs r
+    → IfOk r (λ file. IsIndex bytes file.expr file.key_len file.pairs.pairs) → IfErr r (λ e. e ≢ NoMemory → HasNdxFault bytes e) → IsIndex bytes text key_len pairs → IsOnly text key_len pairs r
 only_from bytes text key_len pairs (Ok file) found refused is =
     let header = ndx_header bytes in
-    let one = one_walk header.layout bytes (visits_from_tree header.layout bytes header.root found.pages file.pairs.items found.tree) (visits_from_tree header.layout bytes header.root is.pages pairs is.tree) in
+    let one = one_walk header.layout bytes (visits_from_tree header.layout bytes header.root found.pages file.pairs.pairs found.tree) (visits_from_tree header.layout bytes header.root is.pages pairs is.tree) in
     (found.text_is ∙ sym is.text_is, found.length_is ∙ sym is.length_is, one.1)
 only_from bytes text key_len pairs (Err e) found refused is = only_memory e (λ ne. unbroken bytes text key_len pairs e is (refused ne))

@@ -1,9 +1,11 @@
 -- What is done to both runs is done to the pairs.
-use Rattle.std.proofs.Common.{◌≡◌, ℕ, zero, suc, ◌+◌, ◌-◌, ◌*◌, ◌<◌, ◌≤◌, List, [], ◌∷◌, ◌++◌, length, take, drop, set, get_or, replicate, refl, sym, ap, ◌∙◌, append_assoc, arith}
+use Rattle.std.proofs.Common.{◌≡◌, ℕ, zero, suc, ◌+◌, ◌-◌, ◌*◌, ◌<◌, ◌≤◌, List, [], ◌∷◌, ◌++◌, length, map, take, drop, set, get_or, replicate, refl, sym, ap, ◌∙◌, append_assoc, arith}
 use Rattle.std.proofs.lemmas.List.{length-drop, length-append, length-take-le, take-take, drop-take, nil_from_length, drop-drop, take-append-le, drop-append-le, set_split, take_all, take-replicate, drop-replicate}
 use lib.Seq.{paste}
 use Rattle.std.specs.List.{copy_within}
+use Rattle.ndx_index.specs.declared.pair.Pair.{Pair}
 use Rattle.ndx_index.specs.declared.pages.slots.PairSlots.TheInside.{Inside}
+use Rattle.ndx_index.specs.Index.{HaveLength}
 use Rattle.ndx_index.specs.Slots.{Slots, slot_pairs, slot_at, blank, slots_view, AreRuns}
 
 pub length-pairs : (k : ℕ) (keys ns : List ℕ) → length (slot_pairs k keys ns) ≡ length ns
@@ -19,6 +21,18 @@ pair_there k keys (n ∷ ns) zero lt =
     let z : 0 * k ≡ 0 = omega arith in
     rw z refl
 pair_there k keys (n ∷ ns) (suc i) lt = rw (step i k, ← drop-drop (i * k) k keys) (pair_there k (drop k keys) ns i (omega arith))
+
+-- the numbers are those of the run
+pub numbers_of_pairs : (k : ℕ) (keys ns : List ℕ) → map (λ (p : Pair). p.number) (slot_pairs k keys ns) ≡ ns
+numbers_of_pairs k keys [] = refl
+numbers_of_pairs k keys (n ∷ ns) = ap (λ (ms : List ℕ). n ∷ ms) (numbers_of_pairs k (drop k keys) ns)
+
+-- each key has the length
+pub pairs_long : (k : ℕ) (keys ns : List ℕ) → length keys ≡ length ns * k → HaveLength k (slot_pairs k keys ns)
+pairs_long k keys [] fit = tt
+pairs_long k keys (n ∷ ns) fit =
+    let long : length keys ≡ k + length ns * k = fit ∙ step (length ns) k in
+    (length-take-le k keys (omega (arith, long)), pairs_long k (drop k keys) ns (length-drop k keys ∙ omega (arith, long)))
 
 pub drop_pairs : (k i : ℕ) (keys ns : List ℕ) → drop i (slot_pairs k keys ns) ≡ slot_pairs k (drop (i * k) keys) (drop i ns)
 drop_pairs k zero keys ns =

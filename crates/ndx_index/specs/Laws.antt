@@ -10,3 +10,5 @@ pub mod Seeking
 pub mod Places
 pub mod Counting
 pub mod Given
+pub mod Numbered
+pub mod Packing

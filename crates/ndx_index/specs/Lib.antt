@@ -2,6 +2,7 @@ pub mod Index
 pub mod Order
 pub mod TableOrder
 pub mod Places
+pub mod Packing
 pub mod Laws
 pub mod Pages
 pub mod NdxTree
@@ -13,6 +14,7 @@ pub mod Levels
 pub mod Shapes
 pub mod Reading
 pub mod Slots
+pub mod Sorting
 pub mod KeyedPairs
 pub mod ListParts
 pub mod PairPages

@@ -6,6 +6,7 @@ ghost use Rattle.key_expr.specs.declared.format.TheConstants.{MAX_KEY_BYTES};
 ghost use Rattle.ndx_index.specs.Bounds.{passes};
 ghost use Rattle.ndx_index.specs.Index.{HaveLength};
 ghost use Rattle.ndx_index.specs.Order.{same, in_order, placed, without_pair, first_from, next_of, previous_of, AreInOrder};
+ghost use Rattle.ndx_index.specs.Packing.{renumbered, HaveNewNumbers};
 
 use crate::pages::bound::Bound;
 use crate::pages::free::{FreeList, make_free};
@@ -16,6 +17,7 @@ use crate::pages::search::{first_place, first_under, last_place, last_under, pus
 use crate::pages::store::PageStore;
 use crate::pair::Pair;
 use crate::pair_list::PairList;
+use crate::pair_list::sorting::sorted;
 use std::alloc::{AllocError, Global};
 use std::marker::Model;
 
@@ -60,34 +62,31 @@ impl OrderedIndex {
         }
     }
 
-    /// The index of these pairs, put in order. `AllocError` where there is no memory for it, or more pairs than its
-    /// pages can be numbered for.
-    pub fn from_pairs(
-        alloc: Global,
-        key_len: usize,
-        mut pairs: Vec<Pair>,
-    ) -> Result<Self, AllocError>
-        requires short { key_len ≤ MAX_KEY_BYTES }
-        requires keys { HaveLength key_len pairs.items }
-        requires distinct { IsDistinct same pairs.items }
-        ensures key_len { IfOk result (λ index. index.key_len ≡ key_len) }
-        ensures pairs { IfOk result (λ index. index.pairs ≡ in_order pairs.items) }
+    /// The index of these pairs, put in order where they don't stand in it already. `AllocError` where there is no memory
+    /// for it, or more pairs than its pages can be numbered for.
+    pub fn from_pairs(alloc: Global, pairs: PairList) -> Result<Self, AllocError>
+        requires distinct { IsDistinct same pairs.pairs }
+        ensures key_len { IfOk result (λ index. index.key_len ≡ pairs.key_len) }
+        ensures pairs { IfOk result (λ index. index.pairs ≡ in_order pairs.pairs) }
     {
-        pairs.sort_unstable();
-        OrderedIndex::from_sorted(alloc, key_len, pairs.as_slice())
+        if pairs.is_in_order() {
+            return OrderedIndex::from_sorted(alloc, &pairs);
+        }
+        let list = sorted(alloc, &pairs)?;
+        // The pairs as they came are let go before those of the pages are made.
+        drop(pairs);
+        OrderedIndex::from_sorted(alloc, &list)
     }
 
     /// The index of these pairs, which stand in order; its pages are filled from the left. `AllocError` where there is
     /// no memory for it, or more pairs than its pages can be numbered for.
-    pub fn from_sorted(alloc: Global, key_len: usize, pairs: &[Pair]) -> Result<Self, AllocError>
-        requires short { key_len ≤ MAX_KEY_BYTES }
-        requires keys { HaveLength key_len pairs.now }
-        requires ordered { AreInOrder pairs.now }
-        ensures key_len { IfOk result (λ index. index.key_len ≡ key_len) }
-        ensures pairs { IfOk result (λ index. index.pairs ≡ pairs.now) }
+    pub fn from_sorted(alloc: Global, pairs: &PairList) -> Result<Self, AllocError>
+        requires ordered { AreInOrder pairs.now.pairs }
+        ensures key_len { IfOk result (λ index. index.key_len ≡ pairs.now.key_len) }
+        ensures pairs { IfOk result (λ index. index.pairs ≡ pairs.now.pairs) }
     {
-        let mut store = PageStore::new(alloc, key_len);
-        let root = append_all(&mut store, pairs)?;
+        let mut store = PageStore::new(alloc, pairs.key_len());
+        let root = append_all(&mut store, pairs.all())?;
         Ok(OrderedIndex {
             store,
             free: FreeList { head: 0, count: 0 },
@@ -187,6 +186,32 @@ impl OrderedIndex {
 
     /// All pairs in order, copied out. `AllocError` where there is no memory for them.
     pub fn pairs(&self, alloc: Global) -> Result<PairList, AllocError>
+        ensures pairs { IfOk result (λ list. list.pairs ≡ self.now.pairs) }
+        ensures ordered { AreInOrder self.now.pairs }
+        ensures keys { HaveLength self.now.key_len self.now.pairs }
+    {
+        self.list(alloc)
+    }
+
+    /// The index by new numbers of its records: of a record, the new number stands at its number less one. The pairs of
+    /// those that have none, 0, are left out; the others stand in order by the new numbers too, as where these rise with the
+    /// old ones. `AllocError` where there is no memory for it.
+    pub fn renumbered(&self, alloc: Global, numbers: &[u32]) -> Result<Self, AllocError>
+        requires numbers { HaveNewNumbers numbers.now self.now.pairs }
+        requires ordered { AreInOrder (renumbered numbers.now self.now.pairs) }
+        ensures key_len { IfOk result (λ index. index.key_len ≡ self.now.key_len) }
+        ensures pairs { IfOk result (λ index. index.pairs ≡ renumbered numbers.now self.now.pairs) }
+    {
+        let old = self.list(alloc)?;
+        let kept = old.renumbered(alloc, numbers)?;
+        // The old pairs are let go before the pages are made.
+        drop(old);
+        OrderedIndex::from_sorted(alloc, &kept)
+    }
+
+    // All pairs in order, copied into a list.
+    fn list(&self, alloc: Global) -> Result<PairList, AllocError>
+        ensures key_len { IfOk result (λ list. list.key_len ≡ self.now.key_len) }
         ensures pairs { IfOk result (λ list. list.pairs ≡ self.now.pairs) }
         ensures ordered { AreInOrder self.now.pairs }
         ensures keys { HaveLength self.now.key_len self.now.pairs }

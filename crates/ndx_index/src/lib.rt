@@ -33,20 +33,23 @@ mod compare;
 mod fault;
 mod format;
 mod index;
+mod ndx_file;
 mod pages;
 mod pair;
 mod pair_list;
 mod read;
-mod sorting;
 mod write;
 
 pub use crate::fault::NdxFault;
-pub use crate::format::MAX_PAIRS;
+pub use crate::format::{
+    EXPRESSION_OFFSET, KEY_LENGTH_OFFSET, KEY_TYPE_OFFSET, MAX_PAIRS, MAX_RECORDS_BYTES, PAGE,
+    RECORD_SIZE_OFFSET, UNIQUE_FLAG_OFFSET,
+};
 pub use crate::index::OrderedIndex;
+pub use crate::ndx_file::NdxFile;
 pub use crate::pair::Pair;
 pub use crate::pair_list::PairList;
-pub use crate::read::{NdxFile, read_ndx};
-pub use crate::sorting::{are_in_order, sort_pairs};
+pub use crate::read::read_ndx;
 pub use crate::write::write_ndx;
 
 /// The order of pairs is their sorted permutation, and they have no other.

@@ -1,12 +1,16 @@
 //! A list of pairs whose keys have one length.
 
-ghost use Rattle.std.specs.Prelude.{◌≡◌, ◌<◌, ◌≤◌, ◌++◌, [], length, OnOk, OnErr};
+ghost use Rattle.std.specs.Prelude.{◌≡◌, ◌↔◌, ◌<◌, ◌≤◌, ◌∷◌, ◌++◌, [], length, map, IfOk, OnOk, OnErr, IsTrue};
 ghost use Rattle.key_expr.specs.declared.format.TheConstants.{MAX_KEY_BYTES};
+ghost use Rattle.ndx_index.specs.Index.{HaveLength};
 ghost use Rattle.ndx_index.specs.ListParts.{listed};
+ghost use Rattle.ndx_index.specs.Order.{AreInOrder};
+ghost use Rattle.ndx_index.specs.Packing.{renumbered, HaveNewNumbers};
 ghost use Rattle.ndx_index.specs.Slots.{slot_at};
 
 pub(crate) mod part;
 mod parts;
+pub(crate) mod sorting;
 
 use crate::pages::slots::PairSlots;
 use crate::pair::Pair;
@@ -18,7 +22,7 @@ use std::marker::Model;
 /// length and the list.
 #[derive(Drop)]
 pub struct PairList {
-    slots: PairSlots,
+    pub(crate) slots: PairSlots,
 }
 
 impl Model for PairList {
@@ -31,7 +35,7 @@ impl Model for PairList {
 
 impl PairList {
     /// No pairs, for keys of this many bytes. It takes no memory.
-    pub(crate) fn new(alloc: Global, key_len: usize) -> PairList
+    pub fn new(alloc: Global, key_len: usize) -> PairList
         requires short { key_len ≤ MAX_KEY_BYTES }
         ensures key_len { result.key_len ≡ key_len }
         ensures pairs { result.pairs ≡ [] }
@@ -39,6 +43,15 @@ impl PairList {
         PairList {
             slots: PairSlots::new(alloc, key_len),
         }
+    }
+
+    /// The length of the keys.
+    pub fn key_len(&self) -> usize
+        ensures key_len { result ≡ self.now.key_len }
+        ensures short { self.now.key_len ≤ MAX_KEY_BYTES }
+        ensures keys { HaveLength self.now.key_len self.now.pairs }
+    {
+        self.slots.key_len()
     }
 
     /// How many pairs there are.
@@ -56,6 +69,80 @@ impl PairList {
         self.slots.get(at)
     }
 
+    /// The bytes of the key of the pair at a place, from 0.
+    pub fn key(&self, at: usize) -> &[u8]
+        requires place { at < length self.now.pairs }
+        ensures key { result.now ≡ (slot_at self.now.pairs at).key }
+    {
+        self.slots.key(at)
+    }
+
+    /// The record number of the pair at a place, from 0.
+    pub fn number(&self, at: usize) -> u32
+        requires place { at < length self.now.pairs }
+        ensures number { result ≡ (slot_at self.now.pairs at).number }
+    {
+        self.slots.number(at)
+    }
+
+    /// Whether each pair stands before all later ones, so that none comes twice. It takes no memory.
+    pub fn is_in_order(&self) -> bool
+        ensures value { IsTrue result ↔ AreInOrder self.now.pairs }
+    {
+        for at in 1..self.len() {
+            if !self.slots.is_before(at - 1, at) {
+                return false;
+            }
+        }
+        true
+    }
+
+    /// The pairs by new numbers of their records: of a record, the new number stands at its number less one. The pairs of
+    /// those that have none, 0, are left out. `AllocError` where there is no memory for the list.
+    pub(crate) fn renumbered(&self, alloc: Global, numbers: &[u32]) -> Result<PairList, AllocError>
+        requires numbers { HaveNewNumbers numbers.now self.now.pairs }
+        ensures key_len { IfOk result (λ list. list.key_len ≡ self.now.key_len) }
+        ensures pairs { IfOk result (λ list. list.pairs ≡ renumbered numbers.now self.now.pairs) }
+    {
+        let count = self.len();
+        let mut slots = PairSlots::new(alloc, self.key_len());
+        slots.reserve(count)?;
+        for at in 0..count {
+            let number = numbers[self.number(at) as usize - 1];
+            if number != 0 {
+                slots.push(self.key(at), number);
+            }
+        }
+        Ok(PairList { slots })
+    }
+
+    /// The record numbers of the pairs, one after another. The keys are let go. It takes no memory.
+    pub fn into_numbers(self) -> Vec<u32>
+        ensures numbers { result.items ≡ map (λ p. p.number) self.pairs }
+    {
+        self.slots.into_numbers()
+    }
+
+    /// Makes room for so many pairs after the others. `AllocError` where there is no memory for them. The pairs are the same.
+    pub fn reserve(&mut self, count: usize) -> Result<(), AllocError>
+        ensures pairs { self.new.pairs ≡ self.old.pairs }
+        ensures key_len { self.new.key_len ≡ self.old.key_len }
+    {
+        self.slots.reserve(count)
+    }
+
+    /// Puts a pair after the others. `AllocError` where there is no memory for it; the pairs are the same then.
+    pub fn push(&mut self, pair: &Pair) -> Result<(), AllocError>
+        requires key { length pair.now.key ≡ self.old.key_len }
+        ensures pairs { OnOk result (self.new.pairs ≡ self.old.pairs ++ pair.now ∷ []) }
+        ensures same { OnErr result (self.new.pairs ≡ self.old.pairs) }
+        ensures key_len { self.new.key_len ≡ self.old.key_len }
+    {
+        self.slots.reserve(1)?;
+        self.slots.push(pair.key.as_bytes(), pair.number);
+        Ok(())
+    }
+
     /// Puts pairs after the others. `AllocError` where there is no memory for them; the pairs are the same then.
     pub(crate) fn extend(&mut self, part: ListPart<'_>) -> Result<(), AllocError>
         requires key { part.key_len ≡ self.old.key_len }
@@ -71,6 +158,7 @@ impl PairList {
     /// All pairs, lent.
     pub(crate) fn all(&self) -> ListPart<'_>
         ensures pairs { listed result ≡ self.now.pairs }
+        ensures key_len { result.key_len ≡ self.now.key_len }
     {
         self.slots.all()
     }

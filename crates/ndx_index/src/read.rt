@@ -12,25 +12,14 @@ mod page;
 mod walk;
 
 use crate::fault::NdxFault;
-use crate::pair::Pair;
+use crate::ndx_file::NdxFile;
 use crate::read::header::{expression, read_header};
 use crate::read::walk::read_tree;
 use dbf_fields::Bytes;
 use std::alloc::Global;
 
-/// What an index file holds.
-#[derive(Drop)]
-pub struct NdxFile {
-    /// The text of the key expression, without blanks at its end.
-    pub expr: Bytes,
-    /// The bytes of each key, from 1 to 100.
-    pub key_len: usize,
-    /// The pairs of the leaves, in the order of the file.
-    pub pairs: Vec<Pair>,
-}
-
 fn read_file(alloc: Global, bytes: &[u8]) -> Result<NdxFile, NdxFault>
-    ensures found { IfOk result (λ file. IsIndex bytes.now file.expr file.key_len file.pairs.items) }
+    ensures found { IfOk result (λ file. IsIndex bytes.now file.expr file.key_len file.pairs.pairs) }
     ensures refused { IfErr result (λ e. e ≢ NoMemory → HasNdxFault bytes.now e) }
     ensures early { IfErr result (λ e. (f : Fault) → header_refusal bytes.now ≡ Some f → e ≡ f) }
 {
@@ -53,7 +42,7 @@ fn read_file(alloc: Global, bytes: &[u8]) -> Result<NdxFile, NdxFault>
 /// answer, but for the header page's faults, which are found before any memory is taken. Pages that the
 /// walk does not reach, and keys and record numbers of inner pages, are never looked at.
 pub fn read_ndx(alloc: Global, bytes: &[u8]) -> Result<NdxFile, NdxFault>
-    ensures found { IfOk result (λ file. IsIndex bytes.now file.expr file.key_len file.pairs.items) }
+    ensures found { IfOk result (λ file. IsIndex bytes.now file.expr file.key_len file.pairs.pairs) }
     ensures only { (text : List ℕ) (key_len : ℕ) (pairs : List PairValue) → IsIndex bytes.now text key_len pairs → IsOnly text key_len pairs result }
     ensures refused { IfErr result (λ e. e ≢ NoMemory → HasNdxFault bytes.now e) }
     // Where the header page breaks a rule the answer is its fault, and nothing else.

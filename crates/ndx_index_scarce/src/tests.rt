@@ -78,11 +78,14 @@ fn index_attempt(answer: Result<OrderedIndex, AllocError>) -> Attempt {
 
 // The index of those pairs, which stand in order.
 fn sorted_index(alloc: Global) -> Result<OrderedIndex, AllocError> {
-    let pairs = [first(), second(), third()];
-    if !are_in_order(&pairs) {
+    let mut pairs = PairList::new(alloc, 3);
+    pairs.push(&first())?;
+    pairs.push(&second())?;
+    pairs.push(&third())?;
+    if !pairs.is_in_order() {
         return Ok(OrderedIndex::new(alloc, 3));
     }
-    OrderedIndex::from_sorted(alloc, 3, &pairs)
+    OrderedIndex::from_sorted(alloc, &pairs)
 }
 
 // The index of those pairs in another order.
@@ -92,7 +95,12 @@ fn index_of_pairs(alloc: Global) -> Result<OrderedIndex, AllocError> {
     if high.cmp(&low).is_eq() || high.cmp(&middle).is_eq() || low.cmp(&middle).is_eq() {
         return Ok(OrderedIndex::new(alloc, 3));
     }
-    OrderedIndex::from_pairs(alloc, 3, vec![in alloc; high, low, middle]?)
+    let mut pairs = PairList::new(alloc, 3);
+    pairs.reserve(3)?;
+    pairs.push(&high)?;
+    pairs.push(&low)?;
+    pairs.push(&middle)?;
+    OrderedIndex::from_pairs(alloc, pairs)
 }
 
 // Room for one more pair, in an index without pairs or with those.
@@ -124,9 +132,7 @@ fn list_attempt(alloc: Global, index: &OrderedIndex) -> Attempt {
 fn reading_attempt(alloc: Global, bytes: &[u8]) -> Attempt {
     match read_ndx(alloc, bytes) {
         Ok(file) => Attempt::right_if(
-            file.expr.as_slice() == b"NAME".as_slice()
-                && file.key_len == 3
-                && file.pairs.as_slice() == [first(), second(), third()].as_slice(),
+            file.expr.as_slice() == b"NAME".as_slice() && file.key_len == 3 && is_list(&file.pairs),
         ),
         Err(fault) => Attempt::refused_if(fault == NdxFault::NoMemory),
     }

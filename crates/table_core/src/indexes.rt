@@ -1,19 +1,19 @@
 //! One index of a table.
 
 ghost use Rattle.std.specs.Prelude.{◌≡◌, ◌+◌, ◌≤◌, length, slice_get, IfOk, OnOk};
-ghost use Rattle.dbf_image.specs.Table.{packed, row_at};
+ghost use Rattle.dbf_image.specs.Table.{row_at};
 ghost use Rattle.key_expr.specs.Keys.{key, key_length};
 ghost use Rattle.ndx_index.specs.Order.{AreInOrder};
 ghost use Rattle.ndx_index.specs.Places.{back_from};
 ghost use Rattle.ndx_index.specs.TableOrder.{pair_at};
-ghost use Rattle.table_core.specs.Indexes.{AtPlacesOf, Follows, FollowsAside, FollowsBut, HasRoom, IsFor, indexed, seen_index};
+ghost use Rattle.table_core.specs.Indexes.{AtPlacesOf, Follows, FollowsAside, FollowsBut, HasRoom, indexed, seen_index};
 
 pub(crate) mod all;
 pub(crate) mod kept;
 pub(crate) mod sort;
 
 use crate::edits::planned::Target;
-use crate::indexes::sort::{sorted, sorted_kept};
+use crate::indexes::sort::sorted;
 use dbf_fields::Bytes;
 use dbf_image::GrowingTable;
 use key_expr::{Key, KeyExpr};
@@ -46,18 +46,15 @@ impl TableIndex {
         Ok(TableIndex { name, expr, order })
     }
 
-    /// The same index for the table without the records that are marked as deleted. An `Err` says that there was no
-    /// memory.
-    pub(crate) fn packed(
+    /// The same index with another order. An `Err` says that there was no memory.
+    pub(crate) fn with_order(
         &self,
         alloc: Global,
-        records: &GrowingTable,
+        order: OrderedIndex,
     ) -> Result<TableIndex, AllocError>
-        requires is_for { IsFor records.now.table self.now }
-        ensures follows { IfOk result (λ made. Follows (packed records.now.table) made) }
+        ensures order { IfOk result (λ made. made.order ≡ order) }
         ensures same { IfOk result (λ made. indexed made ≡ indexed self.now) }
     {
-        let order = sorted_kept(alloc, records, &self.expr)?;
         let name = self.name.copy(alloc)?;
         let expr = self.expr.copy(alloc)?;
         Ok(TableIndex { name, expr, order })

@@ -21,5 +21,6 @@ pub use cursor::Cursor;
 pub use edits::Edit;
 pub use edits::planned::Planned;
 pub use fault::TableFault;
+pub use indexes::kept::are_all_pairs;
 pub use refusal::Refusal;
 pub use table::Table;

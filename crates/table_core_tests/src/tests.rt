@@ -5,10 +5,10 @@ ghost use Rattle.std.specs.List.{AllByRecursion};
 ghost use Rattle.table_core.specs.Content.{IsReadFor};
 ghost use Rattle.table_core.specs.Cursors.{IsCursor};
 
-use dbf_fields::{Bytes, CHARACTER, Field, Literal, Schema, day_of};
+use dbf_fields::{Bytes, CHARACTER, Field, Literal, Schema, WholeNumber, day_of};
 use dbf_image::TableData;
 use key_expr::KeyExpr;
-use ndx_index::Pair;
+use ndx_index::{Pair, PairList};
 use std::alloc::Global;
 use std::test::*;
 use table_core::*;
@@ -159,7 +159,10 @@ fn edited(alloc: Global, table: &mut Table, cursor: &mut Cursor, asked: Asked) -
             replaced(alloc, table, cursor, name, Literal::Text(text))
         }
         Asked::Number(name, digits) => {
-            let value = Literal::Number { digits, scale: 0 };
+            let value = Literal::Number {
+                digits: WholeNumber::new(digits),
+                scale: 0,
+            };
             replaced(alloc, table, cursor, name, value)
         }
         Asked::Truth(name, truth) => replaced(alloc, table, cursor, name, Literal::Truth(truth)),

@@ -3,7 +3,7 @@
 use catalogue_core::{Catalogue, IndexSource, TableSource};
 use dbf_fields::{Bytes, CHARACTER, DATE, Field, MEMO, NUMBER, Schema};
 use dbf_image::TableData;
-use ndx_index::NdxFile;
+use ndx_index::{NdxFile, PairList};
 use std::alloc::{AllocError, Global};
 use std::test::Fail;
 
@@ -42,7 +42,7 @@ fn index(alloc: Global, name: &[u8], expr: &[u8]) -> Result<IndexSource, AllocEr
     let file = NdxFile {
         expr: Bytes::from_slice(alloc, expr)?,
         key_len: 10,
-        pairs: Vec::new(alloc),
+        pairs: PairList::new(alloc, 10),
     };
     Ok(IndexSource {
         name: Bytes::from_slice(alloc, name)?,

@@ -1,5 +1,5 @@
 -- Places in a list of numbers that are counted on from the first.
-use Rattle.std.proofs.Common.{◌≡◌, ℕ, zero, suc, ◌+◌, ◌-◌, ◌<◌, ◌≤◌, true, false, eqb, length, Some, None, refl, ap, ◌∙◌, arith}
+use Rattle.std.proofs.Common.{◌≡◌, ℕ, zero, suc, ◌+◌, ◌-◌, ◌<◌, ◌≤◌, true, false, eqb, List, [], ◌∷◌, ◌++◌, length, Some, None, refl, ap, ◌∙◌, arith}
 use Rattle.std.specs.List.{slice_get}
 use Rattle.std.specs.Prelude.{nat_le}
 use Rattle.std.proofs.lemmas.Bool.{eq-eqb, ne_eqb}
@@ -9,6 +9,11 @@ use Rattle.ndx_index.specs.Places.{back_from, place_in, counted}
 pub length-counted : (n from : ℕ) → length (counted from n) ≡ n
 length-counted zero from = refl
 length-counted (suc n) from = ap suc (length-counted n (from + 1))
+
+-- one number more
+pub counted-push : (n from : ℕ) → counted from (suc n) ≡ counted from n ++ (from + n) ∷ []
+counted-push zero from = let m : from ≡ from + 0 = omega arith in ap (λ k. k ∷ []) m
+counted-push (suc n) from = let m : from + 1 + n ≡ from + suc n = omega arith in ap (λ (l : List ℕ). from ∷ l) (counted-push n (from + 1) ∙ ap (λ k. counted (from + 1) n ++ k ∷ []) m)
 
 pub place_in-counted : (n from i : ℕ) → i < n → place_in (from + i) (counted from n) ≡ i
 place_in-counted zero from i lt = absurd (omega arith)

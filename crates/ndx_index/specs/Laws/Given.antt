@@ -98,7 +98,7 @@ order_from_pairs table e ps long sorted own =
     (all_weaker (IsRecordPair table e) (Contains (order table e)) (λ p h. subst (Contains (order table e)) (sym h.own) (pair_there table e p.number h.some h.inside)) ps own)
     (omega (arith, length-order table e))
 
-all_contained : (P : Pair → Type 0) (ps : List Pair) → ((p : Pair) → Contains ps p → P p) → AllByRecursion P ps
+pub all_contained : (P : Pair → Type 0) (ps : List Pair) → ((p : Pair) → Contains ps p → P p) → AllByRecursion P ps
 all_contained P [] h = tt
 all_contained P (p ∷ ps) h = (h p (0, omega arith, refl), all_contained P ps (λ q c. h q (suc c.0, omega (arith, c.1), c.2)))
 

@@ -1,6 +1,6 @@
 //! An index with many pairs, and its pages read from inside.
 
-ghost use Rattle.std.specs.Prelude.{◌≡◌, length, IfOk};
+ghost use Rattle.std.specs.Prelude.{◌≡◌, length};
 
 use super::*;
 use key_expr::Key;
@@ -38,24 +38,9 @@ fn thousand(alloc: Global) -> Result<OrderedIndex, Fail> {
     Ok(index)
 }
 
-// The pairs of a list, copied.
-fn copied(alloc: Global, pairs: &PairList) -> Result<Vec<Pair>, Fail>
-    ensures pairs { IfOk result (λ all. all.items ≡ pairs.now.pairs) }
-{
-    let mut all = Vec::new(alloc);
-    for at in 0..pairs.len() {
-        all.push(pairs.get(at))?;
-    }
-    Ok(all)
-}
-
 // The same pairs in pages that are filled from the left.
 fn built_again(alloc: Global, index: &OrderedIndex) -> Result<OrderedIndex, Fail> {
-    if index.key_len() != 3 {
-        return Err("an index of other keys".into());
-    }
-    let pairs = copied(alloc, &index.pairs(alloc)?)?;
-    Ok(OrderedIndex::from_sorted(alloc, 3, &pairs)?)
+    Ok(OrderedIndex::from_sorted(alloc, &index.pairs(alloc)?)?)
 }
 
 // The record numbers of all pairs, in order.

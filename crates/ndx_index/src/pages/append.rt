@@ -1,13 +1,14 @@
 //! Pairs that are put after all others of a tree, so that its pages are filled from the left.
 
 ghost use Rattle.std.specs.Prelude.{◌≡◌, ◌+◌, ◌<◌, ◌≤◌, length, IfOk};
-ghost use Rattle.ndx_index.specs.Index.{HaveLength};
+ghost use Rattle.ndx_index.specs.ListParts.{listed};
 ghost use Rattle.ndx_index.specs.PageStore.{page_in};
 ghost use Rattle.ndx_index.specs.TreeSteps.{AddsLink, Appends, CanAppend};
 
 use crate::pages::pair_pages::PLACES;
 use crate::pages::store::PageStore;
 use crate::pair::Pair;
+use crate::pair_list::part::ListPart;
 use std::alloc::AllocError;
 
 /// Puts pairs after all others under a page, this many levels above the leaves; they get a leaf of their own. Where the
@@ -17,12 +18,12 @@ pub(crate) fn append_under(
     store: &mut PageStore,
     level: usize,
     page: u32,
-    pairs: &[Pair],
+    pairs: ListPart<'_>,
 ) -> Result<Option<u32>, AllocError>
-    requires can { CanAppend level store.old.pages page pairs.now }
-    requires count_bounded { length pairs.now ≤ PLACES }
-    requires keys { HaveLength store.old.key_len pairs.now }
-    ensures appended { IfOk result (λ beside. Appends level store.old.pages store.new.pages page pairs.now beside) }
+    requires can { CanAppend level store.old.pages page (listed pairs) }
+    requires count_bounded { length (listed pairs) ≤ PLACES }
+    requires key { pairs.key_len ≡ store.old.key_len }
+    ensures appended { IfOk result (λ beside. Appends level store.old.pages store.new.pages page (listed pairs.entry) beside) }
     ensures key_len { store.new.key_len ≡ store.old.key_len }
 {
     if level == 0 {
@@ -32,7 +33,7 @@ pub(crate) fn append_under(
     let last = store.link(page, store.link_count(page) - 1);
     match append_under(store, level - 1, last, pairs)? {
         None => Ok(None),
-        Some(beside) => add_child(store, page, beside, &pairs[0]),
+        Some(beside) => add_child(store, page, beside, &pairs.get(0)),
     }
 }
 

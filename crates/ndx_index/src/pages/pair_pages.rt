@@ -4,7 +4,6 @@ ghost use Rattle.std.specs.Prelude.{◌≡◌, ◌≢◌, ◌+◌, ◌*◌, ◌<
 ghost use Rattle.std.specs.List.{insert, remove};
 ghost use Rattle.key_expr.specs.declared.format.TheConstants.{MAX_KEY_BYTES};
 ghost use Rattle.ndx_index.specs.Bounds.{passes};
-ghost use Rattle.ndx_index.specs.Index.{HaveLength};
 ghost use Rattle.ndx_index.specs.Order.{AreInOrder};
 ghost use Rattle.ndx_index.specs.ListParts.{listed};
 ghost use Rattle.ndx_index.specs.Slots.{slot_at, AllPassFrom};
@@ -208,21 +207,23 @@ impl PairPages {
         ensures key_len { self.new.key_len ≡ self.old.key_len }
         ensures spare { self.new.spare + 1 ≡ self.old.spare }
     {
-        self.push_filled(&[]);
+        let none = ListPart::none(self.slots.key_len());
+        self.push_filled(none);
     }
 
     /// Puts a page of these pairs after the others. It takes the room that was reserved, and no memory.
-    pub(crate) fn push_filled(&mut self, pairs: &[Pair])
+    pub(crate) fn push_filled(&mut self, pairs: ListPart<'_>)
         requires room { 0 < self.old.spare }
-        requires count_bounded { length pairs.now ≤ PLACES }
-        requires keys { HaveLength self.old.key_len pairs.now }
-        ensures pages { self.new.pages ≡ self.old.pages ++ pairs.now ∷ [] }
+        requires count_bounded { length (listed pairs) ≤ PLACES }
+        requires key { pairs.key_len ≡ self.old.key_len }
+        ensures pages { self.new.pages ≡ self.old.pages ++ listed pairs.entry ∷ [] }
         ensures key_len { self.new.key_len ≡ self.old.key_len }
         ensures spare { self.new.spare + 1 ≡ self.old.spare }
     {
-        self.slots.push_all(pairs);
-        self.slots.push_blank(PLACES - pairs.len());
-        self.counts.push_reserved(pairs.len() as u8);
+        let count = pairs.len();
+        self.slots.push_part(pairs);
+        self.slots.push_blank(PLACES - count);
+        self.counts.push_reserved(count as u8);
         self.spare -= 1;
     }
 

@@ -1,7 +1,7 @@
 //! The top of a tree.
 
 ghost use Rattle.std.specs.Prelude.{◌≡◌, ◌++◌, ◌^◌, ◌<◌, ◌≤◌, [], length, IfOk};
-ghost use Rattle.ndx_index.specs.Index.{HaveLength};
+ghost use Rattle.ndx_index.specs.ListParts.{listed};
 ghost use Rattle.ndx_index.specs.IndexTree.{pairs_in, IsPlain};
 ghost use Rattle.ndx_index.specs.TreeSteps.{IsOver};
 ghost use Rattle.ndx_index.specs.Order.{AreInOrder};
@@ -10,6 +10,7 @@ use crate::pages::append::append_under;
 use crate::pages::pair_pages::PLACES;
 use crate::pages::store::PageStore;
 use crate::pair::Pair;
+use crate::pair_list::part::ListPart;
 use std::alloc::AllocError;
 
 /// The page at the top of a tree, and how many levels the tree has; of none there is no page.
@@ -21,17 +22,17 @@ pub(crate) struct Root {
 
 /// Puts pairs that stand in order into pages of their own, filled from the left. An `Err` says that there was no
 /// memory, or no number for a page.
-pub(crate) fn append_all(store: &mut PageStore, pairs: &[Pair]) -> Result<Root, AllocError>
+pub(crate) fn append_all(store: &mut PageStore, pairs: ListPart<'_>) -> Result<Root, AllocError>
     requires empty { store.old.pages ≡ [] }
-    requires keys { HaveLength store.old.key_len pairs.now }
-    requires ordered { AreInOrder pairs.now }
+    requires key { pairs.key_len ≡ store.old.key_len }
+    requires ordered { AreInOrder (listed pairs) }
     ensures tree { IfOk result (λ root. IsPlain store.new.pages root) }
-    ensures pairs { IfOk result (λ root. pairs_in store.new.pages root ≡ pairs.now) }
+    ensures pairs { IfOk result (λ root. pairs_in store.new.pages root ≡ listed pairs.entry) }
     ensures key_len { store.new.key_len ≡ store.old.key_len }
 {
     let mut root = Root { page: 0, levels: 0 };
     let mut rest = pairs;
-    'leaves: while !rest.is_empty() {
+    'leaves: while rest.len() > 0 {
         let (leaf, more) = rest.split_at(rest.len().min(PLACES));
         root = append(store, root, leaf)?;
         rest = more;
@@ -40,14 +41,14 @@ pub(crate) fn append_all(store: &mut PageStore, pairs: &[Pair]) -> Result<Root, 
 }
 
 // Puts pairs after all others of a tree, in a leaf of their own.
-fn append(store: &mut PageStore, root: Root, pairs: &[Pair]) -> Result<Root, AllocError>
+fn append(store: &mut PageStore, root: Root, pairs: ListPart<'_>) -> Result<Root, AllocError>
     requires tree { IsPlain store.old.pages root }
-    requires order { AreInOrder (pairs_in store.old.pages root ++ pairs.now) }
-    requires some { 0 < length pairs.now }
-    requires count_bounded { length pairs.now ≤ PLACES }
-    requires keys { HaveLength store.old.key_len pairs.now }
+    requires order { AreInOrder (pairs_in store.old.pages root ++ listed pairs) }
+    requires some { 0 < length (listed pairs) }
+    requires count_bounded { length (listed pairs) ≤ PLACES }
+    requires key { pairs.key_len ≡ store.old.key_len }
     ensures tree { IfOk result (λ new. IsPlain store.new.pages new) }
-    ensures pairs { IfOk result (λ new. pairs_in store.new.pages new ≡ pairs_in store.old.pages root ++ pairs.now) }
+    ensures pairs { IfOk result (λ new. pairs_in store.new.pages new ≡ pairs_in store.old.pages root ++ listed pairs.entry) }
     ensures key_len { store.new.key_len ≡ store.old.key_len }
 {
     if root.levels == 0 {
@@ -56,7 +57,7 @@ fn append(store: &mut PageStore, root: Root, pairs: &[Pair]) -> Result<Root, All
     }
     match append_under(store, root.levels - 1, root.page, pairs)? {
         None => Ok(root),
-        Some(beside) => join(store, root, beside, &pairs[0]),
+        Some(beside) => join(store, root, beside, &pairs.get(0)),
     }
 }
 

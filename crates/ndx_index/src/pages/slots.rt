@@ -1,11 +1,12 @@
 //! Pairs whose keys have one length, in runs of bytes.
 
-ghost use Rattle.std.specs.Prelude.{◌≡◌, ◌+◌, ◌-◌, ◌<◌, ◌≤◌, ◌∷◌, ◌++◌, [], length, take, drop, replicate, slice_set, OnOk};
+ghost use Rattle.std.specs.Prelude.{◌≡◌, ◌+◌, ◌-◌, ◌<◌, ◌≤◌, ◌∷◌, ◌++◌, [], length, map, take, drop, replicate, slice_set, OnOk};
 ghost use Rattle.std.specs.List.{copy_within};
 ghost use Rattle.key_expr.specs.declared.format.TheConstants.{MAX_KEY_BYTES};
 ghost use Rattle.ndx_index.specs.Bounds.{passes};
 ghost use Rattle.ndx_index.specs.Index.{HaveLength};
 ghost use Rattle.ndx_index.specs.ListParts.{listed};
+ghost use Rattle.ndx_index.specs.Order.{before};
 ghost use Rattle.ndx_index.specs.Slots.{slot_at, blank};
 
 use crate::compare::ends_are_before;
@@ -58,6 +59,7 @@ impl PairSlots {
     pub(crate) fn key_len(&self) -> usize
         ensures value { result ≡ self.now.key_len }
         ensures short { self.now.key_len ≤ MAX_KEY_BYTES }
+        ensures keys { HaveLength self.now.key_len self.now.pairs }
     {
         self.key_len
     }
@@ -137,6 +139,26 @@ impl PairSlots {
         }
     }
 
+    /// Whether a slot's pair stands before another slot's. It copies no key.
+    pub(crate) fn is_before(&self, at: usize, other: usize) -> bool
+        requires place { at < length self.now.pairs }
+        requires other { other < length self.now.pairs }
+        ensures value { result ≡ before (slot_at self.now.pairs at) (slot_at self.now.pairs other) }
+    {
+        let bound = Bound {
+            key: self.key(other),
+            number: u64::from(self.number(other)),
+        };
+        !self.passes(at, &bound)
+    }
+
+    /// The record numbers; the keys are let go. It takes no memory.
+    pub(crate) fn into_numbers(self) -> Vec<u32>
+        ensures numbers { result.items ≡ map (λ p. p.number) self.pairs }
+    {
+        self.numbers
+    }
+
     /// Puts a pair into a slot, in place of what is there. It takes no memory.
     pub(crate) fn set(&mut self, at: usize, pair: &Pair)
         requires place { at < length self.old.pairs }
@@ -187,36 +209,25 @@ impl PairSlots {
         requires room { length (listed part) ≤ self.old.spare }
         ensures pairs { self.new.pairs ≡ self.old.pairs ++ listed part.entry }
         ensures key_len { self.new.key_len ≡ self.old.key_len }
+        ensures spare { self.new.spare + length (listed part.entry) ≡ self.old.spare }
     {
         push_run(&mut self.keys, part.keys);
         push_run(&mut self.numbers, part.numbers);
         self.spare -= part.numbers.len();
     }
 
-    /// Puts a pair after the others. It takes the room that was reserved, and no memory.
-    fn push_pair(&mut self, pair: &Pair)
-        requires key { length pair.now.key ≡ self.old.key_len }
+    /// Puts a pair after the others, by the bytes of its key and its record number. It takes the room that was
+    /// reserved, and no memory.
+    pub(crate) fn push(&mut self, key: &[u8], number: u32)
+        requires key { length key.now ≡ self.old.key_len }
         requires room { 0 < self.old.spare }
-        ensures pairs { self.new.pairs ≡ self.old.pairs ++ pair.now ∷ [] }
+        ensures pairs { self.new.pairs ≡ self.old.pairs ++ record { key = key.now; number = number } ∷ [] }
         ensures key_len { self.new.key_len ≡ self.old.key_len }
         ensures spare { self.new.spare + 1 ≡ self.old.spare }
     {
-        push_run(&mut self.keys, pair.key.as_bytes());
-        self.numbers.push_reserved(pair.number);
+        push_run(&mut self.keys, key);
+        self.numbers.push_reserved(number);
         self.spare -= 1;
-    }
-
-    /// Puts pairs after the others. It takes the room that was reserved, and no memory.
-    pub(crate) fn push_all(&mut self, pairs: &[Pair])
-        requires keys { HaveLength self.old.key_len pairs.now }
-        requires room { length pairs.now ≤ self.old.spare }
-        ensures pairs { self.new.pairs ≡ self.old.pairs ++ pairs.now }
-        ensures key_len { self.new.key_len ≡ self.old.key_len }
-        ensures spare { self.new.spare + length pairs.now ≡ self.old.spare }
-    {
-        for pair in pairs {
-            self.push_pair(pair);
-        }
     }
 
     /// Puts n blank slots after the others. It takes the room that was reserved, and no memory.

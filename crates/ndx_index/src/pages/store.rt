@@ -4,7 +4,6 @@ ghost use Rattle.std.specs.Prelude.{◌≡◌, ◌≢◌, ◌+◌, ◌<◌, ◌�
 ghost use Rattle.std.specs.List.{insert, remove};
 ghost use Rattle.key_expr.specs.declared.format.TheConstants.{MAX_KEY_BYTES};
 ghost use Rattle.ndx_index.specs.Bounds.{passes};
-ghost use Rattle.ndx_index.specs.Index.{HaveLength};
 ghost use Rattle.ndx_index.specs.Order.{before, AreInOrder};
 ghost use Rattle.ndx_index.specs.ListParts.{listed};
 ghost use Rattle.ndx_index.specs.Slots.{slot_at, AllPassFrom};
@@ -225,15 +224,16 @@ impl PageStore {
         ensures err { OnErr result (self.new.pages ≡ self.old.pages) }
         ensures key_len { self.new.key_len ≡ self.old.key_len }
     {
-        self.add_leaf(&[])
+        let none = ListPart::none(self.key_len());
+        self.add_leaf(none)
     }
 
     /// Puts a page of these pairs, without links, after the others, and answers its number. `AllocError` where there is
     /// no memory or no number for it; the pages are the same then.
-    pub(crate) fn add_leaf(&mut self, pairs: &[Pair]) -> Result<u32, AllocError>
-        requires count_bounded { length pairs.now ≤ PLACES }
-        requires keys { HaveLength self.old.key_len pairs.now }
-        ensures pages { OnOk result (self.new.pages ≡ self.old.pages ++ with_pairs pairs.now no_page ∷ []) }
+    pub(crate) fn add_leaf(&mut self, pairs: ListPart<'_>) -> Result<u32, AllocError>
+        requires count_bounded { length (listed pairs) ≤ PLACES }
+        requires key { pairs.key_len ≡ self.old.key_len }
+        ensures pages { OnOk result (self.new.pages ≡ self.old.pages ++ with_pairs (listed pairs.entry) no_page ∷ []) }
         ensures number { IfOk result (λ page. page ≡ length self.old.pages) }
         ensures count_bounded { OnOk result (length self.new.pages < 2 ^ 32) }
         ensures err { OnErr result (self.new.pages ≡ self.old.pages) }

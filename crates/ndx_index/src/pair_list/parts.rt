@@ -1,14 +1,29 @@
 //! What a part of a list of pairs tells.
 
-ghost use Rattle.std.specs.Prelude.{◌≡◌, ◌<◌, ◌≤◌, length, take, drop};
+ghost use Rattle.std.specs.Prelude.{◌≡◌, ◌<◌, ◌≤◌, [], length, take, drop};
 ghost use Rattle.key_expr.specs.declared.format.TheConstants.{MAX_KEY_BYTES};
 ghost use Rattle.ndx_index.specs.ListParts.{listed};
 ghost use Rattle.ndx_index.specs.Slots.{slot_at};
 
 use crate::pages::runs::part;
+use crate::pair::Pair;
 use crate::pair_list::part::ListPart;
+use key_expr::Key;
 
 impl<'a> ListPart<'a> {
+    /// No pairs, for keys of this length.
+    pub(crate) fn none(key_len: usize) -> ListPart<'a>
+        requires short { key_len ≤ MAX_KEY_BYTES }
+        ensures pairs { listed result ≡ [] }
+        ensures key_len { result.key_len ≡ key_len }
+    {
+        ListPart {
+            key_len,
+            keys: &[],
+            numbers: &[],
+        }
+    }
+
     /// How many pairs it has.
     pub(crate) fn len(self) -> usize
         ensures count { result ≡ length (listed self.entry) }
@@ -20,6 +35,7 @@ impl<'a> ListPart<'a> {
     pub(crate) fn key(self, at: usize) -> &'a [u8]
         requires place { at < length (listed self) }
         ensures key { result.now ≡ (slot_at (listed self.entry) at).key }
+        ensures len { length result.now ≡ self.entry.key_len }
         ensures short { length result.now ≤ MAX_KEY_BYTES }
     {
         part(self.keys, self.key_len, at)
@@ -31,6 +47,18 @@ impl<'a> ListPart<'a> {
         ensures number { result ≡ (slot_at (listed self.entry) at).number }
     {
         self.numbers[at]
+    }
+
+    /// A pair, by its place.
+    pub(crate) fn get(self, at: usize) -> Pair
+        requires place { at < length (listed self) }
+        ensures pair { result ≡ slot_at (listed self.entry) at }
+        ensures key { length result.key ≡ self.entry.key_len }
+    {
+        Pair {
+            key: Key::new(self.key(at)),
+            number: self.number(at),
+        }
     }
 
     /// The first pairs, and the others.

@@ -1,16 +1,15 @@
 //! One page of an index file: the number of its keys in bytes 0 to 3, and then its key records, each a
 //! child page (4 bytes), a record number (4 bytes) and a key.
 
-ghost use Rattle.std.specs.Prelude.{◌≡◌, ◌+◌, ◌*◌, ◌<◌, ◌≤◌, ◌++◌, length, reverse, IfErr, OnOk, not};
+ghost use Rattle.std.specs.Prelude.{◌≡◌, ◌+◌, ◌*◌, ◌<◌, ◌≤◌, ◌∷◌, ◌++◌, [], length, reverse, IfErr, OnOk, not};
 ghost use Rattle.ndx_index.specs.Pages.{IsPageLayout, u32_at, leaf_pair, children, leaf_pairs, some_child, is_null, node_of};
 ghost use Rattle.ndx_index.specs.Walks.{Takes, Refuses};
 
 use crate::fault::NdxFault;
 use crate::format::PAGE;
-use crate::pair::Pair;
+use crate::pages::slots::PairSlots;
 use byteorder::{ByteOrder, LittleEndian};
-use key_expr::Key;
-use std::alloc::AllocFailed;
+use std::alloc::{AllocError, AllocFailed};
 
 /// The sizes that a file's header gives.
 #[derive(Clone, Copy)]
@@ -60,17 +59,19 @@ fn lacks_child(layout: PageLayout, page: &[u8], n: usize) -> bool
     false
 }
 
-// The pair of a leaf's key record.
-fn leaf_pair(layout: PageLayout, page: &[u8], i: usize) -> Pair
+// Puts the pair of a leaf's key record at the end, where there is room.
+fn push_leaf_pair(layout: PageLayout, page: &[u8], i: usize, pairs: &mut PairSlots)
     requires layout { IsPageLayout layout }
     requires fits { 12 + layout.size * i + layout.key_len ≤ length page.now }
-    ensures value { result ≡ leaf_pair layout page.now i }
+    requires key { pairs.old.key_len ≡ layout.key_len }
+    requires room { 0 < pairs.old.spare }
+    ensures pairs { pairs.new.pairs ≡ pairs.old.pairs ++ leaf_pair layout page.now i ∷ [] }
+    ensures key_len { pairs.new.key_len ≡ pairs.old.key_len }
+    ensures spare { pairs.new.spare + 1 ≡ pairs.old.spare }
 {
     let at = 12 + layout.size * i;
-    Pair {
-        key: Key::new(&page[at..at + layout.key_len]),
-        number: u32_at(page, at - 4),
-    }
+    let key = &page[at..at + layout.key_len];
+    pairs.push(key, u32_at(page, at - 4));
 }
 
 // Puts a leaf's first `n` pairs at the end.
@@ -78,15 +79,18 @@ fn push_leaf_pairs(
     layout: PageLayout,
     page: &[u8],
     n: usize,
-    pairs: &mut Vec<Pair>,
-) -> Result<(), AllocFailed<Pair>>
+    pairs: &mut PairSlots,
+) -> Result<(), AllocError>
     requires whole { length page.now ≡ PAGE }
     requires layout { IsPageLayout layout }
     requires fits { 4 + layout.size * n ≤ PAGE }
-    ensures pairs { OnOk result (pairs.new.items ≡ pairs.old.items ++ leaf_pairs layout page.now n) }
+    requires key { pairs.old.key_len ≡ layout.key_len }
+    ensures pairs { OnOk result (pairs.new.pairs ≡ pairs.old.pairs ++ leaf_pairs layout page.now n) }
+    ensures key_len { pairs.new.key_len ≡ pairs.old.key_len }
 {
+    pairs.reserve(n)?;
     for i in 0..n {
-        pairs.push(leaf_pair(layout, page, i))?;
+        push_leaf_pair(layout, page, i, pairs);
     }
     Ok(())
 }
@@ -115,12 +119,14 @@ pub(crate) fn take_page(
     layout: PageLayout,
     page: &[u8],
     pending: &mut Vec<u32>,
-    pairs: &mut Vec<Pair>,
+    pairs: &mut PairSlots,
 ) -> Result<(), NdxFault>
     requires whole { length page.now ≡ PAGE }
     requires layout { IsPageLayout layout }
-    ensures ok { OnOk result (Takes (node_of layout page.now) pending.old.items pending.new.items pairs.old.items pairs.new.items) }
+    requires key { pairs.old.key_len ≡ layout.key_len }
+    ensures ok { OnOk result (Takes (node_of layout page.now) pending.old.items pending.new.items pairs.old.pairs pairs.new.pairs) }
     ensures err { IfErr result (Refuses (node_of layout page.now)) }
+    ensures key_len { pairs.new.key_len ≡ pairs.old.key_len }
 {
     let n = u32_at(page, 0) as usize;
     if u32_at(page, 4) == 0 {

@@ -9,7 +9,8 @@ ghost use Rattle.ndx_index.specs.Walks.{IsFirstVisit, FailsToVisit};
 
 use crate::fault::NdxFault;
 use crate::format::PAGE;
-use crate::pair::Pair;
+use crate::pages::slots::PairSlots;
+use crate::pair_list::PairList;
 use crate::read::page::{PageLayout, take_page};
 use std::alloc::Global;
 
@@ -36,19 +37,20 @@ pub(crate) fn read_tree(
     bytes: &[u8],
     layout: PageLayout,
     root: u32,
-) -> Result<Vec<Pair>, NdxFault>
+) -> Result<PairList, NdxFault>
     requires layout { IsPageLayout layout }
     // The walk over these pages breaks no rule, and gives the pairs.
-    ensures ok { IfOk result (λ found. (pages : List ℕ) × Visits layout bytes.now [] (root ∷ []) pages found.items None) }
+    ensures ok { IfOk result (λ found. (pages : List ℕ) × Visits layout bytes.now [] (root ∷ []) pages found.pairs None) }
+    ensures key_len { IfOk result (λ found. found.key_len ≡ layout.key_len) }
     // The fault is the first rule that the walk breaks.
     ensures err { IfErr result (λ e. e ≢ NoMemory → (pages : List ℕ) × (pairs : List PairValue) × Visits layout bytes.now [] (root ∷ []) pages pairs (Some e)) }
 {
     let mut visited = vec![in alloc; false; bytes.len() / PAGE]?;
     let mut pending = vec![in alloc; root]?;
-    let mut pairs = Vec::new(alloc);
+    let mut slots = PairSlots::new(alloc, layout.key_len);
     while let Some(next) = pending.pop() {
         let page = visit(bytes, next, &mut visited)?;
-        take_page(layout, page, &mut pending, &mut pairs)?;
+        take_page(layout, page, &mut pending, &mut slots)?;
     }
-    Ok(pairs)
+    Ok(PairList { slots })
 }

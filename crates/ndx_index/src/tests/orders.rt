@@ -1,6 +1,6 @@
 //! Pairs in order.
 
-ghost use Rattle.std.specs.Prelude.{◌≡◌, length};
+ghost use Rattle.std.specs.Prelude.{◌≡◌, ◌∷◌, [], length, IfOk};
 
 use super::*;
 use std::process::Abort;
@@ -15,6 +15,20 @@ fn named(key: &[u8; 3], number: u32) -> Pair
     }
 }
 
+// A list of three pairs.
+fn three(alloc: Global, first: Pair, second: Pair, third: Pair) -> Result<PairList, Fail>
+    requires first { length first.key ≡ 3 }
+    requires second { length second.key ≡ 3 }
+    requires third { length third.key ≡ 3 }
+    ensures pairs { IfOk result (λ list. list.pairs ≡ first ∷ second ∷ third ∷ []) }
+{
+    let mut list = PairList::new(alloc, 3);
+    list.push(&first)?;
+    list.push(&second)?;
+    list.push(&third)?;
+    Ok(list)
+}
+
 #[test]
 #[tactic(auto, using(crate::proofs::Order::three_apart))]
 fn from_pairs_sorts_by_key_and_record(rt: HostRuntime) -> Result<(), Fail> {
@@ -25,7 +39,7 @@ fn from_pairs_sorts_by_key_and_record(rt: HostRuntime) -> Result<(), Fail> {
     if bob.cmp(&later_ada).is_eq() || bob.cmp(&ada).is_eq() || later_ada.cmp(&ada).is_eq() {
         return Err("a pair comes twice".into());
     }
-    let index = OrderedIndex::from_pairs(alloc, 3, vec![in alloc; bob, later_ada, ada]?)?;
+    let index = OrderedIndex::from_pairs(alloc, three(alloc, bob, later_ada, ada)?)?;
     assert_eq!(rt; index.key_len(), 3);
     assert!(rt; index.first() == Some(ada));
     assert!(rt; index.next(ada) == Some(later_ada));

@@ -40,12 +40,12 @@ fn read_back(alloc: Global, index: &OrderedIndex, len: u8) -> Result<(PairList, 
 }
 
 // Whether they are the same pairs in the same order.
-fn are_same(read: &[Pair], pairs: &PairList) -> bool {
+fn are_same(read: &PairList, pairs: &PairList) -> bool {
     if read.len() != pairs.len() {
         return false;
     }
     for at in 0..pairs.len() {
-        if read[at] != pairs.get(at) {
+        if read.get(at) != pairs.get(at) {
             return false;
         }
     }
@@ -167,7 +167,7 @@ fn empty_index_file(rt: HostRuntime) -> Result<(), Fail> {
     assert_eq!(rt; part(&bytes, 0, 8), [1, 0, 0, 0, 2, 0, 0, 0].as_slice());
     assert_eq!(rt; part(&bytes, 512, 1_024), [0; 512].as_slice());
     assert_eq!(rt; bytes, file(alloc, 1_024, &[])?);
-    assert!(rt; read_ndx(alloc, &bytes)?.pairs.is_empty());
+    assert!(rt; read_ndx(alloc, &bytes)?.pairs.len() == 0);
     Ok(())
 }
 

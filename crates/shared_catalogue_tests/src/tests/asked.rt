@@ -1,7 +1,7 @@
 //! Tables of commands with their answers, and the walk through such a table.
 
 use super::sample::{first_table, named, open, open_sample};
-use dbf_fields::{Bytes, Literal, day_of};
+use dbf_fields::{Bytes, Literal, WholeNumber, day_of};
 use dbf_image::TableData;
 use shared_catalogue::{Answer, Catalogue, Command, Numbers, Question};
 use std::alloc::Global;
@@ -108,7 +108,10 @@ fn use_table(name: Bytes, exclusive: bool) -> Command {
 fn replace(alloc: Global, field: Bytes, value: Value) -> Result<Command, Fail> {
     let value = match value {
         Value::Text(text) => Literal::Text(Bytes::from_slice(alloc, text)?),
-        Value::Number(digits, scale) => Literal::Number { digits, scale },
+        Value::Number(digits, scale) => Literal::Number {
+            digits: WholeNumber::new(digits),
+            scale,
+        },
         Value::Truth(truth) => Literal::Truth(truth),
         Value::Date(year, month, day) => Literal::Date(day_of(year, month, day).ok_or("a date")?),
         Value::BlankDate => Literal::BlankDate,

@@ -1,11 +1,13 @@
 //! The faults of opening, in order, and the indexes that are taken over.
 
+ghost use Rattle.std.specs.Prelude.{◌≤◌};
+
 use super::asked::{Asked, Case, Expected, first_other};
 use super::sample::{open, three_records};
 use dbf_fields::Bytes;
 use dbf_image::TableData;
-use key_expr::{ExprFault, Key};
-use ndx_index::{NdxFile, Pair};
+use key_expr::{ExprFault, Key, MAX_KEY_BYTES};
+use ndx_index::{NdxFile, Pair, PairList};
 use sample_files::{EMPTY, table};
 use shared_catalogue::{Catalogue, IndexSource, OpenFault, Question, TableSource};
 use std::alloc::Global;
@@ -31,19 +33,40 @@ const LONG: Index = (b"Y", b"NAME", 2, PAIRS);
 
 const BAD: Index = (b"Z", b"NAME+", 1, PAIRS);
 
+// The key of this many bytes that begins with a letter.
+fn key_of(letter: u8, key_len: usize) -> Key
+    requires short { key_len ≤ MAX_KEY_BYTES }
+{
+    let mut bytes = [b' '; MAX_KEY_BYTES];
+    bytes[0] = letter;
+    Key::new(&bytes[..key_len])
+}
+
+// The pairs, whose keys have this many bytes.
+fn list_of(alloc: Global, key_len: usize, letters: &'static [(u8, u32)]) -> Result<PairList, Fail> {
+    if key_len > MAX_KEY_BYTES {
+        return Err("keys that are too long".into());
+    }
+    let mut pairs = PairList::new(alloc, key_len);
+    for (letter, number) in letters {
+        let key = key_of(*letter, key_len);
+        if key.as_bytes().len() != pairs.key_len() {
+            return Err("a key of another length".into());
+        }
+        let number = *number;
+        pairs.push(&Pair { key, number })?;
+    }
+    Ok(pairs)
+}
+
 fn index_of(alloc: Global, index: Index) -> Result<IndexSource, Fail> {
     let (name, expr, key_len, letters) = index;
-    let mut pairs = Vec::new(alloc);
-    for (letter, number) in letters {
-        let key = Key::new(&[*letter]);
-        let number = *number;
-        pairs.push(Pair { key, number })?;
-    }
+    let pairs = list_of(alloc, key_len, letters)?;
     let name = Bytes::from_slice(alloc, name)?;
     let expr = Bytes::from_slice(alloc, expr)?;
     let file = NdxFile {
         expr,
-        key_len,
+        key_len: pairs.key_len(),
         pairs,
     };
     Ok(IndexSource { name, file })

@@ -3,17 +3,17 @@
 ghost use Rattle.std.specs.Prelude.{◌≡◌, map, IfOk};
 ghost use Rattle.std.specs.List.{AllByRecursion};
 ghost use Rattle.table_core.specs.Content.{named, IsReadFor};
-ghost use Rattle.table_core.specs.Indexes.{Follows, IsFor, indexed};
+ghost use Rattle.table_core.specs.Indexes.{Follows, indexed};
 ghost use Rattle.dbf_image.specs.Table.{packed};
 ghost use Rattle.key_expr.specs.Keys.{key_length};
-ghost use Rattle.ndx_index.specs.Index.{HaveLength};
+ghost use Rattle.ndx_index.specs.Packing.{packed_numbers};
 ghost use Rattle.ndx_index.specs.TableOrder.{order, pairs_of};
 
 use crate::indexes::{TableIndex, pair_of};
 use dbf_fields::Bytes;
 use dbf_image::GrowingTable;
 use key_expr::KeyExpr;
-use ndx_index::{OrderedIndex, Pair};
+use ndx_index::{OrderedIndex, PairList};
 use std::alloc::{AllocError, Global};
 
 /// The pairs of all records, in order. An `Err` says that there was no memory.
@@ -27,77 +27,61 @@ pub(crate) fn sorted(
     ensures key_len { IfOk result (λ index. index.key_len ≡ key_length expr.now.fields expr.now.expr) }
 {
     let pairs = record_pairs(alloc, records, expr)?;
-    OrderedIndex::from_pairs(alloc, expr.key_len(), pairs)
+    OrderedIndex::from_pairs(alloc, pairs)
 }
 
-// The pairs of all records, in the order of their numbers.
+// The pairs of all records, in the order of their numbers. An `Err` says that there was no memory.
 fn record_pairs(
     alloc: Global,
     records: &GrowingTable,
     expr: &KeyExpr,
-) -> Result<Vec<Pair>, AllocError>
+) -> Result<PairList, AllocError>
     requires fields { expr.now.fields ≡ records.now.table.schema }
-    ensures pairs { IfOk result (λ pairs. pairs.items ≡ pairs_of records.now.table expr.now.expr) }
-    ensures keys { IfOk result (λ pairs. HaveLength (key_length expr.now.fields expr.now.expr) pairs.items) }
+    ensures pairs { IfOk result (λ list. list.pairs ≡ pairs_of records.now.table expr.now.expr) }
+    ensures key_len { IfOk result (λ list. list.key_len ≡ key_length expr.now.fields expr.now.expr) }
 {
-    let mut pairs = Vec::new(alloc);
+    let mut pairs = PairList::new(alloc, expr.key_len());
+    pairs.reserve(records.record_count() as usize)?;
     for index in 0..records.record_count() {
-        pairs.push(pair_of(expr, records, index + 1))?;
+        pairs.push(&pair_of(expr, records, index + 1))?;
     }
     Ok(pairs)
 }
 
-/// The pairs of the records that are not marked as deleted, in order, by the numbers that these have without the
-/// others. An `Err` says that there was no memory.
-pub(crate) fn sorted_kept(
-    alloc: Global,
-    records: &GrowingTable,
-    expr: &KeyExpr,
-) -> Result<OrderedIndex, AllocError>
-    requires fields { expr.now.fields ≡ records.now.table.schema }
-    ensures pairs { IfOk result (λ index. index.pairs ≡ order (packed records.now.table) expr.now.expr) }
-    ensures key_len { IfOk result (λ index. index.key_len ≡ key_length expr.now.fields expr.now.expr) }
+// The new numbers of a table's records, without those that are marked as deleted; 0 for these. An `Err` says that there
+// was no memory.
+fn new_numbers(alloc: Global, records: &GrowingTable) -> Result<Vec<u32>, AllocError>
+    ensures numbers { IfOk result (λ numbers. numbers.items ≡ packed_numbers 1 records.now.table.rows) }
 {
-    let pairs = kept_pairs(alloc, records, expr)?;
-    OrderedIndex::from_pairs(alloc, expr.key_len(), pairs)
-}
-
-// The same pairs, in the order of their numbers.
-fn kept_pairs(
-    alloc: Global,
-    records: &GrowingTable,
-    expr: &KeyExpr,
-) -> Result<Vec<Pair>, AllocError>
-    requires fields { expr.now.fields ≡ records.now.table.schema }
-    ensures pairs { IfOk result (λ pairs. pairs.items ≡ pairs_of (packed records.now.table) expr.now.expr) }
-    ensures keys { IfOk result (λ pairs. HaveLength (key_length expr.now.fields expr.now.expr) pairs.items) }
-{
-    let mut pairs = Vec::new(alloc);
-    let mut number = 1;
+    let mut numbers = Vec::new(alloc);
+    let mut next = 1;
     for index in 0..records.record_count() {
-        if !records.is_deleted(index + 1) {
-            let key = pair_of(expr, records, index + 1).key;
-            pairs.push(Pair { key, number })?;
-            number += 1;
+        if records.is_deleted(index + 1) {
+            numbers.push(0)?;
+        } else {
+            numbers.push(next)?;
+            next += 1;
         }
     }
-    Ok(pairs)
+    Ok(numbers)
 }
 
-/// Each index of a table, for the table without the records that are marked as deleted. An `Err` says that there
-/// was no memory.
+/// Each index of a table, for the table without the records that are marked as deleted. The new numbers of the others rise
+/// with the old ones, so nothing is sorted. An `Err` says that there was no memory.
 pub(crate) fn packed_all(
     alloc: Global,
     indexes: &Vec<TableIndex>,
     records: &GrowingTable,
 ) -> Result<Vec<TableIndex>, AllocError>
-    requires are_for { AllByRecursion (IsFor records.now.table) indexes.now.items }
+    requires follow { AllByRecursion (Follows records.now.table) indexes.now.items }
     ensures follow { IfOk result (λ made. AllByRecursion (Follows (packed records.now.table)) made.items) }
     ensures same { IfOk result (λ made. map indexed made.items ≡ map indexed indexes.now.items) }
 {
+    let numbers = new_numbers(alloc, records)?;
     let mut made = Vec::new(alloc);
     for index in indexes {
-        made.push(index.packed(alloc, records)?)?;
+        let order = index.order.renumbered(alloc, numbers.as_slice())?;
+        made.push(index.with_order(alloc, order)?)?;
     }
     Ok(made)
 }

@@ -10,7 +10,7 @@ use crate::table::Table;
 use dbf_fields::Bytes;
 use dbf_image::TableData;
 use key_expr::KeyExpr;
-use ndx_index::Pair;
+use ndx_index::PairList;
 use std::alloc::{AllocError, Global};
 
 impl Table {
@@ -54,8 +54,8 @@ impl Table {
 
     /// Adds an index after the others, made of the pairs that an index file has, in any order, and answers whether
     /// it is added: it is where these are the pairs of the table's records, each as often. Else nothing changes.
-    /// The pairs are put in order where they are not, and compared in one pass; nothing is sorted or built beside
-    /// them to compare with.
+    /// The pairs are compared with the records in one pass; nothing is sorted or built beside them to compare with.
+    /// Where they stand in no order, the index is made of the records then.
     ///
     /// An `Err` says that there was no memory for the pairs, which are the table's. It changes nothing.
     pub fn add_kept_index(
@@ -63,13 +63,13 @@ impl Table {
         alloc: Global,
         name: Bytes,
         expr: KeyExpr,
-        pairs: Vec<Pair>,
+        pairs: PairList,
     ) -> Result<bool, AllocError>
         requires read { expr.fields ≡ self.old.content.table.schema }
-        ensures whole { IfOk result (λ added. IsTrue added ↔ IsPermutation (pairs_of self.old.content.table expr.expr) pairs.items) }
+        ensures whole { IfOk result (λ added. IsTrue added ↔ IsPermutation (pairs_of self.old.content.table expr.expr) pairs.pairs) }
         ensures added { IfOk result (λ added. self.new.content ≡ with_index_if added self.old.content (record { name = name; expr = expr })) }
         ensures err { OnErr result (self.new.content ≡ self.old.content) }
-        ensures tested { IfErr result (λ _. IsPermutation (pairs_of self.old.content.table expr.expr) pairs.items) }
+        ensures tested { IfErr result (λ _. IsPermutation (pairs_of self.old.content.table expr.expr) pairs.pairs) }
     {
         let Some(index) = TableIndex::kept(alloc, &self.records, name, expr, pairs)? else {
             return Ok(false);

@@ -1,12 +1,12 @@
 //! Indexes that are added: a refusal leaves the others.
 
-ghost use Rattle.std.specs.Prelude.{◌≡◌, IfOk};
+ghost use Rattle.std.specs.Prelude.{◌≡◌, length, IfOk};
 
 use crate::tests::ENOUGH;
 use crate::tests::sample::{BY_NAME, at_first, has_order, is_cursor, is_kept, sample};
 use dbf_fields::Bytes;
 use key_expr::{Key, KeyExpr};
-use ndx_index::Pair;
+use ndx_index::{Pair, PairList};
 use scarce::{Attempt, refusals};
 use std::alloc::{AllocError, Global};
 use std::process::Abort;
@@ -18,10 +18,13 @@ use table_core::{Cursor, Table};
 enum Called {
     AddIndex,
     AddKeptIndex,
+    AddUnsortedIndex,
     PlanIndex,
 }
 
-fn pair(key: &[u8; 3], number: u32) -> Pair {
+fn pair(key: &[u8; 3], number: u32) -> Pair
+    ensures wide { length result.key ≡ 3 }
+{
     Pair {
         key: Key::new(key),
         number,
@@ -40,10 +43,23 @@ fn name_and_expr(alloc: Global, table: &Table) -> Result<(Bytes, KeyExpr), Alloc
 }
 
 // Adds an index that is made of the pairs of a file.
-fn add_kept(alloc: Global, table: &mut Table) -> Result<(), AllocError> {
+fn add_kept(
+    alloc: Global,
+    table: &mut Table,
+    first: Pair,
+    second: Pair,
+    third: Pair,
+) -> Result<(), AllocError>
+    requires first { length first.key ≡ 3 }
+    requires second { length second.key ≡ 3 }
+    requires third { length third.key ≡ 3 }
+{
     let (name, expr) = name_and_expr(alloc, table)?;
-    let pairs = vec![in alloc; pair(b"BOB", 1), pair(b"DAN", 3), pair(b"ADA", 2)]?;
-    match table.add_kept_index(alloc, name, expr, pairs) {
+    let mut list = PairList::new(alloc, 3);
+    list.push(&first)?;
+    list.push(&second)?;
+    list.push(&third)?;
+    match table.add_kept_index(alloc, name, expr, list) {
         Ok(_) => Ok(()),
         Err(AllocError) => Err(AllocError),
     }
@@ -70,7 +86,24 @@ fn answer_of(
             let (name, expr) = name_and_expr(alloc, table)?;
             table.add_index(alloc, name, expr)
         }
-        Called::AddKeptIndex => add_kept(alloc, table),
+        Called::AddKeptIndex => {
+            add_kept(
+                alloc,
+                table,
+                pair(b"ADA", 2),
+                pair(b"BOB", 1),
+                pair(b"DAN", 3),
+            )
+        }
+        Called::AddUnsortedIndex => {
+            add_kept(
+                alloc,
+                table,
+                pair(b"BOB", 1),
+                pair(b"DAN", 3),
+                pair(b"ADA", 2),
+            )
+        }
         Called::PlanIndex => add_planned(alloc, table, cursor),
     }
 }
@@ -99,7 +132,12 @@ fn swept(alloc: Global, called: Called) -> Result<usize, Fail> {
 
 #[test]
 fn each_refused_index_leaves_the_table(rt: HostRuntime) -> Result<(), Fail> {
-    for called in [Called::AddIndex, Called::AddKeptIndex, Called::PlanIndex] {
+    for called in [
+        Called::AddIndex,
+        Called::AddKeptIndex,
+        Called::AddUnsortedIndex,
+        Called::PlanIndex,
+    ] {
         let found = swept(rt.alloc(), called)?;
         println!(rt; "{called:?}: {found}")?;
         assert!(rt; 0 < found);

@@ -23,12 +23,24 @@ fn pair(letter: u8, number: u32) -> Pair {
     }
 }
 
+// These pairs in a list, as an index file's. Their keys have one byte.
+fn list_of(alloc: Global, pairs: &[Pair]) -> Result<PairList, Fail> {
+    let mut list = PairList::new(alloc, 1);
+    for pair in pairs {
+        if pair.key.as_bytes().len() != list.key_len() {
+            return Err("a key of another length".into());
+        }
+        list.push(pair)?;
+    }
+    Ok(list)
+}
+
 // Whether the index on NAME is made of these pairs, and if so whether its order is (A,2), (A,3), (B,1).
 fn is_kept(alloc: Global, pairs: &[Pair]) -> Result<bool, Fail> {
     let mut table = three_records(alloc)?;
     let name = Bytes::from_slice(alloc, b"X")?;
     let expr = KeyExpr::parse(alloc, b"NAME", table.schema())?;
-    let kept = table.add_kept_index(alloc, name, expr, pairs.to_vec(alloc)?)?;
+    let kept = table.add_kept_index(alloc, name, expr, list_of(alloc, pairs)?)?;
     if !kept {
         return Ok(table.index_count() > 0);
     }

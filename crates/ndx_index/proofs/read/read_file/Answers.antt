@@ -9,11 +9,11 @@ returns-clause-found c =
     let bytes = c.args.bytes.now in
     let header = c.in_ok-header.header in
     let walk = c.in_ok-pairs.ensures.ok in
-    let tree = tree_from_visits header.layout bytes header.root walk.0 c.in_ok-pairs.pairs.items walk.1 in
+    let tree = tree_from_visits header.layout bytes header.root walk.0 c.in_ok-pairs.pairs.pairs walk.1 in
     record {
       header_is = c.in_ok-header.ensures.accepted;
       text_is = c.in_ok-expr.ensures.value ∙ c.expression.ensures.value;
       length_is = ap (λ (h : Header). h.layout.key_len) c.in_ok-header.ensures.header;
       pages = walk.0;
-      tree = subst (λ (h : Header). IsFileTree h.layout bytes h.root walk.0 c.in_ok-pairs.pairs.items) c.in_ok-header.ensures.header tree;
+      tree = subst (λ (h : Header). IsFileTree h.layout bytes h.root walk.0 c.in_ok-pairs.pairs.pairs) c.in_ok-header.ensures.header tree;
     }

@@ -1,10 +1,15 @@
-use Rattle.std.proofs.Common.{ap, ◌∙◌, [], ◌∷◌, ◌++◌}
-use Rattle.ndx_index.specs.Pages.{leaf_pairs}
+use Rattle.std.proofs.Common.{List, ap, ◌∙◌, [], ◌∷◌, ◌++◌, arith}
+use Rattle.ndx_index.specs.declared.pair.Pair.{Pair}
+use Rattle.ndx_index.specs.Pages.{leaf_pair}
 use Rattle.ndx_index.proofs.PageLemmas.{leaf_pairs_more}
 use Rattle.ndx_index.proofs.read.page.push_leaf_pairs.Goals as goal
 
 pub loop-i-preserved : goal.loop-i-preserved
 loop-i-preserved c =
-    c.in_ok-push.ensures.items ∙ ap (λ xs. xs ++ c.leaf_pair.result ∷ []) c.loop-i.invariant
-    ∙ ap (λ p. (c.args.pairs.now.items ++ leaf_pairs c.args.layout c.args.page.now c.loop-i.i) ++ p ∷ []) c.leaf_pair.ensures.value
-    ∙ leaf_pairs_more c.args.layout c.args.page.now c.args.pairs.now.items c.loop-i.i
+    let last : Pair = leaf_pair c.args.layout c.args.page.now c.loop-i.i in
+    record {
+      pairs = c.push_leaf_pair.ensures.pairs ∙ ap (λ (ps : List Pair). ps ++ last ∷ []) c.loop-i.invariant.pairs
+          ∙ leaf_pairs_more c.args.layout c.args.page.now c.args.pairs.now.pairs c.loop-i.i;
+      key_len = c.push_leaf_pair.ensures.key_len ∙ c.loop-i.invariant.key_len;
+      room = omega (arith, c.push_leaf_pair.ensures.spare, c.loop-i.invariant.room);
+    }

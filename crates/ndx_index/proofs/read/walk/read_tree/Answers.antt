@@ -12,7 +12,8 @@ loop-next-init c =
     rw items (get_or-replicate (length c.args.bytes.now / PAGE) k false true (omega (arith, ap length items, length-replicate (length c.args.bytes.now / PAGE) false, lt))) in
     record {
       flags = search rules;
-      state = state_init c.args.layout c.args.bytes.now c.args.root c.in_ok-visited.visited.items c.in_ok-pending.pending.items c.new-pairs.result.items clear c.in_ok-pending.ensures.items c.new-pairs.ensures.items;
+      state = state_init c.args.layout c.args.bytes.now c.args.root c.in_ok-visited.visited.items c.in_ok-pending.pending.items c.new-slots.result.pairs clear c.in_ok-pending.ensures.items c.new-slots.ensures.pairs;
+      key_len = c.new-slots.ensures.key_len;
     }
 
 pub loop-next-preserved : goal.loop-next-preserved
@@ -20,21 +21,22 @@ loop-next-preserved c =
     let entered = c.in_ok-page.ensures.ok in
     record {
       flags = rw entered.marked (length-set c.loop-next.visited.items c.in-Some.next true ∙ c.loop-next.invariant.flags);
-      state = step c.args.layout c.args.bytes.now c.args.root c.loop-next.visited.items c.loop-next.pending.items c.pop.new.self.items c.loop-next.pairs.items c.in-Some.next c.in-Some.ensures.items c.loop-next.invariant.state
-          c.visit.new.visited.items c.in_ok-page.page.now c.take_page.new.pending.items c.take_page.new.pairs.items entered _ refl c.in_ok-take_page.ensures.ok;
+      state = step c.args.layout c.args.bytes.now c.args.root c.loop-next.visited.items c.loop-next.pending.items c.pop.new.self.items c.loop-next.slots.pairs c.in-Some.next c.in-Some.ensures.items c.loop-next.invariant.state
+          c.visit.new.visited.items c.in_ok-page.page.now c.take_page.new.pending.items c.take_page.new.pairs.pairs entered _ refl c.in_ok-take_page.ensures.ok;
+      key_len = c.in_ok-take_page.ensures.key_len ∙ c.loop-next.invariant.key_len;
     }
 
 pub returns-in_err-page-clause-err : goal.returns-in_err-page-clause-err
 returns-in_err-page-clause-err c =
     let p = err_from_is_err_and c.from_residual-in_err-page.result c.from_residual-in_err-page.ensures.1 in
-    rw (p.1, p.2) (λ ne. step_unvisited c.args.layout c.args.bytes.now c.args.root c.loop-next.visited.items c.loop-next.pending.items c.pop.new.self.items c.loop-next.pairs.items c.in-Some.next c.in-Some.ensures.items c.loop-next.invariant.state
+    rw (p.1, p.2) (λ ne. step_unvisited c.args.layout c.args.bytes.now c.args.root c.loop-next.visited.items c.loop-next.pending.items c.pop.new.self.items c.loop-next.slots.pairs c.in-Some.next c.in-Some.ensures.items c.loop-next.invariant.state
     c.in_err-page.field-0.0 (λ k h. omega (arith, is_page_whole c.args.bytes.now k h, c.loop-next.invariant.flags)) c.in_err-page.ensures.err)
 
 pub returns-in_err-take_page-clause-err : goal.returns-in_err-take_page-clause-err
 returns-in_err-take_page-clause-err c =
     let p = err_from_is_err_and c.from_residual-in_err-take_page.result c.from_residual-in_err-take_page.ensures.1 in
-    rw (p.1, p.2) (λ ne. step_broken c.args.layout c.args.bytes.now c.args.root c.loop-next.visited.items c.loop-next.pending.items c.pop.new.self.items c.loop-next.pairs.items c.in-Some.next c.in-Some.ensures.items c.loop-next.invariant.state
+    rw (p.1, p.2) (λ ne. step_broken c.args.layout c.args.bytes.now c.args.root c.loop-next.visited.items c.loop-next.pending.items c.pop.new.self.items c.loop-next.slots.pairs c.in-Some.next c.in-Some.ensures.items c.loop-next.invariant.state
     c.visit.new.visited.items c.in_ok-page.page.now c.in_err-take_page.field-0.0 c.in_ok-page.ensures.ok c.in_err-take_page.ensures.err ne)
 
 pub returns-clause-ok : goal.returns-clause-ok
-returns-clause-ok c = state_done c.args.layout c.args.bytes.now c.args.root c.loop-next.visited.items c.loop-next.pending.items c.loop-next.pairs.items c.loop-next.invariant.state (nil_from_length c.loop-next.pending.items (omega (arith, c.loop-next.pending.ok.0, c.in_default.ensures.cases)))
+returns-clause-ok c = state_done c.args.layout c.args.bytes.now c.args.root c.loop-next.visited.items c.loop-next.pending.items c.loop-next.slots.pairs c.loop-next.invariant.state (nil_from_length c.loop-next.pending.items (omega (arith, c.loop-next.pending.ok.0, c.in_default.ensures.cases)))

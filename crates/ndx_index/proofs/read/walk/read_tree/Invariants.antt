@@ -6,7 +6,8 @@ use Rattle.ndx_index.proofs.read.walk.read_tree.Given as goal
 abbrev pub invariant-loop-next : goal.invariant-loop-next
 invariant-loop-next l = record {
   flags : length l.visited.items ≡ length l.bytes / PAGE;
-  state : State l.layout l.bytes l.fn.root l.visited.items l.pending.items l.pairs.items;
+  state : State l.layout l.bytes l.fn.root l.visited.items l.pending.items l.slots.pairs;
+  key_len : l.slots.key_len ≡ l.layout.key_len;
 }
 
 abbrev pub decreases-loop-next : goal.decreases-loop-next

@@ -1,8 +1,5 @@
-use Rattle.std.proofs.Common.{◌≡◌, ℕ, ◌+◌, ◌-◌, ◌<◌, List, [], ◌∷◌, ◌++◌, length, take, get_or, sym, ap, subst, ◌∙◌, arith}
+use Rattle.std.proofs.Common.{◌≡◌, ℕ, ◌+◌, ◌-◌, ◌<◌, List, [], ◌∷◌, ◌++◌, length, take, get_or, sym, ap, ◌∙◌, arith}
 use Rattle.std.proofs.lemmas.List.{take_all, take_more}
-use Rattle.key_expr.specs.Keys.{key_length}
-use Rattle.ndx_index.specs.Index.{HaveLength}
-use Rattle.table_core.proofs.Turned.{all_push}
 use Rattle.dbf_image.specs.Table.{blank_row}
 use Rattle.ndx_index.specs.declared.pair.Pair.{Pair}
 use Rattle.ndx_index.specs.TableOrder.{pairs_of}
@@ -14,7 +11,6 @@ loop-index-preserved c =
     let t = c.args.records.now.table in
     let expr = c.args.expr.now in
     let ps : List Pair = pairs_of t expr.expr in
-    let long : ℕ = key_length expr.fields expr.expr in
     let i = c.loop-index.index in
     let m : 1 + i ≡ i + 1 = omega arith in
     let n : i ≡ i + 1 - 1 = omega arith in
@@ -23,13 +19,13 @@ loop-index-preserved c =
     let at : get_or ps i p ≡ p = get-pairs t.rows expr.expr 1 i p (blank_row t.schema) (omega (arith, c.record_count-index-end.ensures.count)) ∙ ap (λ (x : ℕ). pair x (get_or t.rows i (blank_row t.schema)) expr.expr) m
     ∙ ap (λ (x : ℕ). pair (i + 1) (get_or t.rows x (blank_row t.schema)) expr.expr) n ∙ sym c.pair_of.ensures.value in
     record {
-      pairs = c.in_ok-push.ensures.items ∙ ap (λ (xs : List Pair). xs ++ p ∷ []) c.loop-index.invariant.pairs
+      pairs = c.in_ok-push.ensures.pairs ∙ ap (λ (xs : List Pair). xs ++ p ∷ []) c.loop-index.invariant.pairs
           ∙ sym (take_more ps i p lt ∙ ap (λ (q : Pair). take i ps ++ q ∷ []) at);
-      keys = subst (HaveLength long) (sym c.in_ok-push.ensures.items) (all_push (λ (q : Pair). length q.key ≡ long) c.loop-index.pairs.items p c.loop-index.invariant.keys c.pair_of.ensures.long);
+      key_len = c.in_ok-push.ensures.key_len ∙ c.loop-index.invariant.key_len;
     }
 
 pub returns : goal.returns
 returns c =
     let t = c.args.records.now.table in
     let ps : List Pair = pairs_of t c.args.expr.now.expr in
-    record { pairs = c.loop-index.invariant.pairs ∙ take_all c.loop-index.index ps (omega (arith, length-pairs t.rows c.args.expr.now.expr 1, c.record_count-index-end.ensures.count)); keys = c.loop-index.invariant.keys }
+    record { pairs = c.loop-index.invariant.pairs ∙ take_all c.loop-index.index ps (omega (arith, length-pairs t.rows c.args.expr.now.expr 1, c.record_count-index-end.ensures.count)); key_len = c.loop-index.invariant.key_len }

@@ -60,6 +60,12 @@ invariant_of-self c =
       numbers_room = rw (more, all) (omega (arith, runs.numbers_room, c.push_run-2.ensures.capacity));
     }
 
+pub returns-clause-spare : goal.returns-clause-spare
+returns-clause-spare c =
+    let part = c.args.part in
+    let r = has_room c.self.inside c.args.self.now part c.self.view_is c.requires.key c.requires.room in
+    omega (arith, r.count, length-pairs part.key_len part.keys.now part.numbers.now, ap (λ (s : Slots). s.spare) c.self.view_is)
+
 pub returns-clause-pairs : goal.returns-clause-pairs
 returns-clause-pairs c =
     let inside = c.self.inside in

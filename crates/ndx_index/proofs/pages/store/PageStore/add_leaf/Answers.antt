@@ -1,6 +1,7 @@
 use Rattle.std.proofs.Common.{◌≡◌, ◌+◌, List, [], ◌∷◌, ◌++◌, length, ap, sym, ◌∙◌, arith}
 use Rattle.std.proofs.lemmas.List.{length-append}
 use Rattle.ndx_index.specs.declared.pair.Pair.{Pair}
+use Rattle.ndx_index.specs.ListParts.{listed}
 use Rattle.ndx_index.specs.PageStore.{Store, no_page, zipped, with_pairs}
 use Rattle.ndx_index.proofs.TwinLaws.{length-zipped, store_count, zip_pushed}
 use Rattle.ndx_index.proofs.pages.store.PageStore.add_leaf.Goals as goal
@@ -8,7 +9,7 @@ use Rattle.ndx_index.proofs.pages.store.PageStore.add_leaf.Goals as goal
 pub returns-clause-pages : goal.returns-clause-pages
 returns-clause-pages c =
     let x = c.self.inside in
-    let new = c.args.pairs.now in
+    let new = listed c.args.pairs in
     let pairs : c.push_filled.new.self.pages ≡ x.pair_pages.pages ++ new ∷ [] = c.push_filled.ensures.pages ∙ ap (λ (l : List (List Pair)). l ++ new ∷ []) c.reserve.ensures.pages in
     let links : c.push_page.new.self.pages ≡ x.link_pages.pages ++ [] ∷ [] = c.push_page.ensures.pages ∙ ap (λ (l : List (List Pair)). l ++ [] ∷ []) c.reserve-2.ensures.pages in
     ap (λ (l : List (List Pair)). zipped l c.push_page.new.self.pages) pairs
@@ -22,7 +23,7 @@ returns-clause-number c = c.page_count-page.ensures.value ∙ ap length c.reserv
 pub returns-clause-count_bounded : goal.returns-clause-count_bounded
 returns-clause-count_bounded c =
     let none : List Pair = [] in
-    let pairs : length c.push_filled.new.self.pages ≡ length c.reserve.new.self.pages + 1 = ap length c.push_filled.ensures.pages ∙ length-append c.reserve.new.self.pages (c.args.pairs.now ∷ []) in
+    let pairs : length c.push_filled.new.self.pages ≡ length c.reserve.new.self.pages + 1 = ap length c.push_filled.ensures.pages ∙ length-append c.reserve.new.self.pages (listed c.args.pairs ∷ []) in
     let links : length c.push_page.new.self.pages ≡ length c.reserve-2.new.self.pages + 1 = ap length c.push_page.ensures.pages ∙ length-append c.reserve-2.new.self.pages (none ∷ []) in
     let same : length c.push_filled.new.self.pages ≡ length c.push_page.new.self.pages =
     omega (arith, pairs, links, ap length c.reserve.ensures.pages, ap length c.reserve-2.ensures.pages, c.self.invariant.same) in
