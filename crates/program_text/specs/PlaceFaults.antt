@@ -1,5 +1,5 @@
 -- Why new files are not in place: what a fault of their disk, their lock or their run says.
-use Rattle.std.specs.Prelude.{Option, Some}
+use Rattle.std.specs.Prelude.{◌≡◌, Option, Some}
 use Rattle.files_in_place.specs.declared.faults.DiskFault.{DiskFault}
 use Rattle.files_in_place.specs.declared.faults.DiskFault.TheVariants as disk
 use Rattle.files_in_place.specs.declared.faults.SetFault.{SetFault}
@@ -35,8 +35,17 @@ abbrev pub given_up : Option SetFault → ServeFault → ServeFault
 given_up (Some set.NoMemory) (serve.Close (close.Write name)) = serve.NoMemory
 given_up why fault = fault
 
--- so may a fault come of a folder that was locked and opened
-abbrev pub IsOfOpenFolder : PlaceFault → Type 0
-IsOfOpenFolder (place.Folder folder.InUse) = ⊥
-IsOfOpenFolder (place.Folder folder.Unopened) = ⊥
-IsOfOpenFolder fault = Unit {0}
+-- so may a fault come of putting new files in place, in a folder that was locked, opened and recovered
+abbrev pub IsOfNewFiles : PlaceFault → Type 0
+IsOfNewFiles (place.Folder folder.InUse) = ⊥
+IsOfNewFiles (place.Folder folder.Unopened) = ⊥
+IsOfNewFiles (place.Folder folder.Unrecovered) = ⊥
+IsOfNewFiles fault = Unit {0}
+
+-- so may a fault come of locking a folder: it is what one of the lock says
+abbrev pub IsOfLock : PlaceFault → Type 0
+IsOfLock fault = (why : LockFault) × (fault ≡ unlocked_folder why)
+
+-- so may a fault come of opening a folder: it is what one of its disk says
+abbrev pub IsOfOpening : PlaceFault → Type 0
+IsOfOpening fault = (why : DiskFault) × (fault ≡ unopened_folder why)

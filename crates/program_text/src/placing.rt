@@ -1,8 +1,8 @@
 //! New files that take their places in a folder all together, and what is said where they don't.
 
-ghost use Rattle.std.specs.Prelude.{◌≡◌, ◌≢◌};
+ghost use Rattle.std.specs.Prelude.{◌≡◌, ◌≢◌, IfErr};
 ghost use Rattle.files_in_place.specs.declared.phase.Phase.TheVariants.{Ended};
-ghost use Rattle.program_text.specs.PlaceFaults.{IsOfOpenFolder, given_up, unrecovered_folder};
+ghost use Rattle.program_text.specs.PlaceFaults.{IsOfLock, IsOfNewFiles, given_up, unrecovered_folder};
 
 use crate::folder::{FolderFault, PlaceFault};
 use files_in_place::{Disk, DiskFault, FolderLock, SetFault, lock_folder};
@@ -11,15 +11,17 @@ use std::fs::File;
 use std::rt::Files;
 use whole_run::ServeFault;
 
-/// Locks the folder for the new files, without waiting: see [`lock_folder`].
-pub fn lock_out<R: Files<File = File>>(rt: &R, path: &str) -> Result<FolderLock, PlaceFault> {
+/// Locks the folder for the new files, without waiting: see [`lock_folder`]. `Folder(InUse)` where another run has the lock,
+/// `Folder(Unopened)` where there is no such folder or the system gives no lock on it, `NoMemory` where memory is refused.
+pub fn lock_out<R: Files<File = File>>(rt: &R, path: &str) -> Result<FolderLock, PlaceFault>
+    ensures fault { IfErr result IsOfLock }
+{
     Ok(lock_folder(rt, path)?)
 }
 
 /// Why an earlier run's files were not brought to their end.
 pub fn unrecovered(fault: DiskFault) -> PlaceFault
     ensures value { result ≡ unrecovered_folder fault }
-    ensures of_open_folder { IsOfOpenFolder result }
 {
     match fault {
         DiskFault::NoMemory => PlaceFault::NoMemory,
@@ -46,7 +48,7 @@ pub fn unfinished<D: Disk + Drop>(folder: &mut DiskFolder<D>, fault: SetFault) -
     ensures ended { folder.old.set.phase ≡ Ended → result ≡ PlaceFault.Folder FolderFault.Unfinished }
     ensures memory { folder.old.set.phase ≢ Ended → fault ≡ SetFault.NoMemory → result ≡ PlaceFault.NoMemory }
     ensures other { folder.old.set.phase ≢ Ended → fault ≢ SetFault.NoMemory → result ≡ PlaceFault.Folder FolderFault.Unwritten }
-    ensures of_open_folder { IsOfOpenFolder result }
+    ensures of_new_files { IsOfNewFiles result }
 {
     match (folder.abandon(), fault) {
         (Err(SetFault::Closed), _) => PlaceFault::Folder(FolderFault::Unfinished),

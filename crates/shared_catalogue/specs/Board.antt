@@ -101,7 +101,13 @@ copied_view v = reader_of v.known
 -- a join of a copy of the writer's pass into the one of a seat that was answered: the view knows what the one that knows more
 -- does, and has the receipt of the entry; the other is spent
 abbrev pub answered_view : Entry → View → View → View
-answered_view e v w = record { writes = v.writes; known = more_known v.known w.known; noted = v.noted; receipts = v.receipts ++ receipt_of e ∷ []; loads = v.loads }
+answered_view e v w = record {
+  writes = v.writes;
+  known = more_known v.known w.known;
+  noted = v.noted;
+  receipts = v.receipts ++ receipt_of e ∷ [];
+  loads = v.loads;
+}
 
 -- a join of a copy of a seat's pass into the writer's: the view notes what the other knows, which is spent
 abbrev pub noting_view : View → View → View

@@ -1,6 +1,7 @@
 //! A catalogue at its end.
 
 ghost use Rattle.std.specs.Prelude.{◌≡◌, ◌-◌, ◌≤◌, length, map, slice_get, Some};
+ghost use Rattle.catalogue_core.specs.declared.catalogue.TheConstants.{MAX_ENTRIES};
 ghost use Rattle.catalogue_core.specs.declared.opening.TheConstants.{MAX_TABLES};
 ghost use Rattle.catalogue_core.specs.Replay.{state_of, names_of, IsLegal, AreOfStations};
 ghost use Rattle.catalogue_core.specs.State.{table_at};
@@ -79,10 +80,11 @@ impl Closed {
         self.catalogue.into_parts()
     }
 
-    /// How many entries the journal has. Each is of one of the stations, and each answer in it is the one that its
-    /// command has at its place.
+    /// How many entries the journal has: `MAX_ENTRIES` at most. Each is of one of the stations, and each answer in it is
+    /// the one that its command has at its place.
     pub fn entry_count(&self) -> u64
         ensures value { result ≡ length self.now.journal }
+        ensures count_bounded { length self.now.journal ≤ MAX_ENTRIES }
         ensures legal { IsLegal self.now.opened self.now.journal }
         ensures of_stations { AreOfStations self.now.opened self.now.journal }
     {

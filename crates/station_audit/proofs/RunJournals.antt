@@ -1,9 +1,8 @@
 -- The journal of a run: its commands are those of the scripts' lines.
-use Rattle.std.proofs.Common.{◌≡◌, ℕ, ◌+◌, ◌-◌, ◌<◌, ◌≤◌, Bool, true, false, cond, List, [], ◌∷◌, Option, map, refl, sym, ◌∙◌, subst, inl, inr, arith, eq-eqb}
+use Rattle.std.proofs.Common.{◌≡◌, ℕ, ◌+◌, ◌-◌, ◌<◌, ◌≤◌, Bool, true, false, cond, List, [], ◌∷◌, Option, Some, map, refl, sym, ◌∙◌, subst, inl, inr, arith, eq-eqb}
 use Rattle.std.specs.Prelude.{◌==◌, filter}
 use Rattle.std.specs.List.{AllByRecursion}
 use Rattle.std.proofs.lemmas.Bool.{false≢true}
-use Rattle.catalogue_core.specs.declared.catalogue.TheConstants.{MAX_ENTRIES}
 use Rattle.catalogue_core.specs.declared.entry.Entry.{Entry}
 use Rattle.catalogue_core.specs.Replay.{Opened, AreOfStations}
 use Rattle.shared_catalogue.specs.declared.receipt.Receipt.{Receipt}
@@ -12,12 +11,17 @@ use Rattle.station_lines.specs.CommandLines.{IsOfALine}
 use Rattle.station_lines.specs.JournalLines.{journal_text}
 use Rattle.station_files.specs.declared.closed.ClosedTable.{ClosedTable}
 use Rattle.station_files.specs.declared.named.NamedFile.{NamedFile}
+use Rattle.station_files.specs.Files.{IsFileOf}
 use Rattle.station_run.specs.Reports.{Shown, answered, status, AreShown, receipts_of, AreReports}
 use Rattle.audit.specs.declared.fault.AuditFault.{AuditFault}
 use Rattle.audit.specs.declared.fault.AuditFault.TheVariants.{NoEntry, Differs, TooLong, NoMemory}
 use Rattle.audit.specs.Audits.{AreOfLines, IsJournalOf, RefutesAll}
-use Rattle.whole_run.specs.OpenedSetup.{IsOpenedBy}
+use Rattle.whole_run.specs.OpenedSetup.{IsOpenedBy, HaveStill}
 use Rattle.whole_run.specs.WholeRun.{IsWholeRun}
+use Rattle.whole_run.proofs.OneOpening.{one_file, one_opening, opens_as_before}
+use Rattle.station_audit.specs.declared.program.failure.Failure.TheVariants.{Audit}
+use Rattle.station_audit.specs.declared.program.options.Options.{Options}
+use Rattle.station_audit.specs.Program.{IsFailedBy, IsRefuted}
 
 -- the command of the receipt is one that a line means
 abbrev IsOfLine : Receipt → Type 0
@@ -66,13 +70,13 @@ of_lines opened journal scripts answers reports of =
     of
 
 pub journal_of_run : (files : Option (List NamedFile)) (setup : List ℕ) (reindex : Bool) (tables : List ClosedTable) (answers : List (List ℕ)) (count : ℕ) (run : IsWholeRun files setup reindex tables answers count)
-    → count ≤ MAX_ENTRIES → IsJournalOf run.history.opened (journal_text run.history.journal) run.history.journal
-journal_of_run files setup reindex tables answers count run few = record {
+    → IsJournalOf run.history.opened (journal_text run.history.journal) run.history.journal
+journal_of_run files setup reindex tables answers count run = record {
   text_is = refl;
   legal = run.legal;
   of_stations = run.of_stations;
   of_lines = of_lines run.history.opened run.history.journal run.read.scripts answers run.run.reports run.of_stations;
-  few = subst (λ (n : ℕ). n ≤ MAX_ENTRIES) run.counted few;
+  few = run.count_bounded;
 }
 
 pub opened_by : (files : Option (List NamedFile)) (setup : List ℕ) (reindex : Bool) (tables : List ClosedTable) (answers : List (List ℕ)) (count : ℕ) (run : IsWholeRun files setup reindex tables answers count)
@@ -85,3 +89,26 @@ only_memory opened text journal (NoEntry n) is refuted = absurd (refuted journal
 only_memory opened text journal (Differs d) is refuted = absurd (refuted journal is)
 only_memory opened text journal TooLong is refuted = absurd (refuted journal is)
 only_memory opened text journal NoMemory is refuted = refl
+
+-- ---- the audit of a run's journal on the run's files
+
+-- a text that is refuted is not the journal's of the run
+not_refuted : (files later : List NamedFile) (options : Options) (tables : List ClosedTable) (answers : List (List ℕ)) (count : ℕ) (run : IsWholeRun (Some files) options.setup.now options.reindex tables answers count) (why : AuditFault)
+    → HaveStill files later → IsFileOf (Some later) options.journal.now (journal_text run.history.journal) → IsRefuted (Some later) options why → why ≡ NoMemory
+not_refuted files later options tables answers count run why still journal refuted =
+    let setup : List ℕ = options.setup.now in
+    let opened : Opened = run.history.opened in
+    let again : IsOpenedBy (Some later) setup options.reindex opened = opens_as_before files later setup still options.reindex opened (opened_by (Some files) setup options.reindex tables answers count run) in
+    let same : opened ≡ refuted.opened = one_opening later setup options.reindex opened refuted.opened again refuted.asked.tables in
+    let text : journal_text run.history.journal ≡ refuted.text = one_file later options.journal.now (journal_text run.history.journal) refuted.text journal refuted.asked.journal in
+    let of_run : IsJournalOf opened (journal_text run.history.journal) run.history.journal = journal_of_run (Some files) setup options.reindex tables answers count run in
+    let moved : IsJournalOf refuted.opened (journal_text run.history.journal) run.history.journal = subst (λ (o : Opened). IsJournalOf o (journal_text run.history.journal) run.history.journal) same of_run in
+    let is : IsJournalOf refuted.opened refuted.text run.history.journal = subst (λ (l : List ℕ). IsJournalOf refuted.opened l run.history.journal) text moved in
+    only_memory refuted.opened refuted.text run.history.journal why is refuted.refuted
+
+pub never_refuted : (files later : List NamedFile) (options : Options) (tables : List ClosedTable) (answers : List (List ℕ)) (count : ℕ) (run : IsWholeRun (Some files) options.setup.now options.reindex tables answers count) (why : AuditFault)
+    → HaveStill files later → IsFileOf (Some later) options.journal.now (journal_text run.history.journal) → IsFailedBy (Some later) options (Audit why) → ⊥
+never_refuted files later options tables answers count run (NoEntry n) still journal failed = let e = not_refuted files later options tables answers count run (NoEntry n) still journal failed in cc
+never_refuted files later options tables answers count run (Differs d) still journal failed = let e = not_refuted files later options tables answers count run (Differs d) still journal failed in cc
+never_refuted files later options tables answers count run TooLong still journal failed = let e = not_refuted files later options tables answers count run TooLong still journal failed in cc
+never_refuted files later options tables answers count run NoMemory still journal failed = failed

@@ -1,9 +1,11 @@
 -- The tables that are written after an audit, and why they are not.
-use Rattle.std.proofs.Common.{◌≡◌, ℕ, List, [], Option, Some, Result, Err, length, refl, sym, subst}
-use Rattle.std.specs.Prelude.{IfErr}
+use Rattle.std.proofs.Common.{◌≡◌, ℕ, ◌<◌, List, [], Option, Some, Result, Err, length, refl, ap, sym, ◌∙◌, subst}
+use Rattle.std.specs.Prelude.{IfErr, IsErrOf}
 use Rattle.dbf_fields.specs.declared.day.Day.{Day}
 use Rattle.catalogue_core.specs.Replay.{History}
 use Rattle.files_in_place.specs.Folder.{Folder as Files}
+use Rattle.files_in_place.specs.declared.faults.DiskFault.{DiskFault}
+use Rattle.files_in_place.specs.declared.faults.DiskFault.TheVariants as disk
 use Rattle.files_in_place.specs.declared.faults.SetFault.{SetFault}
 use Rattle.station_files.specs.declared.close_fault.CloseFault.TheVariants as close
 use Rattle.station_files.specs.declared.named.NamedFile.{NamedFile}
@@ -12,16 +14,17 @@ use Rattle.whole_run.specs.declared.fault.ServeFault.{ServeFault}
 use Rattle.whole_run.specs.declared.fault.ServeFault.TheVariants as serve
 use Rattle.whole_run.specs.Loading.{IsFailure}
 use Rattle.whole_run.specs.TablesWritten.{AreTablesWritten, IsCutTables, IsTablesFault, dated_files}
+use Rattle.program_text.specs.declared.folder.FolderFault.TheVariants.{InUse, Unopened, Unrecovered, Unwritten, Unfinished}
 use Rattle.program_text.specs.declared.folder.PlaceFault.{PlaceFault}
 use Rattle.program_text.specs.declared.folder.PlaceFault.TheVariants as place
-use Rattle.program_text.specs.PlaceFaults.{given_up, IsOfOpenFolder}
+use Rattle.program_text.specs.PlaceFaults.{given_up, unrecovered_folder, IsOfNewFiles}
 use Rattle.program_text.proofs.PlacingLaws.{files_placed, given_up_keeps}
 use Rattle.station_audit.specs.declared.program.failure.Failure.{Failure}
 use Rattle.station_audit.specs.declared.program.failure.Failure.TheVariants.{BadDate, Serve, Unread, Audit, Folder}
 use Rattle.station_audit.specs.declared.program.options.Options.{Options}
 use Rattle.station_audit.specs.Program.{IsAuditedTo, IsFailedBy, IsLoadFailure}
 use Rattle.station_audit.specs.Endings.{given_up_audit, place_failure}
-use Rattle.station_audit.specs.Writing.{IsWrittenBy, IsCutAudit, IsUnwritten, AreInPlace, IsPlaceFailure}
+use Rattle.station_audit.specs.Writing.{IsWrittenBy, IsCutAudit, IsUnwritten, AreInPlace, IsPlaceFailure, IsWrittenWhole}
 
 -- ---- writing
 
@@ -102,12 +105,12 @@ in_place files options today count begun written old new w none placed = record 
 }
 
 -- why an audit was given up is why the tables are not written, or want of memory
-pub given_up_failure : (files : Option (List NamedFile)) (options : Options) (year : ℕ) (last : Option SetFault) (why : Failure) → IsUnwritten files options year why → IsPlaceFailure files options year (given_up_audit last why)
-given_up_failure files options year last BadDate h = h
-given_up_failure files options year last (Serve fault) h = given_up_keeps (λ f. IsPlaceFailure files options year (Serve f)) last fault (given_up last fault) refl tt h
-given_up_failure files options year last Unread h = h
-given_up_failure files options year last (Audit f) h = h
-given_up_failure files options year last (Folder f) h = absurd h
+pub given_up_failure : (files : Option (List NamedFile)) (options : Options) (today : Day) (last : Option SetFault) (why : Failure) → IsUnwritten files options today.year why → IsPlaceFailure files options today (given_up_audit last why)
+given_up_failure files options today last BadDate h = h
+given_up_failure files options today last (Serve fault) h = given_up_keeps (λ f. IsPlaceFailure files options today (Serve f)) last fault (given_up last fault) refl tt h
+given_up_failure files options today last Unread h = h
+given_up_failure files options today last (Audit f) h = h
+given_up_failure files options today last (Folder f) h = absurd h
 
 -- what a failure says of the loads, it says where the audit was given up too
 pub given_up_load : (files : Option (List NamedFile)) (options : Options) (before after : Option ℕ) (last : Option SetFault) (why : Failure) → IsLoadFailure files options before after why
@@ -120,13 +123,64 @@ given_up_load files options before after last (Folder f) h = h
 
 -- ---- the folder
 
-place_fault : (files : Option (List NamedFile)) (options : Options) (year : ℕ) (fault : PlaceFault) → IsOfOpenFolder fault → IsPlaceFailure files options year (place_failure fault)
-place_fault files options year place.NoMemory of = tt
-place_fault files options year (place.Folder why) of = of
+-- tables that were written where nothing had been
+pub written_whole : (files : Option (List NamedFile)) (options : Options) (today : Day) (count : ℕ) (begun written : List ℕ) → IsWrittenBy files options today (Some begun) (Some written) count → begun ≡ []
+    → IsWrittenWhole files options today
+written_whole files options today count begun written wrote none = (written, count, subst (λ (l : List ℕ). IsWrittenBy files options today (Some l) (Some written) count) none wrote)
+
+place_fault : (files : Option (List NamedFile)) (options : Options) (today : Day) (fault : PlaceFault) → IsOfNewFiles fault → IsWrittenWhole files options today → IsPlaceFailure files options today (place_failure fault)
+place_fault files options today place.NoMemory of whole = tt
+place_fault files options today (place.Folder InUse) of whole = absurd of
+place_fault files options today (place.Folder Unopened) of whole = absurd of
+place_fault files options today (place.Folder Unrecovered) of whole = absurd of
+place_fault files options today (place.Folder Unwritten) of whole = whole
+place_fault files options today (place.Folder Unfinished) of whole = whole
 
 -- why the new files are not in place is a failure of an audit or of its folder
-pub unplaced : (files : Option (List NamedFile)) (options : Options) (year : ℕ) (fault : PlaceFault) (failure : Failure) → failure ≡ place_failure fault → IsOfOpenFolder fault → IsPlaceFailure files options year failure
-unplaced files options year fault failure is of = subst (IsPlaceFailure files options year) (sym is) (place_fault files options year fault of)
+pub unplaced : (files : Option (List NamedFile)) (options : Options) (today : Day) (fault : PlaceFault) (failure : Failure) → failure ≡ place_failure fault → IsOfNewFiles fault → IsWrittenWhole files options today
+    → IsPlaceFailure files options today failure
+unplaced files options today fault failure is of whole = subst (IsPlaceFailure files options today) (sym is) (place_fault files options today fault of whole)
+
+new_files_only : (fault : PlaceFault) → IsOfNewFiles fault → place_failure fault ≡ Folder Unrecovered → ⊥
+new_files_only place.NoMemory of e = cc
+new_files_only (place.Folder InUse) of e = of
+new_files_only (place.Folder Unopened) of e = of
+new_files_only (place.Folder Unrecovered) of e = of
+new_files_only (place.Folder Unwritten) of e = cc
+new_files_only (place.Folder Unfinished) of e = cc
+
+-- it is not that the folder was not recovered
+pub recovered_before : (fault : PlaceFault) (failure : Failure) → failure ≡ place_failure fault → IsOfNewFiles fault → IsErrOf {T = ℕ} (Err failure) (Folder Unrecovered) → ⊥
+recovered_before fault failure is of e = let told : failure ≡ Folder Unrecovered = cc in new_files_only fault of (sym is ∙ told)
+
+-- nor is it where an audit was given up
+pub given_up_recovered : (files : Option (List NamedFile)) (options : Options) (year : ℕ) (last : Option SetFault) (why failure : Failure) → failure ≡ given_up_audit last why → IsUnwritten files options year why
+    → IsErrOf {T = ℕ} (Err failure) (Folder Unrecovered) → ⊥
+given_up_recovered files options year last BadDate failure is h e = let clash : BadDate ≡ Folder Unrecovered = cc in cc
+given_up_recovered files options year last (Serve fault) failure is h e = let clash : Serve (given_up last fault) ≡ Folder Unrecovered = cc in cc
+given_up_recovered files options year last Unread failure is h e = let clash : Unread ≡ Folder Unrecovered = cc in cc
+given_up_recovered files options year last (Audit f) failure is h e = let clash : Audit f ≡ Folder Unrecovered = cc in cc
+given_up_recovered files options year last (Folder f) failure is h e = h
+
+-- ---- a folder that was not recovered
+
+unrecovered_place : (files : Option (List NamedFile)) (options : Options) (today : Day) (why : DiskFault) → IsPlaceFailure files options today (place_failure (unrecovered_folder why))
+unrecovered_place files options today disk.NoMemory = tt
+unrecovered_place files options today disk.Failed = tt
+
+pub unrecovered_fault : (files : Option (List NamedFile)) (options : Options) (today : Day) (why : DiskFault) (fault : PlaceFault) (failure : Failure) → failure ≡ place_failure fault → fault ≡ unrecovered_folder why
+    → IsPlaceFailure files options today failure
+unrecovered_fault files options today why fault failure is was = subst (IsPlaceFailure files options today) (sym (is ∙ ap place_failure was)) (unrecovered_place files options today why)
+
+-- it is said only where the disk has failed
+pub unrecovered_cause : (why : DiskFault) (fault : PlaceFault) (failure : Failure) (before now : ℕ) → failure ≡ place_failure fault → fault ≡ unrecovered_folder why → (why ≡ disk.Failed → before < now)
+    → IsErrOf {T = ℕ} (Err failure) (Folder Unrecovered) → before < now
+unrecovered_cause disk.Failed fault failure before now is was cause e = cause refl
+unrecovered_cause disk.NoMemory fault failure before now is was cause e =
+    let refused : failure ≡ Serve serve.NoMemory = is ∙ ap place_failure was in
+    let told : failure ≡ Folder Unrecovered = cc in
+    let clash : Serve serve.NoMemory ≡ Folder Unrecovered = sym refused ∙ told in
+    absurd cc
 
 place_load : (files : Option (List NamedFile)) (options : Options) (before after : Option ℕ) (fault : PlaceFault) → after ≡ before → IsLoadFailure files options before after (place_failure fault)
 place_load files options before after place.NoMemory same = tt

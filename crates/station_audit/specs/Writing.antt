@@ -1,13 +1,13 @@
 -- The tables at the end of a journal that was audited, written into a folder.
-use Rattle.std.specs.Prelude.{◌≡◌, ℕ, List, length, Option}
+use Rattle.std.specs.Prelude.{◌≡◌, ℕ, List, [], length, Option, Some}
 use Rattle.dbf_fields.specs.declared.day.Day.{Day}
 use Rattle.catalogue_core.specs.Replay.{History}
 use Rattle.files_in_place.specs.Folder.{Folder}
 use Rattle.station_files.specs.declared.closed.ClosedTable.{ClosedTable}
 use Rattle.station_files.specs.declared.named.NamedFile.{NamedFile}
 use Rattle.station_files.specs.Files.{files_in, listing}
-use Rattle.program_text.specs.declared.folder.PlaceFault.TheVariants as place
-use Rattle.program_text.specs.PlaceFaults.{IsOfOpenFolder}
+use Rattle.program_text.specs.declared.folder.FolderFault.{FolderFault}
+use Rattle.program_text.specs.declared.folder.FolderFault.TheVariants.{InUse, Unopened, Unrecovered, Unwritten, Unfinished}
 use Rattle.program_text.specs.Placing.{HasFiles}
 use Rattle.station_files.specs.declared.close_fault.CloseFault.TheVariants.{Write}
 use Rattle.whole_run.specs.declared.fault.ServeFault.TheVariants as serve
@@ -45,7 +45,20 @@ pub record AreInPlace (files : Option (List NamedFile)) (options : Options) (tod
   pub handed : AreHandedOver history tables
   pub placed : HasFiles (files_in (listing (dated_files today tables))) folder
 
+-- all entries hold, and the files of the tables at their end were written, whole, where none had been
+abbrev pub IsWrittenWhole : Option (List NamedFile) → Options → Day → Type 0
+IsWrittenWhole files options today = (written : List ℕ) × (count : ℕ) × IsWrittenBy files options today (Some []) (Some written) count
+
+-- Why a folder that was locked and opened has not got the files of the tables: it was not recovered, or all entries hold and
+-- the files were not put in place.
+abbrev pub IsFolderFailure : Option (List NamedFile) → Options → Day → FolderFault → Type 0
+IsFolderFailure files options today InUse = ⊥
+IsFolderFailure files options today Unopened = ⊥
+IsFolderFailure files options today Unrecovered = Unit {0}
+IsFolderFailure files options today Unwritten = IsWrittenWhole files options today
+IsFolderFailure files options today Unfinished = IsWrittenWhole files options today
+
 -- why the files of the tables are not in place
-abbrev pub IsPlaceFailure : Option (List NamedFile) → Options → ℕ → Failure → Type 0
-IsPlaceFailure files options year (OfFolder fault) = IsOfOpenFolder (place.Folder fault)
-IsPlaceFailure files options year why = IsUnwritten files options year why
+abbrev pub IsPlaceFailure : Option (List NamedFile) → Options → Day → Failure → Type 0
+IsPlaceFailure files options today (OfFolder fault) = IsFolderFailure files options today fault
+IsPlaceFailure files options today why = IsUnwritten files options today.year why

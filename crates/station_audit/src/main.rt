@@ -9,7 +9,8 @@
 
 mod program;
 
-ghost use Rattle.std.specs.Prelude.{◌≡◌, ◌++◌, ◌∷◌, [], IfOk};
+ghost use Rattle.std.specs.Prelude.{◌≡◌, ◌++◌, ◌∷◌, [], IfOk, IfErr};
+ghost use Rattle.program_text.specs.PlaceFaults.{IsOfOpening};
 
 use crate::program::{
     Ending, Failure, InPlace, Options, Written, audit_in_place, audit_into, audit_options, command,
@@ -59,6 +60,7 @@ fn open_out<R: Files + Drop>(
     written: &Written<'_>,
 ) -> Result<SystemDisk<R>, PlaceFault>
     ensures path { IfOk result (λ disk. disk.path ≡ written.now.out.now ++ 47 ∷ []) }
+    ensures fault { IfErr result IsOfOpening }
 {
     Ok(SystemDisk::open(rt, alloc, written.out)?)
 }

@@ -1,20 +1,25 @@
 -- A run whose files are in place.
-use Rattle.std.proofs.Common.{◌≡◌, ℕ, List, [], Option, Some, sym, subst}
+use Rattle.std.proofs.Common.{◌≡◌, ℕ, ◌<◌, List, [], Option, Some, Err, refl, ap, sym, ◌∙◌, subst}
+use Rattle.std.specs.Prelude.{IsErrOf}
 use Rattle.files_in_place.specs.Folder.{Folder as Files}
+use Rattle.files_in_place.specs.declared.faults.DiskFault.{DiskFault}
+use Rattle.files_in_place.specs.declared.faults.DiskFault.TheVariants as disk
 use Rattle.files_in_place.specs.declared.faults.SetFault.{SetFault}
 use Rattle.station_files.specs.declared.named.NamedFile.{NamedFile}
 use Rattle.station_files.specs.Placed.{IsPlaced}
 use Rattle.whole_run.specs.declared.fault.ServeFault.{ServeFault}
+use Rattle.whole_run.specs.declared.fault.ServeFault.TheVariants as serve
 use Rattle.whole_run.specs.Loading.{IsFailure}
+use Rattle.program_text.specs.declared.folder.FolderFault.TheVariants.{InUse, Unopened, Unrecovered, Unwritten, Unfinished}
 use Rattle.program_text.specs.declared.folder.PlaceFault.{PlaceFault}
 use Rattle.program_text.specs.declared.folder.PlaceFault.TheVariants.{NoMemory, Folder}
-use Rattle.program_text.specs.PlaceFaults.{given_up, IsOfOpenFolder}
+use Rattle.program_text.specs.PlaceFaults.{given_up, unrecovered_folder, IsOfNewFiles}
 use Rattle.program_text.proofs.PlacingLaws.{files_placed, given_up_keeps}
 use Rattle.station_server.specs.declared.program.failure.Failure.{Failure}
-use Rattle.station_server.specs.declared.program.failure.Failure.TheVariants.{Serve}
+use Rattle.station_server.specs.declared.program.failure.Failure.TheVariants.{Serve, Folder as OfFolder}
 use Rattle.station_server.specs.declared.program.options.Options.{Options}
 use Rattle.station_server.specs.Failures.{place_failure}
-use Rattle.station_server.specs.Program.{asked_files, IsInPlace, IsLoadFailure, IsPlaceFault, IsServedBy}
+use Rattle.station_server.specs.Program.{asked_files, IsInPlace, IsLoadFailure, IsPlaceFault, IsServedBy, IsServedWhole}
 
 pub in_place : (files : Option (List NamedFile)) (options : Options) (count : ℕ) (begun written : List ℕ) (old new : Files) → IsServedBy files options (Some begun) (Some written) count → begun ≡ [] → IsPlaced written old new
     → IsInPlace files options new count
@@ -25,13 +30,52 @@ in_place files options count begun written old new served none placed = record {
   placed = files_placed (asked_files options served.tables served.answers served.run.history.journal) begun written old new none served.written placed;
 }
 
-place_fault : (files : Option (List NamedFile)) (options : Options) (fault : PlaceFault) → IsOfOpenFolder fault → IsPlaceFault files options (place_failure fault)
-place_fault files options NoMemory of = tt
-place_fault files options (Folder why) of = of
+-- a run that was served where nothing had been written
+pub served_whole : (files : Option (List NamedFile)) (options : Options) (count : ℕ) (begun written : List ℕ) → IsServedBy files options (Some begun) (Some written) count → begun ≡ [] → IsServedWhole files options
+served_whole files options count begun written served none = (written, count, subst (λ (l : List ℕ). IsServedBy files options (Some l) (Some written) count) none served)
+
+place_fault : (files : Option (List NamedFile)) (options : Options) (fault : PlaceFault) → IsOfNewFiles fault → IsServedWhole files options → IsPlaceFault files options (place_failure fault)
+place_fault files options NoMemory of whole = tt
+place_fault files options (Folder InUse) of whole = absurd of
+place_fault files options (Folder Unopened) of whole = absurd of
+place_fault files options (Folder Unrecovered) of whole = absurd of
+place_fault files options (Folder Unwritten) of whole = whole
+place_fault files options (Folder Unfinished) of whole = whole
 
 -- why the new files are not in place is a fault of a run or of its folder
-pub unplaced : (files : Option (List NamedFile)) (options : Options) (fault : PlaceFault) (failure : Failure) → failure ≡ place_failure fault → IsOfOpenFolder fault → IsPlaceFault files options failure
-unplaced files options fault failure is of = subst (IsPlaceFault files options) (sym is) (place_fault files options fault of)
+pub unplaced : (files : Option (List NamedFile)) (options : Options) (fault : PlaceFault) (failure : Failure) → failure ≡ place_failure fault → IsOfNewFiles fault → IsServedWhole files options → IsPlaceFault files options failure
+unplaced files options fault failure is of whole = subst (IsPlaceFault files options) (sym is) (place_fault files options fault of whole)
+
+new_files_only : (fault : PlaceFault) → IsOfNewFiles fault → place_failure fault ≡ OfFolder Unrecovered → ⊥
+new_files_only NoMemory of e = cc
+new_files_only (Folder InUse) of e = of
+new_files_only (Folder Unopened) of e = of
+new_files_only (Folder Unrecovered) of e = of
+new_files_only (Folder Unwritten) of e = cc
+new_files_only (Folder Unfinished) of e = cc
+
+-- it is not that the folder was not recovered
+pub recovered_before : (fault : PlaceFault) (failure : Failure) → failure ≡ place_failure fault → IsOfNewFiles fault → IsErrOf {T = ℕ} (Err failure) (OfFolder Unrecovered) → ⊥
+recovered_before fault failure is of e = let told : failure ≡ OfFolder Unrecovered = cc in new_files_only fault of (sym is ∙ told)
+
+-- ---- a folder that was not recovered
+
+unrecovered_place : (files : Option (List NamedFile)) (options : Options) (why : DiskFault) → IsPlaceFault files options (place_failure (unrecovered_folder why))
+unrecovered_place files options disk.NoMemory = tt
+unrecovered_place files options disk.Failed = tt
+
+pub unrecovered_fault : (files : Option (List NamedFile)) (options : Options) (why : DiskFault) (fault : PlaceFault) (failure : Failure) → failure ≡ place_failure fault → fault ≡ unrecovered_folder why → IsPlaceFault files options failure
+unrecovered_fault files options why fault failure is was = subst (IsPlaceFault files options) (sym (is ∙ ap place_failure was)) (unrecovered_place files options why)
+
+-- it is said only where the disk has failed
+pub unrecovered_cause : (why : DiskFault) (fault : PlaceFault) (failure : Failure) (before now : ℕ) → failure ≡ place_failure fault → fault ≡ unrecovered_folder why → (why ≡ disk.Failed → before < now)
+    → IsErrOf {T = ℕ} (Err failure) (OfFolder Unrecovered) → before < now
+unrecovered_cause disk.Failed fault failure before now is was cause e = cause refl
+unrecovered_cause disk.NoMemory fault failure before now is was cause e =
+    let refused : failure ≡ Serve serve.NoMemory = is ∙ ap place_failure was in
+    let told : failure ≡ OfFolder Unrecovered = cc in
+    let clash : Serve serve.NoMemory ≡ OfFolder Unrecovered = sym refused ∙ told in
+    absurd cc
 
 -- where no load has failed, none has where new files are not in place
 place_load : (files : Option (List NamedFile)) (before after : Option ℕ) (fault : PlaceFault) → after ≡ before → IsLoadFailure files before after (place_failure fault)

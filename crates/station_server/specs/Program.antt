@@ -1,5 +1,5 @@
 -- What the command line asks for: the run, its files, and where they are written.
-use Rattle.std.specs.Prelude.{◌≡◌, ◌≢◌, ℕ, Bool, true, false, List, Option, None, IsSome, codes, if◌then◌else◌}
+use Rattle.std.specs.Prelude.{◌≡◌, ◌≢◌, ℕ, Bool, true, false, List, [], Option, Some, None, IsSome, codes, if◌then◌else◌}
 use Rattle.clap.specs.declared.parser.matches.ArgMatches.{ArgMatches}
 use Rattle.dbf_fields.specs.declared.day.Day.{Day}
 use Rattle.byte_io.specs.Sink.{grown}
@@ -15,9 +15,9 @@ use Rattle.whole_run.specs.declared.fault.ServeFault.TheVariants.{Close, NoMemor
 use Rattle.whole_run.specs.JournalFile.{and_journal, IsCutRunWithJournal}
 use Rattle.whole_run.specs.Loading.{IsFailure}
 use Rattle.whole_run.specs.WholeRun.{IsServeFault, IsWholeRun, IsCutRun}
-use Rattle.program_text.specs.declared.folder.PlaceFault.TheVariants as place
+use Rattle.program_text.specs.declared.folder.FolderFault.{FolderFault}
+use Rattle.program_text.specs.declared.folder.FolderFault.TheVariants.{InUse, Unopened, Unrecovered, Unwritten, Unfinished}
 use Rattle.program_text.specs.CommandLine.{value_of}
-use Rattle.program_text.specs.PlaceFaults.{IsOfOpenFolder}
 use Rattle.program_text.specs.Placing.{HasFiles}
 use Rattle.station_server.specs.declared.program.failure.Failure.{Failure}
 use Rattle.station_server.specs.declared.program.failure.Failure.TheVariants.{BadDate, Serve, Folder as OfFolder}
@@ -61,11 +61,24 @@ pub record IsInPlace (files : Option (List NamedFile)) (options : Options) (fold
   pub run : IsWholeRun files options.setup.now options.reindex tables answers count
   pub placed : HasFiles (files_in (listing (asked_files options tables answers run.history.journal))) folder
 
+-- the run that the options ask for came to its end, and its files were written, whole, where none had been
+abbrev pub IsServedWhole : Option (List NamedFile) → Options → Type 0
+IsServedWhole files options = (written : List ℕ) × (count : ℕ) × IsServedBy files options (Some []) (Some written) count
+
+-- Why a folder that was locked and opened has not got the files of the run that the options ask for: it was not recovered, or
+-- the run came to its end and its files were not put in place.
+abbrev pub IsFolderFault : Option (List NamedFile) → Options → FolderFault → Type 0
+IsFolderFault files options InUse = ⊥
+IsFolderFault files options Unopened = ⊥
+IsFolderFault files options Unrecovered = Unit {0}
+IsFolderFault files options Unwritten = IsServedWhole files options
+IsFolderFault files options Unfinished = IsServedWhole files options
+
 -- why the files of the run that the options ask for are not in place
 abbrev pub IsPlaceFault : Option (List NamedFile) → Options → Failure → Type 0
 IsPlaceFault files options BadDate = ⊥
 IsPlaceFault files options (Serve fault) = IsServeFault files options.setup.now options.reindex options.today.year fault
-IsPlaceFault files options (OfFolder fault) = IsOfOpenFolder (place.Folder fault)
+IsPlaceFault files options (OfFolder fault) = IsFolderFault files options fault
 
 -- what a failure says of the count of loads that failed
 abbrev pub IsLoadFailure : Option (List NamedFile) → Option ℕ → Option ℕ → Failure → Type 0

@@ -9,7 +9,8 @@
 
 mod program;
 
-ghost use Rattle.std.specs.Prelude.{◌≡◌, ◌++◌, ◌∷◌, [], IfOk};
+ghost use Rattle.std.specs.Prelude.{◌≡◌, ◌++◌, ◌∷◌, [], IfOk, IfErr};
+ghost use Rattle.program_text.specs.PlaceFaults.{IsOfOpening};
 
 use crate::program::{
     Ending, Failure, InPlace, Options, command, options_of, serve_in_place, serve_options, tell,
@@ -57,6 +58,7 @@ fn open_out<R: Files + Drop>(
     options: &Options<'_>,
 ) -> Result<SystemDisk<R>, PlaceFault>
     ensures path { IfOk result (λ disk. disk.path ≡ options.now.out.now ++ 47 ∷ []) }
+    ensures fault { IfErr result IsOfOpening }
 {
     Ok(SystemDisk::open(rt, alloc, options.out)?)
 }

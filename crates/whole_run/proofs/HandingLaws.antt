@@ -68,9 +68,6 @@ taken_table h before t rest e =
     ∙ get_or-map (λ (x : Held). x.content) (before ++ t ∷ rest) (length before) t no_content there
     ∙ ap (λ (x : Held). x.content) (get_or_at before t rest t (length before) refl)
 
-pub taken_count : (h : History) (before : List Held) (t : Held) (rest : List Held) → map (λ (x : Held). x.content) (before ++ t ∷ rest) ≡ (state_of h).tables → length (before ++ t ∷ rest) ≡ length (state_of h).tables
-taken_count h before t rest e = sym (length-map (before ++ t ∷ rest) (λ (x : Held). x.content)) ∙ ap length e
-
 -- tables that are a history's at its end, under its names
 pub are_end_of : (h : History) (names : List (List ℕ)) (tables : List Held) → names ≡ names_of h.opened → map (λ (x : Held). x.content) tables ≡ (state_of h).tables → length tables ≡ length h.opened.tables
     → AreEndOf h names (map (λ (x : Held). x.content) tables)

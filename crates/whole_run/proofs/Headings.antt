@@ -88,21 +88,21 @@ passing_ok [] rest x h = (refl, h)
 passing_ok ((true, f) ∷ tests) rest x h = passing_ok tests rest x h
 passing_ok ((false, f) ∷ tests) rest x h = absurd cc
 
-then_ok : {X Y : Type 0} (first : Result X OpenFault → Type 0) (rest : X → Result Y OpenFault → Type 0) (y : Y) → Then first rest (Ok y) → (x : X) × first (Ok x) × rest x (Ok y)
+pub then_ok : {X Y : Type 0} (first : Result X OpenFault → Type 0) (rest : X → Result Y OpenFault → Type 0) (y : Y) → Then first rest (Ok y) → (x : X) × first (Ok x) × rest x (Ok y)
 then_ok {X} {Y} first rest y h =
     ⊎_elim
     (λ (k : (x : X) × first (Ok x) × rest x (Ok y)). k)
     (λ (k : (fault : OpenFault) × first (Err fault) × (Ok y ≡ Err fault)). let e = k.2 in absurd cc)
     h
 
-made_ok : {X : Type 0} (x y : X) → Made x (Ok y) → y ≡ x
+pub made_ok : {X : Type 0} (x y : X) → Made x (Ok y) → y ≡ x
 made_ok {X} x y h =
     ⊎_elim
     (λ (e : Ok y ≡ Ok x). let same : y ≡ x = cc in same)
     (λ (e : Ok y ≡ Err NoMemory). absurd cc)
     h
 
-fresh_ok : {X : Type 0} (reindex : Bool) (fresh : Type 0) (fault : OpenFault) (rest : Result X OpenFault → Type 0) (x : X) → IfFresh reindex fresh fault rest (Ok x) → rest (Ok x)
+pub fresh_ok : {X : Type 0} (reindex : Bool) (fresh : Type 0) (fault : OpenFault) (rest : Result X OpenFault → Type 0) (x : X) → IfFresh reindex fresh fault rest (Ok x) → rest (Ok x)
 fresh_ok true fresh fault rest x h = h
 fresh_ok false fresh fault rest x h =
     ⊎_elim

@@ -9,6 +9,7 @@ pub mod NewNames
 pub mod IndexesKept
 pub mod HandedNames
 pub mod OpenLaws
+pub mod OneOpening
 pub mod OpenedLaws
 pub mod CopyLaws
 pub mod WritingLaws

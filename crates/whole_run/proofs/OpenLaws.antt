@@ -101,7 +101,7 @@ of_fresh P false fresh fault rest outcome is go h =
 
 -- ---- an index
 
-same_expression : (a b : Expression) → a.text ≡ b.text → a.fields ≡ b.fields → a.expr ≡ b.expr → a ≡ b
+pub same_expression : (a b : Expression) → a.text ≡ b.text → a.fields ≡ b.fields → a.expr ≡ b.expr → a ≡ b
 same_expression a b t f e i = record { text = t i; fields = f i; expr = e i }
 
 same_indexed : (a b : Indexed) → a.name ≡ b.name → a.expr ≡ b.expr → a ≡ b

@@ -1,7 +1,8 @@
 -- A whole run by its parts, and the faults of its writing.
-use Rattle.std.proofs.Common.{◌≡◌, ℕ, Bool, List, Option, Some, None, length, refl}
+use Rattle.std.proofs.Common.{◌≡◌, ◌≤◌, ℕ, Bool, List, Option, Some, None, length, refl}
 use Rattle.dbf_fields.specs.declared.day.Day.{Day}
 use Rattle.dbf_image.specs.Image.{IsOutside}
+use Rattle.catalogue_core.specs.declared.catalogue.TheConstants.{MAX_ENTRIES}
 use Rattle.catalogue_core.specs.Replay.{History, IsLegal, AreOfStations}
 use Rattle.station_files.specs.declared.close_fault.CloseFault.{CloseFault}
 use Rattle.station_files.specs.declared.close_fault.CloseFault.TheVariants.{DateOutside, TooManyBlocks, Write, NoMemory as NoMemoryToClose}
@@ -36,9 +37,9 @@ none_at (Some n) h = absurd (h n refl)
 
 -- a whole run by its parts
 abbrev pub whole_run : (files : Option (List NamedFile)) (setup : List ℕ) (reindex : Bool) (read : Read) (h : History) (tables : List ClosedTable) (answers : List (List ℕ))
-    → IsAllRead files setup read → IsRun reindex read h answers → IsLegal h.opened h.journal → AreOfStations h.opened h.journal → AreHandedOver h tables → IsWholeRun files setup reindex tables answers (length h.journal)
-whole_run files setup reindex read h tables answers all run legal of_stations handed =
-    record { read = read; history = h; all = all; run = run; legal = legal; of_stations = of_stations; handed = handed; counted = refl }
+    → IsAllRead files setup read → IsRun reindex read h answers → IsLegal h.opened h.journal → AreOfStations h.opened h.journal → length h.journal ≤ MAX_ENTRIES → AreHandedOver h tables → IsWholeRun files setup reindex tables answers (length h.journal)
+whole_run files setup reindex read h tables answers all run legal of_stations count_bounded handed =
+    record { read = read; history = h; all = all; run = run; legal = legal; of_stations = of_stations; count_bounded = count_bounded; handed = handed; counted = refl }
 
 -- the run of which a file could not be written
 pub cut_run : (files : Option (List NamedFile)) (setup : List ℕ) (reindex : Bool) (today : Day) (tables : List ClosedTable) (answers : List (List ℕ)) (count : ℕ) (old new : Option (List ℕ)) (fault : ServeFault)

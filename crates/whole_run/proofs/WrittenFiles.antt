@@ -25,7 +25,7 @@ use Rattle.key_expr.proofs.KeptRules.{key_some, refusal_tests, refusal_short}
 use Rattle.key_expr.proofs.KeyLengths.{key_length_is}
 use Rattle.key_expr.proofs.NoZeros.{no_zero}
 use Rattle.ndx_index.specs.declared.pair.Pair.{Pair}
-use Rattle.ndx_index.specs.declared.read.NdxFile.{NdxFile}
+use Rattle.ndx_index.specs.declared.ndx_file.NdxFile.{NdxFile}
 use Rattle.ndx_index.specs.Header.{IsIndex, ndx_header, trimmed_end}
 use Rattle.ndx_index.specs.Index.{HaveLength}
 use Rattle.ndx_index.specs.Laws.Given.{order_own}
@@ -129,7 +129,7 @@ written_index table index t i =
     (omega (arith, length-order table e, t.count_bounded)) keys numbers (no_zero table.schema index.expr.text e i.read)
 
 -- a file is of one index
-same_index : (bytes text text' : List ℕ) (n n' : ℕ) (pairs pairs' : List Pair) → IsIndex bytes text n pairs → IsIndex bytes text' n' pairs' → (text ≡ text') × (n ≡ n') × (pairs ≡ pairs')
+pub same_index : (bytes text text' : List ℕ) (n n' : ℕ) (pairs pairs' : List Pair) → IsIndex bytes text n pairs → IsIndex bytes text' n' pairs' → (text ≡ text') × (n ≡ n') × (pairs ≡ pairs')
 same_index bytes text text' n n' pairs pairs' a b =
     let layout = (ndx_header bytes).layout in
     let root = (ndx_header bytes).root in (
@@ -139,7 +139,7 @@ same_index bytes text text' n n' pairs pairs' a b =
     )
 
 pub file_for : (table : Table) (index : Indexed) (file : NdxFile) → IsTable table → IsIndexFor table.schema index
-    → IsIndex (index_bytes (index_of table index)) file.expr file.key_len file.pairs.items → IsFileFor table index file
+    → IsIndex (index_bytes (index_of table index)) file.expr file.key_len file.pairs.pairs → IsFileFor table index file
 file_for table index file t i read =
     let e : Expr = index.expr.expr in
     let same = same_index _ _ _ _ _ _ _ read (written_index table index t i) in

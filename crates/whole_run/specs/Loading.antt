@@ -56,7 +56,7 @@ pub record IsTableRead (files : Option (List NamedFile)) (name dbf : List ℕ) (
 pub record IsIndexRead (files : Option (List NamedFile)) (name ndx : List ℕ) (index : IndexSource) : Type 0 where
   pub bytes : List ℕ
   pub found : IsFileOf files ndx bytes
-  pub content : IsIndex bytes index.file.expr index.file.key_len index.file.pairs.items
+  pub content : IsIndex bytes index.file.expr index.file.key_len index.file.pairs.pairs
   pub named : index.name ≡ name
 
 -- the same table with one more index

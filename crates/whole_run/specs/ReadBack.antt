@@ -7,7 +7,7 @@ use Rattle.dbf_image.specs.Blocks.{memo_image}
 use Rattle.dbf_image.specs.DbfText.{IsDbf}
 use Rattle.key_expr.specs.Expression.{Expression}
 use Rattle.key_expr.specs.Rules.{IsKeyText}
-use Rattle.ndx_index.specs.declared.read.NdxFile.{NdxFile}
+use Rattle.ndx_index.specs.declared.ndx_file.NdxFile.{NdxFile}
 use Rattle.ndx_index.specs.Header.{IsIndex, trimmed_end}
 use Rattle.table_core.specs.Content.{Content, Indexed}
 use Rattle.catalogue_core.specs.declared.opening.TheConstants.{MAX_STATIONS}
@@ -50,12 +50,12 @@ TableReadsBack table = (year month day : ℕ) (read : Table) → IsDbf (image ta
 -- whatever is read from the file that is written of an index of this table is a file of this index
 abbrev pub IndexReadsBack : Table → Indexed → Type 0
 IndexReadsBack table index =
-    (file : NdxFile) → IsIndex (index_bytes (index_of table index)) file.expr file.key_len file.pairs.items → IsFileFor table index file
+    (file : NdxFile) → IsIndex (index_bytes (index_of table index)) file.expr file.key_len file.pairs.pairs → IsFileFor table index file
 
 -- an index is read from the file that was written of it
 pub record IsIndexReadBack (index : IndexContent) (source : IndexSource) : Type 0 where
   pub named : source.name ≡ index.name
-  pub read : IsIndex (index_bytes index) source.file.expr source.file.key_len source.file.pairs.items
+  pub read : IsIndex (index_bytes index) source.file.expr source.file.key_len source.file.pairs.pairs
 
 -- so are indexes, one by one
 abbrev pub AreIndexesReadBack : List IndexContent → List IndexSource → Type 0

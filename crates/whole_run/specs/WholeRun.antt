@@ -1,8 +1,9 @@
 -- A whole run, from a setup and its files to the files that are written.
-use Rattle.std.specs.Prelude.{◌≡◌, ◌≢◌, ◌⊎◌, ℕ, Bool, List, length, Option, Some, None, Result, Ok, Err}
+use Rattle.std.specs.Prelude.{◌≡◌, ◌≢◌, ◌⊎◌, ◌≤◌, ℕ, Bool, List, length, Option, Some, None, Result, Ok, Err}
 use Rattle.dbf_fields.specs.declared.day.Day.{Day}
 use Rattle.dbf_image.specs.Image.{IsOutside}
 use Rattle.byte_io.specs.Sink.{grown}
+use Rattle.catalogue_core.specs.declared.catalogue.TheConstants.{MAX_ENTRIES}
 use Rattle.catalogue_core.specs.declared.opening.OpenFault.{OpenFault}
 use Rattle.catalogue_core.specs.declared.opening.OpenFault.TheVariants.{NoMemory as NoMemoryToOpen}
 use Rattle.catalogue_core.specs.Opening.{Opening}
@@ -108,7 +109,7 @@ IsCutWriting files old new fault = Unit {0}
 -- ---- the whole
 
 -- what the setup names was read, the scripts were run, and these are the tables and answers that are left, and
--- the number of commands
+-- the number of commands: no more than a journal's entries may be
 pub record IsWholeRun (files : Option (List NamedFile)) (setup : List ℕ) (reindex : Bool) (tables : List ClosedTable) (answers : List (List ℕ)) (count : ℕ) : Type 0 where
   pub read : Read
   pub history : History
@@ -116,6 +117,7 @@ pub record IsWholeRun (files : Option (List NamedFile)) (setup : List ℕ) (rein
   pub run : IsRun reindex read history answers
   pub legal : IsLegal history.opened history.journal
   pub of_stations : AreOfStations history.opened history.journal
+  pub count_bounded : length history.journal ≤ MAX_ENTRIES
   pub handed : AreHandedOver history tables
   pub counted : count ≡ length history.journal
 

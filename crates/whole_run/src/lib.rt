@@ -3,7 +3,8 @@
 //! [`serve`] reads the setup and what it names, opens the catalogue, has the stations' scripts run and writes the
 //! files; where it does not come to its end, [`ServeFault`] says why. What a whole run is is defined in
 //! `specs/WholeRun.antt`; start reading there. Reading is in `load.rt`, and handing the closed tables over to the
-//! writing in `closing.rt`. [`open_setup`] opens the tables alone, and [`write_tables`] writes those of a catalogue.
+//! writing in `closing.rt`. [`open_setup`] opens the tables alone, which are the same at each reading ([`one_opening`]), and
+//! [`write_tables`] writes those of a catalogue.
 #![tactic(auto)]
 
 mod closing;
@@ -12,6 +13,7 @@ mod fault;
 mod journal;
 mod load;
 mod loaded;
+mod opened_again;
 mod opening;
 mod read_back;
 mod run;
@@ -19,6 +21,7 @@ mod with_journal;
 mod writing;
 
 pub use fault::{FileFault, ServeFault};
+pub use opened_again::one_opening;
 pub use opening::open_setup;
 pub use read_back::written_files_read_back;
 pub use run::serve;

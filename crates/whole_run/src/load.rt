@@ -88,7 +88,7 @@ fn read_content(
 
 // The index of the bytes of its file.
 fn read_index(alloc: Global, path: &Bytes, bytes: &Bytes) -> Result<NdxFile, ServeFault>
-    ensures read { IfOk result (λ file. IsIndex bytes.now file.expr file.key_len file.pairs.items) }
+    ensures read { IfOk result (λ file. IsIndex bytes.now file.expr file.key_len file.pairs.pairs) }
     ensures fault { IfErr result (IsIndexFault path.now bytes.now) }
 {
     match read_ndx(alloc, bytes.as_slice()) {

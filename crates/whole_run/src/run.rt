@@ -1,7 +1,8 @@
 //! The whole run: from a setup and its files to the written files.
 
-ghost use Rattle.std.specs.Prelude.{◌≡◌, ◌≢◌, ◌⊎◌, ℕ, List, [], None, Ok, Err, IfOk, IfErr, OnOk};
+ghost use Rattle.std.specs.Prelude.{◌≡◌, ◌≢◌, ◌⊎◌, ◌≤◌, ℕ, List, [], None, Ok, Err, IfOk, IfErr, OnOk};
 ghost use Rattle.byte_io.specs.Sink.{grown, Rises};
+ghost use Rattle.catalogue_core.specs.declared.catalogue.TheConstants.{MAX_ENTRIES};
 ghost use Rattle.station_files.specs.Closing.{run_files, first_blocked};
 ghost use Rattle.station_files.specs.Files.{listing};
 ghost use Rattle.station_lines.specs.Setup.{IndexesFollowTables};
@@ -94,7 +95,7 @@ pub(crate) fn write_files<F: Folder>(
 
 /// A whole run: reads the setup of a path and the files that it names, opens the tables for a station a script, runs
 /// the scripts, each in a thread of its own, and writes the tables, indexes and answers into the folder, dated. It
-/// answers the number of commands.
+/// answers the number of commands, which is `MAX_ENTRIES` at most.
 ///
 /// The setup is read whole first. Then, entry by entry, an entry's files are loaded and read; then the catalogue is
 /// opened, run and closed. The faults come in this order: see [`ServeFault`]. Before files are written nothing is
@@ -112,6 +113,7 @@ pub fn serve<S: Source, F: Folder, G: Gate + Sync, R: Threads + Wait + Sync>(
     // The files of the replay of a legal journal, whose commands are the scripts' lines, on what the setup names. What was
     // written opens as the run left it: see `written_files_read_back`.
     ensures ran { IfOk result (IsServed (S.files source.old) setup.now reindex today (F.written folder.old) (F.written folder.new)) }
+    ensures count_bounded { IfOk result (λ count. count ≤ MAX_ENTRIES) }
     ensures no_failure { OnOk result (F.failures folder.new ≡ F.failures folder.old) }
     ensures kept { S.files source.new ≡ S.files source.old }
     ensures fault { IfErr result (IsServeFault (S.files source.old) setup.now reindex today.year) }

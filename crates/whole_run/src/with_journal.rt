@@ -1,7 +1,8 @@
 //! The whole run whose journal is written too.
 
-ghost use Rattle.std.specs.Prelude.{◌≡◌, ℕ, List, Err, None, IfOk, IfErr, OnOk};
+ghost use Rattle.std.specs.Prelude.{◌≡◌, ◌≤◌, ℕ, List, Err, None, IfOk, IfErr, OnOk};
 ghost use Rattle.byte_io.specs.Sink.{grown, Rises};
+ghost use Rattle.catalogue_core.specs.declared.catalogue.TheConstants.{MAX_ENTRIES};
 ghost use Rattle.station_files.specs.Closing.{first_blocked};
 ghost use Rattle.station_files.specs.Files.{listing};
 ghost use Rattle.whole_run.specs.JournalFile.{all_files, IsCutFiles, IsServedWithJournal, IsCutRunWithJournal, UnlessBegun};
@@ -43,10 +44,10 @@ fn write_with_journal<F: Folder>(
 }
 
 /// A whole run as [`serve`] makes it, which writes one file more: after the tables, indexes and answers the journal, as
-/// JOURNAL.TXT. It answers the number of commands, which is that of the file's lines' entries.
+/// JOURNAL.TXT. It answers the number of commands, which is that of the file's lines' entries and `MAX_ENTRIES` at most.
 ///
-/// The journal is written entry by entry, so that its text is never whole in memory. The faults are those of [`serve`], in its order. Only `Close(Write(..))` and `NoMemory` may come when files are
-/// begun.
+/// The journal is written entry by entry, so that its text is never whole in memory. The faults are those of [`serve`], in
+/// its order. Only `Close(Write(..))` and `NoMemory` may come when files are begun.
 ///
 /// [`serve`]: crate::serve
 pub fn serve_with_journal<S: Source, F: Folder, G: Gate + Sync, R: Threads + Wait + Sync>(
@@ -61,6 +62,7 @@ pub fn serve_with_journal<S: Source, F: Folder, G: Gate + Sync, R: Threads + Wai
 ) -> Result<u64, ServeFault>
     // As `serve` has it; the last file has the text of the journal of which this speaks.
     ensures ran { IfOk result (IsServedWithJournal (S.files source.old) setup.now reindex today (F.written folder.old) (F.written folder.new)) }
+    ensures count_bounded { IfOk result (λ count. count ≤ MAX_ENTRIES) }
     ensures no_failure { OnOk result (F.failures folder.new ≡ F.failures folder.old) }
     ensures kept { S.files source.new ≡ S.files source.old }
     ensures fault { IfErr result (IsServeFault (S.files source.old) setup.now reindex today.year) }

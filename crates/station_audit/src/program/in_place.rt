@@ -1,6 +1,6 @@
 //! An audit over the folder of a disk, in which the tables at the journal's end take their places all together.
 
-ghost use Rattle.std.specs.Prelude.{◌≡◌, [], IfOk, IfErr, OnOk};
+ghost use Rattle.std.specs.Prelude.{◌≡◌, ◌<◌, [], IfOk, IfErr, IsErrOf, OnOk};
 ghost use Rattle.files_in_place.specs.Disk.{IsSynced};
 ghost use Rattle.station_audit.specs.Endings.{given_up_audit};
 ghost use Rattle.station_audit.specs.Program.{IsLoadFailure};
@@ -11,7 +11,7 @@ use crate::program::options::Options;
 use crate::program::writing::audit_into;
 use dbf_fields::Day;
 use files_in_place::{Disk, recover};
-use program_text::{give_up, unfinished, unrecovered};
+use program_text::{FolderFault, give_up, unfinished, unrecovered};
 use station_files::{DiskFolder, Source};
 use std::alloc::Global;
 
@@ -49,7 +49,9 @@ fn place_tables<S: Source, D: Disk + Drop>(
     requires written { folder.old.written ≡ [] }
     ensures placed { D.keeps_promises → IfOk result (AreInPlace (S.files source.old) options.now today (D.seen folder.new.set.disk)) }
     ensures synced { D.keeps_promises → OnOk result (IsSynced (D.seen folder.new.set.disk) (D.is_whole folder.new.set.disk) (D.may_leave folder.new.set.disk)) }
-    ensures fault { IfErr result (IsPlaceFailure (S.files source.old) options.now today.year) }
+    ensures fault { IfErr result (IsPlaceFailure (S.files source.old) options.now today) }
+    // The folder was recovered before.
+    ensures recovered { ¬ IsErrOf result (Failure.Folder FolderFault.Unrecovered) }
     ensures kept { S.files source.new ≡ S.files source.old }
     ensures loads { OnOk result (S.failures source.new ≡ S.failures source.old) }
     ensures failure { IfErr result (IsLoadFailure (S.files source.old) options.now (S.failures source.old) (S.failures source.new)) }
@@ -77,7 +79,9 @@ pub(crate) fn audit_in_place<S: Source, D: Disk + Drop>(
     // Where the disk keeps its promises, at Ok it has the files of the tables at the journal's end.
     ensures placed { D.keeps_promises → IfOk result.ended (AreInPlace (S.files source.old) options.now today (D.seen result.disk)) }
     ensures synced { D.keeps_promises → OnOk result.ended (IsSynced (D.seen result.disk) (D.is_whole result.disk) (D.may_leave result.disk)) }
-    ensures fault { IfErr result.ended (IsPlaceFailure (S.files source.old) options.now today.year) }
+    ensures fault { IfErr result.ended (IsPlaceFailure (S.files source.old) options.now today) }
+    // It is said that the folder was not recovered only where a call of the disk has failed.
+    ensures unrecovered { IsErrOf result.ended (Failure.Folder FolderFault.Unrecovered) → D.faults disk < D.faults result.disk }
     ensures kept { S.files source.new ≡ S.files source.old }
     ensures loads { OnOk result.ended (S.failures source.new ≡ S.failures source.old) }
     ensures failure { IfErr result.ended (IsLoadFailure (S.files source.old) options.now (S.failures source.old) (S.failures source.new)) }

@@ -1,6 +1,6 @@
 //! The whole run over the folder of a disk, whose new files take their places all together.
 
-ghost use Rattle.std.specs.Prelude.{◌≡◌, [], IfOk, IfErr, OnOk};
+ghost use Rattle.std.specs.Prelude.{◌≡◌, ◌<◌, [], IfOk, IfErr, IsErrOf, OnOk};
 ghost use Rattle.files_in_place.specs.Disk.{IsSynced};
 ghost use Rattle.station_server.specs.Program.{IsInPlace, IsLoadFailure, IsPlaceFault};
 
@@ -8,7 +8,7 @@ use crate::program::failure::Failure;
 use crate::program::options::Options;
 use crate::program::serving::serve_options;
 use files_in_place::{Disk, recover};
-use program_text::{give_up, unfinished, unrecovered};
+use program_text::{FolderFault, give_up, unfinished, unrecovered};
 use station_files::{DiskFolder, Source};
 use station_run::Gate;
 use std::alloc::Global;
@@ -37,6 +37,8 @@ fn serve_into<S: Source, D: Disk + Drop, G: Gate + Sync, R: Threads + Wait + Syn
     ensures placed { D.keeps_promises → IfOk result (IsInPlace (S.files source.old) options.now (D.seen folder.new.set.disk)) }
     ensures synced { D.keeps_promises → OnOk result (IsSynced (D.seen folder.new.set.disk) (D.is_whole folder.new.set.disk) (D.may_leave folder.new.set.disk)) }
     ensures fault { IfErr result (IsPlaceFault (S.files source.old) options.now) }
+    // The folder was recovered before.
+    ensures recovered { ¬ IsErrOf result (Failure.Folder FolderFault.Unrecovered) }
     ensures kept { S.files source.new ≡ S.files source.old }
     ensures loads { OnOk result (S.failures source.new ≡ S.failures source.old) }
     ensures failure { IfErr result (IsLoadFailure (S.files source.old) (S.failures source.old) (S.failures source.new)) }
@@ -65,6 +67,8 @@ pub(crate) fn serve_in_place<S: Source, D: Disk + Drop, G: Gate + Sync, R: Threa
     ensures placed { D.keeps_promises → IfOk result.ended (IsInPlace (S.files source.old) options.now (D.seen result.disk)) }
     ensures synced { D.keeps_promises → OnOk result.ended (IsSynced (D.seen result.disk) (D.is_whole result.disk) (D.may_leave result.disk)) }
     ensures fault { IfErr result.ended (IsPlaceFault (S.files source.old) options.now) }
+    // It is said that the folder was not recovered only where a call of the disk has failed.
+    ensures unrecovered { IsErrOf result.ended (Failure.Folder FolderFault.Unrecovered) → D.faults disk < D.faults result.disk }
     ensures kept { S.files source.new ≡ S.files source.old }
     // A file can't be read only where a load has failed, or where it is over the limit.
     ensures loads { OnOk result.ended (S.failures source.new ≡ S.failures source.old) }

@@ -9,7 +9,7 @@ use Rattle.table_core.specs.Content.{Content, Held}
 use Rattle.catalogue_core.specs.Replay.{History, names_of, state_of}
 use Rattle.station_files.specs.declared.closed.ClosedTable.{ClosedTable}
 use Rattle.whole_run.specs.HandedOver.{index_of, IsIndexFor, IsHandedOver, AreEndOf}
-use Rattle.whole_run.proofs.HandingLaws.{taken_count, taken_table, get_front, get_last}
+use Rattle.whole_run.proofs.HandingLaws.{taken_table, get_front, get_last}
 use Rattle.whole_run.proofs.closing.handed_over.Goals as goal
 
 pub loop-table-preserved : goal.loop-table-preserved

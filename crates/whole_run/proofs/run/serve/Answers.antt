@@ -4,7 +4,7 @@ use Rattle.whole_run.proofs.run.serve.Goals as goal
 
 pub returns-in_err-write_files-clause-fault : goal.returns-in_err-write_files-clause-fault
 returns-in_err-write_files-clause-fault g c =
-    let whole = whole_run _ _ _ _ _ _ _ c.in_ok-loaded.ensures.read c.in_ok-outcome.ensures.ran c.entry_count-count.ensures.legal c.entry_count-count.ensures.of_stations c.in_ok-tables.ensures.value in
+    let whole = whole_run _ _ _ _ _ _ _ c.in_ok-loaded.ensures.read c.in_ok-outcome.ensures.ran c.entry_count-count.ensures.legal c.entry_count-count.ensures.of_stations c.entry_count-count.ensures.count_bounded c.in_ok-tables.ensures.value in
     err_exit _ _ c.from_residual-in_err-write_files.ensures.1 (of_writing _ _ _ _ _ _ _ _ whole (rw c.deref.ensures.value at c.in_err-write_files.ensures.fault))
 
 pub returns-in_err-write_files-clause-no_file_begun : goal.returns-in_err-write_files-clause-no_file_begun
@@ -12,5 +12,5 @@ returns-in_err-write_files-clause-no_file_begun g c = err_exit _ _ c.from_residu
 
 pub returns-in_err-write_files-clause-whole_before_fault : goal.returns-in_err-write_files-clause-whole_before_fault
 returns-in_err-write_files-clause-whole_before_fault g c =
-    let whole = whole_run _ _ _ _ _ _ _ c.in_ok-loaded.ensures.read c.in_ok-outcome.ensures.ran c.entry_count-count.ensures.legal c.entry_count-count.ensures.of_stations c.in_ok-tables.ensures.value in
+    let whole = whole_run _ _ _ _ _ _ _ c.in_ok-loaded.ensures.read c.in_ok-outcome.ensures.ran c.entry_count-count.ensures.legal c.entry_count-count.ensures.of_stations c.entry_count-count.ensures.count_bounded c.in_ok-tables.ensures.value in
     err_exit _ _ c.from_residual-in_err-write_files.ensures.1 (cut_run _ _ _ c.args.today _ _ _ _ _ _ whole (rw c.deref.ensures.value at (rw c.deref-2.ensures.value at c.in_err-write_files.ensures.whole_before_fault)))

@@ -1,4 +1,4 @@
-use Rattle.station_server.proofs.InPlaceLaws.{given_up_fault, given_up_load, in_place, unplaced, unplaced_load}
+use Rattle.station_server.proofs.InPlaceLaws.{given_up_fault, given_up_load, in_place, recovered_before, served_whole, unplaced, unplaced_load}
 use Rattle.station_server.proofs.program.in_place.serve_into.Goals as goal
 
 pub returns-in-Ok-finish-clause-placed : goal.returns-in-Ok-finish-clause-placed
@@ -7,7 +7,12 @@ returns-in-Ok-finish-clause-placed g c promised =
     c.in-Ok.ensures.ran c.requires.written (c.in-Ok-finish.ensures.placed promised)
 
 pub returns-in-Err-finish-clause-fault : goal.returns-in-Err-finish-clause-fault
-returns-in-Err-finish-clause-fault g c = unplaced (g.S.Source.files c.args.source.now) c.args.options.now c.unfinished.result c.from.result c.from.ensures c.unfinished.ensures.of_open_folder
+returns-in-Err-finish-clause-fault g c =
+    unplaced (g.S.Source.files c.args.source.now) c.args.options.now c.unfinished.result c.from.result c.from.ensures c.unfinished.ensures.of_new_files
+    (served_whole (g.S.Source.files c.args.source.now) c.args.options.now c.in-Ok.count c.args.folder.now.written c.serve_options.new.folder.written c.in-Ok.ensures.ran c.requires.written)
+
+pub returns-in-Err-finish-clause-recovered : goal.returns-in-Err-finish-clause-recovered
+returns-in-Err-finish-clause-recovered g c = recovered_before c.unfinished.result c.from.result c.from.ensures c.unfinished.ensures.of_new_files
 
 pub returns-in-Err-finish-clause-failure : goal.returns-in-Err-finish-clause-failure
 returns-in-Err-finish-clause-failure g c = unplaced_load (g.S.Source.files c.args.source.now) _ _ c.unfinished.result c.from.result c.from.ensures c.in-Ok.ensures.loads

@@ -1,0 +1,12 @@
+//! What a setup names opens as the same tables, however often it is read.
+
+ghost use Rattle.std.specs.Prelude.{ℕ, List};
+ghost use Rattle.station_files.specs.declared.named.NamedFile.{NamedFile};
+ghost use Rattle.whole_run.specs.OpenedSetup.{HaveStill, OpensAsBefore, OpensAsOne};
+
+/// A law: what the setup of a path names opens as the same tables, for the same number of stations, whenever it is read from
+/// the same files, or from later ones that have each of these still. So a run's tables are opened again for its audit.
+pub fn one_opening()
+    ensures one { (files : List NamedFile) (setup : List ℕ) → OpensAsOne files setup }
+    ensures still { (files later : List NamedFile) (setup : List ℕ) → HaveStill files later → OpensAsBefore files later setup }
+{}
