@@ -12,7 +12,7 @@ use Rattle.ndx_index.specs.declared.pair.Pair.{Pair}
 use Rattle.ndx_index.specs.Header.{ndx_header}
 use Rattle.ndx_index.specs.NdxTree.{is_visited, none, at_leaf, at_inner, Holds, IsFileTree, Trees}
 use Rattle.ndx_index.specs.Pages.{Node, leaf, inner, is_page}
-use Rattle.index_tree.specs.declared.format.TheConstants.{PAGE}
+use Rattle.ndx_index.specs.declared.format.TheConstants.{PAGE}
 use Rattle.index_tree.specs.TreeText.{PagesTold, enough_levels, met_with, one_by_one, page_in, pages_told, pages_under, tree_under}
 use Rattle.index_tree.proofs.WalkSteps.{tree_step}
 

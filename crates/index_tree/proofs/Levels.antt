@@ -9,7 +9,7 @@ use Rattle.ndx_index.specs.declared.fault.NdxFault.TheVariants.{PageOutside, Pag
 use Rattle.ndx_index.specs.Header.{ndx_header}
 use Rattle.ndx_index.specs.NdxTree.{is_visited}
 use Rattle.ndx_index.specs.Pages.{Node, is_page, node_of, page_of}
-use Rattle.index_tree.specs.declared.format.TheConstants.{PAGE}
+use Rattle.ndx_index.specs.declared.format.TheConstants.{PAGE}
 use Rattle.index_tree.specs.PageText.{page_line}
 use Rattle.index_tree.specs.TreeText.{PagesTold, after_line, enough_levels, met_with, one_by_one, page_in, pages_under, told_after, tree_under}
 use Rattle.index_tree.proofs.GoodTree.{below_count, met_under}

@@ -10,7 +10,7 @@ use Rattle.byte_io.specs.declared.sink.writer.SinkWriter.{SinkWriter}
 use Rattle.table_text.specs.Output.{PutsAllBut}
 use Rattle.ndx_index.specs.declared.fault.NdxFault.{NdxFault}
 use Rattle.ndx_index.specs.Pages.{IsPageLayout, Node}
-use Rattle.index_tree.specs.declared.format.TheConstants.{PAGE}
+use Rattle.ndx_index.specs.declared.format.TheConstants.{PAGE}
 use Rattle.index_tree.specs.declared.layout.Layout.{Layout}
 use Rattle.index_tree.specs.declared.page.PageView.{PageView}
 use Rattle.index_tree.specs.declared.page.PageView.TheVariants.{Leaf, Inner, Broken}

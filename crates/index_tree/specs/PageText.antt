@@ -6,7 +6,8 @@ use Rattle.ndx_index.specs.declared.fault.NdxFault.{NdxFault}
 use Rattle.ndx_index.specs.declared.pair.Pair.{Pair}
 use Rattle.ndx_index.specs.Header.{ndx_header}
 use Rattle.ndx_index.specs.Pages.{Node, leaf, inner, children, leaf_pairs}
-use Rattle.index_tree.specs.declared.format.TheConstants.{LF, PAGE}
+use Rattle.index_tree.specs.declared.format.TheConstants.{LF}
+use Rattle.ndx_index.specs.declared.format.TheConstants.{PAGE}
 use Rattle.index_tree.specs.declared.layout.Layout.{Layout}
 use Rattle.index_tree.specs.declared.page.PageView.{PageView}
 use Rattle.index_tree.specs.declared.page.PageView.TheVariants.{Leaf, Inner, Broken}

@@ -4,7 +4,7 @@ use Rattle.ndx_index.specs.declared.fault.NdxFault.{NdxFault}
 use Rattle.ndx_index.specs.Header.{ndx_header}
 use Rattle.ndx_index.specs.NdxTree.{look}
 use Rattle.ndx_index.specs.Pages.{Node, leaf, inner}
-use Rattle.index_tree.specs.declared.format.TheConstants.{PAGE}
+use Rattle.ndx_index.specs.declared.format.TheConstants.{PAGE}
 use Rattle.index_tree.specs.HeaderText.{fault_line, header_text, layout_fault}
 use Rattle.index_tree.specs.PageText.{page_line}
 

@@ -6,14 +6,14 @@ ghost use Rattle.std.specs.List.{before_first, position, position_or_len};
 ghost use Rattle.byte_io.specs.Output.{Puts};
 ghost use Rattle.index_tree.specs.HeaderText.{expression_line, fault_line as line_of_fault, fault_words, flag_meaning, header_text, key_lines, number_line, size_lines, type_meaning};
 
-use crate::format::{
-    EXPRESSION_OFFSET, KEY_LENGTH_OFFSET, KEY_TYPE_OFFSET, LF, PAGE, PAGE_COUNT_OFFSET,
-    RECORD_SIZE_OFFSET, UNIQUE_FLAG_OFFSET,
-};
+use crate::format::{LF, PAGE_COUNT_OFFSET};
 use crate::layout::{u16_at, u32_at};
 use crate::shown::{put_number, put_quoted};
 use byte_io::{ByteSink, SinkWriter};
-use ndx_index::NdxFault;
+use ndx_index::{
+    EXPRESSION_OFFSET, KEY_LENGTH_OFFSET, KEY_TYPE_OFFSET, NdxFault, PAGE, RECORD_SIZE_OFFSET,
+    UNIQUE_FLAG_OFFSET,
+};
 
 /// What a fault is told as.
 pub(crate) fn words_of(fault: NdxFault) -> &'static [u8]

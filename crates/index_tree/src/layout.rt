@@ -6,10 +6,9 @@ ghost use Rattle.ndx_index.specs.Pages.{IsPageLayout, u32_at as number_of_four};
 ghost use Rattle.index_tree.specs.HeaderText.{layout_fault};
 ghost use Rattle.index_tree.specs.PageText.{sizes_of};
 
-use crate::format::{KEY_LENGTH_OFFSET, MAX_RECORDS_BYTES, PAGE, RECORD_SIZE_OFFSET};
 use byteorder::{ByteOrder, LittleEndian};
 use key_expr::MAX_KEY_BYTES;
-use ndx_index::NdxFault;
+use ndx_index::{KEY_LENGTH_OFFSET, MAX_RECORDS_BYTES, NdxFault, PAGE, RECORD_SIZE_OFFSET};
 
 /// How the key records of a page are laid out.
 #[derive(Clone, Copy)]

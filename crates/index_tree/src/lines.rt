@@ -7,13 +7,14 @@ ghost use Rattle.ndx_index.specs.Pages.{IsPageLayout, children, leaf_pairs};
 ghost use Rattle.index_tree.specs.PageText.{indent, inner_words, leaf_words, node_seen, page_line, page_words, sizes_of, IsWithinPage};
 ghost use Rattle.index_tree.specs.Shown.{keys_range};
 
-use crate::format::{LF, PAGE};
+use crate::format::LF;
 use crate::header::words_of;
 use crate::layout::Layout;
 use crate::page::{PageView, greatest_key, least_key};
 use crate::shown::{put_number, put_quoted};
 use byte_io::{ByteSink, SinkWriter};
 use dbf_fields::BLANK;
+use ndx_index::PAGE;
 
 // Two blanks for each level.
 fn put_indent<S: ByteSink>(out: &mut SinkWriter<'_, S>, depth: usize)

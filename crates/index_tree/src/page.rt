@@ -6,9 +6,8 @@ ghost use Rattle.ndx_index.specs.Pages.{IsPageLayout, child, is_null, leaf_pair,
 ghost use Rattle.index_tree.specs.PageText.{node_seen, sizes_of, IsWithinPage};
 ghost use Rattle.index_tree.specs.Shown.{is_less, least_key as least_of, greatest_key as greatest_of};
 
-use crate::format::PAGE;
 use crate::layout::{Layout, u32_at};
-use ndx_index::NdxFault;
+use ndx_index::{NdxFault, PAGE};
 
 /// What a page holds.
 #[derive(Clone, Copy)]

@@ -10,12 +10,11 @@ ghost use Rattle.index_tree.specs.PageText.{node_seen, sizes_of, IsWithinPage};
 ghost use Rattle.index_tree.specs.TreeText.{met_with, pages_text, pages_under};
 ghost use Rattle.index_tree.specs.Walk.{at_depth, IsFlagged, UnmetAfter};
 
-use crate::format::PAGE;
 use crate::layout::Layout;
 use crate::lines::put_page_line;
 use crate::page::{PageView, child_at, view_of};
 use byte_io::{ByteSink, SinkWriter};
-use ndx_index::NdxFault;
+use ndx_index::{NdxFault, PAGE};
 use std::alloc::{AllocError, Global};
 
 /// A page that is to be told.

@@ -13,6 +13,7 @@ use Rattle.office_check.specs.declared.fault.EntryFault.TheVariants.{CannotRead,
 use Rattle.dbf_image.specs.Growing.{Growing}
 use Rattle.office_check.specs.declared.finding.Finding.{Finding}
 use Rattle.office_check.specs.declared.finding.Finding.TheVariants.{Refused}
+use Rattle.office_check.specs.declared.load.LoadedTable.{LoadedTable}
 use Rattle.office_check.specs.Findings.{IsFinding, IsMemosLook, IsTableContent, IsTableLook, IsTableOf, AreFindingsAfter}
 use Rattle.office_check.specs.LoadCounts.{IsEntryLoad, AreEntryLoads}
 use Rattle.station_lines.specs.declared.setup.entry.SetupEntry.TheVariants.{Table, Index, Station}
@@ -20,7 +21,7 @@ use Rattle.station_lines.specs.Setup.{is_table_of}
 use Rattle.std.proofs.lemmas.Bool.{false≢true}
 use Rattle.office_check.specs.Looks.{IsKeptTable, AreKeptTables}
 use Rattle.key_expr.specs.Grammar.{Expr}
-use Rattle.ndx_index.specs.declared.read.NdxFile.{NdxFile}
+use Rattle.ndx_index.specs.declared.ndx_file.NdxFile.{NdxFile}
 use Rattle.office_check.specs.declared.freshness.IndexState.{IndexState}
 use Rattle.office_check.specs.declared.freshness.IndexState.TheVariants.{Fresh, NoTable as HasNoTable, NoExpression, OtherLength, Stale}
 use Rattle.office_check.specs.Freshness.{HasExpression, IsIndexState, IsIndexStateWith}
@@ -138,13 +139,13 @@ kept-next table i lt is =
     count_by_more_no (λ (row : Row). row.deleted) table.rows i (blank_row table.schema) lt (ap (λ (row : Row). row.deleted) (sym (next-row table i)) ∙ is)
 
 -- the table of files that were read
-pub look_of_read : (files : Option (List NamedFile)) (dbf : List ℕ) (dbt : Option (List ℕ)) (bytes : List ℕ) (memos : Option (List ℕ)) (look : Result Content EntryFault)
+pub look_of_read : (files : Option (List NamedFile)) (dbf : List ℕ) (dbt : Option (List ℕ)) (bytes : List ℕ) (memos : Option (List ℕ)) (look : Result LoadedTable EntryFault)
     → IsFileOf files dbf bytes → IsMemosLook files dbt (Ok memos) → IsTableContent bytes memos look → IsTableLook files dbf dbt look
-look_of_read files dbf dbt bytes memos (Ok table) f m h = (bytes, memos, f, m, h)
+look_of_read files dbf dbt bytes memos (Ok loaded) f m h = (bytes, memos, f, m, h)
 look_of_read files dbf dbt bytes memos (Err CannotRead) f m h = tt
-look_of_read files dbf dbt bytes memos (Err CannotReadMemos) f m h = let bad = h.3 in absurd cc
-look_of_read files dbf dbt bytes memos (Err (NoTable why)) f m h = (bytes, memos, f, m, h)
-look_of_read files dbf dbt bytes memos (Err (NoIndex why)) f m h = (bytes, memos, f, m, h)
+look_of_read files dbf dbt bytes memos (Err CannotReadMemos) f m h = let bad = h.5 in absurd cc
+look_of_read files dbf dbt bytes memos (Err (NoTable why details)) f m h = (bytes, memos, f, m, h)
+look_of_read files dbf dbt bytes memos (Err (NoIndex why numbers)) f m h = (bytes, memos, f, m, h)
 
 -- the state of a file whose key expression was read
 pub state_of_read : (table : Content) (file : NdxFile) (e : Expr) (state : IndexState) → HasExpression table file e → IsIndexStateWith table file e state → IsIndexState table file state

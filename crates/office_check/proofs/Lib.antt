@@ -2,3 +2,8 @@ pub mod FindingLaws
 pub mod AppendLaws
 pub mod TallyLaws
 pub mod DamageLaws
+pub mod TableFileLaws
+pub mod MemoBlockLaws
+pub mod TakerLaws
+pub mod BadMemoLaws
+pub mod HeaderLaws

@@ -7,7 +7,7 @@ use Rattle.dbf_image.specs.DbfText.{IsDbf}
 use Rattle.dbf_image.specs.Reading.{IsImageRefusal}
 use Rattle.dbf_image.specs.Table.{Table as Content}
 use Rattle.ndx_index.specs.declared.fault.NdxFault.TheVariants.{NoMemory as NoRoomForIndex}
-use Rattle.ndx_index.specs.declared.read.NdxFile.{NdxFile}
+use Rattle.ndx_index.specs.declared.ndx_file.NdxFile.{NdxFile}
 use Rattle.ndx_index.specs.Header.{IsIndex, HasNdxFault}
 use Rattle.station_files.specs.declared.named.NamedFile.{NamedFile}
 use Rattle.station_files.specs.Files.{IsFileOf}
@@ -22,6 +22,12 @@ use Rattle.office_check.specs.declared.finding.IndexFinding.{IndexFinding}
 use Rattle.office_check.specs.declared.freshness.IndexState.{IndexState}
 use Rattle.office_check.specs.declared.freshness.IndexState.TheVariants.{Fresh, NoTable as HasNoTable}
 use Rattle.office_check.specs.Freshness.{IsIndexState}
+use Rattle.office_check.specs.HeadNumbers.{index_numbers}
+use Rattle.office_check.specs.declared.table_file.TableDetails.{TableDetails}
+use Rattle.office_check.specs.declared.load.LoadedTable.{LoadedTable}
+use Rattle.office_check.specs.declared.table_file.memo_use.MemoUse.{MemoUse}
+use Rattle.office_check.specs.TableFile.{IsTableDetails}
+use Rattle.office_check.specs.MemoUse.{memo_use}
 use Rattle.office_check.specs.declared.finding.TableCounts.{TableCounts}
 
 -- ---- the files of an entry
@@ -34,33 +40,36 @@ IsMemosLook files None (Err fault) = ⊥
 IsMemosLook files (Some path) (Err fault) = fault ≡ CannotReadMemos
 
 -- the bytes of its two files are those of the table, or are refused as a table's
-abbrev pub IsTableContent : List ℕ → Option (List ℕ) → Result Content EntryFault → Type 0
-IsTableContent dbf memos (Ok table) = IsDbf dbf memos table
-IsTableContent dbf memos (Err fault) = (why : ImageFault) × (why ≢ NoRoomForTable) × IsImageRefusal why dbf memos × (fault ≡ NoTable why)
+abbrev pub IsTableContent : List ℕ → Option (List ℕ) → Result LoadedTable EntryFault → Type 0
+IsTableContent dbf memos (Ok loaded) = IsDbf dbf memos loaded.table × (loaded.memo_use ≡ memo_use dbf memos)
+IsTableContent dbf memos (Err fault) =
+    (why : ImageFault) × (details : TableDetails) × (why ≢ NoRoomForTable) × IsImageRefusal why dbf memos × IsTableDetails dbf memos details × (fault ≡ NoTable why details)
 
 -- the table of the files of these paths, or why there is none
-abbrev pub IsReadTable : Option (List NamedFile) → List ℕ → Option (List ℕ) → Result Content EntryFault → Type 0
+abbrev pub IsReadTable : Option (List NamedFile) → List ℕ → Option (List ℕ) → Result LoadedTable EntryFault → Type 0
 IsReadTable files dbf dbt look =
     (bytes : List ℕ) × (memos : Option (List ℕ)) × IsFileOf files dbf bytes × IsMemosLook files dbt (Ok memos) × IsTableContent bytes memos look
 
-abbrev pub IsTableLook : Option (List NamedFile) → List ℕ → Option (List ℕ) → Result Content EntryFault → Type 0
+abbrev pub IsTableLook : Option (List NamedFile) → List ℕ → Option (List ℕ) → Result LoadedTable EntryFault → Type 0
 IsTableLook files dbf dbt (Err CannotRead) = Unit {0}
 IsTableLook files dbf dbt (Err CannotReadMemos) = IsMemosLook files dbt (Err CannotReadMemos)
 IsTableLook files dbf dbt look = IsReadTable files dbf dbt look
 
 -- the index of the file of a path, or why there is none
 abbrev pub IsIndexLook : Option (List NamedFile) → List ℕ → Result NdxFile EntryFault → Type 0
-IsIndexLook files ndx (Ok file) = (bytes : List ℕ) × IsFileOf files ndx bytes × IsIndex bytes file.expr file.key_len file.pairs.items
+IsIndexLook files ndx (Ok file) = (bytes : List ℕ) × IsFileOf files ndx bytes × IsIndex bytes file.expr file.key_len file.pairs.pairs
 IsIndexLook files ndx (Err CannotRead) = Unit {0}
-IsIndexLook files ndx (Err (NoIndex fault)) = (fault ≢ NoRoomForIndex) × (bytes : List ℕ) × IsFileOf files ndx bytes × HasNdxFault bytes fault
+IsIndexLook files ndx (Err (NoIndex fault numbers)) =
+    (fault ≢ NoRoomForIndex) × (bytes : List ℕ) × IsFileOf files ndx bytes × HasNdxFault bytes fault × (numbers ≡ index_numbers bytes)
 IsIndexLook files ndx (Err fault) = ⊥
 
 -- ---- what is found
 
--- all records, and those that are marked as deleted
-pub record IsCounts (table : Content) (counts : TableCounts) : Type 0 where
+-- all records, those that are marked as deleted, and how the memos take the blocks of their file
+pub record IsCounts (table : Content) (used : Option MemoUse) (counts : TableCounts) : Type 0 where
   pub all : counts.records ≡ length table.rows
   pub marked : counts.marked ≡ count_by (λ row. row.deleted) table.rows
+  pub memos : counts.memo_use ≡ used
 
 -- where the first entry of a table of this name stands
 abbrev pub first_table : List ℕ → List SetupEntry → Option ℕ
@@ -68,7 +77,7 @@ first_table name entries = position (is_table_of name) entries
 
 -- the files of a table's entry are those of this table
 abbrev pub IsTableOf : Option (List NamedFile) → SetupEntry → Content → Type 0
-IsTableOf files (Table name dbf dbt) table = IsTableLook files dbf dbt (Ok table)
+IsTableOf files (Table name dbf dbt) table = (used : Option MemoUse) × IsTableLook files dbf dbt (Ok (record { table = table; memo_use = used }))
 IsTableOf files (Index own name ndx) table = ⊥
 IsTableOf files (Station script) table = ⊥
 
@@ -92,11 +101,11 @@ IsBeside files before findings name file state = (table : Content) × IsNamed fi
 
 abbrev pub IsIndexFinding : Option (List NamedFile) → List SetupEntry → List Finding → List ℕ → List ℕ → IndexFinding → Type 0
 IsIndexFinding files before findings table ndx found =
-    (file : NdxFile) × IsIndexLook files ndx (Ok file) × (found.keys ≡ length file.pairs.items) × IsBeside files before findings table file found.state
+    (file : NdxFile) × IsIndexLook files ndx (Ok file) × (found.keys ≡ length file.pairs.pairs) × IsBeside files before findings table file found.state
 
 -- what is found at an entry after others: what its files are, or why they are refused
 abbrev pub IsFinding : Option (List NamedFile) → List SetupEntry → List Finding → SetupEntry → Finding → Type 0
-IsFinding files before findings (Table name dbf dbt) (found.Table counts) = (table : Content) × IsTableLook files dbf dbt (Ok table) × IsCounts table counts
+IsFinding files before findings (Table name dbf dbt) (found.Table counts) = (loaded : LoadedTable) × IsTableLook files dbf dbt (Ok loaded) × IsCounts loaded.table loaded.memo_use counts
 IsFinding files before findings (Table name dbf dbt) (found.Refused fault) = IsTableLook files dbf dbt (Err fault)
 IsFinding files before findings (Index table name ndx) (found.Index index) = IsIndexFinding files before findings table ndx index
 IsFinding files before findings (Index table name ndx) (found.Refused fault) = IsIndexLook files ndx (Err fault)

@@ -5,7 +5,7 @@ use Rattle.key_expr.specs.declared.fault.ExprFault.TheVariants.{NoMemory}
 use Rattle.key_expr.specs.Grammar.{Expr}
 use Rattle.key_expr.specs.Keys.{key_length}
 use Rattle.key_expr.specs.Rules.{IsKeyText, IsFault}
-use Rattle.ndx_index.specs.declared.read.NdxFile.{NdxFile}
+use Rattle.ndx_index.specs.declared.ndx_file.NdxFile.{NdxFile}
 use Rattle.ndx_index.specs.TableOrder.{pairs_of}
 use Rattle.office_check.specs.Damage.{damage_of}
 use Rattle.office_check.specs.declared.freshness.IndexState.{IndexState}
@@ -21,14 +21,14 @@ HasLength table file e = file.key_len ≡ key_length table.schema e
 
 -- its pairs are those of the table's records, each as often
 abbrev pub HasPairs : Table → NdxFile → Expr → Type 0
-HasPairs table file e = IsPermutation (pairs_of table e) file.pairs.items
+HasPairs table file e = IsPermutation (pairs_of table e) file.pairs.pairs
 
 -- what a file of this key expression is beside a table
 abbrev pub IsIndexStateWith : Table → NdxFile → Expr → IndexState → Type 0
 IsIndexStateWith table file e NoTable = ⊥
 IsIndexStateWith table file e (NoExpression fault) = ⊥
 IsIndexStateWith table file e (OtherLength own wanted) = (own ≡ file.key_len) × (wanted ≡ key_length table.schema e) × (HasLength table file e → ⊥)
-IsIndexStateWith table file e (Stale damage) = HasLength table file e × (HasPairs table file e → ⊥) × (damage ≡ damage_of table e file.pairs.items)
+IsIndexStateWith table file e (Stale damage) = HasLength table file e × (HasPairs table file e → ⊥) × (damage ≡ damage_of table e file.pairs.pairs)
 IsIndexStateWith table file e Fresh = HasLength table file e × HasPairs table file e
 
 -- what a file is beside a table

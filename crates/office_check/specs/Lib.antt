@@ -3,6 +3,9 @@ pub mod Tallies
 pub mod Freshness
 pub mod Findings
 pub mod Looks
+pub mod HeadNumbers
+pub mod TableFile
+pub mod MemoUse
 pub mod ShownKey
 pub mod Lines
 pub mod LoadCounts

@@ -19,6 +19,16 @@ use Rattle.office_check.specs.declared.finding.Finding.TheVariants as found
 use Rattle.office_check.specs.declared.finding.TableCounts.{TableCounts}
 use Rattle.office_check.specs.declared.freshness.IndexState.{IndexState}
 use Rattle.office_check.specs.declared.freshness.IndexState.TheVariants.{Fresh, NoTable as HasNoTable, NoExpression, OtherLength, Stale}
+use Rattle.office_check.specs.declared.head_numbers.IndexNumbers.{IndexNumbers}
+use Rattle.office_check.specs.declared.table_file.TableDetails.{TableDetails}
+use Rattle.office_check.specs.declared.table_file.bad_field.BadField.{BadField}
+use Rattle.office_check.specs.declared.table_file.memo_cells.MemoCell.{MemoCell}
+use Rattle.office_check.specs.declared.table_file.memo_use.MemoUse.{MemoUse}
+use Rattle.office_check.specs.declared.table_file.memo_use.SharedBlock.{SharedBlock}
+use Rattle.dbf_fields.specs.declared.schema.SchemaFault.{SchemaFault}
+use Rattle.dbf_fields.specs.declared.schema.SchemaFault.TheVariants as schema
+use Rattle.office_check.specs.HeadNumbers.{wanted_length}
+use Rattle.ndx_index.specs.declared.format.TheConstants.{PAGE}
 use Rattle.office_check.specs.ShownKey.{shown_key}
 
 -- why bytes are no table
@@ -63,11 +73,58 @@ abbrev pub offset_words : ExprFault → List ℕ
 offset_words (expression.BadSyntax offset) = codes " at offset " ++ decimal offset
 offset_words _ = []
 
+-- why the fields up to one are no schema
+abbrev pub field_refusal : SchemaFault → List ℕ
+field_refusal schema.BadFieldCount = codes "it is one too many"
+field_refusal schema.BadName = codes "its name is bad"
+field_refusal schema.DuplicateName = codes "it has the name of an earlier one"
+field_refusal schema.BadKind = codes "it is of no known kind"
+field_refusal schema.BadWidth = codes "its width is bad"
+field_refusal schema.RecordTooLong = codes "with it a record is too long"
+field_refusal schema.NoMemory = codes "out of memory"
+
+-- the first such field, where there is one
+abbrev pub bad_field_words : Option BadField → List ℕ
+bad_field_words None = []
+bad_field_words (Some bad) = codes ": field " ++ (decimal bad.field ++ (codes ": " ++ field_refusal bad.why))
+
+-- the block that a memo's cell names
+abbrev pub block_words : Option ℕ → List ℕ
+block_words None = []
+block_words (Some block) = codes ", block " ++ decimal block
+
+-- where the first memo stands that is refused
+abbrev pub bad_memo_words : Option MemoCell → List ℕ
+bad_memo_words None = []
+bad_memo_words (Some cell) = codes ": record " ++ (decimal cell.record_number ++ (codes ", field " ++ (decimal cell.field_number ++ block_words cell.block)))
+
+-- what is told of a table beside why it is refused: the numbers of the header that it is about, or where it is
+abbrev pub table_detail_words : ImageFault → TableDetails → List ℕ
+table_detail_words image.Truncated details = codes ": " ++ (decimal details.numbers.file_length ++ (codes " bytes, not " ++ decimal (wanted_length details.numbers)))
+table_detail_words image.BadVersion details = codes ": " ++ decimal details.numbers.version
+table_detail_words image.BadHeaderLength details = codes ": " ++ decimal details.numbers.header_length
+table_detail_words image.BadSchema details = bad_field_words details.bad_field
+table_detail_words image.BadRecordLength details = codes ": " ++ decimal details.numbers.record_length
+table_detail_words image.TooManyRecords details = codes ": " ++ decimal details.numbers.record_count
+table_detail_words image.BadMemoNumber details = bad_memo_words details.bad_memo
+table_detail_words image.MemoOutside details = bad_memo_words details.bad_memo
+table_detail_words image.MemoTooLong details = bad_memo_words details.bad_memo
+table_detail_words why details = []
+
+-- the numbers of an index's header that its refusal is about
+abbrev pub index_number_words : NdxFault → IndexNumbers → List ℕ
+index_number_words index.Truncated numbers = codes ": " ++ (decimal numbers.file_length ++ (codes " bytes, not " ++ decimal PAGE))
+index_number_words index.NumericIndex numbers = codes ": type " ++ decimal numbers.key_type
+index_number_words index.UniqueIndex numbers = codes ": flag " ++ decimal numbers.unique_flag
+index_number_words index.BadKeyLength numbers = codes ": " ++ decimal numbers.key_length
+index_number_words index.BadRecordSize numbers = codes ": " ++ (decimal numbers.record_size ++ (codes " bytes for keys of " ++ decimal numbers.key_length))
+index_number_words why numbers = []
+
 abbrev pub refusal_words : EntryFault → List ℕ
 refusal_words CannotRead = codes "can't be read"
 refusal_words CannotReadMemos = codes "can't be read"
-refusal_words (NoTable why) = codes "no table: " ++ table_refusal why
-refusal_words (NoIndex why) = codes "no index: " ++ index_refusal why
+refusal_words (NoTable why details) = codes "no table: " ++ (table_refusal why ++ table_detail_words why details)
+refusal_words (NoIndex why numbers) = codes "no index: " ++ (index_refusal why ++ index_number_words why numbers)
 
 -- the length of the keys and that of the expression's
 abbrev pub length_words : ℕ → ℕ → List ℕ
@@ -116,6 +173,22 @@ state_rest _ = []
 abbrev pub state_words : IndexState → List ℕ
 state_words state = state_begin state ++ state_rest state
 
+-- the blocks that no memo takes, where there are some
+abbrev pub unnamed_words : ℕ → Option ℕ → List ℕ
+unnamed_words count None = []
+unnamed_words count (Some first) = codes "; " ++ (decimal count ++ (codes " of no record, the first " ++ decimal first))
+
+-- the blocks that more than one memo takes, where there are some
+abbrev pub shared_words : ℕ → Option SharedBlock → List ℕ
+shared_words count None = []
+shared_words count (Some first) =
+    codes "; " ++ (decimal count ++ (codes " shared, the first " ++ (decimal first.block ++ (codes " of records " ++ (decimal first.first_record ++ (codes " and " ++ decimal first.second_record))))))
+
+-- how the memos take the blocks of their file
+abbrev pub memo_use_words : Option MemoUse → List ℕ
+memo_use_words None = codes "good"
+memo_use_words (Some used) = decimal used.blocks ++ (codes " blocks: good" ++ (unnamed_words used.unnamed used.first_unnamed ++ shared_words used.shared used.first_shared))
+
 -- what was found
 abbrev pub finding_words : Finding → List ℕ
 finding_words (found.Table counts) = counts_words counts
@@ -142,7 +215,7 @@ words_line name path words = name ++ (codes "  " ++ (path ++ (codes "  " ++ (wor
 
 -- a line of its own for the memos of a table that is good
 abbrev pub memos_line : SetupEntry → Finding → List ℕ
-memos_line (Table name dbf (Some dbt)) (found.Table counts) = words_line name dbt (codes "good")
+memos_line (Table name dbf (Some dbt)) (found.Table counts) = words_line name dbt (memo_use_words counts.memo_use)
 memos_line entry finding = []
 
 abbrev pub entry_lines : SetupEntry → Finding → List ℕ

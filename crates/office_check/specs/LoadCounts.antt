@@ -1,8 +1,8 @@
 -- What happens to the count of loads that failed.
 use Rattle.std.specs.Prelude.{◌≡◌, ◌⊎◌, ℕ, List, [], ◌∷◌, Option, Some, None, Result, Err}
 use Rattle.byte_io.specs.Sink.{Rises}
-use Rattle.dbf_image.specs.Table.{Table as Content}
-use Rattle.ndx_index.specs.declared.read.NdxFile.{NdxFile}
+use Rattle.office_check.specs.declared.load.LoadedTable.{LoadedTable}
+use Rattle.ndx_index.specs.declared.ndx_file.NdxFile.{NdxFile}
 use Rattle.station_files.specs.declared.named.NamedFile.{NamedFile}
 use Rattle.station_files.specs.Files.{IsTooLong}
 use Rattle.station_lines.specs.declared.setup.entry.SetupEntry.{SetupEntry}
@@ -27,7 +27,7 @@ IsMemosLoad files (Some path) before after (Err fault) = IsFailedLoad files path
 IsMemosLoad files path before after look = after ≡ before
 
 -- of the two files of a table
-abbrev pub IsTableLoad : Option (List NamedFile) → List ℕ → Option (List ℕ) → Option ℕ → Option ℕ → Result Content EntryFault → Type 0
+abbrev pub IsTableLoad : Option (List NamedFile) → List ℕ → Option (List ℕ) → Option ℕ → Option ℕ → Result LoadedTable EntryFault → Type 0
 IsTableLoad files dbf dbt before after (Err CannotRead) = IsFailedLoad files dbf before after
 IsTableLoad files dbf (Some dbt) before after (Err CannotReadMemos) = IsFailedLoad files dbt before after
 IsTableLoad files dbf dbt before after look = after ≡ before

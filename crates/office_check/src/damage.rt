@@ -1,13 +1,12 @@
 //! In what the pairs of an index's file differ from those of its table's records.
 
-ghost use Rattle.std.specs.Prelude.{◌≡◌, ◌+◌, ◌<◌, ◌≤◌, ◌∷◌, ◌++◌, [], List, length, bytes_eq, IfOk, slice_index_or, ◌↔◌, IsTrue, IsPermutation};
+ghost use Rattle.std.specs.Prelude.{◌≡◌, ◌+◌, ◌<◌, ◌≤◌, ◌∷◌, ◌++◌, [], List, length, bytes_eq, IfOk, ◌↔◌, IsTrue, IsPermutation};
 ghost use Rattle.dbf_image.specs.Table.{Table, row_at};
 ghost use Rattle.key_expr.specs.Grammar.{Expr};
 ghost use Rattle.key_expr.specs.Keys.{key};
-ghost use Rattle.key_expr.specs.declared.format.TheConstants.{MAX_KEY_BYTES};
 ghost use Rattle.ndx_index.specs.declared.pair.Pair.{Pair as PairValue};
 ghost use Rattle.ndx_index.specs.TableOrder.{pairs_of};
-ghost use Rattle.office_check.specs.Damage.{IsUndamaged, damage_of as damage_in, first_foreign as first_in, foreign_count, has_record as is_number_of};
+ghost use Rattle.office_check.specs.Damage.{IsUndamaged, damage_of as damage_in, first_foreign as first_in, foreign_count, foreign_pair as foreign_pair_in, has_record as is_number_of};
 ghost use Rattle.office_check.specs.Damage.{is_record_pair as is_pair_of, key_of_number as key_in};
 ghost use Rattle.office_check.specs.Tallies.{IsTally};
 
@@ -16,7 +15,7 @@ mod tally;
 use crate::damage::tally::Tally;
 use dbf_image::GrowingTable;
 use key_expr::{Key, KeyExpr};
-use ndx_index::Pair;
+use ndx_index::{Pair, PairList};
 use std::alloc::{AllocError, Global};
 
 /// A pair of an index's file that isn't that of the record of its number.
@@ -43,23 +42,6 @@ pub struct IndexDamage {
     pub doubled: usize,
     /// The first pair that isn't its record's.
     pub first_foreign: Option<ForeignPair>,
-}
-
-// The record number of a pair, which is given by its index.
-fn number_at(pairs: &[Pair], index: usize) -> u32
-    requires inside { index < length pairs.now }
-    ensures value { (d : PairValue) → result ≡ (slice_index_or pairs.now index d).number }
-{
-    pairs[index].number
-}
-
-// The bytes of its key.
-fn key_at(pairs: &[Pair], index: usize) -> &[u8]
-    requires inside { index < length pairs.now }
-    ensures value { (d : PairValue) → result.now ≡ (slice_index_or pairs.now index d).key }
-    ensures short { length result.now ≤ MAX_KEY_BYTES }
-{
-    pairs[index].key.as_bytes()
 }
 
 // Whether there is a record of the number.
@@ -121,34 +103,45 @@ fn tally_of(
     alloc: Global,
     records: &GrowingTable,
     expr: &KeyExpr,
-    pairs: &[Pair],
+    pairs: &PairList,
 ) -> Result<Tally, AllocError>
     requires fields { expr.now.fields ≡ records.now.table.schema }
-    ensures counted { IfOk result (IsTally records.now.table expr.now.expr pairs.now) }
+    ensures counted { IfOk result (IsTally records.now.table expr.now.expr pairs.now.pairs) }
 {
     let mut tally = Tally::new(alloc, records.record_count() as usize)?;
     for i in 0..pairs.len() {
-        let number = number_at(pairs, i);
-        count_pair(&mut tally, records, expr, number, key_at(pairs, i));
+        let number = pairs.number(i);
+        count_pair(&mut tally, records, expr, number, pairs.key(i));
     }
     Ok(tally)
 }
 
-// The first pair that isn't its record's.
-fn first_foreign(records: &GrowingTable, expr: &KeyExpr, pairs: &[Pair]) -> Option<ForeignPair>
+// The pair of this number in the file, which isn't its record's.
+fn foreign_pair(
+    records: &GrowingTable,
+    expr: &KeyExpr,
+    pair_number: usize,
+    pair: Pair,
+) -> ForeignPair
     requires fields { expr.now.fields ≡ records.now.table.schema }
-    ensures value { result ≡ first_in records.now.table expr.now.expr pairs.now }
+    ensures value { result ≡ foreign_pair_in records.now.table expr.now.expr pair_number pair }
+{
+    ForeignPair {
+        pair_number,
+        record_number: pair.number,
+        key: pair.key,
+        record_key: key_of_number(records, expr, pair.number),
+    }
+}
+
+// The first pair that isn't its record's.
+fn first_foreign(records: &GrowingTable, expr: &KeyExpr, pairs: &PairList) -> Option<ForeignPair>
+    requires fields { expr.now.fields ≡ records.now.table.schema }
+    ensures value { result ≡ first_in records.now.table expr.now.expr pairs.now.pairs }
 {
     for i in 0..pairs.len() {
-        let number = number_at(pairs, i);
-        let bytes = key_at(pairs, i);
-        if !is_record_pair(records, expr, number, bytes) {
-            return Some(ForeignPair {
-                pair_number: i + 1,
-                record_number: number,
-                key: Key::new(bytes),
-                record_key: key_of_number(records, expr, number),
-            });
+        if !is_record_pair(records, expr, pairs.number(i), pairs.key(i)) {
+            return Some(foreign_pair(records, expr, i + 1, pairs.get(i)));
         }
     }
     None
@@ -159,11 +152,11 @@ fn first_of(
     foreign: usize,
     records: &GrowingTable,
     expr: &KeyExpr,
-    pairs: &[Pair],
+    pairs: &PairList,
 ) -> Option<ForeignPair>
     requires fields { expr.now.fields ≡ records.now.table.schema }
-    requires counted { foreign ≡ foreign_count records.now.table expr.now.expr pairs.now }
-    ensures value { result ≡ first_in records.now.table expr.now.expr pairs.now }
+    requires counted { foreign ≡ foreign_count records.now.table expr.now.expr pairs.now.pairs }
+    ensures value { result ≡ first_in records.now.table expr.now.expr pairs.now.pairs }
 {
     if foreign == 0 {
         return None;
@@ -179,10 +172,10 @@ pub(crate) fn damage_of(
     alloc: Global,
     records: &GrowingTable,
     expr: &KeyExpr,
-    pairs: &[Pair],
+    pairs: &PairList,
 ) -> Result<IndexDamage, AllocError>
     requires fields { expr.now.fields ≡ records.now.table.schema }
-    ensures value { IfOk result (λ damage. damage ≡ damage_in records.now.table expr.now.expr pairs.now) }
+    ensures value { IfOk result (λ damage. damage ≡ damage_in records.now.table expr.now.expr pairs.now.pairs) }
 {
     let tally = tally_of(alloc, records, expr, pairs)?;
     Ok(IndexDamage {

@@ -1,5 +1,7 @@
 //! Why the files of an entry are refused.
 
+use crate::head_numbers::IndexNumbers;
+use crate::table_file::TableDetails;
 use dbf_image::ImageFault;
 use ndx_index::NdxFault;
 
@@ -10,8 +12,8 @@ pub enum EntryFault {
     CannotRead,
     /// The same is true of the file of a table's memos.
     CannotReadMemos,
-    /// The bytes are no table.
-    NoTable(ImageFault),
-    /// The bytes are no index.
-    NoIndex(NdxFault),
+    /// The bytes are no table, and this is told of them.
+    NoTable(ImageFault, TableDetails),
+    /// The bytes are no index, and these are the numbers at their head.
+    NoIndex(NdxFault, IndexNumbers),
 }

@@ -2,14 +2,17 @@
 
 use crate::fault::EntryFault;
 use crate::freshness::IndexState;
+use crate::table_file::MemoUse;
 
-/// How many records a table has.
+/// How many records a table has, and how its memos take the blocks of their file.
 #[derive(Clone, Copy, Debug, PartialEq, Eq)]
 pub struct TableCounts {
     /// All of them.
     pub records: u32,
     /// Those that are marked as deleted.
     pub marked: u32,
+    /// How the memos take the blocks of their file, where one is named.
+    pub memo_use: Option<MemoUse>,
 }
 
 /// What an index's file is.

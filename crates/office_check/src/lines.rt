@@ -2,81 +2,27 @@
 
 ghost use Rattle.std.specs.Prelude.{◌≡◌, ◌++◌, length, IfOk, OnOk};
 ghost use Rattle.std.specs.Fmt.{decimal};
-ghost use Rattle.office_check.specs.Lines.{counts_words, expression_refusal, finding_words, index_refusal, length_words, offset_words, refusal_words, table_refusal};
+ghost use Rattle.office_check.specs.Lines.{counts_words, expression_refusal, finding_words, length_words, offset_words};
 ghost use Rattle.office_check.specs.Lines.{damage_counts, damage_words, first_words, foreign_words, record_key_words};
 ghost use Rattle.office_check.specs.Lines.{state_begin as begin_of_state, state_rest, state_words};
 ghost use Rattle.office_check.specs.ShownKey.{shown_key};
 ghost use Rattle.office_check.specs.Lines.{entry_lines, entry_name as name_in, entry_path as path_in, setup_lines, memos_line, words_line};
 
+mod memo_blocks;
+mod numbers;
+mod refusal;
+
 use crate::damage::{ForeignPair, IndexDamage};
 use crate::fault::EntryFault;
 use crate::finding::{Finding, TableCounts};
 use crate::freshness::IndexState;
+use crate::lines::memo_blocks::append_memo_use;
+use crate::lines::numbers::append_number;
+use crate::lines::refusal::append_refusal;
 use crate::shown_key::append_key;
-use dbf_image::ImageFault;
 use key_expr::{ExprFault, Key};
-use ndx_index::NdxFault;
 use station_lines::{LF, SetupEntry};
 use std::alloc::{AllocError, Global};
-
-fn table_words(why: ImageFault) -> &'static [u8]
-    ensures value { result.now ≡ table_refusal why }
-{
-    match why {
-        ImageFault::Truncated => b"the file is too short",
-        ImageFault::BadVersion => b"the file is of no known version",
-        ImageFault::BadHeaderLength => b"the header's length is bad",
-        ImageFault::BadSchema => b"the fields are no schema",
-        ImageFault::BadRecordLength => b"the records' length is bad",
-        ImageFault::TooManyRecords => b"there are too many records",
-        ImageFault::MemoFileMissing => b"the file of memos is missing",
-        ImageFault::BadMemoNumber => b"a memo's number is bad",
-        ImageFault::MemoOutside => b"a memo is outside its file",
-        ImageFault::MemoTooLong => b"a memo is too long",
-        ImageFault::NoMemory => b"out of memory",
-    }
-}
-
-fn index_words(why: NdxFault) -> &'static [u8]
-    ensures value { result.now ≡ index_refusal why }
-{
-    match why {
-        NdxFault::Truncated => b"the file is shorter than a header page",
-        NdxFault::NumericIndex => b"the keys are numbers or dates",
-        NdxFault::UniqueIndex => b"the index leaves out equal keys",
-        NdxFault::BadKeyLength => b"the key length is none of 1 to 100",
-        NdxFault::BadRecordSize => b"the size of a key record is impossible",
-        NdxFault::PageOutside => b"a page lies outside the file",
-        NdxFault::PageTwice => b"a page is met twice",
-        NdxFault::TooManyEntries => b"a page has too many entries",
-        NdxFault::MixedPage => b"a page is neither a leaf nor an inner page",
-        NdxFault::NoMemory => b"out of memory",
-    }
-}
-
-fn append_refusal(text: &mut Vec<u8>, fault: EntryFault) -> Result<(), AllocError>
-    ensures ok { OnOk result (text.new.items ≡ text.old.items ++ refusal_words fault) }
-{
-    match fault {
-        EntryFault::CannotRead => text.extend_from_slice(b"can't be read"),
-        EntryFault::CannotReadMemos => text.extend_from_slice(b"can't be read"),
-        EntryFault::NoTable(why) => {
-            text.extend_from_slice(b"no table: ")?;
-            text.extend_from_slice(table_words(why))
-        }
-        EntryFault::NoIndex(why) => {
-            text.extend_from_slice(b"no index: ")?;
-            text.extend_from_slice(index_words(why))
-        }
-    }
-}
-
-fn append_number(alloc: Global, text: &mut Vec<u8>, number: usize) -> Result<(), AllocError>
-    ensures ok { OnOk result (text.new.items ≡ text.old.items ++ decimal number) }
-{
-    let digits = format!(in alloc; "{number}")?;
-    text.extend_from_slice(digits.as_bytes())
-}
 
 fn append_counts(alloc: Global, text: &mut Vec<u8>, counts: TableCounts) -> Result<(), AllocError>
     ensures ok { OnOk result (text.new.items ≡ text.old.items ++ counts_words counts) }
@@ -245,7 +191,7 @@ fn append_finding(alloc: Global, text: &mut Vec<u8>, finding: &Finding) -> Resul
             append_state(alloc, text, &index.state)
         }
         Finding::Script => text.extend_from_slice(b"good"),
-        Finding::Refused(fault) => append_refusal(text, *fault),
+        Finding::Refused(fault) => append_refusal(alloc, text, *fault),
     }
 }
 
@@ -288,6 +234,7 @@ fn append_line(text: &mut Vec<u8>, name: &[u8], path: &[u8], words: &[u8]) -> Re
 
 // The line of the memos of a table that is good.
 fn append_memo_line(
+    alloc: Global,
     text: &mut Vec<u8>,
     entry: &SetupEntry,
     finding: &Finding,
@@ -301,8 +248,12 @@ fn append_memo_line(
                 dbt: Some(dbt),
                 ..
             },
-            Finding::Table(_),
-        ) => append_line(text, name.as_slice(), dbt.as_slice(), b"good"),
+            Finding::Table(counts),
+        ) => {
+            let mut words = Vec::new(alloc);
+            append_memo_use(alloc, &mut words, &counts.memo_use)?;
+            append_line(text, name.as_slice(), dbt.as_slice(), words.as_slice())
+        }
         _ => Ok(()),
     }
 }
@@ -323,7 +274,7 @@ fn append_entry(
         entry_path(entry, finding),
         words.as_slice(),
     )?;
-    append_memo_line(text, entry, finding)
+    append_memo_line(alloc, text, entry, finding)
 }
 
 /// What was found at the entries, in words: a line for each, and one more for the memos of a table that is good. There is a

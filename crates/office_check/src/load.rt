@@ -8,6 +8,8 @@ ghost use Rattle.office_check.specs.LoadCounts.{IsFileLoad, IsMemosLoad, IsTable
 
 use crate::fault::EntryFault;
 use crate::finding::{Finding, TableCounts};
+use crate::head_numbers::index_numbers;
+use crate::table_file::{MemoUse, table_file};
 use dbf_fields::Bytes;
 use dbf_image::{ImageFault, TableData, read_table};
 use ndx_index::{NdxFault, NdxFile, read_ndx};
@@ -52,12 +54,21 @@ fn load_memos<S: Source>(
     }
 }
 
+/// A table that was loaded.
+#[derive(Drop)]
+pub(crate) struct LoadedTable {
+    /// It.
+    pub(crate) table: TableData,
+    /// How its memos take the blocks of their file, where one is named.
+    pub(crate) memo_use: Option<MemoUse>,
+}
+
 // The table of the bytes of its files.
 fn read_content(
     alloc: Global,
     dbf: Bytes,
     dbt: &Option<Bytes>,
-) -> Result<Result<TableData, EntryFault>, AllocError>
+) -> Result<Result<LoadedTable, EntryFault>, AllocError>
     ensures read { IfOk result (λ look. IsTableContent dbf dbt.now look) }
     ensures loaded { (files : Option (List NamedFile)) (path : List ℕ) (memos : Option (List ℕ)) (n : Option ℕ) → IfOk result (IsTableLoad files path memos n n) }
 {
@@ -65,10 +76,14 @@ fn read_content(
         None => None,
         Some(bytes) => Some(bytes.as_slice()),
     };
+    let told = table_file(alloc, dbf.as_slice(), memos)?;
     match read_table(alloc, dbf, memos) {
-        Ok(table) => Ok(Ok(table)),
+        Ok(table) => Ok(Ok(LoadedTable {
+            table,
+            memo_use: told.memo_use,
+        })),
         Err(ImageFault::NoMemory) => Err(AllocError),
-        Err(fault) => Ok(Err(EntryFault::NoTable(fault))),
+        Err(fault) => Ok(Err(EntryFault::NoTable(fault, told.details))),
     }
 }
 
@@ -80,7 +95,7 @@ pub(crate) fn load_table<S: Source>(
     source: &mut S,
     dbf: &Bytes,
     dbt: &Option<Bytes>,
-) -> Result<Result<TableData, EntryFault>, AllocError>
+) -> Result<Result<LoadedTable, EntryFault>, AllocError>
     ensures look { IfOk result (λ look. IsTableLook (S.files source.old) dbf.now dbt.now look) }
     ensures loads { IfOk result (IsTableLoad (S.files source.old) dbf.now dbt.now (S.failures source.old) (S.failures source.new)) }
     ensures kept { S.files source.new ≡ S.files source.old }
@@ -109,16 +124,17 @@ pub(crate) fn load_index<S: Source>(
     let Some(bytes) = load_file(alloc, source, ndx)? else {
         return Ok(Err(EntryFault::CannotRead));
     };
+    let numbers = index_numbers(bytes.as_slice());
     match read_ndx(alloc, bytes.as_slice()) {
         Ok(file) => Ok(Ok(file)),
         Err(NdxFault::NoMemory) => Err(AllocError),
-        Err(fault) => Ok(Err(EntryFault::NoIndex(fault))),
+        Err(fault) => Ok(Err(EntryFault::NoIndex(fault, numbers))),
     }
 }
 
-/// How many records a table has, and how many of them are marked as deleted.
-pub(crate) fn counts_of(table: &TableData) -> TableCounts
-    ensures counts { IsCounts table.now result }
+/// How many records a table has, how many of them are marked as deleted, and how its memos take the blocks of their file.
+pub(crate) fn counts_of(table: &TableData, memo_use: Option<MemoUse>) -> TableCounts
+    ensures counts { IsCounts table.now memo_use result }
 {
     let mut marked = 0;
     for earlier in 0..table.record_count() {
@@ -129,5 +145,6 @@ pub(crate) fn counts_of(table: &TableData) -> TableCounts
     TableCounts {
         records: table.record_count(),
         marked,
+        memo_use,
     }
 }

@@ -15,7 +15,7 @@ ghost use Rattle.office_check.specs.Looks.{AreKeptTables, IsLook};
 use crate::fault::EntryFault;
 use crate::finding::{Finding, IndexFinding};
 use crate::freshness::{IndexState, state_of};
-use crate::load::{counts_of, load_file, load_index, load_table};
+use crate::load::{LoadedTable, counts_of, load_file, load_index, load_table};
 use dbf_fields::Bytes;
 use dbf_image::GrowingTable;
 use ndx_index::NdxFile;
@@ -42,8 +42,8 @@ fn look_at_table<S: Source>(
     ensures kept { S.files source.new ≡ S.files source.old }
 {
     match load_table(alloc, source, dbf, dbt)? {
-        Ok(table) => Ok(Look {
-            finding: Finding::Table(counts_of(&table)),
+        Ok(LoadedTable { table, memo_use }) => Ok(Look {
+            finding: Finding::Table(counts_of(&table, memo_use)),
             table: Some(table.into_growing()),
         }),
         Err(fault) => Ok(Look {

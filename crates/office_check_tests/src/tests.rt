@@ -10,6 +10,8 @@ use std::alloc::{AllocError, Global};
 use std::process::Abort;
 use std::test::*;
 
+mod details;
+
 // The leaf of the index of BOB, record 1, and ADA, record 2, by NAME: the count, and of each key no child, the record number,
 // the key and two bytes that fill it up.
 const LEAF: &[u8] = b"\x02\0\0\0\0\0\0\0\x02\0\0\0ADA       \0\0\0\0\0\0\x01\0\0\0BOB       ";
@@ -82,7 +84,7 @@ STATION A.PRG
         "GOOD  S.DBF  2 records, 0 marked: good
 BYNAME  S.NDX  2 keys: good
 NOTES  NOTE.DBF  1 records, 0 marked: good
-NOTES  NOTE.DBT  good
+NOTES  NOTE.DBT  1 blocks: good
 STATION  A.PRG  good
 ",
         true,
@@ -115,13 +117,13 @@ INDEX GOOD EMPTY BAD.NDX
 INDEX GOOD LOST GONE.NDX
 STATION B.PRG
 ",
-        "BAD  BAD.DBF  no table: the file is too short
+        "BAD  BAD.DBF  no table: the file is too short: 1 bytes, not 32
 BYNAME  S.NDX  2 keys: its table is refused
 GONE  GONE.DBF  can't be read
 MEMOS  NOTE.DBF  no table: the file of memos is missing
 LOST  GONE.DBT  can't be read
 GOOD  T.DBF  2 records, 0 marked: good
-EMPTY  BAD.NDX  no index: the file is shorter than a header page
+EMPTY  BAD.NDX  no index: the file is shorter than a header page: 0 bytes, not 512
 LOST  GONE.NDX  can't be read
 STATION  B.PRG  can't be read
 ",
@@ -221,6 +223,104 @@ fn stale_indexes_are_told_in_detail(rt: HostRuntime) -> Result<(), Fail> {
         let line = format!(in alloc;
             "GOOD  S.DBF  2 records, 0 marked: good\nBYNAME  X.NDX  {told}\n"
         )?;
+        assert_eq!(rt; text.as_slice(), line.as_bytes());
+    }
+    Ok(())
+}
+
+// Bytes of a table's file that are put in place of those at an offset, and what is told then.
+const DAMAGED_TABLES: [(usize, &[u8], &str); 5] = [
+    (0, b"\x04", "no table: the file is of no known version: 4"),
+    (64, b"\x00", "no table: the header's length is bad: 65"),
+    (10, b"\x0c\x01", "no table: the records' length is bad: 268"),
+    (
+        4,
+        b"\xff\xff\xff\xff",
+        "no table: there are too many records: 4294967295",
+    ),
+    (
+        4,
+        b"\x03",
+        "no table: the file is too short: 88 bytes, not 98",
+    ),
+];
+
+// The same of an index's file.
+const DAMAGED_INDEXES: [(usize, &[u8], &str); 6] = [
+    (
+        16,
+        b"\x01\x01",
+        "no index: the keys are numbers or dates: type 257",
+    ),
+    (
+        23,
+        b"\x02",
+        "no index: the index leaves out equal keys: flag 2",
+    ),
+    (
+        12,
+        b"\x65",
+        "no index: the key length is none of 1 to 100: 101",
+    ),
+    (
+        18,
+        b"\x11",
+        "no index: the size of a key record is impossible: 17 bytes for keys of 10",
+    ),
+    (0, b"\x09", "no index: a page lies outside the file"),
+    (512, b"\xff", "no index: a page has too many entries"),
+];
+
+// A copy of bytes with others in place of those at an offset.
+fn damaged(
+    alloc: Global,
+    bytes: &[u8],
+    offset: usize,
+    others: &[u8],
+) -> Result<Vec<u8>, AllocError> {
+    let (front, _) = bytes.split_at(offset.min(bytes.len()));
+    let mut copy = Vec::from_slice(alloc, front)?;
+    copy.extend_from_slice(others)?;
+    let (_, rest) = bytes.split_at(copy.len().min(bytes.len()));
+    copy.extend_from_slice(rest)?;
+    Ok(copy)
+}
+
+// What is told of a setup of one entry, by the file that it names.
+fn told_of(alloc: Global, setup: &[u8], name: &[u8], bytes: Vec<u8>) -> Result<Vec<u8>, Fail> {
+    let mut files = Vec::new(alloc);
+    files.push(NamedFile {
+        name: Bytes::from_slice(alloc, name)?,
+        bytes: Bytes::from_vec(bytes),
+    })?;
+    files.push(NamedFile {
+        name: Bytes::from_slice(alloc, b"T.DBF")?,
+        bytes: Bytes::from_slice(alloc, &TABLE)?,
+    })?;
+    let mut source = MemorySource {
+        files,
+        loads: 9,
+        failures: Failures::none(),
+    };
+    let entries = parse_setup(alloc, setup)?;
+    let findings = look_at_all(alloc, &mut source, &entries)?;
+    Ok(findings_text(alloc, &entries, &findings)?)
+}
+
+#[test]
+fn damaged_headers_are_told_with_their_numbers(rt: HostRuntime) -> Result<(), Fail> {
+    let alloc = rt.alloc();
+    for (offset, others, told) in DAMAGED_TABLES {
+        let bytes = damaged(alloc, &TABLE, offset, others)?;
+        let text = told_of(alloc, b"TABLE D D.DBF\n", b"D.DBF", bytes)?;
+        let line = format!(in alloc; "D  D.DBF  {told}\n")?;
+        assert_eq!(rt; text.as_slice(), line.as_bytes());
+    }
+    for (offset, others, told) in DAMAGED_INDEXES {
+        let whole = index(alloc, b"NAME", 10, LEAF)?;
+        let bytes = damaged(alloc, whole.as_slice(), offset, others)?;
+        let text = told_of(alloc, b"TABLE T T.DBF\nINDEX T D D.NDX\n", b"D.NDX", bytes)?;
+        let line = format!(in alloc; "T  T.DBF  2 records, 0 marked: good\nD  D.NDX  {told}\n")?;
         assert_eq!(rt; text.as_slice(), line.as_bytes());
     }
     Ok(())

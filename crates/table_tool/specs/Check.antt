@@ -1,12 +1,11 @@
 -- A setup that is checked.
-use Rattle.std.specs.Prelude.{◌≡◌, ◌≢◌, ℕ, Bool, true, false, List, [], ◌∷◌, ◌++◌, codes, Option, Ok, Err, if◌then◌else◌}
+use Rattle.std.specs.Prelude.{◌≡◌, ◌≢◌, ℕ, Bool, true, false, List, ◌++◌, Option, Some, None, is_none, Ok, Err}
 use Rattle.byte_io.specs.Sink.{grown}
 use Rattle.catalogue_core.specs.Replay.{Opened}
 use Rattle.station_files.specs.declared.named.NamedFile.{NamedFile}
 use Rattle.station_files.specs.declared.source.LoadFault.{LoadFault}
 use Rattle.station_files.specs.declared.source.LoadFault.TheVariants as load
 use Rattle.station_files.specs.Files.{IsFileOf}
-use Rattle.station_lines.specs.declared.script.format.TheConstants.{LF}
 use Rattle.station_lines.specs.declared.setup.entry.SetupEntry.{SetupEntry}
 use Rattle.station_lines.specs.declared.setup.fault.SetupFault.{SetupFault}
 use Rattle.station_lines.specs.declared.setup.fault.SetupFault.TheVariants as setup
@@ -17,6 +16,7 @@ use Rattle.office_check.specs.Lines.{setup_lines}
 use Rattle.whole_run.specs.declared.fault.ServeFault.{ServeFault}
 use Rattle.whole_run.specs.declared.fault.ServeFault.TheVariants.{NoMemory as NoMemoryToServe}
 use Rattle.whole_run.specs.OpenedSetup.{IsOpenedBy, IsUnopened}
+use Rattle.table_tool.specs.Verdict.{verdict_line}
 use Rattle.table_tool.specs.declared.program.checking.CheckFault.{CheckFault}
 use Rattle.table_tool.specs.declared.program.checking.CheckFault.TheVariants.{CannotRead, BadLine, NoMemory, Sink}
 
@@ -28,23 +28,35 @@ abbrev pub check_setup_fault : SetupFault → CheckFault
 check_setup_fault (setup.Bad number) = BadLine number
 check_setup_fault setup.NoMemory = NoMemory
 
--- the server opens all that the setup of this path names, or it doesn't, and this is why
+-- what the server does with what the setup of this path names: it opens all, or nothing, and this is why
+abbrev pub IsOpening : Option (List NamedFile) → List ℕ → Option ServeFault → Type 0
+IsOpening files path None = (opened : Opened) × IsOpenedBy files path false opened
+IsOpening files path (Some fault) = (fault ≢ NoMemoryToServe) × IsUnopened files path false fault
+
+-- whether it opens all
 abbrev pub IsVerdict : Option (List NamedFile) → List ℕ → Bool → Type 0
-IsVerdict files path true = (opened : Opened) × IsOpenedBy files path false opened
-IsVerdict files path false = (fault : ServeFault) × (fault ≢ NoMemoryToServe) × IsUnopened files path false fault
+IsVerdict files path true = IsOpening files path None
+IsVerdict files path false = (fault : ServeFault) × IsOpening files path (Some fault)
 
-abbrev pub verdict_words : Bool → List ℕ
-verdict_words opens = (if opens then codes "good: the server opens all" else codes "bad: the server opens nothing") ++ LF ∷ []
-
--- What was told of a setup: what is found at each of its entries, and whether the server opens all.
+-- What was told of a setup: what is found at each of its entries, and whether the server opens all, or why it opens nothing.
 pub record IsTold (files : Option (List NamedFile)) (path : List ℕ) (opens : Bool) (old new : Option (List ℕ)) : Type 0 where
   pub text : List ℕ
   pub entries : List SetupEntry
   pub findings : List Finding
+  pub fault : Option ServeFault
   pub found : IsFileOf files path text
   pub says : IsSetup text (Ok entries)
   pub looked : AreFindings files entries findings
-  pub wrote : new ≡ grown old (setup_lines entries findings ++ verdict_words opens)
+  pub opening : IsOpening files path fault
+  pub answer : opens ≡ is_none fault
+  pub wrote : new ≡ grown old (setup_lines entries findings ++ verdict_line fault)
+
+-- the fault is one of the setup's lines, or a want of memory
+abbrev pub IsLineFault : CheckFault → Type 0
+IsLineFault CannotRead = ⊥
+IsLineFault (BadLine number) = Unit {0}
+IsLineFault NoMemory = Unit {0}
+IsLineFault Sink = ⊥
 
 -- the setup of this path has a bad line, this one first
 abbrev pub HasBadSetupLine : Option (List NamedFile) → List ℕ → ℕ → Type 0

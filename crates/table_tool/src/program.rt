@@ -15,6 +15,7 @@ mod showing;
 mod stream;
 #[cfg(test)]
 mod tests;
+mod verdict;
 
 pub(crate) use checking::check_setup;
 pub(crate) use ending::{Ending, check_ending, ending_of, tell, tree_ending};

@@ -1,15 +1,17 @@
 //! A setup that is checked.
 
-ghost use Rattle.std.specs.Prelude.{◌≡◌, ℕ, Err, IfOk, IfErr};
+ghost use Rattle.std.specs.Prelude.{◌≡◌, ℕ, Ok, Err, IfOk, IfErr};
 ghost use Rattle.byte_io.specs.Sink.{IsFront};
 ghost use Rattle.station_files.specs.Files.{IsUnreadable};
-ghost use Rattle.table_tool.specs.Check.{verdict_words, HasBadSetupLine, IsTold, IsVerdict, TellsNothing};
+ghost use Rattle.station_lines.specs.Setup.{IsSetup, HasNextEntry};
+ghost use Rattle.table_tool.specs.Check.{HasBadSetupLine, IsLineFault, IsOpening, IsTold, IsVerdict, TellsNothing};
 
+use crate::program::verdict::append_verdict;
 use dbf_fields::Bytes;
 use dbf_image::{ByteSink, SinkFault, write_all};
 use office_check::{findings_text, look_at_all};
 use station_files::{LoadFault, Source};
-use station_lines::{SetupFault, parse_setup};
+use station_lines::{SetupEntry, SetupFault, parse_setup};
 use std::alloc::{AllocError, Global};
 use thiserror::Error;
 use whole_run::{ServeFault, open_setup};
@@ -81,31 +83,37 @@ impl From<SinkFault> for CheckFault {
     }
 }
 
-// Whether the server opens all that a setup names.
-fn server_opens<F: Source>(alloc: Global, source: &mut F, setup: &str) -> Result<bool, AllocError>
-    ensures opens { IfOk result (IsVerdict (F.files source.old) setup.now) }
+// Why the server opens nothing of what a setup names, or `None` where it opens all.
+fn fault_of_opening<F: Source>(
+    alloc: Global,
+    source: &mut F,
+    setup: &str,
+) -> Result<Option<ServeFault>, AllocError>
+    ensures opening { IfOk result (IsOpening (F.files source.old) setup.now) }
     ensures kept { F.files source.new ≡ F.files source.old }
 {
     let path = Bytes::from_slice(alloc, setup.as_bytes())?;
     match open_setup(alloc, &path, false, source) {
-        Ok(_) => Ok(true),
+        Ok(_) => Ok(None),
         Err(ServeFault::NoMemory) => Err(AllocError),
-        Err(_) => Ok(false),
+        Err(fault) => Ok(Some(fault)),
     }
 }
 
-fn verdict_line(opens: bool) -> &'static [u8]
-    ensures value { result.now ≡ verdict_words opens }
+// What the lines of a setup say.
+fn entries_of(alloc: Global, text: &[u8]) -> Result<Vec<SetupEntry>, CheckFault>
+    ensures says { IfOk result (λ entries. IsSetup text.now (Ok entries.items)) }
+    ensures bad_line { (number : ℕ) → result ≡ Err (CheckFault.BadLine number) → IsSetup text.now (Err number) }
+    ensures lines_alone { IfErr result IsLineFault }
+    // A bad line is not told as a want of memory, which is asked for only at a line that may stand there.
+    ensures early { result ≡ Err CheckFault.NoMemory → HasNextEntry text.now }
 {
-    if opens {
-        b"good: the server opens all\n"
-    } else {
-        b"bad: the server opens nothing\n"
-    }
+    let entries = parse_setup(alloc, text)?;
+    Ok(entries)
 }
 
 /// Looks at every file that the setup of a path names, and tells what is found, a line a file, and whether the server would open
-/// all, which it answers too.
+/// all, or why it would open nothing. Whether it would is answered too.
 ///
 /// `CannotRead` says that the setup can't be read, and `BadLine` that its line of this number is bad; then nothing is told.
 /// `Sink` says that the sink failed, and `NoMemory` that there was no memory.
@@ -126,11 +134,11 @@ pub(crate) fn check_setup<F: Source, S: ByteSink>(
     ensures untold { IfErr result (λ fault. TellsNothing fault → S.written sink.new ≡ S.written sink.old) }
 {
     let text = source.load(alloc, setup.as_bytes())?;
-    let entries = parse_setup(alloc, text.as_slice())?;
+    let entries = entries_of(alloc, text.as_slice())?;
     let findings = look_at_all(alloc, source, &entries)?;
     let mut report = findings_text(alloc, &entries, &findings)?;
-    let opens = server_opens(alloc, source, setup)?;
-    report.extend_from_slice(verdict_line(opens))?;
+    let fault = fault_of_opening(alloc, source, setup)?;
+    append_verdict(alloc, &mut report, &fault)?;
     write_all(sink, &report)?;
-    Ok(opens)
+    Ok(fault.is_none())
 }

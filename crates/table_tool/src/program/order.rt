@@ -114,8 +114,8 @@ fn with_index(
     ensures table { IfOk result (λ indexed. indexed.content.table ≡ table) }
     ensures one { IfOk result (λ indexed. length indexed.content.indexes ≡ 1) }
     ensures order { IfOk result (λ indexed. order_at indexed.content 1 ≡ order_of table expr.expr) }
-    ensures own { IfOk result (λ _. AreKeysOf table expr.expr file.key_len file.pairs.items) }
-    ensures stale { IfErr result (λ fault. fault ≡ OrderFault.Stale → AreKeysOf table expr.expr file.key_len file.pairs.items → ⊥) }
+    ensures own { IfOk result (λ _. AreKeysOf table expr.expr file.key_len file.pairs.pairs) }
+    ensures stale { IfErr result (λ fault. fault ≡ OrderFault.Stale → AreKeysOf table expr.expr file.key_len file.pairs.pairs → ⊥) }
 {
     let NdxFile {
         expr: name,

@@ -363,7 +363,7 @@ good: the server opens all
             "T  T.DBF  2 records, 0 marked: good
 BYNAME  S.NDX  2 keys: stale: 2 foreign, 2 missing, 0 doubled; the first foreign is pair 1, record 2, key \"ADA       \", not \"BOB       \"; --reindex makes it anew
 STATION  A.PRG  good
-bad: the server opens nothing
+bad: the server opens nothing: index 1 of table 1 is stale
 ",
         ),
         (
@@ -372,7 +372,7 @@ bad: the server opens nothing
             "S  S.DBF  2 records, 0 marked: good
 S  T.DBF  2 records, 0 marked: good
 STATION  A.PRG  good
-bad: the server opens nothing
+bad: the server opens nothing: table 2 has the name of an earlier one
 ",
         ),
         (

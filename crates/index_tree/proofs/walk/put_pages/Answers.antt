@@ -1,7 +1,7 @@
 use Rattle.std.proofs.Common.{◌≡◌, ◌+◌, ◌/◌, ◌<◌, ℕ, List, true, false, length, get_or, ap, ◌∙◌, arith}
 use Rattle.std.proofs.lemmas.List.{length-replicate, get_or-replicate, nil_from_length}
 use Rattle.ndx_index.specs.NdxTree.{look}
-use Rattle.index_tree.specs.declared.format.TheConstants.{PAGE}
+use Rattle.ndx_index.specs.declared.format.TheConstants.{PAGE}
 use Rattle.index_tree.specs.PageText.{node_seen, PageSizes}
 use Rattle.index_tree.specs.TreeText.{page_in}
 use Rattle.index_tree.specs.Walk.{IsFlagged}

@@ -1,5 +1,5 @@
 use Rattle.std.proofs.Common.{◌≡◌, ◌/◌, length}
-use Rattle.index_tree.specs.declared.format.TheConstants.{PAGE}
+use Rattle.ndx_index.specs.declared.format.TheConstants.{PAGE}
 use Rattle.index_tree.proofs.WalkSteps.{State, work_left}
 use Rattle.index_tree.proofs.walk.put_pages.Given as goal
 

@@ -11,8 +11,8 @@ pub returns-then-is_none : goal.returns-then-is_none
 returns-then-is_none c =
     let table = c.args.records.now.table in
     let e = c.args.expr.now.expr in
-    let ps = c.args.file.now.pairs.items in
-    let is : c.in_ok-damage.damage ≡ damage_of table e ps = c.in_ok-damage.ensures.value ∙ ap (damage_of table e) c.deref.ensures.value in
+    let ps = c.args.file.now.pairs.pairs in
+    let is : c.in_ok-damage.damage ≡ damage_of table e ps = c.in_ok-damage.ensures.value in
     let undamaged = c.is_none.ensures.value.0 c.if-is_none.true in record {
       state = (
         omega (arith, ap (λ (fs : List Field). key_length fs e) c.requires.fields),
@@ -24,8 +24,8 @@ pub returns : goal.returns
 returns c =
     let table = c.args.records.now.table in
     let e = c.args.expr.now.expr in
-    let ps = c.args.file.now.pairs.items in
-    let is : c.in_ok-damage.damage ≡ damage_of table e ps = c.in_ok-damage.ensures.value ∙ ap (damage_of table e) c.deref.ensures.value in record {
+    let ps = c.args.file.now.pairs.pairs in
+    let is : c.in_ok-damage.damage ≡ damage_of table e ps = c.in_ok-damage.ensures.value in record {
       state = (
         omega (arith, ap (λ (fs : List Field). key_length fs e) c.requires.fields),
         λ pairs. false≢true (sym c.if-is_none.false ∙ c.is_none.ensures.value.1 (subst (λ (d : IndexDamage). IsUndamaged d) (sym is) (undamaged_from table e ps pairs))),

@@ -1,14 +1,12 @@
-use Rattle.std.proofs.Common.{◌≡◌, length, vec_len, rules, ◌∙◌}
 use Rattle.office_check.proofs.look.look_at_index.Goals as goal
 
 pub returns-in_ok-state-in-Ok-clause-look : goal.returns-in_ok-state-in-Ok-clause-look
 returns-in_ok-state-in-Ok-clause-look g c =
-    let len : vec_len c.in-Ok.file.pairs ≡ length c.in-Ok.file.pairs.items = search rules in
     λ findings name kept. record {
       finding = (
         c.in-Ok.file,
         rw c.in-Ok.is at c.in_ok-file.ensures.look,
-        c.len-keys.ensures ∙ len,
+        c.len-keys.ensures.count,
         c.in_ok-state-in-Ok.ensures.state (g.S.Source.files c.args.source.now) findings kept,
       );
       kept = tt;

@@ -1,0 +1,10 @@
+use Rattle.std.proofs.Common.{◌≡◌, ◌-◌, ◌*◌, ◌≤◌, ◌++◌, length, map}
+use Rattle.dbf_image.specs.DbfText.{chunks, field_of}
+use Rattle.office_check.specs.declared.table_file.fields.TheConstants.{DESCRIPTOR}
+use Rattle.office_check.proofs.table_file.fields.fields_at.Given as goal
+
+abbrev pub invariant-loop : goal.invariant-loop
+invariant-loop l = record {
+  room : DESCRIPTOR * (l.count - l.counter) ≤ length l.rest;
+  read : l.fields.items ++ map field_of (chunks DESCRIPTOR (l.count - l.counter) l.rest) ≡ map field_of (chunks DESCRIPTOR l.count l.bytes);
+}

@@ -1,0 +1,224 @@
+//! Why the files of an entry are refused, in words.
+
+ghost use Rattle.std.specs.Prelude.{◌≡◌, ◌++◌, OnOk};
+ghost use Rattle.office_check.specs.HeadNumbers.{wanted_length as wanted_length_of};
+ghost use Rattle.office_check.specs.Lines.{bad_field_words, bad_memo_words, block_words, field_refusal, index_number_words, index_refusal, refusal_words, table_detail_words, table_refusal};
+
+use crate::fault::EntryFault;
+use crate::head_numbers::{IndexNumbers, TableNumbers};
+use crate::lines::numbers::{append_two, append_words};
+use crate::table_file::{BadField, MemoCell, TableDetails};
+use dbf_fields::SchemaFault;
+use dbf_image::{HEADER, ImageFault};
+use ndx_index::{NdxFault, PAGE};
+use std::alloc::{AllocError, Global};
+
+fn table_words(why: ImageFault) -> &'static [u8]
+    ensures value { result.now ≡ table_refusal why }
+{
+    match why {
+        ImageFault::Truncated => b"the file is too short",
+        ImageFault::BadVersion => b"the file is of no known version",
+        ImageFault::BadHeaderLength => b"the header's length is bad",
+        ImageFault::BadSchema => b"the fields are no schema",
+        ImageFault::BadRecordLength => b"the records' length is bad",
+        ImageFault::TooManyRecords => b"there are too many records",
+        ImageFault::MemoFileMissing => b"the file of memos is missing",
+        ImageFault::BadMemoNumber => b"a memo's number is bad",
+        ImageFault::MemoOutside => b"a memo is outside its file",
+        ImageFault::MemoTooLong => b"a memo is too long",
+        ImageFault::NoMemory => b"out of memory",
+    }
+}
+
+fn index_words(why: NdxFault) -> &'static [u8]
+    ensures value { result.now ≡ index_refusal why }
+{
+    match why {
+        NdxFault::Truncated => b"the file is shorter than a header page",
+        NdxFault::NumericIndex => b"the keys are numbers or dates",
+        NdxFault::UniqueIndex => b"the index leaves out equal keys",
+        NdxFault::BadKeyLength => b"the key length is none of 1 to 100",
+        NdxFault::BadRecordSize => b"the size of a key record is impossible",
+        NdxFault::PageOutside => b"a page lies outside the file",
+        NdxFault::PageTwice => b"a page is met twice",
+        NdxFault::TooManyEntries => b"a page has too many entries",
+        NdxFault::MixedPage => b"a page is neither a leaf nor an inner page",
+        NdxFault::NoMemory => b"out of memory",
+    }
+}
+
+// How long a table's file has to be, by its header.
+fn wanted_length(numbers: &TableNumbers) -> usize
+    ensures value { result ≡ wanted_length_of numbers.now }
+{
+    if numbers.file_length < HEADER {
+        return HEADER;
+    }
+    usize::from(numbers.header_length)
+        + numbers.record_count as usize * usize::from(numbers.record_length)
+}
+
+fn field_words(why: SchemaFault) -> &'static [u8]
+    ensures value { result.now ≡ field_refusal why }
+{
+    match why {
+        SchemaFault::BadFieldCount => b"it is one too many",
+        SchemaFault::BadName => b"its name is bad",
+        SchemaFault::DuplicateName => b"it has the name of an earlier one",
+        SchemaFault::BadKind => b"it is of no known kind",
+        SchemaFault::BadWidth => b"its width is bad",
+        SchemaFault::RecordTooLong => b"with it a record is too long",
+        SchemaFault::NoMemory => b"out of memory",
+    }
+}
+
+// The first field up to which the fields are no schema, where there is one.
+fn append_bad_field(
+    alloc: Global,
+    text: &mut Vec<u8>,
+    bad: &Option<BadField>,
+) -> Result<(), AllocError>
+    ensures ok { OnOk result (text.new.items ≡ text.old.items ++ bad_field_words bad.now) }
+{
+    match bad {
+        Some(bad) => {
+            append_words(alloc, text, b": field ", bad.field)?;
+            text.extend_from_slice(b": ")?;
+            text.extend_from_slice(field_words(bad.why))
+        }
+        None => Ok(()),
+    }
+}
+
+// The block that a memo's cell names.
+fn append_block(alloc: Global, text: &mut Vec<u8>, block: Option<u64>) -> Result<(), AllocError>
+    ensures ok { OnOk result (text.new.items ≡ text.old.items ++ block_words block) }
+{
+    match block {
+        Some(block) => append_words(alloc, text, b", block ", block as usize),
+        None => Ok(()),
+    }
+}
+
+// Where the first memo stands that is refused.
+fn append_bad_memo(
+    alloc: Global,
+    text: &mut Vec<u8>,
+    bad: &Option<MemoCell>,
+) -> Result<(), AllocError>
+    ensures ok { OnOk result (text.new.items ≡ text.old.items ++ bad_memo_words bad.now) }
+{
+    match bad {
+        Some(cell) => {
+            append_words(alloc, text, b": record ", cell.record_number as usize)?;
+            append_words(alloc, text, b", field ", cell.field_number)?;
+            append_block(alloc, text, cell.block)
+        }
+        None => Ok(()),
+    }
+}
+
+// What is told of a table beside why it is refused.
+fn append_table_details(
+    alloc: Global,
+    text: &mut Vec<u8>,
+    why: ImageFault,
+    details: &TableDetails,
+) -> Result<(), AllocError>
+    ensures ok { OnOk result (text.new.items ≡ text.old.items ++ table_detail_words why details.now) }
+{
+    let numbers = &details.numbers;
+    match why {
+        ImageFault::Truncated => {
+            let wanted = wanted_length(numbers);
+            append_two(
+                alloc,
+                text,
+                b": ",
+                numbers.file_length,
+                b" bytes, not ",
+                wanted,
+            )
+        }
+        ImageFault::BadVersion => append_words(alloc, text, b": ", usize::from(numbers.version)),
+        ImageFault::BadHeaderLength => {
+            append_words(alloc, text, b": ", usize::from(numbers.header_length))
+        }
+        ImageFault::BadRecordLength => {
+            append_words(alloc, text, b": ", usize::from(numbers.record_length))
+        }
+        ImageFault::TooManyRecords => {
+            append_words(alloc, text, b": ", numbers.record_count as usize)
+        }
+        ImageFault::BadSchema => append_bad_field(alloc, text, &details.bad_field),
+        ImageFault::BadMemoNumber | ImageFault::MemoOutside | ImageFault::MemoTooLong => {
+            append_bad_memo(alloc, text, &details.bad_memo)
+        }
+        _ => Ok(()),
+    }
+}
+
+// The numbers that an index's refusal is about.
+fn append_index_numbers(
+    alloc: Global,
+    text: &mut Vec<u8>,
+    why: NdxFault,
+    numbers: &IndexNumbers,
+) -> Result<(), AllocError>
+    ensures ok { OnOk result (text.new.items ≡ text.old.items ++ index_number_words why numbers.now) }
+{
+    match why {
+        NdxFault::Truncated => {
+            append_two(
+                alloc,
+                text,
+                b": ",
+                numbers.file_length,
+                b" bytes, not ",
+                PAGE,
+            )
+        }
+        NdxFault::NumericIndex => {
+            append_words(alloc, text, b": type ", usize::from(numbers.key_type))
+        }
+        NdxFault::UniqueIndex => {
+            append_words(alloc, text, b": flag ", usize::from(numbers.unique_flag))
+        }
+        NdxFault::BadKeyLength => {
+            append_words(alloc, text, b": ", usize::from(numbers.key_length))
+        }
+        NdxFault::BadRecordSize => {
+            let size = usize::from(numbers.record_size);
+            let keys = usize::from(numbers.key_length);
+            append_two(alloc, text, b": ", size, b" bytes for keys of ", keys)
+        }
+        _ => Ok(()),
+    }
+}
+
+/// Appends why the files of an entry are refused.
+///
+/// An `Err` says that there was no memory.
+pub(crate) fn append_refusal(
+    alloc: Global,
+    text: &mut Vec<u8>,
+    fault: EntryFault,
+) -> Result<(), AllocError>
+    ensures ok { OnOk result (text.new.items ≡ text.old.items ++ refusal_words fault) }
+{
+    match fault {
+        EntryFault::CannotRead => text.extend_from_slice(b"can't be read"),
+        EntryFault::CannotReadMemos => text.extend_from_slice(b"can't be read"),
+        EntryFault::NoTable(why, details) => {
+            text.extend_from_slice(b"no table: ")?;
+            text.extend_from_slice(table_words(why))?;
+            append_table_details(alloc, text, why, &details)
+        }
+        EntryFault::NoIndex(why, numbers) => {
+            text.extend_from_slice(b"no index: ")?;
+            text.extend_from_slice(index_words(why))?;
+            append_index_numbers(alloc, text, why, &numbers)
+        }
+    }
+}

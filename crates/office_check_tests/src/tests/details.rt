@@ -1,0 +1,177 @@
+//! Tables that are refused for a field or a memo, and where that stands.
+
+use super::*;
+
+// The head of a table of two fields, NAME of characters and NOTE of memos, each ten bytes wide, and three records.
+#[rattlefmt::skip]
+const HEAD: [u8; 97] = [
+    0x83, 0x57, 0x03, 0x0f, 0x03, 0x00, 0x00, 0x00, 0x61, 0x00, 0x15, 0x00, 0, 0, 0, 0,
+    0, 0, 0, 0, 0, 0, 0, 0, 0, 0, 0, 0, 0, 0, 0, 0,
+    0x4e, 0x41, 0x4d, 0x45, 0, 0, 0, 0, 0, 0, 0, 0x43, 0, 0, 0, 0,
+    0x0a, 0x00, 0, 0, 0, 0, 0, 0, 0, 0, 0, 0, 0, 0, 0, 0,
+    0x4e, 0x4f, 0x54, 0x45, 0, 0, 0, 0, 0, 0, 0, 0x4d, 0, 0, 0, 0,
+    0x0a, 0x00, 0, 0, 0, 0, 0, 0, 0, 0, 0, 0, 0, 0, 0, 0,
+    0x0d,
+];
+
+// Bytes that are put into that head in place of those at an offset, and what is told then of its fields.
+const DAMAGED_FIELDS: [(usize, &[u8], &str); 6] = [
+    (32, b"\x0d", ""),
+    (43, b"X", ": field 1: it is of no known kind"),
+    (48, b"\0", ": field 1: its width is bad"),
+    (64, b"4TH", ": field 2: its name is bad"),
+    (64, b"NAME", ": field 2: it has the name of an earlier one"),
+    (80, b"\x09", ": field 2: its width is bad"),
+];
+
+// The memo cells of the three records, the bytes of the file of memos, and what is told then.
+const DAMAGED_MEMOS: [(&[u8; 30], usize, &str); 6] = [
+    (
+        b"ABC                2         1",
+        1_600,
+        "a memo's number is bad: record 1, field 2",
+    ),
+    (
+        b"         1        -1         X",
+        1_600,
+        "a memo's number is bad: record 2, field 2",
+    ),
+    (
+        b"                   09999999999",
+        1_600,
+        "a memo is outside its file: record 3, field 2, block 9999999999",
+    ),
+    (
+        b"         3         4       ABC",
+        1_600,
+        "a memo is outside its file: record 2, field 2, block 4",
+    ),
+    (
+        b"                            1 ",
+        512,
+        "a memo is outside its file: record 3, field 2, block 1",
+    ),
+    (
+        b"       127         1         2",
+        66_048,
+        "a memo is too long: record 2, field 2, block 1",
+    ),
+];
+
+// The table of these memo cells, with no names.
+fn noted(alloc: Global, cells: &[u8; 30]) -> Result<Vec<u8>, AllocError> {
+    let mut bytes = Vec::from_slice(alloc, &HEAD)?;
+    for cell in cells.chunks(10) {
+        bytes.extend_from_slice(b"           ")?;
+        bytes.extend_from_slice(cell)?;
+    }
+    Ok(bytes)
+}
+
+// The same, with a file of memos of this length that has no end marks.
+fn told_with_memos(alloc: Global, dbf: Vec<u8>, dbt_length: usize) -> Result<Vec<u8>, Fail> {
+    let mut memos = Vec::new(alloc);
+    memos.resize(dbt_length, b'a')?;
+    told_with(alloc, dbf, memos)
+}
+
+// What is told of the table of these bytes, with this file of memos.
+fn told_with(alloc: Global, dbf: Vec<u8>, memos: Vec<u8>) -> Result<Vec<u8>, Fail> {
+    let mut files = Vec::new(alloc);
+    files.push(NamedFile {
+        name: Bytes::from_slice(alloc, b"D.DBF")?,
+        bytes: Bytes::from_vec(dbf),
+    })?;
+    files.push(NamedFile {
+        name: Bytes::from_slice(alloc, b"D.DBT")?,
+        bytes: Bytes::from_vec(memos),
+    })?;
+    let mut source = MemorySource {
+        files,
+        loads: 2,
+        failures: Failures::none(),
+    };
+    let entries = parse_setup(alloc, b"TABLE D D.DBF D.DBT\n")?;
+    let findings = look_at_all(alloc, &mut source, &entries)?;
+    Ok(findings_text(alloc, &entries, &findings)?)
+}
+
+#[test]
+fn damaged_fields_are_told_with_their_numbers(rt: HostRuntime) -> Result<(), Fail> {
+    let alloc = rt.alloc();
+    for (offset, others, told) in DAMAGED_FIELDS {
+        let bytes = damaged(alloc, &HEAD, offset, others)?;
+        let text = told_with_memos(alloc, bytes, 1_600)?;
+        let line = format!(in alloc; "D  D.DBF  no table: the fields are no schema{told}\n")?;
+        assert_eq!(rt; text.as_slice(), line.as_bytes());
+    }
+    Ok(())
+}
+
+#[test]
+fn damaged_memos_are_told_with_their_places(rt: HostRuntime) -> Result<(), Fail> {
+    let alloc = rt.alloc();
+    for (cells, dbt_length, told) in DAMAGED_MEMOS {
+        let text = told_with_memos(alloc, noted(alloc, cells)?, dbt_length)?;
+        let line = format!(in alloc; "D  D.DBF  no table: {told}\n")?;
+        assert_eq!(rt; text.as_slice(), line.as_bytes());
+    }
+    Ok(())
+}
+
+// The memo cells of the three records, the blocks of the file of memos, and what is told then. A block is full of a text that
+// goes on (L), or has one that ends (E).
+const MEMO_BLOCKS: [(&[u8; 30], &[u8], &str); 7] = [
+    (b"         1         2         3", b"EEE", "3 blocks: good"),
+    (
+        b"                   2          ",
+        b"EEEE",
+        "4 blocks: good; 3 of no record, the first 1",
+    ),
+    (
+        b"         1         1         3",
+        b"EEE",
+        "3 blocks: good; 1 of no record, the first 2; 1 shared, the first 1 of records 1 and 2",
+    ),
+    // The first memo goes on in the block that the second names.
+    (
+        b"         1         2          ",
+        b"LEE",
+        "3 blocks: good; 1 of no record, the first 3; 1 shared, the first 2 of records 1 and 2",
+    ),
+    (
+        b"         3         3         3",
+        b"EEL",
+        "3 blocks: good; 2 of no record, the first 1; 1 shared, the first 3 of records 1 and 2",
+    ),
+    (
+        b"         0                    ",
+        b"E",
+        "1 blocks: good; 1 of no record, the first 1",
+    ),
+    (b"                              ", b"", "0 blocks: good"),
+];
+
+// A file of memos of a header and these blocks.
+fn memo_file(alloc: Global, kinds: &[u8]) -> Result<Vec<u8>, AllocError> {
+    let mut bytes = with_zeros(alloc, b"", 512)?;
+    for kind in kinds {
+        if *kind == b'L' {
+            bytes.extend_from_slice(&[b'a'; 512])?;
+        } else {
+            bytes.extend_from_slice(with_zeros(alloc, b"a\x1a\x1a", 512)?.as_slice())?;
+        }
+    }
+    Ok(bytes)
+}
+
+#[test]
+fn memo_blocks_are_told(rt: HostRuntime) -> Result<(), Fail> {
+    let alloc = rt.alloc();
+    for (cells, kinds, told) in MEMO_BLOCKS {
+        let text = told_with(alloc, noted(alloc, cells)?, memo_file(alloc, kinds)?)?;
+        let line = format!(in alloc; "D  D.DBF  3 records, 0 marked: good\nD  D.DBT  {told}\n")?;
+        assert_eq!(rt; text.as_slice(), line.as_bytes());
+    }
+    Ok(())
+}
