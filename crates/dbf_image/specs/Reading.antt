@@ -22,6 +22,10 @@ first_passing test i (suc n) = if test i then Some i else first_passing test (i 
 abbrev pub field_count : List ℕ → Option ℕ
 field_count bytes = first_passing (λ i. slice_index bytes (HEADER + DESCRIPTOR * i) == HEADER_END) 0 ((header_length bytes - 1) / DESCRIPTOR)
 
+-- the header is all there, and the list of fields ends in it
+abbrev pub has_whole_header : List ℕ → Bool
+has_whole_header bytes = nat_le HEADER (length bytes) && (nat_le (header_length bytes) (length bytes) && is_some (field_count bytes))
+
 -- the fields as their descriptors tell them
 abbrev pub fields_of : List ℕ → List Field
 fields_of bytes = map field_of (chunks DESCRIPTOR (unwrap_or (field_count bytes) 0) (drop HEADER bytes))

@@ -1,7 +1,8 @@
 //! The bytes of a dBASE III PLUS table file (DBF), and of the file of its memos (DBT).
 //!
 //! [`read_table`] reads the two files, and says why where the bytes are no table: it answers a table
-//! exactly where the bytes are files of that table, and else the fault of the first test that fails.
+//! exactly where the bytes are files of that table, and else the fault of the first test that fails; [`told_fields`] tells the
+//! fields of a file that it refuses, whatever they are.
 //! [`read_memo`] reads the text of one block in the same way; [`memo_block`] tells the block that a memo's cell names. A [`TableData`] keeps the table in memory:
 //! contracts see its fields and its rows, in which the cell of a memo is its text. A [`GrowingTable`] is a
 //! table that is changed in place: room is made first, then no change can fail, and every change says
@@ -11,7 +12,7 @@
 //!
 //! Start with specs/Table.antt (what a table is), specs/Memo.antt (what a memo's cell tells) and
 //! specs/DbfText.antt (when bytes are a table's files), then read src/table.rt, src/table/growing.rt,
-//! src/dbf/read.rt, src/dbf/write.rt, src/dbt/memo.rt and src/dbt/write.rt. For the store of texts start with
+//! src/dbf/fields.rt, src/dbf/read.rt, src/dbf/write.rt, src/dbt/memo.rt and src/dbt/write.rt. For the store of texts start with
 //! specs/MemoStore.antt and src/memo_store.rt.
 #![tactic(auto)]
 
@@ -25,6 +26,7 @@ mod table;
 pub use byte_io::{
     ByteSink, Failures, LimitedSink, MemorySink, SinkFault, SinkWriter, WriteFault, write_all,
 };
+pub use dbf::fields::told_fields;
 pub use dbf::read::read_table;
 pub use dbf::write::write_dbf;
 pub use dbt::blocks::next_free_block;

@@ -5,7 +5,7 @@ use Rattle.std.proofs.lemmas.Bool.{or_parts}
 use Rattle.std.proofs.lemmas.Cmp.{nat_eq_equiv}
 use Rattle.ndx_index.specs.declared.pair.Pair.{Pair}
 use Rattle.ndx_index.specs.declared.read.page.PageLayout.{PageLayout}
-use Rattle.ndx_index.specs.declared.fault.NdxFault.{NdxFault}
+use Rattle.ndx_index.specs.declared.fault.BadPage.{BadPage}
 use Rattle.ndx_index.specs.declared.fault.NdxFault.TheVariants.{PageOutside, PageTwice}
 use Rattle.ndx_index.specs.Pages.{Node, leaf, inner, node_of, page_of, is_page}
 use Rattle.ndx_index.specs.Laws.Lists.{all_weaker, all_zip}
@@ -65,7 +65,7 @@ module _ (s : PageLayout) (bytes : List ℕ) where
   looks_new : (visited : List ℕ) (p : ℕ) (node : Node) → Holds s bytes p node → is_visited p visited ≡ false → look s bytes visited p ≡ Ok node
   looks_new visited p node holds new = rw (holds.whole, new) holds.keeps
 
-  pub visits_trees : {visited pending pages : List ℕ} {pairs : List Pair} {r : Option NdxFault} → Visits s bytes visited pending pages pairs r → r ≡ None → Trees s bytes pending pages pairs × Apart visited pages
+  pub visits_trees : {visited pending pages : List ℕ} {pairs : List Pair} {r : Option BadPage} → Visits s bytes visited pending pages pairs r → r ≡ None → Trees s bytes pending pages pairs × Apart visited pages
   visits_trees done e = (none, tt)
   visits_trees (stops h) e = absurd cc
   visits_trees (visit_leaf {visited = visited} {p = p} {own = own} h v) e =
@@ -95,7 +95,7 @@ module _ (s : PageLayout) (bytes : List ℕ) where
   apart_front [] qs visited h = (tt, h)
   apart_front (p ∷ ps) qs visited h = let r = apart_front ps qs (p ∷ visited) h.1 in ((h.0, r.0), r.1)
 
-  trees_visit : {roots pages : List ℕ} {pairs : List Pair} → Trees s bytes roots pages pairs → (visited pending pages' : List ℕ) (pairs' : List Pair) (r : Option NdxFault) → Apart visited pages → Visits s bytes (pushed pages visited) pending pages' pairs' r → Visits s bytes visited (roots ++ pending) (pages ++ pages') (pairs ++ pairs') r
+  trees_visit : {roots pages : List ℕ} {pairs : List Pair} → Trees s bytes roots pages pairs → (visited pending pages' : List ℕ) (pairs' : List Pair) (r : Option BadPage) → Apart visited pages → Visits s bytes (pushed pages visited) pending pages' pairs' r → Visits s bytes visited (roots ++ pending) (pages ++ pages') (pairs ++ pairs') r
   unfolding pushed
   trees_visit none visited pending pages' pairs' r apart v = v
   trees_visit (at_leaf {p = p} {rest = rest} {pages = pages} {own = own} {pairs = pairs} holds t) visited pending pages' pairs' r apart v =
@@ -109,7 +109,7 @@ module _ (s : PageLayout) (bytes : List ℕ) where
       (subst (λ qs. Visits s bytes visited (p ∷ (rest ++ pending)) (p ∷ (below ++ (pages ++ pages'))) qs r) (sym (append_assoc own pairs pairs')) here)
 
   -- there is one walk
-  pub one_walk : {visited pending pages pages' : List ℕ} {pairs pairs' : List Pair} {r r' : Option NdxFault} → Visits s bytes visited pending pages pairs r → Visits s bytes visited pending pages' pairs' r' → (pages ≡ pages') × (pairs ≡ pairs') × (r ≡ r')
+  pub one_walk : {visited pending pages pages' : List ℕ} {pairs pairs' : List Pair} {r r' : Option BadPage} → Visits s bytes visited pending pages pairs r → Visits s bytes visited pending pages' pairs' r' → (pages ≡ pages') × (pairs ≡ pairs') × (r ≡ r')
   one_walk done done = (refl, refl, refl)
   one_walk (stops h) (stops k) = (refl, refl, cc)
   one_walk (stops h) (visit_leaf k w) = absurd cc

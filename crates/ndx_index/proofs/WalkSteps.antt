@@ -1,16 +1,17 @@
 -- One step of the walk, at the state that its loop keeps.
-use Rattle.std.proofs.Common.{◌≡◌, ◌≢◌, ℕ, ◌+◌, ◌*◌, ◌<◌, ◌≤◌, Bool, true, false, List, [], ◌∷◌, ◌++◌, length, get_or, set, reverse, Option, Some, None, Result, Ok, Err, refl, ap, sym, ◌∙◌, subst, inl, inr, append_assoc, arith}
+use Rattle.std.proofs.Common.{◌≡◌, ◌≢◌, ℕ, ◌+◌, ◌*◌, ◌<◌, ◌≤◌, Bool, true, false, List, [], ◌∷◌, ◌++◌, length, get_or, set, reverse, Option, None, Result, Ok, Err, refl, ap, sym, ◌∙◌, subst, inl, inr, append_assoc, arith}
 use Rattle.std.proofs.lemmas.Bool.{cases_eq, cases_lt, eq-eqb, ne_eqb, false≢true}
 use Rattle.std.proofs.lemmas.Bool.Decides.{nat_tests}
 use Rattle.std.proofs.lemmas.List.{reverse-append, reverse-reverse, append-nil, get_or-set_same, get_or-set_other, get_or_past, length-set}
 use Rattle.ndx_index.specs.declared.format.TheConstants.{PAGE}
 use Rattle.ndx_index.specs.declared.pair.Pair.{Pair}
 use Rattle.ndx_index.specs.declared.read.page.PageLayout.{PageLayout}
+use Rattle.ndx_index.specs.declared.fault.BadPage.{BadPage}
 use Rattle.ndx_index.specs.declared.fault.NdxFault.{NdxFault}
-use Rattle.ndx_index.specs.declared.fault.NdxFault.TheVariants.{NoMemory, PageOutside, PageTwice}
+use Rattle.ndx_index.specs.declared.fault.NdxFault.TheVariants.{Truncated, NumericIndex, UniqueIndex, BadKeyLength, BadRecordSize, PageOutside, PageTwice, TooManyEntries, MixedPage, NoMemory}
 use Rattle.ndx_index.specs.Pages.{Node, leaf, inner, node_of, is_page}
 use Rattle.ndx_index.specs.NdxTree.{Visits, is_visited, look, done, stops, visit_leaf, visit_inner}
-use Rattle.ndx_index.specs.Walks.{Takes, Refuses, IsFirstVisit, FailsToVisit}
+use Rattle.ndx_index.specs.Walks.{Takes, Refuses, IsFirstVisit, IsWalkFault, FailsToVisit, fault_at}
 
 -- the flags are those of the pages visited
 abbrev pub IsFlagged : List Bool → List ℕ → Type 0
@@ -19,7 +20,7 @@ IsFlagged visited seen = (k : ℕ) → k < length visited → get_or visited k t
 -- what the walk does from here completes what it did
 abbrev pub Completes : PageLayout → List ℕ → ℕ → List ℕ → List ℕ → List ℕ → List Pair → Type 0
 Completes s bytes root seen before pending so_far =
-    (pages : List ℕ) (pairs : List Pair) (r : Option NdxFault) → Visits s bytes seen (reverse pending) pages pairs r
+    (pages : List ℕ) (pairs : List Pair) (r : Option BadPage) → Visits s bytes seen (reverse pending) pages pairs r
     → Visits s bytes [] (root ∷ []) (before ++ pages) (so_far ++ pairs) r
 
 pub record State (s : PageLayout) (bytes : List ℕ) (root : ℕ) (visited : List Bool) (pending : List ℕ) (so_far : List Pair) : Type 0 where
@@ -39,7 +40,7 @@ state_init s bytes root visited pending so_far clear one none = record {
 
 module _ (s : PageLayout) (bytes : List ℕ) (root : ℕ) (visited : List Bool) (old pending : List ℕ) (so_far : List Pair) (p : ℕ) (popped : old ≡ pending ++ p ∷ []) (state : State s bytes root visited old so_far) where
   -- the page that was popped is the next
-  next_page : (pages : List ℕ) (pairs : List Pair) (r : Option NdxFault) → Visits s bytes state.seen (p ∷ reverse pending) pages pairs r → Visits s bytes [] (root ∷ []) (state.before ++ pages) (so_far ++ pairs) r
+  next_page : (pages : List ℕ) (pairs : List Pair) (r : Option BadPage) → Visits s bytes state.seen (p ∷ reverse pending) pages pairs r → Visits s bytes [] (root ∷ []) (state.before ++ pages) (so_far ++ pairs) r
   next_page pages pairs r v = state.completes pages pairs r (subst (λ xs. Visits s bytes state.seen xs pages pairs r) (sym (ap reverse popped ∙ reverse-append pending (p ∷ []))) v)
 
   unvisited : get_or visited p true ≡ false → is_visited p state.seen ≡ false
@@ -83,13 +84,26 @@ module _ (s : PageLayout) (bytes : List ℕ) (root : ℕ) (visited : List Bool) 
   }
   step new page pending' so_far' entered (Err f) e takes = absurd takes
 
-  pub step_broken : (new : List Bool) (page : List ℕ) (f : NdxFault) → IsFirstVisit bytes p visited new page → Refuses (node_of s page) f → f ≢ NoMemory → (pages : List ℕ) × (pairs : List Pair) × Visits s bytes [] (root ∷ []) pages pairs (Some f)
-  step_broken new page f entered (inl e) ne = absurd (ne e)
-  step_broken new page f entered (inr e) ne = (state.before ++ [], so_far ++ [], next_page [] [] (Some f) (stops (looks entered (unvisited entered.unvisited) ∙ e)))
+  -- the walk ends at this page, for want of memory or by a rule
+  ends_at : (f : NdxFault) → (f ≢ NoMemory → look s bytes state.seen p ≡ Err f) → IsWalkFault s bytes root (fault_at p f)
+  ends_at Truncated h = (state.before ++ [], so_far ++ [], next_page [] [] _ (stops (h (λ is. cc))))
+  ends_at NumericIndex h = (state.before ++ [], so_far ++ [], next_page [] [] _ (stops (h (λ is. cc))))
+  ends_at UniqueIndex h = (state.before ++ [], so_far ++ [], next_page [] [] _ (stops (h (λ is. cc))))
+  ends_at BadKeyLength h = (state.before ++ [], so_far ++ [], next_page [] [] _ (stops (h (λ is. cc))))
+  ends_at BadRecordSize h = (state.before ++ [], so_far ++ [], next_page [] [] _ (stops (h (λ is. cc))))
+  ends_at PageOutside h = (state.before ++ [], so_far ++ [], next_page [] [] _ (stops (h (λ is. cc))))
+  ends_at PageTwice h = (state.before ++ [], so_far ++ [], next_page [] [] _ (stops (h (λ is. cc))))
+  ends_at TooManyEntries h = (state.before ++ [], so_far ++ [], next_page [] [] _ (stops (h (λ is. cc))))
+  ends_at MixedPage h = (state.before ++ [], so_far ++ [], next_page [] [] _ (stops (h (λ is. cc))))
+  ends_at NoMemory h = tt
 
-  pub step_unvisited : (f : NdxFault) → ((k : ℕ) → is_page bytes k ≡ true → k < length visited) → FailsToVisit bytes p visited f → (pages : List ℕ) × (pairs : List Pair) × Visits s bytes [] (root ∷ []) pages pairs (Some f)
-  step_unvisited f within (inl h) = (state.before ++ [], so_far ++ [], rw h.0 (next_page [] [] (Some PageOutside) (stops (rw h.1))))
-  step_unvisited f within (inr h) = (state.before ++ [], so_far ++ [], rw h.0 (next_page [] [] (Some PageTwice) (stops (looks_twice h.1 (sym (state.flagged p (within p h.1)) ∙ h.2)))))
+  pub step_broken : (new : List Bool) (page : List ℕ) (f : NdxFault) → IsFirstVisit bytes p visited new page → Refuses (node_of s page) f → IsWalkFault s bytes root (fault_at p f)
+  step_broken new page f entered (inl e) = ends_at f (λ ne. absurd (ne e))
+  step_broken new page f entered (inr e) = ends_at f (λ ne. looks entered (unvisited entered.unvisited) ∙ e)
+
+  pub step_unvisited : (f : NdxFault) → ((k : ℕ) → is_page bytes k ≡ true → k < length visited) → FailsToVisit bytes p visited f → IsWalkFault s bytes root (fault_at p f)
+  step_unvisited f within (inl h) = ends_at f (λ ne. rw (h.0, h.1))
+  step_unvisited f within (inr h) = ends_at f (λ ne. rw h.0 (looks_twice h.1 (sym (state.flagged p (within p h.1)) ∙ h.2)))
 
 -- no page is left
 pub state_done : (s : PageLayout) (bytes : List ℕ) (root : ℕ) (visited : List Bool) (pending : List ℕ) (so_far : List Pair) → State s bytes root visited pending so_far → pending ≡ [] → (pages : List ℕ) × Visits s bytes [] (root ∷ []) pages so_far None

@@ -6,6 +6,7 @@ use Rattle.byteorder.specs.Endian.{little_number}
 use Rattle.dbf_fields.specs.Faults.{first_fault}
 use Rattle.ndx_index.specs.declared.pair.Pair.{Pair}
 use Rattle.ndx_index.specs.declared.read.header.Header.{Header}
+use Rattle.ndx_index.specs.declared.fault.BadPage.{BadPage}
 use Rattle.ndx_index.specs.declared.fault.NdxFault.{NdxFault}
 use Rattle.key_expr.specs.declared.format.TheConstants.{MAX_KEY_BYTES}
 use Rattle.ndx_index.specs.declared.format.TheConstants.{PAGE, KEY_LENGTH_OFFSET, KEY_TYPE_OFFSET, RECORD_SIZE_OFFSET, UNIQUE_FLAG_OFFSET, EXPRESSION_OFFSET, MAX_RECORDS_BYTES}
@@ -61,8 +62,15 @@ pub record IsIndex (bytes text : List ℕ) (key_len : ℕ) (pairs : List Pair) :
   pub pages : List ℕ
   pub tree : IsFileTree (ndx_header bytes).layout bytes (ndx_header bytes).root pages pairs
 
+-- this is the page at which the walk breaks a rule first, and the rule
+abbrev pub IsBadPage : List ℕ → BadPage → Type 0
+IsBadPage bytes bad =
+    (header_refusal bytes ≡ None) × (pages : List ℕ) × (pairs : List Pair) × Visits (ndx_header bytes).layout bytes [] ((ndx_header bytes).root ∷ []) pages pairs (Some bad)
+
+-- the header page breaks a rule, or none is broken
+abbrev pub HasNoBadPage : List ℕ → Type 0
+HasNoBadPage bytes = (bad : BadPage) → IsBadPage bytes bad → ⊥
+
 -- this is the first rule that the bytes break
 abbrev pub HasNdxFault : List ℕ → NdxFault → Type 0
-HasNdxFault bytes e =
-    (header_refusal bytes ≡ Some e)
-    ⊎ ((header_refusal bytes ≡ None) × (pages : List ℕ) × (pairs : List Pair) × Visits (ndx_header bytes).layout bytes [] ((ndx_header bytes).root ∷ []) pages pairs (Some e))
+HasNdxFault bytes e = (header_refusal bytes ≡ Some e) ⊎ ((page : ℕ) × IsBadPage bytes (record { page = page; why = e }))

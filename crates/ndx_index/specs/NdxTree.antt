@@ -2,6 +2,7 @@
 use Rattle.std.specs.Prelude.{◌≡◌, ℕ, Bool, true, nat_eq, List, [], ◌∷◌, ◌++◌, Option, Some, None, Result, Ok, Err, if◌then◌else◌}
 use Rattle.std.specs.List.{list_any, IsDistinct}
 use Rattle.ndx_index.specs.declared.pair.Pair.{Pair}
+use Rattle.ndx_index.specs.declared.fault.BadPage.{BadPage}
 use Rattle.ndx_index.specs.declared.fault.NdxFault.{NdxFault}
 use Rattle.ndx_index.specs.declared.fault.NdxFault.TheVariants.{PageOutside, PageTwice}
 use Rattle.ndx_index.specs.declared.read.page.PageLayout.{PageLayout}
@@ -36,11 +37,11 @@ look s bytes visited p =
     if is_page bytes p then (if is_visited p visited then Err PageTwice else node_of s (page_of bytes p)) else Err PageOutside
 
 -- A walk, depth first: which pages were visited before, which are still to be visited, and then the pages that are
--- visited up to the first that breaks a rule, their pairs, and that rule.
-pub data Visits (s : PageLayout) (bytes : List ℕ) : List ℕ → List ℕ → List ℕ → List Pair → Option NdxFault → Type 0 where
+-- visited up to the first that breaks a rule, their pairs, and that page with the rule.
+pub data Visits (s : PageLayout) (bytes : List ℕ) : List ℕ → List ℕ → List ℕ → List Pair → Option BadPage → Type 0 where
   done : {visited : List ℕ} → Visits s bytes visited [] [] [] None
-  stops : {visited pending : List ℕ} {p : ℕ} {e : NdxFault} → look s bytes visited p ≡ Err e → Visits s bytes visited (p ∷ pending) [] [] (Some e)
-  visit_leaf : {visited pending pages : List ℕ} {p : ℕ} {own pairs : List Pair} {r : Option NdxFault} → look s bytes visited p ≡ Ok (leaf own)
+  stops : {visited pending : List ℕ} {p : ℕ} {e : NdxFault} → look s bytes visited p ≡ Err e → Visits s bytes visited (p ∷ pending) [] [] (Some (record { page = p; why = e }))
+  visit_leaf : {visited pending pages : List ℕ} {p : ℕ} {own pairs : List Pair} {r : Option BadPage} → look s bytes visited p ≡ Ok (leaf own)
       → Visits s bytes (p ∷ visited) pending pages pairs r → Visits s bytes visited (p ∷ pending) (p ∷ pages) (own ++ pairs) r
-  visit_inner : {visited pending children pages : List ℕ} {p : ℕ} {pairs : List Pair} {r : Option NdxFault} → look s bytes visited p ≡ Ok (inner children)
+  visit_inner : {visited pending children pages : List ℕ} {p : ℕ} {pairs : List Pair} {r : Option BadPage} → look s bytes visited p ≡ Ok (inner children)
       → Visits s bytes (p ∷ visited) (children ++ pending) pages pairs r → Visits s bytes visited (p ∷ pending) (p ∷ pages) pairs r

@@ -56,3 +56,12 @@ impl<T: Drop> From<AllocFailed<T>> for NdxFault {
         NdxFault::NoMemory
     }
 }
+
+/// The page at which the walk over an index file ends, and the rule that it breaks there.
+#[derive(Clone, Copy, Debug, PartialEq, Eq)]
+pub struct BadPage {
+    /// Its number: the bytes from 512 times that on. It may lie outside the file.
+    pub page: u32,
+    /// The rule.
+    pub why: NdxFault,
+}

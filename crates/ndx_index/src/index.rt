@@ -186,6 +186,7 @@ impl OrderedIndex {
 
     /// All pairs in order, copied out. `AllocError` where there is no memory for them.
     pub fn pairs(&self, alloc: Global) -> Result<PairList, AllocError>
+        ensures key_len { IfOk result (λ list. list.key_len ≡ self.now.key_len) }
         ensures pairs { IfOk result (λ list. list.pairs ≡ self.now.pairs) }
         ensures ordered { AreInOrder self.now.pairs }
         ensures keys { HaveLength self.now.key_len self.now.pairs }

@@ -3,7 +3,7 @@
 //! [`OrderedIndex`] keeps pairs of a key and a record number in order; contracts see the sorted list and
 //! how many inserts have room. [`read_ndx`] reads the bytes of an index file: it answers the pairs of the
 //! file's tree, its key length and its key expression exactly where the bytes are an index file, and else
-//! the first broken rule. [`write_ndx`] writes the one file that is written of an index, without taking
+//! the first broken rule, whose page [`first_bad_page`] tells. [`write_ndx`] writes the one file that is written of an index, without taking
 //! memory, and what it writes reads back as that index.
 //!
 //! Start with specs/Order.antt (the order), specs/NdxTree.antt (the tree and its walk), specs/Header.antt
@@ -21,7 +21,7 @@ ghost use Rattle.dbf_image.specs.Table.{Table};
 ghost use Rattle.key_expr.specs.Grammar.{Expr};
 ghost use Rattle.ndx_index.specs.declared.pair.Pair.{Pair as PairValue};
 ghost use Rattle.ndx_index.specs.declared.read.page.PageLayout.{PageLayout as LayoutValue};
-ghost use Rattle.ndx_index.specs.declared.fault.NdxFault.{NdxFault as Fault};
+ghost use Rattle.ndx_index.specs.declared.fault.BadPage.{BadPage as BadPageValue};
 ghost use Rattle.ndx_index.specs.Header.{before_zero, trimmed_end};
 ghost use Rattle.ndx_index.specs.Image.{IsWritable};
 ghost use Rattle.ndx_index.specs.IndexFile.{HasNoZero, ReadsBackAs};
@@ -40,7 +40,7 @@ mod pair_list;
 mod read;
 mod write;
 
-pub use crate::fault::NdxFault;
+pub use crate::fault::{BadPage, NdxFault};
 pub use crate::format::{
     EXPRESSION_OFFSET, KEY_LENGTH_OFFSET, KEY_TYPE_OFFSET, MAX_PAIRS, MAX_RECORDS_BYTES, PAGE,
     RECORD_SIZE_OFFSET, UNIQUE_FLAG_OFFSET,
@@ -49,7 +49,7 @@ pub use crate::index::OrderedIndex;
 pub use crate::ndx_file::NdxFile;
 pub use crate::pair::Pair;
 pub use crate::pair_list::PairList;
-pub use crate::read::read_ndx;
+pub use crate::read::{first_bad_page, read_ndx};
 pub use crate::write::write_ndx;
 
 /// The order of pairs is their sorted permutation, and they have no other.
@@ -65,7 +65,7 @@ pub fn one_order()
 pub fn one_walk()
     ensures tree { (s : LayoutValue) (bytes : List ℕ) (root : ℕ) (pages : List ℕ) (pairs : List PairValue)
         → Visits s bytes [] (root ∷ []) pages pairs None ↔ IsFileTree s bytes root pages pairs }
-    ensures only { (s : LayoutValue) (bytes : List ℕ) (root : ℕ) (pages others : List ℕ) (pairs rest : List PairValue) (r t : Option Fault)
+    ensures only { (s : LayoutValue) (bytes : List ℕ) (root : ℕ) (pages others : List ℕ) (pairs rest : List PairValue) (r t : Option BadPageValue)
         → Visits s bytes [] (root ∷ []) pages pairs r → Visits s bytes [] (root ∷ []) others rest t
         → (pages ≡ others) × (pairs ≡ rest) × (r ≡ t) }
 {}

@@ -1,53 +1,11 @@
 //! Damaged index files: the answer is the file, or one refusal.
 
-use ndx_index::{NdxFault, read_ndx};
-use sample_files::with_zeros;
+use ndx_index::{BadPage, NdxFault, first_bad_page, read_ndx};
+use sample_files::{EMPTY_INDEX, FIRST_LEAF, ROOT, two_leaves, with_zeros};
 use std::alloc::{AllocError, Global};
 use std::test::Fail;
 
-// An index on NAME, of keys of ten bytes: the root is page 3 of 4, and a page has 25 places of 20 bytes.
-const HEADER: [u8; 28] = [
-    3, 0, 0, 0, 4, 0, 0, 0, 0, 0, 0, 0, 10, 0, 25, 0, 0, 0, 20, 0, 0, 0, 0, 0, b'N', b'A', b'M',
-    b'E',
-];
-
-// Where the first leaf and the root begin.
-const LEAF: usize = 512;
-
-const ROOT: usize = 1_536;
-
-// Puts an entry after others: its child, its record, and a key of the record's two digits.
-fn push_entry(bytes: &mut Vec<u8>, child: u32, number: u32) -> Result<(), AllocError> {
-    let digits = [b'0' + (number / 10 % 10) as u8, b'0' + (number % 10) as u8];
-    bytes.extend_from_slice(&child.to_le_bytes())?;
-    bytes.extend_from_slice(&number.to_le_bytes())?;
-    bytes.extend_from_slice(&digits)?;
-    bytes.extend_from_slice(b"        \0\0")
-}
-
-// A leaf of the records from one on.
-fn push_leaf(bytes: &mut Vec<u8>, from: u32, count: u32) -> Result<(), AllocError> {
-    bytes.extend_from_slice(&count.to_le_bytes())?;
-    for place in 0..count {
-        push_entry(bytes, 0, from.saturating_add(place))?;
-    }
-    Ok(())
-}
-
-// The file of 26 records: leaves are page 1, of 25 entries, and page 2, of one; page 3 has both as its children.
-fn two_leaves(alloc: Global) -> Result<Vec<u8>, AllocError> {
-    let mut bytes = with_zeros(alloc, &HEADER, LEAF)?;
-    push_leaf(&mut bytes, 1, 25)?;
-    let mut bytes = with_zeros(alloc, bytes.as_slice(), 1_024)?;
-    push_leaf(&mut bytes, 26, 1)?;
-    let mut bytes = with_zeros(alloc, bytes.as_slice(), ROOT)?;
-    bytes.extend_from_slice(&[1, 0, 0, 0])?;
-    push_entry(&mut bytes, 1, 25)?;
-    bytes.extend_from_slice(&[2, 0, 0, 0])?;
-    with_zeros(alloc, bytes.as_slice(), 2_048)
-}
-
-// That file cut to a length, with some of its bytes changed.
+// An index of 26 records, in two leaves, cut to a length, with some of its bytes changed.
 fn damaged(alloc: Global, length: usize, changes: &[(usize, u8)]) -> Result<Vec<u8>, AllocError> {
     let mut bytes = two_leaves(alloc)?;
     bytes.truncate(length);
@@ -59,31 +17,43 @@ fn damaged(alloc: Global, length: usize, changes: &[(usize, u8)]) -> Result<Vec<
     Ok(bytes)
 }
 
-const DAMAGED: [(usize, &[(usize, u8)], NdxFault); 11] = [
-    (511, &[], NdxFault::Truncated),
-    (2_047, &[], NdxFault::PageOutside),
+// A cut, the changes, the refusal, and the page that it is about.
+const DAMAGED: [(usize, &[(usize, u8)], NdxFault, Option<u32>); 11] = [
+    (511, &[], NdxFault::Truncated, None),
+    (2_047, &[], NdxFault::PageOutside, Some(3)),
     // Counts of entries: of a leaf, and of the root.
-    (2_048, &[(LEAF, 26)], NdxFault::TooManyEntries),
-    (2_048, &[(LEAF + 3, 0x80)], NdxFault::TooManyEntries),
+    (
+        2_048,
+        &[(FIRST_LEAF, 26)],
+        NdxFault::TooManyEntries,
+        Some(1),
+    ),
+    (
+        2_048,
+        &[(FIRST_LEAF + 3, 0x80)],
+        NdxFault::TooManyEntries,
+        Some(1),
+    ),
     (
         2_048,
         &[
-            (LEAF, 0xff),
-            (LEAF + 1, 0xff),
-            (LEAF + 2, 0xff),
-            (LEAF + 3, 0xff),
+            (FIRST_LEAF, 0xff),
+            (FIRST_LEAF + 1, 0xff),
+            (FIRST_LEAF + 2, 0xff),
+            (FIRST_LEAF + 3, 0xff),
         ],
         NdxFault::TooManyEntries,
+        Some(1),
     ),
-    (2_048, &[(ROOT, 26)], NdxFault::TooManyEntries),
+    (2_048, &[(ROOT, 26)], NdxFault::TooManyEntries, Some(3)),
     // The root's second child is page 1 too, or none.
-    (2_048, &[(ROOT + 24, 1)], NdxFault::PageTwice),
-    (2_048, &[(ROOT + 24, 0)], NdxFault::MixedPage),
+    (2_048, &[(ROOT + 24, 1)], NdxFault::PageTwice, Some(1)),
+    (2_048, &[(ROOT + 24, 0)], NdxFault::MixedPage, Some(3)),
     // The second entry of a leaf has a child.
-    (2_048, &[(LEAF + 24, 1)], NdxFault::MixedPage),
+    (2_048, &[(FIRST_LEAF + 24, 1)], NdxFault::MixedPage, Some(1)),
     // The size of a key record is no multiple of four, or over a page.
-    (2_048, &[(18, 17)], NdxFault::BadRecordSize),
-    (2_048, &[(18, 0xf9), (19, 1)], NdxFault::BadRecordSize),
+    (2_048, &[(18, 17)], NdxFault::BadRecordSize, None),
+    (2_048, &[(18, 0xf9), (19, 1)], NdxFault::BadRecordSize, None),
 ];
 
 // How many pairs a file has.
@@ -95,9 +65,21 @@ fn pair_count(alloc: Global, bytes: &[u8]) -> Result<usize, NdxFault> {
 fn damaged_index_files(rt: HostRuntime) -> Result<(), Fail> {
     let alloc = rt.alloc();
     assert_eq!(rt; pair_count(alloc, two_leaves(alloc)?.as_slice()), Ok(26));
-    for (length, changes, fault) in DAMAGED {
+    for (length, changes, fault, _) in DAMAGED {
         let bytes = damaged(alloc, length, changes)?;
         assert_eq!(rt; pair_count(alloc, bytes.as_slice()), Err(fault));
+    }
+    Ok(())
+}
+
+#[test]
+fn first_bad_pages(rt: HostRuntime) -> Result<(), Fail> {
+    let alloc = rt.alloc();
+    assert_eq!(rt; first_bad_page(alloc, two_leaves(alloc)?.as_slice())?, None);
+    for (length, changes, why, page) in DAMAGED {
+        let bytes = damaged(alloc, length, changes)?;
+        let bad = page.map(|page| BadPage { page, why });
+        assert_eq!(rt; first_bad_page(alloc, bytes.as_slice())?, bad);
     }
     Ok(())
 }
@@ -105,8 +87,7 @@ fn damaged_index_files(rt: HostRuntime) -> Result<(), Fail> {
 // A file of 10,001 pages whose root is page 1: each page but the last has no key, and the next page as its child. The last
 // is an empty leaf.
 fn chain_of_pages(alloc: Global) -> Result<Vec<u8>, AllocError> {
-    let mut header = HEADER;
-    header[0] = 1;
+    let mut header = EMPTY_INDEX;
     // 10,002 pages with the header's.
     header[4] = 0x12;
     header[5] = 0x27;

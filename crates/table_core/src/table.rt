@@ -126,6 +126,7 @@ impl Table {
     pub fn index_pairs(&self, alloc: Global, number: usize) -> Result<PairList, AllocError>
         requires one { 1 ≤ number }
         requires inside { number ≤ length self.now.content.indexes }
+        ensures key_len { IfOk result (λ list. list.key_len ≡ key_length_at self.now.content number) }
         ensures value { IfOk result (λ list. list.pairs ≡ order_at self.now.content number) }
         ensures ordered { AreInOrder (order_at self.now.content number) }
         ensures keys { HaveLength (key_length_at self.now.content number) (order_at self.now.content number) }

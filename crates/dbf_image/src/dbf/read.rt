@@ -1,79 +1,25 @@
 //! Reading a table from the bytes of a DBF file.
 
-ghost use Rattle.std.specs.Prelude.{◌≡◌, ◌+◌, ◌-◌, ◌*◌, ◌/◌, ◌<◌, ◌≤◌, ◌==◌, ◌||◌, true, nat_le, length, map, take, drop, Some, None, is_none, IfSome, IfOk, IfErr, OnOk, MatchResult};
-ghost use Rattle.std.specs.List.{position};
+ghost use Rattle.std.specs.Prelude.{◌≡◌, ◌+◌, ◌*◌, ◌≤◌, ◌==◌, ◌||◌, true, nat_le, length, map, take, drop, Some, None, is_none, IfOk, IfErr, OnOk, MatchResult};
 ghost use Rattle.std.specs.Option.{option_copied};
 ghost use Rattle.dbf_fields.specs.Faults.{first_fault};
 ghost use Rattle.dbf_fields.specs.Field.{folded, widths};
 ghost use Rattle.dbf_fields.specs.Schema as schemas;
-ghost use Rattle.dbf_image.specs.DbfText.{chunks, field_of, IsDbf, header_length as dbf_header_length};
+ghost use Rattle.dbf_image.specs.DbfText.{IsDbf, header_length as dbf_header_length};
 ghost use Rattle.dbf_image.specs.Table.{Table};
 ghost use Rattle.dbf_image.specs.declared.fault.ImageFault.{ImageFault};
-ghost use Rattle.dbf_image.specs.declared.format.TheConstants.{DESCRIPTOR, HEADER, MAX_RECORDS, VERSION, VERSION_WITH_MEMOS};
+ghost use Rattle.dbf_image.specs.declared.format.TheConstants.{HEADER, MAX_RECORDS, VERSION, VERSION_WITH_MEMOS};
 ghost use Rattle.dbf_image.specs.Reading.{field_count, dbf_header, schema_of, header_tests, descriptor_tests, record_tests, early_refusal, table_read, image_refusal, IsRefusal, IsFieldsRefusal, IsImageRefusal};
 
+use crate::dbf::fields::{descriptor_count, fields_at};
 use crate::dbf::header::Header;
 use crate::dbt::memos::memos_at;
 use crate::fault::ImageFault;
-use crate::format::{
-    DESCRIPTOR, HEADER, HEADER_END, MAX_RECORDS, NAME_BYTES, VERSION, VERSION_WITH_MEMOS,
-};
+use crate::format::{HEADER, MAX_RECORDS, VERSION, VERSION_WITH_MEMOS};
 use crate::table::TableData;
 use byteorder::{ByteOrder, LittleEndian};
 use dbf_fields::{Bytes, Field, Schema, SchemaFault};
 use std::alloc::{AllocError, Global};
-
-// How many descriptors stand before the first 0x0D among the bytes 32, 64, .. below `end`.
-fn descriptor_count(bytes: &[u8], end: usize) -> Option<usize>
-    requires inside { end ≤ length bytes.now }
-    requires value { end ≡ dbf_header_length bytes.now }
-    ensures count { result ≡ field_count bytes.now }
-    ensures room { IfSome result (λ n. HEADER + DESCRIPTOR * n < end) }
-{
-    for i in 0..end.saturating_sub(1) / DESCRIPTOR {
-        if bytes[HEADER + DESCRIPTOR * i] == HEADER_END {
-            return Some(i);
-        }
-    }
-    None
-}
-
-// Where the first zero stands.
-fn first_zero(name: &[u8]) -> Option<usize>
-    ensures value { result ≡ position (λ b. b == 0) name.now }
-{
-    name.iter().position(|byte| *byte == 0)
-}
-
-// The field of a descriptor.
-fn field_at(alloc: Global, descriptor: &[u8]) -> Result<Field, AllocError>
-    requires long { DESCRIPTOR ≤ length descriptor.now }
-    ensures value { IfOk result (λ field. field ≡ field_of descriptor.now) }
-{
-    let name = &descriptor[..NAME_BYTES];
-    let end = first_zero(name).unwrap_or(NAME_BYTES);
-    Ok(Field {
-        name: Bytes::from_slice(alloc, &name[..end])?,
-        kind: descriptor[11],
-        width: descriptor[16],
-        decimals: descriptor[17],
-    })
-}
-
-// The fields of the first descriptors, one after the other.
-fn fields_at(alloc: Global, count: usize, bytes: &[u8]) -> Result<Vec<Field>, AllocError>
-    requires room { DESCRIPTOR * count ≤ length bytes.now }
-    ensures value { IfOk result (λ fields. fields.items ≡ map field_of (chunks DESCRIPTOR count bytes.now)) }
-{
-    let mut fields = Vec::new(alloc);
-    let mut rest = bytes;
-    for _ in 0..count {
-        let (descriptor, after) = rest.split_at(DESCRIPTOR);
-        fields.push(field_at(alloc, descriptor)?)?;
-        rest = after;
-    }
-    Ok(fields)
-}
 
 // The numbers of the header, where all of it is there.
 #[tactic(auto, unfolding(crate::specs::Reading::header_tests))]

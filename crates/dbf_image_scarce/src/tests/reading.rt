@@ -61,6 +61,15 @@ fn block_attempt(alloc: Global, dbt: &[u8]) -> Attempt {
     }
 }
 
+// The fields that the sample's file tells.
+fn fields_attempt(alloc: Global) -> Attempt {
+    match told_fields(alloc, &DBF) {
+        Ok(Some(fields)) => Attempt::right_if(fields.len() == 2 && fields[1].kind == MEMO),
+        Ok(None) => Attempt::Wrong,
+        Err(AllocError) => Attempt::Refused,
+    }
+}
+
 // The memo of a table's first record.
 fn table_memo_attempt(alloc: Global, table: &TableData) -> Attempt {
     if table.record_count() < 1 || table.schema().fields().len() < 2 {
@@ -88,6 +97,7 @@ fn growing_memo_attempt(alloc: Global, table: &GrowingTable) -> Attempt {
 enum Called {
     ReadTable,
     ReadMemo,
+    ToldFields,
     TableCopy,
     TableMemo,
     GrowingContent,
@@ -99,6 +109,7 @@ fn attempt_of(alloc: Global, sample: &mut Sample, called: Called) -> Attempt {
     match called {
         Called::ReadTable => reading_attempt(alloc, sample),
         Called::ReadMemo => block_attempt(alloc, &sample.dbt),
+        Called::ToldFields => fields_attempt(alloc),
         Called::TableCopy => {
             let answer = sample.table.copy(alloc);
             table_attempt(sample, answer)
@@ -118,6 +129,7 @@ fn each_request_is_refused_in_turn(rt: HostRuntime) -> Result<(), Fail> {
     for called in [
         Called::ReadTable,
         Called::ReadMemo,
+        Called::ToldFields,
         Called::TableCopy,
         Called::TableMemo,
         Called::GrowingContent,

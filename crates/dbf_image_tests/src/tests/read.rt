@@ -78,3 +78,47 @@ fn damaged_table_files(rt: HostRuntime) {
         assert_eq!(rt; read_copy(rt.alloc(), &dbf, None).err(), Some(fault));
     }
 }
+
+// Whether a file tells one field, with this name, kind, width and number of decimals, or none at all.
+fn assert_told(
+    alloc: Global,
+    rt: &impl Abort,
+    dbf: &[u8],
+    told: Option<(&[u8], u8, u8, u8)>,
+) -> Result<(), Fail> {
+    let Some(fields) = told_fields(alloc, dbf)? else {
+        assert_eq!(rt; told, None);
+        return Ok(());
+    };
+    assert_eq!(rt; fields.len(), 1);
+    let field = &fields[0];
+    assert_eq!(rt;
+        told,
+        Some((
+            field.name.as_slice(),
+            field.kind,
+            field.width,
+            field.decimals
+        ))
+    );
+    Ok(())
+}
+
+#[test]
+fn fields_of_refused_tables(rt: HostRuntime) -> Result<(), Fail> {
+    let cases: [(&[u8], Option<(&[u8], u8, u8, u8)>); 7] = [
+        (&TWO_NAMES, Some((b"NAME", b'C', 10, 0))),
+        (&TOLERATED, Some((b"NAME", b'C', 10, 0))),
+        // The header alone, and a byte less.
+        (&TWO_NAMES[..65], Some((b"NAME", b'C', 10, 0))),
+        (&TWO_NAMES[..64], None),
+        (&TWO_NAMES[..31], None),
+        // A width that no field may have, and a list of fields without an end.
+        (&changed(&[(48, 0)]), Some((b"NAME", b'C', 0, 0))),
+        (&changed(&[(8, 64)]), None),
+    ];
+    for (dbf, told) in cases {
+        assert_told(rt.alloc(), &rt, dbf, told)?;
+    }
+    Ok(())
+}

@@ -1,7 +1,7 @@
 use Rattle.std.proofs.Common.{◌≡◌, ◌-◌, ◌*◌, ◌≤◌, ◌++◌, length, map}
 use Rattle.dbf_image.specs.DbfText.{chunks, field_of}
 use Rattle.dbf_image.specs.declared.format.TheConstants.{DESCRIPTOR}
-use Rattle.dbf_image.proofs.dbf.read.fields_at.Given as goal
+use Rattle.dbf_image.proofs.dbf.fields.fields_at.Given as goal
 
 abbrev pub invariant-loop : goal.invariant-loop
 invariant-loop l = record {

@@ -2,7 +2,7 @@ use Rattle.std.proofs.Common.{ℕ, ◌+◌, ◌-◌, ◌*◌, ◌/◌, eqb, ◌�
 use Rattle.std.specs.Prelude.{slice_index}
 use Rattle.std.proofs.lemmas.Bool.{ne_eqb}
 use Rattle.dbf_image.proofs.Chunks.{first_passing-next}
-use Rattle.dbf_image.proofs.dbf.read.descriptor_count.Goals as goal
+use Rattle.dbf_image.proofs.dbf.fields.descriptor_count.Goals as goal
 use Rattle.dbf_image.specs.declared.format.TheConstants.{DESCRIPTOR, HEADER, HEADER_END}
 
 pub loop-i-preserved : goal.loop-i-preserved

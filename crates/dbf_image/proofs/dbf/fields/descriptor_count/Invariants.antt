@@ -1,7 +1,7 @@
 use Rattle.std.proofs.Common.{◌≡◌, ℕ, ◌+◌, ◌-◌, ◌*◌, ◌/◌, eqb}
 use Rattle.std.specs.Prelude.{slice_index}
 use Rattle.dbf_image.specs.Reading.{first_passing}
-use Rattle.dbf_image.proofs.dbf.read.descriptor_count.Given as goal
+use Rattle.dbf_image.proofs.dbf.fields.descriptor_count.Given as goal
 use Rattle.dbf_image.specs.declared.format.TheConstants.{DESCRIPTOR, HEADER, HEADER_END}
 
 abbrev pub invariant-loop-i : goal.invariant-loop-i

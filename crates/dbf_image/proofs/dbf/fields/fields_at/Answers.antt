@@ -2,7 +2,7 @@ use Rattle.std.proofs.Common.{◌∙◌, arith}
 use Rattle.dbf_image.specs.DbfText.{field_of}
 use Rattle.dbf_image.proofs.Chunks.{chunks-next}
 use Rattle.dbf_image.specs.declared.format.TheConstants.{DESCRIPTOR}
-use Rattle.dbf_image.proofs.dbf.read.fields_at.Goals as goal
+use Rattle.dbf_image.proofs.dbf.fields.fields_at.Goals as goal
 
 pub loop-preserved : goal.loop-preserved
 loop-preserved c = record {
