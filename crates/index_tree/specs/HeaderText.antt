@@ -11,7 +11,7 @@ use Rattle.ndx_index.specs.Header.{u16_at}
 use Rattle.ndx_index.specs.Pages.{u32_at}
 use Rattle.index_tree.specs.declared.format.TheConstants.{LF, PAGE_COUNT_OFFSET}
 use Rattle.ndx_index.specs.declared.format.TheConstants.{PAGE, KEY_LENGTH_OFFSET, KEY_TYPE_OFFSET, RECORD_SIZE_OFFSET, UNIQUE_FLAG_OFFSET, EXPRESSION_OFFSET, MAX_RECORDS_BYTES}
-use Rattle.index_tree.specs.Shown.{between_quotes}
+use Rattle.table_text.specs.Quoted.{between_quotes}
 
 -- each test of the header page without which no page can be read, beside the fault that it is for
 unfoldable pub layout_tests : List ℕ → List (Bool × NdxFault)

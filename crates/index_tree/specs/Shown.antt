@@ -3,12 +3,7 @@ use Rattle.std.specs.Prelude.{◌≡◌, ◌⊎◌, ℕ, Bool, List, [], ◌∷�
 use Rattle.std.specs.Ordering.{nat_cmp, is_lt}
 use Rattle.std.specs.Cmp.Lexicographic.{slice_cmp}
 use Rattle.ndx_index.specs.declared.pair.Pair.{Pair}
-use Rattle.table_text.specs.Shown.{shown_bytes}
-use Rattle.index_tree.specs.declared.format.TheConstants.{QUOTE}
-
--- bytes between quotes, those that are not printable as a backslash, `x` and two digits
-abbrev pub between_quotes : List ℕ → List ℕ
-between_quotes bytes = QUOTE ∷ (shown_bytes bytes ++ QUOTE ∷ [])
+use Rattle.table_text.specs.Quoted.{between_quotes}
 
 -- the first key is less than the second, byte by byte
 abbrev pub is_less : List ℕ → List ℕ → Bool

@@ -8,12 +8,13 @@ ghost use Rattle.index_tree.specs.HeaderText.{expression_line, fault_line as lin
 
 use crate::format::{LF, PAGE_COUNT_OFFSET};
 use crate::layout::{u16_at, u32_at};
-use crate::shown::{put_number, put_quoted};
+use crate::number::put_number;
 use byte_io::{ByteSink, SinkWriter};
 use ndx_index::{
     EXPRESSION_OFFSET, KEY_LENGTH_OFFSET, KEY_TYPE_OFFSET, NdxFault, PAGE, RECORD_SIZE_OFFSET,
     UNIQUE_FLAG_OFFSET,
 };
+use table_text::put_between_quotes;
 
 /// What a fault is told as.
 pub(crate) fn words_of(fault: NdxFault) -> &'static [u8]
@@ -103,7 +104,7 @@ fn put_expression<S: ByteSink>(out: &mut SinkWriter<'_, S>, bytes: &[u8])
     ensures put { Puts out.old (expression_line bytes.now) out.new }
 {
     out.put(b"Key expression: ");
-    put_quoted(out, before_zero(&bytes[EXPRESSION_OFFSET..PAGE]));
+    put_between_quotes(out, before_zero(&bytes[EXPRESSION_OFFSET..PAGE]));
     out.put(&[LF]);
 }
 

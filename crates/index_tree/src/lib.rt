@@ -20,8 +20,8 @@ mod format;
 mod header;
 mod layout;
 mod lines;
+mod number;
 mod page;
-mod shown;
 mod tree;
 mod walk;
 

@@ -10,11 +10,12 @@ ghost use Rattle.index_tree.specs.Shown.{keys_range};
 use crate::format::LF;
 use crate::header::words_of;
 use crate::layout::Layout;
+use crate::number::put_number;
 use crate::page::{PageView, greatest_key, least_key};
-use crate::shown::{put_number, put_quoted};
 use byte_io::{ByteSink, SinkWriter};
 use dbf_fields::BLANK;
 use ndx_index::PAGE;
+use table_text::put_between_quotes;
 
 // Two blanks for each level.
 fn put_indent<S: ByteSink>(out: &mut SinkWriter<'_, S>, depth: usize)
@@ -40,9 +41,9 @@ fn put_keys_range<S: ByteSink>(
 {
     if count > 0 {
         out.put(b"  ");
-        put_quoted(out, least_key(layout, page, count));
+        put_between_quotes(out, least_key(layout, page, count));
         out.put(b" to ");
-        put_quoted(out, greatest_key(layout, page, count));
+        put_between_quotes(out, greatest_key(layout, page, count));
     }
 }
 

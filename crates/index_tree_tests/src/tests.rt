@@ -2,7 +2,7 @@
 
 use dbf_image::{LimitedSink, MemorySink};
 use index_tree::write_tree;
-use sample_files::{EMPTY_INDEX, with_zeros};
+use sample_files::{EMPTY_INDEX, two_leaves, with_zeros};
 use std::alloc::{AllocError, Global};
 use std::process::Abort;
 use std::test::*;
@@ -83,16 +83,7 @@ fn push_inner(
     end_page(bytes)
 }
 
-// The file of 26 records: leaves are page 1, of 25 entries, and page 2, of one; page 3 has both as its children.
-fn two_leaves(alloc: Global) -> Result<Vec<u8>, AllocError> {
-    let mut bytes = with_zeros(alloc, &TEN, PAGE)?;
-    push_leaf(&mut bytes, 10, 1, 25)?;
-    push_leaf(&mut bytes, 10, 26, 1)?;
-    push_inner(&mut bytes, 10, &[(1, 25)], 2)?;
-    Ok(bytes)
-}
-
-// That file cut to a length, with some of its bytes changed.
+// The file of an index of two leaves cut to a length, with some of its bytes changed.
 fn changed(alloc: Global, length: usize, changes: &[(usize, u8)]) -> Result<Vec<u8>, AllocError> {
     let mut bytes = two_leaves(alloc)?;
     bytes.truncate(length);

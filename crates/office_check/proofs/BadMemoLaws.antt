@@ -12,7 +12,7 @@ use Rattle.office_check.specs.declared.table_file.memo_cells.MemoCell.{MemoCell}
 use Rattle.office_check.specs.TableFile.{block_fault, fault_of_cell, is_bad_cell, cells_from, field_cells, memo_cell}
 
 -- the first of two, where there is one
-abbrev or_else : Option ImageFault → Option ImageFault → Option ImageFault
+abbrev pub or_else : Option ImageFault → Option ImageFault → Option ImageFault
 or_else None other = other
 or_else (Some fault) other = Some fault
 
@@ -21,7 +21,7 @@ abbrev cell_faults : List ℕ → List MemoCell → Option ImageFault
 cell_faults dbt [] = None
 cell_faults dbt (c ∷ cs) = or_else (block_fault dbt c.block) (cell_faults dbt cs)
 
-tests_joined : (xs ys : List (Bool × ImageFault)) → first_fault (xs ++ ys) ≡ or_else (first_fault xs) (first_fault ys)
+pub tests_joined : (xs ys : List (Bool × ImageFault)) → first_fault (xs ++ ys) ≡ or_else (first_fault xs) (first_fault ys)
 tests_joined [] ys = refl
 tests_joined ((true, f) ∷ xs) ys = tests_joined xs ys
 tests_joined ((false, f) ∷ xs) ys = refl

@@ -145,7 +145,7 @@ look_of_read files dbf dbt bytes memos (Ok loaded) f m h = (bytes, memos, f, m, 
 look_of_read files dbf dbt bytes memos (Err CannotRead) f m h = tt
 look_of_read files dbf dbt bytes memos (Err CannotReadMemos) f m h = let bad = h.5 in absurd cc
 look_of_read files dbf dbt bytes memos (Err (NoTable why details)) f m h = (bytes, memos, f, m, h)
-look_of_read files dbf dbt bytes memos (Err (NoIndex why numbers)) f m h = (bytes, memos, f, m, h)
+look_of_read files dbf dbt bytes memos (Err (NoIndex why details)) f m h = (bytes, memos, f, m, h)
 
 -- the state of a file whose key expression was read
 pub state_of_read : (table : Content) (file : NdxFile) (e : Expr) (state : IndexState) → HasExpression table file e → IsIndexStateWith table file e state → IsIndexState table file state

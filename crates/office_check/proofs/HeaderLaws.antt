@@ -11,10 +11,10 @@ use Rattle.dbf_image.specs.declared.fault.ImageFault.{ImageFault}
 use Rattle.dbf_image.specs.declared.fault.ImageFault.TheVariants.{BadRecordLength, TooManyRecords, Truncated}
 use Rattle.dbf_image.specs.declared.format.TheConstants.{HEADER, MAX_RECORDS}
 use Rattle.dbf_image.specs.DbfText.{chunks, header_length, header_record_count, record_length}
-use Rattle.dbf_image.specs.Reading.{field_count, fields_of, record_tests, records_of, schema_of}
+use Rattle.dbf_image.specs.Reading.{field_count, fields_of, has_whole_header, record_tests, records_of, schema_of}
 use Rattle.office_check.specs.declared.head_numbers.TableNumbers.{TableNumbers}
 use Rattle.office_check.specs.HeadNumbers.{table_numbers}
-use Rattle.office_check.specs.TableFile.{cells_from, has_records, has_whole_header, tells_records, told_cells}
+use Rattle.office_check.specs.TableFile.{cells_from, has_records, tells_records, told_cells}
 
 first_true : (a b : Bool) → (a && b) ≡ true → a ≡ true
 first_true true b h = refl

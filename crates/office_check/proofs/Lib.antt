@@ -6,4 +6,6 @@ pub mod TableFileLaws
 pub mod MemoBlockLaws
 pub mod TakerLaws
 pub mod BadMemoLaws
+pub mod GoodTableLaws
 pub mod HeaderLaws
+pub mod PageLaws

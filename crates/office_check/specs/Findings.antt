@@ -22,7 +22,7 @@ use Rattle.office_check.specs.declared.finding.IndexFinding.{IndexFinding}
 use Rattle.office_check.specs.declared.freshness.IndexState.{IndexState}
 use Rattle.office_check.specs.declared.freshness.IndexState.TheVariants.{Fresh, NoTable as HasNoTable}
 use Rattle.office_check.specs.Freshness.{IsIndexState}
-use Rattle.office_check.specs.HeadNumbers.{index_numbers}
+use Rattle.office_check.specs.IndexFile.{IsIndexDetails}
 use Rattle.office_check.specs.declared.table_file.TableDetails.{TableDetails}
 use Rattle.office_check.specs.declared.load.LoadedTable.{LoadedTable}
 use Rattle.office_check.specs.declared.table_file.memo_use.MemoUse.{MemoUse}
@@ -59,8 +59,8 @@ IsTableLook files dbf dbt look = IsReadTable files dbf dbt look
 abbrev pub IsIndexLook : Option (List NamedFile) → List ℕ → Result NdxFile EntryFault → Type 0
 IsIndexLook files ndx (Ok file) = (bytes : List ℕ) × IsFileOf files ndx bytes × IsIndex bytes file.expr file.key_len file.pairs.pairs
 IsIndexLook files ndx (Err CannotRead) = Unit {0}
-IsIndexLook files ndx (Err (NoIndex fault numbers)) =
-    (fault ≢ NoRoomForIndex) × (bytes : List ℕ) × IsFileOf files ndx bytes × HasNdxFault bytes fault × (numbers ≡ index_numbers bytes)
+IsIndexLook files ndx (Err (NoIndex fault details)) =
+    (fault ≢ NoRoomForIndex) × (bytes : List ℕ) × IsFileOf files ndx bytes × HasNdxFault bytes fault × IsIndexDetails bytes fault details
 IsIndexLook files ndx (Err fault) = ⊥
 
 -- ---- what is found

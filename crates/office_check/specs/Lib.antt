@@ -4,8 +4,8 @@ pub mod Freshness
 pub mod Findings
 pub mod Looks
 pub mod HeadNumbers
+pub mod IndexFile
 pub mod TableFile
 pub mod MemoUse
-pub mod ShownKey
 pub mod Lines
 pub mod LoadCounts

@@ -19,7 +19,7 @@ use Rattle.office_check.specs.declared.finding.Finding.TheVariants as found
 use Rattle.office_check.specs.declared.finding.TableCounts.{TableCounts}
 use Rattle.office_check.specs.declared.freshness.IndexState.{IndexState}
 use Rattle.office_check.specs.declared.freshness.IndexState.TheVariants.{Fresh, NoTable as HasNoTable, NoExpression, OtherLength, Stale}
-use Rattle.office_check.specs.declared.head_numbers.IndexNumbers.{IndexNumbers}
+use Rattle.office_check.specs.declared.index_file.IndexDetails.{IndexDetails}
 use Rattle.office_check.specs.declared.table_file.TableDetails.{TableDetails}
 use Rattle.office_check.specs.declared.table_file.bad_field.BadField.{BadField}
 use Rattle.office_check.specs.declared.table_file.memo_cells.MemoCell.{MemoCell}
@@ -29,7 +29,7 @@ use Rattle.dbf_fields.specs.declared.schema.SchemaFault.{SchemaFault}
 use Rattle.dbf_fields.specs.declared.schema.SchemaFault.TheVariants as schema
 use Rattle.office_check.specs.HeadNumbers.{wanted_length}
 use Rattle.ndx_index.specs.declared.format.TheConstants.{PAGE}
-use Rattle.office_check.specs.ShownKey.{shown_key}
+use Rattle.table_text.specs.Quoted.{between_quotes}
 
 -- why bytes are no table
 abbrev pub table_refusal : ImageFault → List ℕ
@@ -111,20 +111,25 @@ table_detail_words image.MemoOutside details = bad_memo_words details.bad_memo
 table_detail_words image.MemoTooLong details = bad_memo_words details.bad_memo
 table_detail_words why details = []
 
--- the numbers of an index's header that its refusal is about
-abbrev pub index_number_words : NdxFault → IndexNumbers → List ℕ
-index_number_words index.Truncated numbers = codes ": " ++ (decimal numbers.file_length ++ (codes " bytes, not " ++ decimal PAGE))
-index_number_words index.NumericIndex numbers = codes ": type " ++ decimal numbers.key_type
-index_number_words index.UniqueIndex numbers = codes ": flag " ++ decimal numbers.unique_flag
-index_number_words index.BadKeyLength numbers = codes ": " ++ decimal numbers.key_length
-index_number_words index.BadRecordSize numbers = codes ": " ++ (decimal numbers.record_size ++ (codes " bytes for keys of " ++ decimal numbers.key_length))
-index_number_words why numbers = []
+-- the page of an index that is refused
+abbrev pub bad_page_words : Option ℕ → List ℕ
+bad_page_words None = []
+bad_page_words (Some page) = codes ": page " ++ decimal page
+
+-- what is told of an index beside why it is refused: the numbers of the header that it is about, or the page
+abbrev pub index_detail_words : NdxFault → IndexDetails → List ℕ
+index_detail_words index.Truncated details = codes ": " ++ (decimal details.numbers.file_length ++ (codes " bytes, not " ++ decimal PAGE))
+index_detail_words index.NumericIndex details = codes ": type " ++ decimal details.numbers.key_type
+index_detail_words index.UniqueIndex details = codes ": flag " ++ decimal details.numbers.unique_flag
+index_detail_words index.BadKeyLength details = codes ": " ++ decimal details.numbers.key_length
+index_detail_words index.BadRecordSize details = codes ": " ++ (decimal details.numbers.record_size ++ (codes " bytes for keys of " ++ decimal details.numbers.key_length))
+index_detail_words why details = bad_page_words details.bad_page
 
 abbrev pub refusal_words : EntryFault → List ℕ
 refusal_words CannotRead = codes "can't be read"
 refusal_words CannotReadMemos = codes "can't be read"
 refusal_words (NoTable why details) = codes "no table: " ++ (table_refusal why ++ table_detail_words why details)
-refusal_words (NoIndex why numbers) = codes "no index: " ++ (index_refusal why ++ index_number_words why numbers)
+refusal_words (NoIndex why details) = codes "no index: " ++ (index_refusal why ++ index_detail_words why details)
 
 -- the length of the keys and that of the expression's
 abbrev pub length_words : ℕ → ℕ → List ℕ
@@ -140,13 +145,13 @@ damage_counts damage = decimal damage.foreign ++ (codes " foreign, " ++ (decimal
 
 -- the key of the record of a foreign pair's number, which is another, or that there is none
 abbrev pub record_key_words : Option (List ℕ) → List ℕ
-record_key_words (Some key) = codes ", not " ++ shown_key key
+record_key_words (Some key) = codes ", not " ++ between_quotes key
 record_key_words None = codes ", and there is no such record"
 
 -- a foreign pair
 abbrev pub foreign_words : ForeignPair → List ℕ
 foreign_words pair =
-    codes "pair " ++ (decimal pair.pair_number ++ (codes ", record " ++ (decimal pair.record_number ++ (codes ", key " ++ (shown_key pair.key ++ record_key_words pair.record_key)))))
+    codes "pair " ++ (decimal pair.pair_number ++ (codes ", record " ++ (decimal pair.record_number ++ (codes ", key " ++ (between_quotes pair.key ++ record_key_words pair.record_key)))))
 
 -- the first of them, where there is one
 abbrev pub first_words : Option ForeignPair → List ℕ

@@ -1,15 +1,14 @@
 -- What the files of a table tell of its fields and memos, before they are read as a table.
-use Rattle.std.specs.Prelude.{◌≡◌, ℕ, ◌+◌, ◌*◌, ◌/◌, ◌<◌, ◌≤◌, ◌≢◌, Bool, ◌&&◌, ◌==◌, nat_le, List, [], ◌∷◌, ◌++◌, length, take, drop, find, slice_index, Option, Some, None, is_some, is_none, if◌then◌else◌}
+use Rattle.std.specs.Prelude.{◌≡◌, ℕ, ◌+◌, ◌*◌, ◌/◌, ◌<◌, ◌≤◌, ◌≢◌, Bool, true, false, ◌&&◌, ◌==◌, nat_le, List, [], ◌∷◌, ◌++◌, length, take, drop, find, slice_index, Option, Some, None, is_some, is_none, if◌then◌else◌}
 use Rattle.dbf_fields.specs.declared.field.Field.{Field}
 use Rattle.dbf_fields.specs.declared.format.TheConstants.{MEMO}
 use Rattle.dbf_fields.specs.Faults.{first_fault}
 use Rattle.dbf_fields.specs.Schema.{schema_refusal}
 use Rattle.dbf_image.specs.declared.fault.ImageFault.{ImageFault}
-use Rattle.dbf_image.specs.declared.fault.ImageFault.TheVariants.{BadMemoNumber}
-use Rattle.dbf_image.specs.declared.format.TheConstants.{BLOCK, HEADER, MAX_RECORDS}
-use Rattle.dbf_image.specs.DbfText.{header_length}
+use Rattle.dbf_image.specs.declared.fault.ImageFault.TheVariants.{BadMemoNumber, MemoOutside, MemoTooLong}
+use Rattle.dbf_image.specs.declared.format.TheConstants.{BLOCK, MAX_RECORDS}
 use Rattle.dbf_image.specs.Memo.{memo_at, memo_number}
-use Rattle.dbf_image.specs.Reading.{field_count, fields_of, schema_of, records_of, record_tests, text_tests}
+use Rattle.dbf_image.specs.Reading.{fields_of, has_whole_header, schema_of, records_of, record_tests, text_tests}
 use Rattle.office_check.specs.declared.head_numbers.TableNumbers.{TableNumbers}
 use Rattle.office_check.specs.declared.table_file.TableDetails.{TableDetails}
 use Rattle.office_check.specs.declared.table_file.bad_field.BadField.{BadField}
@@ -17,10 +16,6 @@ use Rattle.office_check.specs.declared.table_file.memo_cells.MemoCell.{MemoCell}
 use Rattle.office_check.specs.HeadNumbers.{table_numbers}
 
 -- ---- the fields
-
--- the header is all there, and the list of fields ends in it
-abbrev pub has_whole_header : List ℕ → Bool
-has_whole_header bytes = nat_le HEADER (length bytes) && (nat_le (header_length bytes) (length bytes) && is_some (field_count bytes))
 
 -- the fields that the descriptors tell, whatever they are
 abbrev pub told_fields : List ℕ → List Field
@@ -82,6 +77,13 @@ fault_of_cell dbt (Some cell) = block_fault dbt cell.block
 
 abbrev pub is_bad_cell : List ℕ → MemoCell → Bool
 is_bad_cell dbt cell = is_some (block_fault dbt cell.block)
+
+-- a table is refused by one of its memos
+abbrev pub is_memo_fault : ImageFault → Bool
+is_memo_fault BadMemoNumber = true
+is_memo_fault MemoOutside = true
+is_memo_fault MemoTooLong = true
+is_memo_fault fault = false
 
 -- the first memo that is refused, where there is one
 abbrev pub bad_memo : List ℕ → Option (List ℕ) → Option MemoCell

@@ -1,6 +1,6 @@
 //! Why the files of an entry are refused.
 
-use crate::head_numbers::IndexNumbers;
+use crate::index_file::IndexDetails;
 use crate::table_file::TableDetails;
 use dbf_image::ImageFault;
 use ndx_index::NdxFault;
@@ -14,6 +14,6 @@ pub enum EntryFault {
     CannotReadMemos,
     /// The bytes are no table, and this is told of them.
     NoTable(ImageFault, TableDetails),
-    /// The bytes are no index, and these are the numbers at their head.
-    NoIndex(NdxFault, IndexNumbers),
+    /// The bytes are no index, and this is told of them.
+    NoIndex(NdxFault, IndexDetails),
 }

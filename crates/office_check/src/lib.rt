@@ -5,9 +5,9 @@
 //! an index what it is beside its table. [`findings_text`] tells them in words, a line a file.
 //!
 //! Start with specs/Findings.antt (what a finding says of the files), specs/TableFile.antt (what a table's files tell before
-//! they are read as a table), specs/MemoUse.antt (which blocks memos take), specs/Freshness.antt (what an index is beside its
+//! they are read as a table), specs/IndexFile.antt (what an index's file that is refused tells), specs/MemoUse.antt (which blocks memos take), specs/Freshness.antt (what an index is beside its
 //! table), specs/Damage.antt (in what their pairs differ) and specs/Lines.antt (how it is told), then read src/look.rt,
-//! src/table_file.rt, src/freshness.rt and src/damage.rt.
+//! src/table_file.rt, src/index_file.rt, src/freshness.rt and src/damage.rt.
 #![tactic(auto)]
 
 mod damage;
@@ -15,10 +15,10 @@ mod fault;
 mod finding;
 mod freshness;
 mod head_numbers;
+mod index_file;
 mod lines;
 mod load;
 mod look;
-mod shown_key;
 mod table_file;
 
 pub use damage::{ForeignPair, IndexDamage, no_damage};
@@ -26,8 +26,10 @@ pub use fault::EntryFault;
 pub use finding::{Finding, IndexFinding, TableCounts};
 pub use freshness::IndexState;
 pub use head_numbers::{IndexNumbers, TableNumbers};
+pub use index_file::IndexDetails;
 pub use lines::findings_text;
 pub use look::{all_are_good, look_at_all};
 pub use table_file::{
     BadField, BlockTakers, MemoCell, MemoUse, SharedBlock, TableDetails, first_memo_fault,
+    memos_are_told,
 };

@@ -5,7 +5,6 @@ ghost use Rattle.std.specs.Fmt.{decimal};
 ghost use Rattle.office_check.specs.Lines.{counts_words, expression_refusal, finding_words, length_words, offset_words};
 ghost use Rattle.office_check.specs.Lines.{damage_counts, damage_words, first_words, foreign_words, record_key_words};
 ghost use Rattle.office_check.specs.Lines.{state_begin as begin_of_state, state_rest, state_words};
-ghost use Rattle.office_check.specs.ShownKey.{shown_key};
 ghost use Rattle.office_check.specs.Lines.{entry_lines, entry_name as name_in, entry_path as path_in, setup_lines, memos_line, words_line};
 
 mod memo_blocks;
@@ -19,10 +18,10 @@ use crate::freshness::IndexState;
 use crate::lines::memo_blocks::append_memo_use;
 use crate::lines::numbers::append_number;
 use crate::lines::refusal::append_refusal;
-use crate::shown_key::append_key;
 use key_expr::{ExprFault, Key};
 use station_lines::{LF, SetupEntry};
 use std::alloc::{AllocError, Global};
+use table_text::append_between_quotes;
 
 fn append_counts(alloc: Global, text: &mut Vec<u8>, counts: TableCounts) -> Result<(), AllocError>
     ensures ok { OnOk result (text.new.items ≡ text.old.items ++ counts_words counts) }
@@ -110,7 +109,7 @@ fn append_record_key(text: &mut Vec<u8>, key: &Option<Key>) -> Result<(), AllocE
     match key {
         Some(key) => {
             text.extend_from_slice(b", not ")?;
-            append_key(text, key.as_bytes())
+            append_between_quotes(text, key.as_bytes())
         }
         None => text.extend_from_slice(b", and there is no such record"),
     }
@@ -124,7 +123,7 @@ fn append_foreign(alloc: Global, text: &mut Vec<u8>, pair: &ForeignPair) -> Resu
     text.extend_from_slice(b", record ")?;
     append_number(alloc, text, pair.record_number as usize)?;
     text.extend_from_slice(b", key ")?;
-    append_key(text, pair.key.as_bytes())?;
+    append_between_quotes(text, pair.key.as_bytes())?;
     append_record_key(text, &pair.record_key)
 }
 

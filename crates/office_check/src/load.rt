@@ -8,7 +8,7 @@ ghost use Rattle.office_check.specs.LoadCounts.{IsFileLoad, IsMemosLoad, IsTable
 
 use crate::fault::EntryFault;
 use crate::finding::{Finding, TableCounts};
-use crate::head_numbers::index_numbers;
+use crate::index_file::index_details;
 use crate::table_file::{MemoUse, table_file};
 use dbf_fields::Bytes;
 use dbf_image::{ImageFault, TableData, read_table};
@@ -124,11 +124,13 @@ pub(crate) fn load_index<S: Source>(
     let Some(bytes) = load_file(alloc, source, ndx)? else {
         return Ok(Err(EntryFault::CannotRead));
     };
-    let numbers = index_numbers(bytes.as_slice());
     match read_ndx(alloc, bytes.as_slice()) {
         Ok(file) => Ok(Ok(file)),
         Err(NdxFault::NoMemory) => Err(AllocError),
-        Err(fault) => Ok(Err(EntryFault::NoIndex(fault, numbers))),
+        Err(fault) => {
+            let details = index_details(alloc, bytes.as_slice())?;
+            Ok(Err(EntryFault::NoIndex(fault, details)))
+        }
     }
 }
 

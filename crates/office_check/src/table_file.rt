@@ -1,13 +1,14 @@
 //! What the files of a table tell of its fields and memos, before they are read as a table.
 
-ghost use Rattle.std.specs.Prelude.{◌≡◌, Some, IfOk};
+ghost use Rattle.std.specs.Prelude.{◌≡◌, ℕ, true, List, Option, Some, None, is_some, IfOk};
 ghost use Rattle.std.specs.Option.{option_copied};
-ghost use Rattle.office_check.specs.TableFile.{bad_memo, told_fields as fields_in, IsFirstBadField, IsTableDetails};
+ghost use Rattle.dbf_image.specs.declared.fault.ImageFault.{ImageFault as Fault};
+ghost use Rattle.dbf_image.specs.Reading.{image_refusal};
+ghost use Rattle.office_check.specs.TableFile.{bad_memo, fault_of_cell, is_memo_fault, tells_records, told_fields as fields_in, IsFirstBadField, IsTableDetails};
 ghost use Rattle.office_check.specs.MemoUse.{memo_use as memo_use_in};
 
 mod bad_field;
 mod bad_memo;
-mod fields;
 mod memo_cells;
 mod memo_use;
 mod text_blocks;
@@ -17,11 +18,11 @@ pub use crate::table_file::bad_field::BadField;
 use crate::table_file::bad_field::first_bad_field;
 use crate::table_file::bad_memo::first_bad_memo;
 pub use crate::table_file::bad_memo::first_memo_fault;
-use crate::table_file::fields::told_fields;
 pub use crate::table_file::memo_cells::MemoCell;
 use crate::table_file::memo_cells::told_cells;
 use crate::table_file::memo_use::memo_use;
 pub use crate::table_file::memo_use::{BlockTakers, MemoUse, SharedBlock};
+use dbf_image::told_fields;
 use std::alloc::{AllocError, Global};
 
 /// What the files of a table that are refused tell of what is wrong.
@@ -43,6 +44,15 @@ pub(crate) struct TableFile {
     /// How the memos take the blocks of their file, where one is named and none of them is refused.
     pub(crate) memo_use: Option<MemoUse>,
 }
+
+/// Of a table that is read without a refusal all memo cells are told, and none of them is refused; so how its memos take the
+/// blocks of their file is told exactly where such a file is named. Of a table that is refused by a memo that memo is told.
+pub fn memos_are_told()
+    ensures records { (dbf : List ℕ) (dbt : Option (List ℕ)) → image_refusal dbf dbt ≡ None → tells_records dbf ≡ true }
+    ensures good { (dbf : List ℕ) (dbt : Option (List ℕ)) → image_refusal dbf dbt ≡ None → bad_memo dbf dbt ≡ None }
+    ensures used { (dbf : List ℕ) (dbt : Option (List ℕ)) → image_refusal dbf dbt ≡ None → is_some (memo_use_in dbf dbt) ≡ is_some dbt }
+    ensures refused { (dbf dbt : List ℕ) (fault : Fault) → image_refusal dbf (Some dbt) ≡ Some fault → is_memo_fault fault ≡ true → fault_of_cell dbt (bad_memo dbf (Some dbt)) ≡ Some fault }
+{}
 
 // The first field up to which the fields are no schema.
 fn bad_field_of(alloc: Global, dbf: &[u8]) -> Result<Option<BadField>, AllocError>

@@ -11,6 +11,7 @@ use std::process::Abort;
 use std::test::*;
 
 mod details;
+mod indexes;
 
 // The leaf of the index of BOB, record 1, and ADA, record 2, by NAME: the count, and of each key no child, the record number,
 // the key and two bytes that fill it up.
@@ -229,9 +230,19 @@ fn stale_indexes_are_told_in_detail(rt: HostRuntime) -> Result<(), Fail> {
 }
 
 // Bytes of a table's file that are put in place of those at an offset, and what is told then.
-const DAMAGED_TABLES: [(usize, &[u8], &str); 5] = [
+const DAMAGED_TABLES: [(usize, &[u8], &str); 9] = [
     (0, b"\x04", "no table: the file is of no known version: 4"),
+    // No end of fields stands in the header: there is another byte, or the header is shorter.
     (64, b"\x00", "no table: the header's length is bad: 65"),
+    (8, b"\x40", "no table: the header's length is bad: 64"),
+    (8, b"\x28", "no table: the header's length is bad: 40"),
+    (8, b"\x00", "no table: the header's length is bad: 0"),
+    // The header is longer than the file.
+    (
+        8,
+        b"\x41\x01",
+        "no table: the file is too short: 88 bytes, not 343",
+    ),
     (10, b"\x0c\x01", "no table: the records' length is bad: 268"),
     (
         4,
@@ -245,30 +256,13 @@ const DAMAGED_TABLES: [(usize, &[u8], &str); 5] = [
     ),
 ];
 
-// The same of an index's file.
-const DAMAGED_INDEXES: [(usize, &[u8], &str); 6] = [
-    (
-        16,
-        b"\x01\x01",
-        "no index: the keys are numbers or dates: type 257",
-    ),
-    (
-        23,
-        b"\x02",
-        "no index: the index leaves out equal keys: flag 2",
-    ),
-    (
-        12,
-        b"\x65",
-        "no index: the key length is none of 1 to 100: 101",
-    ),
-    (
-        18,
-        b"\x11",
-        "no index: the size of a key record is impossible: 17 bytes for keys of 10",
-    ),
-    (0, b"\x09", "no index: a page lies outside the file"),
-    (512, b"\xff", "no index: a page has too many entries"),
+// How many bytes are left of a table's file, and what is told then.
+const CUT_TABLES: [(usize, &str); 5] = [
+    (0, "0 bytes, not 32"),
+    (31, "31 bytes, not 32"),
+    (32, "32 bytes, not 87"),
+    (64, "64 bytes, not 87"),
+    (86, "86 bytes, not 87"),
 ];
 
 // A copy of bytes with others in place of those at an offset.
@@ -316,11 +310,17 @@ fn damaged_headers_are_told_with_their_numbers(rt: HostRuntime) -> Result<(), Fa
         let line = format!(in alloc; "D  D.DBF  {told}\n")?;
         assert_eq!(rt; text.as_slice(), line.as_bytes());
     }
-    for (offset, others, told) in DAMAGED_INDEXES {
-        let whole = index(alloc, b"NAME", 10, LEAF)?;
-        let bytes = damaged(alloc, whole.as_slice(), offset, others)?;
-        let text = told_of(alloc, b"TABLE T T.DBF\nINDEX T D D.NDX\n", b"D.NDX", bytes)?;
-        let line = format!(in alloc; "T  T.DBF  2 records, 0 marked: good\nD  D.NDX  {told}\n")?;
+    Ok(())
+}
+
+#[test]
+fn cut_tables_are_told_with_their_lengths(rt: HostRuntime) -> Result<(), Fail> {
+    let alloc = rt.alloc();
+    for (length, told) in CUT_TABLES {
+        let (front, _) = TABLE.split_at(length.min(TABLE.len()));
+        let bytes = Vec::from_slice(alloc, front)?;
+        let text = told_of(alloc, b"TABLE D D.DBF\n", b"D.DBF", bytes)?;
+        let line = format!(in alloc; "D  D.DBF  no table: the file is too short: {told}\n")?;
         assert_eq!(rt; text.as_slice(), line.as_bytes());
     }
     Ok(())

@@ -3,3 +3,4 @@ pub mod ShownLaws
 pub mod Steps
 pub mod SelectedLaws
 pub mod Fronts
+pub mod Kept

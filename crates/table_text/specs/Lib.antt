@@ -1,5 +1,7 @@
 pub mod Selection
 pub mod Shown
+pub mod ShownByte
+pub mod Quoted
 pub mod Columns
 pub mod Records
 pub mod Csv

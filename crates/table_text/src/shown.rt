@@ -5,55 +5,19 @@ ghost use Rattle.std.specs.List.{list_all, position, position_or_len};
 ghost use Rattle.dbf_image.specs.Table.{cell_at, kind_at};
 ghost use Rattle.dbf_fields.specs.Number.{without_leading};
 ghost use Rattle.table_text.specs.declared.format.TheConstants.{CR as CR_BYTE, LF as LF_BYTE};
-ghost use Rattle.table_text.specs.Shown.{is_plain, hex_digit as digit_of, shown_byte, shown_bytes, first_line as before_line_end, memo_part as part_of_memo, trimmed_end as without_end, shown_cell};
+ghost use Rattle.table_text.specs.Shown.{is_plain, shown_bytes, first_line as before_line_end, memo_part as part_of_memo, trimmed_end as without_end, shown_cell};
 
-use crate::format::{BACKSLASH, CR, HEX_MARK, LAST_PRINTABLE, LETTER_A, LF};
+use crate::format::{CR, LF};
 use crate::memo_form::MemoForm;
-use dbf_fields::{BLANK, DATE, MEMO, NUMBER, ZERO_DIGIT, shown_date, trimmed};
+use crate::shown_byte::{is_plain_byte, shown};
+use dbf_fields::{BLANK, DATE, MEMO, NUMBER, shown_date, trimmed};
 use dbf_image::TableData;
 use std::alloc::{AllocError, Global};
-
-// A printable character of ASCII other than the backslash.
-fn is_plain_byte(byte: u8) -> bool
-    ensures value { result ≡ is_plain byte }
-{
-    byte >= BLANK && byte <= LAST_PRINTABLE && byte != BACKSLASH
-}
 
 fn are_plain(bytes: &[u8]) -> bool
     ensures value { result ≡ list_all is_plain bytes.now }
 {
     bytes.iter().all(|byte| is_plain_byte(*byte))
-}
-
-fn hex_digit(n: u8) -> u8
-    requires digit { n < 16 }
-    ensures value { result ≡ digit_of n }
-{
-    if n < 10 {
-        ZERO_DIGIT + n
-    } else {
-        LETTER_A + (n - 10)
-    }
-}
-
-// A byte after those before, as it is shown.
-fn append_byte(text: &mut Vec<u8>, byte: u8) -> Result<(), AllocError>
-    ensures ok { OnOk result (text.new.items ≡ text.old.items ++ shown_byte byte) }
-{
-    if is_plain_byte(byte) {
-        text.push(byte)?;
-        return Ok(());
-    }
-    if byte == BACKSLASH {
-        return text.extend_from_slice(&[BACKSLASH, BACKSLASH]);
-    }
-    text.extend_from_slice(&[
-        BACKSLASH,
-        HEX_MARK,
-        hex_digit(byte / 16),
-        hex_digit(byte % 16),
-    ])
 }
 
 // Bytes after those before, as they are shown. Most are plain, and then they are copied at once.
@@ -65,7 +29,7 @@ fn append_shown(text: &mut Vec<u8>, bytes: &[u8]) -> Result<(), AllocError>
         return text.extend_from_slice(bytes);
     }
     for byte in bytes {
-        append_byte(text, *byte)?;
+        text.extend_from_slice(shown(*byte).as_slice())?;
     }
     Ok(())
 }

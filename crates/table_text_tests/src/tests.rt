@@ -1,18 +1,20 @@
 //! Tests of the whole crate, and what they share. What is expected is written down by hand.
 
 use dbf_fields::{CHARACTER, DATE, Field, LOGICAL, MEMO, NUMBER, Schema, day_of};
-use dbf_image::{LimitedSink, MemorySink, TableData, is_memo_text};
+use dbf_image::{LimitedSink, MemorySink, SinkWriter, TableData, is_memo_text};
 use std::alloc::Global;
 use std::process::Abort;
 use std::test::*;
 use table_text::{
-    MemoForm, Selection, TextFault, header_date, write_csv, write_fields, write_records,
+    MemoForm, Selection, TextFault, append_between_quotes, header_date, put_between_quotes,
+    write_csv, write_fields, write_records,
 };
 
 mod csv;
 mod faults;
 mod fields;
 mod office;
+mod quoted;
 mod records;
 
 // A table of these fields, each a name, a kind, a width and decimals, without records.

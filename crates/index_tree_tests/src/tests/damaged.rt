@@ -1,16 +1,12 @@
 //! Files that another program or a bad disk has left.
 
 use super::*;
-
-// Where the first leaf and the root begin.
-const LEAF: usize = 512;
-
-const ROOT: usize = 1_536;
+use sample_files::{FIRST_LEAF, ROOT};
 
 const FIRST: &str = "  page 1  leaf  25 keys  \"01        \" to \"25        \"\n";
 
 // What is changed in the file of two leaves, and the lines of its root and of what stands in the place of one of the leaves.
-const PAGES: [(usize, &[(usize, u8)], &str); 10] = [
+const PAGES: [(usize, &[(usize, u8)], &str); 11] = [
     (2_047, &[], "page 3  outside the file\n"),
     (2_048, &[(ROOT, 26)], "page 3  too many entries\n"),
     (
@@ -19,15 +15,19 @@ const PAGES: [(usize, &[(usize, u8)], &str); 10] = [
         "page 3  neither a leaf nor an inner page\n",
     ),
     (2_048, &[(0, 0)], "page 0  outside the file\n"),
-    (2_048, &[(0, 1), (LEAF, 26)], "page 1  too many entries\n"),
     (
         2_048,
-        &[(0, 1), (LEAF + 3, 0x80)],
+        &[(0, 1), (FIRST_LEAF, 26)],
         "page 1  too many entries\n",
     ),
     (
         2_048,
-        &[(0, 1), (LEAF + 24, 1)],
+        &[(0, 1), (FIRST_LEAF + 3, 0x80)],
+        "page 1  too many entries\n",
+    ),
+    (
+        2_048,
+        &[(0, 1), (FIRST_LEAF + 24, 1)],
         "page 1  neither a leaf nor an inner page\n",
     ),
     (2_048, &[(0, 2), (1_024, 0)], "page 2  leaf  0 keys\n"),
@@ -38,7 +38,12 @@ const PAGES: [(usize, &[(usize, u8)], &str); 10] = [
     ),
     (
         2_048,
-        &[(0, 1), (LEAF + 12, b'9')],
+        &[(0, 2), (1_036, b'"')],
+        "page 2  leaf  1 keys  \"\\\"6        \" to \"\\\"6        \"\n",
+    ),
+    (
+        2_048,
+        &[(0, 1), (FIRST_LEAF + 12, b'9')],
         "page 1  leaf  25 keys  \"02        \" to \"91        \"\n",
     ),
 ];

@@ -2,10 +2,11 @@
 
 ghost use Rattle.std.specs.Prelude.{◌≡◌, ◌++◌, OnOk};
 ghost use Rattle.office_check.specs.HeadNumbers.{wanted_length as wanted_length_of};
-ghost use Rattle.office_check.specs.Lines.{bad_field_words, bad_memo_words, block_words, field_refusal, index_number_words, index_refusal, refusal_words, table_detail_words, table_refusal};
+ghost use Rattle.office_check.specs.Lines.{bad_field_words, bad_memo_words, bad_page_words, block_words, field_refusal, index_detail_words, index_refusal, refusal_words, table_detail_words, table_refusal};
 
 use crate::fault::EntryFault;
-use crate::head_numbers::{IndexNumbers, TableNumbers};
+use crate::head_numbers::TableNumbers;
+use crate::index_file::IndexDetails;
 use crate::lines::numbers::{append_two, append_words};
 use crate::table_file::{BadField, MemoCell, TableDetails};
 use dbf_fields::SchemaFault;
@@ -159,15 +160,30 @@ fn append_table_details(
     }
 }
 
-// The numbers that an index's refusal is about.
-fn append_index_numbers(
+// The page of an index that is refused, where there is one.
+fn append_bad_page(
+    alloc: Global,
+    text: &mut Vec<u8>,
+    bad_page: Option<u32>,
+) -> Result<(), AllocError>
+    ensures ok { OnOk result (text.new.items ≡ text.old.items ++ bad_page_words bad_page) }
+{
+    match bad_page {
+        Some(page) => append_words(alloc, text, b": page ", page as usize),
+        None => Ok(()),
+    }
+}
+
+// What is told of an index beside why it is refused.
+fn append_index_details(
     alloc: Global,
     text: &mut Vec<u8>,
     why: NdxFault,
-    numbers: &IndexNumbers,
+    details: &IndexDetails,
 ) -> Result<(), AllocError>
-    ensures ok { OnOk result (text.new.items ≡ text.old.items ++ index_number_words why numbers.now) }
+    ensures ok { OnOk result (text.new.items ≡ text.old.items ++ index_detail_words why details.now) }
 {
+    let numbers = &details.numbers;
     match why {
         NdxFault::Truncated => {
             append_two(
@@ -193,7 +209,7 @@ fn append_index_numbers(
             let keys = usize::from(numbers.key_length);
             append_two(alloc, text, b": ", size, b" bytes for keys of ", keys)
         }
-        _ => Ok(()),
+        _ => append_bad_page(alloc, text, details.bad_page),
     }
 }
 
@@ -215,10 +231,10 @@ pub(crate) fn append_refusal(
             text.extend_from_slice(table_words(why))?;
             append_table_details(alloc, text, why, &details)
         }
-        EntryFault::NoIndex(why, numbers) => {
+        EntryFault::NoIndex(why, details) => {
             text.extend_from_slice(b"no index: ")?;
             text.extend_from_slice(index_words(why))?;
-            append_index_numbers(alloc, text, why, &numbers)
+            append_index_details(alloc, text, why, &details)
         }
     }
 }

@@ -5,13 +5,12 @@ ghost use Rattle.dbf_fields.specs.Field.{widths};
 ghost use Rattle.dbf_fields.specs.Schema.{IsSchema};
 ghost use Rattle.dbf_fields.specs.declared.format.TheConstants.{MEMO as MEMO_LETTER, MEMO_WIDTH};
 ghost use Rattle.dbf_image.specs.DbfText.{chunks};
-ghost use Rattle.dbf_image.specs.Reading.{fields_of};
-ghost use Rattle.office_check.specs.TableFile.{cells_from, field_cells, has_records as has_records_in, has_whole_header, memo_cell, told_cells as told_cells_of};
+ghost use Rattle.dbf_image.specs.Reading.{fields_of, has_whole_header};
+ghost use Rattle.office_check.specs.TableFile.{cells_from, field_cells, has_records as has_records_in, memo_cell, told_cells as told_cells_of};
 
 use crate::head_numbers::{TableNumbers, table_numbers};
-use crate::table_file::fields::told_fields;
 use dbf_fields::{Field, MEMO, Schema, SchemaFault};
-use dbf_image::{MAX_RECORDS, memo_block};
+use dbf_image::{MAX_RECORDS, memo_block, told_fields};
 use std::alloc::{AllocError, Global};
 
 /// The cell of a memo in a table's file.

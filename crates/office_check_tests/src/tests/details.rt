@@ -24,6 +24,39 @@ const DAMAGED_FIELDS: [(usize, &[u8], &str); 6] = [
     (80, b"\x09", ": field 2: its width is bad"),
 ];
 
+// How many fields of characters a table has, how wide each is, and what is told of the last, which is one too many.
+const MANY_FIELDS: [(u8, u8, &str); 2] = [
+    (129, 1, "field 129: it is one too many"),
+    (16, 254, "field 16: with it a record is too long"),
+];
+
+// The header of a table of so many fields, each of this width.
+fn many_fields(alloc: Global, count: u8, width: u8) -> Result<Vec<u8>, AllocError> {
+    let length = 33 + 32 * u16::from(count);
+    let mut bytes = with_zeros(alloc, &[3, 87, 3, 15, 0, 0, 0, 0], 8)?;
+    bytes.extend_from_slice(&length.to_le_bytes())?;
+    let mut bytes = with_zeros(alloc, bytes.as_slice(), 32)?;
+    for number in 0..count {
+        bytes.extend_from_slice(&[b'A' + number / 26, b'A' + number % 26])?;
+        bytes.extend_from_slice(b"\0\0\0\0\0\0\0\0\0C\0\0\0\0")?;
+        bytes.push(width)?;
+        bytes.extend_from_slice(b"\0\0\0\0\0\0\0\0\0\0\0\0\0\0\0")?;
+    }
+    bytes.push(0x0d)?;
+    Ok(bytes)
+}
+
+#[test]
+fn a_field_too_many_is_told(rt: HostRuntime) -> Result<(), Fail> {
+    let alloc = rt.alloc();
+    for (count, width, told) in MANY_FIELDS {
+        let text = told_with(alloc, many_fields(alloc, count, width)?, Vec::new(alloc))?;
+        let line = format!(in alloc; "D  D.DBF  no table: the fields are no schema: {told}\n")?;
+        assert_eq!(rt; text.as_slice(), line.as_bytes());
+    }
+    Ok(())
+}
+
 // The memo cells of the three records, the bytes of the file of memos, and what is told then.
 const DAMAGED_MEMOS: [(&[u8; 30], usize, &str); 6] = [
     (
