@@ -1,6 +1,8 @@
 //! New files that take their places in a folder all together, and what is said where they don't.
 
-ghost use Rattle.std.specs.Prelude.{◌≡◌, ◌≢◌, IfErr};
+ghost use Rattle.std.specs.Prelude.{◌≡◌, ◌≢◌, ◌⊎◌, ◌≤◌, ◌+◌, [], IfErr};
+ghost use Rattle.files_in_place.specs.Disk.{LeavesOnly};
+ghost use Rattle.files_in_place.specs.Recovery.{HasOldFiles};
 ghost use Rattle.files_in_place.specs.declared.phase.Phase.TheVariants.{Ended};
 ghost use Rattle.program_text.specs.PlaceFaults.{IsOfLock, IsOfNewFiles, given_up, unrecovered_folder};
 
@@ -33,6 +35,11 @@ pub fn unrecovered(fault: DiskFault) -> PlaceFault
 /// is no fault of the disk.
 pub fn give_up<D: Disk + Drop>(folder: &mut DiskFolder<D>, fault: ServeFault) -> ServeFault
     ensures value { result ≡ given_up folder.old.fault fault }
+    // The new files are gone, or one more call of the folder has failed.
+    ensures removed { (folder.new.written ≡ []) ⊎ (folder.new.failures ≡ folder.old.failures + 1) }
+    // A crash at any moment leaves the old files.
+    ensures any_moment { D.keeps_promises → folder.old.set.phase ≢ Ended
+        → LeavesOnly D.moment D.left_since folder.old.set.disk folder.new.set.disk (HasOldFiles (D.seen folder.old.set.disk)) }
 {
     // Where it fails the next start removes them.
     let _ = folder.abandon();
@@ -49,6 +56,8 @@ pub fn unfinished<D: Disk + Drop>(folder: &mut DiskFolder<D>, fault: SetFault) -
     ensures memory { folder.old.set.phase ≢ Ended → fault ≡ SetFault.NoMemory → result ≡ PlaceFault.NoMemory }
     ensures other { folder.old.set.phase ≢ Ended → fault ≢ SetFault.NoMemory → result ≡ PlaceFault.Folder FolderFault.Unwritten }
     ensures of_new_files { IsOfNewFiles result }
+    ensures later { D.faults folder.old.set.disk ≤ D.faults folder.new.set.disk }
+    ensures kept { folder.old.set.phase ≡ Ended → folder.new.set ≡ folder.old.set }
 {
     match (folder.abandon(), fault) {
         (Err(SetFault::Closed), _) => PlaceFault::Folder(FolderFault::Unfinished),

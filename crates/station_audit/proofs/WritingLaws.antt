@@ -14,17 +14,19 @@ use Rattle.whole_run.specs.declared.fault.ServeFault.{ServeFault}
 use Rattle.whole_run.specs.declared.fault.ServeFault.TheVariants as serve
 use Rattle.whole_run.specs.Loading.{IsFailure}
 use Rattle.whole_run.specs.TablesWritten.{AreTablesWritten, IsCutTables, IsTablesFault, dated_files}
+use Rattle.program_text.specs.declared.folder.FolderFault.{FolderFault}
 use Rattle.program_text.specs.declared.folder.FolderFault.TheVariants.{InUse, Unopened, Unrecovered, Unwritten, Unfinished}
 use Rattle.program_text.specs.declared.folder.PlaceFault.{PlaceFault}
 use Rattle.program_text.specs.declared.folder.PlaceFault.TheVariants as place
 use Rattle.program_text.specs.PlaceFaults.{given_up, unrecovered_folder, IsOfNewFiles}
+use Rattle.program_text.specs.Placing.{HasFailedSince, HasOldOrNewSince}
 use Rattle.program_text.proofs.PlacingLaws.{files_placed, given_up_keeps}
 use Rattle.station_audit.specs.declared.program.failure.Failure.{Failure}
 use Rattle.station_audit.specs.declared.program.failure.Failure.TheVariants.{BadDate, Serve, Unread, Audit, Folder}
 use Rattle.station_audit.specs.declared.program.options.Options.{Options}
 use Rattle.station_audit.specs.Program.{IsAuditedTo, IsFailedBy, IsLoadFailure}
 use Rattle.station_audit.specs.Endings.{given_up_audit, place_failure}
-use Rattle.station_audit.specs.Writing.{IsWrittenBy, IsCutAudit, IsUnwritten, AreInPlace, IsPlaceFailure, IsWrittenWhole}
+use Rattle.station_audit.specs.Writing.{IsWrittenBy, IsCutAudit, IsUnwritten, AreInPlace, HasFailedSinceAudit, HasOldOrNewSinceAudit, IsPlaceFailure, IsWrittenWhole}
 
 -- ---- writing
 
@@ -153,16 +155,55 @@ new_files_only (place.Folder Unfinished) of e = cc
 pub recovered_before : (fault : PlaceFault) (failure : Failure) → failure ≡ place_failure fault → IsOfNewFiles fault → IsErrOf {T = ℕ} (Err failure) (Folder Unrecovered) → ⊥
 recovered_before fault failure is of e = let told : failure ≡ Folder Unrecovered = cc in new_files_only fault of (sym is ∙ told)
 
--- nor is it where an audit was given up
-pub given_up_recovered : (files : Option (List NamedFile)) (options : Options) (year : ℕ) (last : Option SetFault) (why failure : Failure) → failure ≡ given_up_audit last why → IsUnwritten files options year why
-    → IsErrOf {T = ℕ} (Err failure) (Folder Unrecovered) → ⊥
-given_up_recovered files options year last BadDate failure is h e = let clash : BadDate ≡ Folder Unrecovered = cc in cc
-given_up_recovered files options year last (Serve fault) failure is h e = let clash : Serve (given_up last fault) ≡ Folder Unrecovered = cc in cc
-given_up_recovered files options year last Unread failure is h e = let clash : Unread ≡ Folder Unrecovered = cc in cc
-given_up_recovered files options year last (Audit f) failure is h e = let clash : Audit f ≡ Folder Unrecovered = cc in cc
-given_up_recovered files options year last (Folder f) failure is h e = h
+-- nor is any fault of the folder said where an audit was given up
+pub given_up_no_folder : (files : Option (List NamedFile)) (options : Options) (year : ℕ) (last : Option SetFault) (said : FolderFault) (why failure : Failure) → failure ≡ given_up_audit last why → IsUnwritten files options year why
+    → IsErrOf {T = ℕ} (Err failure) (Folder said) → ⊥
+given_up_no_folder files options year last said BadDate failure is h e = let clash : BadDate ≡ Folder said = cc in cc
+given_up_no_folder files options year last said (Serve fault) failure is h e = let clash : Serve (given_up last fault) ≡ Folder said = cc in cc
+given_up_no_folder files options year last said Unread failure is h e = let clash : Unread ≡ Folder said = cc in cc
+given_up_no_folder files options year last said (Audit f) failure is h e = let clash : Audit f ≡ Folder said = cc in cc
+given_up_no_folder files options year last said (Folder f) failure is h e = h
+
+-- ---- files that were not written
+
+told_of : (said : FolderFault) (fault : PlaceFault) (failure : Failure) → failure ≡ place_failure fault → IsErrOf {T = ℕ} (Err failure) (Folder said) → fault ≡ place.Folder said
+told_of said place.NoMemory failure is e =
+    let told : failure ≡ Folder said = cc in
+    let clash : Serve serve.NoMemory ≡ Folder said = sym is ∙ told in
+    absurd cc
+told_of said (place.Folder why) failure is e =
+    let told : failure ≡ Folder said = cc in
+    let same : Folder why ≡ Folder said = sym is ∙ told in
+    cc
+
+-- it is said only where the disk has failed since the audit's end
+pub unwritten_cause : {D : Type 0} (keeps_promises : Type 0) (seen : D → Files) (faults : D → ℕ) (files : Option (List NamedFile)) (options : Options) (today : Day) (count : ℕ) (begun written : List ℕ) (now : D) (said : PlaceFault) (failure : Failure)
+    → failure ≡ place_failure said → IsWrittenBy files options today (Some begun) (Some written) count → begun ≡ [] → (said ≡ place.Folder Unwritten → HasFailedSince keeps_promises seen faults written now)
+    → IsErrOf {T = ℕ} (Err failure) (Folder Unwritten) → HasFailedSinceAudit keeps_promises seen faults files options today now
+unwritten_cause keeps_promises seen faults files options today count begun written now said failure is wrote none since e =
+    (written, count, subst (λ (l : List ℕ). IsWrittenBy files options today (Some l) (Some written) count) none wrote, since (told_of Unwritten said failure is e))
+
+-- where some of them may be in place, a crash since the audit's end leaves the old files or the new ones
+pub unfinished_either : {D : Type 0} (moment : D → ℕ) (left_since : D → ℕ → Files → Type 0) (seen : D → Files) (files : Option (List NamedFile)) (options : Options) (today : Day) (count : ℕ) (begun written : List ℕ) (now : D) (said : PlaceFault) (failure : Failure)
+    → failure ≡ place_failure said → IsWrittenBy files options today (Some begun) (Some written) count → begun ≡ [] → (said ≡ place.Folder Unfinished → HasOldOrNewSince moment left_since seen written now)
+    → IsErrOf {T = ℕ} (Err failure) (Folder Unfinished) → HasOldOrNewSinceAudit moment left_since seen files options today now
+unfinished_either moment left_since seen files options today count begun written now said failure is wrote none since e =
+    (written, count, subst (λ (l : List ℕ). IsWrittenBy files options today (Some l) (Some written) count) none wrote, since (told_of Unfinished said failure is e))
 
 -- ---- a folder that was not recovered
+
+-- nothing else is said of that
+pub unrecovered_only : (why : DiskFault) (said : FolderFault) (fault : PlaceFault) (failure : Failure) → failure ≡ place_failure fault → fault ≡ unrecovered_folder why → IsErrOf {T = ℕ} (Err failure) (Folder said) → said ≡ Unrecovered
+unrecovered_only disk.Failed said fault failure is was e =
+    let refused : failure ≡ Folder Unrecovered = is ∙ ap place_failure was in
+    let told : failure ≡ Folder said = cc in
+    let same : Folder Unrecovered ≡ Folder said = sym refused ∙ told in
+    cc
+unrecovered_only disk.NoMemory said fault failure is was e =
+    let refused : failure ≡ Serve serve.NoMemory = is ∙ ap place_failure was in
+    let told : failure ≡ Folder said = cc in
+    let clash : Serve serve.NoMemory ≡ Folder said = sym refused ∙ told in
+    absurd cc
 
 unrecovered_place : (files : Option (List NamedFile)) (options : Options) (today : Day) (why : DiskFault) → IsPlaceFailure files options today (place_failure (unrecovered_folder why))
 unrecovered_place files options today disk.NoMemory = tt

@@ -8,7 +8,7 @@ use Rattle.station_files.specs.declared.named.NamedFile.{NamedFile}
 use Rattle.station_files.specs.Files.{files_in, listing}
 use Rattle.program_text.specs.declared.folder.FolderFault.{FolderFault}
 use Rattle.program_text.specs.declared.folder.FolderFault.TheVariants.{InUse, Unopened, Unrecovered, Unwritten, Unfinished}
-use Rattle.program_text.specs.Placing.{HasFiles}
+use Rattle.program_text.specs.Placing.{HasFailedSince, HasFiles, HasOldOrNewSince}
 use Rattle.station_files.specs.declared.close_fault.CloseFault.TheVariants.{Write}
 use Rattle.whole_run.specs.declared.fault.ServeFault.TheVariants as serve
 use Rattle.whole_run.specs.HandedOver.{AreHandedOver}
@@ -48,6 +48,18 @@ pub record AreInPlace (files : Option (List NamedFile)) (options : Options) (tod
 -- all entries hold, and the files of the tables at their end were written, whole, where none had been
 abbrev pub IsWrittenWhole : Option (List NamedFile) → Options → Day → Type 0
 IsWrittenWhole files options today = (written : List ℕ) × (count : ℕ) × IsWrittenBy files options today (Some []) (Some written) count
+
+-- all entries hold, the files of the tables at their end were written, whole, where none had been, and since then the disk has
+-- failed
+abbrev pub HasFailedSinceAudit : {D : Type 0} → Type 0 → (D → Folder) → (D → ℕ) → Option (List NamedFile) → Options → Day → D → Type 0
+HasFailedSinceAudit keeps_promises seen faults files options today now =
+    (written : List ℕ) × (count : ℕ) × IsWrittenBy files options today (Some []) (Some written) count × HasFailedSince keeps_promises seen faults written now
+
+-- all entries hold, the files of the tables at their end were written, whole, where none had been, and whatever a crash leaves
+-- from then on stands for the old files or for these, all of them
+abbrev pub HasOldOrNewSinceAudit : {D : Type 0} → (D → ℕ) → (D → ℕ → Folder → Type 0) → (D → Folder) → Option (List NamedFile) → Options → Day → D → Type 0
+HasOldOrNewSinceAudit moment left_since seen files options today now =
+    (written : List ℕ) × (count : ℕ) × IsWrittenBy files options today (Some []) (Some written) count × HasOldOrNewSince moment left_since seen written now
 
 -- Why a folder that was locked and opened has not got the files of the tables: it was not recovered, or all entries hold and
 -- the files were not put in place.

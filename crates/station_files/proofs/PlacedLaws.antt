@@ -125,6 +125,10 @@ with_files_is files folder n there = elim (cases_Bool (is_reserved n)) [
 told_files : (written : List ℕ) (names : List Name) (current : Option Name) (old : Folder) (w : AreWritten written names current old) → files_in written ≡ w.files
 told_files written names current old w = ap files_in w.listed ∙ files_again w.files w.bytes
 
+-- they are on the disk under their temporary names
+pub told_there : (written : List ℕ) (names : List Name) (current : Option Name) (old : Folder) → AreWritten written names current old → AreTemporary (files_in written) old
+told_there written names current old w = subst (λ (l : List NamedFile). AreTemporary l old) (sym (told_files written names current old w)) w.there
+
 same_with : (written : List ℕ) (names : List Name) (current : Option Name) (old : Folder) (n : Name) → AreWritten written names current old → with_staged names old n ≡ with_files (files_in written) old n
 same_with written names current old n w =
     ap (λ (l : List Name). with_staged l old n) w.named ∙ (with_files_is w.files old n w.there ∙ ap (λ (l : List NamedFile). with_files l old n) (sym (told_files written names current old w)))

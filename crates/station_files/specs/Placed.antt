@@ -9,7 +9,7 @@ use Rattle.station_files.specs.declared.named.NamedFile.{NamedFile}
 use Rattle.station_files.specs.Files.{file_at, files_in, listing, IsOfBytes}
 
 -- What contracts see of new files for a folder of a disk: their set, the files as one list, how often a call has failed, and
--- why the last one did that has.
+-- why the last one that begins or writes a file did that has.
 pub record NewFiles (D : Type 0) : Type 0 where
   pub set : Set D
   pub written : List ℕ

@@ -161,6 +161,20 @@ fn abandoned_files_are_gone(rt: HostRuntime) -> Result<(), Fail> {
 }
 
 #[test]
+fn files_whose_folder_is_gone_take_no_places(rt: HostRuntime) -> Result<(), Fail> {
+    let mut folder = new_files(&rt, rt.alloc(), "gone")?;
+    assert_eq!(rt; write_two(&mut folder), Ok(()));
+    fs::remove_dir_all(&rt, "gone")?;
+    for fault in [SetFault::Failed, SetFault::Closed] {
+        assert_eq!(rt; folder.finish(), Err(fault));
+    }
+    for fault in [SetFault::Failed, SetFault::Closed] {
+        assert_eq!(rt; folder.abandon(), Err(fault));
+    }
+    Ok(())
+}
+
+#[test]
 fn why_a_file_was_not_begun(rt: HostRuntime) -> Result<(), Fail> {
     let mut folder = new_files(&rt, rt.alloc(), "refused")?;
     let names: [(&[u8], Option<SetFault>); 4] = [

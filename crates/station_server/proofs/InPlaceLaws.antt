@@ -10,16 +10,18 @@ use Rattle.station_files.specs.Placed.{IsPlaced}
 use Rattle.whole_run.specs.declared.fault.ServeFault.{ServeFault}
 use Rattle.whole_run.specs.declared.fault.ServeFault.TheVariants as serve
 use Rattle.whole_run.specs.Loading.{IsFailure}
+use Rattle.program_text.specs.declared.folder.FolderFault.{FolderFault}
 use Rattle.program_text.specs.declared.folder.FolderFault.TheVariants.{InUse, Unopened, Unrecovered, Unwritten, Unfinished}
 use Rattle.program_text.specs.declared.folder.PlaceFault.{PlaceFault}
 use Rattle.program_text.specs.declared.folder.PlaceFault.TheVariants.{NoMemory, Folder}
 use Rattle.program_text.specs.PlaceFaults.{given_up, unrecovered_folder, IsOfNewFiles}
+use Rattle.program_text.specs.Placing.{HasFailedSince, HasOldOrNewSince}
 use Rattle.program_text.proofs.PlacingLaws.{files_placed, given_up_keeps}
 use Rattle.station_server.specs.declared.program.failure.Failure.{Failure}
 use Rattle.station_server.specs.declared.program.failure.Failure.TheVariants.{Serve, Folder as OfFolder}
 use Rattle.station_server.specs.declared.program.options.Options.{Options}
 use Rattle.station_server.specs.Failures.{place_failure}
-use Rattle.station_server.specs.Program.{asked_files, IsInPlace, IsLoadFailure, IsPlaceFault, IsServedBy, IsServedWhole}
+use Rattle.station_server.specs.Program.{asked_files, HasFailedSinceRun, HasOldOrNewSinceRun, IsInPlace, IsLoadFailure, IsPlaceFault, IsServedBy, IsServedWhole}
 
 pub in_place : (files : Option (List NamedFile)) (options : Options) (count : ℕ) (begun written : List ℕ) (old new : Files) → IsServedBy files options (Some begun) (Some written) count → begun ≡ [] → IsPlaced written old new
     → IsInPlace files options new count
@@ -58,7 +60,46 @@ new_files_only (Folder Unfinished) of e = cc
 pub recovered_before : (fault : PlaceFault) (failure : Failure) → failure ≡ place_failure fault → IsOfNewFiles fault → IsErrOf {T = ℕ} (Err failure) (OfFolder Unrecovered) → ⊥
 recovered_before fault failure is of e = let told : failure ≡ OfFolder Unrecovered = cc in new_files_only fault of (sym is ∙ told)
 
+-- ---- files that were not written
+
+told_of : (said : FolderFault) (fault : PlaceFault) (failure : Failure) → failure ≡ place_failure fault → IsErrOf {T = ℕ} (Err failure) (OfFolder said) → fault ≡ Folder said
+told_of said NoMemory failure is e =
+    let told : failure ≡ OfFolder said = cc in
+    let clash : Serve serve.NoMemory ≡ OfFolder said = sym is ∙ told in
+    absurd cc
+told_of said (Folder why) failure is e =
+    let told : failure ≡ OfFolder said = cc in
+    let same : OfFolder why ≡ OfFolder said = sym is ∙ told in
+    cc
+
+-- it is said only where the disk has failed since the run's end
+pub unwritten_cause : {D : Type 0} (keeps_promises : Type 0) (seen : D → Files) (faults : D → ℕ) (files : Option (List NamedFile)) (options : Options) (count : ℕ) (begun written : List ℕ) (now : D) (said : PlaceFault) (failure : Failure)
+    → failure ≡ place_failure said → IsServedBy files options (Some begun) (Some written) count → begun ≡ [] → (said ≡ Folder Unwritten → HasFailedSince keeps_promises seen faults written now)
+    → IsErrOf {T = ℕ} (Err failure) (OfFolder Unwritten) → HasFailedSinceRun keeps_promises seen faults files options now
+unwritten_cause keeps_promises seen faults files options count begun written now said failure is served none since e =
+    (written, count, subst (λ (l : List ℕ). IsServedBy files options (Some l) (Some written) count) none served, since (told_of Unwritten said failure is e))
+
+-- where some of them may be in place, a crash since the run's end leaves the old files or the new ones
+pub unfinished_either : {D : Type 0} (moment : D → ℕ) (left_since : D → ℕ → Files → Type 0) (seen : D → Files) (files : Option (List NamedFile)) (options : Options) (count : ℕ) (begun written : List ℕ) (now : D) (said : PlaceFault) (failure : Failure)
+    → failure ≡ place_failure said → IsServedBy files options (Some begun) (Some written) count → begun ≡ [] → (said ≡ Folder Unfinished → HasOldOrNewSince moment left_since seen written now)
+    → IsErrOf {T = ℕ} (Err failure) (OfFolder Unfinished) → HasOldOrNewSinceRun moment left_since seen files options now
+unfinished_either moment left_since seen files options count begun written now said failure is served none since e =
+    (written, count, subst (λ (l : List ℕ). IsServedBy files options (Some l) (Some written) count) none served, since (told_of Unfinished said failure is e))
+
 -- ---- a folder that was not recovered
+
+-- nothing else is said of that
+pub unrecovered_only : (why : DiskFault) (said : FolderFault) (fault : PlaceFault) (failure : Failure) → failure ≡ place_failure fault → fault ≡ unrecovered_folder why → IsErrOf {T = ℕ} (Err failure) (OfFolder said) → said ≡ Unrecovered
+unrecovered_only disk.Failed said fault failure is was e =
+    let refused : failure ≡ OfFolder Unrecovered = is ∙ ap place_failure was in
+    let told : failure ≡ OfFolder said = cc in
+    let same : OfFolder Unrecovered ≡ OfFolder said = sym refused ∙ told in
+    cc
+unrecovered_only disk.NoMemory said fault failure is was e =
+    let refused : failure ≡ Serve serve.NoMemory = is ∙ ap place_failure was in
+    let told : failure ≡ OfFolder said = cc in
+    let clash : Serve serve.NoMemory ≡ OfFolder said = sym refused ∙ told in
+    absurd cc
 
 unrecovered_place : (files : Option (List NamedFile)) (options : Options) (why : DiskFault) → IsPlaceFault files options (place_failure (unrecovered_folder why))
 unrecovered_place files options disk.NoMemory = tt

@@ -18,7 +18,7 @@ use Rattle.whole_run.specs.WholeRun.{IsServeFault, IsWholeRun, IsCutRun}
 use Rattle.program_text.specs.declared.folder.FolderFault.{FolderFault}
 use Rattle.program_text.specs.declared.folder.FolderFault.TheVariants.{InUse, Unopened, Unrecovered, Unwritten, Unfinished}
 use Rattle.program_text.specs.CommandLine.{value_of}
-use Rattle.program_text.specs.Placing.{HasFiles}
+use Rattle.program_text.specs.Placing.{HasFailedSince, HasFiles, HasOldOrNewSince}
 use Rattle.station_server.specs.declared.program.failure.Failure.{Failure}
 use Rattle.station_server.specs.declared.program.failure.Failure.TheVariants.{BadDate, Serve, Folder as OfFolder}
 use Rattle.station_server.specs.declared.program.options.Options.{Options}
@@ -64,6 +64,18 @@ pub record IsInPlace (files : Option (List NamedFile)) (options : Options) (fold
 -- the run that the options ask for came to its end, and its files were written, whole, where none had been
 abbrev pub IsServedWhole : Option (List NamedFile) → Options → Type 0
 IsServedWhole files options = (written : List ℕ) × (count : ℕ) × IsServedBy files options (Some []) (Some written) count
+
+-- the run that the options ask for came to its end, its files were written, whole, where none had been, and since then the disk
+-- has failed
+abbrev pub HasFailedSinceRun : {D : Type 0} → Type 0 → (D → Folder) → (D → ℕ) → Option (List NamedFile) → Options → D → Type 0
+HasFailedSinceRun keeps_promises seen faults files options now =
+    (written : List ℕ) × (count : ℕ) × IsServedBy files options (Some []) (Some written) count × HasFailedSince keeps_promises seen faults written now
+
+-- the run that the options ask for came to its end, its files were written, whole, where none had been, and whatever a crash
+-- leaves from then on stands for the old files or for these, all of them
+abbrev pub HasOldOrNewSinceRun : {D : Type 0} → (D → ℕ) → (D → ℕ → Folder → Type 0) → (D → Folder) → Option (List NamedFile) → Options → D → Type 0
+HasOldOrNewSinceRun moment left_since seen files options now =
+    (written : List ℕ) × (count : ℕ) × IsServedBy files options (Some []) (Some written) count × HasOldOrNewSince moment left_since seen written now
 
 -- Why a folder that was locked and opened has not got the files of the run that the options ask for: it was not recovered, or
 -- the run came to its end and its files were not put in place.

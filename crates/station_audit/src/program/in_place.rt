@@ -4,7 +4,7 @@ ghost use Rattle.std.specs.Prelude.{◌≡◌, ◌<◌, [], IfOk, IfErr, IsErrOf
 ghost use Rattle.files_in_place.specs.Disk.{IsSynced};
 ghost use Rattle.station_audit.specs.Endings.{given_up_audit};
 ghost use Rattle.station_audit.specs.Program.{IsLoadFailure};
-ghost use Rattle.station_audit.specs.Writing.{AreInPlace, IsPlaceFailure};
+ghost use Rattle.station_audit.specs.Writing.{AreInPlace, HasFailedSinceAudit, HasOldOrNewSinceAudit, IsPlaceFailure};
 
 use crate::program::failure::Failure;
 use crate::program::options::Options;
@@ -47,11 +47,16 @@ fn place_tables<S: Source, D: Disk + Drop>(
     folder: &mut DiskFolder<D>,
 ) -> Result<u64, Failure>
     requires written { folder.old.written ≡ [] }
+    requires no_failure { folder.old.failures ≡ 0 }
     ensures placed { D.keeps_promises → IfOk result (AreInPlace (S.files source.old) options.now today (D.seen folder.new.set.disk)) }
     ensures synced { D.keeps_promises → OnOk result (IsSynced (D.seen folder.new.set.disk) (D.is_whole folder.new.set.disk) (D.may_leave folder.new.set.disk)) }
     ensures fault { IfErr result (IsPlaceFailure (S.files source.old) options.now today) }
     // The folder was recovered before.
     ensures recovered { ¬ IsErrOf result (Failure.Folder FolderFault.Unrecovered) }
+    ensures unwritten { IsErrOf result (Failure.Folder FolderFault.Unwritten)
+        → HasFailedSinceAudit D.keeps_promises D.seen D.faults (S.files source.old) options.now today folder.new.set.disk }
+    ensures unfinished { D.keeps_promises → IsErrOf result (Failure.Folder FolderFault.Unfinished)
+        → HasOldOrNewSinceAudit D.moment D.left_since D.seen (S.files source.old) options.now today folder.new.set.disk }
     ensures kept { S.files source.new ≡ S.files source.old }
     ensures loads { OnOk result (S.failures source.new ≡ S.failures source.old) }
     ensures failure { IfErr result (IsLoadFailure (S.files source.old) options.now (S.failures source.old) (S.failures source.new)) }
@@ -82,6 +87,12 @@ pub(crate) fn audit_in_place<S: Source, D: Disk + Drop>(
     ensures fault { IfErr result.ended (IsPlaceFailure (S.files source.old) options.now today) }
     // It is said that the folder was not recovered only where a call of the disk has failed.
     ensures unrecovered { IsErrOf result.ended (Failure.Folder FolderFault.Unrecovered) → D.faults disk < D.faults result.disk }
+    // It is said that the files were not written only where a call of the disk has failed since the audit's end.
+    ensures unwritten { IsErrOf result.ended (Failure.Folder FolderFault.Unwritten)
+        → HasFailedSinceAudit D.keeps_promises D.seen D.faults (S.files source.old) options.now today result.disk }
+    // Where only some of them are in place, a crash since the audit's end leaves the old files or the new ones, all of them, once it is recovered.
+    ensures unfinished { D.keeps_promises → IsErrOf result.ended (Failure.Folder FolderFault.Unfinished)
+        → HasOldOrNewSinceAudit D.moment D.left_since D.seen (S.files source.old) options.now today result.disk }
     ensures kept { S.files source.new ≡ S.files source.old }
     ensures loads { OnOk result.ended (S.failures source.new ≡ S.failures source.old) }
     ensures failure { IfErr result.ended (IsLoadFailure (S.files source.old) options.now (S.failures source.old) (S.failures source.new)) }

@@ -1,2 +1,3 @@
 mod audits;
 mod ends;
+mod places;

@@ -2,7 +2,7 @@
 
 ghost use Rattle.std.specs.Prelude.{◌≡◌, ◌<◌, [], IfOk, IfErr, IsErrOf, OnOk};
 ghost use Rattle.files_in_place.specs.Disk.{IsSynced};
-ghost use Rattle.station_server.specs.Program.{IsInPlace, IsLoadFailure, IsPlaceFault};
+ghost use Rattle.station_server.specs.Program.{HasFailedSinceRun, HasOldOrNewSinceRun, IsInPlace, IsLoadFailure, IsPlaceFault};
 
 use crate::program::failure::Failure;
 use crate::program::options::Options;
@@ -34,11 +34,16 @@ fn serve_into<S: Source, D: Disk + Drop, G: Gate + Sync, R: Threads + Wait + Syn
     gate: &G,
 ) -> Result<u64, Failure>
     requires written { folder.old.written ≡ [] }
+    requires no_failure { folder.old.failures ≡ 0 }
     ensures placed { D.keeps_promises → IfOk result (IsInPlace (S.files source.old) options.now (D.seen folder.new.set.disk)) }
     ensures synced { D.keeps_promises → OnOk result (IsSynced (D.seen folder.new.set.disk) (D.is_whole folder.new.set.disk) (D.may_leave folder.new.set.disk)) }
     ensures fault { IfErr result (IsPlaceFault (S.files source.old) options.now) }
     // The folder was recovered before.
     ensures recovered { ¬ IsErrOf result (Failure.Folder FolderFault.Unrecovered) }
+    ensures unwritten { IsErrOf result (Failure.Folder FolderFault.Unwritten)
+        → HasFailedSinceRun D.keeps_promises D.seen D.faults (S.files source.old) options.now folder.new.set.disk }
+    ensures unfinished { D.keeps_promises → IsErrOf result (Failure.Folder FolderFault.Unfinished)
+        → HasOldOrNewSinceRun D.moment D.left_since D.seen (S.files source.old) options.now folder.new.set.disk }
     ensures kept { S.files source.new ≡ S.files source.old }
     ensures loads { OnOk result (S.failures source.new ≡ S.failures source.old) }
     ensures failure { IfErr result (IsLoadFailure (S.files source.old) (S.failures source.old) (S.failures source.new)) }
@@ -69,6 +74,12 @@ pub(crate) fn serve_in_place<S: Source, D: Disk + Drop, G: Gate + Sync, R: Threa
     ensures fault { IfErr result.ended (IsPlaceFault (S.files source.old) options.now) }
     // It is said that the folder was not recovered only where a call of the disk has failed.
     ensures unrecovered { IsErrOf result.ended (Failure.Folder FolderFault.Unrecovered) → D.faults disk < D.faults result.disk }
+    // It is said that the files were not written only where a call of the disk has failed since the run's end.
+    ensures unwritten { IsErrOf result.ended (Failure.Folder FolderFault.Unwritten)
+        → HasFailedSinceRun D.keeps_promises D.seen D.faults (S.files source.old) options.now result.disk }
+    // Where only some of them are in place, a crash since the run's end leaves the old files or the new ones, all of them, once it is recovered.
+    ensures unfinished { D.keeps_promises → IsErrOf result.ended (Failure.Folder FolderFault.Unfinished)
+        → HasOldOrNewSinceRun D.moment D.left_since D.seen (S.files source.old) options.now result.disk }
     ensures kept { S.files source.new ≡ S.files source.old }
     // A file can't be read only where a load has failed, or where it is over the limit.
     ensures loads { OnOk result.ended (S.failures source.new ≡ S.failures source.old) }

@@ -51,7 +51,7 @@ fn named(alloc: Global, name: &[u8], bytes: &[u8]) -> Result<NamedFile, AllocErr
 }
 
 // A setup of a table and two scripts, these, and a journal.
-fn source_with(alloc: Global, journal: &[u8]) -> Result<MemorySource, AllocError> {
+pub(super) fn source_with(alloc: Global, journal: &[u8]) -> Result<MemorySource, AllocError> {
     let text = b"TABLE T t.dbf\nSTATION a.prg\nSTATION b.prg\n";
     let setup = named(alloc, b"A.SET", text)?;
     let table = named(alloc, b"t.dbf", &TABLE)?;

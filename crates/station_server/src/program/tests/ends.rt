@@ -17,7 +17,7 @@ use std::sync::Wait;
 use std::test::Fail;
 use std::thread::Threads;
 use std::{fs, io};
-use whole_run::ServeFault;
+use whole_run::{FileFault, ServeFault};
 
 // The DBF file of a table with one field of characters, A, one byte wide, without records, dated 1985-01-02.
 #[rattlefmt::skip]
@@ -68,22 +68,17 @@ fn tables_are_dated_by_the_command_line(rt: HostRuntime) -> Result<(), Fail> {
     Ok(())
 }
 
-// A run over a new folder of the system, in which an earlier run has left a file that is to get its name, and one that isn't.
-fn serve_here<R: Runtime + AllocGlobal + Threads + Wait + Sync>(
+// A run of a setup over a folder of the system.
+fn serve_at<R: Runtime + AllocGlobal + Threads + Wait + Sync>(
     rt: &R,
     source: &mut MemorySource,
+    setup: &str,
+    out: &str,
 ) -> Result<Result<u64, Failure>, Fail> {
     let alloc = rt.alloc();
-    if fs::exists(rt, "placed")? {
-        fs::remove_dir_all(rt, "placed")?;
-    }
-    fs::create_dir(rt, "placed")?;
-    fs::write(rt, "placed/~LAST.TXT", b"of the run before")?;
-    fs::write(rt, "placed/~~list", b"LAST.TXT\n")?;
-    fs::write(rt, "placed/~LOST.TXT", b"of no run")?;
     let options = Options {
-        setup: "A.SET",
-        out: "placed",
+        setup,
+        out,
         today: day_of(1987, 3, 15).ok_or("a date")?,
         reindex: false,
         journal: true,
@@ -91,6 +86,21 @@ fn serve_here<R: Runtime + AllocGlobal + Threads + Wait + Sync>(
     let disk = SystemDisk::open(rt.clone()?, alloc, options.out)?;
     let InPlace { ended, disk: _ } = serve_in_place(rt, alloc, &options, source, disk, &OpenGate);
     Ok(ended)
+}
+
+// A run over a new folder of the system, in which an earlier run has left a file that is to get its name, and one that isn't.
+fn serve_here<R: Runtime + AllocGlobal + Threads + Wait + Sync>(
+    rt: &R,
+    source: &mut MemorySource,
+) -> Result<Result<u64, Failure>, Fail> {
+    if fs::exists(rt, "placed")? {
+        fs::remove_dir_all(rt, "placed")?;
+    }
+    fs::create_dir(rt, "placed")?;
+    fs::write(rt, "placed/~LAST.TXT", b"of the run before")?;
+    fs::write(rt, "placed/~~list", b"LAST.TXT\n")?;
+    fs::write(rt, "placed/~LOST.TXT", b"of no run")?;
+    serve_at(rt, source, "A.SET", "placed")
 }
 
 #[test]
@@ -109,6 +119,24 @@ fn files_take_their_places(rt: HostRuntime) -> Result<(), Fail> {
         assert!(rt; fs::exists(&rt, name)? == is_there);
     }
     fs::remove_dir_all(&rt, "placed")?;
+    Ok(())
+}
+
+#[test]
+fn refused_setups_place_no_files(rt: HostRuntime) -> Result<(), Fail> {
+    let mut source = one_table(rt.alloc())?;
+    if fs::exists(&rt, "refused")? {
+        fs::remove_dir_all(&rt, "refused")?;
+    }
+    fs::create_dir(&rt, "refused")?;
+    let path = Bytes::from_slice(rt.alloc(), b"NONE.SET")?;
+    let unread = ServeFault::File(path, FileFault::CannotRead);
+    for (setup, fault) in [("NONE.SET", unread), ("s.prg", ServeFault::Setup(1))] {
+        let ended = serve_at(&rt, &mut source, setup, "refused")?;
+        assert_eq!(rt; ended, Err(Failure::Serve(fault)));
+        assert!(rt; !fs::exists(&rt, "refused/T.DBF")?);
+    }
+    fs::remove_dir_all(&rt, "refused")?;
     Ok(())
 }
 
