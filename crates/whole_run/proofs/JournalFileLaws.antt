@@ -1,5 +1,6 @@
 -- The journal's file after others, line by line.
-use Rattle.std.proofs.Common.{◌≡◌, ◌≢◌, ℕ, Bool, ◌+◌, List, [], ◌∷◌, ◌++◌, Option, Some, None, length, drop, refl, sym, ap, subst, ◌∙◌, append_assoc, inl, inr}
+use Rattle.std.proofs.Common.{◌≡◌, ◌≢◌, ℕ, Bool, ◌+◌, List, [], ◌∷◌, ◌++◌, Option, Some, None, Result, Ok, Err, length, drop, refl, sym, ap, subst, ◌∙◌, append_assoc, inl, inr}
+use Rattle.std.specs.Prelude.{IsErrAnd}
 use Rattle.std.specs.List.{slice_get}
 use Rattle.std.specs.Fmt.{decimal}
 use Rattle.std.proofs.lemmas.Grind.{flat_map-append}
@@ -138,6 +139,12 @@ no_other_fault (Setup number) P why some unwritten = absurd why
 no_other_fault (File path reason) P why some unwritten = absurd why
 no_other_fault (Refused reason) P why some unwritten = absurd why
 no_other_fault (Run reason) P why some unwritten = absurd why
+
+-- where memory was refused no file was begun, and so the folder has not failed
+pub unfailed_unbegun : {T Folder Count : Type 0} (failures : Folder → Count) (old new : Folder) (r : Result T ServeFault) (fault : ServeFault) → IsErrAnd r (λ y. y ≡ fault)
+    → (((name : List ℕ) → fault ≢ Close (Write name)) → new ≡ old) → r ≡ Err NoMemory → failures new ≡ failures old
+unfailed_unbegun failures old new (Ok x) fault is begun refused = absurd is
+unfailed_unbegun failures old new (Err y) fault is begun refused = ap failures (begun (λ name e. absurd cc))
 
 -- ---- the whole run
 

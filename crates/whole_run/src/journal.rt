@@ -72,6 +72,7 @@ fn write_lines<S: ByteSink>(
     ensures wrote { OnOk result (S.written sink.new ≡ grown (S.written sink.old) (journal_text journal.now)) }
     ensures no_failure { OnOk result (S.failures sink.new ≡ S.failures sink.old) }
     ensures failed { result ≡ Err LinesFault.Sink → Rises (S.failures sink.old) (S.failures sink.new) }
+    ensures unfailed { result ≡ Err LinesFault.NoMemory → S.failures sink.new ≡ S.failures sink.old }
     ensures kept { IsFront (S.written sink.old) (S.written sink.new) }
     ensures front { OnErr result (IsFront (S.written sink.new) (grown (S.written sink.old) (journal_text journal.now))) }
 {
@@ -92,6 +93,7 @@ fn write_file<F: Folder>(
     ensures wrote { OnOk result (F.written folder.new ≡ grown (F.written folder.old) (listing (journal_under name.now journal.now ∷ []))) }
     ensures no_failure { OnOk result (F.failures folder.new ≡ F.failures folder.old) }
     ensures failed { result ≡ Err LinesFault.Sink → Rises (F.failures folder.old) (F.failures folder.new) }
+    ensures unfailed { result ≡ Err LinesFault.NoMemory → F.failures folder.new ≡ F.failures folder.old }
     ensures kept { IsFront (F.written folder.old) (F.written folder.new) }
     ensures front { OnErr result (IsFront (F.written folder.new) (grown (F.written folder.old) (listing (journal_under name.now journal.now ∷ [])))) }
 {
@@ -112,6 +114,7 @@ pub(crate) fn write_journal<F: Folder>(
     ensures no_failure { OnOk result (F.failures folder.new ≡ F.failures folder.old) }
     ensures fault { IfErr result IsJournalFault }
     ensures failed { (name : List ℕ) → result ≡ Err (ServeFault.Close (CloseFault.Write name)) → Rises (F.failures folder.old) (F.failures folder.new) }
+    ensures unfailed { result ≡ Err ServeFault.NoMemory → F.failures folder.new ≡ F.failures folder.old }
     ensures kept { IsFront (F.written folder.old) (F.written folder.new) }
     ensures front { OnErr result (IsFront (F.written folder.new) (grown (F.written folder.old) (listing (journal_file journal.now ∷ [])))) }
 {

@@ -36,6 +36,7 @@ fn write_with_journal<F: Folder>(
     ensures fault { IfErr result (λ fault. IsWriteFault today.year tables.now fault) }
     ensures no_file_begun { IfErr result (λ fault. UnlessBegun fault (folder.new ≡ folder.old)) }
     ensures failed { (name : List ℕ) → result ≡ Err (ServeFault.Close (CloseFault.Write name)) → Rises (F.failures folder.old) (F.failures folder.new) }
+    ensures unfailed { result ≡ Err ServeFault.NoMemory → F.failures folder.new ≡ F.failures folder.old }
     ensures whole_before_fault { IfErr result (IsCutFiles today tables.now answers.now journal.now (F.written folder.old) (F.written folder.new)) }
 {
     write_files(alloc, tables, answers, today, folder)?;
@@ -70,6 +71,7 @@ pub fn serve_with_journal<S: Source, F: Folder, G: Gate + Sync, R: Threads + Wai
     ensures failure { IfErr result (IsFailure (S.files source.old) (S.failures source.old) (S.failures source.new)) }
     ensures no_file_begun { IfErr result (λ fault. UnlessBegun fault (folder.new ≡ folder.old)) }
     ensures failed { (name : List ℕ) → result ≡ Err (ServeFault.Close (CloseFault.Write name)) → Rises (F.failures folder.old) (F.failures folder.new) }
+    ensures unfailed { result ≡ Err ServeFault.NoMemory → F.failures folder.new ≡ F.failures folder.old }
     ensures whole_before_fault { IfErr result (IsCutRunWithJournal (S.files source.old) setup.now reindex today (F.written folder.old) (F.written folder.new)) }
 {
     let loaded = read_all(alloc, source, setup)?;

@@ -1,6 +1,6 @@
 use Rattle.std.proofs.Common.{ap}
 use Rattle.whole_run.proofs.LoadLaws.{err_exit}
-use Rattle.whole_run.proofs.JournalFileLaws.{with_journal_written, cut_before_journal, cut_in_journal, journal_fault, no_other_fault}
+use Rattle.whole_run.proofs.JournalFileLaws.{with_journal_written, cut_before_journal, cut_in_journal, journal_fault, no_other_fault, unfailed_unbegun}
 use Rattle.whole_run.proofs.with_journal.write_with_journal.Goals as goal
 
 pub returns-clause-wrote : goal.returns-clause-wrote
@@ -11,6 +11,10 @@ returns-in_err-write_files-clause-fault g c = err_exit _ _ c.from_residual.ensur
 
 pub returns-in_err-write_files-clause-no_file_begun : goal.returns-in_err-write_files-clause-no_file_begun
 returns-in_err-write_files-clause-no_file_begun g c = err_exit _ _ c.from_residual.ensures.1 (λ some unwritten. c.in_err-write_files.ensures.no_file_begun unwritten)
+
+pub returns-in_err-write_files-clause-unfailed : goal.returns-in_err-write_files-clause-unfailed
+returns-in_err-write_files-clause-unfailed g c =
+    unfailed_unbegun g.F.ByteSink.failures _ _ _ _ c.from_residual.ensures.1 c.in_err-write_files.ensures.no_file_begun
 
 pub returns-in_err-write_files-clause-whole_before_fault : goal.returns-in_err-write_files-clause-whole_before_fault
 returns-in_err-write_files-clause-whole_before_fault g c =
