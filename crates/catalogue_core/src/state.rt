@@ -5,7 +5,7 @@ ghost use Rattle.std.specs.List.{list_any};
 ghost use Rattle.lock_table.specs.Locks.{free_record, free_records, free_whole};
 ghost use Rattle.table_core.specs.Content.{has_index};
 ghost use Rattle.catalogue_core.specs.IndexOn.{is_any_index};
-ghost use Rattle.catalogue_core.specs.Rooms.{seen, held_at};
+ghost use Rattle.catalogue_core.specs.Rooms.{seen};
 ghost use Rattle.catalogue_core.specs.State.{table_at as content_at, area_of, is_open_beside, is_in_use, IsArea, IsState, HasStation};
 ghost use Rattle.catalogue_core.specs.Step.{table_named, can_write, can_append};
 

@@ -1,10 +1,9 @@
 //! The areas of all stations.
 
-ghost use Rattle.std.specs.Prelude.{◌≡◌, ◌<◌, ◌≤◌, length, replicate, IfSome, IfOk};
+ghost use Rattle.std.specs.Prelude.{◌≡◌, ◌<◌, length, replicate, IfSome, IfOk};
 ghost use Rattle.std.specs.List.{list_any};
 ghost use Rattle.catalogue_core.specs.State.{new_station, area_in, has_open, bars_use, is_open_beside, is_in_use, with_current_in, with_area_in, HasStationIn};
 ghost use Rattle.catalogue_core.specs.Status.{has_exclusively, exclusive_user};
-ghost use Rattle.catalogue_core.specs.declared.area.TheConstants.{MAX_AREAS as AREAS};
 
 use crate::area::{Area, MAX_AREAS, Station};
 use std::alloc::{AllocError, Global};

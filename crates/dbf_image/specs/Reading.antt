@@ -1,5 +1,5 @@
 -- The tests of a reader of DBF files in their order, and what it reads.
-use Rattle.std.specs.Prelude.{◌≡◌, ℕ, zero, suc, ◌+◌, ◌-◌, ◌*◌, ◌/◌, Bool, false, not, ◌&&◌, ◌||◌, ◌==◌, nat_lt, nat_le, ◌⊎◌, List, [], ◌∷◌, ◌++◌, length, map, flat_map, take, drop, slice_index, Option, Some, None, is_some, is_none, unwrap_or, if◌then◌else◌}
+use Rattle.std.specs.Prelude.{◌≡◌, ℕ, zero, suc, ◌+◌, ◌-◌, ◌*◌, ◌/◌, ◌≤◌, Bool, true, false, not, ◌&&◌, ◌||◌, ◌==◌, nat_lt, nat_le, ◌⊎◌, List, [], ◌∷◌, ◌++◌, length, map, flat_map, take, drop, slice_index, Option, Some, None, is_some, is_none, unwrap_or, if◌then◌else◌}
 use Rattle.dbf_fields.specs.declared.field.Field.{Field}
 use Rattle.dbf_fields.specs.declared.format.TheConstants.{MEMO}
 use Rattle.dbf_fields.specs.Faults.{first_fault}
@@ -29,6 +29,14 @@ has_whole_header bytes = nat_le HEADER (length bytes) && (nat_le (header_length 
 -- the fields as their descriptors tell them
 abbrev pub fields_of : List ℕ → List Field
 fields_of bytes = map field_of (chunks DESCRIPTOR (unwrap_or (field_count bytes) 0) (drop HEADER bytes))
+
+-- the header is all there, and its list has this many fields, whose descriptors stand in the bytes
+abbrev pub TellsCount : List ℕ → ℕ → Type 0
+TellsCount bytes count = (has_whole_header bytes ≡ true) × (field_count bytes ≡ Some count) × DESCRIPTOR * count ≤ length bytes - HEADER
+
+-- the header is all there, and these are the fields of its list
+abbrev pub TellsFields : List ℕ → List Field → Type 0
+TellsFields bytes fields = (has_whole_header bytes ≡ true) × (fields ≡ fields_of bytes)
 
 abbrev pub schema_of : List ℕ → List Field
 schema_of bytes = map folded (fields_of bytes)

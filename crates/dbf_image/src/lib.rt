@@ -3,12 +3,13 @@
 //! [`read_table`] reads the two files, and says why where the bytes are no table: it answers a table
 //! exactly where the bytes are files of that table, and else the fault of the first test that fails; [`told_fields`] tells the
 //! fields of a file that it refuses, whatever they are.
-//! [`read_memo`] reads the text of one block in the same way; [`memo_block`] tells the block that a memo's cell names. A [`TableData`] keeps the table in memory:
-//! contracts see its fields and its rows, in which the cell of a memo is its text. A [`GrowingTable`] is a
-//! table that is changed in place: room is made first, then no change can fail, and every change says
-//! which rows the table has then. A [`MemoStore`] keeps texts under numbers, in blocks that are used again.
-//! [`write_dbf`] writes the one file that is written of a table into a [`ByteSink`], and [`write_dbt`] the
-//! file of its memos; what they write can be read back as that table.
+//! [`read_memo`] reads the text of one block in the same way; [`memo_block`] tells the block that a memo's cell names.
+//!
+//! A [`TableData`] keeps the table in memory: contracts see its fields and its rows, in which the cell of a memo is its
+//! text. A [`GrowingTable`] is a table that is changed in place: room is made first, then no change can fail, and every
+//! change says which rows the table has then. A [`MemoStore`] keeps texts under numbers, in blocks that are used again.
+//! [`write_dbf`] writes the one file that is written of a table into a [`ByteSink`], and [`write_dbt`] the file of its
+//! memos; what they write can be read back as that table.
 //!
 //! Start with specs/Table.antt (what a table is), specs/Memo.antt (what a memo's cell tells) and
 //! specs/DbfText.antt (when bytes are a table's files), then read src/table.rt, src/table/growing.rt,

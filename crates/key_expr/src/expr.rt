@@ -1,6 +1,6 @@
 //! Key expressions: how they are read, and the keys that they give.
 
-ghost use Rattle.std.specs.Prelude.{◌≡◌, ◌≢◌, ◌↔◌, IsTrue, ℕ, ◌+◌, ◌≤◌, ◌<◌, List, length, drop, take, Some, None, IfOk, IfErr};
+ghost use Rattle.std.specs.Prelude.{◌≡◌, ◌≢◌, ◌↔◌, IsTrue, ◌+◌, ◌≤◌, ◌<◌, length, drop, Some, None, IfOk, IfErr};
 ghost use Rattle.std.specs.List.{AllByRecursion};
 ghost use Rattle.dbf_fields.specs.Field.{widths};
 ghost use Rattle.key_expr.specs.declared.fault.ExprFault.TheVariants.{ExpressionTooLong, NoMemory};

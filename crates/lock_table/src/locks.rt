@@ -1,7 +1,7 @@
 //! The locks that are held.
 
-ghost use Rattle.std.specs.Prelude.{◌≡◌, ℕ, nat_lt, ◌+◌, ◌*◌, ◌<◌, ◌≤◌, ◌&&◌, ◌||◌, ◌==◌, not, true, false, List, [], length, replicate, IfOk};
-ghost use Rattle.std.specs.List.{list_any, filter};
+ghost use Rattle.std.specs.Prelude.{◌≡◌, ◌+◌, ◌*◌, ◌<◌, ◌≤◌, ◌&&◌, ◌||◌, ◌==◌, not, true, false, [], length, replicate, IfOk};
+ghost use Rattle.std.specs.List.{list_any};
 ghost use Rattle.lock_table.specs.Numbers.{AreRecordNumbers, IsTableOrRecords};
 ghost use Rattle.lock_table.specs.Locks.{held, in_table, free_record, free_records, free_whole, may_write, holder, record_locks, own_numbers, with_lock, with_records, without, without_all, AreApart, AreLocksInOrder};
 ghost use Rattle.lock_table.specs.Slots.{slot_index_of, row_from, EachSlot, IsSlotRow};

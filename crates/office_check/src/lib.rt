@@ -5,9 +5,10 @@
 //! an index what it is beside its table. [`findings_text`] tells them in words, a line a file.
 //!
 //! Start with specs/Findings.antt (what a finding says of the files), specs/TableFile.antt (what a table's files tell before
-//! they are read as a table), specs/IndexFile.antt (what an index's file that is refused tells), specs/MemoUse.antt (which blocks memos take), specs/Freshness.antt (what an index is beside its
-//! table), specs/Damage.antt (in what their pairs differ) and specs/Lines.antt (how it is told), then read src/look.rt,
-//! src/table_file.rt, src/index_file.rt, src/freshness.rt and src/damage.rt.
+//! they are read as a table), specs/IndexFile.antt (what an index's file that is refused tells), specs/MemoUse.antt (which
+//! blocks memos take), specs/Freshness.antt (what an index is beside its table), specs/Damage.antt (in what their pairs
+//! differ) and specs/Lines.antt (how it is told), then read src/look.rt, src/table_file.rt, src/index_file.rt,
+//! src/freshness.rt and src/damage.rt.
 #![tactic(auto)]
 
 mod damage;

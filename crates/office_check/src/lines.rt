@@ -1,7 +1,6 @@
 //! What is found, in words.
 
 ghost use Rattle.std.specs.Prelude.{◌≡◌, ◌++◌, length, IfOk, OnOk};
-ghost use Rattle.std.specs.Fmt.{decimal};
 ghost use Rattle.office_check.specs.Lines.{counts_words, expression_refusal, finding_words, length_words, offset_words};
 ghost use Rattle.office_check.specs.Lines.{damage_counts, damage_words, first_words, foreign_words, record_key_words};
 ghost use Rattle.office_check.specs.Lines.{state_begin as begin_of_state, state_rest, state_words};

@@ -1,6 +1,6 @@
 //! The files of an entry.
 
-ghost use Rattle.std.specs.Prelude.{◌≡◌, ◌+◌, ◌≤◌, ℕ, List, Option, length, count_by, IfOk, IfSome};
+ghost use Rattle.std.specs.Prelude.{◌≡◌, ◌+◌, ℕ, List, Option, IfOk, IfSome};
 ghost use Rattle.station_files.specs.declared.named.NamedFile.{NamedFile};
 ghost use Rattle.station_files.specs.Files.{IsFileOf};
 ghost use Rattle.office_check.specs.Findings.{IsMemosLook, IsTableContent, IsTableLook, IsIndexLook, IsCounts};

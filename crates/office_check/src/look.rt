@@ -37,8 +37,10 @@ fn look_at_table<S: Source>(
     dbf: &Bytes,
     dbt: &Option<Bytes>,
 ) -> Result<Look, AllocError>
-    ensures look { (before : List Entry) (findings : List Found) (name : List ℕ) → IfOk result (IsLook (S.files source.old) before findings (Table name dbf.now dbt.now)) }
-    ensures loads { (name : List ℕ) → IfOk result (λ look. IsEntryLoad (S.files source.old) (S.failures source.old) (S.failures source.new) (Table name dbf.now dbt.now) look.finding) }
+    ensures look { (before : List Entry) (findings : List Found) (name : List ℕ)
+        → IfOk result (IsLook (S.files source.old) before findings (Table name dbf.now dbt.now)) }
+    ensures loads { (name : List ℕ)
+        → IfOk result (λ look. IsEntryLoad (S.files source.old) (S.failures source.old) (S.failures source.new) (Table name dbf.now dbt.now) look.finding) }
     ensures kept { S.files source.new ≡ S.files source.old }
 {
     match load_table(alloc, source, dbf, dbt)? {
@@ -115,7 +117,8 @@ fn look_at_index<S: Source>(
 ) -> Result<Look, AllocError>
     ensures look { (findings : List Found) (name : List ℕ) → AreKeptTables (S.files source.old) before.now findings tables.now
         → IfOk result (IsLook (S.files source.old) before.now findings (Index table.now name ndx.now)) }
-    ensures loads { (name : List ℕ) → IfOk result (λ look. IsEntryLoad (S.files source.old) (S.failures source.old) (S.failures source.new) (Index table.now name ndx.now) look.finding) }
+    ensures loads { (name : List ℕ)
+        → IfOk result (λ look. IsEntryLoad (S.files source.old) (S.failures source.old) (S.failures source.new) (Index table.now name ndx.now) look.finding) }
     ensures kept { S.files source.new ≡ S.files source.old }
 {
     match load_index(alloc, source, ndx)? {

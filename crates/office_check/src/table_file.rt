@@ -51,7 +51,8 @@ pub fn memos_are_told()
     ensures records { (dbf : List ℕ) (dbt : Option (List ℕ)) → image_refusal dbf dbt ≡ None → tells_records dbf ≡ true }
     ensures good { (dbf : List ℕ) (dbt : Option (List ℕ)) → image_refusal dbf dbt ≡ None → bad_memo dbf dbt ≡ None }
     ensures used { (dbf : List ℕ) (dbt : Option (List ℕ)) → image_refusal dbf dbt ≡ None → is_some (memo_use_in dbf dbt) ≡ is_some dbt }
-    ensures refused { (dbf dbt : List ℕ) (fault : Fault) → image_refusal dbf (Some dbt) ≡ Some fault → is_memo_fault fault ≡ true → fault_of_cell dbt (bad_memo dbf (Some dbt)) ≡ Some fault }
+    ensures refused { (dbf dbt : List ℕ) (fault : Fault) → image_refusal dbf (Some dbt) ≡ Some fault → is_memo_fault fault ≡ true
+        → fault_of_cell dbt (bad_memo dbf (Some dbt)) ≡ Some fault }
 {}
 
 // The first field up to which the fields are no schema.

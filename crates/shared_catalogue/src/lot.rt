@@ -1,6 +1,6 @@
 //! Which ledger counts the calls, which board shows the status rows, and which opened tables are meant.
 
-ghost use Rattle.std.specs.Prelude.{◌≡◌, ◌≤◌, [], ◌∷◌, IfOk};
+ghost use Rattle.std.specs.Prelude.{◌≡◌, [], ◌∷◌, IfOk};
 ghost use Rattle.crossbeam_utils.specs.Seq.{cell_view};
 ghost use Rattle.shared_catalogue.specs.Board.{first_view};
 ghost use Rattle.shared_catalogue.specs.StatusRows.{opening_row};

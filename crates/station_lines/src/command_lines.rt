@@ -3,7 +3,7 @@
 ghost use Rattle.std.specs.Prelude.{◌≡◌, ◌++◌, codes, IfOk};
 ghost use Rattle.std.specs.Fmt.{decimal, signed_decimal};
 ghost use Rattle.station_lines.specs.Script.Meaning.{Means};
-ghost use Rattle.station_lines.specs.CommandLines.{with_commas as numbers_apart, text_of_command, IsOfALine};
+ghost use Rattle.station_lines.specs.CommandLines.{text_of_command, IsOfALine};
 
 mod value;
 

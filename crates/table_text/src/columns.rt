@@ -1,6 +1,6 @@
 //! Texts in columns.
 
-ghost use Rattle.std.specs.Prelude.{◌≡◌, ◌++◌, ◌∷◌, [], ◌≤◌, ◌<◌, length, replicate, option_copied, IfOk, OnOk};
+ghost use Rattle.std.specs.Prelude.{◌≡◌, ◌++◌, ◌≤◌, ◌<◌, length, replicate, option_copied, IfOk, OnOk};
 ghost use Rattle.dbf_image.specs.Table.{kind_at};
 ghost use Rattle.dbf_fields.specs.declared.format.TheConstants.{BLANK as BLANK_BYTE};
 ghost use Rattle.table_text.specs.Columns.{aligned, cell_shown, columns_text, column_width as width_of_column};

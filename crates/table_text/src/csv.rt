@@ -1,6 +1,6 @@
 //! Records as lines of CSV.
 
-ghost use Rattle.std.specs.Prelude.{◌≡◌, ◌++◌, ◌∷◌, [], ◌≤◌, ◌<◌, length, OnOk};
+ghost use Rattle.std.specs.Prelude.{◌≡◌, ◌++◌, ◌≤◌, ◌<◌, length, OnOk};
 ghost use Rattle.std.specs.List.{flat_map, list_any};
 ghost use Rattle.dbf_image.specs.Table.{cell_at, kind_at};
 ghost use Rattle.table_text.specs.Csv.{wants_quotes, quoted_byte, csv_field, csv_value, separator, csv_fields, is_alone as is_alone_in, csv_cell, mark_field, csv_heading, csv_line};

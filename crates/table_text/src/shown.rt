@@ -1,9 +1,8 @@
 //! What is shown of a cell.
 
-ghost use Rattle.std.specs.Prelude.{◌≡◌, ◌++◌, ◌≤◌, ◌<◌, ◌||◌, ◌==◌, length, reverse, OnOk};
+ghost use Rattle.std.specs.Prelude.{◌≡◌, ◌++◌, ◌≤◌, ◌<◌, ◌||◌, ◌==◌, length, OnOk};
 ghost use Rattle.std.specs.List.{list_all, position, position_or_len};
 ghost use Rattle.dbf_image.specs.Table.{cell_at, kind_at};
-ghost use Rattle.dbf_fields.specs.Number.{without_leading};
 ghost use Rattle.table_text.specs.declared.format.TheConstants.{CR as CR_BYTE, LF as LF_BYTE};
 ghost use Rattle.table_text.specs.Shown.{is_plain, shown_bytes, first_line as before_line_end, memo_part as part_of_memo, trimmed_end as without_end, shown_cell};
 

@@ -2,8 +2,8 @@
 //! and what is said at its end.
 //!
 //! [`Options`] is what the command line says of a table, and [`show_file`] shows what it asks for; [`show_tree`] shows an
-//! index file; [`check_setup`] looks at the files of a setup. [`Ending`] is why a table is not shown or a setup is bad, and [`tell`] what the user gets: a line on
-//! standard error, and an exit status.
+//! index file; [`check_setup`] looks at the files of a setup. [`Ending`] is why a table is not shown or a setup is bad, and
+//! [`tell`] what the user gets: a line on standard error, and an exit status.
 
 mod checking;
 mod ending;

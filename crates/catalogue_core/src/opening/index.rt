@@ -3,7 +3,6 @@
 ghost use Rattle.std.specs.Prelude.{◌≡◌, ◌+◌, ◌<◌, false, length, map, Ok, Err, IfOk, IfErr, OnOk};
 ghost use Rattle.std.specs.List.{list_any};
 ghost use Rattle.key_expr.specs.declared.fault.ExprFault.{ExprFault};
-ghost use Rattle.key_expr.specs.Expression.{Expression};
 ghost use Rattle.table_core.specs.Content.{has_index, with_index};
 ghost use Rattle.catalogue_core.specs.declared.opening.OpenFault.TheVariants.{BadExpression, IndexStale};
 ghost use Rattle.catalogue_core.specs.Opening.{is_index, named_index, IndexOpening, Keeping, KeepingSource, Reading};

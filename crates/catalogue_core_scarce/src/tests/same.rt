@@ -1,6 +1,6 @@
 //! What of two catalogues is compared without memory, and the files that they leave.
 
-ghost use Rattle.std.specs.Prelude.{◌≡◌, IsTrue};
+ghost use Rattle.std.specs.Prelude.{IsTrue};
 ghost use Rattle.table_core.specs.Cursors.{IsCursor};
 
 use catalogue_core::Catalogue;

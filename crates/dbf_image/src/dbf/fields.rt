@@ -3,7 +3,7 @@
 ghost use Rattle.std.specs.Prelude.{◌≡◌, ◌+◌, ◌-◌, ◌*◌, ◌<◌, ◌≤◌, ◌==◌, length, map, true, false, Some, IfOk, IfErr, IfSome, MatchOption};
 ghost use Rattle.std.specs.List.{position};
 ghost use Rattle.dbf_image.specs.DbfText.{chunks, field_of, header_length};
-ghost use Rattle.dbf_image.specs.Reading.{field_count, fields_of, has_whole_header};
+ghost use Rattle.dbf_image.specs.Reading.{TellsCount, TellsFields, field_count, has_whole_header};
 
 use crate::format::{DESCRIPTOR, HEADER, HEADER_END, NAME_BYTES};
 use byteorder::{ByteOrder, LittleEndian};
@@ -66,7 +66,7 @@ pub(crate) fn fields_at(alloc: Global, count: usize, bytes: &[u8]) -> Result<Vec
 
 // How many fields are told; `None` where the header isn't all there, or has no end of fields.
 fn told_count(dbf: &[u8]) -> Option<usize>
-    ensures told { MatchOption result (has_whole_header dbf.now ≡ false) (λ count. (has_whole_header dbf.now ≡ true) × (field_count dbf.now ≡ Some count) × DESCRIPTOR * count ≤ length dbf.now - HEADER) }
+    ensures told { MatchOption result (has_whole_header dbf.now ≡ false) (TellsCount dbf.now) }
 {
     if dbf.len() < HEADER {
         return None;
@@ -87,7 +87,7 @@ fn told_count(dbf: &[u8]) -> Option<usize>
 ///
 /// An `Err` says that there was no memory, of which `None` takes none.
 pub fn told_fields(alloc: Global, dbf: &[u8]) -> Result<Option<Vec<Field>>, AllocError>
-    ensures told { IfOk result (λ told. MatchOption told (has_whole_header dbf.now ≡ false) (λ fields. (has_whole_header dbf.now ≡ true) × (fields.items ≡ fields_of dbf.now))) }
+    ensures told { IfOk result (λ told. MatchOption told (has_whole_header dbf.now ≡ false) (λ fields. TellsFields dbf.now fields.items)) }
     ensures early { IfErr result (λ _. has_whole_header dbf.now ≡ true) }
 {
     let Some(count) = told_count(dbf) else {

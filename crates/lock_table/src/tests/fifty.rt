@@ -1,6 +1,6 @@
 //! As many records as a station may lock in a table, and one more.
 
-ghost use Rattle.std.specs.Prelude.{◌≡◌, ℕ, ◌<◌, ◌≤◌, IfOk, length};
+ghost use Rattle.std.specs.Prelude.{◌≡◌, ◌<◌, ◌≤◌, IfOk, length};
 ghost use Rattle.lock_table.specs.Numbers.{AreRecordNumbers};
 
 use crate::{Locks, MAX_RECORD_LOCKS};

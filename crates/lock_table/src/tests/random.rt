@@ -1,6 +1,6 @@
 //! Random calls, each answered as a plain list of locks answers it.
 
-ghost use Rattle.std.specs.Prelude.{◌≡◌, ℕ, ◌+◌, ◌<◌, ◌≤◌, IfOk, length};
+ghost use Rattle.std.specs.Prelude.{◌≡◌, ◌+◌, ◌<◌, ◌≤◌, IfOk, length};
 ghost use Rattle.lock_table.specs.Numbers.{AreRecordNumbers};
 
 use crate::{Locks, MAX_RECORD_LOCKS};

@@ -3,8 +3,7 @@
 //! Entries of sixteen bytes are sorted in place of the pairs. Mostly the first bytes of two keys tell how they stand, and these
 //! are a number in the entry; the pairs themselves are copied once, when their order is known.
 
-ghost use Rattle.std.specs.Prelude.{◌≡◌, ◌<◌, ◌≤◌, length, map, IfOk, All};
-ghost use Rattle.ndx_index.specs.Index.{HaveLength};
+ghost use Rattle.std.specs.Prelude.{◌≡◌, ◌<◌, length, map, IfOk, All};
 ghost use Rattle.ndx_index.specs.Order.{in_order, pair_cmp};
 ghost use Rattle.ndx_index.specs.Slots.{slot_at};
 ghost use Rattle.ndx_index.specs.Sorting.{front_number, sort_entries, entry_cmp, pair_of_entry, AreBytes, HaveBytes};

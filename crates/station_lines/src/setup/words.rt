@@ -1,6 +1,6 @@
 //! Cuts a line of a setup into words.
 
-ghost use Rattle.std.specs.Prelude.{◌≡◌, ◌≤◌, ◌<◌, [], ◌∷◌, List, ℕ, length, position, IfOk, IfSome, IfNone};
+ghost use Rattle.std.specs.Prelude.{◌≡◌, ◌≤◌, ◌<◌, [], ◌∷◌, List, ℕ, length, position, IfSome, IfNone};
 ghost use Rattle.std.specs.List.{position_or_len};
 ghost use Rattle.station_lines.specs.Script.Words.{is_gap as gap};
 ghost use Rattle.station_lines.specs.Setup.{AreWords, HasFirstWord};

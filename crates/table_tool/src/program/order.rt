@@ -1,13 +1,11 @@
 //! The order of an index file, in which records are shown.
 
-ghost use Rattle.std.specs.Prelude.{◌≡◌, ◌≢◌, ◌↔◌, ◌++◌, ◌≤◌, [], ℕ, Err, IfOk, IfErr, IsTrue, length, map, option_copied};
+ghost use Rattle.std.specs.Prelude.{◌≡◌, Err, IfOk, IfErr, length};
 ghost use Rattle.ndx_index.specs.Order.{reaches as reaches_text};
 ghost use Rattle.ndx_index.specs.TableOrder.{order as order_of};
-ghost use Rattle.key_expr.specs.Grammar.{Expr};
-ghost use Rattle.key_expr.specs.Rules.{IsKeyText};
 ghost use Rattle.table_core.specs.Content.{order_at};
 ghost use Rattle.station_files.specs.Files.{IsUnreadable};
-ghost use Rattle.table_tool.specs.Order.{from_text, numbers_from as numbers_of_pairs, AreKeysOf, IsOrderOf, IsStale, IsTestedFirst};
+ghost use Rattle.table_tool.specs.Order.{numbers_from as numbers_of_pairs, AreKeysOf, IsOrderOf, IsStale, IsTestedFirst};
 
 use dbf_fields::Bytes;
 use dbf_image::TableData;

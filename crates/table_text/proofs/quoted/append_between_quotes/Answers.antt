@@ -1,4 +1,4 @@
-use Rattle.std.proofs.Common.{◌++◌, ◌∷◌, [], List, ℕ, take, sym, ◌∙◌}
+use Rattle.std.proofs.Common.{◌∷◌, [], List, ℕ, take, sym, ◌∙◌}
 use Rattle.std.specs.List.{flat_map}
 use Rattle.std.proofs.lemmas.List.{append-nil}
 use Rattle.table_text.specs.declared.format.TheConstants.{QUOTE}

@@ -8,7 +8,7 @@ use Rattle.ndx_index.specs.IndexTree.{pairs_under}
 use Rattle.ndx_index.proofs.BoundLaws.{passes_after}
 use Rattle.ndx_index.proofs.TreeLists.{links_length}
 use Rattle.ndx_index.proofs.Searching.{Turns, GoesDown, first_of, edge_of, at_level, at_leaf, found_at, found_past, down_first_alone, down_first_beside}
-use Rattle.ndx_index.proofs.pages.search.first_place.Goals.{After-link_count, Then-at-pair_count, Else-at-pair_count, then-link_count-at, else-link_count-at}
+use Rattle.ndx_index.proofs.pages.search.first_place.Goals.{After-link_count, Else-at-pair_count, then-link_count-at, else-link_count-at}
 use Rattle.ndx_index.proofs.pages.search.first_place.Goals as goal
 
 -- the way to an inner page
