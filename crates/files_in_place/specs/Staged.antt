@@ -1,5 +1,5 @@
 -- A set of new files, and a folder before and after they have their names.
-use Rattle.std.specs.Prelude.{◌≡◌, ◌≢◌, ◌⊎◌, ℕ, List, [], ◌∷◌, Bool, true, false, not, ◌&&◌, ◌||◌, ◌==◌, Option, None, Some, IsSome, if◌then◌else◌}
+use Rattle.std.specs.Prelude.{◌≡◌, ◌≢◌, ◌⊎◌, ℕ, ◌≤◌, List, [], ◌∷◌, Bool, true, false, not, ◌&&◌, ◌||◌, ◌==◌, Option, None, Some, IsSome, if◌then◌else◌}
 use Rattle.std.specs.List.{AllByRecursion, list_any, list_all}
 use Rattle.std.specs.Str.{bytes_eq}
 use Rattle.files_in_place.specs.declared.phase.Phase.{Phase}
@@ -91,6 +91,12 @@ pub record AreReady (names : List Name) (folder : Folder) (is_whole : Name → T
   pub list : folder (temporary list_name) ≡ Some (list_bytes names)
   pub whole : (n : Name) → is_whole n
   pub uncommitted : IsUncommitted folder outcomes
+
+-- at some moment the files of the set and its list were on the disk, and nothing was in place yet
+pub record HasBeenReady {D : Type 0} (moment : D → ℕ) (seen : D → Folder) (is_whole : D → Name → Type 0) (may_leave : D → Folder → Type 0) (names : List Name) (now : D) : Type 0 where
+  pub earlier : D
+  pub ready : AreReady names (seen earlier) (is_whole earlier) (may_leave earlier)
+  pub later : moment earlier ≤ moment now
 
 -- A run of calls in which there is no list: each name that isn't reserved has what it had, nothing of the set counts, and a
 -- crash at any moment leaves the old files.

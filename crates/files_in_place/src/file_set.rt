@@ -4,8 +4,8 @@ ghost use Rattle.std.specs.Prelude.{◌≡◌, ◌≢◌, ◌++◌, ◌∷◌, [
 ghost use Rattle.files_in_place.specs.declared.phase.Phase.TheVariants.{Staging, Ended};
 ghost use Rattle.files_in_place.specs.Folder.{Name, SameBut, temporary, without_reserved};
 ghost use Rattle.files_in_place.specs.Disk.{LeavesOnly, IsSynced, HasCause};
-ghost use Rattle.files_in_place.specs.Recovery.{IsClean, SameFree, HasOldFiles};
-ghost use Rattle.files_in_place.specs.Staged.{Set, is_file_name, is_staged, with_staged, IsOldOrNew, SameUnstaged};
+ghost use Rattle.files_in_place.specs.Recovery.{IsClean, HasOldFiles};
+ghost use Rattle.files_in_place.specs.Staged.{is_file_name, is_staged, with_staged, HasBeenReady, IsOldOrNew, RunsUncommitted, SameUnstaged};
 ghost use Rattle.files_in_place.specs.Faults.{IsOfDisk};
 ghost use Rattle.files_in_place.specs.declared.faults.SetFault.TheVariants as F;
 
@@ -153,6 +153,12 @@ impl<D: Disk + Drop> FileSet<D> {
         // A crash at any moment leaves a folder of which recovery makes the old files or the new ones, all of them.
         ensures any_moment { D.keeps_promises → self.old.phase ≡ Staging
             → LeavesOnly D.moment D.left_since self.old.disk self.new.disk (IsOldOrNew self.old.names (D.seen self.old.disk)) }
+        // Where the set can still be abandoned none of its files is in place, and a crash at any moment leaves the old files.
+        ensures undone { D.keeps_promises → self.old.phase ≡ Staging → OnErr result (self.new.phase ≢ Ended
+            → RunsUncommitted D.moment D.left_since D.seen D.is_whole D.may_leave self.old.disk self.new.disk) }
+        // It can't be only where all its files were on the disk, and putting them in place had begun.
+        ensures begun { D.keeps_promises → self.old.phase ≡ Staging → OnErr result (self.new.phase ≡ Ended
+            → HasBeenReady D.moment D.seen D.is_whole D.may_leave self.old.names self.new.disk) }
         // It leaves no other file touched, even before recovery.
         ensures others { D.keeps_promises → self.old.phase ≡ Staging
             → LeavesOnly D.moment D.left_since self.old.disk self.new.disk (SameUnstaged self.old.names (D.seen self.old.disk)) }

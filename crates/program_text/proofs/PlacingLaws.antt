@@ -1,25 +1,26 @@
--- New files that stand in their places, where the folder was given nothing before them, and runs that were given up.
-use Rattle.std.proofs.Common.{◌≡◌, ◌≢◌, inl, inr, ℕ, ◌<◌, ◌≤◌, List, [], ◌++◌, Option, None, Some, arith, refl, ap, ◌∙◌, sym, subst}
+-- New files that stand in their places, where the folder was given nothing before them; runs that were given up; and folders that
+-- were recovered.
+use Rattle.std.proofs.Common.{◌≡◌, ◌≢◌, false, inl, inr, ℕ, List, [], ◌++◌, Option, None, Some, Result, Ok, Err, IfErr, IfSome, refl, ap, ◌∙◌, sym, subst}
+use Rattle.std.proofs.lemmas.Bool.{cases_Bool}
 use Rattle.byte_io.specs.Sink.{grown}
-use Rattle.files_in_place.specs.Folder.{Name, Folder, first_of}
 use Rattle.files_in_place.specs.Disk.{LeavesOnly}
-use Rattle.files_in_place.specs.Faults.{IsOfDisk}
+use Rattle.files_in_place.specs.Folder.{Name, Folder, first_of, is_reserved, recovered, without_reserved}
 use Rattle.files_in_place.specs.declared.faults.SetFault.{SetFault}
 use Rattle.files_in_place.specs.declared.faults.SetFault.TheVariants as set
-use Rattle.files_in_place.specs.declared.phase.Phase.{Phase}
-use Rattle.files_in_place.specs.declared.phase.Phase.TheVariants.{Staging, Failed, Ended}
-use Rattle.files_in_place.specs.Staged.{Set}
+use Rattle.files_in_place.specs.Recovery.{HasOldFiles, RecoversTo}
 use Rattle.station_files.specs.declared.close_fault.CloseFault.TheVariants as close
 use Rattle.station_files.specs.declared.named.NamedFile.{NamedFile}
 use Rattle.station_files.specs.Files.{files_in, listing}
-use Rattle.station_files.specs.Placed.{with_files, AreTemporary, IsOldOrPlaced, IsPlaced}
+use Rattle.station_files.specs.Placed.{with_files, IsOldOrPlaced, IsPlaced}
+use Rattle.station_files.proofs.SinceLaws.{leaves_as, leaves_on, since_this, with_files_same}
 use Rattle.whole_run.specs.declared.fault.ServeFault.{ServeFault}
 use Rattle.whole_run.specs.declared.fault.ServeFault.TheVariants as serve
-use Rattle.program_text.specs.declared.folder.FolderFault.TheVariants.{Unwritten, Unfinished}
-use Rattle.program_text.specs.declared.folder.PlaceFault.{PlaceFault}
+use Rattle.station_files.specs.declared.finish_fault.FinishFault.{FinishFault}
+use Rattle.station_files.specs.declared.finish_fault.FinishFault.TheVariants as finish
+use Rattle.program_text.specs.declared.folder.FolderFault.TheVariants.{Unrecovered, Unwritten, Unfinished}
 use Rattle.program_text.specs.declared.folder.PlaceFault.TheVariants as place
-use Rattle.program_text.specs.PlaceFaults.{given_up}
-use Rattle.program_text.specs.Placing.{HasFailedSince, HasFiles, HasOldOrNewSince}
+use Rattle.program_text.specs.PlaceFaults.{given_up, unplaced_files}
+use Rattle.program_text.specs.Placing.{HasFiles, IsBeforeOrPlaced}
 
 some_is : (a b : List ℕ) → Some a ≡ Some b → a ≡ b
 some_is a b same = ap (λ (o : Option (List ℕ)). elim o [ Some m ↦ m | None ↦ a ]) same
@@ -61,59 +62,81 @@ given_up_same P (Some set.NoMemory) (serve.Close (close.Write name)) none h = no
 pub given_up_keeps : (P : ServeFault → Type 0) (last : Option SetFault) (fault left : ServeFault) → left ≡ given_up last fault → P serve.NoMemory → P fault → P left
 given_up_keeps P last fault left is none h = subst P (sym is) (given_up_same P last fault none h)
 
--- ---- files that were not written
-
--- it is not said for want of memory
-not_of_memory : (phase : Phase) (fault : SetFault) (said : PlaceFault) → (phase ≡ Ended → said ≡ place.Folder Unfinished) → (phase ≢ Ended → fault ≡ set.NoMemory → said ≡ place.NoMemory) → said ≡ place.Folder Unwritten
-    → fault ≡ set.NoMemory → ⊥
-not_of_memory Ended fault said ended memory is none = let was : said ≡ place.Folder Unfinished = ended refl in let clash : place.Folder Unfinished ≡ place.Folder Unwritten = sym was ∙ is in cc
-not_of_memory Staging fault said ended memory is none =
-    let was : said ≡ place.NoMemory = memory (λ same. absurd cc) none in let clash : place.NoMemory ≡ place.Folder Unwritten = sym was ∙ is in cc
-not_of_memory Failed fault said ended memory is none =
-    let was : said ≡ place.NoMemory = memory (λ same. absurd cc) none in let clash : place.NoMemory ≡ place.Folder Unwritten = sym was ∙ is in cc
-
--- so it is a failure of the disk
-of_disk : (phase : Phase) (fault : SetFault) (said : PlaceFault) → (phase ≡ Ended → said ≡ place.Folder Unfinished) → (phase ≢ Ended → fault ≡ set.NoMemory → said ≡ place.NoMemory) → IsOfDisk fault
-    → said ≡ place.Folder Unwritten → fault ≡ set.Failed
-of_disk phase fault said ended memory of is = elim of [
-  | inl none ↦ absurd (not_of_memory phase fault said ended memory is none)
-  | inr failed ↦ failed
-]
-
 -- no call has failed where none had
 pub none_failed : (before after : ℕ) → Some after ≡ Some before → before ≡ 0 → after ≡ 0
 none_failed before after same none = cc
 
--- it is said only where the disk has failed since it had the files under their temporary names
-pub failed_since : {D : Type 0} (keeps_promises : Type 0) (seen : D → Folder) (faults : D → ℕ) (written : List ℕ) (end after now : D) (phase : Phase) (fault : SetFault) (said : PlaceFault)
-    → (phase ≡ Ended → said ≡ place.Folder Unfinished) → (phase ≢ Ended → fault ≡ set.NoMemory → said ≡ place.NoMemory) → IsOfDisk fault → (fault ≡ set.Failed → faults end < faults after) → faults after ≤ faults now
-    → (keeps_promises → AreTemporary (files_in written) (seen end)) → said ≡ place.Folder Unwritten → HasFailedSince keeps_promises seen faults written now
-failed_since keeps_promises seen faults written end after now phase fault said ended memory of cause later there is =
-    let rose : faults end < faults after = cause (of_disk phase fault said ended memory of is) in
-    record { earlier = end; there = there; failed = omega (arith, rose, later) }
+-- ---- what is said of files that were not put in place
 
--- ---- files of which some may be in place
+-- nothing else is said of that
+pub unwritten_only : (why : FinishFault) → unplaced_files why ≡ place.Folder Unwritten → why ≡ finish.Unwritten
+unwritten_only finish.NoMemory is = absurd cc
+unwritten_only finish.Unwritten is = refl
+unwritten_only finish.Unfinished is = absurd cc
 
--- what is said where nothing can be removed any more is said nowhere else
-not_of_disk : (fault : SetFault) (said : PlaceFault) → (fault ≡ set.NoMemory → said ≡ place.NoMemory) → (fault ≢ set.NoMemory → said ≡ place.Folder Unwritten) → IsOfDisk fault → said ≡ place.Folder Unfinished → ⊥
-not_of_disk fault said memory other of is = elim of [
-  | inl none ↦ let was : said ≡ place.NoMemory = memory none in let clash : place.NoMemory ≡ place.Folder Unfinished = sym was ∙ is in cc
-  | inr failed ↦
-      let was : said ≡ place.Folder Unwritten = other (λ none. let clash : set.Failed ≡ set.NoMemory = sym failed ∙ none in absurd cc) in
-      let clash : place.Folder Unwritten ≡ place.Folder Unfinished = sym was ∙ is in
-      cc
+pub unfinished_only : (why : FinishFault) → unplaced_files why ≡ place.Folder Unfinished → why ≡ finish.Unfinished
+unfinished_only finish.NoMemory is = absurd cc
+unfinished_only finish.Unwritten is = absurd cc
+unfinished_only finish.Unfinished is = refl
+
+pub never_unrecovered : (why : FinishFault) → unplaced_files why ≢ place.Folder Unrecovered
+never_unrecovered finish.NoMemory is = absurd cc
+never_unrecovered finish.Unwritten is = absurd cc
+never_unrecovered finish.Unfinished is = absurd cc
+
+-- ---- a folder that is recovered before new files begin
+
+free_kept : (folder : Folder) (n : Name) → is_reserved n ≡ false → without_reserved folder n ≡ folder n
+free_kept folder n free = rw free refl
+
+recovered_same : (before seen : Folder) → ((n : Name) → seen n ≡ recovered before n) → (n : Name) → without_reserved seen n ≡ recovered before n
+recovered_same before seen same n = elim (cases_Bool (is_reserved n)) [
+  | inl reserved ↦ rw reserved refl
+  | inr free ↦ free_kept seen n free ∙ same n
 ]
 
-has_ended : (phase : Phase) (fault : SetFault) (said : PlaceFault) → (phase ≢ Ended → fault ≡ set.NoMemory → said ≡ place.NoMemory) → (phase ≢ Ended → fault ≢ set.NoMemory → said ≡ place.Folder Unwritten) → IsOfDisk fault
-    → said ≡ place.Folder Unfinished → phase ≡ Ended
-has_ended Ended fault said memory other of is = refl
-has_ended Staging fault said memory other of is = absurd (not_of_disk fault said (memory (λ same. absurd cc)) (other (λ same. absurd cc)) of is)
-has_ended Failed fault said memory other of is = absurd (not_of_disk fault said (memory (λ same. absurd cc)) (other (λ same. absurd cc)) of is)
+-- what stands for its files stands for what recovery makes of the folder before
+old_recovered : (before seen left : Folder) → ((n : Name) → seen n ≡ recovered before n) → HasOldFiles seen left → RecoversTo (recovered before) left
+old_recovered before seen left same has n = has.recovers n ∙ recovered_same before seen same n
 
--- and there a crash leaves the old files or the new ones
-pub old_or_new_since : {D : Type 0} (moment : D → ℕ) (left_since : D → ℕ → Folder → Type 0) (seen : D → Folder) (written : List ℕ) (end : D) (after now : Set D) (fault : SetFault) (said : PlaceFault)
-    → (after.phase ≢ Ended → fault ≡ set.NoMemory → said ≡ place.NoMemory) → (after.phase ≢ Ended → fault ≢ set.NoMemory → said ≡ place.Folder Unwritten) → IsOfDisk fault → (after.phase ≡ Ended → now ≡ after)
-    → AreTemporary (files_in written) (seen end) → LeavesOnly moment left_since end after.disk (IsOldOrPlaced written (seen end)) → said ≡ place.Folder Unfinished → HasOldOrNewSince moment left_since seen written now.disk
-old_or_new_since {D} moment left_since seen written end after now fault said memory other of kept there leaves is =
-    let same : now ≡ after = kept (has_ended after.phase fault said memory other of is) in
-    record { earlier = end; there = there; leaves = subst (λ (s : Set D). LeavesOnly moment left_since end s.disk (IsOldOrPlaced written (seen end))) (sym same) leaves }
+pub before_recovered : (lists : List ℕ → Type 0) (before seen left : Folder) → ((n : Name) → seen n ≡ recovered before n) → IsBeforeOrPlaced lists (without_reserved seen) left → IsBeforeOrPlaced lists (recovered before) left
+before_recovered lists before seen left same either = elim either [
+  | inl was ↦ inl (λ n. was n ∙ recovered_same before seen same n)
+  | inr new ↦ inr (new.0, new.1, λ n. new.2 n ∙ with_files_same (files_in new.0) (recovered before) (without_reserved seen) (λ m free. recovered_same before seen same m) n)
+]
+
+before_or_placed : (lists : List ℕ → Type 0) (written : List ℕ) (old left : Folder) → lists written → IsOldOrPlaced written old left → IsBeforeOrPlaced lists (without_reserved old) left
+before_or_placed lists written old left is either = elim either [
+  | inl has ↦ inl has.recovers
+  | inr will ↦ inr (written, is, λ n. will n ∙ with_files_same (files_in written) (without_reserved old) old (λ m free. sym (free_kept old m free)) n)
+]
+
+module _ {D : Type 0} (moment : D → ℕ) (left_since : D → ℕ → Folder → Type 0) (seen : D → Folder) where
+  -- what a crash leaves at any moment since a disk was this, where new files were written on it and may be in place
+  pub placed_moments : (lists : List ℕ → Type 0) (written : List ℕ) (origin : Option D) (disk now : D) → origin ≡ Some disk → lists written → IfSome origin (λ start. LeavesOnly moment left_since start now (IsOldOrPlaced written (seen start)))
+      → LeavesOnly moment left_since disk now (IsBeforeOrPlaced lists (without_reserved (seen disk)))
+  placed_moments lists written origin disk now is listed since =
+      leaves_as moment left_since disk now (IsOldOrPlaced written (seen disk)) (IsBeforeOrPlaced lists (without_reserved (seen disk)))
+      (since_this origin disk (λ start. LeavesOnly moment left_since start now (IsOldOrPlaced written (seen start))) is since) (λ left either. before_or_placed lists written (seen disk) left listed either)
+
+  -- and where they were removed
+  pub given_up_moments : (lists : List ℕ → Type 0) (origin : Option D) (disk now : D) → origin ≡ Some disk → IfSome origin (λ start. LeavesOnly moment left_since start now (HasOldFiles (seen start)))
+      → LeavesOnly moment left_since disk now (IsBeforeOrPlaced lists (without_reserved (seen disk)))
+  given_up_moments lists origin disk now is since =
+      leaves_as moment left_since disk now (HasOldFiles (seen disk)) (IsBeforeOrPlaced lists (without_reserved (seen disk)))
+      (since_this origin disk (λ start. LeavesOnly moment left_since start now (HasOldFiles (seen start))) is since) (λ left has. inl has.recovers)
+
+  -- so it is since an earlier moment, from which on the disk was recovered
+  pub recovered_moments : (lists : List ℕ → Type 0) (start mid now : D) → LeavesOnly moment left_since start mid (RecoversTo (recovered (seen start))) → ((n : Name) → seen mid n ≡ recovered (seen start) n)
+      → LeavesOnly moment left_since mid now (IsBeforeOrPlaced lists (without_reserved (seen mid))) → LeavesOnly moment left_since start now (IsBeforeOrPlaced lists (recovered (seen start)))
+  recovered_moments lists start mid now first same second =
+      leaves_on moment left_since start mid now (RecoversTo (recovered (seen start))) (IsBeforeOrPlaced lists (without_reserved (seen mid))) (IsBeforeOrPlaced lists (recovered (seen start))) first second
+      (λ left was. inl was) (λ left either. before_recovered lists (seen start) (seen mid) left same either)
+
+  -- and where a failure is said to leave the files before
+  pub recovered_old : {F : Type 0} (other : F → Type 0) (start mid now : D) (ended : Result ℕ F) → LeavesOnly moment left_since start mid (RecoversTo (recovered (seen start))) → ((n : Name) → seen mid n ≡ recovered (seen start) n)
+      → IfErr ended (λ failure. other failure → LeavesOnly moment left_since mid now (HasOldFiles (seen mid))) → IfErr ended (λ failure. other failure → LeavesOnly moment left_since start now (RecoversTo (recovered (seen start))))
+  recovered_old other start mid now (Ok count) first same old = tt
+  recovered_old other start mid now (Err failure) first same old = λ said.
+      leaves_on moment left_since start mid now (RecoversTo (recovered (seen start))) (HasOldFiles (seen mid)) (RecoversTo (recovered (seen start))) first (old said) (λ left was. was)
+      (λ left has. old_recovered (seen start) (seen mid) left same has)

@@ -7,6 +7,8 @@ use Rattle.files_in_place.specs.declared.faults.SetFault.TheVariants as set
 use Rattle.files_in_place.specs.declared.folder_lock.LockFault.{LockFault}
 use Rattle.files_in_place.specs.declared.folder_lock.LockFault.TheVariants as lock
 use Rattle.station_files.specs.declared.close_fault.CloseFault.TheVariants as close
+use Rattle.station_files.specs.declared.finish_fault.FinishFault.{FinishFault}
+use Rattle.station_files.specs.declared.finish_fault.FinishFault.TheVariants as finish
 use Rattle.whole_run.specs.declared.fault.ServeFault.{ServeFault}
 use Rattle.whole_run.specs.declared.fault.ServeFault.TheVariants as serve
 use Rattle.program_text.specs.declared.folder.FolderFault.TheVariants as folder
@@ -29,18 +31,17 @@ abbrev pub unrecovered_folder : DiskFault → PlaceFault
 unrecovered_folder disk.NoMemory = place.NoMemory
 unrecovered_folder disk.Failed = place.Folder folder.Unrecovered
 
+-- why new files were not put in place
+abbrev pub unplaced_files : FinishFault → PlaceFault
+unplaced_files finish.NoMemory = place.NoMemory
+unplaced_files finish.Unwritten = place.Folder folder.Unwritten
+unplaced_files finish.Unfinished = place.Folder folder.Unfinished
+
 -- why a run failed, where the folder says why its last call failed that has: a file that was not written for want of memory
 -- is no fault of the disk
 abbrev pub given_up : Option SetFault → ServeFault → ServeFault
 given_up (Some set.NoMemory) (serve.Close (close.Write name)) = serve.NoMemory
 given_up why fault = fault
-
--- so may a fault come of putting new files in place, in a folder that was locked, opened and recovered
-abbrev pub IsOfNewFiles : PlaceFault → Type 0
-IsOfNewFiles (place.Folder folder.InUse) = ⊥
-IsOfNewFiles (place.Folder folder.Unopened) = ⊥
-IsOfNewFiles (place.Folder folder.Unrecovered) = ⊥
-IsOfNewFiles fault = Unit {0}
 
 -- so may a fault come of locking a folder: it is what one of the lock says
 abbrev pub IsOfLock : PlaceFault → Type 0

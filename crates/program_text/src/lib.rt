@@ -16,7 +16,7 @@ mod telling;
 
 pub use date::date_of;
 pub use folder::{FolderFault, PlaceFault, folder_text};
-pub use placing::{give_up, lock_out, unfinished, unrecovered};
+pub use placing::{give_up, lock_out, unplaced, unrecovered};
 pub use reason::{fault_status, print_fault};
 pub use telling::{
     Told, mistake_status, tell_mistake, tell_no_text, told_by_error, told_by_output,

@@ -1,14 +1,14 @@
 //! New files that take their places in a folder all together, and what is said where they don't.
 
-ghost use Rattle.std.specs.Prelude.{◌≡◌, ◌≢◌, ◌⊎◌, ◌≤◌, ◌+◌, [], IfErr};
+ghost use Rattle.std.specs.Prelude.{◌≡◌, ◌≢◌, ◌⊎◌, ◌+◌, [], IfErr};
 ghost use Rattle.files_in_place.specs.Disk.{LeavesOnly};
 ghost use Rattle.files_in_place.specs.Recovery.{HasOldFiles};
 ghost use Rattle.files_in_place.specs.declared.phase.Phase.TheVariants.{Ended};
-ghost use Rattle.program_text.specs.PlaceFaults.{IsOfLock, IsOfNewFiles, given_up, unrecovered_folder};
+ghost use Rattle.program_text.specs.PlaceFaults.{IsOfLock, given_up, unplaced_files, unrecovered_folder};
 
 use crate::folder::{FolderFault, PlaceFault};
 use files_in_place::{Disk, DiskFault, FolderLock, SetFault, lock_folder};
-use station_files::{CloseFault, DiskFolder};
+use station_files::{CloseFault, DiskFolder, FinishFault, Origin};
 use std::fs::File;
 use std::rt::Files;
 use whole_run::ServeFault;
@@ -33,7 +33,10 @@ pub fn unrecovered(fault: DiskFault) -> PlaceFault
 
 /// Removes the new files of a run that failed for this, and says why it did: a file that was not written for want of memory
 /// is no fault of the disk.
-pub fn give_up<D: Disk + Drop>(folder: &mut DiskFolder<D>, fault: ServeFault) -> ServeFault
+pub fn give_up<D: Disk + Drop, O: Origin<D>>(
+    folder: &mut DiskFolder<D, O>,
+    fault: ServeFault,
+) -> ServeFault
     ensures value { result ≡ given_up folder.old.fault fault }
     // The new files are gone, or one more call of the folder has failed.
     ensures removed { (folder.new.written ≡ []) ⊎ (folder.new.failures ≡ folder.old.failures + 1) }
@@ -49,19 +52,13 @@ pub fn give_up<D: Disk + Drop>(folder: &mut DiskFolder<D>, fault: ServeFault) ->
     }
 }
 
-/// Why the new files are not in place, where the last call on them failed for this. Those that can be removed are.
-pub fn unfinished<D: Disk + Drop>(folder: &mut DiskFolder<D>, fault: SetFault) -> PlaceFault
-    // Where nothing can be removed any more, files may be in place.
-    ensures ended { folder.old.set.phase ≡ Ended → result ≡ PlaceFault.Folder FolderFault.Unfinished }
-    ensures memory { folder.old.set.phase ≢ Ended → fault ≡ SetFault.NoMemory → result ≡ PlaceFault.NoMemory }
-    ensures other { folder.old.set.phase ≢ Ended → fault ≢ SetFault.NoMemory → result ≡ PlaceFault.Folder FolderFault.Unwritten }
-    ensures of_new_files { IsOfNewFiles result }
-    ensures later { D.faults folder.old.set.disk ≤ D.faults folder.new.set.disk }
-    ensures kept { folder.old.set.phase ≡ Ended → folder.new.set ≡ folder.old.set }
+/// Why new files are not in place, where putting them there failed for this.
+pub fn unplaced(fault: FinishFault) -> PlaceFault
+    ensures value { result ≡ unplaced_files fault }
 {
-    match (folder.abandon(), fault) {
-        (Err(SetFault::Closed), _) => PlaceFault::Folder(FolderFault::Unfinished),
-        (_, SetFault::NoMemory) => PlaceFault::NoMemory,
-        (_, _) => PlaceFault::Folder(FolderFault::Unwritten),
+    match fault {
+        FinishFault::NoMemory => PlaceFault::NoMemory,
+        FinishFault::Unwritten => PlaceFault::Folder(FolderFault::Unwritten),
+        FinishFault::Unfinished => PlaceFault::Folder(FolderFault::Unfinished),
     }
 }

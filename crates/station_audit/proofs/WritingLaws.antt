@@ -3,24 +3,27 @@ use Rattle.std.proofs.Common.{◌≡◌, ℕ, ◌<◌, List, [], Option, Some, R
 use Rattle.std.specs.Prelude.{IfErr, IsErrOf}
 use Rattle.dbf_fields.specs.declared.day.Day.{Day}
 use Rattle.catalogue_core.specs.Replay.{History}
+use Rattle.files_in_place.specs.Disk.{LeavesOnly}
 use Rattle.files_in_place.specs.Folder.{Folder as Files}
 use Rattle.files_in_place.specs.declared.faults.DiskFault.{DiskFault}
 use Rattle.files_in_place.specs.declared.faults.DiskFault.TheVariants as disk
 use Rattle.files_in_place.specs.declared.faults.SetFault.{SetFault}
 use Rattle.station_files.specs.declared.close_fault.CloseFault.TheVariants as close
 use Rattle.station_files.specs.declared.named.NamedFile.{NamedFile}
-use Rattle.station_files.specs.Placed.{IsPlaced}
+use Rattle.station_files.specs.declared.finish_fault.FinishFault.{FinishFault}
+use Rattle.station_files.specs.declared.finish_fault.FinishFault.TheVariants as finish
+use Rattle.station_files.specs.Files.{files_in}
+use Rattle.station_files.specs.Placed.{AreTemporary, IsOldOrPlaced, IsPlaced}
 use Rattle.whole_run.specs.declared.fault.ServeFault.{ServeFault}
 use Rattle.whole_run.specs.declared.fault.ServeFault.TheVariants as serve
 use Rattle.whole_run.specs.Loading.{IsFailure}
 use Rattle.whole_run.specs.TablesWritten.{AreTablesWritten, IsCutTables, IsTablesFault, dated_files}
 use Rattle.program_text.specs.declared.folder.FolderFault.{FolderFault}
-use Rattle.program_text.specs.declared.folder.FolderFault.TheVariants.{InUse, Unopened, Unrecovered, Unwritten, Unfinished}
+use Rattle.program_text.specs.declared.folder.FolderFault.TheVariants.{Unrecovered, Unwritten, Unfinished}
 use Rattle.program_text.specs.declared.folder.PlaceFault.{PlaceFault}
 use Rattle.program_text.specs.declared.folder.PlaceFault.TheVariants as place
-use Rattle.program_text.specs.PlaceFaults.{given_up, unrecovered_folder, IsOfNewFiles}
-use Rattle.program_text.specs.Placing.{HasFailedSince, HasOldOrNewSince}
-use Rattle.program_text.proofs.PlacingLaws.{files_placed, given_up_keeps}
+use Rattle.program_text.specs.PlaceFaults.{given_up, unplaced_files, unrecovered_folder}
+use Rattle.program_text.proofs.PlacingLaws.{files_placed, given_up_keeps, never_unrecovered, unfinished_only, unwritten_only}
 use Rattle.station_audit.specs.declared.program.failure.Failure.{Failure}
 use Rattle.station_audit.specs.declared.program.failure.Failure.TheVariants.{BadDate, Serve, Unread, Audit, Folder}
 use Rattle.station_audit.specs.declared.program.options.Options.{Options}
@@ -130,32 +133,17 @@ pub written_whole : (files : Option (List NamedFile)) (options : Options) (today
     → IsWrittenWhole files options today
 written_whole files options today count begun written wrote none = (written, count, subst (λ (l : List ℕ). IsWrittenBy files options today (Some l) (Some written) count) none wrote)
 
-place_fault : (files : Option (List NamedFile)) (options : Options) (today : Day) (fault : PlaceFault) → IsOfNewFiles fault → IsWrittenWhole files options today → IsPlaceFailure files options today (place_failure fault)
-place_fault files options today place.NoMemory of whole = tt
-place_fault files options today (place.Folder InUse) of whole = absurd of
-place_fault files options today (place.Folder Unopened) of whole = absurd of
-place_fault files options today (place.Folder Unrecovered) of whole = absurd of
-place_fault files options today (place.Folder Unwritten) of whole = whole
-place_fault files options today (place.Folder Unfinished) of whole = whole
+place_fault : (files : Option (List NamedFile)) (options : Options) (today : Day) (why : FinishFault) → IsWrittenWhole files options today → IsPlaceFailure files options today (place_failure (unplaced_files why))
+place_fault files options today finish.NoMemory whole = tt
+place_fault files options today finish.Unwritten whole = whole
+place_fault files options today finish.Unfinished whole = whole
 
 -- why the new files are not in place is a failure of an audit or of its folder
-pub unplaced : (files : Option (List NamedFile)) (options : Options) (today : Day) (fault : PlaceFault) (failure : Failure) → failure ≡ place_failure fault → IsOfNewFiles fault → IsWrittenWhole files options today
-    → IsPlaceFailure files options today failure
-unplaced files options today fault failure is of whole = subst (IsPlaceFailure files options today) (sym is) (place_fault files options today fault of whole)
+pub unplaced : (files : Option (List NamedFile)) (options : Options) (today : Day) (why : FinishFault) (fault : PlaceFault) (failure : Failure) → failure ≡ place_failure fault → fault ≡ unplaced_files why
+    → IsWrittenWhole files options today → IsPlaceFailure files options today failure
+unplaced files options today why fault failure is was whole = subst (IsPlaceFailure files options today) (sym (is ∙ ap place_failure was)) (place_fault files options today why whole)
 
-new_files_only : (fault : PlaceFault) → IsOfNewFiles fault → place_failure fault ≡ Folder Unrecovered → ⊥
-new_files_only place.NoMemory of e = cc
-new_files_only (place.Folder InUse) of e = of
-new_files_only (place.Folder Unopened) of e = of
-new_files_only (place.Folder Unrecovered) of e = of
-new_files_only (place.Folder Unwritten) of e = cc
-new_files_only (place.Folder Unfinished) of e = cc
-
--- it is not that the folder was not recovered
-pub recovered_before : (fault : PlaceFault) (failure : Failure) → failure ≡ place_failure fault → IsOfNewFiles fault → IsErrOf {T = ℕ} (Err failure) (Folder Unrecovered) → ⊥
-recovered_before fault failure is of e = let told : failure ≡ Folder Unrecovered = cc in new_files_only fault of (sym is ∙ told)
-
--- nor is any fault of the folder said where an audit was given up
+-- no fault of the folder is said where an audit was given up
 pub given_up_no_folder : (files : Option (List NamedFile)) (options : Options) (year : ℕ) (last : Option SetFault) (said : FolderFault) (why failure : Failure) → failure ≡ given_up_audit last why → IsUnwritten files options year why
     → IsErrOf {T = ℕ} (Err failure) (Folder said) → ⊥
 given_up_no_folder files options year last said BadDate failure is h e = let clash : BadDate ≡ Folder said = cc in cc
@@ -176,19 +164,34 @@ told_of said (place.Folder why) failure is e =
     let same : Folder why ≡ Folder said = sym is ∙ told in
     cc
 
+-- it is not that the folder was not recovered
+pub recovered_before : (why : FinishFault) (fault : PlaceFault) (failure : Failure) → failure ≡ place_failure fault → fault ≡ unplaced_files why → IsErrOf {T = ℕ} (Err failure) (Folder Unrecovered) → ⊥
+recovered_before why fault failure is was e = never_unrecovered why (sym was ∙ told_of Unrecovered fault failure is e)
+
+-- tables that were written, where nothing had been
+pub written_alone : (files : Option (List NamedFile)) (options : Options) (today : Day) (count : ℕ) (begun written : List ℕ) → IsWrittenBy files options today (Some begun) (Some written) count → begun ≡ []
+    → IsWrittenBy files options today (Some []) (Some written) count
+written_alone files options today count begun written wrote none = subst (λ (l : List ℕ). IsWrittenBy files options today (Some l) (Some written) count) none wrote
+
 -- it is said only where the disk has failed since the audit's end
-pub unwritten_cause : {D : Type 0} (keeps_promises : Type 0) (seen : D → Files) (faults : D → ℕ) (files : Option (List NamedFile)) (options : Options) (today : Day) (count : ℕ) (begun written : List ℕ) (now : D) (said : PlaceFault) (failure : Failure)
-    → failure ≡ place_failure said → IsWrittenBy files options today (Some begun) (Some written) count → begun ≡ [] → (said ≡ place.Folder Unwritten → HasFailedSince keeps_promises seen faults written now)
-    → IsErrOf {T = ℕ} (Err failure) (Folder Unwritten) → HasFailedSinceAudit keeps_promises seen faults files options today now
-unwritten_cause keeps_promises seen faults files options today count begun written now said failure is wrote none since e =
-    (written, count, subst (λ (l : List ℕ). IsWrittenBy files options today (Some l) (Some written) count) none wrote, since (told_of Unwritten said failure is e))
+pub unwritten_cause : {D : Type 0} (keeps_promises : Type 0) (seen : D → Files) (faults : D → ℕ) (files : Option (List NamedFile)) (options : Options) (today : Day) (count : ℕ) (begun written : List ℕ) (end now : D) (why : FinishFault) (said : PlaceFault) (failure : Failure)
+    → failure ≡ place_failure said → said ≡ unplaced_files why → IsWrittenBy files options today (Some begun) (Some written) count → begun ≡ [] → (keeps_promises → AreTemporary (files_in written) (seen end))
+    → (why ≡ finish.Unwritten → faults end < faults now) → IsErrOf {T = ℕ} (Err failure) (Folder Unwritten) → HasFailedSinceAudit keeps_promises seen faults files options today now
+unwritten_cause keeps_promises seen faults files options today count begun written end now why said failure is was wrote none there failed e =
+    let told : why ≡ finish.Unwritten = unwritten_only why (sym was ∙ told_of Unwritten said failure is e) in
+    (written, count, written_alone files options today count begun written wrote none, record { earlier = end; there = there; failed = failed told })
+
+-- what is true where some of them may be in place
+pub unfinished_then : (P : Type 0) (why : FinishFault) (said : PlaceFault) (failure : Failure) → failure ≡ place_failure said → said ≡ unplaced_files why → (why ≡ finish.Unfinished → P)
+    → IsErrOf {T = ℕ} (Err failure) (Folder Unfinished) → P
+unfinished_then P why said failure is was then e = then (unfinished_only why (sym was ∙ told_of Unfinished said failure is e))
 
 -- where some of them may be in place, a crash since the audit's end leaves the old files or the new ones
-pub unfinished_either : {D : Type 0} (moment : D → ℕ) (left_since : D → ℕ → Files → Type 0) (seen : D → Files) (files : Option (List NamedFile)) (options : Options) (today : Day) (count : ℕ) (begun written : List ℕ) (now : D) (said : PlaceFault) (failure : Failure)
-    → failure ≡ place_failure said → IsWrittenBy files options today (Some begun) (Some written) count → begun ≡ [] → (said ≡ place.Folder Unfinished → HasOldOrNewSince moment left_since seen written now)
-    → IsErrOf {T = ℕ} (Err failure) (Folder Unfinished) → HasOldOrNewSinceAudit moment left_since seen files options today now
-unfinished_either moment left_since seen files options today count begun written now said failure is wrote none since e =
-    (written, count, subst (λ (l : List ℕ). IsWrittenBy files options today (Some l) (Some written) count) none wrote, since (told_of Unfinished said failure is e))
+pub unfinished_either : {D : Type 0} (moment : D → ℕ) (left_since : D → ℕ → Files → Type 0) (seen : D → Files) (files : Option (List NamedFile)) (options : Options) (today : Day) (count : ℕ) (begun written : List ℕ) (end now : D)
+    → IsWrittenBy files options today (Some begun) (Some written) count → begun ≡ [] → AreTemporary (files_in written) (seen end) → LeavesOnly moment left_since end now (IsOldOrPlaced written (seen end))
+    → HasOldOrNewSinceAudit moment left_since seen files options today now
+unfinished_either moment left_since seen files options today count begun written end now wrote none there leaves =
+    (written, count, written_alone files options today count begun written wrote none, record { earlier = end; there = there; leaves = leaves })
 
 -- ---- a folder that was not recovered
 

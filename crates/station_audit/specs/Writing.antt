@@ -8,7 +8,7 @@ use Rattle.station_files.specs.declared.named.NamedFile.{NamedFile}
 use Rattle.station_files.specs.Files.{files_in, listing}
 use Rattle.program_text.specs.declared.folder.FolderFault.{FolderFault}
 use Rattle.program_text.specs.declared.folder.FolderFault.TheVariants.{InUse, Unopened, Unrecovered, Unwritten, Unfinished}
-use Rattle.program_text.specs.Placing.{HasFailedSince, HasFiles, HasOldOrNewSince}
+use Rattle.program_text.specs.Placing.{HasFailedSince, HasFiles, HasOldOrNewSince, IsBeforeOrPlaced}
 use Rattle.station_files.specs.declared.close_fault.CloseFault.TheVariants.{Write}
 use Rattle.whole_run.specs.declared.fault.ServeFault.TheVariants as serve
 use Rattle.whole_run.specs.HandedOver.{AreHandedOver}
@@ -60,6 +60,11 @@ HasFailedSinceAudit keeps_promises seen faults files options today now =
 abbrev pub HasOldOrNewSinceAudit : {D : Type 0} → (D → ℕ) → (D → ℕ → Folder → Type 0) → (D → Folder) → Option (List NamedFile) → Options → Day → D → Type 0
 HasOldOrNewSinceAudit moment left_since seen files options today now =
     (written : List ℕ) × (count : ℕ) × IsWrittenBy files options today (Some []) (Some written) count × HasOldOrNewSince moment left_since seen written now
+
+-- What a crash leaves stands for the folder before, or for that with the files of the tables at the journal's end in their
+-- places, all of them.
+abbrev pub IsBeforeOrWritten : Option (List NamedFile) → Options → Day → Folder → Folder → Type 0
+IsBeforeOrWritten files options today = IsBeforeOrPlaced (λ written. (count : ℕ) × IsWrittenBy files options today (Some []) (Some written) count)
 
 -- Why a folder that was locked and opened has not got the files of the tables: it was not recovered, or all entries hold and
 -- the files were not put in place.

@@ -4,3 +4,4 @@ pub mod ListingLaws
 pub mod ReadingLaws
 pub mod ByteLaws
 pub mod PlacedLaws
+pub mod SinceLaws

@@ -1,8 +1,10 @@
 -- New files that are written for a folder of a disk, and the folder once they have their places.
-use Rattle.std.specs.Prelude.{◌≡◌, ◌⊎◌, ℕ, List, [], ◌∷◌, ◌++◌, Option, Some, None, map, false, if◌then◌else◌}
+use Rattle.std.specs.Prelude.{◌≡◌, ◌≢◌, ◌⊎◌, ℕ, List, [], ◌∷◌, ◌++◌, Option, Some, None, map, false, if◌then◌else◌}
 use Rattle.std.specs.List.{AllByRecursion}
 use Rattle.files_in_place.specs.Folder.{Name, Folder, is_reserved, temporary, first_of}
-use Rattle.files_in_place.specs.Recovery.{HasOldFiles, RecoversTo}
+use Rattle.files_in_place.specs.declared.phase.Phase.TheVariants.{Ended}
+use Rattle.files_in_place.specs.Disk.{LeavesOnly}
+use Rattle.files_in_place.specs.Recovery.{HasOldFiles, RecoversTo, SameFree}
 use Rattle.files_in_place.specs.Staged.{Set, is_staged}
 use Rattle.files_in_place.specs.declared.faults.SetFault.{SetFault}
 use Rattle.station_files.specs.declared.named.NamedFile.{NamedFile}
@@ -22,6 +24,12 @@ with_files files folder name = if is_reserved name then None else first_of (file
 
 abbrev pub names_of : List NamedFile → List Name
 names_of files = map (λ file. file.name) files
+
+-- Since the disk was this, a crash at any moment leaves its old files, and where they can still be abandoned, each name that
+-- isn't reserved has what it had.
+pub record KeepsOld {D : Type 0} (moment : D → ℕ) (left_since : D → ℕ → Folder → Type 0) (seen : D → Folder) (start : D) (set : Set D) : Type 0 where
+  pub same : set.phase ≢ Ended → SameFree (seen start) (seen set.disk)
+  pub leaves : LeavesOnly moment left_since start set.disk (HasOldFiles (seen start))
 
 -- the disk has each of these files under its temporary name
 abbrev pub AreTemporary : List NamedFile → Folder → Type 0

@@ -1,7 +1,7 @@
 //! Writing the files of a run.
 #![tactic(auto, using(byte_io::specs::Laws::Sinks::sinks))]
 
-ghost use Rattle.std.specs.Prelude.{◌≡◌, ◌≢◌, ◌+◌, ◌<◌, ◌≤◌, ◌↔◌, ◌∷◌, [], ℕ, List, Err, length, map, Some, None, true, false, OnOk, OnErr, IfErr};
+ghost use Rattle.std.specs.Prelude.{◌≡◌, ◌≢◌, ◌+◌, ◌<◌, ◌↔◌, ◌∷◌, [], ℕ, List, Err, length, map, Some, None, true, false, OnOk, OnErr, IfErr};
 ghost use Rattle.std.specs.List.{list_all, AllByRecursion};
 ghost use Rattle.dbf_image.specs.Blocks.{memo_image};
 ghost use Rattle.dbf_image.specs.Image.{image, IsOutside};

@@ -1,6 +1,6 @@
 //! The files that a run will write, in their order.
 
-ghost use Rattle.std.specs.Prelude.{◌≡◌, ◌++◌, ◌≤◌, ◌∷◌, [], IfOk, OnOk, false, map, None};
+ghost use Rattle.std.specs.Prelude.{◌≡◌, ◌++◌, ◌∷◌, [], IfOk, OnOk, false, map, None};
 ghost use Rattle.dbf_image.specs.Image.{IsOutside};
 ghost use Rattle.dbf_image.specs.Table.{has_memos as some_memo};
 ghost use Rattle.station_files.specs.Closing.{file_of, dbf_file, memo_files, index_file, table_files, tables_files, answer_files, run_files, answer_name, first_blocked};

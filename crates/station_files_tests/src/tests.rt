@@ -2,11 +2,12 @@ use dbf_fields::Bytes;
 use dbf_image::{ByteSink, Failures, SinkFault, write_all};
 use files_in_place::{SetFault, SystemDisk, recover};
 use station_files::{
-    DiskFolder, DiskSource, Folder, LoadFault, MemoryFolder, MemorySource, MissingFolder,
-    NamedFile, Source,
+    DiskFolder, DiskSource, FinishFault, Folder, LoadFault, MemoryFolder, MemorySource,
+    MissingFolder, NamedFile, Source,
 };
 use std::alloc::{AllocError, Global};
 use std::fs;
+use std::marker::Brand;
 use std::test::Fail;
 
 mod close;
@@ -104,7 +105,7 @@ fn new_files(
     rt: &HostRuntime,
     alloc: Global,
     folder: &str,
-) -> Result<DiskFolder<SystemDisk<HostRuntime>>, Fail> {
+) -> Result<DiskFolder<SystemDisk<HostRuntime>, Brand>, Fail> {
     if fs::exists(rt, folder)? {
         fs::remove_dir_all(rt, folder)?;
     }
@@ -131,7 +132,8 @@ fn files_of_the_system_are_written_and_read(rt: HostRuntime) -> Result<(), Fail>
     assert_eq!(rt; write_two(&mut folder), Ok(()));
     let mut source = DiskSource::new(rt.clone()?);
     assert!(rt; cannot_load(alloc, &mut source, b"written/T.DBF"));
-    assert_eq!(rt; folder.finish(), Ok(()));
+    let (ended, _disk) = folder.finish();
+    assert_eq!(rt; ended, Ok(()));
     assert!(rt; loads(alloc, &mut source, b"written/T.DBF", b"first"));
     assert!(rt; loads(alloc, &mut source, b"written/T.DBT", b"second"));
     fs::remove_dir_all(&rt, "written")?;
@@ -165,12 +167,41 @@ fn files_whose_folder_is_gone_take_no_places(rt: HostRuntime) -> Result<(), Fail
     let mut folder = new_files(&rt, rt.alloc(), "gone")?;
     assert_eq!(rt; write_two(&mut folder), Ok(()));
     fs::remove_dir_all(&rt, "gone")?;
-    for fault in [SetFault::Failed, SetFault::Closed] {
-        assert_eq!(rt; folder.finish(), Err(fault));
-    }
+    let (ended, _disk) = folder.finish();
+    assert_eq!(rt; ended, Err(FinishFault::Unwritten));
+    Ok(())
+}
+
+#[test]
+fn files_whose_folder_is_gone_are_not_removed(rt: HostRuntime) -> Result<(), Fail> {
+    let mut folder = new_files(&rt, rt.alloc(), "lost")?;
+    assert_eq!(rt; write_two(&mut folder), Ok(()));
+    fs::remove_dir_all(&rt, "lost")?;
     for fault in [SetFault::Failed, SetFault::Closed] {
         assert_eq!(rt; folder.abandon(), Err(fault));
     }
+    let (ended, _disk) = folder.finish();
+    assert_eq!(rt; ended, Err(FinishFault::Unfinished));
+    Ok(())
+}
+
+// A folder has the name of the second file, so only the first takes its place, until that folder is gone.
+#[test]
+fn next_start_puts_the_other_file_in_place(rt: HostRuntime) -> Result<(), Fail> {
+    let alloc = rt.alloc();
+    let mut folder = new_files(&rt, alloc, "half")?;
+    fs::write(&rt, "half/T.DBF", b"old")?;
+    assert_eq!(rt; write_two(&mut folder), Ok(()));
+    fs::create_dir(&rt, "half/T.DBT")?;
+    let (ended, disk) = folder.finish();
+    assert_eq!(rt; ended, Err(FinishFault::Unfinished));
+    fs::remove_dir_all(&rt, "half/T.DBT")?;
+    let mut disk = disk;
+    recover(alloc, &mut disk)?;
+    let mut source = DiskSource::new(rt.clone()?);
+    assert!(rt; loads(alloc, &mut source, b"half/T.DBF", b"first"));
+    assert!(rt; loads(alloc, &mut source, b"half/T.DBT", b"second"));
+    fs::remove_dir_all(&rt, "half")?;
     Ok(())
 }
 

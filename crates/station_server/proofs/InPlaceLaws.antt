@@ -6,17 +6,20 @@ use Rattle.files_in_place.specs.declared.faults.DiskFault.{DiskFault}
 use Rattle.files_in_place.specs.declared.faults.DiskFault.TheVariants as disk
 use Rattle.files_in_place.specs.declared.faults.SetFault.{SetFault}
 use Rattle.station_files.specs.declared.named.NamedFile.{NamedFile}
-use Rattle.station_files.specs.Placed.{IsPlaced}
+use Rattle.station_files.specs.declared.finish_fault.FinishFault.{FinishFault}
+use Rattle.station_files.specs.declared.finish_fault.FinishFault.TheVariants as finish
+use Rattle.station_files.specs.Files.{files_in}
+use Rattle.station_files.specs.Placed.{AreTemporary, IsOldOrPlaced, IsPlaced}
 use Rattle.whole_run.specs.declared.fault.ServeFault.{ServeFault}
 use Rattle.whole_run.specs.declared.fault.ServeFault.TheVariants as serve
 use Rattle.whole_run.specs.Loading.{IsFailure}
 use Rattle.program_text.specs.declared.folder.FolderFault.{FolderFault}
-use Rattle.program_text.specs.declared.folder.FolderFault.TheVariants.{InUse, Unopened, Unrecovered, Unwritten, Unfinished}
+use Rattle.program_text.specs.declared.folder.FolderFault.TheVariants.{Unrecovered, Unwritten, Unfinished}
 use Rattle.program_text.specs.declared.folder.PlaceFault.{PlaceFault}
 use Rattle.program_text.specs.declared.folder.PlaceFault.TheVariants.{NoMemory, Folder}
-use Rattle.program_text.specs.PlaceFaults.{given_up, unrecovered_folder, IsOfNewFiles}
-use Rattle.program_text.specs.Placing.{HasFailedSince, HasOldOrNewSince}
-use Rattle.program_text.proofs.PlacingLaws.{files_placed, given_up_keeps}
+use Rattle.program_text.specs.PlaceFaults.{given_up, unplaced_files, unrecovered_folder}
+use Rattle.files_in_place.specs.Disk.{LeavesOnly}
+use Rattle.program_text.proofs.PlacingLaws.{files_placed, given_up_keeps, never_unrecovered, unfinished_only, unwritten_only}
 use Rattle.station_server.specs.declared.program.failure.Failure.{Failure}
 use Rattle.station_server.specs.declared.program.failure.Failure.TheVariants.{Serve, Folder as OfFolder}
 use Rattle.station_server.specs.declared.program.options.Options.{Options}
@@ -36,29 +39,15 @@ in_place files options count begun written old new served none placed = record {
 pub served_whole : (files : Option (List NamedFile)) (options : Options) (count : ℕ) (begun written : List ℕ) → IsServedBy files options (Some begun) (Some written) count → begun ≡ [] → IsServedWhole files options
 served_whole files options count begun written served none = (written, count, subst (λ (l : List ℕ). IsServedBy files options (Some l) (Some written) count) none served)
 
-place_fault : (files : Option (List NamedFile)) (options : Options) (fault : PlaceFault) → IsOfNewFiles fault → IsServedWhole files options → IsPlaceFault files options (place_failure fault)
-place_fault files options NoMemory of whole = tt
-place_fault files options (Folder InUse) of whole = absurd of
-place_fault files options (Folder Unopened) of whole = absurd of
-place_fault files options (Folder Unrecovered) of whole = absurd of
-place_fault files options (Folder Unwritten) of whole = whole
-place_fault files options (Folder Unfinished) of whole = whole
+place_fault : (files : Option (List NamedFile)) (options : Options) (why : FinishFault) → IsServedWhole files options → IsPlaceFault files options (place_failure (unplaced_files why))
+place_fault files options finish.NoMemory whole = tt
+place_fault files options finish.Unwritten whole = whole
+place_fault files options finish.Unfinished whole = whole
 
 -- why the new files are not in place is a fault of a run or of its folder
-pub unplaced : (files : Option (List NamedFile)) (options : Options) (fault : PlaceFault) (failure : Failure) → failure ≡ place_failure fault → IsOfNewFiles fault → IsServedWhole files options → IsPlaceFault files options failure
-unplaced files options fault failure is of whole = subst (IsPlaceFault files options) (sym is) (place_fault files options fault of whole)
-
-new_files_only : (fault : PlaceFault) → IsOfNewFiles fault → place_failure fault ≡ OfFolder Unrecovered → ⊥
-new_files_only NoMemory of e = cc
-new_files_only (Folder InUse) of e = of
-new_files_only (Folder Unopened) of e = of
-new_files_only (Folder Unrecovered) of e = of
-new_files_only (Folder Unwritten) of e = cc
-new_files_only (Folder Unfinished) of e = cc
-
--- it is not that the folder was not recovered
-pub recovered_before : (fault : PlaceFault) (failure : Failure) → failure ≡ place_failure fault → IsOfNewFiles fault → IsErrOf {T = ℕ} (Err failure) (OfFolder Unrecovered) → ⊥
-recovered_before fault failure is of e = let told : failure ≡ OfFolder Unrecovered = cc in new_files_only fault of (sym is ∙ told)
+pub unplaced : (files : Option (List NamedFile)) (options : Options) (why : FinishFault) (fault : PlaceFault) (failure : Failure) → failure ≡ place_failure fault → fault ≡ unplaced_files why → IsServedWhole files options
+    → IsPlaceFault files options failure
+unplaced files options why fault failure is was whole = subst (IsPlaceFault files options) (sym (is ∙ ap place_failure was)) (place_fault files options why whole)
 
 -- ---- files that were not written
 
@@ -72,19 +61,33 @@ told_of said (Folder why) failure is e =
     let same : OfFolder why ≡ OfFolder said = sym is ∙ told in
     cc
 
+-- it is not that the folder was not recovered
+pub recovered_before : (why : FinishFault) (fault : PlaceFault) (failure : Failure) → failure ≡ place_failure fault → fault ≡ unplaced_files why → IsErrOf {T = ℕ} (Err failure) (OfFolder Unrecovered) → ⊥
+recovered_before why fault failure is was e = never_unrecovered why (sym was ∙ told_of Unrecovered fault failure is e)
+
+-- a run that was served, where nothing had been written
+pub served_alone : (files : Option (List NamedFile)) (options : Options) (count : ℕ) (begun written : List ℕ) → IsServedBy files options (Some begun) (Some written) count → begun ≡ [] → IsServedBy files options (Some []) (Some written) count
+served_alone files options count begun written served none = subst (λ (l : List ℕ). IsServedBy files options (Some l) (Some written) count) none served
+
 -- it is said only where the disk has failed since the run's end
-pub unwritten_cause : {D : Type 0} (keeps_promises : Type 0) (seen : D → Files) (faults : D → ℕ) (files : Option (List NamedFile)) (options : Options) (count : ℕ) (begun written : List ℕ) (now : D) (said : PlaceFault) (failure : Failure)
-    → failure ≡ place_failure said → IsServedBy files options (Some begun) (Some written) count → begun ≡ [] → (said ≡ Folder Unwritten → HasFailedSince keeps_promises seen faults written now)
-    → IsErrOf {T = ℕ} (Err failure) (OfFolder Unwritten) → HasFailedSinceRun keeps_promises seen faults files options now
-unwritten_cause keeps_promises seen faults files options count begun written now said failure is served none since e =
-    (written, count, subst (λ (l : List ℕ). IsServedBy files options (Some l) (Some written) count) none served, since (told_of Unwritten said failure is e))
+pub unwritten_cause : {D : Type 0} (keeps_promises : Type 0) (seen : D → Files) (faults : D → ℕ) (files : Option (List NamedFile)) (options : Options) (count : ℕ) (begun written : List ℕ) (end now : D) (why : FinishFault) (said : PlaceFault) (failure : Failure)
+    → failure ≡ place_failure said → said ≡ unplaced_files why → IsServedBy files options (Some begun) (Some written) count → begun ≡ [] → (keeps_promises → AreTemporary (files_in written) (seen end))
+    → (why ≡ finish.Unwritten → faults end < faults now) → IsErrOf {T = ℕ} (Err failure) (OfFolder Unwritten) → HasFailedSinceRun keeps_promises seen faults files options now
+unwritten_cause keeps_promises seen faults files options count begun written end now why said failure is was served none there failed e =
+    let told : why ≡ finish.Unwritten = unwritten_only why (sym was ∙ told_of Unwritten said failure is e) in
+    (written, count, served_alone files options count begun written served none, record { earlier = end; there = there; failed = failed told })
+
+-- what is true where some of them may be in place
+pub unfinished_then : (P : Type 0) (why : FinishFault) (said : PlaceFault) (failure : Failure) → failure ≡ place_failure said → said ≡ unplaced_files why → (why ≡ finish.Unfinished → P)
+    → IsErrOf {T = ℕ} (Err failure) (OfFolder Unfinished) → P
+unfinished_then P why said failure is was then e = then (unfinished_only why (sym was ∙ told_of Unfinished said failure is e))
 
 -- where some of them may be in place, a crash since the run's end leaves the old files or the new ones
-pub unfinished_either : {D : Type 0} (moment : D → ℕ) (left_since : D → ℕ → Files → Type 0) (seen : D → Files) (files : Option (List NamedFile)) (options : Options) (count : ℕ) (begun written : List ℕ) (now : D) (said : PlaceFault) (failure : Failure)
-    → failure ≡ place_failure said → IsServedBy files options (Some begun) (Some written) count → begun ≡ [] → (said ≡ Folder Unfinished → HasOldOrNewSince moment left_since seen written now)
-    → IsErrOf {T = ℕ} (Err failure) (OfFolder Unfinished) → HasOldOrNewSinceRun moment left_since seen files options now
-unfinished_either moment left_since seen files options count begun written now said failure is served none since e =
-    (written, count, subst (λ (l : List ℕ). IsServedBy files options (Some l) (Some written) count) none served, since (told_of Unfinished said failure is e))
+pub unfinished_either : {D : Type 0} (moment : D → ℕ) (left_since : D → ℕ → Files → Type 0) (seen : D → Files) (files : Option (List NamedFile)) (options : Options) (count : ℕ) (begun written : List ℕ) (end now : D)
+    → IsServedBy files options (Some begun) (Some written) count → begun ≡ [] → AreTemporary (files_in written) (seen end) → LeavesOnly moment left_since end now (IsOldOrPlaced written (seen end))
+    → HasOldOrNewSinceRun moment left_since seen files options now
+unfinished_either moment left_since seen files options count begun written end now served none there leaves =
+    (written, count, served_alone files options count begun written served none, record { earlier = end; there = there; leaves = leaves })
 
 -- ---- a folder that was not recovered
 

@@ -18,7 +18,7 @@ use Rattle.whole_run.specs.WholeRun.{IsServeFault, IsWholeRun, IsCutRun}
 use Rattle.program_text.specs.declared.folder.FolderFault.{FolderFault}
 use Rattle.program_text.specs.declared.folder.FolderFault.TheVariants.{InUse, Unopened, Unrecovered, Unwritten, Unfinished}
 use Rattle.program_text.specs.CommandLine.{value_of}
-use Rattle.program_text.specs.Placing.{HasFailedSince, HasFiles, HasOldOrNewSince}
+use Rattle.program_text.specs.Placing.{HasFailedSince, HasFiles, HasOldOrNewSince, IsBeforeOrPlaced}
 use Rattle.station_server.specs.declared.program.failure.Failure.{Failure}
 use Rattle.station_server.specs.declared.program.failure.Failure.TheVariants.{BadDate, Serve, Folder as OfFolder}
 use Rattle.station_server.specs.declared.program.options.Options.{Options}
@@ -76,6 +76,11 @@ HasFailedSinceRun keeps_promises seen faults files options now =
 abbrev pub HasOldOrNewSinceRun : {D : Type 0} → (D → ℕ) → (D → ℕ → Folder → Type 0) → (D → Folder) → Option (List NamedFile) → Options → D → Type 0
 HasOldOrNewSinceRun moment left_since seen files options now =
     (written : List ℕ) × (count : ℕ) × IsServedBy files options (Some []) (Some written) count × HasOldOrNewSince moment left_since seen written now
+
+-- What a crash leaves stands for the folder before, or for that with the files of the run that the options ask for in their
+-- places, all of them.
+abbrev pub IsBeforeOrServed : Option (List NamedFile) → Options → Folder → Folder → Type 0
+IsBeforeOrServed files options = IsBeforeOrPlaced (λ written. (count : ℕ) × IsServedBy files options (Some []) (Some written) count)
 
 -- Why a folder that was locked and opened has not got the files of the run that the options ask for: it was not recovered, or
 -- the run came to its end and its files were not put in place.

@@ -1,19 +1,23 @@
 //! An audit over the folder of a disk, in which the tables at the journal's end take their places all together.
 
-ghost use Rattle.std.specs.Prelude.{◌≡◌, ◌<◌, [], IfOk, IfErr, IsErrOf, OnOk};
-ghost use Rattle.files_in_place.specs.Disk.{IsSynced};
+ghost use Rattle.std.specs.Prelude.{◌≡◌, ◌≢◌, ◌⊎◌, ◌+◌, ◌<◌, [], Some, IfOk, IfErr, IsErrOf, OnOk};
+ghost use Rattle.files_in_place.specs.Disk.{LeavesOnly, IsSynced};
+ghost use Rattle.files_in_place.specs.Folder.{recovered, without_reserved};
+ghost use Rattle.files_in_place.specs.Recovery.{HasOldFiles, IsClean, RecoversTo};
+ghost use Rattle.program_text.specs.Placing.{WasReady};
 ghost use Rattle.station_audit.specs.Endings.{given_up_audit};
 ghost use Rattle.station_audit.specs.Program.{IsLoadFailure};
-ghost use Rattle.station_audit.specs.Writing.{AreInPlace, HasFailedSinceAudit, HasOldOrNewSinceAudit, IsPlaceFailure};
+ghost use Rattle.station_audit.specs.Writing.{AreInPlace, HasFailedSinceAudit, HasOldOrNewSinceAudit, IsBeforeOrWritten, IsPlaceFailure};
 
 use crate::program::failure::Failure;
 use crate::program::options::Options;
 use crate::program::writing::audit_into;
 use dbf_fields::Day;
 use files_in_place::{Disk, recover};
-use program_text::{FolderFault, give_up, unfinished, unrecovered};
-use station_files::{DiskFolder, Source};
+use program_text::{FolderFault, give_up, unplaced, unrecovered};
+use station_files::{DiskFolder, Origin, Source};
 use std::alloc::Global;
+use std::marker::Brand;
 
 /// How an audit over the folder of a disk ended, and the disk then.
 #[derive(Drop)]
@@ -25,8 +29,13 @@ pub(crate) struct InPlace<D: Disk + Drop> {
 }
 
 // Removes the new files, and says why the audit failed.
-fn give_up_audit<D: Disk + Drop>(folder: &mut DiskFolder<D>, failure: Failure) -> Failure
+fn give_up_audit<D: Disk + Drop, O: Origin<D>>(
+    folder: &mut DiskFolder<D, O>,
+    failure: Failure,
+) -> Failure
     ensures value { result ≡ given_up_audit folder.old.fault failure }
+    // The new files are gone, or one more call of the folder has failed.
+    ensures removed { (folder.new.written ≡ []) ⊎ (folder.new.failures ≡ folder.old.failures + 1) }
 {
     match failure {
         Failure::Serve(fault) => Failure::Serve(give_up(folder, fault)),
@@ -38,35 +47,55 @@ fn give_up_audit<D: Disk + Drop>(folder: &mut DiskFolder<D>, failure: Failure) -
     }
 }
 
-// Audits the journal, writes the tables into the folder, and puts their files in place.
-fn place_tables<S: Source, D: Disk + Drop>(
+// Audits the journal, writes the tables into the folder of a disk that has been recovered, and puts their files in place.
+fn audit_recovered<S: Source, D: Disk + Drop, O: Origin<D>>(
     alloc: Global,
     options: &Options<'_>,
     today: Day,
     source: &mut S,
-    folder: &mut DiskFolder<D>,
-) -> Result<u64, Failure>
-    requires written { folder.old.written ≡ [] }
-    requires no_failure { folder.old.failures ≡ 0 }
-    ensures placed { D.keeps_promises → IfOk result (AreInPlace (S.files source.old) options.now today (D.seen folder.new.set.disk)) }
-    ensures synced { D.keeps_promises → OnOk result (IsSynced (D.seen folder.new.set.disk) (D.is_whole folder.new.set.disk) (D.may_leave folder.new.set.disk)) }
-    ensures fault { IfErr result (IsPlaceFailure (S.files source.old) options.now today) }
-    // The folder was recovered before.
-    ensures recovered { ¬ IsErrOf result (Failure.Folder FolderFault.Unrecovered) }
-    ensures unwritten { IsErrOf result (Failure.Folder FolderFault.Unwritten)
-        → HasFailedSinceAudit D.keeps_promises D.seen D.faults (S.files source.old) options.now today folder.new.set.disk }
-    ensures unfinished { D.keeps_promises → IsErrOf result (Failure.Folder FolderFault.Unfinished)
-        → HasOldOrNewSinceAudit D.moment D.left_since D.seen (S.files source.old) options.now today folder.new.set.disk }
+    disk: D,
+) -> InPlace<D>
+    requires synced { D.keeps_promises → IsSynced (D.seen disk) (D.is_whole disk) (D.may_leave disk) }
+    requires clean { D.keeps_promises → IsClean (D.seen disk) }
+    requires origin { O.origin ≡ Some disk }
+    ensures placed { D.keeps_promises → IfOk result.ended (AreInPlace (S.files source.old) options.now today (D.seen result.disk)) }
+    ensures synced { D.keeps_promises → OnOk result.ended (IsSynced (D.seen result.disk) (D.is_whole result.disk) (D.may_leave result.disk)) }
+    ensures any_moment { D.keeps_promises
+        → LeavesOnly D.moment D.left_since disk result.disk (IsBeforeOrWritten (S.files source.old) options.now today (without_reserved (D.seen disk))) }
+    ensures old_files { D.keeps_promises → IfErr result.ended (λ failure. failure ≢ Failure.Folder FolderFault.Unfinished
+        → LeavesOnly D.moment D.left_since disk result.disk (HasOldFiles (D.seen disk))) }
+    ensures fault { IfErr result.ended (IsPlaceFailure (S.files source.old) options.now today) }
+    ensures recovered { ¬ IsErrOf result.ended (Failure.Folder FolderFault.Unrecovered) }
+    ensures unwritten { IsErrOf result.ended (Failure.Folder FolderFault.Unwritten)
+        → HasFailedSinceAudit D.keeps_promises D.seen D.faults (S.files source.old) options.now today result.disk }
+    ensures unfinished { D.keeps_promises → IsErrOf result.ended (Failure.Folder FolderFault.Unfinished)
+        → HasOldOrNewSinceAudit D.moment D.left_since D.seen (S.files source.old) options.now today result.disk }
+    ensures begun { D.keeps_promises → IsErrOf result.ended (Failure.Folder FolderFault.Unfinished)
+        → WasReady D.moment D.seen D.is_whole D.may_leave result.disk }
     ensures kept { S.files source.new ≡ S.files source.old }
-    ensures loads { OnOk result (S.failures source.new ≡ S.failures source.old) }
-    ensures failure { IfErr result (IsLoadFailure (S.files source.old) options.now (S.failures source.old) (S.failures source.new)) }
+    ensures loads { OnOk result.ended (S.failures source.new ≡ S.failures source.old) }
+    ensures failure { IfErr result.ended (IsLoadFailure (S.files source.old) options.now (S.failures source.old) (S.failures source.new)) }
 {
-    match audit_into(alloc, options, today, source, folder) {
-        Ok(count) => match folder.finish() {
-            Ok(()) => Ok(count),
-            Err(fault) => Err(Failure::from(unfinished(folder, fault))),
+    let mut folder = DiskFolder::<D, O>::new(alloc, disk);
+    let count = match audit_into(alloc, options, today, source, &mut folder) {
+        Ok(count) => count,
+        Err(failure) => {
+            let failure = give_up_audit(&mut folder, failure);
+            return InPlace {
+                ended: Err(failure),
+                disk: folder.into_disk(),
+            };
+        }
+    };
+    match folder.finish() {
+        (Ok(()), disk) => InPlace {
+            ended: Ok(count),
+            disk,
         },
-        Err(failure) => Err(give_up_audit(folder, failure)),
+        (Err(fault), disk) => InPlace {
+            ended: Err(Failure::from(unplaced(fault))),
+            disk,
+        },
     }
 }
 
@@ -84,6 +113,13 @@ pub(crate) fn audit_in_place<S: Source, D: Disk + Drop>(
     // Where the disk keeps its promises, at Ok it has the files of the tables at the journal's end.
     ensures placed { D.keeps_promises → IfOk result.ended (AreInPlace (S.files source.old) options.now today (D.seen result.disk)) }
     ensures synced { D.keeps_promises → OnOk result.ended (IsSynced (D.seen result.disk) (D.is_whole result.disk) (D.may_leave result.disk)) }
+    // A crash at any moment of the call leaves a folder of which recovery makes what it would have made of the folder before, or
+    // that with the files of the tables in their places, all of them.
+    ensures any_moment { D.keeps_promises
+        → LeavesOnly D.moment D.left_since disk result.disk (IsBeforeOrWritten (S.files source.old) options.now today (recovered (D.seen disk))) }
+    // Where it is not said that all entries hold, it is the folder before, but where some of the new files may be in place.
+    ensures old_files { D.keeps_promises → IfErr result.ended (λ failure. failure ≢ Failure.Folder FolderFault.Unfinished
+        → LeavesOnly D.moment D.left_since disk result.disk (RecoversTo (recovered (D.seen disk)))) }
     ensures fault { IfErr result.ended (IsPlaceFailure (S.files source.old) options.now today) }
     // It is said that the folder was not recovered only where a call of the disk has failed.
     ensures unrecovered { IsErrOf result.ended (Failure.Folder FolderFault.Unrecovered) → D.faults disk < D.faults result.disk }
@@ -93,6 +129,9 @@ pub(crate) fn audit_in_place<S: Source, D: Disk + Drop>(
     // Where only some of them are in place, a crash since the audit's end leaves the old files or the new ones, all of them, once it is recovered.
     ensures unfinished { D.keeps_promises → IsErrOf result.ended (Failure.Folder FolderFault.Unfinished)
         → HasOldOrNewSinceAudit D.moment D.left_since D.seen (S.files source.old) options.now today result.disk }
+    // That is said only where all of them were on the disk before.
+    ensures begun { D.keeps_promises → IsErrOf result.ended (Failure.Folder FolderFault.Unfinished)
+        → WasReady D.moment D.seen D.is_whole D.may_leave result.disk }
     ensures kept { S.files source.new ≡ S.files source.old }
     ensures loads { OnOk result.ended (S.failures source.new ≡ S.failures source.old) }
     ensures failure { IfErr result.ended (IsLoadFailure (S.files source.old) options.now (S.failures source.old) (S.failures source.new)) }
@@ -104,10 +143,6 @@ pub(crate) fn audit_in_place<S: Source, D: Disk + Drop>(
             disk,
         };
     }
-    let mut folder = DiskFolder::new(alloc, disk);
-    let ended = place_tables(alloc, options, today, source, &mut folder);
-    InPlace {
-        ended,
-        disk: folder.into_disk(),
-    }
+    // Which disk the new files begin on is picked for contracts, at `Brand`.
+    audit_recovered::<S, D, Brand>(alloc, options, today, source, disk)
 }

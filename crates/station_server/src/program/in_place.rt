@@ -1,17 +1,21 @@
 //! The whole run over the folder of a disk, whose new files take their places all together.
 
-ghost use Rattle.std.specs.Prelude.{◌≡◌, ◌<◌, [], IfOk, IfErr, IsErrOf, OnOk};
-ghost use Rattle.files_in_place.specs.Disk.{IsSynced};
-ghost use Rattle.station_server.specs.Program.{HasFailedSinceRun, HasOldOrNewSinceRun, IsInPlace, IsLoadFailure, IsPlaceFault};
+ghost use Rattle.std.specs.Prelude.{◌≡◌, ◌≢◌, ◌<◌, Some, IfOk, IfErr, IsErrOf, OnOk};
+ghost use Rattle.files_in_place.specs.Disk.{LeavesOnly, IsSynced};
+ghost use Rattle.files_in_place.specs.Folder.{recovered, without_reserved};
+ghost use Rattle.files_in_place.specs.Recovery.{HasOldFiles, IsClean, RecoversTo};
+ghost use Rattle.program_text.specs.Placing.{WasReady};
+ghost use Rattle.station_server.specs.Program.{HasFailedSinceRun, HasOldOrNewSinceRun, IsBeforeOrServed, IsInPlace, IsLoadFailure, IsPlaceFault};
 
 use crate::program::failure::Failure;
 use crate::program::options::Options;
 use crate::program::serving::serve_options;
 use files_in_place::{Disk, recover};
-use program_text::{FolderFault, give_up, unfinished, unrecovered};
-use station_files::{DiskFolder, Source};
+use program_text::{FolderFault, give_up, unplaced, unrecovered};
+use station_files::{DiskFolder, Origin, Source};
 use station_run::Gate;
 use std::alloc::Global;
+use std::marker::Brand;
 use std::sync::Wait;
 use std::thread::Threads;
 
@@ -24,36 +28,55 @@ pub(crate) struct InPlace<D: Disk + Drop> {
     pub disk: D,
 }
 
-// Serves the run into the folder, and puts its files in place.
-fn serve_into<S: Source, D: Disk + Drop, G: Gate + Sync, R: Threads + Wait + Sync>(
-    rt: &R,
-    alloc: Global,
-    options: &Options<'_>,
-    source: &mut S,
-    folder: &mut DiskFolder<D>,
-    gate: &G,
-) -> Result<u64, Failure>
-    requires written { folder.old.written ≡ [] }
-    requires no_failure { folder.old.failures ≡ 0 }
-    ensures placed { D.keeps_promises → IfOk result (IsInPlace (S.files source.old) options.now (D.seen folder.new.set.disk)) }
-    ensures synced { D.keeps_promises → OnOk result (IsSynced (D.seen folder.new.set.disk) (D.is_whole folder.new.set.disk) (D.may_leave folder.new.set.disk)) }
-    ensures fault { IfErr result (IsPlaceFault (S.files source.old) options.now) }
-    // The folder was recovered before.
-    ensures recovered { ¬ IsErrOf result (Failure.Folder FolderFault.Unrecovered) }
-    ensures unwritten { IsErrOf result (Failure.Folder FolderFault.Unwritten)
-        → HasFailedSinceRun D.keeps_promises D.seen D.faults (S.files source.old) options.now folder.new.set.disk }
-    ensures unfinished { D.keeps_promises → IsErrOf result (Failure.Folder FolderFault.Unfinished)
-        → HasOldOrNewSinceRun D.moment D.left_since D.seen (S.files source.old) options.now folder.new.set.disk }
+// Serves the run into the folder of a disk that has been recovered, and puts its files in place.
+fn serve_recovered<
+    S: Source,
+    D: Disk + Drop,
+    O: Origin<D>,
+    G: Gate + Sync,
+    R: Threads + Wait + Sync,
+>(rt: &R, alloc: Global, options: &Options<'_>, source: &mut S, disk: D, gate: &G) -> InPlace<D>
+    requires synced { D.keeps_promises → IsSynced (D.seen disk) (D.is_whole disk) (D.may_leave disk) }
+    requires clean { D.keeps_promises → IsClean (D.seen disk) }
+    requires origin { O.origin ≡ Some disk }
+    ensures placed { D.keeps_promises → IfOk result.ended (IsInPlace (S.files source.old) options.now (D.seen result.disk)) }
+    ensures synced { D.keeps_promises → OnOk result.ended (IsSynced (D.seen result.disk) (D.is_whole result.disk) (D.may_leave result.disk)) }
+    ensures any_moment { D.keeps_promises
+        → LeavesOnly D.moment D.left_since disk result.disk (IsBeforeOrServed (S.files source.old) options.now (without_reserved (D.seen disk))) }
+    ensures old_files { D.keeps_promises → IfErr result.ended (λ failure. failure ≢ Failure.Folder FolderFault.Unfinished
+        → LeavesOnly D.moment D.left_since disk result.disk (HasOldFiles (D.seen disk))) }
+    ensures fault { IfErr result.ended (IsPlaceFault (S.files source.old) options.now) }
+    ensures recovered { ¬ IsErrOf result.ended (Failure.Folder FolderFault.Unrecovered) }
+    ensures unwritten { IsErrOf result.ended (Failure.Folder FolderFault.Unwritten)
+        → HasFailedSinceRun D.keeps_promises D.seen D.faults (S.files source.old) options.now result.disk }
+    ensures unfinished { D.keeps_promises → IsErrOf result.ended (Failure.Folder FolderFault.Unfinished)
+        → HasOldOrNewSinceRun D.moment D.left_since D.seen (S.files source.old) options.now result.disk }
+    ensures begun { D.keeps_promises → IsErrOf result.ended (Failure.Folder FolderFault.Unfinished)
+        → WasReady D.moment D.seen D.is_whole D.may_leave result.disk }
     ensures kept { S.files source.new ≡ S.files source.old }
-    ensures loads { OnOk result (S.failures source.new ≡ S.failures source.old) }
-    ensures failure { IfErr result (IsLoadFailure (S.files source.old) (S.failures source.old) (S.failures source.new)) }
+    ensures loads { OnOk result.ended (S.failures source.new ≡ S.failures source.old) }
+    ensures failure { IfErr result.ended (IsLoadFailure (S.files source.old) (S.failures source.old) (S.failures source.new)) }
 {
-    match serve_options(rt, alloc, options, source, folder, gate) {
-        Ok(count) => match folder.finish() {
-            Ok(()) => Ok(count),
-            Err(fault) => Err(Failure::from(unfinished(folder, fault))),
+    let mut folder = DiskFolder::<D, O>::new(alloc, disk);
+    let count = match serve_options(rt, alloc, options, source, &mut folder, gate) {
+        Ok(count) => count,
+        Err(fault) => {
+            let fault = give_up(&mut folder, fault);
+            return InPlace {
+                ended: Err(Failure::Serve(fault)),
+                disk: folder.into_disk(),
+            };
+        }
+    };
+    match folder.finish() {
+        (Ok(()), disk) => InPlace {
+            ended: Ok(count),
+            disk,
         },
-        Err(fault) => Err(Failure::Serve(give_up(folder, fault))),
+        (Err(fault), disk) => InPlace {
+            ended: Err(Failure::from(unplaced(fault))),
+            disk,
+        },
     }
 }
 
@@ -71,6 +94,13 @@ pub(crate) fn serve_in_place<S: Source, D: Disk + Drop, G: Gate + Sync, R: Threa
     // Where the disk keeps its promises, at Ok it has the files of the run.
     ensures placed { D.keeps_promises → IfOk result.ended (IsInPlace (S.files source.old) options.now (D.seen result.disk)) }
     ensures synced { D.keeps_promises → OnOk result.ended (IsSynced (D.seen result.disk) (D.is_whole result.disk) (D.may_leave result.disk)) }
+    // A crash at any moment of the call leaves a folder of which recovery makes what it would have made of the folder before, or
+    // that with the files of the run in their places, all of them.
+    ensures any_moment { D.keeps_promises
+        → LeavesOnly D.moment D.left_since disk result.disk (IsBeforeOrServed (S.files source.old) options.now (recovered (D.seen disk))) }
+    // Where the run fails, it is the folder before, but where some of the new files may be in place.
+    ensures old_files { D.keeps_promises → IfErr result.ended (λ failure. failure ≢ Failure.Folder FolderFault.Unfinished
+        → LeavesOnly D.moment D.left_since disk result.disk (RecoversTo (recovered (D.seen disk)))) }
     ensures fault { IfErr result.ended (IsPlaceFault (S.files source.old) options.now) }
     // It is said that the folder was not recovered only where a call of the disk has failed.
     ensures unrecovered { IsErrOf result.ended (Failure.Folder FolderFault.Unrecovered) → D.faults disk < D.faults result.disk }
@@ -80,6 +110,9 @@ pub(crate) fn serve_in_place<S: Source, D: Disk + Drop, G: Gate + Sync, R: Threa
     // Where only some of them are in place, a crash since the run's end leaves the old files or the new ones, all of them, once it is recovered.
     ensures unfinished { D.keeps_promises → IsErrOf result.ended (Failure.Folder FolderFault.Unfinished)
         → HasOldOrNewSinceRun D.moment D.left_since D.seen (S.files source.old) options.now result.disk }
+    // That is said only where all of them were on the disk before.
+    ensures begun { D.keeps_promises → IsErrOf result.ended (Failure.Folder FolderFault.Unfinished)
+        → WasReady D.moment D.seen D.is_whole D.may_leave result.disk }
     ensures kept { S.files source.new ≡ S.files source.old }
     // A file can't be read only where a load has failed, or where it is over the limit.
     ensures loads { OnOk result.ended (S.failures source.new ≡ S.failures source.old) }
@@ -92,10 +125,6 @@ pub(crate) fn serve_in_place<S: Source, D: Disk + Drop, G: Gate + Sync, R: Threa
             disk,
         };
     }
-    let mut folder = DiskFolder::new(alloc, disk);
-    let ended = serve_into(rt, alloc, options, source, &mut folder, gate);
-    InPlace {
-        ended,
-        disk: folder.into_disk(),
-    }
+    // Which disk the new files begin on is picked for contracts, at `Brand`.
+    serve_recovered::<S, D, Brand, G, R>(rt, alloc, options, source, disk, gate)
 }

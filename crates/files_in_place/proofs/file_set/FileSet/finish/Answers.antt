@@ -1,9 +1,10 @@
-use Rattle.std.proofs.Common.{◌≡◌, List, None, rules, subst, sym, ◌∙◌, ap}
-use Rattle.files_in_place.specs.declared.phase.Phase.TheVariants.{Staging}
+use Rattle.std.proofs.Common.{◌≡◌, ◌≢◌, List, None, refl, rules, subst, sym, ◌∙◌, ap}
+use Rattle.byte_io.specs.Laws.Sinks.{on_err}
+use Rattle.files_in_place.specs.declared.phase.Phase.TheVariants.{Staging, Failed, Ended}
 use Rattle.files_in_place.specs.Folder.{Name, SameBut, temporary, list_name, list_bytes}
 use Rattle.files_in_place.specs.Disk.{LeavesOnly}
-use Rattle.files_in_place.specs.Staged.{Set, AreStaged, AreReady, IsOldOrNew, SameUnstaged, with_staged}
-use Rattle.files_in_place.proofs.Uncommitted.{staged_none}
+use Rattle.files_in_place.specs.Staged.{Set, AreStaged, AreReady, HasBeenReady, IsOldOrNew, RunsUncommitted, SameUnstaged, with_staged}
+use Rattle.files_in_place.proofs.Uncommitted.{run_none, staged_none}
 use Rattle.files_in_place.proofs.Sets.{in_staging, in_failed, in_ended, with_staged_same, put_clean, put_none, put_listed, put_all, put_either, put_others}
 use Rattle.files_in_place.proofs.file_set.FileSet.finish.Goals as goal
 
@@ -32,6 +33,48 @@ returns-in_err-list-clause-any_moment g c promised staging =
     let put = put_none g.D.Disk.moment g.D.Disk.left_since g.D.Disk.seen g.D.Disk.is_whole g.D.Disk.may_leave g.met.D.Disk.only_now c.self.inside.names.items c.self.inside.disk ((c.self.invariant promised).staged phase).uncommitted in
     subst (λ (s : Set g.row.D.Denot). LeavesOnly g.D.Disk.moment g.D.Disk.left_since s.disk s.disk (IsOldOrNew s.names (g.D.Disk.seen s.disk))) c.self.view_is
     (put_either g.D.Disk.moment g.D.Disk.left_since g.D.Disk.seen g.D.Disk.is_whole g.D.Disk.may_leave g.met.D.Disk.only_now c.self.inside.names.items c.self.inside.disk c.self.inside.disk put)
+
+pub returns-in_err-list-clause-undone : goal.returns-in_err-list-clause-undone
+returns-in_err-list-clause-undone g c promised staging =
+    let phase : c.self.inside.phase ≡ Staging = ap (λ (s : Set g.row.D.Denot). s.phase) c.self.view_is ∙ staging in
+    let left = (c.self.invariant promised).left (λ ended. let clash : Staging ≡ Ended = sym phase ∙ ended in absurd cc) in
+    let run : RunsUncommitted g.D.Disk.moment g.D.Disk.left_since g.D.Disk.seen g.D.Disk.is_whole g.D.Disk.may_leave c.args.self.now.disk c.args.self.now.disk =
+    subst (λ (s : Set g.row.D.Denot). RunsUncommitted g.D.Disk.moment g.D.Disk.left_since g.D.Disk.seen g.D.Disk.is_whole g.D.Disk.may_leave s.disk s.disk) c.self.view_is
+    (run_none g.D.Disk.moment g.D.Disk.left_since g.D.Disk.seen g.D.Disk.is_whole g.D.Disk.may_leave g.met.D.Disk.only_now c.self.inside.disk left) in
+    let undone : c.args.self.now.phase ≢ Ended → RunsUncommitted g.D.Disk.moment g.D.Disk.left_since g.D.Disk.seen g.D.Disk.is_whole g.D.Disk.may_leave c.args.self.now.disk c.args.self.now.disk = λ _. run in
+    on_err c.from_residual.result undone
+
+pub returns-in_err-write_list-clause-undone : goal.returns-in_err-write_list-clause-undone
+returns-in_err-write_list-clause-undone g c promised staging =
+    let run : RunsUncommitted g.D.Disk.moment g.D.Disk.left_since g.D.Disk.seen g.D.Disk.is_whole g.D.Disk.may_leave c.args.self.now.disk c.write_list.new.disk =
+    subst (λ (s : Set g.row.D.Denot). RunsUncommitted g.D.Disk.moment g.D.Disk.left_since g.D.Disk.seen g.D.Disk.is_whole g.D.Disk.may_leave s.disk c.write_list.new.disk) c.self.view_is (c.write_list.ensures.run promised) in
+    let undone : Failed ≢ Ended → RunsUncommitted g.D.Disk.moment g.D.Disk.left_since g.D.Disk.seen g.D.Disk.is_whole g.D.Disk.may_leave c.args.self.now.disk c.write_list.new.disk = λ _. run in
+    on_err c.from_residual-in_err-write_list.result undone
+
+pub returns-in_err-commit-clause-undone : goal.returns-in_err-commit-clause-undone
+returns-in_err-commit-clause-undone g c promised staging =
+    let undone : Ended ≢ Ended → RunsUncommitted g.D.Disk.moment g.D.Disk.left_since g.D.Disk.seen g.D.Disk.is_whole g.D.Disk.may_leave c.args.self.now.disk c.commit.new.disk = λ going. absurd (going refl) in
+    on_err c.from_residual-in_err-commit.result undone
+
+pub returns-in_err-list-clause-begun : goal.returns-in_err-list-clause-begun
+returns-in_err-list-clause-begun g c promised staging =
+    let begun : c.args.self.now.phase ≡ Ended → HasBeenReady g.D.Disk.moment g.D.Disk.seen g.D.Disk.is_whole g.D.Disk.may_leave c.args.self.now.names c.args.self.now.disk = λ ended. let clash : Staging ≡ Ended = sym staging ∙ ended in absurd cc in
+    on_err c.from_residual.result begun
+
+pub returns-in_err-write_list-clause-begun : goal.returns-in_err-write_list-clause-begun
+returns-in_err-write_list-clause-begun g c promised staging =
+    let begun : Failed ≡ Ended → HasBeenReady g.D.Disk.moment g.D.Disk.seen g.D.Disk.is_whole g.D.Disk.may_leave c.args.self.now.names c.write_list.new.disk = λ ended. absurd cc in
+    on_err c.from_residual-in_err-write_list.result begun
+
+pub returns-in_err-commit-clause-begun : goal.returns-in_err-commit-clause-begun
+returns-in_err-commit-clause-begun g c promised staging =
+    let names : c.deref-2.result.now ≡ c.self.inside.names.items = c.deref-2.ensures.value in
+    let ready : AreReady c.self.inside.names.items (g.D.Disk.seen c.write_list.new.disk) (g.D.Disk.is_whole c.write_list.new.disk) (g.D.Disk.may_leave c.write_list.new.disk) =
+    subst (λ (l : List Name). AreReady l (g.D.Disk.seen c.write_list.new.disk) (g.D.Disk.is_whole c.write_list.new.disk) (g.D.Disk.may_leave c.write_list.new.disk)) names (c.in_ok-write_list.ensures.ready promised) in
+    let was : HasBeenReady g.D.Disk.moment g.D.Disk.seen g.D.Disk.is_whole g.D.Disk.may_leave c.args.self.now.names c.commit.new.disk =
+    subst (λ (s : Set g.row.D.Denot). HasBeenReady g.D.Disk.moment g.D.Disk.seen g.D.Disk.is_whole g.D.Disk.may_leave s.names c.commit.new.disk) c.self.view_is (record { earlier = c.write_list.new.disk; ready = ready; later = (c.commit.ensures.any_moment promised).later }) in
+    let begun : Ended ≡ Ended → HasBeenReady g.D.Disk.moment g.D.Disk.seen g.D.Disk.is_whole g.D.Disk.may_leave c.args.self.now.names c.commit.new.disk = λ _. was in
+    on_err c.from_residual-in_err-commit.result begun
 
 pub returns-in_err-list-clause-others : goal.returns-in_err-list-clause-others
 returns-in_err-list-clause-others g c promised staging =

@@ -1,30 +1,24 @@
-use Rattle.std.proofs.Common.{◌≡◌, ap, ◌∙◌, subst}
+use Rattle.std.proofs.Common.{◌≡◌, inl, ap, ◌∙◌, sym, subst, IfSome}
 use Rattle.files_in_place.specs.Disk.{LeavesOnly}
-use Rattle.files_in_place.specs.declared.phase.Phase.TheVariants.{Staging}
+use Rattle.files_in_place.specs.Recovery.{HasOldFiles}
+use Rattle.files_in_place.specs.Staged.{HasBeenReady, SameUnstaged, Set}
+use Rattle.files_in_place.specs.declared.phase.Phase.TheVariants.{Staging, Ended}
+use Rattle.station_files.specs.declared.finish_fault.FinishFault.TheVariants as finish
 use Rattle.station_files.specs.Files.{files_in}
-use Rattle.station_files.specs.Placed.{AreTemporary, NewFiles, IsPlaced, IsOldOrPlaced}
+use Rattle.station_files.specs.Placed.{AreTemporary, NewFiles, IsPlaced, IsOldOrPlaced, KeepsOld}
 use Rattle.station_files.proofs.PlacedLaws.{staging_by, placed_by, leaves_placed, told_there}
+use Rattle.station_files.proofs.SinceLaws.{going, has_ended, kept_since, placed_since, since_any, undone_leaves}
+use Rattle.station_files.proofs.disk_folder.DiskFolder.finish.Given as given
 use Rattle.station_files.proofs.disk_folder.DiskFolder.finish.Goals as goal
 
-pub returns-in-Err-clause-any_moment : goal.returns-in-Err-clause-any_moment
-returns-in-Err-clause-any_moment g c promised is =
-    let phase : c.self.inside.set.phase ≡ Staging = ap (λ (f : NewFiles g.row.D.Denot). f.set.phase) c.self.view_is ∙ is in
-    subst (λ (f : NewFiles g.row.D.Denot). LeavesOnly g.D.Disk.moment g.D.Disk.left_since f.set.disk c.finish.new.self.disk (IsOldOrPlaced f.written (g.D.Disk.seen f.set.disk))) c.self.view_is
-    (leaves_placed g.D.Disk.moment g.D.Disk.left_since c.self.inside.set.disk c.finish.new.self.disk c.self.inside.written c.self.inside.set.names c.self.inside.set.current (g.D.Disk.seen c.self.inside.set.disk)
-    (c.self.invariant.0 promised phase) (c.finish.ensures.any_moment promised phase))
+-- ---- where the files did not all take their places
 
-pub returns-in-Ok-clause-any_moment : goal.returns-in-Ok-clause-any_moment
-returns-in-Ok-clause-any_moment g c promised is =
-    let phase : c.self.inside.set.phase ≡ Staging = ap (λ (f : NewFiles g.row.D.Denot). f.set.phase) c.self.view_is ∙ is in
-    subst (λ (f : NewFiles g.row.D.Denot). LeavesOnly g.D.Disk.moment g.D.Disk.left_since f.set.disk c.finish.new.self.disk (IsOldOrPlaced f.written (g.D.Disk.seen f.set.disk))) c.self.view_is
-    (leaves_placed g.D.Disk.moment g.D.Disk.left_since c.self.inside.set.disk c.finish.new.self.disk c.self.inside.written c.self.inside.set.names c.self.inside.set.current (g.D.Disk.seen c.self.inside.set.disk)
-    (c.self.invariant.0 promised phase) (c.finish.ensures.any_moment promised phase))
-
-pub returns-in-Ok-clause-placed : goal.returns-in-Ok-clause-placed
-returns-in-Ok-clause-placed g c promised =
-    let phase : c.self.inside.set.phase ≡ Staging = staging_by c.self.inside.set.phase c.finish.result c.in-Ok.field-0 c.in-Ok.is c.finish.ensures.closed in
-    subst (λ (f : NewFiles g.row.D.Denot). IsPlaced f.written (g.D.Disk.seen f.set.disk) (g.D.Disk.seen c.finish.new.self.disk)) c.self.view_is
-    (placed_by c.self.inside.written c.self.inside.set.names c.self.inside.set.current (g.D.Disk.seen c.self.inside.set.disk) (g.D.Disk.seen c.finish.new.self.disk) (c.self.invariant.0 promised phase) (c.in-Ok.ensures.done promised))
+undone_placed : (g : given.Over) (c : goal.After-drop-self-inside-in-Err g) → g.D.Disk.keeps_promises → c.self.inside.set.phase ≡ Staging
+    → LeavesOnly g.D.Disk.moment g.D.Disk.left_since c.self.inside.set.disk c.into_disk.result (IsOldOrPlaced c.self.inside.written (g.D.Disk.seen c.self.inside.set.disk))
+undone_placed g c promised phase =
+    undone_leaves g.D.Disk.moment g.D.Disk.left_since g.D.Disk.seen c.self.inside.set.disk c.finish.new.self c.undo-why.new.set c.into_disk.result (IsOldOrPlaced c.self.inside.written (g.D.Disk.seen c.self.inside.set.disk)) c.into_disk.ensures.disk
+    (leaves_placed g.D.Disk.moment g.D.Disk.left_since c.self.inside.set.disk c.finish.new.self.disk c.self.inside.written c.self.inside.set.names c.self.inside.set.current (g.D.Disk.seen c.self.inside.set.disk) (c.self.invariant.0 promised phase) (c.finish.ensures.any_moment promised phase))
+    (λ left has. inl has) (λ goes. (c.in-Err.ensures.undone promised phase goes).same) c.undo-why.ensures.kept (c.undo-why.ensures.any_moment promised)
 
 pub returns-in-Err-clause-there : goal.returns-in-Err-clause-there
 returns-in-Err-clause-there g c promised is =
@@ -32,16 +26,73 @@ returns-in-Err-clause-there g c promised is =
     subst (λ (f : NewFiles g.row.D.Denot). AreTemporary (files_in f.written) (g.D.Disk.seen f.set.disk)) c.self.view_is
     (told_there c.self.inside.written c.self.inside.set.names c.self.inside.set.current (g.D.Disk.seen c.self.inside.set.disk) (c.self.invariant.0 promised phase))
 
-pub returns-in-Err-clause-staging : goal.returns-in-Err-clause-staging
-returns-in-Err-clause-staging g c none =
-    subst (λ (f : NewFiles g.row.D.Denot). f.failures ≡ 0 → f.set.phase ≡ Staging) c.self.view_is c.self.invariant.1 none
+pub returns-in-Err-clause-any_moment : goal.returns-in-Err-clause-any_moment
+returns-in-Err-clause-any_moment g c promised is =
+    let phase : c.self.inside.set.phase ≡ Staging = ap (λ (f : NewFiles g.row.D.Denot). f.set.phase) c.self.view_is ∙ is in
+    subst (λ (f : NewFiles g.row.D.Denot). LeavesOnly g.D.Disk.moment g.D.Disk.left_since f.set.disk c.into_disk.result (IsOldOrPlaced f.written (g.D.Disk.seen f.set.disk))) c.self.view_is (undone_placed g c promised phase)
 
-pub returns-in-Ok-clause-there : goal.returns-in-Ok-clause-there
-returns-in-Ok-clause-there g c promised is =
+pub returns-in-Err-clause-others : goal.returns-in-Err-clause-others
+returns-in-Err-clause-others g c promised is =
+    let phase : c.self.inside.set.phase ≡ Staging = ap (λ (f : NewFiles g.row.D.Denot). f.set.phase) c.self.view_is ∙ is in
+    subst (λ (f : NewFiles g.row.D.Denot). LeavesOnly g.D.Disk.moment g.D.Disk.left_since f.set.disk c.into_disk.result (SameUnstaged f.set.names (g.D.Disk.seen f.set.disk))) c.self.view_is
+    (undone_leaves g.D.Disk.moment g.D.Disk.left_since g.D.Disk.seen c.self.inside.set.disk c.finish.new.self c.undo-why.new.set c.into_disk.result (SameUnstaged c.self.inside.set.names (g.D.Disk.seen c.self.inside.set.disk)) c.into_disk.ensures.disk
+    (c.finish.ensures.others promised phase) (λ left has n free _. has.same n free) (λ goes. (c.in-Err.ensures.undone promised phase goes).same) c.undo-why.ensures.kept (c.undo-why.ensures.any_moment promised))
+
+pub returns-in-Err-clause-since : goal.returns-in-Err-clause-since
+returns-in-Err-clause-since g c promised is =
+    let phase : c.self.inside.set.phase ≡ Staging = ap (λ (f : NewFiles g.row.D.Denot). f.set.phase) c.self.view_is ∙ is in
+    subst (λ (f : NewFiles g.row.D.Denot). IfSome g.O.Origin.origin (λ start. LeavesOnly g.D.Disk.moment g.D.Disk.left_since start c.into_disk.result (IsOldOrPlaced f.written (g.D.Disk.seen start)))) c.self.view_is
+    (since_any g.O.Origin.origin (λ start. KeepsOld g.D.Disk.moment g.D.Disk.left_since g.D.Disk.seen start c.self.inside.set) (λ start. LeavesOnly g.D.Disk.moment g.D.Disk.left_since start c.into_disk.result (IsOldOrPlaced c.self.inside.written (g.D.Disk.seen start)))
+    (λ start. placed_since g.D.Disk.moment g.D.Disk.left_since g.D.Disk.seen start c.self.inside.set c.into_disk.result c.self.inside.written phase (undone_placed g c promised phase)) (c.self.invariant.2 promised))
+
+pub returns-in-Err-clause-undone : goal.returns-in-Err-clause-undone
+returns-in-Err-clause-undone g c promised is other =
+    let phase : c.self.inside.set.phase ≡ Staging = ap (λ (f : NewFiles g.row.D.Denot). f.set.phase) c.self.view_is ∙ is in
+    let run = c.in-Err.ensures.undone promised phase (going c.finish.new.self.phase c.undo-why.result c.undo-why.ensures.ended other) in
+    let leaves : LeavesOnly g.D.Disk.moment g.D.Disk.left_since c.self.inside.set.disk c.into_disk.result (HasOldFiles (g.D.Disk.seen c.self.inside.set.disk)) =
+    undone_leaves g.D.Disk.moment g.D.Disk.left_since g.D.Disk.seen c.self.inside.set.disk c.finish.new.self c.undo-why.new.set c.into_disk.result (HasOldFiles (g.D.Disk.seen c.self.inside.set.disk)) c.into_disk.ensures.disk run.moments
+    (λ left has. has) (λ _. run.same) c.undo-why.ensures.kept (c.undo-why.ensures.any_moment promised) in
+    since_any g.O.Origin.origin (λ start. KeepsOld g.D.Disk.moment g.D.Disk.left_since g.D.Disk.seen start c.self.inside.set) (λ start. LeavesOnly g.D.Disk.moment g.D.Disk.left_since start c.into_disk.result (HasOldFiles (g.D.Disk.seen start)))
+    (λ start. kept_since g.D.Disk.moment g.D.Disk.left_since g.D.Disk.seen start c.self.inside.set c.into_disk.result phase leaves) (c.self.invariant.2 promised)
+
+pub returns-in-Err-clause-begun : goal.returns-in-Err-clause-begun
+returns-in-Err-clause-begun g c promised is told =
+    let phase : c.self.inside.set.phase ≡ Staging = ap (λ (f : NewFiles g.row.D.Denot). f.set.phase) c.self.view_is ∙ is in
+    let said : c.undo-why.result ≡ finish.Unfinished = cc in
+    let ended : c.finish.new.self.phase ≡ Ended = has_ended c.finish.new.self.phase c.in-Err.fault c.undo-why.result c.undo-why.ensures.memory c.undo-why.ensures.other (c.in-Err.ensures.open phase) said in
+    let now : c.into_disk.result ≡ c.finish.new.self.disk = c.into_disk.ensures.disk ∙ ap (λ (s : Set g.row.D.Denot). s.disk) (c.undo-why.ensures.kept ended) in
+    subst (λ (f : NewFiles g.row.D.Denot). HasBeenReady g.D.Disk.moment g.D.Disk.seen g.D.Disk.is_whole g.D.Disk.may_leave f.set.names c.into_disk.result) c.self.view_is
+    (subst (λ (d : g.row.D.Denot). HasBeenReady g.D.Disk.moment g.D.Disk.seen g.D.Disk.is_whole g.D.Disk.may_leave c.self.inside.set.names d) (sym now) (c.in-Err.ensures.begun promised phase ended))
+
+-- ---- where they did
+
+all_placed : (g : given.Over) (c : goal.After-drop-self-inside-3 g) → g.D.Disk.keeps_promises → c.self.inside.set.phase ≡ Staging
+    → LeavesOnly g.D.Disk.moment g.D.Disk.left_since c.self.inside.set.disk c.into_disk-2.result (IsOldOrPlaced c.self.inside.written (g.D.Disk.seen c.self.inside.set.disk))
+all_placed g c promised phase =
+    subst (λ (d : g.row.D.Denot). LeavesOnly g.D.Disk.moment g.D.Disk.left_since c.self.inside.set.disk d (IsOldOrPlaced c.self.inside.written (g.D.Disk.seen c.self.inside.set.disk))) (sym c.into_disk-2.ensures.disk)
+    (leaves_placed g.D.Disk.moment g.D.Disk.left_since c.self.inside.set.disk c.finish.new.self.disk c.self.inside.written c.self.inside.set.names c.self.inside.set.current (g.D.Disk.seen c.self.inside.set.disk) (c.self.invariant.0 promised phase) (c.finish.ensures.any_moment promised phase))
+
+pub returns-clause-placed : goal.returns-clause-placed
+returns-clause-placed g c promised =
+    let phase : c.self.inside.set.phase ≡ Staging = staging_by c.self.inside.set.phase c.finish.result c.in_default.field-0 c.in_default.is c.finish.ensures.closed in
+    subst (λ (d : g.row.D.Denot). IsPlaced c.args.self.written (g.D.Disk.seen c.args.self.set.disk) (g.D.Disk.seen d)) (sym c.into_disk-2.ensures.disk)
+    (subst (λ (f : NewFiles g.row.D.Denot). IsPlaced f.written (g.D.Disk.seen f.set.disk) (g.D.Disk.seen c.finish.new.self.disk)) c.self.view_is
+    (placed_by c.self.inside.written c.self.inside.set.names c.self.inside.set.current (g.D.Disk.seen c.self.inside.set.disk) (g.D.Disk.seen c.finish.new.self.disk) (c.self.invariant.0 promised phase) (c.in_default.ensures.done promised)))
+
+pub returns-clause-there : goal.returns-clause-there
+returns-clause-there g c promised is =
     let phase : c.self.inside.set.phase ≡ Staging = ap (λ (f : NewFiles g.row.D.Denot). f.set.phase) c.self.view_is ∙ is in
     subst (λ (f : NewFiles g.row.D.Denot). AreTemporary (files_in f.written) (g.D.Disk.seen f.set.disk)) c.self.view_is
     (told_there c.self.inside.written c.self.inside.set.names c.self.inside.set.current (g.D.Disk.seen c.self.inside.set.disk) (c.self.invariant.0 promised phase))
 
-pub returns-in-Ok-clause-staging : goal.returns-in-Ok-clause-staging
-returns-in-Ok-clause-staging g c none =
-    subst (λ (f : NewFiles g.row.D.Denot). f.failures ≡ 0 → f.set.phase ≡ Staging) c.self.view_is c.self.invariant.1 none
+pub returns-clause-any_moment : goal.returns-clause-any_moment
+returns-clause-any_moment g c promised is =
+    let phase : c.self.inside.set.phase ≡ Staging = ap (λ (f : NewFiles g.row.D.Denot). f.set.phase) c.self.view_is ∙ is in
+    subst (λ (f : NewFiles g.row.D.Denot). LeavesOnly g.D.Disk.moment g.D.Disk.left_since f.set.disk c.into_disk-2.result (IsOldOrPlaced f.written (g.D.Disk.seen f.set.disk))) c.self.view_is (all_placed g c promised phase)
+
+pub returns-clause-since : goal.returns-clause-since
+returns-clause-since g c promised is =
+    let phase : c.self.inside.set.phase ≡ Staging = ap (λ (f : NewFiles g.row.D.Denot). f.set.phase) c.self.view_is ∙ is in
+    subst (λ (f : NewFiles g.row.D.Denot). IfSome g.O.Origin.origin (λ start. LeavesOnly g.D.Disk.moment g.D.Disk.left_since start c.into_disk-2.result (IsOldOrPlaced f.written (g.D.Disk.seen start)))) c.self.view_is
+    (since_any g.O.Origin.origin (λ start. KeepsOld g.D.Disk.moment g.D.Disk.left_since g.D.Disk.seen start c.self.inside.set) (λ start. LeavesOnly g.D.Disk.moment g.D.Disk.left_since start c.into_disk-2.result (IsOldOrPlaced c.self.inside.written (g.D.Disk.seen start)))
+    (λ start. placed_since g.D.Disk.moment g.D.Disk.left_since g.D.Disk.seen start c.self.inside.set c.into_disk-2.result c.self.inside.written phase (all_placed g c promised phase)) (c.self.invariant.2 promised))
