@@ -4,9 +4,18 @@ use Rattle.byte_io.specs.Sink.{grown}
 use Rattle.index_tree.specs.TreeText.{tree_text}
 use Rattle.station_files.specs.declared.named.NamedFile.{NamedFile}
 use Rattle.station_files.specs.Files.{IsFileOf}
+use Rattle.table_tool.specs.declared.program.showing.ShowFault.{ShowFault}
+use Rattle.table_tool.specs.declared.program.showing.ShowFault.TheVariants.{Load, Table, Order, Text}
 
 -- what a sink has after the index file of a path was shown: the text of its header and its pages
 pub record IsTreeShown (files : Option (List NamedFile)) (path : List ℕ) (old new : Option (List ℕ)) : Type 0 where
   pub bytes : List ℕ
   pub found : IsFileOf files path bytes
   pub wrote : new ≡ grown old (tree_text bytes)
+
+-- so may it fail: the file isn't had, or its text is not written
+abbrev pub IsTreeFault : ShowFault → Type 0
+IsTreeFault (Load why) = Unit {0}
+IsTreeFault (Table why) = ⊥
+IsTreeFault (Order why) = ⊥
+IsTreeFault (Text why) = Unit {0}

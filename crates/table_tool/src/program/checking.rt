@@ -1,8 +1,8 @@
 //! A setup that is checked.
 
-ghost use Rattle.std.specs.Prelude.{◌≡◌, ℕ, Ok, Err, IfOk, IfErr};
-ghost use Rattle.byte_io.specs.Sink.{IsFront};
-ghost use Rattle.station_files.specs.Files.{IsUnreadable};
+ghost use Rattle.std.specs.Prelude.{◌≡◌, ◌⊎◌, ℕ, Ok, Err, IfOk, IfErr};
+ghost use Rattle.byte_io.specs.Sink.{IsFront, Rises};
+ghost use Rattle.station_files.specs.Files.{IsTooLong, IsUnreadable};
 ghost use Rattle.station_lines.specs.Setup.{IsSetup, HasNextEntry};
 ghost use Rattle.table_tool.specs.Check.{HasBadSetupLine, IsLineFault, IsOpening, IsTold, IsVerdict, TellsNothing};
 
@@ -129,6 +129,10 @@ pub(crate) fn check_setup<F: Source, S: ByteSink>(
     ensures told { IfOk result (λ opens. IsTold (F.files source.old) setup.now opens (S.written sink.old) (S.written sink.new)) }
     ensures bad_line { (number : ℕ) → result ≡ Err (CheckFault.BadLine number) → HasBadSetupLine (F.files source.old) setup.now number }
     ensures kept { IsFront (S.written sink.old) (S.written sink.new) }
+    // That the setup can't be read is said only where its load has failed, or where it is over the limit; and the sink is said to
+    // have failed only where it has.
+    ensures unread { result ≡ Err CheckFault.CannotRead → Rises (F.failures source.old) (F.failures source.new) ⊎ IsTooLong (F.files source.old) setup.now }
+    ensures failed { result ≡ Err CheckFault.Sink → Rises (S.failures sink.old) (S.failures sink.new) }
     // Where no load can give the setup the answer is that, whether there is memory or not.
     ensures early { IsUnreadable (F.files source.old) setup.now → result ≡ Err CheckFault.CannotRead }
     ensures untold { IfErr result (λ fault. TellsNothing fault → S.written sink.new ≡ S.written sink.old) }

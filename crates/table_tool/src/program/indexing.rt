@@ -1,16 +1,17 @@
 //! An index file that is shown.
 
-ghost use Rattle.std.specs.Prelude.{◌≡◌, Err, OnOk};
-ghost use Rattle.byte_io.specs.Sink.{IsFront};
+ghost use Rattle.std.specs.Prelude.{◌≡◌, ◌⊎◌, Err, IfErr, OnOk};
+ghost use Rattle.byte_io.specs.Sink.{IsFront, Rises};
 ghost use Rattle.station_files.specs.declared.source.LoadFault.TheVariants.{CannotRead};
-ghost use Rattle.station_files.specs.Files.{IsUnreadable};
-ghost use Rattle.table_tool.specs.IndexTree.{IsTreeShown};
+ghost use Rattle.station_files.specs.Files.{IsTooLong, IsUnreadable};
+ghost use Rattle.table_tool.specs.IndexTree.{IsTreeFault, IsTreeShown};
 
 use crate::program::showing::ShowFault;
 use dbf_image::ByteSink;
 use index_tree::write_tree;
 use station_files::Source;
 use std::alloc::Global;
+use table_text::TextFault;
 
 /// Reads the index file of a path, and writes its header and its pages as text into a sink.
 ///
@@ -27,6 +28,12 @@ pub(crate) fn show_tree<F: Source, S: ByteSink>(
     ensures shown { OnOk result (IsTreeShown (F.files source.old) path.now (S.written sink.old) (S.written sink.new)) }
     ensures no_failure { OnOk result (S.failures sink.new ≡ S.failures sink.old) }
     ensures kept { IsFront (S.written sink.old) (S.written sink.new) }
+    // That the file can't be read is said only where the load has failed, or where it is over the limit.
+    ensures unread { result ≡ Err (ShowFault.Load CannotRead) → Rises (F.failures source.old) (F.failures source.new) ⊎ IsTooLong (F.files source.old) path.now }
+    // The sink is said to have failed only where it has, and want of memory only where it has not.
+    ensures failed { result ≡ Err (ShowFault.Text TextFault.Sink) → Rises (S.failures sink.old) (S.failures sink.new) }
+    ensures unfailed { result ≡ Err (ShowFault.Text TextFault.NoMemory) → S.failures sink.new ≡ S.failures sink.old }
+    ensures fault { IfErr result IsTreeFault }
     // Where no load can give the file the answer is that, whether there is memory or not.
     ensures early { IsUnreadable (F.files source.old) path.now → result ≡ Err (ShowFault.Load CannotRead) }
 {

@@ -1,8 +1,9 @@
 //! A table that is read and shown.
 
-ghost use Rattle.std.specs.Prelude.{◌≡◌, OnOk, OnErr, IfOk, option_copied};
+ghost use Rattle.std.specs.Prelude.{◌≡◌, Err, OnOk, OnErr, IfOk, option_copied};
 ghost use Rattle.std.specs.Option.{option_map};
-ghost use Rattle.byte_io.specs.Sink.{grown, IsFront};
+ghost use Rattle.byte_io.specs.Sink.{grown, IsFront, Rises};
+ghost use Rattle.station_files.specs.Files.{IsUnreadable};
 ghost use Rattle.table_tool.specs.Order.{from_text, IsOrder};
 ghost use Rattle.table_tool.specs.View.{view_text, IsMemoFile, IsShown};
 
@@ -82,6 +83,8 @@ fn write_view<S: ByteSink>(
 ) -> Result<(), TextFault>
     ensures wrote { OnOk result (S.written sink.new ≡ grown (S.written sink.old) (view_text table.now date (option_copied order.entry) view)) }
     ensures no_failure { OnOk result (S.failures sink.new ≡ S.failures sink.old) }
+    ensures failed { result ≡ Err TextFault.Sink → Rises (S.failures sink.old) (S.failures sink.new) }
+    ensures unfailed { result ≡ Err TextFault.NoMemory → S.failures sink.new ≡ S.failures sink.old }
     ensures kept { IsFront (S.written sink.old) (S.written sink.new) }
     ensures front { OnErr result (IsFront (S.written sink.new) (grown (S.written sink.old) (view_text table.now date (option_copied order.entry) view))) }
 {
@@ -172,7 +175,12 @@ pub(crate) fn show_file<F: Source, S: ByteSink>(
     // What was written is the text of the table whose files these are.
     ensures shown { OnOk result (IsShown (F.files source.old) options.now (S.written sink.old) (S.written sink.new)) }
     ensures no_failure { OnOk result (S.failures sink.new ≡ S.failures sink.old) }
+    // The sink is said to have failed only where it has, and want of memory only where it has not.
+    ensures failed { result ≡ Err (ShowFault.Text TextFault.Sink) → Rises (S.failures sink.old) (S.failures sink.new) }
+    ensures unfailed { result ≡ Err (ShowFault.Text TextFault.NoMemory) → S.failures sink.new ≡ S.failures sink.old }
     ensures kept { IsFront (S.written sink.old) (S.written sink.new) }
+    // Where no load can give the table's file the answer is that, whether there is memory or not.
+    ensures early { IsUnreadable (F.files source.old) options.now.table.now → result ≡ Err (ShowFault.Load LoadFault.CannotRead) }
 {
     let dbf = source.load(alloc, options.table.as_bytes())?;
     let date = header_date(dbf.as_slice());
