@@ -1,6 +1,6 @@
 -- The folders of a commit: before the list has its name, when it gets it, and after that.
 use Rattle.std.proofs.Common.{◌≡◌, ◌≢◌, inl, inr, List, [], ◌∷◌, Bool, true, false, Option, None, Some, IsSome, if◌then◌else◌, ℕ, refl, sym, ◌∙◌, ap, subst}
-use Rattle.std.proofs.lemmas.Bool.{cases_Bool, both_ways, cond-true, cond-false}
+use Rattle.std.proofs.lemmas.Bool.{cases_Bool, both_ways, and_parts, cond-true, cond-false}
 use Rattle.std.specs.List.{list_any, list_all, AllByRecursion}
 use Rattle.std.specs.Str.{bytes_eq}
 use Rattle.files_in_place.specs.Folder.{Name, Folder, is_reserved, temporary, list_name, list_bytes, names_in, is_listed}
@@ -23,7 +23,7 @@ bytes_no_feed (b ∷ name) is = elim (cases_Bool (is_name_byte b)) [
 ]
 
 one_line : (name : Name) → is_file_name name ≡ true → AllByRecursion (λ b. b ≢ 10) name
-one_line name is = bytes_no_feed name (second_true (is_dots name) _ (second_true (is_reserved name) _ is))
+one_line name is = bytes_no_feed name (and_parts _ _ (second_true (is_dots name) _ (second_true (is_reserved name) _ is))).0
 
 lines_fit : (names : List Name) → AllByRecursion (λ name. is_file_name name ≡ true) names → AllByRecursion (AllByRecursion (λ b. b ≢ 10)) names
 lines_fit [] fit = tt
@@ -109,6 +109,11 @@ module _ (names : List Name) (old : Folder) (is_whole : Name → Type 0) (left :
 
   list_there : (mid new : Folder) → mid ≡ old → HasMoved (temporary list_name) list_name mid new → new list_name ≡ Some (list_bytes names)
   list_there mid new is moved = moved.there ∙ ap (λ (f : Folder). f (temporary list_name)) is ∙ ready.list
+
+  -- it has the names of the set
+  pub listed_names : (mid new : Folder) → mid ≡ old → HasMoved (temporary list_name) list_name mid new → (after : Folder) → after ≡ new → names ≡ names_in (after list_name)
+  listed_names mid new is moved after same =
+      sym (ap names_in (ap (λ (f : Folder). f list_name) same ∙ list_there mid new is moved) ∙ lines_of-list_bytes names (lines_fit names ready.fit))
 
   same_new : (mid new : Folder) → mid ≡ old → SameButTwo (temporary list_name) list_name mid new → SameFree old new
   same_new mid new is others n free = free_same mid new others n free ∙ ap (λ (f : Folder). f n) is

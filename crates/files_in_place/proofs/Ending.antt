@@ -5,9 +5,10 @@ use Rattle.std.proofs.lemmas.Slice.Eq.{bytes_eq-Decides}
 use Rattle.std.specs.List.{list_any, AllByRecursion, Contains}
 use Rattle.std.specs.Str.{bytes_eq}
 use Rattle.files_in_place.specs.Folder.{Name, Folder, is_reserved, temporary, list_name, names_in, is_listed, recovered, without_reserved}
-use Rattle.files_in_place.specs.Disk.{AfterStep, Settles, IsSynced}
-use Rattle.files_in_place.specs.Recovery.{IsFinished, SameFree, LosesReserved, KeepsRecovery, CanRename, CanClean, HasOldFiles, StillRecovers, AreRemoved, AreListed, AreRenamed, IsClean}
-use Rattle.files_in_place.proofs.Meaning.{recovered_by, recovered_by-none, recovered_free, recovered_reserved, recovered_same, same_list, lost_same}
+use Rattle.files_in_place.specs.Disk.{Settles, IsSynced}
+use Rattle.files_in_place.specs.Recovery.{IsFinished, SameFree, LosesReserved, CanRename, CanClean, StillRecovers, AreRemoved, AreListed, AreRenamed, IsClean}
+use Rattle.files_in_place.proofs.Each.{each_by}
+use Rattle.files_in_place.proofs.Meaning.{recovered_by, recovered_by-none, recovered_free, recovered_reserved, recovered_same, same_list}
 
 -- each name of a list is in it
 found_more : (names : List Name) (first : Name) (all : List Name) → AllByRecursion (λ name. list_any (λ listed. bytes_eq listed name) all ≡ true) names
@@ -28,23 +29,36 @@ listed_each names folder same =
     let P : List Name → Type 0 = λ all. AllByRecursion (λ name. list_any (λ listed. bytes_eq listed name) all ≡ true) names in
     subst P same (found_each names)
 
--- of a name in the list, nothing lies temporary any more
-taken_at : (names : List Name) (folder : Folder) (n : Name) → list_any (λ listed. bytes_eq listed n) names ≡ true → AreRenamed names folder → is_reserved n ≡ false → folder (temporary n) ≡ None
-taken_at [] folder n found taken free = absurd (cc found)
-taken_at (name ∷ names) folder n found taken free = elim (cases_Bool (bytes_eq name n)) [
-  | inl same ↦
-      let is : name ≡ n = (bytes_eq-Decides name n).0 same in
-      let P : Name → Type 0 = λ m. is_reserved m ≡ false → folder (temporary m) ≡ None in
-      subst P is taken.0 free
-  | inr other ↦ taken_at names folder n (sym (ap (λ (b : Bool). b || list_any (λ listed. bytes_eq listed n) names) other) ∙ found) taken.1 free
+-- a name that a list contains is in it
+contained_found : (names : List Name) (n : Name) → Contains names n → list_any (λ listed. bytes_eq listed n) names ≡ true
+contained_found [] n (k, lt, is) = absurd (omega arith)
+contained_found (name ∷ names) n (zero, lt, is) = or_left (bytes_eq name n) (list_any (λ listed. bytes_eq listed n) names) ((bytes_eq-Decides name n).1 is)
+contained_found (name ∷ names) n (suc k, lt, is) = or_right (bytes_eq name n) (list_any (λ listed. bytes_eq listed n) names) (contained_found names n (k, omega arith, is))
+
+pub listed_contained : (names : List Name) (folder : Folder) (n : Name) → names ≡ names_in (folder list_name) → Contains names n → is_listed folder n ≡ true
+listed_contained names folder n same is =
+    let P : List Name → Type 0 = λ all. list_any (λ listed. bytes_eq listed n) all ≡ true in
+    subst P same (contained_found names n is)
+
+-- what is true of each name of a list is true of a name that is in it
+pub listed_at : (P : Name → Type 0) (names : List Name) (n : Name) → list_any (λ listed. bytes_eq listed n) names ≡ true → AllByRecursion P names → P n
+listed_at P [] n found all = absurd (cc found)
+listed_at P (name ∷ names) n found all = elim (cases_Bool (bytes_eq name n)) [
+  | inl same ↦ subst P ((bytes_eq-Decides name n).0 same) all.0
+  | inr other ↦ listed_at P names n (sym (ap (λ (b : Bool). b || list_any (λ listed. bytes_eq listed n) names) other) ∙ found) all.1
 ]
+
+-- a folder that has nothing where another has nothing has no temporary files either
+renamed_too : (names : List Name) (folder c : Folder) → AreRenamed names folder → ((n : Name) → folder n ≡ None → c n ≡ folder n) → AreRenamed names c
+renamed_too [] folder c taken none = tt
+renamed_too (name ∷ names) folder c taken none = (none (temporary name) taken.0 ∙ taken.0, renamed_too names folder c taken.1 none)
 
 pub taken_finished : (names : List Name) (folder : Folder) → names ≡ names_in (folder list_name) → AreRenamed names folder → IsFinished folder
 taken_finished names folder same taken n free = elim (cases_Bool (is_listed folder n)) [
   | inl listed ↦
       let found : list_any (λ listed. bytes_eq listed n) names ≡ true = ap (λ (l : List Name). list_any (λ listed. bytes_eq listed n) l) same ∙ listed in
       recovered_free folder n free
-      ∙ ap (λ (x : Option (List ℕ)). recovered_by (is_listed folder n) x (folder n)) (taken_at names folder n found taken free)
+      ∙ ap (λ (x : Option (List ℕ)). recovered_by (is_listed folder n) x (folder n)) (listed_at (λ name. folder (temporary name) ≡ None) names n found taken)
       ∙ recovered_by-none (is_listed folder n) (folder n)
   | inr unlisted ↦ recovered_free folder n free ∙ ap (λ (b : Bool). recovered_by b (folder (temporary n)) (folder n)) unlisted
 ]
@@ -77,41 +91,25 @@ finished_without folder finished n = elim (cases_Bool (is_reserved n)) [
   | inr free ↦ finished n free ∙ sym (without_free folder n free)
 ]
 
-pub synced_can_clean : (folder : Folder) (outcomes : Folder → Type 0) → IsFinished folder → ((c : Folder) → outcomes c → (n : Name) → c n ≡ folder n) → CanClean folder outcomes
-synced_can_clean folder outcomes finished only = record {
-  finished = finished;
-  always = λ c now n free. recovered_each c folder (only c now) n ∙ finished n free ∙ sym (only c now n);
-  same = λ c now n free. only c now n;
-}
-
-pub loses_means : (folder : Folder) (outcomes : Folder → Type 0) → CanClean folder outcomes → (c : Folder) → AfterStep LosesReserved outcomes c → HasOldFiles folder c
-loses_means folder outcomes can c from =
-    let d = from.0 in
-    let same : SameFree folder d = can.same d from.1 in
-    record {
-      same = λ n free. from.2.same n free ∙ same n free;
-      recovers = λ n. lost_same d c (can.always d from.1) from.2 n ∙ finished_without d (can.always d from.1) n ∙ without_same folder d same n;
-    }
-
--- while files of reserved names are removed
-pub cleaning_means : (old mid : Folder) → IsFinished mid → StillRecovers old mid → (c : Folder) → HasOldFiles mid c → StillRecovers old c
-cleaning_means old mid finished still c has = record {
-  recovers = λ n. has.recovers n ∙ sym (finished_without mid finished n) ∙ still.recovers n;
-  unlisted = λ n free unlisted. has.same n free ∙ still.unlisted n free unlisted;
-}
-
 module _ (folder : Folder) (outcomes : Folder → Type 0) (only : (c : Folder) → outcomes c → (n : Name) → c n ≡ folder n) where
   pub can_rename : CanRename folder outcomes
-  can_rename = record { list = λ c now. only c now list_name; files = λ n free. inr (λ c now. only c now (temporary n)) }
+  can_rename = record { list = λ c now. only c now list_name; files = λ n listed. inr (λ c now. only c now (temporary n)) }
 
-  pub rest_means : (c : Folder) → outcomes c → StillRecovers folder c
-  rest_means c now = record { recovers = recovered_each c folder (only c now); unlisted = λ n free unlisted. only c now n }
+-- what recovery makes of a folder it makes of one that has the same files
+pub still_from : (d f c : Folder) → ((n : Name) → d n ≡ f n) → StillRecovers d c → StillRecovers f c
+still_from d f c same still = record {
+  recovers = λ n. still.recovers n ∙ recovered_each d f same n;
+  unlisted = λ n free unlisted. still.unlisted n free (same_list d f n (same list_name) ∙ unlisted) ∙ same n;
+  no_more = λ n unlisted. still.no_more n (same_list d f n (same list_name) ∙ unlisted);
+}
 
-  pub keeps_means : (c : Folder) → AfterStep KeepsRecovery outcomes c → StillRecovers folder c
-  keeps_means c from = record {
-    recovers = λ n. from.2.same n ∙ recovered_each from.0 folder (only from.0 from.1) n;
-    unlisted = λ n free unlisted. from.2.unlisted n free (same_list from.0 folder n (only from.0 from.1 list_name) ∙ unlisted) ∙ only from.0 from.1 n;
-  }
+-- once all listed files have their names, no outcome of a crash has more to be done than what is seen
+pub can_clean : (names : List Name) (folder : Folder) (outcomes : Folder → Type 0) → names ≡ names_in (folder list_name) → AreRenamed names folder → ((c : Folder) → outcomes c → c list_name ≡ folder list_name)
+    → ((c : Folder) → outcomes c → (n : Name) → folder n ≡ None → c n ≡ folder n) → CanClean folder outcomes
+can_clean names folder outcomes same taken list none = record {
+  finished = taken_finished names folder same taken;
+  always = λ c now. taken_finished names c (same ∙ ap names_in (sym (list c now))) (renamed_too names folder c taken (none c now));
+}
 
 -- a name among those that are gone
 gone_at : (names : List Name) (folder : Folder) (n : Name) → is_reserved n ≡ true → AreRemoved names folder → Contains names n → folder n ≡ None
@@ -121,7 +119,13 @@ gone_at (name ∷ names) folder n res gone (zero, lt, is) =
     subst P is gone.0 res
 gone_at (name ∷ names) folder n res gone (suc k, lt, is) = gone_at names folder n res gone.1 (k, omega arith, is)
 
-none_or_some : (o : Option (List ℕ)) → (o ≡ None) ⊎ IsSome o
+-- what is gone stays so
+pub still_removed : (names : List Name) (old new : Folder) → LosesReserved old new → AreRemoved names old → AreRemoved names new
+still_removed names old new loses gone =
+    each_by (λ name. is_reserved name ≡ true → old name ≡ None) (λ name. is_reserved name ≡ true → new name ≡ None) names
+    (λ name was res. ⊎_elim (λ still. still ∙ was res) (λ lost. lost) (loses.lost name)) gone
+
+pub none_or_some : (o : Option (List ℕ)) → (o ≡ None) ⊎ IsSome o
 none_or_some None = inl refl
 none_or_some (Some bytes) = inr refl
 

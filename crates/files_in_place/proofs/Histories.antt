@@ -1,15 +1,31 @@
--- Recovery that ends after any number of crashes.
+-- Recovery that ends after any number of starts.
 use Rattle.std.proofs.Common.{◌⊎◌, inl, inr, List, [], ◌∷◌, ◌∙◌}
-use Rattle.files_in_place.specs.Folder.{Name, Folder, recovered, without_reserved}
+use Rattle.files_in_place.specs.Folder.{Name, Folder, without_reserved}
+use Rattle.files_in_place.specs.Recovery.{RecoversTo}
 use Rattle.files_in_place.specs.Staged.{IsOldOrNew, with_staged}
 use Rattle.files_in_place.specs.History.{AreAlike, EndsAfter}
 
-ends_recovered : (crashes : List Folder) (first last : Folder) → EndsAfter crashes first last → AreAlike last (recovered first)
-ends_recovered [] first last ends = ends
-ends_recovered (crash ∷ crashes) first last ends = λ n. ends_recovered crashes crash last ends.1 n ∙ ends.0 n
+-- what recovery makes of the folder are the old files or the new ones
+abbrev EitherWay : List Name → Folder → Folder → Type 0
+EitherWay names old folder = RecoversTo (without_reserved old) folder ⊎ RecoversTo (with_staged names old) folder
 
-pub old_or_new_ends : (names : List Name) (old first last : Folder) (crashes : List Folder) → IsOldOrNew names old first → EndsAfter crashes first last → AreAlike last (without_reserved old) ⊎ AreAlike last (with_staged names old)
-old_or_new_ends names old first last crashes either ends = elim either [
-  | inl has ↦ inl (λ n. ends_recovered crashes first last ends n ∙ has.recovers n)
-  | inr new ↦ inr (λ n. ends_recovered crashes first last ends n ∙ new n)
-]
+module _ {D : Type 0} (seen : D → Folder) (may_leave : D → Folder → Type 0) (stays : (disk : D) → may_leave disk (seen disk)) (names : List Name) (old : Folder) where
+  either_ends : (others : List D) (first : D) (last : Folder) → ((c : Folder) → may_leave first c → EitherWay names old c) → EndsAfter seen may_leave others first last
+      → AreAlike last (without_reserved old) ⊎ AreAlike last (with_staged names old)
+  either_ends [] first last either ends = elim (either (seen first) (stays first)) [
+    | inl before ↦ inl (λ n. ends n ∙ before n)
+    | inr after ↦ inr (λ n. ends n ∙ after n)
+  ]
+  either_ends (next ∷ others) first last either ends = either_ends others next last (λ c may.
+      let from = ends.0 c may in
+      elim (either from.0 from.1) [
+        | inl before ↦ inl (λ n. from.2.recovers n ∙ before n)
+        | inr after ↦ inr (λ n. from.2.recovers n ∙ after n)
+      ]) ends.1
+
+  pub old_or_new_ends : (others : List D) (first : D) (last : Folder) → ((c : Folder) → may_leave first c → IsOldOrNew names old c) → EndsAfter seen may_leave others first last
+      → AreAlike last (without_reserved old) ⊎ AreAlike last (with_staged names old)
+  old_or_new_ends others first last either ends = either_ends others first last (λ c may. elim (either c may) [
+    | inl has ↦ inl has.recovers
+    | inr new ↦ inr new
+  ]) ends

@@ -1,9 +1,11 @@
 pub mod NameLists
 pub mod Runs
 pub mod Meaning
+pub mod Each
 pub mod Ending
 pub mod Uncommitted
 pub mod Committing
 pub mod Sets
 pub mod Histories
 pub mod WrittenFiles
+pub mod Settling

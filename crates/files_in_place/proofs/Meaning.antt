@@ -1,5 +1,5 @@
 -- What recovery makes of the folders that steps lead to.
-use Rattle.std.proofs.Common.{◌≡◌, ◌≢◌, inl, inr, ⊎_elim, ◌⊎◌, ℕ, List, [], ◌∷◌, Bool, true, false, Option, None, Some, IsSome, cond, refl, sym, ◌∙◌, ap, subst}
+use Rattle.std.proofs.Common.{◌≡◌, ◌≢◌, inl, inr, ⊎_elim, ◌⊎◌, ℕ, List, ◌∷◌, Bool, true, false, Option, None, Some, IsSome, cond, length, drop, refl, sym, ◌∙◌, ap, subst, arith}
 use Rattle.std.proofs.lemmas.Bool.{cases_Bool, both_ways, cond-true, cond-false}
 use Rattle.std.proofs.lemmas.Slice.Eq.{bytes_eq-Decides}
 use Rattle.std.specs.List.{list_any}
@@ -7,7 +7,7 @@ use Rattle.std.specs.Str.{bytes_eq}
 use Rattle.files_in_place.specs.Folder.{Name, Folder, SameBut, is_reserved, temporary, list_name, names_in, is_listed, first_of, recovered}
 use Rattle.files_in_place.specs.Disk.{ComesBy, Shrinks, SameButTwo, HasMoved, MayMove, MayRemove, IsDurable}
 use Rattle.files_in_place.proofs.Runs.{IsStep, comes_by}
-use Rattle.files_in_place.specs.Recovery.{IsFinished, LosesReserved, KeepsRecovery, CanRename}
+use Rattle.files_in_place.specs.Recovery.{IsFinished, LosesReserved, KeepsRecovery, CanRename, StillRecovers}
 
 pub same_name : (a b : Name) → (a ≡ b) ⊎ (a ≢ b)
 same_name a b = elim (cases_Bool (bytes_eq a b)) [
@@ -18,13 +18,17 @@ same_name a b = elim (cases_Bool (bytes_eq a b)) [
 pub same_but_step : (name : Name) → IsStep (SameBut name)
 same_but_step name = record { still = λ d n other. refl; both = λ a b c first second n other. second n other ∙ first n other }
 
--- the name without its ~
-abbrev rest_of : Name → Name
-rest_of [] = []
-rest_of (b ∷ name) = name
-
+-- a temporary name ends in the name that it stands for
 pub temporary-inj : (a b : Name) → temporary a ≡ temporary b → a ≡ b
-temporary-inj a b same = ap rest_of same
+temporary-inj a b same = ap (drop 10) same
+
+-- it isn't that name,
+pub temporary_longer : (n : Name) → temporary n ≢ n
+temporary_longer n same = let longer : length (temporary n) ≡ length n = ap length same in absurd (omega arith)
+
+-- and not the list's
+pub temporary_apart : (n : Name) → temporary n ≢ list_name
+temporary_apart n same = let rest : 126 ∷ n ≡ drop 9 list_name = ap (drop 9) same in absurd (cc rest)
 
 -- a name that isn't reserved is no reserved one
 pub free_other : (a b : Name) → is_reserved a ≡ false → is_reserved b ≡ true → a ≢ b
@@ -68,7 +72,7 @@ first_there (Some bytes) content there = refl
 pub taken_same : (name : Name) (d c : Folder) → is_reserved name ≡ false → is_listed d name ≡ true → IsSome (d (temporary name)) → MayMove (temporary name) name d c → KeepsRecovery d c
 taken_same name d c free listed there moves =
     let list : c list_name ≡ d list_name = moves.elsewhere list_name
-    (λ same. both_ways (is_reserved name) free (ap is_reserved (ap rest_of (sym same))))
+    (λ same. temporary_apart name (sym same))
     (λ same. free_other name list_name free refl (sym same)) in
     let listed_too : is_listed c name ≡ true = same_list c d name list ∙ listed in
     let old : recovered d name ≡ d (temporary name) = recovered_free d name free ∙ ap (λ (b : Bool). recovered_by b (d (temporary name)) (d name)) listed ∙ first_there (d (temporary name)) (d name) there in
@@ -143,16 +147,41 @@ loses_step = record {
   };
 }
 
+-- a step of either kind changes nothing of what recovery makes
+pub still_step : IsStep StillRecovers
+still_step = record {
+  still = λ d. record { recovers = λ n. refl; unlisted = λ n free unlisted. refl; no_more = λ n unlisted. unlisted };
+  both = λ a b c first second. record {
+    recovers = λ n. second.recovers n ∙ first.recovers n;
+    unlisted = λ n free unlisted. second.unlisted n free (first.no_more n unlisted) ∙ first.unlisted n free unlisted;
+    no_more = λ n unlisted. second.no_more n (first.no_more n unlisted);
+  };
+}
+
+pub keeps_still : (d c : Folder) → KeepsRecovery d c → StillRecovers d c
+keeps_still d c keeps = record { recovers = keeps.same; unlisted = keeps.unlisted; no_more = λ n unlisted. same_list c d n keeps.list ∙ unlisted }
+
+-- without a list nothing is listed
+none_listed : (c : Folder) (n : Name) → c list_name ≡ None → is_listed c n ≡ false
+none_listed c n none = ap (λ (list : Option (List ℕ)). list_any (λ listed. bytes_eq listed n) (names_in list)) none
+
+pub lost_still : (d c : Folder) → IsFinished d → LosesReserved d c → StillRecovers d c
+lost_still d c finished loses = record {
+  recovers = lost_same d c finished loses;
+  unlisted = λ n free unlisted. loses.same n free;
+  no_more = λ n unlisted. ⊎_elim (λ list. same_list c d n list ∙ unlisted) (λ none. none_listed c n none) (loses.lost list_name);
+}
+
 pub can_shrinks : (folder : Folder) (old new : Folder → Type 0) → CanRename folder old → Shrinks old new → CanRename folder new
 can_shrinks folder old new can shrinks = record {
   list = λ c now. can.list c (shrinks c now);
-  files = λ n free. ⊎_elim (λ none. inl none) (λ always. inr (λ c now. always c (shrinks c now))) (can.files n free);
+  files = λ n listed. ⊎_elim (λ none. inl none) (λ always. inr (λ c now. always c (shrinks c now))) (can.files n listed);
 }
 
 module _ (name : Name) (folder : Folder) (outcomes : Folder → Type 0) (can : CanRename folder outcomes) (free : is_reserved name ≡ false) (listed : is_listed folder name ≡ true) (there : IsSome (folder (temporary name))) where
   -- the file has its temporary name in each outcome
   lies_there : (d : Folder) → outcomes d → d (temporary name) ≡ folder (temporary name)
-  lies_there d old = elim (can.files name free) [
+  lies_there d old = elim (can.files name listed) [
     | inl none ↦ absurd (both_ways false refl (let P : Option (List ℕ) → Type 0 = λ o. IsSome o in subst P none there))
     | inr always ↦ always d old
   ]
@@ -187,7 +216,7 @@ module _ (name : Name) (folder : Folder) (outcomes : Folder → Type 0) (can : C
             let from = subst P is follows c now in
             let list : c list_name ≡ from.0 list_name = (moves_on from.0 from.1 c from.2).list in
             list ∙ can.list from.0 from.1 ∙ sym (finish_seen lies seen is moved others).list;
-        files = λ n other_free. elim (same_name n name) [
+        files = λ n still_listed. elim (same_name n name) [
           | inl same ↦ inl (ap (λ (m : Name). seen (temporary m)) same ∙ ap seen (sym is) ∙ moved.gone)
           | inr other ↦
               let apart : temporary n ≢ temporary name = λ same. other (temporary-inj n name same) in
@@ -198,6 +227,6 @@ module _ (name : Name) (folder : Folder) (outcomes : Folder → Type 0) (can : C
               let from = subst P is follows c now in
               let moved_to : c (temporary n) ≡ from.0 (temporary n) = from.2.elsewhere (temporary n) apart not_it in
               moved_to ∙ always from.0 from.1 ∙ sym (moves.elsewhere (temporary n) apart not_it)))
-              (can.files n other_free)
+              (can.files n (sym (same_list seen folder n (finish_seen lies seen is moved others).list) ∙ still_listed))
         ];
       }

@@ -27,7 +27,7 @@ comes_both step is old mid new first second c now =
 module _ {D : Type 0} (moment : D → ℕ) (left_since : D → ℕ → Folder → Type 0) (may_leave : D → Folder → Type 0) (only_now : (disk : D) (c : Folder) → left_since disk (moment disk) c → may_leave disk c) where
   -- before the first call
   pub started : (old : D) (P : Folder → Type 0) → ((c : Folder) → may_leave old c → P c) → LeavesOnly moment left_since old old P
-  started old P here = record { later = omega arith; each = λ c left. here c (only_now old c left); before = λ t c le left. inl left }
+  started old P here = record { later = omega arith; each = λ c left. here c (only_now old c left); before = λ t c le left. inl left; keeps = λ t c le was. was }
 
   -- one call more, after which a crash leaves what has P
   pub goes_on : (old mid new : D) (P : Folder → Type 0) → LeavesOnly moment left_since old mid P → Elapses (moment mid) (moment new) (left_since mid) (left_since new) (may_leave new)
@@ -36,6 +36,7 @@ module _ {D : Type 0} (moment : D → ℕ) (left_since : D → ℕ → Folder �
     later = omega (arith, so_far.later, time.later);
     each = λ c left. ⊎_elim (so_far.each c) (here c) (time.nothing_else (moment old) c so_far.later left);
     before = λ t c le left. ⊎_elim (so_far.before t c le) (λ now. inr (here c now)) (time.nothing_else t c (omega (arith, le, so_far.later)) left);
+    keeps = λ t c le was. time.keeps t c (omega (arith, le, so_far.later)) (so_far.keeps t c le was);
   }
 
   -- a run more, in which a crash at any moment leaves what has Q
@@ -44,6 +45,7 @@ module _ {D : Type 0} (moment : D → ℕ) (left_since : D → ℕ → Folder �
     later = omega (arith, so_far.later, next.later);
     each = λ c left. ⊎_elim (so_far.each c) (here c) (next.before (moment old) c so_far.later left);
     before = λ t c le left. ⊎_elim (so_far.before t c le) (λ now. inr (here c now)) (next.before t c (omega (arith, le, so_far.later)) left);
+    keeps = λ t c le was. next.keeps t c (omega (arith, le, so_far.later)) (so_far.keeps t c le was);
   }
 
   pub leaves_by : (old new : D) (P Q : Folder → Type 0) → LeavesOnly moment left_since old new P → ((c : Folder) → P c → Q c) → LeavesOnly moment left_since old new Q
@@ -51,6 +53,7 @@ module _ {D : Type 0} (moment : D → ℕ) (left_since : D → ℕ → Folder �
     later = leaves.later;
     each = λ c left. by c (leaves.each c left);
     before = λ t c le left. ⊎_elim (λ was. inl was) (λ now. inr (by c now)) (leaves.before t c le left);
+    keeps = leaves.keeps;
   }
 
   pub no_call : (step : Folder → Folder → Type 0) → IsStep step → (old : D) → Steps moment left_since may_leave step old old
@@ -83,3 +86,10 @@ module _ {D : Type 0} (moment : D → ℕ) (left_since : D → ℕ → Folder �
 
   pub one_shrinks : (step : Folder → Folder → Type 0) → IsStep step → (old new : D) → Elapses (moment old) (moment new) (left_since old) (left_since new) (may_leave new) → Shrinks (may_leave old) (may_leave new) → Steps moment left_since may_leave step old new
   one_shrinks step is old new time shrinks = then_shrinks step is old old new (no_call step is old) time shrinks
+
+  -- a run that says more of each step, where the outcomes before it allow it
+  pub steps_where : (step more : Folder → Folder → Type 0) (old new : D) → Steps moment left_since may_leave step old new → ((d : Folder) → may_leave old d → (c : Folder) → step d c → more d c) → Steps moment left_since may_leave more old new
+  steps_where step more old new steps by = record {
+    crash = comes_by step more (may_leave old) (may_leave new) steps.crash by;
+    moments = leaves_by old new (AfterStep step (may_leave old)) (AfterStep more (may_leave old)) steps.moments (λ c from. (from.0, from.1, by from.0 from.1 c from.2));
+  }

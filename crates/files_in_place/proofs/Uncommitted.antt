@@ -6,10 +6,10 @@ use Rattle.std.specs.List.{AllByRecursion}
 use Rattle.std.specs.Str.{bytes_eq}
 use Rattle.files_in_place.specs.Folder.{Name, Folder, SameBut, is_reserved, temporary, list_name, list_bytes}
 use Rattle.files_in_place.specs.Disk.{AfterStep, ComesBy, Shrinks, IsSynced, Elapses, Steps}
-use Rattle.files_in_place.specs.Recovery.{IsClean, SameFree, HasOldFiles, CanClean}
+use Rattle.files_in_place.specs.Recovery.{IsClean, IsFinished, SameFree, HasOldFiles, LosesReserved}
 use Rattle.files_in_place.specs.Staged.{is_staged, is_file_name, IsUncommitted, IsStagedAs, IsFreeFor, AreStaged, AreLeft, AreReady, RunsUncommitted}
 use Rattle.files_in_place.proofs.Runs.{started, goes_on, runs_on}
-use Rattle.files_in_place.proofs.Meaning.{free_other, temporary-inj}
+use Rattle.files_in_place.proofs.Meaning.{free_other, temporary-inj, temporary_apart, lost_same}
 use Rattle.files_in_place.proofs.Ending.{unlisted_finished, finished_without, without_same}
 
 both_true : (a b : Bool) → not a && b ≡ true → a ≡ false
@@ -44,10 +44,10 @@ reserved_unstaged names n fit res = elim (cases_Bool (is_staged names n)) [
 
 -- the temporary name of a file isn't the list's
 pub apart_from_list : (n : Name) → is_reserved n ≡ false → temporary n ≢ list_name
-apart_from_list n free same = free_other n (126 ∷ 108 ∷ 105 ∷ 115 ∷ 116 ∷ []) free refl (temporary-inj n _ same)
+apart_from_list n free same = temporary_apart n same
 
 pub list_apart : temporary list_name ≢ list_name
-list_apart same = free_other (108 ∷ 105 ∷ 115 ∷ 116 ∷ []) (126 ∷ 108 ∷ 105 ∷ 115 ∷ 116 ∷ []) refl refl (sym (temporary-inj _ _ (temporary-inj _ _ same)))
+list_apart same = temporary_apart list_name same
 
 -- a reserved name beside the list's, to which something happens
 pub record IsTemporary (lies : Name) : Type 0 where
@@ -105,12 +105,16 @@ un_after lies folder before is un c from =
     uncommitted_old folder (AfterStep (SameBut lies) before)
     (un_step lies folder folder before (AfterStep (SameBut lies) before) is (λ n other. refl) (λ d now. now) un) c from
 
-pub un_can_clean : (folder : Folder) (outcomes : Folder → Type 0) → IsUncommitted folder outcomes → CanClean folder outcomes
-un_can_clean folder outcomes un = record {
-  finished = unlisted_finished folder un.no_list;
-  always = λ c now. unlisted_finished c (un.none_left c now);
-  same = un.same;
-}
+-- while files of reserved names are removed
+pub loses_means : (folder : Folder) (outcomes : Folder → Type 0) → IsUncommitted folder outcomes → (c : Folder) → AfterStep LosesReserved outcomes c → HasOldFiles folder c
+loses_means folder outcomes un c from =
+    let d = from.0 in
+    let same : SameFree folder d = un.same d from.1 in
+    let finished : IsFinished d = unlisted_finished d (un.none_left d from.1) in
+    record {
+      same = λ n free. from.2.same n free ∙ same n free;
+      recovers = λ n. lost_same d c finished from.2 n ∙ finished_without d finished n ∙ without_same folder d same n;
+    }
 
 pub clean_uncommitted : (folder : Folder) (is_whole : Name → Type 0) (outcomes : Folder → Type 0) → IsClean folder → IsSynced folder is_whole outcomes → IsUncommitted folder outcomes
 clean_uncommitted folder is_whole outcomes clean synced = record {
@@ -119,7 +123,7 @@ clean_uncommitted folder is_whole outcomes clean synced = record {
   same = λ c now n free. synced.only c now n;
 }
 
-none_some : (lies : Name) → None ≡ Some lies → ⊥
+pub none_some : (lies : Name) → None ≡ Some lies → ⊥
 none_some lies same = absurd (cc same)
 
 -- a set without files

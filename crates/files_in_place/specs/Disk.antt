@@ -60,6 +60,8 @@ pub record LeavesOnly {D : Type 0} (moment : D → ℕ) (left_since : D → ℕ 
   pub each : (c : Folder) → left_since new (moment old) c → P c
   -- for a run that began earlier
   pub before : (t : ℕ) (c : Folder) → t ≤ moment old → left_since new t c → left_since old t c ⊎ P c
+  -- no moment is forgotten
+  pub keeps : (t : ℕ) (c : Folder) → t ≤ moment old → left_since old t c → left_since new t c
 
 -- A run of calls in which each outcome of a crash comes by this step from one that was possible before the run: at its end,
 -- and at any moment of it.

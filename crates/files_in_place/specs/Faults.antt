@@ -1,5 +1,5 @@
 -- Why a call failed, where a call of the system or of the disk did.
-use Rattle.std.specs.Prelude.{◌≡◌, ◌≢◌, ◌⊎◌}
+use Rattle.std.specs.Prelude.{◌≡◌, ◌≢◌, ◌⊎◌, ℕ, List, Result, Err}
 use Rattle.std.specs.IoError.{error_kind}
 use Rattle.std.specs.declared.io.Error.{Error}
 use Rattle.std.specs.declared.io.ErrorKind.TheVariants.{OutOfMemory}
@@ -7,8 +7,18 @@ use Rattle.files_in_place.specs.declared.faults.DiskFault.{DiskFault}
 use Rattle.files_in_place.specs.declared.faults.DiskFault.TheVariants as of_disk
 use Rattle.files_in_place.specs.declared.faults.SetFault.{SetFault}
 use Rattle.files_in_place.specs.declared.faults.SetFault.TheVariants as of_set
+use Rattle.files_in_place.specs.declared.faults.RecoveryFault.{RecoveryFault}
+use Rattle.files_in_place.specs.declared.faults.RecoveryFault.TheVariants as of_recovery
 use Rattle.files_in_place.specs.declared.folder_lock.LockFault.{LockFault}
 use Rattle.files_in_place.specs.declared.folder_lock.LockFault.TheVariants as of_lock
+
+abbrev pub recovery_fault_of : DiskFault → RecoveryFault
+recovery_fault_of of_disk.NoMemory = of_recovery.NoMemory
+recovery_fault_of of_disk.Failed = of_recovery.Failed
+
+-- a call of the disk has failed, and maybe one for the file of a name
+abbrev pub IsDiskFailure : {T : Type 0} → Result T RecoveryFault → Type 0
+IsDiskFailure result = (result ≡ Err of_recovery.Failed) ⊎ ((name : List ℕ) × (result ≡ Err (of_recovery.Unreplaced name)))
 
 abbrev pub set_fault_of : DiskFault → SetFault
 set_fault_of of_disk.NoMemory = of_set.NoMemory

@@ -1,6 +1,6 @@
 -- A folder: which names have a file, and what is in it. What a folder that a crash left stands for.
-use Rattle.std.specs.Prelude.{◌≡◌, ◌≢◌, ℕ, List, [], ◌∷◌, ◌++◌, Bool, false, Option, None, Some, if◌then◌else◌, ◌==◌}
-use Rattle.std.specs.List.{list_any}
+use Rattle.std.specs.Prelude.{◌≡◌, ◌≢◌, ℕ, List, [], ◌∷◌, ◌++◌, Bool, Option, None, Some, codes, nat_eq, if◌then◌else◌, ◌==◌}
+use Rattle.std.specs.List.{list_any, starts_with}
 use Rattle.std.specs.Str.{bytes_eq}
 
 -- a name is its bytes
@@ -15,18 +15,17 @@ Folder = Name → Option (List ℕ)
 abbrev pub SameBut : Name → Folder → Folder → Type 0
 SameBut name old new = (n : Name) → n ≢ name → new n ≡ old n
 
--- a name that begins with ~ is kept for this crate's own files
+-- a name that begins with ~niqarthu is kept for this crate's own files
 abbrev pub is_reserved : Name → Bool
-is_reserved [] = false
-is_reserved (b ∷ name) = b == 126
+is_reserved name = starts_with nat_eq name (codes "~niqarthu")
 
--- the temporary name of a new file: ~ and the name that it is to have
+-- the temporary name of a new file: ~niqarthu~ and the name that it is to have
 abbrev pub temporary : Name → Name
-temporary name = 126 ∷ name
+temporary name = codes "~niqarthu~" ++ name
 
--- the file that lists the names of a set of new files: ~~list
+-- the file that lists the names of a set of new files
 abbrev pub list_name : Name
-list_name = 126 ∷ 126 ∷ 108 ∷ 105 ∷ 115 ∷ 116 ∷ []
+list_name = codes "~niqarthu.list"
 
 -- the bytes of a list of names: a line for each, ended by a line feed
 abbrev pub list_bytes : List Name → List ℕ

@@ -1,13 +1,20 @@
--- Crash after crash.
+-- Start after start.
 use Rattle.std.specs.Prelude.{◌≡◌, List, [], ◌∷◌}
 use Rattle.files_in_place.specs.Folder.{Name, Folder, recovered}
-use Rattle.files_in_place.specs.Recovery.{RecoversTo}
+use Rattle.files_in_place.specs.Disk.{AfterStep}
+use Rattle.files_in_place.specs.Recovery.{StillRecovers}
 
 -- the folders have the same files
 abbrev pub AreAlike : Folder → Folder → Type 0
 AreAlike one other = (n : Name) → one n ≡ other n
 
--- Recovery begins in the first folder, crashes in turn and leaves one of the folders after the other, and ends in the last.
-abbrev pub EndsAfter : List Folder → Folder → Folder → Type 0
-EndsAfter [] first last = AreAlike last (recovered first)
-EndsAfter (crash ∷ crashes) first last = RecoversTo (recovered first) crash × EndsAfter crashes crash last
+-- Recovery began on the one disk and didn't end; the next start finds the other. What may be left there is what a crash at some
+-- moment of that recovery might have left. Where the machine crashed that is one folder, and it is what is seen. Where the
+-- program was stopped, or gave up, nothing of it need be on the disk.
+abbrev pub IsStopped : {D : Type 0} → (D → Folder → Type 0) → D → D → Type 0
+IsStopped may_leave disk next = (c : Folder) → may_leave next c → AfterStep StillRecovers (may_leave disk) c
+
+-- Recovery begins on the first disk and is stopped in turn, so that each next start finds the next disk, and ends in the last folder.
+abbrev pub EndsAfter : {D : Type 0} → (D → Folder) → (D → Folder → Type 0) → List D → D → Folder → Type 0
+EndsAfter seen may_leave [] first last = AreAlike last (recovered (seen first))
+EndsAfter seen may_leave (next ∷ others) first last = IsStopped may_leave first next × EndsAfter seen may_leave others next last

@@ -43,7 +43,19 @@ AreListed names folder = AllByRecursion (λ name. is_listed folder name ≡ true
 
 -- no file has the temporary name of one of the names any more
 abbrev pub AreRenamed : List Name → Folder → Type 0
-AreRenamed names folder = AllByRecursion (λ name. is_reserved name ≡ false → folder (temporary name) ≡ None) names
+AreRenamed names folder = AllByRecursion (λ name. folder (temporary name) ≡ None) names
+
+-- none of the names is reserved
+abbrev pub NoneReserved : List Name → Type 0
+NoneReserved names = AllByRecursion (λ name. is_reserved name ≡ false) names
+
+-- the bytes of each of the files are on the disk, and those of the one that has its temporary name
+abbrev pub AreOnDisk : (Name → Type 0) → List Name → Type 0
+AreOnDisk is_whole names = AllByRecursion (λ name. is_whole name × is_whole (temporary name)) names
+
+-- The bytes of each file that recovery leaves alone are on the disk.
+abbrev pub OthersAreWhole : Folder → (Name → Type 0) → Type 0
+OthersAreWhole folder is_whole = (n : Name) → is_reserved n ≡ false → is_listed folder n ≡ false → is_whole n
 
 -- The list is the same, recovery makes the same of both, and a name that isn't in the list has what it had.
 pub record KeepsRecovery (old new : Folder) : Type 0 where
@@ -51,18 +63,18 @@ pub record KeepsRecovery (old new : Folder) : Type 0 where
   pub same : (n : Name) → recovered new n ≡ recovered old n
   pub unlisted : SameUnlisted old new
 
--- The list is on the disk. So is each file that has a temporary name.
+-- The list is on the disk. So is each file that has the temporary name of one of its names.
 pub record CanRename (folder : Folder) (outcomes : Folder → Type 0) : Type 0 where
   pub list : (c : Folder) → outcomes c → c list_name ≡ folder list_name
-  pub files : (n : Name) → is_reserved n ≡ false → (folder (temporary n) ≡ None) ⊎ ((c : Folder) → outcomes c → c (temporary n) ≡ folder (temporary n))
+  pub files : (n : Name) → is_listed folder n ≡ true → (folder (temporary n) ≡ None) ⊎ ((c : Folder) → outcomes c → c (temporary n) ≡ folder (temporary n))
 
--- Whatever a crash leaves, the names that aren't reserved have what is seen, and recovery leaves them so.
+-- Whatever a crash leaves, recovery has nothing to do but to remove reserved names.
 pub record CanClean (folder : Folder) (outcomes : Folder → Type 0) : Type 0 where
   pub finished : IsFinished folder
   pub always : (c : Folder) → outcomes c → IsFinished c
-  pub same : (c : Folder) → outcomes c → SameFree folder c
 
--- A crash at any moment leaves a folder of which recovery makes the same, and in which no name that isn't in the list is touched.
+-- Recovery makes the same of both, no name that isn't in the old list is touched, and the new list has no other names.
 pub record StillRecovers (old new : Folder) : Type 0 where
   pub recovers : RecoversTo (recovered old) new
   pub unlisted : SameUnlisted old new
+  pub no_more : (n : Name) → is_listed old n ≡ false → is_listed new n ≡ false

@@ -1,10 +1,10 @@
 -- A set of new files, and a folder before and after they have their names.
-use Rattle.std.specs.Prelude.{◌≡◌, ◌≢◌, ◌⊎◌, ℕ, ◌≤◌, List, [], ◌∷◌, Bool, true, false, not, ◌&&◌, ◌||◌, ◌==◌, Option, None, Some, IsSome, if◌then◌else◌}
+use Rattle.std.specs.Prelude.{◌≡◌, ◌≢◌, ◌⊎◌, ℕ, ◌≤◌, List, [], ◌∷◌, length, Bool, true, false, not, ◌&&◌, ◌||◌, ◌==◌, nat_le, Option, None, Some, IsSome, if◌then◌else◌}
 use Rattle.std.specs.List.{AllByRecursion, list_any, list_all}
-use Rattle.std.specs.Str.{bytes_eq}
+use Rattle.std.specs.Str.{bytes_eq, is_utf8}
 use Rattle.files_in_place.specs.declared.phase.Phase.{Phase}
 use Rattle.files_in_place.specs.declared.phase.Phase.TheVariants.{Staging, Ended}
-use Rattle.files_in_place.specs.Folder.{Name, Folder, is_reserved, temporary, list_name, list_bytes}
+use Rattle.files_in_place.specs.Folder.{Name, Folder, is_reserved, temporary, list_name, list_bytes, lines_of}
 use Rattle.files_in_place.specs.Disk.{LeavesOnly}
 use Rattle.files_in_place.specs.Recovery.{RecoversTo, SameFree, HasOldFiles}
 
@@ -28,9 +28,22 @@ is_name_byte b = not (b == 0) && (not (b == 10) && not (b == 47))
 abbrev pub is_dots : Name → Bool
 is_dots name = bytes_eq name [] || (bytes_eq name (46 ∷ []) || bytes_eq name (46 ∷ 46 ∷ []))
 
--- a name that a file of a set may have
+-- the most bytes of a file's name, so that its temporary name fits into 255
+abbrev pub most_name_bytes : ℕ
+most_name_bytes = 245
+
+-- a name that a file of a set may have: not reserved, UTF-8, and one that each file system takes
 abbrev pub is_file_name : Name → Bool
-is_file_name name = not (is_reserved name) && (not (is_dots name) && list_all is_name_byte name)
+is_file_name name = not (is_reserved name) && (not (is_dots name) && (list_all is_name_byte name && (nat_le (length name) most_name_bytes && is_utf8 name)))
+
+-- The bytes are a list that a set may have written: each line is ended, and each is a name that a file may have.
+pub record IsList (bytes : List ℕ) : Type 0 where
+  pub ended : list_bytes (lines_of bytes) ≡ bytes
+  pub names : AllByRecursion (λ name. is_file_name name ≡ true) (lines_of bytes)
+
+-- the folder has a list, and it is none that a set may have written
+abbrev pub HasBadList : Folder → Type 0
+HasBadList folder = (bytes : List ℕ) × (folder list_name ≡ Some bytes) × ¬ (IsList bytes)
 
 -- The folder once the set is in place: at each name of the set the bytes that were staged, at each other name what was
 -- there, and no reserved name.
@@ -92,11 +105,16 @@ pub record AreReady (names : List Name) (folder : Folder) (is_whole : Name → T
   pub whole : (n : Name) → is_whole n
   pub uncommitted : IsUncommitted folder outcomes
 
--- at some moment the files of the set and its list were on the disk, and nothing was in place yet
-pub record HasBeenReady {D : Type 0} (moment : D → ℕ) (seen : D → Folder) (is_whole : D → Name → Type 0) (may_leave : D → Folder → Type 0) (names : List Name) (now : D) : Type 0 where
+-- At some moment since this one the files of the set and its list were on the disk, and nothing was in place yet: each name that
+-- isn't reserved had what this folder has. It is a moment of the disk as it is now: what a crash might have left then is among
+-- what a crash since might have left.
+pub record HasBeenReady {D : Type 0} (moment : D → ℕ) (left_since : D → ℕ → Folder → Type 0) (seen : D → Folder) (is_whole : D → Name → Type 0) (may_leave : D → Folder → Type 0) (names : List Name) (begin : ℕ) (old : Folder) (now : D) : Type 0 where
   pub earlier : D
-  pub ready : AreReady names (seen earlier) (is_whole earlier) (may_leave earlier)
+  pub since : begin ≤ moment earlier
   pub later : moment earlier ≤ moment now
+  pub reached : (c : Folder) → may_leave earlier c → left_since now (moment earlier) c
+  pub ready : AreReady names (seen earlier) (is_whole earlier) (may_leave earlier)
+  pub same : SameFree old (seen earlier)
 
 -- A run of calls in which there is no list: each name that isn't reserved has what it had, nothing of the set counts, and a
 -- crash at any moment leaves the old files.

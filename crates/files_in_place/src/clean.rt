@@ -3,8 +3,8 @@
 ghost use Rattle.std.specs.Prelude.{◌≡◌, None, true, false, OnOk, IsErrOf};
 ghost use Rattle.files_in_place.specs.declared.faults.DiskFault.TheVariants.{Failed};
 ghost use Rattle.files_in_place.specs.Folder.{Name, is_reserved, without_reserved};
-ghost use Rattle.files_in_place.specs.Disk.{LeavesOnly, Steps, IsSynced, HasCause};
-ghost use Rattle.files_in_place.specs.Recovery.{LosesReserved, AreRemoved, CanClean, HasOldFiles};
+ghost use Rattle.files_in_place.specs.Disk.{Steps, IsSynced, HasCause};
+ghost use Rattle.files_in_place.specs.Recovery.{LosesReserved, AreRemoved};
 
 use crate::disk::Disk;
 use crate::faults::DiskFault;
@@ -35,21 +35,18 @@ fn remove_reserved<D: Disk>(disk: &mut D, names: &[Bytes]) -> Result<(), DiskFau
     ensures steps { Steps D.moment D.left_since D.may_leave LosesReserved disk.old disk.new }
     ensures cause { HasCause (D.faults disk.old) (D.faults disk.new) (IsErrOf result Failed) }
 {
-    let [name, rest @ ..] = names else {
-        return Ok(());
-    };
-    remove_if_reserved(disk, name.as_slice())?;
-    remove_reserved(disk, rest)?;
+    for name in names {
+        remove_if_reserved(disk, name.as_slice())?;
+    }
     Ok(())
 }
 
-// Removes all files of reserved names, where recovery has nothing else to do.
+// Removes all files of reserved names, where nothing else is to be done.
 pub(crate) fn clean<D: Disk>(alloc: Global, disk: &mut D) -> Result<(), DiskFault>
-    requires whole { D.keeps_promises → (n : Name) → is_reserved n ≡ false → D.is_whole disk.old n }
-    requires can { D.keeps_promises → CanClean (D.seen disk.old) (D.may_leave disk.old) }
     ensures done { D.keeps_promises → OnOk result ((n : Name) → D.seen disk.new n ≡ without_reserved (D.seen disk.old) n) }
-    ensures synced { D.keeps_promises → OnOk result (IsSynced (D.seen disk.new) (D.is_whole disk.new) (D.may_leave disk.new)) }
-    ensures any_moment { D.keeps_promises → LeavesOnly D.moment D.left_since disk.old disk.new (HasOldFiles (D.seen disk.old)) }
+    ensures synced { D.keeps_promises → ((n : Name) → is_reserved n ≡ false → D.is_whole disk.old n)
+        → OnOk result (IsSynced (D.seen disk.new) (D.is_whole disk.new) (D.may_leave disk.new)) }
+    ensures steps { Steps D.moment D.left_since D.may_leave LosesReserved disk.old disk.new }
     ensures cause { HasCause (D.faults disk.old) (D.faults disk.new) (IsErrOf result Failed) }
 {
     let names = disk.list(alloc)?;

@@ -8,7 +8,7 @@ ghost use Rattle.files_in_place.specs.Staged.{AreReady, IsPut, with_staged};
 
 use crate::disk::Disk;
 use crate::faults::DiskFault;
-use crate::recovery::recover_all;
+use crate::recovery::recover_listed;
 use byte_io::Bytes;
 use std::alloc::Global;
 
@@ -21,8 +21,10 @@ pub(crate) fn commit<D: Disk>(alloc: Global, disk: &mut D, names: &[Bytes]) -> R
     ensures cause { HasCause (D.faults disk.old) (D.faults disk.new) (IsErrOf result Failed) }
 {
     disk.sync_folder()?;
-    disk.rename(b"~~~list", b"~~list")?;
+    disk.rename(b"~niqarthu~~niqarthu.list", b"~niqarthu.list")?;
     disk.sync_folder()?;
-    recover_all(alloc, disk)?;
-    Ok(())
+    match recover_listed(alloc, disk, names) {
+        Ok(()) => Ok(()),
+        Err(stuck) => Err(stuck.fault),
+    }
 }

@@ -24,7 +24,7 @@ pub trait Disk {
     // The files as reads show them.
     ghost seen: { Self → Folder };
 
-    // What a crash at this moment may leave.
+    // What a crash at this moment may leave. Where the program alone is stopped, what is seen stays: that is one of these.
     ghost may_leave: { Self → Folder → Type 0 };
 
     // All the bytes of the file that has the name are on the disk.
@@ -93,7 +93,8 @@ pub trait Disk {
         ensures time { Elapses (moment self.old) (moment self.new) (left_since self.old) (left_since self.new) (may_leave self.new) }
         ensures cause { HasCause (faults self.old) (faults self.new) (IsErrOf result Failed) };
 
-    /// At `Ok`, the bytes of the file are on the disk. Its name may not be yet.
+    /// At `Ok`, the bytes of the file are on the disk, whoever has written them (`fsync`). Its name may not be yet. A name without a
+    /// file has none to be brought there.
     fn sync_file(&mut self, name: &[u8]) -> Result<(), DiskFault>
         ensures durable { OnOk result (is_whole self.new name.now) }
         ensures seen { seen self.new ≡ seen self.old }
@@ -138,6 +139,9 @@ pub trait Disk {
 
     // A name without a file has no bytes that aren't on the disk.
     ghost none_whole: { (disk : Self) (n : Name) → seen disk n ≡ None → is_whole disk n };
+
+    // What is seen is one of the folders that a crash may leave.
+    ghost seen_may_stay: { (disk : Self) → keeps_promises → may_leave disk (seen disk) };
 
     // This moment is one of those since an earlier one.
     ghost counts_now: { (disk : Self) (t : ℕ) (c : Folder) → t ≤ moment disk → may_leave disk c → left_since disk t c };

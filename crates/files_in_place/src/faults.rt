@@ -3,6 +3,7 @@
 ghost use Rattle.std.specs.Prelude.{◌≡◌};
 ghost use Rattle.files_in_place.specs.declared.faults.DiskFault.TheVariants.{NoMemory as NoRoom};
 
+use byte_io::Bytes;
 use std::alloc::{AllocError, AllocFailed};
 use std::io;
 use thiserror::Error;
@@ -44,6 +45,46 @@ impl From<io::Error> for DiskFault {
             DiskFault::NoMemory
         } else {
             DiskFault::Failed
+        }
+    }
+}
+
+/// Why a folder was not recovered.
+#[derive(Debug, PartialEq, Eq, Drop, Error)]
+pub enum RecoveryFault {
+    /// Memory was refused.
+    #[error("out of memory")]
+    NoMemory,
+    /// The disk failed.
+    #[error("the disk failed")]
+    Failed,
+    /// The folder's list of new files is none that a set has written. Nothing in the folder was touched.
+    #[error("the list of new files is none of a set's")]
+    BadList,
+    /// The new file of this name, which the list has, can't take its place.
+    #[error("a new file can't take its place")]
+    Unreplaced(Bytes),
+}
+
+impl From<AllocError> for RecoveryFault {
+    ghost use Rattle.files_in_place.specs.declared.faults.RecoveryFault.TheVariants.{NoMemory as NoRecoveryRoom};
+
+    ghost from_gives = { λ _ e. e ≡ NoRecoveryRoom };
+
+    fn from(_: AllocError) -> Self {
+        RecoveryFault::NoMemory
+    }
+}
+
+impl From<DiskFault> for RecoveryFault {
+    ghost use Rattle.files_in_place.specs.Faults.{recovery_fault_of};
+
+    ghost from_gives = { λ d e. e ≡ recovery_fault_of d };
+
+    fn from(fault: DiskFault) -> Self {
+        match fault {
+            DiskFault::NoMemory => RecoveryFault::NoMemory,
+            DiskFault::Failed => RecoveryFault::Failed,
         }
     }
 }

@@ -158,7 +158,7 @@ impl<D: Disk + Drop> FileSet<D> {
             → RunsUncommitted D.moment D.left_since D.seen D.is_whole D.may_leave self.old.disk self.new.disk) }
         // It can't be only where all its files were on the disk, and putting them in place had begun.
         ensures begun { D.keeps_promises → self.old.phase ≡ Staging → OnErr result (self.new.phase ≡ Ended
-            → HasBeenReady D.moment D.seen D.is_whole D.may_leave self.old.names self.new.disk) }
+            → HasBeenReady D.moment D.left_since D.seen D.is_whole D.may_leave self.old.names (D.moment self.old.disk) (D.seen self.old.disk) self.new.disk) }
         // It leaves no other file touched, even before recovery.
         ensures others { D.keeps_promises → self.old.phase ≡ Staging
             → LeavesOnly D.moment D.left_since self.old.disk self.new.disk (SameUnstaged self.old.names (D.seen self.old.disk)) }

@@ -1,13 +1,16 @@
-//! What is left after crash upon crash.
+//! What is left after start upon start.
 
 ghost use Rattle.std.specs.Prelude.{◌⊎◌, List};
 ghost use Rattle.files_in_place.specs.Folder.{Name, Folder, without_reserved};
 ghost use Rattle.files_in_place.specs.Staged.{IsOldOrNew, with_staged};
 ghost use Rattle.files_in_place.specs.History.{AreAlike, EndsAfter};
 
-/// Whatever crashes and however often: a crash in a call of a set leaves a folder that stands for the old files or for the
-/// new ones; recovery may crash too, again and again; once it ends, the folder has all the old files or all the new ones.
-pub fn old_or_new()
-    ensures { (names : List Name) (old first last : Folder) (crashes : List Folder) → IsOldOrNew names old first → EndsAfter crashes first last
-        → AreAlike last (without_reserved old) ⊎ AreAlike last (with_staged names old) }
+use crate::disk::Disk;
+
+/// Whatever crashes or is stopped, and however often: at each moment of a call of a set, all that a crash may leave stands for
+/// the old files or for the new ones, and what is seen is one of these; recovery may crash or be stopped too, again and again;
+/// once it ends, the folder has all the old files or all the new ones.
+pub fn old_or_new<D: Disk>()
+    ensures { D.keeps_promises → (names : List Name) (old last : Folder) (first : D) (others : List D) → ((c : Folder) → D.may_leave first c → IsOldOrNew names old c)
+        → EndsAfter D.seen D.may_leave others first last → AreAlike last (without_reserved old) ⊎ AreAlike last (with_staged names old) }
 {}

@@ -1,21 +1,22 @@
 //! Names of files, and lists of them.
 
-ghost use Rattle.std.specs.Prelude.{◌≡◌, IfOk};
+ghost use Rattle.std.specs.Prelude.{◌≡◌, true, IfOk};
 ghost use Rattle.files_in_place.specs.Folder.{is_reserved, temporary, list_bytes, lines_of};
 ghost use Rattle.files_in_place.specs.Staged.{is_staged, is_name_byte, is_dots, is_file_name};
-ghost use Rattle.std.specs.List.{list_all};
+ghost use Rattle.std.specs.List.{list_all, AllByRecursion};
+ghost use Rattle.std.specs.Str.{is_utf8};
 
 use byte_io::Bytes;
 use std::alloc::{AllocError, Global};
 
-// Whether a name is kept for this crate's own files: whether it begins with ~.
-pub(crate) fn is_reserved(name: &[u8]) -> bool
+// The most bytes of a file's name: with `~niqarthu~` before it a file system takes it still.
+const MAX_NAME_BYTES: usize = 245;
+
+/// Whether a name is kept for a set's own files: whether it begins with `~niqarthu`. No other file has such a name.
+pub fn is_reserved(name: &[u8]) -> bool
     ensures value { result ≡ is_reserved name.now }
 {
-    match name {
-        [first, ..] => *first == b'~',
-        [] => false,
-    }
+    name.starts_with(b"~niqarthu")
 }
 
 // Whether a name is empty, one dot or two dots.
@@ -37,11 +38,38 @@ fn has_name_bytes(name: &[u8]) -> bool
     true
 }
 
+// Whether a name is UTF-8.
+fn is_text(name: &[u8]) -> bool
+    ensures value { result ≡ is_utf8 name.now }
+{
+    match str::from_utf8(name) {
+        Ok(_) => true,
+        Err(_) => false,
+    }
+}
+
 // Whether a file of a set may have the name.
 pub(crate) fn is_file_name(name: &[u8]) -> bool
     ensures value { result ≡ is_file_name name.now }
 {
-    !is_reserved(name) && !is_dots(name) && has_name_bytes(name)
+    !is_reserved(name)
+        && !is_dots(name)
+        && has_name_bytes(name)
+        && name.len() <= MAX_NAME_BYTES
+        && is_text(name)
+}
+
+// Whether files of a set may have all of the names.
+pub(crate) fn are_file_names(names: &[Bytes]) -> bool
+    ensures are { result ≡ true → AllByRecursion (λ name. is_file_name name ≡ true) names.now }
+    ensures only { AllByRecursion (λ name. is_file_name name ≡ true) names.now → result ≡ true }
+{
+    for name in names {
+        if !is_file_name(name.as_slice()) {
+            return false;
+        }
+    }
+    true
 }
 
 // Whether the name is one of the names.
@@ -60,7 +88,8 @@ pub(crate) fn is_staged(names: &[Bytes], name: &[u8]) -> bool
 pub(crate) fn temporary_name(alloc: Global, name: &[u8]) -> Result<Bytes, AllocError>
     ensures value { IfOk result (λ lies. lies ≡ temporary name.now) }
 {
-    let mut lies = vec![in alloc; b'~']?;
+    let mut lies = Vec::new(alloc);
+    lies.extend_from_slice(b"~niqarthu~")?;
     lies.extend_from_slice(name)?;
     Ok(Bytes::from_vec(lies))
 }

@@ -1,33 +1,54 @@
-//! What a crash left is brought to its end.
+//! What a crash or a stopped program left is brought to its end.
 
-ghost use Rattle.std.specs.Prelude.{◌≡◌, true, false, None, OnOk, IsErrOf};
+ghost use Rattle.std.specs.Prelude.{◌≡◌, ◌<◌, true, false, None, Err, length, Contains, OnOk, IfErr, IfSome, IsErr, IsErrAnd, IsErrOf};
 ghost use Rattle.files_in_place.specs.declared.faults.DiskFault.TheVariants.{Failed};
-ghost use Rattle.files_in_place.specs.Folder.{Name, is_reserved, temporary, is_listed, recovered};
-ghost use Rattle.files_in_place.specs.Disk.{LeavesOnly, Steps, IsSynced, HasCause};
-ghost use Rattle.files_in_place.specs.Recovery.{AreListed, AreRenamed, CanRename, KeepsRecovery, IsClean, IsFinished, RecoversTo, SameUnlisted, StillRecovers};
+ghost use Rattle.files_in_place.specs.declared.faults.RecoveryFault.TheVariants as R;
+ghost use Rattle.files_in_place.specs.Folder.{Name, is_reserved, temporary, list_name, names_in, is_listed, recovered};
+ghost use Rattle.files_in_place.specs.Disk.{AfterStep, LeavesOnly, Steps, IsSynced, HasCause};
+ghost use Rattle.files_in_place.specs.Faults.{IsDiskFailure};
+ghost use Rattle.files_in_place.specs.Recovery.{NoneReserved, AreListed, AreOnDisk, AreRenamed, CanClean, CanRename, KeepsRecovery, IsClean, OthersAreWhole, StillRecovers};
+ghost use Rattle.files_in_place.specs.Staged.{HasBadList};
 
 use crate::clean::clean;
 use crate::disk::Disk;
-use crate::faults::DiskFault;
-use crate::names::{is_reserved, split_names, temporary_name};
+use crate::faults::{DiskFault, RecoveryFault};
+use crate::listed::listed_names;
+use crate::names::temporary_name;
+use crate::settle::settle;
 use byte_io::Bytes;
 use std::alloc::Global;
 
-// Gives the file of a temporary name its name, if there is one and the name isn't reserved.
+// Why the files of a list did not all get their names, and at which of them that was, by its place from 0, where it was at one.
+#[derive(Clone, Copy, Debug)]
+pub(crate) struct Stuck {
+    pub(crate) place: Option<usize>,
+    pub(crate) fault: DiskFault,
+}
+
+impl From<DiskFault> for Stuck {
+    ghost use Rattle.std.specs.Prelude.{◌≡◌, None};
+
+    ghost from_gives = { λ fault stuck. (stuck.fault ≡ fault) × (stuck.place ≡ None) };
+
+    fn from(fault: DiskFault) -> Self {
+        Stuck { place: None, fault }
+    }
+}
+
+// Gives the file of a temporary name its name, if there is one.
 fn finish_one<D: Disk>(alloc: Global, disk: &mut D, name: &[u8]) -> Result<(), DiskFault>
     requires can { D.keeps_promises → CanRename (D.seen disk.old) (D.may_leave disk.old) }
     requires listed { D.keeps_promises → is_listed (D.seen disk.old) name.now ≡ true }
-    ensures done { D.keeps_promises → OnOk result (is_reserved name.now ≡ false → D.seen disk.new (temporary name.now) ≡ None) }
+    requires free { D.keeps_promises → is_reserved name.now ≡ false }
+    requires on_disk { D.keeps_promises → D.is_whole disk.old (temporary name.now) }
+    ensures done { D.keeps_promises → OnOk result (D.seen disk.new (temporary name.now) ≡ None) }
     ensures gone { D.keeps_promises → OnOk result ((n : Name) → D.seen disk.old (temporary n) ≡ None → D.seen disk.new (temporary n) ≡ None) }
     ensures keeps { D.keeps_promises → OnOk result (KeepsRecovery (D.seen disk.old) (D.seen disk.new)) }
     ensures can { D.keeps_promises → OnOk result (CanRename (D.seen disk.new) (D.may_leave disk.new)) }
-    ensures whole { OnOk result (((n : Name) → D.is_whole disk.old n) → (n : Name) → D.is_whole disk.new n) }
+    ensures whole { D.keeps_promises → OnOk result ((n : Name) → D.is_whole disk.old n → D.is_whole disk.new n) }
     ensures steps { D.keeps_promises → Steps D.moment D.left_since D.may_leave KeepsRecovery disk.old disk.new }
     ensures cause { HasCause (D.faults disk.old) (D.faults disk.new) (IsErrOf result Failed) }
 {
-    if is_reserved(name) {
-        return Ok(());
-    }
     let lies = temporary_name(alloc, name)?;
     if !disk.has(lies.as_slice())? {
         return Ok(());
@@ -36,70 +57,114 @@ fn finish_one<D: Disk>(alloc: Global, disk: &mut D, name: &[u8]) -> Result<(), D
     Ok(())
 }
 
-// Gives each file of the temporary name of one of the names its name.
-fn finish<D: Disk>(alloc: Global, disk: &mut D, names: &[Bytes]) -> Result<(), DiskFault>
+// Gives each file of the temporary name of one of the names its name. An error tells the place of the one that didn't get it.
+fn finish<D: Disk>(alloc: Global, disk: &mut D, names: &[Bytes]) -> Result<(), Stuck>
     requires can { D.keeps_promises → CanRename (D.seen disk.old) (D.may_leave disk.old) }
     requires listed { D.keeps_promises → AreListed names.now (D.seen disk.old) }
+    requires free { D.keeps_promises → NoneReserved names.now }
+    requires on_disk { D.keeps_promises → AreOnDisk (D.is_whole disk.old) names.now }
     ensures done { D.keeps_promises → OnOk result (AreRenamed names.now (D.seen disk.new)) }
-    ensures gone { D.keeps_promises → OnOk result ((n : Name) → D.seen disk.old (temporary n) ≡ None → D.seen disk.new (temporary n) ≡ None) }
     ensures keeps { D.keeps_promises → OnOk result (KeepsRecovery (D.seen disk.old) (D.seen disk.new)) }
-    ensures whole { OnOk result (((n : Name) → D.is_whole disk.old n) → (n : Name) → D.is_whole disk.new n) }
+    ensures can { D.keeps_promises → OnOk result (CanRename (D.seen disk.new) (D.may_leave disk.new)) }
+    ensures whole { D.keeps_promises → OnOk result ((n : Name) → D.is_whole disk.old n → D.is_whole disk.new n) }
+    ensures inside { IfErr result (λ stuck. IfSome stuck.place (λ place. place < length names.now)) }
     ensures steps { D.keeps_promises → Steps D.moment D.left_since D.may_leave KeepsRecovery disk.old disk.new }
-    ensures cause { HasCause (D.faults disk.old) (D.faults disk.new) (IsErrOf result Failed) }
+    ensures cause { HasCause (D.faults disk.old) (D.faults disk.new) (IsErrAnd result (λ stuck. stuck.fault ≡ Failed)) }
 {
-    let [name, rest @ ..] = names else {
-        return Ok(());
-    };
-    finish_one(alloc, disk, name.as_slice())?;
-    finish(alloc, disk, rest)?;
+    let mut place = 0;
+    for name in names {
+        if let Err(fault) = finish_one(alloc, disk, name.as_slice()) {
+            return Err(Stuck {
+                place: Some(place),
+                fault,
+            });
+        }
+        place += 1;
+    }
     Ok(())
 }
 
-// Gives each file that the list has its name, if there is a list. The list stays.
-fn finish_list<D: Disk>(alloc: Global, disk: &mut D) -> Result<(), DiskFault>
-    requires synced { D.keeps_promises → IsSynced (D.seen disk.old) (D.is_whole disk.old) (D.may_leave disk.old) }
-    ensures finished { D.keeps_promises → OnOk result (IsFinished (D.seen disk.new)) }
+// Gives each file that the list has its name, if it hasn't got it. The list stays.
+fn finish_listed<D: Disk>(alloc: Global, disk: &mut D, names: &[Bytes]) -> Result<(), Stuck>
+    requires can { D.keeps_promises → CanRename (D.seen disk.old) (D.may_leave disk.old) }
+    requires listed { D.keeps_promises → names.now ≡ names_in (D.seen disk.old list_name) }
+    requires free { D.keeps_promises → NoneReserved names.now }
+    requires on_disk { D.keeps_promises → AreOnDisk (D.is_whole disk.old) names.now }
+    ensures can { D.keeps_promises → OnOk result (CanClean (D.seen disk.new) (D.may_leave disk.new)) }
     ensures same { D.keeps_promises → OnOk result (StillRecovers (D.seen disk.old) (D.seen disk.new)) }
-    ensures synced { D.keeps_promises → OnOk result (IsSynced (D.seen disk.new) (D.is_whole disk.new) (D.may_leave disk.new)) }
-    ensures any_moment { D.keeps_promises → LeavesOnly D.moment D.left_since disk.old disk.new (StillRecovers (D.seen disk.old)) }
-    ensures cause { HasCause (D.faults disk.old) (D.faults disk.new) (IsErrOf result Failed) }
+    ensures whole { D.keeps_promises → OnOk result ((n : Name) → D.is_whole disk.old n → D.is_whole disk.new n) }
+    ensures inside { IfErr result (λ stuck. IfSome stuck.place (λ place. place < length names.now)) }
+    ensures steps { D.keeps_promises → Steps D.moment D.left_since D.may_leave StillRecovers disk.old disk.new }
+    ensures cause { HasCause (D.faults disk.old) (D.faults disk.new) (IsErrAnd result (λ stuck. stuck.fault ≡ Failed)) }
 {
-    let Some(list) = disk.read(alloc, b"~~list")? else {
-        return Ok(());
-    };
-    let names = split_names(alloc, list.as_slice())?;
-    finish(alloc, disk, &names)?;
+    finish(alloc, disk, names)?;
     disk.sync_folder()?;
     Ok(())
 }
 
-// Recovers, and says in one of each moment what the public call says in two clauses.
-pub(crate) fn recover_all<D: Disk>(alloc: Global, disk: &mut D) -> Result<(), DiskFault>
-    requires synced { D.keeps_promises → IsSynced (D.seen disk.old) (D.is_whole disk.old) (D.may_leave disk.old) }
+// Recovers a folder whose list has these names, where all that they name is on the disk.
+pub(crate) fn recover_listed<D: Disk>(
+    alloc: Global,
+    disk: &mut D,
+    names: &[Bytes],
+) -> Result<(), Stuck>
+    requires can { D.keeps_promises → CanRename (D.seen disk.old) (D.may_leave disk.old) }
+    requires listed { D.keeps_promises → names.now ≡ names_in (D.seen disk.old list_name) }
+    requires free { D.keeps_promises → NoneReserved names.now }
+    requires on_disk { D.keeps_promises → AreOnDisk (D.is_whole disk.old) names.now }
     ensures done { D.keeps_promises → OnOk result ((n : Name) → D.seen disk.new n ≡ recovered (D.seen disk.old) n) }
-    ensures synced { D.keeps_promises → OnOk result (IsSynced (D.seen disk.new) (D.is_whole disk.new) (D.may_leave disk.new)) }
-    ensures any_moment { D.keeps_promises → LeavesOnly D.moment D.left_since disk.old disk.new (StillRecovers (D.seen disk.old)) }
-    ensures cause { HasCause (D.faults disk.old) (D.faults disk.new) (IsErrOf result Failed) }
+    ensures synced { D.keeps_promises → ((n : Name) → is_reserved n ≡ false → D.is_whole disk.old n)
+        → OnOk result (IsSynced (D.seen disk.new) (D.is_whole disk.new) (D.may_leave disk.new)) }
+    ensures inside { IfErr result (λ stuck. IfSome stuck.place (λ place. place < length names.now)) }
+    ensures steps { D.keeps_promises → Steps D.moment D.left_since D.may_leave StillRecovers disk.old disk.new }
+    ensures cause { HasCause (D.faults disk.old) (D.faults disk.new) (IsErrAnd result (λ stuck. stuck.fault ≡ Failed)) }
 {
-    finish_list(alloc, disk)?;
+    finish_listed(alloc, disk, names)?;
     clean(alloc, disk)?;
     Ok(())
 }
 
-/// Brings a folder that a crash may have left to its end: all the old files, or all the new ones. No reserved name
-/// stays. It may crash too, at any moment. To be called before anything is read.
-pub fn recover<D: Disk>(alloc: Global, disk: &mut D) -> Result<(), DiskFault>
-    // After a restart, what is read is what is on the disk.
-    requires synced { D.keeps_promises → IsSynced (D.seen disk.old) (D.is_whole disk.old) (D.may_leave disk.old) }
+// Says of which file of a list a failure of the disk was.
+fn told(mut names: Vec<Bytes>, stuck: Stuck) -> RecoveryFault
+    requires inside { IfSome stuck.place (λ place. place < length names.items) }
+    ensures failed { (result ≡ R.Failed) → stuck.fault ≡ Failed }
+    ensures unreplaced { (name : Name) → (result ≡ R.Unreplaced name) → (stuck.fault ≡ Failed) × Contains names.items name }
+    ensures not_list { (result ≡ R.BadList) → ⊥ }
+{
+    match (stuck.fault, stuck.place) {
+        (DiskFault::NoMemory, _) => RecoveryFault::NoMemory,
+        (DiskFault::Failed, None) => RecoveryFault::Failed,
+        (DiskFault::Failed, Some(place)) => RecoveryFault::Unreplaced(names.swap_remove(place)),
+    }
+}
+
+/// Brings a folder to its end, as a crash of the machine or a stopped program has left it: all the old files, or all the
+/// new ones. No reserved name stays. It may crash or be stopped too, at any moment. To be called before anything is read.
+///
+/// What the folder's list names is brought to the disk first, so nothing is asked of it. Of the other files none is opened.
+///
+/// `BadList` where the folder's list is none that a set has written: then nothing is touched. `Unreplaced` tells the name of a
+/// new file that can't take its place, `Failed` that the disk failed elsewhere, `NoMemory` that memory was refused.
+pub fn recover<D: Disk>(alloc: Global, disk: &mut D) -> Result<(), RecoveryFault>
     ensures done { D.keeps_promises → OnOk result ((n : Name) → D.seen disk.new n ≡ recovered (D.seen disk.old) n) }
     ensures clean { D.keeps_promises → OnOk result (IsClean (D.seen disk.new)) }
-    ensures synced { D.keeps_promises → OnOk result (IsSynced (D.seen disk.new) (D.is_whole disk.new) (D.may_leave disk.new)) }
-    // A crash at any moment leaves a folder of which recovery makes the same.
-    ensures any_moment { D.keeps_promises → LeavesOnly D.moment D.left_since disk.old disk.new (RecoversTo (recovered (D.seen disk.old))) }
-    // It leaves no other file touched than those of reserved names and of names in the list.
-    ensures others { D.keeps_promises → LeavesOnly D.moment D.left_since disk.old disk.new (SameUnlisted (D.seen disk.old)) }
-    ensures cause { HasCause (D.faults disk.old) (D.faults disk.new) (IsErrOf result Failed) }
+    // Nothing is left to be brought to the disk, where the files that recovery leaves alone were on it.
+    ensures synced { D.keeps_promises → OthersAreWhole (D.seen disk.old) (D.is_whole disk.old)
+        → OnOk result (IsSynced (D.seen disk.new) (D.is_whole disk.new) (D.may_leave disk.new)) }
+    // A crash at any moment leaves a folder of which recovery makes what it makes of one that might have been left before,
+    // and no other file touched than those of reserved names and of names in that one's list.
+    ensures any_moment { D.keeps_promises → LeavesOnly D.moment D.left_since disk.old disk.new (AfterStep StillRecovers (D.may_leave disk.old)) }
+    // A list that is none of a set's is told, or another fault, and the folder is left as it is.
+    ensures bad_list { D.keeps_promises → (result ≡ Err R.BadList) → HasBadList (D.seen disk.old) }
+    ensures refused { D.keeps_promises → HasBadList (D.seen disk.old) → IsErr result }
+    ensures untouched { D.keeps_promises → HasBadList (D.seen disk.old) → D.seen disk.new ≡ D.seen disk.old }
+    ensures unreplaced { D.keeps_promises → (name : Name) → (result ≡ Err (R.Unreplaced name)) → is_listed (D.seen disk.old) name ≡ true }
+    ensures cause { HasCause (D.faults disk.old) (D.faults disk.new) (IsDiskFailure result) }
 {
-    recover_all(alloc, disk)?;
-    Ok(())
+    let names = listed_names(alloc, disk)?;
+    settle(alloc, disk, &names)?;
+    match recover_listed(alloc, disk, &names) {
+        Ok(()) => Ok(()),
+        Err(stuck) => Err(told(names, stuck)),
+    }
 }

@@ -79,6 +79,6 @@ pub(crate) fn write_list<D: Disk>(
     ensures cause { HasCause (D.faults disk.old) (D.faults disk.new) (IsErrOf result Failed) }
 {
     sync_current(disk, current)?;
-    write_whole(disk, b"~~~list", list)?;
+    write_whole(disk, b"~niqarthu~~niqarthu.list", list)?;
     Ok(())
 }

@@ -5,7 +5,7 @@ ghost use Rattle.std.specs.Prelude.{◌≡◌, ◌++◌, IfOk, string_bytes};
 use crate::faults::DiskFault;
 use byte_io::Bytes;
 use std::alloc::Global;
-use std::fs::{File, Metadata};
+use std::fs::{File, Metadata, OpenFile};
 use std::io::{ErrorKind, Read};
 use std::rt::Files;
 use std::{fs, io};
@@ -52,7 +52,7 @@ pub(crate) fn in_folder(alloc: Global, folder: &str, name: &[u8]) -> Result<Stri
 }
 
 // What the path leads to, or `None` where there is nothing. A link is not followed.
-fn metadata_of<R: Files>(rt: &R, path: &str) -> Result<Option<Metadata>, DiskFault> {
+pub(crate) fn metadata_of<R: Files>(rt: &R, path: &str) -> Result<Option<Metadata>, DiskFault> {
     match uninterrupted(|| fs::symlink_metadata(rt, path)) {
         Ok(found) => Ok(Some(found)),
         Err(e) if e.kind() == ErrorKind::NotFound => Ok(None),
@@ -65,20 +65,6 @@ fn file_of<R: Files>(rt: &R, path: &str) -> Result<Option<Metadata>, DiskFault> 
     match metadata_of(rt, path)? {
         Some(found) if !found.is_dir() => Ok(Some(found)),
         _ => Ok(None),
-    }
-}
-
-// Whether the folder has a folder of the name.
-pub(crate) fn has_folder<R: Files>(
-    rt: &R,
-    alloc: Global,
-    folder: &str,
-    name: &[u8],
-) -> Result<bool, DiskFault> {
-    let path = in_folder(alloc, folder, name)?;
-    match metadata_of(rt, path.as_str())? {
-        Some(found) => Ok(found.is_dir()),
-        None => Ok(false),
     }
 }
 
@@ -110,6 +96,24 @@ pub(crate) fn read_file<R: Files>(
     let mut bytes = Vec::new(alloc);
     File::open(rt, path.as_str())?.read_to_end(&mut bytes)?;
     Ok(Some(Bytes::from_vec(bytes)))
+}
+
+// Brings the bytes of the file of the name to the disk, if there is one. What is no regular file has none, and is not opened: a
+// pipe would make it wait.
+pub(crate) fn sync_found<R: Files>(
+    rt: &R,
+    alloc: Global,
+    folder: &str,
+    name: &[u8],
+) -> Result<(), DiskFault> {
+    let path = in_folder(alloc, folder, name)?;
+    match file_of(rt, path.as_str())? {
+        Some(found) if found.is_file() => {}
+        _ => return Ok(()),
+    }
+    let file = File::open(rt, path.as_str())?;
+    uninterrupted(|| file.sync_all())?;
+    Ok(())
 }
 
 // Gives a file another name, in the place of what had it: a link is replaced, and not what it leads to.

@@ -7,9 +7,10 @@ ghost use Rattle.files_in_place.specs.Disk.{HasCause};
 use crate::disk::Disk;
 use crate::faults::DiskFault;
 use crate::system_calls::{
-    folder_names, has_file, open_folder, read_file, remove_file, rename_file, uninterrupted,
+    folder_names, has_file, open_folder, read_file, remove_file, rename_file, sync_found,
+    uninterrupted,
 };
-use crate::system_file::{SystemFile, append_to, sync_once};
+use crate::system_file::{SystemFile, append_to, is_current, sync_once};
 use byte_io::{Bytes, Failures};
 use std::alloc::Global;
 use std::fs::OpenFile;
@@ -101,6 +102,8 @@ impl<R: Files + Drop> Disk for SystemDisk<R> {
 
     ghost none_whole = { λ _ _ _. tt };
 
+    ghost seen_may_stay = { λ _ none. none };
+
     ghost counts_now = { λ _ _ _ _ now. now };
 
     ghost only_now = { λ _ _ now. now };
@@ -133,7 +136,11 @@ impl<R: Files + Drop> Disk for SystemDisk<R> {
     }
 
     fn sync_file(&mut self, name: &[u8]) -> Result<(), DiskFault> {
-        let outcome = sync_once(self.current.take(), name);
+        let outcome = if is_current(&self.current, name) {
+            sync_once(self.current.take(), name)
+        } else {
+            sync_found(&self.rt, self.alloc, self.path.as_str(), name)
+        };
         self.told(outcome)
     }
 

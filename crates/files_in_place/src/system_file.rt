@@ -3,7 +3,8 @@
 ghost use Rattle.std.specs.Prelude.{◌≡◌, IfOk};
 
 use crate::faults::DiskFault;
-use crate::system_calls::{has_folder, in_folder, uninterrupted};
+use crate::replaced::find_replaced;
+use crate::system_calls::{in_folder, uninterrupted};
 use byte_io::Bytes;
 use std::alloc::Global;
 use std::fs::{OpenFile, OpenOptions};
@@ -17,22 +18,9 @@ pub(crate) struct SystemFile<R: Files + Drop> {
     file: R::File,
 }
 
-// Whether a folder has the name that a temporary name stands for.
-fn stands_for_folder<R: Files>(
-    rt: &R,
-    alloc: Global,
-    folder: &str,
-    name: &[u8],
-) -> Result<bool, DiskFault> {
-    match name {
-        [first, own @ ..] if *first == b'~' => has_folder(rt, alloc, folder, own),
-        _ => Ok(false),
-    }
-}
-
 impl<R: Files + Drop> SystemFile<R> {
-    // Makes an empty file under a name that has nothing, not even a link. A temporary name that stands for a folder's is
-    // refused: no rename would put the file there.
+    // Makes an empty file under a name that has nothing, not even a link. A temporary name is refused where no rename would put
+    // the file in its place; else the file has the mode and the group of the one that it is to replace.
     pub(crate) fn create(
         rt: &R,
         alloc: Global,
@@ -41,15 +29,16 @@ impl<R: Files + Drop> SystemFile<R> {
     ) -> Result<SystemFile<R>, DiskFault>
         ensures name { IfOk result (λ made. made.name ≡ name.now) }
     {
-        if stands_for_folder(rt, alloc, folder, name)? {
-            return Err(DiskFault::Failed);
-        }
+        let replaced = find_replaced(rt, alloc, folder, name)?;
         let path = in_folder(alloc, folder, name)?;
         let name = Bytes::from_slice(alloc, name)?;
         let file = OpenOptions::new()
             .write(true)
             .create_new(true)
             .open(rt, path.as_str())?;
+        if let Some(replaced) = replaced {
+            replaced.hand_over(rt, path.as_str(), &file)?;
+        }
         Ok(SystemFile { name, file })
     }
 }
@@ -69,6 +58,14 @@ pub(crate) fn append_to<R: Files + Drop>(
     }
     current.file.write_all(bytes)?;
     Ok(())
+}
+
+// Whether the name is that of the file created last, where it still takes bytes.
+pub(crate) fn is_current<R: Files + Drop>(current: &Option<SystemFile<R>>, name: &[u8]) -> bool {
+    match current {
+        Some(current) => current.name.as_slice() == name,
+        None => false,
+    }
 }
 
 // Syncs the file created last, which has to be that of the name, and closes it. It takes no more bytes, whatever comes of

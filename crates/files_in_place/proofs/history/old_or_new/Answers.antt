@@ -2,4 +2,5 @@ use Rattle.files_in_place.proofs.Histories.{old_or_new_ends}
 use Rattle.files_in_place.proofs.history.old_or_new.Goals as goal
 
 pub returns : goal.returns
-returns c = old_or_new_ends
+returns g c promised names old last first others =
+    old_or_new_ends g.D.Disk.seen g.D.Disk.may_leave (λ disk. g.met.D.Disk.seen_may_stay disk promised) names old others first last

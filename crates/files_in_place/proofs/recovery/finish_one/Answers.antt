@@ -1,14 +1,14 @@
-use Rattle.std.proofs.Common.{◌≡◌, false, IsSome, rules, subst, sym, inl, inr}
+use Rattle.std.proofs.Common.{◌≡◌, false, IsSome, rules, subst, sym, ◌∙◌, inl, inr}
 use Rattle.files_in_place.specs.Folder.{Name, Folder, is_reserved, temporary}
 use Rattle.files_in_place.specs.Disk.{SameButTwo, HasMoved, IsDurable}
 use Rattle.files_in_place.specs.Recovery.{KeepsRecovery}
 use Rattle.files_in_place.proofs.Runs.{one_shrinks, then_call}
-use Rattle.files_in_place.proofs.Meaning.{same_name, goes_on_step, can_shrinks, finish_kept, finish_follows, finish_seen, finish_can}
+use Rattle.files_in_place.proofs.Meaning.{same_name, temporary_longer, goes_on_step, can_shrinks, finish_kept, finish_follows, finish_seen, finish_can}
 use Rattle.files_in_place.proofs.recovery.finish_one.Goals as goal
 
 pub rename-requires-clause-durable : goal.rename-requires-clause-durable
 rename-requires-clause-durable g c promised =
-    let free : is_reserved c.args.name.now ≡ false = search rules in
+    let free : is_reserved c.args.name.now ≡ false = c.requires.free promised in
     let lies : c.as_slice-2.result.now ≡ temporary c.args.name.now = search rules in
     let found = c.in_ok-has.ensures.found promised in
     let there : IsSome (g.D.Disk.seen c.args.disk.now (temporary c.args.name.now)) = search (rules, found) in
@@ -18,7 +18,7 @@ rename-requires-clause-durable g c promised =
 
 pub returns-in_err-rename-clause-steps : goal.returns-in_err-rename-clause-steps
 returns-in_err-rename-clause-steps g c promised =
-    let free : is_reserved c.args.name.now ≡ false = search rules in
+    let free : is_reserved c.args.name.now ≡ false = c.requires.free promised in
     let lies : c.as_slice-2.result.now ≡ temporary c.args.name.now = search rules in
     let found = c.in_ok-has.ensures.found promised in
     let there : IsSome (g.D.Disk.seen c.args.disk.now (temporary c.args.name.now)) = search (rules, found) in
@@ -29,7 +29,7 @@ returns-in_err-rename-clause-steps g c promised =
 
 pub returns-clause-steps : goal.returns-clause-steps
 returns-clause-steps g c promised =
-    let free : is_reserved c.args.name.now ≡ false = search rules in
+    let free : is_reserved c.args.name.now ≡ false = c.requires.free promised in
     let lies : c.as_slice-2.result.now ≡ temporary c.args.name.now = search rules in
     let found = c.in_ok-has.ensures.found promised in
     let there : IsSome (g.D.Disk.seen c.args.disk.now (temporary c.args.name.now)) = search (rules, found) in
@@ -40,7 +40,7 @@ returns-clause-steps g c promised =
 
 pub returns-clause-keeps : goal.returns-clause-keeps
 returns-clause-keeps g c promised =
-    let free : is_reserved c.args.name.now ≡ false = search rules in
+    let free : is_reserved c.args.name.now ≡ false = c.requires.free promised in
     let lies : c.as_slice-2.result.now ≡ temporary c.args.name.now = search rules in
     let found = c.in_ok-has.ensures.found promised in
     let there : IsSome (g.D.Disk.seen c.args.disk.now (temporary c.args.name.now)) = search (rules, found) in
@@ -51,7 +51,7 @@ returns-clause-keeps g c promised =
 
 pub returns-clause-can : goal.returns-clause-can
 returns-clause-can g c promised =
-    let free : is_reserved c.args.name.now ≡ false = search rules in
+    let free : is_reserved c.args.name.now ≡ false = c.requires.free promised in
     let lies : c.as_slice-2.result.now ≡ temporary c.args.name.now = search rules in
     let found = c.in_ok-has.ensures.found promised in
     let there : IsSome (g.D.Disk.seen c.args.disk.now (temporary c.args.name.now)) = search (rules, found) in
@@ -61,8 +61,15 @@ returns-clause-can g c promised =
     finish_can c.args.name.now (g.D.Disk.seen c.args.disk.now) (g.D.Disk.may_leave c.has.new.self) can free (c.requires.listed promised) there c.as_slice-2.result.now (g.D.Disk.seen c.rename.new.self) (g.D.Disk.may_leave c.rename.new.self) lies moved others c.rename.ensures.crash
 
 pub returns-clause-whole : goal.returns-clause-whole
-returns-clause-whole g c =
-    λ all n. elim (same_name n c.args.name.now) [
-      | inl same ↦ subst (λ (m : Name). g.D.Disk.is_whole c.rename.new.self m) (sym same) (c.in_ok-rename.ensures.moved (c.has.ensures.whole c.as_slice-2.result.now (all c.as_slice-2.result.now)))
-      | inr other ↦ c.rename.ensures.whole n other (c.has.ensures.whole n (all n))
+returns-clause-whole g c promised =
+    let lies : c.as_slice-2.result.now ≡ temporary c.args.name.now = search rules in
+    λ n was. elim (same_name n c.args.name.now) [
+      | inl same ↦ subst (λ (m : Name). g.D.Disk.is_whole c.rename.new.self m) (sym same)
+          (c.in_ok-rename.ensures.moved (subst (λ (m : Name). g.D.Disk.is_whole c.has.new.self m) (sym lies) (c.has.ensures.whole (temporary c.args.name.now) (c.requires.on_disk promised))))
+      | inr other ↦ c.rename.ensures.whole n other (c.has.ensures.whole n was)
     ]
+
+pub rename-requires-clause-other : goal.rename-requires-clause-other
+rename-requires-clause-other g c =
+    let lies : c.as_slice-2.result.now ≡ temporary c.args.name.now = search rules in
+    λ same. temporary_longer c.args.name.now (sym lies ∙ same)

@@ -1,25 +1,41 @@
-use Rattle.files_in_place.specs.Folder.{recovered}
-use Rattle.files_in_place.specs.Recovery.{RecoversTo, SameUnlisted, StillRecovers}
-use Rattle.files_in_place.proofs.Runs.{leaves_by}
-use Rattle.files_in_place.proofs.Ending.{recovered_clean}
+use Rattle.std.proofs.Common.{◌≡◌, true, List, ap, ◌∙◌, inl, inr}
+use Rattle.std.proofs.lemmas.Bool.{cases_Bool}
+use Rattle.std.specs.List.{list_any}
+use Rattle.std.specs.Str.{bytes_eq}
+use Rattle.files_in_place.specs.Folder.{Name, temporary, list_name, names_in, is_listed}
+use Rattle.files_in_place.specs.Recovery.{StillRecovers}
+use Rattle.files_in_place.specs.declared.faults.RecoveryFault.TheVariants.{Unreplaced}
+use Rattle.files_in_place.proofs.Runs.{and_then}
+use Rattle.files_in_place.proofs.Meaning.{still_step}
+use Rattle.files_in_place.proofs.Ending.{listed_at, listed_contained}
+use Rattle.files_in_place.proofs.Settling.{leaves_same, leaves_less, leaves_less_on, run_less}
 use Rattle.files_in_place.proofs.recovery.recover.Goals as goal
 
-pub returns-clause-clean : goal.returns-clause-clean
-returns-clause-clean g c promised =
-    recovered_clean (g.D.Disk.seen c.args.disk.now) (g.D.Disk.seen c.recover_all.new.disk) (c.in_ok-recover_all.ensures.done promised)
+pub returns-in-Ok-clause-any_moment : goal.returns-in-Ok-clause-any_moment
+returns-in-Ok-clause-any_moment g c promised =
+    let asked = leaves_less g.D.Disk.moment g.D.Disk.left_since g.D.Disk.may_leave g.met.D.Disk.only_now c.args.disk.now c.args.disk.now c.listed_names.new.disk (leaves_same g.D.Disk.moment g.D.Disk.left_since g.D.Disk.may_leave g.met.D.Disk.only_now c.args.disk.now) (λ f was. was) c.listed_names.ensures.time c.listed_names.ensures.crash in
+    let settled = leaves_less_on g.D.Disk.moment g.D.Disk.left_since g.D.Disk.may_leave g.met.D.Disk.only_now c.args.disk.now c.listed_names.new.disk c.settle.new.disk asked c.listed_names.ensures.crash c.settle.ensures.any_moment in
+    let before = run_less g.D.Disk.moment g.D.Disk.left_since g.D.Disk.may_leave g.met.D.Disk.only_now StillRecovers still_step c.args.disk.now c.settle.new.disk settled (λ f now. c.listed_names.ensures.crash f (c.settle.ensures.crash f now)) in
+    (and_then g.D.Disk.moment g.D.Disk.left_since g.D.Disk.may_leave g.met.D.Disk.only_now StillRecovers still_step c.args.disk.now c.settle.new.disk c.recover_listed.new.disk before (c.recover_listed.ensures.steps promised)).moments
 
-pub returns-in_err-recover_all-clause-any_moment : goal.returns-in_err-recover_all-clause-any_moment
-returns-in_err-recover_all-clause-any_moment g c promised =
-    leaves_by g.D.Disk.moment g.D.Disk.left_since g.D.Disk.may_leave g.met.D.Disk.only_now c.args.disk.now c.recover_all.new.disk (StillRecovers (g.D.Disk.seen c.args.disk.now)) (RecoversTo (recovered (g.D.Disk.seen c.args.disk.now))) (c.recover_all.ensures.any_moment promised) (λ f still. still.recovers)
+pub returns-in-Err-clause-any_moment : goal.returns-in-Err-clause-any_moment
+returns-in-Err-clause-any_moment g c promised =
+    let asked = leaves_less g.D.Disk.moment g.D.Disk.left_since g.D.Disk.may_leave g.met.D.Disk.only_now c.args.disk.now c.args.disk.now c.listed_names.new.disk (leaves_same g.D.Disk.moment g.D.Disk.left_since g.D.Disk.may_leave g.met.D.Disk.only_now c.args.disk.now) (λ f was. was) c.listed_names.ensures.time c.listed_names.ensures.crash in
+    let settled = leaves_less_on g.D.Disk.moment g.D.Disk.left_since g.D.Disk.may_leave g.met.D.Disk.only_now c.args.disk.now c.listed_names.new.disk c.settle.new.disk asked c.listed_names.ensures.crash c.settle.ensures.any_moment in
+    let before = run_less g.D.Disk.moment g.D.Disk.left_since g.D.Disk.may_leave g.met.D.Disk.only_now StillRecovers still_step c.args.disk.now c.settle.new.disk settled (λ f now. c.listed_names.ensures.crash f (c.settle.ensures.crash f now)) in
+    (and_then g.D.Disk.moment g.D.Disk.left_since g.D.Disk.may_leave g.met.D.Disk.only_now StillRecovers still_step c.args.disk.now c.settle.new.disk c.recover_listed.new.disk before (c.recover_listed.ensures.steps promised)).moments
 
-pub returns-in_err-recover_all-clause-others : goal.returns-in_err-recover_all-clause-others
-returns-in_err-recover_all-clause-others g c promised =
-    leaves_by g.D.Disk.moment g.D.Disk.left_since g.D.Disk.may_leave g.met.D.Disk.only_now c.args.disk.now c.recover_all.new.disk (StillRecovers (g.D.Disk.seen c.args.disk.now)) (SameUnlisted (g.D.Disk.seen c.args.disk.now)) (c.recover_all.ensures.any_moment promised) (λ f still. still.unlisted)
+pub returns-in-Ok-clause-synced : goal.returns-in-Ok-clause-synced
+returns-in-Ok-clause-synced g c promised others =
+    let same : c.deref.result.now ≡ names_in (g.D.Disk.seen c.args.disk.now list_name) = c.deref.ensures.value ∙ c.in_ok-names.ensures.names promised in
+    c.in-Ok.ensures.synced promised (λ n free. elim (cases_Bool (is_listed (g.D.Disk.seen c.args.disk.now) n)) [
+      | inl listed ↦
+          let found : list_any (λ (m : Name). bytes_eq m n) c.deref.result.now ≡ true = ap (λ (l : List Name). list_any (λ (m : Name). bytes_eq m n) l) same ∙ listed in
+          (listed_at (λ name. g.D.Disk.is_whole c.settle.new.disk name × g.D.Disk.is_whole c.settle.new.disk (temporary name)) c.deref.result.now n found c.in_ok-settle.ensures.whole).0
+      | inr unlisted ↦ c.settle.ensures.kept n (c.listed_names.ensures.whole n (others n free unlisted))
+    ])
 
-pub returns-clause-any_moment : goal.returns-clause-any_moment
-returns-clause-any_moment g c promised =
-    leaves_by g.D.Disk.moment g.D.Disk.left_since g.D.Disk.may_leave g.met.D.Disk.only_now c.args.disk.now c.recover_all.new.disk (StillRecovers (g.D.Disk.seen c.args.disk.now)) (RecoversTo (recovered (g.D.Disk.seen c.args.disk.now))) (c.recover_all.ensures.any_moment promised) (λ f still. still.recovers)
-
-pub returns-clause-others : goal.returns-clause-others
-returns-clause-others g c promised =
-    leaves_by g.D.Disk.moment g.D.Disk.left_since g.D.Disk.may_leave g.met.D.Disk.only_now c.args.disk.now c.recover_all.new.disk (StillRecovers (g.D.Disk.seen c.args.disk.now)) (SameUnlisted (g.D.Disk.seen c.args.disk.now)) (c.recover_all.ensures.any_moment promised) (λ f still. still.unlisted)
+pub returns-in-Err-clause-unreplaced : goal.returns-in-Err-clause-unreplaced
+returns-in-Err-clause-unreplaced g c promised name is =
+    let which : c.told.result ≡ Unreplaced name = cc is in
+    listed_contained c.in_ok-names.names.items (g.D.Disk.seen c.args.disk.now) name (c.in_ok-names.ensures.names promised) (c.told.ensures.unreplaced name which).1

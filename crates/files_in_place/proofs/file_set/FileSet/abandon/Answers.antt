@@ -1,34 +1,26 @@
-use Rattle.std.proofs.Common.{◌≡◌, ◌≢◌, None, rules, subst}
-use Rattle.files_in_place.specs.declared.phase.Phase.TheVariants.{Ended}
+use Rattle.std.proofs.Common.{◌≡◌, None, rules, subst}
 use Rattle.files_in_place.specs.Folder.{Name, without_reserved}
-use Rattle.files_in_place.specs.Disk.{LeavesOnly}
-use Rattle.files_in_place.specs.Recovery.{HasOldFiles}
+use Rattle.files_in_place.specs.Disk.{AfterStep, LeavesOnly}
+use Rattle.files_in_place.specs.Recovery.{HasOldFiles, LosesReserved}
 use Rattle.files_in_place.specs.Staged.{Set}
-use Rattle.files_in_place.proofs.Uncommitted.{staged_none, un_can_clean}
+use Rattle.files_in_place.proofs.Runs.{leaves_by}
+use Rattle.files_in_place.proofs.Uncommitted.{staged_none, loses_means}
 use Rattle.files_in_place.proofs.Sets.{in_staging, in_ended, abandoned_clean}
 use Rattle.files_in_place.proofs.file_set.FileSet.abandon.Goals as goal
 
-pub clean-requires-clause-whole : goal.clean-requires-clause-whole
-clean-requires-clause-whole g c promised =
-    let going : c.self.inside.phase ≢ Ended = search rules in
-    let left = (c.self.invariant promised).left going in
-    left.whole
-
-pub clean-requires-clause-can : goal.clean-requires-clause-can
-clean-requires-clause-can g c promised =
-    let going : c.self.inside.phase ≢ Ended = search rules in
-    let left = (c.self.invariant promised).left going in
-    un_can_clean (g.D.Disk.seen c.self.inside.disk) (g.D.Disk.may_leave c.self.inside.disk) left.uncommitted
-
 pub returns-in_err-clean-clause-any_moment : goal.returns-in_err-clean-clause-any_moment
 returns-in_err-clean-clause-any_moment g c promised going =
+    let left = (c.self.invariant promised).left (search rules) in
     subst (λ (s : Set g.row.D.Denot). LeavesOnly g.D.Disk.moment g.D.Disk.left_since s.disk c.clean.new.disk (HasOldFiles (g.D.Disk.seen s.disk))) c.self.view_is
-    (c.clean.ensures.any_moment promised)
+    (leaves_by g.D.Disk.moment g.D.Disk.left_since g.D.Disk.may_leave g.met.D.Disk.only_now c.self.inside.disk c.clean.new.disk (AfterStep LosesReserved (g.D.Disk.may_leave c.self.inside.disk)) (HasOldFiles (g.D.Disk.seen c.self.inside.disk)) c.clean.ensures.steps.moments
+    (loses_means (g.D.Disk.seen c.self.inside.disk) (g.D.Disk.may_leave c.self.inside.disk) left.uncommitted))
 
 pub returns-clause-any_moment : goal.returns-clause-any_moment
 returns-clause-any_moment g c promised going =
+    let left = (c.self.invariant promised).left (search rules) in
     subst (λ (s : Set g.row.D.Denot). LeavesOnly g.D.Disk.moment g.D.Disk.left_since s.disk c.clean.new.disk (HasOldFiles (g.D.Disk.seen s.disk))) c.self.view_is
-    (c.clean.ensures.any_moment promised)
+    (leaves_by g.D.Disk.moment g.D.Disk.left_since g.D.Disk.may_leave g.met.D.Disk.only_now c.self.inside.disk c.clean.new.disk (AfterStep LosesReserved (g.D.Disk.may_leave c.self.inside.disk)) (HasOldFiles (g.D.Disk.seen c.self.inside.disk)) c.clean.ensures.steps.moments
+    (loses_means (g.D.Disk.seen c.self.inside.disk) (g.D.Disk.may_leave c.self.inside.disk) left.uncommitted))
 
 pub returns-clause-done : goal.returns-clause-done
 returns-clause-done g c promised =
@@ -38,7 +30,7 @@ pub invariant_of-self-2 : goal.invariant_of-self-2
 invariant_of-self-2 g c promised =
     in_staging c.new.result.items None (g.D.Disk.seen c.clean.new.disk) (g.D.Disk.is_whole c.clean.new.disk) (g.D.Disk.is_new c.clean.new.disk) (g.D.Disk.may_leave c.clean.new.disk)
     (staged_none c.new.result.items (g.D.Disk.seen c.clean.new.disk) (g.D.Disk.is_whole c.clean.new.disk) (g.D.Disk.is_new c.clean.new.disk) (g.D.Disk.may_leave c.clean.new.disk) c.new.ensures.items
-    (abandoned_clean (g.D.Disk.seen c.self.inside.disk) (g.D.Disk.seen c.clean.new.disk) (c.in_ok-clean.ensures.done promised)) (c.in_ok-clean.ensures.synced promised))
+    (abandoned_clean (g.D.Disk.seen c.self.inside.disk) (g.D.Disk.seen c.clean.new.disk) (c.in_ok-clean.ensures.done promised)) (c.in_ok-clean.ensures.synced promised ((c.self.invariant promised).left (search rules)).whole))
 
 pub invariant_of-self : goal.invariant_of-self
 invariant_of-self g c promised =

@@ -1,4 +1,4 @@
-use Rattle.std.proofs.Common.{◌≡◌, ◌≢◌, List, None, refl, rules, subst, sym, ◌∙◌, ap}
+use Rattle.std.proofs.Common.{◌≡◌, ◌≢◌, List, None, arith, refl, rules, subst, sym, ◌∙◌, ap}
 use Rattle.byte_io.specs.Laws.Sinks.{on_err}
 use Rattle.files_in_place.specs.declared.phase.Phase.TheVariants.{Staging, Failed, Ended}
 use Rattle.files_in_place.specs.Folder.{Name, SameBut, temporary, list_name, list_bytes}
@@ -58,12 +58,12 @@ returns-in_err-commit-clause-undone g c promised staging =
 
 pub returns-in_err-list-clause-begun : goal.returns-in_err-list-clause-begun
 returns-in_err-list-clause-begun g c promised staging =
-    let begun : c.args.self.now.phase ≡ Ended → HasBeenReady g.D.Disk.moment g.D.Disk.seen g.D.Disk.is_whole g.D.Disk.may_leave c.args.self.now.names c.args.self.now.disk = λ ended. let clash : Staging ≡ Ended = sym staging ∙ ended in absurd cc in
+    let begun : c.args.self.now.phase ≡ Ended → HasBeenReady g.D.Disk.moment g.D.Disk.left_since g.D.Disk.seen g.D.Disk.is_whole g.D.Disk.may_leave c.args.self.now.names (g.D.Disk.moment c.args.self.now.disk) (g.D.Disk.seen c.args.self.now.disk) c.args.self.now.disk = λ ended. let clash : Staging ≡ Ended = sym staging ∙ ended in absurd cc in
     on_err c.from_residual.result begun
 
 pub returns-in_err-write_list-clause-begun : goal.returns-in_err-write_list-clause-begun
 returns-in_err-write_list-clause-begun g c promised staging =
-    let begun : Failed ≡ Ended → HasBeenReady g.D.Disk.moment g.D.Disk.seen g.D.Disk.is_whole g.D.Disk.may_leave c.args.self.now.names c.write_list.new.disk = λ ended. absurd cc in
+    let begun : Failed ≡ Ended → HasBeenReady g.D.Disk.moment g.D.Disk.left_since g.D.Disk.seen g.D.Disk.is_whole g.D.Disk.may_leave c.args.self.now.names (g.D.Disk.moment c.args.self.now.disk) (g.D.Disk.seen c.args.self.now.disk) c.write_list.new.disk = λ ended. absurd cc in
     on_err c.from_residual-in_err-write_list.result begun
 
 pub returns-in_err-commit-clause-begun : goal.returns-in_err-commit-clause-begun
@@ -71,9 +71,16 @@ returns-in_err-commit-clause-begun g c promised staging =
     let names : c.deref-2.result.now ≡ c.self.inside.names.items = c.deref-2.ensures.value in
     let ready : AreReady c.self.inside.names.items (g.D.Disk.seen c.write_list.new.disk) (g.D.Disk.is_whole c.write_list.new.disk) (g.D.Disk.may_leave c.write_list.new.disk) =
     subst (λ (l : List Name). AreReady l (g.D.Disk.seen c.write_list.new.disk) (g.D.Disk.is_whole c.write_list.new.disk) (g.D.Disk.may_leave c.write_list.new.disk)) names (c.in_ok-write_list.ensures.ready promised) in
-    let was : HasBeenReady g.D.Disk.moment g.D.Disk.seen g.D.Disk.is_whole g.D.Disk.may_leave c.args.self.now.names c.commit.new.disk =
-    subst (λ (s : Set g.row.D.Denot). HasBeenReady g.D.Disk.moment g.D.Disk.seen g.D.Disk.is_whole g.D.Disk.may_leave s.names c.commit.new.disk) c.self.view_is (record { earlier = c.write_list.new.disk; ready = ready; later = (c.commit.ensures.any_moment promised).later }) in
-    let begun : Ended ≡ Ended → HasBeenReady g.D.Disk.moment g.D.Disk.seen g.D.Disk.is_whole g.D.Disk.may_leave c.args.self.now.names c.commit.new.disk = λ _. was in
+    let was : HasBeenReady g.D.Disk.moment g.D.Disk.left_since g.D.Disk.seen g.D.Disk.is_whole g.D.Disk.may_leave c.args.self.now.names (g.D.Disk.moment c.args.self.now.disk) (g.D.Disk.seen c.args.self.now.disk) c.commit.new.disk =
+    subst (λ (s : Set g.row.D.Denot). HasBeenReady g.D.Disk.moment g.D.Disk.left_since g.D.Disk.seen g.D.Disk.is_whole g.D.Disk.may_leave s.names (g.D.Disk.moment s.disk) (g.D.Disk.seen s.disk) c.commit.new.disk) c.self.view_is (record {
+      earlier = c.write_list.new.disk;
+      since = (c.write_list.ensures.run promised).moments.later;
+      later = (c.commit.ensures.any_moment promised).later;
+      reached = λ f may. (c.commit.ensures.any_moment promised).keeps (g.D.Disk.moment c.write_list.new.disk) f (omega arith) (g.met.D.Disk.counts_now c.write_list.new.disk (g.D.Disk.moment c.write_list.new.disk) f (omega arith) may);
+      ready = ready;
+      same = (c.write_list.ensures.run promised).same;
+    }) in
+    let begun : Ended ≡ Ended → HasBeenReady g.D.Disk.moment g.D.Disk.left_since g.D.Disk.seen g.D.Disk.is_whole g.D.Disk.may_leave c.args.self.now.names (g.D.Disk.moment c.args.self.now.disk) (g.D.Disk.seen c.args.self.now.disk) c.commit.new.disk = λ _. was in
     on_err c.from_residual-in_err-commit.result begun
 
 pub returns-in_err-list-clause-others : goal.returns-in_err-list-clause-others
