@@ -4,6 +4,7 @@ ghost use Rattle.std.specs.Prelude.{◌≡◌, ◌+◌, None, IsErrOf};
 ghost use Rattle.files_in_place.specs.declared.faults.DiskFault.TheVariants.{Failed};
 ghost use Rattle.files_in_place.specs.Disk.{HasCause};
 
+use crate::reserved_names::FOREIGN_LIST;
 use byte_io::{Bytes, Failures};
 use files_in_place::{Disk, DiskFault};
 use std::alloc::{AllocError, Global};
@@ -29,7 +30,9 @@ enum Pending {
     Removed(Vec<u8>),
 }
 
-/// A folder in memory. The calls before the first that fails are done; from it on all fail, or it alone.
+/// A folder in memory. The calls before the first that fails are done; from it on all fail. It is smaller than
+/// [`MemoryDisk`](memory_disk::MemoryDisk), and nothing is proved of it: what a crash may leave of it is counted, so that a test
+/// can go through each of the ways. Of that disk there are too many, and so they are drawn.
 #[derive(Drop)]
 pub(crate) struct CrashDisk {
     alloc: Global,
@@ -37,10 +40,8 @@ pub(crate) struct CrashDisk {
     seen: Vec<Link>,
     on_disk: Vec<Link>,
     pending: Vec<Pending>,
-    /// How many calls more are done before one fails.
-    pub(crate) calls_left: u64,
-    /// Whether the calls after the one that fails are done again.
-    pub(crate) fails_once: bool,
+    // How many calls more are done before one fails.
+    calls_left: u64,
     failures: Failures,
 }
 
@@ -105,7 +106,7 @@ fn left_bytes(bytes: &mut Vec<u8>, choice: u64) -> Result<(), AllocError> {
         1 => bytes.truncate(bytes.len() / 2),
         2 => {
             bytes.clear();
-            bytes.extend_from_slice(b"A\nC\n~~list\n#")?;
+            bytes.extend_from_slice(FOREIGN_LIST.as_bytes())?;
         }
         _ => {}
     }
@@ -153,7 +154,6 @@ impl CrashDisk {
             on_disk: Vec::new(alloc),
             pending: Vec::new(alloc),
             calls_left,
-            fails_once: false,
             failures: Failures::none(),
         }
     }
@@ -236,9 +236,6 @@ impl CrashDisk {
         ensures cause { HasCause self.old.failures self.new.failures (IsErrOf result Failed) }
     {
         if self.calls_left == 0 {
-            if self.fails_once {
-                self.calls_left = u64::MAX;
-            }
             return Err(self.fail());
         }
         self.calls_left -= 1;
@@ -264,6 +261,8 @@ impl Disk for CrashDisk {
     ghost faults = { λ d. d.failures };
 
     ghost none_whole = { λ _ _ _. tt };
+
+    ghost seen_may_stay = { λ _ none. none };
 
     ghost counts_now = { λ _ _ _ _ now. now };
 
@@ -323,7 +322,7 @@ impl Disk for CrashDisk {
     fn sync_file(&mut self, name: &[u8]) -> Result<(), DiskFault> {
         self.call()?;
         let Some(file) = file_of(&self.seen, name) else {
-            return Err(self.fail());
+            return Ok(());
         };
         let Some(content) = self.contents.get_mut(file) else {
             return Err(self.fail());

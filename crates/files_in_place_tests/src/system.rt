@@ -1,15 +1,17 @@
 //! A folder of the system: what recovery makes of it, what a set leaves in it, and its lock.
 
+use crate::new_files::TextFile;
+use crate::reserved_names::{
+    LIST, TEMPORARY_A, TEMPORARY_B, TEMPORARY_D, TEMPORARY_FOLDER, TEMPORARY_LINK, TEMPORARY_LIST,
+};
 use files_in_place::{
     Disk, DiskFault, FileSet, LockFault, SetFault, SystemDisk, lock_folder, recover,
 };
 use std::alloc::Global;
-use std::os::unix::fs::symlink;
+use std::fs::Permissions;
+use std::os::unix::fs::{PermissionsExt, symlink};
 use std::test::Fail;
 use std::{fs, io};
-
-// A name, and what its file holds.
-type TextFile = (&'static str, &'static str);
 
 fn path_in(rt: &HostRuntime, folder: &str, name: &str) -> io::Result<String> {
     Ok(format!(in rt.alloc(); "{folder}/{name}")?)
@@ -71,14 +73,18 @@ const RECOVERED: [(&[TextFile], &[TextFile]); 4] = [
             ("A", "new a"),
             ("B", "old b"),
             ("C", "another"),
-            ("~B", "new b"),
-            ("~~list", "A\nB\n"),
+            (TEMPORARY_B, "new b"),
+            (LIST, "A\nB\n"),
         ],
         &[("A", "new a"), ("B", "new b"), ("C", "another")],
     ),
-    (&[("~D", "new d"), ("~~list", "D\n")], &[("D", "new d")]),
+    (&[(TEMPORARY_D, "new d"), (LIST, "D\n")], &[("D", "new d")]),
     (
-        &[("A", "old a"), ("~A", "new a"), ("~~~list", "A\n")],
+        &[
+            ("A", "old a"),
+            (TEMPORARY_A, "new a"),
+            (TEMPORARY_LIST, "A\n"),
+        ],
         &[("A", "old a")],
     ),
     (&[("A", "old a")], &[("A", "old a")]),
@@ -160,9 +166,9 @@ fn a_link_is_replaced_and_not_followed(rt: HostRuntime) -> Result<(), Fail> {
 // Whether a link without an end goes and a folder stays, both of reserved names.
 fn removes_link_only(rt: &HostRuntime, alloc: Global, folder: &str) -> Result<bool, Fail> {
     make_folder(rt, folder, &[("A", "old a")])?;
-    let inner = path_in(rt, folder, "~folder")?;
+    let inner = path_in(rt, folder, TEMPORARY_FOLDER)?;
     fs::create_dir(rt, inner.as_str())?;
-    symlink(rt, "none", path_in(rt, folder, "~link")?.as_str())?;
+    symlink(rt, "none", path_in(rt, folder, TEMPORARY_LINK)?.as_str())?;
     let ended = recover_folder(rt, alloc, folder)?;
     let is_folder_there = fs::exists(rt, inner.as_str())?;
     fs::remove_dir(rt, inner.as_str())?;
@@ -180,9 +186,9 @@ fn reserved_names_are_removed_but_folders(rt: HostRuntime) -> Result<(), Fail> {
 
 // Whether a list that is a link stops recovery, and nothing is touched.
 fn refuses_linked_list(rt: &HostRuntime, alloc: Global, folder: &str) -> Result<bool, Fail> {
-    let files = [("A", "old a"), ("list", "A\n"), ("~A", "new a")];
+    let files = [("A", "old a"), ("list", "A\n"), (TEMPORARY_A, "new a")];
     make_folder(rt, folder, &files)?;
-    let list = path_in(rt, folder, "~~list")?;
+    let list = path_in(rt, folder, LIST)?;
     symlink(rt, "list", list.as_str())?;
     let ended = recover_folder(rt, alloc, folder)?;
     fs::remove_file(rt, list.as_str())?;
@@ -240,13 +246,15 @@ fn bytes_go_to_the_file_made_last_until_it_is_synced(rt: HostRuntime) -> Result<
     let folder = "folder_of_one_file";
     make_folder(&rt, folder, &[])?;
     let mut disk = open_disk(&rt, alloc, folder)?;
-    let before = disk.append(b"~A", b"a").is_err() && disk.sync_file(b"~A").is_err();
-    disk.create(b"~A")?;
-    let other = disk.append(b"~B", b"b").is_err() && disk.create(b"~A").is_err();
-    disk.append(b"~A", b"a")?;
-    disk.sync_file(b"~A")?;
-    let after = disk.append(b"~A", b"a").is_err();
-    assert!(rt; before && other && after && has_just(&rt, folder, &[("~A", "a")])?);
+    let before = disk.append(TEMPORARY_A.as_bytes(), b"a").is_err()
+        && disk.sync_file(TEMPORARY_A.as_bytes()).is_ok();
+    disk.create(TEMPORARY_A.as_bytes())?;
+    let other = disk.append(TEMPORARY_B.as_bytes(), b"b").is_err()
+        && disk.create(TEMPORARY_A.as_bytes()).is_err();
+    disk.append(TEMPORARY_A.as_bytes(), b"a")?;
+    disk.sync_file(TEMPORARY_A.as_bytes())?;
+    let after = disk.append(TEMPORARY_A.as_bytes(), b"a").is_err();
+    assert!(rt; before && other && after && has_just(&rt, folder, &[(TEMPORARY_A, "a")])?);
     fs::remove_dir_all(&rt, folder)?;
     Ok(())
 }
@@ -267,6 +275,41 @@ fn is_locked_once(rt: &HostRuntime, folder: &str) -> Result<bool, Fail> {
 fn a_folder_is_locked_once(rt: HostRuntime) -> Result<(), Fail> {
     let folder = "locked_folder";
     assert!(rt; is_locked_once(&rt, folder)?);
+    fs::remove_dir_all(&rt, folder)?;
+    Ok(())
+}
+
+// The mode of a file, and that of a new file which takes its place.
+fn mode_after(rt: &HostRuntime, alloc: Global, folder: &str, mode: u32) -> Result<u32, Fail> {
+    make_folder(rt, folder, &OLD)?;
+    let path = path_in(rt, folder, "A")?;
+    fs::set_permissions(rt, path.as_str(), Permissions::from_mode(mode))?;
+    write_set(rt, alloc, folder, true)?;
+    Ok(fs::metadata(rt, path.as_str())?.permissions().mode() & 0o7777)
+}
+
+#[test]
+fn a_new_file_has_the_mode_of_the_one_that_it_replaces(rt: HostRuntime) -> Result<(), Fail> {
+    let alloc = rt.alloc();
+    let folder = "folder_of_modes";
+    for mode in [0o600, 0o640, 0o664, 0o755] {
+        assert!(rt; mode_after(&rt, alloc, folder, mode)? == mode);
+    }
+    fs::remove_dir_all(&rt, folder)?;
+    Ok(())
+}
+
+#[test]
+fn a_file_that_nobody_may_write_is_not_replaced(rt: HostRuntime) -> Result<(), Fail> {
+    let alloc = rt.alloc();
+    let folder = "folder_of_a_protected_file";
+    make_folder(&rt, folder, &OLD)?;
+    let path = path_in(&rt, folder, "A")?;
+    fs::set_permissions(&rt, path.as_str(), Permissions::from_mode(0o444))?;
+    let mut set = FileSet::new(alloc, open_disk(&rt, alloc, folder)?);
+    let is_refused = set.begin(b"A") == Err(SetFault::Failed);
+    set.abandon()?;
+    assert!(rt; is_refused && has_just(&rt, folder, &OLD)?);
     fs::remove_dir_all(&rt, folder)?;
     Ok(())
 }

@@ -1,0 +1,2 @@
+pub mod Tearing
+pub mod AnyDisk

@@ -1,0 +1,111 @@
+-- That the model of a disk holds of these outcomes.
+use Rattle.std.proofs.Common.{◌≡◌, ◌≢◌, inl, inr, ⊎_elim, ◌⊎◌, ℕ, ◌≤◌, List, [], ◌∷◌, ◌++◌, length, Bool, true, false, Option, None, Some, option_map, cond, refl, sym, ◌∙◌, ap, arith}
+use Rattle.std.proofs.lemmas.Bool.{cases_Bool, both_ways, cond-true, cond-false}
+use Rattle.std.proofs.lemmas.Slice.Eq.{bytes_eq-Decides}
+use Rattle.std.specs.Str.{bytes_eq}
+use Rattle.files_in_place.specs.Folder.{Name, Folder, SameBut}
+use Rattle.files_in_place.specs.Disk.{MayMove, HasMoved, SameButTwo, Elapses}
+use Rattle.memory_disk.specs.declared.disk_call.DiskCall.{DiskCall}
+use Rattle.memory_disk.specs.declared.disk_call.DiskCall.TheVariants.{Create, Append, SyncFile, Rename, Remove, SyncFolder}
+use Rattle.memory_disk.specs.Seen.{seen_after}
+use Rattle.memory_disk.specs.Outcomes.{IsWhole, MayLeave, MightHaveLeft}
+
+pub eq_same : (a b : Name) → a ≡ b → bytes_eq a b ≡ true
+eq_same a b same = (bytes_eq-Decides a b).1 same
+
+pub eq_other : (a b : Name) → a ≢ b → bytes_eq a b ≡ false
+eq_other a b other = elim (cases_Bool (bytes_eq a b)) [
+  | inl same ↦ absurd (other ((bytes_eq-Decides a b).0 same))
+  | inr apart ↦ apart
+]
+
+pub same_or_other : (a b : Name) → (a ≡ b) ⊎ (a ≢ b)
+same_or_other a b = elim (cases_Bool (bytes_eq a b)) [
+  | inl same ↦ inl ((bytes_eq-Decides a b).0 same)
+  | inr apart ↦ inr (λ same. both_ways (bytes_eq a b) apart (eq_same a b same))
+]
+
+-- what a call shows at the names that it doesn't touch
+pub created_other : (name : Name) (before : List DiskCall) → SameBut name (seen_after before) (seen_after (Create name ∷ before))
+created_other name before n other = cond-false (bytes_eq name n) (Some []) (seen_after before n) (eq_other name n (λ same. other (sym same)))
+
+pub created : (name : Name) (before : List DiskCall) → seen_after (Create name ∷ before) name ≡ Some []
+created name before = cond-true (bytes_eq name name) (Some []) (seen_after before name) (eq_same name name refl)
+
+abbrev longer_by : List ℕ → Option (List ℕ) → Option (List ℕ)
+longer_by bytes content = option_map (λ was. was ++ bytes) content
+
+pub appended_other : (name : Name) (bytes : List ℕ) (before : List DiskCall) → SameBut name (seen_after before) (seen_after (Append name bytes ∷ before))
+appended_other name bytes before n other = cond-false (bytes_eq name n) (longer_by bytes (seen_after before n)) (seen_after before n) (eq_other name n (λ same. other (sym same)))
+
+pub appended : (name : Name) (bytes : List ℕ) (before : List DiskCall) → seen_after (Append name bytes ∷ before) name ≡ option_map (λ content. content ++ bytes) (seen_after before name)
+appended name bytes before = cond-true (bytes_eq name name) (longer_by bytes (seen_after before name)) (seen_after before name) (eq_same name name refl)
+
+pub removed_other : (name : Name) (before : List DiskCall) → SameBut name (seen_after before) (seen_after (Remove name ∷ before))
+removed_other name before n other = cond-false (bytes_eq name n) None (seen_after before n) (eq_other name n (λ same. other (sym same)))
+
+pub removed : (name : Name) (before : List DiskCall) → seen_after (Remove name ∷ before) name ≡ None
+removed name before = cond-true (bytes_eq name name) None (seen_after before name) (eq_same name name refl)
+
+-- what a rename shows, by whether the name is the new one or the old one
+abbrev moved_by : Bool → Bool → Option (List ℕ) → Option (List ℕ) → Option (List ℕ)
+moved_by is_to is_from from_content content = cond is_to from_content (cond is_from None content)
+
+pub moved_to : (from to : Name) (before : List DiskCall) → seen_after (Rename from to ∷ before) to ≡ seen_after before from
+moved_to from to before = ap (λ (b : Bool). moved_by b (bytes_eq from to) (seen_after before from) (seen_after before to)) (eq_same to to refl)
+
+pub moved_from : (from to : Name) (before : List DiskCall) → from ≢ to → seen_after (Rename from to ∷ before) from ≡ None
+moved_from from to before other =
+    ap (λ (b : Bool). moved_by b (bytes_eq from from) (seen_after before from) (seen_after before from)) (eq_other to from (λ same. other (sym same)))
+    ∙ ap (λ (b : Bool). moved_by false b (seen_after before from) (seen_after before from)) (eq_same from from refl)
+
+pub moved_other : (from to : Name) (before : List DiskCall) → SameButTwo from to (seen_after before) (seen_after (Rename from to ∷ before))
+moved_other from to before n not_from not_to =
+    ap (λ (b : Bool). moved_by b (bytes_eq from n) (seen_after before from) (seen_after before n)) (eq_other to n (λ same. not_to (sym same)))
+    ∙ ap (λ (b : Bool). moved_by false b (seen_after before from) (seen_after before n)) (eq_other from n (λ same. not_from (sym same)))
+
+pub has_moved : (from to : Name) (before : List DiskCall) → from ≢ to → HasMoved from to (seen_after before) (seen_after (Rename from to ∷ before))
+has_moved from to before other = record { there = moved_to from to before; gone = moved_from from to before other }
+
+may_move : (from to : Name) (before : List DiskCall) → MayMove from to (seen_after before) (seen_after (Rename from to ∷ before))
+may_move from to before = elim (same_or_other from to) [
+  | inr other ↦ record { either = inr (moved_to from to before, inr (moved_from from to before other)); elsewhere = moved_other from to before }
+  | inl same ↦ record {
+    either = inr (moved_to from to before, inl (ap (seen_after (Rename from to ∷ before)) same ∙ moved_to from to before));
+    elsewhere = moved_other from to before;
+  }
+]
+
+-- what is seen is one of the folders that a crash may leave
+pub seen_may_stay : (calls : List DiskCall) → MayLeave calls (seen_after calls)
+seen_may_stay [] = λ n. refl
+seen_may_stay (Create name ∷ before) = (seen_after before, seen_may_stay before, created_other name before)
+seen_may_stay (Append name bytes ∷ before) = (seen_after before, seen_may_stay before, appended_other name bytes before)
+seen_may_stay (SyncFile name ∷ before) = seen_may_stay before
+seen_may_stay (Rename from to ∷ before) = (seen_after before, seen_may_stay before, may_move from to before)
+seen_may_stay (Remove name ∷ before) = (seen_after before, seen_may_stay before, record { either = inr (removed name before); elsewhere = removed_other name before })
+seen_may_stay (SyncFolder ∷ before) = (seen_may_stay before, λ n whole. refl)
+
+pub none_whole : (calls : List DiskCall) (n : Name) → seen_after calls n ≡ None → IsWhole calls n
+none_whole calls n none = inl none
+
+pub counts_now : (calls : List DiskCall) (t : ℕ) (c : Folder) → t ≤ length calls → MayLeave calls c → MightHaveLeft t calls c
+counts_now [] t c le now = now
+counts_now (call ∷ before) t c le now = inl now
+
+pub only_now : (calls : List DiskCall) (c : Folder) → MightHaveLeft (length calls) calls c → MayLeave calls c
+only_now [] c left = left
+only_now (call ∷ before) c (inl now) = now
+only_now (call ∷ before) c (inr earlier) = absurd (omega (arith, earlier.0))
+
+-- time goes on by one call more
+pub elapses : (call : DiskCall) (before : List DiskCall) → Elapses (length before) (length (call ∷ before)) (λ t. MightHaveLeft t before) (λ t. MightHaveLeft t (call ∷ before)) (MayLeave (call ∷ before))
+elapses call before = record {
+  later = omega arith;
+  nothing_else = λ t c le since. ⊎_elim (λ now. inr now) (λ was. inl was.1) since;
+  keeps = λ t c le past. inr (le, past);
+}
+
+-- or by none
+pub stands : (calls : List DiskCall) → Elapses (length calls) (length calls) (λ t. MightHaveLeft t calls) (λ t. MightHaveLeft t calls) (MayLeave calls)
+stands calls = record { later = omega arith; nothing_else = λ t c le since. inl since; keeps = λ t c le past. past }

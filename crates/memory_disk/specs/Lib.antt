@@ -1,0 +1,5 @@
+pub mod Seen
+pub mod Outcomes
+pub mod Crashes
+pub mod AnyDisk
+pub mod Laws
