@@ -9,7 +9,7 @@ use Rattle.station_lines.specs.declared.setup.entry.SetupEntry.{SetupEntry}
 use Rattle.std.specs.Prelude.{Option, Some, None, slice_get, Result, Ok, Err}
 use Rattle.station_files.specs.Files.{IsFileOf}
 use Rattle.office_check.specs.declared.fault.EntryFault.{EntryFault}
-use Rattle.office_check.specs.declared.fault.EntryFault.TheVariants.{CannotRead, CannotReadMemos, NoTable, NoIndex}
+use Rattle.office_check.specs.declared.fault.EntryFault.TheVariants.{Unloaded, UnloadedMemos, NoTable, NoIndex}
 use Rattle.dbf_image.specs.Growing.{Growing}
 use Rattle.office_check.specs.declared.finding.Finding.{Finding}
 use Rattle.office_check.specs.declared.finding.Finding.TheVariants.{Refused}
@@ -142,8 +142,8 @@ kept-next table i lt is =
 pub look_of_read : (files : Option (List NamedFile)) (dbf : List ℕ) (dbt : Option (List ℕ)) (bytes : List ℕ) (memos : Option (List ℕ)) (look : Result LoadedTable EntryFault)
     → IsFileOf files dbf bytes → IsMemosLook files dbt (Ok memos) → IsTableContent bytes memos look → IsTableLook files dbf dbt look
 look_of_read files dbf dbt bytes memos (Ok loaded) f m h = (bytes, memos, f, m, h)
-look_of_read files dbf dbt bytes memos (Err CannotRead) f m h = tt
-look_of_read files dbf dbt bytes memos (Err CannotReadMemos) f m h = let bad = h.5 in absurd cc
+look_of_read files dbf dbt bytes memos (Err (Unloaded why)) f m h = let bad = h.5 in absurd cc
+look_of_read files dbf dbt bytes memos (Err (UnloadedMemos why)) f m h = let bad = h.5 in absurd cc
 look_of_read files dbf dbt bytes memos (Err (NoTable why details)) f m h = (bytes, memos, f, m, h)
 look_of_read files dbf dbt bytes memos (Err (NoIndex why details)) f m h = (bytes, memos, f, m, h)
 

@@ -10,12 +10,15 @@ use Rattle.ndx_index.specs.declared.fault.NdxFault.TheVariants.{NoMemory as NoRo
 use Rattle.ndx_index.specs.declared.ndx_file.NdxFile.{NdxFile}
 use Rattle.ndx_index.specs.Header.{IsIndex, HasNdxFault}
 use Rattle.station_files.specs.declared.named.NamedFile.{NamedFile}
-use Rattle.station_files.specs.Files.{IsFileOf}
+use Rattle.station_files.specs.declared.source.LoadFault.TheVariants as load
+use Rattle.station_files.specs.Files.{IsFileOf, IsUnrecovered, load_refusal}
 use Rattle.station_lines.specs.declared.setup.entry.SetupEntry.{SetupEntry}
 use Rattle.station_lines.specs.declared.setup.entry.SetupEntry.TheVariants.{Table, Index, Station}
 use Rattle.station_lines.specs.Setup.{is_table_of}
 use Rattle.office_check.specs.declared.fault.EntryFault.{EntryFault}
-use Rattle.office_check.specs.declared.fault.EntryFault.TheVariants.{CannotRead, CannotReadMemos, NoTable, NoIndex}
+use Rattle.office_check.specs.declared.fault.EntryFault.TheVariants.{Unloaded, UnloadedMemos, NoTable, NoIndex}
+use Rattle.office_check.specs.declared.fault.LoadRefusal.{LoadRefusal}
+use Rattle.office_check.specs.declared.fault.LoadRefusal.TheVariants.{CannotRead, Unrecovered}
 use Rattle.office_check.specs.declared.finding.Finding.{Finding}
 use Rattle.office_check.specs.declared.finding.Finding.TheVariants as found
 use Rattle.office_check.specs.declared.finding.IndexFinding.{IndexFinding}
@@ -32,12 +35,23 @@ use Rattle.office_check.specs.declared.finding.TableCounts.{TableCounts}
 
 -- ---- the files of an entry
 
--- the bytes of a file of memos: none is named, or it is that of the path, or it can't be read
+-- why no bytes are had of the file of a path: a set's list lies in its folder, or it can't be read and it is not known
+-- that such a list is what it is refused for
+abbrev pub IsLoadRefusal : Option (List NamedFile) → List ℕ → LoadRefusal → Type 0
+IsLoadRefusal files path Unrecovered = IsUnrecovered files path
+IsLoadRefusal files path CannotRead = load_refusal files path ≢ Some load.Unrecovered
+
+-- the bytes of the file of a path, or why there are none
+abbrev pub IsFileLook : Option (List NamedFile) → List ℕ → Result (List ℕ) LoadRefusal → Type 0
+IsFileLook files path (Ok bytes) = IsFileOf files path bytes
+IsFileLook files path (Err why) = IsLoadRefusal files path why
+
+-- the bytes of a file of memos: none is named, or it is that of the path, or none are had
 abbrev pub IsMemosLook : Option (List NamedFile) → Option (List ℕ) → Result (Option (List ℕ)) EntryFault → Type 0
 IsMemosLook files None (Ok memos) = memos ≡ None
 IsMemosLook files (Some path) (Ok memos) = (bytes : List ℕ) × IsFileOf files path bytes × (memos ≡ Some bytes)
 IsMemosLook files None (Err fault) = ⊥
-IsMemosLook files (Some path) (Err fault) = fault ≡ CannotReadMemos
+IsMemosLook files (Some path) (Err fault) = (why : LoadRefusal) × IsLoadRefusal files path why × (fault ≡ UnloadedMemos why)
 
 -- the bytes of its two files are those of the table, or are refused as a table's
 abbrev pub IsTableContent : List ℕ → Option (List ℕ) → Result LoadedTable EntryFault → Type 0
@@ -51,14 +65,14 @@ IsReadTable files dbf dbt look =
     (bytes : List ℕ) × (memos : Option (List ℕ)) × IsFileOf files dbf bytes × IsMemosLook files dbt (Ok memos) × IsTableContent bytes memos look
 
 abbrev pub IsTableLook : Option (List NamedFile) → List ℕ → Option (List ℕ) → Result LoadedTable EntryFault → Type 0
-IsTableLook files dbf dbt (Err CannotRead) = Unit {0}
-IsTableLook files dbf dbt (Err CannotReadMemos) = IsMemosLook files dbt (Err CannotReadMemos)
+IsTableLook files dbf dbt (Err (Unloaded why)) = IsLoadRefusal files dbf why
+IsTableLook files dbf dbt (Err (UnloadedMemos why)) = IsMemosLook files dbt (Err (UnloadedMemos why))
 IsTableLook files dbf dbt look = IsReadTable files dbf dbt look
 
 -- the index of the file of a path, or why there is none
 abbrev pub IsIndexLook : Option (List NamedFile) → List ℕ → Result NdxFile EntryFault → Type 0
 IsIndexLook files ndx (Ok file) = (bytes : List ℕ) × IsFileOf files ndx bytes × IsIndex bytes file.expr file.key_len file.pairs.pairs
-IsIndexLook files ndx (Err CannotRead) = Unit {0}
+IsIndexLook files ndx (Err (Unloaded why)) = IsLoadRefusal files ndx why
 IsIndexLook files ndx (Err (NoIndex fault details)) =
     (fault ≢ NoRoomForIndex) × (bytes : List ℕ) × IsFileOf files ndx bytes × HasNdxFault bytes fault × IsIndexDetails bytes fault details
 IsIndexLook files ndx (Err fault) = ⊥
@@ -110,7 +124,7 @@ IsFinding files before findings (Table name dbf dbt) (found.Refused fault) = IsT
 IsFinding files before findings (Index table name ndx) (found.Index index) = IsIndexFinding files before findings table ndx index
 IsFinding files before findings (Index table name ndx) (found.Refused fault) = IsIndexLook files ndx (Err fault)
 IsFinding files before findings (Station script) found.Script = (bytes : List ℕ) × IsFileOf files script bytes
-IsFinding files before findings (Station script) (found.Refused fault) = fault ≡ CannotRead
+IsFinding files before findings (Station script) (found.Refused fault) = (why : LoadRefusal) × IsLoadRefusal files script why × (fault ≡ Unloaded why)
 IsFinding files before findings entry finding = ⊥
 
 -- a finding for each of the entries after others

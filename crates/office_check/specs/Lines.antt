@@ -13,7 +13,10 @@ use Rattle.station_lines.specs.declared.setup.entry.SetupEntry.TheVariants.{Tabl
 use Rattle.office_check.specs.declared.damage.ForeignPair.{ForeignPair}
 use Rattle.office_check.specs.declared.damage.IndexDamage.{IndexDamage}
 use Rattle.office_check.specs.declared.fault.EntryFault.{EntryFault}
-use Rattle.office_check.specs.declared.fault.EntryFault.TheVariants.{CannotRead, CannotReadMemos, NoTable, NoIndex}
+use Rattle.office_check.specs.declared.fault.EntryFault.TheVariants.{Unloaded, UnloadedMemos, NoTable, NoIndex}
+use Rattle.office_check.specs.declared.fault.LoadRefusal.{LoadRefusal}
+use Rattle.office_check.specs.declared.fault.LoadRefusal.TheVariants.{CannotRead, Unrecovered}
+use Rattle.station_files.specs.Paths.{folder_of_path}
 use Rattle.office_check.specs.declared.finding.Finding.{Finding}
 use Rattle.office_check.specs.declared.finding.Finding.TheVariants as found
 use Rattle.office_check.specs.declared.finding.TableCounts.{TableCounts}
@@ -125,11 +128,21 @@ index_detail_words index.BadKeyLength details = codes ": " ++ decimal details.nu
 index_detail_words index.BadRecordSize details = codes ": " ++ (decimal details.numbers.record_size ++ (codes " bytes for keys of " ++ decimal details.numbers.key_length))
 index_detail_words why details = bad_page_words details.bad_page
 
-abbrev pub refusal_words : EntryFault → List ℕ
-refusal_words CannotRead = codes "can't be read"
-refusal_words CannotReadMemos = codes "can't be read"
-refusal_words (NoTable why details) = codes "no table: " ++ (table_refusal why ++ table_detail_words why details)
-refusal_words (NoIndex why details) = codes "no index: " ++ (index_refusal why ++ index_detail_words why details)
+-- that the folder of a path is not recovered, and how that is done
+abbrev pub unrecovered_words : List ℕ → List ℕ
+unrecovered_words path = codes "the folder is not recovered: start with --out " ++ folder_of_path path
+
+-- why no bytes are had of the file of this path; where its folder is not recovered, also what to do
+abbrev pub load_words : List ℕ → LoadRefusal → List ℕ
+load_words path CannotRead = codes "can't be read"
+load_words path Unrecovered = unrecovered_words path
+
+-- why the files of an entry are refused, of which this path is told
+abbrev pub refusal_words : List ℕ → EntryFault → List ℕ
+refusal_words path (Unloaded why) = load_words path why
+refusal_words path (UnloadedMemos why) = load_words path why
+refusal_words path (NoTable why details) = codes "no table: " ++ (table_refusal why ++ table_detail_words why details)
+refusal_words path (NoIndex why details) = codes "no index: " ++ (index_refusal why ++ index_detail_words why details)
 
 -- the length of the keys and that of the expression's
 abbrev pub length_words : ℕ → ℕ → List ℕ
@@ -194,12 +207,12 @@ abbrev pub memo_use_words : Option MemoUse → List ℕ
 memo_use_words None = codes "good"
 memo_use_words (Some used) = decimal used.blocks ++ (codes " blocks: good" ++ (unnamed_words used.unnamed used.first_unnamed ++ shared_words used.shared used.first_shared))
 
--- what was found
-abbrev pub finding_words : Finding → List ℕ
-finding_words (found.Table counts) = counts_words counts
-finding_words (found.Index index) = decimal index.keys ++ (codes " keys: " ++ state_words index.state)
-finding_words found.Script = codes "good"
-finding_words (found.Refused fault) = refusal_words fault
+-- what was found at an entry of which this path is told
+abbrev pub finding_words : List ℕ → Finding → List ℕ
+finding_words path (found.Table counts) = counts_words counts
+finding_words path (found.Index index) = decimal index.keys ++ (codes " keys: " ++ state_words index.state)
+finding_words path found.Script = codes "good"
+finding_words path (found.Refused fault) = refusal_words path fault
 
 -- the name of a table or an index
 abbrev pub entry_name : SetupEntry → List ℕ
@@ -207,9 +220,9 @@ entry_name (Table name dbf dbt) = name
 entry_name (Index table name ndx) = name
 entry_name (Station script) = codes "STATION"
 
--- the path that is told: of a table's two the DBF's, but where its memos can't be read
+-- the path that is told: of a table's two the DBF's, but where it is that of its memos of which no bytes are had
 abbrev pub entry_path : SetupEntry → Finding → List ℕ
-entry_path (Table name dbf (Some dbt)) (found.Refused CannotReadMemos) = dbt
+entry_path (Table name dbf (Some dbt)) (found.Refused (UnloadedMemos why)) = dbt
 entry_path (Table name dbf dbt) finding = dbf
 entry_path (Index table name ndx) finding = ndx
 entry_path (Station script) finding = script
@@ -224,7 +237,9 @@ memos_line (Table name dbf (Some dbt)) (found.Table counts) = words_line name db
 memos_line entry finding = []
 
 abbrev pub entry_lines : SetupEntry → Finding → List ℕ
-entry_lines entry finding = words_line (entry_name entry) (entry_path entry finding) (finding_words finding) ++ memos_line entry finding
+entry_lines entry finding =
+    let path = entry_path entry finding in
+    words_line (entry_name entry) path (finding_words path finding) ++ memos_line entry finding
 
 -- the lines of the entries, in their order
 abbrev pub setup_lines : List SetupEntry → List Finding → List ℕ

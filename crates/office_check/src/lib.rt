@@ -23,7 +23,7 @@ mod look;
 mod table_file;
 
 pub use damage::{ForeignPair, IndexDamage, no_damage};
-pub use fault::EntryFault;
+pub use fault::{EntryFault, LoadRefusal};
 pub use finding::{Finding, IndexFinding, TableCounts};
 pub use freshness::IndexState;
 pub use head_numbers::{IndexNumbers, TableNumbers};

@@ -178,8 +178,14 @@ fn append_state(alloc: Global, text: &mut Vec<u8>, state: &IndexState) -> Result
     append_state_rest(alloc, text, state)
 }
 
-fn append_finding(alloc: Global, text: &mut Vec<u8>, finding: &Finding) -> Result<(), AllocError>
-    ensures ok { OnOk result (text.new.items ≡ text.old.items ++ finding_words finding.now) }
+// What was found at an entry of which this path is told.
+fn append_finding(
+    alloc: Global,
+    text: &mut Vec<u8>,
+    path: &[u8],
+    finding: &Finding,
+) -> Result<(), AllocError>
+    ensures ok { OnOk result (text.new.items ≡ text.old.items ++ finding_words path.now finding.now) }
 {
     match finding {
         Finding::Table(counts) => append_counts(alloc, text, *counts),
@@ -189,7 +195,7 @@ fn append_finding(alloc: Global, text: &mut Vec<u8>, finding: &Finding) -> Resul
             append_state(alloc, text, &index.state)
         }
         Finding::Script => text.extend_from_slice(b"good"),
-        Finding::Refused(fault) => append_refusal(alloc, text, *fault),
+        Finding::Refused(fault) => append_refusal(alloc, text, path, *fault),
     }
 }
 
@@ -209,7 +215,7 @@ fn entry_path<'a>(entry: &'a SetupEntry, finding: &Finding) -> &'a [u8]
 {
     match entry {
         SetupEntry::Table { dbf, dbt, .. } => match (dbt, finding) {
-            (Some(dbt), Finding::Refused(EntryFault::CannotReadMemos)) => dbt.as_slice(),
+            (Some(dbt), Finding::Refused(EntryFault::UnloadedMemos(_))) => dbt.as_slice(),
             _ => dbf.as_slice(),
         },
         SetupEntry::Index { ndx, .. } => ndx.as_slice(),
@@ -264,14 +270,10 @@ fn append_entry(
 ) -> Result<(), AllocError>
     ensures ok { OnOk result (text.new.items ≡ text.old.items ++ entry_lines entry.now finding.now) }
 {
+    let path = entry_path(entry, finding);
     let mut words = Vec::new(alloc);
-    append_finding(alloc, &mut words, finding)?;
-    append_line(
-        text,
-        entry_name(entry),
-        entry_path(entry, finding),
-        words.as_slice(),
-    )?;
+    append_finding(alloc, &mut words, path, finding)?;
+    append_line(text, entry_name(entry), path, words.as_slice())?;
     append_memo_line(alloc, text, entry, finding)
 }
 

@@ -1,12 +1,11 @@
 //! The files of an entry.
 
-ghost use Rattle.std.specs.Prelude.{◌≡◌, ◌+◌, ℕ, List, Option, IfOk, IfSome};
+ghost use Rattle.std.specs.Prelude.{◌≡◌, ◌+◌, ℕ, List, Option, IfOk};
 ghost use Rattle.station_files.specs.declared.named.NamedFile.{NamedFile};
-ghost use Rattle.station_files.specs.Files.{IsFileOf};
-ghost use Rattle.office_check.specs.Findings.{IsMemosLook, IsTableContent, IsTableLook, IsIndexLook, IsCounts};
+ghost use Rattle.office_check.specs.Findings.{IsFileLook, IsMemosLook, IsTableContent, IsTableLook, IsIndexLook, IsCounts};
 ghost use Rattle.office_check.specs.LoadCounts.{IsFileLoad, IsMemosLoad, IsTableLoad, IsIndexLoad};
 
-use crate::fault::EntryFault;
+use crate::fault::{EntryFault, LoadRefusal};
 use crate::finding::{Finding, TableCounts};
 use crate::index_file::index_details;
 use crate::table_file::{MemoUse, table_file};
@@ -16,21 +15,22 @@ use ndx_index::{NdxFault, NdxFile, read_ndx};
 use station_files::{LoadFault, Source};
 use std::alloc::{AllocError, Global};
 
-/// The bytes of the file of a path; `None` where it can't be read.
+/// The bytes of the file of a path, or why there are none.
 ///
 /// An `Err` says that there was no memory.
 pub(crate) fn load_file<S: Source>(
     alloc: Global,
     source: &mut S,
     path: &Bytes,
-) -> Result<Option<Bytes>, AllocError>
-    ensures found { IfOk result (λ read. IfSome read (λ bytes. IsFileOf (S.files source.old) path.now bytes)) }
+) -> Result<Result<Bytes, LoadRefusal>, AllocError>
+    ensures look { IfOk result (IsFileLook (S.files source.old) path.now) }
     ensures loads { IfOk result (IsFileLoad (S.files source.old) path.now (S.failures source.old) (S.failures source.new)) }
     ensures kept { S.files source.new ≡ S.files source.old }
 {
     match source.load(alloc, path.as_slice()) {
-        Ok(bytes) => Ok(Some(bytes)),
-        Err(LoadFault::CannotRead) => Ok(None),
+        Ok(bytes) => Ok(Ok(bytes)),
+        Err(LoadFault::CannotRead) => Ok(Err(LoadRefusal::CannotRead)),
+        Err(LoadFault::Unrecovered) => Ok(Err(LoadRefusal::Unrecovered)),
         Err(LoadFault::NoMemory) => Err(AllocError),
     }
 }
@@ -49,8 +49,8 @@ fn load_memos<S: Source>(
         return Ok(Ok(None));
     };
     match load_file(alloc, source, path)? {
-        Some(bytes) => Ok(Ok(Some(bytes))),
-        None => Ok(Err(EntryFault::CannotReadMemos)),
+        Ok(bytes) => Ok(Ok(Some(bytes))),
+        Err(why) => Ok(Err(EntryFault::UnloadedMemos(why))),
     }
 }
 
@@ -100,8 +100,9 @@ pub(crate) fn load_table<S: Source>(
     ensures loads { IfOk result (IsTableLoad (S.files source.old) dbf.now dbt.now (S.failures source.old) (S.failures source.new)) }
     ensures kept { S.files source.new ≡ S.files source.old }
 {
-    let Some(bytes) = load_file(alloc, source, dbf)? else {
-        return Ok(Err(EntryFault::CannotRead));
+    let bytes = match load_file(alloc, source, dbf)? {
+        Ok(bytes) => bytes,
+        Err(why) => return Ok(Err(EntryFault::Unloaded(why))),
     };
     match load_memos(alloc, source, dbt)? {
         Ok(memos) => read_content(alloc, bytes, &memos),
@@ -121,8 +122,9 @@ pub(crate) fn load_index<S: Source>(
     ensures loads { IfOk result (IsIndexLoad (S.files source.old) ndx.now (S.failures source.old) (S.failures source.new)) }
     ensures kept { S.files source.new ≡ S.files source.old }
 {
-    let Some(bytes) = load_file(alloc, source, ndx)? else {
-        return Ok(Err(EntryFault::CannotRead));
+    let bytes = match load_file(alloc, source, ndx)? {
+        Ok(bytes) => bytes,
+        Err(why) => return Ok(Err(EntryFault::Unloaded(why))),
     };
     match read_ndx(alloc, bytes.as_slice()) {
         Ok(file) => Ok(Ok(file)),

@@ -148,8 +148,8 @@ fn look_at_script<S: Source>(
     ensures kept { S.files source.new ≡ S.files source.old }
 {
     let finding = match load_file(alloc, source, script)? {
-        Some(_) => Finding::Script,
-        None => Finding::Refused(EntryFault::CannotRead),
+        Ok(_) => Finding::Script,
+        Err(why) => Finding::Refused(EntryFault::Unloaded(why)),
     };
     Ok(Look {
         finding,

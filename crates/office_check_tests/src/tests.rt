@@ -12,6 +12,7 @@ use std::test::*;
 
 mod details;
 mod indexes;
+mod unrecovered;
 
 // The leaf of the index of BOB, record 1, and ADA, record 2, by NAME: the count, and of each key no child, the record number,
 // the key and two bytes that fill it up.

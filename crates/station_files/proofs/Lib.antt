@@ -1,3 +1,4 @@
+pub mod PathLaws
 pub mod FolderLaws
 pub mod PlanLaws
 pub mod ListingLaws

@@ -1,5 +1,6 @@
 -- New files for a folder of a disk: what is true while they are written, and once they have their places.
 use Rattle.std.proofs.Common.{◌≡◌, ◌≢◌, inl, inr, ℕ, List, [], ◌∷◌, ◌++◌, true, false, Option, None, Some, Result, Ok, Err, option_map, if◌then◌else◌, refl, sym, ◌∙◌, ap, subst, append_assoc}
+use Rattle.std.specs.Prelude.{Bool, not, ◌&&◌}
 use Rattle.std.proofs.lemmas.Bool.{cases_Bool, both_ways}
 use Rattle.std.proofs.lemmas.List.{append-nil, map-append}
 use Rattle.std.proofs.lemmas.Grind.{flat_map-append}
@@ -18,7 +19,7 @@ use Rattle.files_in_place.specs.declared.faults.SetFault.{SetFault}
 use Rattle.files_in_place.specs.declared.faults.SetFault.TheVariants as F
 use Rattle.station_files.specs.declared.named.NamedFile.{NamedFile}
 use Rattle.station_files.specs.Files.{file_at, files_in, listing, opening, IsOfBytes}
-use Rattle.station_files.specs.Placed.{with_files, names_of, AreTemporary, IsCurrent, AreWritten, IsPlaced, IsOldOrPlaced}
+use Rattle.station_files.specs.Placed.{with_files, names_of, AreUnreserved, AreTemporary, IsCurrent, AreWritten, IsPlaced, IsOldOrPlaced}
 use Rattle.station_files.proofs.ListingLaws.{files_again}
 
 some_is : (a b : Name) → Some a ≡ Some b → a ≡ b
@@ -59,15 +60,16 @@ written_none written names current folder none no_names no_file = record {
   listed = none;
   bytes = tt;
   named = no_names;
+  free = tt;
   there = tt;
   last = subst (λ (c : Option Name). IsCurrent [] c) (sym no_file) refl;
 }
 
 -- an empty file more
-pub written_begun : (written : List ℕ) (names : List Name) (current : Option Name) (old new : Folder) (name : Name) (listed : List ℕ) (more : List Name) (begun : Option Name) → AreWritten written names current old → is_staged names name ≡ false
+pub written_begun : (written : List ℕ) (names : List Name) (current : Option Name) (old new : Folder) (name : Name) (listed : List ℕ) (more : List Name) (begun : Option Name) → AreWritten written names current old → is_staged names name ≡ false → is_reserved name ≡ false
     → list_all is_byte name ≡ true → SameBut (temporary name) old new → new (temporary name) ≡ Some [] → listed ≡ written ++ opening name → more ≡ names ++ name ∷ [] → begun ≡ Some (temporary name)
     → AreWritten listed more begun new
-written_begun written names current old new name listed more begun was free low others empty list_is more_is begun_is =
+written_begun written names current old new name listed more begun was free unreserved low others empty list_is more_is begun_is =
     let file : NamedFile = file_with name [] in
     let files = was.files ++ file ∷ [] in
     let alone : is_staged (names_of was.files) name ≡ false = ap (λ (l : List Name). is_staged l name) (sym was.named) ∙ free in
@@ -76,6 +78,7 @@ written_begun written names current old new name listed more begun was free low 
       listed = list_is ∙ (ap (λ (w : List ℕ). w ++ opening name) was.listed ∙ (ap (λ (w : List ℕ). listing was.files ++ w) (sym (append-nil (opening name))) ∙ sym (listing_more was.files file)));
       bytes = all_append IsOfBytes was.files file was.bytes (record { name = low; bytes = refl });
       named = more_is ∙ (ap (λ (l : List Name). l ++ name ∷ []) was.named ∙ sym (names_more was.files file));
+      free = all_append (λ f. is_reserved f.name ≡ false) was.files file was.free unreserved;
       there = all_append (λ f. new (temporary f.name) ≡ Some f.bytes) was.files file (still_there was.files name old new alone others was.there) empty;
       last = subst (λ (c : Option Name). IsCurrent files c) (sym begun_is) (record { before = was.files; last = file; order = refl; begun = refl; other = alone });
     }
@@ -92,6 +95,7 @@ written_more written names lies old new bytes listed was low grew others list_is
     let is : lies ≡ temporary file.name = some_is lies (temporary file.name) last.begun in
     let here : SameBut (temporary file.name) old new = λ n other. others n (λ same. other (sym (some_is lies n same) ∙ is)) in
     let all_there = all_before (λ f. old (temporary f.name) ≡ Some f.bytes) last.before file (subst (λ (l : List NamedFile). AreTemporary l old) last.order was.there) in
+    let all_free = all_before (λ f. is_reserved f.name ≡ false) last.before file (subst (λ (l : List NamedFile). AreUnreserved l) last.order was.free) in
     let all_bytes = all_before IsOfBytes last.before file (subst (λ (l : List NamedFile). AllByRecursion IsOfBytes l) last.order was.bytes) in
     let now : new (temporary file.name) ≡ Some (file.bytes ++ bytes) =
     ap new (sym is) ∙ (grew ∙ ap (option_map (λ content. content ++ bytes)) (ap old is ∙ all_there.1)) in
@@ -103,6 +107,7 @@ written_more written names lies old new bytes listed was low grew others list_is
           ∙ (ap (λ (w : List ℕ). listing last.before ++ w) (append_assoc (opening file.name) file.bytes bytes) ∙ sym (listing_more last.before fuller))));
       bytes = all_append IsOfBytes last.before fuller all_bytes.0 (record { name = all_bytes.1.name; bytes = both_bytes file.bytes bytes all_bytes.1.bytes low });
       named = was.named ∙ (ap names_of last.order ∙ (names_more last.before file ∙ sym (names_more last.before fuller)));
+      free = all_append (λ f. is_reserved f.name ≡ false) last.before fuller all_free.0 all_free.1;
       there = all_append (λ f. new (temporary f.name) ≡ Some f.bytes) last.before fuller (still_there last.before file.name old new last.other here all_there.0) now;
       last = record { before = last.before; last = fuller; order = refl; begun = last.begun; other = last.other };
     }
@@ -129,6 +134,14 @@ told_files written names current old w = ap files_in w.listed ∙ files_again w.
 pub told_there : (written : List ℕ) (names : List Name) (current : Option Name) (old : Folder) → AreWritten written names current old → AreTemporary (files_in written) old
 told_there written names current old w = subst (λ (l : List NamedFile). AreTemporary l old) (sym (told_files written names current old w)) w.there
 
+-- none has a reserved name
+pub told_free : (written : List ℕ) (names : List Name) (current : Option Name) (old : Folder) → AreWritten written names current old → AreUnreserved (files_in written)
+told_free written names current old w = subst (λ (l : List NamedFile). AreUnreserved l) (sym (told_files written names current old w)) w.free
+
+-- the set's names are those of the files of the list
+pub told_names : (written : List ℕ) (names : List Name) (current : Option Name) (old : Folder) → AreWritten written names current old → names ≡ names_of (files_in written)
+told_names written names current old w = w.named ∙ ap names_of (sym (told_files written names current old w))
+
 same_with : (written : List ℕ) (names : List Name) (current : Option Name) (old : Folder) (n : Name) → AreWritten written names current old → with_staged names old n ≡ with_files (files_in written) old n
 same_with written names current old n w =
     ap (λ (l : List Name). with_staged l old n) w.named ∙ (with_files_is w.files old n w.there ∙ ap (λ (l : List NamedFile). with_files l old n) (sym (told_files written names current old w)))
@@ -153,6 +166,7 @@ leaves_placed moment left_since before now written names current old w leaves = 
     | inl was ↦ inl was
     | inr either ↦ inr (old_or_placed written names current old c w either)
   ];
+  keeps = leaves.keeps;
 }
 
 -- ---- what the calls of a set say
@@ -174,11 +188,22 @@ free_by names name phase r x ok is bad same = elim (cases_Bool (is_file_name nam
   | inr unfit ↦ let refused : r ≡ Err F.BadName = (bad is unfit).0 in absurd cc
 ]
 
+unreserved_name : (reserved rest : Bool) → (not reserved && rest) ≡ true → reserved ≡ false
+unreserved_name true rest fits = absurd cc
+unreserved_name false rest fits = refl
+
+-- a name that was begun is not reserved
+unreserved_by : {T X : Type 0} (name : Name) (phase : Phase) (r : Result T SetFault) (x : T) → r ≡ Ok x → phase ≡ Staging → (phase ≡ Staging → is_file_name name ≡ false → (r ≡ Err F.BadName) × X) → is_reserved name ≡ false
+unreserved_by name phase r x ok is bad = elim (cases_Bool (is_file_name name)) [
+  | inl fits ↦ unreserved_name (is_reserved name) _ fits
+  | inr unfit ↦ let refused : r ≡ Err F.BadName = (bad is unfit).0 in absurd cc
+]
+
 pub begun_by : {T X Y : Type 0} (written : List ℕ) (names : List Name) (current : Option Name) (old new : Folder) (name : Name) (listed : List ℕ) (more : List Name) (begun : Option Name) (phase : Phase) (r : Result T SetFault) (x : T) → r ≡ Ok x → phase ≡ Staging
     → (phase ≡ Staging → is_file_name name ≡ false → (r ≡ Err F.BadName) × X) → (phase ≡ Staging → is_file_name name ≡ true → is_staged names name ≡ true → (r ≡ Err F.SameName) × Y) → AreWritten written names current old → list_all is_byte name ≡ true
     → SameBut (temporary name) old new → new (temporary name) ≡ Some [] → listed ≡ written ++ opening name → more ≡ names ++ name ∷ [] → begun ≡ Some (temporary name) → AreWritten listed more begun new
 begun_by written names current old new name listed more begun phase r x ok is bad same was low others empty list_is more_is begun_is =
-    written_begun written names current old new name listed more begun was (free_by names name phase r x ok is bad same) low others empty list_is more_is begun_is
+    written_begun written names current old new name listed more begun was (free_by names name phase r x ok is bad same) (unreserved_by name phase r x ok is bad) low others empty list_is more_is begun_is
 
 more_by : {T X : Type 0} (written : List ℕ) (names : List Name) (current : Option Name) (old new : Folder) (bytes listed : List ℕ) (r : Result T SetFault) (x : T) → r ≡ Ok x → (current ≡ None → (r ≡ Err F.NotBegun) × X)
     → AreWritten written names current old → list_all is_byte bytes ≡ true → ((lies : Name) → current ≡ Some lies → new lies ≡ option_map (λ content. content ++ bytes) (old lies))

@@ -7,7 +7,7 @@ use Rattle.files_in_place.specs.Disk.{LeavesOnly}
 use Rattle.files_in_place.specs.Faults.{IsOfDisk}
 use Rattle.files_in_place.specs.Folder.{Name, Folder, SameBut, is_reserved, temporary, first_of}
 use Rattle.files_in_place.specs.Recovery.{HasOldFiles, SameFree}
-use Rattle.files_in_place.specs.Staged.{Set}
+use Rattle.files_in_place.specs.Staged.{Set, HasBeenReady}
 use Rattle.files_in_place.specs.declared.phase.Phase.{Phase}
 use Rattle.files_in_place.specs.declared.phase.Phase.TheVariants.{Staging, Failed, Ended}
 use Rattle.files_in_place.specs.declared.faults.SetFault.{SetFault}
@@ -16,7 +16,7 @@ use Rattle.station_files.specs.declared.finish_fault.FinishFault.{FinishFault}
 use Rattle.station_files.specs.declared.finish_fault.FinishFault.TheVariants as finish
 use Rattle.station_files.specs.declared.named.NamedFile.{NamedFile}
 use Rattle.station_files.specs.Files.{file_at, files_in}
-use Rattle.station_files.specs.Placed.{with_files, AreWritten, IsCurrent, IsOldOrPlaced, KeepsOld}
+use Rattle.station_files.specs.Placed.{with_files, AreWritten, IsCurrent, IsOldOrPlaced, IsPlaced, KeepsOld}
 
 some_is : (a b : Name) → Some a ≡ Some b → a ≡ b
 some_is a b same = ap (λ (o : Option Name). elim o [ Some m ↦ m | None ↦ a ]) same
@@ -103,6 +103,11 @@ has_risen before after rose none = omega (arith, rose, none)
 pub rises_through : (before mid after : ℕ) → before < mid → mid ≤ after → before < after
 rises_through before mid after rose later = omega (arith, rose, later)
 
+-- the disk has failed as often as at the beginning, or more often
+pub fails_on : {D : Type 0} (origin : Option D) (faults : D → ℕ) (old new : D) → faults old ≤ faults new → IfSome origin (λ start. faults start ≤ faults old) → IfSome origin (λ start. faults start ≤ faults new)
+fails_on None faults old new later was = tt
+fails_on (Some start) faults old new later was = omega (arith, later, was)
+
 -- ---- moments
 
 -- what is said of the beginning, where it is this
@@ -147,6 +152,18 @@ module _ {D : Type 0} (moment : D → ℕ) (left_since : D → ℕ → Folder �
     | inr other ↦ subst (λ (s : Set D). KeepsOld moment left_since seen start s) (sym (closed other)) was
   ]
 
+  -- files that are removed, or could not be
+  pub keeps_removed : (start : D) (old new : Set D) → (old.phase ≡ Ended → new ≡ old) → (old.phase ≢ Ended → LeavesOnly moment left_since old.disk new.disk (HasOldFiles (seen old.disk)))
+      → (old.phase ≢ Ended → new.phase ≢ Ended → SameFree (seen old.disk) (seen new.disk)) → KeepsOld moment left_since seen start old → KeepsOld moment left_since seen start new
+  keeps_removed start old new closed leaves same was = elim (ended_or old.phase) [
+    | inl ended ↦ subst (λ (s : Set D). KeepsOld moment left_since seen start s) (sym (closed ended)) was
+    | inr goes ↦ record {
+      same = λ still n free. same goes still n free ∙ was.same goes n free;
+      leaves = leaves_on moment left_since start old.disk new.disk (HasOldFiles (seen start)) (HasOldFiles (seen old.disk)) (HasOldFiles (seen start)) was.leaves (leaves goes)
+          (λ c has. has) (λ c has. old_files_from (seen start) (seen old.disk) c (was.same goes) has);
+    }
+  ]
+
   -- files that are put in place
   pub placed_since : (start : D) (old : Set D) (now : D) (written : List ℕ) → old.phase ≡ Staging → LeavesOnly moment left_since old.disk now (IsOldOrPlaced written (seen old.disk))
       → KeepsOld moment left_since seen start old → LeavesOnly moment left_since start now (IsOldOrPlaced written (seen start))
@@ -171,3 +188,20 @@ module _ {D : Type 0} (moment : D → ℕ) (left_since : D → ℕ → Folder �
     | inl ended ↦ subst (λ (s : Set D). LeavesOnly moment left_since old s.disk P) (sym (kept ended)) leaves
     | inr goes ↦ leaves_on moment left_since old mid.disk new.disk P (HasOldFiles (seen mid.disk)) P leaves (more goes) (λ c p. p) (λ c has. of_old c (old_files_from (seen old) (seen mid.disk) c (same goes) has))
   ])
+
+-- files that are in place in the folder of the beginning
+pub placed_from_start : {D : Type 0} (moment : D → ℕ) (left_since : D → ℕ → Folder → Type 0) (seen : D → Folder) (written : List ℕ) (start : D) (old : Set D) (now : D) → old.phase ≡ Staging
+    → IsPlaced written (seen old.disk) (seen now) → KeepsOld moment left_since seen start old → IsPlaced written (seen start) (seen now)
+placed_from_start moment left_since seen written start old now staging placed was n = placed n ∙ with_files_same (files_in written) (seen start) (seen old.disk) (was.same (not_ended old.phase staging)) n
+
+-- files that were ready in a call were so since the beginning
+pub ready_since : {D : Type 0} (moment : D → ℕ) (left_since : D → ℕ → Folder → Type 0) (seen : D → Folder) (is_whole : D → Name → Type 0) (may_leave : D → Folder → Type 0) (names : List Name) (start : D) (old : Set D) (now : D) → old.phase ≡ Staging
+    → HasBeenReady moment left_since seen is_whole may_leave names (moment old.disk) (seen old.disk) now → KeepsOld moment left_since seen start old → HasBeenReady moment left_since seen is_whole may_leave names (moment start) (seen start) now
+ready_since moment left_since seen is_whole may_leave names start old now staging been was = record {
+  earlier = been.earlier;
+  since = omega (arith, been.since, was.leaves.later);
+  later = been.later;
+  reached = been.reached;
+  ready = been.ready;
+  same = λ n free. been.same n free ∙ was.same (not_ended old.phase staging) n free;
+}

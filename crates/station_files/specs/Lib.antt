@@ -1,3 +1,4 @@
+pub mod Paths
 pub mod Files
 pub mod ClosedIndex
 pub mod Writable

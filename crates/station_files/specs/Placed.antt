@@ -48,12 +48,17 @@ abbrev pub IsCurrent : List NamedFile → Option Name → Type 0
 IsCurrent files None = files ≡ []
 IsCurrent files (Some lies) = IsBegunLast files (Some lies)
 
--- The files of the set are those of the list, and the disk has them under their temporary names.
+-- none of the files has a reserved name
+abbrev pub AreUnreserved : List NamedFile → Type 0
+AreUnreserved files = AllByRecursion (λ file. is_reserved file.name ≡ false) files
+
+-- The files of the set are those of the list, none of them has a reserved name, and the disk has them under their temporary names.
 pub record AreWritten (written : List ℕ) (names : List Name) (current : Option Name) (folder : Folder) : Type 0 where
   pub files : List NamedFile
   pub listed : written ≡ listing files
   pub bytes : AllByRecursion IsOfBytes files
   pub named : names ≡ names_of files
+  pub free : AreUnreserved files
   pub there : AreTemporary files folder
   pub last : IsCurrent files current
 

@@ -2,6 +2,7 @@
 
 ghost use Rattle.std.specs.Prelude.{None};
 
+use crate::path::{is_reserved_path, list_beside};
 use crate::source::{LoadFault, MAX_FILE_BYTES, Source};
 use crate::transfer::read_whole;
 use dbf_fields::Bytes;
@@ -27,10 +28,12 @@ impl<R: Files + Drop> DiskSource<R> {
     }
 }
 
-// What the system says of a path.
-fn look_at<R: Files>(rt: &R, path: &str) -> io::Result<Metadata> {
+// What the system says of a path; asked again where a signal interrupts it.
+fn look_at<L: Fn() -> io::Result<Metadata>>(look: L) -> io::Result<Metadata>
+    requires { L.IsAlwaysCallable look }
+{
     for _ in 0..MAX_TRIES {
-        match fs::metadata(rt, path) {
+        match look() {
             Err(e) if e.kind() == ErrorKind::Interrupted => {}
             ended => return ended,
         }
@@ -38,10 +41,24 @@ fn look_at<R: Files>(rt: &R, path: &str) -> io::Result<Metadata> {
     Err(io::Error::from(ErrorKind::Interrupted))
 }
 
+// Whether something has the path, be it a link. An error where the system doesn't say.
+fn is_there<R: Files>(rt: &R, path: &[u8]) -> Result<bool, LoadFault> {
+    let Ok(path) = str::from_utf8(path) else {
+        return Err(LoadFault::CannotRead);
+    };
+    match look_at(|| fs::symlink_metadata(rt, path)) {
+        Ok(_) => Ok(true),
+        Err(e) => match e.kind() {
+            ErrorKind::NotFound | ErrorKind::NotADirectory => Ok(false),
+            _ => Err(LoadFault::from(e)),
+        },
+    }
+}
+
 // The bytes of a file, read into room that is taken at once for as many as the system says that it has. What is no regular
 // file is not opened: a pipe would make that wait.
 fn read_file<R: Files>(rt: &R, alloc: Global, path: &str) -> Result<Vec<u8>, LoadFault> {
-    let found = look_at(rt, path)?;
+    let found = look_at(|| fs::metadata(rt, path))?;
     if !found.is_file() {
         return Err(LoadFault::CannotRead);
     }
@@ -54,9 +71,16 @@ impl<R: Files + Drop> Source for DiskSource<R> {
 
     ghost failures = { λ _. None };
 
-    /// The bytes of the file of a path. `CannotRead` too where the path is that of a folder, a pipe or a device, at once; and
-    /// where the file has become shorter since its length was asked for.
+    /// The bytes of the file of a path. `CannotRead` too where the path is that of a folder, a pipe or a device, at once;
+    /// where the file has become shorter since its length was asked for; and where it can't be told whether a list lies beside it.
     fn load(&mut self, alloc: Global, path: &[u8]) -> Result<Bytes, LoadFault> {
+        if is_reserved_path(path) {
+            return Err(LoadFault::CannotRead);
+        }
+        let list = list_beside(alloc, path)?;
+        if is_there(&self.rt, &list)? {
+            return Err(LoadFault::Unrecovered);
+        }
         let Ok(path) = str::from_utf8(path) else {
             return Err(LoadFault::CannotRead);
         };

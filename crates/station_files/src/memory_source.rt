@@ -1,15 +1,18 @@
 //! Files in memory, to be read.
 
-ghost use Rattle.std.specs.Prelude.{◌≡◌, option_map};
+ghost use Rattle.std.specs.Prelude.{◌≡◌, ◌+◌, is_some, option_map};
 ghost use Rattle.station_files.specs.Files.{is_at, file_at};
+ghost use Rattle.station_files.specs.Paths.{list_beside};
 
 use crate::named::NamedFile;
+use crate::path::{is_list_beside, is_reserved_path};
 use crate::source::{LoadFault, MAX_FILE_BYTES, Source};
 use dbf_fields::Bytes;
 use dbf_image::Failures;
 use std::alloc::Global;
 
-/// A source of files in memory. A load fails where no file has the path, and where it was told to.
+/// A source of files in memory. A load fails where no file has the path or the path ends with a reserved name, and where it
+/// was told to.
 #[derive(Debug, Drop)]
 pub struct MemorySource {
     /// The files.
@@ -39,6 +42,31 @@ fn find_file<'a>(files: &'a [NamedFile], path: &[u8]) -> Option<&'a Bytes>
     None
 }
 
+// Whether a file has the name of a set's list in the folder of a path.
+fn has_list_beside(files: &[NamedFile], path: &[u8]) -> bool
+    ensures value { result ≡ is_some (file_at files.now (list_beside path.now)) }
+{
+    for file in files {
+        if is_list_beside(file.name.as_slice(), path) {
+            return true;
+        }
+    }
+    false
+}
+
+impl MemorySource {
+    // One more load has failed.
+    fn fail(&mut self) -> LoadFault
+        ensures fault { result ≡ LoadFault.CannotRead }
+        ensures files { self.new.files ≡ self.old.files }
+        ensures counted { self.new.failures ≡ self.old.failures + 1 }
+    {
+        self.loads = self.loads.saturating_sub(1);
+        self.failures.count();
+        LoadFault::CannotRead
+    }
+}
+
 impl Source for MemorySource {
     ghost use Rattle.std.specs.Prelude.{Some};
 
@@ -47,6 +75,12 @@ impl Source for MemorySource {
     ghost failures = { λ s. Some s.failures };
 
     fn load(&mut self, alloc: Global, path: &[u8]) -> Result<Bytes, LoadFault> {
+        if is_reserved_path(path) {
+            return Err(self.fail());
+        }
+        if has_list_beside(&self.files, path) {
+            return Err(LoadFault::Unrecovered);
+        }
         if self.loads > 0 {
             if let Some(bytes) = find_file(&self.files, path) {
                 if bytes.as_slice().len() > MAX_FILE_BYTES {
@@ -57,8 +91,6 @@ impl Source for MemorySource {
                 return Ok(copy);
             }
         }
-        self.loads = self.loads.saturating_sub(1);
-        self.failures.count();
-        Err(LoadFault::CannotRead)
+        Err(self.fail())
     }
 }

@@ -1,9 +1,9 @@
 //! Where files are read from.
 
-ghost use Rattle.std.specs.Prelude.{◌≡◌, ◌⊎◌, Err, IfOk, OnOk, List, ℕ, Option};
+ghost use Rattle.std.specs.Prelude.{◌≡◌, ◌⊎◌, Err, Some, IfOk, OnOk, List, ℕ, Option};
 ghost use Rattle.byte_io.specs.Sink.{Rises};
 ghost use Rattle.station_files.specs.declared.named.NamedFile.{NamedFile};
-ghost use Rattle.station_files.specs.Files.{IsFileOf, IsTooLong, IsUnreadable};
+ghost use Rattle.station_files.specs.Files.{IsFileOf, IsTooLong, IsUnrecovered, load_refusal};
 
 use dbf_fields::Bytes;
 use std::alloc::{AllocError, Global};
@@ -19,9 +19,12 @@ pub enum LoadFault {
     /// Memory was refused.
     #[error("out of memory")]
     NoMemory,
-    /// The file can't be read, or is over the limit.
+    /// The file can't be read, or is over the limit, or its path ends with a reserved name.
     #[error("cannot read")]
     CannotRead,
+    /// The list of a set of new files lies in the file's folder: not all of them are in place.
+    #[error("the folder is not recovered")]
+    Unrecovered,
 }
 
 impl From<AllocError> for LoadFault {
@@ -59,13 +62,19 @@ pub trait Source {
     // How often a load has failed, where the type says.
     ghost failures: { Self → Option ℕ };
 
-    /// The bytes of the file of a path. `CannotRead` says that the load failed, or that the file is over
-    /// 1,073,741,824 bytes. `NoMemory` says that the room for its bytes was refused, which is asked for after that.
+    /// The bytes of the file of a path.
+    ///
+    /// A path that ends with a reserved name is refused before anything is looked at: as `CannotRead`, and as a load that failed.
+    /// Then a file is refused in whose folder the list of a set of new files lies: as `Unrecovered`, which is no failure. Else
+    /// `CannotRead` says that the load failed, or that the file is over 1,073,741,824 bytes. `NoMemory` says that room was refused:
+    /// for the file's bytes, which is asked for after all that, or for the path of the list.
     fn load(&mut self, alloc: Global, path: &[u8]) -> Result<Bytes, LoadFault>
         ensures found { IfOk result (λ bytes. IsFileOf (files self.old) path.now bytes) }
         ensures kept { files self.new ≡ files self.old }
         ensures no_failure { OnOk result (failures self.new ≡ failures self.old) }
-        ensures early { IsUnreadable (files self.old) path.now → result ≡ Err LoadFault.CannotRead }
+        ensures early { (fault : LoadFault) → load_refusal (files self.old) path.now ≡ Some fault → result ≡ Err fault }
+        ensures unrecovered { result ≡ Err LoadFault.Unrecovered → IsUnrecovered (files self.old) path.now }
+        ensures seen { result ≡ Err LoadFault.Unrecovered → failures self.new ≡ failures self.old }
         ensures memory { result ≡ Err LoadFault.NoMemory → failures self.new ≡ failures self.old }
         ensures unread { result ≡ Err LoadFault.CannotRead → Rises (failures self.old) (failures self.new) ⊎ IsTooLong (files self.old) path.now };
 }

@@ -12,6 +12,7 @@ use std::test::Fail;
 
 mod close;
 mod transfer;
+mod unrecovered;
 
 fn file(alloc: Global, name: &[u8], bytes: &[u8]) -> Result<NamedFile, AllocError> {
     Ok(NamedFile {
@@ -157,7 +158,7 @@ fn abandoned_files_are_gone(rt: HostRuntime) -> Result<(), Fail> {
     assert_eq!(rt; folder.abandon(), Ok(()));
     let mut source = DiskSource::new(rt.clone()?);
     assert!(rt; loads(alloc, &mut source, b"abandoned/T.DBF", b"old"));
-    assert!(rt; cannot_load(alloc, &mut source, b"abandoned/~T.DBF"));
+    assert!(rt; cannot_load(alloc, &mut source, b"abandoned/~niqarthu~T.DBF"));
     fs::remove_dir_all(&rt, "abandoned")?;
     Ok(())
 }
@@ -210,7 +211,7 @@ fn why_a_file_was_not_begun(rt: HostRuntime) -> Result<(), Fail> {
     let mut folder = new_files(&rt, rt.alloc(), "refused")?;
     let names: [(&[u8], Option<SetFault>); 4] = [
         (b"N.DBF", None),
-        (b"~N.DBF", Some(SetFault::BadName)),
+        (b"~niqarthu~N.DBF", Some(SetFault::BadName)),
         (b"a/b", Some(SetFault::BadName)),
         (b"N.DBF", Some(SetFault::SameName)),
     ];

@@ -18,10 +18,11 @@ use Rattle.whole_run.specs.declared.fault.ServeFault.TheVariants.{NoMemory as No
 use Rattle.whole_run.specs.OpenedSetup.{IsOpenedBy, IsUnopened}
 use Rattle.table_tool.specs.Verdict.{verdict_line}
 use Rattle.table_tool.specs.declared.program.checking.CheckFault.{CheckFault}
-use Rattle.table_tool.specs.declared.program.checking.CheckFault.TheVariants.{CannotRead, BadLine, NoMemory, Sink}
+use Rattle.table_tool.specs.declared.program.checking.CheckFault.TheVariants.{CannotRead, Unrecovered, BadLine, NoMemory, Sink}
 
 abbrev pub check_load_fault : LoadFault → CheckFault
 check_load_fault load.CannotRead = CannotRead
+check_load_fault load.Unrecovered = Unrecovered
 check_load_fault load.NoMemory = NoMemory
 
 abbrev pub check_setup_fault : SetupFault → CheckFault
@@ -54,6 +55,7 @@ pub record IsTold (files : Option (List NamedFile)) (path : List ℕ) (opens : B
 -- the fault is one of the setup's lines, or a want of memory
 abbrev pub IsLineFault : CheckFault → Type 0
 IsLineFault CannotRead = ⊥
+IsLineFault Unrecovered = ⊥
 IsLineFault (BadLine number) = Unit {0}
 IsLineFault NoMemory = Unit {0}
 IsLineFault Sink = ⊥
@@ -65,6 +67,7 @@ HasBadSetupLine files path number = (text : List ℕ) × IsFileOf files path tex
 -- after this fault nothing was told: after each but a failure of the sink
 abbrev pub TellsNothing : CheckFault → Type 0
 TellsNothing CannotRead = Unit {0}
+TellsNothing Unrecovered = Unit {0}
 TellsNothing (BadLine number) = Unit {0}
 TellsNothing NoMemory = Unit {0}
 TellsNothing Sink = ⊥

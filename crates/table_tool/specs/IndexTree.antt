@@ -5,7 +5,7 @@ use Rattle.index_tree.specs.TreeText.{tree_text}
 use Rattle.station_files.specs.declared.named.NamedFile.{NamedFile}
 use Rattle.station_files.specs.Files.{IsFileOf}
 use Rattle.table_tool.specs.declared.program.showing.ShowFault.{ShowFault}
-use Rattle.table_tool.specs.declared.program.showing.ShowFault.TheVariants.{Load, Table, Order, Text}
+use Rattle.table_tool.specs.declared.program.showing.ShowFault.TheVariants.{Load, Memos, Table, Order, Text}
 
 -- what a sink has after the index file of a path was shown: the text of its header and its pages
 pub record IsTreeShown (files : Option (List NamedFile)) (path : List ℕ) (old new : Option (List ℕ)) : Type 0 where
@@ -16,6 +16,7 @@ pub record IsTreeShown (files : Option (List NamedFile)) (path : List ℕ) (old 
 -- so may it fail: the file isn't had, or its text is not written
 abbrev pub IsTreeFault : ShowFault → Type 0
 IsTreeFault (Load why) = Unit {0}
+IsTreeFault (Memos why) = ⊥
 IsTreeFault (Table why) = ⊥
 IsTreeFault (Order why) = ⊥
 IsTreeFault (Text why) = Unit {0}

@@ -12,6 +12,7 @@ use Rattle.whole_run.specs.declared.fault.ServeFault.TheVariants as serve
 -- what a file is not
 abbrev pub file_words : FileFault → List ℕ
 file_words file.CannotRead = codes " can't be read"
+file_words file.Unrecovered = codes " lies in a folder that is not recovered"
 file_words (file.Image fault) = codes " is no table"
 file_words (file.Ndx fault) = codes " is no index"
 

@@ -1,7 +1,7 @@
 -- The journal's file after others, line by line.
 use Rattle.std.proofs.Common.{◌≡◌, ◌≢◌, ℕ, Bool, ◌+◌, List, [], ◌∷◌, ◌++◌, Option, Some, None, Result, Ok, Err, length, drop, refl, sym, ap, subst, ◌∙◌, append_assoc, inl, inr}
 use Rattle.std.specs.Prelude.{IsErrAnd}
-use Rattle.std.specs.List.{slice_get}
+use Rattle.std.specs.List.{slice_get, AllByRecursion}
 use Rattle.std.specs.Fmt.{decimal}
 use Rattle.std.proofs.lemmas.Grind.{flat_map-append}
 use Rattle.std.proofs.lemmas.List.{drop_more}
@@ -15,13 +15,15 @@ use Rattle.station_files.specs.declared.close_fault.CloseFault.TheVariants.{Date
 use Rattle.station_files.specs.declared.closed.ClosedTable.{ClosedTable}
 use Rattle.station_files.specs.declared.named.NamedFile.{NamedFile}
 use Rattle.station_files.specs.Closing.{first_blocked, run_files, IsCutAt}
-use Rattle.station_files.specs.Files.{listing, opening}
+use Rattle.station_files.specs.Files.{listing, opening, IsOfBytes}
+use Rattle.station_files.proofs.ListingLaws.{files_again}
 use Rattle.station_lines.specs.declared.script.format.TheConstants.{LF}
 use Rattle.station_lines.specs.JournalLines.{entry_and, line_parts, journal_text}
 use Rattle.whole_run.specs.declared.fault.ServeFault.{ServeFault}
 use Rattle.whole_run.specs.declared.fault.ServeFault.TheVariants.{Setup, File, Refused, Run, Close, NoMemory}
 use Rattle.whole_run.specs.JournalFile.{journal_name, journal_file, and_journal, IsJournalFault, IsCutWithJournal, IsServedWithJournal, IsCutRunAt, IsCutRunWithJournal}
 use Rattle.whole_run.specs.WholeRun.{IsWriteFault, IsWholeRun, IsCutWriting}
+use Rattle.whole_run.proofs.RunNames.{run_names_differ_with_journal}
 
 -- ---- a line after others
 
@@ -60,6 +62,11 @@ pub with_journal_written : (files : List NamedFile) (journal : List Entry) (old 
     → new ≡ grown mid (listing (journal_file journal ∷ [])) → new ≡ grown old (listing (and_journal files journal))
 with_journal_written files journal old mid new first last =
     last ∙ ap (λ (m : Option (List ℕ)). grown m (listing (journal_file journal ∷ []))) first ∙ all_grown old files (journal_file journal ∷ [])
+
+-- where the files are of bytes, and the journal's is
+pub bytes_with_journal : (files : List NamedFile) (journal : List Entry) → AllByRecursion IsOfBytes files → IsOfBytes (journal_file journal) → AllByRecursion IsOfBytes (and_journal files journal)
+bytes_with_journal [] journal all last = (last, tt)
+bytes_with_journal (file ∷ files) journal all last = (all.0, bytes_with_journal files journal all.1 last)
 
 -- where files are cut, more would have come after them
 cut_more : (name : List ℕ) (old new : Option (List ℕ)) (files more : List NamedFile) → IsCutAt name old new files → IsCutAt name old new (files ++ more)
@@ -149,8 +156,18 @@ unfailed_unbegun failures old new (Err y) fault is begun refused = ap failures (
 -- ---- the whole run
 
 pub served_with_journal : (files : Option (List NamedFile)) (setup : List ℕ) (reindex : Bool) (today : Day) (tables : List ClosedTable) (answers : List (List ℕ)) (count : ℕ) (old new : Option (List ℕ))
-    (run : IsWholeRun files setup reindex tables answers count) → first_blocked 1 tables ≡ None → new ≡ grown old (listing (and_journal (run_files today tables answers) run.history.journal)) → IsServedWithJournal files setup reindex today old new count
-served_with_journal files setup reindex today tables answers count old new run few_blocks written = record { tables = tables; answers = answers; run = run; few_blocks = few_blocks; written = written }
+    (run : IsWholeRun files setup reindex tables answers count) → first_blocked 1 tables ≡ None → new ≡ grown old (listing (and_journal (run_files today tables answers) run.history.journal))
+    → AllByRecursion IsOfBytes (and_journal (run_files today tables answers) run.history.journal) → IsServedWithJournal files setup reindex today old new count
+served_with_journal files setup reindex today tables answers count old new run few_blocks written bytes = record {
+  tables = tables;
+  answers = answers;
+  run = run;
+  few_blocks = few_blocks;
+  written = written;
+  bytes = bytes;
+  told = files_again (and_journal (run_files today tables answers) run.history.journal) bytes;
+  distinct = run_names_differ_with_journal files setup reindex tables answers count run today;
+}
 
 run_cut_at : (files : Option (List NamedFile)) (setup : List ℕ) (reindex : Bool) (today : Day) (tables : List ClosedTable) (answers : List (List ℕ)) (count : ℕ) (old new : Option (List ℕ)) (name : List ℕ)
     (run : IsWholeRun files setup reindex tables answers count) → IsCutAt name old new (and_journal (run_files today tables answers) run.history.journal) → IsCutRunAt files setup reindex today old new name

@@ -8,6 +8,7 @@ pub mod Headings
 pub mod NewNames
 pub mod IndexesKept
 pub mod HandedNames
+pub mod RunNames
 pub mod OpenLaws
 pub mod OneOpening
 pub mod OpenedLaws

@@ -5,7 +5,12 @@ use Rattle.std.proofs.lemmas.List.{take_more}
 use Rattle.station_files.specs.declared.named.NamedFile.{NamedFile}
 use Rattle.station_lines.specs.declared.setup.entry.SetupEntry.{SetupEntry}
 use Rattle.whole_run.specs.declared.fault.ServeFault.{ServeFault}
+use Rattle.station_files.specs.Files.{IsFileOf}
+use Rattle.station_lines.specs.declared.setup.fault.SetupFault.{SetupFault}
+use Rattle.station_lines.specs.declared.setup.fault.SetupFault.TheVariants.{Bad, NoMemory as NoMemoryToParse}
+use Rattle.station_lines.specs.Setup.{IsSetup}
 use Rattle.whole_run.specs.Loading.{Read, nothing, Loads, LoadAll}
+use Rattle.whole_run.specs.WholeRun.{setup_fault, IsReadFault}
 
 load_all_last : (files : Option (List NamedFile)) (entries : List SetupEntry) (entry : SetupEntry) (a b c : Read)
     → LoadAll files entries a b → Loads files entry b c → LoadAll files (entries ++ entry ∷ []) a c
@@ -23,3 +28,8 @@ loaded_more files entries i entry b c lt is h k =
 pub err_exit : {T : Type 0} {fault : ServeFault} (r : Result T ServeFault) (P : ServeFault → Type 0) → IsErrAnd r (λ y. y ≡ fault) → P fault → IfErr r P
 err_exit (Ok x) P h p = absurd h
 err_exit (Err y) P h p = subst P (sym h) p
+
+-- why a setup that was loaded says nothing
+pub unsaid : (files : Option (List NamedFile)) (setup text : List ℕ) (fault : SetupFault) → IsFileOf files setup text → ((n : ℕ) → fault ≡ Bad n → IsSetup text (Err n)) → IsReadFault files setup (setup_fault fault)
+unsaid files setup text (Bad n) found bad = record { text = text; found = found; says = bad n refl }
+unsaid files setup text NoMemoryToParse found bad = tt

@@ -18,11 +18,11 @@ has_name ts name = list_any (λ (t : Heading). includes_name t.1 name) ts
 
 -- ---- tests
 
-both_false : (a b : Bool) → (a || b) ≡ false → (a ≡ false) × (b ≡ false)
+pub both_false : (a b : Bool) → (a || b) ≡ false → (a ≡ false) × (b ≡ false)
 both_false true b h = absurd cc
 both_false false b h = (refl, h)
 
-or_false : (a b : Bool) → a ≡ false → b ≡ false → (a || b) ≡ false
+pub or_false : (a b : Bool) → a ≡ false → b ≡ false → (a || b) ≡ false
 or_false true b h k = absurd cc
 or_false false b h k = k
 
@@ -30,7 +30,7 @@ or_none : (a : Bool) → (a || false) ≡ a
 or_none true = refl
 or_none false = refl
 
-differs : (a b : List ℕ) → bytes_eq a b ≡ false → bytes_eq b a ≡ false
+pub differs : (a b : List ℕ) → bytes_eq a b ≡ false → bytes_eq b a ≡ false
 differs a b h = by (bytes_eq b a) refl
   where
     by : (t : Bool) → bytes_eq b a ≡ t → t ≡ false
@@ -40,7 +40,7 @@ differs a b h = by (bytes_eq b a) refl
         let other : bytes_eq a b ≡ true = (bytes_eq-Decides a b).1 (sym same) in
         absurd cc
 
-includes_end : (names : List (List ℕ)) (name x : List ℕ) → includes_name (names ++ name ∷ []) x ≡ (includes_name names x || bytes_eq x name)
+pub includes_end : (names : List (List ℕ)) (name x : List ℕ) → includes_name (names ++ name ∷ []) x ≡ (includes_name names x || bytes_eq x name)
 includes_end names name x = list_any-append (bytes_eq x) names (name ∷ []) ∙ ap (λ (b : Bool). includes_name names x || b) (or_none (bytes_eq x name))
 
 has_end : (ts : List Heading) (t : Heading) (x : List ℕ) → has_name (ts ++ t ∷ []) x ≡ (has_name ts x || includes_name t.1 x)

@@ -102,7 +102,7 @@ first_alike name xs ys h =
 -- ---- files
 
 pub one_file : (files : List NamedFile) (path a b : List ℕ) → IsFileOf (Some files) path a → IsFileOf (Some files) path b → a ≡ b
-one_file files path a b h k = let same : Some a ≡ Some b = sym h ∙ k in cc
+one_file files path a b h k = let same : Some a ≡ Some b = sym h.has ∙ k.has in cc
 
 one_memo : (files : List NamedFile) (path a b : Option (List ℕ)) → IsMemoFileOf (Some files) path a → IsMemoFileOf (Some files) path b → a ≡ b
 one_memo files None a b h k = h ∙ sym k

@@ -1,7 +1,9 @@
 -- A whole run by its parts, and the faults of its writing.
 use Rattle.std.proofs.Common.{◌≡◌, ◌≤◌, ℕ, Bool, List, Option, Some, None, length, refl}
+use Rattle.std.specs.List.{AllByRecursion}
 use Rattle.dbf_fields.specs.declared.day.Day.{Day}
 use Rattle.dbf_image.specs.Image.{IsOutside}
+use Rattle.byte_io.specs.Sink.{grown}
 use Rattle.catalogue_core.specs.declared.catalogue.TheConstants.{MAX_ENTRIES}
 use Rattle.catalogue_core.specs.Replay.{History, IsLegal, AreOfStations}
 use Rattle.station_files.specs.declared.close_fault.CloseFault.{CloseFault}
@@ -9,11 +11,14 @@ use Rattle.station_files.specs.declared.close_fault.CloseFault.TheVariants.{Date
 use Rattle.station_files.specs.declared.closed.ClosedTable.{ClosedTable}
 use Rattle.station_files.specs.Closing.{first_blocked, run_files}
 use Rattle.station_files.specs.declared.named.NamedFile.{NamedFile}
+use Rattle.station_files.specs.Files.{IsOfBytes, listing}
+use Rattle.station_files.proofs.ListingLaws.{files_again}
 use Rattle.whole_run.specs.declared.fault.ServeFault.{ServeFault}
 use Rattle.whole_run.specs.declared.fault.ServeFault.TheVariants.{Setup, File, Refused, Run, Close, NoMemory}
 use Rattle.whole_run.specs.HandedOver.{AreHandedOver}
 use Rattle.whole_run.specs.Loading.{Read}
-use Rattle.whole_run.specs.WholeRun.{close_fault, IsAllRead, IsRun, IsWriteFault, IsWholeRun, IsServeFault, IsCutWriting, IsCutRun}
+use Rattle.whole_run.specs.WholeRun.{close_fault, IsAllRead, IsRun, IsWriteFault, IsWholeRun, IsServed, IsServeFault, IsCutWriting, IsCutRun}
+use Rattle.whole_run.proofs.RunNames.{run_names_differ}
 
 pub of_writing : (files : Option (List NamedFile)) (setup : List ℕ) (reindex : Bool) (year : ℕ) (fault : ServeFault) (tables : List ClosedTable) (answers : List (List ℕ)) (count : ℕ)
     → IsWholeRun files setup reindex tables answers count → IsWriteFault year tables fault → IsServeFault files setup reindex year fault
@@ -40,6 +45,21 @@ abbrev pub whole_run : (files : Option (List NamedFile)) (setup : List ℕ) (rei
     → IsAllRead files setup read → IsRun reindex read h answers → IsLegal h.opened h.journal → AreOfStations h.opened h.journal → length h.journal ≤ MAX_ENTRIES → AreHandedOver h tables → IsWholeRun files setup reindex tables answers (length h.journal)
 whole_run files setup reindex read h tables answers all run legal of_stations count_bounded handed =
     record { read = read; history = h; all = all; run = run; legal = legal; of_stations = of_stations; count_bounded = count_bounded; handed = handed; counted = refl }
+
+-- a whole run whose files were written
+pub served : (files : Option (List NamedFile)) (setup : List ℕ) (reindex : Bool) (today : Day) (tables : List ClosedTable) (answers : List (List ℕ)) (count : ℕ) (old new : Option (List ℕ))
+    → IsWholeRun files setup reindex tables answers count → first_blocked 1 tables ≡ None → new ≡ grown old (listing (run_files today tables answers)) → AllByRecursion IsOfBytes (run_files today tables answers)
+    → IsServed files setup reindex today old new count
+served files setup reindex today tables answers count old new run few_blocks written bytes = record {
+  tables = tables;
+  answers = answers;
+  run = run;
+  few_blocks = few_blocks;
+  written = written;
+  bytes = bytes;
+  told = files_again (run_files today tables answers) bytes;
+  distinct = run_names_differ files setup reindex tables answers count run today;
+}
 
 -- the run of which a file could not be written
 pub cut_run : (files : Option (List NamedFile)) (setup : List ℕ) (reindex : Bool) (today : Day) (tables : List ClosedTable) (answers : List (List ℕ)) (count : ℕ) (old new : Option (List ℕ)) (fault : ServeFault)

@@ -1,5 +1,6 @@
 -- The journal as the last file of a run.
-use Rattle.std.specs.Prelude.{◌≡◌, ◌≢◌, ◌⊎◌, ℕ, Bool, List, [], ◌∷◌, ◌++◌, codes, Option, None}
+use Rattle.std.specs.Prelude.{◌≡◌, ◌≢◌, ◌⊎◌, ℕ, Bool, List, [], ◌∷◌, ◌++◌, codes, Option, None, bytes_eq}
+use Rattle.std.specs.List.{AllByRecursion, IsDistinct}
 use Rattle.dbf_fields.specs.declared.day.Day.{Day}
 use Rattle.byte_io.specs.Output.{Puts}
 use Rattle.byte_io.specs.Sink.{grown}
@@ -9,7 +10,8 @@ use Rattle.station_files.specs.declared.close_fault.CloseFault.TheVariants.{Writ
 use Rattle.station_files.specs.declared.closed.ClosedTable.{ClosedTable}
 use Rattle.station_files.specs.declared.named.NamedFile.{NamedFile}
 use Rattle.station_files.specs.Closing.{first_blocked, run_files, IsCutAt}
-use Rattle.station_files.specs.Files.{listing}
+use Rattle.station_files.specs.Files.{IsOfBytes, files_in, listing}
+use Rattle.station_files.specs.Placed.{names_of}
 use Rattle.station_lines.specs.JournalLines.{journal_text}
 use Rattle.whole_run.specs.declared.fault.ServeFault.{ServeFault}
 use Rattle.whole_run.specs.declared.fault.ServeFault.TheVariants.{Close, NoMemory}
@@ -71,14 +73,18 @@ UnlessBegun fault holds = fault ≢ NoMemory → ((name : List ℕ) → fault �
 
 -- ---- the whole
 
--- A whole run came to its end: its files stand after what was written before, and after them that of its journal.
+-- A whole run came to its end: its files stand after what was written before, and after them that of its journal. Names and
+-- files are of bytes, so what was written tells these files, and no others; and no two of them have the same name.
 pub record IsServedWithJournal (files : Option (List NamedFile)) (setup : List ℕ) (reindex : Bool) (today : Day)
     (old new : Option (List ℕ)) (count : ℕ) : Type 0 where
   pub tables : List ClosedTable
   pub answers : List (List ℕ)
   pub run : IsWholeRun files setup reindex tables answers count
   pub few_blocks : first_blocked 1 tables ≡ None
-  pub written : new ≡ grown old (listing (and_journal (run_files today tables answers) run.history.journal))
+  pub written : new ≡ grown old (listing (all_files today tables answers run.history.journal))
+  pub bytes : AllByRecursion IsOfBytes (all_files today tables answers run.history.journal)
+  pub told : files_in (listing (all_files today tables answers run.history.journal)) ≡ all_files today tables answers run.history.journal
+  pub distinct : IsDistinct bytes_eq (names_of (all_files today tables answers run.history.journal))
 
 -- a whole run of which the file of this name could not be written, or not whole: those before it are whole
 pub record IsCutRunAt (files : Option (List NamedFile)) (setup : List ℕ) (reindex : Bool) (today : Day)

@@ -15,11 +15,12 @@ use Rattle.station_files.specs.declared.named.NamedFile.{NamedFile}
 use Rattle.station_lines.specs.declared.setup.entry.SetupEntry.{SetupEntry}
 use Rattle.station_lines.specs.declared.setup.entry.SetupEntry.TheVariants.{Table, Index, Station}
 use Rattle.whole_run.specs.declared.fault.FileFault.{FileFault}
-use Rattle.whole_run.specs.declared.fault.FileFault.TheVariants.{CannotRead, Image, Ndx}
+use Rattle.whole_run.specs.declared.fault.FileFault.TheVariants.{CannotRead, Unrecovered, Image, Ndx}
 use Rattle.whole_run.specs.declared.fault.ServeFault.{ServeFault}
 use Rattle.whole_run.specs.declared.fault.ServeFault.TheVariants.{File, NoMemory}
 use Rattle.whole_run.specs.declared.loaded.Loaded.{Loaded}
-use Rattle.station_files.specs.Files.{IsFileOf, IsTooLong}
+use Rattle.station_files.specs.declared.source.LoadFault.TheVariants.{Unrecovered as LoadUnrecovered}
+use Rattle.station_files.specs.Files.{IsFileOf, IsTooLong, IsUnrecovered, load_refusal}
 
 -- ---- what is read
 
@@ -97,9 +98,20 @@ LoadAll files (entry ∷ entries) old new = (next : Read) × Loads files entry o
 
 -- ---- why an entry's files are not read
 
--- a memo file is named and can't be read, or memory is refused
-abbrev pub IsMemoFault : Option (List ℕ) → ServeFault → Type 0
-IsMemoFault dbt fault = (fault ≡ NoMemory) ⊎ ((path : List ℕ) × (dbt ≡ Some path) × (fault ≡ File path CannotRead))
+-- why no bytes are had of the file of a path: a set's list lies in its folder, or it can't be read and it is not known
+-- that such a list is what it is refused for
+abbrev pub IsUnloaded : Option (List NamedFile) → List ℕ → FileFault → Type 0
+IsUnloaded files path Unrecovered = IsUnrecovered files path
+IsUnloaded files path CannotRead = load_refusal files path ≢ Some LoadUnrecovered
+IsUnloaded files path fault = ⊥
+
+-- no bytes are had of the file of this path, or memory is refused
+abbrev pub IsFileFault : Option (List NamedFile) → List ℕ → ServeFault → Type 0
+IsFileFault files path fault = (fault ≡ NoMemory) ⊎ ((why : FileFault) × IsUnloaded files path why × (fault ≡ File path why))
+
+-- a memo file is named of which no bytes are had, or memory is refused
+abbrev pub IsMemoFault : Option (List NamedFile) → Option (List ℕ) → ServeFault → Type 0
+IsMemoFault files dbt fault = (fault ≡ NoMemory) ⊎ ((path : List ℕ) × (dbt ≡ Some path) × (why : FileFault) × IsUnloaded files path why × (fault ≡ File path why))
 
 -- the bytes of the file of this path are refused as a table's, with these memos, or memory is
 abbrev pub IsTableFault : List ℕ → List ℕ → Option (List ℕ) → ServeFault → Type 0
@@ -120,9 +132,10 @@ IsPathIn files (Table name dbf (Some dbt)) path = (path ≡ dbf) ⊎ ((path ≡ 
 IsPathIn files (Index table name ndx) path = path ≡ ndx
 IsPathIn files (Station script) path = path ≡ script
 
--- the reader of the entry's files refuses them, or a file that the entry names can't be read
+-- the reader of the entry's files refuses them, or no bytes are had of a file that the entry names
 abbrev pub IsUnread : Option (List NamedFile) → SetupEntry → List ℕ → FileFault → Type 0
-IsUnread files entry path CannotRead = IsPathIn files entry path
+IsUnread files entry path CannotRead = IsPathIn files entry path × IsUnloaded files path CannotRead
+IsUnread files entry path Unrecovered = IsPathIn files entry path × IsUnloaded files path Unrecovered
 IsUnread files (Table name dbf dbt) path (Image fault) =
     (path ≡ dbf) × (fault ≢ NoRoomForImage) × (bytes : List ℕ) × (memo : Option (List ℕ)) × IsFileOf files dbf bytes × IsMemoFileOf files dbt memo × IsImageRefusal fault bytes memo
 IsUnread files (Index table name ndx) path (Ndx fault) =
@@ -145,7 +158,7 @@ pub record IsFaultIn (files : Option (List NamedFile)) (entries : List SetupEntr
   pub is_fault : IsEntryFault files entry fault
 
 -- what a fault says of the count of loads that failed: a file can't be read where a load failed or the file is over the
--- limit; of want of memory nothing is said; at any other fault no load has failed
+-- limit; of want of memory nothing is said; at any other fault, as where a set's list lies in its folder, no load has failed
 abbrev pub IsFailure : Option (List NamedFile) → Option ℕ → Option ℕ → ServeFault → Type 0
 IsFailure files before after NoMemory = Unit {0}
 IsFailure files before after (File path CannotRead) = Rises before after ⊎ IsTooLong files path

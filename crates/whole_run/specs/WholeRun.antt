@@ -1,5 +1,6 @@
 -- A whole run, from a setup and its files to the files that are written.
-use Rattle.std.specs.Prelude.{◌≡◌, ◌≢◌, ◌⊎◌, ◌≤◌, ℕ, Bool, List, length, Option, Some, None, Result, Ok, Err}
+use Rattle.std.specs.Prelude.{◌≡◌, ◌≢◌, ◌⊎◌, ◌≤◌, ℕ, Bool, List, length, Option, Some, None, Result, Ok, Err, bytes_eq}
+use Rattle.std.specs.List.{AllByRecursion, IsDistinct}
 use Rattle.dbf_fields.specs.declared.day.Day.{Day}
 use Rattle.dbf_image.specs.Image.{IsOutside}
 use Rattle.byte_io.specs.Sink.{grown}
@@ -18,13 +19,13 @@ use Rattle.station_lines.specs.declared.setup.entry.SetupEntry.{SetupEntry}
 use Rattle.station_lines.specs.declared.setup.fault.SetupFault.{SetupFault}
 use Rattle.station_lines.specs.declared.setup.fault.SetupFault.TheVariants.{Bad, NoMemory as NoMemoryToParse}
 use Rattle.whole_run.specs.declared.fault.FileFault.{FileFault}
-use Rattle.whole_run.specs.declared.fault.FileFault.TheVariants.{CannotRead}
 use Rattle.whole_run.specs.declared.fault.ServeFault.{ServeFault}
 use Rattle.whole_run.specs.declared.fault.ServeFault.TheVariants.{Setup, File, Refused, Run, Close, NoMemory}
 use Rattle.station_files.specs.Closing.{first_blocked, run_files, IsCutAt, IsCutBy}
-use Rattle.station_files.specs.Files.{IsFileOf, listing}
+use Rattle.station_files.specs.Files.{IsFileOf, IsOfBytes, files_in, listing}
+use Rattle.station_files.specs.Placed.{names_of}
 use Rattle.whole_run.specs.HandedOver.{AreHandedOver}
-use Rattle.whole_run.specs.Loading.{Read, nothing, LoadAll, IsFaultIn}
+use Rattle.whole_run.specs.Loading.{Read, nothing, LoadAll, IsUnloaded, IsFaultIn}
 use Rattle.station_run.specs.Faults.{IsFaultOfRun}
 use Rattle.station_run.specs.Reports.{AreReports}
 use Rattle.station_lines.specs.Setup.{IsSetup}
@@ -43,10 +44,10 @@ pub record IsAllRead (files : Option (List NamedFile)) (setup : List ℕ) (read 
   pub said : IsSaid files setup (Ok entries)
   pub loaded : LoadAll files entries nothing read
 
--- the setup can't be read, or a file that it names is not read
+-- no bytes are had of the setup, or a file that it names is not read
 abbrev pub IsUnreadFile : Option (List NamedFile) → List ℕ → List ℕ → FileFault → Type 0
 IsUnreadFile files setup path fault =
-    ((path ≡ setup) × (fault ≡ CannotRead))
+    ((path ≡ setup) × IsUnloaded files path fault)
     ⊎ ((entries : List SetupEntry) × IsSaid files setup (Ok entries) × IsFaultIn files entries (File path fault))
 
 -- why not all is read
@@ -122,13 +123,17 @@ pub record IsWholeRun (files : Option (List NamedFile)) (setup : List ℕ) (rein
   pub counted : count ≡ length history.journal
 
 -- A whole run came to its end: these are its tables and answers, none of the tables has more blocks than its file can
--- have, and their files stand after what was written before.
+-- have, and their files stand after what was written before. Names and files are of bytes, so what was written tells these
+-- files, and no others; and no two of them have the same name.
 pub record IsServed (files : Option (List NamedFile)) (setup : List ℕ) (reindex : Bool) (today : Day) (old new : Option (List ℕ)) (count : ℕ) : Type 0 where
   pub tables : List ClosedTable
   pub answers : List (List ℕ)
   pub run : IsWholeRun files setup reindex tables answers count
   pub few_blocks : first_blocked 1 tables ≡ None
   pub written : new ≡ grown old (listing (run_files today tables answers))
+  pub bytes : AllByRecursion IsOfBytes (run_files today tables answers)
+  pub told : files_in (listing (run_files today tables answers)) ≡ run_files today tables answers
+  pub distinct : IsDistinct bytes_eq (names_of (run_files today tables answers))
 
 -- why a whole run does not come to its end
 abbrev pub IsServeFault : Option (List NamedFile) → List ℕ → Bool → ℕ → ServeFault → Type 0

@@ -12,8 +12,10 @@ use std::alloc::{AllocError, AllocFailed};
 /// Why a file was not read.
 #[derive(Clone, Copy, Debug, PartialEq, Eq)]
 pub enum FileFault {
-    /// It can't be read, or is over 1,073,741,824 bytes.
+    /// It can't be read, or is over 1,073,741,824 bytes, or its path ends with a reserved name.
     CannotRead,
+    /// The list of a set of new files lies in its folder: not all of them are in place.
+    Unrecovered,
     /// Its bytes are no table.
     Image(ImageFault),
     /// Its bytes are no index.

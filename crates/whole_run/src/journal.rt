@@ -1,10 +1,11 @@
 //! The journal's file, written entry by entry.
 #![tactic(auto, using(byte_io::specs::Laws::Sinks::sinks))]
 
-ghost use Rattle.std.specs.Prelude.{◌≡◌, ◌∷◌, [], ℕ, List, Err, OnOk, OnErr, IfErr};
+ghost use Rattle.std.specs.Prelude.{◌≡◌, ◌∷◌, [], ℕ, List, Err, true, OnOk, OnErr, IfErr};
+ghost use Rattle.std.specs.List.{list_all};
 ghost use Rattle.byte_io.specs.Output.{Puts};
-ghost use Rattle.byte_io.specs.Sink.{grown, IsFront, Rises};
-ghost use Rattle.station_files.specs.Files.{listing};
+ghost use Rattle.byte_io.specs.Sink.{grown, is_byte, IsFront, Rises};
+ghost use Rattle.station_files.specs.Files.{IsOfBytes, listing};
 ghost use Rattle.station_lines.specs.JournalLines.{journal_text};
 ghost use Rattle.whole_run.specs.JournalFile.{journal_file, journal_under, PutsFront, IsJournalFault};
 
@@ -75,6 +76,7 @@ fn write_lines<S: ByteSink>(
     ensures unfailed { result ≡ Err LinesFault.NoMemory → S.failures sink.new ≡ S.failures sink.old }
     ensures kept { IsFront (S.written sink.old) (S.written sink.new) }
     ensures front { OnErr result (IsFront (S.written sink.new) (grown (S.written sink.old) (journal_text journal.now))) }
+    ensures bytes { OnOk result (list_all is_byte (journal_text journal.now) ≡ true) }
 {
     let mut out = SinkWriter::new(sink);
     let put = put_lines(alloc, &mut out, journal);
@@ -96,6 +98,7 @@ fn write_file<F: Folder>(
     ensures unfailed { result ≡ Err LinesFault.NoMemory → F.failures folder.new ≡ F.failures folder.old }
     ensures kept { IsFront (F.written folder.old) (F.written folder.new) }
     ensures front { OnErr result (IsFront (F.written folder.new) (grown (F.written folder.old) (listing (journal_under name.now journal.now ∷ [])))) }
+    ensures bytes { OnOk result (IsOfBytes (journal_under name.now journal.now)) }
 {
     folder.begin(name)?;
     write_lines(alloc, folder, journal)
@@ -117,6 +120,7 @@ pub(crate) fn write_journal<F: Folder>(
     ensures unfailed { result ≡ Err ServeFault.NoMemory → F.failures folder.new ≡ F.failures folder.old }
     ensures kept { IsFront (F.written folder.old) (F.written folder.new) }
     ensures front { OnErr result (IsFront (F.written folder.new) (grown (F.written folder.old) (listing (journal_file journal.now ∷ [])))) }
+    ensures bytes { OnOk result (IsOfBytes (journal_file journal.now)) }
 {
     let name = Bytes::from_slice(alloc, b"JOURNAL.TXT")?;
     match write_file(alloc, folder, name.as_slice(), journal) {

@@ -6,7 +6,7 @@ ghost use Rattle.ndx_index.specs.Header.{IsIndex};
 ghost use Rattle.station_lines.specs.declared.setup.entry.SetupEntry.TheVariants.{Table, Index};
 ghost use Rattle.station_lines.specs.Setup.{IndexesFollowTables};
 ghost use Rattle.station_files.specs.Files.{IsFileOf};
-ghost use Rattle.whole_run.specs.Loading.{nothing, read_of, first_named, IsMemoFileOf, IsTableRead, IsIndexRead, HasIndex, CanLoad, Loads, LoadAll, IsMemoFault, IsTableFault, IsIndexFault, IsEntryFault, IsFailure, IsFaultIn};
+ghost use Rattle.whole_run.specs.Loading.{nothing, read_of, first_named, IsMemoFileOf, IsTableRead, IsIndexRead, HasIndex, CanLoad, Loads, LoadAll, IsFileFault, IsMemoFault, IsTableFault, IsIndexFault, IsEntryFault, IsFailure, IsFaultIn};
 
 use crate::fault::{FileFault, ServeFault};
 use crate::loaded::Loaded;
@@ -36,7 +36,7 @@ pub(crate) fn load_file<S: Source>(
 ) -> Result<Bytes, ServeFault>
     ensures found { IfOk result (λ bytes. IsFileOf (S.files source.old) path.now bytes) }
     ensures kept { S.files source.new ≡ S.files source.old }
-    ensures fault { IfErr result (λ fault. (fault ≡ ServeFault.NoMemory) ⊎ (fault ≡ ServeFault.File path.now FileFault.CannotRead)) }
+    ensures fault { IfErr result (IsFileFault (S.files source.old) path.now) }
     ensures loads { OnOk result (S.failures source.new ≡ S.failures source.old) }
     ensures failure { IfErr result (IsFailure (S.files source.old) (S.failures source.old) (S.failures source.new)) }
 {
@@ -44,6 +44,7 @@ pub(crate) fn load_file<S: Source>(
         Ok(bytes) => Ok(bytes),
         Err(LoadFault::NoMemory) => Err(ServeFault::NoMemory),
         Err(LoadFault::CannotRead) => Err(unread(alloc, path, FileFault::CannotRead)),
+        Err(LoadFault::Unrecovered) => Err(unread(alloc, path, FileFault::Unrecovered)),
     }
 }
 
@@ -55,7 +56,7 @@ fn load_memos<S: Source>(
 ) -> Result<Option<Bytes>, ServeFault>
     ensures found { IfOk result (λ memo. IsMemoFileOf (S.files source.old) dbt.now memo) }
     ensures kept { S.files source.new ≡ S.files source.old }
-    ensures fault { IfErr result (IsMemoFault dbt.now) }
+    ensures fault { IfErr result (IsMemoFault (S.files source.old) dbt.now) }
     ensures loads { OnOk result (S.failures source.new ≡ S.failures source.old) }
     ensures failure { IfErr result (IsFailure (S.files source.old) (S.failures source.old) (S.failures source.new)) }
 {

@@ -1,10 +1,11 @@
 //! The whole run: from a setup and its files to the written files.
 
 ghost use Rattle.std.specs.Prelude.{◌≡◌, ◌≢◌, ◌≤◌, ℕ, List, None, Ok, Err, IfOk, IfErr, OnOk};
+ghost use Rattle.std.specs.List.{AllByRecursion};
 ghost use Rattle.byte_io.specs.Sink.{grown, Rises};
 ghost use Rattle.catalogue_core.specs.declared.catalogue.TheConstants.{MAX_ENTRIES};
 ghost use Rattle.station_files.specs.Closing.{run_files, first_blocked};
-ghost use Rattle.station_files.specs.Files.{listing};
+ghost use Rattle.station_files.specs.Files.{IsOfBytes, files_in, listing};
 ghost use Rattle.station_lines.specs.Setup.{IndexesFollowTables};
 ghost use Rattle.whole_run.specs.Loading.{read_of, IsFailure};
 ghost use Rattle.whole_run.specs.WholeRun.{IsAllRead, IsReadFault, IsRun, IsRunFault, IsServed, IsServeFault, IsSaid, IsWriteFault, IsCutWriting, IsCutRun};
@@ -83,6 +84,8 @@ pub(crate) fn write_files<F: Folder>(
     folder: &mut F,
 ) -> Result<(), ServeFault>
     ensures wrote { OnOk result (F.written folder.new ≡ grown (F.written folder.old) (listing (run_files today tables.now answers.now))) }
+    ensures bytes { OnOk result (AllByRecursion IsOfBytes (run_files today tables.now answers.now)) }
+    ensures told { OnOk result (files_in (listing (run_files today tables.now answers.now)) ≡ run_files today tables.now answers.now) }
     ensures blocks_fit { OnOk result (first_blocked 1 tables.now ≡ None) }
     ensures no_failure { OnOk result (F.failures folder.new ≡ F.failures folder.old) }
     ensures fault { IfErr result (λ fault. IsWriteFault today.year tables.now fault) }

@@ -1,10 +1,11 @@
 //! The whole run whose journal is written too.
 
 ghost use Rattle.std.specs.Prelude.{◌≡◌, ◌≤◌, ℕ, List, Err, None, IfOk, IfErr, OnOk};
+ghost use Rattle.std.specs.List.{AllByRecursion};
 ghost use Rattle.byte_io.specs.Sink.{grown, Rises};
 ghost use Rattle.catalogue_core.specs.declared.catalogue.TheConstants.{MAX_ENTRIES};
 ghost use Rattle.station_files.specs.Closing.{first_blocked};
-ghost use Rattle.station_files.specs.Files.{listing};
+ghost use Rattle.station_files.specs.Files.{IsOfBytes, listing};
 ghost use Rattle.whole_run.specs.JournalFile.{all_files, IsCutFiles, IsServedWithJournal, IsCutRunWithJournal, UnlessBegun};
 ghost use Rattle.whole_run.specs.Loading.{IsFailure};
 ghost use Rattle.whole_run.specs.WholeRun.{IsServeFault, IsWriteFault};
@@ -31,6 +32,7 @@ fn write_with_journal<F: Folder>(
     folder: &mut F,
 ) -> Result<(), ServeFault>
     ensures wrote { OnOk result (F.written folder.new ≡ grown (F.written folder.old) (listing (all_files today tables.now answers.now journal.now))) }
+    ensures bytes { OnOk result (AllByRecursion IsOfBytes (all_files today tables.now answers.now journal.now)) }
     ensures blocks_fit { OnOk result (first_blocked 1 tables.now ≡ None) }
     ensures no_failure { OnOk result (F.failures folder.new ≡ F.failures folder.old) }
     ensures fault { IfErr result (λ fault. IsWriteFault today.year tables.now fault) }

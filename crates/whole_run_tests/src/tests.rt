@@ -26,6 +26,9 @@ use whole_run::{FileFault, ServeFault, serve};
 // The path of each setup here.
 pub(crate) const SETUP: &[u8] = b"S.SET";
 
+// The name of the list of a set of new files.
+const LIST: &str = "~niqarthu.list";
+
 pub(crate) fn named(alloc: Global, name: &[u8], bytes: &[u8]) -> Result<NamedFile, AllocError> {
     Ok(NamedFile {
         name: Bytes::from_slice(alloc, name)?,
@@ -300,6 +303,45 @@ fn files_that_are_not_read(rt: HostRuntime) -> Result<(), Fail> {
     for (setup, path, fault) in cases {
         let found = fault_of(&rt, rt.alloc(), setup)?;
         assert!(rt; is_file_fault(&found, path, &fault));
+    }
+    Ok(())
+}
+
+// An office whose files lie in folders of their own, and a list of a set of new files in this folder.
+fn office_in_folders(alloc: Global, folder: &str) -> Result<MemorySource, AllocError> {
+    let setup = b"TABLE T d/t.dbf m/nothing\nINDEX T X i/x.ndx\nSTATION s/s.prg\n";
+    let index = with_zeros(alloc, &EMPTY_INDEX, 1_024)?;
+    let list = format!(in alloc; "{folder}{LIST}")?;
+    let mut source = office(alloc, setup, b"")?;
+    add(alloc, &mut source.files, b"d/t.dbf", &EMPTY)?;
+    add(alloc, &mut source.files, b"m/nothing", b"")?;
+    add(alloc, &mut source.files, b"i/x.ndx", index.as_slice())?;
+    add(alloc, &mut source.files, b"s/s.prg", b"")?;
+    add(alloc, &mut source.files, list.as_bytes(), b"T.DBF\n")?;
+    Ok(source)
+}
+
+// No file is read from a folder in which an earlier run's new files are not all in place, and nothing is written then.
+#[test]
+fn folders_that_are_not_recovered_are_not_read(rt: HostRuntime) -> Result<(), Fail> {
+    let alloc = rt.alloc();
+    let cases: [(&str, Option<&[u8]>); 6] = [
+        ("", Some(SETUP)),
+        ("d/", Some(b"d/t.dbf")),
+        ("m/", Some(b"m/nothing")),
+        ("i/", Some(b"i/x.ndx")),
+        ("s/", Some(b"s/s.prg")),
+        ("elsewhere/", None),
+    ];
+    for (folder, path) in cases {
+        let mut written = MemoryFolder::new(alloc);
+        let mut source = office_in_folders(alloc, folder)?;
+        let fault = serve_in(&rt, alloc, &mut source, 1987, false, &mut written)?.err();
+        let told = match path {
+            Some(path) => is_file_fault(&fault, path, &FileFault::Unrecovered),
+            None => fault.is_none(),
+        };
+        assert!(rt; told && written.files.is_empty() == path.is_some());
     }
     Ok(())
 }

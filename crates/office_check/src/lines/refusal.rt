@@ -2,9 +2,9 @@
 
 ghost use Rattle.std.specs.Prelude.{◌≡◌, ◌++◌, OnOk};
 ghost use Rattle.office_check.specs.HeadNumbers.{wanted_length as wanted_length_of};
-ghost use Rattle.office_check.specs.Lines.{bad_field_words, bad_memo_words, bad_page_words, block_words, field_refusal, index_detail_words, index_refusal, refusal_words, table_detail_words, table_refusal};
+ghost use Rattle.office_check.specs.Lines.{bad_field_words, bad_memo_words, bad_page_words, block_words, field_refusal, index_detail_words, index_refusal, load_words, unrecovered_words, refusal_words, table_detail_words, table_refusal};
 
-use crate::fault::EntryFault;
+use crate::fault::{EntryFault, LoadRefusal};
 use crate::head_numbers::TableNumbers;
 use crate::index_file::IndexDetails;
 use crate::lines::numbers::{append_two, append_words};
@@ -12,6 +12,7 @@ use crate::table_file::{BadField, MemoCell, TableDetails};
 use dbf_fields::SchemaFault;
 use dbf_image::{HEADER, ImageFault};
 use ndx_index::{NdxFault, PAGE};
+use station_files::folder_of;
 use std::alloc::{AllocError, Global};
 
 fn table_words(why: ImageFault) -> &'static [u8]
@@ -213,19 +214,39 @@ fn append_index_details(
     }
 }
 
-/// Appends why the files of an entry are refused.
+// That the folder of a path is not recovered, and how that is done.
+fn append_unrecovered(text: &mut Vec<u8>, path: &[u8]) -> Result<(), AllocError>
+    ensures ok { OnOk result (text.new.items ≡ text.old.items ++ unrecovered_words path.now) }
+{
+    text.extend_from_slice(b"the folder is not recovered: start with --out ")?;
+    text.extend_from_slice(folder_of(path))?;
+    Ok(())
+}
+
+// Why no bytes are had of the file of a path.
+fn append_load_refusal(text: &mut Vec<u8>, path: &[u8], why: LoadRefusal) -> Result<(), AllocError>
+    ensures ok { OnOk result (text.new.items ≡ text.old.items ++ load_words path.now why) }
+{
+    match why {
+        LoadRefusal::CannotRead => text.extend_from_slice(b"can't be read"),
+        LoadRefusal::Unrecovered => append_unrecovered(text, path),
+    }
+}
+
+/// Appends why the files of an entry are refused, of which this path is told.
 ///
 /// An `Err` says that there was no memory.
 pub(crate) fn append_refusal(
     alloc: Global,
     text: &mut Vec<u8>,
+    path: &[u8],
     fault: EntryFault,
 ) -> Result<(), AllocError>
-    ensures ok { OnOk result (text.new.items ≡ text.old.items ++ refusal_words fault) }
+    ensures ok { OnOk result (text.new.items ≡ text.old.items ++ refusal_words path.now fault) }
 {
     match fault {
-        EntryFault::CannotRead => text.extend_from_slice(b"can't be read"),
-        EntryFault::CannotReadMemos => text.extend_from_slice(b"can't be read"),
+        EntryFault::Unloaded(why) => append_load_refusal(text, path, why),
+        EntryFault::UnloadedMemos(why) => append_load_refusal(text, path, why),
         EntryFault::NoTable(why, details) => {
             text.extend_from_slice(b"no table: ")?;
             text.extend_from_slice(table_words(why))?;

@@ -1,10 +1,10 @@
 //! A setup that is checked.
 
-ghost use Rattle.std.specs.Prelude.{◌≡◌, ◌⊎◌, ℕ, Ok, Err, IfOk, IfErr};
+ghost use Rattle.std.specs.Prelude.{◌≡◌, ◌⊎◌, ℕ, Ok, Err, Some, IfOk, IfErr};
 ghost use Rattle.byte_io.specs.Sink.{IsFront, Rises};
-ghost use Rattle.station_files.specs.Files.{IsTooLong, IsUnreadable};
+ghost use Rattle.station_files.specs.Files.{IsTooLong, IsUnrecovered, load_refusal};
 ghost use Rattle.station_lines.specs.Setup.{IsSetup, HasNextEntry};
-ghost use Rattle.table_tool.specs.Check.{HasBadSetupLine, IsLineFault, IsOpening, IsTold, IsVerdict, TellsNothing};
+ghost use Rattle.table_tool.specs.Check.{check_load_fault, HasBadSetupLine, IsLineFault, IsOpening, IsTold, IsVerdict, TellsNothing};
 
 use crate::program::verdict::append_verdict;
 use dbf_fields::Bytes;
@@ -22,6 +22,9 @@ pub(crate) enum CheckFault {
     /// The setup can't be read.
     #[error("cannot read")]
     CannotRead,
+    /// The list of a set of new files lies in its folder: not all of them are in place.
+    #[error("the folder is not recovered")]
+    Unrecovered,
     /// Its line of this number is bad.
     #[error("setup line {0} is bad")]
     BadLine(usize),
@@ -53,6 +56,7 @@ impl From<LoadFault> for CheckFault {
     fn from(cause: LoadFault) -> CheckFault {
         match cause {
             LoadFault::CannotRead => CheckFault::CannotRead,
+            LoadFault::Unrecovered => CheckFault::Unrecovered,
             LoadFault::NoMemory => CheckFault::NoMemory,
         }
     }
@@ -115,7 +119,8 @@ fn entries_of(alloc: Global, text: &[u8]) -> Result<Vec<SetupEntry>, CheckFault>
 /// Looks at every file that the setup of a path names, and tells what is found, a line a file, and whether the server would open
 /// all, or why it would open nothing. Whether it would is answered too.
 ///
-/// `CannotRead` says that the setup can't be read, and `BadLine` that its line of this number is bad; then nothing is told.
+/// `CannotRead` says that the setup can't be read, `Unrecovered` that the list of a set of new files lies in its folder, and
+/// `BadLine` that its line of this number is bad; then nothing is told.
 /// `Sink` says that the sink failed, and `NoMemory` that there was no memory.
 #[tactic(auto, using(byte_io::specs::Laws::Sinks::front_same))]
 pub(crate) fn check_setup<F: Source, S: ByteSink>(
@@ -133,8 +138,9 @@ pub(crate) fn check_setup<F: Source, S: ByteSink>(
     // have failed only where it has.
     ensures unread { result ≡ Err CheckFault.CannotRead → Rises (F.failures source.old) (F.failures source.new) ⊎ IsTooLong (F.files source.old) setup.now }
     ensures failed { result ≡ Err CheckFault.Sink → Rises (S.failures sink.old) (S.failures sink.new) }
-    // Where no load can give the setup the answer is that, whether there is memory or not.
-    ensures early { IsUnreadable (F.files source.old) setup.now → result ≡ Err CheckFault.CannotRead }
+    // Where no load can give the setup the answer is why, whether there is memory or not.
+    ensures early { (why : LoadFault) → load_refusal (F.files source.old) setup.now ≡ Some why → result ≡ Err (check_load_fault why) }
+    ensures unrecovered { result ≡ Err CheckFault.Unrecovered → IsUnrecovered (F.files source.old) setup.now }
     ensures untold { IfErr result (λ fault. TellsNothing fault → S.written sink.new ≡ S.written sink.old) }
 {
     let text = source.load(alloc, setup.as_bytes())?;

@@ -8,7 +8,7 @@ use clap::error::ErrorKind;
 use dbf_image::ImageFault;
 use key_expr::ExprFault;
 use ndx_index::NdxFault;
-use station_files::LoadFault;
+use station_files::{LoadFault, folder_of};
 use std::alloc::{AllocError, Global};
 use std::io;
 use std::io::Write;
@@ -63,6 +63,7 @@ fn is_no_memory(fault: ShowFault) -> bool {
     matches!(
         fault,
         ShowFault::Load(LoadFault::NoMemory)
+            | ShowFault::Memos(LoadFault::NoMemory)
             | ShowFault::Table(ImageFault::NoMemory)
             | ShowFault::Text(TextFault::NoMemory)
     ) || is_order_no_memory(fault)
@@ -79,12 +80,14 @@ fn is_order_no_memory(fault: ShowFault) -> bool {
     )
 }
 
-// The path of the index, where the fault is one of it, and else of the table.
+// The path of the index or of the file of memos, where the fault is one of it, and else of the table.
 fn faulty_path<'a>(options: &Options<'a>, fault: ShowFault) -> &'a str {
-    match (fault, options.order) {
-        (ShowFault::Order(_), Some(path)) => path,
-        _ => options.table,
-    }
+    let other = match fault {
+        ShowFault::Order(_) => options.order,
+        ShowFault::Memos(_) => options.memos,
+        _ => None,
+    };
+    other.unwrap_or(options.table)
 }
 
 // What a fault ends in, where it is one of the file of this path or of the output. A sink that failed since nobody reads it any
@@ -175,14 +178,44 @@ pub(crate) fn status_of(ending: &Ending) -> u8 {
     }
 }
 
-// Why a table can't be shown.
+// Why a table can't be shown, without an end of the line.
 fn print_fault<W: Write>(err: &mut W, path: &str, fault: ShowFault) -> io::Result<()> {
     match fault {
-        ShowFault::Load(cause) => write!(err, "table_tool: {path}: {cause}\n"),
-        ShowFault::Table(cause) => write!(err, "table_tool: {path}: {cause}\n"),
-        ShowFault::Order(cause) => write!(err, "table_tool: {path}: {cause}\n"),
-        ShowFault::Text(cause) => write!(err, "table_tool: {path}: {cause}\n"),
+        ShowFault::Load(cause) => write!(err, "table_tool: {path}: {cause}"),
+        ShowFault::Memos(cause) => write!(err, "table_tool: {path}: {cause}"),
+        ShowFault::Table(cause) => write!(err, "table_tool: {path}: {cause}"),
+        ShowFault::Order(cause) => write!(err, "table_tool: {path}: {cause}"),
+        ShowFault::Text(cause) => write!(err, "table_tool: {path}: {cause}"),
     }
+}
+
+// Whether a fault is that a folder is not recovered.
+fn is_unrecovered(fault: ShowFault) -> bool {
+    matches!(
+        fault,
+        ShowFault::Load(LoadFault::Unrecovered)
+            | ShowFault::Memos(LoadFault::Unrecovered)
+            | ShowFault::Order(OrderFault::Load(LoadFault::Unrecovered))
+    )
+}
+
+// The end of a line of the file of this path: what to do, where its folder is not recovered.
+fn print_line_end<W: Write>(err: &mut W, path: &str, is_unrecovered: bool) -> io::Result<()> {
+    if is_unrecovered {
+        err.write_all(b": start with --out ")?;
+        err.write_all(folder_of(path.as_bytes()))?;
+    }
+    err.write_all(b"\n")
+}
+
+fn print_table<W: Write>(err: &mut W, path: &str, fault: ShowFault) -> io::Result<()> {
+    print_fault(err, path, fault)?;
+    print_line_end(err, path, is_unrecovered(fault))
+}
+
+fn print_setup<W: Write>(err: &mut W, path: &str, fault: CheckFault) -> io::Result<()> {
+    write!(err, "table_tool: {path}: {fault}")?;
+    print_line_end(err, path, fault == CheckFault::Unrecovered)
 }
 
 fn print_ending<O: Write, E: Write>(out: &mut O, err: &mut E, ending: &Ending) -> io::Result<()> {
@@ -196,8 +229,8 @@ fn print_ending<O: Write, E: Write>(out: &mut O, err: &mut E, ending: &Ending) -
             err.write_all(b"table_tool: --records wants a number N or a range N-M\n")
         }
         Ending::NoMemory => err.write_all(b"table_tool: out of memory\n"),
-        Ending::Table(path, fault) => print_fault(err, path.as_str(), *fault),
-        Ending::Setup(path, fault) => write!(err, "table_tool: {path}: {fault}\n"),
+        Ending::Table(path, fault) => print_table(err, path.as_str(), *fault),
+        Ending::Setup(path, fault) => print_setup(err, path.as_str(), *fault),
         Ending::NotOpened => Ok(()),
         Ending::Output => err.write_all(b"table_tool: the output failed\n"),
     }

@@ -1,9 +1,10 @@
 //! An index file that is shown.
 
-ghost use Rattle.std.specs.Prelude.{◌≡◌, ◌⊎◌, Err, IfErr, OnOk};
+ghost use Rattle.std.specs.Prelude.{◌≡◌, ◌⊎◌, Err, Some, IfErr, OnOk};
 ghost use Rattle.byte_io.specs.Sink.{IsFront, Rises};
-ghost use Rattle.station_files.specs.declared.source.LoadFault.TheVariants.{CannotRead};
-ghost use Rattle.station_files.specs.Files.{IsTooLong, IsUnreadable};
+ghost use Rattle.station_files.specs.declared.source.LoadFault.{LoadFault};
+ghost use Rattle.station_files.specs.declared.source.LoadFault.TheVariants.{CannotRead, Unrecovered};
+ghost use Rattle.station_files.specs.Files.{IsTooLong, IsUnrecovered, load_refusal};
 ghost use Rattle.table_tool.specs.IndexTree.{IsTreeFault, IsTreeShown};
 
 use crate::program::showing::ShowFault;
@@ -15,7 +16,7 @@ use table_text::TextFault;
 
 /// Reads the index file of a path, and writes its header and its pages as text into a sink.
 ///
-/// A fault of `Load` says that the file can't be read, and that nothing was written; after one of `Text` the sink has a front
+/// A fault of `Load` says that the file can't be read or its folder is not recovered, and that nothing was written; after one of `Text` the sink has a front
 /// part of the text.
 #[tactic(auto, using(byte_io::specs::Laws::Sinks::front_same))]
 pub(crate) fn show_tree<F: Source, S: ByteSink>(
@@ -34,8 +35,9 @@ pub(crate) fn show_tree<F: Source, S: ByteSink>(
     ensures failed { result ≡ Err (ShowFault.Text TextFault.Sink) → Rises (S.failures sink.old) (S.failures sink.new) }
     ensures unfailed { result ≡ Err (ShowFault.Text TextFault.NoMemory) → S.failures sink.new ≡ S.failures sink.old }
     ensures fault { IfErr result IsTreeFault }
-    // Where no load can give the file the answer is that, whether there is memory or not.
-    ensures early { IsUnreadable (F.files source.old) path.now → result ≡ Err (ShowFault.Load CannotRead) }
+    // Where no load can give the file the answer is why, whether there is memory or not.
+    ensures early { (why : LoadFault) → load_refusal (F.files source.old) path.now ≡ Some why → result ≡ Err (ShowFault.Load why) }
+    ensures unrecovered { result ≡ Err (ShowFault.Load Unrecovered) → IsUnrecovered (F.files source.old) path.now }
 {
     let bytes = source.load(alloc, path.as_bytes())?;
     write_tree(alloc, sink, bytes.as_slice())?;

@@ -1,10 +1,10 @@
 //! The order of an index file, in which records are shown.
 
-ghost use Rattle.std.specs.Prelude.{◌≡◌, Err, IfOk, IfErr, length};
+ghost use Rattle.std.specs.Prelude.{◌≡◌, ◌≢◌, Err, Some, IfOk, IfErr, length};
 ghost use Rattle.ndx_index.specs.Order.{reaches as reaches_text};
 ghost use Rattle.ndx_index.specs.TableOrder.{order as order_of};
 ghost use Rattle.table_core.specs.Content.{order_at};
-ghost use Rattle.station_files.specs.Files.{IsUnreadable};
+ghost use Rattle.station_files.specs.Files.{IsUnrecovered, load_refusal};
 ghost use Rattle.table_tool.specs.Order.{numbers_from as numbers_of_pairs, AreKeysOf, IsOrderOf, IsStale, IsTestedFirst};
 
 use dbf_fields::Bytes;
@@ -114,6 +114,7 @@ fn with_index(
     ensures order { IfOk result (λ indexed. order_at indexed.content 1 ≡ order_of table expr.expr) }
     ensures own { IfOk result (λ _. AreKeysOf table expr.expr file.key_len file.pairs.pairs) }
     ensures stale { IfErr result (λ fault. fault ≡ OrderFault.Stale → AreKeysOf table expr.expr file.key_len file.pairs.pairs → ⊥) }
+    ensures loads_nothing { IfErr result (λ fault. (cause : LoadFault) → fault ≢ OrderFault.Load cause) }
 {
     let NdxFile {
         expr: name,
@@ -134,7 +135,7 @@ fn with_index(
 /// The table, and the numbers of its records in the order of the index file of a path, from the first key on that isn't less
 /// than a text.
 ///
-/// `Load` says that the file can't be read, `Index` that it is no index, `Expression` that its text is no key expression for
+/// `Load` says that the file can't be read or its folder is not recovered, `Index` that it is no index, `Expression` that its text is no key expression for
 /// the table's fields, and `Stale` that its keys are not those of the table's records. `NoMemory` says that there was no memory,
 /// which each of the first three may say too.
 pub(crate) fn read_order<F: Source>(
@@ -148,8 +149,9 @@ pub(crate) fn read_order<F: Source>(
     ensures order { IfOk result (λ read. IsOrderOf (F.files source.old) path.now text.now table read.1.items) }
     ensures stale { IfErr result (λ fault. fault ≡ OrderFault.Stale → IsStale (F.files source.old) path.now table) }
     ensures kept { F.files source.new ≡ F.files source.old }
-    // Where no load can give the file the answer is that, whether there is memory or not,
-    ensures unread { IsUnreadable (F.files source.old) path.now → result ≡ Err (OrderFault.Load LoadFault.CannotRead) }
+    // Where no load can give the file the answer is why, whether there is memory or not,
+    ensures unread { (why : LoadFault) → load_refusal (F.files source.old) path.now ≡ Some why → result ≡ Err (OrderFault.Load why) }
+    ensures unrecovered { result ≡ Err (OrderFault.Load LoadFault.Unrecovered) → IsUnrecovered (F.files source.old) path.now }
     // and where its header page breaks a rule the answer is that, once it is loaded.
     ensures early { IfErr result (IsTestedFirst (F.files source.old) path.now) }
 {

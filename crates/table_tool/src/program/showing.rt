@@ -1,11 +1,11 @@
 //! A table that is read and shown.
 
-ghost use Rattle.std.specs.Prelude.{◌≡◌, Err, OnOk, OnErr, IfOk, option_copied};
+ghost use Rattle.std.specs.Prelude.{◌≡◌, Err, Some, OnOk, OnErr, IfOk, IfErr, option_copied};
 ghost use Rattle.std.specs.Option.{option_map};
 ghost use Rattle.byte_io.specs.Sink.{grown, IsFront, Rises};
-ghost use Rattle.station_files.specs.Files.{IsUnreadable};
+ghost use Rattle.station_files.specs.Files.{IsUnrecovered, load_refusal};
 ghost use Rattle.table_tool.specs.Order.{from_text, IsOrder};
-ghost use Rattle.table_tool.specs.View.{view_text, IsMemoFile, IsShown};
+ghost use Rattle.table_tool.specs.View.{view_text, IsMemoFile, IsMemosFault, IsShown};
 
 use crate::program::options::{Options, View};
 use crate::program::order::{OrderFault, read_order};
@@ -18,8 +18,10 @@ use table_text::{TextFault, header_date, write_csv, write_fields, write_records}
 /// Why a table was not shown, or not whole.
 #[derive(Clone, Copy, Debug, PartialEq, Eq)]
 pub(crate) enum ShowFault {
-    /// The table's file, or that of its memos, can't be read.
+    /// The table's file can't be read, or its folder is not recovered.
     Load(LoadFault),
+    /// The same is true of the file of its memos.
+    Memos(LoadFault),
     /// The files are no table.
     Table(ImageFault),
     /// The records can't be shown in the order of the index.
@@ -104,13 +106,17 @@ fn load_memos<F: Source>(
     alloc: Global,
     source: &mut F,
     path: Option<&str>,
-) -> Result<Option<Bytes>, LoadFault>
+) -> Result<Option<Bytes>, ShowFault>
     ensures found { IfOk result (λ memos. IsMemoFile (F.files source.old) (option_copied path.entry) memos) }
+    ensures fault { IfErr result (IsMemosFault (F.files source.old) (option_copied path.entry)) }
     ensures kept { F.files source.new ≡ F.files source.old }
 {
-    match path {
-        Some(path) => Ok(Some(source.load(alloc, path.as_bytes())?)),
-        None => Ok(None),
+    let Some(path) = path else {
+        return Ok(None);
+    };
+    match source.load(alloc, path.as_bytes()) {
+        Ok(bytes) => Ok(Some(bytes)),
+        Err(fault) => Err(ShowFault::Memos(fault)),
     }
 }
 
@@ -163,7 +169,7 @@ fn numbers_of(numbers: &Option<Vec<u32>>) -> Option<&[u32]>
 
 /// Reads the table of a command line, its memos and the index that orders it, and writes what is asked for into a sink.
 ///
-/// A fault of `Load`, `Table` or `Order` says that nothing was written; after one of `Text` the sink has a front part of the
+/// A fault of `Load`, `Memos`, `Table` or `Order` says that nothing was written; after one of `Text` the sink has a front part of the
 /// text.
 #[tactic(auto, using(byte_io::specs::Laws::Sinks::front_same))]
 pub(crate) fn show_file<F: Source, S: ByteSink>(
@@ -179,8 +185,9 @@ pub(crate) fn show_file<F: Source, S: ByteSink>(
     ensures failed { result ≡ Err (ShowFault.Text TextFault.Sink) → Rises (S.failures sink.old) (S.failures sink.new) }
     ensures unfailed { result ≡ Err (ShowFault.Text TextFault.NoMemory) → S.failures sink.new ≡ S.failures sink.old }
     ensures kept { IsFront (S.written sink.old) (S.written sink.new) }
-    // Where no load can give the table's file the answer is that, whether there is memory or not.
-    ensures early { IsUnreadable (F.files source.old) options.now.table.now → result ≡ Err (ShowFault.Load LoadFault.CannotRead) }
+    // Where no load can give the table's file the answer is why, whether there is memory or not.
+    ensures early { (why : LoadFault) → load_refusal (F.files source.old) options.now.table.now ≡ Some why → result ≡ Err (ShowFault.Load why) }
+    ensures unrecovered { result ≡ Err (ShowFault.Load LoadFault.Unrecovered) → IsUnrecovered (F.files source.old) options.now.table.now }
 {
     let dbf = source.load(alloc, options.table.as_bytes())?;
     let date = header_date(dbf.as_slice());

@@ -18,6 +18,8 @@ use std::process::Abort;
 use std::test::*;
 use table_text::TextFault;
 
+mod unrecovered;
+
 // The leaf of the index of BOB, record 1, and ADA, record 2, by NAME: the count, and of each key no child, the record number,
 // the key and two bytes that fill it up.
 const LEAF: &[u8] = b"\x02\0\0\0\0\0\0\0\x02\0\0\0ADA       \0\0\0\0\0\0\x01\0\0\0BOB       ";
@@ -181,7 +183,7 @@ fn files_that_are_no_table_are_refused(rt: HostRuntime) -> Result<(), Fail> {
         ),
         (
             &["table_tool", "csv", "T.DBF", "--memo", "NONE.DBT"],
-            ShowFault::Load(LoadFault::CannotRead),
+            ShowFault::Memos(LoadFault::CannotRead),
         ),
         (
             &["table_tool", "show", "T.DBF", "--order", "NONE.NDX"],
@@ -280,11 +282,20 @@ fn fault_status(alloc: Global, fault: ShowFault, is_closed: bool) -> u8 {
 fn faults_have_their_statuses(rt: HostRuntime) -> Result<(), Fail> {
     let cases = [
         (ShowFault::Load(LoadFault::CannotRead), false, 2),
+        (ShowFault::Load(LoadFault::Unrecovered), false, 2),
         (ShowFault::Load(LoadFault::NoMemory), false, 3),
+        (ShowFault::Memos(LoadFault::CannotRead), false, 2),
+        (ShowFault::Memos(LoadFault::Unrecovered), false, 2),
+        (ShowFault::Memos(LoadFault::NoMemory), false, 3),
         (ShowFault::Table(ImageFault::Truncated), false, 2),
         (ShowFault::Table(ImageFault::NoMemory), false, 3),
         (
             ShowFault::Order(OrderFault::Load(LoadFault::CannotRead)),
+            false,
+            2,
+        ),
+        (
+            ShowFault::Order(OrderFault::Load(LoadFault::Unrecovered)),
             false,
             2,
         ),
@@ -407,6 +418,7 @@ fn checks_have_their_statuses(rt: HostRuntime) -> Result<(), Fail> {
         (Ok(true), false, 0),
         (Ok(false), false, 2),
         (Err(CheckFault::CannotRead), false, 2),
+        (Err(CheckFault::Unrecovered), false, 2),
         (Err(CheckFault::BadLine(3)), false, 2),
         (Err(CheckFault::NoMemory), false, 3),
         (Err(CheckFault::Sink), false, 4),
@@ -480,6 +492,7 @@ fn trees_have_their_statuses(rt: HostRuntime) -> Result<(), Fail> {
     let cases = [
         (Ok(()), false, 0),
         (Err(ShowFault::Load(LoadFault::CannotRead)), false, 2),
+        (Err(ShowFault::Load(LoadFault::Unrecovered)), false, 2),
         (Err(ShowFault::Load(LoadFault::NoMemory)), false, 3),
         (Err(ShowFault::Text(TextFault::NoMemory)), false, 3),
         (Err(ShowFault::Text(TextFault::Sink)), false, 4),

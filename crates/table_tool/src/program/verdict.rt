@@ -54,6 +54,7 @@ fn file_words(fault: FileFault) -> &'static [u8]
 {
     match fault {
         FileFault::CannotRead => b" can't be read",
+        FileFault::Unrecovered => b" lies in a folder that is not recovered",
         FileFault::Image(_) => b" is no table",
         FileFault::Ndx(_) => b" is no index",
     }

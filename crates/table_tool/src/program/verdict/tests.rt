@@ -10,8 +10,12 @@ use std::process::Abort;
 use std::test::*;
 use whole_run::{FileFault, ServeFault};
 
-const FILES: [(FileFault, &str); 3] = [
+const FILES: [(FileFault, &str); 4] = [
     (FileFault::CannotRead, "T.DBF can't be read"),
+    (
+        FileFault::Unrecovered,
+        "T.DBF lies in a folder that is not recovered",
+    ),
     (FileFault::Image(ImageFault::Truncated), "T.DBF is no table"),
     (FileFault::Ndx(NdxFault::Truncated), "T.DBF is no index"),
 ];

@@ -1,6 +1,14 @@
 use Rattle.whole_run.proofs.LoadLaws.{err_exit}
-use Rattle.whole_run.proofs.WholeRunLaws.{of_writing, whole_run, cut_run}
+use Rattle.whole_run.proofs.WholeRunLaws.{of_writing, served, whole_run, cut_run}
 use Rattle.whole_run.proofs.run.serve.Goals as goal
+
+pub returns-clause-ran : goal.returns-clause-ran
+returns-clause-ran g c =
+    let whole = whole_run _ _ _ _ _ _ _ c.in_ok-loaded.ensures.read c.in_ok-outcome.ensures.ran c.entry_count-count.ensures.legal c.entry_count-count.ensures.of_stations c.entry_count-count.ensures.count_bounded c.in_ok-tables.ensures.value in
+    rw c.entry_count-count.ensures.value
+    (served _ _ _ c.args.today _ _ _ _ _ whole (rw c.deref.ensures.value at c.in_ok-write_files.ensures.blocks_fit)
+    (rw (c.deref.ensures.value, c.deref-2.ensures.value) at c.in_ok-write_files.ensures.wrote)
+    (rw (c.deref.ensures.value, c.deref-2.ensures.value) at c.in_ok-write_files.ensures.bytes))
 
 pub returns-in_err-write_files-clause-fault : goal.returns-in_err-write_files-clause-fault
 returns-in_err-write_files-clause-fault g c =

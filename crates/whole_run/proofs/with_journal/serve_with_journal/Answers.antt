@@ -8,7 +8,8 @@ returns-clause-ran g c =
     let whole = whole_run _ _ _ _ _ _ _ c.in_ok-loaded.ensures.read c.in_ok-outcome.ensures.ran c.entry_count-count.ensures.legal c.entry_count-count.ensures.of_stations c.entry_count-count.ensures.count_bounded c.in_ok-tables.ensures.tables in
     rw c.entry_count-count.ensures.value
     (served_with_journal _ _ _ c.args.today _ _ _ _ _ whole (rw c.deref.ensures.value at c.in_ok-write_with_journal.ensures.blocks_fit)
-    (rw (c.deref.ensures.value, c.deref-2.ensures.value, c.deref-3.ensures.value, c.in_ok-tables.ensures.entries) at c.in_ok-write_with_journal.ensures.wrote))
+    (rw (c.deref.ensures.value, c.deref-2.ensures.value, c.deref-3.ensures.value, c.in_ok-tables.ensures.entries) at c.in_ok-write_with_journal.ensures.wrote)
+    (rw (c.deref.ensures.value, c.deref-2.ensures.value, c.deref-3.ensures.value, c.in_ok-tables.ensures.entries) at c.in_ok-write_with_journal.ensures.bytes))
 
 pub returns-in_err-write_with_journal-clause-fault : goal.returns-in_err-write_with_journal-clause-fault
 returns-in_err-write_with_journal-clause-fault g c =

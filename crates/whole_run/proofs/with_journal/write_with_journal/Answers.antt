@@ -1,10 +1,13 @@
 use Rattle.std.proofs.Common.{ap}
 use Rattle.whole_run.proofs.LoadLaws.{err_exit}
-use Rattle.whole_run.proofs.JournalFileLaws.{with_journal_written, cut_before_journal, cut_in_journal, journal_fault, no_other_fault, unfailed_unbegun}
+use Rattle.whole_run.proofs.JournalFileLaws.{bytes_with_journal, with_journal_written, cut_before_journal, cut_in_journal, journal_fault, no_other_fault, unfailed_unbegun}
 use Rattle.whole_run.proofs.with_journal.write_with_journal.Goals as goal
 
 pub returns-clause-wrote : goal.returns-clause-wrote
 returns-clause-wrote g c = with_journal_written _ _ _ _ _ c.in_ok-write_files.ensures.wrote c.in_ok-write_journal.ensures.wrote
+
+pub returns-clause-bytes : goal.returns-clause-bytes
+returns-clause-bytes g c = bytes_with_journal _ c.args.journal.now c.in_ok-write_files.ensures.bytes c.in_ok-write_journal.ensures.bytes
 
 pub returns-in_err-write_files-clause-fault : goal.returns-in_err-write_files-clause-fault
 returns-in_err-write_files-clause-fault g c = err_exit _ _ c.from_residual.ensures.1 c.in_err-write_files.ensures.fault

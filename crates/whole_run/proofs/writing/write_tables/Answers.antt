@@ -6,6 +6,7 @@ pub returns-clause-wrote : goal.returns-clause-wrote
 returns-clause-wrote g c =
     tables_written _ c.args.today _ _ _ c.in_ok-tables.ensures.value (rw c.deref.ensures.value at c.in_ok-write_files.ensures.blocks_fit)
     (rw (c.deref.ensures.value, c.deref-2.ensures.value, c.new-answers.ensures.items) at c.in_ok-write_files.ensures.wrote)
+    (rw (c.deref.ensures.value, c.deref-2.ensures.value, c.new-answers.ensures.items) at c.in_ok-write_files.ensures.bytes)
 
 pub returns-in_err-write_files-clause-fault : goal.returns-in_err-write_files-clause-fault
 returns-in_err-write_files-clause-fault g c =

@@ -1,13 +1,14 @@
-use Rattle.std.proofs.Common.{◌≡◌, inl, ap, ◌∙◌, sym, subst, IfSome}
+use Rattle.std.proofs.Common.{◌≡◌, ◌≤◌, List, inl, ap, ◌∙◌, sym, subst, IfSome}
 use Rattle.files_in_place.specs.Disk.{LeavesOnly}
+use Rattle.files_in_place.specs.Folder.{Name}
 use Rattle.files_in_place.specs.Recovery.{HasOldFiles}
 use Rattle.files_in_place.specs.Staged.{HasBeenReady, SameUnstaged, Set}
 use Rattle.files_in_place.specs.declared.phase.Phase.TheVariants.{Staging, Ended}
 use Rattle.station_files.specs.declared.finish_fault.FinishFault.TheVariants as finish
 use Rattle.station_files.specs.Files.{files_in}
-use Rattle.station_files.specs.Placed.{AreTemporary, NewFiles, IsPlaced, IsOldOrPlaced, KeepsOld}
-use Rattle.station_files.proofs.PlacedLaws.{staging_by, placed_by, leaves_placed, told_there}
-use Rattle.station_files.proofs.SinceLaws.{going, has_ended, kept_since, placed_since, since_any, undone_leaves}
+use Rattle.station_files.specs.Placed.{names_of, AreUnreserved, AreTemporary, NewFiles, IsPlaced, IsOldOrPlaced, KeepsOld}
+use Rattle.station_files.proofs.PlacedLaws.{staging_by, placed_by, leaves_placed, told_free, told_names, told_there}
+use Rattle.station_files.proofs.SinceLaws.{going, has_ended, kept_since, placed_from_start, ready_since, placed_since, since_any, undone_leaves}
 use Rattle.station_files.proofs.disk_folder.DiskFolder.finish.Given as given
 use Rattle.station_files.proofs.disk_folder.DiskFolder.finish.Goals as goal
 
@@ -25,6 +26,12 @@ returns-in-Err-clause-there g c promised is =
     let phase : c.self.inside.set.phase ≡ Staging = ap (λ (f : NewFiles g.row.D.Denot). f.set.phase) c.self.view_is ∙ is in
     subst (λ (f : NewFiles g.row.D.Denot). AreTemporary (files_in f.written) (g.D.Disk.seen f.set.disk)) c.self.view_is
     (told_there c.self.inside.written c.self.inside.set.names c.self.inside.set.current (g.D.Disk.seen c.self.inside.set.disk) (c.self.invariant.0 promised phase))
+
+pub returns-in-Err-clause-free : goal.returns-in-Err-clause-free
+returns-in-Err-clause-free g c promised is =
+    let phase : c.self.inside.set.phase ≡ Staging = ap (λ (f : NewFiles g.row.D.Denot). f.set.phase) c.self.view_is ∙ is in
+    subst (λ (f : NewFiles g.row.D.Denot). AreUnreserved (files_in f.written)) c.self.view_is
+    (told_free c.self.inside.written c.self.inside.set.names c.self.inside.set.current (g.D.Disk.seen c.self.inside.set.disk) (c.self.invariant.0 promised phase))
 
 pub returns-in-Err-clause-any_moment : goal.returns-in-Err-clause-any_moment
 returns-in-Err-clause-any_moment g c promised is =
@@ -61,8 +68,17 @@ returns-in-Err-clause-begun g c promised is told =
     let said : c.undo-why.result ≡ finish.Unfinished = cc in
     let ended : c.finish.new.self.phase ≡ Ended = has_ended c.finish.new.self.phase c.in-Err.fault c.undo-why.result c.undo-why.ensures.memory c.undo-why.ensures.other (c.in-Err.ensures.open phase) said in
     let now : c.into_disk.result ≡ c.finish.new.self.disk = c.into_disk.ensures.disk ∙ ap (λ (s : Set g.row.D.Denot). s.disk) (c.undo-why.ensures.kept ended) in
-    subst (λ (f : NewFiles g.row.D.Denot). HasBeenReady g.D.Disk.moment g.D.Disk.seen g.D.Disk.is_whole g.D.Disk.may_leave f.set.names c.into_disk.result) c.self.view_is
-    (subst (λ (d : g.row.D.Denot). HasBeenReady g.D.Disk.moment g.D.Disk.seen g.D.Disk.is_whole g.D.Disk.may_leave c.self.inside.set.names d) (sym now) (c.in-Err.ensures.begun promised phase ended))
+    let listed : c.self.inside.set.names ≡ names_of (files_in c.self.inside.written) = told_names c.self.inside.written c.self.inside.set.names c.self.inside.set.current (g.D.Disk.seen c.self.inside.set.disk) (c.self.invariant.0 promised phase) in
+    let was : HasBeenReady g.D.Disk.moment g.D.Disk.left_since g.D.Disk.seen g.D.Disk.is_whole g.D.Disk.may_leave (names_of (files_in c.self.inside.written)) (g.D.Disk.moment c.self.inside.set.disk) (g.D.Disk.seen c.self.inside.set.disk) c.into_disk.result =
+    subst (λ (d : g.row.D.Denot). HasBeenReady g.D.Disk.moment g.D.Disk.left_since g.D.Disk.seen g.D.Disk.is_whole g.D.Disk.may_leave (names_of (files_in c.self.inside.written)) (g.D.Disk.moment c.self.inside.set.disk) (g.D.Disk.seen c.self.inside.set.disk) d) (sym now)
+    (subst (λ (l : List Name). HasBeenReady g.D.Disk.moment g.D.Disk.left_since g.D.Disk.seen g.D.Disk.is_whole g.D.Disk.may_leave l (g.D.Disk.moment c.self.inside.set.disk) (g.D.Disk.seen c.self.inside.set.disk) c.finish.new.self.disk) listed (c.in-Err.ensures.begun promised phase ended)) in
+    subst (λ (f : NewFiles g.row.D.Denot). IfSome g.O.Origin.origin (λ start. HasBeenReady g.D.Disk.moment g.D.Disk.left_since g.D.Disk.seen g.D.Disk.is_whole g.D.Disk.may_leave (names_of (files_in f.written)) (g.D.Disk.moment start) (g.D.Disk.seen start) c.into_disk.result)) c.self.view_is
+    (since_any g.O.Origin.origin (λ start. KeepsOld g.D.Disk.moment g.D.Disk.left_since g.D.Disk.seen start c.self.inside.set) (λ start. HasBeenReady g.D.Disk.moment g.D.Disk.left_since g.D.Disk.seen g.D.Disk.is_whole g.D.Disk.may_leave (names_of (files_in c.self.inside.written)) (g.D.Disk.moment start) (g.D.Disk.seen start) c.into_disk.result)
+    (λ start. ready_since g.D.Disk.moment g.D.Disk.left_since g.D.Disk.seen g.D.Disk.is_whole g.D.Disk.may_leave (names_of (files_in c.self.inside.written)) start c.self.inside.set c.into_disk.result phase was) (c.self.invariant.2 promised))
+
+pub returns-in-Err-clause-counted : goal.returns-in-Err-clause-counted
+returns-in-Err-clause-counted g c =
+    subst (λ (f : NewFiles g.row.D.Denot). IfSome g.O.Origin.origin (λ start. g.D.Disk.faults start ≤ g.D.Disk.faults f.set.disk)) c.self.view_is c.self.invariant.3
 
 -- ---- where they did
 
@@ -72,18 +88,34 @@ all_placed g c promised phase =
     subst (λ (d : g.row.D.Denot). LeavesOnly g.D.Disk.moment g.D.Disk.left_since c.self.inside.set.disk d (IsOldOrPlaced c.self.inside.written (g.D.Disk.seen c.self.inside.set.disk))) (sym c.into_disk-2.ensures.disk)
     (leaves_placed g.D.Disk.moment g.D.Disk.left_since c.self.inside.set.disk c.finish.new.self.disk c.self.inside.written c.self.inside.set.names c.self.inside.set.current (g.D.Disk.seen c.self.inside.set.disk) (c.self.invariant.0 promised phase) (c.finish.ensures.any_moment promised phase))
 
+is_placed : (g : given.Over) (c : goal.After-drop-self-inside-3 g) → g.D.Disk.keeps_promises → IsPlaced c.self.inside.written (g.D.Disk.seen c.self.inside.set.disk) (g.D.Disk.seen c.into_disk-2.result)
+is_placed g c promised =
+    let phase : c.self.inside.set.phase ≡ Staging = staging_by c.self.inside.set.phase c.finish.result c.in_default.field-0 c.in_default.is c.finish.ensures.closed in
+    subst (λ (d : g.row.D.Denot). IsPlaced c.self.inside.written (g.D.Disk.seen c.self.inside.set.disk) (g.D.Disk.seen d)) (sym c.into_disk-2.ensures.disk)
+    (placed_by c.self.inside.written c.self.inside.set.names c.self.inside.set.current (g.D.Disk.seen c.self.inside.set.disk) (g.D.Disk.seen c.finish.new.self.disk) (c.self.invariant.0 promised phase) (c.in_default.ensures.done promised))
+
 pub returns-clause-placed : goal.returns-clause-placed
 returns-clause-placed g c promised =
+    subst (λ (f : NewFiles g.row.D.Denot). IsPlaced f.written (g.D.Disk.seen f.set.disk) (g.D.Disk.seen c.into_disk-2.result)) c.self.view_is (is_placed g c promised)
+
+pub returns-clause-placed_since : goal.returns-clause-placed_since
+returns-clause-placed_since g c promised =
     let phase : c.self.inside.set.phase ≡ Staging = staging_by c.self.inside.set.phase c.finish.result c.in_default.field-0 c.in_default.is c.finish.ensures.closed in
-    subst (λ (d : g.row.D.Denot). IsPlaced c.args.self.written (g.D.Disk.seen c.args.self.set.disk) (g.D.Disk.seen d)) (sym c.into_disk-2.ensures.disk)
-    (subst (λ (f : NewFiles g.row.D.Denot). IsPlaced f.written (g.D.Disk.seen f.set.disk) (g.D.Disk.seen c.finish.new.self.disk)) c.self.view_is
-    (placed_by c.self.inside.written c.self.inside.set.names c.self.inside.set.current (g.D.Disk.seen c.self.inside.set.disk) (g.D.Disk.seen c.finish.new.self.disk) (c.self.invariant.0 promised phase) (c.in_default.ensures.done promised)))
+    subst (λ (f : NewFiles g.row.D.Denot). IfSome g.O.Origin.origin (λ start. IsPlaced f.written (g.D.Disk.seen start) (g.D.Disk.seen c.into_disk-2.result))) c.self.view_is
+    (since_any g.O.Origin.origin (λ start. KeepsOld g.D.Disk.moment g.D.Disk.left_since g.D.Disk.seen start c.self.inside.set) (λ start. IsPlaced c.self.inside.written (g.D.Disk.seen start) (g.D.Disk.seen c.into_disk-2.result))
+    (λ start. placed_from_start g.D.Disk.moment g.D.Disk.left_since g.D.Disk.seen c.self.inside.written start c.self.inside.set c.into_disk-2.result phase (is_placed g c promised)) (c.self.invariant.2 promised))
 
 pub returns-clause-there : goal.returns-clause-there
 returns-clause-there g c promised is =
     let phase : c.self.inside.set.phase ≡ Staging = ap (λ (f : NewFiles g.row.D.Denot). f.set.phase) c.self.view_is ∙ is in
     subst (λ (f : NewFiles g.row.D.Denot). AreTemporary (files_in f.written) (g.D.Disk.seen f.set.disk)) c.self.view_is
     (told_there c.self.inside.written c.self.inside.set.names c.self.inside.set.current (g.D.Disk.seen c.self.inside.set.disk) (c.self.invariant.0 promised phase))
+
+pub returns-clause-free : goal.returns-clause-free
+returns-clause-free g c promised is =
+    let phase : c.self.inside.set.phase ≡ Staging = ap (λ (f : NewFiles g.row.D.Denot). f.set.phase) c.self.view_is ∙ is in
+    subst (λ (f : NewFiles g.row.D.Denot). AreUnreserved (files_in f.written)) c.self.view_is
+    (told_free c.self.inside.written c.self.inside.set.names c.self.inside.set.current (g.D.Disk.seen c.self.inside.set.disk) (c.self.invariant.0 promised phase))
 
 pub returns-clause-any_moment : goal.returns-clause-any_moment
 returns-clause-any_moment g c promised is =
@@ -96,3 +128,7 @@ returns-clause-since g c promised is =
     subst (λ (f : NewFiles g.row.D.Denot). IfSome g.O.Origin.origin (λ start. LeavesOnly g.D.Disk.moment g.D.Disk.left_since start c.into_disk-2.result (IsOldOrPlaced f.written (g.D.Disk.seen start)))) c.self.view_is
     (since_any g.O.Origin.origin (λ start. KeepsOld g.D.Disk.moment g.D.Disk.left_since g.D.Disk.seen start c.self.inside.set) (λ start. LeavesOnly g.D.Disk.moment g.D.Disk.left_since start c.into_disk-2.result (IsOldOrPlaced c.self.inside.written (g.D.Disk.seen start)))
     (λ start. placed_since g.D.Disk.moment g.D.Disk.left_since g.D.Disk.seen start c.self.inside.set c.into_disk-2.result c.self.inside.written phase (all_placed g c promised phase)) (c.self.invariant.2 promised))
+
+pub returns-clause-counted : goal.returns-clause-counted
+returns-clause-counted g c =
+    subst (λ (f : NewFiles g.row.D.Denot). IfSome g.O.Origin.origin (λ start. g.D.Disk.faults start ≤ g.D.Disk.faults f.set.disk)) c.self.view_is c.self.invariant.3

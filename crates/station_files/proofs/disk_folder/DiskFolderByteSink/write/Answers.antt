@@ -4,7 +4,7 @@ use Rattle.files_in_place.specs.declared.phase.Phase.TheVariants.{Staging}
 use Rattle.files_in_place.specs.Staged.{Set}
 use Rattle.station_files.specs.Placed.{AreWritten, KeepsOld}
 use Rattle.station_files.proofs.PlacedLaws.{staging_by, written_by}
-use Rattle.station_files.proofs.SinceLaws.{has_risen, keeps_after, since_any, written_free}
+use Rattle.station_files.proofs.SinceLaws.{fails_on, has_risen, keeps_after, since_any, written_free}
 use Rattle.station_files.proofs.disk_folder.DiskFolderByteSink.write.Given as given
 use Rattle.station_files.proofs.disk_folder.DiskFolderByteSink.write.Goals as goal
 
@@ -29,6 +29,7 @@ invariant_of-self g c = (
       (c.write.ensures.not_begun phase) (c.self.invariant.0 promised phase) (slice_is_bytes c.args.bytes.now c.type_inv.bytes) (c.in-Ok.ensures.written promised) c.write.ensures.others c.append.ensures.value c.write.ensures.names c.write.ensures.current,
   λ _. c.in-Ok.ensures.staging,
   keeps g c,
+  fails_on g.O.Origin.origin g.D.Disk.faults c.self.inside.set.disk c.write.new.self.disk c.write.ensures.cause.later c.self.invariant.3,
 )
 
 pub invariant_of-self-in-Err : goal.invariant_of-self-in-Err
@@ -38,4 +39,5 @@ invariant_of-self-in-Err g c = (
       subst (λ (s : Set g.row.D.Denot). AreWritten c.self.inside.written s.names s.current (g.D.Disk.seen s.disk)) (sym same) (c.self.invariant.0 promised (ap (λ (s : Set g.row.D.Denot). s.phase) (sym same) ∙ staging)),
   λ none. absurd (has_risen c.self.inside.failures c.fail.new.failures c.fail.ensures.counted none),
   keeps-in-Err g c,
+  fails_on g.O.Origin.origin g.D.Disk.faults c.self.inside.set.disk c.write.new.self.disk c.write.ensures.cause.later c.self.invariant.3,
 )

@@ -4,7 +4,7 @@ use Rattle.files_in_place.specs.declared.phase.Phase.TheVariants.{Staging}
 use Rattle.files_in_place.specs.Staged.{Set}
 use Rattle.station_files.specs.Placed.{AreWritten, KeepsOld}
 use Rattle.station_files.proofs.PlacedLaws.{staging_by, begun_by}
-use Rattle.station_files.proofs.SinceLaws.{begun_free, has_risen, keeps_after, since_any}
+use Rattle.station_files.proofs.SinceLaws.{begun_free, fails_on, has_risen, keeps_after, since_any}
 use Rattle.station_files.proofs.disk_folder.DiskFolderFolder.begin.Given as given
 use Rattle.station_files.proofs.disk_folder.DiskFolderFolder.begin.Goals as goal
 
@@ -30,6 +30,7 @@ invariant_of-self g c = (
       (c.self.invariant.0 promised phase) (slice_is_bytes c.args.name.now c.type_inv.name) c.begin.ensures.others (c.in-Ok.ensures.empty promised) c.begin-in-Ok.ensures.value c.in-Ok.ensures.begun c.in-Ok.ensures.current,
   λ _. c.in-Ok.ensures.staging,
   keeps g c,
+  fails_on g.O.Origin.origin g.D.Disk.faults c.self.inside.set.disk c.begin.new.self.disk c.begin.ensures.cause.later c.self.invariant.3,
 )
 
 pub invariant_of-self-in-Err : goal.invariant_of-self-in-Err
@@ -39,4 +40,5 @@ invariant_of-self-in-Err g c = (
       subst (λ (s : Set g.row.D.Denot). AreWritten c.self.inside.written s.names s.current (g.D.Disk.seen s.disk)) (sym same) (c.self.invariant.0 promised (ap (λ (s : Set g.row.D.Denot). s.phase) (sym same) ∙ staging)),
   λ none. absurd (has_risen c.self.inside.failures c.fail.new.failures c.fail.ensures.counted none),
   keeps-in-Err g c,
+  fails_on g.O.Origin.origin g.D.Disk.faults c.self.inside.set.disk c.begin.new.self.disk c.begin.ensures.cause.later c.self.invariant.3,
 )
