@@ -2,6 +2,8 @@
 use Rattle.std.specs.Prelude.{◌≡◌, Option, Some}
 use Rattle.files_in_place.specs.declared.faults.DiskFault.{DiskFault}
 use Rattle.files_in_place.specs.declared.faults.DiskFault.TheVariants as disk
+use Rattle.files_in_place.specs.declared.faults.RecoveryFault.{RecoveryFault}
+use Rattle.files_in_place.specs.declared.faults.RecoveryFault.TheVariants as recovery
 use Rattle.files_in_place.specs.declared.faults.SetFault.{SetFault}
 use Rattle.files_in_place.specs.declared.faults.SetFault.TheVariants as set
 use Rattle.files_in_place.specs.declared.folder_lock.LockFault.{LockFault}
@@ -11,6 +13,7 @@ use Rattle.station_files.specs.declared.finish_fault.FinishFault.{FinishFault}
 use Rattle.station_files.specs.declared.finish_fault.FinishFault.TheVariants as finish
 use Rattle.whole_run.specs.declared.fault.ServeFault.{ServeFault}
 use Rattle.whole_run.specs.declared.fault.ServeFault.TheVariants as serve
+use Rattle.program_text.specs.declared.folder.FolderFault.{FolderFault}
 use Rattle.program_text.specs.declared.folder.FolderFault.TheVariants as folder
 use Rattle.program_text.specs.declared.folder.PlaceFault.{PlaceFault}
 use Rattle.program_text.specs.declared.folder.PlaceFault.TheVariants as place
@@ -27,9 +30,21 @@ unlocked_folder lock.NoMemory = place.NoMemory
 unlocked_folder lock.Failed = place.Folder folder.Unopened
 
 -- why what an earlier run left is not brought to its end
-abbrev pub unrecovered_folder : DiskFault → PlaceFault
-unrecovered_folder disk.NoMemory = place.NoMemory
-unrecovered_folder disk.Failed = place.Folder folder.Unrecovered
+abbrev pub unrecovered_folder : RecoveryFault → PlaceFault
+unrecovered_folder recovery.NoMemory = place.NoMemory
+unrecovered_folder recovery.Failed = place.Folder folder.Unrecovered
+unrecovered_folder recovery.BadList = place.Folder folder.BadList
+unrecovered_folder (recovery.Unreplaced name) = place.Folder (folder.Unreplaced name)
+
+-- it says that what an earlier run left was not brought to its end
+abbrev pub IsOfRecovery : FolderFault → Type 0
+IsOfRecovery folder.InUse = ⊥
+IsOfRecovery folder.Unopened = ⊥
+IsOfRecovery folder.Unrecovered = Unit {0}
+IsOfRecovery folder.BadList = Unit {0}
+IsOfRecovery (folder.Unreplaced name) = Unit {0}
+IsOfRecovery folder.Unwritten = ⊥
+IsOfRecovery folder.Unfinished = ⊥
 
 -- why new files were not put in place
 abbrev pub unplaced_files : FinishFault → PlaceFault

@@ -4,6 +4,7 @@ use Rattle.std.specs.Prelude.{ℕ, List, ◌++◌, codes}
 use Rattle.std.specs.Fmt.{decimal}
 use Rattle.station_files.specs.declared.close_fault.CloseFault.{CloseFault}
 use Rattle.station_files.specs.declared.close_fault.CloseFault.TheVariants as close
+use Rattle.station_files.specs.Paths.{folder_of_path}
 use Rattle.whole_run.specs.declared.fault.FileFault.{FileFault}
 use Rattle.whole_run.specs.declared.fault.FileFault.TheVariants as file
 use Rattle.whole_run.specs.declared.fault.ServeFault.{ServeFault}
@@ -21,14 +22,16 @@ fault_status (serve.Run fault) = 3
 fault_status serve.NoMemory = 3
 fault_status (serve.Close fault) = 4
 
-abbrev pub file_reason : FileFault → List ℕ
-file_reason file.CannotRead = codes "cannot read"
-file_reason (file.Image fault) = image_name fault
-file_reason (file.Ndx fault) = ndx_name fault
+-- why the file of a path was not read, without the path; where its folder is not recovered, also what to do
+abbrev pub file_reason : List ℕ → FileFault → List ℕ
+file_reason path file.CannotRead = codes "cannot read"
+file_reason path file.Unrecovered = codes "the folder is not recovered: start with --out " ++ folder_of_path path
+file_reason path (file.Image fault) = image_name fault
+file_reason path (file.Ndx fault) = ndx_name fault
 
 -- why the file of a path was not read
 abbrev pub unread_file : List ℕ → FileFault → List ℕ
-unread_file path fault = path ++ (codes ": " ++ file_reason fault)
+unread_file path fault = path ++ (codes ": " ++ file_reason path fault)
 
 -- that the file of a name was not written
 abbrev pub unwritten : List ℕ → List ℕ
@@ -49,10 +52,16 @@ fault_reason (serve.Run fault) = codes "run: " ++ run_name fault
 fault_reason (serve.Close fault) = close_reason fault
 fault_reason serve.NoMemory = codes "run: NoMemory"
 
+-- that a new file of this name can't take its place
+abbrev pub unreplaced : List ℕ → List ℕ
+unreplaced name = codes "cannot recover the folder: " ++ (name ++ codes ": cannot be replaced")
+
 -- why the folder for the new files has not got them
 abbrev pub folder_reason : FolderFault → List ℕ
 folder_reason folder.InUse = codes "another run writes into the folder"
 folder_reason folder.Unopened = codes "cannot open the folder"
 folder_reason folder.Unrecovered = codes "cannot recover the folder"
+folder_reason folder.BadList = codes "cannot recover the folder: ~niqarthu.list is no list of new files"
+folder_reason (folder.Unreplaced name) = unreplaced name
 folder_reason folder.Unwritten = codes "cannot write the new files"
 folder_reason folder.Unfinished = codes "not all new files are in place: the next start goes on"

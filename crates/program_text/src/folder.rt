@@ -1,12 +1,16 @@
 //! Why new files have not got into their folder.
 
-ghost use Rattle.std.specs.Prelude.{◌≡◌};
-ghost use Rattle.program_text.specs.Reasons.{folder_reason};
+ghost use Rattle.std.specs.Prelude.{◌≡◌, OnOk};
+ghost use Rattle.std.specs.Io.KnownBytes.{Appends};
+ghost use Rattle.program_text.specs.Reasons.{folder_reason, unreplaced};
 
+use dbf_fields::Bytes;
 use files_in_place::{DiskFault, LockFault};
+use std::io;
+use std::io::Write;
 
 /// Why the folder for the new files has not got them.
-#[derive(Clone, Copy, Debug, PartialEq, Eq)]
+#[derive(Debug, PartialEq, Eq, Drop)]
 pub enum FolderFault {
     /// Another run writes into it.
     InUse,
@@ -14,27 +18,47 @@ pub enum FolderFault {
     Unopened,
     /// What an earlier run left in it was not brought to its end.
     Unrecovered,
+    /// It has a list of new files that no run has written. Nothing in it was touched.
+    BadList,
+    /// The new file of this name, of an earlier run, can't take its place.
+    Unreplaced(Bytes),
     /// The new files were not written whole, and none of them is in place.
     Unwritten,
     /// Not all new files are in place, and the next start goes on.
     Unfinished,
 }
 
-/// Why the folder for the new files has not got them, as it is printed.
-pub fn folder_text(fault: FolderFault) -> &'static str
-    ensures value { result.now ≡ folder_reason fault }
+/// Prints why the folder for the new files has not got them. Takes no memory. An error where a write fails.
+pub fn print_folder<W: Write>(out: &mut W, fault: &FolderFault) -> io::Result<()>
+    ensures text { OnOk result (Appends (W.contents out.old) (W.contents out.new) (folder_reason fault.now)) }
 {
     match fault {
-        FolderFault::InUse => "another run writes into the folder",
-        FolderFault::Unopened => "cannot open the folder",
-        FolderFault::Unrecovered => "cannot recover the folder",
-        FolderFault::Unwritten => "cannot write the new files",
-        FolderFault::Unfinished => "not all new files are in place: the next start goes on",
+        FolderFault::InUse => out.write_all(b"another run writes into the folder"),
+        FolderFault::Unopened => out.write_all(b"cannot open the folder"),
+        FolderFault::Unrecovered => out.write_all(b"cannot recover the folder"),
+        FolderFault::BadList => {
+            out.write_all(b"cannot recover the folder: ~niqarthu.list is no list of new files")
+        }
+        FolderFault::Unreplaced(name) => print_unreplaced(out, name.as_slice()),
+        FolderFault::Unwritten => out.write_all(b"cannot write the new files"),
+        FolderFault::Unfinished => {
+            out.write_all(b"not all new files are in place: the next start goes on")
+        }
     }
 }
 
+// Prints that a new file of this name can't take its place.
+fn print_unreplaced<W: Write>(out: &mut W, name: &[u8]) -> io::Result<()>
+    ensures text { OnOk result (Appends (W.contents out.old) (W.contents out.new) (unreplaced name.now)) }
+{
+    out.write_all(b"cannot recover the folder: ")?;
+    out.write_all(name)?;
+    out.write_all(b": cannot be replaced")?;
+    Ok(())
+}
+
 /// Why new files are not in place, where that is no fault of the run itself.
-#[derive(Clone, Copy, Debug, PartialEq, Eq)]
+#[derive(Debug, PartialEq, Eq, Drop)]
 pub enum PlaceFault {
     /// Memory was refused.
     NoMemory,

@@ -7,7 +7,7 @@ ghost use Rattle.files_in_place.specs.declared.phase.Phase.TheVariants.{Ended};
 ghost use Rattle.program_text.specs.PlaceFaults.{IsOfLock, given_up, unplaced_files, unrecovered_folder};
 
 use crate::folder::{FolderFault, PlaceFault};
-use files_in_place::{Disk, DiskFault, FolderLock, SetFault, lock_folder};
+use files_in_place::{Disk, FolderLock, RecoveryFault, SetFault, lock_folder};
 use station_files::{CloseFault, DiskFolder, FinishFault, Origin};
 use std::fs::File;
 use std::rt::Files;
@@ -22,12 +22,14 @@ pub fn lock_out<R: Files<File = File>>(rt: &R, path: &str) -> Result<FolderLock,
 }
 
 /// Why an earlier run's files were not brought to their end.
-pub fn unrecovered(fault: DiskFault) -> PlaceFault
+pub fn unrecovered(fault: RecoveryFault) -> PlaceFault
     ensures value { result ≡ unrecovered_folder fault }
 {
     match fault {
-        DiskFault::NoMemory => PlaceFault::NoMemory,
-        DiskFault::Failed => PlaceFault::Folder(FolderFault::Unrecovered),
+        RecoveryFault::NoMemory => PlaceFault::NoMemory,
+        RecoveryFault::Failed => PlaceFault::Folder(FolderFault::Unrecovered),
+        RecoveryFault::BadList => PlaceFault::Folder(FolderFault::BadList),
+        RecoveryFault::Unreplaced(name) => PlaceFault::Folder(FolderFault::Unreplaced(name)),
     }
 }
 

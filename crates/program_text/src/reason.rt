@@ -6,7 +6,7 @@ ghost use Rattle.program_text.specs.Reasons.{close_reason, fault_reason, fault_s
 
 use crate::names::{close_name, image_name, ndx_name, open_name, run_name};
 use dbf_fields::Bytes;
-use station_files::CloseFault;
+use station_files::{CloseFault, folder_of};
 use std::io;
 use std::io::Write;
 use whole_run::{FileFault, ServeFault};
@@ -32,7 +32,7 @@ pub fn print_fault<W: Write>(out: &mut W, fault: &ServeFault) -> io::Result<()>
 {
     match fault {
         ServeFault::Setup(number) => write!(out, "setup line {number} is bad"),
-        ServeFault::File(path, fault) => print_file(out, path, *fault),
+        ServeFault::File(path, fault) => print_unread(out, path, *fault),
         ServeFault::Refused(fault) => print_both(out, b"open: ", open_name(*fault)),
         ServeFault::Run(fault) => print_both(out, b"run: ", run_name(*fault)),
         ServeFault::Close(fault) => print_close(out, fault),
@@ -40,23 +40,34 @@ pub fn print_fault<W: Write>(out: &mut W, fault: &ServeFault) -> io::Result<()>
     }
 }
 
-fn print_file<W: Write>(out: &mut W, path: &Bytes, fault: FileFault) -> io::Result<()>
+/// Prints why the file of a path was not read. Takes no memory. An error where a write fails.
+pub fn print_unread<W: Write>(out: &mut W, path: &Bytes, fault: FileFault) -> io::Result<()>
     ensures text { OnOk result (Appends (W.contents out.old) (W.contents out.new) (unread_file path.now fault)) }
 {
     out.write_all(path.as_slice())?;
-    print_both(out, b": ", file_name(fault))?;
+    out.write_all(b": ")?;
+    print_file_fault(out, path, fault)?;
     Ok(())
 }
 
-// Why a file was not read.
-fn file_name(fault: FileFault) -> &'static str
-    ensures value { result.now ≡ file_reason fault }
+fn print_file_fault<W: Write>(out: &mut W, path: &Bytes, fault: FileFault) -> io::Result<()>
+    ensures text { OnOk result (Appends (W.contents out.old) (W.contents out.new) (file_reason path.now fault)) }
 {
     match fault {
-        FileFault::CannotRead => "cannot read",
-        FileFault::Image(fault) => image_name(fault),
-        FileFault::Ndx(fault) => ndx_name(fault),
+        FileFault::CannotRead => out.write_all(b"cannot read"),
+        FileFault::Unrecovered => print_unrecovered(out, path),
+        FileFault::Image(fault) => out.write_all(image_name(fault).as_bytes()),
+        FileFault::Ndx(fault) => out.write_all(ndx_name(fault).as_bytes()),
     }
+}
+
+// That the folder of a path is not recovered, and what to do.
+fn print_unrecovered<W: Write>(out: &mut W, path: &Bytes) -> io::Result<()>
+    ensures text { OnOk result (Appends (W.contents out.old) (W.contents out.new) (file_reason path.now FileFault.Unrecovered)) }
+{
+    out.write_all(b"the folder is not recovered: start with --out ")?;
+    out.write_all(folder_of(path.as_slice()))?;
+    Ok(())
 }
 
 fn print_close<W: Write>(out: &mut W, fault: &CloseFault) -> io::Result<()>

@@ -10,7 +10,7 @@ use Rattle.audit.specs.Audits.{IsJournalOf, RefutesAll, IsAuditFault}
 use Rattle.whole_run.specs.declared.fault.ServeFault.TheVariants as serve
 use Rattle.whole_run.specs.OpenedSetup.{IsOpenedBy}
 use Rattle.station_audit.specs.declared.program.failure.Failure.{Failure}
-use Rattle.station_audit.specs.declared.program.failure.Failure.TheVariants.{BadDate, Serve, Unread, Audit, Folder}
+use Rattle.station_audit.specs.declared.program.failure.Failure.TheVariants.{BadDate, Serve, Unread, UnrecoveredJournal, Audit, Folder}
 use Rattle.station_audit.specs.declared.program.options.Options.{Options}
 use Rattle.station_audit.specs.Program.{IsAsked, IsAuditedTo, IsAuditedBy, audit_failure, IsFailedBy, IsJournalFault, IsLoadFailure}
 
@@ -30,17 +30,18 @@ audited_to files options opened h text what same holds = record {
   holds = subst (λ (o : Opened). IsJournalOf o text h.journal) (sym same) holds;
 }
 
-pub failed_journal : (files : Option (List NamedFile)) (options : Options) (loaded : Option (List NamedFile)) (path : List ℕ) (before after : Option ℕ) (why : Failure) → IsJournalFault loaded path before after why → IsFailedBy files options why
-failed_journal files options loaded path before after (Serve (serve.Setup n)) h = absurd h
-failed_journal files options loaded path before after (Serve (serve.File p f)) h = absurd h
-failed_journal files options loaded path before after (Serve (serve.Refused f)) h = absurd h
-failed_journal files options loaded path before after (Serve (serve.Run f)) h = absurd h
-failed_journal files options loaded path before after (Serve (serve.Close f)) h = absurd h
-failed_journal files options loaded path before after (Serve serve.NoMemory) h = tt
-failed_journal files options loaded path before after Unread h = tt
-failed_journal files options loaded path before after (Audit f) h = absurd h
-failed_journal files options loaded path before after BadDate h = absurd h
-failed_journal files options loaded path before after (Folder f) h = absurd h
+pub failed_journal : (files : Option (List NamedFile)) (options : Options) (before after : Option ℕ) (why : Failure) → IsJournalFault files options.journal.now before after why → IsFailedBy files options why
+failed_journal files options before after (Serve (serve.Setup n)) h = absurd h
+failed_journal files options before after (Serve (serve.File p f)) h = absurd h
+failed_journal files options before after (Serve (serve.Refused f)) h = absurd h
+failed_journal files options before after (Serve (serve.Run f)) h = absurd h
+failed_journal files options before after (Serve (serve.Close f)) h = absurd h
+failed_journal files options before after (Serve serve.NoMemory) h = tt
+failed_journal files options before after Unread h = h.0
+failed_journal files options before after (UnrecoveredJournal told) h = (h.0, h.1)
+failed_journal files options before after (Audit f) h = absurd h
+failed_journal files options before after BadDate h = absurd h
+failed_journal files options before after (Folder f) h = absurd h
 
 pub unloaded_journal : (files : Option (List NamedFile)) (options : Options) (before after : Option ℕ) (why : Failure) → IsJournalFault files options.journal.now before after why → IsLoadFailure files options before after why
 unloaded_journal files options before after (Serve (serve.Setup n)) h = absurd h
@@ -49,7 +50,8 @@ unloaded_journal files options before after (Serve (serve.Refused f)) h = absurd
 unloaded_journal files options before after (Serve (serve.Run f)) h = absurd h
 unloaded_journal files options before after (Serve (serve.Close f)) h = absurd h
 unloaded_journal files options before after (Serve serve.NoMemory) h = tt
-unloaded_journal files options before after Unread h = h
+unloaded_journal files options before after Unread h = h.1
+unloaded_journal files options before after (UnrecoveredJournal told) h = h.2
 unloaded_journal files options before after (Audit f) h = absurd h
 unloaded_journal files options before after BadDate h = absurd h
 unloaded_journal files options before after (Folder f) h = absurd h

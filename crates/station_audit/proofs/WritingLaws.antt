@@ -1,41 +1,56 @@
 -- The tables that are written after an audit, and why they are not.
-use Rattle.std.proofs.Common.{◌≡◌, ℕ, ◌<◌, List, [], Option, Some, Result, Err, length, refl, ap, sym, ◌∙◌, subst}
-use Rattle.std.specs.Prelude.{IfErr, IsErrOf}
+use Rattle.std.proofs.Common.{◌≡◌, ℕ, ◌<◌, ◌≤◌, arith, List, [], Option, Some, Result, Ok, Err, length, refl, ap, sym, ◌∙◌, subst}
+use Rattle.std.specs.Prelude.{IfOk, IfErr, IsErrOf, bytes_eq}
+use Rattle.std.specs.List.{IsDistinct}
 use Rattle.dbf_fields.specs.declared.day.Day.{Day}
 use Rattle.catalogue_core.specs.Replay.{History}
-use Rattle.files_in_place.specs.Disk.{LeavesOnly}
-use Rattle.files_in_place.specs.Folder.{Folder as Files}
-use Rattle.files_in_place.specs.declared.faults.DiskFault.{DiskFault}
-use Rattle.files_in_place.specs.declared.faults.DiskFault.TheVariants as disk
+use Rattle.files_in_place.specs.Folder.{Name, Folder as Files}
+use Rattle.files_in_place.specs.declared.faults.RecoveryFault.{RecoveryFault}
+use Rattle.files_in_place.specs.declared.faults.RecoveryFault.TheVariants as recovery
 use Rattle.files_in_place.specs.declared.faults.SetFault.{SetFault}
 use Rattle.station_files.specs.declared.close_fault.CloseFault.TheVariants as close
+use Rattle.station_files.specs.declared.closed.ClosedTable.{ClosedTable}
 use Rattle.station_files.specs.declared.named.NamedFile.{NamedFile}
 use Rattle.station_files.specs.declared.finish_fault.FinishFault.{FinishFault}
 use Rattle.station_files.specs.declared.finish_fault.FinishFault.TheVariants as finish
 use Rattle.station_files.specs.Files.{files_in}
-use Rattle.station_files.specs.Placed.{AreTemporary, IsOldOrPlaced, IsPlaced}
+use Rattle.station_files.specs.Placed.{names_of, AreUnreserved, IsPlaced}
 use Rattle.whole_run.specs.declared.fault.ServeFault.{ServeFault}
 use Rattle.whole_run.specs.declared.fault.ServeFault.TheVariants as serve
+use Rattle.whole_run.specs.HandedOver.{AreHandedOver}
 use Rattle.whole_run.specs.Loading.{IsFailure}
+use Rattle.whole_run.proofs.RunNames.{names_differ}
 use Rattle.whole_run.specs.TablesWritten.{AreTablesWritten, IsCutTables, IsTablesFault, dated_files}
 use Rattle.program_text.specs.declared.folder.FolderFault.{FolderFault}
 use Rattle.program_text.specs.declared.folder.FolderFault.TheVariants.{Unrecovered, Unwritten, Unfinished}
 use Rattle.program_text.specs.declared.folder.PlaceFault.{PlaceFault}
 use Rattle.program_text.specs.declared.folder.PlaceFault.TheVariants as place
-use Rattle.program_text.specs.PlaceFaults.{given_up, unplaced_files, unrecovered_folder}
-use Rattle.program_text.proofs.PlacingLaws.{files_placed, given_up_keeps, never_unrecovered, unfinished_only, unwritten_only}
+use Rattle.program_text.specs.PlaceFaults.{given_up, unplaced_files, unrecovered_folder, IsOfRecovery}
+use Rattle.program_text.proofs.PlacingLaws.{files_placed, files_since, given_up_keeps, never_unrecovered, recovery_said, unfinished_only, unwritten_only}
 use Rattle.station_audit.specs.declared.program.failure.Failure.{Failure}
-use Rattle.station_audit.specs.declared.program.failure.Failure.TheVariants.{BadDate, Serve, Unread, Audit, Folder}
+use Rattle.station_audit.specs.declared.program.failure.Failure.TheVariants.{BadDate, Serve, Unread, UnrecoveredJournal, Audit, Folder}
 use Rattle.station_audit.specs.declared.program.options.Options.{Options}
 use Rattle.station_audit.specs.Program.{IsAuditedTo, IsFailedBy, IsLoadFailure}
 use Rattle.station_audit.specs.Endings.{given_up_audit, place_failure}
-use Rattle.station_audit.specs.Writing.{IsWrittenBy, IsCutAudit, IsUnwritten, AreInPlace, HasFailedSinceAudit, HasOldOrNewSinceAudit, IsPlaceFailure, IsWrittenWhole}
+use Rattle.station_audit.specs.Writing.{IsWrittenBy, IsCutAudit, IsUnwritten, AreInPlace, IsPlaceFailure, IsWrittenWhole}
 
 -- ---- writing
 
+-- the names of the files of the tables at a journal's end differ
+tables_differ : (files : Option (List NamedFile)) (options : Options) (today : Day) (h : History) (tables : List ClosedTable) → IsAuditedTo files options h → AreHandedOver h tables → IsDistinct bytes_eq (names_of (dated_files today tables))
+tables_differ files options today h tables audited handed =
+    let opened = audited.asked.tables in
+    names_differ options.reindex (length opened.read.scripts) opened.read.tables h opened.from.opening tables handed today [] (omega arith)
+
 pub written_by : (files : Option (List NamedFile)) (options : Options) (today : Day) (h : History) (old new : Option (List ℕ)) (count : ℕ) → IsAuditedTo files options h → count ≡ length h.journal
     → AreTablesWritten h today old new → IsWrittenBy files options today old new count
-written_by files options today h old new count audited counted wrote = record { history = h; audited = audited; counted = counted; wrote = wrote }
+written_by files options today h old new count audited counted wrote = record {
+  history = h;
+  audited = audited;
+  counted = counted;
+  wrote = wrote;
+  distinct = tables_differ files options today h wrote.tables audited wrote.handed;
+}
 
 pub unwritten_audit : (files : Option (List NamedFile)) (options : Options) (year : ℕ) (why : Failure) → IsFailedBy files options why → IsUnwritten files options year why
 unwritten_audit files options year BadDate h = h
@@ -46,6 +61,7 @@ unwritten_audit files options year (Serve (serve.Run f)) h = h
 unwritten_audit files options year (Serve (serve.Close f)) h = absurd h
 unwritten_audit files options year (Serve serve.NoMemory) h = h
 unwritten_audit files options year Unread h = h
+unwritten_audit files options year (UnrecoveredJournal path) h = h
 unwritten_audit files options year (Audit f) h = h
 unwritten_audit files options year (Folder f) h = h
 
@@ -81,6 +97,7 @@ uncut_audit files options today old new (Serve (serve.Run f)) h = tt
 uncut_audit files options today old new (Serve (serve.Close f)) h = absurd h
 uncut_audit files options today old new (Serve serve.NoMemory) h = tt
 uncut_audit files options today old new Unread h = tt
+uncut_audit files options today old new (UnrecoveredJournal path) h = tt
 uncut_audit files options today old new (Audit f) h = tt
 uncut_audit files options today old new (Folder f) h = tt
 
@@ -99,21 +116,37 @@ cut_audit files options today h old new (serve.Close (close.Write name)) audited
 -- ---- in place
 
 pub in_place : (files : Option (List NamedFile)) (options : Options) (today : Day) (count : ℕ) (begun written : List ℕ) (old new : Files) → IsWrittenBy files options today (Some begun) (Some written) count → begun ≡ []
-    → IsPlaced written old new → AreInPlace files options today new count
-in_place files options today count begun written old new w none placed = record {
+    → AreUnreserved (files_in written) → IsPlaced written old new → AreInPlace files options today old new count
+in_place files options today count begun written old new w none free placed = record {
   history = w.history;
   tables = w.wrote.tables;
   audited = w.audited;
   counted = w.counted;
   handed = w.wrote.handed;
-  placed = files_placed (dated_files today w.wrote.tables) begun written old new none w.wrote.written placed;
+  distinct = w.distinct;
+  placed = files_placed (dated_files today w.wrote.tables) begun written old new none w.wrote.written w.wrote.told w.distinct free placed;
 }
+
+-- the folder before may be told as one that has the same files
+pub in_place_since : (files : Option (List NamedFile)) (options : Options) (today : Day) (before old new : Files) (ended : Result ℕ Failure) → ((n : Name) → old n ≡ before n) → IfOk ended (AreInPlace files options today old new)
+    → IfOk ended (AreInPlace files options today before new)
+in_place_since files options today before old new (Ok count) same has = record {
+  history = has.history;
+  tables = has.tables;
+  audited = has.audited;
+  counted = has.counted;
+  handed = has.handed;
+  distinct = has.distinct;
+  placed = files_since (dated_files today has.tables) before old new same has.placed;
+}
+in_place_since files options today before old new (Err failure) same has = tt
 
 -- why an audit was given up is why the tables are not written, or want of memory
 pub given_up_failure : (files : Option (List NamedFile)) (options : Options) (today : Day) (last : Option SetFault) (why : Failure) → IsUnwritten files options today.year why → IsPlaceFailure files options today (given_up_audit last why)
 given_up_failure files options today last BadDate h = h
 given_up_failure files options today last (Serve fault) h = given_up_keeps (λ f. IsPlaceFailure files options today (Serve f)) last fault (given_up last fault) refl tt h
 given_up_failure files options today last Unread h = h
+given_up_failure files options today last (UnrecoveredJournal path) h = h
 given_up_failure files options today last (Audit f) h = h
 given_up_failure files options today last (Folder f) h = absurd h
 
@@ -123,6 +156,7 @@ pub given_up_load : (files : Option (List NamedFile)) (options : Options) (befor
 given_up_load files options before after last BadDate h = h
 given_up_load files options before after last (Serve fault) h = given_up_keeps (IsFailure files before after) last fault (given_up last fault) refl tt h
 given_up_load files options before after last Unread h = h
+given_up_load files options before after last (UnrecoveredJournal path) h = h
 given_up_load files options before after last (Audit f) h = h
 given_up_load files options before after last (Folder f) h = h
 
@@ -149,6 +183,7 @@ pub given_up_no_folder : (files : Option (List NamedFile)) (options : Options) (
 given_up_no_folder files options year last said BadDate failure is h e = let clash : BadDate ≡ Folder said = cc in cc
 given_up_no_folder files options year last said (Serve fault) failure is h e = let clash : Serve (given_up last fault) ≡ Folder said = cc in cc
 given_up_no_folder files options year last said Unread failure is h e = let clash : Unread ≡ Folder said = cc in cc
+given_up_no_folder files options year last said (UnrecoveredJournal path) failure is h e = let clash : UnrecoveredJournal path ≡ Folder said = cc in cc
 given_up_no_folder files options year last said (Audit f) failure is h e = let clash : Audit f ≡ Folder said = cc in cc
 given_up_no_folder files options year last said (Folder f) failure is h e = h
 
@@ -165,66 +200,44 @@ told_of said (place.Folder why) failure is e =
     cc
 
 -- it is not that the folder was not recovered
-pub recovered_before : (why : FinishFault) (fault : PlaceFault) (failure : Failure) → failure ≡ place_failure fault → fault ≡ unplaced_files why → IsErrOf {T = ℕ} (Err failure) (Folder Unrecovered) → ⊥
-recovered_before why fault failure is was e = never_unrecovered why (sym was ∙ told_of Unrecovered fault failure is e)
+pub recovered_before : (why : FinishFault) (said : FolderFault) (fault : PlaceFault) (failure : Failure) → IsOfRecovery said → failure ≡ place_failure fault → fault ≡ unplaced_files why → IsErrOf {T = ℕ} (Err failure) (Folder said) → ⊥
+recovered_before why said fault failure un is was e = never_unrecovered why said un (sym was ∙ told_of said fault failure is e)
 
 -- tables that were written, where nothing had been
 pub written_alone : (files : Option (List NamedFile)) (options : Options) (today : Day) (count : ℕ) (begun written : List ℕ) → IsWrittenBy files options today (Some begun) (Some written) count → begun ≡ []
     → IsWrittenBy files options today (Some []) (Some written) count
 written_alone files options today count begun written wrote none = subst (λ (l : List ℕ). IsWrittenBy files options today (Some l) (Some written) count) none wrote
 
--- it is said only where the disk has failed since the audit's end
-pub unwritten_cause : {D : Type 0} (keeps_promises : Type 0) (seen : D → Files) (faults : D → ℕ) (files : Option (List NamedFile)) (options : Options) (today : Day) (count : ℕ) (begun written : List ℕ) (end now : D) (why : FinishFault) (said : PlaceFault) (failure : Failure)
-    → failure ≡ place_failure said → said ≡ unplaced_files why → IsWrittenBy files options today (Some begun) (Some written) count → begun ≡ [] → (keeps_promises → AreTemporary (files_in written) (seen end))
-    → (why ≡ finish.Unwritten → faults end < faults now) → IsErrOf {T = ℕ} (Err failure) (Folder Unwritten) → HasFailedSinceAudit keeps_promises seen faults files options today now
-unwritten_cause keeps_promises seen faults files options today count begun written end now why said failure is was wrote none there failed e =
+-- it is said only where the disk has failed
+pub unwritten_cause : (before end now : ℕ) (why : FinishFault) (said : PlaceFault) (failure : Failure) → failure ≡ place_failure said → said ≡ unplaced_files why → before ≤ end → (why ≡ finish.Unwritten → end < now)
+    → IsErrOf {T = ℕ} (Err failure) (Folder Unwritten) → before < now
+unwritten_cause before end now why said failure is was counted failed e =
     let told : why ≡ finish.Unwritten = unwritten_only why (sym was ∙ told_of Unwritten said failure is e) in
-    (written, count, written_alone files options today count begun written wrote none, record { earlier = end; there = there; failed = failed told })
+    omega (arith, counted, failed told)
 
 -- what is true where some of them may be in place
 pub unfinished_then : (P : Type 0) (why : FinishFault) (said : PlaceFault) (failure : Failure) → failure ≡ place_failure said → said ≡ unplaced_files why → (why ≡ finish.Unfinished → P)
     → IsErrOf {T = ℕ} (Err failure) (Folder Unfinished) → P
 unfinished_then P why said failure is was then e = then (unfinished_only why (sym was ∙ told_of Unfinished said failure is e))
 
--- where some of them may be in place, a crash since the audit's end leaves the old files or the new ones
-pub unfinished_either : {D : Type 0} (moment : D → ℕ) (left_since : D → ℕ → Files → Type 0) (seen : D → Files) (files : Option (List NamedFile)) (options : Options) (today : Day) (count : ℕ) (begun written : List ℕ) (end now : D)
-    → IsWrittenBy files options today (Some begun) (Some written) count → begun ≡ [] → AreTemporary (files_in written) (seen end) → LeavesOnly moment left_since end now (IsOldOrPlaced written (seen end))
-    → HasOldOrNewSinceAudit moment left_since seen files options today now
-unfinished_either moment left_since seen files options today count begun written end now wrote none there leaves =
-    (written, count, written_alone files options today count begun written wrote none, record { earlier = end; there = there; leaves = leaves })
-
 -- ---- a folder that was not recovered
 
--- nothing else is said of that
-pub unrecovered_only : (why : DiskFault) (said : FolderFault) (fault : PlaceFault) (failure : Failure) → failure ≡ place_failure fault → fault ≡ unrecovered_folder why → IsErrOf {T = ℕ} (Err failure) (Folder said) → said ≡ Unrecovered
-unrecovered_only disk.Failed said fault failure is was e =
-    let refused : failure ≡ Folder Unrecovered = is ∙ ap place_failure was in
-    let told : failure ≡ Folder said = cc in
-    let same : Folder Unrecovered ≡ Folder said = sym refused ∙ told in
-    cc
-unrecovered_only disk.NoMemory said fault failure is was e =
-    let refused : failure ≡ Serve serve.NoMemory = is ∙ ap place_failure was in
-    let told : failure ≡ Folder said = cc in
-    let clash : Serve serve.NoMemory ≡ Folder said = sym refused ∙ told in
-    absurd cc
+-- what is said of that
+pub unrecovered_said : (why : RecoveryFault) (said : FolderFault) (fault : PlaceFault) (failure : Failure) → failure ≡ place_failure fault → fault ≡ unrecovered_folder why → IsErrOf {T = ℕ} (Err failure) (Folder said) → unrecovered_folder why ≡ place.Folder said
+unrecovered_said why said fault failure is was e = sym was ∙ told_of said fault failure is e
 
-unrecovered_place : (files : Option (List NamedFile)) (options : Options) (today : Day) (why : DiskFault) → IsPlaceFailure files options today (place_failure (unrecovered_folder why))
-unrecovered_place files options today disk.NoMemory = tt
-unrecovered_place files options today disk.Failed = tt
+-- nothing else is
+pub unrecovered_only : (why : RecoveryFault) (said : FolderFault) (fault : PlaceFault) (failure : Failure) → failure ≡ place_failure fault → fault ≡ unrecovered_folder why → IsErrOf {T = ℕ} (Err failure) (Folder said) → IsOfRecovery said
+unrecovered_only why said fault failure is was e = recovery_said why said (unrecovered_said why said fault failure is was e)
 
-pub unrecovered_fault : (files : Option (List NamedFile)) (options : Options) (today : Day) (why : DiskFault) (fault : PlaceFault) (failure : Failure) → failure ≡ place_failure fault → fault ≡ unrecovered_folder why
-    → IsPlaceFailure files options today failure
+unrecovered_place : (files : Option (List NamedFile)) (options : Options) (today : Day) (why : RecoveryFault) → IsPlaceFailure files options today (place_failure (unrecovered_folder why))
+unrecovered_place files options today recovery.NoMemory = tt
+unrecovered_place files options today recovery.Failed = tt
+unrecovered_place files options today recovery.BadList = tt
+unrecovered_place files options today (recovery.Unreplaced name) = tt
+
+pub unrecovered_fault : (files : Option (List NamedFile)) (options : Options) (today : Day) (why : RecoveryFault) (fault : PlaceFault) (failure : Failure) → failure ≡ place_failure fault → fault ≡ unrecovered_folder why → IsPlaceFailure files options today failure
 unrecovered_fault files options today why fault failure is was = subst (IsPlaceFailure files options today) (sym (is ∙ ap place_failure was)) (unrecovered_place files options today why)
-
--- it is said only where the disk has failed
-pub unrecovered_cause : (why : DiskFault) (fault : PlaceFault) (failure : Failure) (before now : ℕ) → failure ≡ place_failure fault → fault ≡ unrecovered_folder why → (why ≡ disk.Failed → before < now)
-    → IsErrOf {T = ℕ} (Err failure) (Folder Unrecovered) → before < now
-unrecovered_cause disk.Failed fault failure before now is was cause e = cause refl
-unrecovered_cause disk.NoMemory fault failure before now is was cause e =
-    let refused : failure ≡ Serve serve.NoMemory = is ∙ ap place_failure was in
-    let told : failure ≡ Folder Unrecovered = cc in
-    let clash : Serve serve.NoMemory ≡ Folder Unrecovered = sym refused ∙ told in
-    absurd cc
 
 place_load : (files : Option (List NamedFile)) (options : Options) (before after : Option ℕ) (fault : PlaceFault) → after ≡ before → IsLoadFailure files options before after (place_failure fault)
 place_load files options before after place.NoMemory same = tt

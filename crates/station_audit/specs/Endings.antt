@@ -9,11 +9,12 @@ use Rattle.audit.specs.declared.fault.AuditFault.TheVariants as fault
 use Rattle.audit.specs.declared.fault.Difference.{Difference}
 use Rattle.files_in_place.specs.declared.faults.SetFault.{SetFault}
 use Rattle.station_lines.specs.declared.script.format.TheConstants.{LF}
+use Rattle.whole_run.specs.declared.fault.FileFault.TheVariants as file
 use Rattle.whole_run.specs.declared.fault.ServeFault.TheVariants as serve
 use Rattle.program_text.specs.declared.folder.PlaceFault.{PlaceFault}
 use Rattle.program_text.specs.declared.folder.PlaceFault.TheVariants as place
 use Rattle.program_text.specs.PlaceFaults.{given_up}
-use Rattle.program_text.specs.Reasons.{fault_reason, fault_status, folder_reason}
+use Rattle.program_text.specs.Reasons.{fault_reason, fault_status, folder_reason, unread_file}
 use Rattle.program_text.specs.Telling.{mistake_line, mistake_status, no_text_line, no_text_status, unprinted_line as unprinted_line_of}
 use Rattle.station_audit.specs.declared.program.ending.Ending.{Ending}
 use Rattle.station_audit.specs.declared.program.ending.Ending.TheVariants as ended
@@ -27,6 +28,7 @@ abbrev pub status : Failure → ℕ
 status failure.BadDate = 1
 status (failure.Serve why) = fault_status why
 status failure.Unread = 2
+status (failure.UnrecoveredJournal path) = 2
 status (failure.Audit why) = 5
 status (failure.Folder fault) = 4
 
@@ -68,6 +70,7 @@ abbrev pub reason : Failure → List ℕ
 reason failure.BadDate = codes "bad date"
 reason (failure.Serve why) = fault_reason why
 reason failure.Unread = codes "cannot read the journal"
+reason (failure.UnrecoveredJournal path) = unread_file path file.Unrecovered
 reason (failure.Audit why) = audit_reason why
 reason (failure.Folder fault) = folder_reason fault
 

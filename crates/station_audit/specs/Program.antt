@@ -11,11 +11,12 @@ use Rattle.program_text.specs.CommandLine.{value_of}
 use Rattle.audit.specs.declared.fault.AuditFault.{AuditFault}
 use Rattle.audit.specs.declared.fault.AuditFault.TheVariants as fault
 use Rattle.audit.specs.Audits.{IsJournalOf, RefutesAll, IsAuditFault}
+use Rattle.whole_run.specs.declared.fault.FileFault.TheVariants as file
 use Rattle.whole_run.specs.declared.fault.ServeFault.TheVariants as serve
-use Rattle.whole_run.specs.Loading.{IsFailure}
+use Rattle.whole_run.specs.Loading.{IsFailure, IsUnloaded}
 use Rattle.whole_run.specs.OpenedSetup.{IsOpenedBy, IsUnopened}
 use Rattle.station_audit.specs.declared.program.failure.Failure.{Failure}
-use Rattle.station_audit.specs.declared.program.failure.Failure.TheVariants.{BadDate, Serve, Unread, Audit, Folder}
+use Rattle.station_audit.specs.declared.program.failure.Failure.TheVariants.{BadDate, Serve, Unread, UnrecoveredJournal, Audit, Folder}
 use Rattle.station_audit.specs.declared.program.options.Options.{Options}
 use Rattle.station_audit.specs.declared.program.options.Written.{Written}
 
@@ -70,7 +71,8 @@ audit_failure why = Audit why
 -- why it is not said that all entries hold
 abbrev pub IsFailedBy : Option (List NamedFile) → Options → Failure → Type 0
 IsFailedBy files options (Serve why) = IsUnopened files options.setup.now options.reindex why
-IsFailedBy files options Unread = Unit {0}
+IsFailedBy files options Unread = IsUnloaded files options.journal.now file.CannotRead
+IsFailedBy files options (UnrecoveredJournal path) = (path ≡ options.journal.now) × IsUnloaded files options.journal.now file.Unrecovered
 IsFailedBy files options (Audit fault.NoMemory) = ⊥
 IsFailedBy files options (Audit why) = IsRefuted files options why
 IsFailedBy files options BadDate = ⊥
@@ -79,7 +81,8 @@ IsFailedBy files options (Folder fault) = ⊥
 -- why the journal of this path is not read, and what that says of the count of loads that failed
 abbrev pub IsJournalFault : Option (List NamedFile) → List ℕ → Option ℕ → Option ℕ → Failure → Type 0
 IsJournalFault files path before after (Serve serve.NoMemory) = Unit {0}
-IsJournalFault files path before after Unread = Rises before after ⊎ IsTooLong files path
+IsJournalFault files path before after Unread = IsUnloaded files path file.CannotRead × (Rises before after ⊎ IsTooLong files path)
+IsJournalFault files path before after (UnrecoveredJournal told) = (told ≡ path) × IsUnloaded files path file.Unrecovered × (after ≡ before)
 IsJournalFault files path before after why = ⊥
 
 -- what a failure says of the count of loads that failed

@@ -1,14 +1,15 @@
 -- The tables at the end of a journal that was audited, written into a folder.
-use Rattle.std.specs.Prelude.{◌≡◌, ℕ, List, [], length, Option, Some}
+use Rattle.std.specs.Prelude.{◌≡◌, ℕ, List, [], length, Option, Some, bytes_eq}
+use Rattle.std.specs.List.{IsDistinct}
 use Rattle.dbf_fields.specs.declared.day.Day.{Day}
 use Rattle.catalogue_core.specs.Replay.{History}
 use Rattle.files_in_place.specs.Folder.{Folder}
 use Rattle.station_files.specs.declared.closed.ClosedTable.{ClosedTable}
 use Rattle.station_files.specs.declared.named.NamedFile.{NamedFile}
-use Rattle.station_files.specs.Files.{files_in, listing}
+use Rattle.station_files.specs.Placed.{names_of}
 use Rattle.program_text.specs.declared.folder.FolderFault.{FolderFault}
-use Rattle.program_text.specs.declared.folder.FolderFault.TheVariants.{InUse, Unopened, Unrecovered, Unwritten, Unfinished}
-use Rattle.program_text.specs.Placing.{HasFailedSince, HasFiles, HasOldOrNewSince, IsBeforeOrPlaced}
+use Rattle.program_text.specs.declared.folder.FolderFault.TheVariants.{InUse, Unopened, Unrecovered, BadList, Unreplaced, Unwritten, Unfinished}
+use Rattle.program_text.specs.Placing.{HasFiles}
 use Rattle.station_files.specs.declared.close_fault.CloseFault.TheVariants.{Write}
 use Rattle.whole_run.specs.declared.fault.ServeFault.TheVariants as serve
 use Rattle.whole_run.specs.HandedOver.{AreHandedOver}
@@ -18,12 +19,14 @@ use Rattle.station_audit.specs.declared.program.failure.Failure.TheVariants.{Ser
 use Rattle.station_audit.specs.declared.program.options.Options.{Options}
 use Rattle.station_audit.specs.Program.{IsAuditedTo, IsFailedBy}
 
--- all entries hold, there are so many, and the files of the tables at their end stand after what was written before
+-- All entries hold, there are so many, and the files of the tables at their end stand after what was written before. No two of
+-- them have the same name.
 pub record IsWrittenBy (files : Option (List NamedFile)) (options : Options) (today : Day) (old new : Option (List ℕ)) (count : ℕ) : Type 0 where
   pub history : History
   pub audited : IsAuditedTo files options history
   pub counted : count ≡ length history.journal
   pub wrote : AreTablesWritten history today old new
+  pub distinct : IsDistinct bytes_eq (names_of (dated_files today wrote.tables))
 
 -- why the tables are not written: all entries hold, and their files can't be written; or it is not said that all hold
 abbrev pub IsUnwritten : Option (List NamedFile) → Options → ℕ → Failure → Type 0
@@ -36,35 +39,24 @@ IsCutAudit files options today old new (Serve (serve.Close (Write name))) =
     (h : History) × IsAuditedTo files options h × IsCutTables h today old new (serve.Close (Write name))
 IsCutAudit files options today old new why = Unit {0}
 
--- all entries hold, there are so many, and the folder has the files of the tables at their end
-pub record AreInPlace (files : Option (List NamedFile)) (options : Options) (today : Day) (folder : Folder) (count : ℕ) : Type 0 where
+-- All entries hold, there are so many, and these are the tables at their end. No two of their files have the same name, and the new
+-- folder has them, and else what the old one had.
+pub record AreInPlace (files : Option (List NamedFile)) (options : Options) (today : Day) (old new : Folder) (count : ℕ) : Type 0 where
   pub history : History
   pub tables : List ClosedTable
   pub audited : IsAuditedTo files options history
   pub counted : count ≡ length history.journal
   pub handed : AreHandedOver history tables
-  pub placed : HasFiles (files_in (listing (dated_files today tables))) folder
+  pub distinct : IsDistinct bytes_eq (names_of (dated_files today tables))
+  pub placed : HasFiles (dated_files today tables) old new
 
 -- all entries hold, and the files of the tables at their end were written, whole, where none had been
 abbrev pub IsWrittenWhole : Option (List NamedFile) → Options → Day → Type 0
 IsWrittenWhole files options today = (written : List ℕ) × (count : ℕ) × IsWrittenBy files options today (Some []) (Some written) count
 
--- all entries hold, the files of the tables at their end were written, whole, where none had been, and since then the disk has
--- failed
-abbrev pub HasFailedSinceAudit : {D : Type 0} → Type 0 → (D → Folder) → (D → ℕ) → Option (List NamedFile) → Options → Day → D → Type 0
-HasFailedSinceAudit keeps_promises seen faults files options today now =
-    (written : List ℕ) × (count : ℕ) × IsWrittenBy files options today (Some []) (Some written) count × HasFailedSince keeps_promises seen faults written now
-
--- all entries hold, the files of the tables at their end were written, whole, where none had been, and whatever a crash leaves
--- from then on stands for the old files or for these, all of them
-abbrev pub HasOldOrNewSinceAudit : {D : Type 0} → (D → ℕ) → (D → ℕ → Folder → Type 0) → (D → Folder) → Option (List NamedFile) → Options → Day → D → Type 0
-HasOldOrNewSinceAudit moment left_since seen files options today now =
-    (written : List ℕ) × (count : ℕ) × IsWrittenBy files options today (Some []) (Some written) count × HasOldOrNewSince moment left_since seen written now
-
--- What a crash leaves stands for the folder before, or for that with the files of the tables at the journal's end in their
--- places, all of them.
-abbrev pub IsBeforeOrWritten : Option (List NamedFile) → Options → Day → Folder → Folder → Type 0
-IsBeforeOrWritten files options today = IsBeforeOrPlaced (λ written. (count : ℕ) × IsWrittenBy files options today (Some []) (Some written) count)
+-- the list tells the files of the tables at the end of the journal, all of whose entries hold
+abbrev pub IsListOfTables : Option (List NamedFile) → Options → Day → List ℕ → Type 0
+IsListOfTables files options today written = (count : ℕ) × IsWrittenBy files options today (Some []) (Some written) count
 
 -- Why a folder that was locked and opened has not got the files of the tables: it was not recovered, or all entries hold and
 -- the files were not put in place.
@@ -72,6 +64,8 @@ abbrev pub IsFolderFailure : Option (List NamedFile) → Options → Day → Fol
 IsFolderFailure files options today InUse = ⊥
 IsFolderFailure files options today Unopened = ⊥
 IsFolderFailure files options today Unrecovered = Unit {0}
+IsFolderFailure files options today BadList = Unit {0}
+IsFolderFailure files options today (Unreplaced name) = Unit {0}
 IsFolderFailure files options today Unwritten = IsWrittenWhole files options today
 IsFolderFailure files options today Unfinished = IsWrittenWhole files options today
 

@@ -1,15 +1,15 @@
 -- A run whose files are in place.
-use Rattle.std.proofs.Common.{◌≡◌, ℕ, ◌<◌, List, [], Option, Some, Err, refl, ap, sym, ◌∙◌, subst}
-use Rattle.std.specs.Prelude.{IsErrOf}
-use Rattle.files_in_place.specs.Folder.{Folder as Files}
-use Rattle.files_in_place.specs.declared.faults.DiskFault.{DiskFault}
-use Rattle.files_in_place.specs.declared.faults.DiskFault.TheVariants as disk
+use Rattle.std.proofs.Common.{◌≡◌, ℕ, ◌<◌, ◌≤◌, arith, List, [], Option, Some, Result, Ok, Err, refl, ap, sym, ◌∙◌, subst}
+use Rattle.std.specs.Prelude.{IfOk, IsErrOf}
+use Rattle.files_in_place.specs.Folder.{Name, Folder as Files}
+use Rattle.files_in_place.specs.declared.faults.RecoveryFault.{RecoveryFault}
+use Rattle.files_in_place.specs.declared.faults.RecoveryFault.TheVariants as recovery
 use Rattle.files_in_place.specs.declared.faults.SetFault.{SetFault}
 use Rattle.station_files.specs.declared.named.NamedFile.{NamedFile}
 use Rattle.station_files.specs.declared.finish_fault.FinishFault.{FinishFault}
 use Rattle.station_files.specs.declared.finish_fault.FinishFault.TheVariants as finish
 use Rattle.station_files.specs.Files.{files_in}
-use Rattle.station_files.specs.Placed.{AreTemporary, IsOldOrPlaced, IsPlaced}
+use Rattle.station_files.specs.Placed.{AreUnreserved, IsPlaced}
 use Rattle.whole_run.specs.declared.fault.ServeFault.{ServeFault}
 use Rattle.whole_run.specs.declared.fault.ServeFault.TheVariants as serve
 use Rattle.whole_run.specs.Loading.{IsFailure}
@@ -17,23 +17,36 @@ use Rattle.program_text.specs.declared.folder.FolderFault.{FolderFault}
 use Rattle.program_text.specs.declared.folder.FolderFault.TheVariants.{Unrecovered, Unwritten, Unfinished}
 use Rattle.program_text.specs.declared.folder.PlaceFault.{PlaceFault}
 use Rattle.program_text.specs.declared.folder.PlaceFault.TheVariants.{NoMemory, Folder}
-use Rattle.program_text.specs.PlaceFaults.{given_up, unplaced_files, unrecovered_folder}
+use Rattle.program_text.specs.PlaceFaults.{given_up, unplaced_files, unrecovered_folder, IsOfRecovery}
 use Rattle.files_in_place.specs.Disk.{LeavesOnly}
-use Rattle.program_text.proofs.PlacingLaws.{files_placed, given_up_keeps, never_unrecovered, unfinished_only, unwritten_only}
+use Rattle.program_text.proofs.PlacingLaws.{files_placed, files_since, given_up_keeps, never_unrecovered, recovery_said, unfinished_only, unwritten_only}
 use Rattle.station_server.specs.declared.program.failure.Failure.{Failure}
 use Rattle.station_server.specs.declared.program.failure.Failure.TheVariants.{Serve, Folder as OfFolder}
 use Rattle.station_server.specs.declared.program.options.Options.{Options}
 use Rattle.station_server.specs.Failures.{place_failure}
-use Rattle.station_server.specs.Program.{asked_files, HasFailedSinceRun, HasOldOrNewSinceRun, IsInPlace, IsLoadFailure, IsPlaceFault, IsServedBy, IsServedWhole}
+use Rattle.station_server.specs.Program.{asked_files, IsInPlace, IsLoadFailure, IsPlaceFault, IsServedBy, IsServedWhole}
 
-pub in_place : (files : Option (List NamedFile)) (options : Options) (count : ℕ) (begun written : List ℕ) (old new : Files) → IsServedBy files options (Some begun) (Some written) count → begun ≡ [] → IsPlaced written old new
-    → IsInPlace files options new count
-in_place files options count begun written old new served none placed = record {
+pub in_place : (files : Option (List NamedFile)) (options : Options) (count : ℕ) (begun written : List ℕ) (old new : Files) → IsServedBy files options (Some begun) (Some written) count → begun ≡ [] → AreUnreserved (files_in written) → IsPlaced written old new
+    → IsInPlace files options old new count
+in_place files options count begun written old new served none free placed = record {
   tables = served.tables;
   answers = served.answers;
   run = served.run;
-  placed = files_placed (asked_files options served.tables served.answers served.run.history.journal) begun written old new none served.written placed;
+  distinct = served.distinct;
+  placed = files_placed (asked_files options served.tables served.answers served.run.history.journal) begun written old new none served.written served.told served.distinct free placed;
 }
+
+-- the folder before may be told as one that has the same files
+pub in_place_since : (files : Option (List NamedFile)) (options : Options) (before old new : Files) (ended : Result ℕ Failure) → ((n : Name) → old n ≡ before n) → IfOk ended (IsInPlace files options old new)
+    → IfOk ended (IsInPlace files options before new)
+in_place_since files options before old new (Ok count) same has = record {
+  tables = has.tables;
+  answers = has.answers;
+  run = has.run;
+  distinct = has.distinct;
+  placed = files_since (asked_files options has.tables has.answers has.run.history.journal) before old new same has.placed;
+}
+in_place_since files options before old new (Err failure) same has = tt
 
 -- a run that was served where nothing had been written
 pub served_whole : (files : Option (List NamedFile)) (options : Options) (count : ℕ) (begun written : List ℕ) → IsServedBy files options (Some begun) (Some written) count → begun ≡ [] → IsServedWhole files options
@@ -62,64 +75,43 @@ told_of said (Folder why) failure is e =
     cc
 
 -- it is not that the folder was not recovered
-pub recovered_before : (why : FinishFault) (fault : PlaceFault) (failure : Failure) → failure ≡ place_failure fault → fault ≡ unplaced_files why → IsErrOf {T = ℕ} (Err failure) (OfFolder Unrecovered) → ⊥
-recovered_before why fault failure is was e = never_unrecovered why (sym was ∙ told_of Unrecovered fault failure is e)
+pub recovered_before : (why : FinishFault) (said : FolderFault) (fault : PlaceFault) (failure : Failure) → IsOfRecovery said → failure ≡ place_failure fault → fault ≡ unplaced_files why → IsErrOf {T = ℕ} (Err failure) (OfFolder said) → ⊥
+recovered_before why said fault failure un is was e = never_unrecovered why said un (sym was ∙ told_of said fault failure is e)
 
 -- a run that was served, where nothing had been written
 pub served_alone : (files : Option (List NamedFile)) (options : Options) (count : ℕ) (begun written : List ℕ) → IsServedBy files options (Some begun) (Some written) count → begun ≡ [] → IsServedBy files options (Some []) (Some written) count
 served_alone files options count begun written served none = subst (λ (l : List ℕ). IsServedBy files options (Some l) (Some written) count) none served
 
--- it is said only where the disk has failed since the run's end
-pub unwritten_cause : {D : Type 0} (keeps_promises : Type 0) (seen : D → Files) (faults : D → ℕ) (files : Option (List NamedFile)) (options : Options) (count : ℕ) (begun written : List ℕ) (end now : D) (why : FinishFault) (said : PlaceFault) (failure : Failure)
-    → failure ≡ place_failure said → said ≡ unplaced_files why → IsServedBy files options (Some begun) (Some written) count → begun ≡ [] → (keeps_promises → AreTemporary (files_in written) (seen end))
-    → (why ≡ finish.Unwritten → faults end < faults now) → IsErrOf {T = ℕ} (Err failure) (OfFolder Unwritten) → HasFailedSinceRun keeps_promises seen faults files options now
-unwritten_cause keeps_promises seen faults files options count begun written end now why said failure is was served none there failed e =
+-- it is said only where the disk has failed
+pub unwritten_cause : (before end now : ℕ) (why : FinishFault) (said : PlaceFault) (failure : Failure) → failure ≡ place_failure said → said ≡ unplaced_files why → before ≤ end → (why ≡ finish.Unwritten → end < now)
+    → IsErrOf {T = ℕ} (Err failure) (OfFolder Unwritten) → before < now
+unwritten_cause before end now why said failure is was counted failed e =
     let told : why ≡ finish.Unwritten = unwritten_only why (sym was ∙ told_of Unwritten said failure is e) in
-    (written, count, served_alone files options count begun written served none, record { earlier = end; there = there; failed = failed told })
+    omega (arith, counted, failed told)
 
 -- what is true where some of them may be in place
 pub unfinished_then : (P : Type 0) (why : FinishFault) (said : PlaceFault) (failure : Failure) → failure ≡ place_failure said → said ≡ unplaced_files why → (why ≡ finish.Unfinished → P)
     → IsErrOf {T = ℕ} (Err failure) (OfFolder Unfinished) → P
 unfinished_then P why said failure is was then e = then (unfinished_only why (sym was ∙ told_of Unfinished said failure is e))
 
--- where some of them may be in place, a crash since the run's end leaves the old files or the new ones
-pub unfinished_either : {D : Type 0} (moment : D → ℕ) (left_since : D → ℕ → Files → Type 0) (seen : D → Files) (files : Option (List NamedFile)) (options : Options) (count : ℕ) (begun written : List ℕ) (end now : D)
-    → IsServedBy files options (Some begun) (Some written) count → begun ≡ [] → AreTemporary (files_in written) (seen end) → LeavesOnly moment left_since end now (IsOldOrPlaced written (seen end))
-    → HasOldOrNewSinceRun moment left_since seen files options now
-unfinished_either moment left_since seen files options count begun written end now served none there leaves =
-    (written, count, served_alone files options count begun written served none, record { earlier = end; there = there; leaves = leaves })
-
 -- ---- a folder that was not recovered
 
--- nothing else is said of that
-pub unrecovered_only : (why : DiskFault) (said : FolderFault) (fault : PlaceFault) (failure : Failure) → failure ≡ place_failure fault → fault ≡ unrecovered_folder why → IsErrOf {T = ℕ} (Err failure) (OfFolder said) → said ≡ Unrecovered
-unrecovered_only disk.Failed said fault failure is was e =
-    let refused : failure ≡ OfFolder Unrecovered = is ∙ ap place_failure was in
-    let told : failure ≡ OfFolder said = cc in
-    let same : OfFolder Unrecovered ≡ OfFolder said = sym refused ∙ told in
-    cc
-unrecovered_only disk.NoMemory said fault failure is was e =
-    let refused : failure ≡ Serve serve.NoMemory = is ∙ ap place_failure was in
-    let told : failure ≡ OfFolder said = cc in
-    let clash : Serve serve.NoMemory ≡ OfFolder said = sym refused ∙ told in
-    absurd cc
+-- what is said of that
+pub unrecovered_said : (why : RecoveryFault) (said : FolderFault) (fault : PlaceFault) (failure : Failure) → failure ≡ place_failure fault → fault ≡ unrecovered_folder why → IsErrOf {T = ℕ} (Err failure) (OfFolder said) → unrecovered_folder why ≡ Folder said
+unrecovered_said why said fault failure is was e = sym was ∙ told_of said fault failure is e
 
-unrecovered_place : (files : Option (List NamedFile)) (options : Options) (why : DiskFault) → IsPlaceFault files options (place_failure (unrecovered_folder why))
-unrecovered_place files options disk.NoMemory = tt
-unrecovered_place files options disk.Failed = tt
+-- nothing else is
+pub unrecovered_only : (why : RecoveryFault) (said : FolderFault) (fault : PlaceFault) (failure : Failure) → failure ≡ place_failure fault → fault ≡ unrecovered_folder why → IsErrOf {T = ℕ} (Err failure) (OfFolder said) → IsOfRecovery said
+unrecovered_only why said fault failure is was e = recovery_said why said (unrecovered_said why said fault failure is was e)
 
-pub unrecovered_fault : (files : Option (List NamedFile)) (options : Options) (why : DiskFault) (fault : PlaceFault) (failure : Failure) → failure ≡ place_failure fault → fault ≡ unrecovered_folder why → IsPlaceFault files options failure
+unrecovered_place : (files : Option (List NamedFile)) (options : Options) (why : RecoveryFault) → IsPlaceFault files options (place_failure (unrecovered_folder why))
+unrecovered_place files options recovery.NoMemory = tt
+unrecovered_place files options recovery.Failed = tt
+unrecovered_place files options recovery.BadList = tt
+unrecovered_place files options (recovery.Unreplaced name) = tt
+
+pub unrecovered_fault : (files : Option (List NamedFile)) (options : Options) (why : RecoveryFault) (fault : PlaceFault) (failure : Failure) → failure ≡ place_failure fault → fault ≡ unrecovered_folder why → IsPlaceFault files options failure
 unrecovered_fault files options why fault failure is was = subst (IsPlaceFault files options) (sym (is ∙ ap place_failure was)) (unrecovered_place files options why)
-
--- it is said only where the disk has failed
-pub unrecovered_cause : (why : DiskFault) (fault : PlaceFault) (failure : Failure) (before now : ℕ) → failure ≡ place_failure fault → fault ≡ unrecovered_folder why → (why ≡ disk.Failed → before < now)
-    → IsErrOf {T = ℕ} (Err failure) (OfFolder Unrecovered) → before < now
-unrecovered_cause disk.Failed fault failure before now is was cause e = cause refl
-unrecovered_cause disk.NoMemory fault failure before now is was cause e =
-    let refused : failure ≡ Serve serve.NoMemory = is ∙ ap place_failure was in
-    let told : failure ≡ OfFolder Unrecovered = cc in
-    let clash : Serve serve.NoMemory ≡ OfFolder Unrecovered = sym refused ∙ told in
-    absurd cc
 
 -- where no load has failed, none has where new files are not in place
 place_load : (files : Option (List NamedFile)) (before after : Option ℕ) (fault : PlaceFault) → after ≡ before → IsLoadFailure files before after (place_failure fault)

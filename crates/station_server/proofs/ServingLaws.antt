@@ -1,10 +1,12 @@
 -- A run that the options ask for, with or without its journal.
 use Rattle.std.proofs.Common.{◌≡◌, ℕ, Bool, true, false, cond, List, Option, Result, Ok, Err, sym, subst}
-use Rattle.std.specs.Prelude.{IfOk, IfErr}
+use Rattle.std.specs.Prelude.{IfOk, IfErr, bytes_eq}
+use Rattle.std.specs.List.{AllByRecursion, IsDistinct}
 use Rattle.byte_io.specs.Sink.{grown}
 use Rattle.station_files.specs.declared.named.NamedFile.{NamedFile}
 use Rattle.station_files.specs.Closing.{run_files}
-use Rattle.station_files.specs.Files.{listing}
+use Rattle.station_files.specs.Files.{files_in, listing, IsOfBytes}
+use Rattle.station_files.specs.Placed.{names_of}
 use Rattle.whole_run.specs.declared.fault.ServeFault.{ServeFault}
 use Rattle.whole_run.specs.JournalFile.{and_journal, IsServedWithJournal, IsCutRunWithJournal}
 use Rattle.whole_run.specs.WholeRun.{IsServed, IsCutRun}
@@ -22,6 +24,9 @@ served_plain files options old new count none served =
       run = served.run;
       few_blocks = served.few_blocks;
       written = subst (λ (b : Bool). new ≡ grown old (listing (cond b more plain))) (sym none) served.written;
+      bytes = subst (λ (b : Bool). AllByRecursion IsOfBytes (cond b more plain)) (sym none) served.bytes;
+      told = subst (λ (b : Bool). files_in (listing (cond b more plain)) ≡ cond b more plain) (sym none) served.told;
+      distinct = subst (λ (b : Bool). IsDistinct bytes_eq (names_of (cond b more plain))) (sym none) served.distinct;
     }
 
 served_with_journal : (files : Option (List NamedFile)) (options : Options) (old new : Option (List ℕ)) (count : ℕ) → options.journal ≡ true
@@ -35,6 +40,9 @@ served_with_journal files options old new count asked served =
       run = served.run;
       few_blocks = served.few_blocks;
       written = subst (λ (b : Bool). new ≡ grown old (listing (cond b more plain))) (sym asked) served.written;
+      bytes = subst (λ (b : Bool). AllByRecursion IsOfBytes (cond b more plain)) (sym asked) served.bytes;
+      told = subst (λ (b : Bool). files_in (listing (cond b more plain)) ≡ cond b more plain) (sym asked) served.told;
+      distinct = subst (λ (b : Bool). IsDistinct bytes_eq (names_of (cond b more plain))) (sym asked) served.distinct;
     }
 
 cut_plain : (files : Option (List NamedFile)) (options : Options) (old new : Option (List ℕ)) (fault : ServeFault) → options.journal ≡ false

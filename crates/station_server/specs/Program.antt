@@ -1,5 +1,6 @@
 -- What the command line asks for: the run, its files, and where they are written.
-use Rattle.std.specs.Prelude.{◌≡◌, ◌≢◌, ℕ, Bool, true, false, List, [], Option, Some, None, IsSome, codes, if◌then◌else◌}
+use Rattle.std.specs.Prelude.{◌≡◌, ◌≢◌, ℕ, Bool, true, false, List, [], Option, Some, None, IsSome, bytes_eq, codes, if◌then◌else◌}
+use Rattle.std.specs.List.{AllByRecursion, IsDistinct}
 use Rattle.clap.specs.declared.parser.matches.ArgMatches.{ArgMatches}
 use Rattle.dbf_fields.specs.declared.day.Day.{Day}
 use Rattle.byte_io.specs.Sink.{grown}
@@ -8,7 +9,8 @@ use Rattle.files_in_place.specs.Folder.{Folder}
 use Rattle.station_files.specs.declared.closed.ClosedTable.{ClosedTable}
 use Rattle.station_files.specs.declared.named.NamedFile.{NamedFile}
 use Rattle.station_files.specs.Closing.{first_blocked, run_files}
-use Rattle.station_files.specs.Files.{files_in, listing}
+use Rattle.station_files.specs.Files.{files_in, listing, IsOfBytes}
+use Rattle.station_files.specs.Placed.{names_of}
 use Rattle.station_files.specs.declared.close_fault.CloseFault.TheVariants.{Write}
 use Rattle.whole_run.specs.declared.fault.ServeFault.{ServeFault}
 use Rattle.whole_run.specs.declared.fault.ServeFault.TheVariants.{Close, NoMemory}
@@ -16,9 +18,9 @@ use Rattle.whole_run.specs.JournalFile.{and_journal, IsCutRunWithJournal}
 use Rattle.whole_run.specs.Loading.{IsFailure}
 use Rattle.whole_run.specs.WholeRun.{IsServeFault, IsWholeRun, IsCutRun}
 use Rattle.program_text.specs.declared.folder.FolderFault.{FolderFault}
-use Rattle.program_text.specs.declared.folder.FolderFault.TheVariants.{InUse, Unopened, Unrecovered, Unwritten, Unfinished}
+use Rattle.program_text.specs.declared.folder.FolderFault.TheVariants.{InUse, Unopened, Unrecovered, BadList, Unreplaced, Unwritten, Unfinished}
 use Rattle.program_text.specs.CommandLine.{value_of}
-use Rattle.program_text.specs.Placing.{HasFailedSince, HasFiles, HasOldOrNewSince, IsBeforeOrPlaced}
+use Rattle.program_text.specs.Placing.{HasFiles}
 use Rattle.station_server.specs.declared.program.failure.Failure.{Failure}
 use Rattle.station_server.specs.declared.program.failure.Failure.TheVariants.{BadDate, Serve, Folder as OfFolder}
 use Rattle.station_server.specs.declared.program.options.Options.{Options}
@@ -33,13 +35,17 @@ asked_files options tables answers journal =
     if options.journal then and_journal (run_files options.today tables answers) journal else run_files options.today tables answers
 
 -- The run that the options ask for, over these files, came to its end: these are its tables and answers, none of the tables
--- has more blocks than its file can have, and its files stand after what was written before.
+-- has more blocks than its file can have, and its files stand after what was written before. Names and files are of bytes, so
+-- what was written tells these files, and no others; and no two of them have the same name.
 pub record IsServedBy (files : Option (List NamedFile)) (options : Options) (old new : Option (List ℕ)) (count : ℕ) : Type 0 where
   pub tables : List ClosedTable
   pub answers : List (List ℕ)
   pub run : IsWholeRun files options.setup.now options.reindex tables answers count
   pub few_blocks : first_blocked 1 tables ≡ None
   pub written : new ≡ grown old (listing (asked_files options tables answers run.history.journal))
+  pub bytes : AllByRecursion IsOfBytes (asked_files options tables answers run.history.journal)
+  pub told : files_in (listing (asked_files options tables answers run.history.journal)) ≡ asked_files options tables answers run.history.journal
+  pub distinct : IsDistinct bytes_eq (names_of (asked_files options tables answers run.history.journal))
 
 -- a file of a run could not be written, with or without the journal's
 abbrev pub IsCutRunAs : Bool → Option (List NamedFile) → List ℕ → Bool → Day → Option (List ℕ) → Option (List ℕ) → ServeFault → Type 0
@@ -54,33 +60,22 @@ IsCutRunBy files options = IsCutRunAs options.journal files options.setup.now op
 abbrev pub UnlessBegunBy : Options → ServeFault → Type 0 → Type 0
 UnlessBegunBy options fault holds = (options.journal ≡ true → fault ≢ NoMemory) → ((name : List ℕ) → fault ≢ Close (Write name)) → holds
 
--- The run that the options ask for came to its end: these are its tables and answers, and the folder has their files.
-pub record IsInPlace (files : Option (List NamedFile)) (options : Options) (folder : Folder) (count : ℕ) : Type 0 where
+-- The run that the options ask for came to its end: these are its tables and answers. No two of its files have the same name, and
+-- the new folder has them, and else what the old one had.
+pub record IsInPlace (files : Option (List NamedFile)) (options : Options) (old new : Folder) (count : ℕ) : Type 0 where
   pub tables : List ClosedTable
   pub answers : List (List ℕ)
   pub run : IsWholeRun files options.setup.now options.reindex tables answers count
-  pub placed : HasFiles (files_in (listing (asked_files options tables answers run.history.journal))) folder
+  pub distinct : IsDistinct bytes_eq (names_of (asked_files options tables answers run.history.journal))
+  pub placed : HasFiles (asked_files options tables answers run.history.journal) old new
 
 -- the run that the options ask for came to its end, and its files were written, whole, where none had been
 abbrev pub IsServedWhole : Option (List NamedFile) → Options → Type 0
 IsServedWhole files options = (written : List ℕ) × (count : ℕ) × IsServedBy files options (Some []) (Some written) count
 
--- the run that the options ask for came to its end, its files were written, whole, where none had been, and since then the disk
--- has failed
-abbrev pub HasFailedSinceRun : {D : Type 0} → Type 0 → (D → Folder) → (D → ℕ) → Option (List NamedFile) → Options → D → Type 0
-HasFailedSinceRun keeps_promises seen faults files options now =
-    (written : List ℕ) × (count : ℕ) × IsServedBy files options (Some []) (Some written) count × HasFailedSince keeps_promises seen faults written now
-
--- the run that the options ask for came to its end, its files were written, whole, where none had been, and whatever a crash
--- leaves from then on stands for the old files or for these, all of them
-abbrev pub HasOldOrNewSinceRun : {D : Type 0} → (D → ℕ) → (D → ℕ → Folder → Type 0) → (D → Folder) → Option (List NamedFile) → Options → D → Type 0
-HasOldOrNewSinceRun moment left_since seen files options now =
-    (written : List ℕ) × (count : ℕ) × IsServedBy files options (Some []) (Some written) count × HasOldOrNewSince moment left_since seen written now
-
--- What a crash leaves stands for the folder before, or for that with the files of the run that the options ask for in their
--- places, all of them.
-abbrev pub IsBeforeOrServed : Option (List NamedFile) → Options → Folder → Folder → Type 0
-IsBeforeOrServed files options = IsBeforeOrPlaced (λ written. (count : ℕ) × IsServedBy files options (Some []) (Some written) count)
+-- the list tells the files of the run that the options ask for, which came to its end
+abbrev pub IsListOfRun : Option (List NamedFile) → Options → List ℕ → Type 0
+IsListOfRun files options written = (count : ℕ) × IsServedBy files options (Some []) (Some written) count
 
 -- Why a folder that was locked and opened has not got the files of the run that the options ask for: it was not recovered, or
 -- the run came to its end and its files were not put in place.
@@ -88,6 +83,8 @@ abbrev pub IsFolderFault : Option (List NamedFile) → Options → FolderFault �
 IsFolderFault files options InUse = ⊥
 IsFolderFault files options Unopened = ⊥
 IsFolderFault files options Unrecovered = Unit {0}
+IsFolderFault files options BadList = Unit {0}
+IsFolderFault files options (Unreplaced name) = Unit {0}
 IsFolderFault files options Unwritten = IsServedWhole files options
 IsFolderFault files options Unfinished = IsServedWhole files options
 

@@ -24,6 +24,10 @@ fn load_journal<S: Source>(alloc: Global, source: &mut S, path: &[u8]) -> Result
         Ok(text) => Ok(text),
         Err(LoadFault::NoMemory) => Err(Failure::Serve(ServeFault::NoMemory)),
         Err(LoadFault::CannotRead) => Err(Failure::Unread),
+        Err(LoadFault::Unrecovered) => {
+            let path = Bytes::from_slice(alloc, path)?;
+            Err(Failure::UnrecoveredJournal(path))
+        }
     }
 }
 

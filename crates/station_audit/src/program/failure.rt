@@ -5,11 +5,14 @@ ghost use Rattle.std.specs.Io.KnownBytes.{Appends};
 ghost use Rattle.station_audit.specs.Endings.{audit_reason, difference_reason, entry_named, failure_line, performed_answer, reason, status, told_answer};
 
 use audit::{AuditFault, Difference};
-use program_text::{FolderFault, PlaceFault, fault_status, folder_text, print_fault};
+use dbf_fields::Bytes;
+use program_text::{
+    FolderFault, PlaceFault, fault_status, print_fault, print_folder, print_unread,
+};
 use std::alloc::AllocError;
 use std::io;
 use std::io::Write;
-use whole_run::ServeFault;
+use whole_run::{FileFault, ServeFault};
 
 /// Why a call of the program failed, where `clap` had nothing to object.
 #[derive(Debug, PartialEq, Eq, Drop)]
@@ -20,6 +23,8 @@ pub(crate) enum Failure {
     Serve(ServeFault),
     /// The journal can't be read.
     Unread,
+    /// The list of a set of new files lies in the folder of the journal, which has this path: not all of them are in place.
+    UnrecoveredJournal(Bytes),
     /// An entry does not hold.
     Audit(AuditFault),
     /// The folder for the written tables has not got them.
@@ -87,6 +92,7 @@ pub(crate) fn status_of(failure: &Failure) -> u8
         Failure::BadDate => 1,
         Failure::Serve(fault) => fault_status(fault),
         Failure::Unread => 2,
+        Failure::UnrecoveredJournal(_) => 2,
         Failure::Audit(_) => 5,
         Failure::Folder(_) => 4,
     }
@@ -110,8 +116,9 @@ fn print_reason<W: Write>(out: &mut W, failure: &Failure) -> io::Result<()>
         Failure::BadDate => out.write_all(b"bad date"),
         Failure::Serve(fault) => print_fault(out, fault),
         Failure::Unread => out.write_all(b"cannot read the journal"),
+        Failure::UnrecoveredJournal(path) => print_unread(out, path, FileFault::Unrecovered),
         Failure::Audit(fault) => print_audit(out, fault),
-        Failure::Folder(fault) => out.write_all(folder_text(*fault).as_bytes()),
+        Failure::Folder(fault) => print_folder(out, fault),
     }
 }
 

@@ -4,7 +4,7 @@ ghost use Rattle.std.specs.Prelude.{◌≡◌, OnOk};
 ghost use Rattle.std.specs.Io.KnownBytes.{Appends};
 ghost use Rattle.station_server.specs.Failures.{failure_line, reason, status};
 
-use program_text::{FolderFault, PlaceFault, fault_status, folder_text, print_fault};
+use program_text::{FolderFault, PlaceFault, fault_status, print_fault, print_folder};
 use std::io;
 use std::io::Write;
 use whole_run::ServeFault;
@@ -63,6 +63,6 @@ fn print_reason<W: Write>(out: &mut W, failure: &Failure) -> io::Result<()>
     match failure {
         Failure::BadDate => out.write_all(b"bad date"),
         Failure::Serve(fault) => print_fault(out, fault),
-        Failure::Folder(fault) => out.write_all(folder_text(*fault).as_bytes()),
+        Failure::Folder(fault) => print_folder(out, fault),
     }
 }

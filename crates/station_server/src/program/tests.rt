@@ -272,6 +272,21 @@ fn failures_of_inputs(rt: HostRuntime) -> Result<(), Fail> {
             "station_server: MISSING.SET: cannot read\n",
         ),
         (
+            unread(alloc, b"OFFICE.SET", FileFault::Unrecovered)?,
+            2,
+            "station_server: OFFICE.SET: the folder is not recovered: start with --out .\n",
+        ),
+        (
+            unread(alloc, b"data/t.dbf", FileFault::Unrecovered)?,
+            2,
+            "station_server: data/t.dbf: the folder is not recovered: start with --out data\n",
+        ),
+        (
+            unread(alloc, b"/t.dbf", FileFault::Unrecovered)?,
+            2,
+            "station_server: /t.dbf: the folder is not recovered: start with --out /\n",
+        ),
+        (
             unread(alloc, b"data/t.dbf", truncated)?,
             2,
             "station_server: data/t.dbf: Truncated\n",

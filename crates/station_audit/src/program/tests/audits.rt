@@ -155,6 +155,43 @@ fn files_that_are_missing_are_told(rt: HostRuntime) -> Result<(), Fail> {
     Ok(())
 }
 
+// The name of the list of a set of new files.
+const LIST: &str = "~niqarthu.list";
+
+// What an audit says of a journal in the folder `kept`, where a list lies in this folder.
+fn audited_beside(alloc: Global, folder: &str) -> Result<Result<u64, Failure>, Fail> {
+    let mut source = source_with(alloc, b"")?;
+    let list = format!(in alloc; "{folder}{LIST}")?;
+    source.files.push(named(alloc, b"kept/J.TXT", b"")?)?;
+    source
+        .files
+        .push(named(alloc, list.as_bytes(), b"T.DBF\n")?)?;
+    let options = Options {
+        setup: "A.SET",
+        journal: "kept/J.TXT",
+        reindex: false,
+        written: None,
+    };
+    Ok(audit_options(alloc, &options, &mut source))
+}
+
+#[test]
+fn folders_that_are_not_recovered_are_not_audited(rt: HostRuntime) -> Result<(), Fail> {
+    let alloc = rt.alloc();
+    let setup = Bytes::from_slice(alloc, b"A.SET")?;
+    let journal = Bytes::from_slice(alloc, b"kept/J.TXT")?;
+    let unrecovered = ServeFault::File(setup, FileFault::Unrecovered);
+    let cases = [
+        ("", Err(Failure::Serve(unrecovered))),
+        ("kept/", Err(Failure::UnrecoveredJournal(journal))),
+        ("elsewhere/", Ok(0)),
+    ];
+    for (folder, ended) in cases {
+        assert_eq!(rt; audited_beside(alloc, folder)?, ended);
+    }
+    Ok(())
+}
+
 #[test]
 fn tables_are_written_as_the_journal_leaves_them(rt: HostRuntime) -> Result<(), Fail> {
     let alloc = rt.alloc();

@@ -93,6 +93,8 @@ fn each_failure_has_its_status_and_line(rt: HostRuntime) -> Result<(), Fail> {
     let missing = "station_audit: T.DBF: cannot read\n";
     let unopened = "station_audit: open: NoStation\n";
     let no_journal = "station_audit: cannot read the journal\n";
+    let unrecovered =
+        "station_audit: kept/J.TXT: the folder is not recovered: start with --out kept\n";
     let no_entry = "station_audit: entry 3: no entry of a station stands here\n";
     let other = "station_audit: entry 4: station 1: ? NAME
   the journal says: BOX
@@ -101,12 +103,19 @@ fn each_failure_has_its_status_and_line(rt: HostRuntime) -> Result<(), Fail> {
     let too_long = "station_audit: there are too many entries\n";
     let no_memory = "station_audit: run: NoMemory\n";
     let refused = ServeFault::Refused(OpenFault::NoStation);
+    let journal = Bytes::from_slice(alloc, b"kept/J.TXT")?;
     let cases = [
         (failed(Failure::BadDate), 1, "", "station_audit: bad date\n"),
         (failed(Failure::Serve(ServeFault::Setup(7))), 1, "", bad),
         (failed(unread(alloc)?), 2, "", missing),
         (failed(Failure::Serve(refused)), 2, "", unopened),
         (failed(Failure::Unread), 2, "", no_journal),
+        (
+            failed(Failure::UnrecoveredJournal(journal)),
+            2,
+            "",
+            unrecovered,
+        ),
         (
             failed(Failure::from(AuditFault::NoMemory)),
             3,
@@ -142,6 +151,10 @@ fn each_end_at_the_folder_has_its_status_and_line(rt: HostRuntime) -> Result<(),
     let in_use = "station_audit: another run writes into the folder\n";
     let unopened = "station_audit: cannot open the folder\n";
     let unrecovered = "station_audit: cannot recover the folder\n";
+    let bad_list =
+        "station_audit: cannot recover the folder: ~niqarthu.list is no list of new files\n";
+    let unreplaced = "station_audit: cannot recover the folder: STOCK.DBF: cannot be replaced\n";
+    let name = Bytes::from_slice(rt.alloc(), b"STOCK.DBF")?;
     let unwritten = "station_audit: cannot write the new files\n";
     let unfinished = "station_audit: not all new files are in place: the next start goes on\n";
     let no_memory = "station_audit: run: NoMemory\n";
@@ -152,6 +165,8 @@ fn each_end_at_the_folder_has_its_status_and_line(rt: HostRuntime) -> Result<(),
         (unopened_by(DiskFault::Failed), 4, "", unopened),
         (unopened_by(DiskFault::NoMemory), 3, "", no_memory),
         (of_folder(FolderFault::Unrecovered), 4, "", unrecovered),
+        (of_folder(FolderFault::BadList), 4, "", bad_list),
+        (of_folder(FolderFault::Unreplaced(name)), 4, "", unreplaced),
         (of_folder(FolderFault::Unwritten), 4, "", unwritten),
         (of_folder(FolderFault::Unfinished), 4, "", unfinished),
     ];

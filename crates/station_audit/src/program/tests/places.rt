@@ -20,7 +20,7 @@ fn audit_here<R: Runtime + AllocGlobal>(
         fs::remove_dir_all(rt, "audited")?;
     }
     fs::create_dir(rt, "audited")?;
-    fs::write(rt, "audited/~LOST.TXT", b"of no run")?;
+    fs::write(rt, "audited/~niqarthu~LOST.TXT", b"of no run")?;
     let mut source = source_with(alloc, text)?;
     let options = Options {
         setup: "A.SET",
@@ -45,7 +45,7 @@ fn tables_take_their_places_where_all_entries_hold(rt: HostRuntime) -> Result<()
     for (journal, text, ended) in &cases {
         assert!(rt; audit_here(&rt, *journal, *text)? == *ended);
         assert!(rt; fs::exists(&rt, "audited/T.DBF")? == ended.is_ok());
-        assert!(rt; !fs::exists(&rt, "audited/~LOST.TXT")?);
+        assert!(rt; !fs::exists(&rt, "audited/~niqarthu~LOST.TXT")?);
     }
     fs::remove_dir_all(&rt, "audited")?;
     Ok(())

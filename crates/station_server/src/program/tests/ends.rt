@@ -97,9 +97,9 @@ fn serve_here<R: Runtime + AllocGlobal + Threads + Wait + Sync>(
         fs::remove_dir_all(rt, "placed")?;
     }
     fs::create_dir(rt, "placed")?;
-    fs::write(rt, "placed/~LAST.TXT", b"of the run before")?;
-    fs::write(rt, "placed/~~list", b"LAST.TXT\n")?;
-    fs::write(rt, "placed/~LOST.TXT", b"of no run")?;
+    fs::write(rt, "placed/~niqarthu~LAST.TXT", b"of the run before")?;
+    fs::write(rt, "placed/~niqarthu.list", b"LAST.TXT\n")?;
+    fs::write(rt, "placed/~niqarthu~LOST.TXT", b"of no run")?;
     serve_at(rt, source, "A.SET", "placed")
 }
 
@@ -112,9 +112,9 @@ fn files_take_their_places(rt: HostRuntime) -> Result<(), Fail> {
         ("placed/STATION1.TXT", true),
         ("placed/JOURNAL.TXT", true),
         ("placed/LAST.TXT", true),
-        ("placed/~~list", false),
-        ("placed/~T.DBF", false),
-        ("placed/~LOST.TXT", false),
+        ("placed/~niqarthu.list", false),
+        ("placed/~niqarthu~T.DBF", false),
+        ("placed/~niqarthu~LOST.TXT", false),
     ] {
         assert!(rt; fs::exists(&rt, name)? == is_there);
     }
@@ -236,6 +236,10 @@ fn each_end_at_the_folder_has_its_status_and_line(rt: HostRuntime) -> Result<(),
     let in_use = "station_server: another run writes into the folder\n";
     let unopened = "station_server: cannot open the folder\n";
     let unrecovered = "station_server: cannot recover the folder\n";
+    let bad_list =
+        "station_server: cannot recover the folder: ~niqarthu.list is no list of new files\n";
+    let unreplaced = "station_server: cannot recover the folder: STOCK.DBF: cannot be replaced\n";
+    let name = Bytes::from_slice(rt.alloc(), b"STOCK.DBF")?;
     let unwritten = "station_server: cannot write the new files\n";
     let unfinished = "station_server: not all new files are in place: the next start goes on\n";
     let no_memory = "station_server: run: NoMemory\n";
@@ -246,6 +250,8 @@ fn each_end_at_the_folder_has_its_status_and_line(rt: HostRuntime) -> Result<(),
         (unopened_by(DiskFault::Failed), 4, "", unopened),
         (unopened_by(DiskFault::NoMemory), 3, "", no_memory),
         (of_folder(FolderFault::Unrecovered), 4, "", unrecovered),
+        (of_folder(FolderFault::BadList), 4, "", bad_list),
+        (of_folder(FolderFault::Unreplaced(name)), 4, "", unreplaced),
         (of_folder(FolderFault::Unwritten), 4, "", unwritten),
         (of_folder(FolderFault::Unfinished), 4, "", unfinished),
     ];

@@ -11,7 +11,8 @@ pub returns-in_err-catalogue-clause-failure : goal.returns-in_err-catalogue-clau
 returns-in_err-catalogue-clause-failure g c = err_exit _ _ c.from_residual-in_err-catalogue.ensures.1 c.in_err-catalogue.ensures.failure
 
 pub returns-in_err-text-clause-fault : goal.returns-in_err-text-clause-fault
-returns-in_err-text-clause-fault g c = err_exit _ _ c.from_residual-in_err-text.ensures.1 (failed_journal (g.S.Source.files c.args.source.now) c.args.options.now _ _ _ _ c.in_err-text.field-0.0 c.in_err-text.ensures.fault)
+returns-in_err-text-clause-fault g c = err_exit _ _ c.from_residual-in_err-text.ensures.1
+    (failed_journal (g.S.Source.files c.args.source.now) c.args.options.now _ _ c.in_err-text.field-0.0 (rw (c.as_bytes-2.ensures.value, c.open_setup.ensures.kept, c.in_ok-catalogue.ensures.loads) at c.in_err-text.ensures.fault))
 
 pub returns-in_err-text-clause-failure : goal.returns-in_err-text-clause-failure
 returns-in_err-text-clause-failure g c =

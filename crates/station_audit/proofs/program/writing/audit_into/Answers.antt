@@ -1,8 +1,14 @@
-use Rattle.std.proofs.Common.{refl, ap}
+use Rattle.std.proofs.Common.{length, refl, ap}
 use Rattle.station_audit.specs.declared.program.failure.Failure.TheVariants.{Serve}
+use Rattle.station_audit.specs.Program.{IsFailedBy}
 use Rattle.station_audit.proofs.ProgramLaws.{err_exit}
-use Rattle.station_audit.proofs.WritingLaws.{unwritten_audit, unwritten_tables, no_close, loaded_tables, uncut_audit, cut_audit}
+use Rattle.station_audit.proofs.WritingLaws.{written_by, unwritten_audit, unwritten_tables, no_close, loaded_tables, uncut_audit, cut_audit}
 use Rattle.station_audit.proofs.program.writing.audit_into.Goals as goal
+
+-- the names of the files differ
+pub returns-clause-wrote : goal.returns-clause-wrote
+returns-clause-wrote g c =
+    written_by (g.S.Source.files c.args.source.now) c.args.options.now c.args.today _ _ _ _ c.in_ok-catalogue.ensures.audited (ap length c.journal.ensures.entries) c.in_ok-write_tables.ensures.wrote
 
 pub returns-in_err-catalogue-clause-fault : goal.returns-in_err-catalogue-clause-fault
 returns-in_err-catalogue-clause-fault g c = err_exit _ _ c.from_residual.ensures.1 (unwritten_audit _ _ _ c.in_err-catalogue.field-0.0 c.in_err-catalogue.ensures.fault)
@@ -12,7 +18,7 @@ returns-in_err-catalogue-clause-no_file_begun g c = err_exit _ _ c.from_residual
 
 pub returns-in_err-catalogue-clause-failed : goal.returns-in_err-catalogue-clause-failed
 returns-in_err-catalogue-clause-failed g c name e =
-    absurd (no_close _ _ _ name (err_exit _ _ c.from_residual.ensures.1 c.in_err-catalogue.ensures.fault) e)
+    absurd (no_close (g.S.Source.files c.args.source.now) c.args.options.now _ name (err_exit _ (IsFailedBy (g.S.Source.files c.args.source.now) c.args.options.now) c.from_residual.ensures.1 c.in_err-catalogue.ensures.fault) e)
 
 pub returns-in_err-write_tables-clause-fault : goal.returns-in_err-write_tables-clause-fault
 returns-in_err-write_tables-clause-fault g c =
