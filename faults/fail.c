@@ -1,8 +1,11 @@
 /* Makes a call on files fail, or ends the program at it, of the program that it is loaded into by LD_PRELOAD. Calls count
    from 1 in the order in which they are made. FAULT_AT is the number of the call and FAULT_HOW what becomes of it: the number
-   of an error, as 5 (EIO); `half`, a read or a write of half of the bytes; `after`, EIO though it was done; `kill`, the program
+   of an error, as 5 (EIO); `half`, a read or a write of half of the bytes that it would take; `after`, EIO though it was done; `kill`, the program
    ends before it; `killed`, after it; `wait`, it waits while the file that FAULT_WAIT names is there. With FAULT_ON set the error
-   is that of all later calls too, but for close. FAULT_LOG names the file that gets a line for each call: what it is, and of what. */
+   is that of all later calls too, but for close. FAULT_LOG names the file that gets a line for each call: what it is, and of what.
+   FAULT_TRACE names the file that gets an entry for each call that has changed or opened something, after it was made: what it is,
+   the descriptor or 0, the place in the file, how many bytes follow, a line feed, these bytes, and a line feed. They are
+   what was written, or a path, or for a rename two paths with a line feed between them. */
 #define _GNU_SOURCE
 #include <errno.h>
 #include <fcntl.h>
@@ -14,17 +17,21 @@
 #include <string.h>
 #include <sys/stat.h>
 #include <sys/syscall.h>
+#include <sys/uio.h>
 #include <unistd.h>
 
 static atomic_long made;
 static const char *at, *how, *on;
-static int log_file = -1;
+static int log_file = -1, trace_file = -1;
+
+static int begun(const char *variable) {
+    const char *name = getenv(variable);
+    return name ? syscall(SYS_openat, AT_FDCWD, name, O_WRONLY | O_CREAT | O_APPEND | O_CLOEXEC, 0600) : -1;
+}
 
 __attribute__((constructor)) static void begin(void) {
-    const char *name = getenv("FAULT_LOG");
     at = getenv("FAULT_AT"), how = getenv("FAULT_HOW"), on = getenv("FAULT_ON");
-    if (name)
-        log_file = syscall(SYS_openat, AT_FDCWD, name, O_WRONLY | O_CREAT | O_APPEND | O_CLOEXEC, 0600);
+    log_file = begun("FAULT_LOG"), trace_file = begun("FAULT_TRACE");
 }
 
 static int is(const char *word) { return how && strcmp(how, word) == 0; }
@@ -38,6 +45,34 @@ static void note(const char *what, const char *name, long descriptor) {
         syscall(SYS_write, log_file, line, length);
 }
 
+/* An entry of the trace, of a call that was made. The descriptors of standard streams are no files of the folder. */
+static void trace(const char *what, const char *name, long number, long a, long b, long answer) {
+    char head[100];
+    const char *bytes = name ? name : "", *other = "";
+    size_t length = strlen(bytes);
+    long file = number == SYS_openat ? answer : name ? 0 : a, place = 0;
+    if (number == SYS_write)
+        bytes = (const char *)b, length = answer, place = syscall(SYS_lseek, a, 0, SEEK_CUR) - answer;
+    if (number == SYS_ftruncate)
+        place = b;
+    if (number == SYS_rename)
+        bytes = (const char *)a, other = name, length = strlen(bytes);
+    size_t more = *other ? 1 + strlen(other) : 0;
+    int headed = snprintf(head, sizeof head, "%s %ld %ld %zu\n", what, file, place, length + more);
+    struct iovec parts[] = {{head, headed}, {(void *)bytes, length}, {"\n", *other ? 1 : 0}, {(void *)other, strlen(other)}, {"\n", 1}};
+    syscall(SYS_writev, trace_file, parts, 5);
+}
+
+/* How many bytes a read or a write takes at most: of a file no more than it has. */
+static long within(long number, long file, long count) {
+    long place = number == SYS_read ? syscall(SYS_lseek, file, 0, SEEK_CUR) : -1;
+    if (place < 0)
+        return count;
+    long left = syscall(SYS_lseek, file, 0, SEEK_END) - place;
+    syscall(SYS_lseek, file, place, SEEK_SET);
+    return left > 0 && left < count ? left : count;
+}
+
 /* Makes the call, or what is to become of it. The third argument of a read or a write is how many bytes. */
 static long call(const char *what, const char *name, long number, long a, long b, long c, long d, long e) {
     long n = atomic_fetch_add(&made, 1) + 1, first = at ? atol(at) : 0;
@@ -49,7 +84,11 @@ static long call(const char *what, const char *name, long number, long a, long b
         usleep(1000);
     if (error && !closes && (due || (on && first && n > first)))
         return errno = error, -1;
-    long answer = syscall(number, a, b, due && is("half") && c > 1 ? c / 2 : c, d, e);
+    if (due && is("half") && (number == SYS_read || number == SYS_write) && within(number, a, c) > 1)
+        c = within(number, a, c) / 2;
+    long answer = syscall(number, a, b, c, d, e);
+    if (trace_file >= 0 && answer >= 0 && number != SYS_read && number != SYS_getdents64 && number != SYS_statx)
+        trace(what, name, number, a, b, answer);
     if (due && is("killed"))
         die();
     if (due && (is("after") || (error && closes)))
@@ -70,6 +109,11 @@ ssize_t read(int f, void *bytes, size_t n) { return call("read", NULL, SYS_read,
 ssize_t write(int f, const void *bytes, size_t n) { return call("write", NULL, SYS_write, f, (long)bytes, n, 0, 0); }
 int close(int f) { return call("close", NULL, SYS_close, f, 0, 0, 0, 0); }
 int fsync(int f) { return call("sync", NULL, SYS_fsync, f, 0, 0, 0, 0); }
+int fdatasync(int f) { return call("sync", NULL, SYS_fdatasync, f, 0, 0, 0, 0); }
+int ftruncate(int f, off_t length) { return call("cut", NULL, SYS_ftruncate, f, length, 0, 0, 0); }
+int fchmod(int f, mode_t mode) { return call("mode", NULL, SYS_fchmod, f, mode, 0, 0, 0); }
+int lchown(const char *path, uid_t owner, gid_t group) { return call("owner", path, SYS_lchown, (long)path, owner, group, 0, 0); }
+int fchownat(int f, const char *path, uid_t owner, gid_t group, int flags) { return call("owner", path, SYS_fchownat, f, (long)path, owner, group, flags); }
 int flock(int f, int how_) { return call("lock", NULL, SYS_flock, f, how_, 0, 0, 0); }
 int rename(const char *from, const char *to) { return call("rename", to, SYS_rename, (long)from, (long)to, 0, 0, 0); }
 int unlink(const char *path) { return call("remove", path, SYS_unlink, (long)path, 0, 0, 0, 0); }
