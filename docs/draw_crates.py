@@ -3,7 +3,7 @@
 
     python3 docs/draw_crates.py
 
-The crates of tests and what they alone stand on (`sample_files`, `scarce`) are left out, and so is an arrow to a crate that is reached over another one.
+The crates of tests and what they alone stand on (`memory_disk`, `sample_files`, `scarce`) are left out, and so is an arrow to a crate that is reached over another one.
 """
 
 import pathlib
@@ -20,7 +20,7 @@ def crates():
         if line:
             name, below = line.split(":")
             named[name] = below.split()
-    for_tests = [name for name in named if name.endswith(("_tests", "_scarce")) or name in ("sample_files", "scarce")]
+    for_tests = [name for name in named if name.endswith(("_tests", "_scarce")) or name in ("memory_disk", "sample_files", "scarce")]
     named = {name: below for name, below in named.items() if name not in for_tests}
     return {name: [it for it in below if it in named] for name, below in named.items()}
 
