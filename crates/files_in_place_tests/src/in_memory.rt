@@ -29,6 +29,11 @@ const FIRST_OF_FINISH: u64 = 8;
 
 const CALLS_OF_RUN: u64 = 25;
 
+// Of the calls of a recovery with three new files, the first that gives one its name, and how many there are in all.
+const FIRST_OF_RENAMING: u64 = 9;
+
+const CALLS_OF_RECOVERY: u64 = 19;
+
 // A number that stands for all choices of a crash: such numbers lie far apart.
 fn choices_of(way: u64) -> u64 {
     way.wrapping_add(1).wrapping_mul(0x9E37_79B9_7F4A_7C15) >> 20
@@ -266,6 +271,47 @@ fn folder_with_list(alloc: Global, list: &[u8]) -> Result<MemoryDisk, AllocError
     let disk = disk.with_file(TEMPORARY_A.as_bytes(), b"new a")?;
     let disk = disk.with_file(TEMPORARY_B.as_bytes(), b"new b")?;
     disk.with_file(TEMPORARY_D.as_bytes(), b"new d")
+}
+
+// Which file of the list "A", "B", "D" recovery tells, by the number of its call that fails: looking for the new file, or
+// renaming it.
+const UNREPLACED: [(u64, &str); 6] = [
+    (FIRST_OF_RENAMING, "A"),
+    (FIRST_OF_RENAMING + 1, "A"),
+    (FIRST_OF_RENAMING + 2, "B"),
+    (FIRST_OF_RENAMING + 3, "B"),
+    (FIRST_OF_RENAMING + 4, "D"),
+    (FIRST_OF_RENAMING + 5, "D"),
+];
+
+// What recovery answers where one of its calls fails.
+fn fault_of(alloc: Global, calls: u64) -> Result<Option<RecoveryFault>, Fail> {
+    let mut disk = folder_with_list(alloc, b"A\nB\nD\n")?;
+    disk.fail_once(calls);
+    Ok(recover(alloc, &mut disk).err())
+}
+
+#[test]
+fn a_file_that_cant_be_replaced_is_told(rt: HostRuntime) -> Result<(), Fail> {
+    let alloc = rt.alloc();
+    for (calls, name) in &UNREPLACED {
+        let is_told = match fault_of(alloc, *calls)? {
+            Some(RecoveryFault::Unreplaced(told)) => told.as_slice() == name.as_bytes(),
+            _ => false,
+        };
+        assert!(rt; is_told);
+    }
+    Ok(())
+}
+
+#[test]
+fn a_failure_before_and_after_is_of_no_file(rt: HostRuntime) -> Result<(), Fail> {
+    let alloc = rt.alloc();
+    for calls in (0..FIRST_OF_RENAMING).chain(FIRST_OF_RENAMING + 6..CALLS_OF_RECOVERY) {
+        assert!(rt; fault_of(alloc, calls)? == Some(RecoveryFault::Failed));
+    }
+    assert!(rt; fault_of(alloc, CALLS_OF_RECOVERY)? == None);
+    Ok(())
 }
 
 // A list, and the files after recovery.
