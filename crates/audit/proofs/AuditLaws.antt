@@ -17,12 +17,14 @@ use Rattle.station_lines.specs.declared.script.format.TheConstants.{LF}
 use Rattle.station_lines.specs.declared.script.line.Line.{Line}
 use Rattle.station_lines.specs.declared.script.line.Line.TheVariants.{Run, Status, Blank}
 use Rattle.station_lines.specs.Script.Keeping.{keeps_text}
+use Rattle.station_lines.specs.Script.Lines.{has_no_lf}
 use Rattle.station_lines.specs.Script.Meaning.{Means}
 use Rattle.station_lines.specs.AnswerLines.{line_of}
-use Rattle.station_lines.specs.CommandLines.{text_of_command, IsOfALine}
+use Rattle.station_lines.specs.CommandLines.{text_of_command, IsMeant, IsOfALine}
 use Rattle.station_lines.specs.JournalLines.{entry_and, lines_and, line_parts, journal_text, HasSmallNumbers, BeginsWithEntry, BeginsWithNoEntry}
 use Rattle.station_lines.proofs.ScriptLaws.MeaningLaws.{one_meaning}
 use Rattle.station_lines.proofs.CommandLaws.LineLaws.{text_means}
+use Rattle.station_lines.proofs.CommandLaws.OneLineLaws.{text_one_line}
 use Rattle.station_lines.proofs.JournalLaws.{entry_one}
 use Rattle.audit.specs.declared.fault.AuditFault.{AuditFault}
 use Rattle.audit.specs.declared.fault.AuditFault.TheVariants.{NoEntry, Differs, TooLong, NoMemory}
@@ -31,14 +33,26 @@ use Rattle.audit.specs.Audits.{AreOfLines, IsJournalOf, IsContinuedBy, IsLineOfC
 
 -- ---- reading a line
 
+-- a line of a script is a text
+meant : (command : Command) → IsOfALine command → IsMeant command
+meant command is = (is.0, is.2)
+
 -- no two commands of lines have one line
 pub command_one : (a b : Command) → IsOfALine a → IsOfALine b → text_of_command a ≡ text_of_command b → a ≡ b
 command_one a b ha hb e =
-    let same = one_meaning (text_of_command a) (Run a) (Run b) (text_means a (text_of_command a) refl ha) (text_means b (text_of_command a) e hb) in
+    let same = one_meaning (text_of_command a) (Run a) (Run b) (text_means a (text_of_command a) refl (meant a ha)) (text_means b (text_of_command a) e (meant b hb)) in
     cc
 
 line_means : (line : List ℕ) (command : Command) → IsOfALine command → line ≡ text_of_command command → Means line (Run command)
-line_means line command of_a_line is = text_means command line is of_a_line
+line_means line command of_a_line is = text_means command line is (meant command of_a_line)
+
+-- no command's line has an LF
+pub no_one_line : (line : List ℕ) (one : Bool) → one ≡ has_no_lf line → one ≡ false → IsNoCommandLine line
+no_one_line line one is other command of_a_line same = false≢true (sym (sym is ∙ other) ∙ text_one_line command line same of_a_line)
+
+-- the line of a script
+pub one_line_is : (line : List ℕ) (one : Bool) → one ≡ has_no_lf line → one ≡ true → has_no_lf line ≡ true
+one_line_is line one is h = sym is ∙ h
 
 pub not_run : (line : List ℕ) (meaning : Line) → ((command : Command) → meaning ≡ Run command → ⊥) → ((other : Line) → Means line other → other ≡ meaning) → IsNoCommandLine line
 not_run line meaning none only command of_a_line is = none command (sym (only (Run command) (line_means line command of_a_line is)))
@@ -53,8 +67,8 @@ other_line line written found only is_written other command of_a_line is =
     let same : command ≡ found = cc in
     other (is_written ∙ (ap text_of_command (sym same) ∙ sym is))
 
-pub is_line : (line written : List ℕ) (found : Command) → Means line (Run found) → written ≡ text_of_command found → written ≡ line → IsLineOfCommand line found
-is_line line written found means is_written same = record { is = sym same ∙ is_written; of_a_line = (line, means) }
+pub is_line : (line written : List ℕ) (found : Command) → has_no_lf line ≡ true → Means line (Run found) → written ≡ text_of_command found → written ≡ line → IsLineOfCommand line found
+is_line line written found one means is_written same = record { is = sym same ∙ is_written; of_a_line = (line, one, means) }
 
 -- an entry's numbers are no greater than its text is long
 entry_small : (text : List ℕ) (e : ℕ × List ℕ × List ℕ) (rest : List ℕ) → text ≡ entry_and e rest → length text < 2 ^ 64 → e.0 < 2 ^ 64 → HasSmallNumbers e
@@ -154,17 +168,19 @@ command_keeps Status kept = absurd (false≢true kept)
 command_keeps Blank kept = absurd (false≢true kept)
 
 -- memory is taken for a line that keeps a text, and so means a command
-pub keeping_means : (line : List ℕ) → ((meaning : Line) → Means line meaning → keeps_text meaning ≡ true) → MeansACommand line
-keeping_means line kept meaning m = command_keeps meaning (kept meaning m)
+pub keeping_means : (line : List ℕ) → has_no_lf line ≡ true → ((meaning : Line) → Means line meaning → keeps_text meaning ≡ true) → MeansACommand line
+keeping_means line one kept = (one, λ meaning m. command_keeps meaning (kept meaning m))
 
 -- a line with one meaning, a command
-pub run_means : (line : List ℕ) (meaning : Line) (command : Command) → ((other : Line) → Means line other → other ≡ meaning) → meaning ≡ Run command → MeansACommand line
-run_means line meaning command only is other m = subst IsCommand (sym (only other m ∙ is)) tt
+pub run_means : (line : List ℕ) (meaning : Line) (command : Command) → has_no_lf line ≡ true → ((other : Line) → Means line other → other ≡ meaning) → meaning ≡ Run command → MeansACommand line
+run_means line meaning command one only is = (one, λ other m. subst IsCommand (sym (only other m ∙ is)) tt)
 
 -- the line of a command means it
 pub line_means_one : (command : Command) → IsOfALine command → MeansACommand (text_of_command command)
-line_means_one command of_a_line other m =
-    subst IsCommand (one_meaning (text_of_command command) (Run command) other (text_means command (text_of_command command) refl of_a_line) m) tt
+line_means_one command of_a_line = (
+  text_one_line command (text_of_command command) refl of_a_line,
+  λ other m. subst IsCommand (one_meaning (text_of_command command) (Run command) other (text_means command (text_of_command command) refl (meant command of_a_line)) m) tt,
+)
 
 pub readable : (stations : ℕ) (text : List ℕ) (station : ℕ) (line answer rest : List ℕ) → BeginsWithEntry text (station, line, answer) rest → 1 ≤ station → station ≤ stations → MeansACommand line
     → BeginsWithReadable stations text

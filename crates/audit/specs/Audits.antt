@@ -1,5 +1,5 @@
 -- What an audit says of a journal's text.
-use Rattle.std.specs.Prelude.{◌≡◌, ◌≢◌, ℕ, ◌+◌, ◌≤◌, List, ◌∷◌, length, map}
+use Rattle.std.specs.Prelude.{◌≡◌, ◌≢◌, ℕ, ◌+◌, ◌≤◌, true, List, ◌∷◌, length, map}
 use Rattle.std.specs.List.{AllByRecursion}
 use Rattle.catalogue_core.specs.declared.catalogue.TheConstants.{MAX_ENTRIES}
 use Rattle.catalogue_core.specs.declared.command.Command.{Command}
@@ -10,6 +10,7 @@ use Rattle.station_lines.specs.declared.script.line.Line.TheVariants.{Run}
 use Rattle.station_lines.specs.AnswerLines.{line_of}
 use Rattle.station_lines.specs.CommandLines.{text_of_command, IsOfALine}
 use Rattle.station_lines.specs.JournalLines.{entry_and, lines_and, line_parts, journal_text, BeginsWithEntry}
+use Rattle.station_lines.specs.Script.Lines.{has_no_lf}
 use Rattle.station_lines.specs.Script.Meaning.{Means}
 use Rattle.audit.specs.declared.fault.AuditFault.{AuditFault}
 use Rattle.audit.specs.declared.fault.AuditFault.TheVariants.{NoEntry, Differs, TooLong, NoMemory}
@@ -17,12 +18,12 @@ use Rattle.audit.specs.declared.fault.Difference.{Difference}
 
 -- ---- journals
 
--- each command is one that a line means
+-- each command is one that a line of a script means
 abbrev pub AreOfLines : List Entry → Type 0
 AreOfLines entries = AllByRecursion (λ e. IsOfALine e.command) entries
 
 -- The text is the journal of a legal history on the opened tables: each entry is of one of the stations, its command is
--- one that a line means, and its answer is the one that the command has at its place.
+-- one that a line of a script means, and its answer is the one that the command has at its place.
 pub record IsJournalOf (opened : Opened) (text : List ℕ) (journal : List Entry) : Type 0 where
   pub text_is : text ≡ journal_text journal
   pub legal : IsLegal opened journal
@@ -40,7 +41,7 @@ pub record IsContinuedBy (h : History) (text : List ℕ) (more : List Entry) : T
 
 -- ---- a line
 
--- the line is that of a command that a line means
+-- the line is that of a command that a line of a script means
 pub record IsLineOfCommand (line : List ℕ) (command : Command) : Type 0 where
   pub is : line ≡ text_of_command command
   pub of_a_line : IsOfALine command
@@ -48,7 +49,7 @@ pub record IsLineOfCommand (line : List ℕ) (command : Command) : Type 0 where
 abbrev pub IsNoCommandLine : List ℕ → Type 0
 IsNoCommandLine line = (command : Command) → IsOfALine command → line ≢ text_of_command command
 
--- the first line is that of an entry of one of the stations, and of a command that a line means
+-- the first line is that of an entry of one of the stations, and of a command that a line of a script means
 pub record BeginsWithCommand (stations : ℕ) (text : List ℕ) (station : ℕ) (command : Command) (answer rest : List ℕ) : Type 0 where
   pub line : BeginsWithEntry text (station, text_of_command command, answer) rest
   pub counted : 1 ≤ station
@@ -81,9 +82,9 @@ abbrev pub IsCommand : Line → Type 0
 IsCommand (Run command) = Unit {0}
 IsCommand meaning = ⊥
 
--- the line means a command, in whatever spelling
+-- the line of a script means a command, in whatever spelling
 abbrev pub MeansACommand : List ℕ → Type 0
-MeansACommand line = (meaning : Line) → Means line meaning → IsCommand meaning
+MeansACommand line = (has_no_lf line ≡ true) × ((meaning : Line) → Means line meaning → IsCommand meaning)
 
 -- The first line is that of an entry of one of the stations, whose command's line means a command: memory is taken for
 -- such a line alone.

@@ -22,7 +22,7 @@ pub struct Difference {
 #[derive(Debug, PartialEq, Eq, Drop)]
 pub enum AuditFault {
     /// What stands in the place of the entry of this number, from 1, is not the line of an entry of one of the stations,
-    /// whose command is one that a line means.
+    /// whose command is one that a line of a script means: such a line has no LF.
     NoEntry(u64),
     /// An entry has another answer.
     Differs(Difference),

@@ -4,7 +4,7 @@ ghost use Rattle.std.specs.Prelude.{◌≡◌, ◌↔◌, ◌≤◌, Ok, None, I
 ghost use Rattle.audit.specs.Audits.{IsLineOfCommand, IsNoCommandLine, MeansACommand, BeginsWithCommand, BeginsWithNoCommand, BeginsWithReadable, IsOnlyFirst};
 
 use catalogue_core::Command;
-use station_lines::{Line, command_line, cut_entry, parse_line};
+use station_lines::{Line, command_line, cut_entry, is_one_line, parse_line};
 use std::alloc::{AllocError, Global};
 
 /// An entry that was read, and what stands after its line.
@@ -28,12 +28,16 @@ pub(crate) fn is_same(left: &[u8], right: &[u8]) -> bool
     left == right
 }
 
-// The command whose line this is. Memory is taken only where the line means a command.
+// The command whose line this is: one that a line of a script means, so that no LF stands in the line. Memory is taken
+// only where the line means a command.
 fn command_of(alloc: Global, line: &[u8]) -> Result<Option<Command>, AllocError>
     ensures found { IfOk result (λ found. IfSome found (IsLineOfCommand line.now)) }
     ensures none { result ≡ Ok None → IsNoCommandLine line.now }
     ensures early { OnErr result (MeansACommand line.now) }
 {
+    if !is_one_line(line) {
+        return Ok(None);
+    }
     let Line::Run(command) = parse_line(alloc, line)? else {
         return Ok(None);
     };
@@ -51,8 +55,8 @@ fn is_station(number: u64, stations: u32) -> bool
     number >= 1 && number <= u64::from(stations)
 }
 
-/// The entry whose line is first in a journal's text: of one of so many stations, and with a command that a line means.
-/// `None` where no such entry's line is first. An error where memory is refused, which is taken only for a line of one of
+/// The entry whose line is first in a journal's text: of one of so many stations, and with a command that a line of a
+/// script means. `None` where no such entry's line is first. An error where memory is refused, which is taken only for a line of one of
 /// the stations whose command's line means a command.
 pub(crate) fn read_entry(
     alloc: Global,

@@ -1,3 +1,4 @@
 pub mod NumberLaws
 pub mod ValueLaws
 pub mod LineLaws
+pub mod OneLineLaws

@@ -14,3 +14,4 @@ pub mod IndexLaws
 pub mod ReadLaws
 pub mod MeaningLaws
 pub mod KeepingLaws
+pub mod BadLineLaws

@@ -1,5 +1,5 @@
 -- A command as a line of a script: in whole words and capitals, apart by one blank.
-use Rattle.std.specs.Prelude.{ℕ, true, false, not, ◌==◌, nat_lt, List, [], ◌∷◌, ◌++◌, codes, ℤ, if◌then◌else◌}
+use Rattle.std.specs.Prelude.{◌≡◌, ℕ, true, false, not, ◌==◌, nat_lt, List, [], ◌∷◌, ◌++◌, codes, ℤ, if◌then◌else◌}
 use Rattle.std.specs.List.{list_all}
 use Rattle.std.specs.Fmt.{decimal, signed_decimal}
 use Rattle.std.specs.Int.RustNames.{unsigned_abs}
@@ -14,6 +14,7 @@ use Rattle.catalogue_core.specs.declared.command.Command.TheVariants.{Select, Us
 use Rattle.catalogue_core.specs.declared.command.Question.TheVariants.{Eof, Bof, Found, Deleted, Recno, Reccount}
 use Rattle.station_lines.specs.declared.script.format.TheConstants.{QUOTE, APOSTROPHE, COMMA, MAX_LITERAL_DIGITS}
 use Rattle.station_lines.specs.declared.script.line.Line.TheVariants.{Run}
+use Rattle.station_lines.specs.Script.Lines.{has_no_lf}
 use Rattle.station_lines.specs.Script.Meaning.{Means}
 
 -- a text between two `"`, or between two `'` where it holds a `"`
@@ -89,6 +90,10 @@ text_of_command (Ask Recno) = codes "? RECNO()"
 text_of_command (Ask Reccount) = codes "? RECCOUNT()"
 text_of_command Bad = codes "BAD"
 
--- a line means this command
+-- a text means this command
+abbrev pub IsMeant : Command → Type 0
+IsMeant command = (text : List ℕ) × Means text (Run command)
+
+-- a line of a script means this command: a text without an LF
 abbrev pub IsOfALine : Command → Type 0
-IsOfALine command = (line : List ℕ) × Means line (Run command)
+IsOfALine command = (line : List ℕ) × (has_no_lf line ≡ true) × Means line (Run command)

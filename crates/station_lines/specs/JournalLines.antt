@@ -10,7 +10,8 @@ use Rattle.station_lines.specs.AnswerLines.{line_of}
 use Rattle.station_lines.specs.CommandLines.{text_of_command}
 
 -- An entry's line, and what stands after it: the station's number, how many bytes the command's line and the answer's
--- line have, these two lines, and LF. Since the bytes are counted, any byte may stand in the two lines.
+-- line have, these two lines, and LF. Since the bytes are counted, any byte may stand in the answer's line, an LF of a
+-- memo too. The line of a command that a script's line means has no LF (IsOfALine).
 abbrev pub entry_and : ℕ × List ℕ × List ℕ → List ℕ → List ℕ
 entry_and entry rest =
     decimal entry.0 ++ (BLANK ∷ (decimal (length entry.1) ++ (BLANK ∷ (decimal (length entry.2) ++ (BLANK ∷

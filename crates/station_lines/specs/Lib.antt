@@ -3,4 +3,5 @@ pub mod CommandLines
 pub mod JournalLines
 pub mod Script
 pub mod Setup
+pub mod BadSetupLines
 pub mod SetupReading

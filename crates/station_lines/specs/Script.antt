@@ -5,4 +5,5 @@ pub mod Meaning
 pub mod Keeping
 pub mod Days
 pub mod Reading
+pub mod BadLines
 pub mod Lines

@@ -1,9 +1,10 @@
 //! Commands as lines of a script.
 
-ghost use Rattle.std.specs.Prelude.{◌≡◌, ◌++◌, codes, IfOk};
+ghost use Rattle.std.specs.Prelude.{◌≡◌, ◌++◌, true, codes, IfOk};
 ghost use Rattle.std.specs.Fmt.{decimal, signed_decimal};
 ghost use Rattle.station_lines.specs.Script.Meaning.{Means};
-ghost use Rattle.station_lines.specs.CommandLines.{text_of_command, IsOfALine};
+ghost use Rattle.station_lines.specs.Script.Lines.{has_no_lf};
+ghost use Rattle.station_lines.specs.CommandLines.{text_of_command, IsMeant, IsOfALine};
 
 mod value;
 
@@ -147,13 +148,14 @@ fn line_text(alloc: Global, command: &Command) -> Result<Bytes, AllocError>
 /// The line of a command, without an ending: in whole words and capitals, apart by one blank, as `USE T EXCLUSIVE`,
 /// `REPLACE AMOUNT WITH -4.80` or `? RLOCK(16,17)`. What [`parse_line`] makes of a line reads back: the line of such
 /// a command means this command. That of `Bad` is `BAD`, which can't be read, and a date that is none stands as
-/// `99/99/99`. An error where memory is refused.
+/// `99/99/99`. The line of a command that a script's line means has no LF. An error where memory is refused.
 ///
 /// [`parse_line`]: crate::parse_line
 #[tactic(auto, using(crate::proofs::CommandLaws::LineLaws::text_means))]
 pub fn command_line(alloc: Global, command: &Command) -> Result<Bytes, AllocError>
     ensures value { IfOk result (λ line. line ≡ text_of_command command.now) }
-    ensures read_back { IfOk result (λ line. IsOfALine command.now → Means line (Line.Run command.now)) }
+    ensures read_back { IfOk result (λ line. IsMeant command.now → Means line (Line.Run command.now)) }
+    ensures one_line { IfOk result (λ line. IsOfALine command.now → has_no_lf line ≡ true) }
 {
     let line = line_text(alloc, command)?;
     Ok(line)

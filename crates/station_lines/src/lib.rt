@@ -20,5 +20,10 @@ pub use answer_lines::{answer_line, status_line};
 pub use command_lines::command_line;
 pub use journal_lines::{CutEntry, cut_entry, entry_line, one_journal};
 pub use script::format::LF;
-pub use script::{Line, LineCursor, lines, one_cutting, one_meaning, parse_line};
-pub use setup::{SetupEntry, SetupFault, one_setup, parse_setup};
+pub use script::{
+    BadLine, Line, LineCursor, is_one_line, lines, one_cutting, one_meaning, parse_line, why_bad,
+};
+pub use setup::{
+    BadSetupLine, SetupEntry, SetupFault, one_setup, parse_setup, setup_line_reason,
+    why_bad_setup_line,
+};

@@ -7,6 +7,7 @@ ghost use Rattle.std.specs.Prelude.{◌≡◌, ℕ, List, true, false, Result, O
 ghost use Rattle.station_lines.specs.declared.setup.entry.SetupEntry.{SetupEntry as Entry};
 ghost use Rattle.station_lines.specs.Setup.{Adds, HasNextEntry, IndexesFollowTables, IsBadAfter, IsNext, IsSetup};
 
+mod bad_setup_line;
 mod entry;
 mod fault;
 mod judged;
@@ -18,6 +19,7 @@ use crate::script::lines;
 use crate::setup::entry::may_follow;
 use crate::setup::judged::Judged;
 use crate::setup::line::judge;
+pub use bad_setup_line::{BadSetupLine, setup_line_reason, why_bad_setup_line};
 pub use entry::SetupEntry;
 pub use fault::SetupFault;
 use std::alloc::{AllocError, Global};

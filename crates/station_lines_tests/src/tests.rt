@@ -1,4 +1,5 @@
 mod answer_lines;
+mod bad_lines;
 mod command_lines;
 mod index_on;
 mod journal_lines;

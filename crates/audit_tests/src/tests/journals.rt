@@ -38,6 +38,26 @@ const NO_FIRST_LINES: [&[u8]; 9] = [
     b"\n",
 ];
 
+// Entries whose command has an LF, after the first one of the journal. No line of a script has one.
+const LINES_WITH_LF: [&[u8]; 5] = [
+    b"1 23 2 REPLACE NAME WITH \"A\nB\" OK\n",
+    b"1 20 2 MEMO NOTE WITH 'A\nB' OK\n",
+    b"1 8 21 SEEK \"\n\" REFUSED 19 BadCommand\n",
+    b"1 24 2 INDEX ON NAME+\nNAME TO N OK\n",
+    b"1 4 21 BAD\n REFUSED 19 BadCommand\n",
+];
+
+// The index of the first of these that is not said to be no entry's line.
+fn first_with_lf_taken(alloc: Global) -> Result<Option<usize>, Fail> {
+    for i in 0..LINES_WITH_LF.len() {
+        let text = joined(alloc, &[LINES[0], LINES_WITH_LF[i]])?;
+        if audited(alloc, 2, text.as_slice())? != Err(AuditFault::NoEntry(2)) {
+            return Ok(Some(i));
+        }
+    }
+    Ok(None)
+}
+
 // The fault of an entry with another answer.
 fn other_answer(
     alloc: Global,
@@ -91,6 +111,12 @@ fn a_journal_holds(rt: HostRuntime) -> Result<(), Fail> {
 #[test]
 fn other_lines_begin_no_journal(rt: HostRuntime) -> Result<(), Fail> {
     assert_eq!(rt; first_begun(rt.alloc())?, None);
+    Ok(())
+}
+
+#[test]
+fn a_command_with_an_lf_is_no_entrys(rt: HostRuntime) -> Result<(), Fail> {
+    assert_eq!(rt; first_with_lf_taken(rt.alloc())?, None);
     Ok(())
 }
 

@@ -5,12 +5,24 @@ ghost use Rattle.std.specs.Prelude.{◌≡◌, [], IfOk};
 use audit::{AuditFault, audit};
 use catalogue_core::{Catalogue, TableSource};
 use dbf_fields::{Bytes, CHARACTER, Field, MEMO, Schema};
-use dbf_image::TableData;
+use dbf_image::{TableData, is_memo_text};
 use std::alloc::Global;
 use std::test::Fail;
 
-// A table T of blank records with the fields NAME and NOTE.
-fn table(alloc: Global, records: u32) -> Result<TableSource, Fail> {
+// Gives the first record a note.
+fn set_note(content: &mut TableData, note: &[u8]) -> Result<(), Fail> {
+    if content.record_count() < 1 || content.schema().fields().len() < 2 {
+        return Err("no such cell".into());
+    }
+    if content.schema().fields()[1].kind != MEMO || !is_memo_text(note) {
+        return Err("no such memo".into());
+    }
+    content.set_memo(1, 1, note)?;
+    Ok(())
+}
+
+// A table T of blank records with the fields NAME and NOTE. The first has this note, where it is of some bytes.
+fn table(alloc: Global, records: u32, note: &[u8]) -> Result<TableSource, Fail> {
     let fields = [
         Field::new(alloc, b"NAME", CHARACTER, 3, 0)?,
         Field::new(alloc, b"NOTE", MEMO, 10, 0)?,
@@ -21,6 +33,9 @@ fn table(alloc: Global, records: u32) -> Result<TableSource, Fail> {
             content.append_blank()?;
         }
     }
+    if !note.is_empty() {
+        set_note(&mut content, note)?;
+    }
     Ok(TableSource {
         name: Bytes::from_slice(alloc, b"T")?,
         content,
@@ -29,10 +44,10 @@ fn table(alloc: Global, records: u32) -> Result<TableSource, Fail> {
 }
 
 // The catalogue of the table for two stations.
-fn open(alloc: Global, records: u32) -> Result<Catalogue, Fail>
+fn open(alloc: Global, records: u32, note: &[u8]) -> Result<Catalogue, Fail>
     ensures empty { IfOk result (λ catalogue. catalogue.journal ≡ []) }
 {
-    let sources = vec![in alloc; table(alloc, records)?]?;
+    let sources = vec![in alloc; table(alloc, records, note)?]?;
     Ok(Catalogue::open(alloc, sources, 2, false)?)
 }
 
@@ -42,7 +57,17 @@ pub(crate) fn audited(
     records: u32,
     text: &[u8],
 ) -> Result<Result<u64, AuditFault>, Fail> {
-    let mut catalogue = open(alloc, records)?;
+    let mut catalogue = open(alloc, records, b"")?;
+    Ok(audit(alloc, &mut catalogue, text))
+}
+
+/// What an audit says of the journal of a table with one record, which has a note.
+pub(crate) fn audited_with_note(
+    alloc: Global,
+    note: &[u8],
+    text: &[u8],
+) -> Result<Result<u64, AuditFault>, Fail> {
+    let mut catalogue = open(alloc, 1, note)?;
     Ok(audit(alloc, &mut catalogue, text))
 }
 

@@ -1,6 +1,6 @@
 //! Journals with texts of any bytes.
 
-use super::sample::{audited, joined};
+use super::sample::{audited, audited_with_note, joined};
 use std::alloc::Global;
 use std::test::Fail;
 
@@ -20,6 +20,20 @@ fn texts_of_any_bytes_hold(rt: HostRuntime) -> Result<(), Fail> {
     let alloc = rt.alloc();
     let text = joined(alloc, &LINES)?;
     assert_eq!(rt; audited(alloc, 1, text.as_slice())?, Ok(7));
+    Ok(())
+}
+
+// A note of a table's file may have several lines: its answer has them too, and nobody typed it.
+const LINES_OF_A_NOTE: [&[u8]; 2] = [b"1 5 2 USE T OK\n", b"1 6 5 ? NOTE a\r\nb\n\n"];
+
+#[test]
+fn a_note_of_several_lines_holds(rt: HostRuntime) -> Result<(), Fail> {
+    let alloc = rt.alloc();
+    let text = joined(alloc, &LINES_OF_A_NOTE)?;
+    assert_eq!(rt;
+        audited_with_note(alloc, b"a\r\nb\n", text.as_slice())?,
+        Ok(2)
+    );
     Ok(())
 }
 

@@ -13,7 +13,7 @@ use Rattle.station_lines.specs.declared.script.line.Line.TheVariants.{Run}
 use Rattle.station_lines.specs.Script.Words.{HasWords}
 use Rattle.station_lines.specs.Script.Meaning.{Part, keyword, name, count, distance, list_call, text, literal, phrase, or_, IsPart, Are, Says, Means}
 use Rattle.station_lines.specs.Script.Parts.{IsListCall}
-use Rattle.station_lines.specs.CommandLines.{quoted, written_value, with_commas, text_of_command, IsOfALine}
+use Rattle.station_lines.specs.CommandLines.{quoted, written_value, with_commas, text_of_command, IsMeant}
 use Rattle.station_lines.proofs.ScriptLaws.MeaningLaws.{read_means}
 use Rattle.station_lines.proofs.CommandLaws.NumberLaws.{count_small, count_again, distance_small, distance_again}
 use Rattle.station_lines.proofs.CommandLaws.ValueLaws.{name_again, text_again, list_again, value_again}
@@ -57,7 +57,7 @@ each (p ∷ ps) (w ∷ ws) h = ((w, h.0), each ps ws h.1)
 count_part : (word : List ℕ) (n : ℕ) → IsPart (count n) word → IsPart (count n) (decimal n)
 count_part word n h = count_again n (count_small word n h)
 
-skip_small : (words : List (List ℕ)) (n : ℤ) → Says words (Run (command.Skip n)) → unsigned_abs n < 10 ^ MAX_COUNT_DIGITS
+pub skip_small : (words : List (List ℕ)) (n : ℤ) → Says words (Run (command.Skip n)) → unsigned_abs n < 10 ^ MAX_COUNT_DIGITS
 skip_small words n (inl h) = let e = each (keyword (codes "SKIP") ∷ distance n ∷ []) words h in distance_small e.1.0.0 n e.1.0.1
 skip_small words n (inr h) = subst (λ (z : ℤ). unsigned_abs z < 10 ^ MAX_COUNT_DIGITS) (sym h.1) (omega arith)
 
@@ -129,6 +129,6 @@ again (command.Ask question.Recno) line m = (codes "?" ∷ codes "RECNO()" ∷ [
 again (command.Ask question.Reccount) line m = (codes "?" ∷ codes "RECCOUNT()" ∷ [], two_words (codes "?") (codes "RECCOUNT()"), (refl, (refl, tt)))
 again command.Bad line m = bad_again
 
--- the line of a command of a line means this command
-pub text_means : (command : Command) (made : List ℕ) → made ≡ text_of_command command → IsOfALine command → Means made (Run command)
+-- the line of a command that a text means means this command
+pub text_means : (command : Command) (made : List ℕ) → made ≡ text_of_command command → IsMeant command → Means made (Run command)
 text_means command made e is = subst (λ (xs : List ℕ). Means xs (Run command)) (sym e) (again command is.0 is.1)

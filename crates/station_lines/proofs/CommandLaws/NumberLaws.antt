@@ -71,7 +71,7 @@ number_of_glyphs n (d ∷ ds) =
     let digit : 48 + d - 48 ≡ d = omega arith in
     ap (λ (k : ℕ). digits_after (n * 10 + k) (map (λ d. 48 + d) ds)) digit ∙ number_of_glyphs (n * 10 + d) ds
 
-numeral_digits : (n : ℕ) → AreDigitsOf n (numeral n)
+pub numeral_digits : (n : ℕ) → AreDigitsOf n (numeral n)
 numeral_digits n =
     let front : digits_after 0 (map (λ d. 48 + d) (digits_of 10 (n / 10))) ≡ n / 10 = number_of_glyphs 0 (digits_of 10 (n / 10)) ∙ number_digits_of 10 (n / 10) (omega arith) in
     record {
@@ -285,7 +285,7 @@ number_read : (z : ℤ) (whole digits : List ℕ) (scale : ℕ) → IsWritten wh
 number_read z whole digits scale w =
     signed_read z scale (whole ++ (point scale ++ digits)) (plain_digits whole (point scale ++ digits) w.whole_digits (plain_point scale digits w.decimals)) (decimal_read whole digits scale (unsigned_abs z) w)
 
-kept_all : (scale m : ℕ) → digits_kept scale (last_digits scale m) ≡ last_digits scale m
+pub kept_all : (scale m : ℕ) → digits_kept scale (last_digits scale m) ≡ last_digits scale m
 kept_all scale m =
     ap (λ (n : ℕ). take n (last_digits scale m ++ replicate scale 48)) (sym (length-last_digits scale m)) ∙ take_front (last_digits scale m) (replicate scale 48)
 

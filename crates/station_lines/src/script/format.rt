@@ -18,6 +18,24 @@ pub(crate) const CR: u8 = b'\r';
 /// Stands between the numbers of a list.
 pub(crate) const COMMA: u8 = b',';
 
+/// Two of them begin a remark elsewhere, but not here.
+pub(crate) const AMPERSAND: u8 = b'&';
+
+/// The first word of the commands that ask.
+pub(crate) const QUESTION_MARK: u8 = b'?';
+
+/// The mark of the end of a file, which old editors write.
+pub(crate) const END_MARK: u8 = 0x1a;
+
+/// The first byte of the byte order mark of UTF-8.
+pub(crate) const MARK_FIRST: u8 = 0xef;
+
+/// The second byte of the byte order mark of UTF-8.
+pub(crate) const MARK_SECOND: u8 = 0xbb;
+
+/// The third byte of the byte order mark of UTF-8.
+pub(crate) const MARK_THIRD: u8 = 0xbf;
+
 /// How many letters a keyword keeps where it is shortened.
 pub(crate) const KEYWORD_LETTERS: usize = 4;
 

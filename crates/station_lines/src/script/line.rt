@@ -60,8 +60,8 @@ fn parse_words(alloc: Global, verb: Verb, words: &[u8]) -> Result<Line, AllocErr
     Ok(Line::Run(Command::Bad))
 }
 
-// What is made of a line, word by word.
-fn read_line(alloc: Global, line: &[u8]) -> Result<Line, AllocError>
+/// What is made of a line, word by word. An error where memory for a name or a text is refused.
+pub(crate) fn read_line(alloc: Global, line: &[u8]) -> Result<Line, AllocError>
     ensures value { IfOk result (λ meaning. meaning ≡ read line.now) }
     ensures early { OnErr result (keeps_text (read line.now) ≡ true) }
 {

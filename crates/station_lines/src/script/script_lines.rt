@@ -2,7 +2,7 @@
 
 ghost use Rattle.std.specs.Prelude.{◌≡◌, ◌≢◌, ◌<◌, ◌==◌, ℕ, List, [], ◌∷◌, length, position, IfSome, IfNone};
 ghost use Rattle.station_lines.specs.declared.script.format.TheConstants.{LF};
-ghost use Rattle.station_lines.specs.Script.Lines.{without_cr, BeginsWithLine, AreLines};
+ghost use Rattle.station_lines.specs.Script.Lines.{has_no_lf, without_cr, BeginsWithLine, AreLines};
 
 use crate::script::format::{CR, LF};
 use std::marker::Model;
@@ -31,6 +31,13 @@ fn line_end(text: &[u8]) -> Option<usize>
     ensures value { result ≡ position (λ b. b == LF) text.now }
 {
     text.iter().position(|byte| *byte == LF)
+}
+
+/// Whether a text can be a line of a script: it has no LF. Takes no memory.
+pub fn is_one_line(text: &[u8]) -> bool
+    ensures value { result ≡ has_no_lf text.now }
+{
+    text.iter().all(|byte| *byte != LF)
 }
 
 // The line without a CR at its end.

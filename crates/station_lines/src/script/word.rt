@@ -36,8 +36,8 @@ pub(crate) fn without_gaps(text: &[u8]) -> &[u8]
     rest
 }
 
-// The quote of the text in which the byte after this one stands, and 0 outside of texts.
-fn quote_after(quote: u8, byte: u8) -> u8
+/// The quote of the text in which the byte after this one stands, and 0 outside of texts.
+pub(crate) fn quote_after(quote: u8, byte: u8) -> u8
     ensures value { result ≡ quote_then quote byte }
 {
     if quote == 0 {

@@ -37,8 +37,8 @@ pub enum SetupEntry {
     },
 }
 
-// Whether a name is this word in capitals.
-fn is_in_capitals(name: &[u8], word: &[u8]) -> bool
+/// Whether a name is this word in capitals. Takes no memory.
+pub(crate) fn is_in_capitals(name: &[u8], word: &[u8]) -> bool
     ensures value { result ≡ bytes_eq name.now (capitals word.now) }
 {
     if name.len() != word.len() {

@@ -21,8 +21,8 @@ fn is_skipped(line: &[u8]) -> bool
     }
 }
 
-// Whether all bytes are at most 127.
-fn is_plain(line: &[u8]) -> bool
+/// Whether all bytes are at most 127. Takes no memory.
+pub(crate) fn is_plain(line: &[u8]) -> bool
     ensures value { result ≡ list_all is_ascii line.now }
 {
     line.iter().all(|byte| byte.is_ascii())

@@ -41,8 +41,8 @@ pub(crate) enum Said<'a> {
     },
 }
 
-// Whether a word is a name: 1 to 8 letters, digits or `_`, a letter first.
-fn is_short_name(word: &[u8]) -> bool
+/// Whether a word is a name: 1 to 8 letters, digits or `_`, a letter first. Takes no memory.
+pub(crate) fn is_short_name(word: &[u8]) -> bool
     ensures value { result ≡ is_some (name_of word.now) }
 {
     word.len() <= MAX_NAME_BYTES && is_name(word)

@@ -4,6 +4,7 @@ ghost use Rattle.std.specs.Prelude.{◌≡◌, ◌≤◌, ◌<◌, [], ◌∷◌
 ghost use Rattle.std.specs.List.{position_or_len};
 ghost use Rattle.station_lines.specs.Script.Words.{is_gap as gap};
 ghost use Rattle.station_lines.specs.Setup.{AreWords, HasFirstWord};
+ghost use Rattle.station_lines.specs.BadSetupLines.{plain_word, after_plain_word};
 
 use crate::script::{is_gap, without_gaps};
 
@@ -24,6 +25,15 @@ fn word_length(text: &[u8]) -> usize
         Some(end) => end,
         None => text.len(),
     }
+}
+
+/// The first word of a line, which is empty where there is none, and what stands after it. Takes no memory.
+pub(crate) fn cut_plain_word(line: &[u8]) -> (&[u8], &[u8])
+    ensures word { result.0.now ≡ plain_word line.now }
+    ensures after { result.1.now ≡ after_plain_word line.now }
+{
+    let text = without_gaps(line);
+    text.split_at(word_length(text))
 }
 
 /// The first word of a line, and what stands after it. `None` where a line has no words. Takes no memory.

@@ -1,0 +1,5 @@
+use Rattle.station_lines.proofs.CommandLaws.OneLineLaws.{text_one_line}
+use Rattle.station_lines.proofs.command_lines.command_line.Goals as goal
+
+pub returns-clause-one_line : goal.returns-clause-one_line
+returns-clause-one_line c = text_one_line c.args.command.now c.in_ok-line.line c.in_ok-line.ensures.value
