@@ -39,6 +39,6 @@ pub use memory_folder::{MemoryFolder, OpenFile};
 pub use memory_source::MemorySource;
 pub use missing_folder::MissingFolder;
 pub use named::NamedFile;
-pub use path::folder_of;
+pub use path::{file_name, folder_of};
 pub use source::{LoadFault, MAX_FILE_BYTES, Source};
 pub use transfer::read_whole;

@@ -2,7 +2,7 @@
 
 ghost use Rattle.std.specs.Prelude.{◌≡◌, ◌≤◌, length, IfOk, bytes_eq};
 ghost use Rattle.files_in_place.specs.Folder.{list_name as name_of_list};
-ghost use Rattle.station_files.specs.Paths.{name_start as start_of_name, is_reserved_path as is_reserved_at, folder_of_path, list_beside as path_of_list};
+ghost use Rattle.station_files.specs.Paths.{name_start as start_of_name, is_reserved_path as is_reserved_at, name_at_end, folder_of_path, list_beside as path_of_list};
 
 use files_in_place::is_reserved;
 use std::alloc::{AllocError, Global};
@@ -29,11 +29,18 @@ fn name_start(path: &[u8]) -> usize
     0
 }
 
+/// The name that a path ends with: what stands after its last slash.
+pub fn file_name(path: &[u8]) -> &[u8]
+    ensures value { result.now ≡ name_at_end path.now }
+{
+    &path[name_start(path)..]
+}
+
 /// Whether the name that a path ends with is kept for the files of a set that is not in place.
 pub(crate) fn is_reserved_path(path: &[u8]) -> bool
     ensures value { result ≡ is_reserved_at path.now }
 {
-    is_reserved(&path[name_start(path)..])
+    is_reserved(file_name(path))
 }
 
 /// The folder that the file of a path lies in: `.` where the path has no slash, and `/` for the root.

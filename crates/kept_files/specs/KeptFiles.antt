@@ -1,0 +1,45 @@
+-- Files of a setup whose names are not those of the new files that a run writes of them.
+use Rattle.std.specs.Prelude.{List, ℕ, ◌++◌, Option, Some, None, bytes_eq, codes, if◌then◌else◌}
+use Rattle.station_files.specs.Paths.{name_at_end}
+use Rattle.station_lines.specs.declared.setup.entry.SetupEntry.{SetupEntry}
+use Rattle.station_lines.specs.declared.setup.entry.SetupEntry.TheVariants as entry
+use Rattle.kept_files.specs.declared.KeptFile.{KeptFile}
+use Rattle.kept_files.specs.declared.NewKind.{NewKind}
+use Rattle.kept_files.specs.declared.NewKind.TheVariants.{Table, Memos, Index}
+
+-- what the name of a new file ends with
+abbrev pub ending_of : NewKind → List ℕ
+ending_of Table = codes ".DBF"
+ending_of Memos = codes ".DBT"
+ending_of Index = codes ".NDX"
+
+-- a file's path, the name of its table or index, and what the new file has
+pub record Kept : Type 0 where
+  pub path : List ℕ
+  pub name : List ℕ
+  pub kind : NewKind
+
+abbrev pub kept : List ℕ → List ℕ → NewKind → Kept
+kept path name kind = record { path = path; name = name; kind = kind }
+
+abbrev pub kept_of : KeptFile → Kept
+kept_of file = kept file.path.now file.name.now file.kind
+
+-- the name of the new file
+abbrev pub new_name : Kept → List ℕ
+new_name file = file.name ++ ending_of file.kind
+
+-- the file, unless its path ends with the new file's name
+abbrev pub kept_unless_named : Kept → Option Kept
+kept_unless_named file = if bytes_eq (name_at_end file.path) (new_name file) then None else Some file
+
+-- of the DBF file of a table, and of the NDX file of an index
+abbrev pub kept_file_in : SetupEntry → Option Kept
+kept_file_in (entry.Table name dbf dbt) = kept_unless_named (kept dbf name Table)
+kept_file_in (entry.Index table name ndx) = kept_unless_named (kept ndx name Index)
+kept_file_in (entry.Station script) = None
+
+-- of the DBT file of a table, where one is named
+abbrev pub kept_memo_file_in : SetupEntry → Option Kept
+kept_memo_file_in (entry.Table name dbf (Some dbt)) = kept_unless_named (kept dbt name Memos)
+kept_memo_file_in other = None
