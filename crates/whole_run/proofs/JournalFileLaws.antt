@@ -19,8 +19,10 @@ use Rattle.station_files.specs.Files.{listing, opening, IsOfBytes}
 use Rattle.station_files.proofs.ListingLaws.{files_again}
 use Rattle.station_lines.specs.declared.script.format.TheConstants.{LF}
 use Rattle.station_lines.specs.JournalLines.{entry_and, line_parts, journal_text}
+use Rattle.whole_run.specs.declared.counts.CommandCounts.{CommandCounts}
 use Rattle.whole_run.specs.declared.fault.ServeFault.{ServeFault}
 use Rattle.whole_run.specs.declared.fault.ServeFault.TheVariants.{Setup, File, Refused, Run, Close, NoMemory}
+use Rattle.whole_run.specs.Counts.{AreRefusedIn}
 use Rattle.whole_run.specs.JournalFile.{journal_name, journal_file, and_journal, IsJournalFault, IsCutWithJournal, IsServedWithJournal, IsCutRunAt, IsCutRunWithJournal}
 use Rattle.whole_run.specs.WholeRun.{IsWriteFault, IsWholeRun, IsCutWriting}
 use Rattle.whole_run.proofs.RunNames.{run_names_differ_with_journal}
@@ -155,18 +157,19 @@ unfailed_unbegun failures old new (Err y) fault is begun refused = ap failures (
 
 -- ---- the whole run
 
-pub served_with_journal : (files : Option (List NamedFile)) (setup : List ℕ) (reindex : Bool) (today : Day) (tables : List ClosedTable) (answers : List (List ℕ)) (count : ℕ) (old new : Option (List ℕ))
-    (run : IsWholeRun files setup reindex tables answers count) → first_blocked 1 tables ≡ None → new ≡ grown old (listing (and_journal (run_files today tables answers) run.history.journal))
-    → AllByRecursion IsOfBytes (and_journal (run_files today tables answers) run.history.journal) → IsServedWithJournal files setup reindex today old new count
-served_with_journal files setup reindex today tables answers count old new run few_blocks written bytes = record {
+pub served_with_journal : (files : Option (List NamedFile)) (setup : List ℕ) (reindex : Bool) (today : Day) (tables : List ClosedTable) (answers : List (List ℕ)) (counts : CommandCounts) (old new : Option (List ℕ))
+    (run : IsWholeRun files setup reindex tables answers counts.all) → AreRefusedIn run.history counts → first_blocked 1 tables ≡ None → new ≡ grown old (listing (and_journal (run_files today tables answers) run.history.journal))
+    → AllByRecursion IsOfBytes (and_journal (run_files today tables answers) run.history.journal) → IsServedWithJournal files setup reindex today old new counts
+served_with_journal files setup reindex today tables answers counts old new run refused few_blocks written bytes = record {
   tables = tables;
   answers = answers;
   run = run;
+  refused = refused;
   few_blocks = few_blocks;
   written = written;
   bytes = bytes;
   told = files_again (and_journal (run_files today tables answers) run.history.journal) bytes;
-  distinct = run_names_differ_with_journal files setup reindex tables answers count run today;
+  distinct = run_names_differ_with_journal files setup reindex tables answers counts.all run today;
 }
 
 run_cut_at : (files : Option (List NamedFile)) (setup : List ℕ) (reindex : Bool) (today : Day) (tables : List ClosedTable) (answers : List (List ℕ)) (count : ℕ) (old new : Option (List ℕ)) (name : List ℕ)

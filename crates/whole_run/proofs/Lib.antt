@@ -1,6 +1,7 @@
 pub mod LoadLaws
 pub mod TablesFirst
 pub mod HandingLaws
+pub mod CountLaws
 pub mod WholeRunLaws
 pub mod TrimmedText
 pub mod WrittenFiles

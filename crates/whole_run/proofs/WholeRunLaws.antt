@@ -13,8 +13,10 @@ use Rattle.station_files.specs.Closing.{first_blocked, run_files}
 use Rattle.station_files.specs.declared.named.NamedFile.{NamedFile}
 use Rattle.station_files.specs.Files.{IsOfBytes, listing}
 use Rattle.station_files.proofs.ListingLaws.{files_again}
+use Rattle.whole_run.specs.declared.counts.CommandCounts.{CommandCounts}
 use Rattle.whole_run.specs.declared.fault.ServeFault.{ServeFault}
 use Rattle.whole_run.specs.declared.fault.ServeFault.TheVariants.{Setup, File, Refused, Run, Close, NoMemory}
+use Rattle.whole_run.specs.Counts.{AreRefusedIn}
 use Rattle.whole_run.specs.HandedOver.{AreHandedOver}
 use Rattle.whole_run.specs.Loading.{Read}
 use Rattle.whole_run.specs.WholeRun.{close_fault, IsAllRead, IsRun, IsWriteFault, IsWholeRun, IsServed, IsServeFault, IsCutWriting, IsCutRun}
@@ -41,24 +43,25 @@ none_at None h = refl
 none_at (Some n) h = absurd (h n refl)
 
 -- a whole run by its parts
-abbrev pub whole_run : (files : Option (List NamedFile)) (setup : List ℕ) (reindex : Bool) (read : Read) (h : History) (tables : List ClosedTable) (answers : List (List ℕ))
-    → IsAllRead files setup read → IsRun reindex read h answers → IsLegal h.opened h.journal → AreOfStations h.opened h.journal → length h.journal ≤ MAX_ENTRIES → AreHandedOver h tables → IsWholeRun files setup reindex tables answers (length h.journal)
-whole_run files setup reindex read h tables answers all run legal of_stations count_bounded handed =
-    record { read = read; history = h; all = all; run = run; legal = legal; of_stations = of_stations; count_bounded = count_bounded; handed = handed; counted = refl }
+abbrev pub whole_run : (files : Option (List NamedFile)) (setup : List ℕ) (reindex : Bool) (read : Read) (h : History) (tables : List ClosedTable) (answers : List (List ℕ)) (count : ℕ)
+    → IsAllRead files setup read → IsRun reindex read h answers → IsLegal h.opened h.journal → AreOfStations h.opened h.journal → length h.journal ≤ MAX_ENTRIES → AreHandedOver h tables → count ≡ length h.journal → IsWholeRun files setup reindex tables answers count
+whole_run files setup reindex read h tables answers count all run legal of_stations count_bounded handed counted =
+    record { read = read; history = h; all = all; run = run; legal = legal; of_stations = of_stations; count_bounded = count_bounded; handed = handed; counted = counted }
 
 -- a whole run whose files were written
-pub served : (files : Option (List NamedFile)) (setup : List ℕ) (reindex : Bool) (today : Day) (tables : List ClosedTable) (answers : List (List ℕ)) (count : ℕ) (old new : Option (List ℕ))
-    → IsWholeRun files setup reindex tables answers count → first_blocked 1 tables ≡ None → new ≡ grown old (listing (run_files today tables answers)) → AllByRecursion IsOfBytes (run_files today tables answers)
-    → IsServed files setup reindex today old new count
-served files setup reindex today tables answers count old new run few_blocks written bytes = record {
+pub served : (files : Option (List NamedFile)) (setup : List ℕ) (reindex : Bool) (today : Day) (tables : List ClosedTable) (answers : List (List ℕ)) (counts : CommandCounts) (old new : Option (List ℕ))
+    → (run : IsWholeRun files setup reindex tables answers counts.all) → AreRefusedIn run.history counts → first_blocked 1 tables ≡ None → new ≡ grown old (listing (run_files today tables answers)) → AllByRecursion IsOfBytes (run_files today tables answers)
+    → IsServed files setup reindex today old new counts
+served files setup reindex today tables answers counts old new run refused few_blocks written bytes = record {
   tables = tables;
   answers = answers;
   run = run;
+  refused = refused;
   few_blocks = few_blocks;
   written = written;
   bytes = bytes;
   told = files_again (run_files today tables answers) bytes;
-  distinct = run_names_differ files setup reindex tables answers count run today;
+  distinct = run_names_differ files setup reindex tables answers counts.all run today;
 }
 
 -- the run of which a file could not be written

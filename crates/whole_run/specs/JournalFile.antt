@@ -13,8 +13,10 @@ use Rattle.station_files.specs.Closing.{first_blocked, run_files, IsCutAt}
 use Rattle.station_files.specs.Files.{IsOfBytes, files_in, listing}
 use Rattle.station_files.specs.Placed.{names_of}
 use Rattle.station_lines.specs.JournalLines.{journal_text}
+use Rattle.whole_run.specs.declared.counts.CommandCounts.{CommandCounts}
 use Rattle.whole_run.specs.declared.fault.ServeFault.{ServeFault}
 use Rattle.whole_run.specs.declared.fault.ServeFault.TheVariants.{Close, NoMemory}
+use Rattle.whole_run.specs.Counts.{AreRefusedIn}
 use Rattle.whole_run.specs.WholeRun.{IsWholeRun}
 
 -- ---- the file
@@ -76,10 +78,11 @@ UnlessBegun fault holds = fault ≢ NoMemory → ((name : List ℕ) → fault �
 -- A whole run came to its end: its files stand after what was written before, and after them that of its journal. Names and
 -- files are of bytes, so what was written tells these files, and no others; and no two of them have the same name.
 pub record IsServedWithJournal (files : Option (List NamedFile)) (setup : List ℕ) (reindex : Bool) (today : Day)
-    (old new : Option (List ℕ)) (count : ℕ) : Type 0 where
+    (old new : Option (List ℕ)) (counts : CommandCounts) : Type 0 where
   pub tables : List ClosedTable
   pub answers : List (List ℕ)
-  pub run : IsWholeRun files setup reindex tables answers count
+  pub run : IsWholeRun files setup reindex tables answers counts.all
+  pub refused : AreRefusedIn run.history counts
   pub few_blocks : first_blocked 1 tables ≡ None
   pub written : new ≡ grown old (listing (all_files today tables answers run.history.journal))
   pub bytes : AllByRecursion IsOfBytes (all_files today tables answers run.history.journal)

@@ -1,3 +1,4 @@
+pub mod Counts
 pub mod HandedOver
 pub mod JournalFile
 pub mod Loading

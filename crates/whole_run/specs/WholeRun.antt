@@ -18,12 +18,14 @@ use Rattle.station_run.specs.declared.fault.RunFault.TheVariants.{ScriptCount}
 use Rattle.station_lines.specs.declared.setup.entry.SetupEntry.{SetupEntry}
 use Rattle.station_lines.specs.declared.setup.fault.SetupFault.{SetupFault}
 use Rattle.station_lines.specs.declared.setup.fault.SetupFault.TheVariants.{Bad, NoMemory as NoMemoryToParse}
+use Rattle.whole_run.specs.declared.counts.CommandCounts.{CommandCounts}
 use Rattle.whole_run.specs.declared.fault.FileFault.{FileFault}
 use Rattle.whole_run.specs.declared.fault.ServeFault.{ServeFault}
 use Rattle.whole_run.specs.declared.fault.ServeFault.TheVariants.{Setup, File, Refused, Run, Close, NoMemory}
 use Rattle.station_files.specs.Closing.{first_blocked, run_files, IsCutAt, IsCutBy}
 use Rattle.station_files.specs.Files.{IsFileOf, IsOfBytes, files_in, listing}
 use Rattle.station_files.specs.Placed.{names_of}
+use Rattle.whole_run.specs.Counts.{AreRefusedIn}
 use Rattle.whole_run.specs.HandedOver.{AreHandedOver}
 use Rattle.whole_run.specs.Loading.{Read, nothing, LoadAll, IsUnloaded, IsFaultIn}
 use Rattle.station_run.specs.Faults.{IsFaultOfRun}
@@ -122,13 +124,14 @@ pub record IsWholeRun (files : Option (List NamedFile)) (setup : List ℕ) (rein
   pub handed : AreHandedOver history tables
   pub counted : count ≡ length history.journal
 
--- A whole run came to its end: these are its tables and answers, none of the tables has more blocks than its file can
--- have, and their files stand after what was written before. Names and files are of bytes, so what was written tells these
+-- A whole run came to its end: these are its tables and answers and how many commands were refused, none of the tables has
+-- more blocks than its file can have, and their files stand after what was written before. Names and files are of bytes, so what was written tells these
 -- files, and no others; and no two of them have the same name.
-pub record IsServed (files : Option (List NamedFile)) (setup : List ℕ) (reindex : Bool) (today : Day) (old new : Option (List ℕ)) (count : ℕ) : Type 0 where
+pub record IsServed (files : Option (List NamedFile)) (setup : List ℕ) (reindex : Bool) (today : Day) (old new : Option (List ℕ)) (counts : CommandCounts) : Type 0 where
   pub tables : List ClosedTable
   pub answers : List (List ℕ)
-  pub run : IsWholeRun files setup reindex tables answers count
+  pub run : IsWholeRun files setup reindex tables answers counts.all
+  pub refused : AreRefusedIn run.history counts
   pub few_blocks : first_blocked 1 tables ≡ None
   pub written : new ≡ grown old (listing (run_files today tables answers))
   pub bytes : AllByRecursion IsOfBytes (run_files today tables answers)

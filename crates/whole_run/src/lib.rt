@@ -9,6 +9,7 @@
 
 mod closing;
 mod copying;
+mod counts;
 mod fault;
 mod journal;
 mod load;
@@ -20,10 +21,11 @@ mod run;
 mod with_journal;
 mod writing;
 
+pub use counts::CommandCounts;
 pub use fault::{FileFault, ServeFault};
 pub use opened_again::one_opening;
 pub use opening::open_setup;
 pub use read_back::written_files_read_back;
-pub use run::serve;
+pub use run::{read_setup, serve};
 pub use with_journal::serve_with_journal;
 pub use writing::write_tables;

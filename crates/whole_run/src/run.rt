@@ -11,6 +11,7 @@ ghost use Rattle.whole_run.specs.Loading.{read_of, IsFailure};
 ghost use Rattle.whole_run.specs.WholeRun.{IsAllRead, IsReadFault, IsRun, IsRunFault, IsServed, IsServeFault, IsSaid, IsWriteFault, IsCutWriting, IsCutRun};
 
 use crate::closing::closed_tables;
+use crate::counts::{CommandCounts, command_counts};
 use crate::fault::ServeFault;
 use crate::load::{load_entries, load_file};
 use crate::loaded::Loaded;
@@ -23,8 +24,8 @@ use std::alloc::Global;
 use std::sync::Wait;
 use std::thread::Threads;
 
-// What the setup of a path says.
-fn read_setup<S: Source>(
+/// What the setup of a path says: its entries, in their order. The faults are those of [`serve`] at the setup.
+pub fn read_setup<S: Source>(
     alloc: Global,
     source: &mut S,
     setup: &Bytes,
@@ -98,7 +99,7 @@ pub(crate) fn write_files<F: Folder>(
 
 /// A whole run: reads the setup of a path and the files that it names, opens the tables for a station a script, runs
 /// the scripts, each in a thread of its own, and writes the tables, indexes and answers into the folder, dated. It
-/// answers the number of commands, which is `MAX_ENTRIES` at most.
+/// answers the number of commands, which is `MAX_ENTRIES` at most, and how many of them were refused.
 ///
 /// The setup is read whole first. Then, entry by entry, an entry's files are loaded and read; then the catalogue is
 /// opened, run and closed. The faults come in this order: see [`ServeFault`]. Before files are written nothing is
@@ -112,11 +113,11 @@ pub fn serve<S: Source, F: Folder, G: Gate + Sync, R: Threads + Wait + Sync>(
     source: &mut S,
     folder: &mut F,
     gate: &G,
-) -> Result<u64, ServeFault>
+) -> Result<CommandCounts, ServeFault>
     // The files of the replay of a legal journal, whose commands are the scripts' lines, on what the setup names. What was
     // written opens as the run left it: see `written_files_read_back`.
     ensures ran { IfOk result (IsServed (S.files source.old) setup.now reindex today (F.written folder.old) (F.written folder.new)) }
-    ensures count_bounded { IfOk result (λ count. count ≤ MAX_ENTRIES) }
+    ensures count_bounded { IfOk result (λ counts. counts.all ≤ MAX_ENTRIES) }
     ensures no_failure { OnOk result (F.failures folder.new ≡ F.failures folder.old) }
     ensures kept { S.files source.new ≡ S.files source.old }
     ensures fault { IfErr result (IsServeFault (S.files source.old) setup.now reindex today.year) }
@@ -128,9 +129,10 @@ pub fn serve<S: Source, F: Folder, G: Gate + Sync, R: Threads + Wait + Sync>(
     ensures whole_before_fault { IfErr result (IsCutRun (S.files source.old) setup.now reindex today (F.written folder.old) (F.written folder.new)) }
 {
     let loaded = read_all(alloc, source, setup)?;
+    let stations = loaded.scripts.len();
     let outcome = run_loaded(rt, alloc, loaded, reindex, gate)?;
-    let count = outcome.closed.entry_count();
+    let counts = command_counts(alloc, &outcome.closed, stations)?;
     let tables = closed_tables(alloc, outcome.closed)?;
     write_files(alloc, &tables, &outcome.answers, today, folder)?;
-    Ok(count)
+    Ok(counts)
 }

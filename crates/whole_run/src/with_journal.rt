@@ -11,6 +11,7 @@ ghost use Rattle.whole_run.specs.Loading.{IsFailure};
 ghost use Rattle.whole_run.specs.WholeRun.{IsServeFault, IsWriteFault};
 
 use crate::closing::closed_parts;
+use crate::counts::{CommandCounts, command_counts};
 use crate::fault::ServeFault;
 use crate::journal::write_journal;
 use crate::run::{read_all, run_loaded, write_files};
@@ -47,7 +48,8 @@ fn write_with_journal<F: Folder>(
 }
 
 /// A whole run as [`serve`] makes it, which writes one file more: after the tables, indexes and answers the journal, as
-/// JOURNAL.TXT. It answers the number of commands, which is that of the file's lines' entries and `MAX_ENTRIES` at most.
+/// JOURNAL.TXT. It answers the number of commands, which is that of the file's lines' entries and `MAX_ENTRIES` at most, and
+/// how many of them were refused.
 ///
 /// The journal is written entry by entry, so that its text is never whole in memory. The faults are those of [`serve`], in
 /// its order. Only `Close(Write(..))` and `NoMemory` may come when files are begun.
@@ -62,10 +64,10 @@ pub fn serve_with_journal<S: Source, F: Folder, G: Gate + Sync, R: Threads + Wai
     source: &mut S,
     folder: &mut F,
     gate: &G,
-) -> Result<u64, ServeFault>
+) -> Result<CommandCounts, ServeFault>
     // As `serve` has it; the last file has the text of the journal of which this speaks.
     ensures ran { IfOk result (IsServedWithJournal (S.files source.old) setup.now reindex today (F.written folder.old) (F.written folder.new)) }
-    ensures count_bounded { IfOk result (λ count. count ≤ MAX_ENTRIES) }
+    ensures count_bounded { IfOk result (λ counts. counts.all ≤ MAX_ENTRIES) }
     ensures no_failure { OnOk result (F.failures folder.new ≡ F.failures folder.old) }
     ensures kept { S.files source.new ≡ S.files source.old }
     ensures fault { IfErr result (IsServeFault (S.files source.old) setup.now reindex today.year) }
@@ -77,9 +79,10 @@ pub fn serve_with_journal<S: Source, F: Folder, G: Gate + Sync, R: Threads + Wai
     ensures whole_before_fault { IfErr result (IsCutRunWithJournal (S.files source.old) setup.now reindex today (F.written folder.old) (F.written folder.new)) }
 {
     let loaded = read_all(alloc, source, setup)?;
+    let stations = loaded.scripts.len();
     let outcome = run_loaded(rt, alloc, loaded, reindex, gate)?;
-    let count = outcome.closed.entry_count();
+    let counts = command_counts(alloc, &outcome.closed, stations)?;
     let (tables, journal) = closed_parts(alloc, outcome.closed)?;
     write_with_journal(alloc, &tables, &outcome.answers, &journal, today, folder)?;
-    Ok(count)
+    Ok(counts)
 }

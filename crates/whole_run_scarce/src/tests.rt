@@ -155,8 +155,8 @@ fn attempt_of<R: Threads + Wait + Sync>(
         &mut folder,
         &OpenGate,
     ) {
-        Ok(count) => {
-            let is_right = is_whole(count, &folder);
+        Ok(counts) => {
+            let is_right = is_whole(counts.all, &folder);
             Attempt::right_if(is_right && office.written.push(folder).is_ok())
         }
         Err(fault) => {

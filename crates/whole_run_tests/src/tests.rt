@@ -7,6 +7,7 @@ mod day;
 mod devices;
 mod journals;
 mod made;
+mod refused;
 mod setups;
 mod stale;
 
@@ -21,7 +22,7 @@ use std::alloc::{AllocError, Global};
 use std::sync::Wait;
 use std::test::Fail;
 use std::thread::Threads;
-use whole_run::{FileFault, ServeFault, serve};
+use whole_run::{CommandCounts, FileFault, ServeFault, serve};
 
 // The path of each setup here.
 pub(crate) const SETUP: &[u8] = b"S.SET";
@@ -68,6 +69,11 @@ pub(crate) fn office(
     })
 }
 
+// How many commands a run has performed, or why it failed.
+pub(crate) fn performed(served: Result<CommandCounts, ServeFault>) -> Result<u64, ServeFault> {
+    Ok(served?.all)
+}
+
 // Serves the office on this day.
 pub(crate) fn serve_on<R: Threads + Wait + Sync>(
     rt: &R,
@@ -78,7 +84,8 @@ pub(crate) fn serve_on<R: Threads + Wait + Sync>(
     folder: &mut MemoryFolder,
 ) -> Result<Result<u64, ServeFault>, Fail> {
     let setup = Bytes::from_slice(alloc, SETUP)?;
-    Ok(serve(rt, alloc, &setup, today, reindex, source, folder, &OpenGate))
+    let served = serve(rt, alloc, &setup, today, reindex, source, folder, &OpenGate);
+    Ok(performed(served))
 }
 
 // Serves the office on a day of this year.

@@ -67,7 +67,7 @@ fn served<R: Threads + Wait + Sync>(
         &mut folder,
         &OpenGate,
     ) {
-        Ok(count) if count == STATIONS * LINES => Ok(folder),
+        Ok(counts) if counts.all == STATIONS * LINES => Ok(folder),
         _ => Err("another count of commands".into()),
     }
 }

@@ -1,7 +1,7 @@
 //! Runs whose journal is written too: its text, where it stands, and a folder that fails at it.
 
 use crate::tests::devices::{failing_folder, is_cut_at, unwritten};
-use crate::tests::{SETUP, folder_of, has_file, has_files, office};
+use crate::tests::{SETUP, folder_of, has_file, has_files, office, performed};
 use dbf_fields::{Bytes, day_of};
 use sample_files::TABLE;
 use station_files::MemoryFolder;
@@ -54,7 +54,7 @@ fn serve_journalled<R: Threads + Wait + Sync>(
     let mut source = office(alloc, ONE_TABLE, script)?;
     let path = Bytes::from_slice(alloc, SETUP)?;
     let today = day_of(1987, 3, 15).ok_or("a date")?;
-    Ok(serve_with_journal(
+    let served = serve_with_journal(
         rt,
         alloc,
         &path,
@@ -63,7 +63,8 @@ fn serve_journalled<R: Threads + Wait + Sync>(
         &mut source,
         folder,
         &OpenGate,
-    ))
+    );
+    Ok(performed(served))
 }
 
 // What a folder has after a run of `count` commands whose journal is written.
