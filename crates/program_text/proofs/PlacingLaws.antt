@@ -173,7 +173,7 @@ module _ {D : Type 0} (moment : D → ℕ) (left_since : D → ℕ → Folder �
   seen_too P leaves = leaves.each (seen now) (counts (moment start) (seen now) leaves.later stays)
 
   -- so it is where a failure is said to leave such folders alone
-  pub seen_at : {F : Type 0} (other : F → Type 0) (P : Folder → Type 0) (ended : Result ℕ F) → IfErr ended (λ failure. other failure → LeavesOnly moment left_since start now P)
+  pub seen_at : {T F : Type 0} (other : F → Type 0) (P : Folder → Type 0) (ended : Result T F) → IfErr ended (λ failure. other failure → LeavesOnly moment left_since start now P)
       → IfErr ended (λ failure. other failure → P (seen now))
   unfolding seen_too
   seen_at other P (Ok count) leaves = tt
@@ -264,14 +264,14 @@ module _ {D : Type 0} (moment : D → ℕ) (left_since : D → ℕ → Folder �
   }
 
   -- and where a failure is said to leave the files before
-  pub recovered_old : {F : Type 0} (other : F → Type 0) (now : D) (ended : Result ℕ F) → IfErr ended (λ failure. other failure → LeavesOnly moment left_since mid now (HasOldFiles (seen mid)))
+  pub recovered_old : {T F : Type 0} (other : F → Type 0) (now : D) (ended : Result T F) → IfErr ended (λ failure. other failure → LeavesOnly moment left_since mid now (HasOldFiles (seen mid)))
       → IfErr ended (λ failure. other failure → LeavesOnly moment left_since start now (RecoversAsOneOf (may_leave start)))
   recovered_old other now (Ok count) old = tt
   recovered_old other now (Err failure) old = λ said.
       leaves_on moment left_since start mid now (AfterStep StillRecovers (may_leave start)) (HasOldFiles (seen mid)) (RecoversAsOneOf (may_leave start)) first (old said) (λ left from. (from.0, from.1, from.2.recovers)) as_one
 
   -- and where files are in place
-  pub recovered_ok : {F : Type 0} (lists : ℕ → List ℕ → Type 0) (now : D) (ended : Result ℕ F) → IfOk ended (λ count. HasPut moment left_since seen (lists count) (HasOldFiles (seen mid)) (seen mid) mid now)
+  pub recovered_ok : {T F : Type 0} (lists : T → List ℕ → Type 0) (now : D) (ended : Result T F) → IfOk ended (λ count. HasPut moment left_since seen (lists count) (HasOldFiles (seen mid)) (seen mid) mid now)
       → IfOk ended (λ count. HasPut moment left_since seen (lists count) (RecoversAsOneOf (may_leave start)) (recovered (seen start)) start now)
   recovered_ok lists now (Ok count) has = recovered_whole (lists count) now has
   recovered_ok lists now (Err failure) has = tt

@@ -45,6 +45,7 @@ pub fn told_by_output<W: Write>(
     ensures status { exit_status result.status ≡ code }
     ensures out { result.out ≡ printed }
     ensures unprinted { IsErr printed → OnOk result.err (Appends (W.contents err.old) (W.contents err.new) (unprinted_line program.now)) }
+    ensures silent { IsOk printed → err.new ≡ err.old }
 {
     let told = match printed {
         Ok(()) => Ok(()),

@@ -10,6 +10,7 @@ use Rattle.station_files.specs.declared.finish_fault.FinishFault.{FinishFault}
 use Rattle.station_files.specs.declared.finish_fault.FinishFault.TheVariants as finish
 use Rattle.station_files.specs.Files.{files_in}
 use Rattle.station_files.specs.Placed.{AreUnreserved, IsPlaced}
+use Rattle.whole_run.specs.declared.counts.CommandCounts.{CommandCounts}
 use Rattle.whole_run.specs.declared.fault.ServeFault.{ServeFault}
 use Rattle.whole_run.specs.declared.fault.ServeFault.TheVariants as serve
 use Rattle.whole_run.specs.Loading.{IsFailure}
@@ -26,31 +27,33 @@ use Rattle.station_server.specs.declared.program.options.Options.{Options}
 use Rattle.station_server.specs.Failures.{place_failure}
 use Rattle.station_server.specs.Program.{asked_files, IsInPlace, IsLoadFailure, IsPlaceFault, IsServedBy, IsServedWhole}
 
-pub in_place : (files : Option (List NamedFile)) (options : Options) (count : ℕ) (begun written : List ℕ) (old new : Files) → IsServedBy files options (Some begun) (Some written) count → begun ≡ [] → AreUnreserved (files_in written) → IsPlaced written old new
-    → IsInPlace files options old new count
-in_place files options count begun written old new served none free placed = record {
+pub in_place : (files : Option (List NamedFile)) (options : Options) (counts : CommandCounts) (begun written : List ℕ) (old new : Files) → IsServedBy files options (Some begun) (Some written) counts → begun ≡ [] → AreUnreserved (files_in written) → IsPlaced written old new
+    → IsInPlace files options old new counts
+in_place files options counts begun written old new served none free placed = record {
   tables = served.tables;
   answers = served.answers;
   run = served.run;
+  refused = served.refused;
   distinct = served.distinct;
   placed = files_placed (asked_files options served.tables served.answers served.run.history.journal) begun written old new none served.written served.told served.distinct free placed;
 }
 
 -- the folder before may be told as one that has the same files
-pub in_place_since : (files : Option (List NamedFile)) (options : Options) (before old new : Files) (ended : Result ℕ Failure) → ((n : Name) → old n ≡ before n) → IfOk ended (IsInPlace files options old new)
+pub in_place_since : (files : Option (List NamedFile)) (options : Options) (before old new : Files) (ended : Result CommandCounts Failure) → ((n : Name) → old n ≡ before n) → IfOk ended (IsInPlace files options old new)
     → IfOk ended (IsInPlace files options before new)
-in_place_since files options before old new (Ok count) same has = record {
+in_place_since files options before old new (Ok counts) same has = record {
   tables = has.tables;
   answers = has.answers;
   run = has.run;
+  refused = has.refused;
   distinct = has.distinct;
   placed = files_since (asked_files options has.tables has.answers has.run.history.journal) before old new same has.placed;
 }
 in_place_since files options before old new (Err failure) same has = tt
 
 -- a run that was served where nothing had been written
-pub served_whole : (files : Option (List NamedFile)) (options : Options) (count : ℕ) (begun written : List ℕ) → IsServedBy files options (Some begun) (Some written) count → begun ≡ [] → IsServedWhole files options
-served_whole files options count begun written served none = (written, count, subst (λ (l : List ℕ). IsServedBy files options (Some l) (Some written) count) none served)
+pub served_whole : (files : Option (List NamedFile)) (options : Options) (counts : CommandCounts) (begun written : List ℕ) → IsServedBy files options (Some begun) (Some written) counts → begun ≡ [] → IsServedWhole files options
+served_whole files options counts begun written served none = (written, counts, subst (λ (l : List ℕ). IsServedBy files options (Some l) (Some written) counts) none served)
 
 place_fault : (files : Option (List NamedFile)) (options : Options) (why : FinishFault) → IsServedWhole files options → IsPlaceFault files options (place_failure (unplaced_files why))
 place_fault files options finish.NoMemory whole = tt
@@ -64,7 +67,7 @@ unplaced files options why fault failure is was whole = subst (IsPlaceFault file
 
 -- ---- files that were not written
 
-told_of : (said : FolderFault) (fault : PlaceFault) (failure : Failure) → failure ≡ place_failure fault → IsErrOf {T = ℕ} (Err failure) (OfFolder said) → fault ≡ Folder said
+told_of : (said : FolderFault) (fault : PlaceFault) (failure : Failure) → failure ≡ place_failure fault → IsErrOf {T = CommandCounts} (Err failure) (OfFolder said) → fault ≡ Folder said
 told_of said NoMemory failure is e =
     let told : failure ≡ OfFolder said = cc in
     let clash : Serve serve.NoMemory ≡ OfFolder said = sym is ∙ told in
@@ -75,33 +78,33 @@ told_of said (Folder why) failure is e =
     cc
 
 -- it is not that the folder was not recovered
-pub recovered_before : (why : FinishFault) (said : FolderFault) (fault : PlaceFault) (failure : Failure) → IsOfRecovery said → failure ≡ place_failure fault → fault ≡ unplaced_files why → IsErrOf {T = ℕ} (Err failure) (OfFolder said) → ⊥
+pub recovered_before : (why : FinishFault) (said : FolderFault) (fault : PlaceFault) (failure : Failure) → IsOfRecovery said → failure ≡ place_failure fault → fault ≡ unplaced_files why → IsErrOf {T = CommandCounts} (Err failure) (OfFolder said) → ⊥
 recovered_before why said fault failure un is was e = never_unrecovered why said un (sym was ∙ told_of said fault failure is e)
 
 -- a run that was served, where nothing had been written
-pub served_alone : (files : Option (List NamedFile)) (options : Options) (count : ℕ) (begun written : List ℕ) → IsServedBy files options (Some begun) (Some written) count → begun ≡ [] → IsServedBy files options (Some []) (Some written) count
-served_alone files options count begun written served none = subst (λ (l : List ℕ). IsServedBy files options (Some l) (Some written) count) none served
+pub served_alone : (files : Option (List NamedFile)) (options : Options) (counts : CommandCounts) (begun written : List ℕ) → IsServedBy files options (Some begun) (Some written) counts → begun ≡ [] → IsServedBy files options (Some []) (Some written) counts
+served_alone files options counts begun written served none = subst (λ (l : List ℕ). IsServedBy files options (Some l) (Some written) counts) none served
 
 -- it is said only where the disk has failed
 pub unwritten_cause : (before end now : ℕ) (why : FinishFault) (said : PlaceFault) (failure : Failure) → failure ≡ place_failure said → said ≡ unplaced_files why → before ≤ end → (why ≡ finish.Unwritten → end < now)
-    → IsErrOf {T = ℕ} (Err failure) (OfFolder Unwritten) → before < now
+    → IsErrOf {T = CommandCounts} (Err failure) (OfFolder Unwritten) → before < now
 unwritten_cause before end now why said failure is was counted failed e =
     let told : why ≡ finish.Unwritten = unwritten_only why (sym was ∙ told_of Unwritten said failure is e) in
     omega (arith, counted, failed told)
 
 -- what is true where some of them may be in place
 pub unfinished_then : (P : Type 0) (why : FinishFault) (said : PlaceFault) (failure : Failure) → failure ≡ place_failure said → said ≡ unplaced_files why → (why ≡ finish.Unfinished → P)
-    → IsErrOf {T = ℕ} (Err failure) (OfFolder Unfinished) → P
+    → IsErrOf {T = CommandCounts} (Err failure) (OfFolder Unfinished) → P
 unfinished_then P why said failure is was then e = then (unfinished_only why (sym was ∙ told_of Unfinished said failure is e))
 
 -- ---- a folder that was not recovered
 
 -- what is said of that
-pub unrecovered_said : (why : RecoveryFault) (said : FolderFault) (fault : PlaceFault) (failure : Failure) → failure ≡ place_failure fault → fault ≡ unrecovered_folder why → IsErrOf {T = ℕ} (Err failure) (OfFolder said) → unrecovered_folder why ≡ Folder said
+pub unrecovered_said : (why : RecoveryFault) (said : FolderFault) (fault : PlaceFault) (failure : Failure) → failure ≡ place_failure fault → fault ≡ unrecovered_folder why → IsErrOf {T = CommandCounts} (Err failure) (OfFolder said) → unrecovered_folder why ≡ Folder said
 unrecovered_said why said fault failure is was e = sym was ∙ told_of said fault failure is e
 
 -- nothing else is
-pub unrecovered_only : (why : RecoveryFault) (said : FolderFault) (fault : PlaceFault) (failure : Failure) → failure ≡ place_failure fault → fault ≡ unrecovered_folder why → IsErrOf {T = ℕ} (Err failure) (OfFolder said) → IsOfRecovery said
+pub unrecovered_only : (why : RecoveryFault) (said : FolderFault) (fault : PlaceFault) (failure : Failure) → failure ≡ place_failure fault → fault ≡ unrecovered_folder why → IsErrOf {T = CommandCounts} (Err failure) (OfFolder said) → IsOfRecovery said
 unrecovered_only why said fault failure is was e = recovery_said why said (unrecovered_said why said fault failure is was e)
 
 unrecovered_place : (files : Option (List NamedFile)) (options : Options) (why : RecoveryFault) → IsPlaceFault files options (place_failure (unrecovered_folder why))

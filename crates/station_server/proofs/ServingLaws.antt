@@ -7,21 +7,23 @@ use Rattle.station_files.specs.declared.named.NamedFile.{NamedFile}
 use Rattle.station_files.specs.Closing.{run_files}
 use Rattle.station_files.specs.Files.{files_in, listing, IsOfBytes}
 use Rattle.station_files.specs.Placed.{names_of}
+use Rattle.whole_run.specs.declared.counts.CommandCounts.{CommandCounts}
 use Rattle.whole_run.specs.declared.fault.ServeFault.{ServeFault}
 use Rattle.whole_run.specs.JournalFile.{and_journal, IsServedWithJournal, IsCutRunWithJournal}
 use Rattle.whole_run.specs.WholeRun.{IsServed, IsCutRun}
 use Rattle.station_server.specs.declared.program.options.Options.{Options}
 use Rattle.station_server.specs.Program.{IsServedBy, IsCutRunAs, IsCutRunBy}
 
-served_plain : (files : Option (List NamedFile)) (options : Options) (old new : Option (List ℕ)) (count : ℕ) → options.journal ≡ false
-    → IsServed files options.setup.now options.reindex options.today old new count → IsServedBy files options old new count
-served_plain files options old new count none served =
+served_plain : (files : Option (List NamedFile)) (options : Options) (old new : Option (List ℕ)) (counts : CommandCounts) → options.journal ≡ false
+    → IsServed files options.setup.now options.reindex options.today old new counts → IsServedBy files options old new counts
+served_plain files options old new counts none served =
     let plain = run_files options.today served.tables served.answers in
     let more = and_journal plain served.run.history.journal in
     record {
       tables = served.tables;
       answers = served.answers;
       run = served.run;
+      refused = served.refused;
       few_blocks = served.few_blocks;
       written = subst (λ (b : Bool). new ≡ grown old (listing (cond b more plain))) (sym none) served.written;
       bytes = subst (λ (b : Bool). AllByRecursion IsOfBytes (cond b more plain)) (sym none) served.bytes;
@@ -29,15 +31,16 @@ served_plain files options old new count none served =
       distinct = subst (λ (b : Bool). IsDistinct bytes_eq (names_of (cond b more plain))) (sym none) served.distinct;
     }
 
-served_with_journal : (files : Option (List NamedFile)) (options : Options) (old new : Option (List ℕ)) (count : ℕ) → options.journal ≡ true
-    → IsServedWithJournal files options.setup.now options.reindex options.today old new count → IsServedBy files options old new count
-served_with_journal files options old new count asked served =
+served_with_journal : (files : Option (List NamedFile)) (options : Options) (old new : Option (List ℕ)) (counts : CommandCounts) → options.journal ≡ true
+    → IsServedWithJournal files options.setup.now options.reindex options.today old new counts → IsServedBy files options old new counts
+served_with_journal files options old new counts asked served =
     let plain = run_files options.today served.tables served.answers in
     let more = and_journal plain served.run.history.journal in
     record {
       tables = served.tables;
       answers = served.answers;
       run = served.run;
+      refused = served.refused;
       few_blocks = served.few_blocks;
       written = subst (λ (b : Bool). new ≡ grown old (listing (cond b more plain))) (sym asked) served.written;
       bytes = subst (λ (b : Bool). AllByRecursion IsOfBytes (cond b more plain)) (sym asked) served.bytes;
@@ -55,22 +58,22 @@ cut_with_journal files options old new fault asked cut = subst (λ (b : Bool). I
 
 -- ---- what a call said
 
-pub ok_plain : (r : Result ℕ ServeFault) (files : Option (List NamedFile)) (options : Options) (old new : Option (List ℕ)) → options.journal ≡ false
+pub ok_plain : (r : Result CommandCounts ServeFault) (files : Option (List NamedFile)) (options : Options) (old new : Option (List ℕ)) → options.journal ≡ false
     → IfOk r (IsServed files options.setup.now options.reindex options.today old new) → IfOk r (IsServedBy files options old new)
-ok_plain (Ok count) files options old new none served = served_plain files options old new count none served
+ok_plain (Ok counts) files options old new none served = served_plain files options old new counts none served
 ok_plain (Err fault) files options old new none served = tt
 
-pub ok_with_journal : (r : Result ℕ ServeFault) (files : Option (List NamedFile)) (options : Options) (old new : Option (List ℕ)) → options.journal ≡ true
+pub ok_with_journal : (r : Result CommandCounts ServeFault) (files : Option (List NamedFile)) (options : Options) (old new : Option (List ℕ)) → options.journal ≡ true
     → IfOk r (IsServedWithJournal files options.setup.now options.reindex options.today old new) → IfOk r (IsServedBy files options old new)
-ok_with_journal (Ok count) files options old new asked served = served_with_journal files options old new count asked served
+ok_with_journal (Ok counts) files options old new asked served = served_with_journal files options old new counts asked served
 ok_with_journal (Err fault) files options old new asked served = tt
 
-pub err_plain : (r : Result ℕ ServeFault) (files : Option (List NamedFile)) (options : Options) (old new : Option (List ℕ)) → options.journal ≡ false
+pub err_plain : (r : Result CommandCounts ServeFault) (files : Option (List NamedFile)) (options : Options) (old new : Option (List ℕ)) → options.journal ≡ false
     → IfErr r (IsCutRun files options.setup.now options.reindex options.today old new) → IfErr r (IsCutRunBy files options old new)
-err_plain (Ok count) files options old new none cut = tt
+err_plain (Ok counts) files options old new none cut = tt
 err_plain (Err fault) files options old new none cut = cut_plain files options old new fault none cut
 
-pub err_with_journal : (r : Result ℕ ServeFault) (files : Option (List NamedFile)) (options : Options) (old new : Option (List ℕ)) → options.journal ≡ true
+pub err_with_journal : (r : Result CommandCounts ServeFault) (files : Option (List NamedFile)) (options : Options) (old new : Option (List ℕ)) → options.journal ≡ true
     → IfErr r (IsCutRunWithJournal files options.setup.now options.reindex options.today old new) → IfErr r (IsCutRunBy files options old new)
-err_with_journal (Ok count) files options old new asked cut = tt
+err_with_journal (Ok counts) files options old new asked cut = tt
 err_with_journal (Err fault) files options old new asked cut = cut_with_journal files options old new fault asked cut

@@ -1,10 +1,12 @@
 -- How a call of the program ends: its exit status, and what is printed then.
-use Rattle.std.specs.Prelude.{ℕ, List, ◌++◌, ◌∷◌, [], codes, Option, Some, Result, Ok, Err}
+use Rattle.std.specs.Prelude.{ℕ, ◌+◌, ◌==◌, List, ◌++◌, ◌∷◌, [], codes, Option, Some, Result, Ok, Err, if◌then◌else◌}
 use Rattle.std.specs.Fmt.{decimal}
 use Rattle.std.specs.declared.io.ErrorKind.{ErrorKind as IoKind}
 use Rattle.std.specs.declared.io.ErrorKind.TheVariants as io
 use Rattle.clap.specs.Words.{kind_of}
 use Rattle.station_lines.specs.declared.script.format.TheConstants.{LF}
+use Rattle.station_files.specs.Closing.{answer_name}
+use Rattle.whole_run.specs.declared.counts.CommandCounts.{CommandCounts}
 use Rattle.whole_run.specs.declared.fault.ServeFault.TheVariants as serve
 use Rattle.program_text.specs.Telling.{mistake_line, mistake_status, no_text_line, no_text_status, unprinted_line as unprinted_line_of}
 use Rattle.station_server.specs.declared.program.ending.Ending.{Ending}
@@ -21,8 +23,8 @@ ending_status (ended.CommandLine error) = mistake_status (kind_of error)
 ending_status (ended.Failed why) = status why
 
 -- of a call: the number of commands where all files are written, and else why they are not
-abbrev pub call_status : Result ℕ Ending → ℕ
-call_status (Ok count) = 0
+abbrev pub call_status : Result CommandCounts Ending → ℕ
+call_status (Ok counts) = 0
 call_status (Err ending) = ending_status ending
 
 -- ---- what is printed
@@ -30,6 +32,26 @@ call_status (Err ending) = ending_status ending
 -- on standard output where all files are written, its LF too
 abbrev pub count_line : ℕ → List ℕ
 count_line count = codes "station_server: " ++ (decimal count ++ (codes " commands" ++ LF ∷ []))
+
+-- the file of a station's answers and how many of its commands were refused, each after a blank, where any was
+abbrev pub refused_part : ℕ → ℕ → List ℕ
+refused_part station count = if count == 0 then [] else codes " " ++ (answer_name station ++ (codes " " ++ decimal count))
+
+-- the same of stations, the first of which has this number
+abbrev pub refused_parts : ℕ → List ℕ → List ℕ
+refused_parts station [] = []
+refused_parts station (count ∷ rest) = refused_part station count ++ refused_parts (station + 1) rest
+
+-- on standard error where any command was refused, its LF too: how many, and of which stations; and else nothing
+abbrev pub refused_text : CommandCounts → List ℕ
+refused_text counts =
+    if counts.refused == 0 then []
+    else codes "station_server: " ++ (decimal counts.refused ++ (codes " refused:" ++ (refused_parts 1 counts.refused_by_station.items ++ LF ∷ [])))
+
+-- what stands before that standard output took no text
+abbrev pub refused_before : Result CommandCounts Ending → List ℕ
+refused_before (Ok counts) = refused_text counts
+refused_before (Err ending) = []
 
 -- on standard error where standard output took no text
 abbrev pub unprinted_line : List ℕ

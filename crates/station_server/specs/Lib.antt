@@ -1,3 +1,4 @@
+pub mod Kept
 pub mod Program
 pub mod Failures
 pub mod Endings

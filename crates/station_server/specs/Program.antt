@@ -12,8 +12,10 @@ use Rattle.station_files.specs.Closing.{first_blocked, run_files}
 use Rattle.station_files.specs.Files.{files_in, listing, IsOfBytes}
 use Rattle.station_files.specs.Placed.{names_of}
 use Rattle.station_files.specs.declared.close_fault.CloseFault.TheVariants.{Write}
+use Rattle.whole_run.specs.declared.counts.CommandCounts.{CommandCounts}
 use Rattle.whole_run.specs.declared.fault.ServeFault.{ServeFault}
 use Rattle.whole_run.specs.declared.fault.ServeFault.TheVariants.{Close, NoMemory}
+use Rattle.whole_run.specs.Counts.{AreRefusedIn}
 use Rattle.whole_run.specs.JournalFile.{and_journal, IsCutRunWithJournal}
 use Rattle.whole_run.specs.Loading.{IsFailure}
 use Rattle.whole_run.specs.WholeRun.{IsServeFault, IsWholeRun, IsCutRun}
@@ -34,13 +36,14 @@ abbrev pub asked_files : Options → List ClosedTable → List (List ℕ) → Li
 asked_files options tables answers journal =
     if options.journal then and_journal (run_files options.today tables answers) journal else run_files options.today tables answers
 
--- The run that the options ask for, over these files, came to its end: these are its tables and answers, none of the tables
--- has more blocks than its file can have, and its files stand after what was written before. Names and files are of bytes, so
+-- The run that the options ask for, over these files, came to its end: these are its tables and answers and how many
+-- commands were refused, none of the tables has more blocks than its file can have, and its files stand after what was written before. Names and files are of bytes, so
 -- what was written tells these files, and no others; and no two of them have the same name.
-pub record IsServedBy (files : Option (List NamedFile)) (options : Options) (old new : Option (List ℕ)) (count : ℕ) : Type 0 where
+pub record IsServedBy (files : Option (List NamedFile)) (options : Options) (old new : Option (List ℕ)) (counts : CommandCounts) : Type 0 where
   pub tables : List ClosedTable
   pub answers : List (List ℕ)
-  pub run : IsWholeRun files options.setup.now options.reindex tables answers count
+  pub run : IsWholeRun files options.setup.now options.reindex tables answers counts.all
+  pub refused : AreRefusedIn run.history counts
   pub few_blocks : first_blocked 1 tables ≡ None
   pub written : new ≡ grown old (listing (asked_files options tables answers run.history.journal))
   pub bytes : AllByRecursion IsOfBytes (asked_files options tables answers run.history.journal)
@@ -60,22 +63,23 @@ IsCutRunBy files options = IsCutRunAs options.journal files options.setup.now op
 abbrev pub UnlessBegunBy : Options → ServeFault → Type 0 → Type 0
 UnlessBegunBy options fault holds = (options.journal ≡ true → fault ≢ NoMemory) → ((name : List ℕ) → fault ≢ Close (Write name)) → holds
 
--- The run that the options ask for came to its end: these are its tables and answers. No two of its files have the same name, and
+-- The run that the options ask for came to its end: these are its tables and answers and how many commands were refused. No two of its files have the same name, and
 -- the new folder has them, and else what the old one had.
-pub record IsInPlace (files : Option (List NamedFile)) (options : Options) (old new : Folder) (count : ℕ) : Type 0 where
+pub record IsInPlace (files : Option (List NamedFile)) (options : Options) (old new : Folder) (counts : CommandCounts) : Type 0 where
   pub tables : List ClosedTable
   pub answers : List (List ℕ)
-  pub run : IsWholeRun files options.setup.now options.reindex tables answers count
+  pub run : IsWholeRun files options.setup.now options.reindex tables answers counts.all
+  pub refused : AreRefusedIn run.history counts
   pub distinct : IsDistinct bytes_eq (names_of (asked_files options tables answers run.history.journal))
   pub placed : HasFiles (asked_files options tables answers run.history.journal) old new
 
 -- the run that the options ask for came to its end, and its files were written, whole, where none had been
 abbrev pub IsServedWhole : Option (List NamedFile) → Options → Type 0
-IsServedWhole files options = (written : List ℕ) × (count : ℕ) × IsServedBy files options (Some []) (Some written) count
+IsServedWhole files options = (written : List ℕ) × (counts : CommandCounts) × IsServedBy files options (Some []) (Some written) counts
 
 -- the list tells the files of the run that the options ask for, which came to its end
 abbrev pub IsListOfRun : Option (List NamedFile) → Options → List ℕ → Type 0
-IsListOfRun files options written = (count : ℕ) × IsServedBy files options (Some []) (Some written) count
+IsListOfRun files options written = (counts : CommandCounts) × IsServedBy files options (Some []) (Some written) counts
 
 -- Why a folder that was locked and opened has not got the files of the run that the options ask for: it was not recovered, or
 -- the run came to its end and its files were not put in place.

@@ -6,9 +6,11 @@
 //! output or standard error, and an exit status. The lines and the statuses are defined in `specs/Endings.antt` and
 //! `specs/Failures.antt`. Start reading there.
 
+mod counting;
 mod ending;
 mod failure;
 mod in_place;
+mod kept;
 mod options;
 mod serving;
 mod telling;
@@ -18,6 +20,7 @@ mod tests;
 pub(crate) use ending::Ending;
 pub(crate) use failure::{Failure, print_failure, status_of};
 pub(crate) use in_place::{InPlace, serve_in_place};
+pub(crate) use kept::print_kept;
 pub(crate) use options::{Options, command, options_of};
 pub(crate) use serving::serve_options;
 pub(crate) use telling::tell;

@@ -21,12 +21,13 @@ use std::alloc::Global;
 use std::marker::Brand;
 use std::sync::Wait;
 use std::thread::Threads;
+use whole_run::CommandCounts;
 
 /// How a run over the folder of a disk ended, and the disk then.
 #[derive(Drop)]
 pub(crate) struct InPlace<D: Disk + Drop> {
-    /// How many commands were performed, where all files are in place, or why they are not.
-    pub ended: Result<u64, Failure>,
+    /// How many commands were performed and refused, where all files are in place, or why they are not.
+    pub ended: Result<CommandCounts, Failure>,
     /// The disk.
     pub disk: D,
 }
@@ -44,8 +45,8 @@ fn serve_recovered<
     requires origin { O.origin ≡ Some disk }
     ensures placed { D.keeps_promises → IfOk result.ended (IsInPlace (S.files source.old) options.now (D.seen disk) (D.seen result.disk)) }
     ensures synced { D.keeps_promises → OnOk result.ended (IsSynced (D.seen result.disk) (D.is_whole result.disk) (D.may_leave result.disk)) }
-    ensures any_moment { D.keeps_promises → IfOk result.ended (λ count.
-        HasPut D.moment D.left_since D.seen (λ written. IsServedBy (S.files source.old) options.now (Some []) (Some written) count) (HasOldFiles (D.seen disk)) (D.seen disk) disk result.disk) }
+    ensures any_moment { D.keeps_promises → IfOk result.ended (λ counts.
+        HasPut D.moment D.left_since D.seen (λ written. IsServedBy (S.files source.old) options.now (Some []) (Some written) counts) (HasOldFiles (D.seen disk)) (D.seen disk) disk result.disk) }
     ensures old_files { D.keeps_promises → IfErr result.ended (λ failure. failure ≢ Failure.Folder FolderFault.Unfinished
         → LeavesOnly D.moment D.left_since disk result.disk (HasOldFiles (D.seen disk))) }
     ensures fault { IfErr result.ended (IsPlaceFault (S.files source.old) options.now) }
@@ -58,8 +59,8 @@ fn serve_recovered<
     ensures failure { IfErr result.ended (IsLoadFailure (S.files source.old) (S.failures source.old) (S.failures source.new)) }
 {
     let mut folder = DiskFolder::<D, O>::new(alloc, disk);
-    let count = match serve_options(rt, alloc, options, source, &mut folder, gate) {
-        Ok(count) => count,
+    let counts = match serve_options(rt, alloc, options, source, &mut folder, gate) {
+        Ok(counts) => counts,
         Err(fault) => {
             let fault = give_up(&mut folder, fault);
             return InPlace {
@@ -70,7 +71,7 @@ fn serve_recovered<
     };
     match folder.finish() {
         (Ok(()), disk) => InPlace {
-            ended: Ok(count),
+            ended: Ok(counts),
             disk,
         },
         (Err(fault), disk) => InPlace {
@@ -98,8 +99,8 @@ pub(crate) fn serve_in_place<S: Source, D: Disk + Drop, G: Gate + Sync, R: Threa
     ensures synced { D.keeps_promises → OnOk result.ended (IsSynced (D.seen result.disk) (D.is_whole result.disk) (D.may_leave result.disk)) }
     // And a crash at any moment of the call leaves a folder of which recovery makes what it makes of one that might have been left
     // before, or the folder before with the files of the run in their places, all of them. It is the same run at each moment.
-    ensures any_moment { D.keeps_promises → IfOk result.ended (λ count.
-        HasPut D.moment D.left_since D.seen (λ written. IsServedBy (S.files source.old) options.now (Some []) (Some written) count) (RecoversAsOneOf (D.may_leave disk)) (recovered (D.seen disk)) disk result.disk) }
+    ensures any_moment { D.keeps_promises → IfOk result.ended (λ counts.
+        HasPut D.moment D.left_since D.seen (λ written. IsServedBy (S.files source.old) options.now (Some []) (Some written) counts) (RecoversAsOneOf (D.may_leave disk)) (recovered (D.seen disk)) disk result.disk) }
     // Where the run fails, it leaves the first, but where some of the new files may be in place.
     ensures old_files { D.keeps_promises → IfErr result.ended (λ failure. failure ≢ Failure.Folder FolderFault.Unfinished
         → LeavesOnly D.moment D.left_since disk result.disk (RecoversAsOneOf (D.may_leave disk))) }

@@ -13,11 +13,11 @@ use station_run::Gate;
 use std::alloc::Global;
 use std::sync::Wait;
 use std::thread::Threads;
-use whole_run::{ServeFault, serve, serve_with_journal};
+use whole_run::{CommandCounts, ServeFault, serve, serve_with_journal};
 
 /// Serves the whole run of a command line: of the setup of its path, on its day, with the indexes made anew where it says
 /// so, and with the journal's file where it asks for it. Files are read from the source and written into the folder. The
-/// answer is how many commands were performed. See [`serve`] and [`serve_with_journal`].
+/// answer is how many commands were performed, and how many were refused. See [`serve`] and [`serve_with_journal`].
 pub(crate) fn serve_options<S: Source, F: Folder, G: Gate + Sync, R: Threads + Wait + Sync>(
     rt: &R,
     alloc: Global,
@@ -25,7 +25,7 @@ pub(crate) fn serve_options<S: Source, F: Folder, G: Gate + Sync, R: Threads + W
     source: &mut S,
     folder: &mut F,
     gate: &G,
-) -> Result<u64, ServeFault>
+) -> Result<CommandCounts, ServeFault>
     ensures ran { IfOk result (IsServedBy (S.files source.old) options.now (F.written folder.old) (F.written folder.new)) }
     ensures no_failure { OnOk result (F.failures folder.new ≡ F.failures folder.old) }
     ensures kept { S.files source.new ≡ S.files source.old }

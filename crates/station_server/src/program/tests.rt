@@ -1,4 +1,5 @@
 mod ends;
+mod kept;
 
 use crate::program::{Failure, command, options_of, print_failure, status_of};
 use dbf_fields::{Bytes, day_of};

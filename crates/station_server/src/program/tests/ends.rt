@@ -17,7 +17,7 @@ use std::sync::Wait;
 use std::test::Fail;
 use std::thread::Threads;
 use std::{fs, io};
-use whole_run::{FileFault, ServeFault};
+use whole_run::{CommandCounts, FileFault, ServeFault};
 
 // The DBF file of a table with one field of characters, A, one byte wide, without records, dated 1985-01-02.
 #[rattlefmt::skip]
@@ -49,6 +49,25 @@ fn one_table(alloc: Global) -> Result<MemorySource, AllocError> {
     })
 }
 
+// So many commands, of which so many were refused, and so many of each station's.
+fn counts(
+    alloc: Global,
+    all: u64,
+    refused: u64,
+    by_station: &[u64],
+) -> Result<CommandCounts, AllocError> {
+    Ok(CommandCounts {
+        all,
+        refused,
+        refused_by_station: Vec::from_slice(alloc, by_station)?,
+    })
+}
+
+// What a run of the one station's one command has performed.
+fn one_command(alloc: Global) -> Result<CommandCounts, AllocError> {
+    counts(alloc, 1, 0, &[0])
+}
+
 #[test]
 fn tables_are_dated_by_the_command_line(rt: HostRuntime) -> Result<(), Fail> {
     let alloc = rt.alloc();
@@ -62,7 +81,7 @@ fn tables_are_dated_by_the_command_line(rt: HostRuntime) -> Result<(), Fail> {
         journal: false,
     };
     let served = serve_options(&rt, alloc, &options, &mut source, &mut folder, &OpenGate);
-    assert_eq!(rt; served, Ok(1));
+    assert_eq!(rt; served, Ok(one_command(alloc)?));
     let written = folder.files.first().ok_or("a file")?;
     assert!(rt; written.bytes.as_slice().starts_with(&[0x03, 87, 3, 15]));
     Ok(())
@@ -74,7 +93,7 @@ fn serve_at<R: Runtime + AllocGlobal + Threads + Wait + Sync>(
     source: &mut MemorySource,
     setup: &str,
     out: &str,
-) -> Result<Result<u64, Failure>, Fail> {
+) -> Result<Result<CommandCounts, Failure>, Fail> {
     let alloc = rt.alloc();
     let options = Options {
         setup,
@@ -92,7 +111,7 @@ fn serve_at<R: Runtime + AllocGlobal + Threads + Wait + Sync>(
 fn serve_here<R: Runtime + AllocGlobal + Threads + Wait + Sync>(
     rt: &R,
     source: &mut MemorySource,
-) -> Result<Result<u64, Failure>, Fail> {
+) -> Result<Result<CommandCounts, Failure>, Fail> {
     if fs::exists(rt, "placed")? {
         fs::remove_dir_all(rt, "placed")?;
     }
@@ -106,7 +125,8 @@ fn serve_here<R: Runtime + AllocGlobal + Threads + Wait + Sync>(
 #[test]
 fn files_take_their_places(rt: HostRuntime) -> Result<(), Fail> {
     let mut source = one_table(rt.alloc())?;
-    assert_eq!(rt; serve_here(&rt, &mut source)?, Ok(1));
+    let expected = one_command(rt.alloc())?;
+    assert_eq!(rt; serve_here(&rt, &mut source)?, Ok(expected));
     for (name, is_there) in [
         ("placed/T.DBF", true),
         ("placed/STATION1.TXT", true),
@@ -156,7 +176,7 @@ fn unwritten(alloc: Global) -> Result<Ending, AllocError> {
 // The first call that ends otherwise: with another exit status, or with another line on one of the streams.
 fn first_untold(
     alloc: Global,
-    cases: &[(Result<u64, Ending>, u8, &str, &str)],
+    cases: &[(Result<CommandCounts, Ending>, u8, &str, &str)],
 ) -> Result<Option<usize>, Fail> {
     for i in 0..cases.len() {
         let (ended, status, said, warned) = &cases[i];
@@ -183,8 +203,30 @@ fn each_end_has_its_status_and_line(rt: HostRuntime) -> Result<(), Fail> {
 For more information, try '--help'.
 ";
     let cases = [
-        (Ok(0), 0, "station_server: 0 commands\n", ""),
-        (Ok(1205), 0, "station_server: 1205 commands\n", ""),
+        (
+            Ok(counts(alloc, 0, 0, &[])?),
+            0,
+            "station_server: 0 commands\n",
+            "",
+        ),
+        (
+            Ok(counts(alloc, 1205, 0, &[0, 0])?),
+            0,
+            "station_server: 1205 commands\n",
+            "",
+        ),
+        (
+            Ok(counts(alloc, 58, 51, &[51])?),
+            0,
+            "station_server: 58 commands\n",
+            "station_server: 51 refused: STATION1.TXT 51\n",
+        ),
+        (
+            Ok(counts(alloc, 70, 13, &[0, 12, 0, 1])?),
+            0,
+            "station_server: 70 commands\n",
+            "station_server: 13 refused: STATION2.TXT 12 STATION4.TXT 1\n",
+        ),
         (
             Err(Ending::from(no_text)),
             1,
@@ -221,12 +263,12 @@ For more information, try '--help'.
 }
 
 // A call that got no lock on the folder.
-fn unlocked(fault: LockFault) -> Result<u64, Ending> {
+fn unlocked(fault: LockFault) -> Result<CommandCounts, Ending> {
     Err(Ending::from(PlaceFault::from(fault)))
 }
 
 // A call that could not open the folder.
-fn unopened_by(fault: DiskFault) -> Result<u64, Ending> {
+fn unopened_by(fault: DiskFault) -> Result<CommandCounts, Ending> {
     Err(Ending::from(PlaceFault::from(fault)))
 }
 
@@ -275,7 +317,11 @@ impl Write for Full {
 
 // Whether a call that ends so has this exit status where standard output takes no text, and says that on standard
 // error.
-fn is_told_beside_full_output(alloc: Global, ended: &Result<u64, Ending>, status: u8) -> bool {
+fn is_told_beside_full_output(
+    alloc: Global,
+    ended: &Result<CommandCounts, Ending>,
+    status: u8,
+) -> bool {
     let mut err = Vec::new(alloc);
     let told = tell(&mut Full, &mut err, ended);
     told.status == ExitCode::from(status)
@@ -286,7 +332,8 @@ fn is_told_beside_full_output(alloc: Global, ended: &Result<u64, Ending>, status
 fn full_streams_change_no_status(rt: HostRuntime) -> Result<(), Fail> {
     let alloc = rt.alloc();
     let help = said_of(alloc, &["station_server", "--help"])?;
-    assert!(rt; is_told_beside_full_output(alloc, &Ok(7), 0));
+    let seven = Ok(counts(alloc, 7, 0, &[0])?);
+    assert!(rt; is_told_beside_full_output(alloc, &seven, 0));
     assert!(rt; is_told_beside_full_output(alloc, &Err(help), 0));
     let failed = Err(Ending::Failed(Failure::Serve(ServeFault::Setup(2))));
     let told = tell(&mut Full, &mut Full, &failed);
