@@ -9,6 +9,7 @@ use Rattle.shared_catalogue.specs.declared.receipt.Receipt.{Receipt}
 use Rattle.shared_catalogue.specs.OwnCalls.{receipt_of, of_station}
 use Rattle.station_lines.specs.CommandLines.{IsOfALine}
 use Rattle.station_lines.specs.JournalLines.{journal_text}
+use Rattle.station_lines.specs.Script.Lines.{AreLines}
 use Rattle.station_files.specs.declared.closed.ClosedTable.{ClosedTable}
 use Rattle.station_files.specs.declared.named.NamedFile.{NamedFile}
 use Rattle.station_files.specs.Files.{IsFileOf}
@@ -23,19 +24,22 @@ use Rattle.station_audit.specs.declared.program.failure.Failure.TheVariants.{Aud
 use Rattle.station_audit.specs.declared.program.options.Options.{Options}
 use Rattle.station_audit.specs.Program.{IsFailedBy, IsRefuted}
 
--- the command of the receipt is one that a line means
+-- the command of the receipt is one that a line of a script means
 abbrev IsOfLine : Receipt → Type 0
 IsOfLine r = IsOfALine r.command
 
--- the commands among what is shown for lines are those that the lines mean
-shown_of_lines : (lines : List (List ℕ)) (shown : List Shown) → AreShown lines shown → AllByRecursion IsOfLine (receipts_of shown)
-shown_of_lines [] [] h = tt
-shown_of_lines [] (x ∷ xs) h = absurd h
-shown_of_lines (line ∷ lines) [] h = tt
-shown_of_lines (line ∷ lines) (answered r ∷ xs) h =
-    elim h [ inl blank ↦ shown_of_lines lines (answered r ∷ xs) blank.1 | inr next ↦ ((line, next.0), shown_of_lines lines xs next.1) ]
-shown_of_lines (line ∷ lines) (status row ∷ xs) h =
-    elim h [ inl blank ↦ shown_of_lines lines (status row ∷ xs) blank.1 | inr next ↦ shown_of_lines lines xs next.1 ]
+-- the commands among what is shown for a script's lines are those that the lines mean
+shown_of_lines : (script : List ℕ) (lines : List (List ℕ)) (shown : List Shown) → AreLines lines script → AreShown lines shown → AllByRecursion IsOfLine (receipts_of shown)
+shown_of_lines script [] [] cut h = tt
+shown_of_lines script [] (x ∷ xs) cut h = absurd h
+shown_of_lines script (line ∷ lines) [] cut h = tt
+shown_of_lines script (line ∷ lines) (answered r ∷ xs) cut h =
+    elim h [
+      | inl blank ↦ shown_of_lines cut.0 lines (answered r ∷ xs) cut.2 blank.1
+      | inr next ↦ ((line, cut.1.one_line, next.0), shown_of_lines cut.0 lines xs cut.2 next.1)
+    ]
+shown_of_lines script (line ∷ lines) (status row ∷ xs) cut h =
+    elim h [ inl blank ↦ shown_of_lines cut.0 lines (status row ∷ xs) cut.2 blank.1 | inr next ↦ shown_of_lines cut.0 lines xs cut.2 next.1 ]
 
 -- one entry, which is the station's or not
 own_entry : (station : ℕ) (e : Entry) (own : List Entry) (mine : Bool) → (e.station == station) ≡ mine → AllByRecursion IsOfLine (map receipt_of (cond mine (e ∷ own) own))
@@ -66,7 +70,7 @@ of_lines opened journal scripts answers reports of =
     (λ i low.
     let report = (reports.each i low).4 in
     let lines = report.for_script in
-    own_of_lines (i + 1) journal (subst (AllByRecursion IsOfLine) report.own (shown_of_lines lines.0 report.shown lines.2)))
+    own_of_lines (i + 1) journal (subst (AllByRecursion IsOfLine) report.own (shown_of_lines (reports.each i low).0 lines.0 report.shown lines.1 lines.2)))
     of
 
 pub journal_of_run : (files : Option (List NamedFile)) (setup : List ℕ) (reindex : Bool) (tables : List ClosedTable) (answers : List (List ℕ)) (count : ℕ) (run : IsWholeRun files setup reindex tables answers count)

@@ -1,5 +1,5 @@
 -- How a call of the program ends: its exit status, and what is printed then.
-use Rattle.std.specs.Prelude.{ℕ, List, ◌++◌, ◌∷◌, [], codes, Option, Some, Result, Ok, Err}
+use Rattle.std.specs.Prelude.{ℕ, List, ◌++◌, ◌∷◌, [], length, take, nat_le, codes, Option, Some, Result, Ok, Err, if◌then◌else◌}
 use Rattle.std.specs.Fmt.{decimal}
 use Rattle.std.specs.declared.io.ErrorKind.{ErrorKind as IoKind}
 use Rattle.std.specs.declared.io.ErrorKind.TheVariants as io
@@ -16,6 +16,7 @@ use Rattle.program_text.specs.declared.folder.PlaceFault.TheVariants as place
 use Rattle.program_text.specs.PlaceFaults.{given_up}
 use Rattle.program_text.specs.Reasons.{fault_reason, fault_status, folder_reason, unread_file}
 use Rattle.program_text.specs.Telling.{mistake_line, mistake_status, no_text_line, no_text_status, unprinted_line as unprinted_line_of}
+use Rattle.station_audit.specs.declared.program.failure.TheConstants.{MAX_SHOWN_BYTES}
 use Rattle.station_audit.specs.declared.program.ending.Ending.{Ending}
 use Rattle.station_audit.specs.declared.program.ending.Ending.TheVariants as ended
 use Rattle.station_audit.specs.declared.program.failure.Failure.{Failure}
@@ -45,17 +46,21 @@ call_status (Err ending) = ending_status ending
 
 -- ---- why not all entries hold
 
+-- a command's line or an answer: the whole, or its first bytes and how many there are
+abbrev pub shortened : List ℕ → List ℕ
+shortened text = if nat_le (length text) MAX_SHOWN_BYTES then text else take MAX_SHOWN_BYTES text ++ (codes ".. (" ++ (decimal (length text) ++ codes " bytes)"))
+
 -- the entry that does not hold: its number, its station and its command's line
 abbrev pub entry_named : Difference → List ℕ
-entry_named d = codes "entry " ++ (decimal d.number ++ (codes ": station " ++ (decimal d.station ++ (codes ": " ++ d.command))))
+entry_named d = codes "entry " ++ (decimal d.number ++ (codes ": station " ++ (decimal d.station ++ (codes ": " ++ shortened d.command))))
 
 -- the answer in the journal, in a line of its own
 abbrev pub told_answer : Difference → List ℕ
-told_answer d = LF ∷ (codes "  the journal says: " ++ d.told)
+told_answer d = LF ∷ (codes "  the journal says: " ++ shortened d.told)
 
 -- the answer that the command has, in a line of its own
 abbrev pub performed_answer : Difference → List ℕ
-performed_answer d = LF ∷ (codes "  the answer is: " ++ d.performed)
+performed_answer d = LF ∷ (codes "  the answer is: " ++ shortened d.performed)
 
 abbrev pub difference_reason : Difference → List ℕ
 difference_reason d = entry_named d ++ (told_answer d ++ performed_answer d)

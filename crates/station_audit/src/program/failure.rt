@@ -2,7 +2,7 @@
 
 ghost use Rattle.std.specs.Prelude.{◌≡◌, OnOk};
 ghost use Rattle.std.specs.Io.KnownBytes.{Appends};
-ghost use Rattle.station_audit.specs.Endings.{audit_reason, difference_reason, entry_named, failure_line, performed_answer, reason, status, told_answer};
+ghost use Rattle.station_audit.specs.Endings.{audit_reason, difference_reason, entry_named, failure_line, performed_answer, reason, shortened, status, told_answer};
 
 use audit::{AuditFault, Difference};
 use dbf_fields::Bytes;
@@ -13,6 +13,9 @@ use std::alloc::AllocError;
 use std::io;
 use std::io::Write;
 use whole_run::{FileFault, ServeFault};
+
+/// How many bytes of a command's line or of an answer are printed.
+pub(crate) const MAX_SHOWN_BYTES: usize = 200;
 
 /// Why a call of the program failed, where `clap` had nothing to object.
 #[derive(Debug, PartialEq, Eq, Drop)]
@@ -146,13 +149,26 @@ fn print_difference<W: Write>(out: &mut W, difference: &Difference) -> io::Resul
     Ok(())
 }
 
+// A command's line or an answer, or its first bytes and how many there are.
+fn print_shortened<W: Write>(out: &mut W, text: &[u8]) -> io::Result<()>
+    ensures text { OnOk result (Appends (W.contents out.old) (W.contents out.new) (shortened text.now)) }
+{
+    let count = text.len();
+    if count <= MAX_SHOWN_BYTES {
+        return out.write_all(text);
+    }
+    let (front, _) = text.split_at(MAX_SHOWN_BYTES);
+    out.write_all(front)?;
+    write!(out, ".. ({count} bytes)")
+}
+
 fn print_entry<W: Write>(out: &mut W, difference: &Difference) -> io::Result<()>
     ensures text { OnOk result (Appends (W.contents out.old) (W.contents out.new) (entry_named difference.now)) }
 {
     let number = difference.number;
     let station = difference.station;
     write!(out, "entry {number}: station {station}: ")?;
-    out.write_all(difference.command.as_slice())?;
+    print_shortened(out, difference.command.as_slice())?;
     Ok(())
 }
 
@@ -160,7 +176,7 @@ fn print_told<W: Write>(out: &mut W, difference: &Difference) -> io::Result<()>
     ensures text { OnOk result (Appends (W.contents out.old) (W.contents out.new) (told_answer difference.now)) }
 {
     out.write_all(b"\n  the journal says: ")?;
-    out.write_all(difference.told.as_slice())?;
+    print_shortened(out, difference.told.as_slice())?;
     Ok(())
 }
 
@@ -168,6 +184,6 @@ fn print_performed<W: Write>(out: &mut W, difference: &Difference) -> io::Result
     ensures text { OnOk result (Appends (W.contents out.old) (W.contents out.new) (performed_answer difference.now)) }
 {
     out.write_all(b"\n  the answer is: ")?;
-    out.write_all(difference.performed.as_slice())?;
+    print_shortened(out, difference.performed.as_slice())?;
     Ok(())
 }

@@ -135,6 +135,51 @@ fn each_failure_has_its_status_and_line(rt: HostRuntime) -> Result<(), Fail> {
     Ok(())
 }
 
+// An entry whose answer is another by the byte after so many that are the same.
+fn differs_at_the_end(alloc: Global, same: usize) -> Result<Failure, AllocError> {
+    let mut performed = vec![in alloc; b'A'; same]?;
+    performed.push(b'A')?;
+    let mut told = vec![in alloc; b'A'; same]?;
+    told.push(b'B')?;
+    Ok(Failure::Audit(AuditFault::Differs(Difference {
+        number: 4,
+        station: 1,
+        command: Bytes::from_slice(alloc, b"? NAME")?,
+        told: Bytes::from_vec(told),
+        performed: Bytes::from_vec(performed),
+    })))
+}
+
+#[test]
+fn long_answers_are_shown_by_their_first_bytes(rt: HostRuntime) -> Result<(), Fail> {
+    let alloc = rt.alloc();
+    let front = "AAAAAAAAAAAAAAAAAAAAAAAAAAAAAAAAAAAAAAAAAAAAAAAAAA";
+    let nearly = "AAAAAAAAAAAAAAAAAAAAAAAAAAAAAAAAAAAAAAAAAAAAAAAAA";
+    let last_shown = format!(in alloc;
+        "station_audit: entry 4: station 1: ? NAME
+  the journal says: {front}{front}{front}{nearly}B
+  the answer is: {front}{front}{front}{front}
+"
+    )?;
+    let cut = format!(in alloc;
+        "station_audit: entry 4: station 1: ? NAME
+  the journal says: {front}{front}{front}{front}.. (201 bytes)
+  the answer is: {front}{front}{front}{front}.. (201 bytes)
+"
+    )?;
+    let cases = [
+        (
+            failed(differs_at_the_end(alloc, 199)?),
+            5,
+            "",
+            last_shown.as_str(),
+        ),
+        (failed(differs_at_the_end(alloc, 200)?), 5, "", cut.as_str()),
+    ];
+    assert_eq!(rt; first_untold(alloc, &cases)?, None);
+    Ok(())
+}
+
 // A call that got no lock on the folder.
 fn unlocked(fault: LockFault) -> Result<u64, Ending> {
     Err(Ending::from(PlaceFault::from(fault)))
