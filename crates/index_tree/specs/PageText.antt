@@ -1,12 +1,12 @@
 -- A page of an index file as a line.
-use Rattle.std.specs.Prelude.{◌≡◌, ◌≤◌, ℕ, zero, suc, ◌+◌, ◌*◌, List, [], ◌∷◌, ◌++◌, codes, length, Result, Ok, Err}
+use Rattle.std.specs.Prelude.{◌≡◌, ◌≤◌, ℕ, zero, suc, ◌+◌, ◌*◌, nat_le, List, [], ◌∷◌, ◌++◌, codes, length, Result, Ok, Err, if◌then◌else◌}
 use Rattle.std.specs.Fmt.{decimal}
 use Rattle.dbf_fields.specs.declared.format.TheConstants.{BLANK}
 use Rattle.ndx_index.specs.declared.fault.NdxFault.{NdxFault}
 use Rattle.ndx_index.specs.declared.pair.Pair.{Pair}
 use Rattle.ndx_index.specs.Header.{ndx_header}
 use Rattle.ndx_index.specs.Pages.{Node, leaf, inner, children, leaf_pairs}
-use Rattle.index_tree.specs.declared.format.TheConstants.{LF}
+use Rattle.index_tree.specs.declared.format.TheConstants.{LF, MAX_INDENT}
 use Rattle.ndx_index.specs.declared.format.TheConstants.{PAGE}
 use Rattle.index_tree.specs.declared.layout.Layout.{Layout}
 use Rattle.index_tree.specs.declared.page.PageView.{PageView}
@@ -18,6 +18,10 @@ use Rattle.index_tree.specs.Shown.{keys_range}
 abbrev pub indent : ℕ → List ℕ
 indent zero = []
 indent (suc depth) = indent depth ++ BLANK ∷ BLANK ∷ []
+
+-- what stands before a page at a depth: blanks for its levels, and where these are more than MAX_INDENT their number
+unfoldable pub margin : ℕ → List ℕ
+margin depth = if nat_le depth MAX_INDENT then indent depth else codes "[" ++ (decimal depth ++ codes "] ")
 
 -- how many keys a leaf has, and the least and the greatest
 unfoldable pub leaf_words : List Pair → List ℕ
@@ -35,7 +39,7 @@ page_words (Err fault) = codes "  " ++ fault_words fault
 
 -- the line of a page at a depth
 unfoldable pub page_line : ℕ → ℕ → Result Node NdxFault → List ℕ
-page_line depth number node = indent depth ++ (codes "page " ++ (decimal number ++ (page_words node ++ LF ∷ [])))
+page_line depth number node = margin depth ++ (codes "page " ++ (decimal number ++ (page_words node ++ LF ∷ [])))
 
 -- the type of a value
 abbrev pub TypeOf : {A : Type 0} → A → Type 0

@@ -4,10 +4,10 @@
 ghost use Rattle.std.specs.Prelude.{◌≡◌, ◌+◌, ◌*◌, ◌≤◌, length};
 ghost use Rattle.byte_io.specs.Output.{Puts};
 ghost use Rattle.ndx_index.specs.Pages.{IsPageLayout, children, leaf_pairs};
-ghost use Rattle.index_tree.specs.PageText.{indent, inner_words, leaf_words, node_seen, page_line, page_words, sizes_of, IsWithinPage};
+ghost use Rattle.index_tree.specs.PageText.{indent, inner_words, leaf_words, margin, node_seen, page_line, page_words, sizes_of, IsWithinPage};
 ghost use Rattle.index_tree.specs.Shown.{keys_range};
 
-use crate::format::LF;
+use crate::format::{LF, MAX_INDENT};
 use crate::header::words_of;
 use crate::layout::Layout;
 use crate::number::put_number;
@@ -23,6 +23,20 @@ fn put_indent<S: ByteSink>(out: &mut SinkWriter<'_, S>, depth: usize)
 {
     for _level in 0..depth {
         out.put(&[BLANK, BLANK]);
+    }
+}
+
+// What stands before a page: blanks, and of a page that is deeper than they go its depth.
+#[tactic(auto, using(crate::proofs::Sinks::puts), unfolding(crate::specs::PageText::margin))]
+fn put_margin<S: ByteSink>(out: &mut SinkWriter<'_, S>, depth: usize)
+    ensures put { Puts out.old (margin depth) out.new }
+{
+    if depth <= MAX_INDENT {
+        put_indent(out, depth);
+    } else {
+        out.put(b"[");
+        put_number(out, depth);
+        out.put(b"] ");
     }
 }
 
@@ -98,7 +112,7 @@ pub(crate) fn put_page_line<S: ByteSink>(
     requires within { IsWithinPage layout view }
     ensures put { Puts out.old (page_line depth number (node_seen layout view.entry)) out.new }
 {
-    put_indent(out, depth);
+    put_margin(out, depth);
     out.put(b"page ");
     put_number(out, number as usize);
     put_page_words(out, layout, view);

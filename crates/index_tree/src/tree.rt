@@ -36,7 +36,8 @@ fn put_tree<S: ByteSink>(
 }
 
 /// Writes an index file as text into a sink: the lines of its header page, and then a line for each page of the tree under the
-/// root, depth first and children in their order, each two blanks further in than the page that it stands under.
+/// root, depth first and children in their order, each two blanks further in than the page that it stands under. More than 20
+/// levels down the number of levels stands in place of the blanks, as in `[21] page 22`, so that no line gets long.
 ///
 /// The line of a leaf has the count of its keys, the least and the greatest; that of an inner page the count of its children.
 /// A page that lies outside the file, was met before, has too many entries, or is neither a leaf nor an inner page is a line

@@ -9,3 +9,4 @@ pub mod BadMemoLaws
 pub mod GoodTableLaws
 pub mod HeaderLaws
 pub mod PageLaws
+pub mod ScriptTextLaws

@@ -9,3 +9,5 @@ pub mod TableFile
 pub mod MemoUse
 pub mod Lines
 pub mod LoadCounts
+pub mod ScriptLines
+pub mod KeptLines

@@ -2,13 +2,15 @@
 //!
 //! [`look_at_all`] loads and reads what each entry of a setup names, whatever was found at the others, and answers a
 //! [`Finding`] for each: why a file is refused and where, of a table also how its memos take the blocks of their file, and of
-//! an index what it is beside its table. [`findings_text`] tells them in words, a line a file.
+//! an index what it is beside its table. [`findings_text`] tells them in words, a line a file. [`scripts_text`] reads the scripts
+//! of the stations and tells which of their lines are bad, and [`bad_setup_text`] why a line of the setup is.
+//! [`kept_files_text`] tells which files stay as they are beside new ones.
 //!
 //! Start with specs/Findings.antt (what a finding says of the files), specs/TableFile.antt (what a table's files tell before
 //! they are read as a table), specs/IndexFile.antt (what an index's file that is refused tells), specs/MemoUse.antt (which
 //! blocks memos take), specs/Freshness.antt (what an index is beside its table), specs/Damage.antt (in what their pairs
-//! differ) and specs/Lines.antt (how it is told), then read src/look.rt, src/table_file.rt, src/index_file.rt,
-//! src/freshness.rt and src/damage.rt.
+//! differ), specs/Lines.antt (how it is told), specs/ScriptLines.antt (what is told of scripts) and specs/KeptLines.antt, then
+//! read src/look.rt, src/table_file.rt, src/index_file.rt, src/freshness.rt, src/damage.rt and src/scripts.rt.
 #![tactic(auto)]
 
 mod damage;
@@ -17,9 +19,13 @@ mod finding;
 mod freshness;
 mod head_numbers;
 mod index_file;
+mod kept_lines;
 mod lines;
 mod load;
 mod look;
+mod reasons;
+mod scripts;
+mod shown_line;
 mod table_file;
 
 pub use damage::{ForeignPair, IndexDamage, no_damage};
@@ -28,8 +34,10 @@ pub use finding::{Finding, IndexFinding, TableCounts};
 pub use freshness::IndexState;
 pub use head_numbers::{IndexNumbers, TableNumbers};
 pub use index_file::IndexDetails;
+pub use kept_lines::kept_files_text;
 pub use lines::findings_text;
 pub use look::{all_are_good, look_at_all};
+pub use scripts::{BadLinesTold, bad_setup_text, scripts_text};
 pub use table_file::{
     BadField, BlockTakers, MemoCell, MemoUse, SharedBlock, TableDetails, first_memo_fault,
     memos_are_told,

@@ -7,7 +7,7 @@ ghost use Rattle.office_check.specs.Lines.{state_begin as begin_of_state, state_
 ghost use Rattle.office_check.specs.Lines.{entry_lines, entry_name as name_in, entry_path as path_in, setup_lines, memos_line, words_line};
 
 mod memo_blocks;
-mod numbers;
+pub(crate) mod numbers;
 mod refusal;
 
 use crate::damage::{ForeignPair, IndexDamage};

@@ -12,6 +12,8 @@ use std::test::*;
 
 mod details;
 mod indexes;
+mod kept;
+mod scripts;
 mod unrecovered;
 
 // The leaf of the index of BOB, record 1, and ADA, record 2, by NAME: the count, and of each key no child, the record number,

@@ -169,13 +169,23 @@ fn chain_of_pages(alloc: Global, count: u32) -> Result<Vec<u8>, AllocError> {
     Ok(bytes)
 }
 
+// What stands before a page of this depth.
+fn margin(alloc: Global, depth: u32) -> Result<Vec<u8>, AllocError> {
+    if depth > 20 {
+        return Ok(format!(in alloc; "[{depth}] ")?.into_bytes());
+    }
+    let mut blanks = Vec::new(alloc);
+    for _ in 0..depth {
+        blanks.extend_from_slice(b"  ")?;
+    }
+    Ok(blanks)
+}
+
 // The lines of such a file's pages.
 fn chain_lines(alloc: Global, count: u32) -> Result<Vec<u8>, AllocError> {
     let mut lines = Vec::new(alloc);
     for page in 1..count.saturating_add(1) {
-        for _ in 1..page {
-            lines.extend_from_slice(b"  ")?;
-        }
+        lines.extend_from_slice(margin(alloc, page.saturating_sub(1))?.as_slice())?;
         let kind = if page == count {
             "leaf  0 keys"
         } else {
@@ -194,5 +204,21 @@ fn deep_chain_of_pages(rt: HostRuntime) -> Result<(), Fail> {
     let lines = chain_lines(alloc, 500)?;
     assert!(rt; text.as_slice().ends_with(lines.as_slice()));
     assert!(rt; lines_of(text.as_slice()) == 507);
+    Ok(())
+}
+
+// The last lines of a chain of 23 pages.
+const DEEPEST: &str = "
+                                      page 20  inner  1 children
+                                        page 21  inner  1 children
+[21] page 22  inner  1 children
+[22] page 23  leaf  0 keys
+";
+
+#[test]
+fn numbers_stand_for_many_blanks(rt: HostRuntime) -> Result<(), Fail> {
+    let alloc = rt.alloc();
+    let text = text_of(alloc, chain_of_pages(alloc, 23)?.as_slice())?;
+    assert!(rt; text.as_slice().ends_with(DEEPEST.as_bytes()));
     Ok(())
 }
