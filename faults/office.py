@@ -36,6 +36,12 @@ if TILDE_IS_FREE:
 
 # ---- what the server prints.
 COUNT = "station_server: 138 commands\n"
+# On standard error, before a run: the files that stay as they are, since the new ones have other names. Each line is written in these parts, and
+# a stream that fails at one of them gets none of the others.
+KEPT = [["station_server: ", TABLE, " stays as it is: the new ", "table", " is ", "STOCK", ".DBF", "\n"],
+        ["station_server: ", INDEX, " stays as it is: the new ", "index", " is ", "BYCODE", ".NDX", "\n"]]
+# And where it takes text, after each run that has written its files.
+REFUSED = "station_server: 26 refused: STATION1.TXT 4 STATION2.TXT 4 STATION3.TXT 8 STATION4.TXT 6 STATION5.TXT 4\n"
 # What is said of a folder in which the new files are to take their places, or have begun to.
 UNOPENED = "station_server: cannot open the folder\n"
 UNRECOVERED = "station_server: cannot recover the folder\n"
@@ -45,6 +51,19 @@ UNWRITTEN = "station_server: cannot write the new files\n"
 UNFINISHED = "station_server: not all new files are in place: the next start goes on\n"
 IN_USE = "station_server: another run writes into the folder\n"
 UNPRINTED = "station_server: cannot print\n"
+
+
+def without_kept(said):
+    """What is said beside the files that stay as they are, also where a stream has failed in one of these lines."""
+    for parts in KEPT:
+        for count in range(len(parts), 1, -1):
+            if said.startswith("".join(parts[:count])):
+                said = said.removeprefix("".join(parts[:count]))
+                break
+        else:
+            if said == parts[0] or said.startswith(parts[0] * 2):
+                said = said.removeprefix(parts[0])
+    return said
 
 
 def unread(path):
@@ -159,7 +178,10 @@ class Office:
         names = {"LD_PRELOAD": self.library, **variables} if variables else {}
         try:
             ended = subprocess.run(command, cwd=folder, env={n: str(v) for n, v in names.items()}, capture_output=True, timeout=SECONDS, preexec_fn=before)
-            return ended.returncode, ended.stdout.decode(), ended.stderr.decode()
+            said = without_kept(ended.stderr.decode())
+            if ended.returncode == 0:
+                said = "" if REFUSED.startswith(said) else said.removeprefix(REFUSED)
+            return ended.returncode, ended.stdout.decode(), said
         except subprocess.TimeoutExpired:
             return None, "", "no end"
 
