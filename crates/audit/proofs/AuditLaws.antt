@@ -21,11 +21,11 @@ use Rattle.station_lines.specs.Script.Lines.{has_no_lf}
 use Rattle.station_lines.specs.Script.Meaning.{Means}
 use Rattle.station_lines.specs.AnswerLines.{line_of}
 use Rattle.station_lines.specs.CommandLines.{text_of_command, IsMeant, IsOfALine}
-use Rattle.station_lines.specs.JournalLines.{entry_and, lines_and, line_parts, journal_text, HasSmallNumbers, BeginsWithEntry, BeginsWithNoEntry}
+use Rattle.station_lines.specs.JournalLines.{entry_and, lines_and, line_parts, journal_text, BeginsWithEntry, BeginsWithNoEntry}
 use Rattle.station_lines.proofs.ScriptLaws.MeaningLaws.{one_meaning}
 use Rattle.station_lines.proofs.CommandLaws.LineLaws.{text_means}
 use Rattle.station_lines.proofs.CommandLaws.OneLineLaws.{text_one_line}
-use Rattle.station_lines.proofs.JournalLaws.{entry_one}
+use Rattle.station_lines.proofs.JournalLaws.{entry_one, entry_small}
 use Rattle.audit.specs.declared.fault.AuditFault.{AuditFault}
 use Rattle.audit.specs.declared.fault.AuditFault.TheVariants.{NoEntry, Differs, TooLong, NoMemory}
 use Rattle.audit.specs.declared.fault.Difference.{Difference}
@@ -69,21 +69,6 @@ other_line line written found only is_written other command of_a_line is =
 
 pub is_line : (line written : List ℕ) (found : Command) → has_no_lf line ≡ true → Means line (Run found) → written ≡ text_of_command found → written ≡ line → IsLineOfCommand line found
 is_line line written found one means is_written same = record { is = sym same ∙ is_written; of_a_line = (line, one, means) }
-
--- an entry's numbers are no greater than its text is long
-entry_small : (text : List ℕ) (e : ℕ × List ℕ × List ℕ) (rest : List ℕ) → text ≡ entry_and e rest → length text < 2 ^ 64 → e.0 < 2 ^ 64 → HasSmallNumbers e
-entry_small text e rest is long small =
-    let t4 = e.2 ++ (LF ∷ rest) in
-    let t3 = e.1 ++ (BLANK ∷ t4) in
-    let t2 = decimal (length e.2) ++ (BLANK ∷ t3) in
-    let t1 = decimal (length e.1) ++ (BLANK ∷ t2) in
-    let whole = ap length is in
-    let l0 = length-append (decimal e.0) (BLANK ∷ t1) in
-    let l1 = length-append (decimal (length e.1)) (BLANK ∷ t2) in
-    let l2 = length-append (decimal (length e.2)) (BLANK ∷ t3) in
-    let l3 = length-append e.1 (BLANK ∷ t4) in
-    let l4 = length-append e.2 (LF ∷ rest) in
-    (small, omega (arith, whole, l0, l1, l2, l3, l4), omega (arith, whole, l0, l1, l2, l3, l4))
 
 pub shorter : (text : List ℕ) (e : ℕ × List ℕ × List ℕ) (rest : List ℕ) → BeginsWithEntry text e rest → length rest < length text
 shorter text e rest first =

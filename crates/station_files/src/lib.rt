@@ -24,6 +24,7 @@ mod named;
 mod path;
 mod plan;
 mod planned;
+mod run_files;
 mod source;
 mod transfer;
 
@@ -40,5 +41,6 @@ pub use memory_source::MemorySource;
 pub use missing_folder::MissingFolder;
 pub use named::NamedFile;
 pub use path::{file_name, folder_of};
+pub use run_files::RunFiles;
 pub use source::{LoadFault, MAX_FILE_BYTES, Source};
 pub use transfer::read_whole;

@@ -86,7 +86,7 @@ pub record IsSameCut (a b r s : List ℕ) : Type 0 where
   pub rest : r ≡ s
 
 -- no byte of the text is this one
-abbrev lacks : ℕ → List ℕ → Bool
+abbrev pub lacks : ℕ → List ℕ → Bool
 lacks c text = list_all (λ b. not (b == c)) text
 
 itself : (c b : ℕ) → c ≡ b → not (b == c) ≡ true → ⊥
@@ -95,13 +95,13 @@ itself c b e h = false≢true (sym (ap not (same_byte c)) ∙ subst (λ (x : ℕ
 head_is : (x y : ℕ) (xs ys : List ℕ) → x ∷ xs ≡ y ∷ ys → x ≡ y
 head_is x y xs ys e = cc
 
-tail_is : (x y : ℕ) (xs ys : List ℕ) → x ∷ xs ≡ y ∷ ys → xs ≡ ys
+pub tail_is : (x y : ℕ) (xs ys : List ℕ) → x ∷ xs ≡ y ∷ ys → xs ≡ ys
 tail_is x y xs ys e = cc
 
 more_same : (x y : ℕ) (a b r s : List ℕ) → x ≡ y → IsSameCut a b r s → IsSameCut (x ∷ a) (y ∷ b) r s
 more_same x y a b r s e h = record { part = (λ i. e i ∷ h.part i); rest = h.rest }
 
-cut_at_byte : (c : ℕ) (a b r s : List ℕ) → lacks c a ≡ true → lacks c b ≡ true → a ++ (c ∷ r) ≡ b ++ (c ∷ s) → IsSameCut a b r s
+pub cut_at_byte : (c : ℕ) (a b r s : List ℕ) → lacks c a ≡ true → lacks c b ≡ true → a ++ (c ∷ r) ≡ b ++ (c ∷ s) → IsSameCut a b r s
 cut_at_byte c [] [] r s h g e = record { part = refl; rest = tail_is c c r s e }
 cut_at_byte c [] (y ∷ b) r s h g e = absurd (itself c y (head_is c y r (b ++ (c ∷ s)) e) (and_parts (not (y == c)) (lacks c b) g).0)
 cut_at_byte c (x ∷ a) [] r s h g e = absurd (itself c x (sym (head_is x c (a ++ (c ∷ r)) s e)) (and_parts (not (x == c)) (lacks c a) h).0)
@@ -120,7 +120,7 @@ pub record IsSameNumber (m n : ℕ) (r s : List ℕ) : Type 0 where
   pub rest : r ≡ s
 
 -- a number and the blank after it are cut off in one way
-cut_number_one : (m n : ℕ) (r s : List ℕ) → m < 2 ^ 64 → n < 2 ^ 64 → decimal m ++ (BLANK ∷ r) ≡ decimal n ++ (BLANK ∷ s) → IsSameNumber m n r s
+pub cut_number_one : (m n : ℕ) (r s : List ℕ) → m < 2 ^ 64 → n < 2 ^ 64 → decimal m ++ (BLANK ∷ r) ≡ decimal n ++ (BLANK ∷ s) → IsSameNumber m n r s
 cut_number_one m n r s hm hn e =
     let dm = decimal_digits m hm in
     let dn = decimal_digits n hn in
@@ -140,16 +140,23 @@ not_found : (b : Bool) (n : ℕ) → cond b (Some n) None ≡ None → b ≡ fal
 not_found true n e = absurd cc
 not_found false n e = refl
 
-pub no_blank : (text : List ℕ) → position (λ b. b == BLANK) text ≡ None → BeginsWithNoNumber text
-no_blank text none n rest small e =
-    let here : position_or_len (λ b. b == BLANK) text < length text = subst (λ (xs : List ℕ). position_or_len (λ b. b == BLANK) xs < length xs) (sym e) (stands_in BLANK (decimal n) rest) in
-    let no = not_found _ (position_or_len (λ b. b == BLANK) text) none in
+-- where a byte is found nowhere the text has no part before it
+pub no_byte : (c : ℕ) (text : List ℕ) → position (λ b. b == c) text ≡ None → (part rest : List ℕ) → text ≢ part ++ (c ∷ rest)
+no_byte c text none part rest e =
+    let here : position_or_len (λ b. b == c) text < length text = subst (λ (xs : List ℕ). position_or_len (λ b. b == c) xs < length xs) (sym e) (stands_in c part rest) in
+    let no = not_found _ (position_or_len (λ b. b == c) text) none in
     grind (arith, nat_tests, here, no)
 
+pub no_blank : (text : List ℕ) → position (λ b. b == BLANK) text ≡ None → BeginsWithNoNumber text
+no_blank text none n rest small e = no_byte BLANK text none (decimal n) rest e
+
+pub first_byte : (c : ℕ) (text : List ℕ) (end : ℕ) → position (λ b. b == c) text ≡ Some end → CutAt c text end
+first_byte c text end e =
+    let at = tested _ (position_or_len (λ b. b == c) text) end e in
+    subst (λ (n : ℕ). CutAt c text n) at.1 (cut_first c text (grind (arith, nat_tests, at.0)))
+
 first_blank : (text : List ℕ) (end : ℕ) → position (λ b. b == BLANK) text ≡ Some end → CutAt BLANK text end
-first_blank text end e =
-    let at = tested _ (position_or_len (λ b. b == BLANK) text) end e in
-    subst (λ (n : ℕ). CutAt BLANK text n) at.1 (cut_first BLANK text (grind (arith, nat_tests, at.0)))
+first_blank text end e = first_byte BLANK text end e
 
 pub number_first : (text digits rest : List ℕ) (end n : ℕ) → position (λ b. b == BLANK) text ≡ Some end → digits ≡ take end text → rest ≡ drop (end + 1) text → digits ≡ decimal n → n < 2 ^ 64 → BeginsWithNumber text n rest
 number_first text digits rest end n found front back is small =
@@ -170,7 +177,7 @@ no_number text digits end found front h n rest small e =
 -- ---- a part of as many bytes
 
 -- a part of as many bytes is cut off in one way
-cut_part_one : (a b r s : List ℕ) → length a ≡ length b → a ++ r ≡ b ++ s → IsSameCut a b r s
+pub cut_part_one : (a b r s : List ℕ) → length a ≡ length b → a ++ r ≡ b ++ s → IsSameCut a b r s
 cut_part_one [] [] r s long e = record { part = refl; rest = e }
 cut_part_one [] (y ∷ b) r s long e = absurd (omega (arith, long))
 cut_part_one (x ∷ a) [] r s long e = absurd (omega (arith, long))
@@ -228,6 +235,21 @@ entry_one e f r s he hf same =
     let answer = cut_number_one (length e.2) (length f.2) _ _ he.2 hf.2 command.rest in
     let texts = texts_one e.1 e.2 f.1 f.2 r s command.number answer.number answer.rest in
     record { entry = (λ i. (station.number i, texts.0 i, texts.1 i)); rest = texts.2 }
+
+-- an entry's numbers are no greater than its text is long
+pub entry_small : (text : List ℕ) (e : ℕ × List ℕ × List ℕ) (rest : List ℕ) → text ≡ entry_and e rest → length text < 2 ^ 64 → e.0 < 2 ^ 64 → HasSmallNumbers e
+entry_small text e rest is long small =
+    let t4 = e.2 ++ (LF ∷ rest) in
+    let t3 = e.1 ++ (BLANK ∷ t4) in
+    let t2 = decimal (length e.2) ++ (BLANK ∷ t3) in
+    let t1 = decimal (length e.1) ++ (BLANK ∷ t2) in
+    let whole = ap length is in
+    let l0 = length-append (decimal e.0) (BLANK ∷ t1) in
+    let l1 = length-append (decimal (length e.1)) (BLANK ∷ t2) in
+    let l2 = length-append (decimal (length e.2)) (BLANK ∷ t3) in
+    let l3 = length-append e.1 (BLANK ∷ t4) in
+    let l4 = length-append e.2 (LF ∷ rest) in
+    (small, omega (arith, whole, l0, l1, l2, l3, l4), omega (arith, whole, l0, l1, l2, l3, l4))
 
 -- an entry's line has bytes
 no_entry_in_nothing : (ds rest : List ℕ) → [] ≡ ds ++ (BLANK ∷ rest) → ⊥

@@ -70,8 +70,8 @@ fn is_plain(text: &[u8]) -> bool
     !text.is_empty() && (text.len() == 1 || text[0] != ZERO_DIGIT) && are_digits(text)
 }
 
-// The number that a text is as it is written.
-fn plain_number(text: &[u8]) -> Option<u64>
+/// The number of 64 bits that a text is as it is written: in digits, and with no zero before others. Takes no memory.
+pub fn plain_number(text: &[u8]) -> Option<u64>
     ensures found { IfSome result (λ n. text.now ≡ decimal n) }
     ensures none { IfNone result (IsNoNumber text.now) }
 {
@@ -94,8 +94,8 @@ fn blank_in(text: &[u8]) -> Option<usize>
     text.iter().position(|byte| *byte == BLANK)
 }
 
-// A number that is first in a text, with a blank after it, and what stands after this.
-fn cut_number(text: &[u8]) -> Option<(u64, &[u8])>
+/// A number that is first in a text, with a blank after it, and what stands after this. Takes no memory.
+pub fn cut_number(text: &[u8]) -> Option<(u64, &[u8])>
     ensures found { IfSome result (λ cut. BeginsWithNumber text.now cut.0 cut.1.now) }
     ensures none { IfNone result (BeginsWithNoNumber text.now) }
 {
@@ -110,8 +110,8 @@ fn cut_number(text: &[u8]) -> Option<(u64, &[u8])>
     }
 }
 
-// As many bytes as are asked for, where this byte stands after them, and what stands after this.
-fn cut_part(text: &[u8], count: u64, end: u8) -> Option<(&[u8], &[u8])>
+/// As many bytes as are asked for, where this byte stands after them, and what stands after this. Takes no memory.
+pub fn cut_part(text: &[u8], count: u64, end: u8) -> Option<(&[u8], &[u8])>
     ensures found { IfSome result (λ cut. BeginsWithPart text.now count end cut.0.now cut.1.now) }
     ensures none { IfNone result (BeginsWithNoPart text.now count end) }
 {

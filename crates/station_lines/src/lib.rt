@@ -18,7 +18,9 @@ mod setup;
 
 pub use answer_lines::{answer_line, status_line};
 pub use command_lines::command_line;
-pub use journal_lines::{CutEntry, cut_entry, entry_line, one_journal};
+pub use journal_lines::{
+    CutEntry, cut_entry, cut_number, cut_part, entry_line, one_journal, plain_number,
+};
 pub use script::format::LF;
 pub use script::{
     BadLine, Line, LineCursor, is_one_line, lines, one_cutting, one_meaning, parse_line, why_bad,

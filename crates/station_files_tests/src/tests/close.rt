@@ -3,7 +3,7 @@ use dbf_image::TableData;
 use key_expr::KeyExpr;
 use ndx_index::{MAX_PAIRS, OrderedIndex};
 use sample_files::{EMPTY_INDEX, TABLE, table, with_zeros};
-use station_files::{CloseFault, ClosedIndex, ClosedTable, MemoryFolder, close_files};
+use station_files::{CloseFault, ClosedIndex, ClosedTable, MemoryFolder, RunFiles, close_files};
 use std::alloc::Global;
 use std::test::Fail;
 
@@ -168,5 +168,45 @@ fn folder_fails_at_each_call(rt: HostRuntime) -> Result<(), Fail> {
         assert_eq!(rt; folder.files.len(), begun);
         assert_eq!(rt; first_other(&folder, &wanted, whole), None);
     }
+    Ok(())
+}
+
+// The place of the first planned file that is not the one wanted there.
+fn first_other_planned(
+    alloc: Global,
+    files: &RunFiles<'_>,
+    wanted: &[(&[u8], Vec<u8>)],
+) -> Result<Option<usize>, Fail> {
+    for i in 0..files.count() {
+        let file = files.file(alloc, i)?;
+        let Some((name, bytes)) = wanted.get(i) else {
+            return Ok(Some(i));
+        };
+        if file.name.as_slice() != *name || file.bytes.as_slice() != bytes.as_slice() {
+            return Ok(Some(i));
+        }
+    }
+    Ok(None)
+}
+
+#[test]
+fn files_are_told_before_they_are_written(rt: HostRuntime) -> Result<(), Fail> {
+    let alloc = rt.alloc();
+    let wanted = wanted_files(alloc)?;
+    let tables = tables_of(alloc)?;
+    let answers = answers_of(alloc)?;
+    let day = day_of(1987, 3, 15).ok_or("a date")?;
+    let files = RunFiles::plan(alloc, &tables, &answers, day)?;
+    assert_eq!(rt;
+        (files.count(), first_other_planned(alloc, &files, &wanted)?),
+        (6, None)
+    );
+    let late = day_of(2156, 3, 15).ok_or("a date")?;
+    assert!(rt;
+        matches!(
+            RunFiles::plan(alloc, &tables, &answers, late),
+            Err(CloseFault::DateOutside)
+        )
+    );
     Ok(())
 }
