@@ -1,10 +1,10 @@
 -- The journal's file after others, line by line.
-use Rattle.std.proofs.Common.{◌≡◌, ◌≢◌, ℕ, Bool, ◌+◌, List, [], ◌∷◌, ◌++◌, Option, Some, None, Result, Ok, Err, length, drop, refl, sym, ap, subst, ◌∙◌, append_assoc, inl, inr}
+use Rattle.std.proofs.Common.{◌≡◌, ◌≢◌, ℕ, Bool, ◌+◌, ◌^◌, ◌<◌, List, [], ◌∷◌, ◌++◌, Option, Some, None, Result, Ok, Err, length, map, take, drop, refl, sym, ap, subst, ◌∙◌, append_assoc, inl, inr}
 use Rattle.std.specs.Prelude.{IsErrAnd}
 use Rattle.std.specs.List.{slice_get, AllByRecursion}
 use Rattle.std.specs.Fmt.{decimal}
 use Rattle.std.proofs.lemmas.Grind.{flat_map-append}
-use Rattle.std.proofs.lemmas.List.{drop_more}
+use Rattle.std.proofs.lemmas.List.{drop_more, take_more, length-map, map-append}
 use Rattle.std.proofs.lemmas.Option.{get_or_from_slice_get, slice_get_within}
 use Rattle.dbf_fields.specs.declared.day.Day.{Day}
 use Rattle.dbf_fields.specs.declared.format.TheConstants.{BLANK}
@@ -18,12 +18,16 @@ use Rattle.station_files.specs.Closing.{first_blocked, run_files, IsCutAt}
 use Rattle.station_files.specs.Files.{listing, opening, IsOfBytes}
 use Rattle.station_files.proofs.ListingLaws.{files_again}
 use Rattle.station_lines.specs.declared.script.format.TheConstants.{LF}
-use Rattle.station_lines.specs.JournalLines.{entry_and, line_parts, journal_text}
+use Rattle.station_lines.specs.JournalLines.{entry_and, lines_and, line_parts, journal_text, HasSmallNumbers, HaveSmallNumbers}
+use Rattle.journal_file.specs.declared.sum.FileSum.{FileSum}
+use Rattle.journal_file.specs.WholeText.{head_and, tail_text, whole_text, IsSum, CanBeTold}
+use Rattle.journal_file.proofs.TextLaws.{head_then, lines_then}
 use Rattle.whole_run.specs.declared.counts.CommandCounts.{CommandCounts}
 use Rattle.whole_run.specs.declared.fault.ServeFault.{ServeFault}
 use Rattle.whole_run.specs.declared.fault.ServeFault.TheVariants.{Setup, File, Refused, Run, Close, NoMemory}
 use Rattle.whole_run.specs.Counts.{AreRefusedIn}
-use Rattle.whole_run.specs.JournalFile.{journal_name, journal_file, and_journal, IsJournalFault, IsCutWithJournal, IsServedWithJournal, IsCutRunAt, IsCutRunWithJournal}
+use Rattle.whole_run.specs.FileSums.{AreAllNoted, sum_of_named}
+use Rattle.whole_run.specs.JournalFile.{journal_name, journal_file, and_journal, files_with_journal, run_text, told_run, IsJournalText, IsJournalFault, IsCutWithJournal, IsServedWithJournal, IsCutRunAt, IsCutRunWithJournal}
 use Rattle.whole_run.specs.WholeRun.{IsWriteFault, IsWholeRun, IsCutWriting}
 use Rattle.whole_run.proofs.RunNames.{run_names_differ_with_journal}
 
@@ -49,9 +53,26 @@ text_from journal i e line at is =
     let rest = journal_text (drop (i + 1) journal) in
     ap journal_text (left_from journal i e at) ∙ sym (entry_then (line_parts e) rest) ∙ ap (λ (l : List ℕ). l ++ rest) (sym is)
 
+-- and their numbers are of 64 bits, with those of one more
+small_then : (es : List (ℕ × List ℕ × List ℕ)) (e : ℕ × List ℕ × List ℕ) → HaveSmallNumbers es → HasSmallNumbers e → HaveSmallNumbers (es ++ e ∷ [])
+small_then [] e small one = (one, tt)
+small_then (x ∷ es) e small one = (small.0, small_then es e small.1 one)
+
+pub small_more : (journal : List Entry) (i : ℕ) (e : Entry) → slice_get journal i ≡ Some e → HasSmallNumbers (line_parts e) → HaveSmallNumbers (map line_parts (take i journal))
+    → HaveSmallNumbers (map line_parts (take (i + 1) journal))
+small_more journal i e at one small =
+    let here : take (i + 1) journal ≡ take i journal ++ e ∷ [] =
+    take_more journal i e (slice_get_within journal i e at) ∙ ap (λ (x : Entry). take i journal ++ x ∷ []) (get_or_from_slice_get journal i e e at) in
+    subst (λ (es : List (ℕ × List ℕ × List ℕ)). HaveSmallNumbers es) (sym (ap (map line_parts) here ∙ map-append line_parts (take i journal) (e ∷ []))) (small_then (map line_parts (take i journal)) (line_parts e) small one)
+
 -- what is written of a text is a front part of it
 pub front_of_whole : (begun : Option (List ℕ)) (front left whole : List ℕ) → front ++ left ≡ whole → IsFront (grown begun front) (grown begun whole)
 front_of_whole begun front left whole is = front_by (grown begun front) (grown begun whole) left (sym (grown_then begun front left ∙ ap (grown begun) is))
+
+-- a front part of what stands in the middle, and what is left of the whole
+pub front_in_parts : (head front left middle tail : List ℕ) → front ++ left ≡ middle → (head ++ front) ++ (left ++ tail) ≡ head ++ (middle ++ tail)
+front_in_parts head front left middle tail is =
+    append_assoc head front (left ++ tail) ∙ ap (λ (l : List ℕ). head ++ l) (sym (append_assoc front left tail) ∙ ap (λ (l : List ℕ). l ++ tail) is)
 
 -- ---- files after files
 
@@ -60,15 +81,15 @@ all_grown old files more =
     grown_then old (listing files) (listing more) ∙ ap (grown old) (sym (flat_map-append (λ (file : NamedFile). opening file.name ++ file.bytes) files more))
 
 -- the journal's file was written after the others
-pub with_journal_written : (files : List NamedFile) (journal : List Entry) (old mid new : Option (List ℕ)) → mid ≡ grown old (listing files)
-    → new ≡ grown mid (listing (journal_file journal ∷ [])) → new ≡ grown old (listing (and_journal files journal))
-with_journal_written files journal old mid new first last =
-    last ∙ ap (λ (m : Option (List ℕ)). grown m (listing (journal_file journal ∷ []))) first ∙ all_grown old files (journal_file journal ∷ [])
+pub with_journal_written : (files : List NamedFile) (text : List ℕ) (old mid new : Option (List ℕ)) → mid ≡ grown old (listing files)
+    → new ≡ grown mid (listing (journal_file text ∷ [])) → new ≡ grown old (listing (and_journal files text))
+with_journal_written files text old mid new first last =
+    last ∙ ap (λ (m : Option (List ℕ)). grown m (listing (journal_file text ∷ []))) first ∙ all_grown old files (journal_file text ∷ [])
 
 -- where the files are of bytes, and the journal's is
-pub bytes_with_journal : (files : List NamedFile) (journal : List Entry) → AllByRecursion IsOfBytes files → IsOfBytes (journal_file journal) → AllByRecursion IsOfBytes (and_journal files journal)
-bytes_with_journal [] journal all last = (last, tt)
-bytes_with_journal (file ∷ files) journal all last = (all.0, bytes_with_journal files journal all.1 last)
+pub bytes_with_journal : (files : List NamedFile) (text : List ℕ) → AllByRecursion IsOfBytes files → IsOfBytes (journal_file text) → AllByRecursion IsOfBytes (and_journal files text)
+bytes_with_journal [] text all last = (last, tt)
+bytes_with_journal (file ∷ files) text all last = (all.0, bytes_with_journal files text all.1 last)
 
 -- where files are cut, more would have come after them
 cut_more : (name : List ℕ) (old new : Option (List ℕ)) (files more : List NamedFile) → IsCutAt name old new files → IsCutAt name old new (files ++ more)
@@ -84,46 +105,46 @@ cut_more name old new files more c =
     }
 
 -- the journal's file was cut, and those before it are whole
-cut_last : (files : List NamedFile) (journal : List Entry) (old mid new : Option (List ℕ)) → mid ≡ grown old (listing files) → IsFront mid new
-    → IsFront new (grown mid (listing (journal_file journal ∷ []))) → IsCutAt journal_name old new (and_journal files journal)
-cut_last files journal old mid new first kept front = record {
+cut_last : (files : List NamedFile) (text : List ℕ) (old mid new : Option (List ℕ)) → mid ≡ grown old (listing files) → IsFront mid new
+    → IsFront new (grown mid (listing (journal_file text ∷ []))) → IsCutAt journal_name old new (and_journal files text)
+cut_last files text old mid new first kept front = record {
   before = files;
-  bytes = journal_text journal;
+  bytes = text;
   others = [];
   order = refl;
   whole = subst (λ (m : Option (List ℕ)). IsFront m new) first kept;
   front = subst (λ (m : Option (List ℕ)). IsFront new m)
-      (ap (λ (m : Option (List ℕ)). grown m (listing (journal_file journal ∷ []))) first ∙ all_grown old files (journal_file journal ∷ [])) front;
+      (ap (λ (m : Option (List ℕ)). grown m (listing (journal_file text ∷ []))) first ∙ all_grown old files (journal_file text ∷ [])) front;
 }
 
 -- ---- faults of the writing
 
 -- a fault before the journal's file
-pub cut_before_journal : (files : List NamedFile) (journal : List Entry) (old new : Option (List ℕ)) (fault : ServeFault)
-    → (((name : List ℕ) → fault ≢ Close (Write name)) → new ≡ old) → IsCutWriting files old new fault → IsCutWithJournal files journal old new fault
-cut_before_journal files journal old new (Close (Write name)) begun cut = cut_more name old new files (journal_file journal ∷ []) cut
-cut_before_journal files journal old new (Close DateOutside) begun cut = tt
-cut_before_journal files journal old new (Close (TooManyBlocks number)) begun cut = tt
-cut_before_journal files journal old new (Close NoMemoryToClose) begun cut = tt
-cut_before_journal files journal old new NoMemory begun cut = inl (begun (λ name e. absurd cc))
-cut_before_journal files journal old new (Setup number) begun cut = tt
-cut_before_journal files journal old new (File path why) begun cut = tt
-cut_before_journal files journal old new (Refused why) begun cut = tt
-cut_before_journal files journal old new (Run why) begun cut = tt
+pub cut_before_journal : (files : List NamedFile) (text : List ℕ) (old new : Option (List ℕ)) (fault : ServeFault)
+    → (((name : List ℕ) → fault ≢ Close (Write name)) → new ≡ old) → IsCutWriting files old new fault → IsCutWithJournal files text old new fault
+cut_before_journal files text old new (Close (Write name)) begun cut = cut_more name old new files (journal_file text ∷ []) cut
+cut_before_journal files text old new (Close DateOutside) begun cut = tt
+cut_before_journal files text old new (Close (TooManyBlocks number)) begun cut = tt
+cut_before_journal files text old new (Close NoMemoryToClose) begun cut = tt
+cut_before_journal files text old new NoMemory begun cut = inl (begun (λ name e. absurd cc))
+cut_before_journal files text old new (Setup number) begun cut = tt
+cut_before_journal files text old new (File path why) begun cut = tt
+cut_before_journal files text old new (Refused why) begun cut = tt
+cut_before_journal files text old new (Run why) begun cut = tt
 
 -- a fault in the journal's file
-pub cut_in_journal : (files : List NamedFile) (journal : List Entry) (old mid new : Option (List ℕ)) (fault : ServeFault) → IsJournalFault fault → mid ≡ grown old (listing files) → IsFront mid new
-    → IsFront new (grown mid (listing (journal_file journal ∷ []))) → IsCutWithJournal files journal old new fault
-cut_in_journal files journal old mid new (Close (Write name)) why first kept front =
-    subst (λ (n : List ℕ). IsCutAt n old new (and_journal files journal)) (sym why) (cut_last files journal old mid new first kept front)
-cut_in_journal files journal old mid new (Close DateOutside) why first kept front = absurd why
-cut_in_journal files journal old mid new (Close (TooManyBlocks number)) why first kept front = absurd why
-cut_in_journal files journal old mid new (Close NoMemoryToClose) why first kept front = absurd why
-cut_in_journal files journal old mid new NoMemory why first kept front = inr (cut_last files journal old mid new first kept front)
-cut_in_journal files journal old mid new (Setup number) why first kept front = absurd why
-cut_in_journal files journal old mid new (File path reason) why first kept front = absurd why
-cut_in_journal files journal old mid new (Refused reason) why first kept front = absurd why
-cut_in_journal files journal old mid new (Run reason) why first kept front = absurd why
+pub cut_in_journal : (files : List NamedFile) (text : List ℕ) (old mid new : Option (List ℕ)) (fault : ServeFault) → IsJournalFault fault → mid ≡ grown old (listing files) → IsFront mid new
+    → IsFront new (grown mid (listing (journal_file text ∷ []))) → IsCutWithJournal files text old new fault
+cut_in_journal files text old mid new (Close (Write name)) why first kept front =
+    subst (λ (n : List ℕ). IsCutAt n old new (and_journal files text)) (sym why) (cut_last files text old mid new first kept front)
+cut_in_journal files text old mid new (Close DateOutside) why first kept front = absurd why
+cut_in_journal files text old mid new (Close (TooManyBlocks number)) why first kept front = absurd why
+cut_in_journal files text old mid new (Close NoMemoryToClose) why first kept front = absurd why
+cut_in_journal files text old mid new NoMemory why first kept front = inr (cut_last files text old mid new first kept front)
+cut_in_journal files text old mid new (Setup number) why first kept front = absurd why
+cut_in_journal files text old mid new (File path reason) why first kept front = absurd why
+cut_in_journal files text old mid new (Refused reason) why first kept front = absurd why
+cut_in_journal files text old mid new (Run reason) why first kept front = absurd why
 
 -- it is one of the writing
 pub journal_fault : (year : ℕ) (tables : List ClosedTable) (fault : ServeFault) → IsJournalFault fault → IsWriteFault year tables fault
@@ -155,37 +176,79 @@ pub unfailed_unbegun : {T Folder Count : Type 0} (failures : Folder → Count) (
 unfailed_unbegun failures old new (Ok x) fault is begun refused = absurd is
 unfailed_unbegun failures old new (Err y) fault is begun refused = ap failures (begun (λ name e. absurd cc))
 
+-- ---- the text
+
+-- what stands before, the entries' lines, and what stands after them
+pub text_parts : (read : List FileSum) (reindex : Bool) (journal : List Entry) (wrote : List NamedFile)
+    → head_and read reindex (length journal) [] ++ (journal_text journal ++ tail_text (map sum_of_named wrote)) ≡ whole_text (told_run read reindex journal wrote)
+text_parts read reindex journal wrote =
+    let tail = tail_text (map sum_of_named wrote) in
+    head_then read reindex (length journal) [] (journal_text journal ++ tail)
+    ∙ ap (λ (l : List ℕ). head_and read reindex (length journal) l) (lines_then (map line_parts journal) [] tail)
+    ∙ ap (λ (n : ℕ). head_and read reindex n (lines_and (map line_parts journal) tail)) (sym (length-map journal line_parts))
+
+-- so the parts are those of a run's journal
+pub parts_of_run : (read : List FileSum) (reindex : Bool) (journal : List Entry) (wrote : List NamedFile) (sums : List FileSum) (count : ℕ) (head tail : List ℕ)
+    → sums ≡ map sum_of_named wrote → count ≡ length journal → head ≡ head_and read reindex count [] → tail ≡ tail_text sums
+    → head ++ (journal_text journal ++ tail) ≡ run_text read reindex journal wrote
+parts_of_run read reindex journal wrote sums count head tail are counted head_is tail_is =
+    (λ j. (head_is ∙ ap (λ (n : ℕ). head_and read reindex n []) counted) j ++ (journal_text journal ++ (tail_is ∙ ap tail_text are) j)) ∙ text_parts read reindex journal wrote
+
+-- it is the text of the run's journal
+pub of_run_text : (files : Option (List NamedFile)) (setup : List ℕ) (reindex : Bool) (journal : List Entry) (wrote : List NamedFile) (read : List FileSum) → AreAllNoted files setup (Some []) (Some read)
+    → IsJournalText files setup reindex journal wrote (run_text read reindex journal wrote)
+of_run_text files setup reindex journal wrote read noted = record { read = read; noted = noted; text_is = refl }
+
+-- lines can tell it
+pub run_can_be_told : (reindex : Bool) (journal : List Entry) (wrote : List NamedFile) (read sums : List FileSum) → AllByRecursion IsSum read → AllByRecursion IsSum sums → sums ≡ map sum_of_named wrote
+    → HaveSmallNumbers (map line_parts journal) → length journal < 2 ^ 64 → CanBeTold (told_run read reindex journal wrote)
+run_can_be_told reindex journal wrote read sums small written are entries few = record {
+  read = small;
+  few = subst (λ (n : ℕ). n < 2 ^ 64) (sym (length-map journal line_parts)) few;
+  entries = entries;
+  wrote = subst (λ (s : List FileSum). AllByRecursion IsSum s) are written;
+}
+
 -- ---- the whole run
 
 pub served_with_journal : (files : Option (List NamedFile)) (setup : List ℕ) (reindex : Bool) (today : Day) (tables : List ClosedTable) (answers : List (List ℕ)) (counts : CommandCounts) (old new : Option (List ℕ))
-    (run : IsWholeRun files setup reindex tables answers counts.all) → AreRefusedIn run.history counts → first_blocked 1 tables ≡ None → new ≡ grown old (listing (and_journal (run_files today tables answers) run.history.journal))
-    → AllByRecursion IsOfBytes (and_journal (run_files today tables answers) run.history.journal) → IsServedWithJournal files setup reindex today old new counts
-served_with_journal files setup reindex today tables answers counts old new run refused few_blocks written bytes = record {
-  tables = tables;
-  answers = answers;
-  run = run;
-  refused = refused;
-  few_blocks = few_blocks;
-  written = written;
-  bytes = bytes;
-  told = files_again (and_journal (run_files today tables answers) run.history.journal) bytes;
-  distinct = run_names_differ_with_journal files setup reindex tables answers counts.all run today;
-}
+    (read : List FileSum) (run : IsWholeRun files setup reindex tables answers counts.all) → AreRefusedIn run.history counts → first_blocked 1 tables ≡ None
+    → AreAllNoted files setup (Some []) (Some read) → CanBeTold (told_run read reindex run.history.journal (run_files today tables answers))
+    → new ≡ grown old (listing (files_with_journal read reindex today tables answers run.history.journal))
+    → AllByRecursion IsOfBytes (files_with_journal read reindex today tables answers run.history.journal) → IsServedWithJournal files setup reindex today old new counts
+served_with_journal files setup reindex today tables answers counts old new read run refused few_blocks noted one_journal written bytes =
+    let plain : List NamedFile = run_files today tables answers in
+    record {
+      tables = tables;
+      answers = answers;
+      run = run;
+      refused = refused;
+      few_blocks = few_blocks;
+      text = run_text read reindex run.history.journal plain;
+      journal = record { read = read; noted = noted; text_is = refl };
+      one_journal = one_journal;
+      written = written;
+      bytes = bytes;
+      told = files_again (files_with_journal read reindex today tables answers run.history.journal) bytes;
+      distinct = run_names_differ_with_journal files setup reindex tables answers counts.all run today (run_text read reindex run.history.journal plain);
+    }
 
 run_cut_at : (files : Option (List NamedFile)) (setup : List ℕ) (reindex : Bool) (today : Day) (tables : List ClosedTable) (answers : List (List ℕ)) (count : ℕ) (old new : Option (List ℕ)) (name : List ℕ)
-    (run : IsWholeRun files setup reindex tables answers count) → IsCutAt name old new (and_journal (run_files today tables answers) run.history.journal) → IsCutRunAt files setup reindex today old new name
-run_cut_at files setup reindex today tables answers count old new name run cut = record { tables = tables; answers = answers; count = count; run = run; cut = cut }
+    (text : List ℕ) (run : IsWholeRun files setup reindex tables answers count) → IsJournalText files setup reindex run.history.journal (run_files today tables answers) text
+    → IsCutAt name old new (and_journal (run_files today tables answers) text) → IsCutRunAt files setup reindex today old new name
+run_cut_at files setup reindex today tables answers count old new name text run journal cut = record { tables = tables; answers = answers; count = count; run = run; text = text; journal = journal; cut = cut }
 
 -- the run of which a file could not be written
 pub cut_run_with_journal : (files : Option (List NamedFile)) (setup : List ℕ) (reindex : Bool) (today : Day) (tables : List ClosedTable) (answers : List (List ℕ)) (count : ℕ) (old new : Option (List ℕ)) (fault : ServeFault)
-    (run : IsWholeRun files setup reindex tables answers count) → IsCutWithJournal (run_files today tables answers) run.history.journal old new fault → IsCutRunWithJournal files setup reindex today old new fault
-cut_run_with_journal files setup reindex today tables answers count old new (Close (Write name)) run cut = run_cut_at files setup reindex today tables answers count old new name run cut
-cut_run_with_journal files setup reindex today tables answers count old new (Close DateOutside) run cut = tt
-cut_run_with_journal files setup reindex today tables answers count old new (Close (TooManyBlocks number)) run cut = tt
-cut_run_with_journal files setup reindex today tables answers count old new (Close NoMemoryToClose) run cut = tt
-cut_run_with_journal files setup reindex today tables answers count old new NoMemory run (inl same) = inl same
-cut_run_with_journal files setup reindex today tables answers count old new NoMemory run (inr cut) = inr (run_cut_at files setup reindex today tables answers count old new journal_name run cut)
-cut_run_with_journal files setup reindex today tables answers count old new (Setup number) run cut = tt
-cut_run_with_journal files setup reindex today tables answers count old new (File path why) run cut = tt
-cut_run_with_journal files setup reindex today tables answers count old new (Refused why) run cut = tt
-cut_run_with_journal files setup reindex today tables answers count old new (Run why) run cut = tt
+    (text : List ℕ) (run : IsWholeRun files setup reindex tables answers count) → IsJournalText files setup reindex run.history.journal (run_files today tables answers) text
+    → IsCutWithJournal (run_files today tables answers) text old new fault → IsCutRunWithJournal files setup reindex today old new fault
+cut_run_with_journal files setup reindex today tables answers count old new (Close (Write name)) text run journal cut = run_cut_at files setup reindex today tables answers count old new name text run journal cut
+cut_run_with_journal files setup reindex today tables answers count old new (Close DateOutside) text run journal cut = tt
+cut_run_with_journal files setup reindex today tables answers count old new (Close (TooManyBlocks number)) text run journal cut = tt
+cut_run_with_journal files setup reindex today tables answers count old new (Close NoMemoryToClose) text run journal cut = tt
+cut_run_with_journal files setup reindex today tables answers count old new NoMemory text run journal (inl same) = inl same
+cut_run_with_journal files setup reindex today tables answers count old new NoMemory text run journal (inr cut) = inr (run_cut_at files setup reindex today tables answers count old new journal_name text run journal cut)
+cut_run_with_journal files setup reindex today tables answers count old new (Setup number) text run journal cut = tt
+cut_run_with_journal files setup reindex today tables answers count old new (File path why) text run journal cut = tt
+cut_run_with_journal files setup reindex today tables answers count old new (Refused why) text run journal cut = tt
+cut_run_with_journal files setup reindex today tables answers count old new (Run why) text run journal cut = tt

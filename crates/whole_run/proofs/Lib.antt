@@ -1,4 +1,5 @@
 pub mod LoadLaws
+pub mod NotedLaws
 pub mod TablesFirst
 pub mod HandingLaws
 pub mod CountLaws

@@ -26,7 +26,7 @@ use Rattle.station_lines.specs.Setup.{IsSetup}
 use Rattle.station_lines.proofs.SetupLaws.TextLaws.{one_setup}
 use Rattle.whole_run.specs.Loading.{Read, read_as, nothing, first_named, HasOneMore, IsIndexRead, IsMemoFileOf, IsTableRead, Loads, LoadAll}
 use Rattle.whole_run.specs.OpenedSetup.{HaveStill, OpensAsBefore, OpensAsOne}
-use Rattle.whole_run.specs.WholeRun.{IsAllRead}
+use Rattle.whole_run.specs.WholeRun.{IsAllRead, IsSaid}
 use Rattle.whole_run.proofs.Headings.{fresh_ok, made_ok, passing_ok, then_ok}
 use Rattle.whole_run.proofs.OpenLaws.{same_expression}
 use Rattle.whole_run.proofs.WrittenFiles.{same_index}
@@ -174,11 +174,16 @@ all_loads_alike files (entry ∷ entries) a b c d like h k = all_loads_alike fil
 abbrev said_ok : List SetupEntry → Result (List SetupEntry) ℕ
 said_ok entries = Ok entries
 
+-- a setup says one thing
+pub one_said : (files : List NamedFile) (setup : List ℕ) (xs ys : List SetupEntry) → IsSaid (Some files) setup (Ok xs) → IsSaid (Some files) setup (Ok ys) → xs ≡ ys
+one_said files setup xs ys h k =
+    let text : h.text ≡ k.text = one_file files setup h.text k.text h.found k.found in
+    let said : said_ok xs ≡ said_ok ys = one_setup k.text (said_ok xs) (said_ok ys) (subst (λ (l : List ℕ). IsSetup l (said_ok xs)) text h.says) k.says in
+    cc
+
 reads_alike : (files : List NamedFile) (setup : List ℕ) (a b : Read) → IsAllRead (Some files) setup a → IsAllRead (Some files) setup b → IsLikeRead a b
 reads_alike files setup a b h k =
-    let text : h.said.text ≡ k.said.text = one_file files setup h.said.text k.said.text h.said.found k.said.found in
-    let said : said_ok h.entries ≡ said_ok k.entries = one_setup k.said.text (said_ok h.entries) (said_ok k.entries) (subst (λ (l : List ℕ). IsSetup l (said_ok h.entries)) text h.said.says) k.said.says in
-    let entries : h.entries ≡ k.entries = cc in
+    let entries : h.entries ≡ k.entries = one_said files setup h.entries k.entries h.said k.said in
     all_loads_alike files k.entries nothing nothing a b (record { tables = tt; scripts = refl }) (subst (λ (l : List SetupEntry). LoadAll (Some files) l nothing a) entries h.loaded) k.loaded
 
 -- ---- opening

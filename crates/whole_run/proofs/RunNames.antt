@@ -321,10 +321,10 @@ module _ (reindex : Bool) (stations : ℕ) (read : List TableSource) (h : Histor
   names_differ today answers few = (run_files_apart today tables answers handed_new (omega (arith, few, few_answers))).apart
 
   -- so do they with that of the journal
-  pub names_differ_with_journal : (today : Day) (answers : List (List ℕ)) (journal : List Entry) → length answers ≤ stations → IsDistinct bytes_eq (names_of (and_journal (run_files today tables answers) journal))
-  names_differ_with_journal today answers journal few =
+  pub names_differ_with_journal : (today : Day) (answers : List (List ℕ)) (text : List ℕ) → length answers ≤ stations → IsDistinct bytes_eq (names_of (and_journal (run_files today tables answers) text))
+  names_differ_with_journal today answers text few =
       let all = run_files_apart today tables answers handed_new (omega (arith, few, few_answers)) in
-      subst (λ (l : List (List ℕ)). IsDistinct bytes_eq l) (sym (map-append (λ (file : NamedFile). file.name) (run_files today tables answers) (journal_file journal ∷ [])))
+      subst (λ (l : List (List ℕ)). IsDistinct bytes_eq l) (sym (map-append (λ (file : NamedFile). file.name) (run_files today tables answers) (journal_file text ∷ [])))
       (push (names_of (run_files today tables answers)) journal_name all.apart all.journal)
 
 module _ (files : Option (List NamedFile)) (setup : List ℕ) (reindex : Bool) (tables : List ClosedTable) (answers : List (List ℕ)) (count : ℕ) (run : IsWholeRun files setup reindex tables answers count) (today : Day) where
@@ -332,6 +332,6 @@ module _ (files : Option (List NamedFile)) (setup : List ℕ) (reindex : Bool) (
   run_names_differ =
       names_differ reindex (length run.read.scripts) run.read.tables run.history run.run.opened tables run.handed today answers (omega (arith, run.run.reports.count, run.run.stations))
 
-  pub run_names_differ_with_journal : IsDistinct bytes_eq (names_of (and_journal (run_files today tables answers) run.history.journal))
-  run_names_differ_with_journal =
-      names_differ_with_journal reindex (length run.read.scripts) run.read.tables run.history run.run.opened tables run.handed today answers run.history.journal (omega (arith, run.run.reports.count, run.run.stations))
+  pub run_names_differ_with_journal : (text : List ℕ) → IsDistinct bytes_eq (names_of (and_journal (run_files today tables answers) text))
+  run_names_differ_with_journal text =
+      names_differ_with_journal reindex (length run.read.scripts) run.read.tables run.history run.run.opened tables run.handed today answers text (omega (arith, run.run.reports.count, run.run.stations))

@@ -1,5 +1,5 @@
 -- Tables that are written as they stand, and why they are not.
-use Rattle.std.proofs.Common.{◌≡◌, ℕ, List, [], Option, None}
+use Rattle.std.proofs.Common.{◌≡◌, ℕ, List, [], map, Option, None}
 use Rattle.std.specs.List.{AllByRecursion}
 use Rattle.dbf_fields.specs.declared.day.Day.{Day}
 use Rattle.byte_io.specs.Sink.{grown}
@@ -11,14 +11,17 @@ use Rattle.station_files.specs.Files.{listing, IsOfBytes}
 use Rattle.station_files.proofs.ListingLaws.{files_again}
 use Rattle.whole_run.specs.declared.fault.ServeFault.{ServeFault}
 use Rattle.whole_run.specs.declared.fault.ServeFault.TheVariants.{Setup, File, Refused, Run, Close, NoMemory}
+use Rattle.journal_file.specs.declared.sum.FileSum.{FileSum}
+use Rattle.whole_run.specs.FileSums.{sum_of_named}
 use Rattle.whole_run.specs.HandedOver.{AreHandedOver}
 use Rattle.whole_run.specs.WholeRun.{IsWriteFault, IsCutWriting}
 use Rattle.whole_run.specs.TablesWritten.{AreTablesWritten, IsTablesFault, IsCutTables}
 
-pub tables_written : (h : History) (today : Day) (tables : List ClosedTable) (old new : Option (List ℕ)) → AreHandedOver h tables → first_blocked 1 tables ≡ None
-    → new ≡ grown old (listing (run_files today tables [])) → AllByRecursion IsOfBytes (run_files today tables []) → AreTablesWritten h today old new
-tables_written h today tables old new handed few_blocks written bytes =
-    record { tables = tables; handed = handed; few_blocks = few_blocks; written = written; bytes = bytes; told = files_again (run_files today tables []) bytes }
+pub tables_written : (h : History) (today : Day) (tables : List ClosedTable) (old new : Option (List ℕ)) (sums : List FileSum) → AreHandedOver h tables → first_blocked 1 tables ≡ None
+    → new ≡ grown old (listing (run_files today tables [])) → AllByRecursion IsOfBytes (run_files today tables [])
+    → sums ≡ map sum_of_named (run_files today tables []) → AreTablesWritten h today old new sums
+tables_written h today tables old new sums handed few_blocks written bytes summed =
+    record { tables = tables; handed = handed; few_blocks = few_blocks; written = written; bytes = bytes; told = files_again (run_files today tables []) bytes; summed = summed }
 
 pub tables_fault : (h : History) (year : ℕ) (fault : ServeFault) (tables : List ClosedTable) → AreHandedOver h tables → IsWriteFault year tables fault → IsTablesFault h year fault
 tables_fault h year NoMemory tables handed why = tt

@@ -1,4 +1,5 @@
 pub mod Counts
+pub mod FileSums
 pub mod HandedOver
 pub mod JournalFile
 pub mod Loading

@@ -1,13 +1,13 @@
 //! The journal's file, written entry by entry.
 #![tactic(auto, using(byte_io::specs::Laws::Sinks::sinks))]
 
-ghost use Rattle.std.specs.Prelude.{◌≡◌, ◌∷◌, [], ℕ, List, Err, true, OnOk, OnErr, IfErr};
+ghost use Rattle.std.specs.Prelude.{◌≡◌, ◌∷◌, [], ℕ, List, map, Err, true, OnOk, OnErr, IfErr};
 ghost use Rattle.std.specs.List.{list_all};
 ghost use Rattle.byte_io.specs.Output.{Puts};
 ghost use Rattle.byte_io.specs.Sink.{grown, is_byte, IsFront, Rises};
 ghost use Rattle.station_files.specs.Files.{IsOfBytes, listing};
-ghost use Rattle.station_lines.specs.JournalLines.{journal_text};
-ghost use Rattle.whole_run.specs.JournalFile.{journal_file, journal_under, PutsFront, IsJournalFault};
+ghost use Rattle.station_lines.specs.JournalLines.{line_parts, journal_text, HaveSmallNumbers};
+ghost use Rattle.whole_run.specs.JournalFile.{journal_file, journal_under, parts_text, HaveSmallEntries, PutsFront, IsJournalFault};
 
 use crate::fault::ServeFault;
 use byte_io::{ByteSink, SinkFault, SinkWriter};
@@ -16,6 +16,17 @@ use shared_catalogue::Entry;
 use station_files::{CloseFault, Folder};
 use station_lines::entry_line;
 use std::alloc::{AllocError, Global};
+
+/// The text of a journal's file, in parts.
+#[derive(Clone, Copy)]
+pub(crate) struct JournalText<'a> {
+    /// The lines before those of the entries.
+    pub head: &'a [u8],
+    /// The entries, whose lines are made as they are put.
+    pub entries: &'a [Entry],
+    /// The lines after them.
+    pub tail: &'a [u8],
+}
 
 // Why the journal's lines were not written, or not all.
 #[derive(Clone, Copy, Debug, PartialEq, Eq)]
@@ -55,6 +66,8 @@ fn put_lines<S: ByteSink>(
     journal: &[Entry],
 ) -> Result<(), AllocError>
     ensures put { OnOk result (Puts out.old (journal_text journal.now) out.new) }
+    // A line was made of each entry, so its numbers are of 64 bits.
+    ensures small { OnOk result (HaveSmallNumbers (map line_parts journal.now)) }
     ensures front { PutsFront out.old (journal_text journal.now) out.new }
 {
     for entry in journal {
@@ -64,22 +77,39 @@ fn put_lines<S: ByteSink>(
     Ok(())
 }
 
-// Writes the lines of the journal's entries into a sink.
-fn write_lines<S: ByteSink>(
+// Puts the journal's text. An `Err` says that there was no memory: a front part of it was put.
+fn put_text<S: ByteSink>(
+    alloc: Global,
+    out: &mut SinkWriter<'_, S>,
+    text: &JournalText<'_>,
+) -> Result<(), AllocError>
+    ensures put { OnOk result (Puts out.old (parts_text text.now) out.new) }
+    ensures small { OnOk result (HaveSmallEntries text.now) }
+    ensures front { PutsFront out.old (parts_text text.now) out.new }
+{
+    out.put(text.head);
+    put_lines(alloc, out, text.entries)?;
+    out.put(text.tail);
+    Ok(())
+}
+
+// Writes the journal's text into a sink.
+fn write_text<S: ByteSink>(
     alloc: Global,
     sink: &mut S,
-    journal: &[Entry],
+    text: &JournalText<'_>,
 ) -> Result<(), LinesFault>
-    ensures wrote { OnOk result (S.written sink.new ≡ grown (S.written sink.old) (journal_text journal.now)) }
+    ensures small { OnOk result (HaveSmallEntries text.now) }
+    ensures wrote { OnOk result (S.written sink.new ≡ grown (S.written sink.old) (parts_text text.now)) }
     ensures no_failure { OnOk result (S.failures sink.new ≡ S.failures sink.old) }
     ensures failed { result ≡ Err LinesFault.Sink → Rises (S.failures sink.old) (S.failures sink.new) }
     ensures unfailed { result ≡ Err LinesFault.NoMemory → S.failures sink.new ≡ S.failures sink.old }
     ensures kept { IsFront (S.written sink.old) (S.written sink.new) }
-    ensures front { OnErr result (IsFront (S.written sink.new) (grown (S.written sink.old) (journal_text journal.now))) }
-    ensures bytes { OnOk result (list_all is_byte (journal_text journal.now) ≡ true) }
+    ensures front { OnErr result (IsFront (S.written sink.new) (grown (S.written sink.old) (parts_text text.now))) }
+    ensures bytes { OnOk result (list_all is_byte (parts_text text.now) ≡ true) }
 {
     let mut out = SinkWriter::new(sink);
-    let put = put_lines(alloc, &mut out, journal);
+    let put = put_text(alloc, &mut out, text);
     out.flush()?;
     put?;
     Ok(())
@@ -90,40 +120,42 @@ fn write_file<F: Folder>(
     alloc: Global,
     folder: &mut F,
     name: &[u8],
-    journal: &[Entry],
+    text: &JournalText<'_>,
 ) -> Result<(), LinesFault>
-    ensures wrote { OnOk result (F.written folder.new ≡ grown (F.written folder.old) (listing (journal_under name.now journal.now ∷ []))) }
+    ensures small { OnOk result (HaveSmallEntries text.now) }
+    ensures wrote { OnOk result (F.written folder.new ≡ grown (F.written folder.old) (listing (journal_under name.now (parts_text text.now) ∷ []))) }
     ensures no_failure { OnOk result (F.failures folder.new ≡ F.failures folder.old) }
     ensures failed { result ≡ Err LinesFault.Sink → Rises (F.failures folder.old) (F.failures folder.new) }
     ensures unfailed { result ≡ Err LinesFault.NoMemory → F.failures folder.new ≡ F.failures folder.old }
     ensures kept { IsFront (F.written folder.old) (F.written folder.new) }
-    ensures front { OnErr result (IsFront (F.written folder.new) (grown (F.written folder.old) (listing (journal_under name.now journal.now ∷ [])))) }
-    ensures bytes { OnOk result (IsOfBytes (journal_under name.now journal.now)) }
+    ensures front { OnErr result (IsFront (F.written folder.new) (grown (F.written folder.old) (listing (journal_under name.now (parts_text text.now) ∷ [])))) }
+    ensures bytes { OnOk result (IsOfBytes (journal_under name.now (parts_text text.now))) }
 {
     folder.begin(name)?;
-    write_lines(alloc, folder, journal)
+    write_text(alloc, folder, text)
 }
 
-/// Writes the journal's file into the folder: JOURNAL.TXT, a line an entry. Its text is never whole in memory.
+/// Writes the journal's file into the folder: JOURNAL.TXT. The text of its entries is never whole in memory.
 ///
 /// `Close(Write(JOURNAL.TXT))` says that the folder failed, and `NoMemory` that memory was refused; a front part of the file
 /// is written then, or the file is not begun.
 pub(crate) fn write_journal<F: Folder>(
     alloc: Global,
-    journal: &[Entry],
+    text: &JournalText<'_>,
     folder: &mut F,
 ) -> Result<(), ServeFault>
-    ensures wrote { OnOk result (F.written folder.new ≡ grown (F.written folder.old) (listing (journal_file journal.now ∷ []))) }
+    ensures small { OnOk result (HaveSmallEntries text.now) }
+    ensures wrote { OnOk result (F.written folder.new ≡ grown (F.written folder.old) (listing (journal_file (parts_text text.now) ∷ []))) }
     ensures no_failure { OnOk result (F.failures folder.new ≡ F.failures folder.old) }
     ensures fault { IfErr result IsJournalFault }
     ensures failed { (name : List ℕ) → result ≡ Err (ServeFault.Close (CloseFault.Write name)) → Rises (F.failures folder.old) (F.failures folder.new) }
     ensures unfailed { result ≡ Err ServeFault.NoMemory → F.failures folder.new ≡ F.failures folder.old }
     ensures kept { IsFront (F.written folder.old) (F.written folder.new) }
-    ensures front { OnErr result (IsFront (F.written folder.new) (grown (F.written folder.old) (listing (journal_file journal.now ∷ [])))) }
-    ensures bytes { OnOk result (IsOfBytes (journal_file journal.now)) }
+    ensures front { OnErr result (IsFront (F.written folder.new) (grown (F.written folder.old) (listing (journal_file (parts_text text.now) ∷ [])))) }
+    ensures bytes { OnOk result (IsOfBytes (journal_file (parts_text text.now))) }
 {
     let name = Bytes::from_slice(alloc, b"JOURNAL.TXT")?;
-    match write_file(alloc, folder, name.as_slice(), journal) {
+    match write_file(alloc, folder, name.as_slice(), text) {
         Ok(()) => Ok(()),
         Err(LinesFault::Sink) => Err(ServeFault::Close(CloseFault::Write(name))),
         Err(LinesFault::NoMemory) => Err(ServeFault::NoMemory),

@@ -1,17 +1,20 @@
 //! Reading what the entries of a setup name.
 
-ghost use Rattle.std.specs.Prelude.{◌≡◌, ◌⊎◌, ◌<◌, ℕ, List, length, IfOk, IfErr, IfSome, IsSome, OnOk};
+ghost use Rattle.std.specs.Prelude.{◌≡◌, ◌⊎◌, ◌<◌, ◌∷◌, [], ℕ, List, length, IfOk, IfErr, IfSome, IsSome, OnOk};
 ghost use Rattle.dbf_image.specs.DbfText.{IsDbf};
 ghost use Rattle.ndx_index.specs.Header.{IsIndex};
 ghost use Rattle.station_lines.specs.declared.setup.entry.SetupEntry.TheVariants.{Table, Index};
 ghost use Rattle.station_lines.specs.Setup.{IndexesFollowTables};
 ghost use Rattle.station_files.specs.Files.{IsFileOf};
+ghost use Rattle.journal_file.specs.WholeText.{sum_of_file, with_sum};
+ghost use Rattle.whole_run.specs.FileSums.{memo_paths, paths_of, paths_in, AreNoted};
 ghost use Rattle.whole_run.specs.Loading.{nothing, read_of, first_named, IsMemoFileOf, IsTableRead, IsIndexRead, HasIndex, CanLoad, Loads, LoadAll, IsFileFault, IsMemoFault, IsTableFault, IsIndexFault, IsEntryFault, IsFailure, IsFaultIn};
 
 use crate::fault::{FileFault, ServeFault};
 use crate::loaded::Loaded;
 use dbf_fields::Bytes;
 use dbf_image::{ImageFault, TableData, read_table};
+use journal_file::ReadSums;
 use ndx_index::{NdxFault, NdxFile, read_ndx};
 use shared_catalogue::{IndexSource, TableSource};
 use station_files::{LoadFault, Source};
@@ -28,12 +31,14 @@ fn unread(alloc: Global, path: &Bytes, fault: FileFault) -> ServeFault
     }
 }
 
-/// The bytes of the file of a path.
+/// The bytes of the file of a path, which are noted where a journal is wanted.
 pub(crate) fn load_file<S: Source>(
     alloc: Global,
     source: &mut S,
     path: &Bytes,
+    sums: &mut ReadSums,
 ) -> Result<Bytes, ServeFault>
+    ensures noted { IfOk result (λ bytes. sums.new ≡ with_sum sums.old (sum_of_file path.now bytes)) }
     ensures found { IfOk result (λ bytes. IsFileOf (S.files source.old) path.now bytes) }
     ensures kept { S.files source.new ≡ S.files source.old }
     ensures fault { IfErr result (IsFileFault (S.files source.old) path.now) }
@@ -41,7 +46,10 @@ pub(crate) fn load_file<S: Source>(
     ensures failure { IfErr result (IsFailure (S.files source.old) (S.failures source.old) (S.failures source.new)) }
 {
     match source.load(alloc, path.as_slice()) {
-        Ok(bytes) => Ok(bytes),
+        Ok(bytes) => {
+            sums.note(alloc, path.as_slice(), bytes.as_slice())?;
+            Ok(bytes)
+        }
         Err(LoadFault::NoMemory) => Err(ServeFault::NoMemory),
         Err(LoadFault::CannotRead) => Err(unread(alloc, path, FileFault::CannotRead)),
         Err(LoadFault::Unrecovered) => Err(unread(alloc, path, FileFault::Unrecovered)),
@@ -53,7 +61,9 @@ fn load_memos<S: Source>(
     alloc: Global,
     source: &mut S,
     dbt: &Option<Bytes>,
+    sums: &mut ReadSums,
 ) -> Result<Option<Bytes>, ServeFault>
+    ensures noted { OnOk result (AreNoted (S.files source.old) (memo_paths dbt.now) sums.old sums.new) }
     ensures found { IfOk result (λ memo. IsMemoFileOf (S.files source.old) dbt.now memo) }
     ensures kept { S.files source.new ≡ S.files source.old }
     ensures fault { IfErr result (IsMemoFault (S.files source.old) dbt.now) }
@@ -62,7 +72,7 @@ fn load_memos<S: Source>(
 {
     match dbt {
         None => Ok(None),
-        Some(path) => Ok(Some(load_file(alloc, source, path)?)),
+        Some(path) => Ok(Some(load_file(alloc, source, path, sums)?)),
     }
 }
 
@@ -106,15 +116,17 @@ fn load_table<S: Source>(
     name: &Bytes,
     dbf: &Bytes,
     dbt: &Option<Bytes>,
+    sums: &mut ReadSums,
 ) -> Result<TableSource, ServeFault>
+    ensures noted { OnOk result (AreNoted (S.files source.old) (paths_of (Table name.now dbf.now dbt.now)) sums.old sums.new) }
     ensures read { IfOk result (IsTableRead (S.files source.old) name.now dbf.now dbt.now) }
     ensures kept { S.files source.new ≡ S.files source.old }
     ensures fault { IfErr result (IsEntryFault (S.files source.old) (Table name.now dbf.now dbt.now)) }
     ensures loads { OnOk result (S.failures source.new ≡ S.failures source.old) }
     ensures failure { IfErr result (IsFailure (S.files source.old) (S.failures source.old) (S.failures source.new)) }
 {
-    let bytes = load_file(alloc, source, dbf)?;
-    let memo = load_memos(alloc, source, dbt)?;
+    let bytes = load_file(alloc, source, dbf, sums)?;
+    let memo = load_memos(alloc, source, dbt, sums)?;
     let content = read_content(alloc, dbf, bytes, &memo)?;
     let name = name.copy(alloc)?;
     Ok(TableSource {
@@ -130,14 +142,16 @@ fn load_index<S: Source>(
     source: &mut S,
     name: &Bytes,
     ndx: &Bytes,
+    sums: &mut ReadSums,
 ) -> Result<IndexSource, ServeFault>
+    ensures noted { OnOk result (AreNoted (S.files source.old) (ndx.now ∷ []) sums.old sums.new) }
     ensures read { IfOk result (IsIndexRead (S.files source.old) name.now ndx.now) }
     ensures kept { S.files source.new ≡ S.files source.old }
     ensures fault { (table : List ℕ) → IfErr result (IsEntryFault (S.files source.old) (Index table name.now ndx.now)) }
     ensures loads { OnOk result (S.failures source.new ≡ S.failures source.old) }
     ensures failure { IfErr result (IsFailure (S.files source.old) (S.failures source.old) (S.failures source.new)) }
 {
-    let bytes = load_file(alloc, source, ndx)?;
+    let bytes = load_file(alloc, source, ndx, sums)?;
     let file = read_index(alloc, ndx, &bytes)?;
     let name = name.copy(alloc)?;
     Ok(IndexSource { name, file })
@@ -173,8 +187,10 @@ fn load_entry<S: Source>(
     source: &mut S,
     entry: &SetupEntry,
     loaded: &mut Loaded,
+    sums: &mut ReadSums,
 ) -> Result<(), ServeFault>
     requires ready { CanLoad loaded.old.tables.items entry.now }
+    ensures noted { OnOk result (AreNoted (S.files source.old) (paths_of entry.now) sums.old sums.new) }
     ensures read { OnOk result (Loads (S.files source.old) entry.now (read_of loaded.old) (read_of loaded.new)) }
     ensures kept { S.files source.new ≡ S.files source.old }
     ensures fault { IfErr result (IsEntryFault (S.files source.old) entry.now) }
@@ -185,29 +201,33 @@ fn load_entry<S: Source>(
         SetupEntry::Table { name, dbf, dbt } => {
             loaded
                 .tables
-                .push(load_table(alloc, source, name, dbf, dbt)?)?;
+                .push(load_table(alloc, source, name, dbf, dbt, sums)?)?;
             Ok(())
         }
         SetupEntry::Index { table, name, ndx } => {
-            let index = load_index(alloc, source, name, ndx)?;
+            let index = load_index(alloc, source, name, ndx, sums)?;
             add_index(&mut loaded.tables, table, index)?;
             Ok(())
         }
         SetupEntry::Station { script } => {
-            loaded.scripts.push(load_file(alloc, source, script)?)?;
+            loaded
+                .scripts
+                .push(load_file(alloc, source, script, sums)?)?;
             Ok(())
         }
     }
 }
 
 /// Loads and reads what the entries of a setup name, entry by entry; each index stands after its table. The fault is
-/// that of the first entry whose files are not read.
+/// that of the first entry whose files are not read. Each file that is read is noted where a journal is wanted.
 pub(crate) fn load_entries<S: Source>(
     alloc: Global,
     source: &mut S,
     entries: &[SetupEntry],
+    sums: &mut ReadSums,
 ) -> Result<Loaded, ServeFault>
     requires tables_first { IndexesFollowTables entries.now }
+    ensures noted { OnOk result (AreNoted (S.files source.old) (paths_in entries.now) sums.old sums.new) }
     ensures read { IfOk result (λ loaded. LoadAll (S.files source.old) entries.now nothing (read_of loaded)) }
     ensures kept { S.files source.new ≡ S.files source.old }
     ensures fault { IfErr result (IsFaultIn (S.files source.old) entries.now) }
@@ -219,7 +239,7 @@ pub(crate) fn load_entries<S: Source>(
         scripts: Vec::new(alloc),
     };
     for entry in entries {
-        load_entry(alloc, source, entry, &mut loaded)?;
+        load_entry(alloc, source, entry, &mut loaded, sums)?;
     }
     Ok(loaded)
 }

@@ -5,7 +5,7 @@ use shared_catalogue::TableSource;
 
 /// What was read for a run, by the entries of its setup in their order.
 #[derive(Drop)]
-pub(crate) struct Loaded {
+pub struct Loaded {
     /// The tables with their indexes.
     pub tables: Vec<TableSource>,
     /// The stations' scripts.

@@ -8,12 +8,16 @@ use crate::fault::ServeFault;
 use crate::loaded::Loaded;
 use crate::run::read_all;
 use dbf_fields::Bytes;
+use journal_file::ReadSums;
 use shared_catalogue::{Catalogue, OpenFault};
 use station_files::Source;
 use std::alloc::Global;
 
-// Opens the tables that were read for a station a script.
-fn open_loaded(alloc: Global, loaded: Loaded, reindex: bool) -> Result<Catalogue, ServeFault>
+/// Opens the tables that were read for a station a script, as [`serve`] does: `Refused` says why they are not opened together,
+/// and `NoMemory` that memory was refused.
+///
+/// [`serve`]: crate::serve
+pub fn open_loaded(alloc: Global, loaded: Loaded, reindex: bool) -> Result<Catalogue, ServeFault>
     ensures opened { IfOk result (λ catalogue. IsOpenedFrom reindex (read_of loaded) catalogue.opened) }
     ensures empty { IfOk result (λ catalogue. catalogue.journal ≡ []) }
     ensures fault { IfErr result (IsOpenFault reindex (read_of loaded)) }
@@ -42,6 +46,6 @@ pub fn open_setup<S: Source>(
     ensures loads { OnOk result (S.failures source.new ≡ S.failures source.old) }
     ensures failure { IfErr result (IsFailure (S.files source.old) (S.failures source.old) (S.failures source.new)) }
 {
-    let loaded = read_all(alloc, source, setup)?;
+    let loaded = read_all(alloc, source, setup, &mut ReadSums::unwanted(alloc))?;
     Ok(open_loaded(alloc, loaded, reindex)?)
 }

@@ -1,12 +1,13 @@
 //! The whole run: from a setup and its files to the written files.
 
-ghost use Rattle.std.specs.Prelude.{◌≡◌, ◌≢◌, ◌≤◌, ℕ, List, None, Ok, Err, IfOk, IfErr, OnOk};
+ghost use Rattle.std.specs.Prelude.{◌∷◌, [], ◌≡◌, ◌≢◌, ◌≤◌, ℕ, List, None, Ok, Err, IfOk, IfErr, OnOk};
 ghost use Rattle.std.specs.List.{AllByRecursion};
 ghost use Rattle.byte_io.specs.Sink.{grown, Rises};
 ghost use Rattle.catalogue_core.specs.declared.catalogue.TheConstants.{MAX_ENTRIES};
 ghost use Rattle.station_files.specs.Closing.{run_files, first_blocked};
 ghost use Rattle.station_files.specs.Files.{IsOfBytes, files_in, listing};
 ghost use Rattle.station_lines.specs.Setup.{IndexesFollowTables};
+ghost use Rattle.whole_run.specs.FileSums.{AreNoted, AreAllNoted};
 ghost use Rattle.whole_run.specs.Loading.{read_of, IsFailure};
 ghost use Rattle.whole_run.specs.WholeRun.{IsAllRead, IsReadFault, IsRun, IsRunFault, IsServed, IsServeFault, IsSaid, IsWriteFault, IsCutWriting, IsCutRun};
 
@@ -16,6 +17,7 @@ use crate::fault::ServeFault;
 use crate::load::{load_entries, load_file};
 use crate::loaded::Loaded;
 use dbf_fields::{Bytes, Day};
+use journal_file::ReadSums;
 use shared_catalogue::{Catalogue, OpenFault};
 use station_files::{CloseFault, ClosedTable, Folder, Source, close_files};
 use station_lines::{SetupEntry, parse_setup};
@@ -23,6 +25,25 @@ use station_run::{Gate, Outcome, run_catalogue};
 use std::alloc::Global;
 use std::sync::Wait;
 use std::thread::Threads;
+
+// What the setup of a path says, whose bytes are noted where a journal is wanted.
+fn load_setup<S: Source>(
+    alloc: Global,
+    source: &mut S,
+    setup: &Bytes,
+    sums: &mut ReadSums,
+) -> Result<Vec<SetupEntry>, ServeFault>
+    ensures noted { OnOk result (AreNoted (S.files source.old) (setup.now ∷ []) sums.old sums.new) }
+    ensures said { IfOk result (λ entries. IsSaid (S.files source.old) setup.now (Ok entries.items)) }
+    ensures tables_first { IfOk result (λ entries. IndexesFollowTables entries.items) }
+    ensures kept { S.files source.new ≡ S.files source.old }
+    ensures fault { IfErr result (IsReadFault (S.files source.old) setup.now) }
+    ensures loads { OnOk result (S.failures source.new ≡ S.failures source.old) }
+    ensures failure { IfErr result (IsFailure (S.files source.old) (S.failures source.old) (S.failures source.new)) }
+{
+    let text = load_file(alloc, source, setup, sums)?;
+    Ok(parse_setup(alloc, text.as_slice())?)
+}
 
 /// What the setup of a path says: its entries, in their order. The faults are those of [`serve`] at the setup.
 pub fn read_setup<S: Source>(
@@ -37,24 +58,26 @@ pub fn read_setup<S: Source>(
     ensures loads { OnOk result (S.failures source.new ≡ S.failures source.old) }
     ensures failure { IfErr result (IsFailure (S.files source.old) (S.failures source.old) (S.failures source.new)) }
 {
-    let text = load_file(alloc, source, setup)?;
-    Ok(parse_setup(alloc, text.as_slice())?)
+    load_setup(alloc, source, setup, &mut ReadSums::unwanted(alloc))
 }
 
-/// Reads the setup of a path, and then what it names.
-pub(crate) fn read_all<S: Source>(
+/// Reads the setup of a path, and then what it names, as [`serve`] does. Each file that is read is noted where a journal is
+/// wanted. The faults come in the order of [`ServeFault`].
+pub fn read_all<S: Source>(
     alloc: Global,
     source: &mut S,
     setup: &Bytes,
+    sums: &mut ReadSums,
 ) -> Result<Loaded, ServeFault>
+    ensures noted { OnOk result (AreAllNoted (S.files source.old) setup.now sums.old sums.new) }
     ensures read { IfOk result (λ loaded. IsAllRead (S.files source.old) setup.now (read_of loaded)) }
     ensures kept { S.files source.new ≡ S.files source.old }
     ensures fault { IfErr result (IsReadFault (S.files source.old) setup.now) }
     ensures loads { OnOk result (S.failures source.new ≡ S.failures source.old) }
     ensures failure { IfErr result (IsFailure (S.files source.old) (S.failures source.old) (S.failures source.new)) }
 {
-    let entries = read_setup(alloc, source, setup)?;
-    load_entries(alloc, source, &entries)
+    let entries = load_setup(alloc, source, setup, sums)?;
+    load_entries(alloc, source, &entries, sums)
 }
 
 /// Opens the tables and runs the scripts.
@@ -128,7 +151,7 @@ pub fn serve<S: Source, F: Folder, G: Gate + Sync, R: Threads + Wait + Sync>(
     ensures failed { (name : List ℕ) → result ≡ Err (ServeFault.Close (CloseFault.Write name)) → Rises (F.failures folder.old) (F.failures folder.new) }
     ensures whole_before_fault { IfErr result (IsCutRun (S.files source.old) setup.now reindex today (F.written folder.old) (F.written folder.new)) }
 {
-    let loaded = read_all(alloc, source, setup)?;
+    let loaded = read_all(alloc, source, setup, &mut ReadSums::unwanted(alloc))?;
     let stations = loaded.scripts.len();
     let outcome = run_loaded(rt, alloc, loaded, reindex, gate)?;
     let counts = command_counts(alloc, &outcome.closed, stations)?;

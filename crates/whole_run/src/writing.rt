@@ -1,19 +1,22 @@
 //! Writing the tables of a catalogue as they stand now.
 
-ghost use Rattle.std.specs.Prelude.{◌≡◌, ◌≢◌, ℕ, List, Err, IfErr, OnOk};
+ghost use Rattle.std.specs.Prelude.{◌≡◌, ◌≢◌, ℕ, List, Err, IfOk, IfErr, OnOk};
 ghost use Rattle.byte_io.specs.Sink.{Rises};
 ghost use Rattle.whole_run.specs.TablesWritten.{AreTablesWritten, IsTablesFault, IsCutTables};
 
 use crate::copying::copied_tables;
 use crate::fault::ServeFault;
 use crate::run::write_files;
+use crate::sums::sums_to_write;
 use dbf_fields::Day;
+use journal_file::FileSum;
 use shared_catalogue::Catalogue;
 use station_files::{CloseFault, Folder};
 use std::alloc::Global;
 
 /// Writes the tables and indexes of a catalogue as they stand now into the folder, dated, as [`serve`] writes those of a
-/// run: the same files, without the answers. The tables are copied for it.
+/// run: the same files, without the answers. The tables are copied for it. It answers what a journal says of each of the files,
+/// in the order of writing.
 ///
 /// `NoMemory`, `DateOutside` and `TooManyBlocks` come before any file is begun: see [`station_files::close_files`].
 ///
@@ -23,8 +26,8 @@ pub fn write_tables<F: Folder>(
     catalogue: &Catalogue,
     today: Day,
     folder: &mut F,
-) -> Result<(), ServeFault>
-    ensures wrote { OnOk result (AreTablesWritten catalogue.now today (F.written folder.old) (F.written folder.new)) }
+) -> Result<Vec<FileSum>, ServeFault>
+    ensures wrote { IfOk result (λ sums. AreTablesWritten catalogue.now today (F.written folder.old) (F.written folder.new) sums.items) }
     ensures no_failure { OnOk result (F.failures folder.new ≡ F.failures folder.old) }
     ensures fault { IfErr result (IsTablesFault catalogue.now today.year) }
     ensures no_file_begun { IfErr result (λ fault. ((name : List ℕ) → fault ≢ ServeFault.Close (CloseFault.Write name)) → folder.new ≡ folder.old) }
@@ -33,6 +36,7 @@ pub fn write_tables<F: Folder>(
 {
     let tables = copied_tables(alloc, catalogue)?;
     let answers = Vec::new(alloc);
+    let sums = sums_to_write(alloc, &tables, &answers, today)?;
     write_files(alloc, &tables, &answers, today, folder)?;
-    Ok(())
+    Ok(sums)
 }

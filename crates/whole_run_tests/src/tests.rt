@@ -131,6 +131,16 @@ pub(crate) fn has_files(folder: &MemoryFolder, files: &[(&[u8], &[u8])]) -> bool
     folder.files.len() == files.len()
 }
 
+// Whether a folder begins with the files of another one.
+pub(crate) fn begins_with(folder: &MemoryFolder, other: &MemoryFolder) -> bool {
+    for (place, file) in other.files.iter().enumerate() {
+        if !has_file(folder, place, file.name.as_slice(), file.bytes.as_slice()) {
+            return false;
+        }
+    }
+    true
+}
+
 // What a folder has after a run of `count` commands.
 pub(crate) fn folder_of<R: Threads + Wait + Sync>(
     rt: &R,

@@ -1,8 +1,9 @@
 //! The journal of a run of sixteen stations, performed once more.
 
-use crate::tests::{SETUP, has_file, office};
+use crate::tests::{SETUP, begins_with, office};
 use audit::audit;
 use dbf_fields::{Bytes, day_of};
+use journal_file::{FileSum, cut_journal, cut_wrote_sum};
 use station_files::{MemoryFolder, MemorySource};
 use station_run::OpenGate;
 use std::alloc::{AllocError, Global};
@@ -72,26 +73,35 @@ fn served<R: Threads + Wait + Sync>(
     }
 }
 
-// The tables at the end of a journal that holds, as they are written.
-fn audited(alloc: Global, source: &mut MemorySource, journal: &[u8]) -> Result<MemoryFolder, Fail> {
+// The tables at the end of entries that hold, as they are written, and what a journal says of them.
+fn audited(
+    alloc: Global,
+    source: &mut MemorySource,
+    entries: &[u8],
+) -> Result<(MemoryFolder, Vec<FileSum>), Fail> {
     let setup = Bytes::from_slice(alloc, SETUP)?;
     let today = day_of(1987, 3, 15).ok_or("a date")?;
     let mut catalogue = open_setup(alloc, &setup, false, source).map_err(|_| "no tables")?;
-    match audit(alloc, &mut catalogue, journal) {
+    match audit(alloc, &mut catalogue, entries) {
         Ok(count) if count == STATIONS * LINES => {}
         _ => return Err("an entry does not hold".into()),
     }
     let mut folder = MemoryFolder::new(alloc);
-    write_tables(alloc, &catalogue, today, &mut folder).map_err(|_| "no files")?;
-    Ok(folder)
+    let sums = write_tables(alloc, &catalogue, today, &mut folder).map_err(|_| "no files")?;
+    Ok((folder, sums))
 }
 
-// Whether a folder's first files are the other's.
-fn begins_with(folder: &MemoryFolder, other: &MemoryFolder) -> bool {
-    for (place, file) in other.files.iter().enumerate() {
-        if !has_file(folder, place, file.name.as_slice(), file.bytes.as_slice()) {
+// Whether the first lines of files that were written are those of these files.
+fn tells(wrote: &[u8], sums: &[FileSum]) -> bool {
+    let mut rest = wrote;
+    for sum in sums {
+        let Some(cut) = cut_wrote_sum(rest) else {
+            return false;
+        };
+        if cut.path != sum.path.as_slice() || cut.digest != sum.digest.as_slice() {
             return false;
         }
+        rest = cut.rest;
     }
     true
 }
@@ -102,7 +112,9 @@ fn journal_of_sixteen_stations_holds(rt: HostRuntime) -> Result<(), Fail> {
     let mut source = sixteen(alloc)?;
     let folder = served(&rt, alloc, &mut source)?;
     let journal = folder.files.last().ok_or("a journal")?;
-    let again = audited(alloc, &mut source, journal.bytes.as_slice())?;
+    let parts = cut_journal(journal.bytes.as_slice()).map_err(|_| "a whole journal")?;
+    let (again, sums) = audited(alloc, &mut source, parts.entries)?;
     assert!(rt; again.files.len() == 2 && begins_with(&folder, &again));
+    assert!(rt; sums.len() == 2 && tells(parts.wrote, &sums));
     Ok(())
 }

@@ -1,7 +1,7 @@
 //! Runs whose journal is written too: its text, where it stands, and a folder that fails at it.
 
 use crate::tests::devices::{failing_folder, is_cut_at, unwritten};
-use crate::tests::{SETUP, folder_of, has_file, has_files, office, performed};
+use crate::tests::{SETUP, begins_with, folder_of, has_file, has_files, office, performed};
 use dbf_fields::{Bytes, day_of};
 use sample_files::TABLE;
 use station_files::MemoryFolder;
@@ -31,8 +31,14 @@ skip
 USE
 ";
 
-// Its journal.
-const JOURNAL: &[u8] = b"1 15 2 USE T EXCLUSIVE OK
+// Its journal, with the digests of another program.
+const JOURNAL: &[u8] = b"\
+read 5 28 9431847d6cb52c518b2d76329599857328ee493a80cd43c3f68d12a2e817ecad S.SET
+read 5 88 7f2ba3d33b7041bc26f3fac6162fba6e976cc7f5b32ab4d63097eda13b8d2efa t.dbf
+read 5 131 4c659511d5b77304cff0fb606bd8f17e3d4ef8baa5cb5759688b0911b6132ca9 s.prg
+reindex no
+entries 11
+1 15 2 USE T EXCLUSIVE OK
 1 4 2 GO 2 OK
 1 12 2 APPEND BLANK OK
 1 23 2 REPLACE NAME WITH \"CYD\" OK
@@ -42,6 +48,9 @@ const JOURNAL: &[u8] = b"1 15 2 USE T EXCLUSIVE OK
 1 6 2 SKIP 1 OK
 1 7 3 ? EOF() .T.
 1 3 2 USE OK
+wrote 5 99 2245dc0469256f3baf7bfac26ce638ba9a741865be82bc9b587b3e671f059433 T.DBF
+wrote 12 114 1acc215d9da8a571000b3acfbd924a52ef091af474ccb92e00e83bdd01267794 STATION1.TXT
+end
 ";
 
 // Serves a setup with a script, in 1987, and has the journal written.
@@ -81,17 +90,6 @@ fn folder_with_journal<R: Threads + Wait + Sync>(
     }
 }
 
-// Whether a folder begins with the files of another one.
-fn begins_with(folder: &MemoryFolder, other: &MemoryFolder) -> bool {
-    for i in 0..other.files.len() {
-        let file = &other.files[i];
-        if !has_file(folder, i, file.name.as_slice(), file.bytes.as_slice()) {
-            return false;
-        }
-    }
-    true
-}
-
 #[test]
 fn journal_is_the_last_file(rt: HostRuntime) -> Result<(), Fail> {
     let folder = folder_with_journal(&rt, rt.alloc(), SCRIPT, 11)?;
@@ -109,13 +107,25 @@ fn journal_changes_no_other_file(rt: HostRuntime) -> Result<(), Fail> {
     Ok(())
 }
 
+// The journal of a script without a command.
+const NO_ENTRIES: &[u8] = b"\
+read 5 28 9431847d6cb52c518b2d76329599857328ee493a80cd43c3f68d12a2e817ecad S.SET
+read 5 88 7f2ba3d33b7041bc26f3fac6162fba6e976cc7f5b32ab4d63097eda13b8d2efa t.dbf
+read 5 10 745fb3b119407d13647f57af260104bea6feaa58760f171071ca935d60e6f5ef s.prg
+reindex no
+entries 0
+wrote 5 88 7f2ba3d33b7041bc26f3fac6162fba6e976cc7f5b32ab4d63097eda13b8d2efa T.DBF
+wrote 12 0 e3b0c44298fc1c149afbf4c8996fb92427ae41e4649b934ca495991b7852b855 STATION1.TXT
+end
+";
+
 #[test]
-fn journal_of_no_command_is_empty(rt: HostRuntime) -> Result<(), Fail> {
+fn journal_of_no_command_has_no_entry(rt: HostRuntime) -> Result<(), Fail> {
     let folder = folder_with_journal(&rt, rt.alloc(), b"* nothing\n", 0)?;
     let files: [(&[u8], &[u8]); 3] = [
         (b"T.DBF", &TABLE),
         (b"STATION1.TXT", b""),
-        (b"JOURNAL.TXT", b""),
+        (b"JOURNAL.TXT", NO_ENTRIES),
     ];
     assert!(rt; has_files(&folder, &files));
     Ok(())
@@ -124,7 +134,18 @@ fn journal_of_no_command_is_empty(rt: HostRuntime) -> Result<(), Fail> {
 // A run of two commands, and its journal.
 const TWO_LINES: &[u8] = b"USE T\n? RECCOUNT()\n";
 
-const TWO_ENTRIES: &[u8] = b"1 5 2 USE T OK\n1 12 1 ? RECCOUNT() 2\n";
+const TWO_ENTRIES: &[u8] = b"\
+read 5 28 9431847d6cb52c518b2d76329599857328ee493a80cd43c3f68d12a2e817ecad S.SET
+read 5 88 7f2ba3d33b7041bc26f3fac6162fba6e976cc7f5b32ab4d63097eda13b8d2efa t.dbf
+read 5 19 0a332119b015a9ee311a20dcf86fb86c09d0682b3f60ce3a3f235ec8259ce3be s.prg
+reindex no
+entries 2
+1 5 2 USE T OK
+1 12 1 ? RECCOUNT() 2
+wrote 5 88 7f2ba3d33b7041bc26f3fac6162fba6e976cc7f5b32ab4d63097eda13b8d2efa T.DBF
+wrote 12 5 636a604fee2852c4949a85b097311d98100a2823e56516a24fe5c91c79e2cdca STATION1.TXT
+end
+";
 
 // How many calls of the folder the run needs: one after another is the first that fails until none does, and each time what
 // is left is looked at.
@@ -157,13 +178,13 @@ fn whole_folder<R: Threads + Wait + Sync>(rt: &R, alloc: Global) -> Result<Memor
     Err("another journal".into())
 }
 
-// The files have 88, 5 and 37 bytes. The calls are three of begin, and of write one for each 32 bytes or part of them, or one
+// The files have 88, 5 and 476 bytes. The calls are three of begin, and of write one for each 32 bytes or part of them, or one
 // a file.
 #[test]
 fn each_call_of_the_folder_fails_in_turn(rt: HostRuntime) -> Result<(), Fail> {
     let alloc = rt.alloc();
     let whole = whole_folder(&rt, alloc)?;
-    for (most, calls) in [(usize::MAX, 6), (32, 9)] {
+    for (most, calls) in [(usize::MAX, 6), (32, 22)] {
         assert_eq!(rt; calls_of_run(&rt, alloc, most, &whole)?, calls);
     }
     Ok(())

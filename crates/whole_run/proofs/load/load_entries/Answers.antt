@@ -3,6 +3,7 @@ use Rattle.std.proofs.lemmas.Option.{slice_get-get_or}
 use Rattle.station_lines.specs.declared.setup.entry.SetupEntry.{SetupEntry}
 use Rattle.whole_run.specs.Loading.{read_of}
 use Rattle.whole_run.proofs.LoadLaws.{err_exit, loaded_more}
+use Rattle.whole_run.proofs.NotedLaws.{noted_more}
 use Rattle.whole_run.proofs.TablesFirst.{can_load}
 use Rattle.whole_run.proofs.load.load_entries.Goals as goal
 
@@ -22,6 +23,7 @@ returns-in_err-load_entry-clause-fault g c =
 pub loop-entry-preserved : goal.loop-entry-preserved
 loop-entry-preserved g c = record {
   read = loaded_more _ c.args.entries.now c.loop-entry.entry-index c.entry-item.result _ _ c.loop-entry-test.true c.entry-item.is c.loop-entry.invariant.read (rw c.loop-entry.invariant.kept at c.in_ok-load_entry.ensures.read);
+  noted = noted_more _ _ c.args.entries.now c.loop-entry.entry-index c.entry-item.result _ _ _ c.loop-entry-test.true c.entry-item.is c.loop-entry.invariant.kept c.loop-entry.invariant.noted c.in_ok-load_entry.ensures.noted;
   kept = c.in_ok-load_entry.ensures.kept ∙ c.loop-entry.invariant.kept;
   loads = c.in_ok-load_entry.ensures.loads ∙ c.loop-entry.invariant.loads;
 }

@@ -1,0 +1,54 @@
+//! What a journal says of the files that a run writes.
+
+ghost use Rattle.std.specs.Prelude.{◌≡◌, ◌≢◌, ℕ, List, map, Err, IfOk, IfErr};
+ghost use Rattle.std.specs.List.{AllByRecursion};
+ghost use Rattle.journal_file.specs.WholeText.{IsSum};
+ghost use Rattle.station_files.specs.Closing.{run_files};
+ghost use Rattle.whole_run.specs.FileSums.{sum_of_named};
+ghost use Rattle.whole_run.specs.WholeRun.{IsWriteFault};
+
+use crate::fault::ServeFault;
+use dbf_fields::{Bytes, Day};
+use journal_file::{FileSum, sum_of};
+use station_files::{CloseFault, ClosedTable, NamedFile, RunFiles};
+use std::alloc::{AllocError, Global};
+
+// What a journal says of a file.
+fn named_sum(alloc: Global, file: &NamedFile) -> Result<FileSum, AllocError>
+    ensures value { IfOk result (λ sum. sum ≡ sum_of_named file.now) }
+    ensures small { IfOk result IsSum }
+{
+    sum_of(alloc, file.name.as_slice(), file.bytes.as_slice())
+}
+
+// What a journal says of each file of a run, in their order. One file at a time is whole in memory. An error where memory is
+// refused.
+fn sums_of_files(alloc: Global, files: &RunFiles<'_>) -> Result<Vec<FileSum>, AllocError>
+    ensures value { IfOk result (λ sums. sums.items ≡ map sum_of_named files.now) }
+    ensures small { IfOk result (λ sums. AllByRecursion IsSum sums.items) }
+{
+    let mut sums = Vec::new(alloc);
+    for index in 0..files.count() {
+        let file = files.file(alloc, index)?;
+        sums.push(named_sum(alloc, &file)?)?;
+    }
+    Ok(sums)
+}
+
+/// What a journal says of each file of tables and answers, in the order in which they are written. No file is begun for it: the
+/// faults are those that come before one is, in the order of [`station_files::close_files`].
+pub(crate) fn sums_to_write(
+    alloc: Global,
+    tables: &[ClosedTable],
+    answers: &[Bytes],
+    today: Day,
+) -> Result<Vec<FileSum>, ServeFault>
+    ensures sums { IfOk result (λ sums. sums.items ≡ map sum_of_named (run_files today tables.now answers.now)) }
+    // Lines can tell them.
+    ensures small { IfOk result (λ sums. AllByRecursion IsSum sums.items) }
+    ensures fault { IfErr result (IsWriteFault today.year tables.now) }
+    ensures unbegun { (name : List ℕ) → result ≢ Err (ServeFault.Close (CloseFault.Write name)) }
+{
+    let files = RunFiles::plan(alloc, tables, answers, today)?;
+    Ok(sums_of_files(alloc, &files)?)
+}
