@@ -1,5 +1,5 @@
 -- A run whose files are in place.
-use Rattle.std.proofs.Common.{◌≡◌, ℕ, ◌<◌, ◌≤◌, arith, List, [], Option, Some, Result, Ok, Err, refl, ap, sym, ◌∙◌, subst}
+use Rattle.std.proofs.Common.{◌≡◌, ℕ, ◌<◌, ◌≤◌, arith, List, [], Option, Some, Result, Ok, Err, ap, sym, ◌∙◌, subst}
 use Rattle.std.specs.Prelude.{IfOk, IsErrOf}
 use Rattle.files_in_place.specs.Folder.{Name, Folder as Files}
 use Rattle.files_in_place.specs.declared.faults.RecoveryFault.{RecoveryFault}
@@ -15,11 +15,10 @@ use Rattle.whole_run.specs.declared.fault.ServeFault.{ServeFault}
 use Rattle.whole_run.specs.declared.fault.ServeFault.TheVariants as serve
 use Rattle.whole_run.specs.Loading.{IsFailure}
 use Rattle.program_text.specs.declared.folder.FolderFault.{FolderFault}
-use Rattle.program_text.specs.declared.folder.FolderFault.TheVariants.{Unrecovered, Unwritten, Unfinished}
+use Rattle.program_text.specs.declared.folder.FolderFault.TheVariants.{Unwritten, Unfinished}
 use Rattle.program_text.specs.declared.folder.PlaceFault.{PlaceFault}
 use Rattle.program_text.specs.declared.folder.PlaceFault.TheVariants.{NoMemory, Folder}
 use Rattle.program_text.specs.PlaceFaults.{given_up, unplaced_files, unrecovered_folder, IsOfRecovery}
-use Rattle.files_in_place.specs.Disk.{LeavesOnly}
 use Rattle.program_text.proofs.PlacingLaws.{files_placed, files_since, given_up_keeps, never_unrecovered, recovery_said, unfinished_only, unwritten_only}
 use Rattle.station_server.specs.declared.program.failure.Failure.{Failure}
 use Rattle.station_server.specs.declared.program.failure.Failure.TheVariants.{Serve, Folder as OfFolder}
@@ -34,8 +33,10 @@ in_place files options counts begun written old new served none free placed = re
   answers = served.answers;
   run = served.run;
   refused = served.refused;
+  text = served.text;
+  journal = served.journal;
   distinct = served.distinct;
-  placed = files_placed (asked_files options served.tables served.answers served.run.history.journal) begun written old new none served.written served.told served.distinct free placed;
+  placed = files_placed (asked_files options served.tables served.answers served.text) begun written old new none served.written served.told served.distinct free placed;
 }
 
 -- the folder before may be told as one that has the same files
@@ -46,8 +47,10 @@ in_place_since files options before old new (Ok counts) same has = record {
   answers = has.answers;
   run = has.run;
   refused = has.refused;
+  text = has.text;
+  journal = has.journal;
   distinct = has.distinct;
-  placed = files_since (asked_files options has.tables has.answers has.run.history.journal) before old new same has.placed;
+  placed = files_since (asked_files options has.tables has.answers has.text) before old new same has.placed;
 }
 in_place_since files options before old new (Err failure) same has = tt
 

@@ -1,5 +1,6 @@
 -- A run that the options ask for, with or without its journal.
-use Rattle.std.proofs.Common.{◌≡◌, ℕ, Bool, true, false, cond, List, Option, Result, Ok, Err, sym, subst}
+use Rattle.std.proofs.Common.{◌≡◌, ℕ, Bool, true, false, cond, List, [], Option, Result, Ok, Err, sym, subst, ◌∙◌}
+use Rattle.std.proofs.lemmas.Bool.{false≢true}
 use Rattle.std.specs.Prelude.{IfOk, IfErr, bytes_eq}
 use Rattle.std.specs.List.{AllByRecursion, IsDistinct}
 use Rattle.byte_io.specs.Sink.{grown}
@@ -18,13 +19,15 @@ served_plain : (files : Option (List NamedFile)) (options : Options) (old new : 
     → IsServed files options.setup.now options.reindex options.today old new counts → IsServedBy files options old new counts
 served_plain files options old new counts none served =
     let plain = run_files options.today served.tables served.answers in
-    let more = and_journal plain served.run.history.journal in
+    let more = and_journal plain [] in
     record {
       tables = served.tables;
       answers = served.answers;
       run = served.run;
       refused = served.refused;
       few_blocks = served.few_blocks;
+      text = [];
+      journal = λ asked. absurd (false≢true (sym none ∙ asked));
       written = subst (λ (b : Bool). new ≡ grown old (listing (cond b more plain))) (sym none) served.written;
       bytes = subst (λ (b : Bool). AllByRecursion IsOfBytes (cond b more plain)) (sym none) served.bytes;
       told = subst (λ (b : Bool). files_in (listing (cond b more plain)) ≡ cond b more plain) (sym none) served.told;
@@ -35,13 +38,15 @@ served_with_journal : (files : Option (List NamedFile)) (options : Options) (old
     → IsServedWithJournal files options.setup.now options.reindex options.today old new counts → IsServedBy files options old new counts
 served_with_journal files options old new counts asked served =
     let plain = run_files options.today served.tables served.answers in
-    let more = and_journal plain served.run.history.journal in
+    let more = and_journal plain served.text in
     record {
       tables = served.tables;
       answers = served.answers;
       run = served.run;
       refused = served.refused;
       few_blocks = served.few_blocks;
+      text = served.text;
+      journal = λ _. (served.journal, served.one_journal);
       written = subst (λ (b : Bool). new ≡ grown old (listing (cond b more plain))) (sym asked) served.written;
       bytes = subst (λ (b : Bool). AllByRecursion IsOfBytes (cond b more plain)) (sym asked) served.bytes;
       told = subst (λ (b : Bool). files_in (listing (cond b more plain)) ≡ cond b more plain) (sym asked) served.told;

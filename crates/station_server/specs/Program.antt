@@ -16,7 +16,8 @@ use Rattle.whole_run.specs.declared.counts.CommandCounts.{CommandCounts}
 use Rattle.whole_run.specs.declared.fault.ServeFault.{ServeFault}
 use Rattle.whole_run.specs.declared.fault.ServeFault.TheVariants.{Close, NoMemory}
 use Rattle.whole_run.specs.Counts.{AreRefusedIn}
-use Rattle.whole_run.specs.JournalFile.{and_journal, IsCutRunWithJournal}
+use Rattle.journal_file.specs.WholeText.{CanBeTold}
+use Rattle.whole_run.specs.JournalFile.{all_files, told_run, IsJournalText, IsCutRunWithJournal}
 use Rattle.whole_run.specs.Loading.{IsFailure}
 use Rattle.whole_run.specs.WholeRun.{IsServeFault, IsWholeRun, IsCutRun}
 use Rattle.program_text.specs.declared.folder.FolderFault.{FolderFault}
@@ -31,10 +32,18 @@ use Rattle.station_server.specs.declared.program.options.Options.{Options}
 abbrev pub HasPaths : ArgMatches → Type 0
 HasPaths matches = IsSome (value_of matches (codes "setup")) × IsSome (value_of matches (codes "out"))
 
--- the files of a run of these tables, answers and journal that the options ask for: the journal's only where it is asked for
-abbrev pub asked_files : Options → List ClosedTable → List (List ℕ) → List Entry → List NamedFile
-asked_files options tables answers journal =
-    if options.journal then and_journal (run_files options.today tables answers) journal else run_files options.today tables answers
+-- the files of a run of these tables and answers that the options ask for: that of its journal, with this text, only where it is
+-- asked for
+abbrev pub asked_files : Options → List ClosedTable → List (List ℕ) → List ℕ → List NamedFile
+asked_files options tables answers text =
+    if options.journal then all_files options.today tables answers text else run_files options.today tables answers
+
+-- where the journal is asked for, the text tells what the run has read, performed and written, and nothing else
+abbrev pub IsAskedText : Option (List NamedFile) → Options → List ClosedTable → List (List ℕ) → List Entry → List ℕ → Type 0
+IsAskedText files options tables answers journal text =
+    options.journal ≡ true
+    → (told : IsJournalText files options.setup.now options.reindex journal (run_files options.today tables answers) text)
+    × CanBeTold (told_run told.read options.reindex journal (run_files options.today tables answers))
 
 -- The run that the options ask for, over these files, came to its end: these are its tables and answers and how many
 -- commands were refused, none of the tables has more blocks than its file can have, and its files stand after what was written before. Names and files are of bytes, so
@@ -45,10 +54,12 @@ pub record IsServedBy (files : Option (List NamedFile)) (options : Options) (old
   pub run : IsWholeRun files options.setup.now options.reindex tables answers counts.all
   pub refused : AreRefusedIn run.history counts
   pub few_blocks : first_blocked 1 tables ≡ None
-  pub written : new ≡ grown old (listing (asked_files options tables answers run.history.journal))
-  pub bytes : AllByRecursion IsOfBytes (asked_files options tables answers run.history.journal)
-  pub told : files_in (listing (asked_files options tables answers run.history.journal)) ≡ asked_files options tables answers run.history.journal
-  pub distinct : IsDistinct bytes_eq (names_of (asked_files options tables answers run.history.journal))
+  pub text : List ℕ
+  pub journal : IsAskedText files options tables answers run.history.journal text
+  pub written : new ≡ grown old (listing (asked_files options tables answers text))
+  pub bytes : AllByRecursion IsOfBytes (asked_files options tables answers text)
+  pub told : files_in (listing (asked_files options tables answers text)) ≡ asked_files options tables answers text
+  pub distinct : IsDistinct bytes_eq (names_of (asked_files options tables answers text))
 
 -- a file of a run could not be written, with or without the journal's
 abbrev pub IsCutRunAs : Bool → Option (List NamedFile) → List ℕ → Bool → Day → Option (List ℕ) → Option (List ℕ) → ServeFault → Type 0
@@ -70,8 +81,10 @@ pub record IsInPlace (files : Option (List NamedFile)) (options : Options) (old 
   pub answers : List (List ℕ)
   pub run : IsWholeRun files options.setup.now options.reindex tables answers counts.all
   pub refused : AreRefusedIn run.history counts
-  pub distinct : IsDistinct bytes_eq (names_of (asked_files options tables answers run.history.journal))
-  pub placed : HasFiles (asked_files options tables answers run.history.journal) old new
+  pub text : List ℕ
+  pub journal : IsAskedText files options tables answers run.history.journal text
+  pub distinct : IsDistinct bytes_eq (names_of (asked_files options tables answers text))
+  pub placed : HasFiles (asked_files options tables answers text) old new
 
 -- the run that the options ask for came to its end, and its files were written, whole, where none had been
 abbrev pub IsServedWhole : Option (List NamedFile) → Options → Type 0

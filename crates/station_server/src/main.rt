@@ -94,24 +94,21 @@ fn warn_of<R: Files + AllocGlobal, E: Write>(
     }
 }
 
-// Says which files of the setup stay as they are. Where the setup is not read, the run says why.
+// Says which files of the setup stay as they are. A setup that is not read is told as the run tells it.
 fn warn_of_kept_files<R: Files + AllocGlobal, E: Write, S: Source>(
     rt: &R,
     err: &mut E,
     alloc: Global,
     options: &Options<'_>,
     source: &mut S,
-) {
-    let Ok(setup) = Bytes::from_slice(alloc, options.setup.as_bytes()) else {
-        return;
-    };
-    let Ok(entries) = read_setup(alloc, source, &setup) else {
-        return;
-    };
+) -> Result<(), Ending> {
+    let setup = Bytes::from_slice(alloc, options.setup.as_bytes())?;
+    let entries = read_setup(alloc, source, &setup)?;
     for entry in &entries {
         warn_of(rt, err, options, kept_file(entry));
         warn_of(rt, err, options, kept_memo_file(entry));
     }
+    Ok(())
 }
 
 // Serves the run over files of the system. No other run writes into the folder meanwhile.
@@ -134,7 +131,7 @@ fn serve_files<R: Runtime + Files<File = File> + AllocGlobal + Threads + Wait + 
     if let Err(fault) = recover(alloc, &mut disk) {
         return Err(Ending::from(unrecovered(fault)));
     }
-    warn_of_kept_files(rt, err, alloc, options, &mut source);
+    warn_of_kept_files(rt, err, alloc, options, &mut source)?;
     let InPlace { ended, disk: _ } = serve_in_place(
         rt,
         alloc,
