@@ -1,3 +1,6 @@
+pub mod ComparingLaws
+pub mod PrintingLaws
 pub mod ProgramLaws
 pub mod RunJournals
+pub mod RunFiles
 pub mod WritingLaws

@@ -1,74 +1,85 @@
 -- What a command line asked for, and what came of it.
-use Rattle.std.proofs.Common.{◌≡◌, ℕ, List, Option, Result, Ok, Err, length, sym, subst}
+use Rattle.std.proofs.Common.{◌≡◌, ◌≢◌, ℕ, Bool, List, [], Option, Some, None, Result, Ok, Err, length, ap, sym, subst, ◌∙◌}
 use Rattle.std.specs.Prelude.{IfErr, IsErrAnd}
 use Rattle.catalogue_core.specs.Replay.{Opened, History}
+use Rattle.journal_file.specs.declared.cutting.JournalParts.{JournalParts}
+use Rattle.journal_file.specs.declared.sum.FileSum.{FileSum}
+use Rattle.journal_file.specs.WholeText.{read_word, whole_text, wrote_word, CanBeTold, IsCutInto, WholeJournal}
 use Rattle.station_files.specs.declared.named.NamedFile.{NamedFile}
 use Rattle.station_files.specs.Files.{IsFileOf}
+use Rattle.station_lines.specs.JournalLines.{lines_and}
 use Rattle.audit.specs.declared.fault.AuditFault.{AuditFault}
 use Rattle.audit.specs.declared.fault.AuditFault.TheVariants as fault
 use Rattle.audit.specs.Audits.{IsJournalOf, RefutesAll, IsAuditFault}
+use Rattle.whole_run.specs.declared.fault.ServeFault.{ServeFault}
 use Rattle.whole_run.specs.declared.fault.ServeFault.TheVariants as serve
-use Rattle.whole_run.specs.OpenedSetup.{IsOpenedBy}
+use Rattle.whole_run.specs.FileSums.{AreAllNoted}
+use Rattle.whole_run.specs.Loading.{Read}
+use Rattle.whole_run.specs.OpenedSetup.{IsOpenedBy, IsOpenedFrom, IsOpenFault, IsUnopened}
+use Rattle.whole_run.specs.WholeRun.{IsAllRead, IsReadFault}
+use Rattle.station_audit.specs.declared.program.audited.Audited.{Audited}
 use Rattle.station_audit.specs.declared.program.failure.Failure.{Failure}
-use Rattle.station_audit.specs.declared.program.failure.Failure.TheVariants.{BadDate, Serve, Unread, UnrecoveredJournal, Audit, Folder}
+use Rattle.station_audit.specs.declared.program.failure.Failure.TheVariants.{BadDate, Serve, Unread, UnrecoveredJournal, NoJournal, CutJournal, OtherReindex, OtherFile, Audit, Folder}
 use Rattle.station_audit.specs.declared.program.options.Options.{Options}
-use Rattle.station_audit.specs.Program.{IsAsked, IsAuditedTo, IsAuditedBy, audit_failure, IsFailedBy, IsJournalFault, IsLoadFailure}
+use Rattle.station_audit.specs.Comparing.{AreLinesOf, first_other}
+use Rattle.station_audit.specs.Program.{IsJournalIn, IsAsked, IsAuditedTo, IsAuditedBy, IsRefuted, audit_failure, IsFailedBy, IsJournalFault, IsTextFault, IsFilesFault, IsEntriesFault, IsLoadFailure}
 
 -- the failure that `?` hands on
 pub err_exit : {T : Type 0} {failure : Failure} (r : Result T Failure) (P : Failure → Type 0) → IsErrAnd r (λ y. y ≡ failure) → P failure → IfErr r P
 err_exit (Ok x) P h p = absurd h
 err_exit (Err y) P h p = subst P (sym h) p
 
-pub asked : (files : Option (List NamedFile)) (options : Options) (opened : Opened) (text : List ℕ) → IsOpenedBy files options.setup.now options.reindex opened → IsFileOf files options.journal.now text → IsAsked files options opened text
-asked files options opened text tables journal = record { tables = tables; journal = journal }
+-- ---- a journal that was cut into its parts
 
-pub audited_to : (files : Option (List NamedFile)) (options : Options) (opened : Opened) (h : History) (text : List ℕ) → IsAsked files options opened text → h.opened ≡ opened → IsJournalOf opened text h.journal
-    → IsAuditedTo files options h
-audited_to files options opened h text what same holds = record {
-  text = text;
-  asked = subst (λ (o : Opened). IsAsked files options o text) (sym same) what;
-  holds = subst (λ (o : Opened). IsJournalOf o text h.journal) (sym same) holds;
+-- the lines of the files that the run read
+pub read_lines : (text : List ℕ) (parts : JournalParts) (cut : IsCutInto text parts) → AreLinesOf read_word parts.read.now cut.journal.read
+read_lines text parts cut = record { are = cut.whole.read; is = cut.read }
+
+pub journal_in : (files : Option (List NamedFile)) (path text : List ℕ) (parts : JournalParts) (cut : IsCutInto text parts) → IsFileOf files path text → IsJournalIn files path cut.journal
+journal_in files path text parts cut found = record { text = text; found = found; whole = cut.whole; text_is = cut.text_is }
+
+-- ---- the entries
+
+-- what was read is of a run with this journal, and opens as these tables
+pub asked : (files : Option (List NamedFile)) (options : Options) (text : List ℕ) (parts : JournalParts) (cut : IsCutInto text parts) (read : Read) (sums : List FileSum) (opened : Opened) → IsFileOf files options.journal.now text
+    → parts.reindex ≡ options.reindex → IsAllRead files options.setup.now read → AreAllNoted files options.setup.now (Some []) (Some sums) → first_other cut.journal.read sums ≡ None → IsOpenedFrom options.reindex read opened
+    → IsAsked files options opened cut.journal sums
+asked files options text parts cut read sums opened found same all noted none from = record {
+  tables = record { read = read; all = all; from = from };
+  of_run = record { in_file = journal_in files options.journal.now text parts cut found; reindex = sym cut.reindex ∙ same; noted = noted; same = none };
 }
 
-pub failed_journal : (files : Option (List NamedFile)) (options : Options) (before after : Option ℕ) (why : Failure) → IsJournalFault files options.journal.now before after why → IsFailedBy files options why
-failed_journal files options before after (Serve (serve.Setup n)) h = absurd h
-failed_journal files options before after (Serve (serve.File p f)) h = absurd h
-failed_journal files options before after (Serve (serve.Refused f)) h = absurd h
-failed_journal files options before after (Serve (serve.Run f)) h = absurd h
-failed_journal files options before after (Serve (serve.Close f)) h = absurd h
-failed_journal files options before after (Serve serve.NoMemory) h = tt
-failed_journal files options before after Unread h = h.0
-failed_journal files options before after (UnrecoveredJournal told) h = (h.0, h.1)
-failed_journal files options before after (Audit f) h = absurd h
-failed_journal files options before after BadDate h = absurd h
-failed_journal files options before after (Folder f) h = absurd h
+unopened_tables : (files : Option (List NamedFile)) (setup : List ℕ) (reindex : Bool) (read : Read) (why : ServeFault) → IsAllRead files setup read → IsOpenFault reindex read why → IsUnopened files setup reindex why
+unopened_tables files setup reindex read (serve.Setup n) all h = absurd h
+unopened_tables files setup reindex read (serve.File p f) all h = absurd h
+unopened_tables files setup reindex read (serve.Refused f) all h = (read, all, h)
+unopened_tables files setup reindex read (serve.Run f) all h = absurd h
+unopened_tables files setup reindex read (serve.Close f) all h = absurd h
+unopened_tables files setup reindex read serve.NoMemory all h = tt
 
-pub unloaded_journal : (files : Option (List NamedFile)) (options : Options) (before after : Option ℕ) (why : Failure) → IsJournalFault files options.journal.now before after why → IsLoadFailure files options before after why
-unloaded_journal files options before after (Serve (serve.Setup n)) h = absurd h
-unloaded_journal files options before after (Serve (serve.File p f)) h = absurd h
-unloaded_journal files options before after (Serve (serve.Refused f)) h = absurd h
-unloaded_journal files options before after (Serve (serve.Run f)) h = absurd h
-unloaded_journal files options before after (Serve (serve.Close f)) h = absurd h
-unloaded_journal files options before after (Serve serve.NoMemory) h = tt
-unloaded_journal files options before after Unread h = h.1
-unloaded_journal files options before after (UnrecoveredJournal told) h = h.2
-unloaded_journal files options before after (Audit f) h = absurd h
-unloaded_journal files options before after BadDate h = absurd h
-unloaded_journal files options before after (Folder f) h = absurd h
+module _ (files : Option (List NamedFile)) (options : Options) (text : List ℕ) (parts : JournalParts) (cut : IsCutInto text parts) (read : Read) (sums : List FileSum) (found : IsFileOf files options.journal.now text)
+    (same : parts.reindex ≡ options.reindex) (all : IsAllRead files options.setup.now read) (noted : AreAllNoted files options.setup.now (Some []) (Some sums)) (none : first_other cut.journal.read sums ≡ None) where
+  refuted_entries : (why : AuditFault) (opened : Opened) → IsOpenedFrom options.reindex read opened → RefutesAll opened parts.entries.now why → IsAuditFault opened parts.entries.now why → IsRefuted files options why
+  refuted_entries why opened from refuted at = record {
+    opened = opened;
+    journal = cut.journal;
+    read = sums;
+    asked = asked files options text parts cut read sums opened found same all noted none from;
+    refuted = subst (λ (lines : List ℕ). RefutesAll opened lines why) cut.entries refuted;
+    at = subst (λ (lines : List ℕ). IsAuditFault opened lines why) cut.entries at;
+  }
 
-pub failed_audit : (files : Option (List NamedFile)) (options : Options) (opened : Opened) (text : List ℕ) (why : AuditFault) → IsAsked files options opened text → RefutesAll opened text why → IsAuditFault opened text why
-    → IsFailedBy files options (audit_failure why)
-failed_audit files options opened text (fault.NoEntry n) what refuted at = record { opened = opened; text = text; asked = what; refuted = refuted; at = at }
-failed_audit files options opened text (fault.Differs d) what refuted at = record { opened = opened; text = text; asked = what; refuted = refuted; at = at }
-failed_audit files options opened text fault.TooLong what refuted at = record { opened = opened; text = text; asked = what; refuted = refuted; at = at }
-failed_audit files options opened text fault.NoMemory what refuted at = tt
-
--- no load has failed before an audit
-pub loaded_audit : (files : Option (List NamedFile)) (options : Options) (before after : Option ℕ) (why : AuditFault) → after ≡ before → IsLoadFailure files options before after (audit_failure why)
-loaded_audit files options before after (fault.NoEntry n) same = same
-loaded_audit files options before after (fault.Differs d) same = same
-loaded_audit files options before after fault.TooLong same = same
-loaded_audit files options before after fault.NoMemory same = tt
-
-pub audited_by : (files : Option (List NamedFile)) (options : Options) (h : History) (count : ℕ) → IsAuditedTo files options h → count ≡ length h.journal → IsAuditedBy files options count
-audited_by files options h count audited counted = record { history = h; audited = audited; counted = counted }
+  pub failed_entries : (why : Failure) → IsEntriesFault options.reindex read parts.entries.now why → IsFailedBy files options why
+  failed_entries (Serve f) h = unopened_tables files options.setup.now options.reindex read f all h
+  failed_entries Unread h = absurd h
+  failed_entries (UnrecoveredJournal path) h = absurd h
+  failed_entries (NoJournal path) h = absurd h
+  failed_entries (CutJournal path) h = absurd h
+  failed_entries (OtherReindex of_run) h = absurd h
+  failed_entries (OtherFile path) h = absurd h
+  failed_entries (Audit (fault.NoEntry n)) h = refuted_entries (fault.NoEntry n) h.0 h.1 h.2 h.3
+  failed_entries (Audit (fault.Differs d)) h = refuted_entries (fault.Differs d) h.0 h.1 h.2 h.3
+  failed_entries (Audit fault.TooLong) h = refuted_entries fault.TooLong h.0 h.1 h.2 h.3
+  failed_entries (Audit fault.NoMemory) h = absurd h
+  failed_entries BadDate h = absurd h
+  failed_entries (Folder f) h = absurd h

@@ -1,28 +1,40 @@
 -- The journal of a run: its commands are those of the scripts' lines.
-use Rattle.std.proofs.Common.{◌≡◌, ℕ, ◌+◌, ◌-◌, ◌<◌, ◌≤◌, Bool, true, false, cond, List, [], ◌∷◌, Option, Some, map, refl, sym, ◌∙◌, subst, inl, inr, arith, eq-eqb}
-use Rattle.std.specs.Prelude.{◌==◌, filter}
+use Rattle.std.proofs.Common.{◌≡◌, ℕ, ◌+◌, ◌-◌, ◌<◌, ◌≤◌, Bool, true, false, cond, List, [], ◌∷◌, Option, Some, None, map, refl, sym, ap, ◌∙◌, subst, inl, inr, arith, eq-eqb}
+use Rattle.std.specs.Prelude.{◌==◌, ◌&&◌, bytes_eq, filter}
 use Rattle.std.specs.List.{AllByRecursion}
 use Rattle.std.proofs.lemmas.Bool.{false≢true}
+use Rattle.std.proofs.lemmas.Slice.Eq.{bytes_eq-Decides}
 use Rattle.catalogue_core.specs.declared.entry.Entry.{Entry}
 use Rattle.catalogue_core.specs.Replay.{Opened, AreOfStations}
+use Rattle.dbf_fields.specs.declared.day.Day.{Day}
+use Rattle.journal_file.specs.declared.sum.FileSum.{FileSum}
+use Rattle.journal_file.specs.WholeText.{whole_text, CanBeTold, IsNotWhole, WholeJournal}
+use Rattle.journal_file.proofs.TextLaws.{whole_one}
 use Rattle.shared_catalogue.specs.declared.receipt.Receipt.{Receipt}
 use Rattle.shared_catalogue.specs.OwnCalls.{receipt_of, of_station}
 use Rattle.station_lines.specs.CommandLines.{IsOfALine}
-use Rattle.station_lines.specs.JournalLines.{journal_text}
+use Rattle.station_lines.specs.JournalLines.{journal_text, lines_and}
 use Rattle.station_lines.specs.Script.Lines.{AreLines}
 use Rattle.station_files.specs.declared.closed.ClosedTable.{ClosedTable}
 use Rattle.station_files.specs.declared.named.NamedFile.{NamedFile}
+use Rattle.station_files.specs.Closing.{run_files}
 use Rattle.station_files.specs.Files.{IsFileOf}
 use Rattle.station_run.specs.Reports.{Shown, answered, status, AreShown, receipts_of, AreReports}
 use Rattle.audit.specs.declared.fault.AuditFault.{AuditFault}
 use Rattle.audit.specs.declared.fault.AuditFault.TheVariants.{NoEntry, Differs, TooLong, NoMemory}
 use Rattle.audit.specs.Audits.{AreOfLines, IsJournalOf, RefutesAll}
+use Rattle.whole_run.specs.declared.counts.CommandCounts.{CommandCounts}
+use Rattle.whole_run.specs.JournalFile.{told_run, IsServedWithJournal}
 use Rattle.whole_run.specs.OpenedSetup.{IsOpenedBy, HaveStill}
 use Rattle.whole_run.specs.WholeRun.{IsWholeRun}
+use Rattle.whole_run.proofs.NotedLaws.{notes_as_before}
 use Rattle.whole_run.proofs.OneOpening.{one_file, one_opening, opens_as_before}
-use Rattle.station_audit.specs.declared.program.failure.Failure.TheVariants.{Audit}
+use Rattle.station_audit.specs.declared.program.failure.Failure.{Failure}
+use Rattle.station_audit.specs.declared.program.failure.Failure.TheVariants.{BadDate, Serve, Unread, UnrecoveredJournal, NoJournal, CutJournal, OtherReindex, OtherFile, Audit, Folder}
 use Rattle.station_audit.specs.declared.program.options.Options.{Options}
-use Rattle.station_audit.specs.Program.{IsFailedBy, IsRefuted}
+use Rattle.station_audit.specs.Comparing.{first_other, same_content}
+use Rattle.station_audit.specs.Laws.{IsRefutation}
+use Rattle.station_audit.specs.Program.{IsFailedBy, IsNoJournalIn, IsOtherFile, IsOtherReindex, IsRefuted}
 
 -- the command of the receipt is one that a line of a script means
 abbrev IsOfLine : Receipt → Type 0
@@ -94,25 +106,98 @@ only_memory opened text journal (Differs d) is refuted = absurd (refuted journal
 only_memory opened text journal TooLong is refuted = absurd (refuted journal is)
 only_memory opened text journal NoMemory is refuted = refl
 
+-- ---- the journal's file of a run
+
+module _ (files : Option (List NamedFile)) (setup : List ℕ) (reindex : Bool) (today : Day) (old new : Option (List ℕ)) (counts : CommandCounts) (served : IsServedWithJournal files setup reindex today old new counts) where
+  -- what it tells
+  abbrev pub told_of_run : WholeJournal
+  told_of_run = told_run served.journal.read reindex served.run.history.journal (run_files today served.tables served.answers)
+
+  -- it tells nothing else
+  pub one_told : (journal : WholeJournal) → CanBeTold journal → served.text ≡ whole_text journal → told_of_run ≡ journal
+  one_told journal whole is = whole_one told_of_run journal served.one_journal whole (sym served.journal.text_is ∙ is)
+
+  pub is_whole : IsNotWhole served.text → ⊥
+  is_whole not_whole = not_whole told_of_run served.one_journal served.journal.text_is
+
+  pub as_reindexed : (journal : WholeJournal) → CanBeTold journal → served.text ≡ whole_text journal → journal.reindex ≡ reindex
+  as_reindexed journal whole is = sym (ap (λ (j : WholeJournal). j.reindex) (one_told journal whole is))
+
+  -- the lines between are those of the run's entries
+  pub entries_of_run : (journal : WholeJournal) → CanBeTold journal → served.text ≡ whole_text journal → IsJournalOf served.run.history.opened (lines_and journal.entries []) served.run.history.journal
+  entries_of_run journal whole is =
+      subst (λ (j : WholeJournal). IsJournalOf served.run.history.opened (lines_and j.entries []) served.run.history.journal) (one_told journal whole is)
+      (journal_of_run files setup reindex served.tables served.answers counts.all served.run)
+
 -- ---- the audit of a run's journal on the run's files
 
--- a text that is refuted is not the journal's of the run
-not_refuted : (files later : List NamedFile) (options : Options) (tables : List ClosedTable) (answers : List (List ℕ)) (count : ℕ) (run : IsWholeRun (Some files) options.setup.now options.reindex tables answers count) (why : AuditFault)
-    → HaveStill files later → IsFileOf (Some later) options.journal.now (journal_text run.history.journal) → IsRefuted (Some later) options why → why ≡ NoMemory
-not_refuted files later options tables answers count run why still journal refuted =
-    let setup : List ℕ = options.setup.now in
-    let opened : Opened = run.history.opened in
-    let again : IsOpenedBy (Some later) setup options.reindex opened = opens_as_before files later setup still options.reindex opened (opened_by (Some files) setup options.reindex tables answers count run) in
-    let same : opened ≡ refuted.opened = one_opening later setup options.reindex opened refuted.opened again refuted.asked.tables in
-    let text : journal_text run.history.journal ≡ refuted.text = one_file later options.journal.now (journal_text run.history.journal) refuted.text journal refuted.asked.journal in
-    let of_run : IsJournalOf opened (journal_text run.history.journal) run.history.journal = journal_of_run (Some files) setup options.reindex tables answers count run in
-    let moved : IsJournalOf refuted.opened (journal_text run.history.journal) run.history.journal = subst (λ (o : Opened). IsJournalOf o (journal_text run.history.journal) run.history.journal) same of_run in
-    let is : IsJournalOf refuted.opened refuted.text run.history.journal = subst (λ (l : List ℕ). IsJournalOf refuted.opened l run.history.journal) text moved in
-    only_memory refuted.opened refuted.text run.history.journal why is refuted.refuted
+pub and_both : (a b : Bool) → a ≡ true → b ≡ true → (a && b) ≡ true
+and_both true b ha hb = hb
+and_both false b ha hb = absurd cc
 
-pub never_refuted : (files later : List NamedFile) (options : Options) (tables : List ClosedTable) (answers : List (List ℕ)) (count : ℕ) (run : IsWholeRun (Some files) options.setup.now options.reindex tables answers count) (why : AuditFault)
-    → HaveStill files later → IsFileOf (Some later) options.journal.now (journal_text run.history.journal) → IsFailedBy (Some later) options (Audit why) → ⊥
-never_refuted files later options tables answers count run (NoEntry n) still journal failed = let e = not_refuted files later options tables answers count run (NoEntry n) still journal failed in cc
-never_refuted files later options tables answers count run (Differs d) still journal failed = let e = not_refuted files later options tables answers count run (Differs d) still journal failed in cc
-never_refuted files later options tables answers count run TooLong still journal failed = let e = not_refuted files later options tables answers count run TooLong still journal failed in cc
-never_refuted files later options tables answers count run NoMemory still journal failed = failed
+-- the same file
+pub same_content_as_itself : (file : FileSum) → same_content file file ≡ true
+same_content_as_itself file = and_both (file.length == file.length) (bytes_eq file.digest file.digest) (eq-eqb file.length file.length refl) ((bytes_eq-Decides file.digest file.digest).1 refl)
+
+-- no file of a list is another than itself
+none_other : (sums : List FileSum) → first_other sums sums ≡ None
+none_other [] = refl
+none_other (sum ∷ sums) = ap (λ (b : Bool). cond b (first_other sums sums) (Some sum.path)) (same_content_as_itself sum) ∙ none_other sums
+
+module _ (files later : List NamedFile) (options : Options) (today : Day) (old new : Option (List ℕ)) (counts : CommandCounts) (served : IsServedWithJournal (Some files) options.setup.now options.reindex today old new counts)
+    (still : HaveStill files later) (there : IsFileOf (Some later) options.journal.now served.text) where
+  -- the journal that the audit reads is the run's
+  pub one_text : (text : List ℕ) → IsFileOf (Some later) options.journal.now text → served.text ≡ text
+  one_text text found = one_file later options.journal.now served.text text there found
+
+  -- its tables are the run's
+  pub same_tables : (opened : Opened) → IsOpenedBy (Some later) options.setup.now options.reindex opened → served.run.history.opened ≡ opened
+  same_tables opened again =
+      let setup : List ℕ = options.setup.now in
+      let first : IsOpenedBy (Some files) setup options.reindex served.run.history.opened = opened_by (Some files) setup options.reindex served.tables served.answers counts.all served.run in
+      one_opening later setup options.reindex served.run.history.opened opened (opens_as_before files later setup still options.reindex served.run.history.opened first) again
+
+  -- its entries hold
+  not_refuted : (why : AuditFault) → IsRefuted (Some later) options why → why ≡ NoMemory
+  not_refuted why refuted =
+      let in_file = refuted.asked.of_run.in_file in
+      let is : served.text ≡ whole_text refuted.journal = one_text in_file.text in_file.found ∙ in_file.text_is in
+      let of_run = entries_of_run (Some files) options.setup.now options.reindex today old new counts served refuted.journal in_file.whole is in
+      let moved : IsJournalOf refuted.opened (lines_and refuted.journal.entries []) served.run.history.journal =
+      subst (λ (o : Opened). IsJournalOf o (lines_and refuted.journal.entries []) served.run.history.journal) (same_tables refuted.opened refuted.asked.tables) of_run in
+      only_memory refuted.opened (lines_and refuted.journal.entries []) served.run.history.journal why moved refuted.refuted
+
+  -- it is a whole one
+  never_cut : (begun : Bool) → IsNoJournalIn (Some later) options.journal.now begun → ⊥
+  never_cut begun other =
+      is_whole (Some files) options.setup.now options.reindex today old new counts served (subst IsNotWhole (sym (one_text other.0 other.1)) other.2)
+
+  never_other_reindex : (of_run : Bool) → IsOtherReindex (Some later) options of_run → ⊥
+  never_other_reindex of_run other =
+      let is : served.text ≡ whole_text other.0 = one_text other.1.text other.1.found ∙ other.1.text_is in
+      other.3 (sym other.2 ∙ as_reindexed (Some files) options.setup.now options.reindex today old new counts served other.0 other.1.whole is)
+
+  never_other_file : (path : List ℕ) → IsOtherFile (Some later) options path → ⊥
+  never_other_file path other =
+      let is : served.text ≡ whole_text other.0 = one_text other.2.text other.2.found ∙ other.2.text_is in
+      let told : served.journal.read ≡ other.0.read =
+      ap (λ (j : WholeJournal). j.read) (one_told (Some files) options.setup.now options.reindex today old new counts served other.0 other.2.whole is) in
+      let read : served.journal.read ≡ other.1 = notes_as_before files later options.setup.now still served.journal.read other.1 served.journal.noted other.4 in
+      let none : first_other other.0.read other.1 ≡ None = (λ i. first_other (sym told i) (sym read i)) ∙ none_other served.journal.read in
+      let clash : None ≡ Some path = sym none ∙ other.5 in
+      absurd cc
+
+  pub never_refuted : (why : Failure) → IsRefutation why → IsFailedBy (Some later) options why → ⊥
+  never_refuted (Audit (NoEntry n)) is failed = let e : NoEntry n ≡ NoMemory = not_refuted (NoEntry n) failed in absurd cc
+  never_refuted (Audit (Differs d)) is failed = let e : Differs d ≡ NoMemory = not_refuted (Differs d) failed in absurd cc
+  never_refuted (Audit TooLong) is failed = let e : TooLong ≡ NoMemory = not_refuted TooLong failed in absurd cc
+  never_refuted (Audit NoMemory) is failed = failed
+  never_refuted (NoJournal path) is failed = never_cut false failed.1
+  never_refuted (CutJournal path) is failed = never_cut true failed.1
+  never_refuted (OtherReindex of_run) is failed = never_other_reindex of_run failed
+  never_refuted (OtherFile path) is failed = never_other_file path failed
+  never_refuted BadDate is failed = failed
+  never_refuted (Serve f) is failed = is
+  never_refuted Unread is failed = is
+  never_refuted (UnrecoveredJournal path) is failed = is
+  never_refuted (Folder f) is failed = failed

@@ -4,6 +4,8 @@ use Rattle.std.specs.Prelude.{IfOk, IfErr, IsErrOf, bytes_eq}
 use Rattle.std.specs.List.{IsDistinct}
 use Rattle.dbf_fields.specs.declared.day.Day.{Day}
 use Rattle.catalogue_core.specs.Replay.{History}
+use Rattle.journal_file.specs.declared.sum.FileSum.{FileSum}
+use Rattle.journal_file.specs.WholeText.{wrote_word}
 use Rattle.files_in_place.specs.Folder.{Name, Folder as Files}
 use Rattle.files_in_place.specs.declared.faults.RecoveryFault.{RecoveryFault}
 use Rattle.files_in_place.specs.declared.faults.RecoveryFault.TheVariants as recovery
@@ -27,29 +29,41 @@ use Rattle.program_text.specs.declared.folder.PlaceFault.{PlaceFault}
 use Rattle.program_text.specs.declared.folder.PlaceFault.TheVariants as place
 use Rattle.program_text.specs.PlaceFaults.{given_up, unplaced_files, unrecovered_folder, IsOfRecovery}
 use Rattle.program_text.proofs.PlacingLaws.{files_placed, files_since, given_up_keeps, never_unrecovered, recovery_said, unfinished_only, unwritten_only}
+use Rattle.station_audit.specs.declared.program.audited.Audited.{Audited}
 use Rattle.station_audit.specs.declared.program.failure.Failure.{Failure}
-use Rattle.station_audit.specs.declared.program.failure.Failure.TheVariants.{BadDate, Serve, Unread, UnrecoveredJournal, Audit, Folder}
+use Rattle.station_audit.specs.declared.program.failure.Failure.TheVariants.{BadDate, Serve, Unread, UnrecoveredJournal, NoJournal, CutJournal, OtherReindex, OtherFile, Audit, Folder}
 use Rattle.station_audit.specs.declared.program.options.Options.{Options}
-use Rattle.station_audit.specs.Program.{IsAuditedTo, IsFailedBy, IsLoadFailure}
+use Rattle.station_audit.specs.Comparing.{AreLinesOf}
+use Rattle.station_audit.specs.Program.{IsAsked, IsAuditedTo, IsFailedBy, IsLoadFailure}
 use Rattle.station_audit.specs.Endings.{given_up_audit, place_failure}
 use Rattle.station_audit.specs.Writing.{IsWrittenBy, IsCutAudit, IsUnwritten, AreInPlace, IsPlaceFailure, IsWrittenWhole}
 
 -- ---- writing
 
 -- the names of the files of the tables at a journal's end differ
-tables_differ : (files : Option (List NamedFile)) (options : Options) (today : Day) (h : History) (tables : List ClosedTable) → IsAuditedTo files options h → AreHandedOver h tables → IsDistinct bytes_eq (names_of (dated_files today tables))
-tables_differ files options today h tables audited handed =
-    let opened = audited.asked.tables in
+tables_differ : (files : Option (List NamedFile)) (options : Options) (today : Day) (h : History) (audited : Audited) (tables : List ClosedTable) → IsAuditedTo files options h audited → AreHandedOver h tables → IsDistinct bytes_eq (names_of (dated_files today tables))
+tables_differ files options today h audited tables all handed =
+    let opened = all.asked.tables in
     names_differ options.reindex (length opened.read.scripts) opened.read.tables h opened.from.opening tables handed today [] (omega arith)
 
-pub written_by : (files : Option (List NamedFile)) (options : Options) (today : Day) (h : History) (old new : Option (List ℕ)) (count : ℕ) → IsAuditedTo files options h → count ≡ length h.journal
-    → AreTablesWritten h today old new → IsWrittenBy files options today old new count
-written_by files options today h old new count audited counted wrote = record {
+-- what is said of an audit that has written files
+with_files : (files : Option (List NamedFile)) (options : Options) (h : History) (audited said : Audited) → said.count ≡ audited.count → said.read.items ≡ audited.read.items → said.wrote ≡ audited.wrote → IsAuditedTo files options h audited
+    → IsAuditedTo files options h said
+with_files files options h audited said count read wrote all = record {
+  journal = all.journal;
+  asked = subst (λ (sums : List FileSum). IsAsked files options h.opened all.journal sums) (sym read) all.asked;
+  holds = all.holds;
+  counted = count ∙ all.counted;
+  wrote = subst (λ (lines : List ℕ). AreLinesOf wrote_word lines all.journal.wrote) (sym wrote) all.wrote;
+}
+
+pub written_by : (files : Option (List NamedFile)) (options : Options) (today : Day) (h : History) (old new : Option (List ℕ)) (audited said : Audited) → said.count ≡ audited.count → said.read.items ≡ audited.read.items → said.wrote ≡ audited.wrote
+    → IsAuditedTo files options h audited → AreTablesWritten h today old new said.written.items → IsWrittenBy files options today old new said
+written_by files options today h old new audited said count read lines all wrote = record {
   history = h;
-  audited = audited;
-  counted = counted;
+  all = with_files files options h audited said count read lines all;
   wrote = wrote;
-  distinct = tables_differ files options today h wrote.tables audited wrote.handed;
+  distinct = tables_differ files options today h audited wrote.tables all wrote.handed;
 }
 
 pub unwritten_audit : (files : Option (List NamedFile)) (options : Options) (year : ℕ) (why : Failure) → IsFailedBy files options why → IsUnwritten files options year why
@@ -62,30 +76,34 @@ unwritten_audit files options year (Serve (serve.Close f)) h = absurd h
 unwritten_audit files options year (Serve serve.NoMemory) h = h
 unwritten_audit files options year Unread h = h
 unwritten_audit files options year (UnrecoveredJournal path) h = h
+unwritten_audit files options year (NoJournal path) h = h
+unwritten_audit files options year (CutJournal path) h = h
+unwritten_audit files options year (OtherReindex of_run) h = h
+unwritten_audit files options year (OtherFile path) h = h
 unwritten_audit files options year (Audit f) h = h
 unwritten_audit files options year (Folder f) h = h
 
-pub unwritten_tables : (files : Option (List NamedFile)) (options : Options) (year : ℕ) (h : History) (why : ServeFault) → IsAuditedTo files options h → IsTablesFault h year why → IsUnwritten files options year (Serve why)
-unwritten_tables files options year h (serve.Setup n) audited t = absurd t
-unwritten_tables files options year h (serve.File p f) audited t = absurd t
-unwritten_tables files options year h (serve.Refused f) audited t = absurd t
-unwritten_tables files options year h (serve.Run f) audited t = absurd t
-unwritten_tables files options year h (serve.Close f) audited t = (h, audited, t)
-unwritten_tables files options year h serve.NoMemory audited t = tt
+pub unwritten_tables : (files : Option (List NamedFile)) (options : Options) (year : ℕ) (h : History) (said : Audited) (why : ServeFault) → IsAuditedTo files options h said → IsTablesFault h year why → IsUnwritten files options year (Serve why)
+unwritten_tables files options year h said (serve.Setup n) audited t = absurd t
+unwritten_tables files options year h said (serve.File p f) audited t = absurd t
+unwritten_tables files options year h said (serve.Refused f) audited t = absurd t
+unwritten_tables files options year h said (serve.Run f) audited t = absurd t
+unwritten_tables files options year h said (serve.Close f) audited t = (h, said, audited, t)
+unwritten_tables files options year h said serve.NoMemory audited t = tt
 
 -- before an audit's end no file was begun
-pub no_close : (files : Option (List NamedFile)) (options : Options) (r : Result ℕ Failure) (name : List ℕ) → IfErr r (IsFailedBy files options) → r ≡ Err (Serve (serve.Close (close.Write name))) → ⊥
-no_close files options r name h e = subst (λ (x : Result ℕ Failure). IfErr x (IsFailedBy files options)) e h
+pub no_close : (files : Option (List NamedFile)) (options : Options) (r : Result Audited Failure) (name : List ℕ) → IfErr r (IsFailedBy files options) → r ≡ Err (Serve (serve.Close (close.Write name))) → ⊥
+no_close files options r name h e = subst (λ (x : Result Audited Failure). IfErr x (IsFailedBy files options)) e h
 
 -- no load has failed where the tables' files can't be written
-pub loaded_tables : (files : Option (List NamedFile)) (options : Options) (year : ℕ) (h : History) (before after : Option ℕ) (why : ServeFault) → IsAuditedTo files options h → after ≡ before → IsTablesFault h year why
+pub loaded_tables : (files : Option (List NamedFile)) (options : Options) (year : ℕ) (h : History) (said : Audited) (before after : Option ℕ) (why : ServeFault) → IsAuditedTo files options h said → after ≡ before → IsTablesFault h year why
     → IsLoadFailure files options before after (Serve why)
-loaded_tables files options year h before after (serve.Setup n) audited same t = absurd t
-loaded_tables files options year h before after (serve.File p f) audited same t = absurd t
-loaded_tables files options year h before after (serve.Refused f) audited same t = absurd t
-loaded_tables files options year h before after (serve.Run f) audited same t = absurd t
-loaded_tables files options year h before after (serve.Close f) audited same t = same
-loaded_tables files options year h before after serve.NoMemory audited same t = tt
+loaded_tables files options year h said before after (serve.Setup n) audited same t = absurd t
+loaded_tables files options year h said before after (serve.File p f) audited same t = absurd t
+loaded_tables files options year h said before after (serve.Refused f) audited same t = absurd t
+loaded_tables files options year h said before after (serve.Run f) audited same t = absurd t
+loaded_tables files options year h said before after (serve.Close f) audited same t = same
+loaded_tables files options year h said before after serve.NoMemory audited same t = tt
 
 -- an audit that failed cut no file
 pub uncut_audit : (files : Option (List NamedFile)) (options : Options) (today : Day) (old new : Option (List ℕ)) (why : Failure) → IsFailedBy files options why → IsCutAudit files options today old new why
@@ -98,44 +116,48 @@ uncut_audit files options today old new (Serve (serve.Close f)) h = absurd h
 uncut_audit files options today old new (Serve serve.NoMemory) h = tt
 uncut_audit files options today old new Unread h = tt
 uncut_audit files options today old new (UnrecoveredJournal path) h = tt
+uncut_audit files options today old new (NoJournal path) h = tt
+uncut_audit files options today old new (CutJournal path) h = tt
+uncut_audit files options today old new (OtherReindex of_run) h = tt
+uncut_audit files options today old new (OtherFile path) h = tt
 uncut_audit files options today old new (Audit f) h = tt
 uncut_audit files options today old new (Folder f) h = tt
 
-pub cut_audit : (files : Option (List NamedFile)) (options : Options) (today : Day) (h : History) (old new : Option (List ℕ)) (why : ServeFault) → IsAuditedTo files options h → IsCutTables h today old new why
+pub cut_audit : (files : Option (List NamedFile)) (options : Options) (today : Day) (h : History) (said : Audited) (old new : Option (List ℕ)) (why : ServeFault) → IsAuditedTo files options h said → IsCutTables h today old new why
     → IsCutAudit files options today old new (Serve why)
-cut_audit files options today h old new (serve.Setup n) audited cut = tt
-cut_audit files options today h old new (serve.File p f) audited cut = tt
-cut_audit files options today h old new (serve.Refused f) audited cut = tt
-cut_audit files options today h old new (serve.Run f) audited cut = tt
-cut_audit files options today h old new serve.NoMemory audited cut = tt
-cut_audit files options today h old new (serve.Close close.DateOutside) audited cut = tt
-cut_audit files options today h old new (serve.Close (close.TooManyBlocks n)) audited cut = tt
-cut_audit files options today h old new (serve.Close close.NoMemory) audited cut = tt
-cut_audit files options today h old new (serve.Close (close.Write name)) audited cut = (h, audited, cut)
+cut_audit files options today h said old new (serve.Setup n) audited cut = tt
+cut_audit files options today h said old new (serve.File p f) audited cut = tt
+cut_audit files options today h said old new (serve.Refused f) audited cut = tt
+cut_audit files options today h said old new (serve.Run f) audited cut = tt
+cut_audit files options today h said old new serve.NoMemory audited cut = tt
+cut_audit files options today h said old new (serve.Close close.DateOutside) audited cut = tt
+cut_audit files options today h said old new (serve.Close (close.TooManyBlocks n)) audited cut = tt
+cut_audit files options today h said old new (serve.Close close.NoMemory) audited cut = tt
+cut_audit files options today h said old new (serve.Close (close.Write name)) audited cut = (h, said, audited, cut)
 
 -- ---- in place
 
-pub in_place : (files : Option (List NamedFile)) (options : Options) (today : Day) (count : ℕ) (begun written : List ℕ) (old new : Files) → IsWrittenBy files options today (Some begun) (Some written) count → begun ≡ []
-    → AreUnreserved (files_in written) → IsPlaced written old new → AreInPlace files options today old new count
-in_place files options today count begun written old new w none free placed = record {
+pub in_place : (files : Option (List NamedFile)) (options : Options) (today : Day) (said : Audited) (begun written : List ℕ) (old new : Files) → IsWrittenBy files options today (Some begun) (Some written) said → begun ≡ []
+    → AreUnreserved (files_in written) → IsPlaced written old new → AreInPlace files options today old new said
+in_place files options today said begun written old new w none free placed = record {
   history = w.history;
   tables = w.wrote.tables;
-  audited = w.audited;
-  counted = w.counted;
+  all = w.all;
   handed = w.wrote.handed;
+  summed = w.wrote.summed;
   distinct = w.distinct;
   placed = files_placed (dated_files today w.wrote.tables) begun written old new none w.wrote.written w.wrote.told w.distinct free placed;
 }
 
 -- the folder before may be told as one that has the same files
-pub in_place_since : (files : Option (List NamedFile)) (options : Options) (today : Day) (before old new : Files) (ended : Result ℕ Failure) → ((n : Name) → old n ≡ before n) → IfOk ended (AreInPlace files options today old new)
+pub in_place_since : (files : Option (List NamedFile)) (options : Options) (today : Day) (before old new : Files) (ended : Result Audited Failure) → ((n : Name) → old n ≡ before n) → IfOk ended (AreInPlace files options today old new)
     → IfOk ended (AreInPlace files options today before new)
-in_place_since files options today before old new (Ok count) same has = record {
+in_place_since files options today before old new (Ok said) same has = record {
   history = has.history;
   tables = has.tables;
-  audited = has.audited;
-  counted = has.counted;
+  all = has.all;
   handed = has.handed;
+  summed = has.summed;
   distinct = has.distinct;
   placed = files_since (dated_files today has.tables) before old new same has.placed;
 }
@@ -147,6 +169,10 @@ given_up_failure files options today last BadDate h = h
 given_up_failure files options today last (Serve fault) h = given_up_keeps (λ f. IsPlaceFailure files options today (Serve f)) last fault (given_up last fault) refl tt h
 given_up_failure files options today last Unread h = h
 given_up_failure files options today last (UnrecoveredJournal path) h = h
+given_up_failure files options today last (NoJournal path) h = h
+given_up_failure files options today last (CutJournal path) h = h
+given_up_failure files options today last (OtherReindex of_run) h = h
+given_up_failure files options today last (OtherFile path) h = h
 given_up_failure files options today last (Audit f) h = h
 given_up_failure files options today last (Folder f) h = absurd h
 
@@ -157,15 +183,19 @@ given_up_load files options before after last BadDate h = h
 given_up_load files options before after last (Serve fault) h = given_up_keeps (IsFailure files before after) last fault (given_up last fault) refl tt h
 given_up_load files options before after last Unread h = h
 given_up_load files options before after last (UnrecoveredJournal path) h = h
+given_up_load files options before after last (NoJournal path) h = h
+given_up_load files options before after last (CutJournal path) h = h
+given_up_load files options before after last (OtherReindex of_run) h = h
+given_up_load files options before after last (OtherFile path) h = h
 given_up_load files options before after last (Audit f) h = h
 given_up_load files options before after last (Folder f) h = h
 
 -- ---- the folder
 
 -- tables that were written where nothing had been
-pub written_whole : (files : Option (List NamedFile)) (options : Options) (today : Day) (count : ℕ) (begun written : List ℕ) → IsWrittenBy files options today (Some begun) (Some written) count → begun ≡ []
+pub written_whole : (files : Option (List NamedFile)) (options : Options) (today : Day) (said : Audited) (begun written : List ℕ) → IsWrittenBy files options today (Some begun) (Some written) said → begun ≡ []
     → IsWrittenWhole files options today
-written_whole files options today count begun written wrote none = (written, count, subst (λ (l : List ℕ). IsWrittenBy files options today (Some l) (Some written) count) none wrote)
+written_whole files options today said begun written wrote none = (written, said, subst (λ (l : List ℕ). IsWrittenBy files options today (Some l) (Some written) said) none wrote)
 
 place_fault : (files : Option (List NamedFile)) (options : Options) (today : Day) (why : FinishFault) → IsWrittenWhole files options today → IsPlaceFailure files options today (place_failure (unplaced_files why))
 place_fault files options today finish.NoMemory whole = tt
@@ -179,17 +209,21 @@ unplaced files options today why fault failure is was whole = subst (IsPlaceFail
 
 -- no fault of the folder is said where an audit was given up
 pub given_up_no_folder : (files : Option (List NamedFile)) (options : Options) (year : ℕ) (last : Option SetFault) (said : FolderFault) (why failure : Failure) → failure ≡ given_up_audit last why → IsUnwritten files options year why
-    → IsErrOf {T = ℕ} (Err failure) (Folder said) → ⊥
+    → IsErrOf {T = Audited} (Err failure) (Folder said) → ⊥
 given_up_no_folder files options year last said BadDate failure is h e = let clash : BadDate ≡ Folder said = cc in cc
 given_up_no_folder files options year last said (Serve fault) failure is h e = let clash : Serve (given_up last fault) ≡ Folder said = cc in cc
 given_up_no_folder files options year last said Unread failure is h e = let clash : Unread ≡ Folder said = cc in cc
 given_up_no_folder files options year last said (UnrecoveredJournal path) failure is h e = let clash : UnrecoveredJournal path ≡ Folder said = cc in cc
+given_up_no_folder files options year last said (NoJournal path) failure is h e = let clash : NoJournal path ≡ Folder said = cc in cc
+given_up_no_folder files options year last said (CutJournal path) failure is h e = let clash : CutJournal path ≡ Folder said = cc in cc
+given_up_no_folder files options year last said (OtherReindex of_run) failure is h e = let clash : OtherReindex of_run ≡ Folder said = cc in cc
+given_up_no_folder files options year last said (OtherFile path) failure is h e = let clash : OtherFile path ≡ Folder said = cc in cc
 given_up_no_folder files options year last said (Audit f) failure is h e = let clash : Audit f ≡ Folder said = cc in cc
 given_up_no_folder files options year last said (Folder f) failure is h e = h
 
 -- ---- files that were not written
 
-told_of : (said : FolderFault) (fault : PlaceFault) (failure : Failure) → failure ≡ place_failure fault → IsErrOf {T = ℕ} (Err failure) (Folder said) → fault ≡ place.Folder said
+told_of : (said : FolderFault) (fault : PlaceFault) (failure : Failure) → failure ≡ place_failure fault → IsErrOf {T = Audited} (Err failure) (Folder said) → fault ≡ place.Folder said
 told_of said place.NoMemory failure is e =
     let told : failure ≡ Folder said = cc in
     let clash : Serve serve.NoMemory ≡ Folder said = sym is ∙ told in
@@ -200,34 +234,34 @@ told_of said (place.Folder why) failure is e =
     cc
 
 -- it is not that the folder was not recovered
-pub recovered_before : (why : FinishFault) (said : FolderFault) (fault : PlaceFault) (failure : Failure) → IsOfRecovery said → failure ≡ place_failure fault → fault ≡ unplaced_files why → IsErrOf {T = ℕ} (Err failure) (Folder said) → ⊥
+pub recovered_before : (why : FinishFault) (said : FolderFault) (fault : PlaceFault) (failure : Failure) → IsOfRecovery said → failure ≡ place_failure fault → fault ≡ unplaced_files why → IsErrOf {T = Audited} (Err failure) (Folder said) → ⊥
 recovered_before why said fault failure un is was e = never_unrecovered why said un (sym was ∙ told_of said fault failure is e)
 
 -- tables that were written, where nothing had been
-pub written_alone : (files : Option (List NamedFile)) (options : Options) (today : Day) (count : ℕ) (begun written : List ℕ) → IsWrittenBy files options today (Some begun) (Some written) count → begun ≡ []
-    → IsWrittenBy files options today (Some []) (Some written) count
-written_alone files options today count begun written wrote none = subst (λ (l : List ℕ). IsWrittenBy files options today (Some l) (Some written) count) none wrote
+pub written_alone : (files : Option (List NamedFile)) (options : Options) (today : Day) (said : Audited) (begun written : List ℕ) → IsWrittenBy files options today (Some begun) (Some written) said → begun ≡ []
+    → IsWrittenBy files options today (Some []) (Some written) said
+written_alone files options today said begun written wrote none = subst (λ (l : List ℕ). IsWrittenBy files options today (Some l) (Some written) said) none wrote
 
 -- it is said only where the disk has failed
 pub unwritten_cause : (before end now : ℕ) (why : FinishFault) (said : PlaceFault) (failure : Failure) → failure ≡ place_failure said → said ≡ unplaced_files why → before ≤ end → (why ≡ finish.Unwritten → end < now)
-    → IsErrOf {T = ℕ} (Err failure) (Folder Unwritten) → before < now
+    → IsErrOf {T = Audited} (Err failure) (Folder Unwritten) → before < now
 unwritten_cause before end now why said failure is was counted failed e =
     let told : why ≡ finish.Unwritten = unwritten_only why (sym was ∙ told_of Unwritten said failure is e) in
     omega (arith, counted, failed told)
 
 -- what is true where some of them may be in place
 pub unfinished_then : (P : Type 0) (why : FinishFault) (said : PlaceFault) (failure : Failure) → failure ≡ place_failure said → said ≡ unplaced_files why → (why ≡ finish.Unfinished → P)
-    → IsErrOf {T = ℕ} (Err failure) (Folder Unfinished) → P
+    → IsErrOf {T = Audited} (Err failure) (Folder Unfinished) → P
 unfinished_then P why said failure is was then e = then (unfinished_only why (sym was ∙ told_of Unfinished said failure is e))
 
 -- ---- a folder that was not recovered
 
 -- what is said of that
-pub unrecovered_said : (why : RecoveryFault) (said : FolderFault) (fault : PlaceFault) (failure : Failure) → failure ≡ place_failure fault → fault ≡ unrecovered_folder why → IsErrOf {T = ℕ} (Err failure) (Folder said) → unrecovered_folder why ≡ place.Folder said
+pub unrecovered_said : (why : RecoveryFault) (said : FolderFault) (fault : PlaceFault) (failure : Failure) → failure ≡ place_failure fault → fault ≡ unrecovered_folder why → IsErrOf {T = Audited} (Err failure) (Folder said) → unrecovered_folder why ≡ place.Folder said
 unrecovered_said why said fault failure is was e = sym was ∙ told_of said fault failure is e
 
 -- nothing else is
-pub unrecovered_only : (why : RecoveryFault) (said : FolderFault) (fault : PlaceFault) (failure : Failure) → failure ≡ place_failure fault → fault ≡ unrecovered_folder why → IsErrOf {T = ℕ} (Err failure) (Folder said) → IsOfRecovery said
+pub unrecovered_only : (why : RecoveryFault) (said : FolderFault) (fault : PlaceFault) (failure : Failure) → failure ≡ place_failure fault → fault ≡ unrecovered_folder why → IsErrOf {T = Audited} (Err failure) (Folder said) → IsOfRecovery said
 unrecovered_only why said fault failure is was e = recovery_said why said (unrecovered_said why said fault failure is was e)
 
 unrecovered_place : (files : Option (List NamedFile)) (options : Options) (today : Day) (why : RecoveryFault) → IsPlaceFailure files options today (place_failure (unrecovered_folder why))

@@ -1,5 +1,5 @@
 -- How a call of the program ends: its exit status, and what is printed then.
-use Rattle.std.specs.Prelude.{ℕ, List, ◌++◌, ◌∷◌, [], length, take, nat_le, codes, Option, Some, Result, Ok, Err, if◌then◌else◌}
+use Rattle.std.specs.Prelude.{◌≡◌, ℕ, Bool, true, false, List, ◌++◌, ◌∷◌, [], length, take, flat_map, nat_le, codes, Option, Some, Result, Ok, Err, if◌then◌else◌}
 use Rattle.std.specs.Fmt.{decimal}
 use Rattle.std.specs.declared.io.ErrorKind.{ErrorKind as IoKind}
 use Rattle.std.specs.declared.io.ErrorKind.TheVariants as io
@@ -8,6 +8,8 @@ use Rattle.audit.specs.declared.fault.AuditFault.{AuditFault}
 use Rattle.audit.specs.declared.fault.AuditFault.TheVariants as fault
 use Rattle.audit.specs.declared.fault.Difference.{Difference}
 use Rattle.files_in_place.specs.declared.faults.SetFault.{SetFault}
+use Rattle.journal_file.specs.declared.sum.FileSum.{FileSum}
+use Rattle.journal_file.specs.WholeText.{wrote_word}
 use Rattle.station_lines.specs.declared.script.format.TheConstants.{LF}
 use Rattle.whole_run.specs.declared.fault.FileFault.TheVariants as file
 use Rattle.whole_run.specs.declared.fault.ServeFault.TheVariants as serve
@@ -17,19 +19,25 @@ use Rattle.program_text.specs.PlaceFaults.{given_up}
 use Rattle.program_text.specs.Reasons.{fault_reason, fault_status, folder_reason, unread_file}
 use Rattle.program_text.specs.Telling.{mistake_line, mistake_status, no_text_line, no_text_status, unprinted_line as unprinted_line_of}
 use Rattle.station_audit.specs.declared.program.failure.TheConstants.{MAX_SHOWN_BYTES}
+use Rattle.station_audit.specs.declared.program.audited.Audited.{Audited}
 use Rattle.station_audit.specs.declared.program.ending.Ending.{Ending}
 use Rattle.station_audit.specs.declared.program.ending.Ending.TheVariants as ended
 use Rattle.station_audit.specs.declared.program.failure.Failure.{Failure}
 use Rattle.station_audit.specs.declared.program.failure.Failure.TheVariants as failure
+use Rattle.station_audit.specs.Comparing.{AreLinesOf, are_of_run, is_of_run}
 
 -- ---- the exit status
 
--- of a failure: as the server's, and 5 where an entry does not hold
+-- of a failure: as the server's, 5 where an entry does not hold, and 6 where the journal is none, or that of another run
 abbrev pub status : Failure → ℕ
 status failure.BadDate = 1
 status (failure.Serve why) = fault_status why
 status failure.Unread = 2
 status (failure.UnrecoveredJournal path) = 2
+status (failure.NoJournal path) = 6
+status (failure.CutJournal path) = 6
+status (failure.OtherReindex of_run) = 6
+status (failure.OtherFile path) = 6
 status (failure.Audit why) = 5
 status (failure.Folder fault) = 4
 
@@ -39,10 +47,14 @@ ending_status ended.NoText = no_text_status
 ending_status (ended.CommandLine error) = mistake_status (kind_of error)
 ending_status (ended.Failed why) = status why
 
--- of a call: how many entries hold, or why it is not said that all do
-abbrev pub call_status : Result ℕ Ending → ℕ
-call_status (Ok count) = 0
-call_status (Err ending) = ending_status ending
+-- where all entries hold, and these are the files that the run wrote: 7 where the audit has written another one
+abbrev pub audited_status : List FileSum → Audited → ℕ
+audited_status wrote audited = if are_of_run wrote audited.written.items then 0 else 7
+
+-- of a call: what is said where all entries hold, or why it is not said that all do
+abbrev pub IsCallStatus : Result Audited Ending → ℕ → Type 0
+IsCallStatus (Ok audited) status = (wrote : List FileSum) → AreLinesOf wrote_word audited.wrote wrote → status ≡ audited_status wrote audited
+IsCallStatus (Err ending) status = status ≡ ending_status ending
 
 -- ---- why not all entries hold
 
@@ -71,11 +83,20 @@ audit_reason (fault.Differs d) = difference_reason d
 audit_reason fault.TooLong = codes "there are too many entries"
 audit_reason fault.NoMemory = codes "run: NoMemory"
 
+-- whether the run made the indexes anew
+abbrev pub reindex_reason : Bool → List ℕ
+reindex_reason true = codes "the run was with --reindex"
+reindex_reason false = codes "the run was without --reindex"
+
 abbrev pub reason : Failure → List ℕ
 reason failure.BadDate = codes "bad date"
 reason (failure.Serve why) = fault_reason why
 reason failure.Unread = codes "cannot read the journal"
 reason (failure.UnrecoveredJournal path) = unread_file path file.Unrecovered
+reason (failure.NoJournal path) = path ++ codes " is no journal"
+reason (failure.CutJournal path) = path ++ codes " is cut"
+reason (failure.OtherReindex of_run) = reindex_reason of_run
+reason (failure.OtherFile path) = path ++ codes " is not the file that the run read"
 reason (failure.Audit why) = audit_reason why
 reason (failure.Folder fault) = folder_reason fault
 
@@ -85,9 +106,28 @@ failure_line why = codes "station_audit: " ++ (reason why ++ LF ∷ [])
 
 -- ---- what is printed
 
--- on standard output where all entries hold, its LF too
+-- how many entries hold, its LF too
 abbrev pub count_line : ℕ → List ℕ
 count_line count = codes "station_audit: " ++ (decimal count ++ (codes " entries hold" ++ LF ∷ []))
+
+-- what is said of a file, its LF too
+abbrev pub file_line : FileSum → List ℕ → List ℕ
+file_line file said = codes "station_audit: " ++ (file.path ++ (said ++ LF ∷ []))
+
+-- of one that was read
+abbrev pub read_line : FileSum → List ℕ
+read_line file = file_line file (codes " is the file that the run read")
+
+-- of one that was written, where the run wrote these
+abbrev pub written_line : List FileSum → FileSum → List ℕ
+written_line wrote file =
+    file_line file (if is_of_run wrote file then codes " is the file that the run wrote" else codes " is not the file that the run wrote")
+
+-- On standard output where all entries hold, and these are the files that the run wrote: the files that were read, how many entries
+-- there are, and the files that were written.
+abbrev pub audited_text : List FileSum → Audited → List ℕ
+audited_text wrote audited =
+    flat_map read_line audited.read.items ++ (count_line audited.count ++ flat_map (written_line wrote) audited.written.items)
 
 -- on standard error where standard output took no text
 abbrev pub unprinted_line : List ℕ

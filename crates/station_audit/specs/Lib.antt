@@ -1,3 +1,4 @@
+pub mod Comparing
 pub mod Program
 pub mod Writing
 pub mod Endings

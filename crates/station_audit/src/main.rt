@@ -1,8 +1,9 @@
 //! Audits the journal of a run of `station_server`.
 //!
-//! The program reads a setup and the files that it names, opens the tables as the run found them, performs the journal's
-//! entries one after another in one thread, and compares each answer; where a folder is given it writes the tables as they
-//! are at the journal's end. This file has `main`: it reads the command line, has the journal audited, and has the end told.
+//! The program reads the journal, and then the setup and the files that it names, which have to be those that the run read. It
+//! opens the tables as the run found them, performs the journal's entries one after another in one thread, and compares each
+//! answer; where a folder is given it writes the tables as they are at the journal's end, and says whether their files are
+//! those that the run wrote. This file has `main`: it reads the command line, has the journal audited, and has the end told.
 //! The audit of a command line and what is said at its end are in `program.rt`. The audit itself is the crate `audit`: start
 //! reading at its `specs/Audits.antt`.
 #![tactic(auto)]
@@ -13,8 +14,8 @@ ghost use Rattle.std.specs.Prelude.{◌≡◌, ◌++◌, ◌∷◌, [], IfOk, If
 ghost use Rattle.program_text.specs.PlaceFaults.{IsOfOpening};
 
 use crate::program::{
-    Ending, Failure, InPlace, Options, Written, audit_in_place, audit_into, audit_options, command,
-    options_of, tell,
+    Audited, Ending, Failure, InPlace, Options, Written, audit_in_place, audit_into, audit_options,
+    command, options_of, tell,
 };
 use files_in_place::SystemDisk;
 use program_text::{PlaceFault, lock_out};
@@ -32,8 +33,8 @@ fn main(rt: HostRuntime) -> ExitCode {
     tell(&mut rt.stdout(), &mut rt.stderr(), &ended).status
 }
 
-// Reads the command line and audits the journal. The answer is how many entries hold.
-fn run_program<R: Runtime + Files<File = File> + AllocGlobal>(rt: &R) -> Result<u64, Ending> {
+// Reads the command line and audits the journal.
+fn run_program<R: Runtime + Files<File = File> + AllocGlobal>(rt: &R) -> Result<Audited, Ending> {
     let words = read_words(rt)?;
     let matches = command(rt.alloc())?.try_get_matches_from(words.as_slice())?;
     let Some(options) = options_of(&matches) else {
@@ -70,15 +71,15 @@ fn audit_to_files<R: Runtime + Files<File = File> + AllocGlobal>(
     rt: &R,
     options: &Options<'_>,
     written: &Written<'_>,
-) -> Result<u64, Ending> {
+) -> Result<Audited, Ending> {
     let alloc = rt.alloc();
     let today = written.today;
     let mut source = DiskSource::new(rt.clone()?);
     if let Ok(false) = fs::exists(rt, written.out) {
         // There is nothing to recover, and the first file can't be written.
         let mut folder = MissingFolder;
-        let count = audit_into(alloc, options, today, &mut source, &mut folder)?;
-        return Ok(count);
+        let audited = audit_into(alloc, options, today, &mut source, &mut folder)?;
+        return Ok(audited);
     }
     let lock = lock_out(rt, written.out)?;
     let disk = open_out(rt.clone()?, alloc, written)?;

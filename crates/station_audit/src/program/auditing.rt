@@ -1,17 +1,28 @@
 //! The audit that a command line asks for.
 
-ghost use Rattle.std.specs.Prelude.{◌≡◌, IfOk, IfErr, OnOk};
+ghost use Rattle.std.specs.Prelude.{◌≡◌, [], List, None, Some, IfOk, IfErr, OnOk};
+ghost use Rattle.audit.specs.Audits.{IsJournalOf};
+ghost use Rattle.journal_file.specs.declared.sum.FileSum.{FileSum as Sum};
+ghost use Rattle.journal_file.specs.WholeText.{IsCutInto, read_word};
 ghost use Rattle.station_files.specs.Files.{IsFileOf};
-ghost use Rattle.station_audit.specs.Program.{IsAuditedBy, IsAuditedTo, IsFailedBy, IsJournalFault, IsLoadFailure};
+ghost use Rattle.whole_run.specs.FileSums.{AreAllNoted};
+ghost use Rattle.whole_run.specs.Loading.{read_of};
+ghost use Rattle.whole_run.specs.OpenedSetup.{IsOpenedFrom};
+ghost use Rattle.whole_run.specs.WholeRun.{IsAllRead};
+ghost use Rattle.station_audit.specs.Comparing.{AreLinesOf, first_other};
+ghost use Rattle.station_audit.specs.Program.{IsAuditedBy, IsAuditedTo, IsEntriesFault, IsFailedBy, IsFilesFault, IsJournalFault, IsLoadFailure, IsTextFault};
 
+use crate::program::audited::Audited;
+use crate::program::comparing::find_other;
 use crate::program::failure::Failure;
 use crate::program::options::Options;
 use audit::audit;
 use catalogue_core::Catalogue;
 use dbf_fields::Bytes;
+use journal_file::{FileSum, JournalFault, JournalParts, ReadSums, cut_journal};
 use station_files::{LoadFault, Source};
 use std::alloc::Global;
-use whole_run::{ServeFault, open_setup};
+use whole_run::{Loaded, ServeFault, open_loaded, read_all};
 
 // The journal's text.
 fn load_journal<S: Source>(alloc: Global, source: &mut S, path: &[u8]) -> Result<Bytes, Failure>
@@ -31,39 +42,130 @@ fn load_journal<S: Source>(alloc: Global, source: &mut S, path: &[u8]) -> Result
     }
 }
 
-/// The tables of a command line's setup, with the indexes made anew where it says so, after all entries of its journal: each
-/// of them holds. Files are read from the source, the setup and what it names first.
-pub(crate) fn audited_tables<S: Source>(
+// The parts of the journal's text, where it is that of a run which made the indexes anew or not as the options say.
+fn cut_text<'a>(
     alloc: Global,
     options: &Options<'_>,
+    text: &'a [u8],
+) -> Result<JournalParts<'a>, Failure>
+    ensures found { IfOk result (IsCutInto text.now) }
+    ensures reindex { IfOk result (λ parts. parts.reindex ≡ options.now.reindex) }
+    ensures fault { IfErr result (IsTextFault options.now text.now) }
+{
+    let path = options.journal.as_bytes();
+    match cut_journal(text) {
+        Ok(parts) if parts.reindex == options.reindex => Ok(parts),
+        Ok(parts) => Err(Failure::OtherReindex(parts.reindex)),
+        Err(JournalFault::Cut) => Err(Failure::CutJournal(Bytes::from_slice(alloc, path)?)),
+        Err(JournalFault::NoJournal) => Err(Failure::NoJournal(Bytes::from_slice(alloc, path)?)),
+    }
+}
+
+// What the setup names, and what was noted of the files that were read.
+struct ReadFiles {
+    loaded: Loaded,
+    sums: Vec<FileSum>,
+}
+
+// Reads the setup and what it names, where these are the files of the journal's lines.
+fn read_files<S: Source>(
+    alloc: Global,
+    options: &Options<'_>,
+    lines: &[u8],
     source: &mut S,
-) -> Result<Catalogue, Failure>
-    ensures audited { IfOk result (IsAuditedTo (S.files source.old) options.now) }
-    ensures fault { IfErr result (IsFailedBy (S.files source.old) options.now) }
+) -> Result<ReadFiles, Failure>
+    ensures read { IfOk result (λ files. IsAllRead (S.files source.old) options.now.setup.now (read_of files.loaded)) }
+    ensures noted { IfOk result (λ files. AreAllNoted (S.files source.old) options.now.setup.now (Some []) (Some files.sums.items)) }
+    ensures same { (told : List Sum) → AreLinesOf read_word lines.now told → IfOk result (λ files. first_other told files.sums.items ≡ None) }
+    ensures fault { (told : List Sum) → AreLinesOf read_word lines.now told → IfErr result (IsFilesFault (S.files source.old) options.now.setup.now told) }
     ensures kept { S.files source.new ≡ S.files source.old }
     ensures loads { OnOk result (S.failures source.new ≡ S.failures source.old) }
     ensures failure { IfErr result (IsLoadFailure (S.files source.old) options.now (S.failures source.old) (S.failures source.new)) }
 {
     let setup = Bytes::from_slice(alloc, options.setup.as_bytes())?;
-    let mut catalogue = open_setup(alloc, &setup, options.reindex, source)?;
-    let text = load_journal(alloc, source, options.journal.as_bytes())?;
-    audit(alloc, &mut catalogue, text.as_slice())?;
+    let mut noted = ReadSums::wanted(alloc);
+    let loaded = read_all(alloc, source, &setup, &mut noted)?;
+    let sums = noted.into_sums();
+    if let Some(path) = find_other(lines, &sums) {
+        return Err(Failure::OtherFile(Bytes::from_slice(alloc, path)?));
+    }
+    Ok(ReadFiles { loaded, sums })
+}
+
+// Opens the tables that were read, and performs the entries of these lines: each of them holds.
+fn perform_entries(
+    alloc: Global,
+    loaded: Loaded,
+    reindex: bool,
+    entries: &[u8],
+) -> Result<Catalogue, Failure>
+    ensures opened { IfOk result (λ catalogue. IsOpenedFrom reindex (read_of loaded) catalogue.opened) }
+    ensures holds { IfOk result (λ catalogue. IsJournalOf catalogue.opened entries.now catalogue.journal) }
+    ensures fault { IfErr result (IsEntriesFault reindex (read_of loaded) entries.now) }
+{
+    let mut catalogue = open_loaded(alloc, loaded, reindex)?;
+    audit(alloc, &mut catalogue, entries)?;
     Ok(catalogue)
 }
 
+/// Tables after all entries of a journal, and what is said of it.
+pub(crate) struct AuditedTables {
+    /// The tables.
+    pub catalogue: Catalogue,
+    /// What is said of the journal, where nothing is written.
+    pub audited: Audited,
+}
+
+/// The tables of a command line's setup, with the indexes made anew where it says so, after all entries of its journal: each
+/// of them holds. Files are read from the source, the journal first, and then the setup and what it names: these are the files
+/// that the run read. A failure is the first in this order: the journal can't be read, is none or is cut; the run was with
+/// `--reindex` or without it, otherwise than the command line says; a file can't be read, or is not the one that the run read;
+/// the tables are not opened; an entry does not hold.
+pub(crate) fn audited_tables<S: Source>(
+    alloc: Global,
+    options: &Options<'_>,
+    source: &mut S,
+) -> Result<AuditedTables, Failure>
+    ensures audited { IfOk result (λ tables. IsAuditedTo (S.files source.old) options.now tables.catalogue tables.audited) }
+    ensures unwritten { IfOk result (λ tables. tables.audited.written.items ≡ []) }
+    ensures fault { IfErr result (IsFailedBy (S.files source.old) options.now) }
+    ensures kept { S.files source.new ≡ S.files source.old }
+    ensures loads { OnOk result (S.failures source.new ≡ S.failures source.old) }
+    ensures failure { IfErr result (IsLoadFailure (S.files source.old) options.now (S.failures source.old) (S.failures source.new)) }
+{
+    let text = load_journal(alloc, source, options.journal.as_bytes())?;
+    let parts = match cut_text(alloc, options, text.as_slice()) {
+        Ok(parts) => parts,
+        Err(failure) => return Err(failure),
+    };
+    let wrote = Bytes::from_slice(alloc, parts.wrote)?;
+    let ReadFiles { loaded, sums } = read_files(alloc, options, parts.read, source)?;
+    let catalogue = perform_entries(alloc, loaded, options.reindex, parts.entries)?;
+    let audited = Audited {
+        count: catalogue.journal().len() as u64,
+        read: sums,
+        wrote,
+        written: Vec::new(alloc),
+    };
+    Ok(AuditedTables { catalogue, audited })
+}
+
 /// Audits the journal of a command line on the tables of its setup, with the indexes made anew where it says so. Files are
-/// read from the source. The answer is how many entries hold: all of the journal's.
+/// read from the source, and nothing is written.
 pub(crate) fn audit_options<S: Source>(
     alloc: Global,
     options: &Options<'_>,
     source: &mut S,
-) -> Result<u64, Failure>
+) -> Result<Audited, Failure>
     ensures holds { IfOk result (IsAuditedBy (S.files source.old) options.now) }
     ensures fault { IfErr result (IsFailedBy (S.files source.old) options.now) }
     ensures kept { S.files source.new ≡ S.files source.old }
     ensures loads { OnOk result (S.failures source.new ≡ S.failures source.old) }
     ensures failure { IfErr result (IsLoadFailure (S.files source.old) options.now (S.failures source.old) (S.failures source.new)) }
 {
-    let catalogue = audited_tables(alloc, options, source)?;
-    Ok(catalogue.journal().len() as u64)
+    let AuditedTables {
+        catalogue: _,
+        audited,
+    } = audited_tables(alloc, options, source)?;
+    Ok(audited)
 }

@@ -1,8 +1,8 @@
 //! Why a call of the program failed, and what it says then.
 
-ghost use Rattle.std.specs.Prelude.{◌≡◌, OnOk};
+ghost use Rattle.std.specs.Prelude.{◌≡◌, ◌++◌, OnOk};
 ghost use Rattle.std.specs.Io.KnownBytes.{Appends};
-ghost use Rattle.station_audit.specs.Endings.{audit_reason, difference_reason, entry_named, failure_line, performed_answer, reason, shortened, status, told_answer};
+ghost use Rattle.station_audit.specs.Endings.{audit_reason, difference_reason, entry_named, failure_line, performed_answer, reason, reindex_reason, shortened, status, told_answer};
 
 use audit::{AuditFault, Difference};
 use dbf_fields::Bytes;
@@ -28,6 +28,14 @@ pub(crate) enum Failure {
     Unread,
     /// The list of a set of new files lies in the folder of the journal, which has this path: not all of them are in place.
     UnrecoveredJournal(Bytes),
+    /// The file of the journal, which has this path, does not begin as a journal.
+    NoJournal(Bytes),
+    /// The file of the journal, which has this path, begins as a journal and is not a whole one.
+    CutJournal(Bytes),
+    /// The run made the indexes anew, or not, as this says, and is to be audited the other way round.
+    OtherReindex(bool),
+    /// The file of this path is not the one that the run read.
+    OtherFile(Bytes),
     /// An entry does not hold.
     Audit(AuditFault),
     /// The folder for the written tables has not got them.
@@ -87,7 +95,8 @@ impl From<PlaceFault> for Failure {
 }
 
 /// The exit status of a failure: as the server's, which is 1 for the date and the setup, 2 for a file and the opening, 3
-/// for want of memory and 4 for the writing and its folder; 5 where an entry does not hold.
+/// for want of memory and 4 for the writing and its folder; 5 where an entry does not hold, and 6 where the journal is none
+/// or is that of another run.
 pub(crate) fn status_of(failure: &Failure) -> u8
     ensures value { result ≡ status failure.now }
 {
@@ -96,6 +105,10 @@ pub(crate) fn status_of(failure: &Failure) -> u8
         Failure::Serve(fault) => fault_status(fault),
         Failure::Unread => 2,
         Failure::UnrecoveredJournal(_) => 2,
+        Failure::NoJournal(_) => 6,
+        Failure::CutJournal(_) => 6,
+        Failure::OtherReindex(_) => 6,
+        Failure::OtherFile(_) => 6,
         Failure::Audit(_) => 5,
         Failure::Folder(_) => 4,
     }
@@ -120,9 +133,32 @@ fn print_reason<W: Write>(out: &mut W, failure: &Failure) -> io::Result<()>
         Failure::Serve(fault) => print_fault(out, fault),
         Failure::Unread => out.write_all(b"cannot read the journal"),
         Failure::UnrecoveredJournal(path) => print_unread(out, path, FileFault::Unrecovered),
+        Failure::NoJournal(path) => print_path(out, path, b" is no journal"),
+        Failure::CutJournal(path) => print_path(out, path, b" is cut"),
+        Failure::OtherReindex(of_run) => print_reindex(out, *of_run),
+        Failure::OtherFile(path) => print_path(out, path, b" is not the file that the run read"),
         Failure::Audit(fault) => print_audit(out, fault),
         Failure::Folder(fault) => print_folder(out, fault),
     }
+}
+
+// A path, and what is said of its file.
+fn print_path<W: Write>(out: &mut W, path: &Bytes, said: &[u8]) -> io::Result<()>
+    ensures text { OnOk result (Appends (W.contents out.old) (W.contents out.new) (path.now ++ said.now)) }
+{
+    out.write_all(path.as_slice())?;
+    out.write_all(said)?;
+    Ok(())
+}
+
+// Whether the run made the indexes anew.
+fn print_reindex<W: Write>(out: &mut W, of_run: bool) -> io::Result<()>
+    ensures text { OnOk result (Appends (W.contents out.old) (W.contents out.new) (reindex_reason of_run)) }
+{
+    if of_run {
+        return out.write_all(b"the run was with --reindex");
+    }
+    out.write_all(b"the run was without --reindex")
 }
 
 // Why not all entries hold.

@@ -12,6 +12,7 @@ ghost use Rattle.station_audit.specs.Endings.{given_up_audit};
 ghost use Rattle.station_audit.specs.Program.{IsLoadFailure};
 ghost use Rattle.station_audit.specs.Writing.{AreInPlace, IsListOfTables, IsPlaceFailure, IsWrittenBy};
 
+use crate::program::audited::Audited;
 use crate::program::failure::Failure;
 use crate::program::options::Options;
 use crate::program::writing::audit_into;
@@ -25,8 +26,8 @@ use std::marker::Brand;
 /// How an audit over the folder of a disk ended, and the disk then.
 #[derive(Drop)]
 pub(crate) struct InPlace<D: Disk + Drop> {
-    /// How many entries hold, where all files are in place, or why they are not.
-    pub ended: Result<u64, Failure>,
+    /// What is said of the journal, where all files are in place, or why they are not.
+    pub ended: Result<Audited, Failure>,
     /// The disk.
     pub disk: D,
 }
@@ -63,8 +64,8 @@ fn audit_recovered<S: Source, D: Disk + Drop, O: Origin<D>>(
     requires origin { O.origin ≡ Some disk }
     ensures placed { D.keeps_promises → IfOk result.ended (AreInPlace (S.files source.old) options.now today (D.seen disk) (D.seen result.disk)) }
     ensures synced { D.keeps_promises → OnOk result.ended (IsSynced (D.seen result.disk) (D.is_whole result.disk) (D.may_leave result.disk)) }
-    ensures any_moment { D.keeps_promises → IfOk result.ended (λ count.
-        HasPut D.moment D.left_since D.seen (λ written. IsWrittenBy (S.files source.old) options.now today (Some []) (Some written) count) (HasOldFiles (D.seen disk)) (D.seen disk) disk result.disk) }
+    ensures any_moment { D.keeps_promises → IfOk result.ended (λ audited.
+        HasPut D.moment D.left_since D.seen (λ written. IsWrittenBy (S.files source.old) options.now today (Some []) (Some written) audited) (HasOldFiles (D.seen disk)) (D.seen disk) disk result.disk) }
     ensures old_files { D.keeps_promises → IfErr result.ended (λ failure. failure ≢ Failure.Folder FolderFault.Unfinished
         → LeavesOnly D.moment D.left_since disk result.disk (HasOldFiles (D.seen disk))) }
     ensures fault { IfErr result.ended (IsPlaceFailure (S.files source.old) options.now today) }
@@ -77,8 +78,8 @@ fn audit_recovered<S: Source, D: Disk + Drop, O: Origin<D>>(
     ensures failure { IfErr result.ended (IsLoadFailure (S.files source.old) options.now (S.failures source.old) (S.failures source.new)) }
 {
     let mut folder = DiskFolder::<D, O>::new(alloc, disk);
-    let count = match audit_into(alloc, options, today, source, &mut folder) {
-        Ok(count) => count,
+    let audited = match audit_into(alloc, options, today, source, &mut folder) {
+        Ok(audited) => audited,
         Err(failure) => {
             let failure = give_up_audit(&mut folder, failure);
             return InPlace {
@@ -89,7 +90,7 @@ fn audit_recovered<S: Source, D: Disk + Drop, O: Origin<D>>(
     };
     match folder.finish() {
         (Ok(()), disk) => InPlace {
-            ended: Ok(count),
+            ended: Ok(audited),
             disk,
         },
         (Err(fault), disk) => InPlace {
@@ -117,8 +118,8 @@ pub(crate) fn audit_in_place<S: Source, D: Disk + Drop>(
     ensures synced { D.keeps_promises → OnOk result.ended (IsSynced (D.seen result.disk) (D.is_whole result.disk) (D.may_leave result.disk)) }
     // And a crash at any moment of the call leaves a folder of which recovery makes what it makes of one that might have been left
     // before, or the folder before with the files of the tables in their places, all of them. They are the same at each moment.
-    ensures any_moment { D.keeps_promises → IfOk result.ended (λ count.
-        HasPut D.moment D.left_since D.seen (λ written. IsWrittenBy (S.files source.old) options.now today (Some []) (Some written) count) (RecoversAsOneOf (D.may_leave disk)) (recovered (D.seen disk)) disk result.disk) }
+    ensures any_moment { D.keeps_promises → IfOk result.ended (λ audited.
+        HasPut D.moment D.left_since D.seen (λ written. IsWrittenBy (S.files source.old) options.now today (Some []) (Some written) audited) (RecoversAsOneOf (D.may_leave disk)) (recovered (D.seen disk)) disk result.disk) }
     // Where it is not said that all entries hold, it leaves the first, but where some of the new files may be in place.
     ensures old_files { D.keeps_promises → IfErr result.ended (λ failure. failure ≢ Failure.Folder FolderFault.Unfinished
         → LeavesOnly D.moment D.left_since disk result.disk (RecoversAsOneOf (D.may_leave disk))) }

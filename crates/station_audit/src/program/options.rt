@@ -17,7 +17,9 @@ const STATUSES: &str = "Exit status:
   2  a file is refused or can't be read, or the tables can't be opened together
   3  memory was refused
   4  all entries hold, and the tables are not written, or not all
-  5  an entry does not hold";
+  5  an entry does not hold
+  6  the journal is none or is cut, or the run was with other files or another --reindex
+  7  all entries hold, and a file that was written is not the run's";
 
 /// What the command line says.
 #[derive(Clone, Copy, Debug)]

@@ -1,3 +1,5 @@
 mod audits;
 mod ends;
+mod files;
+mod journals;
 mod places;

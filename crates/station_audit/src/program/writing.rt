@@ -6,7 +6,8 @@ ghost use Rattle.station_audit.specs.declared.program.failure.Failure.TheVariant
 ghost use Rattle.station_audit.specs.Program.{IsLoadFailure};
 ghost use Rattle.station_audit.specs.Writing.{IsCutAudit, IsWrittenBy, IsUnwritten};
 
-use crate::program::auditing::audited_tables;
+use crate::program::audited::Audited;
+use crate::program::auditing::{AuditedTables, audited_tables};
 use crate::program::failure::Failure;
 use crate::program::options::Options;
 use dbf_fields::Day;
@@ -15,15 +16,14 @@ use std::alloc::Global;
 use whole_run::{ServeFault, write_tables};
 
 /// Audits the journal of a command line, and writes the tables and indexes at its end into the folder, dated: where the
-/// journal is that of a run these are the run's. Nothing is written where an entry does not hold. The answer is how many
-/// entries hold.
+/// journal is that of a run of this date these are the run's. Nothing is written where an entry does not hold.
 pub(crate) fn audit_into<S: Source, F: Folder>(
     alloc: Global,
     options: &Options<'_>,
     today: Day,
     source: &mut S,
     folder: &mut F,
-) -> Result<u64, Failure>
+) -> Result<Audited, Failure>
     ensures wrote { IfOk result (IsWrittenBy (S.files source.old) options.now today (F.written folder.old) (F.written folder.new)) }
     ensures no_failure { OnOk result (F.failures folder.new ≡ F.failures folder.old) }
     ensures fault { IfErr result (IsUnwritten (S.files source.old) options.now today.year) }
@@ -35,7 +35,10 @@ pub(crate) fn audit_into<S: Source, F: Folder>(
     ensures failed { (name : List ℕ) → result ≡ Err (Serve (ServeFault.Close (CloseFault.Write name))) → Rises (F.failures folder.old) (F.failures folder.new) }
     ensures whole_before_fault { IfErr result (IsCutAudit (S.files source.old) options.now today (F.written folder.old) (F.written folder.new)) }
 {
-    let catalogue = audited_tables(alloc, options, source)?;
-    write_tables(alloc, &catalogue, today, folder)?;
-    Ok(catalogue.journal().len() as u64)
+    let AuditedTables {
+        catalogue,
+        mut audited,
+    } = audited_tables(alloc, options, source)?;
+    audited.written = write_tables(alloc, &catalogue, today, folder)?;
+    Ok(audited)
 }

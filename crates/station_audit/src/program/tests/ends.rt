@@ -1,6 +1,6 @@
 //! How calls of the program end: what is printed, and the exit status.
 
-use crate::program::{Ending, Failure, command, tell};
+use crate::program::{Audited, Ending, Failure, command, tell};
 use audit::{AuditFault, Difference};
 use dbf_fields::Bytes;
 use files_in_place::{DiskFault, LockFault};
@@ -21,7 +21,17 @@ fn said_of(alloc: Global, words: &[&str]) -> Result<Ending, Fail> {
     }
 }
 
-fn failed(failure: Failure) -> Result<u64, Ending> {
+// What is said of so many entries that hold, over no files.
+fn held(alloc: Global, count: u64) -> Audited {
+    Audited {
+        count,
+        read: Vec::new(alloc),
+        wrote: Bytes::new(alloc),
+        written: Vec::new(alloc),
+    }
+}
+
+fn failed(failure: Failure) -> Result<Audited, Ending> {
     Err(Ending::Failed(failure))
 }
 
@@ -44,7 +54,7 @@ fn differs(alloc: Global) -> Result<Failure, AllocError> {
 // The first call that ends otherwise: with another exit status, or with another line on one of the streams.
 fn first_untold(
     alloc: Global,
-    cases: &[(Result<u64, Ending>, u8, &str, &str)],
+    cases: &[(Result<Audited, Ending>, u8, &str, &str)],
 ) -> Result<Option<usize>, Fail> {
     for i in 0..cases.len() {
         let (ended, status, said, warned) = &cases[i];
@@ -71,8 +81,13 @@ fn each_end_has_its_status_and_line(rt: HostRuntime) -> Result<(), Fail> {
 For more information, try '--help'.
 ";
     let cases = [
-        (Ok(0), 0, "station_audit: 0 entries hold\n", ""),
-        (Ok(1205), 0, "station_audit: 1205 entries hold\n", ""),
+        (Ok(held(alloc, 0)), 0, "station_audit: 0 entries hold\n", ""),
+        (
+            Ok(held(alloc, 1205)),
+            0,
+            "station_audit: 1205 entries hold\n",
+            "",
+        ),
         (no_text, 1, "", "error: an argument is no UTF-8 text\n"),
         (refused, 3, "", "station_audit: run: NoMemory\n"),
         (
@@ -135,6 +150,36 @@ fn each_failure_has_its_status_and_line(rt: HostRuntime) -> Result<(), Fail> {
     Ok(())
 }
 
+#[test]
+fn each_other_run_has_its_status_and_line(rt: HostRuntime) -> Result<(), Fail> {
+    let alloc = rt.alloc();
+    let none = Bytes::from_slice(alloc, b"J.TXT")?;
+    let cut = Bytes::from_slice(alloc, b"kept/J.TXT")?;
+    let other = Bytes::from_slice(alloc, b"MEMBERS.DBF")?;
+    let with = "station_audit: the run was with --reindex\n";
+    let without = "station_audit: the run was without --reindex\n";
+    let not_read = "station_audit: MEMBERS.DBF is not the file that the run read\n";
+    let cases = [
+        (
+            failed(Failure::NoJournal(none)),
+            6,
+            "",
+            "station_audit: J.TXT is no journal\n",
+        ),
+        (
+            failed(Failure::CutJournal(cut)),
+            6,
+            "",
+            "station_audit: kept/J.TXT is cut\n",
+        ),
+        (failed(Failure::OtherReindex(true)), 6, "", with),
+        (failed(Failure::OtherReindex(false)), 6, "", without),
+        (failed(Failure::OtherFile(other)), 6, "", not_read),
+    ];
+    assert_eq!(rt; first_untold(alloc, &cases)?, None);
+    Ok(())
+}
+
 // An entry whose answer is another by the byte after so many that are the same.
 fn differs_at_the_end(alloc: Global, same: usize) -> Result<Failure, AllocError> {
     let mut performed = vec![in alloc; b'A'; same]?;
@@ -181,12 +226,12 @@ fn long_answers_are_shown_by_their_first_bytes(rt: HostRuntime) -> Result<(), Fa
 }
 
 // A call that got no lock on the folder.
-fn unlocked(fault: LockFault) -> Result<u64, Ending> {
+fn unlocked(fault: LockFault) -> Result<Audited, Ending> {
     Err(Ending::from(PlaceFault::from(fault)))
 }
 
 // A call that could not open the folder.
-fn unopened_by(fault: DiskFault) -> Result<u64, Ending> {
+fn unopened_by(fault: DiskFault) -> Result<Audited, Ending> {
     Err(Ending::from(PlaceFault::from(fault)))
 }
 
@@ -236,7 +281,7 @@ impl Write for Full {
 #[test]
 fn full_streams_change_no_status(rt: HostRuntime) -> Result<(), Fail> {
     let mut err = Vec::new(rt.alloc());
-    let told = tell(&mut Full, &mut err, &Ok(7));
+    let told = tell(&mut Full, &mut err, &Ok(held(rt.alloc(), 7)));
     assert!(rt; told.status == ExitCode::from(0));
     assert!(rt; err.as_slice() == b"station_audit: cannot print\n".as_slice());
     Ok(())

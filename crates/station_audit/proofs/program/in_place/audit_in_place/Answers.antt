@@ -1,5 +1,6 @@
 use Rattle.std.proofs.Common.{◌≡◌, ◌≢◌, ◌<◌, ℕ, List, [], Some, Err, true, false, refl, ap, inl, inr, arith}
 use Rattle.program_text.proofs.PlacingLaws.{bad_list_only, failed_only, unreplaced_only, recovered_in_part, recovered_ok, recovered_old, recovering_old, seen_at, seen_too}
+use Rattle.station_audit.specs.declared.program.audited.Audited.{Audited}
 use Rattle.station_audit.specs.declared.program.failure.Failure.TheVariants.{Folder as OfFolder}
 use Rattle.station_audit.specs.Writing.{IsListOfTables, IsWrittenBy}
 use Rattle.files_in_place.specs.Folder.{recovered}
@@ -52,7 +53,7 @@ returns-clause-unwritten g c told = omega (arith, c.recover.ensures.cause.later,
 pub returns-clause-any_moment : goal.returns-clause-any_moment
 returns-clause-any_moment g c promised =
     recovered_ok g.D.Disk.moment g.D.Disk.left_since g.D.Disk.may_leave g.D.Disk.seen c.args.disk c.recover.new.disk (g.met.D.Disk.seen_may_stay c.args.disk promised) (c.recover.ensures.any_moment promised) (c.in_default.ensures.done promised)
-    (λ (count : ℕ) (written : List ℕ). IsWrittenBy (g.S.Source.files c.args.source.now) c.args.options.now c.args.today (Some []) (Some written) count) c.audit_recovered.result.disk c.audit_recovered.result.ended (c.audit_recovered.ensures.any_moment promised)
+    (λ (audited : Audited) (written : List ℕ). IsWrittenBy (g.S.Source.files c.args.source.now) c.args.options.now c.args.today (Some []) (Some written) audited) c.audit_recovered.result.disk c.audit_recovered.result.ended (c.audit_recovered.ensures.any_moment promised)
 
 pub returns-clause-old_files : goal.returns-clause-old_files
 returns-clause-old_files g c promised =

@@ -1,4 +1,4 @@
-use Rattle.std.proofs.Common.{length, refl, ap}
+use Rattle.std.proofs.Common.{refl, ap}
 use Rattle.station_audit.specs.declared.program.failure.Failure.TheVariants.{Serve}
 use Rattle.station_audit.specs.Program.{IsFailedBy}
 use Rattle.station_audit.proofs.ProgramLaws.{err_exit}
@@ -8,7 +8,7 @@ use Rattle.station_audit.proofs.program.writing.audit_into.Goals as goal
 -- the names of the files differ
 pub returns-clause-wrote : goal.returns-clause-wrote
 returns-clause-wrote g c =
-    written_by (g.S.Source.files c.args.source.now) c.args.options.now c.args.today _ _ _ _ c.in_ok-catalogue.ensures.audited (ap length c.journal.ensures.entries) c.in_ok-write_tables.ensures.wrote
+    written_by (g.S.Source.files c.args.source.now) c.args.options.now c.args.today _ _ _ _ _ refl refl refl c.in_ok-catalogue.ensures.audited c.in_ok-audited.ensures.wrote
 
 pub returns-in_err-catalogue-clause-fault : goal.returns-in_err-catalogue-clause-fault
 returns-in_err-catalogue-clause-fault g c = err_exit _ _ c.from_residual.ensures.1 (unwritten_audit _ _ _ c.in_err-catalogue.field-0.0 c.in_err-catalogue.ensures.fault)
@@ -20,13 +20,13 @@ pub returns-in_err-catalogue-clause-failed : goal.returns-in_err-catalogue-claus
 returns-in_err-catalogue-clause-failed g c name e =
     absurd (no_close (g.S.Source.files c.args.source.now) c.args.options.now _ name (err_exit _ (IsFailedBy (g.S.Source.files c.args.source.now) c.args.options.now) c.from_residual.ensures.1 c.in_err-catalogue.ensures.fault) e)
 
-pub returns-in_err-write_tables-clause-fault : goal.returns-in_err-write_tables-clause-fault
-returns-in_err-write_tables-clause-fault g c =
-    err_exit _ _ c.from_residual-in_err-write_tables.ensures.1 (unwritten_tables _ _ _ _ c.in_err-write_tables.field-0.0 c.in_ok-catalogue.ensures.audited c.in_err-write_tables.ensures.fault)
+pub returns-in_err-audited-clause-fault : goal.returns-in_err-audited-clause-fault
+returns-in_err-audited-clause-fault g c =
+    err_exit _ _ c.from_residual-in_err-audited.ensures.1 (unwritten_tables _ _ _ _ _ c.in_err-audited.field-0.0 c.in_ok-catalogue.ensures.audited c.in_err-audited.ensures.fault)
 
-pub returns-in_err-write_tables-clause-no_file_begun : goal.returns-in_err-write_tables-clause-no_file_begun
-returns-in_err-write_tables-clause-no_file_begun g c =
-    err_exit _ _ c.from_residual-in_err-write_tables.ensures.1 (λ other. c.in_err-write_tables.ensures.no_file_begun (λ name e. other name (ap Serve e)))
+pub returns-in_err-audited-clause-no_file_begun : goal.returns-in_err-audited-clause-no_file_begun
+returns-in_err-audited-clause-no_file_begun g c =
+    err_exit _ _ c.from_residual-in_err-audited.ensures.1 (λ other. c.in_err-audited.ensures.no_file_begun (λ name e. other name (ap Serve e)))
 
 pub returns-in_err-catalogue-clause-failure : goal.returns-in_err-catalogue-clause-failure
 returns-in_err-catalogue-clause-failure g c = err_exit _ _ c.from_residual.ensures.1 c.in_err-catalogue.ensures.failure
@@ -34,11 +34,11 @@ returns-in_err-catalogue-clause-failure g c = err_exit _ _ c.from_residual.ensur
 pub returns-in_err-catalogue-clause-whole_before_fault : goal.returns-in_err-catalogue-clause-whole_before_fault
 returns-in_err-catalogue-clause-whole_before_fault g c = err_exit _ _ c.from_residual.ensures.1 (uncut_audit _ _ c.args.today _ _ c.in_err-catalogue.field-0.0 c.in_err-catalogue.ensures.fault)
 
-pub returns-in_err-write_tables-clause-failure : goal.returns-in_err-write_tables-clause-failure
-returns-in_err-write_tables-clause-failure g c =
-    err_exit _ _ c.from_residual-in_err-write_tables.ensures.1 (loaded_tables _ _ c.args.today.year _ _ _ c.in_err-write_tables.field-0.0 c.in_ok-catalogue.ensures.audited c.in_ok-catalogue.ensures.loads c.in_err-write_tables.ensures.fault)
+pub returns-in_err-audited-clause-failure : goal.returns-in_err-audited-clause-failure
+returns-in_err-audited-clause-failure g c =
+    err_exit _ _ c.from_residual-in_err-audited.ensures.1 (loaded_tables _ _ c.args.today.year _ _ _ _ c.in_err-audited.field-0.0 c.in_ok-catalogue.ensures.audited c.in_ok-catalogue.ensures.loads c.in_err-audited.ensures.fault)
 
-pub returns-in_err-write_tables-clause-whole_before_fault : goal.returns-in_err-write_tables-clause-whole_before_fault
-returns-in_err-write_tables-clause-whole_before_fault g c =
-    err_exit _ _ c.from_residual-in_err-write_tables.ensures.1
-    (cut_audit _ _ c.args.today _ _ _ c.in_err-write_tables.field-0.0 c.in_ok-catalogue.ensures.audited c.in_err-write_tables.ensures.whole_before_fault)
+pub returns-in_err-audited-clause-whole_before_fault : goal.returns-in_err-audited-clause-whole_before_fault
+returns-in_err-audited-clause-whole_before_fault g c =
+    err_exit _ _ c.from_residual-in_err-audited.ensures.1
+    (cut_audit _ _ c.args.today _ _ _ _ c.in_err-audited.field-0.0 c.in_ok-catalogue.ensures.audited c.in_err-audited.ensures.whole_before_fault)
