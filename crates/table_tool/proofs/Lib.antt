@@ -1,2 +1,3 @@
 -- Lemmas for the contracts of the crate.
 pub mod Checking
+pub mod Printing

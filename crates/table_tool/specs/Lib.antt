@@ -4,3 +4,6 @@ pub mod Verdict
 pub mod Check
 pub mod Range
 pub mod IndexTree
+pub mod Memos
+pub mod Reasons
+pub mod Endings

@@ -37,15 +37,15 @@ open_words (open_fault.IndexStale table index) = index_words table index ++ code
 open_words open_fault.NoMemory = codes "out of memory"
 
 -- why the server opens nothing. What a run or a close ends in is none of opening.
-abbrev pub reason_words : ServeFault → List ℕ
-reason_words (serve.Setup number) = codes "line " ++ (decimal number ++ codes " of the setup is bad")
-reason_words (serve.File path fault) = path ++ file_words fault
-reason_words (serve.Refused fault) = open_words fault
-reason_words (serve.Run fault) = []
-reason_words (serve.Close fault) = []
-reason_words serve.NoMemory = codes "out of memory"
+abbrev pub unopened_words : ServeFault → List ℕ
+unopened_words (serve.Setup number) = codes "line " ++ (decimal number ++ codes " of the setup is bad")
+unopened_words (serve.File path fault) = path ++ file_words fault
+unopened_words (serve.Refused fault) = open_words fault
+unopened_words (serve.Run fault) = []
+unopened_words (serve.Close fault) = []
+unopened_words serve.NoMemory = codes "out of memory"
 
 -- the last line of a check
 abbrev pub verdict_line : Option ServeFault → List ℕ
 verdict_line None = codes "good: the server opens all" ++ LF ∷ []
-verdict_line (Some fault) = codes "bad: the server opens nothing: " ++ (reason_words fault ++ LF ∷ [])
+verdict_line (Some fault) = codes "bad: the server opens nothing: " ++ (unopened_words fault ++ LF ∷ [])

@@ -8,9 +8,11 @@
 mod checking;
 mod ending;
 mod indexing;
+mod memos;
 mod options;
 mod order;
 mod range;
+mod reason;
 mod showing;
 mod stream;
 #[cfg(test)]
@@ -20,6 +22,6 @@ mod verdict;
 pub(crate) use checking::check_setup;
 pub(crate) use ending::{Ending, check_ending, ending_of, tell, tree_ending};
 pub(crate) use indexing::show_tree;
-pub(crate) use options::{command, index_of, options_of, setup_of};
+pub(crate) use options::{check_options_of, command, index_of, options_of};
 pub(crate) use showing::show_file;
 pub(crate) use stream::StreamSink;

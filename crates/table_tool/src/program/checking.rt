@@ -1,38 +1,34 @@
 //! A setup that is checked.
 
-ghost use Rattle.std.specs.Prelude.{◌≡◌, ◌⊎◌, ℕ, Ok, Err, Some, IfOk, IfErr};
+ghost use Rattle.std.specs.Prelude.{◌≡◌, ◌⊎◌, Ok, Err, Some, IfOk, IfErr};
 ghost use Rattle.byte_io.specs.Sink.{IsFront, Rises};
 ghost use Rattle.station_files.specs.Files.{IsTooLong, IsUnrecovered, load_refusal};
-ghost use Rattle.station_lines.specs.Setup.{IsSetup, HasNextEntry};
-ghost use Rattle.table_tool.specs.Check.{check_load_fault, HasBadSetupLine, IsLineFault, IsOpening, IsTold, IsVerdict, TellsNothing};
+ghost use Rattle.station_lines.specs.Setup.{IsSetup};
+ghost use Rattle.table_tool.specs.Check.{check_load_fault, IsBadLineFault, IsLineFault, IsOpening, IsTold, IsVerdict, TellsBadLine, TellsNothing};
 
 use crate::program::verdict::append_verdict;
 use dbf_fields::Bytes;
 use dbf_image::{ByteSink, SinkFault, write_all};
-use office_check::{findings_text, look_at_all};
+use office_check::{
+    BadLinesTold, bad_setup_text, findings_text, kept_files_text, look_at_all, scripts_text,
+};
 use station_files::{LoadFault, Source};
 use station_lines::{SetupEntry, SetupFault, parse_setup};
 use std::alloc::{AllocError, Global};
-use thiserror::Error;
 use whole_run::{ServeFault, open_setup};
 
 /// Why a setup was not checked.
-#[derive(Clone, Copy, Debug, PartialEq, Eq, Error)]
+#[derive(Debug, PartialEq, Eq, Drop)]
 pub(crate) enum CheckFault {
     /// The setup can't be read.
-    #[error("cannot read")]
     CannotRead,
     /// The list of a set of new files lies in its folder: not all of them are in place.
-    #[error("the folder is not recovered")]
     Unrecovered,
-    /// Its line of this number is bad.
-    #[error("setup line {0} is bad")]
-    BadLine(usize),
+    /// Its line of this number is bad. The text says which it is, and why; there is none where memory was refused for it.
+    BadLine(usize, Option<Bytes>),
     /// Memory was refused.
-    #[error("out of memory")]
     NoMemory,
     /// The sink failed.
-    #[error("the sink failed")]
     Sink,
 }
 
@@ -58,20 +54,6 @@ impl From<LoadFault> for CheckFault {
             LoadFault::CannotRead => CheckFault::CannotRead,
             LoadFault::Unrecovered => CheckFault::Unrecovered,
             LoadFault::NoMemory => CheckFault::NoMemory,
-        }
-    }
-}
-
-impl From<SetupFault> for CheckFault {
-    ghost use Rattle.table_tool.specs.Check.{check_setup_fault};
-    ghost use Rattle.std.specs.Prelude.{◌≡◌};
-
-    ghost from_gives = { λ cause fault. fault ≡ check_setup_fault cause };
-
-    fn from(cause: SetupFault) -> CheckFault {
-        match cause {
-            SetupFault::Bad(number) => CheckFault::BadLine(number),
-            SetupFault::NoMemory => CheckFault::NoMemory,
         }
     }
 }
@@ -104,23 +86,36 @@ fn fault_of_opening<F: Source>(
     }
 }
 
+// The fault of a bad line.
+fn bad_line(alloc: Global, text: &[u8], number: usize) -> CheckFault
+    ensures bad { IsBadLineFault text.now number result }
+{
+    let told = match bad_setup_text(alloc, text, number) {
+        Ok(told) => Some(Bytes::from_vec(told)),
+        Err(_) => None,
+    };
+    CheckFault::BadLine(number, told)
+}
+
 // What the lines of a setup say.
 fn entries_of(alloc: Global, text: &[u8]) -> Result<Vec<SetupEntry>, CheckFault>
     ensures says { IfOk result (λ entries. IsSetup text.now (Ok entries.items)) }
-    ensures bad_line { (number : ℕ) → result ≡ Err (CheckFault.BadLine number) → IsSetup text.now (Err number) }
-    ensures lines_alone { IfErr result IsLineFault }
     // A bad line is not told as a want of memory, which is asked for only at a line that may stand there.
-    ensures early { result ≡ Err CheckFault.NoMemory → HasNextEntry text.now }
+    ensures fault { IfErr result (IsLineFault text.now) }
 {
-    let entries = parse_setup(alloc, text)?;
-    Ok(entries)
+    match parse_setup(alloc, text) {
+        Ok(entries) => Ok(entries),
+        Err(SetupFault::Bad(number)) => Err(bad_line(alloc, text, number)),
+        Err(SetupFault::NoMemory) => Err(CheckFault::NoMemory),
+    }
 }
 
-/// Looks at every file that the setup of a path names, and tells what is found, a line a file, and whether the server would open
-/// all, or why it would open nothing. Whether it would is answered too.
+/// Looks at every file that the setup of a path names, and tells what is found, a line a file, which files stay as they are beside
+/// new ones, which lines of the scripts are no commands, and whether the server would open all, or why it would open nothing.
+/// Whether it would is answered too.
 ///
 /// `CannotRead` says that the setup can't be read, `Unrecovered` that the list of a set of new files lies in its folder, and
-/// `BadLine` that its line of this number is bad; then nothing is told.
+/// `BadLine` that its line of this number is bad, and why; then nothing is told.
 /// `Sink` says that the sink failed, and `NoMemory` that there was no memory.
 #[tactic(auto, using(byte_io::specs::Laws::Sinks::front_same))]
 pub(crate) fn check_setup<F: Source, S: ByteSink>(
@@ -128,11 +123,13 @@ pub(crate) fn check_setup<F: Source, S: ByteSink>(
     source: &mut F,
     sink: &mut S,
     setup: &str,
+    bad_lines: BadLinesTold,
 ) -> Result<bool, CheckFault>
     // It says that the server would open all exactly where `open_setup`, which the server begins with, opens it.
     ensures opens { IfOk result (IsVerdict (F.files source.old) setup.now) }
-    ensures told { IfOk result (λ opens. IsTold (F.files source.old) setup.now opens (S.written sink.old) (S.written sink.new)) }
-    ensures bad_line { (number : ℕ) → result ≡ Err (CheckFault.BadLine number) → HasBadSetupLine (F.files source.old) setup.now number }
+    ensures told { IfOk result (λ opens. IsTold (F.files source.old) setup.now bad_lines opens (S.written sink.old) (S.written sink.new)) }
+    // A line that is told as bad is the first that is, and what is told of it says why.
+    ensures bad_line { IfErr result (TellsBadLine (F.files source.old) setup.now) }
     ensures kept { IsFront (S.written sink.old) (S.written sink.new) }
     // That the setup can't be read is said only where its load has failed, or where it is over the limit; and the sink is said to
     // have failed only where it has.
@@ -147,6 +144,10 @@ pub(crate) fn check_setup<F: Source, S: ByteSink>(
     let entries = entries_of(alloc, text.as_slice())?;
     let findings = look_at_all(alloc, source, &entries)?;
     let mut report = findings_text(alloc, &entries, &findings)?;
+    let kept = kept_files_text(alloc, &entries)?;
+    report.extend_from_slice(&kept)?;
+    let scripts = scripts_text(alloc, source, &entries, bad_lines)?;
+    report.extend_from_slice(&scripts)?;
     let fault = fault_of_opening(alloc, source, setup)?;
     append_verdict(alloc, &mut report, &fault)?;
     write_all(sink, &report)?;

@@ -1,11 +1,13 @@
 //! The command line.
 
 ghost use Rattle.std.specs.Prelude.{◌≡◌, true, false};
+ghost use Rattle.office_check.specs.declared.scripts.BadLinesTold.TheVariants.{Each, First};
 ghost use Rattle.table_text.specs.declared.memo_form.MemoForm.TheVariants.{FirstLine, Whole};
 
 use crate::program::range::range_of;
 use clap::builder::ValueParser;
 use clap::{Arg, ArgAction, ArgMatches, Command};
+use office_check::BadLinesTold;
 use std::alloc::{AllocError, Global};
 use table_text::{MemoForm, Selection};
 
@@ -14,7 +16,7 @@ const EXAMPLES: &str = "Examples:
   table_tool show MEMBERS.DBF --memo MEMBERS.DBT --records 1-20
   table_tool show MEMBERS.DBF --memo MEMBERS.DBT --order NAMES.NDX --from M
   table_tool fields STOCK.DBF
-  table_tool check OFFICE.SET
+  table_tool check OFFICE.SET --lines
   table_tool tree NAMES.NDX
   table_tool csv LEDGER.DBF --deleted --deleted-column > LEDGER.CSV
 
@@ -41,7 +43,7 @@ pub(crate) enum View {
 pub(crate) struct Options<'a> {
     /// The path of the table.
     pub table: &'a str,
-    /// The path of the file of its memos.
+    /// The path of the file of its memos, where it is given.
     pub memos: Option<&'a str>,
     /// The path of the index in whose order records are shown.
     pub order: Option<&'a str>,
@@ -49,6 +51,15 @@ pub(crate) struct Options<'a> {
     pub from: Option<&'a str>,
     /// What is shown of it.
     pub view: View,
+}
+
+/// What a command line says of a setup that is checked.
+#[derive(Clone, Copy, Debug)]
+pub(crate) struct CheckOptions<'a> {
+    /// The path of the setup.
+    pub setup: &'a str,
+    /// Which bad lines of its scripts are told.
+    pub bad_lines: BadLinesTold,
 }
 
 /// The command line, for `clap` to read. An error where memory is refused.
@@ -108,7 +119,12 @@ fn check_command<'a>(alloc: Global) -> Result<Command<'a>, AllocError> {
                 .required(true)
                 .action(ArgAction::Set)
                 .value_parser(ValueParser::NonEmptyString),
-        )
+        )?
+        .arg(flag(
+            alloc,
+            "lines",
+            "Tell each line of a script that is no command, and why",
+        ))
 }
 
 fn tree_command<'a>(alloc: Global) -> Result<Command<'a>, AllocError> {
@@ -139,7 +155,7 @@ fn with_table<'a>(alloc: Global, command: Command<'a>) -> Result<Command<'a>, Al
             alloc,
             "memo",
             "FILE.DBT",
-            "The file of its memos, where it has such fields",
+            "The file of its memos, where it has such fields; if not given, FILE.DBT beside FILE.DBF, or file.dbt beside file.dbf",
         ))
 }
 
@@ -163,13 +179,16 @@ fn with_records<'a>(alloc: Global, command: Command<'a>) -> Result<Command<'a>, 
             "FILE.NDX",
             "Print them in the order of this index of the table",
         ))?
-        .arg(option(
-            alloc,
-            "from",
-            "TEXT",
-            "Only from the first key on that is not less than TEXT",
+        .arg(
+            option(
+                alloc,
+                "from",
+                "TEXT",
+                "Only from the first key on that is not less than TEXT",
+            )
+            .value_parser(ValueParser::String)
+            .requires_arg("order")?,
         )
-        .requires_arg("order")?)
 }
 
 fn option<'a>(alloc: Global, name: &'a str, value_name: &'a str, help: &'a str) -> Arg<'a> {
@@ -220,10 +239,24 @@ fn view_of(name: &str, matches: &ArgMatches<'_>) -> Option<View> {
     }
 }
 
-/// The path of the setup that a command line asks to check, where it does. Takes no memory.
-pub(crate) fn setup_of<'a>(matches: &ArgMatches<'a>) -> Option<&'a str> {
+fn bad_lines_told(has_lines: bool) -> BadLinesTold
+    ensures each { has_lines ≡ true → result ≡ Each }
+    ensures first { has_lines ≡ false → result ≡ First }
+{
+    if has_lines {
+        BadLinesTold::Each
+    } else {
+        BadLinesTold::First
+    }
+}
+
+/// What a command line says of a setup that it asks to check, where it does. Takes no memory.
+pub(crate) fn check_options_of<'a>(matches: &ArgMatches<'a>) -> Option<CheckOptions<'a>> {
     match matches.subcommand()? {
-        ("check", matches) => matches.get_str("setup"),
+        ("check", matches) => Some(CheckOptions {
+            setup: matches.get_str("setup")?,
+            bad_lines: bad_lines_told(matches.get_flag("lines")),
+        }),
         _ => None,
     }
 }

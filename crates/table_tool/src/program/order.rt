@@ -14,25 +14,19 @@ use ndx_index::{NdxFault, NdxFile, Pair, PairList, read_ndx};
 use station_files::{LoadFault, Source};
 use std::alloc::{AllocError, Global};
 use table_core::Table;
-use thiserror::Error;
 
 /// Why records can't be shown in the order of an index file.
-#[derive(Clone, Copy, Debug, PartialEq, Eq, Error)]
+#[derive(Clone, Copy, Debug, PartialEq, Eq)]
 pub(crate) enum OrderFault {
     /// The file can't be read.
-    #[error("{0}")]
     Load(LoadFault),
     /// Its bytes are no index.
-    #[error("{0}")]
     Index(NdxFault),
     /// Its text is no key expression for the table's fields.
-    #[error("its key expression is not one for the table: {0}")]
     Expression(ExprFault),
     /// Its pairs are not those of the table's records.
-    #[error("the index is stale: its keys are not those of the table's records")]
     Stale,
     /// Memory was refused.
-    #[error("out of memory")]
     NoMemory,
 }
 

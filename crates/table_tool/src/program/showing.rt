@@ -5,8 +5,10 @@ ghost use Rattle.std.specs.Option.{option_map};
 ghost use Rattle.byte_io.specs.Sink.{grown, IsFront, Rises};
 ghost use Rattle.station_files.specs.Files.{IsUnrecovered, load_refusal};
 ghost use Rattle.table_tool.specs.Order.{from_text, IsOrder};
-ghost use Rattle.table_tool.specs.View.{view_text, IsMemoFile, IsMemosFault, IsShown};
+ghost use Rattle.table_tool.specs.Memos.{IsMemoFile, IsMemosFault, IsMissingBeside, IsNotHad};
+ghost use Rattle.table_tool.specs.View.{view_text, IsFaultOfMemos, IsNoTable, IsShown};
 
+use crate::program::memos::load_memos;
 use crate::program::options::{Options, View};
 use crate::program::order::{OrderFault, read_order};
 use dbf_fields::{Bytes, Day};
@@ -101,22 +103,24 @@ fn write_view<S: ByteSink>(
     }
 }
 
-// The file of memos, where its path is given.
-fn load_memos<F: Source>(
+// The file of memos of a table whose own file has these bytes.
+fn memos_of<F: Source>(
     alloc: Global,
     source: &mut F,
-    path: Option<&str>,
+    table: &str,
+    dbf: &[u8],
+    given: Option<&str>,
 ) -> Result<Option<Bytes>, ShowFault>
-    ensures found { IfOk result (λ memos. IsMemoFile (F.files source.old) (option_copied path.entry) memos) }
-    ensures fault { IfErr result (IsMemosFault (F.files source.old) (option_copied path.entry)) }
+    ensures found { IfOk result (IsMemoFile (F.files source.old) table.now dbf.now (option_copied given.entry)) }
+    ensures missing { let unread = IsNotHad (F.files source.old) (F.failures source.old) (F.failures source.new) in
+        IfOk result (IsMissingBeside unread table.now dbf.now (option_copied given.entry)) }
+    ensures fault { let unread = IsNotHad (F.files source.old) (F.failures source.old) (F.failures source.new) in
+        IfErr result (IsFaultOfMemos (F.files source.old) unread table.now (option_copied given.entry)) }
     ensures kept { F.files source.new ≡ F.files source.old }
 {
-    let Some(path) = path else {
-        return Ok(None);
-    };
-    match source.load(alloc, path.as_bytes()) {
-        Ok(bytes) => Ok(Some(bytes)),
-        Err(fault) => Err(ShowFault::Memos(fault)),
+    match load_memos(alloc, source, table, dbf, given) {
+        Ok(memos) => Ok(memos),
+        Err(why) => Err(ShowFault::Memos(why)),
     }
 }
 
@@ -188,10 +192,15 @@ pub(crate) fn show_file<F: Source, S: ByteSink>(
     // Where no load can give the table's file the answer is why, whether there is memory or not.
     ensures early { (why : LoadFault) → load_refusal (F.files source.old) options.now.table.now ≡ Some why → result ≡ Err (ShowFault.Load why) }
     ensures unrecovered { result ≡ Err (ShowFault.Load LoadFault.Unrecovered) → IsUnrecovered (F.files source.old) options.now.table.now }
+    // A fault of `Memos` is one of the file of memos, and one of `Table` is the reader's of the table's own files.
+    ensures memos { let unread = IsNotHad (F.files source.old) (F.failures source.old) (F.failures source.new) in
+        (why : LoadFault) → result ≡ Err (ShowFault.Memos why) → IsMemosFault (F.files source.old) unread options.now.table.now (option_copied options.now.memos) why }
+    ensures no_table { let unread = IsNotHad (F.files source.old) (F.failures source.old) (F.failures source.new) in
+        (why : ImageFault) → result ≡ Err (ShowFault.Table why) → IsNoTable (F.files source.old) unread options.now why }
 {
     let dbf = source.load(alloc, options.table.as_bytes())?;
     let date = header_date(dbf.as_slice());
-    let memos = load_memos(alloc, source, options.memos)?;
+    let memos = memos_of(alloc, source, options.table, dbf.as_slice(), options.memos)?;
     let table = read_table(alloc, dbf, bytes_of(&memos))?;
     let (table, order) = load_order(alloc, source, options.order, options.from, table)?;
     write_view(alloc, sink, &table, date, numbers_of(&order), options.view)?;

@@ -2,7 +2,7 @@
 
 ghost use Rattle.std.specs.Prelude.{◌≡◌, ◌++◌, OnOk};
 ghost use Rattle.std.specs.Fmt.{decimal};
-ghost use Rattle.table_tool.specs.Verdict.{file_words as words_of_file, index_words, open_words, reason_words, table_words, verdict_line};
+ghost use Rattle.table_tool.specs.Verdict.{file_words as words_of_file, index_words, open_words, unopened_words, table_words, verdict_line};
 
 #[cfg(test)]
 mod tests;
@@ -104,7 +104,7 @@ fn append_open_fault(alloc: Global, text: &mut Vec<u8>, fault: OpenFault) -> Res
 
 // Why the server opens nothing.
 fn append_reason(alloc: Global, text: &mut Vec<u8>, fault: &ServeFault) -> Result<(), AllocError>
-    ensures ok { OnOk result (text.new.items ≡ text.old.items ++ reason_words fault.now) }
+    ensures ok { OnOk result (text.new.items ≡ text.old.items ++ unopened_words fault.now) }
 {
     match fault {
         ServeFault::Setup(number) => {

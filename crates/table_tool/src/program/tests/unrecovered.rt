@@ -3,7 +3,7 @@
 use crate::program::checking::check_setup;
 use crate::program::ending::{Ending, check_ending, ending_of, tell, tree_ending};
 use crate::program::indexing::show_tree;
-use crate::program::options::{command, index_of, options_of, setup_of};
+use crate::program::options::{check_options_of, command, index_of, options_of};
 use crate::program::showing::show_file;
 use crate::program::tests::files;
 use dbf_fields::Bytes;
@@ -28,21 +28,26 @@ fn files_beside(alloc: Global, folder: &str) -> Result<MemorySource, Fail> {
 }
 
 // How a command line ends, where a list lies in this folder.
-fn ended(alloc: Global, words: &[&str], folder: &str) -> Result<Result<(), Ending>, Fail> {
+fn ended<'a>(
+    alloc: Global,
+    words: &'a [&'a str],
+    folder: &str,
+) -> Result<Result<(), Ending<'a>>, Fail> {
     let matches = command(alloc)?.try_get_matches_from(words)?;
     let mut source = files_beside(alloc, folder)?;
     let mut sink = MemorySink::new(alloc);
-    if let Some(setup) = setup_of(&matches) {
-        let checked = check_setup(alloc, &mut source, &mut sink, setup);
-        return Ok(check_ending(alloc, checked, false, setup));
+    if let Some(options) = check_options_of(&matches) {
+        let told = options.bad_lines;
+        let checked = check_setup(alloc, &mut source, &mut sink, options.setup, told);
+        return Ok(check_ending(checked, false, options.setup));
     }
     if let Some(index) = index_of(&matches) {
         let shown = show_tree(alloc, &mut source, &mut sink, index);
-        return Ok(tree_ending(alloc, shown, false, index));
+        return Ok(tree_ending(shown, false, index));
     }
     let options = options_of(&matches).ok_or("no options")?;
     let shown = show_file(alloc, &mut source, &mut sink, &options);
-    Ok(ending_of(alloc, shown, false, &options))
+    Ok(ending_of(shown, false, &options))
 }
 
 // What is said of it on standard error.
