@@ -1,5 +1,6 @@
 """What the tools of this folder share: the server's own names and lines, the demo office, and a start of the server in a folder."""
 
+import hashlib
 import os
 import pathlib
 import re
@@ -22,6 +23,8 @@ if os.environ.get("FAULTS_NAMES") == "old":
     RESERVED, TEMPORARY, LIST = "~", "~", "~~list"
 else:
     RESERVED, TEMPORARY, LIST = "~niqarthu", "~niqarthu~", "~niqarthu.list"
+# The name of a run's journal.
+JOURNAL = "JOURNAL.TXT"
 # The list is written under this name first.
 NEW_LIST = TEMPORARY + LIST
 # A name that begins with ~ and is not the server's is the office's: a table, its index and a script of the setup, and others beside them.
@@ -99,6 +102,11 @@ def is_reserved(name):
     return name.startswith(RESERVED) and name not in FOREIGN
 
 
+def is_written(name):
+    """Whether the server writes files of such a name."""
+    return re.fullmatch("[A-Z0-9]+[.](DBF|DBT|NDX|TXT)", name) is not None
+
+
 class Ended:
     """How a run ended: its status, what it printed on both streams, and the files of its folder then."""
 
@@ -149,6 +157,17 @@ def expected_answers():
     return {path.name: path.read_bytes() for path in (DEMO / "expected").iterdir()}
 
 
+def sums_in(word, text):
+    """The files that a journal tells with this word: of each path its length and its digest."""
+    told = re.findall(rb"^%s (\d+) (\d+) ([0-9a-f]{64}) (.+)$" % word, text, re.MULTILINE)
+    return {os.fsdecode(path): (int(length), digest.decode()) for count, length, digest, path in told if int(count) == len(path)}
+
+
+def are_sums_of(told, files):
+    """Whether lengths and digests are those of the files."""
+    return all(name in files and told[name] == (len(files[name]), hashlib.sha256(files[name]).hexdigest()) for name in told)
+
+
 def is_as_long_as_it_says(name, content):
     """Whether a table, a memo file or an index file has the length that its header tells."""
     if name.endswith(".DBF"):
@@ -162,9 +181,11 @@ def is_as_long_as_it_says(name, content):
 class Office:
     """The office's files before and after a run, and the starts of a program over folders."""
 
-    def __init__(self, program, library):
-        self.program, self.library = program, library
+    def __init__(self, program, library, journal=False):
+        self.program, self.library, self.journal = program, library, journal
         self.old, self.patterns = old_files(), expected_answers()
+        if journal:
+            self.old[JOURNAL] = b"last year's journal\n"
         self.new = None
 
     def served(self, folder, setup="OFFICE.SET", out=".", before=None, **variables):
@@ -174,7 +195,7 @@ class Office:
 
     def started(self, folder, setup=NO_SETUP, out=".", before=None, **variables):
         """A run's status, and what it printed on both streams."""
-        command = [self.program, "--setup", setup, "--out", out, "--today", "19870315"]
+        command = [self.program, "--setup", setup, "--out", out, "--today", "19870315"] + ["--journal"] * self.journal
         names = {"LD_PRELOAD": self.library, **variables} if variables else {}
         try:
             ended = subprocess.run(command, cwd=folder, env={n: str(v) for n, v in names.items()}, capture_output=True, timeout=SECONDS, preexec_fn=before)
@@ -193,7 +214,7 @@ class Office:
         if any(map(is_reserved, self.new)) or not self.old.keys() <= self.new.keys():
             return "there are files too many or too few"
         # The server writes no other files than these.
-        other = [name for name, content in self.old.items() if content != self.new[name] and not re.fullmatch("[A-Z0-9]+[.](DBF|DBT|NDX|TXT)", name)]
+        other = [name for name, content in self.old.items() if content != self.new[name] and not is_written(name)]
         if other:
             return f"{other[0]} is not as it was"
         wrong = [name for name, content in sorted(self.new.items()) if not is_as_long_as_it_says(name, content)]
@@ -206,13 +227,23 @@ class Office:
 
     def is_new(self, files):
         """Whether these are the new files: the same bytes, but for the answers that the schedule tells."""
-        return files.keys() == self.new.keys() and all(self.is_right(name, content) for name, content in files.items())
+        return files.keys() == self.new.keys() and all(self.is_right(name, content, files) for name, content in files.items())
 
-    def is_right(self, name, content):
+    def is_right(self, name, content, files):
+        if name == JOURNAL and self.journal:
+            return self.is_journal(content, files)
         if name not in self.patterns:
             return content == self.new[name]
         lines, wanted = content.split(b"\n"), self.patterns[name].split(b"\n")
         return len(lines) == len(wanted) and all(pattern in (b"(varies)", line) for line, pattern in zip(lines, wanted))
+
+    def is_journal(self, text, files):
+        """Whether this is the whole journal of a run that read the old files and wrote the new ones."""
+        read, wrote = sums_in(b"read", text), sums_in(b"wrote", text)
+        named = {"OFFICE.SET"} | {word for line in self.old["OFFICE.SET"].decode().splitlines() if line[:1] != "*" for word in line.split() if "." in word}
+        written = {name for name in files if is_written(name) and name != JOURNAL}
+        whole = text.endswith(b"\nend\n") and b"\nreindex no\nentries 138\n" in text
+        return whole and read.keys() == named and wrote.keys() == written and are_sums_of(read, self.old) and are_sums_of(wrote, files)
 
     def which(self, files):
         """Whether the files are the old or the new ones, or neither."""
