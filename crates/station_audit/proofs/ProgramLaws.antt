@@ -1,28 +1,26 @@
 -- What a command line asked for, and what came of it.
-use Rattle.std.proofs.Common.{◌≡◌, ◌≢◌, ℕ, Bool, List, [], Option, Some, None, Result, Ok, Err, length, ap, sym, subst, ◌∙◌}
+use Rattle.std.proofs.Common.{◌≡◌, ℕ, Bool, List, [], Option, Some, None, Result, Ok, Err, sym, subst, ◌∙◌}
 use Rattle.std.specs.Prelude.{IfErr, IsErrAnd}
-use Rattle.catalogue_core.specs.Replay.{Opened, History}
+use Rattle.catalogue_core.specs.Replay.{Opened}
 use Rattle.journal_file.specs.declared.cutting.JournalParts.{JournalParts}
 use Rattle.journal_file.specs.declared.sum.FileSum.{FileSum}
-use Rattle.journal_file.specs.WholeText.{read_word, whole_text, wrote_word, CanBeTold, IsCutInto, WholeJournal}
+use Rattle.journal_file.specs.WholeText.{read_word, IsCutInto}
 use Rattle.station_files.specs.declared.named.NamedFile.{NamedFile}
 use Rattle.station_files.specs.Files.{IsFileOf}
-use Rattle.station_lines.specs.JournalLines.{lines_and}
 use Rattle.audit.specs.declared.fault.AuditFault.{AuditFault}
 use Rattle.audit.specs.declared.fault.AuditFault.TheVariants as fault
-use Rattle.audit.specs.Audits.{IsJournalOf, RefutesAll, IsAuditFault}
+use Rattle.audit.specs.Audits.{RefutesAll, IsAuditFault}
 use Rattle.whole_run.specs.declared.fault.ServeFault.{ServeFault}
 use Rattle.whole_run.specs.declared.fault.ServeFault.TheVariants as serve
 use Rattle.whole_run.specs.FileSums.{AreAllNoted}
 use Rattle.whole_run.specs.Loading.{Read}
-use Rattle.whole_run.specs.OpenedSetup.{IsOpenedBy, IsOpenedFrom, IsOpenFault, IsUnopened}
-use Rattle.whole_run.specs.WholeRun.{IsAllRead, IsReadFault}
-use Rattle.station_audit.specs.declared.program.audited.Audited.{Audited}
+use Rattle.whole_run.specs.OpenedSetup.{IsOpenedFrom, IsOpenFault, IsUnopened}
+use Rattle.whole_run.specs.WholeRun.{IsAllRead}
 use Rattle.station_audit.specs.declared.program.failure.Failure.{Failure}
 use Rattle.station_audit.specs.declared.program.failure.Failure.TheVariants.{BadDate, Serve, Unread, UnrecoveredJournal, NoJournal, CutJournal, OtherReindex, OtherFile, Audit, Folder}
 use Rattle.station_audit.specs.declared.program.options.Options.{Options}
 use Rattle.station_audit.specs.Comparing.{AreLinesOf, first_other}
-use Rattle.station_audit.specs.Program.{IsJournalIn, IsAsked, IsAuditedTo, IsAuditedBy, IsRefuted, audit_failure, IsFailedBy, IsJournalFault, IsTextFault, IsFilesFault, IsEntriesFault, IsLoadFailure}
+use Rattle.station_audit.specs.Program.{IsJournalIn, IsAsked, IsRefuted, IsFailedBy, IsEntriesFault}
 
 -- the failure that `?` hands on
 pub err_exit : {T : Type 0} {failure : Failure} (r : Result T Failure) (P : Failure → Type 0) → IsErrAnd r (λ y. y ≡ failure) → P failure → IfErr r P

@@ -1,6 +1,6 @@
 -- The files that an audit of a run's journal writes on the run's day are the run's.
-use Rattle.std.proofs.Common.{◌≡◌, ◌≢◌, ℕ, zero, suc, ◌+◌, ◌^◌, ◌<◌, ◌≤◌, Bool, true, false, List, [], ◌∷◌, ◌++◌, Option, Some, None, map, length, refl, sym, ap, ◌∙◌, subst, arith, append_assoc, eq-eqb}
-use Rattle.std.specs.Prelude.{codes, flat_map, slice_get, bytes_eq, ◌&&◌, ◌||◌, if◌then◌else◌}
+use Rattle.std.proofs.Common.{◌≡◌, ◌≢◌, ℕ, suc, ◌+◌, ◌^◌, ◌<◌, Bool, true, false, List, [], ◌∷◌, ◌++◌, Option, Some, map, length, refl, sym, ap, ◌∙◌, subst, arith, append_assoc}
+use Rattle.std.specs.Prelude.{codes, slice_get, bytes_eq, ◌||◌, if◌then◌else◌}
 use Rattle.std.specs.Fmt.{decimal}
 use Rattle.std.proofs.lemmas.List.{length-append, append-nil, map-append}
 use Rattle.std.proofs.lemmas.Slice.Eq.{bytes_eq-Decides}
@@ -9,7 +9,6 @@ use Rattle.dbf_fields.specs.declared.format.TheConstants.{BLANK}
 use Rattle.dbf_image.specs.Table.{has_memos}
 use Rattle.dbf_image.specs.Image.{image}
 use Rattle.dbf_image.specs.Blocks.{memo_image}
-use Rattle.catalogue_core.specs.declared.answer.Answer.{Answer}
 use Rattle.catalogue_core.specs.declared.entry.Entry.{Entry}
 use Rattle.catalogue_core.specs.Replay.{Opened, History, LegalFrom, AreOfStations}
 use Rattle.catalogue_core.specs.State.{State}

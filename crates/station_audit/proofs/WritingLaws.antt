@@ -24,7 +24,7 @@ use Rattle.whole_run.specs.Loading.{IsFailure}
 use Rattle.whole_run.proofs.RunNames.{names_differ}
 use Rattle.whole_run.specs.TablesWritten.{AreTablesWritten, IsCutTables, IsTablesFault, dated_files}
 use Rattle.program_text.specs.declared.folder.FolderFault.{FolderFault}
-use Rattle.program_text.specs.declared.folder.FolderFault.TheVariants.{Unrecovered, Unwritten, Unfinished}
+use Rattle.program_text.specs.declared.folder.FolderFault.TheVariants.{Unwritten, Unfinished}
 use Rattle.program_text.specs.declared.folder.PlaceFault.{PlaceFault}
 use Rattle.program_text.specs.declared.folder.PlaceFault.TheVariants as place
 use Rattle.program_text.specs.PlaceFaults.{given_up, unplaced_files, unrecovered_folder, IsOfRecovery}

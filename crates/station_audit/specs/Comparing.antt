@@ -9,6 +9,10 @@ pub record AreLinesOf (word lines : List ℕ) (sums : List FileSum) : Type 0 whe
   pub are : AllByRecursion IsSum sums
   pub is : lines ≡ sums_and word sums []
 
+-- whatever files have these lines, it holds of them
+abbrev pub IfLinesOf : List ℕ → List ℕ → (List FileSum → Type 0) → Type 0
+IfLinesOf word lines holds = (sums : List FileSum) → AreLinesOf word lines sums → holds sums
+
 -- as many bytes, with the same digest
 abbrev pub same_content : FileSum → FileSum → Bool
 same_content told file = (told.length == file.length) && bytes_eq told.digest file.digest

@@ -1,6 +1,7 @@
 -- How a call of the program ends: its exit status, and what is printed then.
 use Rattle.std.specs.Prelude.{◌≡◌, ℕ, Bool, true, false, List, ◌++◌, ◌∷◌, [], length, take, flat_map, nat_le, codes, Option, Some, Result, Ok, Err, if◌then◌else◌}
 use Rattle.std.specs.Fmt.{decimal}
+use Rattle.std.specs.Io.KnownBytes.{Appends}
 use Rattle.std.specs.declared.io.ErrorKind.{ErrorKind as IoKind}
 use Rattle.std.specs.declared.io.ErrorKind.TheVariants as io
 use Rattle.clap.specs.Words.{kind_of}
@@ -24,7 +25,7 @@ use Rattle.station_audit.specs.declared.program.ending.Ending.{Ending}
 use Rattle.station_audit.specs.declared.program.ending.Ending.TheVariants as ended
 use Rattle.station_audit.specs.declared.program.failure.Failure.{Failure}
 use Rattle.station_audit.specs.declared.program.failure.Failure.TheVariants as failure
-use Rattle.station_audit.specs.Comparing.{AreLinesOf, are_of_run, is_of_run}
+use Rattle.station_audit.specs.Comparing.{IfLinesOf, are_of_run, is_of_run}
 
 -- ---- the exit status
 
@@ -53,7 +54,7 @@ audited_status wrote audited = if are_of_run wrote audited.written.items then 0 
 
 -- of a call: what is said where all entries hold, or why it is not said that all do
 abbrev pub IsCallStatus : Result Audited Ending → ℕ → Type 0
-IsCallStatus (Ok audited) status = (wrote : List FileSum) → AreLinesOf wrote_word audited.wrote wrote → status ≡ audited_status wrote audited
+IsCallStatus (Ok audited) status = IfLinesOf wrote_word audited.wrote (λ wrote. status ≡ audited_status wrote audited)
 IsCallStatus (Err ending) status = status ≡ ending_status ending
 
 -- ---- why not all entries hold
@@ -128,6 +129,10 @@ written_line wrote file =
 abbrev pub audited_text : List FileSum → Audited → List ℕ
 audited_text wrote audited =
     flat_map read_line audited.read.items ++ (count_line audited.count ++ flat_map (written_line wrote) audited.written.items)
+
+-- standard output has got this text
+abbrev pub AppendsAudited : Audited → Option (List ℕ) → Option (List ℕ) → Type 0
+AppendsAudited audited old new = IfLinesOf wrote_word audited.wrote (λ wrote. Appends old new (audited_text wrote audited))
 
 -- on standard error where standard output took no text
 abbrev pub unprinted_line : List ℕ

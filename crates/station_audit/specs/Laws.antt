@@ -1,7 +1,6 @@
 -- What an audit says of the journal that a run has written.
 use Rattle.std.specs.Prelude.{◌≡◌, ℕ, ◌^◌, ◌<◌, Bool, true, List, [], length, Option, Some}
 use Rattle.dbf_fields.specs.declared.day.Day.{Day}
-use Rattle.journal_file.specs.declared.sum.FileSum.{FileSum}
 use Rattle.journal_file.specs.WholeText.{whole_text, wrote_word, CanBeTold, IsNotWhole, WholeJournal}
 use Rattle.station_files.specs.declared.named.NamedFile.{NamedFile}
 use Rattle.station_files.specs.Files.{IsFileOf}
@@ -16,7 +15,7 @@ use Rattle.station_audit.specs.declared.program.audited.Audited.{Audited}
 use Rattle.station_audit.specs.declared.program.failure.Failure.{Failure}
 use Rattle.station_audit.specs.declared.program.failure.Failure.TheVariants.{NoJournal, CutJournal, OtherReindex, OtherFile, Audit}
 use Rattle.station_audit.specs.declared.program.options.Options.{Options}
-use Rattle.station_audit.specs.Comparing.{are_of_run, AreLinesOf}
+use Rattle.station_audit.specs.Comparing.{IfLinesOf, are_of_run}
 use Rattle.station_audit.specs.Program.{IsFailedBy}
 use Rattle.station_audit.specs.Writing.{IsWrittenBy}
 
@@ -77,4 +76,4 @@ WritesTheSame files later options =
     → HaveStill files later → IsFileOf (Some later) options.journal.now (journal_bytes served)
     → served.run.history.opened.stations < 2 ^ 64 → length (journal_text served.run.history.journal) < 2 ^ 64
     → (begun written : Option (List ℕ)) (audited : Audited) → IsWrittenBy (Some later) options today begun written audited
-    → (wrote : List FileSum) → AreLinesOf wrote_word audited.wrote wrote → are_of_run wrote audited.written.items ≡ true
+    → IfLinesOf wrote_word audited.wrote (λ wrote. are_of_run wrote audited.written.items ≡ true)

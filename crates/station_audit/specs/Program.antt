@@ -6,7 +6,7 @@ use Rattle.dbf_fields.specs.Date.{SaysDay}
 use Rattle.dbf_image.specs.Image.{IsOutside}
 use Rattle.catalogue_core.specs.Replay.{Opened, History}
 use Rattle.journal_file.specs.declared.sum.FileSum.{FileSum}
-use Rattle.journal_file.specs.WholeText.{begins_as_journal, read_word, whole_text, wrote_word, CanBeTold, IsNotWhole, WholeJournal}
+use Rattle.journal_file.specs.WholeText.{begins_as_journal, whole_text, wrote_word, CanBeTold, IsNotWhole, WholeJournal}
 use Rattle.station_files.specs.declared.named.NamedFile.{NamedFile}
 use Rattle.station_files.specs.Files.{IsFileOf, IsTooLong}
 use Rattle.station_lines.specs.JournalLines.{lines_and}

@@ -1,15 +1,14 @@
 //! The audit that a command line asks for.
 
-ghost use Rattle.std.specs.Prelude.{◌≡◌, [], List, None, Some, IfOk, IfErr, OnOk};
+ghost use Rattle.std.specs.Prelude.{◌≡◌, [], None, Some, IfOk, IfErr, OnOk};
 ghost use Rattle.audit.specs.Audits.{IsJournalOf};
-ghost use Rattle.journal_file.specs.declared.sum.FileSum.{FileSum as Sum};
 ghost use Rattle.journal_file.specs.WholeText.{IsCutInto, read_word};
 ghost use Rattle.station_files.specs.Files.{IsFileOf};
 ghost use Rattle.whole_run.specs.FileSums.{AreAllNoted};
 ghost use Rattle.whole_run.specs.Loading.{read_of};
 ghost use Rattle.whole_run.specs.OpenedSetup.{IsOpenedFrom};
 ghost use Rattle.whole_run.specs.WholeRun.{IsAllRead};
-ghost use Rattle.station_audit.specs.Comparing.{AreLinesOf, first_other};
+ghost use Rattle.station_audit.specs.Comparing.{IfLinesOf, first_other};
 ghost use Rattle.station_audit.specs.Program.{IsAuditedBy, IsAuditedTo, IsEntriesFault, IsFailedBy, IsFilesFault, IsJournalFault, IsLoadFailure, IsTextFault};
 
 use crate::program::audited::Audited;
@@ -76,8 +75,8 @@ fn read_files<S: Source>(
 ) -> Result<ReadFiles, Failure>
     ensures read { IfOk result (λ files. IsAllRead (S.files source.old) options.now.setup.now (read_of files.loaded)) }
     ensures noted { IfOk result (λ files. AreAllNoted (S.files source.old) options.now.setup.now (Some []) (Some files.sums.items)) }
-    ensures same { (told : List Sum) → AreLinesOf read_word lines.now told → IfOk result (λ files. first_other told files.sums.items ≡ None) }
-    ensures fault { (told : List Sum) → AreLinesOf read_word lines.now told → IfErr result (IsFilesFault (S.files source.old) options.now.setup.now told) }
+    ensures same { IfLinesOf read_word lines.now (λ told. IfOk result (λ files. first_other told files.sums.items ≡ None)) }
+    ensures fault { IfLinesOf read_word lines.now (λ told. IfErr result (IsFilesFault (S.files source.old) options.now.setup.now told)) }
     ensures kept { S.files source.new ≡ S.files source.old }
     ensures loads { OnOk result (S.failures source.new ≡ S.failures source.old) }
     ensures failure { IfErr result (IsLoadFailure (S.files source.old) options.now (S.failures source.old) (S.failures source.new)) }

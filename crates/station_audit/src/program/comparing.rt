@@ -1,9 +1,8 @@
 //! Whether the files of an audit are those of which a journal speaks.
 
-ghost use Rattle.std.specs.Prelude.{◌≡◌, List, Some, None, IfNone, IfSome};
-ghost use Rattle.journal_file.specs.declared.sum.FileSum.{FileSum as Sum};
+ghost use Rattle.std.specs.Prelude.{◌≡◌, Some, None, IfNone, IfSome};
 ghost use Rattle.journal_file.specs.WholeText.{read_word, sum_as, wrote_word};
-ghost use Rattle.station_audit.specs.Comparing.{AreLinesOf, are_of_run, first_other, is_of_run, same_content, same_file};
+ghost use Rattle.station_audit.specs.Comparing.{IfLinesOf, are_of_run, first_other, is_of_run, same_content, same_file};
 
 use journal_file::{CutSum, FileSum, cut_read_sum, cut_wrote_sum};
 
@@ -24,8 +23,8 @@ fn is_file(told: &CutSum<'_>, file: &FileSum) -> bool
 /// The path of the first file that is not the one whose line stands in its place, by their contents; and where there are more
 /// lines or more files, the path of the first of these. `None` where each file is the one of its line. Takes no memory.
 pub(crate) fn find_other<'a>(lines: &'a [u8], files: &'a [FileSum]) -> Option<&'a [u8]>
-    ensures found { (told : List Sum) → AreLinesOf read_word lines.now told → IfSome result (λ path. first_other told files.now ≡ Some path.now) }
-    ensures none { (told : List Sum) → AreLinesOf read_word lines.now told → IfNone result (first_other told files.now ≡ None) }
+    ensures found { IfLinesOf read_word lines.now (λ told. IfSome result (λ path. first_other told files.now ≡ Some path.now)) }
+    ensures none { IfLinesOf read_word lines.now (λ told. IfNone result (first_other told files.now ≡ None)) }
 {
     let mut rest = lines;
     for file in files {
@@ -45,7 +44,7 @@ pub(crate) fn find_other<'a>(lines: &'a [u8], files: &'a [FileSum]) -> Option<&'
 
 /// Whether one of the lines tells this file: its name, its length and its digest. Takes no memory.
 pub(crate) fn is_written_by_run(lines: &[u8], file: &FileSum) -> bool
-    ensures value { (wrote : List Sum) → AreLinesOf wrote_word lines.now wrote → result ≡ is_of_run wrote file.now }
+    ensures value { IfLinesOf wrote_word lines.now (λ wrote. result ≡ is_of_run wrote file.now) }
 {
     let mut rest = lines;
     while let Some(told) = cut_wrote_sum(rest) {
@@ -59,7 +58,7 @@ pub(crate) fn is_written_by_run(lines: &[u8], file: &FileSum) -> bool
 
 /// Whether of each file one of the lines tells it. Takes no memory.
 pub(crate) fn are_written_by_run(lines: &[u8], files: &[FileSum]) -> bool
-    ensures value { (wrote : List Sum) → AreLinesOf wrote_word lines.now wrote → result ≡ are_of_run wrote files.now }
+    ensures value { IfLinesOf wrote_word lines.now (λ wrote. result ≡ are_of_run wrote files.now) }
 {
     for file in files {
         if !is_written_by_run(lines, file) {

@@ -1,13 +1,12 @@
 //! What the program says at its end: on standard output which files it has read, how many entries hold and which files it has
 //! written, on standard error why it is not said that all entries hold, and its exit status.
 
-ghost use Rattle.std.specs.Prelude.{◌≡◌, List, flat_map, IfErr, IfOk, IfSome, IsErr, IsOk, OnOk};
+ghost use Rattle.std.specs.Prelude.{◌≡◌, flat_map, IfErr, IfOk, IfSome, IsErr, IsOk, OnOk};
 ghost use Rattle.std.specs.Io.KnownBytes.{Appends};
 ghost use Rattle.std.specs.Process.{exit_status};
-ghost use Rattle.journal_file.specs.declared.sum.FileSum.{FileSum as Sum};
 ghost use Rattle.journal_file.specs.WholeText.{wrote_word};
-ghost use Rattle.station_audit.specs.Comparing.{AreLinesOf};
-ghost use Rattle.station_audit.specs.Endings.{audited_status, audited_text, count_line, ending_line, ending_status, failure_line, file_line, read_line, status, unprinted_line, written_line, IsCallStatus};
+ghost use Rattle.station_audit.specs.Comparing.{IfLinesOf};
+ghost use Rattle.station_audit.specs.Endings.{AppendsAudited, audited_status, count_line, ending_line, ending_status, failure_line, file_line, read_line, status, unprinted_line, written_line, IsCallStatus};
 
 use crate::program::audited::Audited;
 use crate::program::comparing::{are_written_by_run, is_written_by_run};
@@ -51,7 +50,7 @@ fn print_read<W: Write>(out: &mut W, files: &[FileSum]) -> io::Result<()>
 
 // Prints whether a file is one of those of the lines, which the run wrote.
 fn print_written_file<W: Write>(out: &mut W, lines: &[u8], file: &FileSum) -> io::Result<()>
-    ensures text { (wrote : List Sum) → AreLinesOf wrote_word lines.now wrote → OnOk result (Appends (W.contents out.old) (W.contents out.new) (written_line wrote file.now)) }
+    ensures text { IfLinesOf wrote_word lines.now (λ wrote. OnOk result (Appends (W.contents out.old) (W.contents out.new) (written_line wrote file.now))) }
 {
     if is_written_by_run(lines, file) {
         return print_file(out, file, b" is the file that the run wrote");
@@ -61,7 +60,7 @@ fn print_written_file<W: Write>(out: &mut W, lines: &[u8], file: &FileSum) -> io
 
 // Prints the same of each file.
 fn print_written<W: Write>(out: &mut W, lines: &[u8], files: &[FileSum]) -> io::Result<()>
-    ensures text { (wrote : List Sum) → AreLinesOf wrote_word lines.now wrote → OnOk result (Appends (W.contents out.old) (W.contents out.new) (flat_map (written_line wrote) files.now)) }
+    ensures text { IfLinesOf wrote_word lines.now (λ wrote. OnOk result (Appends (W.contents out.old) (W.contents out.new) (flat_map (written_line wrote) files.now))) }
 {
     for file in files {
         print_written_file(out, lines, file)?;
@@ -71,7 +70,7 @@ fn print_written<W: Write>(out: &mut W, lines: &[u8], files: &[FileSum]) -> io::
 
 // Prints what is said where all entries hold. Takes no memory. An error where a write fails.
 fn print_audited<W: Write>(out: &mut W, audited: &Audited) -> io::Result<()>
-    ensures text { (wrote : List Sum) → AreLinesOf wrote_word audited.now.wrote wrote → OnOk result (Appends (W.contents out.old) (W.contents out.new) (audited_text wrote audited.now)) }
+    ensures text { OnOk result (AppendsAudited audited.now (W.contents out.old) (W.contents out.new)) }
 {
     print_read(out, &audited.read)?;
     print_count(out, audited.count)?;
@@ -88,7 +87,7 @@ pub(crate) fn tell<O: Write, E: Write>(
     ended: &Result<Audited, Ending>,
 ) -> Told
     ensures status { IsCallStatus ended.now (exit_status result.status) }
-    ensures text { IfOk ended.now (λ audited. (wrote : List Sum) → AreLinesOf wrote_word audited.wrote wrote → OnOk result.out (Appends (O.contents out.old) (O.contents out.new) (audited_text wrote audited))) }
+    ensures text { IfOk ended.now (λ audited. OnOk result.out (AppendsAudited audited (O.contents out.old) (O.contents out.new))) }
     ensures line { IfErr ended.now (λ ending. IfSome (ending_line ending) (λ line. OnOk result.err (Appends (E.contents err.old) (E.contents err.new) line))) }
     ensures unprinted { IsErr result.out → OnOk result.err (Appends (E.contents err.old) (E.contents err.new) unprinted_line) }
 {
@@ -100,8 +99,8 @@ pub(crate) fn tell<O: Write, E: Write>(
 
 // Says that all entries hold, and which files are the run's.
 fn tell_audited<O: Write, E: Write>(out: &mut O, err: &mut E, audited: &Audited) -> Told
-    ensures status { (wrote : List Sum) → AreLinesOf wrote_word audited.now.wrote wrote → exit_status result.status ≡ audited_status wrote audited.now }
-    ensures text { (wrote : List Sum) → AreLinesOf wrote_word audited.now.wrote wrote → OnOk result.out (Appends (O.contents out.old) (O.contents out.new) (audited_text wrote audited.now)) }
+    ensures status { IfLinesOf wrote_word audited.now.wrote (λ wrote. exit_status result.status ≡ audited_status wrote audited.now) }
+    ensures text { OnOk result.out (AppendsAudited audited.now (O.contents out.old) (O.contents out.new)) }
     ensures unprinted { IsErr result.out → OnOk result.err (Appends (E.contents err.old) (E.contents err.new) unprinted_line) }
 {
     let status = audited_code(audited);
@@ -111,7 +110,7 @@ fn tell_audited<O: Write, E: Write>(out: &mut O, err: &mut E, audited: &Audited)
 
 // The exit status where all entries hold: 0 where all files that were written are the run's, and else 7.
 fn audited_code(audited: &Audited) -> u8
-    ensures value { (wrote : List Sum) → AreLinesOf wrote_word audited.now.wrote wrote → result ≡ audited_status wrote audited.now }
+    ensures value { IfLinesOf wrote_word audited.now.wrote (λ wrote. result ≡ audited_status wrote audited.now) }
 {
     if are_written_by_run(audited.wrote.as_slice(), &audited.written) {
         return 0;

@@ -1,4 +1,4 @@
-use Rattle.std.proofs.Common.{◌≡◌, ◌≢◌, ◌<◌, ℕ, List, [], Some, Err, true, false, refl, ap, inl, inr, arith}
+use Rattle.std.proofs.Common.{◌≡◌, ◌≢◌, ℕ, List, [], Some, Err, true, false, refl, ap, inl, inr, arith}
 use Rattle.program_text.proofs.PlacingLaws.{bad_list_only, failed_only, unreplaced_only, recovered_in_part, recovered_ok, recovered_old, recovering_old, seen_at, seen_too}
 use Rattle.station_audit.specs.declared.program.audited.Audited.{Audited}
 use Rattle.station_audit.specs.declared.program.failure.Failure.TheVariants.{Folder as OfFolder}
