@@ -4,7 +4,7 @@ use Rattle.std.proofs.lemmas.Bool.{cases_Bool, both_ways, and_parts, cond-true, 
 use Rattle.std.specs.List.{list_any, list_all, AllByRecursion}
 use Rattle.std.specs.Str.{bytes_eq}
 use Rattle.files_in_place.specs.Folder.{Name, Folder, is_reserved, temporary, list_name, list_bytes, names_in, is_listed}
-use Rattle.files_in_place.specs.Disk.{AfterStep, SameButTwo, HasMoved, MayMove, IsDurable}
+use Rattle.files_in_place.specs.Disk.{DiskMeaning, AfterStep, SameButTwo, HasMoved, MayMove, IsDurable}
 use Rattle.files_in_place.specs.Recovery.{RecoversTo, SameFree, StillRecovers}
 use Rattle.files_in_place.specs.Staged.{is_staged, is_file_name, is_name_byte, is_dots, with_staged, IsUncommitted, AreReady, IsPut}
 use Rattle.files_in_place.proofs.NameLists.{lines_of-list_bytes}
@@ -69,7 +69,7 @@ with_list names old c fit there list same free_same n = elim (cases_Bool (is_res
 pub put_old : (names : List Name) (folder : Folder) (outcomes : Folder → Type 0) → IsUncommitted folder outcomes → (c : Folder) → outcomes c → IsPut names folder c
 put_old names folder outcomes un c now = record { either = inl (uncommitted_old folder outcomes un c now); others = λ n free unstaged. un.same c now n free }
 
-module _ (names : List Name) (old : Folder) (is_whole : Name → Type 0) (left : Folder → Type 0) (ready : AreReady names old is_whole left) where
+module _ {D : Type 0} (m : DiskMeaning D) (names : List Name) (disk : D) (ready : AreReady m names disk) where
   -- the temporary names of the set aren't touched where the list gets its name
   temporary_same : (d c : Folder) → SameButTwo (temporary list_name) list_name d c → (n : Name) → is_staged names n ≡ true → c (temporary n) ≡ d (temporary n)
   temporary_same d c same n staged =
@@ -79,52 +79,52 @@ module _ (names : List Name) (old : Folder) (is_whole : Name → Type 0) (left :
   free_same : (d c : Folder) → SameButTwo (temporary list_name) list_name d c → SameFree d c
   free_same d c same n free = same n (free_other n (temporary list_name) free refl) (free_other n list_name free refl)
 
-  pub list_durable : (folder : Folder) (outcomes : Folder → Type 0) → folder ≡ old → ((c : Folder) → outcomes c → (n : Name) → c n ≡ old n) → IsDurable (temporary list_name) folder outcomes
+  pub list_durable : (folder : Folder) (outcomes : Folder → Type 0) → folder ≡ (m.seen disk) → ((c : Folder) → outcomes c → (n : Name) → c n ≡ (m.seen disk) n) → IsDurable (temporary list_name) folder outcomes
   list_durable folder outcomes is only =
       let P : Option (List ℕ) → Type 0 = λ o. IsSome o in
-      let has : folder (temporary list_name) ≡ old (temporary list_name) = ap (λ (f : Folder). f (temporary list_name)) is in
+      let has : folder (temporary list_name) ≡ (m.seen disk) (temporary list_name) = ap (λ (f : Folder). f (temporary list_name)) is in
       record { there = subst P (sym (has ∙ ready.list)) refl; always = λ c now. only c now (temporary list_name) ∙ sym has }
 
   -- a crash comes while the list gets its name
-  pub naming_means : (outcomes : Folder → Type 0) → ((c : Folder) → outcomes c → (n : Name) → c n ≡ old n) → (c : Folder) → AfterStep (MayMove (temporary list_name) list_name) outcomes c → IsPut names old c
+  pub naming_means : (outcomes : Folder → Type 0) → ((c : Folder) → outcomes c → (n : Name) → c n ≡ (m.seen disk) n) → (c : Folder) → AfterStep (MayMove (temporary list_name) list_name) outcomes c → IsPut names (m.seen disk) c
   naming_means outcomes only c from =
       let d = from.0 in
-      let was : (n : Name) → d n ≡ old n = only d from.1 in
-      let same : SameFree old c = λ n free. free_same d c from.2.elsewhere n free ∙ was n in
+      let was : (n : Name) → d n ≡ (m.seen disk) n = only d from.1 in
+      let same : SameFree (m.seen disk) c = λ n free. free_same d c from.2.elsewhere n free ∙ was n in
       record {
         either = elim from.2.either [
           | inl still ↦
               let none : c list_name ≡ None = still.0 ∙ was list_name ∙ ready.uncommitted.no_list in
-              let here : IsUncommitted old (λ e. e ≡ c) = record {
+              let here : IsUncommitted (m.seen disk) (λ e. e ≡ c) = record {
                 no_list = ready.uncommitted.no_list;
                 none_left = λ e is. ap (λ (f : Folder). f list_name) is ∙ none;
                 same = λ e is n free. ap (λ (f : Folder). f n) is ∙ same n free;
               } in
-              inl (uncommitted_old old (λ e. e ≡ c) here c refl)
-          | inr moved ↦ inr (with_list names old c ready.fit ready.there (moved.0 ∙ was (temporary list_name) ∙ ready.list)
+              inl (uncommitted_old (m.seen disk) (λ e. e ≡ c) here c refl)
+          | inr moved ↦ inr (with_list names (m.seen disk) c ready.fit ready.there (moved.0 ∙ was (temporary list_name) ∙ ready.list)
               (λ n staged. temporary_same d c from.2.elsewhere n staged ∙ was (temporary n)) same)
         ];
         others = λ n free unstaged. same n free;
       }
 
-  list_there : (mid new : Folder) → mid ≡ old → HasMoved (temporary list_name) list_name mid new → new list_name ≡ Some (list_bytes names)
+  list_there : (mid new : Folder) → mid ≡ (m.seen disk) → HasMoved (temporary list_name) list_name mid new → new list_name ≡ Some (list_bytes names)
   list_there mid new is moved = moved.there ∙ ap (λ (f : Folder). f (temporary list_name)) is ∙ ready.list
 
   -- it has the names of the set
-  pub listed_names : (mid new : Folder) → mid ≡ old → HasMoved (temporary list_name) list_name mid new → (after : Folder) → after ≡ new → names ≡ names_in (after list_name)
+  pub listed_names : (mid new : Folder) → mid ≡ (m.seen disk) → HasMoved (temporary list_name) list_name mid new → (after : Folder) → after ≡ new → names ≡ names_in (after list_name)
   listed_names mid new is moved after same =
       sym (ap names_in (ap (λ (f : Folder). f list_name) same ∙ list_there mid new is moved) ∙ lines_of-list_bytes names (lines_fit names ready.fit))
 
-  same_new : (mid new : Folder) → mid ≡ old → SameButTwo (temporary list_name) list_name mid new → SameFree old new
+  same_new : (mid new : Folder) → mid ≡ (m.seen disk) → SameButTwo (temporary list_name) list_name mid new → SameFree (m.seen disk) new
   same_new mid new is others n free = free_same mid new others n free ∙ ap (λ (f : Folder). f n) is
 
   -- the list has its name
-  pub named_means : (mid new : Folder) → mid ≡ old → HasMoved (temporary list_name) list_name mid new → SameButTwo (temporary list_name) list_name mid new → RecoversTo (with_staged names old) new
+  pub named_means : (mid new : Folder) → mid ≡ (m.seen disk) → HasMoved (temporary list_name) list_name mid new → SameButTwo (temporary list_name) list_name mid new → RecoversTo (with_staged names (m.seen disk)) new
   named_means mid new is moved others =
-      with_list names old new ready.fit ready.there (list_there mid new is moved) (λ n staged. temporary_same mid new others n staged ∙ ap (λ (f : Folder). f (temporary n)) is) (same_new mid new is others)
+      with_list names (m.seen disk) new ready.fit ready.there (list_there mid new is moved) (λ n staged. temporary_same mid new others n staged ∙ ap (λ (f : Folder). f (temporary n)) is) (same_new mid new is others)
 
   -- a crash comes while recovery goes on from there
-  pub recovering_means : (mid new : Folder) → mid ≡ old → HasMoved (temporary list_name) list_name mid new → SameButTwo (temporary list_name) list_name mid new → (after c : Folder) → after ≡ new → StillRecovers after c → IsPut names old c
+  pub recovering_means : (mid new : Folder) → mid ≡ (m.seen disk) → HasMoved (temporary list_name) list_name mid new → SameButTwo (temporary list_name) list_name mid new → (after c : Folder) → after ≡ new → StillRecovers after c → IsPut names (m.seen disk) c
   recovering_means mid new is moved others after c same still =
       let P : Folder → Type 0 = λ f. StillRecovers f c in
       let goes : StillRecovers new c = subst P same still in

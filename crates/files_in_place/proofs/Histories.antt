@@ -1,6 +1,7 @@
 -- Recovery that ends after any number of starts.
 use Rattle.std.proofs.Common.{◌⊎◌, inl, inr, List, [], ◌∷◌, ◌∙◌}
 use Rattle.files_in_place.specs.Folder.{Name, Folder, without_reserved}
+use Rattle.files_in_place.specs.Disk.{DiskMeaning}
 use Rattle.files_in_place.specs.Recovery.{RecoversTo}
 use Rattle.files_in_place.specs.Staged.{IsOldOrNew, with_staged}
 use Rattle.files_in_place.specs.History.{AreAlike, EndsAfter}
@@ -9,10 +10,10 @@ use Rattle.files_in_place.specs.History.{AreAlike, EndsAfter}
 abbrev EitherWay : List Name → Folder → Folder → Type 0
 EitherWay names old folder = RecoversTo (without_reserved old) folder ⊎ RecoversTo (with_staged names old) folder
 
-module _ {D : Type 0} (seen : D → Folder) (may_leave : D → Folder → Type 0) (stays : (disk : D) → may_leave disk (seen disk)) (names : List Name) (old : Folder) where
-  either_ends : (others : List D) (first : D) (last : Folder) → ((c : Folder) → may_leave first c → EitherWay names old c) → EndsAfter seen may_leave others first last
+module _ {D : Type 0} (m : DiskMeaning D) (promised : m.keeps_promises) (names : List Name) (old : Folder) where
+  either_ends : (others : List D) (first : D) (last : Folder) → ((c : Folder) → m.may_leave first c → EitherWay names old c) → EndsAfter m others first last
       → AreAlike last (without_reserved old) ⊎ AreAlike last (with_staged names old)
-  either_ends [] first last either ends = elim (either (seen first) (stays first)) [
+  either_ends [] first last either ends = elim (either (m.seen first) (m.seen_may_stay first promised)) [
     | inl before ↦ inl (λ n. ends n ∙ before n)
     | inr after ↦ inr (λ n. ends n ∙ after n)
   ]
@@ -23,7 +24,7 @@ module _ {D : Type 0} (seen : D → Folder) (may_leave : D → Folder → Type 0
         | inr after ↦ inr (λ n. from.2.recovers n ∙ after n)
       ]) ends.1
 
-  pub old_or_new_ends : (others : List D) (first : D) (last : Folder) → ((c : Folder) → may_leave first c → IsOldOrNew names old c) → EndsAfter seen may_leave others first last
+  pub old_or_new_ends : (others : List D) (first : D) (last : Folder) → ((c : Folder) → m.may_leave first c → IsOldOrNew names old c) → EndsAfter m others first last
       → AreAlike last (without_reserved old) ⊎ AreAlike last (with_staged names old)
   old_or_new_ends others first last either ends = either_ends others first last (λ c may. elim (either c may) [
     | inl has ↦ inl has.recovers

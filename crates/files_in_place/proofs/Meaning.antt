@@ -15,9 +15,6 @@ same_name a b = elim (cases_Bool (bytes_eq a b)) [
   | inr other ↦ inr (λ same. both_ways (bytes_eq a b) other ((bytes_eq-Decides a b).1 same))
 ]
 
-pub same_but_step : (name : Name) → IsStep (SameBut name)
-same_but_step name = record { still = λ d n other. refl; both = λ a b c first second n other. second n other ∙ first n other }
-
 -- a temporary name ends in the name that it stands for
 pub temporary-inj : (a b : Name) → temporary a ≡ temporary b → a ≡ b
 temporary-inj a b same = ap (drop 10) same

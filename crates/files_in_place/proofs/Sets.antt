@@ -8,7 +8,7 @@ use Rattle.files_in_place.specs.Folder.{Name, Folder, SameBut, is_reserved, temp
 use Rattle.files_in_place.specs.Recovery.{IsClean, SameFree, HasOldFiles}
 use Rattle.files_in_place.specs.declared.phase.Phase.TheVariants.{Staging, Failed, Ended}
 use Rattle.files_in_place.specs.Staged.{is_staged, is_file_name, with_staged, IsUncommitted, AreStaged, AreLeft, HoldsInPhase, RunsUncommitted, IsPut, IsOldOrNew, SameUnstaged}
-use Rattle.files_in_place.specs.Disk.{LeavesOnly}
+use Rattle.files_in_place.specs.Disk.{DiskMeaning, LeavesOnly}
 use Rattle.files_in_place.proofs.Runs.{started, runs_on, leaves_by}
 use Rattle.files_in_place.proofs.Committing.{put_old}
 use Rattle.files_in_place.proofs.Meaning.{free_other, temporary-inj, same_name}
@@ -59,73 +59,74 @@ fit_more (x ∷ names) name fit is = (fit.0, fit_more names name fit.1 is)
 other_temporary : (lies name n : Name) → lies ≡ temporary name → n ≢ name → temporary n ≢ lies
 other_temporary lies name n is other same = other (temporary-inj n name (same ∙ is))
 
--- what is true in each phase
-pub in_staging : (names : List Name) (current : Option Name) (folder : Folder) (is_whole is_new : Name → Type 0) (outcomes : Folder → Type 0) → AreStaged names current folder is_whole is_new outcomes → HoldsInPhase Staging names current folder is_whole is_new outcomes
-in_staging names current folder is_whole is_new outcomes staged = record {
-  staged = λ is. staged;
-  left = λ going. staged_left names current folder is_whole is_new outcomes staged;
-}
+module _ {D : Type 0} (m : DiskMeaning D) where
+  -- what is true in each phase
+  pub in_staging : (names : List Name) (current : Option Name) (disk : D) → AreStaged m names current disk → HoldsInPhase m Staging names current disk
+  in_staging names current disk staged = record {
+    staged = λ is. staged;
+    left = λ going. staged_left m names current disk staged;
+  }
 
-pub in_failed : (names : List Name) (current : Option Name) (folder : Folder) (is_whole is_new : Name → Type 0) (outcomes : Folder → Type 0) → AreLeft folder is_whole outcomes → HoldsInPhase Failed names current folder is_whole is_new outcomes
-in_failed names current folder is_whole is_new outcomes left = record { staged = λ is. absurd (failed_apart is); left = λ going. left }
-  where
-    failed_apart : Failed ≡ Staging → ⊥
-    failed_apart same = cc
+  pub in_failed : (names : List Name) (current : Option Name) (disk : D) → AreLeft m disk → HoldsInPhase m Failed names current disk
+  in_failed names current disk left = record { staged = λ is. absurd (failed_apart is); left = λ going. left }
+    where
+      failed_apart : Failed ≡ Staging → ⊥
+      failed_apart same = cc
 
-pub in_ended : (names : List Name) (current : Option Name) (folder : Folder) (is_whole is_new : Name → Type 0) (outcomes : Folder → Type 0) → HoldsInPhase Ended names current folder is_whole is_new outcomes
-in_ended names current folder is_whole is_new outcomes = record { staged = λ is. absurd (ended_apart is); left = λ going. absurd (going refl) }
-  where
-    ended_apart : Ended ≡ Staging → ⊥
-    ended_apart same = cc
+  pub in_ended : (names : List Name) (current : Option Name) (disk : D) → HoldsInPhase m Ended names current disk
+  in_ended names current disk = record { staged = λ is. absurd (ended_apart is); left = λ going. absurd (going refl) }
+    where
+      ended_apart : Ended ≡ Staging → ⊥
+      ended_apart same = cc
 
--- one file more is begun
-pub staged_more : (names : List Name) (current : Option Name) (old new : Folder) (old_whole old_new new_whole is_new : Name → Type 0) (before after : Folder → Type 0) (name lies : Name) → AreStaged names current old old_whole old_new before
-    → lies ≡ temporary name → is_file_name name ≡ true → is_staged names name ≡ false → SameBut lies old new → new lies ≡ Some [] → ((n : Name) → n ≢ lies → new_whole n) → is_new lies → IsUncommitted new after
-    → AreStaged (names ++ name ∷ []) (Some lies) new new_whole is_new after
-staged_more names current old new old_whole old_new new_whole is_new before after name lies staged is fit unstaged others empty whole fresh un =
-    let P : Option (List ℕ) → Type 0 = λ o. IsSome o in
-    record {
-      fit = fit_more names name staged.fit fit;
-      there = λ n among. elim (more_staged names name n among) [
-        | inl was ↦
-            let other : n ≢ name = λ same. both_ways (is_staged names n) (ap (is_staged names) same ∙ unstaged) was in
-            subst P (sym (others (temporary n) (other_temporary lies name n is other))) (staged.there n was)
-        | inr same ↦ subst P (sym (ap (λ (m : Name). new (temporary m)) (sym same) ∙ ap new (sym is) ∙ empty)) refl
-      ];
-      no_other = λ n out. others (temporary n) (other_temporary lies name n is (unstaged_other names name n out)) ∙ staged.no_other n (unstaged_before names name n out);
-      whole = λ n other. whole n (λ same. other (ap (λ (m : Name). Some m) (sym same)));
-      named = λ m same. (name, sym (some_inj lies m same) ∙ is, self_staged names name);
-      fresh = λ m same. subst is_new (some_inj lies m same) fresh;
-      uncommitted = un;
-    }
+  -- one file more is begun
+  pub staged_more : (names : List Name) (current : Option Name) (old new : D) (name lies : Name) → AreStaged m names current old
+      → lies ≡ temporary name → is_file_name name ≡ true → is_staged names name ≡ false → SameBut lies (m.seen old) (m.seen new) → m.seen new lies ≡ Some [] → ((n : Name) → n ≢ lies → m.is_whole new n) → m.is_new new lies → IsUncommitted (m.seen new) (m.may_leave new)
+      → AreStaged m (names ++ name ∷ []) (Some lies) new
+  staged_more names current old new name lies staged is fit unstaged others empty whole fresh un =
+      let P : Option (List ℕ) → Type 0 = λ o. IsSome o in
+      record {
+        fit = fit_more names name staged.fit fit;
+        there = λ n among. elim (more_staged names name n among) [
+          | inl was ↦
+              let other : n ≢ name = λ same. both_ways (is_staged names n) (ap (is_staged names) same ∙ unstaged) was in
+              subst P (sym (others (temporary n) (other_temporary lies name n is other))) (staged.there n was)
+          | inr same ↦ subst P (sym (ap (λ (name : Name). m.seen new (temporary name)) (sym same) ∙ ap (m.seen new) (sym is) ∙ empty)) refl
+        ];
+        no_other = λ n out. others (temporary n) (other_temporary lies name n is (unstaged_other names name n out)) ∙ staged.no_other n (unstaged_before names name n out);
+        whole = λ n other. whole n (λ same. other (ap (λ (name : Name). Some name) (sym same)));
+        named = λ begun same. (name, sym (some_inj lies begun same) ∙ is, self_staged names name);
+        fresh = λ begun same. subst (m.is_new new) (some_inj lies begun same) fresh;
+        uncommitted = un;
+      }
 
--- bytes are written to the file begun last
-pub staged_written : (names : List Name) (current : Option Name) (old new : Folder) (old_whole old_new new_whole is_new : Name → Type 0) (before after : Folder → Type 0) (lies : Name) (bytes : List ℕ) → AreStaged names current old old_whole old_new before
-    → current ≡ Some lies → SameBut lies old new → new lies ≡ option_map (λ content. content ++ bytes) (old lies) → ((n : Name) → n ≢ lies → old_whole n → new_whole n) → is_new lies → IsUncommitted new after
-    → AreStaged names current new new_whole is_new after
-staged_written names current old new old_whole old_new new_whole is_new before after lies bytes staged is others written whole fresh un =
-    let P : Option (List ℕ) → Type 0 = λ o. IsSome o in
-    let file = staged.named lies is in
-    record {
-      fit = staged.fit;
-      there = λ n among. elim (same_name (temporary n) lies) [
-        | inl same ↦ subst P (sym (ap new same ∙ written)) (still_some (old lies) bytes (subst P (ap old same) (staged.there n among)))
-        | inr other ↦ subst P (sym (others (temporary n) other)) (staged.there n among)
-      ];
-      no_other = λ n out. others (temporary n) (λ same.
-          let met : n ≡ file.0 = temporary-inj n file.0 (same ∙ file.1) in
-          both_ways (is_staged names n) out (ap (is_staged names) met ∙ file.2)) ∙ staged.no_other n out;
-      whole = λ n other.
-          let apart : n ≢ lies = λ same. other (is ∙ ap (λ (m : Name). Some m) (sym same)) in
-          whole n apart (staged.whole n other);
-      named = staged.named;
-      fresh = λ m same. subst is_new (some_inj lies m (sym is ∙ same)) fresh;
-      uncommitted = un;
-    }
-  where
-    still_some : (o : Option (List ℕ)) (bytes : List ℕ) → IsSome o → IsSome (option_map (λ content. content ++ bytes) o)
-    still_some None bytes there = absurd (both_ways false refl there)
-    still_some (Some content) bytes there = refl
+  -- bytes are written to the file begun last
+  pub staged_written : (names : List Name) (current : Option Name) (old new : D) (lies : Name) (bytes : List ℕ) → AreStaged m names current old
+      → current ≡ Some lies → SameBut lies (m.seen old) (m.seen new) → m.seen new lies ≡ option_map (λ content. content ++ bytes) (m.seen old lies) → ((n : Name) → n ≢ lies → m.is_whole old n → m.is_whole new n) → m.is_new new lies → IsUncommitted (m.seen new) (m.may_leave new)
+      → AreStaged m names current new
+  staged_written names current old new lies bytes staged is others written whole fresh un =
+      let P : Option (List ℕ) → Type 0 = λ o. IsSome o in
+      let file = staged.named lies is in
+      record {
+        fit = staged.fit;
+        there = λ n among. elim (same_name (temporary n) lies) [
+          | inl same ↦ subst P (sym (ap (m.seen new) same ∙ written)) (still_some (m.seen old lies) bytes (subst P (ap (m.seen old) same) (staged.there n among)))
+          | inr other ↦ subst P (sym (others (temporary n) other)) (staged.there n among)
+        ];
+        no_other = λ n out. others (temporary n) (λ same.
+            let met : n ≡ file.0 = temporary-inj n file.0 (same ∙ file.1) in
+            both_ways (is_staged names n) out (ap (is_staged names) met ∙ file.2)) ∙ staged.no_other n out;
+        whole = λ n other.
+            let apart : n ≢ lies = λ same. other (is ∙ ap (λ (name : Name). Some name) (sym same)) in
+            whole n apart (staged.whole n other);
+        named = staged.named;
+        fresh = λ begun same. subst (m.is_new new) (some_inj lies begun (sym is ∙ same)) fresh;
+        uncommitted = un;
+      }
+    where
+      still_some : (o : Option (List ℕ)) (bytes : List ℕ) → IsSome o → IsSome (option_map (λ content. content ++ bytes) o)
+      still_some None bytes there = absurd (both_ways false refl there)
+      still_some (Some content) bytes there = refl
 
 -- the list's temporary name is none of the set's
 pub with_staged_same : (names : List Name) (old mid : Folder) → AllByRecursion (λ name. is_file_name name ≡ true) names → SameBut (temporary list_name) old mid → (n : Name) → with_staged names mid n ≡ with_staged names old n
@@ -158,24 +159,24 @@ put_clean names old new is n res = is n ∙ cond-true (is_reserved n) None (if i
 pub abandoned_clean : (old new : Folder) → ((n : Name) → new n ≡ without_reserved old n) → IsClean new
 abandoned_clean old new is n res = is n ∙ without_res old n res
 
-module _ {D : Type 0} (moment : D → ℕ) (left_since : D → ℕ → Folder → Type 0) (seen : D → Folder) (is_whole : D → Name → Type 0) (may_leave : D → Folder → Type 0) (only_now : (disk : D) (c : Folder) → left_since disk (moment disk) c → may_leave disk c) where
+module _ {D : Type 0} (m : DiskMeaning D) where
   -- before a set is put in place
-  pub put_none : (names : List Name) (old : D) → IsUncommitted (seen old) (may_leave old) → LeavesOnly moment left_since old old (IsPut names (seen old))
-  put_none names old un = started moment left_since may_leave only_now old (IsPut names (seen old)) (put_old names (seen old) (may_leave old) un)
+  pub put_none : (names : List Name) (old : D) → IsUncommitted (m.seen old) (m.may_leave old) → LeavesOnly m old old (IsPut names (m.seen old))
+  put_none names old un = started m old (IsPut names (m.seen old)) (put_old names (m.seen old) (m.may_leave old) un)
 
   -- while its list is written
-  pub put_listed : (names : List Name) (old mid : D) → RunsUncommitted moment left_since seen is_whole may_leave old mid → LeavesOnly moment left_since old mid (IsPut names (seen old))
-  put_listed names old mid run = leaves_by moment left_since may_leave only_now old mid (HasOldFiles (seen old)) (IsPut names (seen old)) run.moments (put_of_old names (seen old))
+  pub put_listed : (names : List Name) (old mid : D) → RunsUncommitted m old mid → LeavesOnly m old mid (IsPut names (m.seen old))
+  put_listed names old mid run = leaves_by m old mid (HasOldFiles (m.seen old)) (IsPut names (m.seen old)) run.moments (put_of_old names (m.seen old))
 
   -- and to the end
-  pub put_all : (names listed : List Name) (old mid new : D) → listed ≡ names → AllByRecursion (λ name. is_file_name name ≡ true) names → SameBut (temporary list_name) (seen old) (seen mid) → RunsUncommitted moment left_since seen is_whole may_leave old mid
-      → LeavesOnly moment left_since mid new (IsPut listed (seen mid)) → LeavesOnly moment left_since old new (IsPut names (seen old))
+  pub put_all : (names listed : List Name) (old mid new : D) → listed ≡ names → AllByRecursion (λ name. is_file_name name ≡ true) names → SameBut (temporary list_name) (m.seen old) (m.seen mid) → RunsUncommitted m old mid
+      → LeavesOnly m mid new (IsPut listed (m.seen mid)) → LeavesOnly m old new (IsPut names (m.seen old))
   put_all names listed old mid new same fit others run put =
-      runs_on moment left_since may_leave only_now old mid new (IsPut names (seen old)) (IsPut listed (seen mid)) (put_listed names old mid run) put
-      (λ c is. put_from names (seen old) (seen mid) c fit others (subst (λ (l : List Name). IsPut l (seen mid) c) same is))
+      runs_on m old mid new (IsPut names (m.seen old)) (IsPut listed (m.seen mid)) (put_listed names old mid run) put
+      (λ c is. put_from names (m.seen old) (m.seen mid) c fit others (subst (λ (l : List Name). IsPut l (m.seen mid) c) same is))
 
-  pub put_either : (names : List Name) (old new : D) → LeavesOnly moment left_since old new (IsPut names (seen old)) → LeavesOnly moment left_since old new (IsOldOrNew names (seen old))
-  put_either names old new put = leaves_by moment left_since may_leave only_now old new (IsPut names (seen old)) (IsOldOrNew names (seen old)) put (λ c is. is.either)
+  pub put_either : (names : List Name) (old new : D) → LeavesOnly m old new (IsPut names (m.seen old)) → LeavesOnly m old new (IsOldOrNew names (m.seen old))
+  put_either names old new put = leaves_by m old new (IsPut names (m.seen old)) (IsOldOrNew names (m.seen old)) put (λ c is. is.either)
 
-  pub put_others : (names : List Name) (old new : D) → LeavesOnly moment left_since old new (IsPut names (seen old)) → LeavesOnly moment left_since old new (SameUnstaged names (seen old))
-  put_others names old new put = leaves_by moment left_since may_leave only_now old new (IsPut names (seen old)) (SameUnstaged names (seen old)) put (λ c is. is.others)
+  pub put_others : (names : List Name) (old new : D) → LeavesOnly m old new (IsPut names (m.seen old)) → LeavesOnly m old new (SameUnstaged names (m.seen old))
+  put_others names old new put = leaves_by m old new (IsPut names (m.seen old)) (SameUnstaged names (m.seen old)) put (λ c is. is.others)

@@ -5,7 +5,7 @@ use Rattle.std.proofs.lemmas.Slice.Eq.{bytes_eq-Decides}
 use Rattle.std.specs.List.{AllByRecursion}
 use Rattle.std.specs.Str.{bytes_eq}
 use Rattle.files_in_place.specs.Folder.{Name, Folder, SameBut, is_reserved, temporary, list_name, list_bytes}
-use Rattle.files_in_place.specs.Disk.{AfterStep, ComesBy, Shrinks, IsSynced, Elapses, Steps}
+use Rattle.files_in_place.specs.Disk.{DiskMeaning, AfterStep, ComesBy, Shrinks, IsSynced, Elapses, OnlyReads, ChangesFile, Steps}
 use Rattle.files_in_place.specs.Recovery.{IsClean, IsFinished, SameFree, HasOldFiles, LosesReserved}
 use Rattle.files_in_place.specs.Staged.{is_staged, is_file_name, IsUncommitted, IsStagedAs, IsFreeFor, AreStaged, AreLeft, AreReady, RunsUncommitted}
 use Rattle.files_in_place.proofs.Runs.{started, goes_on, runs_on}
@@ -126,22 +126,6 @@ clean_uncommitted folder is_whole outcomes clean synced = record {
 pub none_some : (lies : Name) → None ≡ Some lies → ⊥
 none_some lies same = absurd (cc same)
 
--- a set without files
-pub staged_none : (names : List Name) (folder : Folder) (is_whole is_new : Name → Type 0) (outcomes : Folder → Type 0) → names ≡ [] → IsClean folder → IsSynced folder is_whole outcomes
-    → AreStaged names None folder is_whole is_new outcomes
-staged_none names folder is_whole is_new outcomes none clean synced =
-    let P : List Name → Type 0 = λ l. AreStaged l None folder is_whole is_new outcomes in
-    let empty : AreStaged [] None folder is_whole is_new outcomes = record {
-      fit = tt;
-      there = λ n staged. absurd (both_ways false refl staged);
-      no_other = λ n unstaged. clean (temporary n) refl;
-      whole = λ n other. synced.whole n;
-      named = λ lies same. absurd (none_some lies same);
-      fresh = λ lies same. absurd (none_some lies same);
-      uncommitted = clean_uncommitted folder is_whole outcomes clean synced;
-    } in
-    subst P (sym none) empty
-
 abbrev name_in : Option Name → Name
 name_in None = []
 name_in (Some name) = name
@@ -149,92 +133,100 @@ name_in (Some name) = name
 pub some_inj : (a b : Name) → Some a ≡ Some b → a ≡ b
 some_inj a b same = ap name_in same
 
--- where a set is being written, nothing of it counts
-pub staged_left : (names : List Name) (current : Option Name) (folder : Folder) (is_whole is_new : Name → Type 0) (outcomes : Folder → Type 0) → AreStaged names current folder is_whole is_new outcomes → AreLeft folder is_whole outcomes
-staged_left names current folder is_whole is_new outcomes staged = record {
-  whole = λ n free. staged.whole n (λ same.
-      let is = staged.named n same in
-      both_ways (is_reserved n) free (ap is_reserved is.1));
-  uncommitted = staged.uncommitted;
-}
+module _ {D : Type 0} (m : DiskMeaning D) where
+  -- a set without files
+  pub staged_none : (names : List Name) (disk : D) → names ≡ [] → IsClean (m.seen disk) → IsSynced (m.seen disk) (m.is_whole disk) (m.may_leave disk) → AreStaged m names None disk
+  staged_none names disk none clean synced =
+      let P : List Name → Type 0 = λ l. AreStaged m l None disk in
+      let empty : AreStaged m [] None disk = record {
+        fit = tt;
+        there = λ n staged. absurd (both_ways false refl staged);
+        no_other = λ n unstaged. clean (temporary n) refl;
+        whole = λ n other. synced.whole n;
+        named = λ lies same. absurd (none_some lies same);
+        fresh = λ lies same. absurd (none_some lies same);
+        uncommitted = clean_uncommitted (m.seen disk) (m.is_whole disk) (m.may_leave disk) clean synced;
+      } in
+      subst P (sym none) empty
 
-pub left_shrinks : (old new : Folder) (old_whole new_whole : Name → Type 0) (before after : Folder → Type 0) → new ≡ old → ((n : Name) → old_whole n → new_whole n) → Shrinks before after → AreLeft old old_whole before → AreLeft new new_whole after
-left_shrinks old new old_whole new_whole before after same kept shrinks left = record {
-  whole = λ n free. kept n (left.whole n free);
-  uncommitted = un_shrinks old new before after same shrinks left.uncommitted;
-}
+  -- where a set is being written, nothing of it counts
+  pub staged_left : (names : List Name) (current : Option Name) (disk : D) → AreStaged m names current disk → AreLeft m disk
+  staged_left names current disk staged = record {
+    whole = λ n free. staged.whole n (λ same.
+        let is = staged.named n same in
+        both_ways (is_reserved n) free (ap is_reserved is.1));
+    uncommitted = staged.uncommitted;
+  }
 
-pub left_step : (lies : Name) (old new : Folder) (old_whole new_whole : Name → Type 0) (before after : Folder → Type 0) → IsTemporary lies → SameBut lies old new → ((n : Name) → n ≢ lies → old_whole n → new_whole n) → ComesBy (SameBut lies) before after
-    → AreLeft old old_whole before → AreLeft new new_whole after
-left_step lies old new old_whole new_whole before after is others kept comes left = record {
-  whole = λ n free. kept n (free_other n lies free is.res) (left.whole n free);
-  uncommitted = un_step lies old new before after is others comes left.uncommitted;
-}
+  left_reads : (old new : D) → OnlyReads m old new → AreLeft m old → AreLeft m new
+  left_reads old new reads left = record {
+    whole = λ n free. reads.whole n (left.whole n free);
+    uncommitted = un_shrinks (m.seen old) (m.seen new) (m.may_leave old) (m.may_leave new) reads.seen reads.crash left.uncommitted;
+  }
 
-pub list_ready : (names : List Name) (current : Option Name) (old new : Folder) (old_whole is_new new_whole : Name → Type 0) (before after : Folder → Type 0) → AreStaged names current old old_whole is_new before → SameBut (temporary list_name) old new
-    → new (temporary list_name) ≡ Some (list_bytes names) → ((n : Name) → new_whole n) → IsUncommitted new after → AreReady names new new_whole after
-list_ready names current old new old_whole is_new new_whole before after staged others list whole un = record {
-  fit = staged.fit;
-  there = λ n is.
-      let free = staged_free names n staged.fit is in
-      let P : Option (List ℕ) → Type 0 = λ o. IsSome o in
-      subst P (sym (others (temporary n) (λ met. free_other n list_name free refl (temporary-inj n list_name met)))) (staged.there n is);
-  list = list;
-  whole = whole;
-  uncommitted = un;
-}
+  left_step : (lies : Name) (old new : D) → IsTemporary lies → SameBut lies (m.seen old) (m.seen new) → ((n : Name) → n ≢ lies → m.is_whole old n → m.is_whole new n) → ComesBy (SameBut lies) (m.may_leave old) (m.may_leave new)
+      → AreLeft m old → AreLeft m new
+  left_step lies old new is others kept comes left = record {
+    whole = λ n free. kept n (free_other n lies free is.res) (left.whole n free);
+    uncommitted = un_step lies (m.seen old) (m.seen new) (m.may_leave old) (m.may_leave new) is others comes left.uncommitted;
+  }
 
-module _ {D : Type 0} (moment : D → ℕ) (left_since : D → ℕ → Folder → Type 0) (seen : D → Folder) (is_whole : D → Name → Type 0) (may_leave : D → Folder → Type 0) (only_now : (disk : D) (c : Folder) → left_since disk (moment disk) c → may_leave disk c) where
-  pub run_none : (old : D) → AreLeft (seen old) (is_whole old) (may_leave old) → RunsUncommitted moment left_since seen is_whole may_leave old old
+  pub list_ready : (names : List Name) (current : Option Name) (old new : D) → AreStaged m names current old → SameBut (temporary list_name) (m.seen old) (m.seen new)
+      → m.seen new (temporary list_name) ≡ Some (list_bytes names) → ((n : Name) → m.is_whole new n) → IsUncommitted (m.seen new) (m.may_leave new) → AreReady m names new
+  list_ready names current old new staged others list whole un = record {
+    fit = staged.fit;
+    there = λ n is.
+        let free = staged_free names n staged.fit is in
+        let P : Option (List ℕ) → Type 0 = λ o. IsSome o in
+        subst P (sym (others (temporary n) (λ met. free_other n list_name free refl (temporary-inj n list_name met)))) (staged.there n is);
+    list = list;
+    whole = whole;
+    uncommitted = un;
+  }
+
+  pub run_none : (old : D) → AreLeft m old → RunsUncommitted m old old
   run_none old left = record {
     same = λ n free. refl;
     left = left;
-    moments = started moment left_since may_leave only_now old (HasOldFiles (seen old)) (uncommitted_old (seen old) (may_leave old) left.uncommitted);
+    moments = started m old (HasOldFiles (m.seen old)) (uncommitted_old (m.seen old) (m.may_leave old) left.uncommitted);
   }
 
   -- one call more
-  run_call : (old mid new : D) → RunsUncommitted moment left_since seen is_whole may_leave old mid → Elapses (moment mid) (moment new) (left_since mid) (left_since new) (may_leave new)
-      → SameFree (seen mid) (seen new) → AreLeft (seen new) (is_whole new) (may_leave new) → RunsUncommitted moment left_since seen is_whole may_leave old new
+  run_call : (old mid new : D) → RunsUncommitted m old mid → Elapses m mid new
+      → SameFree (m.seen mid) (m.seen new) → AreLeft m new → RunsUncommitted m old new
   run_call old mid new run time same left =
-      let whole : SameFree (seen old) (seen new) = λ n free. same n free ∙ run.same n free in
+      let whole : SameFree (m.seen old) (m.seen new) = λ n free. same n free ∙ run.same n free in
       record {
         same = whole;
         left = left;
-        moments = goes_on moment left_since may_leave only_now old mid new (HasOldFiles (seen old)) run.moments time
-            (λ c now. old_files_from (seen old) (seen new) c whole (uncommitted_old (seen new) (may_leave new) left.uncommitted c now));
+        moments = goes_on m old mid new (HasOldFiles (m.seen old)) run.moments time
+            (λ c now. old_files_from (m.seen old) (m.seen new) c whole (uncommitted_old (m.seen new) (m.may_leave new) left.uncommitted c now));
       }
 
   -- one call more, which changes no file
-  pub run_shrinks : (old mid new : D) → RunsUncommitted moment left_since seen is_whole may_leave old mid → seen new ≡ seen mid → ((n : Name) → is_whole mid n → is_whole new n)
-      → Elapses (moment mid) (moment new) (left_since mid) (left_since new) (may_leave new) → Shrinks (may_leave mid) (may_leave new) → RunsUncommitted moment left_since seen is_whole may_leave old new
-  run_shrinks old mid new run same kept time shrinks =
-      run_call old mid new run time (λ n free. ap (λ (f : Folder). f n) same) (left_shrinks (seen mid) (seen new) (is_whole mid) (is_whole new) (may_leave mid) (may_leave new) same kept shrinks run.left)
+  pub run_reads : (old mid new : D) → RunsUncommitted m old mid → OnlyReads m mid new → RunsUncommitted m old new
+  run_reads old mid new run reads = run_call old mid new run reads.time (λ n free. ap (λ (f : Folder). f n) reads.seen) (left_reads mid new reads run.left)
 
   -- the first call for a set, which changes no file
-  pub run_synced : (names : List Name) (current : Option Name) (old new : D) (is_new : Name → Type 0) → AreStaged names current (seen old) (is_whole old) is_new (may_leave old) → seen new ≡ seen old → ((n : Name) → is_whole old n → is_whole new n)
-      → Elapses (moment old) (moment new) (left_since old) (left_since new) (may_leave new) → Shrinks (may_leave old) (may_leave new) → RunsUncommitted moment left_since seen is_whole may_leave old new
-  run_synced names current old new is_new staged same kept time shrinks =
-      run_shrinks old old new (run_none old (staged_left names current (seen old) (is_whole old) is_new (may_leave old) staged)) same kept time shrinks
+  pub run_synced : (names : List Name) (current : Option Name) (old new : D) → AreStaged m names current old → OnlyReads m old new → RunsUncommitted m old new
+  run_synced names current old new staged reads = run_reads old old new (run_none old (staged_left names current old staged)) reads
 
   -- one call more, for a file of a temporary name
-  pub run_step : (lies : Name) (old mid new : D) → RunsUncommitted moment left_since seen is_whole may_leave old mid → IsTemporary lies → SameBut lies (seen mid) (seen new) → ((n : Name) → n ≢ lies → is_whole mid n → is_whole new n)
-      → Elapses (moment mid) (moment new) (left_since mid) (left_since new) (may_leave new) → ComesBy (SameBut lies) (may_leave mid) (may_leave new) → RunsUncommitted moment left_since seen is_whole may_leave old new
-  run_step lies old mid new run is others kept time crash =
-      run_call old mid new run time (step_free lies (seen mid) (seen new) is others) (left_step lies (seen mid) (seen new) (is_whole mid) (is_whole new) (may_leave mid) (may_leave new) is others kept crash run.left)
+  pub run_step : (lies : Name) (old mid new : D) → RunsUncommitted m old mid → IsTemporary lies → ChangesFile m lies mid new → RunsUncommitted m old new
+  run_step lies old mid new run is changes =
+      run_call old mid new run changes.time (step_free lies (m.seen mid) (m.seen new) is changes.others) (left_step lies mid new is changes.others changes.whole changes.crash run.left)
 
   -- some calls more, for a file of a temporary name
-  pub run_steps : (lies : Name) (old mid new : D) → RunsUncommitted moment left_since seen is_whole may_leave old mid → IsTemporary lies → SameBut lies (seen mid) (seen new) → ((n : Name) → n ≢ lies → is_whole mid n → is_whole new n)
-      → Steps moment left_since may_leave (SameBut lies) mid new → RunsUncommitted moment left_since seen is_whole may_leave old new
+  pub run_steps : (lies : Name) (old mid new : D) → RunsUncommitted m old mid → IsTemporary lies → SameBut lies (m.seen mid) (m.seen new) → ((n : Name) → n ≢ lies → m.is_whole mid n → m.is_whole new n)
+      → Steps m (SameBut lies) mid new → RunsUncommitted m old new
   run_steps lies old mid new run is others kept steps = record {
-    same = λ n free. step_free lies (seen mid) (seen new) is others n free ∙ run.same n free;
-    left = left_step lies (seen mid) (seen new) (is_whole mid) (is_whole new) (may_leave mid) (may_leave new) is others kept steps.crash run.left;
-    moments = runs_on moment left_since may_leave only_now old mid new (HasOldFiles (seen old)) (AfterStep (SameBut lies) (may_leave mid)) run.moments steps.moments
-        (λ c has. old_files_from (seen old) (seen mid) c run.same (un_after lies (seen mid) (may_leave mid) is run.left.uncommitted c has));
+    same = λ n free. step_free lies (m.seen mid) (m.seen new) is others n free ∙ run.same n free;
+    left = left_step lies mid new is others kept steps.crash run.left;
+    moments = runs_on m old mid new (HasOldFiles (m.seen old)) (AfterStep (SameBut lies) (m.may_leave mid)) run.moments steps.moments
+        (λ c has. old_files_from (m.seen old) (m.seen mid) c run.same (un_after lies (m.seen mid) (m.may_leave mid) is run.left.uncommitted c has));
   }
 
   -- bytes are written to the file of a set that was begun last
-  pub run_written : (names : List Name) (current : Option Name) (lies : Name) (old new : D) (is_new : Name → Type 0) → AreStaged names current (seen old) (is_whole old) is_new (may_leave old) → current ≡ Some lies
-      → SameBut lies (seen old) (seen new) → ((n : Name) → n ≢ lies → is_whole old n → is_whole new n) → Elapses (moment old) (moment new) (left_since old) (left_since new) (may_leave new) → ComesBy (SameBut lies) (may_leave old) (may_leave new)
-      → RunsUncommitted moment left_since seen is_whole may_leave old new
-  run_written names current lies old new is_new staged is others kept time crash =
-      run_step lies old old new (run_none old (staged_left names current (seen old) (is_whole old) is_new (may_leave old) staged)) (staged_temporary names lies staged.fit (staged.named lies is)) others kept time crash
+  pub run_written : (names : List Name) (current : Option Name) (lies : Name) (old new : D) → AreStaged m names current old → current ≡ Some lies → ChangesFile m lies old new → RunsUncommitted m old new
+  run_written names current lies old new staged is changes =
+      run_step lies old old new (run_none old (staged_left names current old staged)) (staged_temporary names lies staged.fit (staged.named lies is)) changes

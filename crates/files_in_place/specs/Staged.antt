@@ -5,7 +5,7 @@ use Rattle.std.specs.Str.{bytes_eq, is_utf8}
 use Rattle.files_in_place.specs.declared.phase.Phase.{Phase}
 use Rattle.files_in_place.specs.declared.phase.Phase.TheVariants.{Staging, Ended}
 use Rattle.files_in_place.specs.Folder.{Name, Folder, is_reserved, temporary, list_name, list_bytes, lines_of}
-use Rattle.files_in_place.specs.Disk.{LeavesOnly}
+use Rattle.files_in_place.specs.Disk.{DiskMeaning, LeavesOnly}
 use Rattle.files_in_place.specs.Recovery.{RecoversTo, SameFree, HasOldFiles}
 
 -- What contracts see of a set: its disk, the names of its files, the temporary name of the file that is being written,
@@ -75,53 +75,54 @@ IsStagedAs names lies = (n : Name) × (lies ≡ temporary n) × (is_staged names
 abbrev pub IsFreeFor : List Name → Name → Type 0
 IsFreeFor names lies = (n : Name) × (lies ≡ temporary n) × (is_staged names n ≡ false) × (is_file_name n ≡ true)
 
--- The files of the set are there under their temporary names, all but the one that is being written are on the disk, and no
--- other reserved name has a file.
-pub record AreStaged (names : List Name) (current : Option Name) (folder : Folder) (is_whole is_new : Name → Type 0) (outcomes : Folder → Type 0) : Type 0 where
-  pub fit : AllByRecursion (λ name. is_file_name name ≡ true) names
-  pub there : (n : Name) → is_staged names n ≡ true → IsSome (folder (temporary n))
-  pub no_other : (n : Name) → is_staged names n ≡ false → folder (temporary n) ≡ None
-  pub whole : (n : Name) → current ≢ Some n → is_whole n
-  pub named : (lies : Name) → current ≡ Some lies → IsStagedAs names lies
-  pub fresh : (lies : Name) → current ≡ Some lies → is_new lies
-  pub uncommitted : IsUncommitted folder outcomes
+module _ {D : Type 0} (m : DiskMeaning D) where
+  -- The files of the set are there under their temporary names, all but the one that is being written are on the disk, and no
+  -- other reserved name has a file.
+  pub record AreStaged (names : List Name) (current : Option Name) (disk : D) : Type 0 where
+    pub fit : AllByRecursion (λ name. is_file_name name ≡ true) names
+    pub there : (n : Name) → is_staged names n ≡ true → IsSome (m.seen disk (temporary n))
+    pub no_other : (n : Name) → is_staged names n ≡ false → m.seen disk (temporary n) ≡ None
+    pub whole : (n : Name) → current ≢ Some n → m.is_whole disk n
+    pub named : (lies : Name) → current ≡ Some lies → IsStagedAs names lies
+    pub fresh : (lies : Name) → current ≡ Some lies → m.is_new disk lies
+    pub uncommitted : IsUncommitted (m.seen disk) (m.may_leave disk)
 
--- Files of the set may be there in part, and nothing of them counts.
-pub record AreLeft (folder : Folder) (is_whole : Name → Type 0) (outcomes : Folder → Type 0) : Type 0 where
-  pub whole : (n : Name) → is_reserved n ≡ false → is_whole n
-  pub uncommitted : IsUncommitted folder outcomes
+  -- Files of the set may be there in part, and nothing of them counts.
+  pub record AreLeft (disk : D) : Type 0 where
+    pub whole : (n : Name) → is_reserved n ≡ false → m.is_whole disk n
+    pub uncommitted : IsUncommitted (m.seen disk) (m.may_leave disk)
 
--- What is true of a disk in each phase of a set: while it is written its files are staged, and nothing of it counts until it
--- is put in place or removed. Of a set that has ended nothing is known.
-pub record HoldsInPhase (phase : Phase) (names : List Name) (current : Option Name) (folder : Folder) (is_whole is_new : Name → Type 0) (outcomes : Folder → Type 0) : Type 0 where
-  pub staged : phase ≡ Staging → AreStaged names current folder is_whole is_new outcomes
-  pub left : phase ≢ Ended → AreLeft folder is_whole outcomes
+  -- What is true of a disk in each phase of a set: while it is written its files are staged, and nothing of it counts until it
+  -- is put in place or removed. Of a set that has ended nothing is known.
+  pub record HoldsInPhase (phase : Phase) (names : List Name) (current : Option Name) (disk : D) : Type 0 where
+    pub staged : phase ≡ Staging → AreStaged names current disk
+    pub left : phase ≢ Ended → AreLeft disk
 
--- All files of the set are on the disk, and so are their names in the list's temporary file.
-pub record AreReady (names : List Name) (folder : Folder) (is_whole : Name → Type 0) (outcomes : Folder → Type 0) : Type 0 where
-  pub fit : AllByRecursion (λ name. is_file_name name ≡ true) names
-  pub there : (n : Name) → is_staged names n ≡ true → IsSome (folder (temporary n))
-  pub list : folder (temporary list_name) ≡ Some (list_bytes names)
-  pub whole : (n : Name) → is_whole n
-  pub uncommitted : IsUncommitted folder outcomes
+  -- All files of the set are on the disk, and so are their names in the list's temporary file.
+  pub record AreReady (names : List Name) (disk : D) : Type 0 where
+    pub fit : AllByRecursion (λ name. is_file_name name ≡ true) names
+    pub there : (n : Name) → is_staged names n ≡ true → IsSome (m.seen disk (temporary n))
+    pub list : m.seen disk (temporary list_name) ≡ Some (list_bytes names)
+    pub whole : (n : Name) → m.is_whole disk n
+    pub uncommitted : IsUncommitted (m.seen disk) (m.may_leave disk)
 
--- At some moment since this one the files of the set and its list were on the disk, and nothing was in place yet: each name that
--- isn't reserved had what this folder has. It is a moment of the disk as it is now: what a crash might have left then is among
--- what a crash since might have left.
-pub record HasBeenReady {D : Type 0} (moment : D → ℕ) (left_since : D → ℕ → Folder → Type 0) (seen : D → Folder) (is_whole : D → Name → Type 0) (may_leave : D → Folder → Type 0) (names : List Name) (begin : ℕ) (old : Folder) (now : D) : Type 0 where
-  pub earlier : D
-  pub since : begin ≤ moment earlier
-  pub later : moment earlier ≤ moment now
-  pub reached : (c : Folder) → may_leave earlier c → left_since now (moment earlier) c
-  pub ready : AreReady names (seen earlier) (is_whole earlier) (may_leave earlier)
-  pub same : SameFree old (seen earlier)
+  -- At some moment since this one the files of the set and its list were on the disk, and nothing was in place yet: each name that
+  -- isn't reserved had what this folder has. It is a moment of the disk as it is now: what a crash might have left then is among
+  -- what a crash since might have left.
+  pub record HasBeenReady (names : List Name) (begin : ℕ) (old : Folder) (now : D) : Type 0 where
+    pub earlier : D
+    pub since : begin ≤ m.moment earlier
+    pub later : m.moment earlier ≤ m.moment now
+    pub reached : (c : Folder) → m.may_leave earlier c → m.left_since now (m.moment earlier) c
+    pub ready : AreReady names earlier
+    pub same : SameFree old (m.seen earlier)
 
--- A run of calls in which there is no list: each name that isn't reserved has what it had, nothing of the set counts, and a
--- crash at any moment leaves the old files.
-pub record RunsUncommitted {D : Type 0} (moment : D → ℕ) (left_since : D → ℕ → Folder → Type 0) (seen : D → Folder) (is_whole : D → Name → Type 0) (may_leave : D → Folder → Type 0) (old new : D) : Type 0 where
-  pub same : SameFree (seen old) (seen new)
-  pub left : AreLeft (seen new) (is_whole new) (may_leave new)
-  pub moments : LeavesOnly moment left_since old new (HasOldFiles (seen old))
+  -- A run of calls in which there is no list: each name that isn't reserved has what it had, nothing of the set counts, and a
+  -- crash at any moment leaves the old files.
+  pub record RunsUncommitted (old new : D) : Type 0 where
+    pub same : SameFree (m.seen old) (m.seen new)
+    pub left : AreLeft new
+    pub moments : LeavesOnly m old new (HasOldFiles (m.seen old))
 
 -- The old files are there or the new ones, all of them, and each other name has what it had.
 pub record IsPut (names : List Name) (old new : Folder) : Type 0 where

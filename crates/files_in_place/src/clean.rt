@@ -3,7 +3,7 @@
 ghost use Rattle.std.specs.Prelude.{◌≡◌, None, true, false, OnOk, IsErrOf};
 ghost use Rattle.files_in_place.specs.declared.faults.DiskFault.TheVariants.{Failed};
 ghost use Rattle.files_in_place.specs.Folder.{Name, is_reserved, without_reserved};
-ghost use Rattle.files_in_place.specs.Disk.{Steps, IsSynced, HasCause};
+ghost use Rattle.files_in_place.specs.Disk.{Steps, IsSyncedDisk, HasDiskCause};
 ghost use Rattle.files_in_place.specs.Recovery.{LosesReserved, AreRemoved};
 
 use crate::disk::Disk;
@@ -14,11 +14,11 @@ use std::alloc::Global;
 
 // Removes a file if its name is reserved.
 fn remove_if_reserved<D: Disk>(disk: &mut D, name: &[u8]) -> Result<(), DiskFault>
-    ensures done { D.keeps_promises → OnOk result (is_reserved name.now ≡ true → D.seen disk.new name.now ≡ None) }
-    ensures others { D.keeps_promises → OnOk result (LosesReserved (D.seen disk.old) (D.seen disk.new)) }
-    ensures whole { (n : Name) → D.is_whole disk.old n → D.is_whole disk.new n }
-    ensures steps { Steps D.moment D.left_since D.may_leave LosesReserved disk.old disk.new }
-    ensures cause { HasCause (D.faults disk.old) (D.faults disk.new) (IsErrOf result Failed) }
+    ensures done { D.meaning.keeps_promises → OnOk result (is_reserved name.now ≡ true → D.meaning.seen disk.new name.now ≡ None) }
+    ensures others { D.meaning.keeps_promises → OnOk result (LosesReserved (D.meaning.seen disk.old) (D.meaning.seen disk.new)) }
+    ensures whole { (n : Name) → D.meaning.is_whole disk.old n → D.meaning.is_whole disk.new n }
+    ensures steps { Steps D.meaning LosesReserved disk.old disk.new }
+    ensures cause { HasDiskCause D.meaning disk.old disk.new (IsErrOf result Failed) }
 {
     if !is_reserved(name) {
         return Ok(());
@@ -29,11 +29,11 @@ fn remove_if_reserved<D: Disk>(disk: &mut D, name: &[u8]) -> Result<(), DiskFaul
 
 // Removes each of the files whose name is reserved.
 fn remove_reserved<D: Disk>(disk: &mut D, names: &[Bytes]) -> Result<(), DiskFault>
-    ensures done { D.keeps_promises → OnOk result (AreRemoved names.now (D.seen disk.new)) }
-    ensures others { D.keeps_promises → OnOk result (LosesReserved (D.seen disk.old) (D.seen disk.new)) }
-    ensures whole { (n : Name) → D.is_whole disk.old n → D.is_whole disk.new n }
-    ensures steps { Steps D.moment D.left_since D.may_leave LosesReserved disk.old disk.new }
-    ensures cause { HasCause (D.faults disk.old) (D.faults disk.new) (IsErrOf result Failed) }
+    ensures done { D.meaning.keeps_promises → OnOk result (AreRemoved names.now (D.meaning.seen disk.new)) }
+    ensures others { D.meaning.keeps_promises → OnOk result (LosesReserved (D.meaning.seen disk.old) (D.meaning.seen disk.new)) }
+    ensures whole { (n : Name) → D.meaning.is_whole disk.old n → D.meaning.is_whole disk.new n }
+    ensures steps { Steps D.meaning LosesReserved disk.old disk.new }
+    ensures cause { HasDiskCause D.meaning disk.old disk.new (IsErrOf result Failed) }
 {
     for name in names {
         remove_if_reserved(disk, name.as_slice())?;
@@ -43,11 +43,11 @@ fn remove_reserved<D: Disk>(disk: &mut D, names: &[Bytes]) -> Result<(), DiskFau
 
 // Removes all files of reserved names, where nothing else is to be done.
 pub(crate) fn clean<D: Disk>(alloc: Global, disk: &mut D) -> Result<(), DiskFault>
-    ensures done { D.keeps_promises → OnOk result ((n : Name) → D.seen disk.new n ≡ without_reserved (D.seen disk.old) n) }
-    ensures synced { D.keeps_promises → ((n : Name) → is_reserved n ≡ false → D.is_whole disk.old n)
-        → OnOk result (IsSynced (D.seen disk.new) (D.is_whole disk.new) (D.may_leave disk.new)) }
-    ensures steps { Steps D.moment D.left_since D.may_leave LosesReserved disk.old disk.new }
-    ensures cause { HasCause (D.faults disk.old) (D.faults disk.new) (IsErrOf result Failed) }
+    ensures done { D.meaning.keeps_promises → OnOk result ((n : Name) → D.meaning.seen disk.new n ≡ without_reserved (D.meaning.seen disk.old) n) }
+    ensures synced { D.meaning.keeps_promises → ((n : Name) → is_reserved n ≡ false → D.meaning.is_whole disk.old n)
+        → OnOk result (IsSyncedDisk D.meaning disk.new) }
+    ensures steps { Steps D.meaning LosesReserved disk.old disk.new }
+    ensures cause { HasDiskCause D.meaning disk.old disk.new (IsErrOf result Failed) }
 {
     let names = disk.list(alloc)?;
     remove_reserved(disk, &names)?;

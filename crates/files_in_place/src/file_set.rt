@@ -3,7 +3,7 @@
 ghost use Rattle.std.specs.Prelude.{◌≡◌, ◌≢◌, ◌++◌, ◌∷◌, [], true, false, None, Some, Err, IfErr, IsSome, option_map, OnOk, OnErr, IsErrOf};
 ghost use Rattle.files_in_place.specs.declared.phase.Phase.TheVariants.{Staging, Ended};
 ghost use Rattle.files_in_place.specs.Folder.{Name, SameBut, temporary, without_reserved};
-ghost use Rattle.files_in_place.specs.Disk.{LeavesOnly, IsSynced, HasCause};
+ghost use Rattle.files_in_place.specs.Disk.{LeavesOnly, IsSyncedDisk, HasDiskCause};
 ghost use Rattle.files_in_place.specs.Recovery.{IsClean, HasOldFiles};
 ghost use Rattle.files_in_place.specs.Staged.{is_file_name, is_staged, with_staged, HasBeenReady, IsOldOrNew, RunsUncommitted, SameUnstaged};
 ghost use Rattle.files_in_place.specs.Faults.{IsOfDisk};
@@ -40,15 +40,15 @@ impl<D: Disk + Drop> Model for FileSet<D> {
 
     ghost view = { λ s. record { disk = s.disk; names = s.names.items; current = s.current; phase = s.phase } };
 
-    ghost invariant = { λ s. D.keeps_promises →
-        HoldsInPhase s.phase s.names.items s.current (D.seen s.disk) (D.is_whole s.disk) (D.is_new s.disk) (D.may_leave s.disk) };
+    ghost invariant = { λ s. D.meaning.keeps_promises →
+        HoldsInPhase D.meaning s.phase s.names.items s.current s.disk };
 }
 
 impl<D: Disk + Drop> FileSet<D> {
     /// A set without files, for the folder of a disk on which [`recover`](crate::recover) has been called.
     pub fn new(alloc: Global, disk: D) -> FileSet<D>
-        requires synced { D.keeps_promises → IsSynced (D.seen disk) (D.is_whole disk) (D.may_leave disk) }
-        requires clean { D.keeps_promises → IsClean (D.seen disk) }
+        requires synced { D.meaning.keeps_promises → IsSyncedDisk D.meaning disk }
+        requires clean { D.meaning.keeps_promises → IsClean (D.meaning.seen disk) }
         ensures disk { result.disk ≡ disk }
         ensures names { result.names ≡ [] }
         ensures current { result.current ≡ None }
@@ -76,8 +76,8 @@ impl<D: Disk + Drop> FileSet<D> {
     pub fn begin(&mut self, name: &[u8]) -> Result<(), SetFault>
         ensures begun { OnOk result (self.new.names ≡ self.old.names ++ name.now ∷ []) }
         ensures current { OnOk result (self.new.current ≡ Some (temporary name.now)) }
-        ensures empty { D.keeps_promises → OnOk result (D.seen self.new.disk (temporary name.now) ≡ Some []) }
-        ensures others { SameBut (temporary name.now) (D.seen self.old.disk) (D.seen self.new.disk) }
+        ensures empty { D.meaning.keeps_promises → OnOk result (D.meaning.seen self.new.disk (temporary name.now) ≡ Some []) }
+        ensures others { SameBut (temporary name.now) (D.meaning.seen self.old.disk) (D.meaning.seen self.new.disk) }
         ensures staging { OnOk result (self.new.phase ≡ Staging) }
         ensures closed { self.old.phase ≢ Staging → (result ≡ Err F.Closed) × (self.new ≡ self.old) }
         ensures bad_name { self.old.phase ≡ Staging → is_file_name name.now ≡ false → (result ≡ Err F.BadName) × (self.new ≡ self.old) }
@@ -89,9 +89,9 @@ impl<D: Disk + Drop> FileSet<D> {
         // The set can still be abandoned.
         ensures not_ended { self.old.phase ≢ Ended → self.new.phase ≢ Ended }
         // A crash at any moment leaves the old files.
-        ensures any_moment { D.keeps_promises → self.old.phase ≡ Staging
-            → LeavesOnly D.moment D.left_since self.old.disk self.new.disk (HasOldFiles (D.seen self.old.disk)) }
-        ensures cause { HasCause (D.faults self.old.disk) (D.faults self.new.disk) (IsErrOf result F.Failed) }
+        ensures any_moment { D.meaning.keeps_promises → self.old.phase ≡ Staging
+            → LeavesOnly D.meaning self.old.disk self.new.disk (HasOldFiles (D.meaning.seen self.old.disk)) }
+        ensures cause { HasDiskCause D.meaning self.old.disk self.new.disk (IsErrOf result F.Failed) }
     {
         if self.phase != Phase::Staging {
             return Err(SetFault::Closed);
@@ -109,9 +109,9 @@ impl<D: Disk + Drop> FileSet<D> {
     /// Writes all of the bytes at the end of the file begun last. After a failure of the disk the set can only be
     /// abandoned.
     pub fn write(&mut self, bytes: &[u8]) -> Result<(), SetFault>
-        ensures written { D.keeps_promises → OnOk result ((lies : Name) → self.old.current ≡ Some lies
-            → D.seen self.new.disk lies ≡ option_map (λ content. content ++ bytes.now) (D.seen self.old.disk lies)) }
-        ensures others { (n : Name) → self.old.current ≢ Some n → D.seen self.new.disk n ≡ D.seen self.old.disk n }
+        ensures written { D.meaning.keeps_promises → OnOk result ((lies : Name) → self.old.current ≡ Some lies
+            → D.meaning.seen self.new.disk lies ≡ option_map (λ content. content ++ bytes.now) (D.meaning.seen self.old.disk lies)) }
+        ensures others { (n : Name) → self.old.current ≢ Some n → D.meaning.seen self.new.disk n ≡ D.meaning.seen self.old.disk n }
         ensures names { self.new.names ≡ self.old.names }
         ensures current { self.new.current ≡ self.old.current }
         ensures staging { OnOk result (self.new.phase ≡ Staging) }
@@ -122,9 +122,9 @@ impl<D: Disk + Drop> FileSet<D> {
         // The set can still be abandoned.
         ensures not_ended { self.old.phase ≢ Ended → self.new.phase ≢ Ended }
         // A crash at any moment leaves the old files.
-        ensures any_moment { D.keeps_promises → self.old.phase ≡ Staging
-            → LeavesOnly D.moment D.left_since self.old.disk self.new.disk (HasOldFiles (D.seen self.old.disk)) }
-        ensures cause { HasCause (D.faults self.old.disk) (D.faults self.new.disk) (IsErrOf result F.Failed) }
+        ensures any_moment { D.meaning.keeps_promises → self.old.phase ≡ Staging
+            → LeavesOnly D.meaning self.old.disk self.new.disk (HasOldFiles (D.meaning.seen self.old.disk)) }
+        ensures cause { HasDiskCause D.meaning self.old.disk self.new.disk (IsErrOf result F.Failed) }
     {
         if self.phase != Phase::Staging {
             return Err(SetFault::Closed);
@@ -143,26 +143,26 @@ impl<D: Disk + Drop> FileSet<D> {
     /// Want of memory before anything is written changes nothing. After another failure, [`FileSet::abandon`] removes the
     /// set if nothing of it was put in place yet; else the next start finishes what this call began, or removes it.
     pub fn finish(&mut self) -> Result<(), SetFault>
-        ensures done { D.keeps_promises → OnOk result ((n : Name) → D.seen self.new.disk n ≡ with_staged self.old.names (D.seen self.old.disk) n) }
-        ensures synced { D.keeps_promises → OnOk result (IsSynced (D.seen self.new.disk) (D.is_whole self.new.disk) (D.may_leave self.new.disk)) }
+        ensures done { D.meaning.keeps_promises → OnOk result ((n : Name) → D.meaning.seen self.new.disk n ≡ with_staged self.old.names (D.meaning.seen self.old.disk) n) }
+        ensures synced { D.meaning.keeps_promises → OnOk result (IsSyncedDisk D.meaning self.new.disk) }
         ensures empty { OnOk result ((self.new.names ≡ []) × (self.new.current ≡ None)) }
         ensures staging { OnOk result (self.new.phase ≡ Staging) }
         ensures closed { self.old.phase ≢ Staging → (result ≡ Err F.Closed) × (self.new ≡ self.old) }
         ensures open { self.old.phase ≡ Staging → IfErr result IsOfDisk }
         ensures unchanged { OnErr result (self.new.phase ≡ Staging → self.new ≡ self.old) }
         // A crash at any moment leaves a folder of which recovery makes the old files or the new ones, all of them.
-        ensures any_moment { D.keeps_promises → self.old.phase ≡ Staging
-            → LeavesOnly D.moment D.left_since self.old.disk self.new.disk (IsOldOrNew self.old.names (D.seen self.old.disk)) }
+        ensures any_moment { D.meaning.keeps_promises → self.old.phase ≡ Staging
+            → LeavesOnly D.meaning self.old.disk self.new.disk (IsOldOrNew self.old.names (D.meaning.seen self.old.disk)) }
         // Where the set can still be abandoned none of its files is in place, and a crash at any moment leaves the old files.
-        ensures undone { D.keeps_promises → self.old.phase ≡ Staging → OnErr result (self.new.phase ≢ Ended
-            → RunsUncommitted D.moment D.left_since D.seen D.is_whole D.may_leave self.old.disk self.new.disk) }
+        ensures undone { D.meaning.keeps_promises → self.old.phase ≡ Staging → OnErr result (self.new.phase ≢ Ended
+            → RunsUncommitted D.meaning self.old.disk self.new.disk) }
         // It can't be only where all its files were on the disk, and putting them in place had begun.
-        ensures begun { D.keeps_promises → self.old.phase ≡ Staging → OnErr result (self.new.phase ≡ Ended
-            → HasBeenReady D.moment D.left_since D.seen D.is_whole D.may_leave self.old.names (D.moment self.old.disk) (D.seen self.old.disk) self.new.disk) }
+        ensures begun { D.meaning.keeps_promises → self.old.phase ≡ Staging → OnErr result (self.new.phase ≡ Ended
+            → HasBeenReady D.meaning self.old.names (D.meaning.moment self.old.disk) (D.meaning.seen self.old.disk) self.new.disk) }
         // It leaves no other file touched, even before recovery.
-        ensures others { D.keeps_promises → self.old.phase ≡ Staging
-            → LeavesOnly D.moment D.left_since self.old.disk self.new.disk (SameUnstaged self.old.names (D.seen self.old.disk)) }
-        ensures cause { HasCause (D.faults self.old.disk) (D.faults self.new.disk) (IsErrOf result F.Failed) }
+        ensures others { D.meaning.keeps_promises → self.old.phase ≡ Staging
+            → LeavesOnly D.meaning self.old.disk self.new.disk (SameUnstaged self.old.names (D.meaning.seen self.old.disk)) }
+        ensures cause { HasDiskCause D.meaning self.old.disk self.new.disk (IsErrOf result F.Failed) }
     {
         if self.phase != Phase::Staging {
             return Err(SetFault::Closed);
@@ -181,17 +181,17 @@ impl<D: Disk + Drop> FileSet<D> {
     /// Removes all files of the set, where nothing of it has been put in place. Then the set is empty again. It is tried
     /// once: after a failure the next start removes them.
     pub fn abandon(&mut self) -> Result<(), SetFault>
-        ensures done { D.keeps_promises → OnOk result ((n : Name) → D.seen self.new.disk n ≡ without_reserved (D.seen self.old.disk) n) }
-        ensures synced { D.keeps_promises → OnOk result (IsSynced (D.seen self.new.disk) (D.is_whole self.new.disk) (D.may_leave self.new.disk)) }
+        ensures done { D.meaning.keeps_promises → OnOk result ((n : Name) → D.meaning.seen self.new.disk n ≡ without_reserved (D.meaning.seen self.old.disk) n) }
+        ensures synced { D.meaning.keeps_promises → OnOk result (IsSyncedDisk D.meaning self.new.disk) }
         ensures empty { OnOk result ((self.new.names ≡ []) × (self.new.current ≡ None)) }
         ensures staging { OnOk result (self.new.phase ≡ Staging) }
         ensures ended { OnErr result (self.new.phase ≡ Ended) }
         ensures closed { self.old.phase ≡ Ended → (result ≡ Err F.Closed) × (self.new ≡ self.old) }
         ensures open { self.old.phase ≢ Ended → IfErr result IsOfDisk }
         // A crash at any moment leaves the old files.
-        ensures any_moment { D.keeps_promises → self.old.phase ≢ Ended
-            → LeavesOnly D.moment D.left_since self.old.disk self.new.disk (HasOldFiles (D.seen self.old.disk)) }
-        ensures cause { HasCause (D.faults self.old.disk) (D.faults self.new.disk) (IsErrOf result F.Failed) }
+        ensures any_moment { D.meaning.keeps_promises → self.old.phase ≢ Ended
+            → LeavesOnly D.meaning self.old.disk self.new.disk (HasOldFiles (D.meaning.seen self.old.disk)) }
+        ensures cause { HasDiskCause D.meaning self.old.disk self.new.disk (IsErrOf result F.Failed) }
     {
         if self.phase == Phase::Ended {
             return Err(SetFault::Closed);

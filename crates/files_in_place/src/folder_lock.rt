@@ -1,19 +1,9 @@
 //! One run at a time in a folder of the system.
 
-use crate::system_calls::open_folder;
+use std::alloc::AllocError;
 use std::fs::{File, TryLockError};
 use std::io;
-use std::rt::Files;
 use thiserror::Error;
-
-/// The lock of a folder of the system. While it is held, no other call of [`lock_folder`] gets it, in this program or in
-/// another. It is on the folder itself and leaves no file there; it ends with the value, or with the program, however that
-/// ends.
-#[derive(Drop)]
-pub struct FolderLock {
-    // Held open: the system lets the lock go when it is closed.
-    _folder: File,
-}
 
 /// Why a folder was not locked.
 #[derive(Clone, Copy, Debug, PartialEq, Eq, Error)]
@@ -43,12 +33,22 @@ impl From<io::Error> for LockFault {
     }
 }
 
-/// Locks the folder of a path (`flock`), without waiting. Whoever writes into a folder by a
-/// [`SystemDisk`](crate::SystemDisk) holds this lock from before [`recover`](crate::recover) to the end.
-pub fn lock_folder<R: Files<File = File>>(rt: &R, path: &str) -> Result<FolderLock, LockFault> {
-    let folder = open_folder(rt, path)?;
+impl From<AllocError> for LockFault {
+    ghost use Rattle.std.specs.Prelude.{◌≡◌};
+    ghost use Rattle.files_in_place.specs.declared.folder_lock.LockFault.TheVariants.{NoMemory};
+
+    ghost from_gives = { λ _ fault. fault ≡ NoMemory };
+
+    fn from(_refused: AllocError) -> Self {
+        LockFault::NoMemory
+    }
+}
+
+// Locks a folder that is open (`flock`), without waiting. The lock is on the folder itself and leaves no file there; it ends with
+// the handle, or with the program, however that ends.
+pub(crate) fn lock(folder: &File) -> Result<(), LockFault> {
     match folder.try_lock() {
-        Ok(()) => Ok(FolderLock { _folder: folder }),
+        Ok(()) => Ok(()),
         Err(TryLockError::WouldBlock) => Err(LockFault::InUse),
         Err(TryLockError::Error(e)) => Err(LockFault::from(e)),
     }

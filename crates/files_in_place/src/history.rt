@@ -11,6 +11,6 @@ use crate::disk::Disk;
 /// the old files or for the new ones, and what is seen is one of these; recovery may crash or be stopped too, again and again;
 /// once it ends, the folder has all the old files or all the new ones.
 pub fn old_or_new<D: Disk>()
-    ensures { D.keeps_promises → (names : List Name) (old last : Folder) (first : D) (others : List D) → ((c : Folder) → D.may_leave first c → IsOldOrNew names old c)
-        → EndsAfter D.seen D.may_leave others first last → AreAlike last (without_reserved old) ⊎ AreAlike last (with_staged names old) }
+    ensures { D.meaning.keeps_promises → (names : List Name) (old last : Folder) (first : D) (others : List D) → ((c : Folder) → D.meaning.may_leave first c → IsOldOrNew names old c)
+        → EndsAfter D.meaning others first last → AreAlike last (without_reserved old) ⊎ AreAlike last (with_staged names old) }
 {}

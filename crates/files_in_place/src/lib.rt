@@ -4,7 +4,7 @@
 //! names; [`FileSet::finish`] puts all of its files in place, and [`FileSet::abandon`] removes them. [`recover`] is called
 //! before anything is read: it finishes what a crash left, or removes it, and may crash too. [`old_or_new`] says it of any
 //! number of crashes, and [`files_hold_what_was_written`] what the new files hold. [`SystemDisk`] is a folder of the
-//! system, and [`lock_folder`] keeps it for one run at a time.
+//! system, which one run has at a time.
 //!
 //! Start with `recovered` in specs/Folder.antt, then specs/Staged.antt and `file_set.rt`. What is believed of a disk
 //! stands at the calls of [`Disk`].
@@ -33,7 +33,7 @@ mod written;
 pub use disk::Disk;
 pub use faults::{DiskFault, RecoveryFault, SetFault};
 pub use file_set::FileSet;
-pub use folder_lock::{FolderLock, LockFault, lock_folder};
+pub use folder_lock::LockFault;
 pub use history::old_or_new;
 pub use names::is_reserved;
 pub use phase::Phase;

@@ -4,7 +4,7 @@ ghost use Rattle.std.specs.Prelude.{◌≡◌, ◌⊎◌, Err, IfOk, IfErr, IsEr
 ghost use Rattle.std.specs.List.{AllByRecursion};
 ghost use Rattle.files_in_place.specs.declared.faults.RecoveryFault.TheVariants.{BadList, NoMemory, Unreplaced};
 ghost use Rattle.files_in_place.specs.Folder.{Name, list_name, lines_of, names_in};
-ghost use Rattle.files_in_place.specs.Disk.{Shrinks, Elapses, HasCause};
+ghost use Rattle.files_in_place.specs.Disk.{OnlyReads, HasDiskCause};
 ghost use Rattle.files_in_place.specs.Recovery.{NoneReserved};
 ghost use Rattle.files_in_place.specs.Faults.{IsDiskFailure};
 ghost use Rattle.files_in_place.specs.Staged.{IsList, HasBadList};
@@ -37,16 +37,13 @@ pub(crate) fn listed_names<D: Disk>(
     alloc: Global,
     disk: &mut D,
 ) -> Result<Vec<Bytes>, RecoveryFault>
-    ensures names { D.keeps_promises → IfOk result (λ names. names.items ≡ names_in (D.seen disk.old list_name)) }
+    ensures names { D.meaning.keeps_promises → IfOk result (λ names. names.items ≡ names_in (D.meaning.seen disk.old list_name)) }
     ensures free { IfOk result (λ names. NoneReserved names.items) }
-    ensures bad_list { D.keeps_promises → (result ≡ Err BadList) → HasBadList (D.seen disk.old) }
-    ensures refused { D.keeps_promises → HasBadList (D.seen disk.old) → IsErr result }
+    ensures bad_list { D.meaning.keeps_promises → (result ≡ Err BadList) → HasBadList (D.meaning.seen disk.old) }
+    ensures refused { D.meaning.keeps_promises → HasBadList (D.meaning.seen disk.old) → IsErr result }
     ensures no_name { (name : Name) → (result ≡ Err (Unreplaced name)) → ⊥ }
-    ensures seen { D.seen disk.new ≡ D.seen disk.old }
-    ensures whole { (n : Name) → D.is_whole disk.old n → D.is_whole disk.new n }
-    ensures crash { Shrinks (D.may_leave disk.old) (D.may_leave disk.new) }
-    ensures time { Elapses (D.moment disk.old) (D.moment disk.new) (D.left_since disk.old) (D.left_since disk.new) (D.may_leave disk.new) }
-    ensures cause { HasCause (D.faults disk.old) (D.faults disk.new) (IsDiskFailure result) }
+    ensures only { OnlyReads D.meaning disk.old disk.new }
+    ensures cause { HasDiskCause D.meaning disk.old disk.new (IsDiskFailure result) }
 {
     match disk.read(alloc, b"~niqarthu.list")? {
         Some(list) => names_of_list(alloc, list.as_slice()),

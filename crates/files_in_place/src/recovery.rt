@@ -4,7 +4,7 @@ ghost use Rattle.std.specs.Prelude.{◌≡◌, ◌<◌, true, false, None, Err, 
 ghost use Rattle.files_in_place.specs.declared.faults.DiskFault.TheVariants.{Failed};
 ghost use Rattle.files_in_place.specs.declared.faults.RecoveryFault.TheVariants as R;
 ghost use Rattle.files_in_place.specs.Folder.{Name, is_reserved, temporary, list_name, names_in, is_listed, recovered};
-ghost use Rattle.files_in_place.specs.Disk.{AfterStep, LeavesOnly, Steps, IsSynced, HasCause};
+ghost use Rattle.files_in_place.specs.Disk.{AfterStep, LeavesOnly, Steps, IsSyncedDisk, HasDiskCause};
 ghost use Rattle.files_in_place.specs.Faults.{IsDiskFailure};
 ghost use Rattle.files_in_place.specs.Recovery.{NoneReserved, AreListed, AreOnDisk, AreRenamed, CanClean, CanRename, KeepsRecovery, IsClean, OthersAreWhole, StillRecovers};
 ghost use Rattle.files_in_place.specs.Staged.{HasBadList};
@@ -37,17 +37,17 @@ impl From<DiskFault> for Stuck {
 
 // Gives the file of a temporary name its name, if there is one.
 fn finish_one<D: Disk>(alloc: Global, disk: &mut D, name: &[u8]) -> Result<(), DiskFault>
-    requires can { D.keeps_promises → CanRename (D.seen disk.old) (D.may_leave disk.old) }
-    requires listed { D.keeps_promises → is_listed (D.seen disk.old) name.now ≡ true }
-    requires free { D.keeps_promises → is_reserved name.now ≡ false }
-    requires on_disk { D.keeps_promises → D.is_whole disk.old (temporary name.now) }
-    ensures done { D.keeps_promises → OnOk result (D.seen disk.new (temporary name.now) ≡ None) }
-    ensures gone { D.keeps_promises → OnOk result ((n : Name) → D.seen disk.old (temporary n) ≡ None → D.seen disk.new (temporary n) ≡ None) }
-    ensures keeps { D.keeps_promises → OnOk result (KeepsRecovery (D.seen disk.old) (D.seen disk.new)) }
-    ensures can { D.keeps_promises → OnOk result (CanRename (D.seen disk.new) (D.may_leave disk.new)) }
-    ensures whole { D.keeps_promises → OnOk result ((n : Name) → D.is_whole disk.old n → D.is_whole disk.new n) }
-    ensures steps { D.keeps_promises → Steps D.moment D.left_since D.may_leave KeepsRecovery disk.old disk.new }
-    ensures cause { HasCause (D.faults disk.old) (D.faults disk.new) (IsErrOf result Failed) }
+    requires can { D.meaning.keeps_promises → CanRename (D.meaning.seen disk.old) (D.meaning.may_leave disk.old) }
+    requires listed { D.meaning.keeps_promises → is_listed (D.meaning.seen disk.old) name.now ≡ true }
+    requires free { D.meaning.keeps_promises → is_reserved name.now ≡ false }
+    requires on_disk { D.meaning.keeps_promises → D.meaning.is_whole disk.old (temporary name.now) }
+    ensures done { D.meaning.keeps_promises → OnOk result (D.meaning.seen disk.new (temporary name.now) ≡ None) }
+    ensures gone { D.meaning.keeps_promises → OnOk result ((n : Name) → D.meaning.seen disk.old (temporary n) ≡ None → D.meaning.seen disk.new (temporary n) ≡ None) }
+    ensures keeps { D.meaning.keeps_promises → OnOk result (KeepsRecovery (D.meaning.seen disk.old) (D.meaning.seen disk.new)) }
+    ensures can { D.meaning.keeps_promises → OnOk result (CanRename (D.meaning.seen disk.new) (D.meaning.may_leave disk.new)) }
+    ensures whole { D.meaning.keeps_promises → OnOk result ((n : Name) → D.meaning.is_whole disk.old n → D.meaning.is_whole disk.new n) }
+    ensures steps { D.meaning.keeps_promises → Steps D.meaning KeepsRecovery disk.old disk.new }
+    ensures cause { HasDiskCause D.meaning disk.old disk.new (IsErrOf result Failed) }
 {
     let lies = temporary_name(alloc, name)?;
     if !disk.has(lies.as_slice())? {
@@ -59,17 +59,17 @@ fn finish_one<D: Disk>(alloc: Global, disk: &mut D, name: &[u8]) -> Result<(), D
 
 // Gives each file of the temporary name of one of the names its name. An error tells the place of the one that didn't get it.
 fn finish<D: Disk>(alloc: Global, disk: &mut D, names: &[Bytes]) -> Result<(), Stuck>
-    requires can { D.keeps_promises → CanRename (D.seen disk.old) (D.may_leave disk.old) }
-    requires listed { D.keeps_promises → AreListed names.now (D.seen disk.old) }
-    requires free { D.keeps_promises → NoneReserved names.now }
-    requires on_disk { D.keeps_promises → AreOnDisk (D.is_whole disk.old) names.now }
-    ensures done { D.keeps_promises → OnOk result (AreRenamed names.now (D.seen disk.new)) }
-    ensures keeps { D.keeps_promises → OnOk result (KeepsRecovery (D.seen disk.old) (D.seen disk.new)) }
-    ensures can { D.keeps_promises → OnOk result (CanRename (D.seen disk.new) (D.may_leave disk.new)) }
-    ensures whole { D.keeps_promises → OnOk result ((n : Name) → D.is_whole disk.old n → D.is_whole disk.new n) }
+    requires can { D.meaning.keeps_promises → CanRename (D.meaning.seen disk.old) (D.meaning.may_leave disk.old) }
+    requires listed { D.meaning.keeps_promises → AreListed names.now (D.meaning.seen disk.old) }
+    requires free { D.meaning.keeps_promises → NoneReserved names.now }
+    requires on_disk { D.meaning.keeps_promises → AreOnDisk (D.meaning.is_whole disk.old) names.now }
+    ensures done { D.meaning.keeps_promises → OnOk result (AreRenamed names.now (D.meaning.seen disk.new)) }
+    ensures keeps { D.meaning.keeps_promises → OnOk result (KeepsRecovery (D.meaning.seen disk.old) (D.meaning.seen disk.new)) }
+    ensures can { D.meaning.keeps_promises → OnOk result (CanRename (D.meaning.seen disk.new) (D.meaning.may_leave disk.new)) }
+    ensures whole { D.meaning.keeps_promises → OnOk result ((n : Name) → D.meaning.is_whole disk.old n → D.meaning.is_whole disk.new n) }
     ensures inside { IfErr result (λ stuck. IfSome stuck.place (λ place. place < length names.now)) }
-    ensures steps { D.keeps_promises → Steps D.moment D.left_since D.may_leave KeepsRecovery disk.old disk.new }
-    ensures cause { HasCause (D.faults disk.old) (D.faults disk.new) (IsErrAnd result (λ stuck. stuck.fault ≡ Failed)) }
+    ensures steps { D.meaning.keeps_promises → Steps D.meaning KeepsRecovery disk.old disk.new }
+    ensures cause { HasDiskCause D.meaning disk.old disk.new (IsErrAnd result (λ stuck. stuck.fault ≡ Failed)) }
 {
     let mut place = 0;
     for name in names {
@@ -86,16 +86,16 @@ fn finish<D: Disk>(alloc: Global, disk: &mut D, names: &[Bytes]) -> Result<(), S
 
 // Gives each file that the list has its name, if it hasn't got it. The list stays.
 fn finish_listed<D: Disk>(alloc: Global, disk: &mut D, names: &[Bytes]) -> Result<(), Stuck>
-    requires can { D.keeps_promises → CanRename (D.seen disk.old) (D.may_leave disk.old) }
-    requires listed { D.keeps_promises → names.now ≡ names_in (D.seen disk.old list_name) }
-    requires free { D.keeps_promises → NoneReserved names.now }
-    requires on_disk { D.keeps_promises → AreOnDisk (D.is_whole disk.old) names.now }
-    ensures can { D.keeps_promises → OnOk result (CanClean (D.seen disk.new) (D.may_leave disk.new)) }
-    ensures same { D.keeps_promises → OnOk result (StillRecovers (D.seen disk.old) (D.seen disk.new)) }
-    ensures whole { D.keeps_promises → OnOk result ((n : Name) → D.is_whole disk.old n → D.is_whole disk.new n) }
+    requires can { D.meaning.keeps_promises → CanRename (D.meaning.seen disk.old) (D.meaning.may_leave disk.old) }
+    requires listed { D.meaning.keeps_promises → names.now ≡ names_in (D.meaning.seen disk.old list_name) }
+    requires free { D.meaning.keeps_promises → NoneReserved names.now }
+    requires on_disk { D.meaning.keeps_promises → AreOnDisk (D.meaning.is_whole disk.old) names.now }
+    ensures can { D.meaning.keeps_promises → OnOk result (CanClean (D.meaning.seen disk.new) (D.meaning.may_leave disk.new)) }
+    ensures same { D.meaning.keeps_promises → OnOk result (StillRecovers (D.meaning.seen disk.old) (D.meaning.seen disk.new)) }
+    ensures whole { D.meaning.keeps_promises → OnOk result ((n : Name) → D.meaning.is_whole disk.old n → D.meaning.is_whole disk.new n) }
     ensures inside { IfErr result (λ stuck. IfSome stuck.place (λ place. place < length names.now)) }
-    ensures steps { D.keeps_promises → Steps D.moment D.left_since D.may_leave StillRecovers disk.old disk.new }
-    ensures cause { HasCause (D.faults disk.old) (D.faults disk.new) (IsErrAnd result (λ stuck. stuck.fault ≡ Failed)) }
+    ensures steps { D.meaning.keeps_promises → Steps D.meaning StillRecovers disk.old disk.new }
+    ensures cause { HasDiskCause D.meaning disk.old disk.new (IsErrAnd result (λ stuck. stuck.fault ≡ Failed)) }
 {
     finish(alloc, disk, names)?;
     disk.sync_folder()?;
@@ -108,16 +108,16 @@ pub(crate) fn recover_listed<D: Disk>(
     disk: &mut D,
     names: &[Bytes],
 ) -> Result<(), Stuck>
-    requires can { D.keeps_promises → CanRename (D.seen disk.old) (D.may_leave disk.old) }
-    requires listed { D.keeps_promises → names.now ≡ names_in (D.seen disk.old list_name) }
-    requires free { D.keeps_promises → NoneReserved names.now }
-    requires on_disk { D.keeps_promises → AreOnDisk (D.is_whole disk.old) names.now }
-    ensures done { D.keeps_promises → OnOk result ((n : Name) → D.seen disk.new n ≡ recovered (D.seen disk.old) n) }
-    ensures synced { D.keeps_promises → ((n : Name) → is_reserved n ≡ false → D.is_whole disk.old n)
-        → OnOk result (IsSynced (D.seen disk.new) (D.is_whole disk.new) (D.may_leave disk.new)) }
+    requires can { D.meaning.keeps_promises → CanRename (D.meaning.seen disk.old) (D.meaning.may_leave disk.old) }
+    requires listed { D.meaning.keeps_promises → names.now ≡ names_in (D.meaning.seen disk.old list_name) }
+    requires free { D.meaning.keeps_promises → NoneReserved names.now }
+    requires on_disk { D.meaning.keeps_promises → AreOnDisk (D.meaning.is_whole disk.old) names.now }
+    ensures done { D.meaning.keeps_promises → OnOk result ((n : Name) → D.meaning.seen disk.new n ≡ recovered (D.meaning.seen disk.old) n) }
+    ensures synced { D.meaning.keeps_promises → ((n : Name) → is_reserved n ≡ false → D.meaning.is_whole disk.old n)
+        → OnOk result (IsSyncedDisk D.meaning disk.new) }
     ensures inside { IfErr result (λ stuck. IfSome stuck.place (λ place. place < length names.now)) }
-    ensures steps { D.keeps_promises → Steps D.moment D.left_since D.may_leave StillRecovers disk.old disk.new }
-    ensures cause { HasCause (D.faults disk.old) (D.faults disk.new) (IsErrAnd result (λ stuck. stuck.fault ≡ Failed)) }
+    ensures steps { D.meaning.keeps_promises → Steps D.meaning StillRecovers disk.old disk.new }
+    ensures cause { HasDiskCause D.meaning disk.old disk.new (IsErrAnd result (λ stuck. stuck.fault ≡ Failed)) }
 {
     finish_listed(alloc, disk, names)?;
     clean(alloc, disk)?;
@@ -146,20 +146,20 @@ fn told(mut names: Vec<Bytes>, stuck: Stuck) -> RecoveryFault
 /// `BadList` where the folder's list is none that a set has written: then nothing is touched. `Unreplaced` tells the name of a
 /// new file that can't take its place, `Failed` that the disk failed elsewhere, `NoMemory` that memory was refused.
 pub fn recover<D: Disk>(alloc: Global, disk: &mut D) -> Result<(), RecoveryFault>
-    ensures done { D.keeps_promises → OnOk result ((n : Name) → D.seen disk.new n ≡ recovered (D.seen disk.old) n) }
-    ensures clean { D.keeps_promises → OnOk result (IsClean (D.seen disk.new)) }
+    ensures done { D.meaning.keeps_promises → OnOk result ((n : Name) → D.meaning.seen disk.new n ≡ recovered (D.meaning.seen disk.old) n) }
+    ensures clean { D.meaning.keeps_promises → OnOk result (IsClean (D.meaning.seen disk.new)) }
     // Nothing is left to be brought to the disk, where the files that recovery leaves alone were on it.
-    ensures synced { D.keeps_promises → OthersAreWhole (D.seen disk.old) (D.is_whole disk.old)
-        → OnOk result (IsSynced (D.seen disk.new) (D.is_whole disk.new) (D.may_leave disk.new)) }
+    ensures synced { D.meaning.keeps_promises → OthersAreWhole (D.meaning.seen disk.old) (D.meaning.is_whole disk.old)
+        → OnOk result (IsSyncedDisk D.meaning disk.new) }
     // A crash at any moment leaves a folder of which recovery makes what it makes of one that might have been left before,
     // and no other file touched than those of reserved names and of names in that one's list.
-    ensures any_moment { D.keeps_promises → LeavesOnly D.moment D.left_since disk.old disk.new (AfterStep StillRecovers (D.may_leave disk.old)) }
+    ensures any_moment { D.meaning.keeps_promises → LeavesOnly D.meaning disk.old disk.new (AfterStep StillRecovers (D.meaning.may_leave disk.old)) }
     // A list that is none of a set's is told, or another fault, and the folder is left as it is.
-    ensures bad_list { D.keeps_promises → (result ≡ Err R.BadList) → HasBadList (D.seen disk.old) }
-    ensures refused { D.keeps_promises → HasBadList (D.seen disk.old) → IsErr result }
-    ensures untouched { D.keeps_promises → HasBadList (D.seen disk.old) → D.seen disk.new ≡ D.seen disk.old }
-    ensures unreplaced { D.keeps_promises → (name : Name) → (result ≡ Err (R.Unreplaced name)) → is_listed (D.seen disk.old) name ≡ true }
-    ensures cause { HasCause (D.faults disk.old) (D.faults disk.new) (IsDiskFailure result) }
+    ensures bad_list { D.meaning.keeps_promises → (result ≡ Err R.BadList) → HasBadList (D.meaning.seen disk.old) }
+    ensures refused { D.meaning.keeps_promises → HasBadList (D.meaning.seen disk.old) → IsErr result }
+    ensures untouched { D.meaning.keeps_promises → HasBadList (D.meaning.seen disk.old) → D.meaning.seen disk.new ≡ D.meaning.seen disk.old }
+    ensures unreplaced { D.meaning.keeps_promises → (name : Name) → (result ≡ Err (R.Unreplaced name)) → is_listed (D.meaning.seen disk.old) name ≡ true }
+    ensures cause { HasDiskCause D.meaning disk.old disk.new (IsDiskFailure result) }
 {
     let names = listed_names(alloc, disk)?;
     settle(alloc, disk, &names)?;

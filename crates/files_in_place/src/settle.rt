@@ -3,7 +3,7 @@
 ghost use Rattle.std.specs.Prelude.{◌≡◌, OnOk, IsErrOf};
 ghost use Rattle.files_in_place.specs.declared.faults.DiskFault.TheVariants.{Failed};
 ghost use Rattle.files_in_place.specs.Folder.{Name, temporary, list_name, names_in};
-ghost use Rattle.files_in_place.specs.Disk.{LeavesOnly, Shrinks, HasCause};
+ghost use Rattle.files_in_place.specs.Disk.{LeavesOnly, Shrinks, HasDiskCause};
 ghost use Rattle.files_in_place.specs.Recovery.{AreOnDisk, CanRename};
 
 use crate::disk::Disk;
@@ -14,12 +14,12 @@ use std::alloc::Global;
 
 // Brings the bytes of the file of a name to the disk, and those of the file that has its temporary name.
 fn sync_both<D: Disk>(alloc: Global, disk: &mut D, name: &[u8]) -> Result<(), DiskFault>
-    ensures whole { OnOk result (D.is_whole disk.new name.now × D.is_whole disk.new (temporary name.now)) }
-    ensures kept { (n : Name) → D.is_whole disk.old n → D.is_whole disk.new n }
-    ensures seen { D.seen disk.new ≡ D.seen disk.old }
-    ensures crash { Shrinks (D.may_leave disk.old) (D.may_leave disk.new) }
-    ensures any_moment { LeavesOnly D.moment D.left_since disk.old disk.new (D.may_leave disk.old) }
-    ensures cause { HasCause (D.faults disk.old) (D.faults disk.new) (IsErrOf result Failed) }
+    ensures whole { OnOk result (D.meaning.is_whole disk.new name.now × D.meaning.is_whole disk.new (temporary name.now)) }
+    ensures kept { (n : Name) → D.meaning.is_whole disk.old n → D.meaning.is_whole disk.new n }
+    ensures seen { D.meaning.seen disk.new ≡ D.meaning.seen disk.old }
+    ensures crash { Shrinks (D.meaning.may_leave disk.old) (D.meaning.may_leave disk.new) }
+    ensures any_moment { LeavesOnly D.meaning disk.old disk.new (D.meaning.may_leave disk.old) }
+    ensures cause { HasDiskCause D.meaning disk.old disk.new (IsErrOf result Failed) }
 {
     let lies = temporary_name(alloc, name)?;
     disk.sync_file(lies.as_slice())?;
@@ -29,12 +29,12 @@ fn sync_both<D: Disk>(alloc: Global, disk: &mut D, name: &[u8]) -> Result<(), Di
 
 // Brings the bytes of all of these files to the disk.
 fn sync_files<D: Disk>(alloc: Global, disk: &mut D, names: &[Bytes]) -> Result<(), DiskFault>
-    ensures whole { OnOk result (AreOnDisk (D.is_whole disk.new) names.now) }
-    ensures kept { (n : Name) → D.is_whole disk.old n → D.is_whole disk.new n }
-    ensures seen { D.seen disk.new ≡ D.seen disk.old }
-    ensures crash { Shrinks (D.may_leave disk.old) (D.may_leave disk.new) }
-    ensures any_moment { LeavesOnly D.moment D.left_since disk.old disk.new (D.may_leave disk.old) }
-    ensures cause { HasCause (D.faults disk.old) (D.faults disk.new) (IsErrOf result Failed) }
+    ensures whole { OnOk result (AreOnDisk (D.meaning.is_whole disk.new) names.now) }
+    ensures kept { (n : Name) → D.meaning.is_whole disk.old n → D.meaning.is_whole disk.new n }
+    ensures seen { D.meaning.seen disk.new ≡ D.meaning.seen disk.old }
+    ensures crash { Shrinks (D.meaning.may_leave disk.old) (D.meaning.may_leave disk.new) }
+    ensures any_moment { LeavesOnly D.meaning disk.old disk.new (D.meaning.may_leave disk.old) }
+    ensures cause { HasDiskCause D.meaning disk.old disk.new (IsErrOf result Failed) }
 {
     for name in names {
         sync_both(alloc, disk, name.as_slice())?;
@@ -45,14 +45,14 @@ fn sync_files<D: Disk>(alloc: Global, disk: &mut D, names: &[Bytes]) -> Result<(
 // Brings the folder's list, and what it names, to the disk, bytes and names, whoever has written it. A crash at any moment leaves
 // what it might have left before.
 pub(crate) fn settle<D: Disk>(alloc: Global, disk: &mut D, names: &[Bytes]) -> Result<(), DiskFault>
-    requires listed { D.keeps_promises → names.now ≡ names_in (D.seen disk.old list_name) }
-    ensures seen { D.seen disk.new ≡ D.seen disk.old }
-    ensures whole { OnOk result (AreOnDisk (D.is_whole disk.new) names.now) }
-    ensures kept { (n : Name) → D.is_whole disk.old n → D.is_whole disk.new n }
-    ensures can { D.keeps_promises → OnOk result (CanRename (D.seen disk.new) (D.may_leave disk.new)) }
-    ensures crash { Shrinks (D.may_leave disk.old) (D.may_leave disk.new) }
-    ensures any_moment { LeavesOnly D.moment D.left_since disk.old disk.new (D.may_leave disk.old) }
-    ensures cause { HasCause (D.faults disk.old) (D.faults disk.new) (IsErrOf result Failed) }
+    requires listed { D.meaning.keeps_promises → names.now ≡ names_in (D.meaning.seen disk.old list_name) }
+    ensures seen { D.meaning.seen disk.new ≡ D.meaning.seen disk.old }
+    ensures whole { OnOk result (AreOnDisk (D.meaning.is_whole disk.new) names.now) }
+    ensures kept { (n : Name) → D.meaning.is_whole disk.old n → D.meaning.is_whole disk.new n }
+    ensures can { D.meaning.keeps_promises → OnOk result (CanRename (D.meaning.seen disk.new) (D.meaning.may_leave disk.new)) }
+    ensures crash { Shrinks (D.meaning.may_leave disk.old) (D.meaning.may_leave disk.new) }
+    ensures any_moment { LeavesOnly D.meaning disk.old disk.new (D.meaning.may_leave disk.old) }
+    ensures cause { HasDiskCause D.meaning disk.old disk.new (IsErrOf result Failed) }
 {
     disk.sync_file(b"~niqarthu.list")?;
     sync_files(alloc, disk, names)?;

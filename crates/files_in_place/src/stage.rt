@@ -3,7 +3,7 @@
 ghost use Rattle.std.specs.Prelude.{◌≡◌, ◌≢◌, [], None, Some, OnOk, IsErrOf};
 ghost use Rattle.files_in_place.specs.declared.faults.DiskFault.TheVariants.{Failed};
 ghost use Rattle.files_in_place.specs.Folder.{Name, SameBut, temporary, list_name, list_bytes};
-ghost use Rattle.files_in_place.specs.Disk.{Shrinks, Elapses, Steps, HasCause};
+ghost use Rattle.files_in_place.specs.Disk.{OnlyReads, Steps, HasDiskCause};
 ghost use Rattle.files_in_place.specs.Staged.{IsFreeFor, AreStaged, AreReady, RunsUncommitted};
 
 use crate::disk::Disk;
@@ -12,12 +12,9 @@ use byte_io::Bytes;
 
 // At `Ok` all bytes of the file that was being written are on the disk, if there is one.
 pub(crate) fn sync_current<D: Disk>(disk: &mut D, current: &Option<Bytes>) -> Result<(), DiskFault>
-    ensures whole { OnOk result (((n : Name) → current.now ≢ Some n → D.is_whole disk.old n) → (n : Name) → D.is_whole disk.new n) }
-    ensures seen { D.seen disk.new ≡ D.seen disk.old }
-    ensures kept { (n : Name) → D.is_whole disk.old n → D.is_whole disk.new n }
-    ensures crash { Shrinks (D.may_leave disk.old) (D.may_leave disk.new) }
-    ensures time { Elapses (D.moment disk.old) (D.moment disk.new) (D.left_since disk.old) (D.left_since disk.new) (D.may_leave disk.new) }
-    ensures cause { HasCause (D.faults disk.old) (D.faults disk.new) (IsErrOf result Failed) }
+    ensures whole { OnOk result (((n : Name) → current.now ≢ Some n → D.meaning.is_whole disk.old n) → (n : Name) → D.meaning.is_whole disk.new n) }
+    ensures only { OnlyReads D.meaning disk.old disk.new }
+    ensures cause { HasDiskCause D.meaning disk.old disk.new (IsErrOf result Failed) }
 {
     let Some(lies) = current else {
         return Ok(());
@@ -33,14 +30,14 @@ pub(crate) fn begin_file<D: Disk>(
     current: &Option<Bytes>,
     lies: &[u8],
 ) -> Result<(), DiskFault>
-    requires staged { D.keeps_promises → AreStaged names.now current.now (D.seen disk.old) (D.is_whole disk.old) (D.is_new disk.old) (D.may_leave disk.old) }
-    requires free { D.keeps_promises → IsFreeFor names.now lies.now }
-    ensures empty { D.keeps_promises → OnOk result (D.seen disk.new lies.now ≡ Some []) }
-    ensures others { SameBut lies.now (D.seen disk.old) (D.seen disk.new) }
-    ensures whole { D.keeps_promises → OnOk result ((n : Name) → n ≢ lies.now → D.is_whole disk.new n) }
-    ensures new { OnOk result (D.is_new disk.new lies.now) }
-    ensures run { D.keeps_promises → RunsUncommitted D.moment D.left_since D.seen D.is_whole D.may_leave disk.old disk.new }
-    ensures cause { HasCause (D.faults disk.old) (D.faults disk.new) (IsErrOf result Failed) }
+    requires staged { D.meaning.keeps_promises → AreStaged D.meaning names.now current.now disk.old }
+    requires free { D.meaning.keeps_promises → IsFreeFor names.now lies.now }
+    ensures empty { D.meaning.keeps_promises → OnOk result (D.meaning.seen disk.new lies.now ≡ Some []) }
+    ensures others { SameBut lies.now (D.meaning.seen disk.old) (D.meaning.seen disk.new) }
+    ensures whole { D.meaning.keeps_promises → OnOk result ((n : Name) → n ≢ lies.now → D.meaning.is_whole disk.new n) }
+    ensures new { OnOk result (D.meaning.is_new disk.new lies.now) }
+    ensures run { D.meaning.keeps_promises → RunsUncommitted D.meaning disk.old disk.new }
+    ensures cause { HasDiskCause D.meaning disk.old disk.new (IsErrOf result Failed) }
 {
     sync_current(disk, current)?;
     disk.create(lies)?;
@@ -49,14 +46,14 @@ pub(crate) fn begin_file<D: Disk>(
 
 // Writes a file under a name that has none. At `Ok` all its bytes are on the disk.
 pub(crate) fn write_whole<D: Disk>(disk: &mut D, name: &[u8], bytes: &[u8]) -> Result<(), DiskFault>
-    requires free { D.keeps_promises → D.seen disk.old name.now ≡ None }
-    ensures done { D.keeps_promises → OnOk result (D.seen disk.new name.now ≡ Some bytes.now) }
-    ensures durable { OnOk result (D.is_whole disk.new name.now) }
-    ensures others { SameBut name.now (D.seen disk.old) (D.seen disk.new) }
-    ensures whole { (n : Name) → n ≢ name.now → D.is_whole disk.old n → D.is_whole disk.new n }
+    requires free { D.meaning.keeps_promises → D.meaning.seen disk.old name.now ≡ None }
+    ensures done { D.meaning.keeps_promises → OnOk result (D.meaning.seen disk.new name.now ≡ Some bytes.now) }
+    ensures durable { OnOk result (D.meaning.is_whole disk.new name.now) }
+    ensures others { SameBut name.now (D.meaning.seen disk.old) (D.meaning.seen disk.new) }
+    ensures whole { (n : Name) → n ≢ name.now → D.meaning.is_whole disk.old n → D.meaning.is_whole disk.new n }
     // A crash at any moment of the call leaves each other name as it might have left it before.
-    ensures steps { Steps D.moment D.left_since D.may_leave (SameBut name.now) disk.old disk.new }
-    ensures cause { HasCause (D.faults disk.old) (D.faults disk.new) (IsErrOf result Failed) }
+    ensures steps { Steps D.meaning (SameBut name.now) disk.old disk.new }
+    ensures cause { HasDiskCause D.meaning disk.old disk.new (IsErrOf result Failed) }
 {
     disk.create(name)?;
     disk.append(name, bytes)?;
@@ -71,12 +68,12 @@ pub(crate) fn write_list<D: Disk>(
     current: &Option<Bytes>,
     list: &[u8],
 ) -> Result<(), DiskFault>
-    requires staged { D.keeps_promises → AreStaged names.now current.now (D.seen disk.old) (D.is_whole disk.old) (D.is_new disk.old) (D.may_leave disk.old) }
+    requires staged { D.meaning.keeps_promises → AreStaged D.meaning names.now current.now disk.old }
     requires list { list.now ≡ list_bytes names.now }
-    ensures others { SameBut (temporary list_name) (D.seen disk.old) (D.seen disk.new) }
-    ensures ready { D.keeps_promises → OnOk result (AreReady names.now (D.seen disk.new) (D.is_whole disk.new) (D.may_leave disk.new)) }
-    ensures run { D.keeps_promises → RunsUncommitted D.moment D.left_since D.seen D.is_whole D.may_leave disk.old disk.new }
-    ensures cause { HasCause (D.faults disk.old) (D.faults disk.new) (IsErrOf result Failed) }
+    ensures others { SameBut (temporary list_name) (D.meaning.seen disk.old) (D.meaning.seen disk.new) }
+    ensures ready { D.meaning.keeps_promises → OnOk result (AreReady D.meaning names.now disk.new) }
+    ensures run { D.meaning.keeps_promises → RunsUncommitted D.meaning disk.old disk.new }
+    ensures cause { HasDiskCause D.meaning disk.old disk.new (IsErrOf result Failed) }
 {
     sync_current(disk, current)?;
     write_whole(disk, b"~niqarthu~~niqarthu.list", list)?;

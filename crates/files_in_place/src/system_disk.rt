@@ -1,11 +1,12 @@
 //! A folder of the system.
 
-ghost use Rattle.std.specs.Prelude.{◌≡◌, ◌++◌, ◌∷◌, [], None, IfOk, IsErrOf};
+ghost use Rattle.std.specs.Prelude.{◌≡◌, ◌++◌, ◌∷◌, [], IfOk, IsErrOf};
 ghost use Rattle.files_in_place.specs.declared.faults.DiskFault.TheVariants.{Failed};
 ghost use Rattle.files_in_place.specs.Disk.{HasCause};
 
 use crate::disk::Disk;
 use crate::faults::DiskFault;
+use crate::folder_lock::{LockFault, lock};
 use crate::system_calls::{
     folder_names, has_file, open_folder, read_file, remove_file, rename_file, sync_found,
     uninterrupted,
@@ -13,11 +14,11 @@ use crate::system_calls::{
 use crate::system_file::{SystemFile, append_to, is_current, sync_once};
 use byte_io::{Bytes, Failures};
 use std::alloc::Global;
-use std::fs::OpenFile;
+use std::fs::{File, OpenFile};
 use std::marker::Model;
 use std::rt::Files;
 
-/// A folder of the system, which exists. Its files are those whose names are UTF-8; a link is a file, and a folder is none.
+/// A folder of the system, which exists, and which no other run has meanwhile. Its files are those whose names are UTF-8; a link is a file, and a folder is none.
 /// A file is made where its name has nothing, and takes bytes until it is synced; a rename replaces a link, and not what
 /// it leads to. A call that a signal interrupts is made again, and a short write goes on.
 ///
@@ -31,7 +32,7 @@ pub struct SystemDisk<R: Files + Drop> {
     alloc: Global,
     // Its path, ended by a slash.
     path: String,
-    // The folder itself, opened to be synced.
+    // The folder itself, locked, and opened to be synced.
     folder: R::File,
     // The file created last, until it is synced.
     current: Option<SystemFile<R>>,
@@ -48,14 +49,18 @@ impl<R: Files + Drop> Model for SystemDisk<R> {
     ghost view = { λ d. record { path = string_bytes d.path; failures = d.failures } };
 }
 
-impl<R: Files + Drop> SystemDisk<R> {
-    /// Opens the folder of a path. `NoMemory` where memory is refused; `Failed` where there is no folder, or the system
-    /// doesn't open it.
-    pub fn open(rt: R, alloc: Global, path: &str) -> Result<SystemDisk<R>, DiskFault>
+impl<R: Files<File = File> + Drop> SystemDisk<R> {
+    /// Opens the folder of a path and locks it (`flock`), without waiting. As long as the disk is there no other one of the
+    /// folder is opened, in this program or in another; the lock ends with it, or with the program, however that ends.
+    ///
+    /// `InUse` where another disk has the folder; `NoMemory` where memory is refused; `Failed` where there is no folder, or the
+    /// system doesn't open it or gives no lock on it.
+    pub fn open(rt: R, alloc: Global, path: &str) -> Result<SystemDisk<R>, LockFault>
         ensures path { IfOk result (λ disk. disk.path ≡ path.now ++ 47 ∷ []) }
         ensures failures { IfOk result (λ disk. disk.failures ≡ 0) }
     {
         let folder = open_folder(&rt, path)?;
+        lock(&folder)?;
         let path = format!(in alloc; "{path}/")?;
         Ok(SystemDisk {
             rt,
@@ -66,7 +71,9 @@ impl<R: Files + Drop> SystemDisk<R> {
             failures: Failures::none(),
         })
     }
+}
 
+impl<R: Files + Drop> SystemDisk<R> {
     // Counts a failure of the disk.
     fn told<T: Drop>(&mut self, outcome: Result<T, DiskFault>) -> Result<T, DiskFault>
         ensures same { result ≡ outcome }
@@ -84,29 +91,9 @@ impl<R: Files + Drop> SystemDisk<R> {
 }
 
 impl<R: Files + Drop> Disk for SystemDisk<R> {
-    ghost keeps_promises = { ⊥ };
+    ghost use Rattle.files_in_place.specs.Disk.{nothing_promised};
 
-    ghost seen = { λ _ _. None };
-
-    ghost may_leave = { λ _ _. ⊥ };
-
-    ghost is_whole = { λ _ _. Unit {0} };
-
-    ghost is_new = { λ _ _. Unit {0} };
-
-    ghost moment = { λ _. 0 };
-
-    ghost left_since = { λ _ _ _. ⊥ };
-
-    ghost faults = { λ d. d.failures };
-
-    ghost none_whole = { λ _ _ _. tt };
-
-    ghost seen_may_stay = { λ _ none. none };
-
-    ghost counts_now = { λ _ _ _ _ now. now };
-
-    ghost only_now = { λ _ _ now. now };
+    ghost meaning = { nothing_promised (λ d. d.failures) };
 
     fn read(&mut self, alloc: Global, name: &[u8]) -> Result<Option<Bytes>, DiskFault> {
         let outcome = read_file(&self.rt, alloc, self.path.as_str(), name);

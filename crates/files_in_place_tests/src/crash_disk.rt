@@ -244,29 +244,9 @@ impl CrashDisk {
 }
 
 impl Disk for CrashDisk {
-    ghost keeps_promises = { ⊥ };
+    ghost use Rattle.files_in_place.specs.Disk.{nothing_promised};
 
-    ghost seen = { λ _ _. None };
-
-    ghost may_leave = { λ _ _. ⊥ };
-
-    ghost is_whole = { λ _ _. Unit {0} };
-
-    ghost is_new = { λ _ _. Unit {0} };
-
-    ghost moment = { λ _. 0 };
-
-    ghost left_since = { λ _ _ _. ⊥ };
-
-    ghost faults = { λ d. d.failures };
-
-    ghost none_whole = { λ _ _ _. tt };
-
-    ghost seen_may_stay = { λ _ none. none };
-
-    ghost counts_now = { λ _ _ _ _ now. now };
-
-    ghost only_now = { λ _ _ now. now };
+    ghost meaning = { nothing_promised (λ d. d.failures) };
 
     fn read(&mut self, alloc: Global, name: &[u8]) -> Result<Option<Bytes>, DiskFault> {
         self.call()?;

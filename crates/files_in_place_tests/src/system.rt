@@ -4,9 +4,7 @@ use crate::new_files::TextFile;
 use crate::reserved_names::{
     LIST, TEMPORARY_A, TEMPORARY_B, TEMPORARY_D, TEMPORARY_FOLDER, TEMPORARY_LINK, TEMPORARY_LIST,
 };
-use files_in_place::{
-    Disk, DiskFault, FileSet, LockFault, SetFault, SystemDisk, lock_folder, recover,
-};
+use files_in_place::{Disk, DiskFault, FileSet, LockFault, SetFault, SystemDisk, recover};
 use std::alloc::Global;
 use std::fs::Permissions;
 use std::os::unix::fs::{PermissionsExt, symlink};
@@ -231,10 +229,7 @@ fn what_is_no_folder_is_not_opened(rt: HostRuntime) -> Result<(), Fail> {
     make_folder(&rt, "folder_of_a_file", &[("A", "old a")])?;
     for path in ["no folder has this name", "folder_of_a_file/A", ""] {
         let opened = SystemDisk::open(rt.clone()?, alloc, path);
-        let locked = lock_folder(&rt, path);
-        assert!(rt;
-            opened.err() == Some(DiskFault::Failed) && locked.err() == Some(LockFault::Failed)
-        );
+        assert!(rt; opened.err() == Some(LockFault::Failed));
     }
     fs::remove_dir_all(&rt, "folder_of_a_file")?;
     Ok(())
@@ -259,13 +254,13 @@ fn bytes_go_to_the_file_made_last_until_it_is_synced(rt: HostRuntime) -> Result<
     Ok(())
 }
 
-// Whether a second lock is refused while the first is held, and given after it; and whether no file was made.
-fn is_locked_once(rt: &HostRuntime, folder: &str) -> Result<bool, Fail> {
+// Whether a second disk is refused while the first is there, and given after it; and whether no file was made.
+fn is_locked_once(rt: &HostRuntime, alloc: Global, folder: &str) -> Result<bool, Fail> {
     make_folder(rt, folder, &OLD)?;
-    let first = lock_folder(rt, folder)?;
-    let second = lock_folder(rt, folder).err();
+    let first = open_disk(rt, alloc, folder)?;
+    let second = SystemDisk::open(rt.clone()?, alloc, folder).err();
     drop(first);
-    let third = lock_folder(rt, folder)?;
+    let third = open_disk(rt, alloc, folder)?;
     let is_same = has_just(rt, folder, &OLD)?;
     drop(third);
     Ok(second == Some(LockFault::InUse) && is_same)
@@ -274,7 +269,7 @@ fn is_locked_once(rt: &HostRuntime, folder: &str) -> Result<bool, Fail> {
 #[test]
 fn a_folder_is_locked_once(rt: HostRuntime) -> Result<(), Fail> {
     let folder = "locked_folder";
-    assert!(rt; is_locked_once(&rt, folder)?);
+    assert!(rt; is_locked_once(&rt, rt.alloc(), folder)?);
     fs::remove_dir_all(&rt, folder)?;
     Ok(())
 }

@@ -1,14 +1,14 @@
 -- That the model of a disk holds of these outcomes.
-use Rattle.std.proofs.Common.{◌≡◌, ◌≢◌, inl, inr, ⊎_elim, ◌⊎◌, ℕ, ◌≤◌, List, [], ◌∷◌, ◌++◌, length, Bool, true, false, Option, None, Some, option_map, cond, refl, sym, ◌∙◌, ap, arith}
+use Rattle.std.proofs.Common.{◌≡◌, ◌≢◌, inl, inr, ⊎_elim, ◌⊎◌, ℕ, ◌≤◌, List, [], ◌∷◌, ◌++◌, length, Bool, true, false, Option, None, Some, option_map, cond, refl, sym, ◌∙◌, ap, subst, arith}
 use Rattle.std.proofs.lemmas.Bool.{cases_Bool, both_ways, cond-true, cond-false}
 use Rattle.std.proofs.lemmas.Slice.Eq.{bytes_eq-Decides}
 use Rattle.std.specs.Str.{bytes_eq}
 use Rattle.files_in_place.specs.Folder.{Name, Folder, SameBut}
-use Rattle.files_in_place.specs.Disk.{MayMove, HasMoved, SameButTwo, Elapses}
+use Rattle.files_in_place.specs.Disk.{MayMove, HasMoved, SameButTwo, DiskMeaning, Elapses}
 use Rattle.memory_disk.specs.declared.disk_call.DiskCall.{DiskCall}
 use Rattle.memory_disk.specs.declared.disk_call.DiskCall.TheVariants.{Create, Append, SyncFile, Rename, Remove, SyncFolder}
-use Rattle.memory_disk.specs.Seen.{seen_after}
-use Rattle.memory_disk.specs.Outcomes.{IsWhole, MayLeave, MightHaveLeft}
+use Rattle.memory_disk.specs.Seen.{DiskHistory, seen_after}
+use Rattle.memory_disk.specs.Outcomes.{IsWhole, IsCreated, MayLeave, MightHaveLeft}
 
 pub eq_same : (a b : Name) → a ≡ b → bytes_eq a b ≡ true
 eq_same a b same = (bytes_eq-Decides a b).1 same
@@ -98,14 +98,35 @@ only_now [] c left = left
 only_now (call ∷ before) c (inl now) = now
 only_now (call ∷ before) c (inr earlier) = absurd (omega (arith, earlier.0))
 
--- time goes on by one call more
-pub elapses : (call : DiskCall) (before : List DiskCall) → Elapses (length before) (length (call ∷ before)) (λ t. MightHaveLeft t before) (λ t. MightHaveLeft t (call ∷ before)) (MayLeave (call ∷ before))
-elapses call before = record {
-  later = omega arith;
-  nothing_else = λ t c le since. ⊎_elim (λ now. inr now) (λ was. inl was.1) since;
-  keeps = λ t c le past. inr (le, past);
+-- what a disk in memory means
+abbrev pub memory_meaning : DiskMeaning DiskHistory
+memory_meaning = record {
+  keeps_promises = Unit {0};
+  seen = λ d. seen_after d.calls;
+  may_leave = λ d. MayLeave d.calls;
+  is_whole = λ d. IsWhole d.calls;
+  is_new = λ d. IsCreated d.calls;
+  moment = λ d. length d.calls;
+  left_since = λ d t. MightHaveLeft t d.calls;
+  faults = λ d. d.failures;
+  none_whole = λ d n none. none_whole d.calls n none;
+  seen_may_stay = λ d promised. seen_may_stay d.calls;
+  counts_now = λ d t c le now. counts_now d.calls t c le now;
+  only_now = λ d c left. only_now d.calls c left;
 }
 
+-- time goes on by one call more
+pub elapses : (call : DiskCall) (old new : DiskHistory) → new.calls ≡ call ∷ old.calls → Elapses memory_meaning old new
+elapses call old new is =
+    let P : List DiskCall → Type 0 = λ calls. Elapses memory_meaning old (record { calls = calls; failures = new.failures }) in
+    subst P (sym is) (record {
+      later = omega arith;
+      nothing_else = λ t c le since. ⊎_elim (λ now. inr now) (λ was. inl was.1) since;
+      keeps = λ t c le past. inr (le, past);
+    })
+
 -- or by none
-pub stands : (calls : List DiskCall) → Elapses (length calls) (length calls) (λ t. MightHaveLeft t calls) (λ t. MightHaveLeft t calls) (MayLeave calls)
-stands calls = record { later = omega arith; nothing_else = λ t c le since. inl since; keeps = λ t c le past. past }
+pub stands : (old new : DiskHistory) → new.calls ≡ old.calls → Elapses memory_meaning old new
+stands old new is =
+    let P : List DiskCall → Type 0 = λ calls. Elapses memory_meaning old (record { calls = calls; failures = new.failures }) in
+    subst P (sym is) (record { later = omega arith; nothing_else = λ t c le since. inl since; keeps = λ t c le past. past })

@@ -2,7 +2,7 @@
 
 ghost use Rattle.std.specs.Prelude.{◌≡◌, ◌∷◌, None, List, OnOk};
 ghost use Rattle.files_in_place.specs.Folder.{Name};
-ghost use Rattle.files_in_place.specs.Disk.{IsSynced};
+ghost use Rattle.files_in_place.specs.Disk.{IsSyncedDisk};
 ghost use Rattle.memory_disk.specs.declared.disk_call.DiskCall.{DiskCall as Call};
 ghost use Rattle.memory_disk.specs.AnyDisk.{HasTwoNames, CanDo, IsWritten, IsWrittenLast, AreAllowed, LeavesNoMore};
 
@@ -12,10 +12,10 @@ use files_in_place::{Disk, DiskFault};
 // Does a call on a disk.
 fn do_call<D: Disk>(disk: &mut D, call: &DiskCall) -> Result<(), DiskFault>
     requires two { HasTwoNames call.now }
-    requires can { D.keeps_promises → CanDo call.now (D.seen disk.old) (D.is_new disk.old) (D.may_leave disk.old) }
-    ensures no_more { D.keeps_promises → OnOk result ((before : List Call) → LeavesNoMore (D.seen disk.old) (D.is_whole disk.old) (D.may_leave disk.old) before
-        → LeavesNoMore (D.seen disk.new) (D.is_whole disk.new) (D.may_leave disk.new) (call.now ∷ before)) }
-    ensures written { OnOk result ((n : Name) → IsWritten call.now n → D.is_new disk.new n) }
+    requires can { D.meaning.keeps_promises → CanDo call.now (D.meaning.seen disk.old) (D.meaning.is_new disk.old) (D.meaning.may_leave disk.old) }
+    ensures no_more { D.meaning.keeps_promises → OnOk result ((before : List Call) → LeavesNoMore (D.meaning.seen disk.old) (D.meaning.is_whole disk.old) (D.meaning.may_leave disk.old) before
+        → LeavesNoMore (D.meaning.seen disk.new) (D.meaning.is_whole disk.new) (D.meaning.may_leave disk.new) (call.now ∷ before)) }
+    ensures written { OnOk result ((n : Name) → IsWritten call.now n → D.meaning.is_new disk.new n) }
 {
     match call {
         DiskCall::Create(name) => disk.create(name.as_slice()),
@@ -32,11 +32,11 @@ fn do_call<D: Disk>(disk: &mut D, call: &DiskCall) -> Result<(), DiskFault>
 ///
 /// `NoMemory` where memory is refused, and `Failed` where the disk has failed. Of a call that fails nothing is said.
 pub fn do_calls<D: Disk>(disk: &mut D, calls: &[DiskCall]) -> Result<(), DiskFault>
-    requires empty { D.keeps_promises → (n : Name) → D.seen disk.old n ≡ None }
-    requires synced { D.keeps_promises → IsSynced (D.seen disk.old) (D.is_whole disk.old) (D.may_leave disk.old) }
+    requires empty { D.meaning.keeps_promises → (n : Name) → D.meaning.seen disk.old n ≡ None }
+    requires synced { D.meaning.keeps_promises → IsSyncedDisk D.meaning disk.old }
     requires allowed { AreAllowed calls.now }
-    ensures no_more { D.keeps_promises → OnOk result (LeavesNoMore (D.seen disk.new) (D.is_whole disk.new) (D.may_leave disk.new) calls.now) }
-    ensures written { OnOk result ((n : Name) → IsWrittenLast calls.now n → D.is_new disk.new n) }
+    ensures no_more { D.meaning.keeps_promises → OnOk result (LeavesNoMore (D.meaning.seen disk.new) (D.meaning.is_whole disk.new) (D.meaning.may_leave disk.new) calls.now) }
+    ensures written { OnOk result ((n : Name) → IsWrittenLast calls.now n → D.meaning.is_new disk.new n) }
 {
     let [last, before @ ..] = calls else {
         return Ok(());

@@ -1,13 +1,12 @@
 //! A folder in memory, as a disk.
 
-ghost use Rattle.std.specs.Prelude.{◌≡◌, ◌∷◌, [], false, Some, length, IsErrOf, OnOk, OnErr, IfOk};
+ghost use Rattle.std.specs.Prelude.{◌≡◌, ◌∷◌, [], false, Some, IsErrOf, OnOk, OnErr, IfOk};
 ghost use Rattle.files_in_place.specs.declared.faults.DiskFault.TheVariants.{Failed};
 ghost use Rattle.files_in_place.specs.Folder.{SameBut, is_reserved};
 ghost use Rattle.files_in_place.specs.Disk.{HasCause, IsSynced};
 ghost use Rattle.files_in_place.specs.Recovery.{IsClean};
 ghost use Rattle.memory_disk.specs.Seen.{seen_after};
-ghost use Rattle.memory_disk.specs.Outcomes.{IsWhole, IsCreated, MayLeave, MightHaveLeft};
-ghost use Rattle.memory_disk.specs.Laws.{seen_may_stay, none_whole, counts_now, only_now};
+ghost use Rattle.memory_disk.specs.Outcomes.{IsWhole, MayLeave};
 
 use crate::crash::edits::{push_call, put_file};
 use crate::crash::{left_by_crash, settle};
@@ -138,29 +137,9 @@ impl MemoryDisk {
 }
 
 impl Disk for MemoryDisk {
-    ghost keeps_promises = { Unit {0} };
+    ghost use Rattle.memory_disk.specs.Laws.{memory_meaning};
 
-    ghost seen = { λ d. seen_after d.calls };
-
-    ghost may_leave = { λ d. MayLeave d.calls };
-
-    ghost is_whole = { λ d. IsWhole d.calls };
-
-    ghost is_new = { λ d. IsCreated d.calls };
-
-    ghost moment = { λ d. length d.calls };
-
-    ghost left_since = { λ d t. MightHaveLeft t d.calls };
-
-    ghost faults = { λ d. d.failures };
-
-    ghost none_whole = { λ d n none. none_whole d.calls n none };
-
-    ghost seen_may_stay = { λ d promised. seen_may_stay d.calls };
-
-    ghost counts_now = { λ d t c le now. counts_now d.calls t c le now };
-
-    ghost only_now = { λ d c left. only_now d.calls c left };
+    ghost meaning = { memory_meaning };
 
     fn read(&mut self, alloc: Global, name: &[u8]) -> Result<Option<Bytes>, DiskFault> {
         self.spend_call()?;

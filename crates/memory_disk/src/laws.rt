@@ -1,13 +1,14 @@
 //! What is proved of each disk that keeps its promises, at this one: it has no premise left. And how much a crash may take.
 
-ghost use Rattle.std.specs.Prelude.{◌≡◌, List, IsErr, OnOk, length};
+ghost use Rattle.std.specs.Prelude.{◌≡◌, List, IsErr, OnOk};
 ghost use Rattle.files_in_place.specs.Folder.{Name, Folder, recovered};
 ghost use Rattle.files_in_place.specs.Disk.{AfterStep, LeavesOnly};
 ghost use Rattle.files_in_place.specs.Recovery.{IsClean, StillRecovers};
 ghost use Rattle.files_in_place.specs.Staged.{HasBadList};
 ghost use Rattle.memory_disk.specs.declared.disk_call.DiskCall.{DiskCall as Call};
 ghost use Rattle.memory_disk.specs.Seen.{seen_after};
-ghost use Rattle.memory_disk.specs.Outcomes.{MayLeave, MightHaveLeft};
+ghost use Rattle.memory_disk.specs.Outcomes.{MayLeave};
+ghost use Rattle.memory_disk.specs.Laws.{memory_meaning};
 ghost use Rattle.memory_disk.specs.Crashes.{KeepsWhole};
 
 use crate::disk::MemoryDisk;
@@ -22,8 +23,7 @@ pub fn recover_memory(alloc: Global, disk: &mut MemoryDisk) -> Result<(), Recove
     ensures done { OnOk result ((n : Name) → seen_after disk.new.calls n ≡ recovered (seen_after disk.old.calls) n) }
     ensures clean { OnOk result (IsClean (seen_after disk.new.calls)) }
     // A crash at any moment leaves a folder of which recovery makes what it makes of one that might have been left before.
-    ensures any_moment { LeavesOnly (λ d. length d.calls) (λ d t. MightHaveLeft t d.calls) disk.old disk.new
-        (AfterStep StillRecovers (MayLeave disk.old.calls)) }
+    ensures any_moment { LeavesOnly memory_meaning disk.old disk.new (AfterStep StillRecovers (MayLeave disk.old.calls)) }
     ensures refused { HasBadList (seen_after disk.old.calls) → IsErr result }
     ensures untouched { HasBadList (seen_after disk.old.calls) → seen_after disk.new.calls ≡ seen_after disk.old.calls }
 {

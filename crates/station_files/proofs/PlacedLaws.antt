@@ -10,7 +10,7 @@ use Rattle.std.specs.Str.{bytes_eq}
 use Rattle.byte_io.specs.Sink.{is_byte}
 use Rattle.byte_io.specs.Laws.OfBytes.{both_bytes}
 use Rattle.files_in_place.proofs.Meaning.{temporary-inj}
-use Rattle.files_in_place.specs.Disk.{LeavesOnly}
+use Rattle.files_in_place.specs.Disk.{DiskMeaning, LeavesOnly}
 use Rattle.files_in_place.specs.Folder.{Name, Folder, SameBut, is_reserved, temporary, first_of}
 use Rattle.files_in_place.specs.Staged.{is_staged, with_staged, is_file_name, IsOldOrNew}
 use Rattle.files_in_place.specs.declared.phase.Phase.{Phase}
@@ -157,9 +157,9 @@ old_or_placed written names current old c w either = elim either [
 ]
 
 -- so a crash leaves the old files or those of the list
-pub leaves_placed : {D : Type 0} (moment : D → ℕ) (left_since : D → ℕ → Folder → Type 0) (before now : D) (written : List ℕ) (names : List Name) (current : Option Name) (old : Folder) → AreWritten written names current old
-    → LeavesOnly moment left_since before now (IsOldOrNew names old) → LeavesOnly moment left_since before now (IsOldOrPlaced written old)
-leaves_placed moment left_since before now written names current old w leaves = record {
+pub leaves_placed : {D : Type 0} (m : DiskMeaning D) (before now : D) (written : List ℕ) (names : List Name) (current : Option Name) (old : Folder) → AreWritten written names current old
+    → LeavesOnly m before now (IsOldOrNew names old) → LeavesOnly m before now (IsOldOrPlaced written old)
+leaves_placed m before now written names current old w leaves = record {
   later = leaves.later;
   each = λ c since. old_or_placed written names current old c w (leaves.each c since);
   before = λ t c earlier since. elim (leaves.before t c earlier since) [

@@ -3,7 +3,7 @@ use Rattle.std.proofs.Common.{◌≡◌, ◌≢◌, ◌⊎◌, inl, inr, ℕ, �
 use Rattle.std.proofs.lemmas.Bool.{cases_Bool, both_ways}
 use Rattle.files_in_place.proofs.Runs.{leaves_by, runs_on}
 use Rattle.files_in_place.proofs.Uncommitted.{old_files_from}
-use Rattle.files_in_place.specs.Disk.{LeavesOnly}
+use Rattle.files_in_place.specs.Disk.{DiskMeaning, LeavesOnly}
 use Rattle.files_in_place.specs.Faults.{IsOfDisk}
 use Rattle.files_in_place.specs.Folder.{Name, Folder, SameBut, is_reserved, temporary, first_of}
 use Rattle.files_in_place.specs.Recovery.{HasOldFiles, SameFree}
@@ -119,85 +119,81 @@ pub since_any : {D : Type 0} (origin : Option D) (P Q : D → Type 0) → ((star
 since_any None P Q follows was = tt
 since_any (Some start) P Q follows was = follows start was
 
-module _ {D : Type 0} (moment : D → ℕ) (left_since : D → ℕ → Folder → Type 0) where
-  abbrev here : D → Folder → Type 0
-  here d = left_since d (moment d)
-
+module _ {D : Type 0} (m : DiskMeaning D) where
   -- what is left has more
-  pub leaves_as : (start now : D) (P Q : Folder → Type 0) → LeavesOnly moment left_since start now P → ((c : Folder) → P c → Q c) → LeavesOnly moment left_since start now Q
-  leaves_as start now P Q leaves more = leaves_by moment left_since here (λ d c left. left) start now P Q leaves more
+  pub leaves_as : (start now : D) (P Q : Folder → Type 0) → LeavesOnly m start now P → ((c : Folder) → P c → Q c) → LeavesOnly m start now Q
+  leaves_as start now P Q leaves more = leaves_by m start now P Q leaves more
 
   -- a run more
-  pub leaves_on : (start mid now : D) (P Q R : Folder → Type 0) → LeavesOnly moment left_since start mid P → LeavesOnly moment left_since mid now Q → ((c : Folder) → P c → R c) → ((c : Folder) → Q c → R c)
-      → LeavesOnly moment left_since start now R
-  leaves_on start mid now P Q R first second of_first of_second = runs_on moment left_since here (λ d c left. left) start mid now R Q (leaves_as start mid P R first of_first) second of_second
+  pub leaves_on : (start mid now : D) (P Q R : Folder → Type 0) → LeavesOnly m start mid P → LeavesOnly m mid now Q → ((c : Folder) → P c → R c) → ((c : Folder) → Q c → R c)
+      → LeavesOnly m start now R
+  leaves_on start mid now P Q R first second of_first of_second = runs_on m start mid now R Q (leaves_as start mid P R first of_first) second of_second
 
-module _ {D : Type 0} (moment : D → ℕ) (left_since : D → ℕ → Folder → Type 0) (seen : D → Folder) where
   -- one call more on files that are written
-  keeps_on : (start : D) (old new : Set D) → old.phase ≡ Staging → LeavesOnly moment left_since old.disk new.disk (HasOldFiles (seen old.disk)) → SameFree (seen old.disk) (seen new.disk)
-      → KeepsOld moment left_since seen start old → KeepsOld moment left_since seen start new
+  keeps_on : (start : D) (old new : Set D) → old.phase ≡ Staging → LeavesOnly m old.disk new.disk (HasOldFiles (m.seen old.disk)) → SameFree (m.seen old.disk) (m.seen new.disk)
+      → KeepsOld m start old → KeepsOld m start new
   keeps_on start old new staging leaves same was =
-      let before : SameFree (seen start) (seen old.disk) = was.same (not_ended old.phase staging) in
+      let before : SameFree (m.seen start) (m.seen old.disk) = was.same (not_ended old.phase staging) in
       record {
         same = λ _ n free. same n free ∙ before n free;
-        leaves = leaves_on moment left_since start old.disk new.disk (HasOldFiles (seen start)) (HasOldFiles (seen old.disk)) (HasOldFiles (seen start)) was.leaves leaves
-            (λ c has. has) (λ c has. old_files_from (seen start) (seen old.disk) c before has);
+        leaves = leaves_on start old.disk new.disk (HasOldFiles (m.seen start)) (HasOldFiles (m.seen old.disk)) (HasOldFiles (m.seen start)) was.leaves leaves
+            (λ c has. has) (λ c has. old_files_from (m.seen start) (m.seen old.disk) c before has);
       }
 
   -- so it is of a call that may be refused
-  pub keeps_after : (start : D) (old new : Set D) → (old.phase ≢ Staging → new ≡ old) → (old.phase ≡ Staging → LeavesOnly moment left_since old.disk new.disk (HasOldFiles (seen old.disk)))
-      → (old.phase ≡ Staging → SameFree (seen old.disk) (seen new.disk)) → KeepsOld moment left_since seen start old → KeepsOld moment left_since seen start new
+  pub keeps_after : (start : D) (old new : Set D) → (old.phase ≢ Staging → new ≡ old) → (old.phase ≡ Staging → LeavesOnly m old.disk new.disk (HasOldFiles (m.seen old.disk)))
+      → (old.phase ≡ Staging → SameFree (m.seen old.disk) (m.seen new.disk)) → KeepsOld m start old → KeepsOld m start new
   keeps_after start old new closed leaves same was = elim (staging_or old.phase) [
     | inl staging ↦ keeps_on start old new staging (leaves staging) (same staging) was
-    | inr other ↦ subst (λ (s : Set D). KeepsOld moment left_since seen start s) (sym (closed other)) was
+    | inr other ↦ subst (λ (s : Set D). KeepsOld m start s) (sym (closed other)) was
   ]
 
   -- files that are removed, or could not be
-  pub keeps_removed : (start : D) (old new : Set D) → (old.phase ≡ Ended → new ≡ old) → (old.phase ≢ Ended → LeavesOnly moment left_since old.disk new.disk (HasOldFiles (seen old.disk)))
-      → (old.phase ≢ Ended → new.phase ≢ Ended → SameFree (seen old.disk) (seen new.disk)) → KeepsOld moment left_since seen start old → KeepsOld moment left_since seen start new
+  pub keeps_removed : (start : D) (old new : Set D) → (old.phase ≡ Ended → new ≡ old) → (old.phase ≢ Ended → LeavesOnly m old.disk new.disk (HasOldFiles (m.seen old.disk)))
+      → (old.phase ≢ Ended → new.phase ≢ Ended → SameFree (m.seen old.disk) (m.seen new.disk)) → KeepsOld m start old → KeepsOld m start new
   keeps_removed start old new closed leaves same was = elim (ended_or old.phase) [
-    | inl ended ↦ subst (λ (s : Set D). KeepsOld moment left_since seen start s) (sym (closed ended)) was
+    | inl ended ↦ subst (λ (s : Set D). KeepsOld m start s) (sym (closed ended)) was
     | inr goes ↦ record {
       same = λ still n free. same goes still n free ∙ was.same goes n free;
-      leaves = leaves_on moment left_since start old.disk new.disk (HasOldFiles (seen start)) (HasOldFiles (seen old.disk)) (HasOldFiles (seen start)) was.leaves (leaves goes)
-          (λ c has. has) (λ c has. old_files_from (seen start) (seen old.disk) c (was.same goes) has);
+      leaves = leaves_on start old.disk new.disk (HasOldFiles (m.seen start)) (HasOldFiles (m.seen old.disk)) (HasOldFiles (m.seen start)) was.leaves (leaves goes)
+          (λ c has. has) (λ c has. old_files_from (m.seen start) (m.seen old.disk) c (was.same goes) has);
     }
   ]
 
   -- files that are put in place
-  pub placed_since : (start : D) (old : Set D) (now : D) (written : List ℕ) → old.phase ≡ Staging → LeavesOnly moment left_since old.disk now (IsOldOrPlaced written (seen old.disk))
-      → KeepsOld moment left_since seen start old → LeavesOnly moment left_since start now (IsOldOrPlaced written (seen start))
+  pub placed_since : (start : D) (old : Set D) (now : D) (written : List ℕ) → old.phase ≡ Staging → LeavesOnly m old.disk now (IsOldOrPlaced written (m.seen old.disk))
+      → KeepsOld m start old → LeavesOnly m start now (IsOldOrPlaced written (m.seen start))
   placed_since start old now written staging leaves was =
-      let before : SameFree (seen start) (seen old.disk) = was.same (not_ended old.phase staging) in
-      leaves_on moment left_since start old.disk now (HasOldFiles (seen start)) (IsOldOrPlaced written (seen old.disk)) (IsOldOrPlaced written (seen start)) was.leaves leaves
-      (λ c has. inl has) (λ c either. placed_from written (seen start) (seen old.disk) c before either)
+      let before : SameFree (m.seen start) (m.seen old.disk) = was.same (not_ended old.phase staging) in
+      leaves_on start old.disk now (HasOldFiles (m.seen start)) (IsOldOrPlaced written (m.seen old.disk)) (IsOldOrPlaced written (m.seen start)) was.leaves leaves
+      (λ c has. inl has) (λ c either. placed_from written (m.seen start) (m.seen old.disk) c before either)
 
   -- files that are removed again
-  pub kept_since : (start : D) (old : Set D) (now : D) → old.phase ≡ Staging → LeavesOnly moment left_since old.disk now (HasOldFiles (seen old.disk))
-      → KeepsOld moment left_since seen start old → LeavesOnly moment left_since start now (HasOldFiles (seen start))
+  pub kept_since : (start : D) (old : Set D) (now : D) → old.phase ≡ Staging → LeavesOnly m old.disk now (HasOldFiles (m.seen old.disk))
+      → KeepsOld m start old → LeavesOnly m start now (HasOldFiles (m.seen start))
   kept_since start old now staging leaves was =
-      let before : SameFree (seen start) (seen old.disk) = was.same (not_ended old.phase staging) in
-      leaves_on moment left_since start old.disk now (HasOldFiles (seen start)) (HasOldFiles (seen old.disk)) (HasOldFiles (seen start)) was.leaves leaves
-      (λ c has. has) (λ c has. old_files_from (seen start) (seen old.disk) c before has)
+      let before : SameFree (m.seen start) (m.seen old.disk) = was.same (not_ended old.phase staging) in
+      leaves_on start old.disk now (HasOldFiles (m.seen start)) (HasOldFiles (m.seen old.disk)) (HasOldFiles (m.seen start)) was.leaves leaves
+      (λ c has. has) (λ c has. old_files_from (m.seen start) (m.seen old.disk) c before has)
 
   -- what holds of the old files holds after files that were not put in place are removed, where they can be
-  pub undone_leaves : (old : D) (mid new : Set D) (out : D) (P : Folder → Type 0) → out ≡ new.disk → LeavesOnly moment left_since old mid.disk P → ((c : Folder) → HasOldFiles (seen old) c → P c)
-      → (mid.phase ≢ Ended → SameFree (seen old) (seen mid.disk)) → (mid.phase ≡ Ended → new ≡ mid) → (mid.phase ≢ Ended → LeavesOnly moment left_since mid.disk new.disk (HasOldFiles (seen mid.disk)))
-      → LeavesOnly moment left_since old out P
-  undone_leaves old mid new out P is leaves of_old same kept more = subst (λ (d : D). LeavesOnly moment left_since old d P) (sym is) (elim (ended_or mid.phase) [
-    | inl ended ↦ subst (λ (s : Set D). LeavesOnly moment left_since old s.disk P) (sym (kept ended)) leaves
-    | inr goes ↦ leaves_on moment left_since old mid.disk new.disk P (HasOldFiles (seen mid.disk)) P leaves (more goes) (λ c p. p) (λ c has. of_old c (old_files_from (seen old) (seen mid.disk) c (same goes) has))
+  pub undone_leaves : (old : D) (mid new : Set D) (out : D) (P : Folder → Type 0) → out ≡ new.disk → LeavesOnly m old mid.disk P → ((c : Folder) → HasOldFiles (m.seen old) c → P c)
+      → (mid.phase ≢ Ended → SameFree (m.seen old) (m.seen mid.disk)) → (mid.phase ≡ Ended → new ≡ mid) → (mid.phase ≢ Ended → LeavesOnly m mid.disk new.disk (HasOldFiles (m.seen mid.disk)))
+      → LeavesOnly m old out P
+  undone_leaves old mid new out P is leaves of_old same kept more = subst (λ (d : D). LeavesOnly m old d P) (sym is) (elim (ended_or mid.phase) [
+    | inl ended ↦ subst (λ (s : Set D). LeavesOnly m old s.disk P) (sym (kept ended)) leaves
+    | inr goes ↦ leaves_on old mid.disk new.disk P (HasOldFiles (m.seen mid.disk)) P leaves (more goes) (λ c p. p) (λ c has. of_old c (old_files_from (m.seen old) (m.seen mid.disk) c (same goes) has))
   ])
 
 -- files that are in place in the folder of the beginning
-pub placed_from_start : {D : Type 0} (moment : D → ℕ) (left_since : D → ℕ → Folder → Type 0) (seen : D → Folder) (written : List ℕ) (start : D) (old : Set D) (now : D) → old.phase ≡ Staging
-    → IsPlaced written (seen old.disk) (seen now) → KeepsOld moment left_since seen start old → IsPlaced written (seen start) (seen now)
-placed_from_start moment left_since seen written start old now staging placed was n = placed n ∙ with_files_same (files_in written) (seen start) (seen old.disk) (was.same (not_ended old.phase staging)) n
+pub placed_from_start : {D : Type 0} (m : DiskMeaning D) (written : List ℕ) (start : D) (old : Set D) (now : D) → old.phase ≡ Staging
+    → IsPlaced written (m.seen old.disk) (m.seen now) → KeepsOld m start old → IsPlaced written (m.seen start) (m.seen now)
+placed_from_start m written start old now staging placed was n = placed n ∙ with_files_same (files_in written) (m.seen start) (m.seen old.disk) (was.same (not_ended old.phase staging)) n
 
 -- files that were ready in a call were so since the beginning
-pub ready_since : {D : Type 0} (moment : D → ℕ) (left_since : D → ℕ → Folder → Type 0) (seen : D → Folder) (is_whole : D → Name → Type 0) (may_leave : D → Folder → Type 0) (names : List Name) (start : D) (old : Set D) (now : D) → old.phase ≡ Staging
-    → HasBeenReady moment left_since seen is_whole may_leave names (moment old.disk) (seen old.disk) now → KeepsOld moment left_since seen start old → HasBeenReady moment left_since seen is_whole may_leave names (moment start) (seen start) now
-ready_since moment left_since seen is_whole may_leave names start old now staging been was = record {
+pub ready_since : {D : Type 0} (m : DiskMeaning D) (names : List Name) (start : D) (old : Set D) (now : D) → old.phase ≡ Staging
+    → HasBeenReady m names (m.moment old.disk) (m.seen old.disk) now → KeepsOld m start old → HasBeenReady m names (m.moment start) (m.seen start) now
+ready_since m names start old now staging been was = record {
   earlier = been.earlier;
   since = omega (arith, been.since, was.leaves.later);
   later = been.later;

@@ -1,9 +1,10 @@
 -- New files that are written for a folder of a disk, and the folder once they have their places.
-use Rattle.std.specs.Prelude.{◌≡◌, ◌≢◌, ◌⊎◌, ℕ, List, [], ◌∷◌, ◌++◌, Option, Some, None, map, false, if◌then◌else◌}
-use Rattle.std.specs.List.{AllByRecursion}
+use Rattle.std.specs.Prelude.{◌≡◌, ◌≢◌, ◌⊎◌, ℕ, List, [], ◌∷◌, ◌++◌, Option, Some, None, bytes_eq, map, false, if◌then◌else◌}
+use Rattle.std.specs.List.{AllByRecursion, IsDistinct}
+use Rattle.byte_io.specs.Sink.{grown}
 use Rattle.files_in_place.specs.Folder.{Name, Folder, is_reserved, temporary, first_of}
 use Rattle.files_in_place.specs.declared.phase.Phase.TheVariants.{Ended}
-use Rattle.files_in_place.specs.Disk.{LeavesOnly}
+use Rattle.files_in_place.specs.Disk.{DiskMeaning, LeavesOnly}
 use Rattle.files_in_place.specs.Recovery.{HasOldFiles, RecoversTo, SameFree}
 use Rattle.files_in_place.specs.Staged.{Set, is_staged}
 use Rattle.files_in_place.specs.declared.faults.SetFault.{SetFault}
@@ -27,9 +28,9 @@ names_of files = map (λ file. file.name) files
 
 -- Since the disk was this, a crash at any moment leaves its old files, and where they can still be abandoned, each name that
 -- isn't reserved has what it had.
-pub record KeepsOld {D : Type 0} (moment : D → ℕ) (left_since : D → ℕ → Folder → Type 0) (seen : D → Folder) (start : D) (set : Set D) : Type 0 where
-  pub same : set.phase ≢ Ended → SameFree (seen start) (seen set.disk)
-  pub leaves : LeavesOnly moment left_since start set.disk (HasOldFiles (seen start))
+pub record KeepsOld {D : Type 0} (m : DiskMeaning D) (start : D) (set : Set D) : Type 0 where
+  pub same : set.phase ≢ Ended → SameFree (m.seen start) (m.seen set.disk)
+  pub leaves : LeavesOnly m start set.disk (HasOldFiles (m.seen start))
 
 -- the disk has each of these files under its temporary name
 abbrev pub AreTemporary : List NamedFile → Folder → Type 0
@@ -65,6 +66,16 @@ pub record AreWritten (written : List ℕ) (names : List Name) (current : Option
 -- the folder has the files of the list in their places, and else what it had
 abbrev pub IsPlaced : List ℕ → Folder → Folder → Type 0
 IsPlaced written old new = (n : Name) → new n ≡ with_files (files_in written) old n
+
+-- Files of different names, which are such, stand after what was written before. Names and files are of bytes, so what was written
+-- tells these files, and no others.
+pub record IsListedAfter (are_such : List NamedFile → Type 0) (old new : Option (List ℕ)) : Type 0 where
+  pub files : List NamedFile
+  pub such : are_such files
+  pub written : new ≡ grown old (listing files)
+  pub bytes : AllByRecursion IsOfBytes files
+  pub told : files_in (listing files) ≡ files
+  pub distinct : IsDistinct bytes_eq (names_of files)
 
 -- what a crash leaves stands for the old files, or for those of the list in their places, all of them
 abbrev pub IsOldOrPlaced : List ℕ → Folder → Folder → Type 0

@@ -3,4 +3,4 @@ use Rattle.files_in_place.proofs.history.old_or_new.Goals as goal
 
 pub returns : goal.returns
 returns g c promised names old last first others =
-    old_or_new_ends g.D.Disk.seen g.D.Disk.may_leave (λ disk. g.met.D.Disk.seen_may_stay disk promised) names old others first last
+    old_or_new_ends g.D.Disk.meaning promised names old others first last

@@ -8,10 +8,10 @@ use Rattle.files_in_place.proofs.recovery.finish.Given as goal
 abbrev pub invariant-loop-name : goal.invariant-loop-name
 invariant-loop-name g l = record {
   counted : l.place ≡ l.name-index;
-  done : g.D.Disk.keeps_promises → AreRenamed (take l.name-index l.names) (g.D.Disk.seen l.disk);
-  keeps : g.D.Disk.keeps_promises → KeepsRecovery (g.D.Disk.seen l.fn.disk) (g.D.Disk.seen l.disk);
-  can : g.D.Disk.keeps_promises → CanRename (g.D.Disk.seen l.disk) (g.D.Disk.may_leave l.disk);
-  whole : g.D.Disk.keeps_promises → (n : Name) → g.D.Disk.is_whole l.fn.disk n → g.D.Disk.is_whole l.disk n;
-  steps : g.D.Disk.keeps_promises → Steps g.D.Disk.moment g.D.Disk.left_since g.D.Disk.may_leave KeepsRecovery l.fn.disk l.disk;
-  later : g.D.Disk.faults l.fn.disk ≤ g.D.Disk.faults l.disk;
+  done : g.D.Disk.meaning.keeps_promises → AreRenamed (take l.name-index l.names) (g.D.Disk.meaning.seen l.disk);
+  keeps : g.D.Disk.meaning.keeps_promises → KeepsRecovery (g.D.Disk.meaning.seen l.fn.disk) (g.D.Disk.meaning.seen l.disk);
+  can : g.D.Disk.meaning.keeps_promises → CanRename (g.D.Disk.meaning.seen l.disk) (g.D.Disk.meaning.may_leave l.disk);
+  whole : g.D.Disk.meaning.keeps_promises → (n : Name) → g.D.Disk.meaning.is_whole l.fn.disk n → g.D.Disk.meaning.is_whole l.disk n;
+  steps : g.D.Disk.meaning.keeps_promises → Steps g.D.Disk.meaning KeepsRecovery l.fn.disk l.disk;
+  later : g.D.Disk.meaning.faults l.fn.disk ≤ g.D.Disk.meaning.faults l.disk;
 }

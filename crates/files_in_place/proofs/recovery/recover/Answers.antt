@@ -13,29 +13,32 @@ use Rattle.files_in_place.proofs.recovery.recover.Goals as goal
 
 pub returns-in-Ok-clause-any_moment : goal.returns-in-Ok-clause-any_moment
 returns-in-Ok-clause-any_moment g c promised =
-    let asked = leaves_less g.D.Disk.moment g.D.Disk.left_since g.D.Disk.may_leave g.met.D.Disk.only_now c.args.disk.now c.args.disk.now c.listed_names.new.disk (leaves_same g.D.Disk.moment g.D.Disk.left_since g.D.Disk.may_leave g.met.D.Disk.only_now c.args.disk.now) (λ f was. was) c.listed_names.ensures.time c.listed_names.ensures.crash in
-    let settled = leaves_less_on g.D.Disk.moment g.D.Disk.left_since g.D.Disk.may_leave g.met.D.Disk.only_now c.args.disk.now c.listed_names.new.disk c.settle.new.disk asked c.listed_names.ensures.crash c.settle.ensures.any_moment in
-    let before = run_less g.D.Disk.moment g.D.Disk.left_since g.D.Disk.may_leave g.met.D.Disk.only_now StillRecovers still_step c.args.disk.now c.settle.new.disk settled (λ f now. c.listed_names.ensures.crash f (c.settle.ensures.crash f now)) in
-    (and_then g.D.Disk.moment g.D.Disk.left_since g.D.Disk.may_leave g.met.D.Disk.only_now StillRecovers still_step c.args.disk.now c.settle.new.disk c.recover_listed.new.disk before (c.recover_listed.ensures.steps promised)).moments
+    let m = g.D.Disk.meaning in
+    let asked = leaves_less m _ _ _ (leaves_same m c.args.disk.now) (λ f was. was) c.listed_names.ensures.only in
+    let settled = leaves_less_on m _ _ _ asked c.listed_names.ensures.only.crash c.settle.ensures.any_moment in
+    let before = run_less m StillRecovers still_step _ _ settled (λ f now. c.listed_names.ensures.only.crash f (c.settle.ensures.crash f now)) in
+    (and_then m StillRecovers still_step _ _ _ before (c.recover_listed.ensures.steps promised)).moments
 
 pub returns-in-Err-clause-any_moment : goal.returns-in-Err-clause-any_moment
 returns-in-Err-clause-any_moment g c promised =
-    let asked = leaves_less g.D.Disk.moment g.D.Disk.left_since g.D.Disk.may_leave g.met.D.Disk.only_now c.args.disk.now c.args.disk.now c.listed_names.new.disk (leaves_same g.D.Disk.moment g.D.Disk.left_since g.D.Disk.may_leave g.met.D.Disk.only_now c.args.disk.now) (λ f was. was) c.listed_names.ensures.time c.listed_names.ensures.crash in
-    let settled = leaves_less_on g.D.Disk.moment g.D.Disk.left_since g.D.Disk.may_leave g.met.D.Disk.only_now c.args.disk.now c.listed_names.new.disk c.settle.new.disk asked c.listed_names.ensures.crash c.settle.ensures.any_moment in
-    let before = run_less g.D.Disk.moment g.D.Disk.left_since g.D.Disk.may_leave g.met.D.Disk.only_now StillRecovers still_step c.args.disk.now c.settle.new.disk settled (λ f now. c.listed_names.ensures.crash f (c.settle.ensures.crash f now)) in
-    (and_then g.D.Disk.moment g.D.Disk.left_since g.D.Disk.may_leave g.met.D.Disk.only_now StillRecovers still_step c.args.disk.now c.settle.new.disk c.recover_listed.new.disk before (c.recover_listed.ensures.steps promised)).moments
+    let m = g.D.Disk.meaning in
+    let asked = leaves_less m _ _ _ (leaves_same m c.args.disk.now) (λ f was. was) c.listed_names.ensures.only in
+    let settled = leaves_less_on m _ _ _ asked c.listed_names.ensures.only.crash c.settle.ensures.any_moment in
+    let before = run_less m StillRecovers still_step _ _ settled (λ f now. c.listed_names.ensures.only.crash f (c.settle.ensures.crash f now)) in
+    (and_then m StillRecovers still_step _ _ _ before (c.recover_listed.ensures.steps promised)).moments
 
 pub returns-in-Ok-clause-synced : goal.returns-in-Ok-clause-synced
 returns-in-Ok-clause-synced g c promised others =
-    let same : c.deref.result.now ≡ names_in (g.D.Disk.seen c.args.disk.now list_name) = c.deref.ensures.value ∙ c.in_ok-names.ensures.names promised in
-    c.in-Ok.ensures.synced promised (λ n free. elim (cases_Bool (is_listed (g.D.Disk.seen c.args.disk.now) n)) [
+    let m = g.D.Disk.meaning in
+    let same : c.deref.result.now ≡ names_in (m.seen c.args.disk.now list_name) = c.deref.ensures.value ∙ c.in_ok-names.ensures.names promised in
+    c.in-Ok.ensures.synced promised (λ n free. elim (cases_Bool (is_listed (m.seen c.args.disk.now) n)) [
       | inl listed ↦
-          let found : list_any (λ (m : Name). bytes_eq m n) c.deref.result.now ≡ true = ap (λ (l : List Name). list_any (λ (m : Name). bytes_eq m n) l) same ∙ listed in
-          (listed_at (λ name. g.D.Disk.is_whole c.settle.new.disk name × g.D.Disk.is_whole c.settle.new.disk (temporary name)) c.deref.result.now n found c.in_ok-settle.ensures.whole).0
-      | inr unlisted ↦ c.settle.ensures.kept n (c.listed_names.ensures.whole n (others n free unlisted))
+          let found : list_any (λ (name : Name). bytes_eq name n) c.deref.result.now ≡ true = ap (λ (l : List Name). list_any (λ (name : Name). bytes_eq name n) l) same ∙ listed in
+          (listed_at (λ name. m.is_whole c.settle.new.disk name × m.is_whole c.settle.new.disk (temporary name)) c.deref.result.now n found c.in_ok-settle.ensures.whole).0
+      | inr unlisted ↦ c.settle.ensures.kept n (c.listed_names.ensures.only.whole n (others n free unlisted))
     ])
 
 pub returns-in-Err-clause-unreplaced : goal.returns-in-Err-clause-unreplaced
 returns-in-Err-clause-unreplaced g c promised name is =
     let which : c.told.result ≡ Unreplaced name = cc is in
-    listed_contained c.in_ok-names.names.items (g.D.Disk.seen c.args.disk.now) name (c.in_ok-names.ensures.names promised) (c.told.ensures.unreplaced name which).1
+    listed_contained c.in_ok-names.names.items (g.D.Disk.meaning.seen c.args.disk.now) name (c.in_ok-names.ensures.names promised) (c.told.ensures.unreplaced name which).1

@@ -7,10 +7,10 @@ use Rattle.files_in_place.proofs.settle.sync_files.Given as goal
 -- the files of the names so far are on the disk
 abbrev pub invariant-loop-name : goal.invariant-loop-name
 invariant-loop-name g l = record {
-  whole : AreOnDisk (g.D.Disk.is_whole l.disk) (take l.name-index l.names);
-  kept : (n : Name) → g.D.Disk.is_whole l.fn.disk n → g.D.Disk.is_whole l.disk n;
-  seen : g.D.Disk.seen l.disk ≡ g.D.Disk.seen l.fn.disk;
-  crash : Shrinks (g.D.Disk.may_leave l.fn.disk) (g.D.Disk.may_leave l.disk);
-  any_moment : LeavesOnly g.D.Disk.moment g.D.Disk.left_since l.fn.disk l.disk (g.D.Disk.may_leave l.fn.disk);
-  later : g.D.Disk.faults l.fn.disk ≤ g.D.Disk.faults l.disk;
+  whole : AreOnDisk (g.D.Disk.meaning.is_whole l.disk) (take l.name-index l.names);
+  kept : (n : Name) → g.D.Disk.meaning.is_whole l.fn.disk n → g.D.Disk.meaning.is_whole l.disk n;
+  seen : g.D.Disk.meaning.seen l.disk ≡ g.D.Disk.meaning.seen l.fn.disk;
+  crash : Shrinks (g.D.Disk.meaning.may_leave l.fn.disk) (g.D.Disk.meaning.may_leave l.disk);
+  any_moment : LeavesOnly g.D.Disk.meaning l.fn.disk l.disk (g.D.Disk.meaning.may_leave l.fn.disk);
+  later : g.D.Disk.meaning.faults l.fn.disk ≤ g.D.Disk.meaning.faults l.disk;
 }

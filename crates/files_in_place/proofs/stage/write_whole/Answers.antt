@@ -1,28 +1,23 @@
 use Rattle.files_in_place.specs.Folder.{SameBut}
-use Rattle.files_in_place.proofs.Runs.{one_call, then_call, then_shrinks}
-use Rattle.files_in_place.proofs.Meaning.{same_but_step}
+use Rattle.files_in_place.proofs.Runs.{one_changes, same_but_step, then_changes, then_reads}
 use Rattle.files_in_place.proofs.stage.write_whole.Goals as goal
 
 pub returns-in_err-create-clause-steps : goal.returns-in_err-create-clause-steps
-returns-in_err-create-clause-steps g c =
-    one_call g.D.Disk.moment g.D.Disk.left_since g.D.Disk.may_leave g.met.D.Disk.only_now (SameBut c.args.name.now) (same_but_step c.args.name.now) c.args.disk.now c.create.new.self c.create.ensures.time c.create.ensures.crash
+returns-in_err-create-clause-steps g c = one_changes g.D.Disk.meaning c.args.name.now _ _ c.create.ensures.changes
 
 pub returns-in_err-append-clause-steps : goal.returns-in_err-append-clause-steps
 returns-in_err-append-clause-steps g c =
-    let is = same_but_step c.args.name.now in
-    let made = one_call g.D.Disk.moment g.D.Disk.left_since g.D.Disk.may_leave g.met.D.Disk.only_now (SameBut c.args.name.now) is c.args.disk.now c.create.new.self c.create.ensures.time c.create.ensures.crash in
-    then_call g.D.Disk.moment g.D.Disk.left_since g.D.Disk.may_leave g.met.D.Disk.only_now (SameBut c.args.name.now) is c.args.disk.now c.create.new.self c.append.new.self made c.append.ensures.time c.append.ensures.crash
+    let m = g.D.Disk.meaning in
+    then_changes m c.args.name.now _ _ _ (one_changes m c.args.name.now _ _ c.create.ensures.changes) c.append.ensures.changes
 
 pub returns-in_err-sync_file-clause-steps : goal.returns-in_err-sync_file-clause-steps
 returns-in_err-sync_file-clause-steps g c =
-    let is = same_but_step c.args.name.now in
-    let made = one_call g.D.Disk.moment g.D.Disk.left_since g.D.Disk.may_leave g.met.D.Disk.only_now (SameBut c.args.name.now) is c.args.disk.now c.create.new.self c.create.ensures.time c.create.ensures.crash in
-    let filled = then_call g.D.Disk.moment g.D.Disk.left_since g.D.Disk.may_leave g.met.D.Disk.only_now (SameBut c.args.name.now) is c.args.disk.now c.create.new.self c.append.new.self made c.append.ensures.time c.append.ensures.crash in
-    then_shrinks g.D.Disk.moment g.D.Disk.left_since g.D.Disk.may_leave g.met.D.Disk.only_now (SameBut c.args.name.now) is c.args.disk.now c.append.new.self c.sync_file.new.self filled c.sync_file.ensures.time c.sync_file.ensures.crash
+    let m = g.D.Disk.meaning in
+    let filled = then_changes m c.args.name.now _ _ _ (one_changes m c.args.name.now _ _ c.create.ensures.changes) c.append.ensures.changes in
+    then_reads m (SameBut c.args.name.now) (same_but_step c.args.name.now) _ _ _ filled c.sync_file.ensures.only
 
 pub returns-clause-steps : goal.returns-clause-steps
 returns-clause-steps g c =
-    let is = same_but_step c.args.name.now in
-    let made = one_call g.D.Disk.moment g.D.Disk.left_since g.D.Disk.may_leave g.met.D.Disk.only_now (SameBut c.args.name.now) is c.args.disk.now c.create.new.self c.create.ensures.time c.create.ensures.crash in
-    let filled = then_call g.D.Disk.moment g.D.Disk.left_since g.D.Disk.may_leave g.met.D.Disk.only_now (SameBut c.args.name.now) is c.args.disk.now c.create.new.self c.append.new.self made c.append.ensures.time c.append.ensures.crash in
-    then_shrinks g.D.Disk.moment g.D.Disk.left_since g.D.Disk.may_leave g.met.D.Disk.only_now (SameBut c.args.name.now) is c.args.disk.now c.append.new.self c.sync_file.new.self filled c.sync_file.ensures.time c.sync_file.ensures.crash
+    let m = g.D.Disk.meaning in
+    let filled = then_changes m c.args.name.now _ _ _ (one_changes m c.args.name.now _ _ c.create.ensures.changes) c.append.ensures.changes in
+    then_reads m (SameBut c.args.name.now) (same_but_step c.args.name.now) _ _ _ filled c.sync_file.ensures.only

@@ -5,5 +5,6 @@ use Rattle.files_in_place.proofs.file_set.FileSet.new.Goals as goal
 
 pub invariant_of-result : goal.invariant_of-result
 invariant_of-result g c promised =
-    in_staging c.new.result.items None (g.D.Disk.seen c.args.disk) (g.D.Disk.is_whole c.args.disk) (g.D.Disk.is_new c.args.disk) (g.D.Disk.may_leave c.args.disk)
-    (staged_none c.new.result.items (g.D.Disk.seen c.args.disk) (g.D.Disk.is_whole c.args.disk) (g.D.Disk.is_new c.args.disk) (g.D.Disk.may_leave c.args.disk) c.new.ensures.items (c.requires.clean promised) (c.requires.synced promised))
+    let m = g.D.Disk.meaning in
+    in_staging m _ _ _
+    (staged_none m c.new.result.items c.args.disk c.new.ensures.items (c.requires.clean promised) (c.requires.synced promised))
