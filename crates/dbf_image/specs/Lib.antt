@@ -17,3 +17,4 @@ pub mod MemoStore
 pub mod MemoNumbers
 pub mod Laws
 pub mod Packing
+pub mod FaultWords

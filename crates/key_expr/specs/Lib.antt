@@ -13,3 +13,4 @@ pub mod ExprCode
 pub mod KeptLengths
 pub mod Expression
 pub mod Laws
+pub mod FaultWords

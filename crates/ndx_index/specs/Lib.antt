@@ -24,3 +24,4 @@ pub mod LeafPlaces
 pub mod IndexTree
 pub mod TreeSteps
 pub mod PagedIndex
+pub mod FaultWords

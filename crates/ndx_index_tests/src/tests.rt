@@ -109,3 +109,55 @@ fn deep_chain_of_pages(rt: HostRuntime) -> Result<(), Fail> {
     assert_eq!(rt; pair_count(alloc, bytes.as_slice()), Ok(0));
     Ok(())
 }
+
+// The name of each refusal, and what it says.
+const REFUSALS: [(NdxFault, &str); 10] = [
+    (
+        NdxFault::Truncated,
+        "Truncated: the file is shorter than a header page",
+    ),
+    (
+        NdxFault::NumericIndex,
+        "NumericIndex: the keys are numbers or dates",
+    ),
+    (
+        NdxFault::UniqueIndex,
+        "UniqueIndex: the index leaves out equal keys",
+    ),
+    (
+        NdxFault::BadKeyLength,
+        "BadKeyLength: the key length is none of 1 to 100",
+    ),
+    (
+        NdxFault::BadRecordSize,
+        "BadRecordSize: the size of a key record is impossible",
+    ),
+    (
+        NdxFault::PageOutside,
+        "PageOutside: a page lies outside the file",
+    ),
+    (NdxFault::PageTwice, "PageTwice: a page is met twice"),
+    (
+        NdxFault::TooManyEntries,
+        "TooManyEntries: a page has too many entries",
+    ),
+    (
+        NdxFault::MixedPage,
+        "MixedPage: a page is neither a leaf nor an inner page",
+    ),
+    (NdxFault::NoMemory, "NoMemory: out of memory"),
+];
+
+#[test]
+fn refusals_have_names_and_words(rt: HostRuntime) -> Result<(), Fail> {
+    let alloc = rt.alloc();
+    for (fault, text) in REFUSALS {
+        let name = fault.name();
+        let words = fault.words();
+        let told = format!(in alloc; "{name}: {words}")?;
+        assert_eq!(rt; told.as_str(), text);
+        let shown = format!(in alloc; "{name}: {fault}")?;
+        assert_eq!(rt; shown.as_str(), text);
+    }
+    Ok(())
+}

@@ -74,24 +74,59 @@ fn read_memo_answers_each_refusal(rt: HostRuntime) -> Result<(), Fail> {
     Ok(())
 }
 
+// The name of each refusal, and what it says.
+const REFUSALS: [(ImageFault, &str); 11] = [
+    (ImageFault::Truncated, "Truncated: the file is too short"),
+    (
+        ImageFault::BadVersion,
+        "BadVersion: the file is of no known version",
+    ),
+    (
+        ImageFault::BadHeaderLength,
+        "BadHeaderLength: the header's length is bad",
+    ),
+    (ImageFault::BadSchema, "BadSchema: the fields are no schema"),
+    (
+        ImageFault::BadRecordLength,
+        "BadRecordLength: the records' length is bad",
+    ),
+    (
+        ImageFault::TooManyRecords,
+        "TooManyRecords: there are too many records",
+    ),
+    (
+        ImageFault::MemoFileMissing,
+        "MemoFileMissing: the file of memos is missing",
+    ),
+    (
+        ImageFault::BadMemoNumber,
+        "BadMemoNumber: a memo's number is bad",
+    ),
+    (
+        ImageFault::MemoOutside,
+        "MemoOutside: a memo is outside its file",
+    ),
+    (ImageFault::MemoTooLong, "MemoTooLong: a memo is too long"),
+    (ImageFault::NoMemory, "NoMemory: out of memory"),
+];
+
+#[test]
+fn refusals_have_names_and_words(rt: HostRuntime) -> Result<(), Fail> {
+    let alloc = rt.alloc();
+    for (fault, text) in REFUSALS {
+        let name = fault.name();
+        let words = fault.words();
+        let told = format!(in alloc; "{name}: {words}")?;
+        assert_eq!(rt; told.as_str(), text);
+        let shown = format!(in alloc; "{name}: {fault}")?;
+        assert_eq!(rt; shown.as_str(), text);
+    }
+    Ok(())
+}
+
 #[test]
 fn faults_have_texts(rt: HostRuntime) -> Result<(), Fail> {
     let alloc = rt.alloc();
-    for (fault, text) in [
-        (ImageFault::Truncated, "the file is too short"),
-        (ImageFault::BadVersion, "the file is of no known version"),
-        (ImageFault::BadHeaderLength, "the header's length is bad"),
-        (ImageFault::BadSchema, "the fields are no schema"),
-        (ImageFault::BadRecordLength, "the records' length is bad"),
-        (ImageFault::TooManyRecords, "there are too many records"),
-        (ImageFault::MemoFileMissing, "the file of memos is missing"),
-        (ImageFault::BadMemoNumber, "a memo's number is bad"),
-        (ImageFault::MemoOutside, "a memo is outside its file"),
-        (ImageFault::MemoTooLong, "a memo is too long"),
-        (ImageFault::NoMemory, "out of memory"),
-    ] {
-        assert_eq!(rt; format!(in alloc; "{fault}")?.as_str(), text);
-    }
     for (fault, text) in [
         (
             WriteFault::DateOutside,

@@ -102,23 +102,39 @@ fn each_fault_is_met(rt: HostRuntime) -> Result<(), Fail> {
     Ok(())
 }
 
+// The name of each fault, and what it says.
+const FAULTS: [(ExprFault, &str); 8] = [
+    (
+        ExprFault::ExpressionTooLong,
+        "ExpressionTooLong: the expression is too long",
+    ),
+    (ExprFault::BadSyntax(0), "BadSyntax: bad syntax at byte 0"),
+    (
+        ExprFault::BadSyntax(487),
+        "BadSyntax: bad syntax at byte 487",
+    ),
+    (
+        ExprFault::NoSuchField,
+        "NoSuchField: there is no such field",
+    ),
+    (
+        ExprFault::NotCharacter,
+        "NotCharacter: a field is of the wrong kind",
+    ),
+    (
+        ExprFault::BadArgument,
+        "BadArgument: a function's argument is out of range",
+    ),
+    (ExprFault::KeyTooLong, "KeyTooLong: the key is too long"),
+    (ExprFault::NoMemory, "NoMemory: out of memory"),
+];
+
 #[test]
-fn faults_have_texts(rt: HostRuntime) -> Result<(), Fail> {
+fn faults_have_names_and_texts(rt: HostRuntime) -> Result<(), Fail> {
     let alloc = rt.alloc();
-    let cases = [
-        (ExprFault::ExpressionTooLong, "the expression is too long"),
-        (ExprFault::BadSyntax(17), "bad syntax at byte 17"),
-        (ExprFault::NoSuchField, "there is no such field"),
-        (ExprFault::NotCharacter, "a field is of the wrong kind"),
-        (
-            ExprFault::BadArgument,
-            "a function's argument is out of range",
-        ),
-        (ExprFault::KeyTooLong, "the key is too long"),
-        (ExprFault::NoMemory, "out of memory"),
-    ];
-    for (fault, text) in cases {
-        let shown = format!(in alloc; "{fault}")?;
+    for (fault, text) in FAULTS {
+        let name = fault.name();
+        let shown = format!(in alloc; "{name}: {fault}")?;
         assert_eq!(rt; shown.as_str(), text);
     }
     Ok(())
