@@ -6,7 +6,8 @@ use Rattle.std.specs.List.{before_first}
 use Rattle.dbf_fields.specs.Faults.{first_fault}
 use Rattle.key_expr.specs.declared.format.TheConstants.{MAX_KEY_BYTES}
 use Rattle.ndx_index.specs.declared.fault.NdxFault.{NdxFault}
-use Rattle.ndx_index.specs.declared.fault.NdxFault.TheVariants.{Truncated, NumericIndex, UniqueIndex, BadKeyLength, BadRecordSize, PageOutside, PageTwice, TooManyEntries, MixedPage, NoMemory}
+use Rattle.ndx_index.specs.declared.fault.NdxFault.TheVariants.{Truncated, BadKeyLength, BadRecordSize}
+use Rattle.ndx_index.specs.FaultWords.{ndx_name, ndx_words}
 use Rattle.ndx_index.specs.Header.{u16_at}
 use Rattle.ndx_index.specs.Pages.{u32_at}
 use Rattle.index_tree.specs.declared.format.TheConstants.{LF, PAGE_COUNT_OFFSET}
@@ -29,18 +30,9 @@ layout_fault bytes = first_fault (layout_tests bytes)
 abbrev pub HasNoLayout : List ℕ → Type 0
 HasNoLayout bytes = IsSome (layout_fault bytes)
 
--- what a fault is told as
-abbrev pub fault_words : NdxFault → List ℕ
-fault_words Truncated = codes "the file is shorter than a header page"
-fault_words NumericIndex = codes "the keys are numbers or dates"
-fault_words UniqueIndex = codes "the index leaves out equal keys"
-fault_words BadKeyLength = codes "the key length is none of 1 to 100"
-fault_words BadRecordSize = codes "the size of a key record is impossible"
-fault_words PageOutside = codes "outside the file"
-fault_words PageTwice = codes "met before"
-fault_words TooManyEntries = codes "too many entries"
-fault_words MixedPage = codes "neither a leaf nor an inner page"
-fault_words NoMemory = codes "out of memory"
+-- what a fault is told as: its name, and what it says
+unfoldable pub fault_words : NdxFault → List ℕ
+fault_words fault = ndx_name fault ++ (codes ": " ++ ndx_words fault)
 
 -- the line of a number: what it is, the number, and what the number means
 unfoldable pub number_line : List ℕ → ℕ → List ℕ → List ℕ

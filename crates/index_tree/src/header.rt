@@ -16,22 +16,14 @@ use ndx_index::{
 };
 use table_text::put_between_quotes;
 
-/// What a fault is told as.
-pub(crate) fn words_of(fault: NdxFault) -> &'static [u8]
-    ensures value { result.now ≡ fault_words fault }
+/// What a fault is told as: its name, and what it says.
+#[tactic(auto, using(crate::proofs::Sinks::puts), unfolding(crate::specs::HeaderText::fault_words))]
+pub(crate) fn put_fault<S: ByteSink>(out: &mut SinkWriter<'_, S>, fault: NdxFault)
+    ensures put { Puts out.old (fault_words fault) out.new }
 {
-    match fault {
-        NdxFault::Truncated => b"the file is shorter than a header page",
-        NdxFault::NumericIndex => b"the keys are numbers or dates",
-        NdxFault::UniqueIndex => b"the index leaves out equal keys",
-        NdxFault::BadKeyLength => b"the key length is none of 1 to 100",
-        NdxFault::BadRecordSize => b"the size of a key record is impossible",
-        NdxFault::PageOutside => b"outside the file",
-        NdxFault::PageTwice => b"met before",
-        NdxFault::TooManyEntries => b"too many entries",
-        NdxFault::MixedPage => b"neither a leaf nor an inner page",
-        NdxFault::NoMemory => b"out of memory",
-    }
+    out.put(fault.name().as_bytes());
+    out.put(b": ");
+    out.put(fault.words().as_bytes());
 }
 
 /// The line that says why no page is read.
@@ -39,7 +31,7 @@ pub(crate) fn put_fault_line<S: ByteSink>(out: &mut SinkWriter<'_, S>, fault: Nd
     ensures put { Puts out.old (line_of_fault fault) out.new }
 {
     out.put(b"No page is read: ");
-    out.put(words_of(fault));
+    put_fault(out, fault);
     out.put(&[LF]);
 }
 

@@ -8,7 +8,7 @@ ghost use Rattle.index_tree.specs.PageText.{indent, inner_words, leaf_words, mar
 ghost use Rattle.index_tree.specs.Shown.{keys_range};
 
 use crate::format::{LF, MAX_INDENT};
-use crate::header::words_of;
+use crate::header::put_fault;
 use crate::layout::Layout;
 use crate::number::put_number;
 use crate::page::{PageView, greatest_key, least_key};
@@ -94,7 +94,7 @@ fn put_page_words<S: ByteSink>(out: &mut SinkWriter<'_, S>, layout: Layout, view
         PageView::Inner(page, count) => put_inner(out, layout, page, count),
         PageView::Broken(fault) => {
             out.put(b"  ");
-            out.put(words_of(fault));
+            put_fault(out, fault);
         }
     }
 }

@@ -3,10 +3,11 @@ use Rattle.std.specs.Prelude.{ℕ, List, [], ◌∷◌, ◌++◌, Option, Some, 
 use Rattle.std.specs.Fmt.{decimal}
 use Rattle.dbf_image.specs.declared.fault.ImageFault.{ImageFault}
 use Rattle.dbf_image.specs.declared.fault.ImageFault.TheVariants as image
-use Rattle.key_expr.specs.declared.fault.ExprFault.{ExprFault}
-use Rattle.key_expr.specs.declared.fault.ExprFault.TheVariants as expression
+use Rattle.dbf_image.specs.FaultWords.{image_name, image_words}
+use Rattle.key_expr.specs.FaultWords.{expression_name, expression_words}
 use Rattle.ndx_index.specs.declared.fault.NdxFault.{NdxFault}
 use Rattle.ndx_index.specs.declared.fault.NdxFault.TheVariants as index
+use Rattle.ndx_index.specs.FaultWords.{ndx_name, ndx_words}
 use Rattle.station_lines.specs.declared.script.format.TheConstants.{LF}
 use Rattle.station_lines.specs.declared.setup.entry.SetupEntry.{SetupEntry}
 use Rattle.station_lines.specs.declared.setup.entry.SetupEntry.TheVariants.{Table, Index, Station}
@@ -34,47 +35,9 @@ use Rattle.office_check.specs.HeadNumbers.{wanted_length}
 use Rattle.ndx_index.specs.declared.format.TheConstants.{PAGE}
 use Rattle.table_text.specs.Quoted.{between_quotes}
 
--- why bytes are no table
-abbrev pub table_refusal : ImageFault → List ℕ
-table_refusal image.Truncated = codes "the file is too short"
-table_refusal image.BadVersion = codes "the file is of no known version"
-table_refusal image.BadHeaderLength = codes "the header's length is bad"
-table_refusal image.BadSchema = codes "the fields are no schema"
-table_refusal image.BadRecordLength = codes "the records' length is bad"
-table_refusal image.TooManyRecords = codes "there are too many records"
-table_refusal image.MemoFileMissing = codes "the file of memos is missing"
-table_refusal image.BadMemoNumber = codes "a memo's number is bad"
-table_refusal image.MemoOutside = codes "a memo is outside its file"
-table_refusal image.MemoTooLong = codes "a memo is too long"
-table_refusal image.NoMemory = codes "out of memory"
-
--- why bytes are no index
-abbrev pub index_refusal : NdxFault → List ℕ
-index_refusal index.Truncated = codes "the file is shorter than a header page"
-index_refusal index.NumericIndex = codes "the keys are numbers or dates"
-index_refusal index.UniqueIndex = codes "the index leaves out equal keys"
-index_refusal index.BadKeyLength = codes "the key length is none of 1 to 100"
-index_refusal index.BadRecordSize = codes "the size of a key record is impossible"
-index_refusal index.PageOutside = codes "a page lies outside the file"
-index_refusal index.PageTwice = codes "a page is met twice"
-index_refusal index.TooManyEntries = codes "a page has too many entries"
-index_refusal index.MixedPage = codes "a page is neither a leaf nor an inner page"
-index_refusal index.NoMemory = codes "out of memory"
-
--- why a text is no key expression
-abbrev pub expression_refusal : ExprFault → List ℕ
-expression_refusal expression.ExpressionTooLong = codes "the text is too long"
-expression_refusal (expression.BadSyntax offset) = codes "the text is bad"
-expression_refusal expression.NoSuchField = codes "a field is missing"
-expression_refusal expression.NotCharacter = codes "a field is of another kind"
-expression_refusal expression.BadArgument = codes "an argument is bad"
-expression_refusal expression.KeyTooLong = codes "the keys are too long"
-expression_refusal expression.NoMemory = codes "out of memory"
-
--- where it is bad
-abbrev pub offset_words : ExprFault → List ℕ
-offset_words (expression.BadSyntax offset) = codes " at offset " ++ decimal offset
-offset_words _ = []
+-- a fault's name, and what it says
+abbrev pub named_words : List ℕ → List ℕ → List ℕ
+named_words name words = name ++ (codes ": " ++ words)
 
 -- why the fields up to one are no schema
 abbrev pub field_refusal : SchemaFault → List ℕ
@@ -141,8 +104,8 @@ load_words path Unrecovered = unrecovered_words path
 abbrev pub refusal_words : List ℕ → EntryFault → List ℕ
 refusal_words path (Unloaded why) = load_words path why
 refusal_words path (UnloadedMemos why) = load_words path why
-refusal_words path (NoTable why details) = codes "no table: " ++ (table_refusal why ++ table_detail_words why details)
-refusal_words path (NoIndex why details) = codes "no index: " ++ (index_refusal why ++ index_detail_words why details)
+refusal_words path (NoTable why details) = codes "no table: " ++ (named_words (image_name why) (image_words why) ++ table_detail_words why details)
+refusal_words path (NoIndex why details) = codes "no index: " ++ (named_words (ndx_name why) (ndx_words why) ++ index_detail_words why details)
 
 -- the length of the keys and that of the expression's
 abbrev pub length_words : ℕ → ℕ → List ℕ
@@ -183,7 +146,7 @@ state_begin (OtherLength own wanted) = codes "stale: the length of its keys is n
 state_begin (Stale damage) = codes "stale: "
 
 abbrev pub state_rest : IndexState → List ℕ
-state_rest (NoExpression why) = expression_refusal why ++ offset_words why
+state_rest (NoExpression why) = named_words (expression_name why) (expression_words why)
 state_rest (OtherLength own wanted) = length_words own wanted
 state_rest (Stale damage) = damage_words damage
 state_rest _ = []

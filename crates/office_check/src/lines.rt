@@ -1,12 +1,13 @@
 //! What is found, in words.
 
 ghost use Rattle.std.specs.Prelude.{◌≡◌, ◌++◌, length, IfOk, OnOk};
-ghost use Rattle.office_check.specs.Lines.{counts_words, expression_refusal, finding_words, length_words, offset_words};
+ghost use Rattle.office_check.specs.Lines.{counts_words, finding_words, length_words};
 ghost use Rattle.office_check.specs.Lines.{damage_counts, damage_words, first_words, foreign_words, record_key_words};
 ghost use Rattle.office_check.specs.Lines.{state_begin as begin_of_state, state_rest, state_words};
 ghost use Rattle.office_check.specs.Lines.{entry_lines, entry_name as name_in, entry_path as path_in, setup_lines, memos_line, words_line};
 
 mod memo_blocks;
+mod named;
 pub(crate) mod numbers;
 mod refusal;
 
@@ -15,9 +16,10 @@ use crate::fault::EntryFault;
 use crate::finding::{Finding, TableCounts};
 use crate::freshness::IndexState;
 use crate::lines::memo_blocks::append_memo_use;
+use crate::lines::named::append_expression_fault;
 use crate::lines::numbers::append_number;
 use crate::lines::refusal::append_refusal;
-use key_expr::{ExprFault, Key};
+use key_expr::Key;
 use station_lines::{LF, SetupEntry};
 use std::alloc::{AllocError, Global};
 use table_text::append_between_quotes;
@@ -29,33 +31,6 @@ fn append_counts(alloc: Global, text: &mut Vec<u8>, counts: TableCounts) -> Resu
     text.extend_from_slice(b" records, ")?;
     append_number(alloc, text, counts.marked as usize)?;
     text.extend_from_slice(b" marked: good")
-}
-
-fn expression_words(why: ExprFault) -> &'static [u8]
-    ensures value { result.now ≡ expression_refusal why }
-{
-    match why {
-        ExprFault::ExpressionTooLong => b"the text is too long",
-        ExprFault::BadSyntax(_) => b"the text is bad",
-        ExprFault::NoSuchField => b"a field is missing",
-        ExprFault::NotCharacter => b"a field is of another kind",
-        ExprFault::BadArgument => b"an argument is bad",
-        ExprFault::KeyTooLong => b"the keys are too long",
-        ExprFault::NoMemory => b"out of memory",
-    }
-}
-
-// Where a text is no key expression.
-fn append_offset(alloc: Global, text: &mut Vec<u8>, why: ExprFault) -> Result<(), AllocError>
-    ensures ok { OnOk result (text.new.items ≡ text.old.items ++ offset_words why) }
-{
-    match why {
-        ExprFault::BadSyntax(offset) => {
-            text.extend_from_slice(b" at offset ")?;
-            append_number(alloc, text, offset)
-        }
-        _ => Ok(()),
-    }
 }
 
 fn append_lengths(
@@ -160,10 +135,7 @@ fn append_state_rest(
     ensures ok { OnOk result (text.new.items ≡ text.old.items ++ state_rest state.now) }
 {
     match state {
-        IndexState::NoExpression(why) => {
-            text.extend_from_slice(expression_words(*why))?;
-            append_offset(alloc, text, *why)
-        }
+        IndexState::NoExpression(why) => append_expression_fault(alloc, text, *why),
         IndexState::OtherLength(own, wanted) => append_lengths(alloc, text, *own, *wanted),
         IndexState::Stale(damage) => append_damage(alloc, text, damage),
         _ => Ok(()),

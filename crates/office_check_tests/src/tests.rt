@@ -104,7 +104,7 @@ INDEX GOOD BYNAME S.NDX
         "GOOD  S.DBF  2 records, 0 marked: good
 OTHER  T.DBF  2 records, 0 marked: good
 STALE  S.NDX  2 keys: stale: 2 foreign, 2 missing, 0 doubled; the first foreign is pair 1, record 2, key \"ADA       \", not \"BOB       \"; --reindex makes it anew
-BYTOWN  TOWN.NDX  2 keys: no key expression for its table: a field is missing
+BYTOWN  TOWN.NDX  2 keys: no key expression for its table: NoSuchField: there is no such field
 BYPART  PART.NDX  2 keys: stale: the length of its keys is not its expression's; --reindex makes it anew: 10, not 4
 BYNAME  S.NDX  2 keys: good
 ",
@@ -121,13 +121,13 @@ INDEX GOOD EMPTY BAD.NDX
 INDEX GOOD LOST GONE.NDX
 STATION B.PRG
 ",
-        "BAD  BAD.DBF  no table: the file is too short: 1 bytes, not 32
+        "BAD  BAD.DBF  no table: Truncated: the file is too short: 1 bytes, not 32
 BYNAME  S.NDX  2 keys: its table is refused
 GONE  GONE.DBF  can't be read
-MEMOS  NOTE.DBF  no table: the file of memos is missing
+MEMOS  NOTE.DBF  no table: MemoFileMissing: the file of memos is missing
 LOST  GONE.DBT  can't be read
 GOOD  T.DBF  2 records, 0 marked: good
-EMPTY  BAD.NDX  no index: the file is shorter than a header page: 0 bytes, not 512
+EMPTY  BAD.NDX  no index: Truncated: the file is shorter than a header page: 0 bytes, not 512
 LOST  GONE.NDX  can't be read
 STATION  B.PRG  can't be read
 ",
@@ -234,28 +234,52 @@ fn stale_indexes_are_told_in_detail(rt: HostRuntime) -> Result<(), Fail> {
 
 // Bytes of a table's file that are put in place of those at an offset, and what is told then.
 const DAMAGED_TABLES: [(usize, &[u8], &str); 9] = [
-    (0, b"\x04", "no table: the file is of no known version: 4"),
+    (
+        0,
+        b"\x04",
+        "no table: BadVersion: the file is of no known version: 4",
+    ),
     // No end of fields stands in the header: there is another byte, or the header is shorter.
-    (64, b"\x00", "no table: the header's length is bad: 65"),
-    (8, b"\x40", "no table: the header's length is bad: 64"),
-    (8, b"\x28", "no table: the header's length is bad: 40"),
-    (8, b"\x00", "no table: the header's length is bad: 0"),
+    (
+        64,
+        b"\x00",
+        "no table: BadHeaderLength: the header's length is bad: 65",
+    ),
+    (
+        8,
+        b"\x40",
+        "no table: BadHeaderLength: the header's length is bad: 64",
+    ),
+    (
+        8,
+        b"\x28",
+        "no table: BadHeaderLength: the header's length is bad: 40",
+    ),
+    (
+        8,
+        b"\x00",
+        "no table: BadHeaderLength: the header's length is bad: 0",
+    ),
     // The header is longer than the file.
     (
         8,
         b"\x41\x01",
-        "no table: the file is too short: 88 bytes, not 343",
+        "no table: Truncated: the file is too short: 88 bytes, not 343",
     ),
-    (10, b"\x0c\x01", "no table: the records' length is bad: 268"),
+    (
+        10,
+        b"\x0c\x01",
+        "no table: BadRecordLength: the records' length is bad: 268",
+    ),
     (
         4,
         b"\xff\xff\xff\xff",
-        "no table: there are too many records: 4294967295",
+        "no table: TooManyRecords: there are too many records: 4294967295",
     ),
     (
         4,
         b"\x03",
-        "no table: the file is too short: 88 bytes, not 98",
+        "no table: Truncated: the file is too short: 88 bytes, not 98",
     ),
 ];
 
@@ -323,7 +347,9 @@ fn cut_tables_are_told_with_their_lengths(rt: HostRuntime) -> Result<(), Fail> {
         let (front, _) = TABLE.split_at(length.min(TABLE.len()));
         let bytes = Vec::from_slice(alloc, front)?;
         let text = told_of(alloc, b"TABLE D D.DBF\n", b"D.DBF", bytes)?;
-        let line = format!(in alloc; "D  D.DBF  no table: the file is too short: {told}\n")?;
+        let line = format!(in alloc;
+            "D  D.DBF  no table: Truncated: the file is too short: {told}\n"
+        )?;
         assert_eq!(rt; text.as_slice(), line.as_bytes());
     }
     Ok(())

@@ -7,28 +7,40 @@ const FIRST: &str = "  page 1  leaf  25 keys  \"01        \" to \"25        \"\n
 
 // What is changed in the file of two leaves, and the lines of its root and of what stands in the place of one of the leaves.
 const PAGES: [(usize, &[(usize, u8)], &str); 11] = [
-    (2_047, &[], "page 3  outside the file\n"),
-    (2_048, &[(ROOT, 26)], "page 3  too many entries\n"),
+    (
+        2_047,
+        &[],
+        "page 3  PageOutside: a page lies outside the file\n",
+    ),
+    (
+        2_048,
+        &[(ROOT, 26)],
+        "page 3  TooManyEntries: a page has too many entries\n",
+    ),
     (
         2_048,
         &[(ROOT + 24, 0)],
-        "page 3  neither a leaf nor an inner page\n",
+        "page 3  MixedPage: a page is neither a leaf nor an inner page\n",
     ),
-    (2_048, &[(0, 0)], "page 0  outside the file\n"),
+    (
+        2_048,
+        &[(0, 0)],
+        "page 0  PageOutside: a page lies outside the file\n",
+    ),
     (
         2_048,
         &[(0, 1), (FIRST_LEAF, 26)],
-        "page 1  too many entries\n",
+        "page 1  TooManyEntries: a page has too many entries\n",
     ),
     (
         2_048,
         &[(0, 1), (FIRST_LEAF + 3, 0x80)],
-        "page 1  too many entries\n",
+        "page 1  TooManyEntries: a page has too many entries\n",
     ),
     (
         2_048,
         &[(0, 1), (FIRST_LEAF + 24, 1)],
-        "page 1  neither a leaf nor an inner page\n",
+        "page 1  MixedPage: a page is neither a leaf nor an inner page\n",
     ),
     (2_048, &[(0, 2), (1_024, 0)], "page 2  leaf  0 keys\n"),
     (
@@ -66,9 +78,18 @@ fn lines_of(text: &[u8]) -> usize {
 
 // What stands in the place of the second leaf.
 const CHILDREN: [(&[(usize, u8)], &str); 4] = [
-    (&[(ROOT + 24, 1)], "  page 1  met before\n"),
-    (&[(ROOT + 24, 3)], "  page 3  met before\n"),
-    (&[(ROOT + 24, 4)], "  page 4  outside the file\n"),
+    (
+        &[(ROOT + 24, 1)],
+        "  page 1  PageTwice: a page is met twice\n",
+    ),
+    (
+        &[(ROOT + 24, 3)],
+        "  page 3  PageTwice: a page is met twice\n",
+    ),
+    (
+        &[(ROOT + 24, 4)],
+        "  page 4  PageOutside: a page lies outside the file\n",
+    ),
     (
         &[
             (ROOT + 24, 0xff),
@@ -76,7 +97,7 @@ const CHILDREN: [(&[(usize, u8)], &str); 4] = [
             (ROOT + 26, 0xff),
             (ROOT + 27, 0xff),
         ],
-        "  page 4294967295  outside the file\n",
+        "  page 4294967295  PageOutside: a page lies outside the file\n",
     ),
 ];
 
@@ -96,34 +117,34 @@ const HEADERS: [(usize, &[(usize, u8)], &str); 11] = [
     (
         511,
         &[],
-        "No page is read: the file is shorter than a header page\n",
+        "No page is read: Truncated: the file is shorter than a header page\n",
     ),
     (
         0,
         &[],
-        "No page is read: the file is shorter than a header page\n",
+        "No page is read: Truncated: the file is shorter than a header page\n",
     ),
     (2_048, &[(12, 0)], "Key length: 0\n"),
     (
         2_048,
         &[(12, 0)],
-        "\nNo page is read: the key length is none of 1 to 100\n",
+        "\nNo page is read: BadKeyLength: the key length is none of 1 to 100\n",
     ),
     (
         2_048,
         &[(12, 101), (18, 120)],
-        "\nNo page is read: the key length is none of 1 to 100\n",
+        "\nNo page is read: BadKeyLength: the key length is none of 1 to 100\n",
     ),
     (
         2_048,
         &[(18, 17)],
-        "\nNo page is read: the size of a key record is impossible\n",
+        "\nNo page is read: BadRecordSize: the size of a key record is impossible\n",
     ),
     (2_048, &[(18, 0xf9), (19, 1)], "Key record size: 505\n"),
     (
         2_048,
         &[(18, 0xf9), (19, 1)],
-        "\nNo page is read: the size of a key record is impossible\n",
+        "\nNo page is read: BadRecordSize: the size of a key record is impossible\n",
     ),
     (2_048, &[(16, 1)], "\nKey type: 1 (numbers or dates)\n"),
     (

@@ -2,11 +2,12 @@
 
 ghost use Rattle.std.specs.Prelude.{◌≡◌, ◌++◌, OnOk};
 ghost use Rattle.office_check.specs.HeadNumbers.{wanted_length as wanted_length_of};
-ghost use Rattle.office_check.specs.Lines.{bad_field_words, bad_memo_words, bad_page_words, block_words, field_refusal, index_detail_words, index_refusal, load_words, unrecovered_words, refusal_words, table_detail_words, table_refusal};
+ghost use Rattle.office_check.specs.Lines.{bad_field_words, bad_memo_words, bad_page_words, block_words, field_refusal, index_detail_words, load_words, unrecovered_words, refusal_words, table_detail_words};
 
 use crate::fault::{EntryFault, LoadRefusal};
 use crate::head_numbers::TableNumbers;
 use crate::index_file::IndexDetails;
+use crate::lines::named::append_named;
 use crate::lines::numbers::{append_two, append_words};
 use crate::table_file::{BadField, MemoCell, TableDetails};
 use dbf_fields::SchemaFault;
@@ -14,41 +15,6 @@ use dbf_image::{HEADER, ImageFault};
 use ndx_index::{NdxFault, PAGE};
 use station_files::folder_of;
 use std::alloc::{AllocError, Global};
-
-fn table_words(why: ImageFault) -> &'static [u8]
-    ensures value { result.now ≡ table_refusal why }
-{
-    match why {
-        ImageFault::Truncated => b"the file is too short",
-        ImageFault::BadVersion => b"the file is of no known version",
-        ImageFault::BadHeaderLength => b"the header's length is bad",
-        ImageFault::BadSchema => b"the fields are no schema",
-        ImageFault::BadRecordLength => b"the records' length is bad",
-        ImageFault::TooManyRecords => b"there are too many records",
-        ImageFault::MemoFileMissing => b"the file of memos is missing",
-        ImageFault::BadMemoNumber => b"a memo's number is bad",
-        ImageFault::MemoOutside => b"a memo is outside its file",
-        ImageFault::MemoTooLong => b"a memo is too long",
-        ImageFault::NoMemory => b"out of memory",
-    }
-}
-
-fn index_words(why: NdxFault) -> &'static [u8]
-    ensures value { result.now ≡ index_refusal why }
-{
-    match why {
-        NdxFault::Truncated => b"the file is shorter than a header page",
-        NdxFault::NumericIndex => b"the keys are numbers or dates",
-        NdxFault::UniqueIndex => b"the index leaves out equal keys",
-        NdxFault::BadKeyLength => b"the key length is none of 1 to 100",
-        NdxFault::BadRecordSize => b"the size of a key record is impossible",
-        NdxFault::PageOutside => b"a page lies outside the file",
-        NdxFault::PageTwice => b"a page is met twice",
-        NdxFault::TooManyEntries => b"a page has too many entries",
-        NdxFault::MixedPage => b"a page is neither a leaf nor an inner page",
-        NdxFault::NoMemory => b"out of memory",
-    }
-}
 
 // How long a table's file has to be, by its header.
 fn wanted_length(numbers: &TableNumbers) -> usize
@@ -249,12 +215,12 @@ pub(crate) fn append_refusal(
         EntryFault::UnloadedMemos(why) => append_load_refusal(text, path, why),
         EntryFault::NoTable(why, details) => {
             text.extend_from_slice(b"no table: ")?;
-            text.extend_from_slice(table_words(why))?;
+            append_named(text, why.name(), why.words())?;
             append_table_details(alloc, text, why, &details)
         }
         EntryFault::NoIndex(why, details) => {
             text.extend_from_slice(b"no index: ")?;
-            text.extend_from_slice(index_words(why))?;
+            append_named(text, why.name(), why.words())?;
             append_index_details(alloc, text, why, &details)
         }
     }

@@ -51,7 +51,9 @@ fn a_field_too_many_is_told(rt: HostRuntime) -> Result<(), Fail> {
     let alloc = rt.alloc();
     for (count, width, told) in MANY_FIELDS {
         let text = told_with(alloc, many_fields(alloc, count, width)?, Vec::new(alloc))?;
-        let line = format!(in alloc; "D  D.DBF  no table: the fields are no schema: {told}\n")?;
+        let line = format!(in alloc;
+            "D  D.DBF  no table: BadSchema: the fields are no schema: {told}\n"
+        )?;
         assert_eq!(rt; text.as_slice(), line.as_bytes());
     }
     Ok(())
@@ -62,32 +64,32 @@ const DAMAGED_MEMOS: [(&[u8; 30], usize, &str); 6] = [
     (
         b"ABC                2         1",
         1_600,
-        "a memo's number is bad: record 1, field 2",
+        "BadMemoNumber: a memo's number is bad: record 1, field 2",
     ),
     (
         b"         1        -1         X",
         1_600,
-        "a memo's number is bad: record 2, field 2",
+        "BadMemoNumber: a memo's number is bad: record 2, field 2",
     ),
     (
         b"                   09999999999",
         1_600,
-        "a memo is outside its file: record 3, field 2, block 9999999999",
+        "MemoOutside: a memo is outside its file: record 3, field 2, block 9999999999",
     ),
     (
         b"         3         4       ABC",
         1_600,
-        "a memo is outside its file: record 2, field 2, block 4",
+        "MemoOutside: a memo is outside its file: record 2, field 2, block 4",
     ),
     (
         b"                            1 ",
         512,
-        "a memo is outside its file: record 3, field 2, block 1",
+        "MemoOutside: a memo is outside its file: record 3, field 2, block 1",
     ),
     (
         b"       127         1         2",
         66_048,
-        "a memo is too long: record 2, field 2, block 1",
+        "MemoTooLong: a memo is too long: record 2, field 2, block 1",
     ),
 ];
 
@@ -135,7 +137,9 @@ fn damaged_fields_are_told_with_their_numbers(rt: HostRuntime) -> Result<(), Fai
     for (offset, others, told) in DAMAGED_FIELDS {
         let bytes = damaged(alloc, &HEAD, offset, others)?;
         let text = told_with_memos(alloc, bytes, 1_600)?;
-        let line = format!(in alloc; "D  D.DBF  no table: the fields are no schema{told}\n")?;
+        let line = format!(in alloc;
+            "D  D.DBF  no table: BadSchema: the fields are no schema{told}\n"
+        )?;
         assert_eq!(rt; text.as_slice(), line.as_bytes());
     }
     Ok(())

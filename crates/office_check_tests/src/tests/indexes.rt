@@ -11,103 +11,143 @@ const DAMAGED_INDEXES: [(usize, usize, &[u8], &str); 23] = [
         0,
         0,
         b"",
-        "the file is shorter than a header page: 0 bytes, not 512",
+        "Truncated: the file is shorter than a header page: 0 bytes, not 512",
     ),
     (
         511,
         0,
         b"",
-        "the file is shorter than a header page: 511 bytes, not 512",
+        "Truncated: the file is shorter than a header page: 511 bytes, not 512",
     ),
     (
         2_048,
         16,
         b"\x01\x01",
-        "the keys are numbers or dates: type 257",
+        "NumericIndex: the keys are numbers or dates: type 257",
     ),
     (
         2_048,
         23,
         b"\x02",
-        "the index leaves out equal keys: flag 2",
+        "UniqueIndex: the index leaves out equal keys: flag 2",
     ),
-    (2_048, 12, b"\0", "the key length is none of 1 to 100: 0"),
+    (
+        2_048,
+        12,
+        b"\0",
+        "BadKeyLength: the key length is none of 1 to 100: 0",
+    ),
     (
         2_048,
         12,
         b"\x65",
-        "the key length is none of 1 to 100: 101",
+        "BadKeyLength: the key length is none of 1 to 100: 101",
     ),
     (
         2_048,
         18,
         b"\x11",
-        "the size of a key record is impossible: 17 bytes for keys of 10",
+        "BadRecordSize: the size of a key record is impossible: 17 bytes for keys of 10",
     ),
     (
         2_048,
         18,
         b"\xf9\x01",
-        "the size of a key record is impossible: 505 bytes for keys of 10",
+        "BadRecordSize: the size of a key record is impossible: 505 bytes for keys of 10",
     ),
     // The root lies outside.
-    (2_047, 0, b"", "a page lies outside the file: page 3"),
-    (512, 0, b"", "a page lies outside the file: page 3"),
-    (2_048, 0, b"\0", "a page lies outside the file: page 0"),
-    (2_048, 0, b"\x09", "a page lies outside the file: page 9"),
+    (
+        2_047,
+        0,
+        b"",
+        "PageOutside: a page lies outside the file: page 3",
+    ),
+    (
+        512,
+        0,
+        b"",
+        "PageOutside: a page lies outside the file: page 3",
+    ),
+    (
+        2_048,
+        0,
+        b"\0",
+        "PageOutside: a page lies outside the file: page 0",
+    ),
+    (
+        2_048,
+        0,
+        b"\x09",
+        "PageOutside: a page lies outside the file: page 9",
+    ),
     // Its second child does, is page 1 again or the root, or none.
     (
         2_048,
         ROOT + 24,
         b"\x04",
-        "a page lies outside the file: page 4",
+        "PageOutside: a page lies outside the file: page 4",
     ),
     (
         2_048,
         ROOT + 24,
         b"\xff\xff\xff\xff",
-        "a page lies outside the file: page 4294967295",
+        "PageOutside: a page lies outside the file: page 4294967295",
     ),
-    (2_048, ROOT + 24, b"\x01", "a page is met twice: page 1"),
-    (2_048, ROOT + 24, b"\x03", "a page is met twice: page 3"),
+    (
+        2_048,
+        ROOT + 24,
+        b"\x01",
+        "PageTwice: a page is met twice: page 1",
+    ),
+    (
+        2_048,
+        ROOT + 24,
+        b"\x03",
+        "PageTwice: a page is met twice: page 3",
+    ),
     (
         2_048,
         ROOT + 24,
         b"\0",
-        "a page is neither a leaf nor an inner page: page 3",
+        "MixedPage: a page is neither a leaf nor an inner page: page 3",
     ),
     // Counts of entries: of the root, and of the leaves.
-    (2_048, ROOT, b"\x1a", "a page has too many entries: page 3"),
+    (
+        2_048,
+        ROOT,
+        b"\x1a",
+        "TooManyEntries: a page has too many entries: page 3",
+    ),
     (
         2_048,
         FIRST_LEAF,
         b"\x1a",
-        "a page has too many entries: page 1",
+        "TooManyEntries: a page has too many entries: page 1",
     ),
     (
         2_048,
         FIRST_LEAF + 3,
         b"\x80",
-        "a page has too many entries: page 1",
+        "TooManyEntries: a page has too many entries: page 1",
     ),
     (
         2_048,
         FIRST_LEAF,
         b"\xff\xff\xff\xff",
-        "a page has too many entries: page 1",
+        "TooManyEntries: a page has too many entries: page 1",
     ),
     (
         2_048,
         SECOND_LEAF,
         b"\x1a",
-        "a page has too many entries: page 2",
+        "TooManyEntries: a page has too many entries: page 2",
     ),
     // The second entry of a leaf has a child.
     (
         2_048,
         FIRST_LEAF + 24,
         b"\x01",
-        "a page is neither a leaf nor an inner page: page 1",
+        "MixedPage: a page is neither a leaf nor an inner page: page 1",
     ),
 ];
 
@@ -121,6 +161,37 @@ fn damaged_index_files_are_told_with_their_pages(rt: HostRuntime) -> Result<(), 
         let text = told_of(alloc, b"TABLE T T.DBF\nINDEX T D D.NDX\n", b"D.NDX", bytes)?;
         let line = format!(in alloc;
             "T  T.DBF  2 records, 0 marked: good\nD  D.NDX  no index: {told}\n"
+        )?;
+        assert_eq!(rt; text.as_slice(), line.as_bytes());
+    }
+    Ok(())
+}
+
+// Key expressions in the header page of an index of a table whose one field is NAME, ten characters wide, and what is told of
+// each.
+const BAD_EXPRESSIONS: [(&[u8], &str); 6] = [
+    (b"NAME+", "BadSyntax: bad syntax at byte 5"),
+    (b"UPPER(NAME)+)", "BadSyntax: bad syntax at byte 12"),
+    (b"NAME+TOWN", "NoSuchField: there is no such field"),
+    (b"DTOC(NAME)", "NotCharacter: a field is of the wrong kind"),
+    (
+        b"SUBSTR(NAME,11,1)",
+        "BadArgument: a function's argument is out of range",
+    ),
+    (
+        b"NAME+NAME+NAME+NAME+NAME+NAME+NAME+NAME+NAME+NAME+NAME",
+        "KeyTooLong: the key is too long",
+    ),
+];
+
+#[test]
+fn bad_key_expressions_are_told(rt: HostRuntime) -> Result<(), Fail> {
+    let alloc = rt.alloc();
+    for (expression, told) in BAD_EXPRESSIONS {
+        let bytes = index(alloc, expression, 10, LEAF)?;
+        let text = told_of(alloc, b"TABLE T T.DBF\nINDEX T D D.NDX\n", b"D.NDX", bytes)?;
+        let line = format!(in alloc;
+            "T  T.DBF  2 records, 0 marked: good\nD  D.NDX  2 keys: no key expression for its table: {told}\n"
         )?;
         assert_eq!(rt; text.as_slice(), line.as_bytes());
     }
