@@ -1,35 +1,31 @@
 -- The journal's file after others, line by line.
-use Rattle.std.proofs.Common.{◌≡◌, ◌≢◌, ℕ, Bool, ◌+◌, ◌^◌, ◌<◌, List, [], ◌∷◌, ◌++◌, Option, Some, None, Result, Ok, Err, length, map, take, drop, refl, sym, ap, subst, ◌∙◌, append_assoc, inl, inr}
+use Rattle.std.proofs.Common.{◌≡◌, ◌≢◌, ℕ, Bool, true, ◌+◌, ◌^◌, ◌<◌, List, [], ◌∷◌, ◌++◌, Option, Some, Result, Ok, Err, length, map, take, drop, refl, sym, ap, subst, ◌∙◌, append_assoc, inl, inr}
 use Rattle.std.specs.Prelude.{IsErrAnd}
 use Rattle.std.specs.List.{slice_get, AllByRecursion}
 use Rattle.std.specs.Fmt.{decimal}
 use Rattle.std.proofs.lemmas.Grind.{flat_map-append}
 use Rattle.std.proofs.lemmas.List.{drop_more, take_more, length-map, map-append}
 use Rattle.std.proofs.lemmas.Option.{get_or_from_slice_get, slice_get_within}
-use Rattle.dbf_fields.specs.declared.day.Day.{Day}
 use Rattle.dbf_fields.specs.declared.format.TheConstants.{BLANK}
 use Rattle.byte_io.specs.Sink.{grown, IsFront}
 use Rattle.byte_io.specs.Laws.Sinks.{front_by, grown_then}
 use Rattle.catalogue_core.specs.declared.entry.Entry.{Entry}
-use Rattle.station_files.specs.declared.close_fault.CloseFault.TheVariants.{DateOutside, TooManyBlocks, Write, NoMemory as NoMemoryToClose}
+use Rattle.station_files.specs.declared.close_fault.CloseFault.TheVariants.{Write}
 use Rattle.station_files.specs.declared.closed.ClosedTable.{ClosedTable}
 use Rattle.station_files.specs.declared.named.NamedFile.{NamedFile}
-use Rattle.station_files.specs.Closing.{first_blocked, run_files, IsCutAt}
+use Rattle.station_files.specs.Closing.{IsCutAt}
 use Rattle.station_files.specs.Files.{listing, opening, IsOfBytes}
-use Rattle.station_files.proofs.ListingLaws.{files_again}
 use Rattle.station_lines.specs.declared.script.format.TheConstants.{LF}
 use Rattle.station_lines.specs.JournalLines.{entry_and, lines_and, line_parts, journal_text, HasSmallNumbers, HaveSmallNumbers}
 use Rattle.journal_file.specs.declared.sum.FileSum.{FileSum}
 use Rattle.journal_file.specs.WholeText.{head_and, tail_text, whole_text, IsSum, CanBeTold}
 use Rattle.journal_file.proofs.TextLaws.{head_then, lines_then}
-use Rattle.whole_run.specs.declared.counts.CommandCounts.{CommandCounts}
 use Rattle.whole_run.specs.declared.fault.ServeFault.{ServeFault}
-use Rattle.whole_run.specs.declared.fault.ServeFault.TheVariants.{Setup, File, Refused, Run, Close, NoMemory}
-use Rattle.whole_run.specs.Counts.{AreRefusedIn}
-use Rattle.whole_run.specs.FileSums.{AreAllNoted, sum_of_named}
-use Rattle.whole_run.specs.JournalFile.{journal_name, journal_file, and_journal, files_with_journal, run_text, told_run, IsJournalText, IsJournalFault, IsCutWithJournal, IsServedWithJournal, IsCutRunAt, IsCutRunWithJournal}
-use Rattle.whole_run.specs.WholeRun.{IsWriteFault, IsWholeRun, IsCutWriting}
-use Rattle.whole_run.proofs.RunNames.{run_names_differ_with_journal}
+use Rattle.whole_run.specs.declared.fault.ServeFault.TheVariants.{Close, NoMemory}
+use Rattle.whole_run.specs.FileSums.{sum_of_named}
+use Rattle.whole_run.specs.JournalFile.{journal_name, journal_file, and_journal, run_text, told_run, IsJournalFault}
+use Rattle.whole_run.specs.Served.{IsCutFiles}
+use Rattle.whole_run.specs.WholeRun.{IsWriteFault, IsCutWriting}
 
 -- ---- a line after others
 
@@ -121,54 +117,30 @@ cut_last files text old mid new first kept front = record {
 
 -- a fault before the journal's file
 pub cut_before_journal : (files : List NamedFile) (text : List ℕ) (old new : Option (List ℕ)) (fault : ServeFault)
-    → (((name : List ℕ) → fault ≢ Close (Write name)) → new ≡ old) → IsCutWriting files old new fault → IsCutWithJournal files text old new fault
+    → (((name : List ℕ) → fault ≢ Close (Write name)) → new ≡ old) → IsCutWriting files old new fault → IsCutFiles true (and_journal files text) old new fault
 cut_before_journal files text old new (Close (Write name)) begun cut = cut_more name old new files (journal_file text ∷ []) cut
-cut_before_journal files text old new (Close DateOutside) begun cut = tt
-cut_before_journal files text old new (Close (TooManyBlocks number)) begun cut = tt
-cut_before_journal files text old new (Close NoMemoryToClose) begun cut = tt
 cut_before_journal files text old new NoMemory begun cut = inl (begun (λ name e. absurd cc))
-cut_before_journal files text old new (Setup number) begun cut = tt
-cut_before_journal files text old new (File path why) begun cut = tt
-cut_before_journal files text old new (Refused why) begun cut = tt
-cut_before_journal files text old new (Run why) begun cut = tt
+cut_before_journal files text old new fault begun cut = tt
 
 -- a fault in the journal's file
 pub cut_in_journal : (files : List NamedFile) (text : List ℕ) (old mid new : Option (List ℕ)) (fault : ServeFault) → IsJournalFault fault → mid ≡ grown old (listing files) → IsFront mid new
-    → IsFront new (grown mid (listing (journal_file text ∷ []))) → IsCutWithJournal files text old new fault
+    → IsFront new (grown mid (listing (journal_file text ∷ []))) → IsCutFiles true (and_journal files text) old new fault
 cut_in_journal files text old mid new (Close (Write name)) why first kept front =
     subst (λ (n : List ℕ). IsCutAt n old new (and_journal files text)) (sym why) (cut_last files text old mid new first kept front)
-cut_in_journal files text old mid new (Close DateOutside) why first kept front = absurd why
-cut_in_journal files text old mid new (Close (TooManyBlocks number)) why first kept front = absurd why
-cut_in_journal files text old mid new (Close NoMemoryToClose) why first kept front = absurd why
-cut_in_journal files text old mid new NoMemory why first kept front = inr (cut_last files text old mid new first kept front)
-cut_in_journal files text old mid new (Setup number) why first kept front = absurd why
-cut_in_journal files text old mid new (File path reason) why first kept front = absurd why
-cut_in_journal files text old mid new (Refused reason) why first kept front = absurd why
-cut_in_journal files text old mid new (Run reason) why first kept front = absurd why
+cut_in_journal files text old mid new NoMemory why first kept front = inr (refl, cut_last files text old mid new first kept front)
+cut_in_journal files text old mid new fault why first kept front = absurd why
 
 -- it is one of the writing
 pub journal_fault : (year : ℕ) (tables : List ClosedTable) (fault : ServeFault) → IsJournalFault fault → IsWriteFault year tables fault
 journal_fault year tables (Close (Write name)) why = tt
-journal_fault year tables (Close DateOutside) why = absurd why
-journal_fault year tables (Close (TooManyBlocks number)) why = absurd why
-journal_fault year tables (Close NoMemoryToClose) why = absurd why
 journal_fault year tables NoMemory why = tt
-journal_fault year tables (Setup number) why = absurd why
-journal_fault year tables (File path reason) why = absurd why
-journal_fault year tables (Refused reason) why = absurd why
-journal_fault year tables (Run reason) why = absurd why
+journal_fault year tables fault why = absurd why
 
 -- it is no other than a failure of the folder, or want of memory
 pub no_other_fault : (fault : ServeFault) (P : Type 0) → IsJournalFault fault → fault ≢ NoMemory → ((name : List ℕ) → fault ≢ Close (Write name)) → P
 no_other_fault (Close (Write name)) P why some unwritten = absurd (unwritten name refl)
-no_other_fault (Close DateOutside) P why some unwritten = absurd why
-no_other_fault (Close (TooManyBlocks number)) P why some unwritten = absurd why
-no_other_fault (Close NoMemoryToClose) P why some unwritten = absurd why
 no_other_fault NoMemory P why some unwritten = absurd (some refl)
-no_other_fault (Setup number) P why some unwritten = absurd why
-no_other_fault (File path reason) P why some unwritten = absurd why
-no_other_fault (Refused reason) P why some unwritten = absurd why
-no_other_fault (Run reason) P why some unwritten = absurd why
+no_other_fault fault P why some unwritten = absurd why
 
 -- where memory was refused no file was begun, and so the folder has not failed
 pub unfailed_unbegun : {T Folder Count : Type 0} (failures : Folder → Count) (old new : Folder) (r : Result T ServeFault) (fault : ServeFault) → IsErrAnd r (λ y. y ≡ fault)
@@ -194,11 +166,6 @@ pub parts_of_run : (read : List FileSum) (reindex : Bool) (journal : List Entry)
 parts_of_run read reindex journal wrote sums count head tail are counted head_is tail_is =
     (λ j. (head_is ∙ ap (λ (n : ℕ). head_and read reindex n []) counted) j ++ (journal_text journal ++ (tail_is ∙ ap tail_text are) j)) ∙ text_parts read reindex journal wrote
 
--- it is the text of the run's journal
-pub of_run_text : (files : Option (List NamedFile)) (setup : List ℕ) (reindex : Bool) (journal : List Entry) (wrote : List NamedFile) (read : List FileSum) → AreAllNoted files setup (Some []) (Some read)
-    → IsJournalText files setup reindex journal wrote (run_text read reindex journal wrote)
-of_run_text files setup reindex journal wrote read noted = record { read = read; noted = noted; text_is = refl }
-
 -- lines can tell it
 pub run_can_be_told : (reindex : Bool) (journal : List Entry) (wrote : List NamedFile) (read sums : List FileSum) → AllByRecursion IsSum read → AllByRecursion IsSum sums → sums ≡ map sum_of_named wrote
     → HaveSmallNumbers (map line_parts journal) → length journal < 2 ^ 64 → CanBeTold (told_run read reindex journal wrote)
@@ -208,47 +175,3 @@ run_can_be_told reindex journal wrote read sums small written are entries few = 
   entries = entries;
   wrote = subst (λ (s : List FileSum). AllByRecursion IsSum s) are written;
 }
-
--- ---- the whole run
-
-pub served_with_journal : (files : Option (List NamedFile)) (setup : List ℕ) (reindex : Bool) (today : Day) (tables : List ClosedTable) (answers : List (List ℕ)) (counts : CommandCounts) (old new : Option (List ℕ))
-    (read : List FileSum) (run : IsWholeRun files setup reindex tables answers counts.all) → AreRefusedIn run.history counts → first_blocked 1 tables ≡ None
-    → AreAllNoted files setup (Some []) (Some read) → CanBeTold (told_run read reindex run.history.journal (run_files today tables answers))
-    → new ≡ grown old (listing (files_with_journal read reindex today tables answers run.history.journal))
-    → AllByRecursion IsOfBytes (files_with_journal read reindex today tables answers run.history.journal) → IsServedWithJournal files setup reindex today old new counts
-served_with_journal files setup reindex today tables answers counts old new read run refused few_blocks noted one_journal written bytes =
-    let plain : List NamedFile = run_files today tables answers in
-    record {
-      tables = tables;
-      answers = answers;
-      run = run;
-      refused = refused;
-      few_blocks = few_blocks;
-      text = run_text read reindex run.history.journal plain;
-      journal = record { read = read; noted = noted; text_is = refl };
-      one_journal = one_journal;
-      written = written;
-      bytes = bytes;
-      told = files_again (files_with_journal read reindex today tables answers run.history.journal) bytes;
-      distinct = run_names_differ_with_journal files setup reindex tables answers counts.all run today (run_text read reindex run.history.journal plain);
-    }
-
-run_cut_at : (files : Option (List NamedFile)) (setup : List ℕ) (reindex : Bool) (today : Day) (tables : List ClosedTable) (answers : List (List ℕ)) (count : ℕ) (old new : Option (List ℕ)) (name : List ℕ)
-    (text : List ℕ) (run : IsWholeRun files setup reindex tables answers count) → IsJournalText files setup reindex run.history.journal (run_files today tables answers) text
-    → IsCutAt name old new (and_journal (run_files today tables answers) text) → IsCutRunAt files setup reindex today old new name
-run_cut_at files setup reindex today tables answers count old new name text run journal cut = record { tables = tables; answers = answers; count = count; run = run; text = text; journal = journal; cut = cut }
-
--- the run of which a file could not be written
-pub cut_run_with_journal : (files : Option (List NamedFile)) (setup : List ℕ) (reindex : Bool) (today : Day) (tables : List ClosedTable) (answers : List (List ℕ)) (count : ℕ) (old new : Option (List ℕ)) (fault : ServeFault)
-    (text : List ℕ) (run : IsWholeRun files setup reindex tables answers count) → IsJournalText files setup reindex run.history.journal (run_files today tables answers) text
-    → IsCutWithJournal (run_files today tables answers) text old new fault → IsCutRunWithJournal files setup reindex today old new fault
-cut_run_with_journal files setup reindex today tables answers count old new (Close (Write name)) text run journal cut = run_cut_at files setup reindex today tables answers count old new name text run journal cut
-cut_run_with_journal files setup reindex today tables answers count old new (Close DateOutside) text run journal cut = tt
-cut_run_with_journal files setup reindex today tables answers count old new (Close (TooManyBlocks number)) text run journal cut = tt
-cut_run_with_journal files setup reindex today tables answers count old new (Close NoMemoryToClose) text run journal cut = tt
-cut_run_with_journal files setup reindex today tables answers count old new NoMemory text run journal (inl same) = inl same
-cut_run_with_journal files setup reindex today tables answers count old new NoMemory text run journal (inr cut) = inr (run_cut_at files setup reindex today tables answers count old new journal_name text run journal cut)
-cut_run_with_journal files setup reindex today tables answers count old new (Setup number) text run journal cut = tt
-cut_run_with_journal files setup reindex today tables answers count old new (File path why) text run journal cut = tt
-cut_run_with_journal files setup reindex today tables answers count old new (Refused why) text run journal cut = tt
-cut_run_with_journal files setup reindex today tables answers count old new (Run why) text run journal cut = tt

@@ -17,3 +17,4 @@ pub mod OpenedLaws
 pub mod CopyLaws
 pub mod WritingLaws
 pub mod JournalFileLaws
+pub mod ServedLaws

@@ -31,7 +31,6 @@ use Rattle.station_files.specs.Placed.{names_of}
 use Rattle.whole_run.specs.HandedOver.{AreHandedOver}
 use Rattle.whole_run.specs.JournalFile.{and_journal, journal_file, journal_name}
 use Rattle.whole_run.specs.WholeRun.{IsWholeRun}
-use Rattle.catalogue_core.specs.declared.entry.Entry.{Entry}
 use Rattle.whole_run.proofs.Headings.{Heading, heading, is_index_name, AreNewIndexes, AreNewTables, passing_ok, tables_opened}
 use Rattle.whole_run.proofs.HandedNames.{closed_heading, handed_headings}
 use Rattle.whole_run.proofs.IndexesKept.{replay_new}

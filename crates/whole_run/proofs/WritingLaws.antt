@@ -4,13 +4,13 @@ use Rattle.std.specs.List.{AllByRecursion}
 use Rattle.dbf_fields.specs.declared.day.Day.{Day}
 use Rattle.byte_io.specs.Sink.{grown}
 use Rattle.catalogue_core.specs.Replay.{History}
-use Rattle.station_files.specs.declared.close_fault.CloseFault.TheVariants.{DateOutside, TooManyBlocks, Write, NoMemory as NoMemoryToClose}
+use Rattle.station_files.specs.declared.close_fault.CloseFault.TheVariants.{Write}
 use Rattle.station_files.specs.declared.closed.ClosedTable.{ClosedTable}
 use Rattle.station_files.specs.Closing.{first_blocked, run_files}
 use Rattle.station_files.specs.Files.{listing, IsOfBytes}
 use Rattle.station_files.proofs.ListingLaws.{files_again}
 use Rattle.whole_run.specs.declared.fault.ServeFault.{ServeFault}
-use Rattle.whole_run.specs.declared.fault.ServeFault.TheVariants.{Setup, File, Refused, Run, Close, NoMemory}
+use Rattle.whole_run.specs.declared.fault.ServeFault.TheVariants.{Close, NoMemory}
 use Rattle.journal_file.specs.declared.sum.FileSum.{FileSum}
 use Rattle.whole_run.specs.FileSums.{sum_of_named}
 use Rattle.whole_run.specs.HandedOver.{AreHandedOver}
@@ -25,20 +25,10 @@ tables_written h today tables old new sums handed few_blocks written bytes summe
 
 pub tables_fault : (h : History) (year : ℕ) (fault : ServeFault) (tables : List ClosedTable) → AreHandedOver h tables → IsWriteFault year tables fault → IsTablesFault h year fault
 tables_fault h year NoMemory tables handed why = tt
-tables_fault h year (Setup number) tables handed why = absurd why
-tables_fault h year (File path fault) tables handed why = absurd why
-tables_fault h year (Refused fault) tables handed why = absurd why
-tables_fault h year (Run fault) tables handed why = absurd why
 tables_fault h year (Close fault) tables handed why = (tables, handed, why)
+tables_fault h year fault tables handed why = absurd why
 
 pub cut_tables : (h : History) (today : Day) (tables : List ClosedTable) (old new : Option (List ℕ)) (fault : ServeFault)
     → AreHandedOver h tables → IsCutWriting (run_files today tables []) old new fault → IsCutTables h today old new fault
 cut_tables h today tables old new (Close (Write name)) handed cut = (tables, handed, cut)
-cut_tables h today tables old new (Close DateOutside) handed cut = tt
-cut_tables h today tables old new (Close (TooManyBlocks number)) handed cut = tt
-cut_tables h today tables old new (Close NoMemoryToClose) handed cut = tt
-cut_tables h today tables old new NoMemory handed cut = tt
-cut_tables h today tables old new (Setup number) handed cut = tt
-cut_tables h today tables old new (File path fault) handed cut = tt
-cut_tables h today tables old new (Refused fault) handed cut = tt
-cut_tables h today tables old new (Run fault) handed cut = tt
+cut_tables h today tables old new fault handed cut = tt

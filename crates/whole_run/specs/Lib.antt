@@ -5,5 +5,6 @@ pub mod JournalFile
 pub mod Loading
 pub mod OpenedSetup
 pub mod ReadBack
+pub mod Served
 pub mod TablesWritten
 pub mod WholeRun

@@ -24,7 +24,7 @@ use Rattle.station_files.specs.ClosedIndex.{IndexContent}
 use Rattle.station_files.specs.Closing.{index_bytes}
 use Rattle.whole_run.specs.declared.counts.CommandCounts.{CommandCounts}
 use Rattle.whole_run.specs.HandedOver.{end_of, index_of}
-use Rattle.whole_run.specs.WholeRun.{IsServed}
+use Rattle.whole_run.specs.Served.{IsServed}
 
 -- ---- an index
 
@@ -113,5 +113,6 @@ OpenAsLeft h tables =
 -- what a run of this setup over these files has written opens as the run left it
 abbrev pub RunReadsBack : Option (List NamedFile) → List ℕ → Type 0
 RunReadsBack files setup =
-    (reindex : Bool) (today : Day) (old new : Option (List ℕ)) (counts : CommandCounts) (served : IsServed files setup reindex today old new counts)
+    (reindex : Bool) (today : Day) (journal : Bool) (written : List NamedFile) (counts : CommandCounts)
+    (served : IsServed files setup reindex today journal written counts)
     → OpenAsLeft served.run.history served.tables

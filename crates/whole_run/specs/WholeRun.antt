@@ -1,9 +1,6 @@
 -- A whole run, from a setup and its files to the files that are written.
-use Rattle.std.specs.Prelude.{◌≡◌, ◌≢◌, ◌⊎◌, ◌≤◌, ℕ, Bool, List, length, Option, Some, None, Result, Ok, Err, bytes_eq}
-use Rattle.std.specs.List.{AllByRecursion, IsDistinct}
-use Rattle.dbf_fields.specs.declared.day.Day.{Day}
+use Rattle.std.specs.Prelude.{◌≡◌, ◌≢◌, ◌⊎◌, ◌≤◌, ℕ, Bool, List, length, Option, Some, Result, Ok, Err}
 use Rattle.dbf_image.specs.Image.{IsOutside}
-use Rattle.byte_io.specs.Sink.{grown}
 use Rattle.catalogue_core.specs.declared.catalogue.TheConstants.{MAX_ENTRIES}
 use Rattle.catalogue_core.specs.declared.opening.OpenFault.{OpenFault}
 use Rattle.catalogue_core.specs.declared.opening.OpenFault.TheVariants.{NoMemory as NoMemoryToOpen}
@@ -18,14 +15,11 @@ use Rattle.station_run.specs.declared.fault.RunFault.TheVariants.{ScriptCount}
 use Rattle.station_lines.specs.declared.setup.entry.SetupEntry.{SetupEntry}
 use Rattle.station_lines.specs.declared.setup.fault.SetupFault.{SetupFault}
 use Rattle.station_lines.specs.declared.setup.fault.SetupFault.TheVariants.{Bad, NoMemory as NoMemoryToParse}
-use Rattle.whole_run.specs.declared.counts.CommandCounts.{CommandCounts}
 use Rattle.whole_run.specs.declared.fault.FileFault.{FileFault}
 use Rattle.whole_run.specs.declared.fault.ServeFault.{ServeFault}
 use Rattle.whole_run.specs.declared.fault.ServeFault.TheVariants.{Setup, File, Refused, Run, Close, NoMemory}
-use Rattle.station_files.specs.Closing.{first_blocked, run_files, IsCutAt, IsCutBy}
-use Rattle.station_files.specs.Files.{IsFileOf, IsOfBytes, files_in, listing}
-use Rattle.station_files.specs.Placed.{names_of}
-use Rattle.whole_run.specs.Counts.{AreRefusedIn}
+use Rattle.station_files.specs.Closing.{first_blocked, IsCutBy}
+use Rattle.station_files.specs.Files.{IsFileOf}
 use Rattle.whole_run.specs.HandedOver.{AreHandedOver}
 use Rattle.whole_run.specs.Loading.{Read, nothing, LoadAll, IsUnloaded, IsFaultIn}
 use Rattle.station_run.specs.Faults.{IsFaultOfRun}
@@ -124,20 +118,6 @@ pub record IsWholeRun (files : Option (List NamedFile)) (setup : List ℕ) (rein
   pub handed : AreHandedOver history tables
   pub counted : count ≡ length history.journal
 
--- A whole run came to its end: these are its tables and answers and how many commands were refused, none of the tables has
--- more blocks than its file can have, and their files stand after what was written before. Names and files are of bytes, so what was written tells these
--- files, and no others; and no two of them have the same name.
-pub record IsServed (files : Option (List NamedFile)) (setup : List ℕ) (reindex : Bool) (today : Day) (old new : Option (List ℕ)) (counts : CommandCounts) : Type 0 where
-  pub tables : List ClosedTable
-  pub answers : List (List ℕ)
-  pub run : IsWholeRun files setup reindex tables answers counts.all
-  pub refused : AreRefusedIn run.history counts
-  pub few_blocks : first_blocked 1 tables ≡ None
-  pub written : new ≡ grown old (listing (run_files today tables answers))
-  pub bytes : AllByRecursion IsOfBytes (run_files today tables answers)
-  pub told : files_in (listing (run_files today tables answers)) ≡ run_files today tables answers
-  pub distinct : IsDistinct bytes_eq (names_of (run_files today tables answers))
-
 -- why a whole run does not come to its end
 abbrev pub IsServeFault : Option (List NamedFile) → List ℕ → Bool → ℕ → ServeFault → Type 0
 IsServeFault files setup reindex year NoMemory = Unit {0}
@@ -147,9 +127,3 @@ IsServeFault files setup reindex year (Refused fault) = (read : Read) × IsAllRe
 IsServeFault files setup reindex year (Run fault) = (read : Read) × IsAllRead files setup read × IsRunFault reindex read (Run fault)
 IsServeFault files setup reindex year (Close fault) =
     (tables : List ClosedTable) × (answers : List (List ℕ)) × (count : ℕ) × IsWholeRun files setup reindex tables answers count × IsWriteFault year tables (Close fault)
-
--- a whole run of which a file could not be written: those before it are whole; of other faults nothing is said
-abbrev pub IsCutRun : Option (List NamedFile) → List ℕ → Bool → Day → Option (List ℕ) → Option (List ℕ) → ServeFault → Type 0
-IsCutRun files setup reindex today old new (Close (Write name)) =
-    (tables : List ClosedTable) × (answers : List (List ℕ)) × (count : ℕ) × IsWholeRun files setup reindex tables answers count × IsCutAt name old new (run_files today tables answers)
-IsCutRun files setup reindex today old new fault = Unit {0}

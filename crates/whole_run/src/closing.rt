@@ -1,6 +1,6 @@
 //! Handing a closed catalogue's tables over to the writing of files.
 
-ghost use Rattle.std.specs.Prelude.{◌≡◌, ◌+◌, ◌<◌, ◌≤◌, length, map, Some, IfOk, IfSome, OnOk};
+ghost use Rattle.std.specs.Prelude.{◌≡◌, ◌+◌, ◌<◌, ◌≤◌, length, map, true, Some, IfOk, IfSome, OnOk};
 ghost use Rattle.std.specs.List.{AllByRecursion};
 ghost use Rattle.std.specs.Option.{option_map};
 ghost use Rattle.dbf_image.specs.Table.{IsTable};
@@ -90,24 +90,21 @@ fn handed_over(
     Ok(closed)
 }
 
-/// The tables of a closed catalogue with their indexes. The tables' records are not copied, the pairs of indexes are. An
-/// error where memory is refused.
-pub(crate) fn closed_tables(alloc: Global, closed: Closed) -> Result<Vec<ClosedTable>, AllocError>
-    ensures value { IfOk result (λ tables. AreHandedOver closed tables.items) }
-{
-    let names = table_names(alloc, &closed)?;
-    handed_over(alloc, &names, closed.into_tables())
-}
-
-/// The same, and the entries of the journal.
+/// The tables of a closed catalogue with their indexes, and the entries of its journal where they are wanted, and else none. The
+/// tables' records and the entries are not copied, the pairs of indexes are. An error where memory is refused.
 pub(crate) fn closed_parts(
     alloc: Global,
     closed: Closed,
+    with_entries: bool,
 ) -> Result<(Vec<ClosedTable>, Vec<Entry>), AllocError>
     ensures tables { IfOk result (λ parts. AreHandedOver closed parts.0.items) }
-    ensures entries { IfOk result (λ parts. parts.1.items ≡ closed.journal) }
+    ensures entries { with_entries ≡ true → IfOk result (λ parts. parts.1.items ≡ closed.journal) }
 {
     let names = table_names(alloc, &closed)?;
-    let (tables, journal) = closed.into_parts();
-    Ok((handed_over(alloc, &names, tables)?, journal))
+    let (tables, entries) = if with_entries {
+        closed.into_parts()
+    } else {
+        (closed.into_tables(), Vec::new(alloc))
+    };
+    Ok((handed_over(alloc, &names, tables)?, entries))
 }

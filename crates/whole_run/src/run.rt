@@ -1,18 +1,15 @@
-//! The whole run: from a setup and its files to the written files.
+//! The steps of a whole run: reading the setup and what it names, running the scripts, writing the files.
 
-ghost use Rattle.std.specs.Prelude.{◌∷◌, [], ◌≡◌, ◌≢◌, ◌≤◌, ℕ, List, None, Ok, Err, IfOk, IfErr, OnOk};
+ghost use Rattle.std.specs.Prelude.{◌∷◌, [], ◌≡◌, ◌≢◌, ℕ, List, None, Ok, Err, IfOk, IfErr, OnOk};
 ghost use Rattle.std.specs.List.{AllByRecursion};
 ghost use Rattle.byte_io.specs.Sink.{grown, Rises};
-ghost use Rattle.catalogue_core.specs.declared.catalogue.TheConstants.{MAX_ENTRIES};
 ghost use Rattle.station_files.specs.Closing.{run_files, first_blocked};
 ghost use Rattle.station_files.specs.Files.{IsOfBytes, files_in, listing};
 ghost use Rattle.station_lines.specs.Setup.{IndexesFollowTables};
 ghost use Rattle.whole_run.specs.FileSums.{AreNoted, AreAllNoted};
 ghost use Rattle.whole_run.specs.Loading.{read_of, IsFailure};
-ghost use Rattle.whole_run.specs.WholeRun.{IsAllRead, IsReadFault, IsRun, IsRunFault, IsServed, IsServeFault, IsSaid, IsWriteFault, IsCutWriting, IsCutRun};
+ghost use Rattle.whole_run.specs.WholeRun.{IsAllRead, IsReadFault, IsRun, IsRunFault, IsSaid, IsWriteFault, IsCutWriting};
 
-use crate::closing::closed_tables;
-use crate::counts::{CommandCounts, command_counts};
 use crate::fault::ServeFault;
 use crate::load::{load_entries, load_file};
 use crate::loaded::Loaded;
@@ -46,6 +43,8 @@ fn load_setup<S: Source>(
 }
 
 /// What the setup of a path says: its entries, in their order. The faults are those of [`serve`] at the setup.
+///
+/// [`serve`]: crate::serve
 pub fn read_setup<S: Source>(
     alloc: Global,
     source: &mut S,
@@ -63,6 +62,8 @@ pub fn read_setup<S: Source>(
 
 /// Reads the setup of a path, and then what it names, as [`serve`] does. Each file that is read is noted where a journal is
 /// wanted. The faults come in the order of [`ServeFault`].
+///
+/// [`serve`]: crate::serve
 pub fn read_all<S: Source>(
     alloc: Global,
     source: &mut S,
@@ -118,44 +119,4 @@ pub(crate) fn write_files<F: Folder>(
     ensures whole_before_fault { IfErr result (IsCutWriting (run_files today tables.now answers.now) (F.written folder.old) (F.written folder.new)) }
 {
     Ok(close_files(alloc, tables, answers, today, folder)?)
-}
-
-/// A whole run: reads the setup of a path and the files that it names, opens the tables for a station a script, runs
-/// the scripts, each in a thread of its own, and writes the tables, indexes and answers into the folder, dated. It
-/// answers the number of commands, which is `MAX_ENTRIES` at most, and how many of them were refused.
-///
-/// The setup is read whole first. Then, entry by entry, an entry's files are loaded and read; then the catalogue is
-/// opened, run and closed. The faults come in this order: see [`ServeFault`]. Before files are written nothing is
-/// begun in the folder; of a fault in writing see [`close_files`].
-pub fn serve<S: Source, F: Folder, G: Gate + Sync, R: Threads + Wait + Sync>(
-    rt: &R,
-    alloc: Global,
-    setup: &Bytes,
-    today: Day,
-    reindex: bool,
-    source: &mut S,
-    folder: &mut F,
-    gate: &G,
-) -> Result<CommandCounts, ServeFault>
-    // The files of the replay of a legal journal, whose commands are the scripts' lines, on what the setup names. What was
-    // written opens as the run left it: see `written_files_read_back`.
-    ensures ran { IfOk result (IsServed (S.files source.old) setup.now reindex today (F.written folder.old) (F.written folder.new)) }
-    ensures count_bounded { IfOk result (λ counts. counts.all ≤ MAX_ENTRIES) }
-    ensures no_failure { OnOk result (F.failures folder.new ≡ F.failures folder.old) }
-    ensures kept { S.files source.new ≡ S.files source.old }
-    ensures fault { IfErr result (IsServeFault (S.files source.old) setup.now reindex today.year) }
-    // A file can't be read only where a load has failed, or where it is over the limit.
-    ensures loads { OnOk result (S.failures source.new ≡ S.failures source.old) }
-    ensures failure { IfErr result (IsFailure (S.files source.old) (S.failures source.old) (S.failures source.new)) }
-    ensures no_file_begun { IfErr result (λ fault. ((name : List ℕ) → fault ≢ ServeFault.Close (CloseFault.Write name)) → folder.new ≡ folder.old) }
-    ensures failed { (name : List ℕ) → result ≡ Err (ServeFault.Close (CloseFault.Write name)) → Rises (F.failures folder.old) (F.failures folder.new) }
-    ensures whole_before_fault { IfErr result (IsCutRun (S.files source.old) setup.now reindex today (F.written folder.old) (F.written folder.new)) }
-{
-    let loaded = read_all(alloc, source, setup, &mut ReadSums::unwanted(alloc))?;
-    let stations = loaded.scripts.len();
-    let outcome = run_loaded(rt, alloc, loaded, reindex, gate)?;
-    let counts = command_counts(alloc, &outcome.closed, stations)?;
-    let tables = closed_tables(alloc, outcome.closed)?;
-    write_files(alloc, &tables, &outcome.answers, today, folder)?;
-    Ok(counts)
 }

@@ -1,6 +1,6 @@
 //! What a journal says of the files that a run writes.
 
-ghost use Rattle.std.specs.Prelude.{◌≡◌, ◌≢◌, ℕ, List, map, Err, IfOk, IfErr};
+ghost use Rattle.std.specs.Prelude.{◌≡◌, ◌≢◌, ℕ, List, [], map, true, Some, Err, IfOk, IfErr};
 ghost use Rattle.std.specs.List.{AllByRecursion};
 ghost use Rattle.journal_file.specs.WholeText.{IsSum};
 ghost use Rattle.station_files.specs.Closing.{run_files};
@@ -9,9 +9,20 @@ ghost use Rattle.whole_run.specs.WholeRun.{IsWriteFault};
 
 use crate::fault::ServeFault;
 use dbf_fields::{Bytes, Day};
-use journal_file::{FileSum, sum_of};
+use journal_file::{FileSum, ReadSums, sum_of};
 use station_files::{CloseFault, ClosedTable, NamedFile, RunFiles};
 use std::alloc::{AllocError, Global};
+
+/// For the files that a run reads: each is noted where the journal is asked for. No file was read yet. Takes no memory.
+pub(crate) fn asked_sums(alloc: Global, journal: bool) -> ReadSums
+    ensures none_yet { journal ≡ true → result ≡ Some [] }
+{
+    if journal {
+        ReadSums::wanted(alloc)
+    } else {
+        ReadSums::unwanted(alloc)
+    }
+}
 
 // What a journal says of a file.
 fn named_sum(alloc: Global, file: &NamedFile) -> Result<FileSum, AllocError>

@@ -1,7 +1,7 @@
 //! A whole run of one station, where one request for memory after another is refused.
 
 use dbf_fields::{Bytes, Day, day_of};
-use dbf_image::Failures;
+use dbf_image::{ByteSink, Failures, MemorySink, SinkFault, TableData, read_table, write_dbf};
 use sample_files::{EMPTY, EMPTY_INDEX, with_zeros};
 use scarce::{Attempt, ThreadRefusals, thread_refusals};
 use shared_catalogue::{OpenFault, Stop};
@@ -178,6 +178,46 @@ fn are_same(folders: &[MemoryFolder]) -> bool {
     true
 }
 
+// A sink that writes a table into another for each piece that it takes, so that the stack grows by what that takes of it.
+#[derive(Drop)]
+struct Deeper<'a, S: ByteSink + Drop> {
+    table: &'a TableData,
+    day: Day,
+    inner: S,
+}
+
+impl<'a, S: ByteSink + Drop> ByteSink for Deeper<'a, S> {
+    ghost use Rattle.std.specs.Prelude.{None};
+
+    ghost written = { λ _. None };
+
+    ghost failures = { λ _. None };
+
+    #[tactic(auto, unfolding(byte_io::specs::Sink::grown))]
+    fn write(&mut self, bytes: &[u8]) -> Result<usize, SinkFault> {
+        match write_dbf(&mut self.inner, self.table, self.day) {
+            Ok(()) => Ok(bytes.len()),
+            Err(_) => Err(SinkFault),
+        }
+    }
+}
+
+fn one_deeper<'a, S: ByteSink + Drop>(table: &'a TableData, day: Day, inner: S) -> Deeper<'a, S> {
+    Deeper { table, day, inner }
+}
+
+// Makes the stack grow to more than what a run takes of it, since a hoard leaves it no room.
+fn grow_stack(alloc: Global, day: Day) -> Result<(), Fail> {
+    let table = read_table(alloc, Bytes::from_slice(alloc, &EMPTY)?, None)?;
+    let second = one_deeper(&table, day, MemorySink::new(alloc));
+    let third = one_deeper(&table, day, second);
+    let fourth = one_deeper(&table, day, third);
+    let fifth = one_deeper(&table, day, fourth);
+    let mut sixth = one_deeper(&table, day, fifth);
+    write_dbf(&mut sixth, &table, day)?;
+    Ok(())
+}
+
 // How often runs of the office are refused memory before they end as they are to.
 fn swept<R: Threads + Wait + Sync>(
     rt: &R,
@@ -205,6 +245,7 @@ fn serve_where_memory_is_refused(rt: HostRuntime) -> Result<(), Fail> {
     let alloc = rt.alloc();
     let mut office = make_office(alloc)?;
     let mut ends = Ends::none();
+    grow_stack(alloc, office.today)?;
     let found = swept(&rt, alloc, &mut office, &mut ends);
     let is_right = is_as_with_ample_memory(&rt, alloc, &mut office, &mut ends);
     drop(office);

@@ -10,7 +10,7 @@ use std::alloc::{AllocError, Global};
 use std::sync::Wait;
 use std::test::Fail;
 use std::thread::Threads;
-use whole_run::{open_setup, serve_with_journal, write_tables};
+use whole_run::{Asked, open_setup, serve_asked, write_tables};
 
 const STATIONS: u64 = 16;
 
@@ -56,18 +56,14 @@ fn served<R: Threads + Wait + Sync>(
     source: &mut MemorySource,
 ) -> Result<MemoryFolder, Fail> {
     let setup = Bytes::from_slice(alloc, SETUP)?;
-    let today = day_of(1987, 3, 15).ok_or("a date")?;
+    let asked = Asked {
+        setup: &setup,
+        today: day_of(1987, 3, 15).ok_or("a date")?,
+        reindex: false,
+        journal: true,
+    };
     let mut folder = MemoryFolder::new(alloc);
-    match serve_with_journal(
-        rt,
-        alloc,
-        &setup,
-        today,
-        false,
-        source,
-        &mut folder,
-        &OpenGate,
-    ) {
+    match serve_asked(rt, alloc, &asked, source, &mut folder, &OpenGate) {
         Ok(counts) if counts.all == STATIONS * LINES => Ok(folder),
         _ => Err("another count of commands".into()),
     }

@@ -10,7 +10,7 @@ use std::alloc::Global;
 use std::sync::Wait;
 use std::test::Fail;
 use std::thread::Threads;
-use whole_run::{ServeFault, serve_with_journal};
+use whole_run::{Asked, ServeFault, serve_asked};
 
 const ONE_TABLE: &[u8] = b"TABLE T t.dbf\nSTATION s.prg\n";
 
@@ -62,17 +62,13 @@ fn serve_journalled<R: Threads + Wait + Sync>(
 ) -> Result<Result<u64, ServeFault>, Fail> {
     let mut source = office(alloc, ONE_TABLE, script)?;
     let path = Bytes::from_slice(alloc, SETUP)?;
-    let today = day_of(1987, 3, 15).ok_or("a date")?;
-    let served = serve_with_journal(
-        rt,
-        alloc,
-        &path,
-        today,
-        false,
-        &mut source,
-        folder,
-        &OpenGate,
-    );
+    let asked = Asked {
+        setup: &path,
+        today: day_of(1987, 3, 15).ok_or("a date")?,
+        reindex: false,
+        journal: true,
+    };
+    let served = serve_asked(rt, alloc, &asked, &mut source, folder, &OpenGate);
     Ok(performed(served))
 }
 

@@ -8,7 +8,7 @@ use station_files::{MemoryFolder, MemorySource};
 use station_run::OpenGate;
 use std::alloc::{AllocError, Global};
 use std::test::Fail;
-use whole_run::{CommandCounts, serve, serve_with_journal};
+use whole_run::{Asked, CommandCounts, serve, serve_asked};
 
 // Three stations: of the first two commands are refused, of the second none, of the third all three.
 fn three_stations(alloc: Global) -> Result<MemorySource, AllocError> {
@@ -54,16 +54,13 @@ fn refused_commands_are_counted_by_station(rt: HostRuntime) -> Result<(), Fail> 
     );
     let mut source = three_stations(alloc)?;
     let mut folder = MemoryFolder::new(alloc);
-    let journalled = serve_with_journal(
-        &rt,
-        alloc,
-        &setup,
+    let asked = Asked {
+        setup: &setup,
         today,
-        false,
-        &mut source,
-        &mut folder,
-        &OpenGate,
-    );
+        reindex: false,
+        journal: true,
+    };
+    let journalled = serve_asked(&rt, alloc, &asked, &mut source, &mut folder, &OpenGate);
     assert!(rt; plain == journalled && plain == Ok(expected));
     Ok(())
 }

@@ -1,8 +1,8 @@
-use Rattle.std.proofs.Common.{◌≡◌, ◌<◌, ◌≤◌, ℕ, ◌+◌, ◌-◌, List, Some, length, get_or, ap, sym, subst, ◌∙◌, arith, Vec}
+use Rattle.std.proofs.Common.{◌≡◌, ◌<◌, ◌≤◌, ℕ, ◌+◌, ◌-◌, Some, sym, subst, ◌∙◌, arith}
 use Rattle.std.specs.List.{slice_get}
 use Rattle.std.proofs.lemmas.List.{get_or_read_under}
 use Rattle.catalogue_core.specs.Replay.{IsOfStation}
-use Rattle.whole_run.proofs.CountLaws.{IsCounted, few, of_station, with_done, with_refused}
+use Rattle.whole_run.proofs.CountLaws.{few, of_station, with_done, with_refused}
 use Rattle.whole_run.proofs.counts.command_counts.Goals.{then-is_refusal, else-is_refusal}
 use Rattle.whole_run.proofs.counts.command_counts.Goals as goal
 

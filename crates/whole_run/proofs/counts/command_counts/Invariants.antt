@@ -1,4 +1,3 @@
-use Rattle.std.proofs.Common.{◌≡◌}
 use Rattle.whole_run.proofs.CountLaws.{IsCounted}
 use Rattle.whole_run.proofs.counts.command_counts.Given as goal
 
