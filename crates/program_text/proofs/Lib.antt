@@ -1,2 +1,5 @@
+pub mod EndLaws
+pub mod InPlaceLaws
+pub mod Options
 pub mod PlacingLaws
 pub mod Printing

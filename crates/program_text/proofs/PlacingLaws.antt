@@ -1,24 +1,18 @@
--- New files that stand in their places, where the folder was given nothing before them; runs that were given up; and folders that
--- were recovered.
+-- New files that stand in their places, where the folder was given nothing before them; and folders that were recovered.
 use Rattle.std.proofs.Common.{◌≡◌, ◌≢◌, ◌⊎◌, ◌≤◌, arith, IfOk, true, false, inl, inr, ℕ, List, [], ◌∷◌, ◌++◌, Option, None, Some, Result, Ok, Err, IfErr, IfSome, refl, ap, ◌∙◌, sym, subst}
 use Rattle.std.specs.Prelude.{bytes_eq}
 use Rattle.std.specs.List.{AllByRecursion, IsDistinct}
 use Rattle.std.proofs.lemmas.Bool.{cases_Bool}
 use Rattle.std.proofs.lemmas.Slice.Eq.{bytes_eq-Decides}
 use Rattle.byte_io.specs.Sink.{grown}
-use Rattle.files_in_place.specs.Disk.{AfterStep, LeavesOnly}
+use Rattle.files_in_place.specs.Disk.{DiskMeaning, AfterStep, LeavesOnly}
 use Rattle.files_in_place.specs.Folder.{Name, Folder, first_of, is_reserved, recovered, without_reserved}
-use Rattle.files_in_place.specs.declared.faults.SetFault.{SetFault}
-use Rattle.files_in_place.specs.declared.faults.SetFault.TheVariants as set
 use Rattle.files_in_place.specs.Recovery.{HasOldFiles, RecoversTo, StillRecovers}
 use Rattle.files_in_place.specs.Staged.{HasBeenReady}
-use Rattle.station_files.specs.declared.close_fault.CloseFault.TheVariants as close
 use Rattle.station_files.specs.declared.named.NamedFile.{NamedFile}
 use Rattle.station_files.specs.Files.{file_at, files_in, listing}
-use Rattle.station_files.specs.Placed.{names_of, with_files, AreUnreserved, IsOldOrPlaced, IsPlaced}
+use Rattle.station_files.specs.Placed.{names_of, with_files, AreUnreserved, IsListedAfter, IsOldOrPlaced, IsPlaced}
 use Rattle.station_files.proofs.SinceLaws.{leaves_as, leaves_on, since_this, with_files_same}
-use Rattle.whole_run.specs.declared.fault.ServeFault.{ServeFault}
-use Rattle.whole_run.specs.declared.fault.ServeFault.TheVariants as serve
 use Rattle.station_files.specs.declared.finish_fault.FinishFault.{FinishFault}
 use Rattle.station_files.specs.declared.finish_fault.FinishFault.TheVariants as finish
 use Rattle.program_text.specs.declared.folder.FolderFault.{FolderFault}
@@ -26,8 +20,9 @@ use Rattle.program_text.specs.declared.folder.FolderFault.TheVariants.{Unrecover
 use Rattle.files_in_place.specs.declared.faults.RecoveryFault.{RecoveryFault}
 use Rattle.files_in_place.specs.declared.faults.RecoveryFault.TheVariants as recovery
 use Rattle.program_text.specs.declared.folder.PlaceFault.TheVariants as place
-use Rattle.program_text.specs.PlaceFaults.{given_up, unplaced_files, unrecovered_folder, IsOfRecovery}
-use Rattle.program_text.specs.Placing.{HasFiles, HasPut, MayPut, RecoversAsOneOf, WasPutting}
+use Rattle.program_text.specs.PlaceFaults.{unplaced_files, unrecovered_folder, IsOfRecovery}
+use Rattle.program_text.specs.Jobs.{AreFilesOf}
+use Rattle.program_text.specs.Placing.{HasFiles, HasPut, HasPutInto, MayPut, RecoversAsOneOf, WasPutting}
 
 some_is : (a b : List ℕ) → Some a ≡ Some b → a ≡ b
 some_is a b same = ap (λ (o : Option (List ℕ)). elim o [ Some m ↦ m | None ↦ a ]) same
@@ -65,12 +60,17 @@ has_files files old new apart free placed = record {
   clean = λ name reserved. placed name ∙ rw reserved refl;
 }
 
--- files of different names that were written into an empty list, which tells them, and then took their places
-pub files_placed : (files : List NamedFile) (begun written : List ℕ) (old new : Folder) → begun ≡ [] → Some written ≡ grown (Some begun) (listing files) → files_in (listing files) ≡ files → IsDistinct bytes_eq (names_of files)
-    → AreUnreserved (files_in written) → IsPlaced written old new → HasFiles files old new
-files_placed files begun written old new none is told apart free placed =
-    let listed = from_none begun (listing files) written none is in
-    has_files files old new apart (subst (λ (fs : List NamedFile). AreUnreserved fs) (ap files_in listed ∙ told) free) (λ n. placed n ∙ ap (λ (l : List ℕ). with_files (files_in l) old n) listed ∙ ap (λ (fs : List NamedFile). with_files fs old n) told)
+-- what was written where nothing had been tells the files that stand there
+listed_files : (are_such : List NamedFile → Type 0) (begun written : List ℕ) → begun ≡ [] → (listed : IsListedAfter are_such (Some begun) (Some written)) → files_in written ≡ listed.files
+listed_files are_such begun written none listed = ap files_in (from_none begun (listing listed.files) written none listed.written) ∙ listed.told
+
+-- files that were written where nothing had been, and then took their places
+files_placed : (are_such : List NamedFile → Type 0) (begun written : List ℕ) (old new : Folder) → begun ≡ [] → (listed : IsListedAfter are_such (Some begun) (Some written)) → AreUnreserved (files_in written) → IsPlaced written old new
+    → HasFiles listed.files old new
+unfolding listed_files
+files_placed are_such begun written old new none listed free placed =
+    let told = listed_files are_such begun written none listed in
+    has_files listed.files old new listed.distinct (subst (λ (fs : List NamedFile). AreUnreserved fs) told free) (λ n. placed n ∙ ap (λ (fs : List NamedFile). with_files fs old n) told)
 
 -- the folder before may be told as one that has the same files
 pub files_since : (files : List NamedFile) (before old new : Folder) → ((n : Name) → old n ≡ before n) → HasFiles files old new → HasFiles files before new
@@ -79,27 +79,6 @@ files_since files before old new same has = record {
   others = λ name free at. has.others name free at ∙ same name;
   clean = has.clean;
 }
-
-given_up_same : (P : ServeFault → Type 0) (last : Option SetFault) (fault : ServeFault) → P serve.NoMemory → P fault → P (given_up last fault)
-given_up_same P None fault none h = h
-given_up_same P (Some set.Closed) fault none h = h
-given_up_same P (Some set.BadName) fault none h = h
-given_up_same P (Some set.SameName) fault none h = h
-given_up_same P (Some set.NotBegun) fault none h = h
-given_up_same P (Some set.Failed) fault none h = h
-given_up_same P (Some set.NoMemory) (serve.Setup n) none h = h
-given_up_same P (Some set.NoMemory) (serve.File p f) none h = h
-given_up_same P (Some set.NoMemory) (serve.Refused f) none h = h
-given_up_same P (Some set.NoMemory) (serve.Run f) none h = h
-given_up_same P (Some set.NoMemory) serve.NoMemory none h = h
-given_up_same P (Some set.NoMemory) (serve.Close close.DateOutside) none h = h
-given_up_same P (Some set.NoMemory) (serve.Close (close.TooManyBlocks n)) none h = h
-given_up_same P (Some set.NoMemory) (serve.Close close.NoMemory) none h = h
-given_up_same P (Some set.NoMemory) (serve.Close (close.Write name)) none h = none
-
--- what holds of want of memory and of a run's fault holds of the fault for which the run was given up
-pub given_up_keeps : (P : ServeFault → Type 0) (last : Option SetFault) (fault left : ServeFault) → left ≡ given_up last fault → P serve.NoMemory → P fault → P left
-given_up_keeps P last fault left is none h = subst P (sym is) (given_up_same P last fault none h)
 
 -- no call has failed where none had
 pub none_failed : (before after : ℕ) → Some after ≡ Some before → before ≡ 0 → after ≡ 0
@@ -166,89 +145,104 @@ old_recovered before seen left same has n = has.recovers n ∙ recovered_same be
 
 -- ---- what is seen
 
-module _ {D : Type 0} (moment : D → ℕ) (left_since : D → ℕ → Folder → Type 0) (may_leave : D → Folder → Type 0) (seen : D → Folder) (start now : D) (stays : may_leave now (seen now))
-    (counts : (t : ℕ) (left : Folder) → t ≤ moment now → may_leave now left → left_since now t left) where
+module _ {D : Type 0} (m : DiskMeaning D) (promised : m.keeps_promises) (start now : D) where
   -- what is seen is one of the folders that a crash may leave
-  pub seen_too : (P : Folder → Type 0) → LeavesOnly moment left_since start now P → P (seen now)
-  seen_too P leaves = leaves.each (seen now) (counts (moment start) (seen now) leaves.later stays)
+  pub seen_too : (P : Folder → Type 0) → LeavesOnly m start now P → P (m.seen now)
+  seen_too P leaves = leaves.each (m.seen now) (m.counts_now now (m.moment start) (m.seen now) leaves.later (m.seen_may_stay now promised))
 
   -- so it is where a failure is said to leave such folders alone
-  pub seen_at : {T F : Type 0} (other : F → Type 0) (P : Folder → Type 0) (ended : Result T F) → IfErr ended (λ failure. other failure → LeavesOnly moment left_since start now P)
-      → IfErr ended (λ failure. other failure → P (seen now))
+  pub seen_at : {T F : Type 0} (other : F → Type 0) (P : Folder → Type 0) (ended : Result T F) → IfErr ended (λ failure. other failure → LeavesOnly m start now P)
+      → IfErr ended (λ failure. other failure → P (m.seen now))
   unfolding seen_too
   seen_at other P (Ok count) leaves = tt
   seen_at other P (Err failure) leaves = λ said. seen_too P (leaves said)
 
 -- ---- files that are put in place
 
-module _ {D : Type 0} (moment : D → ℕ) (left_since : D → ℕ → Folder → Type 0) (seen : D → Folder) where
+-- files of work that came to its end are such, whatever it reports
+pub such_of : {R : Type 0} (writes : List NamedFile → R → Type 0) (report : R) (old new : Option (List ℕ)) → IsListedAfter (λ files. writes files report) old new → IsListedAfter (AreFilesOf writes) old new
+such_of writes report old new listed = record {
+  files = listed.files;
+  such = (report, listed.such);
+  written = listed.written;
+  bytes = listed.bytes;
+  told = listed.told;
+  distinct = listed.distinct;
+}
+
+module _ {D : Type 0} (m : DiskMeaning D) (are_such : List NamedFile → Type 0) (begun written : List ℕ) (none : begun ≡ []) (listed : IsListedAfter are_such (Some begun) (Some written)) where
   -- new files that were written on a disk and may be in place, where it was this when they began
-  pub putting : (lists : List ℕ → Type 0) (written : List ℕ) (origin : Option D) (disk now : D) → origin ≡ Some disk → lists written → IfSome origin (λ start. LeavesOnly moment left_since start now (IsOldOrPlaced written (seen start)))
-      → MayPut moment left_since lists (HasOldFiles (seen disk)) (seen disk) disk now
-  putting lists written origin disk now is listed since = record {
-    written = written;
-    listed = listed;
-    moments = since_this origin disk (λ start. LeavesOnly moment left_since start now (IsOldOrPlaced written (seen start))) is since;
-  }
+  putting : (origin : Option D) (disk now : D) → origin ≡ Some disk → IfSome origin (λ start. LeavesOnly m start now (IsOldOrPlaced written (m.seen start)))
+      → MayPut m are_such (HasOldFiles (m.seen disk)) (m.seen disk) disk now
+  unfolding listed_files
+  putting origin disk now is since =
+      let may_put : List NamedFile → D → Folder → Type 0 = λ fs start left. HasOldFiles (m.seen start) left ⊎ RecoversTo (with_files fs (m.seen start)) left in
+      record {
+        files = listed.files;
+        such = listed.such;
+        moments = since_this origin disk (λ start. LeavesOnly m start now (may_put listed.files start)) is
+            (subst (λ (fs : List NamedFile). IfSome origin (λ start. LeavesOnly m start now (may_put fs start))) (listed_files are_such begun written none listed) since);
+      }
 
   -- and are in place
-  pub put_whole : (lists : List ℕ → Type 0) (written : List ℕ) (origin : Option D) (disk now : D) → origin ≡ Some disk → lists written → IfSome origin (λ start. LeavesOnly moment left_since start now (IsOldOrPlaced written (seen start)))
-      → IfSome origin (λ start. IsPlaced written (seen start) (seen now)) → HasPut moment left_since seen lists (HasOldFiles (seen disk)) (seen disk) disk now
+  pub put_whole : (origin : Option D) (disk now : D) → origin ≡ Some disk → IfSome origin (λ start. LeavesOnly m start now (IsOldOrPlaced written (m.seen start)))
+      → AreUnreserved (files_in written) → IfSome origin (λ start. IsPlaced written (m.seen start) (m.seen now)) → HasPut m are_such (HasOldFiles (m.seen disk)) (m.seen disk) disk now
   unfolding putting
-  put_whole lists written origin disk now is listed since placed = record {
-    put = putting lists written origin disk now is listed since;
-    placed = since_this origin disk (λ start. IsPlaced written (seen start) (seen now)) is placed;
+  put_whole origin disk now is since free placed = record {
+    put = putting origin disk now is since;
+    placed = files_placed are_such begun written (m.seen disk) (m.seen now) none listed free (since_this origin disk (λ start. IsPlaced written (m.seen start) (m.seen now)) is placed);
   }
 
   -- or only some of them
-  pub put_in_part : (is_whole : D → Name → Type 0) (may_leave : D → Folder → Type 0) (lists : List ℕ → Type 0) (written : List ℕ) (origin : Option D) (disk now : D) → origin ≡ Some disk → lists written
-      → IfSome origin (λ start. LeavesOnly moment left_since start now (IsOldOrPlaced written (seen start)))
-      → IfSome origin (λ start. HasBeenReady moment left_since seen is_whole may_leave (names_of (files_in written)) (moment start) (seen start) now)
-      → may_leave now (seen now) → ((t : ℕ) (left : Folder) → t ≤ moment now → may_leave now left → left_since now t left)
-      → WasPutting moment left_since seen is_whole may_leave lists (HasOldFiles (seen disk)) (seen disk) disk now
-  unfolding putting
-  put_in_part is_whole may_leave lists written origin disk now is listed since ready stays counts =
-      let put = putting lists written origin disk now is listed since in
+  pub put_in_part : (origin : Option D) (disk now : D) → origin ≡ Some disk
+      → IfSome origin (λ start. LeavesOnly m start now (IsOldOrPlaced written (m.seen start)))
+      → IfSome origin (λ start. HasBeenReady m (names_of (files_in written)) (m.moment start) (m.seen start) now)
+      → m.keeps_promises
+      → WasPutting m are_such (HasOldFiles (m.seen disk)) (m.seen disk) disk now
+  unfolding putting listed_files
+  put_in_part origin disk now is since ready promised =
+      let put = putting origin disk now is since in
       record {
         put = put;
-        ready = since_this origin disk (λ start. HasBeenReady moment left_since seen is_whole may_leave (names_of (files_in written)) (moment start) (seen start) now) is ready;
-        shown = seen_too moment left_since may_leave seen disk now stays counts _ put.moments;
+        ready = subst (λ (fs : List NamedFile). HasBeenReady m (names_of fs) (m.moment disk) (m.seen disk) now) (listed_files are_such begun written none listed)
+            (since_this origin disk (λ start. HasBeenReady m (names_of (files_in written)) (m.moment start) (m.seen start) now) is ready);
+        shown = seen_too m promised disk now _ put.moments;
       }
 
-module _ {D : Type 0} (moment : D → ℕ) (left_since : D → ℕ → Folder → Type 0) (may_leave : D → Folder → Type 0) (seen : D → Folder) (start mid : D) (stays : may_leave start (seen start))
-    (first : LeavesOnly moment left_since start mid (AfterStep StillRecovers (may_leave start))) (same : (n : Name) → seen mid n ≡ recovered (seen start) n) where
+module _ {D : Type 0} (m : DiskMeaning D) (promised : m.keeps_promises) (start mid : D)
+    (first : LeavesOnly m start mid (AfterStep StillRecovers (m.may_leave start))) (same : (n : Name) → m.seen mid n ≡ recovered (m.seen start) n) where
   -- what stands for the files of the recovered folder stands for those of one that might have been left
-  as_one : (left : Folder) → HasOldFiles (seen mid) left → RecoversAsOneOf (may_leave start) left
-  as_one left has = (seen start, stays, old_recovered (seen start) (seen mid) left same has)
+  as_one : (left : Folder) → HasOldFiles (m.seen mid) left → RecoversAsOneOf (m.may_leave start) left
+  as_one left has = (m.seen start, m.seen_may_stay start promised, old_recovered (m.seen start) (m.seen mid) left same has)
 
   -- so it is since an earlier moment, from which on the disk was recovered
-  pub recovered_put : (lists : List ℕ → Type 0) (now : D) → MayPut moment left_since lists (HasOldFiles (seen mid)) (seen mid) mid now
-      → MayPut moment left_since lists (RecoversAsOneOf (may_leave start)) (recovered (seen start)) start now
-  recovered_put lists now put = record {
-    written = put.written;
-    listed = put.listed;
-    moments = leaves_on moment left_since start mid now (AfterStep StillRecovers (may_leave start)) (λ left. HasOldFiles (seen mid) left ⊎ RecoversTo (with_files (files_in put.written) (seen mid)) left)
-        (λ left. RecoversAsOneOf (may_leave start) left ⊎ RecoversTo (with_files (files_in put.written) (recovered (seen start))) left) first put.moments
+  pub recovered_put : (are_such : List NamedFile → Type 0) (now : D) → MayPut m are_such (HasOldFiles (m.seen mid)) (m.seen mid) mid now
+      → MayPut m are_such (RecoversAsOneOf (m.may_leave start)) (recovered (m.seen start)) start now
+  recovered_put are_such now put = record {
+    files = put.files;
+    such = put.such;
+    moments = leaves_on m start mid now (AfterStep StillRecovers (m.may_leave start)) (λ left. HasOldFiles (m.seen mid) left ⊎ RecoversTo (with_files put.files (m.seen mid)) left)
+        (λ left. RecoversAsOneOf (m.may_leave start) left ⊎ RecoversTo (with_files put.files (recovered (m.seen start))) left) first put.moments
         (λ left from. inl (from.0, from.1, from.2.recovers))
         (λ left either. elim either [
           | inl has ↦ inl (as_one left has)
-          | inr will ↦ inr (λ n. will n ∙ with_files_same (files_in put.written) (recovered (seen start)) (seen mid) (λ m free. same m) n)
+          | inr will ↦ inr (λ n. will n ∙ with_files_same put.files (recovered (m.seen start)) (m.seen mid) (λ name free. same name) n)
         ]);
   }
 
-  pub recovered_whole : (lists : List ℕ → Type 0) (now : D) → HasPut moment left_since seen lists (HasOldFiles (seen mid)) (seen mid) mid now
-      → HasPut moment left_since seen lists (RecoversAsOneOf (may_leave start)) (recovered (seen start)) start now
+  pub recovered_whole : (are_such : List NamedFile → Type 0) (now : D) → HasPut m are_such (HasOldFiles (m.seen mid)) (m.seen mid) mid now
+      → HasPut m are_such (RecoversAsOneOf (m.may_leave start)) (recovered (m.seen start)) start now
   unfolding recovered_put
-  recovered_whole lists now has = record {
-    put = recovered_put lists now has.put;
-    placed = λ n. has.placed n ∙ with_files_same (files_in has.put.written) (recovered (seen start)) (seen mid) (λ m free. same m) n;
+  recovered_whole are_such now has = record {
+    put = recovered_put are_such now has.put;
+    placed = files_since has.put.files (recovered (m.seen start)) (m.seen mid) (m.seen now) same has.placed;
   }
 
-  pub recovered_in_part : (is_whole : D → Name → Type 0) (lists : List ℕ → Type 0) (now : D) → WasPutting moment left_since seen is_whole may_leave lists (HasOldFiles (seen mid)) (seen mid) mid now
-      → WasPutting moment left_since seen is_whole may_leave lists (RecoversAsOneOf (may_leave start)) (recovered (seen start)) start now
+  pub recovered_in_part : (are_such : List NamedFile → Type 0) (now : D) → WasPutting m are_such (HasOldFiles (m.seen mid)) (m.seen mid) mid now
+      → WasPutting m are_such (RecoversAsOneOf (m.may_leave start)) (recovered (m.seen start)) start now
   unfolding recovered_put
-  recovered_in_part is_whole lists now was = record {
-    put = recovered_put lists now was.put;
+  recovered_in_part are_such now was = record {
+    put = recovered_put are_such now was.put;
     ready = record {
       earlier = was.ready.earlier;
       since = omega (arith, was.ready.since, first.later);
@@ -258,26 +252,32 @@ module _ {D : Type 0} (moment : D → ℕ) (left_since : D → ℕ → Folder �
       same = λ n free. was.ready.same n free ∙ same n;
     };
     shown = elim was.shown [
-      | inl has ↦ inl (as_one (seen now) has)
-      | inr will ↦ inr (λ n. will n ∙ with_files_same (files_in was.put.written) (recovered (seen start)) (seen mid) (λ m free. same m) n)
+      | inl has ↦ inl (as_one (m.seen now) has)
+      | inr will ↦ inr (λ n. will n ∙ with_files_same was.put.files (recovered (m.seen start)) (m.seen mid) (λ name free. same name) n)
     ];
   }
 
   -- and where a failure is said to leave the files before
-  pub recovered_old : {T F : Type 0} (other : F → Type 0) (now : D) (ended : Result T F) → IfErr ended (λ failure. other failure → LeavesOnly moment left_since mid now (HasOldFiles (seen mid)))
-      → IfErr ended (λ failure. other failure → LeavesOnly moment left_since start now (RecoversAsOneOf (may_leave start)))
+  pub recovered_old : {T F : Type 0} (other : F → Type 0) (now : D) (ended : Result T F) → IfErr ended (λ failure. other failure → LeavesOnly m mid now (HasOldFiles (m.seen mid)))
+      → IfErr ended (λ failure. other failure → LeavesOnly m start now (RecoversAsOneOf (m.may_leave start)))
   recovered_old other now (Ok count) old = tt
   recovered_old other now (Err failure) old = λ said.
-      leaves_on moment left_since start mid now (AfterStep StillRecovers (may_leave start)) (HasOldFiles (seen mid)) (RecoversAsOneOf (may_leave start)) first (old said) (λ left from. (from.0, from.1, from.2.recovers)) as_one
+      leaves_on m start mid now (AfterStep StillRecovers (m.may_leave start)) (HasOldFiles (m.seen mid)) (RecoversAsOneOf (m.may_leave start)) first (old said) (λ left from. (from.0, from.1, from.2.recovers)) as_one
 
   -- and where files are in place
-  pub recovered_ok : {T F : Type 0} (lists : T → List ℕ → Type 0) (now : D) (ended : Result T F) → IfOk ended (λ count. HasPut moment left_since seen (lists count) (HasOldFiles (seen mid)) (seen mid) mid now)
-      → IfOk ended (λ count. HasPut moment left_since seen (lists count) (RecoversAsOneOf (may_leave start)) (recovered (seen start)) start now)
-  recovered_ok lists now (Ok count) has = recovered_whole (lists count) now has
-  recovered_ok lists now (Err failure) has = tt
+  pub recovered_ok : {T F : Type 0} (are_such : T → List NamedFile → Type 0) (now : D) (ended : Result T F) → IfOk ended (λ count. HasPut m (are_such count) (HasOldFiles (m.seen mid)) (m.seen mid) mid now)
+      → IfOk ended (λ count. HasPut m (are_such count) (RecoversAsOneOf (m.may_leave start)) (recovered (m.seen start)) start now)
+  recovered_ok are_such now (Ok count) has = recovered_whole (are_such count) now has
+  recovered_ok are_such now (Err failure) has = tt
 
 -- recovery that was cut off
-pub recovering_old : {D : Type 0} (moment : D → ℕ) (left_since : D → ℕ → Folder → Type 0) (may_leave : D → Folder → Type 0) (start now : D) → LeavesOnly moment left_since start now (AfterStep StillRecovers (may_leave start))
-    → LeavesOnly moment left_since start now (RecoversAsOneOf (may_leave start))
-recovering_old moment left_since may_leave start now leaves =
-    leaves_as moment left_since start now (AfterStep StillRecovers (may_leave start)) (RecoversAsOneOf (may_leave start)) leaves (λ left from. (from.0, from.1, from.2.recovers))
+pub recovering_old : {D : Type 0} (m : DiskMeaning D) (start now : D) → LeavesOnly m start now (AfterStep StillRecovers (m.may_leave start))
+    → LeavesOnly m start now (RecoversAsOneOf (m.may_leave start))
+recovering_old m start now leaves =
+    leaves_as m start now (AfterStep StillRecovers (m.may_leave start)) (RecoversAsOneOf (m.may_leave start)) leaves (λ left from. (from.0, from.1, from.2.recovers))
+
+-- files that were put into a folder that was opened
+pub put_into : {D R F : Type 0} (m : DiskMeaning D) (is_opened : D → Type 0) (are_such : R → List NamedFile → Type 0) (start now : D) (ended : Result R F) → is_opened start
+    → (m.keeps_promises → IfOk ended (λ report. HasPut m (are_such report) (RecoversAsOneOf (m.may_leave start)) (recovered (m.seen start)) start now)) → IfOk ended (λ report. HasPutInto m is_opened (are_such report))
+put_into m is_opened are_such start now (Ok report) opened put = record { start = start; end = now; opened = opened; put = put }
+put_into m is_opened are_such start now (Err failure) opened put = tt

@@ -1,21 +1,40 @@
--- Which values the options of a command line have that `clap` has read.
-use Rattle.std.specs.Prelude.{◌≡◌, ◌⊎◌, ℕ, List, codes, Option, Some, None, IfSome}
-use Rattle.clap.specs.Words.{first_value, found_of, one_text}
+-- The options of a command line: as a program declares them to `clap`, and what `clap` has read of them, a row for each that is there.
+use Rattle.std.specs.Prelude.{◌≡◌, ◌⊎◌, ℕ, Bool, true, false, List, codes, Option, Some, None, IfSome}
+use Rattle.clap.specs.Words.{Row, Rule, Text, first_of, found_of, new_rule, one_of, rows_of}
+use Rattle.clap.specs.declared.builder.action.ArgAction.TheVariants.{Set, SetTrue}
+use Rattle.clap.specs.declared.builder.value_parser.ValueParser.TheVariants.{NonEmptyString}
 use Rattle.clap.specs.declared.parser.matches.ArgMatches.{ArgMatches}
 use Rattle.program_text.specs.Dates.{IsRunDate}
 
--- the value of the option of a name
-abbrev pub value_of : ArgMatches → List ℕ → Option (List ℕ)
-value_of matches name = first_value (found_of matches) name
+-- ---- as they are declared
 
--- the flag of a name is given
-abbrev pub HasFlag : ArgMatches → List ℕ → Type 0
-HasFlag matches name = one_text (found_of matches) name ≡ Some (codes "true")
+-- an option of a name, whose value is not empty
+abbrev pub option_rule : Text → Rule
+option_rule name = record (new_rule name) { long = Some name; action = Some Set; value_names = 1; parser = Some NonEmptyString }
 
--- the flag of a name is not given: nothing is read of it, or its default
-abbrev pub LacksFlag : ArgMatches → List ℕ → Type 0
-LacksFlag matches name = (one_text (found_of matches) name ≡ None) ⊎ (one_text (found_of matches) name ≡ Some (codes "false"))
+-- one that has to be given
+abbrev pub required_rule : Text → Rule
+required_rule name = record (option_rule name) { required = true }
+
+-- a flag of a name
+abbrev pub flag_rule : Text → Rule
+flag_rule name = record (new_rule name) { long = Some name; action = Some SetTrue }
+
+-- ---- as they are read
+
+-- the rows of a command's options
+abbrev pub rows_in : ArgMatches → List Row
+rows_in matches = rows_of (found_of matches)
+
+-- nothing is read of the flag of a name, or that it is not given
+abbrev pub IsNotSet : List Row → Text → Type 0
+IsNotSet rows name = (one_of name rows ≡ None) ⊎ (one_of name rows ≡ Some (codes "false"))
+
+-- the answer is whether the flag of a name is given
+pub record IsFlag (rows : List Row) (name : Text) (given : Bool) : Type 0 where
+  pub set : one_of name rows ≡ Some (codes "true") → given ≡ true
+  pub unset : IsNotSet rows name → given ≡ false
 
 -- the date that is given is not one of a run
-abbrev pub HasBadDate : ArgMatches → Type 0
-HasBadDate matches = IfSome (value_of matches (codes "today")) (λ text. ¬ IsRunDate text)
+abbrev pub HasBadDate : List Row → Type 0
+HasBadDate rows = IfSome (first_of (codes "today") rows) (λ text. ¬ IsRunDate text)

@@ -1,9 +1,5 @@
 -- The names of faults, without what they carry.
 use Rattle.std.specs.Prelude.{ℕ, List, codes}
-use Rattle.dbf_image.specs.declared.fault.ImageFault.{ImageFault}
-use Rattle.dbf_image.specs.declared.fault.ImageFault.TheVariants as image
-use Rattle.ndx_index.specs.declared.fault.NdxFault.{NdxFault}
-use Rattle.ndx_index.specs.declared.fault.NdxFault.TheVariants as ndx
 use Rattle.catalogue_core.specs.declared.catalogue.Stop.{Stop}
 use Rattle.catalogue_core.specs.declared.catalogue.Stop.TheVariants as stop
 use Rattle.catalogue_core.specs.declared.opening.OpenFault.{OpenFault}
@@ -14,31 +10,6 @@ use Rattle.station_run.specs.declared.fault.RunFault.{RunFault}
 use Rattle.station_run.specs.declared.fault.RunFault.TheVariants as run
 use Rattle.station_files.specs.declared.close_fault.CloseFault.{CloseFault}
 use Rattle.station_files.specs.declared.close_fault.CloseFault.TheVariants as close
-
-abbrev pub image_name : ImageFault → List ℕ
-image_name image.Truncated = codes "Truncated"
-image_name image.BadVersion = codes "BadVersion"
-image_name image.BadHeaderLength = codes "BadHeaderLength"
-image_name image.BadSchema = codes "BadSchema"
-image_name image.BadRecordLength = codes "BadRecordLength"
-image_name image.TooManyRecords = codes "TooManyRecords"
-image_name image.MemoFileMissing = codes "MemoFileMissing"
-image_name image.BadMemoNumber = codes "BadMemoNumber"
-image_name image.MemoOutside = codes "MemoOutside"
-image_name image.MemoTooLong = codes "MemoTooLong"
-image_name image.NoMemory = codes "NoMemory"
-
-abbrev pub ndx_name : NdxFault → List ℕ
-ndx_name ndx.Truncated = codes "Truncated"
-ndx_name ndx.NumericIndex = codes "NumericIndex"
-ndx_name ndx.UniqueIndex = codes "UniqueIndex"
-ndx_name ndx.BadKeyLength = codes "BadKeyLength"
-ndx_name ndx.BadRecordSize = codes "BadRecordSize"
-ndx_name ndx.PageOutside = codes "PageOutside"
-ndx_name ndx.PageTwice = codes "PageTwice"
-ndx_name ndx.TooManyEntries = codes "TooManyEntries"
-ndx_name ndx.MixedPage = codes "MixedPage"
-ndx_name ndx.NoMemory = codes "NoMemory"
 
 abbrev pub open_name : OpenFault → List ℕ
 open_name opening.NoStation = codes "NoStation"

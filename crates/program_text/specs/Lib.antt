@@ -5,3 +5,5 @@ pub mod PlaceFaults
 pub mod Placing
 pub mod Reasons
 pub mod Telling
+pub mod Endings
+pub mod Jobs

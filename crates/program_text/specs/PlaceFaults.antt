@@ -1,29 +1,17 @@
 -- Why new files are not in place: what a fault of their disk, their lock or their run says.
-use Rattle.std.specs.Prelude.{◌≡◌, Option, Some}
-use Rattle.files_in_place.specs.declared.faults.DiskFault.{DiskFault}
-use Rattle.files_in_place.specs.declared.faults.DiskFault.TheVariants as disk
+use Rattle.std.specs.Prelude.{◌≡◌}
 use Rattle.files_in_place.specs.declared.faults.RecoveryFault.{RecoveryFault}
 use Rattle.files_in_place.specs.declared.faults.RecoveryFault.TheVariants as recovery
-use Rattle.files_in_place.specs.declared.faults.SetFault.{SetFault}
-use Rattle.files_in_place.specs.declared.faults.SetFault.TheVariants as set
 use Rattle.files_in_place.specs.declared.folder_lock.LockFault.{LockFault}
 use Rattle.files_in_place.specs.declared.folder_lock.LockFault.TheVariants as lock
-use Rattle.station_files.specs.declared.close_fault.CloseFault.TheVariants as close
 use Rattle.station_files.specs.declared.finish_fault.FinishFault.{FinishFault}
 use Rattle.station_files.specs.declared.finish_fault.FinishFault.TheVariants as finish
-use Rattle.whole_run.specs.declared.fault.ServeFault.{ServeFault}
-use Rattle.whole_run.specs.declared.fault.ServeFault.TheVariants as serve
 use Rattle.program_text.specs.declared.folder.FolderFault.{FolderFault}
 use Rattle.program_text.specs.declared.folder.FolderFault.TheVariants as folder
 use Rattle.program_text.specs.declared.folder.PlaceFault.{PlaceFault}
 use Rattle.program_text.specs.declared.folder.PlaceFault.TheVariants as place
 
 -- why the folder can't be opened
-abbrev pub unopened_folder : DiskFault → PlaceFault
-unopened_folder disk.NoMemory = place.NoMemory
-unopened_folder disk.Failed = place.Folder folder.Unopened
-
--- why it can't be locked
 abbrev pub unlocked_folder : LockFault → PlaceFault
 unlocked_folder lock.InUse = place.Folder folder.InUse
 unlocked_folder lock.NoMemory = place.NoMemory
@@ -52,16 +40,6 @@ unplaced_files finish.NoMemory = place.NoMemory
 unplaced_files finish.Unwritten = place.Folder folder.Unwritten
 unplaced_files finish.Unfinished = place.Folder folder.Unfinished
 
--- why a run failed, where the folder says why its last call failed that has: a file that was not written for want of memory
--- is no fault of the disk
-abbrev pub given_up : Option SetFault → ServeFault → ServeFault
-given_up (Some set.NoMemory) (serve.Close (close.Write name)) = serve.NoMemory
-given_up why fault = fault
-
--- so may a fault come of locking a folder: it is what one of the lock says
+-- so may a fault come of opening a folder: it is what one of its lock says
 abbrev pub IsOfLock : PlaceFault → Type 0
 IsOfLock fault = (why : LockFault) × (fault ≡ unlocked_folder why)
-
--- so may a fault come of opening a folder: it is what one of its disk says
-abbrev pub IsOfOpening : PlaceFault → Type 0
-IsOfOpening fault = (why : DiskFault) × (fault ≡ unopened_folder why)

@@ -11,7 +11,13 @@ use Rattle.whole_run.specs.declared.fault.ServeFault.{ServeFault}
 use Rattle.whole_run.specs.declared.fault.ServeFault.TheVariants as serve
 use Rattle.program_text.specs.declared.folder.FolderFault.{FolderFault}
 use Rattle.program_text.specs.declared.folder.FolderFault.TheVariants as folder
-use Rattle.program_text.specs.FaultNames.{close_name, image_name, ndx_name, open_name, run_name}
+use Rattle.dbf_image.specs.FaultWords.{image_name}
+use Rattle.ndx_index.specs.FaultWords.{ndx_name}
+use Rattle.program_text.specs.FaultNames.{close_name, open_name, run_name}
+
+-- that memory was refused
+abbrev pub no_memory : ServeFault
+no_memory = serve.NoMemory
 
 -- the exit status: 1 for the setup, 2 for a file and the opening, 3 for the run and for want of memory, 4 for the writing
 abbrev pub fault_status : ServeFault → ℕ

@@ -1,5 +1,5 @@
 -- What a program says at its end, where that is the same for all of them: the exit status, and what is printed.
-use Rattle.std.specs.Prelude.{ℕ, List, ◌++◌, ◌∷◌, [], codes, Option, Some, None}
+use Rattle.std.specs.Prelude.{ℕ, List, ◌++◌, ◌∷◌, [], codes, Option, Some, None, Result, Ok, Err}
 use Rattle.clap.specs.declared.error.kind.ErrorKind.{ErrorKind}
 use Rattle.clap.specs.declared.error.kind.ErrorKind.TheVariants as kind
 use Rattle.station_lines.specs.declared.script.format.TheConstants.{LF}
@@ -26,11 +26,14 @@ unprinted_line program = program ++ (codes ": cannot print" ++ LF ∷ [])
 abbrev pub no_text_line : List ℕ
 no_text_line = codes "error: an argument is no UTF-8 text" ++ LF ∷ []
 
--- on standard error where this program was refused memory
-abbrev pub no_memory_line : List ℕ → List ℕ
-no_memory_line program = program ++ (codes ": run: NoMemory" ++ LF ∷ [])
-
 -- the line for which `clap` has no text of its own: that memory was refused
 abbrev pub mistake_line : List ℕ → ErrorKind → Option (List ℕ)
-mistake_line program kind.OutOfMemory = Some (no_memory_line program)
-mistake_line program _ = None
+mistake_line no_memory_line kind.OutOfMemory = Some no_memory_line
+mistake_line no_memory_line _ = None
+
+-- ---- a call that came to its end
+
+-- what stands before that standard output took no text, where this is said besides
+abbrev pub said_before : {R E : Type 0} → (R → List ℕ) → Result R E → List ℕ
+said_before aside (Ok report) = aside report
+said_before aside (Err ending) = []

@@ -5,7 +5,8 @@ ghost use Rattle.std.specs.Io.KnownBytes.{Appends};
 ghost use Rattle.program_text.specs.Reasons.{folder_reason, unreplaced};
 
 use dbf_fields::Bytes;
-use files_in_place::{DiskFault, LockFault};
+use files_in_place::LockFault;
+use std::alloc::AllocError;
 use std::io;
 use std::io::Write;
 
@@ -67,20 +68,6 @@ pub enum PlaceFault {
 }
 
 // A fault in opening the folder.
-impl From<DiskFault> for PlaceFault {
-    ghost use Rattle.std.specs.Prelude.{◌≡◌};
-    ghost use Rattle.program_text.specs.PlaceFaults.{unopened_folder};
-
-    ghost from_gives = { λ fault place. place ≡ unopened_folder fault };
-
-    fn from(fault: DiskFault) -> PlaceFault {
-        match fault {
-            DiskFault::NoMemory => PlaceFault::NoMemory,
-            DiskFault::Failed => PlaceFault::Folder(FolderFault::Unopened),
-        }
-    }
-}
-
 impl From<LockFault> for PlaceFault {
     ghost use Rattle.std.specs.Prelude.{◌≡◌};
     ghost use Rattle.program_text.specs.PlaceFaults.{unlocked_folder};
@@ -93,5 +80,16 @@ impl From<LockFault> for PlaceFault {
             LockFault::NoMemory => PlaceFault::NoMemory,
             LockFault::Failed => PlaceFault::Folder(FolderFault::Unopened),
         }
+    }
+}
+
+impl From<AllocError> for PlaceFault {
+    ghost use Rattle.std.specs.Prelude.{◌≡◌};
+    ghost use Rattle.program_text.specs.declared.folder.PlaceFault.TheVariants.{NoMemory};
+
+    ghost from_gives = { λ _ place. place ≡ NoMemory };
+
+    fn from(_refused: AllocError) -> PlaceFault {
+        PlaceFault::NoMemory
     }
 }

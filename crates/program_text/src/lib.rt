@@ -7,17 +7,26 @@
 //! `telling.rt` ([`Told`]), and how new files take their places in `placing.rt` ([`PlaceFault`]).
 #![tactic(auto)]
 
+mod command_line;
 mod date;
+mod ending;
 mod folder;
+mod in_place;
+mod job;
 mod names;
 mod placing;
 mod reason;
+mod report;
+mod system;
 mod telling;
 
+pub use command_line::{flag, has_flag, option, required_option, value_of};
 pub use date::date_of;
+pub use ending::{Ending, Failure, Reason};
 pub use folder::{FolderFault, PlaceFault, print_folder};
-pub use placing::{give_up, lock_out, unplaced, unrecovered};
+pub use in_place::{InPlace, begin_in_place, end_in_place, run_in_place};
+pub use job::{Job, Work};
 pub use reason::{fault_status, print_fault, print_unread};
-pub use telling::{
-    Told, mistake_status, tell_mistake, tell_no_text, told_by_error, told_by_output,
-};
+pub use report::Report;
+pub use system::{Host, System, run_into};
+pub use telling::{Told, tell};

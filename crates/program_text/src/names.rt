@@ -1,50 +1,11 @@
 //! The names of faults, without what they carry.
 
 ghost use Rattle.std.specs.Prelude.{◌≡◌};
-ghost use Rattle.program_text.specs.FaultNames.{close_name as name_of_close, image_name as name_of_image, ndx_name as name_of_ndx, open_name as name_of_opening, run_name as name_of_run, settle_name as name_of_settling, stop_name as name_of_stop};
+ghost use Rattle.program_text.specs.FaultNames.{close_name as name_of_close, open_name as name_of_opening, run_name as name_of_run, settle_name as name_of_settling, stop_name as name_of_stop};
 
-use dbf_image::ImageFault;
-use ndx_index::NdxFault;
 use shared_catalogue::{OpenFault, SettleFault, Stop};
 use station_files::CloseFault;
 use station_run::RunFault;
-
-/// The name of the fault for which bytes are no table.
-pub(crate) fn image_name(fault: ImageFault) -> &'static str
-    ensures value { result.now ≡ name_of_image fault }
-{
-    match fault {
-        ImageFault::Truncated => "Truncated",
-        ImageFault::BadVersion => "BadVersion",
-        ImageFault::BadHeaderLength => "BadHeaderLength",
-        ImageFault::BadSchema => "BadSchema",
-        ImageFault::BadRecordLength => "BadRecordLength",
-        ImageFault::TooManyRecords => "TooManyRecords",
-        ImageFault::MemoFileMissing => "MemoFileMissing",
-        ImageFault::BadMemoNumber => "BadMemoNumber",
-        ImageFault::MemoOutside => "MemoOutside",
-        ImageFault::MemoTooLong => "MemoTooLong",
-        ImageFault::NoMemory => "NoMemory",
-    }
-}
-
-/// The name of the fault for which an index file is refused.
-pub(crate) fn ndx_name(fault: NdxFault) -> &'static str
-    ensures value { result.now ≡ name_of_ndx fault }
-{
-    match fault {
-        NdxFault::Truncated => "Truncated",
-        NdxFault::NumericIndex => "NumericIndex",
-        NdxFault::UniqueIndex => "UniqueIndex",
-        NdxFault::BadKeyLength => "BadKeyLength",
-        NdxFault::BadRecordSize => "BadRecordSize",
-        NdxFault::PageOutside => "PageOutside",
-        NdxFault::PageTwice => "PageTwice",
-        NdxFault::TooManyEntries => "TooManyEntries",
-        NdxFault::MixedPage => "MixedPage",
-        NdxFault::NoMemory => "NoMemory",
-    }
-}
 
 /// The name of the fault for which a catalogue can't be opened.
 pub(crate) fn open_name(fault: OpenFault) -> &'static str

@@ -4,7 +4,8 @@ ghost use Rattle.std.specs.Prelude.{◌≡◌, ◌++◌, OnOk};
 ghost use Rattle.std.specs.Io.KnownBytes.{Appends};
 ghost use Rattle.program_text.specs.Reasons.{close_reason, fault_reason, fault_status as status_of_fault, file_reason, unread_file, unwritten};
 
-use crate::names::{close_name, image_name, ndx_name, open_name, run_name};
+use crate::ending::Reason;
+use crate::names::{close_name, open_name, run_name};
 use dbf_fields::Bytes;
 use station_files::{CloseFault, folder_of};
 use std::io;
@@ -40,6 +41,28 @@ pub fn print_fault<W: Write>(out: &mut W, fault: &ServeFault) -> io::Result<()>
     }
 }
 
+impl Reason for ServeFault {
+    ghost use Rattle.program_text.specs.Reasons.{fault_reason, fault_status, no_memory};
+
+    ghost words = { fault_reason };
+
+    ghost status = { fault_status };
+
+    ghost no_memory = { no_memory };
+
+    fn exit_status(&self) -> u8 {
+        fault_status(self)
+    }
+
+    fn print<W: Write>(&self, out: &mut W) -> io::Result<()> {
+        print_fault(out, self)
+    }
+
+    fn out_of_memory() -> ServeFault {
+        ServeFault::NoMemory
+    }
+}
+
 /// Prints why the file of a path was not read. Takes no memory. An error where a write fails.
 pub fn print_unread<W: Write>(out: &mut W, path: &Bytes, fault: FileFault) -> io::Result<()>
     ensures text { OnOk result (Appends (W.contents out.old) (W.contents out.new) (unread_file path.now fault)) }
@@ -56,8 +79,8 @@ fn print_file_fault<W: Write>(out: &mut W, path: &Bytes, fault: FileFault) -> io
     match fault {
         FileFault::CannotRead => out.write_all(b"cannot read"),
         FileFault::Unrecovered => print_unrecovered(out, path),
-        FileFault::Image(fault) => out.write_all(image_name(fault).as_bytes()),
-        FileFault::Ndx(fault) => out.write_all(ndx_name(fault).as_bytes()),
+        FileFault::Image(fault) => out.write_all(fault.name().as_bytes()),
+        FileFault::Ndx(fault) => out.write_all(fault.name().as_bytes()),
     }
 }
 

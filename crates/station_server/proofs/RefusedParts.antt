@@ -1,9 +1,9 @@
 -- The stations whose commands were refused, one after another.
-use Rattle.std.proofs.Common.{◌≡◌, ◌≢◌, ℕ, ◌+◌, ◌<◌, Bool, cond, List, [], ◌∷◌, ◌++◌, Option, Result, Ok, Err, length, take, get_or, refl, sym, ap, subst, ◌∙◌, append_assoc, arith}
+use Rattle.std.proofs.Common.{◌≡◌, ◌≢◌, ℕ, ◌+◌, ◌<◌, Bool, cond, List, [], ◌∷◌, ◌++◌, Option, length, take, get_or, refl, sym, ap, subst, ◌∙◌, append_assoc, arith}
 use Rattle.std.proofs.lemmas.Bool.{ne_eqb}
 use Rattle.std.proofs.lemmas.List.{append-nil, length-take-le, take_more}
 use Rattle.std.specs.Fmt.{decimal}
-use Rattle.std.specs.Prelude.{codes, OnOk}
+use Rattle.std.specs.Prelude.{codes}
 use Rattle.std.specs.Io.KnownBytes.{Appends}
 use Rattle.program_text.proofs.Printing.{appends_then}
 use Rattle.station_lines.specs.declared.script.format.TheConstants.{LF}
@@ -41,16 +41,3 @@ refused_line counts o a b q some front parts end =
     append_assoc name (number ++ word) rest ∙ ap (λ (l : List ℕ). name ++ l) (append_assoc number word rest) in
     subst (λ (none : Bool). Appends o q (cond none [] (name ++ (number ++ (word ++ rest))))) (sym (ne_eqb counts.refused 0 some))
     (subst (Appends o q) joined (appends_then o a q (name ++ (number ++ word)) rest front (appends_then a b q (refused_parts 1 counts.refused_by_station.items) (LF ∷ []) parts end)))
-
--- ---- what a call said, and another after it
-
--- it said nothing
-pub still_said : {S T F : Type 0} (contents : S → Option (List ℕ)) (old mid new : S) (text : List ℕ) (said : Result T F) → Appends (contents old) (contents mid) text → new ≡ mid
-    → OnOk said (Appends (contents old) (contents new) text)
-still_said contents old mid new text (Ok x) first same = subst (λ (s : _). Appends (contents old) (contents s) text) (sym same) first
-still_said contents old mid new text (Err y) first same = tt
-
-pub said_after : {T F : Type 0} (old mid new : Option (List ℕ)) (first last : List ℕ) (said : Result T F) → Appends old mid first → OnOk said (Appends mid new last)
-    → OnOk said (Appends old new (first ++ last))
-said_after old mid new first last (Ok x) before after = appends_then old mid new first last before after
-said_after old mid new first last (Err y) before after = tt

@@ -1,4 +1,3 @@
 pub mod Kept
 pub mod Program
-pub mod Failures
 pub mod Endings

@@ -1,117 +1,98 @@
--- What the command line asks for: the run, its files, and where they are written.
-use Rattle.std.specs.Prelude.{◌≡◌, ◌≢◌, ℕ, Bool, true, false, List, [], Option, Some, None, IsSome, bytes_eq, codes, if◌then◌else◌}
-use Rattle.std.specs.List.{AllByRecursion, IsDistinct}
-use Rattle.clap.specs.declared.parser.matches.ArgMatches.{ArgMatches}
-use Rattle.dbf_fields.specs.declared.day.Day.{Day}
-use Rattle.byte_io.specs.Sink.{grown}
-use Rattle.catalogue_core.specs.declared.entry.Entry.{Entry}
-use Rattle.files_in_place.specs.Folder.{Folder}
-use Rattle.station_files.specs.declared.closed.ClosedTable.{ClosedTable}
-use Rattle.station_files.specs.declared.named.NamedFile.{NamedFile}
-use Rattle.station_files.specs.Closing.{first_blocked, run_files}
-use Rattle.station_files.specs.Files.{files_in, listing, IsOfBytes}
-use Rattle.station_files.specs.Placed.{names_of}
+-- What the command line asks for, and what a call of the program does.
+use Rattle.std.specs.Prelude.{◌≡◌, ◌⊎◌, ℕ, Bool, true, false, List, Option, Some, IsSome, IfSome, codes}
+use Rattle.clap.specs.Words.{App, Row, Text, first_of, kind_of, matches_of, new_app, takes, with_rule}
+use Rattle.clap.specs.declared.error.kind.ErrorKind.TheVariants.{OutOfMemory}
+use Rattle.dbf_fields.specs.Date.{SaysDay}
+use Rattle.dbf_image.specs.Image.{IsOutside}
+use Rattle.files_in_place.specs.Disk.{DiskMeaning}
+use Rattle.program_text.specs.declared.ending.Ending.{Ending}
+use Rattle.program_text.specs.declared.ending.Ending.TheVariants as ended
+use Rattle.program_text.specs.declared.ending.Failure.{Failure}
+use Rattle.program_text.specs.declared.ending.Failure.TheVariants as failure
+use Rattle.program_text.specs.CommandLine.{flag_rule, required_rule, HasBadDate, IsFlag}
+use Rattle.program_text.specs.Jobs.{ComesToItsEnd, IsLoadFailure as IsLoadFailureOf, IsPlaceFailure as IsPlaceFailureOf, IsRunFailure}
+use Rattle.program_text.specs.Placing.{HasPutInto}
 use Rattle.station_files.specs.declared.close_fault.CloseFault.TheVariants.{Write}
-use Rattle.whole_run.specs.declared.counts.CommandCounts.{CommandCounts}
+use Rattle.station_files.specs.declared.named.NamedFile.{NamedFile}
+use Rattle.station_server.specs.declared.program.options.Options.{Options}
+use Rattle.station_server.specs.declared.program.served.Served.{Served}
 use Rattle.whole_run.specs.declared.fault.ServeFault.{ServeFault}
 use Rattle.whole_run.specs.declared.fault.ServeFault.TheVariants.{Close, NoMemory}
-use Rattle.whole_run.specs.Counts.{AreRefusedIn}
-use Rattle.journal_file.specs.WholeText.{CanBeTold}
-use Rattle.whole_run.specs.JournalFile.{all_files, told_run, IsJournalText, IsCutRunWithJournal}
 use Rattle.whole_run.specs.Loading.{IsFailure}
-use Rattle.whole_run.specs.WholeRun.{IsServeFault, IsWholeRun, IsCutRun}
-use Rattle.program_text.specs.declared.folder.FolderFault.{FolderFault}
-use Rattle.program_text.specs.declared.folder.FolderFault.TheVariants.{InUse, Unopened, Unrecovered, BadList, Unreplaced, Unwritten, Unfinished}
-use Rattle.program_text.specs.CommandLine.{value_of}
-use Rattle.program_text.specs.Placing.{HasFiles}
-use Rattle.station_server.specs.declared.program.failure.Failure.{Failure}
-use Rattle.station_server.specs.declared.program.failure.Failure.TheVariants.{BadDate, Serve, Folder as OfFolder}
-use Rattle.station_server.specs.declared.program.options.Options.{Options}
+use Rattle.whole_run.specs.Served.{IsServed}
+use Rattle.whole_run.specs.WholeRun.{IsServeFault}
 
--- the paths of the setup and of the folder are given
-abbrev pub HasPaths : ArgMatches → Type 0
-HasPaths matches = IsSome (value_of matches (codes "setup")) × IsSome (value_of matches (codes "out"))
+-- ---- the command line
 
--- the files of a run of these tables and answers that the options ask for: that of its journal, with this text, only where it is
--- asked for
-abbrev pub asked_files : Options → List ClosedTable → List (List ℕ) → List ℕ → List NamedFile
-asked_files options tables answers text =
-    if options.journal then all_files options.today tables answers text else run_files options.today tables answers
+-- the program with the options that have to be given
+abbrev pub paths_app : App
+paths_app =
+    with_rule (with_rule (with_rule (new_app (codes "station_server")) (required_rule (codes "setup"))) (required_rule (codes "out"))) (required_rule (codes "today"))
 
--- where the journal is asked for, the text tells what the run has read, performed and written, and nothing else
-abbrev pub IsAskedText : Option (List NamedFile) → Options → List ClosedTable → List (List ℕ) → List Entry → List ℕ → Type 0
-IsAskedText files options tables answers journal text =
-    options.journal ≡ true
-    → (told : IsJournalText files options.setup.now options.reindex journal (run_files options.today tables answers) text)
-    × CanBeTold (told_run told.read options.reindex journal (run_files options.today tables answers))
+-- the program and all its options
+abbrev pub server_app : App
+server_app = with_rule (with_rule paths_app (flag_rule (codes "reindex"))) (flag_rule (codes "journal"))
 
--- The run that the options ask for, over these files, came to its end: these are its tables and answers and how many
--- commands were refused, none of the tables has more blocks than its file can have, and its files stand after what was written before. Names and files are of bytes, so
--- what was written tells these files, and no others; and no two of them have the same name.
-pub record IsServedBy (files : Option (List NamedFile)) (options : Options) (old new : Option (List ℕ)) (counts : CommandCounts) : Type 0 where
-  pub tables : List ClosedTable
-  pub answers : List (List ℕ)
-  pub run : IsWholeRun files options.setup.now options.reindex tables answers counts.all
-  pub refused : AreRefusedIn run.history counts
-  pub few_blocks : first_blocked 1 tables ≡ None
-  pub text : List ℕ
-  pub journal : IsAskedText files options tables answers run.history.journal text
-  pub written : new ≡ grown old (listing (asked_files options tables answers text))
-  pub bytes : AllByRecursion IsOfBytes (asked_files options tables answers text)
-  pub told : files_in (listing (asked_files options tables answers text)) ≡ asked_files options tables answers text
-  pub distinct : IsDistinct bytes_eq (names_of (asked_files options tables answers text))
+-- the paths of the setup and of the folder are given, and a date
+pub record HasPaths (rows : List Row) : Type 0 where
+  pub setup : IsSome (first_of (codes "setup") rows)
+  pub out : IsSome (first_of (codes "out") rows)
+  pub today : IsSome (first_of (codes "today") rows)
 
--- a file of a run could not be written, with or without the journal's
-abbrev pub IsCutRunAs : Bool → Option (List NamedFile) → List ℕ → Bool → Day → Option (List ℕ) → Option (List ℕ) → ServeFault → Type 0
-IsCutRunAs true = IsCutRunWithJournal
-IsCutRunAs false = IsCutRun
+-- what the options ask for
+pub record IsAskedBy (rows : List Row) (options : Options) : Type 0 where
+  pub setup : first_of (codes "setup") rows ≡ Some options.setup.now
+  pub out : first_of (codes "out") rows ≡ Some options.out.now
+  pub today : IfSome (first_of (codes "today") rows) (λ text. SaysDay text options.today)
+  pub years : ¬ IsOutside options.today.year
+  pub reindex : IsFlag rows (codes "reindex") options.reindex
+  pub journal : IsFlag rows (codes "journal") options.journal
 
--- a file of the run that the options ask for could not be written
-abbrev pub IsCutRunBy : Option (List NamedFile) → Options → Option (List ℕ) → Option (List ℕ) → ServeFault → Type 0
-IsCutRunBy files options = IsCutRunAs options.journal files options.setup.now options.reindex options.today
+-- what the words of a command line ask for, of which the first is the program's name
+abbrev pub IsAskedIn : List Text → Options → Type 0
+IsAskedIn words options = IsAskedBy (matches_of server_app words) options
 
--- it holds unless files may be begun: a file could not be written, or memory was refused where the journal is asked for
-abbrev pub UnlessBegunBy : Options → ServeFault → Type 0 → Type 0
-UnlessBegunBy options fault holds = (options.journal ≡ true → fault ≢ NoMemory) → ((name : List ℕ) → fault ≢ Close (Write name)) → holds
+-- why these words are not read as what they ask for: they are not taken, the date is bad, or memory was refused
+abbrev pub IsWhyNotRead : List Text → Ending (Failure ServeFault) → Type 0
+IsWhyNotRead words ended.NoText = ⊥
+IsWhyNotRead words (ended.CommandLine error) = takes server_app words ≡ true → kind_of error ≡ OutOfMemory
+IsWhyNotRead words (ended.Failed failure.BadDate) = HasPaths (matches_of server_app words) → HasBadDate (matches_of server_app words)
+IsWhyNotRead words (ended.Failed (failure.Work NoMemory)) = Unit {0}
+IsWhyNotRead words (ended.Failed why) = ⊥
 
--- The run that the options ask for came to its end: these are its tables and answers and how many commands were refused. No two of its files have the same name, and
--- the new folder has them, and else what the old one had.
-pub record IsInPlace (files : Option (List NamedFile)) (options : Options) (old new : Folder) (counts : CommandCounts) : Type 0 where
-  pub tables : List ClosedTable
-  pub answers : List (List ℕ)
-  pub run : IsWholeRun files options.setup.now options.reindex tables answers counts.all
-  pub refused : AreRefusedIn run.history counts
-  pub text : List ℕ
-  pub journal : IsAskedText files options tables answers run.history.journal text
-  pub distinct : IsDistinct bytes_eq (names_of (asked_files options tables answers text))
-  pub placed : HasFiles (asked_files options tables answers text) old new
+-- ---- the run
 
--- the run that the options ask for came to its end, and its files were written, whole, where none had been
-abbrev pub IsServedWhole : Option (List NamedFile) → Options → Type 0
-IsServedWhole files options = (written : List ℕ) × (counts : CommandCounts) × IsServedBy files options (Some []) (Some written) counts
+-- a run failed since the folder has not taken a file
+abbrev pub says_unwritten : ServeFault → Bool
+says_unwritten (Close (Write name)) = true
+says_unwritten why = false
 
--- the list tells the files of the run that the options ask for, which came to its end
-abbrev pub IsListOfRun : Option (List NamedFile) → Options → List ℕ → Type 0
-IsListOfRun files options written = (counts : CommandCounts) × IsServedBy files options (Some []) (Some written) counts
+-- the run that the options ask for came to its end over these files, these are its files, and this is said of it
+abbrev pub IsServedBy : Option (List NamedFile) → Options → List NamedFile → Served → Type 0
+IsServedBy files options written served = IsServed files options.setup.now options.reindex options.today options.journal written served.counts
 
--- Why a folder that was locked and opened has not got the files of the run that the options ask for: it was not recovered, or
--- the run came to its end and its files were not put in place.
-abbrev pub IsFolderFault : Option (List NamedFile) → Options → FolderFault → Type 0
-IsFolderFault files options InUse = ⊥
-IsFolderFault files options Unopened = ⊥
-IsFolderFault files options Unrecovered = Unit {0}
-IsFolderFault files options BadList = Unit {0}
-IsFolderFault files options (Unreplaced name) = Unit {0}
-IsFolderFault files options Unwritten = IsServedWhole files options
-IsFolderFault files options Unfinished = IsServedWhole files options
+-- the words ask for a run, it came to its end, and its files are in the folder that they name
+pub record IsServedAsAsked {D : Type 0} (m : DiskMeaning D) (is_folder : List ℕ → D → Type 0) (files : Option (List NamedFile)) (words : List Text) (served : Served) : Type 0 where
+  pub options : Options
+  pub asked : IsAskedIn words options
+  pub put : HasPutInto m (is_folder options.out.now) (λ written. IsServedBy files options written served)
 
--- why the files of the run that the options ask for are not in place
-abbrev pub IsPlaceFault : Option (List NamedFile) → Options → Failure → Type 0
-IsPlaceFault files options BadDate = ⊥
-IsPlaceFault files options (Serve fault) = IsServeFault files options.setup.now options.reindex options.today.year fault
-IsPlaceFault files options (OfFolder fault) = IsFolderFault files options fault
+-- why its files are not in place in the folder of a disk
+abbrev pub IsPlaceFailure : Option (List NamedFile) → Options → Failure ServeFault → Type 0
+IsPlaceFailure files options why =
+    IsPlaceFailureOf (IsServeFault files options.setup.now options.reindex options.today.year) NoMemory (ComesToItsEnd (IsServedBy files options)) why
 
 -- what a failure says of the count of loads that failed
-abbrev pub IsLoadFailure : Option (List NamedFile) → Option ℕ → Option ℕ → Failure → Type 0
-IsLoadFailure files before after (Serve fault) = IsFailure files before after fault
-IsLoadFailure files before after why = after ≡ before
+abbrev pub IsLoadFailure : Option (List NamedFile) → Option ℕ → Option ℕ → Failure ServeFault → Type 0
+IsLoadFailure files before after why = IsLoadFailureOf (IsFailure files before after) NoMemory (after ≡ before) why
+
+-- why the run that the options ask for has not written its files
+abbrev pub IsUnserved : Option (List NamedFile) → Options → Failure ServeFault → Type 0
+IsUnserved files options why =
+    IsRunFailure (IsServeFault files options.setup.now options.reindex options.today.year) NoMemory (ComesToItsEnd (IsServedBy files options)) why
+
+-- why the run that the words ask for has not: they are not read, or the run failed
+abbrev pub IsUnservedAsAsked : Option (List NamedFile) → List Text → Ending (Failure ServeFault) → Type 0
+IsUnservedAsAsked files words ending =
+    IsWhyNotRead words ending
+    ⊎ ((options : Options) × (why : Failure ServeFault) × (ending ≡ ended.Failed why) × IsAskedIn words options × IsUnserved files options why)

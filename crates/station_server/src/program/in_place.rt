@@ -1,137 +1,122 @@
-//! The whole run over the folder of a disk, whose new files take their places all together.
+//! The run of a command line into the folder of a disk, where its files take their places all together.
 
-ghost use Rattle.std.specs.Prelude.{◌≡◌, ◌≢◌, ◌<◌, [], Some, IfOk, IfErr, IsErr, IsErrOf, OnOk};
-ghost use Rattle.files_in_place.specs.Disk.{LeavesOnly, IsSynced};
-ghost use Rattle.files_in_place.specs.Folder.{Name, recovered};
+ghost use Rattle.std.specs.Prelude.{◌≡◌, Some, IfErr, IfOk, IsErr, IsErrOf, OnOk};
+ghost use Rattle.files_in_place.specs.Disk.{IsSyncedDisk};
+ghost use Rattle.files_in_place.specs.Folder.{recovered};
 ghost use Rattle.files_in_place.specs.Recovery.{HasOldFiles, IsClean, OthersAreWhole};
-ghost use Rattle.files_in_place.specs.Staged.{HasBadList};
 ghost use Rattle.program_text.specs.PlaceFaults.{IsOfRecovery};
+ghost use Rattle.program_text.specs.Placing.{EndsInPlace, HasPutInto, RecoversAsOneOf, TellsRecovery};
 ghost use Rattle.program_text.specs.declared.folder.FolderFault.{FolderFault};
-ghost use Rattle.program_text.specs.Placing.{HasPut, RecoversAsOneOf, WasPutting};
-ghost use Rattle.station_server.specs.Program.{IsInPlace, IsListOfRun, IsLoadFailure, IsPlaceFault, IsServedBy};
+ghost use Rattle.station_server.specs.Program.{IsLoadFailure, IsPlaceFailure, IsServedBy, IsUnserved};
 
-use crate::program::failure::Failure;
-use crate::program::options::Options;
-use crate::program::serving::serve_options;
-use files_in_place::{Disk, recover};
-use program_text::{FolderFault, give_up, unplaced, unrecovered};
-use station_files::{DiskFolder, Origin, Source};
+use crate::program::job::ServeJob;
+use crate::program::served::Served;
+use files_in_place::Disk;
+use program_text::{Failure, FolderFault, InPlace, System, begin_in_place, end_in_place};
+use station_files::{DiskFolder, MissingFolder, Origin, Source};
 use station_run::Gate;
 use std::alloc::Global;
+use std::io::Write;
 use std::marker::Brand;
 use std::sync::Wait;
 use std::thread::Threads;
-use whole_run::CommandCounts;
-
-/// How a run over the folder of a disk ended, and the disk then.
-#[derive(Drop)]
-pub(crate) struct InPlace<D: Disk + Drop> {
-    /// How many commands were performed and refused, where all files are in place, or why they are not.
-    pub ended: Result<CommandCounts, Failure>,
-    /// The disk.
-    pub disk: D,
-}
+use whole_run::ServeFault;
 
 // Serves the run into the folder of a disk that has been recovered, and puts its files in place.
-fn serve_recovered<
+fn serve_recovered<R, Y, G, S, D, O, E>(
+    alloc: Global,
+    job: &ServeJob<'_, R, Y, G>,
+    source: &mut S,
+    disk: D,
+    err: &mut E,
+) -> InPlace<Served, ServeFault, D>
+where
+    R: Threads + Wait + Sync,
+    Y: System,
+    G: Gate + Sync,
     S: Source,
     D: Disk + Drop,
     O: Origin<D>,
-    G: Gate + Sync,
-    R: Threads + Wait + Sync,
->(rt: &R, alloc: Global, options: &Options<'_>, source: &mut S, disk: D, gate: &G) -> InPlace<D>
-    requires synced { D.keeps_promises → IsSynced (D.seen disk) (D.is_whole disk) (D.may_leave disk) }
-    requires clean { D.keeps_promises → IsClean (D.seen disk) }
+    E: Write,
+    requires synced { D.meaning.keeps_promises → IsSyncedDisk D.meaning disk }
+    requires clean { D.meaning.keeps_promises → IsClean (D.meaning.seen disk) }
     requires origin { O.origin ≡ Some disk }
-    ensures placed { D.keeps_promises → IfOk result.ended (IsInPlace (S.files source.old) options.now (D.seen disk) (D.seen result.disk)) }
-    ensures synced { D.keeps_promises → OnOk result.ended (IsSynced (D.seen result.disk) (D.is_whole result.disk) (D.may_leave result.disk)) }
-    ensures any_moment { D.keeps_promises → IfOk result.ended (λ counts.
-        HasPut D.moment D.left_since D.seen (λ written. IsServedBy (S.files source.old) options.now (Some []) (Some written) counts) (HasOldFiles (D.seen disk)) (D.seen disk) disk result.disk) }
-    ensures old_files { D.keeps_promises → IfErr result.ended (λ failure. failure ≢ Failure.Folder FolderFault.Unfinished
-        → LeavesOnly D.moment D.left_since disk result.disk (HasOldFiles (D.seen disk))) }
-    ensures fault { IfErr result.ended (IsPlaceFault (S.files source.old) options.now) }
+    ensures ends { EndsInPlace D.meaning (IsServedBy (S.files source.old) job.now.options) (HasOldFiles (D.meaning.seen disk)) (D.meaning.seen disk) disk result.disk result.ended }
+    ensures fault { IfErr result.ended (IsPlaceFailure (S.files source.old) job.now.options) }
     ensures recovered { (said : FolderFault) → IsOfRecovery said → ¬ IsErrOf result.ended (Failure.Folder said) }
-    ensures unwritten { IsErrOf result.ended (Failure.Folder FolderFault.Unwritten) → D.faults disk < D.faults result.disk }
-    ensures unfinished { D.keeps_promises → IsErrOf result.ended (Failure.Folder FolderFault.Unfinished)
-        → WasPutting D.moment D.left_since D.seen D.is_whole D.may_leave (IsListOfRun (S.files source.old) options.now) (HasOldFiles (D.seen disk)) (D.seen disk) disk result.disk }
     ensures kept { S.files source.new ≡ S.files source.old }
     ensures loads { OnOk result.ended (S.failures source.new ≡ S.failures source.old) }
     ensures failure { IfErr result.ended (IsLoadFailure (S.files source.old) (S.failures source.old) (S.failures source.new)) }
 {
     let mut folder = DiskFolder::<D, O>::new(alloc, disk);
-    let counts = match serve_options(rt, alloc, options, source, &mut folder, gate) {
-        Ok(counts) => counts,
-        Err(fault) => {
-            let fault = give_up(&mut folder, fault);
-            return InPlace {
-                ended: Err(Failure::Serve(fault)),
-                disk: folder.into_disk(),
-            };
-        }
-    };
-    match folder.finish() {
-        (Ok(()), disk) => InPlace {
-            ended: Ok(counts),
-            disk,
-        },
-        (Err(fault), disk) => InPlace {
-            ended: Err(Failure::from(unplaced(fault))),
-            disk,
-        },
-    }
+    let ended = job.work(alloc, source, &mut folder, err);
+    end_in_place(job, source, folder, ended)
 }
 
-/// Serves the whole run of a command line over the folder of a disk. What an earlier run left in it is brought to its end
-/// before anything is read; the new files are put in place, all of them or none, once they are written.
-pub(crate) fn serve_in_place<S: Source, D: Disk + Drop, G: Gate + Sync, R: Threads + Wait + Sync>(
-    rt: &R,
+/// Serves the run over the folder of a disk. What an earlier run left in it is brought to its end before anything is read; the new
+/// files are put in place, all of them or none, once they are written.
+pub(crate) fn serve_in_place<R, Y, G, S, D, E>(
     alloc: Global,
-    options: &Options<'_>,
+    job: &ServeJob<'_, R, Y, G>,
     source: &mut S,
     disk: D,
-    gate: &G,
-) -> InPlace<D>
+    err: &mut E,
+) -> InPlace<Served, ServeFault, D>
+where
+    R: Threads + Wait + Sync,
+    Y: System,
+    G: Gate + Sync,
+    S: Source,
+    D: Disk + Drop,
+    E: Write,
     // Of the files that recovery leaves alone, all bytes are on the disk.
-    requires on_disk { D.keeps_promises → OthersAreWhole (D.seen disk) (D.is_whole disk) }
-    // Where the disk keeps its promises, at Ok it has the files of the run, and else what recovery makes of what was seen before: no
-    // other file is touched.
-    ensures placed { D.keeps_promises → IfOk result.ended (IsInPlace (S.files source.old) options.now (recovered (D.seen disk)) (D.seen result.disk)) }
-    ensures synced { D.keeps_promises → OnOk result.ended (IsSynced (D.seen result.disk) (D.is_whole result.disk) (D.may_leave result.disk)) }
-    // And a crash at any moment of the call leaves a folder of which recovery makes what it makes of one that might have been left
-    // before, or the folder before with the files of the run in their places, all of them. It is the same run at each moment.
-    ensures any_moment { D.keeps_promises → IfOk result.ended (λ counts.
-        HasPut D.moment D.left_since D.seen (λ written. IsServedBy (S.files source.old) options.now (Some []) (Some written) counts) (RecoversAsOneOf (D.may_leave disk)) (recovered (D.seen disk)) disk result.disk) }
-    // Where the run fails, it leaves the first, but where some of the new files may be in place.
-    ensures old_files { D.keeps_promises → IfErr result.ended (λ failure. failure ≢ Failure.Folder FolderFault.Unfinished
-        → LeavesOnly D.moment D.left_since disk result.disk (RecoversAsOneOf (D.may_leave disk))) }
-    // So is what is seen then: recovery makes of it what it makes of one that might have been left before.
-    ensures seen { D.keeps_promises → IfErr result.ended (λ failure. failure ≢ Failure.Folder FolderFault.Unfinished
-        → RecoversAsOneOf (D.may_leave disk) (D.seen result.disk)) }
-    ensures fault { IfErr result.ended (IsPlaceFault (S.files source.old) options.now) }
-    // It is said that the folder was not recovered, or that a file of it can't be replaced, only where a call of the disk has failed.
-    ensures unrecovered { IsErrOf result.ended (Failure.Folder FolderFault.Unrecovered) → D.faults disk < D.faults result.disk }
-    ensures unreplaced { (name : Name) → IsErrOf result.ended (Failure.Folder (FolderFault.Unreplaced name)) → D.faults disk < D.faults result.disk }
-    // A list of new files that no run has written is told only where there is one; then nothing is touched.
-    ensures bad_list { D.keeps_promises → IsErrOf result.ended (Failure.Folder FolderFault.BadList) → HasBadList (D.seen disk) }
-    ensures untouched { D.keeps_promises → HasBadList (D.seen disk) → IsErr result.ended × (D.seen result.disk ≡ D.seen disk) }
-    // So it is said that the files were not written.
-    ensures unwritten { IsErrOf result.ended (Failure.Folder FolderFault.Unwritten) → D.faults disk < D.faults result.disk }
-    // Where only some of them are in place, a crash at any moment leaves what it may leave at Ok, and what is seen is one of these; and
-    // at some moment of the call all of them were on the disk, and none was in place.
-    ensures unfinished { D.keeps_promises → IsErrOf result.ended (Failure.Folder FolderFault.Unfinished)
-        → WasPutting D.moment D.left_since D.seen D.is_whole D.may_leave (IsListOfRun (S.files source.old) options.now) (RecoversAsOneOf (D.may_leave disk)) (recovered (D.seen disk)) disk result.disk }
+    requires on_disk { D.meaning.keeps_promises → OthersAreWhole (D.meaning.seen disk) (D.meaning.is_whole disk) }
+    ensures ends { EndsInPlace D.meaning (IsServedBy (S.files source.old) job.now.options) (RecoversAsOneOf (D.meaning.may_leave disk)) (recovered (D.meaning.seen disk)) disk result.disk result.ended }
+    ensures tells { TellsRecovery D.meaning disk result.disk result.ended }
+    ensures fault { IfErr result.ended (IsPlaceFailure (S.files source.old) job.now.options) }
     ensures kept { S.files source.new ≡ S.files source.old }
     // A file can't be read only where a load has failed, or where it is over the limit.
     ensures loads { OnOk result.ended (S.failures source.new ≡ S.failures source.old) }
     ensures failure { IfErr result.ended (IsLoadFailure (S.files source.old) (S.failures source.old) (S.failures source.new)) }
 {
-    let mut disk = disk;
-    if let Err(fault) = recover(alloc, &mut disk) {
-        return InPlace {
-            ended: Err(Failure::from(unrecovered(fault))),
-            disk,
-        };
+    match begin_in_place(alloc, disk) {
+        // Which disk the new files begin on is picked for contracts, at `Brand`.
+        Ok(disk) => serve_recovered::<R, Y, G, S, D, Brand, E>(alloc, job, source, disk, err),
+        Err(refused) => refused,
     }
-    // Which disk the new files begin on is picked for contracts, at `Brand`.
-    serve_recovered::<S, D, Brand, G, R>(rt, alloc, options, source, disk, gate)
+}
+
+// Serves the run where nothing has the path of the folder for its files: none can be written.
+fn serve_nowhere<R: Threads + Wait + Sync, Y: System, G: Gate + Sync, S: Source, E: Write>(
+    alloc: Global,
+    job: &ServeJob<'_, R, Y, G>,
+    source: &mut S,
+    err: &mut E,
+) -> Result<Served, Failure<ServeFault>>
+    ensures refused { IsErr result }
+    ensures fault { IfErr result (IsUnserved (S.files source.old) job.now.options) }
+    ensures kept { S.files source.new ≡ S.files source.old }
+{
+    match job.work(alloc, source, &mut MissingFolder, err) {
+        Ok(_) => Err(Failure::Folder(FolderFault::Unopened)),
+        Err(fault) => Err(Failure::Work(fault)),
+    }
+}
+
+/// Serves the run into the folder of its command line, which no other run has meanwhile.
+pub(crate) fn serve_into<R: Threads + Wait + Sync, Y: System, G: Gate + Sync, S: Source, E: Write>(
+    alloc: Global,
+    job: &ServeJob<'_, R, Y, G>,
+    source: &mut S,
+    err: &mut E,
+) -> Result<Served, Failure<ServeFault>>
+    ensures served { IfOk result (λ served.
+        HasPutInto Y.Disk.meaning (Y.opens job.now.system.now job.now.options.out.now) (λ written. IsServedBy (S.files source.old) job.now.options written served)) }
+    ensures fault { IfErr result (IsUnserved (S.files source.old) job.now.options) }
+    ensures kept { S.files source.new ≡ S.files source.old }
+{
+    match job.system.open(alloc, job.options.out)? {
+        Some(disk) => serve_in_place(alloc, job, source, disk, err).ended,
+        None => serve_nowhere(alloc, job, source, err),
+    }
 }

@@ -1,16 +1,16 @@
 //! The command line.
 
-ghost use Rattle.std.specs.Prelude.{◌≡◌, codes, Some, None, true, false, IfSome};
-ghost use Rattle.dbf_fields.specs.Date.{SaysDay};
-ghost use Rattle.dbf_image.specs.Image.{IsOutside};
-ghost use Rattle.program_text.specs.CommandLine.{HasBadDate, HasFlag, LacksFlag, value_of};
-ghost use Rattle.station_server.specs.Program.{HasPaths};
+ghost use Rattle.std.specs.Prelude.{◌≡◌, None, IfErr, IfOk, IfSome, map};
+ghost use Rattle.clap.specs.Words.{app_of};
+ghost use Rattle.program_text.specs.CommandLine.{rows_in, HasBadDate};
+ghost use Rattle.station_server.specs.Program.{paths_app, server_app, HasPaths, IsAskedBy, IsAskedIn, IsWhyNotRead};
 
-use clap::builder::ValueParser;
-use clap::{Arg, ArgAction, ArgMatches, Command};
+use clap::{ArgMatches, Command};
 use dbf_fields::Day;
-use program_text::date_of;
+use program_text::{Ending, Failure, date_of, flag, has_flag, required_option, value_of};
 use std::alloc::{AllocError, Global};
+use std::convert::AsStr;
+use whole_run::ServeFault;
 
 // What the help tells after the options.
 const STATUSES: &str = "Exit status:
@@ -35,8 +35,10 @@ pub(crate) struct Options<'a> {
     pub journal: bool,
 }
 
-/// The command line, for `clap` to read. An error where memory is refused.
-pub(crate) fn command<'a>(alloc: Global) -> Result<Command<'a>, AllocError> {
+// The command line without its flags.
+fn command_of_paths<'a>(alloc: Global) -> Result<Command<'a>, AllocError>
+    ensures app { IfOk result (λ command. app_of command ≡ paths_app) }
+{
     Command::new(alloc, "station_server")
         .about("Runs the scripts of stations on shared dBASE III PLUS tables")
         .after_help(STATUSES)
@@ -57,55 +59,29 @@ pub(crate) fn command<'a>(alloc: Global) -> Result<Command<'a>, AllocError> {
             "today",
             "YYYYMMDD",
             "The date that the written tables tell, of 1900 to 2155",
-        ))?
-        .arg(
-            Arg::new(alloc, "reindex")
-                .long("reindex")
-                .help("Make the indexes anew from the records")
-                .action(ArgAction::SetTrue),
-        )?
-        .arg(
-            Arg::new(alloc, "journal")
-                .long("journal")
-                .help("Write the journal too, as JOURNAL.TXT")
-                .action(ArgAction::SetTrue),
-        )
+        ))
 }
 
-// An option that has to be given once, with a value that is not empty: an empty folder's name would mean the root.
-fn required_option<'a>(
-    alloc: Global,
-    name: &'a str,
-    value_name: &'a str,
-    help: &'a str,
-) -> Arg<'a> {
-    Arg::new(alloc, name)
-        .long(name)
-        .value_name(value_name)
-        .help(help)
-        .required(true)
-        .action(ArgAction::Set)
-        .value_parser(ValueParser::NonEmptyString)
+/// The command line, for `clap` to read. An error where memory is refused.
+pub(crate) fn command<'a>(alloc: Global) -> Result<Command<'a>, AllocError>
+    ensures app { IfOk result (λ command. app_of command ≡ server_app) }
+{
+    command_of_paths(alloc)?
+        .arg(flag(alloc, "reindex", "Make the indexes anew from the records"))?
+        .arg(flag(alloc, "journal", "Write the journal too, as JOURNAL.TXT"))
 }
 
 /// What a command line says that `clap` has read. `None` where the date is no calendar date of the years 1900
 /// to 2155. Takes no memory.
 pub(crate) fn options_of<'a>(matches: &ArgMatches<'a>) -> Option<Options<'a>>
-    ensures setup { IfSome result (λ options. value_of matches.now (codes "setup") ≡ Some options.setup.now) }
-    ensures out { IfSome result (λ options. value_of matches.now (codes "out") ≡ Some options.out.now) }
-    ensures today { IfSome result (λ options. IfSome (value_of matches.now (codes "today")) (λ text. SaysDay text options.today)) }
-    ensures years { IfSome result (λ options. ¬ IsOutside options.today.year) }
-    ensures reindex { IfSome result (λ options. HasFlag matches.now (codes "reindex") → options.reindex ≡ true) }
-    ensures plain { IfSome result (λ options. LacksFlag matches.now (codes "reindex") → options.reindex ≡ false) }
-    ensures journal { IfSome result (λ options. HasFlag matches.now (codes "journal") → options.journal ≡ true) }
-    ensures no_journal { IfSome result (λ options. LacksFlag matches.now (codes "journal") → options.journal ≡ false) }
-    ensures bad { result ≡ None → HasPaths matches.now → HasBadDate matches.now }
+    ensures asked { IfSome result (IsAskedBy (rows_in matches.now)) }
+    ensures bad { result ≡ None → HasPaths (rows_in matches.now) → HasBadDate (rows_in matches.now) }
 {
-    let setup = matches.get_str("setup")?;
-    let out = matches.get_str("out")?;
-    let today = date_of(matches.get_str("today")?.as_bytes())?;
-    let reindex = matches.get_flag("reindex");
-    let journal = matches.get_flag("journal");
+    let setup = value_of(matches, "setup")?;
+    let out = value_of(matches, "out")?;
+    let today = date_of(value_of(matches, "today")?.as_bytes())?;
+    let reindex = has_flag(matches, "reindex");
+    let journal = has_flag(matches, "journal");
     Some(Options {
         setup,
         out,
@@ -113,4 +89,21 @@ pub(crate) fn options_of<'a>(matches: &ArgMatches<'a>) -> Option<Options<'a>>
         reindex,
         journal,
     })
+}
+
+/// What the words of a command line ask for, of which the first is the program's name.
+///
+/// `CommandLine` says that `clap` gives no options, `Failed(BadDate)` that the date is no calendar date of the years 1900 to 2155.
+pub(crate) fn read_options<'a, T: AsStr>(
+    alloc: Global,
+    words: &'a [T],
+) -> Result<Options<'a>, Ending<Failure<ServeFault>>>
+    ensures asked { IfOk result (IsAskedIn (map T.text words.entry.now)) }
+    ensures fault { IfErr result (IsWhyNotRead (map T.text words.entry.now)) }
+{
+    let matches = command(alloc)?.try_get_matches_from(words)?;
+    match options_of(&matches) {
+        Some(options) => Ok(options),
+        None => Err(Ending::Failed(Failure::BadDate)),
+    }
 }

@@ -1,16 +1,18 @@
 mod ends;
 mod kept;
 
-use crate::program::{Failure, command, options_of, print_failure, status_of};
+use crate::program::options::{command, options_of};
+use crate::program::{PROGRAM, Served};
 use dbf_fields::{Bytes, day_of};
 use dbf_image::ImageFault;
 use key_expr::ExprFault;
 use ndx_index::NdxFault;
-use program_text::{date_of, mistake_status};
+use program_text::{Ending, Failure, Reason, date_of, tell};
 use shared_catalogue::{OpenFault, SettleFault, Stop};
 use station_files::CloseFault;
 use station_run::RunFault;
 use std::alloc::{AllocError, Global};
+use std::process::ExitCode;
 use std::test::Fail;
 use whole_run::{FileFault, ServeFault};
 
@@ -101,20 +103,28 @@ fn command_line_with_a_bad_date(rt: HostRuntime) -> Result<(), Fail> {
     Ok(())
 }
 
-// What `clap` says of a command line in place of its options, and the exit status.
-fn mistake_of(alloc: Global, words: &[&str]) -> Result<(u8, String), Fail> {
-    match command(alloc)?.try_get_matches_from(words) {
-        Ok(_) => Err("there is no mistake".into()),
-        Err(error) => Ok((mistake_status(&error), format!(in alloc; "{error}")?)),
-    }
+// What is said of a command line of which `clap` gives no options, and the exit status.
+fn mistake_of(alloc: Global, words: &[&str]) -> Result<(ExitCode, Vec<u8>), Fail> {
+    let ended: Result<Served, Ending<Failure<ServeFault>>> = match command(
+        alloc,
+    )?.try_get_matches_from(words)
+    {
+        Ok(_) => return Err("there is no mistake".into()),
+        Err(error) => Err(Ending::from(error)),
+    };
+    let mut said = Vec::new(alloc);
+    let mut warned = Vec::new(alloc);
+    let status = tell(&mut said, &mut warned, PROGRAM, &ended).status;
+    said.extend_from_slice(&warned)?;
+    Ok((status, said))
 }
 
-// The first command line of which `clap` says something else, or with another status than 1.
+// The first command line of which something else is said, or with another status than 1.
 fn first_other(alloc: Global, cases: &[(&[&str], &str)]) -> Result<Option<usize>, Fail> {
     for i in 0..cases.len() {
         let (words, wanted) = &cases[i];
         let (status, text) = mistake_of(alloc, words)?;
-        if status != 1 || text.as_str() != *wanted {
+        if status != ExitCode::from(1) || text.as_slice() != wanted.as_bytes() {
             return Ok(Some(i));
         }
     }
@@ -208,7 +218,7 @@ For more information, try '--help'.
 #[test]
 fn help(rt: HostRuntime) -> Result<(), Fail> {
     let (status, text) = mistake_of(rt.alloc(), &["station_server", "--help"])?;
-    assert_eq!(rt; status, 0);
+    assert!(rt; status == ExitCode::from(0));
     let wanted = "Runs the scripts of stations on shared dBASE III PLUS tables
 
 Usage: station_server [OPTIONS] --setup <FILE> --out <DIR> --today <YYYYMMDD>
@@ -228,26 +238,29 @@ Exit status:
   3  the run did not come to its end, or memory was refused
   4  the files are not written, or not all
 ";
-    assert_eq!(rt; text.as_str(), wanted);
+    assert!(rt; text.as_slice() == wanted.as_bytes());
     Ok(())
 }
 
-// The first failure with another status or another line.
-fn first_untold(alloc: Global, cases: &[(Failure, u8, &str)]) -> Result<Option<usize>, Fail> {
+// The first failure with another status or other words.
+fn first_untold(
+    alloc: Global,
+    cases: &[(Failure<ServeFault>, u8, &str)],
+) -> Result<Option<usize>, Fail> {
     for i in 0..cases.len() {
-        let (failure, status, line) = &cases[i];
+        let (failure, status, words) = &cases[i];
         let mut out = Vec::new(alloc);
-        print_failure(&mut out, failure)?;
-        if status_of(failure) != *status || out.as_slice() != line.as_bytes() {
+        failure.print(&mut out)?;
+        if failure.exit_status() != *status || out.as_slice() != words.as_bytes() {
             return Ok(Some(i));
         }
     }
     Ok(None)
 }
 
-fn unread(alloc: Global, path: &[u8], fault: FileFault) -> Result<Failure, AllocError> {
+fn unread(alloc: Global, path: &[u8], fault: FileFault) -> Result<Failure<ServeFault>, AllocError> {
     let path = Bytes::from_slice(alloc, path)?;
-    Ok(Failure::Serve(ServeFault::File(path, fault)))
+    Ok(Failure::Work(ServeFault::File(path, fault)))
 }
 
 #[test]
@@ -256,133 +269,105 @@ fn failures_of_inputs(rt: HostRuntime) -> Result<(), Fail> {
     let truncated = FileFault::Image(ImageFault::Truncated);
     let stray = FileFault::Ndx(NdxFault::PageOutside);
     let cases = [
-        (Failure::BadDate, 1, "station_server: bad date\n"),
+        (Failure::BadDate, 1, "bad date"),
         (
-            Failure::Serve(ServeFault::Setup(1)),
+            Failure::Work(ServeFault::Setup(1)),
             1,
-            "station_server: setup line 1 is bad\n",
+            "setup line 1 is bad",
         ),
         (
-            Failure::Serve(ServeFault::Setup(1205)),
+            Failure::Work(ServeFault::Setup(1205)),
             1,
-            "station_server: setup line 1205 is bad\n",
+            "setup line 1205 is bad",
         ),
         (
             unread(alloc, b"MISSING.SET", FileFault::CannotRead)?,
             2,
-            "station_server: MISSING.SET: cannot read\n",
+            "MISSING.SET: cannot read",
         ),
         (
             unread(alloc, b"OFFICE.SET", FileFault::Unrecovered)?,
             2,
-            "station_server: OFFICE.SET: the folder is not recovered: start with --out .\n",
+            "OFFICE.SET: the folder is not recovered: start with --out .",
         ),
         (
             unread(alloc, b"data/t.dbf", FileFault::Unrecovered)?,
             2,
-            "station_server: data/t.dbf: the folder is not recovered: start with --out data\n",
+            "data/t.dbf: the folder is not recovered: start with --out data",
         ),
         (
             unread(alloc, b"/t.dbf", FileFault::Unrecovered)?,
             2,
-            "station_server: /t.dbf: the folder is not recovered: start with --out /\n",
+            "/t.dbf: the folder is not recovered: start with --out /",
         ),
         (
             unread(alloc, b"data/t.dbf", truncated)?,
             2,
-            "station_server: data/t.dbf: Truncated\n",
+            "data/t.dbf: Truncated",
         ),
-        (
-            unread(alloc, b"t.ndx", stray)?,
-            2,
-            "station_server: t.ndx: PageOutside\n",
-        ),
+        (unread(alloc, b"t.ndx", stray)?, 2, "t.ndx: PageOutside"),
     ];
     assert_eq!(rt; first_untold(alloc, &cases)?, None);
     Ok(())
 }
 
-fn refused(fault: OpenFault) -> Failure {
-    Failure::Serve(ServeFault::Refused(fault))
+fn refused(fault: OpenFault) -> Failure<ServeFault> {
+    Failure::Work(ServeFault::Refused(fault))
 }
 
 #[test]
 fn failures_of_opening(rt: HostRuntime) -> Result<(), Fail> {
     let cases = [
-        (
-            refused(OpenFault::NoStation),
-            2,
-            "station_server: open: NoStation\n",
-        ),
+        (refused(OpenFault::NoStation), 2, "open: NoStation"),
         (
             refused(OpenFault::DuplicateTable(2)),
             2,
-            "station_server: open: DuplicateTable\n",
+            "open: DuplicateTable",
         ),
         (
             refused(OpenFault::BadExpression(1, 2, ExprFault::NoSuchField)),
             2,
-            "station_server: open: BadExpression\n",
+            "open: BadExpression",
         ),
-        (
-            refused(OpenFault::IndexStale(1, 1)),
-            2,
-            "station_server: open: IndexStale\n",
-        ),
+        (refused(OpenFault::IndexStale(1, 1)), 2, "open: IndexStale"),
     ];
     assert_eq!(rt; first_untold(rt.alloc(), &cases)?, None);
     Ok(())
 }
 
-fn stopped(fault: RunFault) -> Failure {
-    Failure::Serve(ServeFault::Run(fault))
+fn stopped(fault: RunFault) -> Failure<ServeFault> {
+    Failure::Work(ServeFault::Run(fault))
 }
 
 #[test]
 fn failures_of_the_run(rt: HostRuntime) -> Result<(), Fail> {
     let cases = [
-        (
-            stopped(RunFault::ScriptCount),
-            3,
-            "station_server: run: ScriptCount\n",
-        ),
-        (
-            stopped(RunFault::NoThread(2)),
-            3,
-            "station_server: run: NoThread\n",
-        ),
+        (stopped(RunFault::ScriptCount), 3, "run: ScriptCount"),
+        (stopped(RunFault::NoThread(2)), 3, "run: NoThread"),
         (
             stopped(RunFault::Stopped(1, Stop::JournalFull)),
             3,
-            "station_server: run: JournalFull\n",
+            "run: JournalFull",
         ),
         (
             stopped(RunFault::Stopped(2, Stop::NoMemory)),
             3,
-            "station_server: run: NoMemory\n",
+            "run: NoMemory",
         ),
         (
             stopped(RunFault::Settle(SettleFault::SeatMissing(1))),
             3,
-            "station_server: run: SeatMissing\n",
+            "run: SeatMissing",
         ),
-        (
-            stopped(RunFault::NoMemory),
-            3,
-            "station_server: run: NoMemory\n",
-        ),
-        (
-            Failure::Serve(ServeFault::NoMemory),
-            3,
-            "station_server: run: NoMemory\n",
-        ),
+        (stopped(RunFault::NoMemory), 3, "run: NoMemory"),
+        (Failure::Work(ServeFault::NoMemory), 3, "run: NoMemory"),
     ];
     assert_eq!(rt; first_untold(rt.alloc(), &cases)?, None);
     Ok(())
 }
 
-fn unclosed(fault: CloseFault) -> Failure {
-    Failure::Serve(ServeFault::Close(fault))
+fn unclosed(fault: CloseFault) -> Failure<ServeFault> {
+    Failure::Work(ServeFault::Close(fault))
 }
 
 #[test]
@@ -392,23 +377,15 @@ fn failures_of_writing(rt: HostRuntime) -> Result<(), Fail> {
         (
             unclosed(CloseFault::Write(name)),
             4,
-            "station_server: cannot write STATION1.TXT\n",
+            "cannot write STATION1.TXT",
         ),
-        (
-            unclosed(CloseFault::DateOutside),
-            4,
-            "station_server: close: DateOutside\n",
-        ),
+        (unclosed(CloseFault::DateOutside), 4, "close: DateOutside"),
         (
             unclosed(CloseFault::TooManyBlocks(3)),
             4,
-            "station_server: close: TooManyBlocks\n",
+            "close: TooManyBlocks",
         ),
-        (
-            unclosed(CloseFault::NoMemory),
-            4,
-            "station_server: close: NoMemory\n",
-        ),
+        (unclosed(CloseFault::NoMemory), 4, "close: NoMemory"),
     ];
     assert_eq!(rt; first_untold(rt.alloc(), &cases)?, None);
     Ok(())

@@ -1,18 +1,20 @@
 //! How calls of the program end: what is written, what is printed, and the exit status.
 
-use crate::program::{
-    Ending, Failure, InPlace, Options, command, serve_in_place, serve_options, tell,
-};
+use crate::program::in_place::serve_in_place;
+use crate::program::job::ServeJob;
+use crate::program::options::{Options, command};
+use crate::program::{PROGRAM, Served};
 use dbf_fields::{Bytes, day_of};
 use dbf_image::Failures;
-use files_in_place::{DiskFault, LockFault, SystemDisk};
-use program_text::{FolderFault, PlaceFault};
+use files_in_place::{LockFault, SystemDisk};
+use program_text::{Ending, Failure, FolderFault, Host, PlaceFault, tell};
 use station_files::{CloseFault, MemoryFolder, MemorySource, NamedFile};
 use station_run::OpenGate;
 use std::alloc::{AllocError, Global};
+use std::fs::File;
 use std::io::Write;
 use std::process::ExitCode;
-use std::rt::Runtime;
+use std::rt::{Files, Runtime};
 use std::sync::Wait;
 use std::test::Fail;
 use std::thread::Threads;
@@ -49,23 +51,40 @@ fn one_table(alloc: Global) -> Result<MemorySource, AllocError> {
     })
 }
 
+// How a call of the program ends.
+type Ended = Result<Served, Ending<Failure<ServeFault>>>;
+
 // So many commands, of which so many were refused, and so many of each station's.
-fn counts(
-    alloc: Global,
-    all: u64,
-    refused: u64,
-    by_station: &[u64],
-) -> Result<CommandCounts, AllocError> {
-    Ok(CommandCounts {
-        all,
-        refused,
-        refused_by_station: Vec::from_slice(alloc, by_station)?,
+fn counts(alloc: Global, all: u64, refused: u64, by_station: &[u64]) -> Result<Served, AllocError> {
+    Ok(Served {
+        counts: CommandCounts {
+            all,
+            refused,
+            refused_by_station: Vec::from_slice(alloc, by_station)?,
+        },
     })
 }
 
 // What a run of the one station's one command has performed.
-fn one_command(alloc: Global) -> Result<CommandCounts, AllocError> {
+fn one_command(alloc: Global) -> Result<Served, AllocError> {
     counts(alloc, 1, 0, &[0])
+}
+
+// A run of these options into a folder in memory.
+fn serve_to_memory<R: Runtime + Files<File = File> + AllocGlobal + Threads + Wait + Sync>(
+    rt: &R,
+    options: Options<'_>,
+    source: &mut MemorySource,
+    folder: &mut MemoryFolder,
+) -> Result<Served, ServeFault> {
+    let alloc = rt.alloc();
+    let job = ServeJob {
+        rt,
+        system: &Host::new(rt),
+        options,
+        gate: &OpenGate,
+    };
+    job.work(alloc, source, folder, &mut Vec::new(alloc))
 }
 
 #[test]
@@ -80,7 +99,7 @@ fn tables_are_dated_by_the_command_line(rt: HostRuntime) -> Result<(), Fail> {
         reindex: false,
         journal: false,
     };
-    let served = serve_options(&rt, alloc, &options, &mut source, &mut folder, &OpenGate);
+    let served = serve_to_memory(&rt, options, &mut source, &mut folder);
     assert_eq!(rt; served, Ok(one_command(alloc)?));
     let written = folder.files.first().ok_or("a file")?;
     assert!(rt; written.bytes.as_slice().starts_with(&[0x03, 87, 3, 15]));
@@ -88,12 +107,12 @@ fn tables_are_dated_by_the_command_line(rt: HostRuntime) -> Result<(), Fail> {
 }
 
 // A run of a setup over a folder of the system.
-fn serve_at<R: Runtime + AllocGlobal + Threads + Wait + Sync>(
+fn serve_at<R: Runtime + Files<File = File> + AllocGlobal + Threads + Wait + Sync>(
     rt: &R,
     source: &mut MemorySource,
     setup: &str,
     out: &str,
-) -> Result<Result<CommandCounts, Failure>, Fail> {
+) -> Result<Result<Served, Failure<ServeFault>>, Fail> {
     let alloc = rt.alloc();
     let options = Options {
         setup,
@@ -102,16 +121,22 @@ fn serve_at<R: Runtime + AllocGlobal + Threads + Wait + Sync>(
         reindex: false,
         journal: true,
     };
-    let disk = SystemDisk::open(rt.clone()?, alloc, options.out)?;
-    let InPlace { ended, disk: _ } = serve_in_place(rt, alloc, &options, source, disk, &OpenGate);
-    Ok(ended)
+    let system = Host::new(rt);
+    let job = ServeJob {
+        rt,
+        system: &system,
+        options,
+        gate: &OpenGate,
+    };
+    let disk = SystemDisk::open(rt.clone()?, alloc, out)?;
+    Ok(serve_in_place(alloc, &job, source, disk, &mut Vec::new(alloc)).ended)
 }
 
 // A run over a new folder of the system, in which an earlier run has left a file that is to get its name, and one that isn't.
-fn serve_here<R: Runtime + AllocGlobal + Threads + Wait + Sync>(
+fn serve_here<R: Runtime + Files<File = File> + AllocGlobal + Threads + Wait + Sync>(
     rt: &R,
     source: &mut MemorySource,
-) -> Result<Result<CommandCounts, Failure>, Fail> {
+) -> Result<Result<Served, Failure<ServeFault>>, Fail> {
     if fs::exists(rt, "placed")? {
         fs::remove_dir_all(rt, "placed")?;
     }
@@ -153,7 +178,7 @@ fn refused_setups_place_no_files(rt: HostRuntime) -> Result<(), Fail> {
     let unread = ServeFault::File(path, FileFault::CannotRead);
     for (setup, fault) in [("NONE.SET", unread), ("s.prg", ServeFault::Setup(1))] {
         let ended = serve_at(&rt, &mut source, setup, "refused")?;
-        assert_eq!(rt; ended, Err(Failure::Serve(fault)));
+        assert_eq!(rt; ended, Err(Failure::Work(fault)));
         assert!(rt; !fs::exists(&rt, "refused/T.DBF")?);
     }
     fs::remove_dir_all(&rt, "refused")?;
@@ -161,28 +186,25 @@ fn refused_setups_place_no_files(rt: HostRuntime) -> Result<(), Fail> {
 }
 
 // What `clap` says of a command line.
-fn said_of(alloc: Global, words: &[&str]) -> Result<Ending, Fail> {
+fn said_of(alloc: Global, words: &[&str]) -> Result<Ending<Failure<ServeFault>>, Fail> {
     match command(alloc)?.try_get_matches_from(words) {
         Ok(_) => Err("there is no mistake".into()),
         Err(error) => Ok(Ending::from(error)),
     }
 }
 
-fn unwritten(alloc: Global) -> Result<Ending, AllocError> {
+fn unwritten(alloc: Global) -> Result<Ending<Failure<ServeFault>>, AllocError> {
     let name = Bytes::from_slice(alloc, b"T.DBF")?;
-    Ok(Ending::from(ServeFault::Close(CloseFault::Write(name))))
+    Ok(Ending::Failed(Failure::Work(ServeFault::Close(CloseFault::Write(name)))))
 }
 
 // The first call that ends otherwise: with another exit status, or with another line on one of the streams.
-fn first_untold(
-    alloc: Global,
-    cases: &[(Result<CommandCounts, Ending>, u8, &str, &str)],
-) -> Result<Option<usize>, Fail> {
+fn first_untold(alloc: Global, cases: &[(Ended, u8, &str, &str)]) -> Result<Option<usize>, Fail> {
     for i in 0..cases.len() {
         let (ended, status, said, warned) = &cases[i];
         let mut out = Vec::new(alloc);
         let mut err = Vec::new(alloc);
-        let told = tell(&mut out, &mut err, ended);
+        let told = tell(&mut out, &mut err, PROGRAM, ended);
         if told.status != ExitCode::from(*status) {
             return Ok(Some(i));
         }
@@ -262,14 +284,9 @@ For more information, try '--help'.
     Ok(())
 }
 
-// A call that got no lock on the folder.
-fn unlocked(fault: LockFault) -> Result<CommandCounts, Ending> {
-    Err(Ending::from(PlaceFault::from(fault)))
-}
-
 // A call that could not open the folder.
-fn unopened_by(fault: DiskFault) -> Result<CommandCounts, Ending> {
-    Err(Ending::from(PlaceFault::from(fault)))
+fn unopened_by(fault: LockFault) -> Ended {
+    Err(Ending::Failed(Failure::from(PlaceFault::from(fault))))
 }
 
 #[test]
@@ -286,11 +303,9 @@ fn each_end_at_the_folder_has_its_status_and_line(rt: HostRuntime) -> Result<(),
     let unfinished = "station_server: not all new files are in place: the next start goes on\n";
     let no_memory = "station_server: run: NoMemory\n";
     let cases = [
-        (unlocked(LockFault::InUse), 4, "", in_use),
-        (unlocked(LockFault::Failed), 4, "", unopened),
-        (unlocked(LockFault::NoMemory), 3, "", no_memory),
-        (unopened_by(DiskFault::Failed), 4, "", unopened),
-        (unopened_by(DiskFault::NoMemory), 3, "", no_memory),
+        (unopened_by(LockFault::InUse), 4, "", in_use),
+        (unopened_by(LockFault::Failed), 4, "", unopened),
+        (unopened_by(LockFault::NoMemory), 3, "", no_memory),
         (of_folder(FolderFault::Unrecovered), 4, "", unrecovered),
         (of_folder(FolderFault::BadList), 4, "", bad_list),
         (of_folder(FolderFault::Unreplaced(name)), 4, "", unreplaced),
@@ -317,13 +332,9 @@ impl Write for Full {
 
 // Whether a call that ends so has this exit status where standard output takes no text, and says that on standard
 // error.
-fn is_told_beside_full_output(
-    alloc: Global,
-    ended: &Result<CommandCounts, Ending>,
-    status: u8,
-) -> bool {
+fn is_told_beside_full_output(alloc: Global, ended: &Ended, status: u8) -> bool {
     let mut err = Vec::new(alloc);
-    let told = tell(&mut Full, &mut err, ended);
+    let told = tell(&mut Full, &mut err, PROGRAM, ended);
     told.status == ExitCode::from(status)
         && err.as_slice() == b"station_server: cannot print\n".as_slice()
 }
@@ -335,8 +346,8 @@ fn full_streams_change_no_status(rt: HostRuntime) -> Result<(), Fail> {
     let seven = Ok(counts(alloc, 7, 0, &[0])?);
     assert!(rt; is_told_beside_full_output(alloc, &seven, 0));
     assert!(rt; is_told_beside_full_output(alloc, &Err(help), 0));
-    let failed = Err(Ending::Failed(Failure::Serve(ServeFault::Setup(2))));
-    let told = tell(&mut Full, &mut Full, &failed);
+    let failed: Ended = Err(Ending::Failed(Failure::Work(ServeFault::Setup(2))));
+    let told = tell(&mut Full, &mut Full, PROGRAM, &failed);
     assert!(rt; told.status == ExitCode::from(1));
     Ok(())
 }

@@ -1,6 +1,6 @@
 //! What is said of files that stay as they are beside the new ones.
 
-use crate::program::print_kept;
+use crate::program::kept::print_kept;
 use kept_files::{kept_file, kept_memo_file};
 use station_lines::{SetupEntry, parse_setup};
 use std::alloc::Global;

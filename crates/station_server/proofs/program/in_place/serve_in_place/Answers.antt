@@ -1,83 +1,24 @@
-use Rattle.std.proofs.Common.{◌≡◌, ◌≢◌, ℕ, List, [], Some, Err, true, false, refl, ap, inl, inr, arith}
-use Rattle.program_text.proofs.PlacingLaws.{bad_list_only, failed_only, unreplaced_only, recovered_in_part, recovered_ok, recovered_old, recovering_old, seen_at, seen_too}
-use Rattle.station_server.specs.declared.program.failure.Failure.TheVariants.{Folder as OfFolder}
-use Rattle.whole_run.specs.declared.counts.CommandCounts.{CommandCounts}
-use Rattle.station_server.specs.Program.{IsListOfRun, IsServedBy}
-use Rattle.files_in_place.specs.Folder.{recovered}
-use Rattle.program_text.specs.Placing.{RecoversAsOneOf}
-use Rattle.program_text.specs.declared.folder.FolderFault.TheVariants.{Unrecovered, BadList, Unreplaced, Unwritten, Unfinished}
-use Rattle.station_server.proofs.InPlaceLaws.{in_place_since, unrecovered_fault, unrecovered_only, unrecovered_said}
+use Rattle.std.proofs.Common.{refl}
+use Rattle.program_text.proofs.EndLaws.{ends_since, ends_unbegun, tells_since, unbegun_fault, unbegun_load}
+use Rattle.station_server.specs.Program.{IsServedBy}
 use Rattle.station_server.proofs.program.in_place.serve_in_place.Goals as goal
 
+pub returns-in-Ok-clause-ends : goal.returns-in-Ok-clause-ends
+returns-in-Ok-clause-ends g c =
+    ends_since g.D.Disk.meaning (IsServedBy (g.S.Source.files c.args.source.now) c.args.job.now.options) c.args.disk c.in-Ok.disk c.in-Ok.ensures.recovered c.in-Ok.ensures.later c.serve_recovered.result.disk
+    c.serve_recovered.result.ended c.serve_recovered.ensures.ends
+
+pub returns-in-Ok-clause-tells : goal.returns-in-Ok-clause-tells
+returns-in-Ok-clause-tells g c =
+    tells_since g.D.Disk.meaning (IsServedBy (g.S.Source.files c.args.source.now) c.args.job.now.options) c.args.disk c.in-Ok.disk c.in-Ok.ensures.recovered c.in-Ok.ensures.later c.serve_recovered.result.disk
+    c.serve_recovered.result.ended c.serve_recovered.ensures.recovered
+
+pub returns-in-Err-clause-ends : goal.returns-in-Err-clause-ends
+returns-in-Err-clause-ends g c =
+    ends_unbegun g.D.Disk.meaning (IsServedBy (g.S.Source.files c.args.source.now) c.args.job.now.options) _ c.args.disk c.in-Err.refused.disk c.in-Err.refused.ended c.in-Err.ensures.refused c.in-Err.ensures.unbegun c.in-Err.ensures.old_files
+
 pub returns-in-Err-clause-fault : goal.returns-in-Err-clause-fault
-returns-in-Err-clause-fault g c = unrecovered_fault (g.S.Source.files c.args.source.now) c.args.options.now c.in-Err.fault c.unrecovered.result c.from.result c.from.ensures c.unrecovered.ensures.value
+returns-in-Err-clause-fault g c = unbegun_fault _ _ _ c.in-Err.refused.ended c.in-Err.ensures.unbegun
 
-pub returns-in-Err-clause-unrecovered : goal.returns-in-Err-clause-unrecovered
-returns-in-Err-clause-unrecovered g c told = c.in-Err.ensures.cause.cause (inl (ap Err (failed_only c.in-Err.fault (unrecovered_said c.in-Err.fault Unrecovered c.unrecovered.result c.from.result c.from.ensures c.unrecovered.ensures.value told))))
-
-pub returns-in-Err-clause-unreplaced : goal.returns-in-Err-clause-unreplaced
-returns-in-Err-clause-unreplaced g c name told = c.in-Err.ensures.cause.cause (inr (name, ap Err (unreplaced_only c.in-Err.fault name (unrecovered_said c.in-Err.fault (Unreplaced name) c.unrecovered.result c.from.result c.from.ensures c.unrecovered.ensures.value told))))
-
-pub returns-in-Err-clause-bad_list : goal.returns-in-Err-clause-bad_list
-returns-in-Err-clause-bad_list g c promised told = c.in-Err.ensures.bad_list promised (ap Err (bad_list_only c.in-Err.fault (unrecovered_said c.in-Err.fault BadList c.unrecovered.result c.from.result c.from.ensures c.unrecovered.ensures.value told)))
-
-pub returns-in-Err-clause-unfinished : goal.returns-in-Err-clause-unfinished
-returns-in-Err-clause-unfinished g c promised told = absurd (unrecovered_only c.in-Err.fault Unfinished c.unrecovered.result c.from.result c.from.ensures c.unrecovered.ensures.value told)
-
-pub returns-in-Err-clause-unwritten : goal.returns-in-Err-clause-unwritten
-returns-in-Err-clause-unwritten g c told = absurd (unrecovered_only c.in-Err.fault Unwritten c.unrecovered.result c.from.result c.from.ensures c.unrecovered.ensures.value told)
-
-pub returns-in-Err-clause-untouched : goal.returns-in-Err-clause-untouched
-returns-in-Err-clause-untouched g c promised bad = (refl, c.in-Err.ensures.untouched promised bad)
-
-pub returns-clause-untouched : goal.returns-clause-untouched
-returns-clause-untouched g c promised bad = let refused : false ≡ true = c.in_default.ensures.refused promised bad in absurd cc
-
-pub returns-clause-unreplaced : goal.returns-clause-unreplaced
-returns-clause-unreplaced g c name told = absurd (c.serve_recovered.ensures.recovered (Unreplaced name) tt told)
-
-pub returns-clause-bad_list : goal.returns-clause-bad_list
-returns-clause-bad_list g c promised told = absurd (c.serve_recovered.ensures.recovered BadList tt told)
-
-pub returns-in-Err-clause-old_files : goal.returns-in-Err-clause-old_files
-returns-in-Err-clause-old_files g c promised said =
-    recovering_old g.D.Disk.moment g.D.Disk.left_since g.D.Disk.may_leave c.args.disk c.recover.new.disk (c.recover.ensures.any_moment promised)
-
-pub returns-clause-unrecovered : goal.returns-clause-unrecovered
-returns-clause-unrecovered g c told = absurd (c.serve_recovered.ensures.recovered Unrecovered tt told)
-
-pub returns-clause-unwritten : goal.returns-clause-unwritten
-returns-clause-unwritten g c told = omega (arith, c.recover.ensures.cause.later, c.serve_recovered.ensures.unwritten told)
-
-pub returns-clause-any_moment : goal.returns-clause-any_moment
-returns-clause-any_moment g c promised =
-    recovered_ok g.D.Disk.moment g.D.Disk.left_since g.D.Disk.may_leave g.D.Disk.seen c.args.disk c.recover.new.disk (g.met.D.Disk.seen_may_stay c.args.disk promised) (c.recover.ensures.any_moment promised) (c.in_default.ensures.done promised)
-    (λ (counts : CommandCounts) (written : List ℕ). IsServedBy (g.S.Source.files c.args.source.now) c.args.options.now (Some []) (Some written) counts) c.serve_recovered.result.disk c.serve_recovered.result.ended (c.serve_recovered.ensures.any_moment promised)
-
-pub returns-clause-old_files : goal.returns-clause-old_files
-returns-clause-old_files g c promised =
-    recovered_old g.D.Disk.moment g.D.Disk.left_since g.D.Disk.may_leave g.D.Disk.seen c.args.disk c.recover.new.disk (g.met.D.Disk.seen_may_stay c.args.disk promised) (c.recover.ensures.any_moment promised) (c.in_default.ensures.done promised)
-    (λ failure. failure ≢ OfFolder Unfinished) c.serve_recovered.result.disk c.serve_recovered.result.ended (c.serve_recovered.ensures.old_files promised)
-
-pub returns-in-Err-clause-seen : goal.returns-in-Err-clause-seen
-returns-in-Err-clause-seen g c promised said =
-    seen_too g.D.Disk.moment g.D.Disk.left_since g.D.Disk.may_leave g.D.Disk.seen c.args.disk c.recover.new.disk (g.met.D.Disk.seen_may_stay c.recover.new.disk promised) (g.met.D.Disk.counts_now c.recover.new.disk)
-    (RecoversAsOneOf (g.D.Disk.may_leave c.args.disk)) (recovering_old g.D.Disk.moment g.D.Disk.left_since g.D.Disk.may_leave c.args.disk c.recover.new.disk (c.recover.ensures.any_moment promised))
-
-pub returns-clause-seen : goal.returns-clause-seen
-returns-clause-seen g c promised =
-    let now = c.serve_recovered.result.disk in
-    let old = recovered_old g.D.Disk.moment g.D.Disk.left_since g.D.Disk.may_leave g.D.Disk.seen c.args.disk c.recover.new.disk (g.met.D.Disk.seen_may_stay c.args.disk promised) (c.recover.ensures.any_moment promised) (c.in_default.ensures.done promised)
-    (λ failure. failure ≢ OfFolder Unfinished) now c.serve_recovered.result.ended (c.serve_recovered.ensures.old_files promised) in
-    seen_at g.D.Disk.moment g.D.Disk.left_since g.D.Disk.may_leave g.D.Disk.seen c.args.disk now (g.met.D.Disk.seen_may_stay now promised) (g.met.D.Disk.counts_now now)
-    (λ failure. failure ≢ OfFolder Unfinished) (RecoversAsOneOf (g.D.Disk.may_leave c.args.disk)) c.serve_recovered.result.ended old
-
-pub returns-clause-placed : goal.returns-clause-placed
-returns-clause-placed g c promised =
-    in_place_since (g.S.Source.files c.args.source.now) c.args.options.now (recovered (g.D.Disk.seen c.args.disk)) (g.D.Disk.seen c.recover.new.disk) (g.D.Disk.seen c.serve_recovered.result.disk) c.serve_recovered.result.ended
-    (c.in_default.ensures.done promised) (c.serve_recovered.ensures.placed promised)
-
-pub returns-clause-unfinished : goal.returns-clause-unfinished
-returns-clause-unfinished g c promised told =
-    recovered_in_part g.D.Disk.moment g.D.Disk.left_since g.D.Disk.may_leave g.D.Disk.seen c.args.disk c.recover.new.disk (g.met.D.Disk.seen_may_stay c.args.disk promised) (c.recover.ensures.any_moment promised) (c.in_default.ensures.done promised)
-    g.D.Disk.is_whole (IsListOfRun (g.S.Source.files c.args.source.now) c.args.options.now) c.serve_recovered.result.disk (c.serve_recovered.ensures.unfinished promised told)
+pub returns-in-Err-clause-failure : goal.returns-in-Err-clause-failure
+returns-in-Err-clause-failure g c = unbegun_load _ _ _ c.in-Err.refused.ended c.in-Err.ensures.unbegun refl
