@@ -16,14 +16,14 @@ use Rattle.whole_run.specs.FileSums.{AreAllNoted}
 use Rattle.whole_run.specs.Loading.{Read}
 use Rattle.whole_run.specs.OpenedSetup.{IsOpenedFrom, IsOpenFault, IsUnopened}
 use Rattle.whole_run.specs.WholeRun.{IsAllRead}
-use Rattle.station_audit.specs.declared.program.failure.Failure.{Failure}
-use Rattle.station_audit.specs.declared.program.failure.Failure.TheVariants.{BadDate, Serve, Unread, UnrecoveredJournal, NoJournal, CutJournal, OtherReindex, OtherFile, Audit, Folder}
+use Rattle.station_audit.specs.declared.program.failure.AuditFailure.{AuditFailure}
+use Rattle.station_audit.specs.declared.program.failure.AuditFailure.TheVariants.{Serve, Unread, UnrecoveredJournal, NoJournal, CutJournal, OtherReindex, OtherFile, Audit}
 use Rattle.station_audit.specs.declared.program.options.Options.{Options}
 use Rattle.station_audit.specs.Comparing.{AreLinesOf, first_other}
 use Rattle.station_audit.specs.Program.{IsJournalIn, IsAsked, IsRefuted, IsFailedBy, IsEntriesFault}
 
 -- the failure that `?` hands on
-pub err_exit : {T : Type 0} {failure : Failure} (r : Result T Failure) (P : Failure → Type 0) → IsErrAnd r (λ y. y ≡ failure) → P failure → IfErr r P
+pub err_exit : {T : Type 0} {failure : AuditFailure} (r : Result T AuditFailure) (P : AuditFailure → Type 0) → IsErrAnd r (λ y. y ≡ failure) → P failure → IfErr r P
 err_exit (Ok x) P h p = absurd h
 err_exit (Err y) P h p = subst P (sym h) p
 
@@ -67,7 +67,7 @@ module _ (files : Option (List NamedFile)) (options : Options) (text : List ℕ)
     at = subst (λ (lines : List ℕ). IsAuditFault opened lines why) cut.entries at;
   }
 
-  pub failed_entries : (why : Failure) → IsEntriesFault options.reindex read parts.entries.now why → IsFailedBy files options why
+  pub failed_entries : (why : AuditFailure) → IsEntriesFault options.reindex read parts.entries.now why → IsFailedBy files options why
   failed_entries (Serve f) h = unopened_tables files options.setup.now options.reindex read f all h
   failed_entries Unread h = absurd h
   failed_entries (UnrecoveredJournal path) h = absurd h
@@ -79,5 +79,3 @@ module _ (files : Option (List NamedFile)) (options : Options) (text : List ℕ)
   failed_entries (Audit (fault.Differs d)) h = refuted_entries (fault.Differs d) h.0 h.1 h.2 h.3
   failed_entries (Audit fault.TooLong) h = refuted_entries fault.TooLong h.0 h.1 h.2 h.3
   failed_entries (Audit fault.NoMemory) h = absurd h
-  failed_entries BadDate h = absurd h
-  failed_entries (Folder f) h = absurd h

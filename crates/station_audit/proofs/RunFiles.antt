@@ -29,8 +29,8 @@ use Rattle.audit.proofs.AuditLaws.{command_one}
 use Rattle.whole_run.specs.declared.counts.CommandCounts.{CommandCounts}
 use Rattle.whole_run.specs.FileSums.{sum_of_named}
 use Rattle.whole_run.specs.HandedOver.{AreHandedOver, IsHandedOver}
-use Rattle.whole_run.specs.JournalFile.{IsServedWithJournal}
 use Rattle.whole_run.specs.OpenedSetup.{HaveStill}
+use Rattle.whole_run.specs.Served.{IsServed}
 use Rattle.whole_run.specs.TablesWritten.{dated_files}
 use Rattle.station_audit.specs.declared.program.audited.Audited.{Audited}
 use Rattle.station_audit.specs.declared.program.options.Options.{Options}
@@ -174,27 +174,28 @@ lines_one word lines a b ha hb = (sums_one word a b [] [] ha.are hb.are (no_line
 
 -- ---- the audit of a run's journal on the run's files
 
-pub files_of_run : (files later : List NamedFile) (options : Options) (today : Day) (old new : Option (List ℕ)) (counts : CommandCounts) (served : IsServedWithJournal (Some files) options.setup.now options.reindex today old new counts)
+pub files_of_run : (files later : List NamedFile) (options : Options) (today : Day) (written : List NamedFile) (counts : CommandCounts) (served : IsServed (Some files) options.setup.now options.reindex today true written counts)
     → HaveStill files later → IsFileOf (Some later) options.journal.now served.text → served.run.history.opened.stations < 2 ^ 64 → length (journal_text served.run.history.journal) < 2 ^ 64
-    → (begun written : Option (List ℕ)) (audited : Audited) → IsWrittenBy (Some later) options today begun written audited
+    → (made : List NamedFile) (audited : Audited) → IsWrittenBy (Some later) options today made audited
     → (wrote : List FileSum) → AreLinesOf wrote_word audited.wrote wrote → are_of_run wrote audited.written.items ≡ true
-files_of_run files later options today old new counts served still there few long begun written audited w wrote lines =
+files_of_run files later options today written counts served still there few long made audited w wrote lines =
     let run : History = served.run.history in
     let journal : WholeJournal = w.all.journal in
     let in_file = w.all.asked.of_run.in_file in
-    let is : served.text ≡ whole_text journal = one_text files later options today old new counts served still there in_file.text in_file.found ∙ in_file.text_is in
-    let opened : run.opened ≡ w.history.opened = same_tables files later options today old new counts served still there w.history.opened w.all.asked.tables in
+    let is : served.text ≡ whole_text journal = one_text files later options today written counts served still there in_file.text in_file.found ∙ in_file.text_is in
+    let opened : run.opened ≡ w.history.opened = same_tables files later options today written counts served still there w.history.opened w.all.asked.tables in
     let of_run : IsJournalOf w.history.opened (lines_and journal.entries []) run.journal =
-    subst (λ (o : Opened). IsJournalOf o (lines_and journal.entries []) run.journal) opened (entries_of_run (Some files) options.setup.now options.reindex today old new counts served journal in_file.whole is) in
+    subst (λ (o : Opened). IsJournalOf o (lines_and journal.entries []) run.journal) opened (entries_of_run (Some files) options.setup.now options.reindex today written counts served journal in_file.whole is) in
     let holds : IsJournalOf w.history.opened (lines_and journal.entries []) w.history.journal = w.all.holds in
     let few_now : w.history.opened.stations < 2 ^ 64 = subst (λ (o : Opened). o.stations < 2 ^ 64) opened few in
     let same : run.journal ≡ w.history.journal =
     one_journal w.history.opened _ run.journal w.history.journal few_now long of_run.legal holds.legal of_run.of_stations holds.of_stations of_run.of_lines holds.of_lines (sym of_run.text_is ∙ holds.text_is) in
     let history : run ≡ w.history = λ i. record { opened = opened i; journal = same i } in
-    let handed : AreHandedOver run w.wrote.tables = subst (λ (h : History). AreHandedOver h w.wrote.tables) (sym history) w.wrote.handed in
-    let tables : tables_files today.year today.month today.day w.wrote.tables ≡ tables_files today.year today.month today.day served.tables = handed_over_one today run w.wrote.tables served.tables handed served.run.handed in
-    let made : audited.written.items ≡ map sum_of_named (dated_files today served.tables) = w.wrote.summed ∙ ap (λ (fs : List NamedFile). map sum_of_named (fs ++ [])) tables in
+    let handed : AreHandedOver run w.tables = subst (λ (h : History). AreHandedOver h w.tables) (sym history) w.handed in
+    let tables : tables_files today.year today.month today.day w.tables ≡ tables_files today.year today.month today.day served.tables = handed_over_one today run w.tables served.tables handed served.run.handed in
+    let summed : audited.written.items ≡ map sum_of_named (dated_files today served.tables) =
+    w.summed ∙ (ap (map sum_of_named) w.written_is ∙ ap (λ (fs : List NamedFile). map sum_of_named (fs ++ [])) tables) in
     let told : map sum_of_named (run_files today served.tables served.answers) ≡ journal.wrote =
-    ap (λ (j : WholeJournal). j.wrote) (one_told (Some files) options.setup.now options.reindex today old new counts served journal in_file.whole is) in
+    ap (λ (j : WholeJournal). j.wrote) (one_told (Some files) options.setup.now options.reindex today written counts served journal in_file.whole is) in
     let listed : wrote ≡ map sum_of_named (run_files today served.tables served.answers) = lines_one wrote_word audited.wrote wrote journal.wrote lines w.all.wrote ∙ sym told in
-    (λ i. are_of_run (listed i) (made i)) ∙ among_run_files today served.tables served.answers
+    (λ i. are_of_run (listed i) (summed i)) ∙ among_run_files today served.tables served.answers

@@ -24,13 +24,14 @@ use Rattle.audit.specs.declared.fault.AuditFault.{AuditFault}
 use Rattle.audit.specs.declared.fault.AuditFault.TheVariants.{NoEntry, Differs, TooLong, NoMemory}
 use Rattle.audit.specs.Audits.{AreOfLines, IsJournalOf, RefutesAll}
 use Rattle.whole_run.specs.declared.counts.CommandCounts.{CommandCounts}
-use Rattle.whole_run.specs.JournalFile.{told_run, IsServedWithJournal}
+use Rattle.whole_run.specs.JournalFile.{told_run, IsJournalText}
 use Rattle.whole_run.specs.OpenedSetup.{IsOpenedBy, HaveStill}
+use Rattle.whole_run.specs.Served.{IsServed}
 use Rattle.whole_run.specs.WholeRun.{IsWholeRun}
 use Rattle.whole_run.proofs.NotedLaws.{notes_as_before}
 use Rattle.whole_run.proofs.OneOpening.{one_file, one_opening, opens_as_before}
-use Rattle.station_audit.specs.declared.program.failure.Failure.{Failure}
-use Rattle.station_audit.specs.declared.program.failure.Failure.TheVariants.{BadDate, Serve, Unread, UnrecoveredJournal, NoJournal, CutJournal, OtherReindex, OtherFile, Audit, Folder}
+use Rattle.station_audit.specs.declared.program.failure.AuditFailure.{AuditFailure}
+use Rattle.station_audit.specs.declared.program.failure.AuditFailure.TheVariants.{Serve, Unread, UnrecoveredJournal, NoJournal, CutJournal, OtherReindex, OtherFile, Audit}
 use Rattle.station_audit.specs.declared.program.options.Options.{Options}
 use Rattle.station_audit.specs.Comparing.{first_other, same_content}
 use Rattle.station_audit.specs.Laws.{IsRefutation}
@@ -108,17 +109,20 @@ only_memory opened text journal NoMemory is refuted = refl
 
 -- ---- the journal's file of a run
 
-module _ (files : Option (List NamedFile)) (setup : List ℕ) (reindex : Bool) (today : Day) (old new : Option (List ℕ)) (counts : CommandCounts) (served : IsServedWithJournal files setup reindex today old new counts) where
-  -- what it tells
+module _ (files : Option (List NamedFile)) (setup : List ℕ) (reindex : Bool) (today : Day) (written : List NamedFile) (counts : CommandCounts) (served : IsServed files setup reindex today true written counts) where
+  -- its text, and what this tells
+  abbrev pub text_of_run : IsJournalText files setup reindex served.run.history.journal (run_files today served.tables served.answers) served.text
+  text_of_run = (served.told_text refl).0
+
   abbrev pub told_of_run : WholeJournal
-  told_of_run = told_run served.journal.read reindex served.run.history.journal (run_files today served.tables served.answers)
+  told_of_run = told_run text_of_run.read reindex served.run.history.journal (run_files today served.tables served.answers)
 
   -- it tells nothing else
   pub one_told : (journal : WholeJournal) → CanBeTold journal → served.text ≡ whole_text journal → told_of_run ≡ journal
-  one_told journal whole is = whole_one told_of_run journal served.one_journal whole (sym served.journal.text_is ∙ is)
+  one_told journal whole is = whole_one told_of_run journal (served.told_text refl).1 whole (sym text_of_run.text_is ∙ is)
 
   pub is_whole : IsNotWhole served.text → ⊥
-  is_whole not_whole = not_whole told_of_run served.one_journal served.journal.text_is
+  is_whole not_whole = not_whole told_of_run (served.told_text refl).1 text_of_run.text_is
 
   pub as_reindexed : (journal : WholeJournal) → CanBeTold journal → served.text ≡ whole_text journal → journal.reindex ≡ reindex
   as_reindexed journal whole is = sym (ap (λ (j : WholeJournal). j.reindex) (one_told journal whole is))
@@ -144,7 +148,7 @@ none_other : (sums : List FileSum) → first_other sums sums ≡ None
 none_other [] = refl
 none_other (sum ∷ sums) = ap (λ (b : Bool). cond b (first_other sums sums) (Some sum.path)) (same_content_as_itself sum) ∙ none_other sums
 
-module _ (files later : List NamedFile) (options : Options) (today : Day) (old new : Option (List ℕ)) (counts : CommandCounts) (served : IsServedWithJournal (Some files) options.setup.now options.reindex today old new counts)
+module _ (files later : List NamedFile) (options : Options) (today : Day) (written : List NamedFile) (counts : CommandCounts) (served : IsServed (Some files) options.setup.now options.reindex today true written counts)
     (still : HaveStill files later) (there : IsFileOf (Some later) options.journal.now served.text) where
   -- the journal that the audit reads is the run's
   pub one_text : (text : List ℕ) → IsFileOf (Some later) options.journal.now text → served.text ≡ text
@@ -162,7 +166,7 @@ module _ (files later : List NamedFile) (options : Options) (today : Day) (old n
   not_refuted why refuted =
       let in_file = refuted.asked.of_run.in_file in
       let is : served.text ≡ whole_text refuted.journal = one_text in_file.text in_file.found ∙ in_file.text_is in
-      let of_run = entries_of_run (Some files) options.setup.now options.reindex today old new counts served refuted.journal in_file.whole is in
+      let of_run = entries_of_run (Some files) options.setup.now options.reindex today written counts served refuted.journal in_file.whole is in
       let moved : IsJournalOf refuted.opened (lines_and refuted.journal.entries []) served.run.history.journal =
       subst (λ (o : Opened). IsJournalOf o (lines_and refuted.journal.entries []) served.run.history.journal) (same_tables refuted.opened refuted.asked.tables) of_run in
       only_memory refuted.opened (lines_and refuted.journal.entries []) served.run.history.journal why moved refuted.refuted
@@ -170,24 +174,25 @@ module _ (files later : List NamedFile) (options : Options) (today : Day) (old n
   -- it is a whole one
   never_cut : (begun : Bool) → IsNoJournalIn (Some later) options.journal.now begun → ⊥
   never_cut begun other =
-      is_whole (Some files) options.setup.now options.reindex today old new counts served (subst IsNotWhole (sym (one_text other.0 other.1)) other.2)
+      is_whole (Some files) options.setup.now options.reindex today written counts served (subst IsNotWhole (sym (one_text other.0 other.1)) other.2)
 
   never_other_reindex : (of_run : Bool) → IsOtherReindex (Some later) options of_run → ⊥
   never_other_reindex of_run other =
       let is : served.text ≡ whole_text other.0 = one_text other.1.text other.1.found ∙ other.1.text_is in
-      other.3 (sym other.2 ∙ as_reindexed (Some files) options.setup.now options.reindex today old new counts served other.0 other.1.whole is)
+      other.3 (sym other.2 ∙ as_reindexed (Some files) options.setup.now options.reindex today written counts served other.0 other.1.whole is)
 
   never_other_file : (path : List ℕ) → IsOtherFile (Some later) options path → ⊥
   never_other_file path other =
       let is : served.text ≡ whole_text other.0 = one_text other.2.text other.2.found ∙ other.2.text_is in
-      let told : served.journal.read ≡ other.0.read =
-      ap (λ (j : WholeJournal). j.read) (one_told (Some files) options.setup.now options.reindex today old new counts served other.0 other.2.whole is) in
-      let read : served.journal.read ≡ other.1 = notes_as_before files later options.setup.now still served.journal.read other.1 served.journal.noted other.4 in
-      let none : first_other other.0.read other.1 ≡ None = (λ i. first_other (sym told i) (sym read i)) ∙ none_other served.journal.read in
+      let text = text_of_run (Some files) options.setup.now options.reindex today written counts served in
+      let told : text.read ≡ other.0.read =
+      ap (λ (j : WholeJournal). j.read) (one_told (Some files) options.setup.now options.reindex today written counts served other.0 other.2.whole is) in
+      let read : text.read ≡ other.1 = notes_as_before files later options.setup.now still text.read other.1 text.noted other.4 in
+      let none : first_other other.0.read other.1 ≡ None = (λ i. first_other (sym told i) (sym read i)) ∙ none_other text.read in
       let clash : None ≡ Some path = sym none ∙ other.5 in
       absurd cc
 
-  pub never_refuted : (why : Failure) → IsRefutation why → IsFailedBy (Some later) options why → ⊥
+  pub never_refuted : (why : AuditFailure) → IsRefutation why → IsFailedBy (Some later) options why → ⊥
   never_refuted (Audit (NoEntry n)) is failed = let e : NoEntry n ≡ NoMemory = not_refuted (NoEntry n) failed in absurd cc
   never_refuted (Audit (Differs d)) is failed = let e : Differs d ≡ NoMemory = not_refuted (Differs d) failed in absurd cc
   never_refuted (Audit TooLong) is failed = let e : TooLong ≡ NoMemory = not_refuted TooLong failed in absurd cc
@@ -196,8 +201,6 @@ module _ (files later : List NamedFile) (options : Options) (today : Day) (old n
   never_refuted (CutJournal path) is failed = never_cut true failed.1
   never_refuted (OtherReindex of_run) is failed = never_other_reindex of_run failed
   never_refuted (OtherFile path) is failed = never_other_file path failed
-  never_refuted BadDate is failed = failed
   never_refuted (Serve f) is failed = is
   never_refuted Unread is failed = is
   never_refuted (UnrecoveredJournal path) is failed = is
-  never_refuted (Folder f) is failed = failed

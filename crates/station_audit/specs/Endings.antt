@@ -1,37 +1,26 @@
 -- How a call of the program ends: its exit status, and what is printed then.
-use Rattle.std.specs.Prelude.{◌≡◌, ℕ, Bool, true, false, List, ◌++◌, ◌∷◌, [], length, take, flat_map, nat_le, codes, Option, Some, Result, Ok, Err, if◌then◌else◌}
+use Rattle.std.specs.Prelude.{◌≡◌, ℕ, Bool, true, false, List, ◌++◌, ◌∷◌, [], length, take, flat_map, nat_le, codes, Option, if◌then◌else◌}
 use Rattle.std.specs.Fmt.{decimal}
 use Rattle.std.specs.Io.KnownBytes.{Appends}
-use Rattle.std.specs.declared.io.ErrorKind.{ErrorKind as IoKind}
-use Rattle.std.specs.declared.io.ErrorKind.TheVariants as io
-use Rattle.clap.specs.Words.{kind_of}
 use Rattle.audit.specs.declared.fault.AuditFault.{AuditFault}
 use Rattle.audit.specs.declared.fault.AuditFault.TheVariants as fault
 use Rattle.audit.specs.declared.fault.Difference.{Difference}
-use Rattle.files_in_place.specs.declared.faults.SetFault.{SetFault}
 use Rattle.journal_file.specs.declared.sum.FileSum.{FileSum}
 use Rattle.journal_file.specs.WholeText.{wrote_word}
 use Rattle.station_lines.specs.declared.script.format.TheConstants.{LF}
 use Rattle.whole_run.specs.declared.fault.FileFault.TheVariants as file
 use Rattle.whole_run.specs.declared.fault.ServeFault.TheVariants as serve
-use Rattle.program_text.specs.declared.folder.PlaceFault.{PlaceFault}
-use Rattle.program_text.specs.declared.folder.PlaceFault.TheVariants as place
-use Rattle.program_text.specs.PlaceFaults.{given_up}
-use Rattle.program_text.specs.Reasons.{fault_reason, fault_status, folder_reason, unread_file}
-use Rattle.program_text.specs.Telling.{mistake_line, mistake_status, no_text_line, no_text_status, unprinted_line as unprinted_line_of}
+use Rattle.program_text.specs.Reasons.{fault_reason, fault_status, unread_file}
 use Rattle.station_audit.specs.declared.program.failure.TheConstants.{MAX_SHOWN_BYTES}
 use Rattle.station_audit.specs.declared.program.audited.Audited.{Audited}
-use Rattle.station_audit.specs.declared.program.ending.Ending.{Ending}
-use Rattle.station_audit.specs.declared.program.ending.Ending.TheVariants as ended
-use Rattle.station_audit.specs.declared.program.failure.Failure.{Failure}
-use Rattle.station_audit.specs.declared.program.failure.Failure.TheVariants as failure
+use Rattle.station_audit.specs.declared.program.failure.AuditFailure.{AuditFailure}
+use Rattle.station_audit.specs.declared.program.failure.AuditFailure.TheVariants as failure
 use Rattle.station_audit.specs.Comparing.{IfLinesOf, are_of_run, is_of_run}
 
 -- ---- the exit status
 
 -- of a failure: as the server's, 5 where an entry does not hold, and 6 where the journal is none, or that of another run
-abbrev pub status : Failure → ℕ
-status failure.BadDate = 1
+abbrev pub status : AuditFailure → ℕ
 status (failure.Serve why) = fault_status why
 status failure.Unread = 2
 status (failure.UnrecoveredJournal path) = 2
@@ -40,24 +29,20 @@ status (failure.CutJournal path) = 6
 status (failure.OtherReindex of_run) = 6
 status (failure.OtherFile path) = 6
 status (failure.Audit why) = 5
-status (failure.Folder fault) = 4
-
--- where it is not said that all entries hold
-abbrev pub ending_status : Ending → ℕ
-ending_status ended.NoText = no_text_status
-ending_status (ended.CommandLine error) = mistake_status (kind_of error)
-ending_status (ended.Failed why) = status why
 
 -- where all entries hold, and these are the files that the run wrote: 7 where the audit has written another one
 abbrev pub audited_status : List FileSum → Audited → ℕ
 audited_status wrote audited = if are_of_run wrote audited.written.items then 0 else 7
 
--- of a call: what is said where all entries hold, or why it is not said that all do
-abbrev pub IsCallStatus : Result Audited Ending → ℕ → Type 0
-IsCallStatus (Ok audited) status = IfLinesOf wrote_word audited.wrote (λ wrote. status ≡ audited_status wrote audited)
-IsCallStatus (Err ending) status = status ≡ ending_status ending
+-- it is this
+abbrev pub IsAuditedStatus : Audited → ℕ → Type 0
+IsAuditedStatus audited status = IfLinesOf wrote_word audited.wrote (λ wrote. status ≡ audited_status wrote audited)
 
 -- ---- why not all entries hold
+
+-- that memory was refused
+abbrev pub no_memory : AuditFailure
+no_memory = failure.Serve serve.NoMemory
 
 -- a command's line or an answer: the whole, or its first bytes and how many there are
 abbrev pub shortened : List ℕ → List ℕ
@@ -89,8 +74,7 @@ abbrev pub reindex_reason : Bool → List ℕ
 reindex_reason true = codes "the run was with --reindex"
 reindex_reason false = codes "the run was without --reindex"
 
-abbrev pub reason : Failure → List ℕ
-reason failure.BadDate = codes "bad date"
+abbrev pub reason : AuditFailure → List ℕ
 reason (failure.Serve why) = fault_reason why
 reason failure.Unread = codes "cannot read the journal"
 reason (failure.UnrecoveredJournal path) = unread_file path file.Unrecovered
@@ -99,11 +83,6 @@ reason (failure.CutJournal path) = path ++ codes " is cut"
 reason (failure.OtherReindex of_run) = reindex_reason of_run
 reason (failure.OtherFile path) = path ++ codes " is not the file that the run read"
 reason (failure.Audit why) = audit_reason why
-reason (failure.Folder fault) = folder_reason fault
-
--- the line that is printed, its LF too
-abbrev pub failure_line : Failure → List ℕ
-failure_line why = codes "station_audit: " ++ (reason why ++ LF ∷ [])
 
 -- ---- what is printed
 
@@ -133,33 +112,3 @@ audited_text wrote audited =
 -- standard output has got this text
 abbrev pub AppendsAudited : Audited → Option (List ℕ) → Option (List ℕ) → Type 0
 AppendsAudited audited old new = IfLinesOf wrote_word audited.wrote (λ wrote. Appends old new (audited_text wrote audited))
-
--- on standard error where standard output took no text
-abbrev pub unprinted_line : List ℕ
-unprinted_line = unprinted_line_of (codes "station_audit")
-
--- on standard error where it is not said that all entries hold; `None` where it is a text of `clap`
-abbrev pub ending_line : Ending → Option (List ℕ)
-ending_line ended.NoText = Some no_text_line
-ending_line (ended.CommandLine error) = mistake_line (codes "station_audit") (kind_of error)
-ending_line (ended.Failed why) = Some (failure_line why)
-
--- ---- the arguments
-
--- why the arguments can't be read: memory was refused, and else one is no UTF-8 text
-abbrev pub unread_arguments : IoKind → Ending
-unread_arguments io.OutOfMemory = ended.Failed (failure.Serve serve.NoMemory)
-unread_arguments _ = ended.NoText
-
--- ---- the folder for the tables
-
--- where the new files are not in place
-abbrev pub place_failure : PlaceFault → Failure
-place_failure place.NoMemory = failure.Serve serve.NoMemory
-place_failure (place.Folder fault) = failure.Folder fault
-
--- why an audit failed, where the folder says why its last call failed that has: a file that was not written for want of
--- memory is no fault of the disk
-abbrev pub given_up_audit : Option SetFault → Failure → Failure
-given_up_audit last (failure.Serve fault) = failure.Serve (given_up last fault)
-given_up_audit last why = why

@@ -9,30 +9,32 @@ use Rattle.audit.specs.declared.fault.AuditFault.{AuditFault}
 use Rattle.audit.specs.declared.fault.AuditFault.TheVariants.{NoMemory}
 use Rattle.audit.specs.Audits.{IsJournalOf, RefutesAll}
 use Rattle.whole_run.specs.declared.counts.CommandCounts.{CommandCounts}
-use Rattle.whole_run.specs.JournalFile.{journal_file, IsServedWithJournal}
+use Rattle.whole_run.specs.JournalFile.{journal_file}
 use Rattle.whole_run.specs.OpenedSetup.{IsOpenedBy, HaveStill}
+use Rattle.whole_run.specs.Served.{IsServed}
 use Rattle.station_audit.specs.declared.program.audited.Audited.{Audited}
-use Rattle.station_audit.specs.declared.program.failure.Failure.{Failure}
-use Rattle.station_audit.specs.declared.program.failure.Failure.TheVariants.{NoJournal, CutJournal, OtherReindex, OtherFile, Audit}
+use Rattle.station_audit.specs.declared.program.failure.AuditFailure.{AuditFailure}
+use Rattle.station_audit.specs.declared.program.failure.AuditFailure.TheVariants.{NoJournal, CutJournal, OtherReindex, OtherFile, Audit}
 use Rattle.station_audit.specs.declared.program.options.Options.{Options}
 use Rattle.station_audit.specs.Comparing.{IfLinesOf, are_of_run}
 use Rattle.station_audit.specs.Program.{IsFailedBy}
 use Rattle.station_audit.specs.Writing.{IsWrittenBy}
 
 -- the bytes of the journal's file of a run
-abbrev pub journal_bytes : {files : Option (List NamedFile)} {setup : List ℕ} {reindex : Bool} {today : Day} {old new : Option (List ℕ)} {counts : CommandCounts} → IsServedWithJournal files setup reindex today old new counts → List ℕ
+abbrev pub journal_bytes : {files : Option (List NamedFile)} {setup : List ℕ} {reindex : Bool} {today : Day} {written : List NamedFile} {counts : CommandCounts}
+    → IsServed files setup reindex today true written counts → List ℕ
 journal_bytes served = (journal_file served.text).bytes
 
 -- The run's tables are opened as an audit opens those of its setup.
 abbrev pub OpensAsAnAudit : Option (List NamedFile) → List ℕ → Type 0
 OpensAsAnAudit files setup =
-    (reindex : Bool) (today : Day) (old new : Option (List ℕ)) (counts : CommandCounts) (served : IsServedWithJournal files setup reindex today old new counts)
+    (reindex : Bool) (today : Day) (written : List NamedFile) (counts : CommandCounts) (served : IsServed files setup reindex today true written counts)
     → IsOpenedBy files setup reindex served.run.history.opened
 
 -- The journal's file of a run has a journal's whole text.
 abbrev pub WritesAWholeText : Option (List NamedFile) → List ℕ → Type 0
 WritesAWholeText files setup =
-    (reindex : Bool) (today : Day) (old new : Option (List ℕ)) (counts : CommandCounts) (served : IsServedWithJournal files setup reindex today old new counts)
+    (reindex : Bool) (today : Day) (written : List NamedFile) (counts : CommandCounts) (served : IsServed files setup reindex today true written counts)
     → IsNotWhole (journal_bytes served) → ⊥
 
 -- What this text tells is that the indexes were made anew or not as the run made them, and its lines of entries are the journal
@@ -40,19 +42,19 @@ WritesAWholeText files setup =
 -- run.
 abbrev pub WritesAJournal : Option (List NamedFile) → List ℕ → Type 0
 WritesAJournal files setup =
-    (reindex : Bool) (today : Day) (old new : Option (List ℕ)) (counts : CommandCounts) (served : IsServedWithJournal files setup reindex today old new counts)
+    (reindex : Bool) (today : Day) (written : List NamedFile) (counts : CommandCounts) (served : IsServed files setup reindex today true written counts)
     → (journal : WholeJournal) → CanBeTold journal → journal_bytes served ≡ whole_text journal
     → (journal.reindex ≡ reindex) × IsJournalOf served.run.history.opened (lines_and journal.entries []) served.run.history.journal
 
 -- No audit of these lines on these tables finds an entry that does not hold: where not all hold, memory was refused.
 abbrev pub HoldsInAudits : Option (List NamedFile) → List ℕ → Type 0
 HoldsInAudits files setup =
-    (reindex : Bool) (today : Day) (old new : Option (List ℕ)) (counts : CommandCounts) (served : IsServedWithJournal files setup reindex today old new counts)
+    (reindex : Bool) (today : Day) (written : List NamedFile) (counts : CommandCounts) (served : IsServed files setup reindex today true written counts)
     → (journal : WholeJournal) → CanBeTold journal → journal_bytes served ≡ whole_text journal
     → (fault : AuditFault) → RefutesAll served.run.history.opened (lines_and journal.entries []) fault → fault ≡ NoMemory
 
 -- it is said that the journal is none, or that of another run, or that an entry does not hold
-abbrev pub IsRefutation : Failure → Type 0
+abbrev pub IsRefutation : AuditFailure → Type 0
 IsRefutation (NoJournal path) = Unit {0}
 IsRefutation (CutJournal path) = Unit {0}
 IsRefutation (OtherReindex of_run) = Unit {0}
@@ -64,16 +66,16 @@ IsRefutation why = ⊥
 -- options, never says so.
 abbrev pub NeverRefutes : List NamedFile → List NamedFile → Options → Type 0
 NeverRefutes files later options =
-    (today : Day) (old new : Option (List ℕ)) (counts : CommandCounts) (served : IsServedWithJournal (Some files) options.setup.now options.reindex today old new counts)
+    (today : Day) (written : List NamedFile) (counts : CommandCounts) (served : IsServed (Some files) options.setup.now options.reindex today true written counts)
     → HaveStill files later → IsFileOf (Some later) options.journal.now (journal_bytes served)
-    → (why : Failure) → IsRefutation why → IsFailedBy (Some later) options why → ⊥
+    → (why : AuditFailure) → IsRefutation why → IsFailedBy (Some later) options why → ⊥
 
 -- The files that it writes then on the run's day are the run's, where the stations and the bytes of the entries' lines are counted by
 -- numbers of 64 bits.
 abbrev pub WritesTheSame : List NamedFile → List NamedFile → Options → Type 0
 WritesTheSame files later options =
-    (today : Day) (old new : Option (List ℕ)) (counts : CommandCounts) (served : IsServedWithJournal (Some files) options.setup.now options.reindex today old new counts)
+    (today : Day) (written : List NamedFile) (counts : CommandCounts) (served : IsServed (Some files) options.setup.now options.reindex today true written counts)
     → HaveStill files later → IsFileOf (Some later) options.journal.now (journal_bytes served)
     → served.run.history.opened.stations < 2 ^ 64 → length (journal_text served.run.history.journal) < 2 ^ 64
-    → (begun written : Option (List ℕ)) (audited : Audited) → IsWrittenBy (Some later) options today begun written audited
+    → (made : List NamedFile) (audited : Audited) → IsWrittenBy (Some later) options today made audited
     → IfLinesOf wrote_word audited.wrote (λ wrote. are_of_run wrote audited.written.items ≡ true)

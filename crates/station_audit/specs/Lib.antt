@@ -1,5 +1,6 @@
 pub mod Comparing
 pub mod Program
 pub mod Writing
+pub mod Asked
 pub mod Endings
 pub mod Laws

@@ -1,16 +1,12 @@
--- The audit that a command line asks for.
-use Rattle.std.specs.Prelude.{◌≡◌, ◌≢◌, ◌⊎◌, ℕ, Bool, true, false, List, [], length, codes, Option, Some, None, IsSome, IfSome}
-use Rattle.clap.specs.declared.parser.matches.ArgMatches.{ArgMatches}
+-- The audit of a journal with the options of a command line.
+use Rattle.std.specs.Prelude.{◌≡◌, ◌≢◌, ◌⊎◌, ℕ, Bool, true, false, List, [], length, Option, Some, None}
 use Rattle.byte_io.specs.Sink.{Rises}
-use Rattle.dbf_fields.specs.Date.{SaysDay}
-use Rattle.dbf_image.specs.Image.{IsOutside}
 use Rattle.catalogue_core.specs.Replay.{Opened, History}
 use Rattle.journal_file.specs.declared.sum.FileSum.{FileSum}
 use Rattle.journal_file.specs.WholeText.{begins_as_journal, whole_text, wrote_word, CanBeTold, IsNotWhole, WholeJournal}
 use Rattle.station_files.specs.declared.named.NamedFile.{NamedFile}
 use Rattle.station_files.specs.Files.{IsFileOf, IsTooLong}
 use Rattle.station_lines.specs.JournalLines.{lines_and}
-use Rattle.program_text.specs.CommandLine.{value_of}
 use Rattle.audit.specs.declared.fault.AuditFault.{AuditFault}
 use Rattle.audit.specs.declared.fault.AuditFault.TheVariants as fault
 use Rattle.audit.specs.Audits.{IsJournalOf, RefutesAll, IsAuditFault}
@@ -21,25 +17,10 @@ use Rattle.whole_run.specs.Loading.{Read, IsFailure, IsUnloaded}
 use Rattle.whole_run.specs.OpenedSetup.{IsOpenedBy, IsOpenedFrom, IsOpenFault, IsUnopened}
 use Rattle.whole_run.specs.WholeRun.{IsReadFault}
 use Rattle.station_audit.specs.declared.program.audited.Audited.{Audited}
-use Rattle.station_audit.specs.declared.program.failure.Failure.{Failure}
-use Rattle.station_audit.specs.declared.program.failure.Failure.TheVariants.{BadDate, Serve, Unread, UnrecoveredJournal, NoJournal, CutJournal, OtherReindex, OtherFile, Audit, Folder}
+use Rattle.station_audit.specs.declared.program.failure.AuditFailure.{AuditFailure}
+use Rattle.station_audit.specs.declared.program.failure.AuditFailure.TheVariants.{Serve, Unread, UnrecoveredJournal, NoJournal, CutJournal, OtherReindex, OtherFile, Audit}
 use Rattle.station_audit.specs.declared.program.options.Options.{Options}
-use Rattle.station_audit.specs.declared.program.options.Written.{Written}
 use Rattle.station_audit.specs.Comparing.{AreLinesOf, first_other}
-
--- ---- the command line
-
--- the paths of the setup and of the journal are given
-abbrev pub HasPaths : ArgMatches → Type 0
-HasPaths matches = IsSome (value_of matches (codes "setup")) × IsSome (value_of matches (codes "journal"))
-
--- what the command line says of the written tables: nothing, where it has not both the folder and the day
-abbrev pub SaysWritten : ArgMatches → Option Written → Type 0
-SaysWritten matches None = (value_of matches (codes "out") ≡ None) ⊎ (value_of matches (codes "today") ≡ None)
-SaysWritten matches (Some written) =
-    (value_of matches (codes "out") ≡ Some written.out.now)
-    × IfSome (value_of matches (codes "today")) (λ text. SaysDay text written.today)
-    × (¬ IsOutside written.today.year)
 
 -- ---- the journal
 
@@ -96,7 +77,7 @@ pub record IsRefuted (files : Option (List NamedFile)) (options : Options) (why 
   pub at : IsAuditFault opened (lines_and journal.entries []) why
 
 -- what a fault of an audit is in the program: want of memory is the same everywhere
-abbrev pub audit_failure : AuditFault → Failure
+abbrev pub audit_failure : AuditFault → AuditFailure
 audit_failure fault.NoMemory = Serve serve.NoMemory
 audit_failure why = Audit why
 
@@ -112,7 +93,7 @@ IsOtherFile files options path =
     × AreAllNoted files options.setup.now (Some []) (Some read) × (first_other journal.read read ≡ Some path)
 
 -- why it is not said that all entries hold
-abbrev pub IsFailedBy : Option (List NamedFile) → Options → Failure → Type 0
+abbrev pub IsFailedBy : Option (List NamedFile) → Options → AuditFailure → Type 0
 IsFailedBy files options (Serve why) = IsUnopened files options.setup.now options.reindex why
 IsFailedBy files options Unread = IsUnloaded files options.journal.now file.CannotRead
 IsFailedBy files options (UnrecoveredJournal path) = (path ≡ options.journal.now) × IsUnloaded files options.journal.now file.Unrecovered
@@ -122,20 +103,18 @@ IsFailedBy files options (OtherReindex of_run) = IsOtherReindex files options of
 IsFailedBy files options (OtherFile path) = IsOtherFile files options path
 IsFailedBy files options (Audit fault.NoMemory) = ⊥
 IsFailedBy files options (Audit why) = IsRefuted files options why
-IsFailedBy files options BadDate = ⊥
-IsFailedBy files options (Folder fault) = ⊥
 
 -- ---- its steps
 
 -- why the journal of this path is not read, and what that says of the count of loads that failed
-abbrev pub IsJournalFault : Option (List NamedFile) → List ℕ → Option ℕ → Option ℕ → Failure → Type 0
+abbrev pub IsJournalFault : Option (List NamedFile) → List ℕ → Option ℕ → Option ℕ → AuditFailure → Type 0
 IsJournalFault files path before after (Serve serve.NoMemory) = Unit {0}
 IsJournalFault files path before after Unread = IsUnloaded files path file.CannotRead × (Rises before after ⊎ IsTooLong files path)
 IsJournalFault files path before after (UnrecoveredJournal told) = (told ≡ path) × IsUnloaded files path file.Unrecovered × (after ≡ before)
 IsJournalFault files path before after why = ⊥
 
 -- why this text is not that of a run's journal with these options
-abbrev pub IsTextFault : Options → List ℕ → Failure → Type 0
+abbrev pub IsTextFault : Options → List ℕ → AuditFailure → Type 0
 IsTextFault options text (Serve serve.NoMemory) = Unit {0}
 IsTextFault options text (NoJournal path) = (path ≡ options.journal.now) × IsNotWhole text × (begins_as_journal text ≡ false)
 IsTextFault options text (CutJournal path) = (path ≡ options.journal.now) × IsNotWhole text × (begins_as_journal text ≡ true)
@@ -144,20 +123,20 @@ IsTextFault options text (OtherReindex of_run) =
 IsTextFault options text why = ⊥
 
 -- why the setup's files are not read, or are not those that were told
-abbrev pub IsFilesFault : Option (List NamedFile) → List ℕ → List FileSum → Failure → Type 0
+abbrev pub IsFilesFault : Option (List NamedFile) → List ℕ → List FileSum → AuditFailure → Type 0
 IsFilesFault files setup told (Serve why) = IsReadFault files setup why
 IsFilesFault files setup told (OtherFile path) = (read : List FileSum) × AreAllNoted files setup (Some []) (Some read) × (first_other told read ≡ Some path)
 IsFilesFault files setup told why = ⊥
 
 -- why the tables that were read are not opened, or not all entries hold on them
-abbrev pub IsEntriesFault : Bool → Read → List ℕ → Failure → Type 0
+abbrev pub IsEntriesFault : Bool → Read → List ℕ → AuditFailure → Type 0
 IsEntriesFault reindex read entries (Serve why) = IsOpenFault reindex read why
 IsEntriesFault reindex read entries (Audit fault.NoMemory) = ⊥
 IsEntriesFault reindex read entries (Audit why) = (opened : Opened) × IsOpenedFrom reindex read opened × RefutesAll opened entries why × IsAuditFault opened entries why
 IsEntriesFault reindex read entries why = ⊥
 
 -- what a failure says of the count of loads that failed
-abbrev pub IsLoadFailure : Option (List NamedFile) → Options → Option ℕ → Option ℕ → Failure → Type 0
+abbrev pub IsLoadFailure : Option (List NamedFile) → Options → Option ℕ → Option ℕ → AuditFailure → Type 0
 IsLoadFailure files options before after (Serve why) = IsFailure files before after why
 IsLoadFailure files options before after Unread = Rises before after ⊎ IsTooLong files options.journal.now
 IsLoadFailure files options before after why = after ≡ before

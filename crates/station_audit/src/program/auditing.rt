@@ -13,7 +13,7 @@ ghost use Rattle.station_audit.specs.Program.{IsAuditedBy, IsAuditedTo, IsEntrie
 
 use crate::program::audited::Audited;
 use crate::program::comparing::find_other;
-use crate::program::failure::Failure;
+use crate::program::failure::AuditFailure;
 use crate::program::options::Options;
 use audit::audit;
 use catalogue_core::Catalogue;
@@ -24,7 +24,11 @@ use std::alloc::Global;
 use whole_run::{Loaded, ServeFault, open_loaded, read_all};
 
 // The journal's text.
-fn load_journal<S: Source>(alloc: Global, source: &mut S, path: &[u8]) -> Result<Bytes, Failure>
+fn load_journal<S: Source>(
+    alloc: Global,
+    source: &mut S,
+    path: &[u8],
+) -> Result<Bytes, AuditFailure>
     ensures found { IfOk result (λ text. IsFileOf (S.files source.old) path.now text) }
     ensures kept { S.files source.new ≡ S.files source.old }
     ensures fault { IfErr result (IsJournalFault (S.files source.old) path.now (S.failures source.old) (S.failures source.new)) }
@@ -32,11 +36,11 @@ fn load_journal<S: Source>(alloc: Global, source: &mut S, path: &[u8]) -> Result
 {
     match source.load(alloc, path) {
         Ok(text) => Ok(text),
-        Err(LoadFault::NoMemory) => Err(Failure::Serve(ServeFault::NoMemory)),
-        Err(LoadFault::CannotRead) => Err(Failure::Unread),
+        Err(LoadFault::NoMemory) => Err(AuditFailure::Serve(ServeFault::NoMemory)),
+        Err(LoadFault::CannotRead) => Err(AuditFailure::Unread),
         Err(LoadFault::Unrecovered) => {
             let path = Bytes::from_slice(alloc, path)?;
-            Err(Failure::UnrecoveredJournal(path))
+            Err(AuditFailure::UnrecoveredJournal(path))
         }
     }
 }
@@ -46,7 +50,7 @@ fn cut_text<'a>(
     alloc: Global,
     options: &Options<'_>,
     text: &'a [u8],
-) -> Result<JournalParts<'a>, Failure>
+) -> Result<JournalParts<'a>, AuditFailure>
     ensures found { IfOk result (IsCutInto text.now) }
     ensures reindex { IfOk result (λ parts. parts.reindex ≡ options.now.reindex) }
     ensures fault { IfErr result (IsTextFault options.now text.now) }
@@ -54,9 +58,11 @@ fn cut_text<'a>(
     let path = options.journal.as_bytes();
     match cut_journal(text) {
         Ok(parts) if parts.reindex == options.reindex => Ok(parts),
-        Ok(parts) => Err(Failure::OtherReindex(parts.reindex)),
-        Err(JournalFault::Cut) => Err(Failure::CutJournal(Bytes::from_slice(alloc, path)?)),
-        Err(JournalFault::NoJournal) => Err(Failure::NoJournal(Bytes::from_slice(alloc, path)?)),
+        Ok(parts) => Err(AuditFailure::OtherReindex(parts.reindex)),
+        Err(JournalFault::Cut) => Err(AuditFailure::CutJournal(Bytes::from_slice(alloc, path)?)),
+        Err(JournalFault::NoJournal) => Err(AuditFailure::NoJournal(Bytes::from_slice(
+            alloc, path,
+        )?)),
     }
 }
 
@@ -72,7 +78,7 @@ fn read_files<S: Source>(
     options: &Options<'_>,
     lines: &[u8],
     source: &mut S,
-) -> Result<ReadFiles, Failure>
+) -> Result<ReadFiles, AuditFailure>
     ensures read { IfOk result (λ files. IsAllRead (S.files source.old) options.now.setup.now (read_of files.loaded)) }
     ensures noted { IfOk result (λ files. AreAllNoted (S.files source.old) options.now.setup.now (Some []) (Some files.sums.items)) }
     ensures same { IfLinesOf read_word lines.now (λ told. IfOk result (λ files. first_other told files.sums.items ≡ None)) }
@@ -86,7 +92,7 @@ fn read_files<S: Source>(
     let loaded = read_all(alloc, source, &setup, &mut noted)?;
     let sums = noted.into_sums();
     if let Some(path) = find_other(lines, &sums) {
-        return Err(Failure::OtherFile(Bytes::from_slice(alloc, path)?));
+        return Err(AuditFailure::OtherFile(Bytes::from_slice(alloc, path)?));
     }
     Ok(ReadFiles { loaded, sums })
 }
@@ -97,7 +103,7 @@ fn perform_entries(
     loaded: Loaded,
     reindex: bool,
     entries: &[u8],
-) -> Result<Catalogue, Failure>
+) -> Result<Catalogue, AuditFailure>
     ensures opened { IfOk result (λ catalogue. IsOpenedFrom reindex (read_of loaded) catalogue.opened) }
     ensures holds { IfOk result (λ catalogue. IsJournalOf catalogue.opened entries.now catalogue.journal) }
     ensures fault { IfErr result (IsEntriesFault reindex (read_of loaded) entries.now) }
@@ -124,7 +130,7 @@ pub(crate) fn audited_tables<S: Source>(
     alloc: Global,
     options: &Options<'_>,
     source: &mut S,
-) -> Result<AuditedTables, Failure>
+) -> Result<AuditedTables, AuditFailure>
     ensures audited { IfOk result (λ tables. IsAuditedTo (S.files source.old) options.now tables.catalogue tables.audited) }
     ensures unwritten { IfOk result (λ tables. tables.audited.written.items ≡ []) }
     ensures fault { IfErr result (IsFailedBy (S.files source.old) options.now) }
@@ -155,7 +161,7 @@ pub(crate) fn audit_options<S: Source>(
     alloc: Global,
     options: &Options<'_>,
     source: &mut S,
-) -> Result<Audited, Failure>
+) -> Result<Audited, AuditFailure>
     ensures holds { IfOk result (IsAuditedBy (S.files source.old) options.now) }
     ensures fault { IfErr result (IsFailedBy (S.files source.old) options.now) }
     ensures kept { S.files source.new ≡ S.files source.old }

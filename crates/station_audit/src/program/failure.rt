@@ -1,14 +1,12 @@
-//! Why a call of the program failed, and what it says then.
+//! Why an audit failed, and what the program says then.
 
 ghost use Rattle.std.specs.Prelude.{◌≡◌, ◌++◌, OnOk};
 ghost use Rattle.std.specs.Io.KnownBytes.{Appends};
-ghost use Rattle.station_audit.specs.Endings.{audit_reason, difference_reason, entry_named, failure_line, performed_answer, reason, reindex_reason, shortened, status, told_answer};
+ghost use Rattle.station_audit.specs.Endings.{audit_reason, difference_reason, entry_named, performed_answer, reindex_reason, shortened, told_answer};
 
 use audit::{AuditFault, Difference};
 use dbf_fields::Bytes;
-use program_text::{
-    FolderFault, PlaceFault, fault_status, print_fault, print_folder, print_unread,
-};
+use program_text::{Reason, fault_status, print_fault, print_unread};
 use std::alloc::AllocError;
 use std::io;
 use std::io::Write;
@@ -17,11 +15,9 @@ use whole_run::{FileFault, ServeFault};
 /// How many bytes of a command's line or of an answer are printed.
 pub(crate) const MAX_SHOWN_BYTES: usize = 200;
 
-/// Why a call of the program failed, where `clap` had nothing to object.
+/// Why an audit failed.
 #[derive(Debug, PartialEq, Eq, Drop)]
-pub(crate) enum Failure {
-    /// The date is no calendar date of the years 1900 to 2155.
-    BadDate,
+pub(crate) enum AuditFailure {
     /// The tables were not opened as a run opens them or not written, or memory was refused.
     Serve(ServeFault),
     /// The journal can't be read.
@@ -38,107 +34,91 @@ pub(crate) enum Failure {
     OtherFile(Bytes),
     /// An entry does not hold.
     Audit(AuditFault),
-    /// The folder for the written tables has not got them.
-    Folder(FolderFault),
 }
 
-impl From<AllocError> for Failure {
+impl From<AllocError> for AuditFailure {
     ghost use Rattle.std.specs.Prelude.{◌≡◌};
-    ghost use Rattle.station_audit.specs.declared.program.failure.Failure.TheVariants.{Serve};
+    ghost use Rattle.station_audit.specs.declared.program.failure.AuditFailure.TheVariants.{Serve};
     ghost use Rattle.whole_run.specs.declared.fault.ServeFault.TheVariants.{NoMemory};
 
     ghost from_gives = { λ _ failure. failure ≡ Serve NoMemory };
 
-    fn from(_refused: AllocError) -> Failure {
-        Failure::Serve(ServeFault::NoMemory)
+    fn from(_refused: AllocError) -> AuditFailure {
+        AuditFailure::Serve(ServeFault::NoMemory)
     }
 }
 
-impl From<ServeFault> for Failure {
+impl From<ServeFault> for AuditFailure {
     ghost use Rattle.std.specs.Prelude.{◌≡◌};
-    ghost use Rattle.station_audit.specs.declared.program.failure.Failure.TheVariants.{Serve};
+    ghost use Rattle.station_audit.specs.declared.program.failure.AuditFailure.TheVariants.{Serve};
 
     ghost from_gives = { λ fault failure. failure ≡ Serve fault };
 
-    fn from(fault: ServeFault) -> Failure {
-        Failure::Serve(fault)
+    fn from(fault: ServeFault) -> AuditFailure {
+        AuditFailure::Serve(fault)
     }
 }
 
 // Want of memory in the audit is that of the whole program.
-impl From<AuditFault> for Failure {
+impl From<AuditFault> for AuditFailure {
     ghost use Rattle.std.specs.Prelude.{◌≡◌};
     ghost use Rattle.station_audit.specs.Program.{audit_failure};
 
     ghost from_gives = { λ fault failure. failure ≡ audit_failure fault };
 
-    fn from(fault: AuditFault) -> Failure {
+    fn from(fault: AuditFault) -> AuditFailure {
         match fault {
-            AuditFault::NoMemory => Failure::Serve(ServeFault::NoMemory),
-            fault => Failure::Audit(fault),
+            AuditFault::NoMemory => AuditFailure::Serve(ServeFault::NoMemory),
+            fault => AuditFailure::Audit(fault),
         }
     }
 }
 
-impl From<PlaceFault> for Failure {
-    ghost use Rattle.std.specs.Prelude.{◌≡◌};
-    ghost use Rattle.station_audit.specs.Endings.{place_failure};
+impl Reason for AuditFailure {
+    ghost use Rattle.station_audit.specs.Endings.{no_memory, reason, status};
 
-    ghost from_gives = { λ fault failure. failure ≡ place_failure fault };
+    ghost words = { reason };
 
-    fn from(fault: PlaceFault) -> Failure {
-        match fault {
-            PlaceFault::NoMemory => Failure::Serve(ServeFault::NoMemory),
-            PlaceFault::Folder(fault) => Failure::Folder(fault),
+    ghost status = { status };
+
+    ghost no_memory = { no_memory };
+
+    fn exit_status(&self) -> u8 {
+        match self {
+            AuditFailure::Serve(fault) => fault_status(fault),
+            AuditFailure::Unread => 2,
+            AuditFailure::UnrecoveredJournal(_) => 2,
+            AuditFailure::NoJournal(_) => 6,
+            AuditFailure::CutJournal(_) => 6,
+            AuditFailure::OtherReindex(_) => 6,
+            AuditFailure::OtherFile(_) => 6,
+            AuditFailure::Audit(_) => 5,
         }
     }
-}
 
-/// The exit status of a failure: as the server's, which is 1 for the date and the setup, 2 for a file and the opening, 3
-/// for want of memory and 4 for the writing and its folder; 5 where an entry does not hold, and 6 where the journal is none
-/// or is that of another run.
-pub(crate) fn status_of(failure: &Failure) -> u8
-    ensures value { result ≡ status failure.now }
-{
-    match failure {
-        Failure::BadDate => 1,
-        Failure::Serve(fault) => fault_status(fault),
-        Failure::Unread => 2,
-        Failure::UnrecoveredJournal(_) => 2,
-        Failure::NoJournal(_) => 6,
-        Failure::CutJournal(_) => 6,
-        Failure::OtherReindex(_) => 6,
-        Failure::OtherFile(_) => 6,
-        Failure::Audit(_) => 5,
-        Failure::Folder(_) => 4,
+    fn print<W: Write>(&self, out: &mut W) -> io::Result<()> {
+        match self {
+            AuditFailure::Serve(fault) => print_fault(out, fault),
+            AuditFailure::Unread => out.write_all(b"cannot read the journal"),
+            AuditFailure::UnrecoveredJournal(path) => print_unread(
+                out,
+                path,
+                FileFault::Unrecovered,
+            ),
+            AuditFailure::NoJournal(path) => print_path(out, path, b" is no journal"),
+            AuditFailure::CutJournal(path) => print_path(out, path, b" is cut"),
+            AuditFailure::OtherReindex(of_run) => print_reindex(out, *of_run),
+            AuditFailure::OtherFile(path) => print_path(
+                out,
+                path,
+                b" is not the file that the run read",
+            ),
+            AuditFailure::Audit(fault) => print_audit(out, fault),
+        }
     }
-}
 
-/// Prints the line that says why a call of the program failed: `station_audit: `, the reason and LF. Takes no memory. An
-/// error where a write fails.
-pub(crate) fn print_failure<W: Write>(out: &mut W, failure: &Failure) -> io::Result<()>
-    ensures text { OnOk result (Appends (W.contents out.old) (W.contents out.new) (failure_line failure.now)) }
-{
-    out.write_all(b"station_audit: ")?;
-    print_reason(out, failure)?;
-    out.write_all(b"\n")?;
-    Ok(())
-}
-
-fn print_reason<W: Write>(out: &mut W, failure: &Failure) -> io::Result<()>
-    ensures text { OnOk result (Appends (W.contents out.old) (W.contents out.new) (reason failure.now)) }
-{
-    match failure {
-        Failure::BadDate => out.write_all(b"bad date"),
-        Failure::Serve(fault) => print_fault(out, fault),
-        Failure::Unread => out.write_all(b"cannot read the journal"),
-        Failure::UnrecoveredJournal(path) => print_unread(out, path, FileFault::Unrecovered),
-        Failure::NoJournal(path) => print_path(out, path, b" is no journal"),
-        Failure::CutJournal(path) => print_path(out, path, b" is cut"),
-        Failure::OtherReindex(of_run) => print_reindex(out, *of_run),
-        Failure::OtherFile(path) => print_path(out, path, b" is not the file that the run read"),
-        Failure::Audit(fault) => print_audit(out, fault),
-        Failure::Folder(fault) => print_folder(out, fault),
+    fn out_of_memory() -> AuditFailure {
+        AuditFailure::Serve(ServeFault::NoMemory)
     }
 }
 

@@ -5,7 +5,7 @@ ghost use Rattle.station_files.specs.declared.named.NamedFile.{NamedFile};
 ghost use Rattle.station_audit.specs.declared.program.options.Options.{Options};
 ghost use Rattle.station_audit.specs.Laws.{HoldsInAudits, NeverRefutes, OpensAsAnAudit, WritesAJournal, WritesAWholeText, WritesTheSame};
 
-/// A law: the last file of a run whose journal is written, as `whole_run`'s `serve_with_journal` writes it, has a journal's whole
+/// A law: the last file of a run whose journal is written, as `whole_run`'s `serve_asked` writes it, has a journal's whole
 /// text, whose lines of entries are the journal of a legal history on the tables as they were opened, and an audit of these on
 /// these tables says that all entries hold, or that memory was refused. Over the run's files as they were the audit opens the
 /// run's tables: so this program never says of a run's journal that it is none or is cut, that the run was another, or that an

@@ -1,14 +1,16 @@
 //! The command line.
 
-ghost use Rattle.std.specs.Prelude.{◌≡◌, codes, Some, None, true, false, IfSome};
-ghost use Rattle.program_text.specs.CommandLine.{HasBadDate, HasFlag, LacksFlag, value_of};
-ghost use Rattle.station_audit.specs.Program.{HasPaths, SaysWritten};
+ghost use Rattle.std.specs.Prelude.{◌≡◌, codes, false, map, None, IfErr, IfOk, IfSome};
+ghost use Rattle.clap.specs.Words.{app_of, rule_of};
+ghost use Rattle.program_text.specs.CommandLine.{rows_in};
+ghost use Rattle.station_audit.specs.Asked.{audit_app, paths_app, wanting_rule, GivesBadDate, HasPaths, IsAskedBy, IsAskedIn, IsWhyNotRead, SaysWritten};
 
-use clap::builder::ValueParser;
-use clap::{Arg, ArgAction, ArgMatches, Command};
+use crate::program::failure::AuditFailure;
+use clap::{Arg, ArgMatches, Command};
 use dbf_fields::Day;
-use program_text::date_of;
+use program_text::{Ending, Failure, date_of, flag, has_flag, option, required_option, value_of};
 use std::alloc::{AllocError, Global};
+use std::convert::AsStr;
 
 // What the help tells after the options.
 const STATUSES: &str = "Exit status:
@@ -43,61 +45,74 @@ pub(crate) struct Written<'a> {
     pub today: Day,
 }
 
-/// The command line, for `clap` to read. An error where memory is refused.
-pub(crate) fn command<'a>(alloc: Global) -> Result<Command<'a>, AllocError> {
+// The command line without what is written.
+fn command_of_paths<'a>(alloc: Global) -> Result<Command<'a>, AllocError>
+    ensures app { IfOk result (λ command. app_of command ≡ paths_app) }
+{
     Command::new(alloc, "station_audit")
         .about("Performs the journal of a run once more and compares each answer")
         .after_help(STATUSES)
-        .arg(path_option(
+        .arg(required_option(
             alloc,
             "setup",
             "FILE",
             "The setup of the run, with its files as the run found them",
-        )
-        .required(true))?
-        .arg(path_option(alloc, "journal", "FILE", "The journal of the run").required(true))?
-        .arg(path_option(
-            alloc,
-            "out",
-            "DIR",
-            "The folder for the tables at the journal's end, which has to exist",
-        )
-        .requires_arg("today")?)?
-        .arg(path_option(
-            alloc,
-            "today",
-            "YYYYMMDD",
-            "The date that the written tables tell, of 1900 to 2155",
-        )
-        .requires_arg("out")?)?
-        .arg(
-            Arg::new(alloc, "reindex")
-                .long("reindex")
-                .help("Make the indexes anew from the records, as the run did")
-                .action(ArgAction::SetTrue),
-        )
+        ))?
+        .arg(required_option(alloc, "journal", "FILE", "The journal of the run"))
 }
 
-// An option that is given once, with a value that is not empty.
-fn path_option<'a>(alloc: Global, name: &'a str, value_name: &'a str, help: &'a str) -> Arg<'a> {
-    Arg::new(alloc, name)
-        .long(name)
-        .value_name(value_name)
-        .help(help)
-        .action(ArgAction::Set)
-        .value_parser(ValueParser::NonEmptyString)
+/// The command line, for `clap` to read. An error where memory is refused.
+pub(crate) fn command<'a>(alloc: Global) -> Result<Command<'a>, AllocError>
+    ensures app { IfOk result (λ command. app_of command ≡ audit_app) }
+{
+    command_of_paths(alloc)?
+        .arg(out_option(alloc)?)?
+        .arg(today_option(alloc)?)?
+        .arg(flag(
+            alloc,
+            "reindex",
+            "Make the indexes anew from the records, as the run did",
+        ))
+}
+
+// The folder for the tables, which wants a date.
+fn out_option<'a>(alloc: Global) -> Result<Arg<'a>, AllocError>
+    ensures rule { IfOk result (λ arg. rule_of arg ≡ wanting_rule (codes "out")) }
+    ensures local { IfOk result (λ arg. arg.global ≡ false) }
+{
+    option(
+        alloc,
+        "out",
+        "DIR",
+        "The folder for the tables at the journal's end, which has to exist",
+    )
+    .requires_arg("today")
+}
+
+// The date of the tables, which wants a folder.
+fn today_option<'a>(alloc: Global) -> Result<Arg<'a>, AllocError>
+    ensures rule { IfOk result (λ arg. rule_of arg ≡ wanting_rule (codes "today")) }
+    ensures local { IfOk result (λ arg. arg.global ≡ false) }
+{
+    option(
+        alloc,
+        "today",
+        "YYYYMMDD",
+        "The date that the written tables tell, of 1900 to 2155",
+    )
+    .requires_arg("out")
 }
 
 // What a command line says of the written tables: nothing, where it has not both the folder and the day. `None` where the
 // date is bad.
 fn written_of<'a>(matches: &ArgMatches<'a>) -> Option<Option<Written<'a>>>
-    ensures says { IfSome result (SaysWritten matches.now) }
-    ensures bad { result ≡ None → HasBadDate matches.now }
+    ensures says { IfSome result (SaysWritten (rows_in matches.now)) }
+    ensures bad { result ≡ None → GivesBadDate (rows_in matches.now) }
 {
-    let Some(out) = matches.get_str("out") else {
+    let Some(out) = value_of(matches, "out") else {
         return Some(None);
     };
-    let Some(text) = matches.get_str("today") else {
+    let Some(text) = value_of(matches, "today") else {
         return Some(None);
     };
     let today = date_of(text.as_bytes())?;
@@ -107,21 +122,34 @@ fn written_of<'a>(matches: &ArgMatches<'a>) -> Option<Option<Written<'a>>>
 /// What a command line says that `clap` has read. `None` where the date is no calendar date of the years 1900 to 2155.
 /// Takes no memory.
 pub(crate) fn options_of<'a>(matches: &ArgMatches<'a>) -> Option<Options<'a>>
-    ensures setup { IfSome result (λ options. value_of matches.now (codes "setup") ≡ Some options.setup.now) }
-    ensures journal { IfSome result (λ options. value_of matches.now (codes "journal") ≡ Some options.journal.now) }
-    ensures written { IfSome result (λ options. SaysWritten matches.now options.written) }
-    ensures reindex { IfSome result (λ options. HasFlag matches.now (codes "reindex") → options.reindex ≡ true) }
-    ensures plain { IfSome result (λ options. LacksFlag matches.now (codes "reindex") → options.reindex ≡ false) }
-    ensures bad { result ≡ None → HasPaths matches.now → HasBadDate matches.now }
+    ensures asked { IfSome result (IsAskedBy (rows_in matches.now)) }
+    ensures bad { result ≡ None → HasPaths (rows_in matches.now) → GivesBadDate (rows_in matches.now) }
 {
-    let setup = matches.get_str("setup")?;
-    let journal = matches.get_str("journal")?;
+    let setup = value_of(matches, "setup")?;
+    let journal = value_of(matches, "journal")?;
     let written = written_of(matches)?;
-    let reindex = matches.get_flag("reindex");
+    let reindex = has_flag(matches, "reindex");
     Some(Options {
         setup,
         journal,
         reindex,
         written,
     })
+}
+
+/// What the words of a command line ask for, of which the first is the program's name.
+///
+/// `CommandLine` says that `clap` gives no options, `Failed(BadDate)` that the date is no calendar date of the years 1900 to 2155.
+pub(crate) fn read_options<'a, T: AsStr>(
+    alloc: Global,
+    words: &'a [T],
+) -> Result<Options<'a>, Ending<Failure<AuditFailure>>>
+    ensures asked { IfOk result (IsAskedIn (map T.text words.entry.now)) }
+    ensures fault { IfErr result (IsWhyNotRead (map T.text words.entry.now)) }
+{
+    let matches = command(alloc)?.try_get_matches_from(words)?;
+    match options_of(&matches) {
+        Some(options) => Ok(options),
+        None => Err(Ending::Failed(Failure::BadDate)),
+    }
 }

@@ -2,13 +2,14 @@
 
 ghost use Rattle.std.specs.Prelude.{◌≡◌, ◌≢◌, ℕ, List, Err, IfOk, IfErr, OnOk};
 ghost use Rattle.byte_io.specs.Sink.{Rises};
-ghost use Rattle.station_audit.specs.declared.program.failure.Failure.TheVariants.{Serve};
+ghost use Rattle.station_files.specs.Placed.{IsListedAfter};
+ghost use Rattle.station_audit.specs.declared.program.failure.AuditFailure.TheVariants.{Serve};
 ghost use Rattle.station_audit.specs.Program.{IsLoadFailure};
 ghost use Rattle.station_audit.specs.Writing.{IsCutAudit, IsWrittenBy, IsUnwritten};
 
 use crate::program::audited::Audited;
 use crate::program::auditing::{AuditedTables, audited_tables};
-use crate::program::failure::Failure;
+use crate::program::failure::AuditFailure;
 use crate::program::options::Options;
 use dbf_fields::Day;
 use station_files::{CloseFault, Folder, Source};
@@ -23,8 +24,9 @@ pub(crate) fn audit_into<S: Source, F: Folder>(
     today: Day,
     source: &mut S,
     folder: &mut F,
-) -> Result<Audited, Failure>
-    ensures wrote { IfOk result (IsWrittenBy (S.files source.old) options.now today (F.written folder.old) (F.written folder.new)) }
+) -> Result<Audited, AuditFailure>
+    ensures wrote { IfOk result (λ audited.
+        IsListedAfter (λ written. IsWrittenBy (S.files source.old) options.now today written audited) (F.written folder.old) (F.written folder.new)) }
     ensures no_failure { OnOk result (F.failures folder.new ≡ F.failures folder.old) }
     ensures fault { IfErr result (IsUnwritten (S.files source.old) options.now today.year) }
     ensures kept { S.files source.new ≡ S.files source.old }

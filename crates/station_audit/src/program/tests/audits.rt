@@ -1,7 +1,9 @@
 //! Audits over files in memory, of journals that hold and that don't.
 
 use super::journals::{count_of, journal_of, named, options_for, source_with};
-use crate::program::{Failure, audit_options, command, options_of};
+use crate::program::AuditFailure;
+use crate::program::auditing::audit_options;
+use crate::program::options::{command, options_of};
 use audit::{AuditFault, Difference};
 use dbf_fields::{Bytes, day_of};
 use std::alloc::{AllocError, Global};
@@ -33,7 +35,11 @@ const DONT_HOLD: [(&[u8], u64, u64); 5] = [
 ];
 
 // What an audit says of a journal with these entries, so many.
-fn audited(alloc: Global, lines: &[u8], count: u64) -> Result<Result<u64, Failure>, AllocError> {
+fn audited(
+    alloc: Global,
+    lines: &[u8],
+    count: u64,
+) -> Result<Result<u64, AuditFailure>, AllocError> {
     let text = journal_of(alloc, lines, count)?;
     let mut source = source_with(alloc, text.as_slice())?;
     let options = options_for("A.SET", "J.TXT");
@@ -41,10 +47,10 @@ fn audited(alloc: Global, lines: &[u8], count: u64) -> Result<Result<u64, Failur
 }
 
 // The number of the entry that a failure speaks of, from 1, or 0.
-fn number_in(failure: &Failure) -> u64 {
+fn number_in(failure: &AuditFailure) -> u64 {
     match failure {
-        Failure::Audit(AuditFault::NoEntry(number)) => *number,
-        Failure::Audit(AuditFault::Differs(difference)) => difference.number,
+        AuditFailure::Audit(AuditFault::NoEntry(number)) => *number,
+        AuditFailure::Audit(AuditFault::Differs(difference)) => difference.number,
         _ => 0,
     }
 }
@@ -95,7 +101,7 @@ fn another_answer_is_told_with_both(rt: HostRuntime) -> Result<(), Fail> {
         told: Bytes::from_slice(alloc, b".F.")?,
         performed: Bytes::from_slice(alloc, b".T.")?,
     };
-    let failure = Failure::Audit(AuditFault::Differs(difference));
+    let failure = AuditFailure::Audit(AuditFault::Differs(difference));
     assert_eq!(rt; audited(alloc, lines, 2)?, Err(failure));
     Ok(())
 }
@@ -105,7 +111,7 @@ fn audited_at<'a>(
     alloc: Global,
     setup: &'a str,
     journal: &'a str,
-) -> Result<Result<u64, Failure>, AllocError> {
+) -> Result<Result<u64, AuditFailure>, AllocError> {
     let text = journal_of(alloc, b"", 0)?;
     let mut source = source_with(alloc, text.as_slice())?;
     let options = options_for(setup, journal);
@@ -117,10 +123,10 @@ fn files_that_are_missing_are_told(rt: HostRuntime) -> Result<(), Fail> {
     let alloc = rt.alloc();
     assert_eq!(rt;
         audited_at(alloc, "NONE.SET", "NONE.TXT")?,
-        Err(Failure::Unread)
+        Err(AuditFailure::Unread)
     );
     let path = Bytes::from_slice(alloc, b"NONE.SET")?;
-    let missing = Failure::Serve(ServeFault::File(path, FileFault::CannotRead));
+    let missing = AuditFailure::Serve(ServeFault::File(path, FileFault::CannotRead));
     assert_eq!(rt; audited_at(alloc, "NONE.SET", "J.TXT")?, Err(missing));
     Ok(())
 }
@@ -129,7 +135,7 @@ fn files_that_are_missing_are_told(rt: HostRuntime) -> Result<(), Fail> {
 const LIST: &str = "~niqarthu.list";
 
 // What an audit says of an empty journal in the folder `kept`, where a list lies in this folder.
-fn audited_beside(alloc: Global, folder: &str) -> Result<Result<u64, Failure>, Fail> {
+fn audited_beside(alloc: Global, folder: &str) -> Result<Result<u64, AuditFailure>, Fail> {
     let text = journal_of(alloc, b"", 0)?;
     let mut source = source_with(alloc, b"")?;
     let list = format!(in alloc; "{folder}{LIST}")?;
@@ -150,8 +156,8 @@ fn folders_that_are_not_recovered_are_not_audited(rt: HostRuntime) -> Result<(),
     let journal = Bytes::from_slice(alloc, b"kept/J.TXT")?;
     let unrecovered = ServeFault::File(setup, FileFault::Unrecovered);
     let cases = [
-        ("", Err(Failure::Serve(unrecovered))),
-        ("kept/", Err(Failure::UnrecoveredJournal(journal))),
+        ("", Err(AuditFailure::Serve(unrecovered))),
+        ("kept/", Err(AuditFailure::UnrecoveredJournal(journal))),
         ("elsewhere/", Ok(0)),
     ];
     for (folder, ended) in cases {

@@ -1,20 +1,22 @@
 //! How calls of the program end: what is printed, and the exit status.
 
-use crate::program::{Audited, Ending, Failure, command, tell};
+use crate::program::options::command;
+use crate::program::{AuditFailure, Audited, PROGRAM};
 use audit::{AuditFault, Difference};
 use dbf_fields::Bytes;
-use files_in_place::{DiskFault, LockFault};
-use program_text::{FolderFault, PlaceFault};
+use program_text::{Ending, Failure, FolderFault, tell};
 use shared_catalogue::OpenFault;
 use std::alloc::{AllocError, Global};
 use std::io;
-use std::io::Write;
 use std::process::ExitCode;
 use std::test::Fail;
 use whole_run::{FileFault, ServeFault};
 
+// How a call of the program ends.
+type Ended = Result<Audited, Ending<Failure<AuditFailure>>>;
+
 // What `clap` says of a command line.
-fn said_of(alloc: Global, words: &[&str]) -> Result<Ending, Fail> {
+fn said_of(alloc: Global, words: &[&str]) -> Result<Ending<Failure<AuditFailure>>, Fail> {
     match command(alloc)?.try_get_matches_from(words) {
         Ok(_) => Err("there is no mistake".into()),
         Err(error) => Ok(Ending::from(error)),
@@ -31,18 +33,22 @@ fn held(alloc: Global, count: u64) -> Audited {
     }
 }
 
-fn failed(failure: Failure) -> Result<Audited, Ending> {
+fn failed(failure: AuditFailure) -> Ended {
+    Err(Ending::Failed(Failure::Work(failure)))
+}
+
+fn of_program(failure: Failure<AuditFailure>) -> Ended {
     Err(Ending::Failed(failure))
 }
 
-fn unread(alloc: Global) -> Result<Failure, AllocError> {
+fn unread(alloc: Global) -> Result<AuditFailure, AllocError> {
     let path = Bytes::from_slice(alloc, b"T.DBF")?;
     let fault = ServeFault::File(path, FileFault::CannotRead);
-    Ok(Failure::Serve(fault))
+    Ok(AuditFailure::Serve(fault))
 }
 
-fn differs(alloc: Global) -> Result<Failure, AllocError> {
-    Ok(Failure::Audit(AuditFault::Differs(Difference {
+fn differs(alloc: Global) -> Result<AuditFailure, AllocError> {
+    Ok(AuditFailure::Audit(AuditFault::Differs(Difference {
         number: 4,
         station: 1,
         command: Bytes::from_slice(alloc, b"? NAME")?,
@@ -52,15 +58,12 @@ fn differs(alloc: Global) -> Result<Failure, AllocError> {
 }
 
 // The first call that ends otherwise: with another exit status, or with another line on one of the streams.
-fn first_untold(
-    alloc: Global,
-    cases: &[(Result<Audited, Ending>, u8, &str, &str)],
-) -> Result<Option<usize>, Fail> {
+fn first_untold(alloc: Global, cases: &[(Ended, u8, &str, &str)]) -> Result<Option<usize>, Fail> {
     for i in 0..cases.len() {
         let (ended, status, said, warned) = &cases[i];
         let mut out = Vec::new(alloc);
         let mut err = Vec::new(alloc);
-        let told = tell(&mut out, &mut err, ended);
+        let told = tell(&mut out, &mut err, PROGRAM, ended);
         if told.status != ExitCode::from(*status) {
             return Ok(Some(i));
         }
@@ -120,31 +123,52 @@ fn each_failure_has_its_status_and_line(rt: HostRuntime) -> Result<(), Fail> {
     let refused = ServeFault::Refused(OpenFault::NoStation);
     let journal = Bytes::from_slice(alloc, b"kept/J.TXT")?;
     let cases = [
-        (failed(Failure::BadDate), 1, "", "station_audit: bad date\n"),
-        (failed(Failure::Serve(ServeFault::Setup(7))), 1, "", bad),
-        (failed(unread(alloc)?), 2, "", missing),
-        (failed(Failure::Serve(refused)), 2, "", unopened),
-        (failed(Failure::Unread), 2, "", no_journal),
         (
-            failed(Failure::UnrecoveredJournal(journal)),
+            of_program(Failure::BadDate),
+            1,
+            "",
+            "station_audit: bad date\n",
+        ),
+        (
+            of_program(Failure::Folder(FolderFault::InUse)),
+            4,
+            "",
+            "station_audit: another run writes into the folder\n",
+        ),
+        (
+            failed(AuditFailure::Serve(ServeFault::Setup(7))),
+            1,
+            "",
+            bad,
+        ),
+        (failed(unread(alloc)?), 2, "", missing),
+        (failed(AuditFailure::Serve(refused)), 2, "", unopened),
+        (failed(AuditFailure::Unread), 2, "", no_journal),
+        (
+            failed(AuditFailure::UnrecoveredJournal(journal)),
             2,
             "",
             unrecovered,
         ),
         (
-            failed(Failure::from(AuditFault::NoMemory)),
+            failed(AuditFailure::from(AuditFault::NoMemory)),
             3,
             "",
             no_memory,
         ),
         (
-            failed(Failure::from(AuditFault::NoEntry(3))),
+            failed(AuditFailure::from(AuditFault::NoEntry(3))),
             5,
             "",
             no_entry,
         ),
         (failed(differs(alloc)?), 5, "", other),
-        (failed(Failure::from(AuditFault::TooLong)), 5, "", too_long),
+        (
+            failed(AuditFailure::from(AuditFault::TooLong)),
+            5,
+            "",
+            too_long,
+        ),
     ];
     assert_eq!(rt; first_untold(alloc, &cases)?, None);
     Ok(())
@@ -161,32 +185,32 @@ fn each_other_run_has_its_status_and_line(rt: HostRuntime) -> Result<(), Fail> {
     let not_read = "station_audit: MEMBERS.DBF is not the file that the run read\n";
     let cases = [
         (
-            failed(Failure::NoJournal(none)),
+            failed(AuditFailure::NoJournal(none)),
             6,
             "",
             "station_audit: J.TXT is no journal\n",
         ),
         (
-            failed(Failure::CutJournal(cut)),
+            failed(AuditFailure::CutJournal(cut)),
             6,
             "",
             "station_audit: kept/J.TXT is cut\n",
         ),
-        (failed(Failure::OtherReindex(true)), 6, "", with),
-        (failed(Failure::OtherReindex(false)), 6, "", without),
-        (failed(Failure::OtherFile(other)), 6, "", not_read),
+        (failed(AuditFailure::OtherReindex(true)), 6, "", with),
+        (failed(AuditFailure::OtherReindex(false)), 6, "", without),
+        (failed(AuditFailure::OtherFile(other)), 6, "", not_read),
     ];
     assert_eq!(rt; first_untold(alloc, &cases)?, None);
     Ok(())
 }
 
 // An entry whose answer is another by the byte after so many that are the same.
-fn differs_at_the_end(alloc: Global, same: usize) -> Result<Failure, AllocError> {
+fn differs_at_the_end(alloc: Global, same: usize) -> Result<AuditFailure, AllocError> {
     let mut performed = vec![in alloc; b'A'; same]?;
     performed.push(b'A')?;
     let mut told = vec![in alloc; b'A'; same]?;
     told.push(b'B')?;
-    Ok(Failure::Audit(AuditFault::Differs(Difference {
+    Ok(AuditFailure::Audit(AuditFault::Differs(Difference {
         number: 4,
         station: 1,
         command: Bytes::from_slice(alloc, b"? NAME")?,
@@ -222,67 +246,5 @@ fn long_answers_are_shown_by_their_first_bytes(rt: HostRuntime) -> Result<(), Fa
         (failed(differs_at_the_end(alloc, 200)?), 5, "", cut.as_str()),
     ];
     assert_eq!(rt; first_untold(alloc, &cases)?, None);
-    Ok(())
-}
-
-// A call that got no lock on the folder.
-fn unlocked(fault: LockFault) -> Result<Audited, Ending> {
-    Err(Ending::from(PlaceFault::from(fault)))
-}
-
-// A call that could not open the folder.
-fn unopened_by(fault: DiskFault) -> Result<Audited, Ending> {
-    Err(Ending::from(PlaceFault::from(fault)))
-}
-
-#[test]
-fn each_end_at_the_folder_has_its_status_and_line(rt: HostRuntime) -> Result<(), Fail> {
-    let of_folder = |fault| Err(Ending::Failed(Failure::Folder(fault)));
-    let in_use = "station_audit: another run writes into the folder\n";
-    let unopened = "station_audit: cannot open the folder\n";
-    let unrecovered = "station_audit: cannot recover the folder\n";
-    let bad_list =
-        "station_audit: cannot recover the folder: ~niqarthu.list is no list of new files\n";
-    let unreplaced = "station_audit: cannot recover the folder: STOCK.DBF: cannot be replaced\n";
-    let name = Bytes::from_slice(rt.alloc(), b"STOCK.DBF")?;
-    let unwritten = "station_audit: cannot write the new files\n";
-    let unfinished = "station_audit: not all new files are in place: the next start goes on\n";
-    let no_memory = "station_audit: run: NoMemory\n";
-    let cases = [
-        (unlocked(LockFault::InUse), 4, "", in_use),
-        (unlocked(LockFault::Failed), 4, "", unopened),
-        (unlocked(LockFault::NoMemory), 3, "", no_memory),
-        (unopened_by(DiskFault::Failed), 4, "", unopened),
-        (unopened_by(DiskFault::NoMemory), 3, "", no_memory),
-        (of_folder(FolderFault::Unrecovered), 4, "", unrecovered),
-        (of_folder(FolderFault::BadList), 4, "", bad_list),
-        (of_folder(FolderFault::Unreplaced(name)), 4, "", unreplaced),
-        (of_folder(FolderFault::Unwritten), 4, "", unwritten),
-        (of_folder(FolderFault::Unfinished), 4, "", unfinished),
-    ];
-    assert_eq!(rt; first_untold(rt.alloc(), &cases)?, None);
-    Ok(())
-}
-
-// A stream that takes no text.
-#[derive(Drop)]
-struct Full;
-
-impl Write for Full {
-    fn write(&mut self, _bytes: &[u8]) -> io::Result<usize> {
-        Err(io::Error::from(io::ErrorKind::StorageFull))
-    }
-
-    fn flush(&mut self) -> io::Result<()> {
-        Ok(())
-    }
-}
-
-#[test]
-fn full_streams_change_no_status(rt: HostRuntime) -> Result<(), Fail> {
-    let mut err = Vec::new(rt.alloc());
-    let told = tell(&mut Full, &mut err, &Ok(held(rt.alloc(), 7)));
-    assert!(rt; told.status == ExitCode::from(0));
-    assert!(rt; err.as_slice() == b"station_audit: cannot print\n".as_slice());
     Ok(())
 }

@@ -1,10 +1,13 @@
 //! Audits of journals that speak of the files, or of others, and files that the audit writes.
 
 use super::journals::{count_of, journal_of, options_for, read_sums, source_with, text_of};
-use crate::program::{Audited, Ending, Failure, audit_into, audit_options, tell};
+use crate::program::auditing::audit_options;
+use crate::program::writing::audit_into;
+use crate::program::{AuditFailure, Audited, PROGRAM};
 use audit::AuditFault;
 use dbf_fields::{Bytes, Day, day_of};
 use journal_file::sum_of;
+use program_text::{Ending, Failure, tell};
 use station_files::MemoryFolder;
 use std::alloc::{AllocError, Global};
 use std::process::ExitCode;
@@ -23,7 +26,11 @@ end
 ";
 
 // What an audit says of a text as a journal.
-fn audited(alloc: Global, text: &[u8], reindex: bool) -> Result<Result<u64, Failure>, AllocError> {
+fn audited(
+    alloc: Global,
+    text: &[u8],
+    reindex: bool,
+) -> Result<Result<u64, AuditFailure>, AllocError> {
     let mut source = source_with(alloc, text)?;
     let mut options = options_for("A.SET", "J.TXT");
     options.reindex = reindex;
@@ -49,12 +56,12 @@ const NO_JOURNALS: [(&[u8], bool); 5] = [
 ];
 
 // What is said of a text that is no journal.
-fn no_journal(alloc: Global, begun: bool) -> Result<Failure, AllocError> {
+fn no_journal(alloc: Global, begun: bool) -> Result<AuditFailure, AllocError> {
     let path = Bytes::from_slice(alloc, b"J.TXT")?;
     if begun {
-        return Ok(Failure::CutJournal(path));
+        return Ok(AuditFailure::CutJournal(path));
     }
-    Ok(Failure::NoJournal(path))
+    Ok(AuditFailure::NoJournal(path))
 }
 
 #[test]
@@ -81,7 +88,7 @@ fn a_journal_without_its_last_bytes_is_cut(rt: HostRuntime) -> Result<(), Fail> 
 #[test]
 fn a_run_with_reindex_is_another(rt: HostRuntime) -> Result<(), Fail> {
     let alloc = rt.alloc();
-    let failure = Failure::OtherReindex(false);
+    let failure = AuditFailure::OtherReindex(false);
     assert_eq!(rt; audited(alloc, JOURNAL, true)?, Err(failure));
     Ok(())
 }
@@ -91,7 +98,7 @@ fn audited_with(
     alloc: Global,
     index: usize,
     bytes: &[u8],
-) -> Result<Result<u64, Failure>, AllocError> {
+) -> Result<Result<u64, AuditFailure>, AllocError> {
     let mut source = source_with(alloc, JOURNAL)?;
     if let Some(file) = source.files.get_mut(index) {
         file.bytes = Bytes::from_slice(alloc, bytes)?;
@@ -101,8 +108,8 @@ fn audited_with(
 }
 
 // That the file of this path is not the one that the run read.
-fn other(alloc: Global, path: &[u8]) -> Result<Result<u64, Failure>, AllocError> {
-    Ok(Err(Failure::OtherFile(Bytes::from_slice(alloc, path)?)))
+fn other(alloc: Global, path: &[u8]) -> Result<Result<u64, AuditFailure>, AllocError> {
+    Ok(Err(AuditFailure::OtherFile(Bytes::from_slice(alloc, path)?)))
 }
 
 #[test]
@@ -135,7 +142,7 @@ fn audited_telling(
     alloc: Global,
     fewer: bool,
     more: bool,
-) -> Result<Result<u64, Failure>, AllocError> {
+) -> Result<Result<u64, AuditFailure>, AllocError> {
     let mut read = read_sums(alloc)?;
     if fewer {
         let _ = read.pop();
@@ -187,7 +194,7 @@ fn audited_on(
     name: &[u8],
     today: Day,
     folder: &mut MemoryFolder,
-) -> Result<Result<Audited, Failure>, AllocError> {
+) -> Result<Result<Audited, AuditFailure>, AllocError> {
     let read = read_sums(alloc)?;
     let answers = sum_of(alloc, b"STATION1.TXT", b"OK\nOK\nOK\n")?;
     let wrote = vec![in alloc; answers, sum_of(alloc, name, &WRITTEN)?]?;
@@ -208,7 +215,7 @@ fn has_table(folder: &MemoryFolder) -> bool {
 // Whether an audit is told with this text and this status.
 fn told_as(
     alloc: Global,
-    ended: Result<Audited, Failure>,
+    ended: Result<Audited, AuditFailure>,
     text: &str,
     status: u8,
 ) -> Result<bool, Fail> {
@@ -216,9 +223,9 @@ fn told_as(
     let mut err = Vec::new(alloc);
     let ended = match ended {
         Ok(audited) => Ok(audited),
-        Err(failure) => Err(Ending::Failed(failure)),
+        Err(failure) => Err(Ending::Failed(Failure::Work(failure))),
     };
-    let told = tell(&mut out, &mut err, &ended);
+    let told = tell(&mut out, &mut err, PROGRAM, &ended);
     Ok(told.status == ExitCode::from(status) && out.as_slice() == text.as_bytes())
 }
 
@@ -267,7 +274,7 @@ fn nothing_is_written_where_an_entry_does_not_hold(rt: HostRuntime) -> Result<()
     let ended = audit_into(alloc, &options, today, &mut source, &mut folder);
     assert_eq!(rt;
         count_of(ended),
-        Err(Failure::Audit(AuditFault::NoEntry(2)))
+        Err(AuditFailure::Audit(AuditFault::NoEntry(2)))
     );
     assert_eq!(rt; folder.files.len(), 0);
     Ok(())

@@ -1,6 +1,7 @@
 //! The files of the tests: a setup of a table and two scripts, and journals of runs over them.
 
-use crate::program::{Audited, Failure, Options};
+use crate::program::Audited;
+use crate::program::options::Options;
 use dbf_fields::Bytes;
 use dbf_image::Failures;
 use journal_file::{FileSum, head_text, sum_of, tail_text};
@@ -90,7 +91,7 @@ pub(super) fn options_for<'a>(setup: &'a str, journal: &'a str) -> Options<'a> {
 }
 
 /// How many entries hold, or why the audit failed.
-pub(super) fn count_of(ended: Result<Audited, Failure>) -> Result<u64, Failure> {
+pub(super) fn count_of<F>(ended: Result<Audited, F>) -> Result<u64, F> {
     match ended {
         Ok(audited) => Ok(audited.count),
         Err(failure) => Err(failure),

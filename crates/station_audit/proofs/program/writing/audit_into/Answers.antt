@@ -1,5 +1,5 @@
 use Rattle.std.proofs.Common.{refl, ap}
-use Rattle.station_audit.specs.declared.program.failure.Failure.TheVariants.{Serve}
+use Rattle.station_audit.specs.declared.program.failure.AuditFailure.TheVariants.{Serve}
 use Rattle.station_audit.specs.Program.{IsFailedBy}
 use Rattle.station_audit.proofs.ProgramLaws.{err_exit}
 use Rattle.station_audit.proofs.WritingLaws.{written_by, unwritten_audit, unwritten_tables, no_close, loaded_tables, uncut_audit, cut_audit}
