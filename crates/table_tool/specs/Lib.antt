@@ -3,7 +3,10 @@ pub mod Order
 pub mod Verdict
 pub mod Check
 pub mod Range
+pub mod Options
+pub mod Command
 pub mod IndexTree
 pub mod Memos
 pub mod Reasons
-pub mod Endings
+pub mod Faults
+pub mod Answers

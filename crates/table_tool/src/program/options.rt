@@ -1,14 +1,21 @@
 //! The command line.
 
-ghost use Rattle.std.specs.Prelude.{◌≡◌, true, false};
-ghost use Rattle.office_check.specs.declared.scripts.BadLinesTold.TheVariants.{Each, First};
-ghost use Rattle.table_text.specs.declared.memo_form.MemoForm.TheVariants.{FirstLine, Whole};
+ghost use Rattle.std.specs.Prelude.{◌≡◌, map, false, None, IfErr, IfOk, IfSome, IsSome, codes, option_map};
+ghost use Rattle.clap.specs.Words.{app_of, first_of, rule_of, subcommand_rows_of};
+ghost use Rattle.program_text.specs.CommandLine.{rows_in};
+ghost use Rattle.table_tool.specs.Command.{check_app, csv_app, fields_app, from_rule, path_rule, show_app, tool_app, tree_app};
+ghost use Rattle.table_tool.specs.Command.{with_record_choice, with_table_paths, IsAskedIn, IsWhyNotRead};
+ghost use Rattle.table_tool.specs.Options.{is_each, path_of, range_given, shows_whole, AsksBadRange, HasBadRange, HasPath};
+ghost use Rattle.table_tool.specs.Options.{IsAskedBy, IsAskedOf, IsOfSetup, IsOfTable, IsSelection, IsView};
 
+use crate::program::fault::ToolFault;
 use crate::program::range::range_of;
 use clap::builder::ValueParser;
 use clap::{Arg, ArgAction, ArgMatches, Command};
 use office_check::BadLinesTold;
+use program_text::{Ending, flag, has_flag, option, value_of};
 use std::alloc::{AllocError, Global};
+use std::convert::AsStr;
 use table_text::{MemoForm, Selection};
 
 // What the help tells after the commands.
@@ -38,7 +45,7 @@ pub(crate) enum View {
     Fields,
 }
 
-/// What a command line says.
+/// What a command line says of a table.
 #[derive(Clone, Copy, Debug)]
 pub(crate) struct Options<'a> {
     /// The path of the table.
@@ -62,8 +69,21 @@ pub(crate) struct CheckOptions<'a> {
     pub bad_lines: BadLinesTold,
 }
 
+/// What a command line asks for.
+#[derive(Clone, Copy, Debug)]
+pub(crate) enum Asked<'a> {
+    /// A table, or its fields.
+    Show(Options<'a>),
+    /// The check of a setup.
+    Check(CheckOptions<'a>),
+    /// The pages of the index file of this path.
+    Tree(&'a str),
+}
+
 /// The command line, for `clap` to read. An error where memory is refused.
-pub(crate) fn command<'a>(alloc: Global) -> Result<Command<'a>, AllocError> {
+pub(crate) fn command<'a>(alloc: Global) -> Result<Command<'a>, AllocError>
+    ensures app { IfOk result (λ command. app_of command ≡ tool_app) }
+{
     Command::new(alloc, "table_tool")
         .about("Shows dBASE III PLUS tables and indexes")
         .after_help(EXAMPLES)
@@ -76,7 +96,9 @@ pub(crate) fn command<'a>(alloc: Global) -> Result<Command<'a>, AllocError> {
         .subcommand(tree_command(alloc)?)
 }
 
-fn show_command<'a>(alloc: Global) -> Result<Command<'a>, AllocError> {
+fn show_command<'a>(alloc: Global) -> Result<Command<'a>, AllocError>
+    ensures app { IfOk result (λ command. app_of command ≡ show_app) }
+{
     with_records(
         alloc,
         with_table(
@@ -87,14 +109,18 @@ fn show_command<'a>(alloc: Global) -> Result<Command<'a>, AllocError> {
     .arg(flag(alloc, "memos", "Print memos whole, not their first line"))
 }
 
-fn fields_command<'a>(alloc: Global) -> Result<Command<'a>, AllocError> {
+fn fields_command<'a>(alloc: Global) -> Result<Command<'a>, AllocError>
+    ensures app { IfOk result (λ command. app_of command ≡ fields_app) }
+{
     with_table(
         alloc,
         Command::new(alloc, "fields").about("Prints a line for each field"),
     )
 }
 
-fn csv_command<'a>(alloc: Global) -> Result<Command<'a>, AllocError> {
+fn csv_command<'a>(alloc: Global) -> Result<Command<'a>, AllocError>
+    ensures app { IfOk result (λ command. app_of command ≡ csv_app) }
+{
     with_records(
         alloc,
         with_table(
@@ -109,17 +135,12 @@ fn csv_command<'a>(alloc: Global) -> Result<Command<'a>, AllocError> {
     ))
 }
 
-fn check_command<'a>(alloc: Global) -> Result<Command<'a>, AllocError> {
+fn check_command<'a>(alloc: Global) -> Result<Command<'a>, AllocError>
+    ensures app { IfOk result (λ command. app_of command ≡ check_app) }
+{
     Command::new(alloc, "check")
         .about("Looks at every file of a setup, and says whether the server would open all")
-        .arg(
-            Arg::new(alloc, "setup")
-                .value_name("OFFICE.SET")
-                .help("The setup")
-                .required(true)
-                .action(ArgAction::Set)
-                .value_parser(ValueParser::NonEmptyString),
-        )?
+        .arg(path(alloc, "setup", "OFFICE.SET", "The setup"))?
         .arg(flag(
             alloc,
             "lines",
@@ -127,30 +148,25 @@ fn check_command<'a>(alloc: Global) -> Result<Command<'a>, AllocError> {
         ))
 }
 
-fn tree_command<'a>(alloc: Global) -> Result<Command<'a>, AllocError> {
+fn tree_command<'a>(alloc: Global) -> Result<Command<'a>, AllocError>
+    ensures app { IfOk result (λ command. app_of command ≡ tree_app) }
+{
     Command::new(alloc, "tree")
         .about("Prints the header of an index file, and its pages as a tree")
-        .arg(
-            Arg::new(alloc, "index")
-                .value_name("FILE.NDX")
-                .help("The index, which may be damaged")
-                .required(true)
-                .action(ArgAction::Set)
-                .value_parser(ValueParser::NonEmptyString),
-        )
+        .arg(path(
+            alloc,
+            "index",
+            "FILE.NDX",
+            "The index, which may be damaged",
+        ))
 }
 
 // A command with the paths of a table.
-fn with_table<'a>(alloc: Global, command: Command<'a>) -> Result<Command<'a>, AllocError> {
+fn with_table<'a>(alloc: Global, command: Command<'a>) -> Result<Command<'a>, AllocError>
+    ensures app { IfOk result (λ more. app_of more ≡ with_table_paths (app_of command.entry)) }
+{
     command
-        .arg(
-            Arg::new(alloc, "table")
-                .value_name("FILE.DBF")
-                .help("The table")
-                .required(true)
-                .action(ArgAction::Set)
-                .value_parser(ValueParser::NonEmptyString),
-        )?
+        .arg(path(alloc, "table", "FILE.DBF", "The table"))?
         .arg(option(
             alloc,
             "memo",
@@ -160,7 +176,9 @@ fn with_table<'a>(alloc: Global, command: Command<'a>) -> Result<Command<'a>, Al
 }
 
 // A command with a choice of records.
-fn with_records<'a>(alloc: Global, command: Command<'a>) -> Result<Command<'a>, AllocError> {
+fn with_records<'a>(alloc: Global, command: Command<'a>) -> Result<Command<'a>, AllocError>
+    ensures app { IfOk result (λ more. app_of more ≡ with_record_choice (app_of command.entry)) }
+{
     command
         .arg(option(
             alloc,
@@ -179,104 +197,162 @@ fn with_records<'a>(alloc: Global, command: Command<'a>) -> Result<Command<'a>, 
             "FILE.NDX",
             "Print them in the order of this index of the table",
         ))?
-        .arg(
-            option(
-                alloc,
-                "from",
-                "TEXT",
-                "Only from the first key on that is not less than TEXT",
-            )
-            .value_parser(ValueParser::String)
-            .requires_arg("order")?,
-        )
+        .arg(from_option(alloc)?)
 }
 
-fn option<'a>(alloc: Global, name: &'a str, value_name: &'a str, help: &'a str) -> Arg<'a> {
+// The text of the first key. It may be empty.
+fn from_option<'a>(alloc: Global) -> Result<Arg<'a>, AllocError>
+    ensures rule { IfOk result (λ arg. rule_of arg ≡ from_rule) }
+    ensures local { IfOk result (λ arg. arg.global ≡ false) }
+{
+    option(
+        alloc,
+        "from",
+        "TEXT",
+        "Only from the first key on that is not less than TEXT",
+    )
+    .value_parser(ValueParser::String)
+    .requires_arg("order")
+}
+
+// A path that has to be given, and is not empty.
+fn path<'a>(alloc: Global, name: &'a str, value_name: &'a str, help: &'a str) -> Arg<'a>
+    ensures rule { rule_of result ≡ path_rule name.entry.now }
+    ensures local { result.global ≡ false }
+{
     Arg::new(alloc, name)
-        .long(name)
         .value_name(value_name)
         .help(help)
+        .required(true)
         .action(ArgAction::Set)
         .value_parser(ValueParser::NonEmptyString)
 }
 
-fn flag<'a>(alloc: Global, name: &'a str, help: &'a str) -> Arg<'a> {
-    Arg::new(alloc, name)
-        .long(name)
-        .help(help)
-        .action(ArgAction::SetTrue)
+// The sub-command of a command line, and what is read of its options.
+fn subcommand_of<'a, 'b>(matches: &'b ArgMatches<'a>) -> Option<(&'a str, &'b ArgMatches<'a>)>
+    ensures value { option_map (λ read. (read.0.now, rows_in read.1.now)) result ≡ subcommand_rows_of matches.now }
+{
+    matches.subcommand()
 }
 
-// Which records are asked for: all, where no range is given. `None` where the range is none.
-fn selection_of(matches: &ArgMatches<'_>) -> Option<Selection> {
-    let (first, last) = match matches.get_str("records") {
-        Some(text) => range_of(text.as_bytes())?,
-        None => (1, u32::MAX),
-    };
+// The first and the last record that are asked for: all, where no range is given. `None` where the range is none.
+fn range_asked(matches: &ArgMatches<'_>) -> Option<(u32, u32)>
+    ensures value { result ≡ range_given (first_of (codes "records") (rows_in matches.now)) }
+{
+    match value_of(matches, "records") {
+        Some(text) => range_of(text.as_bytes()),
+        None => Some((1, u32::MAX)),
+    }
+}
+
+// Which records are asked for. `None` where the range is none.
+fn selection_of(matches: &ArgMatches<'_>) -> Option<Selection>
+    ensures asked { IfSome result (IsSelection (rows_in matches.now)) }
+    ensures bad { result ≡ None → HasBadRange (rows_in matches.now) }
+{
+    let (first, last) = range_asked(matches)?;
     Some(Selection {
         first,
         last,
-        with_deleted: matches.get_flag("deleted"),
+        with_deleted: has_flag(matches, "deleted"),
     })
 }
 
-fn memo_form(is_whole: bool) -> MemoForm
-    ensures whole { is_whole ≡ true → result ≡ Whole }
-    ensures first { is_whole ≡ false → result ≡ FirstLine }
+fn memo_form(whole: bool) -> MemoForm
+    ensures value { shows_whole result ≡ whole }
 {
-    if is_whole {
+    if whole {
         MemoForm::Whole
     } else {
         MemoForm::FirstLine
     }
 }
 
-fn view_of(name: &str, matches: &ArgMatches<'_>) -> Option<View> {
+// What the sub-command of a name shows of a table. `None` where the range of records is none.
+fn view_of(name: &str, matches: &ArgMatches<'_>) -> Option<View>
+    ensures asked { IfSome result (IsView name.now (rows_in matches.now)) }
+    ensures bad { result ≡ None → HasBadRange (rows_in matches.now) }
+{
     match name {
         "fields" => Some(View::Fields),
-        "csv" => Some(View::Csv(selection_of(matches)?, matches.get_flag("deleted-column"))),
-        _ => Some(View::Records(selection_of(matches)?, memo_form(matches.get_flag("memos")))),
+        "csv" => Some(View::Csv(selection_of(matches)?, has_flag(matches, "deleted-column"))),
+        _ => Some(View::Records(
+            selection_of(matches)?,
+            memo_form(has_flag(matches, "memos")),
+        )),
     }
 }
 
-fn bad_lines_told(has_lines: bool) -> BadLinesTold
-    ensures each { has_lines ≡ true → result ≡ Each }
-    ensures first { has_lines ≡ false → result ≡ First }
+fn bad_lines_told(each: bool) -> BadLinesTold
+    ensures value { is_each result ≡ each }
 {
-    if has_lines {
+    if each {
         BadLinesTold::Each
     } else {
         BadLinesTold::First
     }
 }
 
-/// What a command line says of a setup that it asks to check, where it does. Takes no memory.
-pub(crate) fn check_options_of<'a>(matches: &ArgMatches<'a>) -> Option<CheckOptions<'a>> {
-    match matches.subcommand()? {
-        ("check", matches) => Some(CheckOptions {
-            setup: matches.get_str("setup")?,
-            bad_lines: bad_lines_told(matches.get_flag("lines")),
-        }),
-        _ => None,
-    }
-}
-
-/// The path of the index file that a command line asks to show, where it does. Takes no memory.
-pub(crate) fn index_of<'a>(matches: &ArgMatches<'a>) -> Option<&'a str> {
-    match matches.subcommand()? {
-        ("tree", matches) => matches.get_str("index"),
-        _ => None,
-    }
-}
-
-/// What a command line says that `clap` has read. `None` where the range of records is none. Takes no memory.
-pub(crate) fn options_of<'a>(matches: &ArgMatches<'a>) -> Option<Options<'a>> {
-    let (name, matches) = matches.subcommand()?;
+// What is asked for of a table. `None` where its path is missing or the range of records is none.
+fn table_asked<'a>(name: &str, matches: &ArgMatches<'a>) -> Option<Options<'a>>
+    ensures asked { IfSome result (IsOfTable name.now (rows_in matches.now)) }
+    ensures bad { result ≡ None → IsSome (first_of (codes "table") (rows_in matches.now)) → HasBadRange (rows_in matches.now) }
+{
     Some(Options {
-        table: matches.get_str("table")?,
-        memos: matches.get_str("memo"),
-        order: matches.get_str("order"),
-        from: matches.get_str("from"),
+        table: value_of(matches, "table")?,
+        memos: value_of(matches, "memo"),
+        order: value_of(matches, "order"),
+        from: value_of(matches, "from"),
         view: view_of(name, matches)?,
     })
+}
+
+// What is asked for of a setup. `None` where its path is missing.
+fn setup_asked<'a>(matches: &ArgMatches<'a>) -> Option<CheckOptions<'a>>
+    ensures asked { IfSome result (IsOfSetup (rows_in matches.now)) }
+    ensures bad { result ≡ None → first_of (codes "setup") (rows_in matches.now) ≡ None }
+{
+    Some(CheckOptions {
+        setup: value_of(matches, "setup")?,
+        bad_lines: bad_lines_told(has_flag(matches, "lines")),
+    })
+}
+
+// What a sub-command asks for. `None` where its path is missing or its range of records is none.
+fn asked_by<'a>(name: &str, matches: &ArgMatches<'a>) -> Option<Asked<'a>>
+    ensures asked { IfSome result (IsAskedBy name.now (rows_in matches.now)) }
+    ensures bad { result ≡ None → IsSome (path_of name.now (rows_in matches.now)) → HasBadRange (rows_in matches.now) }
+{
+    match name {
+        "check" => Some(Asked::Check(setup_asked(matches)?)),
+        "tree" => Some(Asked::Tree(value_of(matches, "index")?)),
+        _ => Some(Asked::Show(table_asked(name, matches)?)),
+    }
+}
+
+/// What a command line asks for that `clap` has read. `None` where the range of records is none. Takes no memory.
+pub(crate) fn asked_of<'a>(matches: &ArgMatches<'a>) -> Option<Asked<'a>>
+    ensures asked { IfSome result (IsAskedOf (subcommand_rows_of matches.now)) }
+    ensures bad { result ≡ None → HasPath (subcommand_rows_of matches.now) → AsksBadRange (subcommand_rows_of matches.now) }
+{
+    let (name, found) = subcommand_of(matches)?;
+    asked_by(name, found)
+}
+
+/// What the words of a command line ask for, of which the first is the program's name.
+///
+/// `CommandLine` says that the words give no options, and `BadRange` that their range of records is none.
+#[tactic(auto, using(crate::proofs::Commands::refused_words))]
+pub(crate) fn read_options<'a, T: AsStr>(
+    alloc: Global,
+    words: &'a [T],
+) -> Result<Asked<'a>, Ending<ToolFault<'a>>>
+    ensures asked { IfOk result (IsAskedIn (map T.text words.entry.now)) }
+    ensures fault { IfErr result (IsWhyNotRead (map T.text words.entry.now)) }
+{
+    let matches = command(alloc)?.try_get_matches_from(words)?;
+    match asked_of(&matches) {
+        Some(asked) => Ok(asked),
+        None => Err(Ending::Failed(ToolFault::BadRange)),
+    }
 }

@@ -1,11 +1,15 @@
 //! Tests of the program: its command lines, what it prints of files in memory, and how it ends. What several of them share stands
 //! here.
 
+use crate::program::running::run_words;
+use crate::program::stream::MayClose;
+use crate::program::telling::tell_end;
 use dbf_fields::Bytes;
-use dbf_image::Failures;
+use dbf_image::{Failures, MemorySink};
 use sample_files::{EMPTY_INDEX, NOTE, TABLE, with_zeros};
 use station_files::{MemorySource, NamedFile};
 use std::alloc::{AllocError, Global};
+use std::process::ExitCode;
 use std::test::*;
 
 mod checking;
@@ -90,4 +94,44 @@ fn files(alloc: Global) -> Result<MemorySource, Fail> {
         loads: 99,
         failures: Failures::none(),
     })
+}
+
+// A list in memory has its reader.
+impl MayClose for MemorySink {
+    ghost use Rattle.std.specs.Prelude.{false};
+
+    ghost closed = { λ _. false };
+
+    fn is_closed(&self) -> bool {
+        false
+    }
+}
+
+// What a command line prints on standard output and on standard error over these files, and its exit status.
+fn answer(
+    alloc: Global,
+    source: &mut MemorySource,
+    words: &[&str],
+) -> (Vec<u8>, Vec<u8>, ExitCode) {
+    let mut sink = MemorySink::new(alloc);
+    let mut out = Vec::new(alloc);
+    let mut err = Vec::new(alloc);
+    let ended = run_words(alloc, source, &mut sink, words);
+    let told = tell_end(&mut out, &mut err, &ended);
+    (sink.bytes, err, told.status)
+}
+
+// Whether a command line prints this, is told so on standard error, and has this exit status.
+fn is_answered(
+    alloc: Global,
+    source: &mut MemorySource,
+    words: &[&str],
+    status: u8,
+    text: &str,
+    line: &str,
+) -> bool {
+    let (printed, said, ended) = answer(alloc, source, words);
+    printed.as_slice() == text.as_bytes()
+        && said.as_slice() == line.as_bytes()
+        && ended == ExitCode::from(status)
 }

@@ -1,50 +1,8 @@
 //! Setups that are checked.
 
-use crate::program::checking::check_setup;
-use crate::program::ending::{check_ending, tell};
-use crate::program::options::{check_options_of, command};
-use crate::program::tests::files;
-use dbf_image::MemorySink;
-use std::alloc::Global;
-use std::process::{Abort, ExitCode};
+use crate::program::tests::{files, is_answered};
+use std::process::Abort;
 use std::test::*;
-
-// What a command line prints on standard output and on standard error, and its exit status.
-fn answer(alloc: Global, words: &[&str]) -> Result<(Vec<u8>, Vec<u8>, ExitCode), Fail> {
-    let matches = command(alloc)?.try_get_matches_from(words)?;
-    let options = check_options_of(&matches).ok_or("no setup")?;
-    let mut sink = MemorySink::new(alloc);
-    let mut source = files(alloc)?;
-    let checked = check_setup(
-        alloc,
-        &mut source,
-        &mut sink,
-        options.setup,
-        options.bad_lines,
-    );
-    let mut err = Vec::new(alloc);
-    let status = match check_ending(checked, false, options.setup) {
-        Ok(()) => ExitCode::SUCCESS,
-        Err(ending) => tell(&mut Vec::new(alloc), &mut err, &ending),
-    };
-    Ok((sink.bytes, err, status))
-}
-
-// Whether a command line prints this, and its exit status is this.
-fn is_answered(
-    alloc: Global,
-    words: &[&str],
-    status: u8,
-    text: &str,
-    line: &str,
-) -> Result<bool, Fail> {
-    let (printed, said, ended) = answer(alloc, words)?;
-    Ok(
-        printed.as_slice() == text.as_bytes()
-            && said.as_slice() == line.as_bytes()
-            && ended == ExitCode::from(status),
-    )
-}
 
 const CASES: [(&[&str], u8, &str, &str); 7] = [
     (
@@ -121,8 +79,9 @@ good: the server opens all
 
 #[test]
 fn setups_are_checked_file_by_file(rt: HostRuntime) -> Result<(), Fail> {
+    let mut source = files(rt.alloc())?;
     for (words, status, text, line) in CASES {
-        assert!(rt; is_answered(rt.alloc(), words, status, text, line)?);
+        assert!(rt; is_answered(rt.alloc(), &mut source, words, status, text, line));
     }
     Ok(())
 }

@@ -1,10 +1,8 @@
 //! Command lines, good and bad.
 
-use crate::program::ending::{Ending, status_of};
-use crate::program::options::{command, options_of};
 use crate::program::range::range_of;
-use std::alloc::Global;
-use std::process::Abort;
+use crate::program::tests::{answer, files};
+use std::process::{Abort, ExitCode};
 use std::test::*;
 
 #[test]
@@ -30,18 +28,6 @@ fn ranges_are_one_number_or_two(rt: HostRuntime) -> Result<(), Fail> {
     Ok(())
 }
 
-// The exit status of a command line that shows nothing.
-fn usage_status(alloc: Global, words: &[&str]) -> Result<u8, Fail> {
-    match command(alloc)?.try_get_matches_from(words) {
-        Ok(matches) => Ok(if options_of(&matches).is_some() {
-            0
-        } else {
-            status_of(&Ending::BadRange)
-        }),
-        Err(error) => Ok(status_of(&Ending::CommandLine(error))),
-    }
-}
-
 #[test]
 fn bad_command_lines_end_with_one(rt: HostRuntime) -> Result<(), Fail> {
     let cases: [(&[&str], u8); 15] = [
@@ -61,8 +47,10 @@ fn bad_command_lines_end_with_one(rt: HostRuntime) -> Result<(), Fail> {
         (&["table_tool", "tree"], 1),
         (&["table_tool", "tree", "S.NDX", "--records", "1"], 1),
     ];
+    let mut source = files(rt.alloc())?;
     for (words, status) in cases {
-        assert_eq!(rt; usage_status(rt.alloc(), words)?, status);
+        let (_, _, ended) = answer(rt.alloc(), &mut source, words);
+        assert!(rt; ended == ExitCode::from(status));
     }
     Ok(())
 }

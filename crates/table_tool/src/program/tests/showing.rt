@@ -1,26 +1,8 @@
 //! Tables that are shown, or refused.
 
-use crate::program::options::{command, options_of};
-use crate::program::order::OrderFault;
-use crate::program::showing::{ShowFault, show_file};
-use crate::program::tests::files;
-use dbf_image::{ImageFault, MemorySink};
-use ndx_index::NdxFault;
-use station_files::LoadFault;
-use std::alloc::Global;
+use crate::program::tests::{files, is_answered};
 use std::process::Abort;
 use std::test::*;
-
-// What the program prints of a command line after its name, or why it prints nothing.
-fn printed(alloc: Global, words: &[&str]) -> Result<Result<Vec<u8>, ShowFault>, Fail> {
-    let matches = command(alloc)?.try_get_matches_from(words)?;
-    let options = options_of(&matches).ok_or("no options")?;
-    let mut sink = MemorySink::new(alloc);
-    match show_file(alloc, &mut files(alloc)?, &mut sink, &options) {
-        Ok(()) => Ok(Ok(sink.bytes)),
-        Err(fault) => Ok(Err(fault)),
-    }
-}
 
 #[test]
 fn command_lines_show_the_table(rt: HostRuntime) -> Result<(), Fail> {
@@ -98,46 +80,48 @@ Field Name       Kind      Width Decimals
 ",
         ),
     ];
+    let mut source = files(rt.alloc())?;
     for (words, text) in cases {
-        let printed = printed(rt.alloc(), words)?;
-        assert_eq!(rt;
-            printed.ok().ok_or("nothing is printed")?.as_slice(),
-            text.as_bytes()
-        );
+        assert!(rt; is_answered(rt.alloc(), &mut source, words, 0, text, ""));
     }
     Ok(())
 }
 
 #[test]
 fn files_that_are_no_table_are_refused(rt: HostRuntime) -> Result<(), Fail> {
-    let cases: [(&[&str], ShowFault); 6] = [
+    let cases: [(&[&str], &str); 7] = [
         (
             &["table_tool", "show", "NONE.DBF"],
-            ShowFault::Load(LoadFault::CannotRead),
+            "table_tool: NONE.DBF: cannot read\n",
         ),
         (
             &["table_tool", "fields", "BAD.DBF"],
-            ShowFault::Table(ImageFault::Truncated),
+            "table_tool: BAD.DBF: Truncated: the file is too short\n",
         ),
         (
             &["table_tool", "csv", "T.DBF", "--memo", "NONE.DBT"],
-            ShowFault::Memos(LoadFault::CannotRead),
+            "table_tool: NONE.DBT: cannot read\n",
         ),
         (
             &["table_tool", "show", "T.DBF", "--order", "NONE.NDX"],
-            ShowFault::Order(OrderFault::Load(LoadFault::CannotRead)),
+            "table_tool: NONE.NDX: cannot read\n",
         ),
         (
             &["table_tool", "show", "T.DBF", "--order", "BAD.NDX"],
-            ShowFault::Order(OrderFault::Index(NdxFault::Truncated)),
+            "table_tool: BAD.NDX: Truncated: the file is shorter than a header page\n",
         ),
         (
             &["table_tool", "csv", "T.DBF", "--order", "S.NDX"],
-            ShowFault::Order(OrderFault::Stale),
+            "table_tool: S.NDX: the index is stale: its keys are not those of the table's records\n",
+        ),
+        (
+            &["table_tool", "csv", "M/N.DBF", "--order", "S.NDX"],
+            "table_tool: S.NDX: its key expression is not one for the table: NoSuchField: there is no such field\n",
         ),
     ];
-    for (words, fault) in cases {
-        assert_eq!(rt; printed(rt.alloc(), words)?.err(), Some(fault));
+    let mut source = files(rt.alloc())?;
+    for (words, line) in cases {
+        assert!(rt; is_answered(rt.alloc(), &mut source, words, 2, "", line));
     }
     Ok(())
 }
