@@ -11,10 +11,11 @@ use Rattle.dbf_fields.specs.Digits.{last_digits}
 use Rattle.dbf_fields.specs.NumberText.{sign, number_text}
 use Rattle.catalogue_core.specs.declared.command.Command.{Command}
 use Rattle.catalogue_core.specs.declared.command.Command.TheVariants.{Select, UseTable, CloseTable, Go, Top, Bottom, Skip, Seek, Order, AppendBlank, Replace, Memo, Delete, Recall, Pack, IndexOn, Unlock, UnlockAll, Show, RecordLock, RecordLocks, FileLock, Ask, Bad}
-use Rattle.catalogue_core.specs.declared.command.Question.TheVariants.{Eof, Bof, Found, Deleted, Recno, Reccount}
+use Rattle.station_lines.specs.declared.script.call.CallName.TheVariants as call_name
 use Rattle.station_lines.specs.declared.script.format.TheConstants.{QUOTE, APOSTROPHE, COMMA, MAX_LITERAL_DIGITS}
 use Rattle.station_lines.specs.declared.script.line.Line.TheVariants.{Run}
 use Rattle.station_lines.specs.Script.Lines.{has_no_lf}
+use Rattle.station_lines.specs.Script.Parts.{call_text}
 use Rattle.station_lines.specs.Script.Meaning.{Means}
 
 -- a text between two `"`, or between two `'` where it holds a `"`
@@ -79,15 +80,10 @@ text_of_command (IndexOn expr name) = codes "INDEX ON " ++ (expr ++ (codes " TO 
 text_of_command Unlock = codes "UNLOCK"
 text_of_command UnlockAll = codes "UNLOCK ALL"
 text_of_command (Show field) = codes "? " ++ field
-text_of_command RecordLock = codes "? RLOCK()"
+text_of_command RecordLock = codes "? " ++ call_text call_name.Rlock
 text_of_command (RecordLocks ns) = codes "? RLOCK(" ++ (with_commas ns ++ codes ")")
-text_of_command FileLock = codes "? FLOCK()"
-text_of_command (Ask Eof) = codes "? EOF()"
-text_of_command (Ask Bof) = codes "? BOF()"
-text_of_command (Ask Found) = codes "? FOUND()"
-text_of_command (Ask Deleted) = codes "? DELETED()"
-text_of_command (Ask Recno) = codes "? RECNO()"
-text_of_command (Ask Reccount) = codes "? RECCOUNT()"
+text_of_command FileLock = codes "? " ++ call_text call_name.Flock
+text_of_command (Ask q) = codes "? " ++ call_text (call_name.Ask q)
 text_of_command Bad = codes "BAD"
 
 -- a text means this command

@@ -4,8 +4,8 @@ ghost use Rattle.std.specs.Prelude.{◌≡◌, IfOk};
 ghost use Rattle.std.specs.Fmt.{decimal};
 ghost use Rattle.station_lines.specs.AnswerLines.{line_of, refusal_text, status_text};
 
+use byte_io::Bytes;
 use catalogue_core::{Answer, Refusal, StatusRow};
-use dbf_fields::Bytes;
 use std::alloc::{AllocError, Global};
 
 /// The text of an answer in an answer file, without the LF that ends its line: `OK`, a number in

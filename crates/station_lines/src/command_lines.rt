@@ -10,8 +10,9 @@ mod value;
 
 use crate::command_lines::value::{joined, quoted, value_text, with_commas};
 use crate::script::Line;
-use catalogue_core::{Command, Numbers, Question};
-use dbf_fields::Bytes;
+use crate::script::call::{CallName, call_text};
+use byte_io::Bytes;
+use catalogue_core::{Command, Numbers};
 use std::alloc::{AllocError, Global};
 
 // A command's words before its number, and the number.
@@ -70,20 +71,6 @@ fn locks_line(alloc: Global, numbers: &Numbers) -> Result<Bytes, AllocError>
     Ok(Bytes::from_vec(line))
 }
 
-// ? and a question.
-fn question_text(question: Question) -> &'static [u8]
-    ensures value { result.now ≡ text_of_command (Command.Ask question) }
-{
-    match question {
-        Question::Eof => b"? EOF()",
-        Question::Bof => b"? BOF()",
-        Question::Found => b"? FOUND()",
-        Question::Deleted => b"? DELETED()",
-        Question::Recno => b"? RECNO()",
-        Question::Reccount => b"? RECCOUNT()",
-    }
-}
-
 // The line of a command.
 fn line_text(alloc: Global, command: &Command) -> Result<Bytes, AllocError>
     ensures value { IfOk result (λ line. line ≡ text_of_command command.now) }
@@ -137,10 +124,10 @@ fn line_text(alloc: Global, command: &Command) -> Result<Bytes, AllocError>
         Command::Unlock => Bytes::from_slice(alloc, b"UNLOCK"),
         Command::UnlockAll => Bytes::from_slice(alloc, b"UNLOCK ALL"),
         Command::Show(field) => joined(alloc, b"? ", field.as_slice()),
-        Command::RecordLock => Bytes::from_slice(alloc, b"? RLOCK()"),
+        Command::RecordLock => joined(alloc, b"? ", call_text(CallName::Rlock)),
         Command::RecordLocks(numbers) => locks_line(alloc, numbers),
-        Command::FileLock => Bytes::from_slice(alloc, b"? FLOCK()"),
-        Command::Ask(question) => Bytes::from_slice(alloc, question_text(*question)),
+        Command::FileLock => joined(alloc, b"? ", call_text(CallName::Flock)),
+        Command::Ask(question) => joined(alloc, b"? ", call_text(CallName::Ask(*question))),
         Command::Bad => Bytes::from_slice(alloc, b"BAD"),
     }
 }

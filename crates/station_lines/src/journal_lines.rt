@@ -10,8 +10,9 @@ ghost use Rattle.station_lines.specs.JournalLines.{entry_and, lines_and, is_plai
 use crate::answer_lines::answer_line;
 use crate::command_lines::command_line;
 use crate::script::format::LF;
+use byte_io::Bytes;
 use catalogue_core::{Answer, Command};
-use dbf_fields::{BLANK, Bytes, ZERO_DIGIT, are_digits};
+use dbf_fields::{BLANK, ZERO_DIGIT, are_digits};
 use std::alloc::{AllocError, Global};
 
 // The line that shows these parts of an entry.

@@ -4,6 +4,7 @@
 //! `specs/Script/Meaning.antt`. Start reading there, then at `script/line.rt`.
 
 mod bad_line;
+pub(crate) mod call;
 mod command;
 mod end;
 pub(crate) mod format;

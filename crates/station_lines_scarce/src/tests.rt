@@ -3,8 +3,8 @@
 mod script;
 mod setup;
 
+use byte_io::Bytes;
 use catalogue_core::{Answer, MAX_TABLES, Refusal, StatusRow, TableStatus};
-use dbf_fields::Bytes;
 use scarce::{Attempt, refusals};
 use station_lines::{answer_line, status_line};
 use std::alloc::{AllocError, Global};

@@ -7,14 +7,14 @@ use Rattle.std.specs.Int.RustNames.{unsigned_abs}
 use Rattle.std.proofs.lemmas.List.{append-nil}
 use Rattle.catalogue_core.specs.declared.command.Command.{Command}
 use Rattle.catalogue_core.specs.declared.command.Command.TheVariants as command
-use Rattle.catalogue_core.specs.declared.command.Question.TheVariants as question
+use Rattle.station_lines.specs.declared.script.call.CallName.TheVariants as call_name
 use Rattle.station_lines.specs.declared.script.format.TheConstants.{MAX_COUNT_DIGITS}
 use Rattle.station_lines.specs.declared.script.line.Line.TheVariants.{Run}
 use Rattle.station_lines.specs.Script.Words.{HasWords}
 use Rattle.station_lines.specs.Script.Meaning.{Part, keyword, name, count, distance, list_call, text, literal, phrase, or_, IsPart, Are, Says, Means}
-use Rattle.station_lines.specs.Script.Parts.{IsListCall}
+use Rattle.station_lines.specs.Script.Parts.{call_text, IsListCall}
 use Rattle.station_lines.specs.CommandLines.{quoted, written_value, with_commas, text_of_command, IsMeant}
-use Rattle.station_lines.proofs.ScriptLaws.MeaningLaws.{read_means}
+use Rattle.station_lines.proofs.ScriptLaws.MeaningLaws.{call_texts, read_means}
 use Rattle.station_lines.proofs.CommandLaws.NumberLaws.{count_small, count_again, distance_small, distance_again}
 use Rattle.station_lines.proofs.CommandLaws.ValueLaws.{name_again, text_again, list_again, value_again}
 
@@ -121,12 +121,7 @@ again command.RecordLock line m = (codes "?" ∷ codes "RLOCK()" ∷ [], two_wor
 again (command.RecordLocks ns) line m =
     (codes "?" ∷ (codes "RLOCK(" ++ (with_commas ns ++ codes ")")) ∷ [], two_words (codes "?") (codes "RLOCK(" ++ (with_commas ns ++ codes ")")), (refl, (inl (locks_again m.0 ns m.2), tt)))
 again command.FileLock line m = (codes "?" ∷ codes "FLOCK()" ∷ [], two_words (codes "?") (codes "FLOCK()"), (refl, (refl, tt)))
-again (command.Ask question.Eof) line m = (codes "?" ∷ codes "EOF()" ∷ [], two_words (codes "?") (codes "EOF()"), (refl, (refl, tt)))
-again (command.Ask question.Bof) line m = (codes "?" ∷ codes "BOF()" ∷ [], two_words (codes "?") (codes "BOF()"), (refl, (refl, tt)))
-again (command.Ask question.Found) line m = (codes "?" ∷ codes "FOUND()" ∷ [], two_words (codes "?") (codes "FOUND()"), (refl, (refl, tt)))
-again (command.Ask question.Deleted) line m = (codes "?" ∷ codes "DELETED()" ∷ [], two_words (codes "?") (codes "DELETED()"), (refl, (refl, tt)))
-again (command.Ask question.Recno) line m = (codes "?" ∷ codes "RECNO()" ∷ [], two_words (codes "?") (codes "RECNO()"), (refl, (refl, tt)))
-again (command.Ask question.Reccount) line m = (codes "?" ∷ codes "RECCOUNT()" ∷ [], two_words (codes "?") (codes "RECCOUNT()"), (refl, (refl, tt)))
+again (command.Ask q) line m = (codes "?" ∷ call_text (call_name.Ask q) ∷ [], two_words (codes "?") (call_text (call_name.Ask q)), (refl, ((call_texts (call_name.Ask q)).1, tt)))
 again command.Bad line m = bad_again
 
 -- the line of a command that a text means means this command

@@ -19,16 +19,17 @@ use Rattle.dbf_fields.specs.NumberText.{sign, point, number_text}
 use Rattle.dbf_fields.proofs.ReadBack.{last_digits_digits}
 use Rattle.catalogue_core.specs.declared.command.Command.{Command}
 use Rattle.catalogue_core.specs.declared.command.Command.TheVariants as command
-use Rattle.catalogue_core.specs.declared.command.Question.TheVariants as question
+use Rattle.station_lines.specs.declared.script.call.CallName.TheVariants as call_name
 use Rattle.station_lines.specs.declared.script.format.TheConstants.{LF, QUOTE, APOSTROPHE, MAX_COUNT_DIGITS, MAX_LITERAL_DIGITS}
 use Rattle.station_lines.specs.declared.script.line.Line.TheVariants.{Run}
 use Rattle.station_lines.specs.Script.Words.{HasWords}
 use Rattle.station_lines.specs.Script.Lines.{has_no_lf, AreLines}
-use Rattle.station_lines.specs.Script.Meaning.{Part, keyword, name, count, distance, list_call, text, literal, phrase, or_, IsPart, Are, Means}
+use Rattle.station_lines.specs.Script.Meaning.{Part, keyword, name, count, list_call, text, literal, phrase, or_, IsPart, Are, Means}
 use Rattle.station_lines.specs.Script.Parts.{is_name_word, name_in, AreCounts, IsText, between_commas}
 use Rattle.station_lines.specs.Script.Literals.{IsLiteral}
 use Rattle.station_lines.specs.CommandLines.{quoted, written_day, date_call, written_value, after_commas, with_commas, text_of_command, IsOfALine}
 use Rattle.station_lines.proofs.ScriptLaws.PartLaws.{tested, all_both, weaker}
+use Rattle.station_lines.proofs.ScriptLaws.MeaningLaws.{call_texts}
 use Rattle.station_lines.proofs.CommandLaws.NumberLaws.{decimal_digits, numeral_digits, kept_all, count_small}
 use Rattle.station_lines.proofs.CommandLaws.ValueLaws.{name_again}
 use Rattle.station_lines.proofs.CommandLaws.LineLaws.{skip_small}
@@ -207,12 +208,7 @@ one_line (command.RecordLocks ns) line h m =
     let e = each_line (keyword (codes "?") ∷ or_ (list_call (codes "RLOCK(") ns) (list_call (codes "LOCK(") ns) ∷ []) m.0 m.2 (words_no_lf m.0 line m.1 h) in
     locks_line e.1.0.0 ns e.1.0.1
 one_line command.FileLock line h m = refl
-one_line (command.Ask question.Eof) line h m = refl
-one_line (command.Ask question.Bof) line h m = refl
-one_line (command.Ask question.Found) line h m = refl
-one_line (command.Ask question.Deleted) line h m = refl
-one_line (command.Ask question.Recno) line h m = refl
-one_line (command.Ask question.Reccount) line h m = refl
+one_line (command.Ask q) line h m = (call_texts (call_name.Ask q)).6
 one_line command.Bad line h m = refl
 
 -- the line of a command that a script's line means has no LF

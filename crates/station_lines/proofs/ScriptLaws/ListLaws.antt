@@ -1,5 +1,5 @@
 -- The numbers of a list in the parentheses of a call are found, and what is found are its numbers.
-use Rattle.std.proofs.Common.{◌≡◌, ℕ, List, [], ◌∷◌, ◌++◌, Bool, true, false, cond, ◌==◌, ◌&&◌, ◌≤◌, length, take, drop, Option, Some, None, refl, ap, ◌∙◌, sym, arith}
+use Rattle.std.proofs.Common.{◌≡◌, ℕ, List, [], ◌∷◌, ◌++◌, Bool, true, false, not, cond, ◌==◌, ◌&&◌, ◌≤◌, length, take, drop, Option, Some, None, refl, ap, ◌∙◌, sym, arith}
 use Rattle.std.specs.Prelude.{codes, map, is_some, IsSome}
 use Rattle.std.specs.List.{list_all, slice_split, onto_first}
 use Rattle.std.specs.Char.{is_ascii_digit}
@@ -8,12 +8,12 @@ use Rattle.std.proofs.lemmas.Bool.{false≢true, and_parts, and_from}
 use Rattle.std.proofs.lemmas.Bool.Decides.{nat_tests}
 use Rattle.std.proofs.lemmas.List.{take-append-drop}
 use Rattle.station_lines.specs.declared.script.format.TheConstants.{COMMA}
-use Rattle.station_lines.specs.Script.Parts.{count_in, between_commas, AreCounts, IsListCall}
+use Rattle.station_lines.specs.Script.Parts.{is_count, count_in, between_commas, AreCounts, IsListCall}
 use Rattle.station_lines.specs.Script.Reading.{before_close, with_count, counts_in, number_or_zero, arguments_in}
 use Rattle.station_lines.proofs.ScriptLaws.TextLaws.{chosen, guarded}
 use Rattle.station_lines.proofs.ScriptLaws.LiteralLaws.{close_found, close_is}
 use Rattle.station_lines.proofs.ScriptLaws.WordLaws.{is_solid, IsCutWord, take_front, drop_front, solid_word}
-use Rattle.station_lines.proofs.ScriptLaws.PartLaws.{like, same_length, all_both, solid_lower, digits_of, solid_digit}
+use Rattle.station_lines.proofs.ScriptLaws.PartLaws.{like, same_length, all_both, solid_lower, digits_of, solid_digit, tested}
 
 pub counts_found : (parts : List (List ℕ)) (ns : List ℕ) → AreCounts parts ns → counts_in parts ≡ Some ns
 counts_found [] [] h = refl
@@ -130,6 +130,17 @@ solid_or x xs false e h more =
 solid_list : (xs : List ℕ) → AreDigits (between_commas xs) → list_all is_solid xs ≡ true
 solid_list [] h = refl
 solid_list (x ∷ xs) h = solid_or x xs (x == COMMA) refl h (solid_list xs)
+
+digit_first : (x : ℕ) (xs ns : List ℕ) (q : Bool) → AreCounts (cond q ([] ∷ slice_split (λ b. b == COMMA) xs) (onto_first x (slice_split (λ b. b == COMMA) xs))) ns → is_ascii_digit x ≡ true
+digit_first x xs [] true h = absurd h
+digit_first x xs (n ∷ ns) true h = absurd (false≢true (tested (is_count []) 0 n h.0).0)
+digit_first x xs ns false h = (front_digit x (slice_split (λ b. b == COMMA) xs) (digits_listed (onto_first x (slice_split (λ b. b == COMMA) xs)) ns h)).front
+
+-- there is a digit among numbers apart by commas
+pub some_digit : (inside ns : List ℕ) → AreCounts (between_commas inside) ns → list_all (λ b. not (is_ascii_digit b)) inside ≡ true → ⊥
+some_digit [] [] h none = h
+some_digit [] (n ∷ ns) h none = false≢true (tested (is_count []) 0 n h.0).0
+some_digit (x ∷ xs) ns h none = false≢true (sym (ap not (digit_first x xs ns (x == COMMA) h)) ∙ (and_parts (not (is_ascii_digit x)) _ none).0)
 
 call_starts : (name rest : List ℕ) → 1 ≤ length name → list_all is_solid (name ++ rest) ≡ true → IsCutWord (name ++ rest)
 call_starts [] rest some h = absurd (omega (arith, some))

@@ -1,10 +1,10 @@
 -- Each line means one thing, which is what the reader makes of it.
-use Rattle.std.proofs.Common.{◌≡◌, ℕ, zero, suc, ◌+◌, List, [], ◌∷◌, ◌++◌, Bool, true, false, cond, ◌&&◌, ◌||◌, ◌≤◌, length, take, drop, Option, Some, None, refl, ap, ◌∙◌, sym, subst, arith, ℤ}
-use Rattle.std.specs.Prelude.{◌⊎◌, codes, pos, bytes_eq, slice_index}
+use Rattle.std.proofs.Common.{◌≡◌, ℕ, List, [], ◌∷◌, ◌++◌, Bool, true, false, not, ◌&&◌, ◌||◌, ◌≤◌, length, take, drop, Option, Some, None, refl, ap, ◌∙◌, sym, subst, arith, ℤ}
+use Rattle.std.specs.Prelude.{◌⊎◌, codes, pos, bytes_eq, find, slice_index}
 use mathlib.Core.Logic.{inl, inr}
 use Rattle.std.specs.List.{list_all}
-use Rattle.std.proofs.lemmas.List.{append-nil, length-append}
-use Rattle.std.proofs.lemmas.Slice.Eq.{bytes_eq-Decides}
+use Rattle.std.proofs.lemmas.List.{append-nil}
+use Rattle.std.proofs.lemmas.List.Folds.{list_all-append}
 use Rattle.std.specs.Char.{to_ascii_lowercase, is_ascii_digit, is_ascii_alphabetic}
 use Rattle.std.specs.Str.{str_eq_ignore_ascii_case}
 use Rattle.std.proofs.lemmas.Bool.{false≢true, and_parts, and_from, and_right}
@@ -14,20 +14,25 @@ use Rattle.dbf_fields.specs.declared.literal.Literal.{Literal}
 use Rattle.catalogue_core.specs.declared.command.Command.{Command}
 use Rattle.catalogue_core.specs.declared.command.Command.TheVariants as command
 use Rattle.catalogue_core.specs.declared.command.Question.TheVariants as question
+use Rattle.station_lines.specs.declared.script.call.CallName.{CallName}
+use Rattle.station_lines.specs.declared.script.call.CallName.TheVariants as call_name
+use Rattle.station_lines.specs.declared.script.call.TheConstants.{CALLS}
 use Rattle.station_lines.specs.declared.script.format.TheConstants.{KEYWORD_LETTERS}
 use Rattle.station_lines.specs.declared.script.line.Line.{Line}
 use Rattle.station_lines.specs.declared.script.line.Line.TheVariants.{Run, Status, Blank}
 use Rattle.station_lines.specs.declared.script.verb.Verb.TheVariants as verb
 use Rattle.station_lines.specs.Script.Words.{is_gap, are_gaps, HasWords, begins_with_asterisk, IsBlankLine}
-use Rattle.station_lines.specs.Script.Parts.{is_keyword, is_call, is_name_word, name_in, is_count, count_in, between_commas, AreCounts, IsListCall}
+use Rattle.station_lines.specs.Script.Lines.{has_no_lf}
+use Rattle.station_lines.specs.Script.Parts.{is_keyword, is_call, call_text, is_name_word, name_in, count_in, between_commas, AreCounts, IsListCall}
 use Rattle.station_lines.specs.Script.Meaning.{keyword, call, name, count, distance, list_call, text, literal, or_, IsPart, Are, Says, IsReadable, Means}
-use Rattle.station_lines.specs.Script.Reading.{without_gaps, first_word, text_in, literal_in, bad, arguments_in, first_some, list_line, with_, go_line, locks_line, ask_of, ask_line, is_empty, read}
-use Rattle.station_lines.proofs.ScriptLaws.WordLaws.{is_solid, IsCutWord, no_first, past_gaps, take_front}
-use Rattle.station_lines.proofs.ScriptLaws.PartLaws.{lower, same_text, same_length, other_keyword, tested, all_lower, all_front, digits_of, keyword_word, call_word, name_word, count_word}
+use Rattle.station_lines.specs.Script.Reading.{without_gaps, first_word, text_in, literal_in, bad, arguments_in, first_some, list_line, with_, go_line, locks_line, call_in, call_line, ask_of, ask_line, is_empty, read}
+use Rattle.station_lines.proofs.ScriptLaws.WordLaws.{is_solid, IsCutWord, no_first, past_gaps}
+use Rattle.station_lines.proofs.ScriptLaws.PartLaws.{lower, like, same_text, other_keyword, all_lower, all_front, digits_of, keyword_word, call_word, name_word, count_word}
 use Rattle.station_lines.proofs.ScriptLaws.TextLaws.{text_found, chosen, passed}
 use Rattle.station_lines.proofs.ScriptLaws.LiteralLaws.{literal_found, literal_word, distance_word}
 use Rattle.station_lines.proofs.ScriptLaws.WordLaws.{text_whole}
-use Rattle.station_lines.proofs.ScriptLaws.ListLaws.{counts_found, arguments_found, list_word}
+use Rattle.station_lines.proofs.ScriptLaws.ListLaws.{counts_found, arguments_found, some_digit, list_word}
+use Rattle.station_lines.proofs.ScriptLaws.SoundLaws.{found_is}
 use Rattle.station_lines.proofs.ScriptLaws.FoundLaws.{line_one, line_two, line_three, line_four}
 use Rattle.station_lines.proofs.ScriptLaws.IndexLaws.{line_index}
 use Rattle.station_lines.proofs.ScriptLaws.ReadLaws.{IsRead, is_read}
@@ -57,49 +62,52 @@ go_bottom word e =
     passed (is_keyword (codes "TOP") word) _ _ (other_keyword (codes "BOTTOM") (codes "TOP") word refl e)
     ∙ chosen (is_keyword (codes "BOTTOM") word) _ _ e
 
--- the line of a function, by its name in small letters, or another line
-abbrev call_at : Line → List ℕ → Line
-call_at other small =
-    cond (bytes_eq small (lower (codes "RLOCK()"))) (Run command.RecordLock) (
-    cond (bytes_eq small (lower (codes "LOCK()"))) (Run command.RecordLock) (
-    cond (bytes_eq small (lower (codes "FLOCK()"))) (Run command.FileLock) (
-    cond (bytes_eq small (lower (codes "EOF()"))) (Run (command.Ask question.Eof)) (
-    cond (bytes_eq small (lower (codes "BOF()"))) (Run (command.Ask question.Bof)) (
-    cond (bytes_eq small (lower (codes "FOUND()"))) (Run (command.Ask question.Found)) (
-    cond (bytes_eq small (lower (codes "DELETED()"))) (Run (command.Ask question.Deleted)) (
-    cond (bytes_eq small (lower (codes "RECNO()"))) (Run (command.Ask question.Recno)) (
-    cond (bytes_eq small (lower (codes "RECCOUNT()"))) (Run (command.Ask question.Reccount)) other))))))))
+-- the call of a text in small letters
+abbrev call_small : List ℕ → Option CallName
+call_small small = find (λ c. bytes_eq small (lower (call_text c))) CALLS
+
+-- the text of a call is in the table, is no other call's, and is none of a name or of a list
+abbrev pub IsCallText : CallName → Type 0
+IsCallText c =
+    (call_small (lower (call_text c)) ≡ Some c) × (is_call (call_text c) (call_text c) ≡ true) × (1 ≤ length (call_text c)) × (list_all is_solid (call_text c) ≡ true)
+    × (list_all is_name_char (lower (call_text c)) ≡ false) × (list_all (λ b. not (is_ascii_digit b)) (call_text c) ≡ true) × (has_no_lf (call_text c) ≡ true)
+
+pub call_texts : (c : CallName) → IsCallText c
+call_texts (call_name.Ask question.Eof) = (refl, refl, omega arith, refl, refl, refl, refl)
+call_texts c = (refl, refl, omega arith, refl, refl, refl, refl)
 
 name_lower : (c : ℕ) → is_name_char (to_ascii_lowercase c) ≡ is_name_char c
 name_lower c = grind (arith, nat_tests)
 
-ask_call : (f word : List ℕ) → list_all is_name_char (lower f) ≡ false → is_call f word ≡ true → ask_line word ≡ call_at (locks_line word) (lower f)
-ask_call f word other e =
-    let same : lower word ≡ lower f = same_text _ _ e in
-    let no_name : list_all is_name_char word ≡ false = sym (all_lower is_name_char name_lower word) ∙ (ap (list_all is_name_char) same ∙ other) in
+ask_other : (word : List ℕ) → list_all is_name_char word ≡ false → ask_line word ≡ call_line (call_in word) word
+ask_other word no_name =
     let none : name_in word ≡ None = passed (is_name_word word) _ None (and_right (is_ascii_alphabetic (slice_index word 0)) (list_all is_name_char word) no_name) in
-    ap (λ (o : Option (List ℕ)). ask_of o word) none ∙ ap (call_at (locks_line word)) same
+    ap (λ (o : Option (List ℕ)). ask_of o word) none
 
-call_cut : (f : List ℕ) → 1 ≤ length f → list_all is_solid f ≡ true → (word : List ℕ) → is_call f word ≡ true → IsCutWord word
-call_cut f some solid word e = call_word f word some solid e
+ask_call : (c : CallName) (word : List ℕ) → is_call (call_text c) word ≡ true → ask_line word ≡ call_line (Some c) word
+ask_call c word e =
+    let same : lower word ≡ lower (call_text c) = same_text _ _ e in
+    ask_other word (sym (all_lower is_name_char name_lower word) ∙ (ap (list_all is_name_char) same ∙ (call_texts c).4))
+    ∙ ap (λ (o : Option CallName). call_line o word) (ap call_small same ∙ (call_texts c).0)
+
+call_cut : (c : CallName) (word : List ℕ) → is_call (call_text c) word ≡ true → IsCutWord word
+call_cut c word e = call_word (call_text c) word (call_texts c).2 (call_texts c).3 e
 
 keyword_cut : (k : List ℕ) → 1 ≤ length (take KEYWORD_LETTERS k) → list_all is_solid (take KEYWORD_LETTERS k) ≡ true → list_all is_solid (drop KEYWORD_LETTERS k) ≡ true
     → (word : List ℕ) → is_keyword k word ≡ true → IsCutWord word
 keyword_cut k some first others word e = keyword_word k word some first others e
 
-lock_cut : (word : List ℕ) → IsPart (or_ (call (codes "RLOCK()")) (call (codes "LOCK()"))) word → IsCutWord word
-lock_cut word (inl e) = call_word (codes "RLOCK()") word (omega arith) refl e
-lock_cut word (inr e) = call_word (codes "LOCK()") word (omega arith) refl e
+lock_cut : (word : List ℕ) → IsPart (or_ (call (call_text call_name.Rlock)) (call (call_text call_name.Lock))) word → IsCutWord word
+lock_cut word (inl e) = call_cut call_name.Rlock word e
+lock_cut word (inr e) = call_cut call_name.Lock word e
 
-ask_lock : (word : List ℕ) → IsPart (or_ (call (codes "RLOCK()")) (call (codes "LOCK()"))) word → ask_line word ≡ Run command.RecordLock
-ask_lock word (inl e) = ask_call (codes "RLOCK()") word refl e
-ask_lock word (inr e) = ask_call (codes "LOCK()") word refl e
+ask_lock : (word : List ℕ) → IsPart (or_ (call (call_text call_name.Rlock)) (call (call_text call_name.Lock))) word → ask_line word ≡ Run command.RecordLock
+ask_lock word (inl e) = ask_call call_name.Rlock word e
+ask_lock word (inr e) = ask_call call_name.Lock word e
 
-ask_read : (line : List ℕ) (words : List (List ℕ)) (f : List ℕ) → 1 ≤ length f → list_all is_solid f ≡ true → list_all is_name_char (lower f) ≡ false
-    → (l : Line) → ((rest : Line) → call_at rest (lower f) ≡ l) → HasWords words line → Are (keyword (codes "?") ∷ call f ∷ []) words → read line ≡ l
-ask_read line words f some solid other l made w h =
-    let r = line_two line words verb.Ask (call f) (call_cut f some solid) w h in
-    r.as_two ∙ (ask_call f r.second other r.is ∙ made (locks_line r.second))
+ask_read : (line : List ℕ) (words : List (List ℕ)) (c : CallName) → HasWords words line → Are (keyword (codes "?") ∷ call (call_text c) ∷ []) words
+    → (word : List ℕ) × (read line ≡ call_line (Some c) word)
+ask_read line words c w h = let r = line_two line words verb.Ask (call (call_text c)) (call_cut c) w h in (r.second, r.as_two ∙ ask_call c r.second r.is)
 
 -- a list of records
 
@@ -107,69 +115,20 @@ all_back : (p : ℕ → Bool) (xs ys : List ℕ) → list_all p ys ≡ false →
 all_back p [] ys h = h
 all_back p (x ∷ xs) ys h = and_right (p x) (list_all p (xs ++ ys)) (all_back p xs ys h)
 
-no_list : (ns : List ℕ) → AreCounts (between_commas []) ns → ⊥
-no_list [] h = h
-no_list (n ∷ ns) h = false≢true (tested (is_count []) 0 n h.0).0
-
-lower_front : (n : ℕ) (xs : List ℕ) → lower (take n xs) ≡ take n (lower xs)
-lower_front zero [] = refl
-lower_front zero (x ∷ xs) = refl
-lower_front (suc n) [] = refl
-lower_front (suc n) (x ∷ xs) = ap (λ (ys : List ℕ). to_ascii_lowercase x ∷ ys) (lower_front n xs)
-
-none_long : (xs : List ℕ) → length xs ≡ 0 → xs ≡ []
-none_long [] h = refl
-none_long (x ∷ xs) h = absurd (omega (arith, h))
-
 -- a call with a list is no call without one
-other_call : (function f word : List ℕ) (ns : List ℕ) → IsListCall function word ns
-    → (bytes_eq (lower (take (length function) f)) (lower function) ≡ false) ⊎ (length f ≡ length function + 1) → (q : Bool) → is_call f word ≡ q → q ≡ false
-other_call function f word ns listed other false e = refl
-other_call function f word ns listed (inl differ) true e =
-    let long = same_length listed.0 function listed.3 in
-    let whole : lower word ≡ lower f = same_text (lower word) (lower f) e in
-    let front : take (length function) word ≡ listed.0 = ap (take (length function)) listed.2 ∙ (ap (λ (n : ℕ). take n (listed.0 ++ (listed.1 ++ codes ")"))) (sym long) ∙ take_front listed.0 (listed.1 ++ codes ")")) in
-    let named : lower listed.0 ≡ lower function = same_text (lower listed.0) (lower function) listed.3 in
-    let same : lower (take (length function) f) ≡ lower function =
-    lower_front (length function) f ∙ (ap (take (length function)) (sym whole) ∙ (sym (lower_front (length function) word) ∙ (ap lower front ∙ named))) in
-    absurd (false≢true (sym differ ∙ (bytes_eq-Decides (lower (take (length function) f)) (lower function)).1 same))
-other_call function f word ns listed (inr one_more) true e =
-    let long = same_length listed.0 function listed.3 in
-    let all = same_length word f e in
-    let sum : length word ≡ length listed.0 + (length listed.1 + 1) = ap length listed.2 ∙ simp length-append in
-    absurd (no_list ns (subst (λ (xs : List ℕ). AreCounts (between_commas xs) ns) (none_long listed.1 (omega (arith, long, all, sum, one_more))) listed.4))
+no_call : (function word ns : List ℕ) → IsListCall function word ns → (o : Option CallName) → call_in word ≡ o → o ≡ None
+no_call function word ns listed None e = refl
+no_call function word ns listed (Some c) e =
+    let no_digit : ℕ → Bool = λ b. not (is_ascii_digit b) in
+    let none = like no_digit (λ b. ap not (digit_lower b)) word (call_text c) (found_is (λ d. is_call (call_text d) word) CALLS c e) (call_texts c).5 in
+    let back = (and_parts _ _ (sym (list_all-append no_digit listed.0 (listed.1 ++ codes ")")) ∙ (sym (ap (list_all no_digit) listed.2) ∙ none))).1 in
+    absurd (some_digit listed.1 ns listed.4 (and_parts _ _ (sym (list_all-append no_digit listed.1 (codes ")")) ∙ back)).0)
 
--- each function without a list is another than this one
-abbrev IsOtherName : List ℕ → List ℕ → Type 0
-IsOtherName function f = (bytes_eq (lower (take (length function) f)) (lower function) ≡ false) ⊎ (length f ≡ length function + 1)
-
-record IsListName (function : List ℕ) : Type 0 where
-  rlock : IsOtherName function (codes "RLOCK()")
-  lock : IsOtherName function (codes "LOCK()")
-  flock : IsOtherName function (codes "FLOCK()")
-  eof : IsOtherName function (codes "EOF()")
-  bof : IsOtherName function (codes "BOF()")
-  found : IsOtherName function (codes "FOUND()")
-  deleted : IsOtherName function (codes "DELETED()")
-  recno : IsOtherName function (codes "RECNO()")
-  reccount : IsOtherName function (codes "RECCOUNT()")
-
-list_asked : (function word ns : List ℕ) → IsListCall function word ns → IsListName function → ask_line word ≡ locks_line word
-list_asked function word ns listed other =
+list_asked : (function word ns : List ℕ) → IsListCall function word ns → ask_line word ≡ locks_line word
+list_asked function word ns listed =
     let no_name : list_all is_name_char word ≡ false =
     ap (list_all is_name_char) listed.2 ∙ all_back is_name_char listed.0 (listed.1 ++ codes ")") (all_back is_name_char listed.1 (codes ")") refl) in
-    let none : name_in word ≡ None = passed (is_name_word word) _ None (and_right (is_ascii_alphabetic (slice_index word 0)) (list_all is_name_char word) no_name) in
-    let differs : (f : List ℕ) → IsOtherName function f → is_call f word ≡ false = λ f o. other_call function f word ns listed o (is_call f word) refl in
-    ap (λ (o : Option (List ℕ)). ask_of o word) none
-    ∙ (passed (is_call (codes "RLOCK()") word) _ _ (differs (codes "RLOCK()") other.rlock)
-    ∙ (passed (is_call (codes "LOCK()") word) _ _ (differs (codes "LOCK()") other.lock)
-    ∙ (passed (is_call (codes "FLOCK()") word) _ _ (differs (codes "FLOCK()") other.flock)
-    ∙ (passed (is_call (codes "EOF()") word) _ _ (differs (codes "EOF()") other.eof)
-    ∙ (passed (is_call (codes "BOF()") word) _ _ (differs (codes "BOF()") other.bof)
-    ∙ (passed (is_call (codes "FOUND()") word) _ _ (differs (codes "FOUND()") other.found)
-    ∙ (passed (is_call (codes "DELETED()") word) _ _ (differs (codes "DELETED()") other.deleted)
-    ∙ (passed (is_call (codes "RECNO()") word) _ _ (differs (codes "RECNO()") other.recno)
-    ∙ passed (is_call (codes "RECCOUNT()") word) _ _ (differs (codes "RECCOUNT()") other.reccount)))))))))
+    ask_other word no_name ∙ ap (λ (o : Option CallName). call_line o word) (no_call function word ns listed (call_in word) refl)
 
 -- what begins as LOCK begins not as RLOCK
 no_rlock : (front rest : List ℕ) → str_eq_ignore_ascii_case front (codes "LOCK(") ≡ true → (q : Bool) → str_eq_ignore_ascii_case (take 6 (front ++ rest)) (codes "RLOCK(") ≡ q → q ≡ false
@@ -191,33 +150,13 @@ locks_cut ns word (inr listed) = list_word (codes "LOCK(") word ns (omega arith)
 
 ask_locks : (ns word : List ℕ) → IsPart (or_ (list_call (codes "RLOCK(") ns) (list_call (codes "LOCK(") ns)) word → ask_line word ≡ Run (command.RecordLocks ns)
 ask_locks ns word (inl listed) =
-    list_asked (codes "RLOCK(") word ns listed (record {
-      rlock = inr refl;
-      lock = inl refl;
-      flock = inl refl;
-      eof = inl refl;
-      bof = inl refl;
-      found = inl refl;
-      deleted = inl refl;
-      recno = inl refl;
-      reccount = inl refl;
-    })
+    list_asked (codes "RLOCK(") word ns listed
     ∙ (ap (λ (o : Option (List ℕ)). list_line (first_some o (arguments_in (codes "LOCK(") word))) (arguments_found (codes "RLOCK(") listed.0 listed.1 word listed.2 listed.3)
     ∙ list_line_is listed.1 ns listed.4)
 ask_locks ns word (inr listed) =
     let other : str_eq_ignore_ascii_case (take 6 word) (codes "RLOCK(") ≡ false =
     ap (λ (xs : List ℕ). str_eq_ignore_ascii_case (take 6 xs) (codes "RLOCK(")) listed.2 ∙ no_rlock listed.0 (listed.1 ++ codes ")") listed.3 _ refl in
-    list_asked (codes "LOCK(") word ns listed (record {
-      rlock = inl refl;
-      lock = inr refl;
-      flock = inl refl;
-      eof = inl refl;
-      bof = inl refl;
-      found = inl refl;
-      deleted = inl refl;
-      recno = inl refl;
-      reccount = inl refl;
-    })
+    list_asked (codes "LOCK(") word ns listed
     ∙ (ap (λ (o : Option (List ℕ)). list_line (first_some o (arguments_in (codes "LOCK(") word))) (passed (str_eq_ignore_ascii_case (take 6 word) (codes "RLOCK(")) _ None other)
     ∙ (ap (λ (o : Option (List ℕ)). list_line (first_some None o)) (arguments_found (codes "LOCK(") listed.0 listed.1 word listed.2 listed.3)
     ∙ list_line_is listed.1 ns listed.4))
@@ -286,18 +225,13 @@ run_read line words (command.Show f) w h =
     let r = line_two line words verb.Ask (name f) (λ x e. name_word x f e) w h in
     r.as_two ∙ ap (λ (o : Option (List ℕ)). ask_of o r.second) r.is
 run_read line words command.RecordLock w h =
-    let r = line_two line words verb.Ask (or_ (call (codes "RLOCK()")) (call (codes "LOCK()"))) lock_cut w h in
+    let r = line_two line words verb.Ask (or_ (call (call_text call_name.Rlock)) (call (call_text call_name.Lock))) lock_cut w h in
     r.as_two ∙ ask_lock r.second r.is
 run_read line words (command.RecordLocks ns) w h =
     let r = line_two line words verb.Ask (or_ (list_call (codes "RLOCK(") ns) (list_call (codes "LOCK(") ns)) (locks_cut ns) w h in
     r.as_two ∙ ask_locks ns r.second r.is
-run_read line words command.FileLock w h = ask_read line words (codes "FLOCK()") (omega arith) refl refl _ (λ _. refl) w h
-run_read line words (command.Ask question.Eof) w h = ask_read line words (codes "EOF()") (omega arith) refl refl _ (λ _. refl) w h
-run_read line words (command.Ask question.Bof) w h = ask_read line words (codes "BOF()") (omega arith) refl refl _ (λ _. refl) w h
-run_read line words (command.Ask question.Found) w h = ask_read line words (codes "FOUND()") (omega arith) refl refl _ (λ _. refl) w h
-run_read line words (command.Ask question.Deleted) w h = ask_read line words (codes "DELETED()") (omega arith) refl refl _ (λ _. refl) w h
-run_read line words (command.Ask question.Recno) w h = ask_read line words (codes "RECNO()") (omega arith) refl refl _ (λ _. refl) w h
-run_read line words (command.Ask question.Reccount) w h = ask_read line words (codes "RECCOUNT()") (omega arith) refl refl _ (λ _. refl) w h
+run_read line words command.FileLock w h = (ask_read line words call_name.Flock w h).1
+run_read line words (command.Ask q) w h = (ask_read line words (call_name.Ask q) w h).1
 run_read line words command.Bad w h = absurd h
 
 status_read : (line : List ℕ) (words : List (List ℕ)) → HasWords words line → Says words Status → read line ≡ Status

@@ -1,14 +1,17 @@
 -- What the reader makes of words is what they say, or Bad.
-use Rattle.std.proofs.Common.{◌≡◌, ℕ, List, [], ◌∷◌, Bool, true, false, cond, ◌&&◌, Option, Some, None, refl}
-use Rattle.std.specs.Prelude.{◌⊎◌, codes}
+use Rattle.std.proofs.Common.{◌≡◌, ℕ, List, [], ◌∷◌, Bool, true, false, cond, ◌&&◌, Option, Some, None, refl, subst}
+use Rattle.std.specs.Prelude.{◌⊎◌, codes, find}
 use mathlib.Core.Logic.{inl, inr}
 use Rattle.std.proofs.lemmas.Bool.{and_parts}
+use Rattle.station_lines.specs.declared.script.call.CallName.{CallName}
+use Rattle.station_lines.specs.declared.script.call.CallName.TheVariants as call_name
+use Rattle.station_lines.specs.declared.script.call.TheConstants.{CALLS}
 use Rattle.station_lines.specs.declared.script.line.Line.{Line}
 use Rattle.station_lines.specs.declared.script.verb.Verb.{Verb}
 use Rattle.station_lines.specs.declared.script.verb.Verb.TheVariants as verb
-use Rattle.station_lines.specs.Script.Parts.{is_keyword, is_call, name_in, count_in, distance_in, between_commas}
+use Rattle.station_lines.specs.Script.Parts.{is_keyword, is_call, call_text, name_in, count_in, distance_in, between_commas}
 use Rattle.station_lines.specs.Script.Meaning.{IsPart, Says}
-use Rattle.station_lines.specs.Script.Reading.{text_in, literal_in, counts_in, arguments_in, first_some, list_line, bad, with_, one, go_line, locks_line, call_line, ask_of, two, three, four}
+use Rattle.station_lines.specs.Script.Reading.{text_in, literal_in, counts_in, arguments_in, first_some, list_line, bad, with_, one, go_line, locks_line, call_in, call_line, ask_of, two, three, four}
 use Rattle.station_lines.proofs.ScriptLaws.TextLaws.{text_is}
 use Rattle.station_lines.proofs.ScriptLaws.LiteralLaws.{literal_is}
 use Rattle.station_lines.proofs.ScriptLaws.ListLaws.{list_is}
@@ -54,20 +57,23 @@ locks_said_by a b h (Some inside) p e f = list_said a b inside h (inl e)
 locks_said : (a b : List ℕ) → IsPart (spelling verb.Ask) a → IsSaid (a ∷ b ∷ []) (locks_line b)
 locks_said a b h = locks_said_by a b h (arguments_in (codes "RLOCK(") b) (arguments_in (codes "LOCK(") b) refl refl
 
-call_said : (a b : List ℕ) → IsPart (spelling verb.Ask) a → IsSaid (a ∷ b ∷ []) (call_line b)
-call_said a b h =
-    of_test (a ∷ b ∷ []) (is_call (codes "RLOCK()") b) _ _ (λ e. inr (h, (inl e, tt))) (
-    of_test (a ∷ b ∷ []) (is_call (codes "LOCK()") b) _ _ (λ e. inr (h, (inr e, tt))) (
-    of_test (a ∷ b ∷ []) (is_call (codes "FLOCK()") b) _ _ (λ e. inr (h, (e, tt))) (
-    of_test (a ∷ b ∷ []) (is_call (codes "EOF()") b) _ _ (λ e. inr (h, (e, tt))) (
-    of_test (a ∷ b ∷ []) (is_call (codes "BOF()") b) _ _ (λ e. inr (h, (e, tt))) (
-    of_test (a ∷ b ∷ []) (is_call (codes "FOUND()") b) _ _ (λ e. inr (h, (e, tt))) (
-    of_test (a ∷ b ∷ []) (is_call (codes "DELETED()") b) _ _ (λ e. inr (h, (e, tt))) (
-    of_test (a ∷ b ∷ []) (is_call (codes "RECNO()") b) _ _ (λ e. inr (h, (e, tt))) (
-    of_test (a ∷ b ∷ []) (is_call (codes "RECCOUNT()") b) _ _ (λ e. inr (h, (e, tt))) (locks_said a b h)))))))))
+found_by : {X : Type 0} (p : X → Bool) (x y : X) (rest : Option X) (q : Bool) → p y ≡ q → (rest ≡ Some x → p x ≡ true) → cond q (Some y) rest ≡ Some x → p x ≡ true
+found_by p x y rest true is later e = let same : y ≡ x = cc in subst (λ (z : _). p z ≡ true) same is
+found_by p x y rest false is later e = later e
+
+-- what is found passes the test
+pub found_is : {X : Type 0} (p : X → Bool) (xs : List X) (x : X) → find p xs ≡ Some x → p x ≡ true
+found_is p [] x e = absurd cc
+found_is p (y ∷ ys) x e = found_by p x y (find p ys) (p y) refl (found_is p ys x) e
+
+call_said : (a b : List ℕ) → IsPart (spelling verb.Ask) a → (o : Option CallName) → call_in b ≡ o → IsSaid (a ∷ b ∷ []) (call_line o b)
+call_said a b h None e = locks_said a b h
+call_said a b h (Some call_name.Rlock) e = inr (h, (inl (found_is (λ c. is_call (call_text c) b) CALLS call_name.Rlock e), tt))
+call_said a b h (Some call_name.Lock) e = inr (h, (inr (found_is (λ c. is_call (call_text c) b) CALLS call_name.Lock e), tt))
+call_said a b h (Some c) e = inr (h, (found_is (λ d. is_call (call_text d) b) CALLS c e, tt))
 
 ask_said : (a b : List ℕ) → IsPart (spelling verb.Ask) a → (o : Option (List ℕ)) → name_in b ≡ o → IsSaid (a ∷ b ∷ []) (ask_of o b)
-ask_said a b h None e = call_said a b h
+ask_said a b h None e = call_said a b h (call_in b) refl
 ask_said a b h (Some name) e = inr (h, (e, tt))
 
 pub two_said : (v : Verb) (a b : List ℕ) → IsPart (spelling v) a → IsSaid (a ∷ b ∷ []) (two v b)

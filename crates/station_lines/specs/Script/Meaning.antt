@@ -2,11 +2,11 @@
 use Rattle.std.specs.Prelude.{◌≡◌, ◌⊎◌, ℕ, true, false, List, [], ◌∷◌, codes, ℤ, pos, Some}
 use Rattle.dbf_fields.specs.declared.literal.Literal.{Literal}
 use Rattle.catalogue_core.specs.declared.command.Command.TheVariants.{Select, UseTable, CloseTable, Go, Top, Bottom, Skip, Seek, Order, AppendBlank, Replace, Memo, Delete, Recall, Pack, IndexOn, Unlock, UnlockAll, Show, RecordLock, RecordLocks, FileLock, Ask, Bad}
-use Rattle.catalogue_core.specs.declared.command.Question.TheVariants.{Eof, Bof, Found, Deleted, Recno, Reccount}
+use Rattle.station_lines.specs.declared.script.call.CallName.TheVariants as call_name
 use Rattle.station_lines.specs.declared.script.line.Line.{Line}
 use Rattle.station_lines.specs.declared.script.line.Line.TheVariants.{Run, Status, Blank}
 use Rattle.station_lines.specs.Script.Words.{HasWords, IsBlankLine}
-use Rattle.station_lines.specs.Script.Parts.{is_keyword, is_call, name_in, count_in, distance_in, is_phrase, IsListCall, IsText}
+use Rattle.station_lines.specs.Script.Parts.{is_keyword, is_call, call_text, name_in, count_in, distance_in, is_phrase, IsListCall, IsText}
 use Rattle.station_lines.specs.Script.Literals.{IsLiteral}
 
 -- what a command's form has in a word's place; a phrase may hold blanks and tabs
@@ -67,16 +67,11 @@ Says words (Run (IndexOn e n)) =
 Says words (Run Unlock) = Are (keyword (codes "UNLOCK") ∷ []) words
 Says words (Run UnlockAll) = Are (keyword (codes "UNLOCK") ∷ keyword (codes "ALL") ∷ []) words
 Says words (Run (Show f)) = Are (keyword (codes "?") ∷ name f ∷ []) words
-Says words (Run RecordLock) = Are (keyword (codes "?") ∷ or_ (call (codes "RLOCK()")) (call (codes "LOCK()")) ∷ []) words
+Says words (Run RecordLock) = Are (keyword (codes "?") ∷ or_ (call (call_text call_name.Rlock)) (call (call_text call_name.Lock)) ∷ []) words
 Says words (Run (RecordLocks ns)) =
     Are (keyword (codes "?") ∷ or_ (list_call (codes "RLOCK(") ns) (list_call (codes "LOCK(") ns) ∷ []) words
-Says words (Run FileLock) = Are (keyword (codes "?") ∷ call (codes "FLOCK()") ∷ []) words
-Says words (Run (Ask Eof)) = Are (keyword (codes "?") ∷ call (codes "EOF()") ∷ []) words
-Says words (Run (Ask Bof)) = Are (keyword (codes "?") ∷ call (codes "BOF()") ∷ []) words
-Says words (Run (Ask Found)) = Are (keyword (codes "?") ∷ call (codes "FOUND()") ∷ []) words
-Says words (Run (Ask Deleted)) = Are (keyword (codes "?") ∷ call (codes "DELETED()") ∷ []) words
-Says words (Run (Ask Recno)) = Are (keyword (codes "?") ∷ call (codes "RECNO()") ∷ []) words
-Says words (Run (Ask Reccount)) = Are (keyword (codes "?") ∷ call (codes "RECCOUNT()") ∷ []) words
+Says words (Run FileLock) = Are (keyword (codes "?") ∷ call (call_text call_name.Flock) ∷ []) words
+Says words (Run (Ask q)) = Are (keyword (codes "?") ∷ call (call_text (call_name.Ask q)) ∷ []) words
 Says words Status = Are (keyword (codes "DISPLAY") ∷ keyword (codes "STATUS") ∷ []) words
 Says words (Run Bad) = ⊥
 Says words Blank = ⊥

@@ -7,6 +7,9 @@ use Rattle.std.specs.Str.{str_eq_ignore_ascii_case}
 use Rattle.dbf_fields.specs.declared.format.TheConstants.{MINUS}
 use Rattle.dbf_fields.specs.Digits.{digits_after}
 use Rattle.dbf_fields.specs.Name.{is_name_char}
+use Rattle.catalogue_core.specs.declared.command.Question.TheVariants.{Eof, Bof, Found, Deleted, Recno, Reccount}
+use Rattle.station_lines.specs.declared.script.call.CallName.{CallName}
+use Rattle.station_lines.specs.declared.script.call.CallName.TheVariants.{Rlock, Lock, Flock, Ask}
 use Rattle.station_lines.specs.declared.script.format.TheConstants.{KEYWORD_LETTERS, MAX_COUNT_DIGITS, QUOTE, APOSTROPHE, COMMA}
 use Rattle.station_lines.specs.Script.Words.{begins_word}
 
@@ -20,6 +23,18 @@ is_keyword keyword word =
 -- a function's name with its parentheses, in any case
 abbrev pub is_call : List ℕ → List ℕ → Bool
 is_call function word = str_eq_ignore_ascii_case word function
+
+-- the name of a call with its parentheses
+abbrev pub call_text : CallName → List ℕ
+call_text Rlock = codes "RLOCK()"
+call_text Lock = codes "LOCK()"
+call_text Flock = codes "FLOCK()"
+call_text (Ask Eof) = codes "EOF()"
+call_text (Ask Bof) = codes "BOF()"
+call_text (Ask Found) = codes "FOUND()"
+call_text (Ask Deleted) = codes "DELETED()"
+call_text (Ask Recno) = codes "RECNO()"
+call_text (Ask Reccount) = codes "RECCOUNT()"
 
 -- in capitals
 abbrev pub capitals : List ℕ → List ℕ

@@ -1,17 +1,19 @@
 -- What the reader makes of a line, word by word. What a line means is defined apart from this, in Meaning.
-use Rattle.std.specs.Prelude.{◌≡◌, ℕ, ◌+◌, ◌-◌, suc, Bool, true, false, not, ◌&&◌, ◌||◌, ◌==◌, List, [], ◌∷◌, length, reverse, take, drop, slice_index, bytes_eq, codes, ℤ, pos, position, Option, Some, None, if◌then◌else◌}
+use Rattle.std.specs.Prelude.{◌≡◌, ℕ, ◌+◌, ◌-◌, suc, Bool, true, false, not, ◌&&◌, ◌||◌, ◌==◌, List, [], ◌∷◌, length, reverse, take, drop, slice_index, bytes_eq, codes, ℤ, pos, position, find, Option, Some, None, if◌then◌else◌}
 use Rattle.std.specs.Str.{str_eq_ignore_ascii_case}
 use Rattle.dbf_fields.specs.Date.{is_date, year_in, month_in, day_in}
 use Rattle.dbf_fields.specs.declared.literal.Literal.{Literal}
 use Rattle.dbf_fields.specs.declared.literal.Literal.TheVariants as value
 use Rattle.catalogue_core.specs.declared.command.Command.TheVariants as command
-use Rattle.catalogue_core.specs.declared.command.Question.TheVariants as question
+use Rattle.station_lines.specs.declared.script.call.CallName.{CallName}
+use Rattle.station_lines.specs.declared.script.call.CallName.TheVariants as call_name
+use Rattle.station_lines.specs.declared.script.call.TheConstants.{CALLS}
 use Rattle.station_lines.specs.declared.script.line.Line.{Line}
 use Rattle.station_lines.specs.declared.script.line.Line.TheVariants.{Run, Status, Blank}
 use Rattle.station_lines.specs.declared.script.verb.Verb.{Verb}
 use Rattle.station_lines.specs.declared.script.verb.Verb.TheVariants as verb
 use Rattle.station_lines.specs.Script.Words.{is_gap, begins_with_asterisk}
-use Rattle.station_lines.specs.Script.Parts.{is_keyword, is_call, is_quote, name_in, count_in, distance_in, between_commas}
+use Rattle.station_lines.specs.Script.Parts.{is_keyword, is_call, call_text, is_quote, name_in, count_in, distance_in, between_commas}
 use Rattle.station_lines.specs.Script.Literals.{number_in, truth_in, cell_of_shown}
 use Rattle.station_lines.specs.Script.Days.{day_is}
 use Rattle.std.specs.Prelude.{refl}
@@ -190,23 +192,21 @@ list_line (Some list) = with_ (counts_in (between_commas list)) (λ ns. Run (com
 abbrev pub locks_line : List ℕ → Line
 locks_line word = list_line (first_some (arguments_in (codes "RLOCK(") word) (arguments_in (codes "LOCK(") word))
 
--- a function that `?` asks
-abbrev pub call_line : List ℕ → Line
-call_line word =
-    if is_call (codes "RLOCK()") word then Run command.RecordLock
-    else (if is_call (codes "LOCK()") word then Run command.RecordLock
-    else (if is_call (codes "FLOCK()") word then Run command.FileLock
-    else (if is_call (codes "EOF()") word then Run (command.Ask question.Eof)
-    else (if is_call (codes "BOF()") word then Run (command.Ask question.Bof)
-    else (if is_call (codes "FOUND()") word then Run (command.Ask question.Found)
-    else (if is_call (codes "DELETED()") word then Run (command.Ask question.Deleted)
-    else (if is_call (codes "RECNO()") word then Run (command.Ask question.Recno)
-    else (if is_call (codes "RECCOUNT()") word then Run (command.Ask question.Reccount)
-    else locks_line word))))))))
+-- the first call of the table that a word is
+abbrev pub call_in : List ℕ → Option CallName
+call_in word = find (λ call. is_call (call_text call) word) CALLS
+
+-- a call, or else one with record numbers in its parentheses
+abbrev pub call_line : Option CallName → List ℕ → Line
+call_line (Some call_name.Rlock) word = Run command.RecordLock
+call_line (Some call_name.Lock) word = Run command.RecordLock
+call_line (Some call_name.Flock) word = Run command.FileLock
+call_line (Some (call_name.Ask q)) word = Run (command.Ask q)
+call_line None word = locks_line word
 
 abbrev pub ask_of : Option (List ℕ) → List ℕ → Line
 ask_of (Some name) word = Run (command.Show name)
-ask_of None word = call_line word
+ask_of None word = call_line (call_in word) word
 
 abbrev pub ask_line : List ℕ → Line
 ask_line word = ask_of (name_in word) word

@@ -10,7 +10,8 @@ ghost use Rattle.dbf_fields.specs.NumberText.{sign};
 ghost use Rattle.station_lines.specs.CommandLines.{quoted as text_quoted, written_number, written_day, date_call as call_of_date, written_value, after_commas, with_commas as numbers_apart};
 
 use crate::script::format::{APOSTROPHE, MAX_LITERAL_DIGITS, QUOTE};
-use dbf_fields::{Bytes, Day, Literal, NumberText, SLASH, ZERO_DIGIT};
+use byte_io::Bytes;
+use dbf_fields::{Day, Literal, NumberText, SLASH, ZERO_DIGIT};
 use std::alloc::{AllocError, Global};
 
 /// Two texts, one after the other. An error where memory is refused.

@@ -3,16 +3,17 @@
 ghost use Rattle.std.specs.Prelude.{◌≡◌, true, Some, IfOk, OnErr};
 ghost use Rattle.station_lines.specs.Script.Parts.{name_in as name_in_word};
 ghost use Rattle.station_lines.specs.Script.Keeping.{keeps_text};
-ghost use Rattle.station_lines.specs.Script.Reading.{with_, one, two, three, four, go_line, list_line, locks_line, call_line, ask_line, set_order_line, replace_line, memo_line};
+ghost use Rattle.station_lines.specs.Script.Reading.{with_, one, two, three, four, go_line, list_line, locks_line, call_in as call_of_word, call_line, ask_line, set_order_line, replace_line, memo_line};
 
-use crate::script::keyword::{is_call, is_keyword};
+use crate::script::call::{CallName, call_in};
+use crate::script::keyword::is_keyword;
 use crate::script::line::Line;
 use crate::script::list::{arguments_in, counts_in};
 use crate::script::literal::literal_in;
 use crate::script::value::{count_in, distance_in, in_capitals, is_name, name_in, text_in};
 use crate::script::verb::Verb;
-use catalogue_core::{Command, Question};
-use dbf_fields::Bytes;
+use byte_io::Bytes;
+use catalogue_core::Command;
 use std::alloc::{AllocError, Global};
 
 /// The line of a verb alone. Takes no memory.
@@ -113,31 +114,16 @@ fn lock_records(alloc: Global, word: &[u8]) -> Result<Line, AllocError>
     }
 }
 
-// The line of a function that `?` asks. An error where memory for a list of records is refused.
+// The line of a call. An error where memory for a list of records is refused.
 fn call(alloc: Global, word: &[u8]) -> Result<Line, AllocError>
-    ensures value { IfOk result (λ line. line ≡ call_line word.now) }
-    ensures early { OnErr result (keeps_text (call_line word.now) ≡ true) }
+    ensures value { IfOk result (λ line. line ≡ call_line (call_of_word word.now) word.now) }
+    ensures early { OnErr result (keeps_text (call_line (call_of_word word.now) word.now) ≡ true) }
 {
-    if is_call(word, b"RLOCK()") {
-        Ok(Line::Run(Command::RecordLock))
-    } else if is_call(word, b"LOCK()") {
-        Ok(Line::Run(Command::RecordLock))
-    } else if is_call(word, b"FLOCK()") {
-        Ok(Line::Run(Command::FileLock))
-    } else if is_call(word, b"EOF()") {
-        Ok(Line::Run(Command::Ask(Question::Eof)))
-    } else if is_call(word, b"BOF()") {
-        Ok(Line::Run(Command::Ask(Question::Bof)))
-    } else if is_call(word, b"FOUND()") {
-        Ok(Line::Run(Command::Ask(Question::Found)))
-    } else if is_call(word, b"DELETED()") {
-        Ok(Line::Run(Command::Ask(Question::Deleted)))
-    } else if is_call(word, b"RECNO()") {
-        Ok(Line::Run(Command::Ask(Question::Recno)))
-    } else if is_call(word, b"RECCOUNT()") {
-        Ok(Line::Run(Command::Ask(Question::Reccount)))
-    } else {
-        lock_records(alloc, word)
+    match call_in(word) {
+        Some(CallName::Rlock | CallName::Lock) => Ok(Line::Run(Command::RecordLock)),
+        Some(CallName::Flock) => Ok(Line::Run(Command::FileLock)),
+        Some(CallName::Ask(question)) => Ok(Line::Run(Command::Ask(question))),
+        None => lock_records(alloc, word),
     }
 }
 

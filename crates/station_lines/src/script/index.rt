@@ -9,8 +9,8 @@ use crate::script::keyword::is_keyword;
 use crate::script::line::Line;
 use crate::script::value::{in_capitals, is_name};
 use crate::script::word::{cut_word, without_gaps};
+use byte_io::Bytes;
 use catalogue_core::Command;
-use dbf_fields::Bytes;
 use std::alloc::{AllocError, Global};
 
 // The line of an expression, a word that is to be TO, and one that is to be a name.

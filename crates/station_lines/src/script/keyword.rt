@@ -1,7 +1,7 @@
-//! Keywords and the names of functions.
+//! Keywords.
 
 ghost use Rattle.std.specs.Prelude.{◌≡◌, take, drop};
-ghost use Rattle.station_lines.specs.Script.Parts.{is_keyword as keyword_is, is_call as call_is};
+ghost use Rattle.station_lines.specs.Script.Parts.{is_keyword as keyword_is};
 
 use crate::script::format::KEYWORD_LETTERS;
 
@@ -28,11 +28,4 @@ pub(crate) fn is_keyword(word: &[u8], keyword: &[u8]) -> bool
     let (wanted, next) = split(keyword, KEYWORD_LETTERS);
     let next = front(next, word.len().saturating_sub(KEYWORD_LETTERS));
     first.eq_ignore_ascii_case(wanted) && others.eq_ignore_ascii_case(next)
-}
-
-/// Whether a word is the function's name with its parentheses, in any case. Takes no memory.
-pub(crate) fn is_call(word: &[u8], function: &[u8]) -> bool
-    ensures value { result ≡ call_is function.now word.now }
-{
-    word.eq_ignore_ascii_case(function)
 }

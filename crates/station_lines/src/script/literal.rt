@@ -10,9 +10,10 @@ ghost use Rattle.station_lines.specs.Script.Reading.{date_of as cell_date, date_
 
 use crate::script::format::MAX_LITERAL_DIGITS;
 use crate::script::value::text_in;
+use byte_io::Bytes;
 use dbf_fields::{
-    Bytes, DateCell, Literal, MINUS, PLUS, SLASH, WholeNumber, ZERO_DIGIT, are_digits,
-    number_of_digits, number_parts, read_date,
+    DateCell, Literal, MINUS, PLUS, SLASH, WholeNumber, ZERO_DIGIT, are_digits, number_of_digits,
+    number_parts, read_date,
 };
 use std::alloc::{AllocError, Global};
 

@@ -8,7 +8,8 @@ ghost use Rattle.station_lines.specs.Script.Reading.{text_in as text_of};
 
 use crate::script::format::MAX_COUNT_DIGITS;
 use crate::script::word::is_quote;
-use dbf_fields::{Bytes, MINUS, are_digits, number_of_digits};
+use byte_io::Bytes;
+use dbf_fields::{MINUS, are_digits, number_of_digits};
 use std::alloc::{AllocError, Global};
 
 // A letter, a digit or `_`.

@@ -7,7 +7,7 @@ ghost use Rattle.station_lines.specs.SetupReading.{entry_of};
 ghost use Rattle.station_lines.specs.Script.Parts.{capitals};
 
 use crate::setup::said::Said;
-use dbf_fields::Bytes;
+use byte_io::Bytes;
 
 /// What a line of a setup says. Names are in capitals, and paths stand as in the line.
 #[derive(Debug, PartialEq, Eq, Drop)]

@@ -7,7 +7,7 @@ ghost use Rattle.station_lines.specs.SetupReading.{entry_of, entry_in, index_in,
 use crate::script::{in_capitals, is_name};
 use crate::setup::entry::SetupEntry;
 use crate::setup::words::cut_first;
-use dbf_fields::Bytes;
+use byte_io::Bytes;
 use std::alloc::{AllocError, Global};
 
 /// The most bytes of the name of a table or an index.

@@ -1,8 +1,9 @@
 //! Lines of a script that keep a text, and such lines of commands and of a journal's entry.
 
 use super::{ENOUGH, line_attempt};
+use byte_io::Bytes;
 use catalogue_core::{Answer, Command, Numbers};
-use dbf_fields::{Bytes, Literal};
+use dbf_fields::Literal;
 use scarce::{Attempt, refusals};
 use station_lines::{Line, command_line, entry_line, parse_line};
 use std::alloc::{AllocError, Global};

@@ -1,7 +1,7 @@
 //! A setup of each kind of line.
 
 use super::ENOUGH;
-use dbf_fields::Bytes;
+use byte_io::Bytes;
 use scarce::{Attempt, refusals};
 use station_lines::{SetupEntry, SetupFault, parse_setup};
 use std::alloc::{AllocError, Global};

@@ -1,5 +1,5 @@
+use byte_io::Bytes;
 use catalogue_core::{Answer, Refusal};
-use dbf_fields::Bytes;
 use station_lines::answer_line;
 use std::alloc::{AllocError, Global};
 use std::test::Fail;

@@ -1,7 +1,7 @@
 //! Lines of a journal, as they are written by hand, and what is cut off them.
 
+use byte_io::Bytes;
 use catalogue_core::{Answer, Command, Refusal};
-use dbf_fields::Bytes;
 use station_lines::{Line, cut_entry, entry_line, parse_line};
 use std::alloc::{AllocError, Global};
 use std::test::Fail;

@@ -1,8 +1,8 @@
 //! Lines longer than a text of a table or a line of dBASE may be: no line is cut.
 
 use crate::tests::script::{Keeps, are_read, line_of};
+use byte_io::Bytes;
 use catalogue_core::Command;
-use dbf_fields::Bytes;
 use station_lines::Line;
 use std::alloc::{AllocError, Global};
 use std::test::Fail;

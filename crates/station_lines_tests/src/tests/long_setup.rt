@@ -1,6 +1,6 @@
 //! A setup of many lines, made by a rule: ten tables, each with seven indexes, then sixteen stations.
 
-use dbf_fields::Bytes;
+use byte_io::Bytes;
 use station_lines::{SetupEntry, parse_setup};
 use std::alloc::{AllocError, Global};
 use std::test::Fail;

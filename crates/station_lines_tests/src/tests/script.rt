@@ -1,5 +1,6 @@
+use byte_io::Bytes;
 use catalogue_core::{Command, Numbers, Question};
-use dbf_fields::{Bytes, Literal, WholeNumber, day_of};
+use dbf_fields::{Literal, WholeNumber, day_of};
 use station_lines::{Line, lines, parse_line};
 use std::alloc::{AllocError, Global};
 use std::test::Fail;

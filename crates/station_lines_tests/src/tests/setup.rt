@@ -1,4 +1,4 @@
-use dbf_fields::Bytes;
+use byte_io::Bytes;
 use station_lines::{SetupEntry, SetupFault, parse_setup};
 use std::alloc::Global;
 use std::test::Fail;
