@@ -4,7 +4,7 @@ use Rattle.std.proofs.lemmas.Bool.{cases_Bool, both_ways, cond-true, cond-false}
 use Rattle.std.proofs.lemmas.Slice.Eq.{bytes_eq-Decides}
 use Rattle.std.specs.List.{list_any}
 use Rattle.std.specs.Str.{bytes_eq}
-use Rattle.files_in_place.specs.Folder.{Name, Folder, SameBut, is_reserved, temporary, list_name, names_in, is_listed, first_of, recovered}
+use Rattle.files_in_place.specs.Folder.{Name, Folder, is_reserved, temporary, list_name, names_in, is_listed, first_of, recovered}
 use Rattle.files_in_place.specs.Disk.{ComesBy, Shrinks, SameButTwo, HasMoved, MayMove, MayRemove, IsDurable}
 use Rattle.files_in_place.proofs.Runs.{IsStep, comes_by}
 use Rattle.files_in_place.specs.Recovery.{IsFinished, LosesReserved, KeepsRecovery, CanRename, StillRecovers}

@@ -1,5 +1,5 @@
 -- How a run of a disk's calls goes on, and what a crash in it leaves.
-use Rattle.std.proofs.Common.{inl, inr, ⊎_elim, ℕ, refl, ◌∙◌, arith}
+use Rattle.std.proofs.Common.{inl, inr, ⊎_elim, refl, ◌∙◌, arith}
 use Rattle.files_in_place.specs.Folder.{Name, Folder, SameBut}
 use Rattle.files_in_place.specs.Disk.{DiskMeaning, AfterStep, ComesBy, Shrinks, Elapses, OnlyReads, ChangesFile, LeavesOnly, Steps}
 

@@ -1,5 +1,5 @@
 -- All that is seen is brought to the disk.
-use Rattle.std.proofs.Common.{◌≡◌, inr, ℕ, List, true, ◌∙◌, ap}
+use Rattle.std.proofs.Common.{◌≡◌, inr, List, true, ◌∙◌, ap}
 use Rattle.std.specs.List.{list_any}
 use Rattle.std.specs.Str.{bytes_eq}
 use Rattle.files_in_place.specs.Folder.{Name, Folder, temporary, list_name, names_in}

@@ -1,7 +1,6 @@
 //! The list of the names of new files.
 
-ghost use Rattle.std.specs.Prelude.{◌≡◌, ◌⊎◌, Err, IfOk, IfErr, IsErr, IsErrOf};
-ghost use Rattle.std.specs.List.{AllByRecursion};
+ghost use Rattle.std.specs.Prelude.{◌≡◌, ◌⊎◌, Err, IfOk, IfErr, IsErr};
 ghost use Rattle.files_in_place.specs.declared.faults.RecoveryFault.TheVariants.{BadList, NoMemory, Unreplaced};
 ghost use Rattle.files_in_place.specs.Folder.{Name, list_name, lines_of, names_in};
 ghost use Rattle.files_in_place.specs.Disk.{OnlyReads, HasDiskCause};

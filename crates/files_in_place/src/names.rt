@@ -20,7 +20,7 @@ pub fn is_reserved(name: &[u8]) -> bool
 }
 
 // Whether a name is empty, one dot or two dots.
-fn is_dots(name: &[u8]) -> bool
+pub(crate) fn is_dots(name: &[u8]) -> bool
     ensures value { result ≡ is_dots name.now }
 {
     name == b"".as_slice() || name == b".".as_slice() || name == b"..".as_slice()

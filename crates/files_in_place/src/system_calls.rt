@@ -1,14 +1,20 @@
 //! What is asked of the files of a folder of the system.
 
-ghost use Rattle.std.specs.Prelude.{◌≡◌, ◌++◌, IfOk, string_bytes};
+ghost use Rattle.std.specs.Prelude.{◌≡◌, ◌++◌, false, IfOk, OnOk, string_bytes};
+ghost use Rattle.std.specs.List.{Contains};
+ghost use Rattle.files_in_place.specs.Staged.{is_dots};
 
 use crate::faults::DiskFault;
+use crate::names::is_dots;
 use byte_io::Bytes;
 use std::alloc::Global;
 use std::fs::{File, Metadata, OpenFile};
 use std::io::{ErrorKind, Read};
 use std::rt::Files;
 use std::{fs, io};
+
+// What stands between a folder's path and a file's name.
+const SLASH: u8 = b'/';
 
 // How often a call that a signal interrupts is made.
 const MAX_TRIES: usize = 1000;
@@ -38,11 +44,13 @@ pub(crate) fn open_folder<R: Files>(rt: &R, path: &str) -> io::Result<R::File> {
     File::open(rt, path)
 }
 
-// The path of a file of a folder whose path ends in a slash. No file has a name that is no UTF-8 or has a slash.
+// The path of a file of a folder whose path ends in a slash. No file has a name that is no UTF-8 or has a slash, nor one that is
+// empty, a dot or two dots: such a path is one of another folder.
 pub(crate) fn in_folder(alloc: Global, folder: &str, name: &[u8]) -> Result<String, DiskFault>
     ensures path { IfOk result (λ path. string_bytes path ≡ folder.now ++ name.now) }
+    ensures inside { OnOk result (is_dots name.now ≡ false × ¬ Contains name.now SLASH) }
 {
-    if name.contains(&b'/') {
+    if is_dots(name) || name.contains(&SLASH) {
         return Err(DiskFault::Failed);
     }
     let Ok(name) = str::from_utf8(name) else {

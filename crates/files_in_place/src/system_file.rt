@@ -1,6 +1,7 @@
 //! A new file of a folder of the system.
 
-ghost use Rattle.std.specs.Prelude.{◌≡◌, IfOk};
+ghost use Rattle.std.specs.Prelude.{◌≡◌, IfOk, OnOk};
+ghost use Rattle.files_in_place.specs.System.{HasTaken};
 
 use crate::faults::DiskFault;
 use crate::replaced::find_replaced;
@@ -49,7 +50,9 @@ pub(crate) fn append_to<R: Files + Drop>(
     current: &mut Option<SystemFile<R>>,
     name: &[u8],
     bytes: &[u8],
-) -> Result<(), DiskFault> {
+) -> Result<(), DiskFault>
+    ensures appended { OnOk result (HasTaken (λ f. (f.name, R.File.contents f.file)) name.now bytes.now current.old current.new) }
+{
     let Some(current) = current else {
         return Err(DiskFault::Failed);
     };

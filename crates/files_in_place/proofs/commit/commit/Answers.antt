@@ -1,7 +1,6 @@
 use Rattle.std.proofs.Common.{◌≡◌, true, false, subst, sym, ◌∙◌, ap, inl, inr}
 use Rattle.files_in_place.specs.Folder.{Name, Folder, is_reserved, temporary, list_name, recovered}
-use Rattle.files_in_place.specs.Disk.{AfterStep, IsSynced}
-use Rattle.files_in_place.specs.Recovery.{StillRecovers}
+use Rattle.files_in_place.specs.Disk.{IsSynced}
 use Rattle.files_in_place.specs.Staged.{IsPut, is_file_name}
 use Rattle.files_in_place.proofs.Runs.{started, goes_on, runs_on}
 use Rattle.files_in_place.proofs.Meaning.{same_name}

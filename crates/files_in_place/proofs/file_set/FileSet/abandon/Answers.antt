@@ -1,7 +1,7 @@
-use Rattle.std.proofs.Common.{◌≡◌, None, rules, subst}
+use Rattle.std.proofs.Common.{◌≡◌, rules, subst}
 use Rattle.files_in_place.specs.Folder.{Name, without_reserved}
-use Rattle.files_in_place.specs.Disk.{AfterStep, LeavesOnly}
-use Rattle.files_in_place.specs.Recovery.{HasOldFiles, LosesReserved}
+use Rattle.files_in_place.specs.Disk.{LeavesOnly}
+use Rattle.files_in_place.specs.Recovery.{HasOldFiles}
 use Rattle.files_in_place.specs.Staged.{Set}
 use Rattle.files_in_place.proofs.Runs.{leaves_by}
 use Rattle.files_in_place.proofs.Uncommitted.{staged_none, loses_means}

@@ -1,4 +1,4 @@
-use Rattle.std.proofs.Common.{◌≡◌, ◌≢◌, List, None, arith, refl, rules, subst, sym, ◌∙◌, ap}
+use Rattle.std.proofs.Common.{◌≡◌, ◌≢◌, List, arith, refl, rules, subst, sym, ◌∙◌, ap}
 use Rattle.byte_io.specs.Laws.Sinks.{on_err}
 use Rattle.files_in_place.specs.declared.phase.Phase.TheVariants.{Staging, Failed, Ended}
 use Rattle.files_in_place.specs.Folder.{Name, SameBut, temporary, list_name, list_bytes}

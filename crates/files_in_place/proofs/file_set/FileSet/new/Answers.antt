@@ -1,4 +1,3 @@
-use Rattle.std.proofs.Common.{None}
 use Rattle.files_in_place.proofs.Uncommitted.{staged_none}
 use Rattle.files_in_place.proofs.Sets.{in_staging}
 use Rattle.files_in_place.proofs.file_set.FileSet.new.Goals as goal
