@@ -22,7 +22,6 @@ mod schema;
 mod trim;
 mod whole_number;
 
-pub use byte_io::Bytes;
 pub use cell::{CellFault, encode_cell};
 pub use date::{DateCell, read_date, shown_date};
 pub use day::{Day, day_of};

@@ -1,5 +1,6 @@
 //! Each call that takes memory, where one of its requests after another is refused.
 
+use byte_io::Bytes;
 use dbf_fields::*;
 use scarce::{Attempt, refusals};
 use std::alloc::{AllocError, Global};

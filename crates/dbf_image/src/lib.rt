@@ -24,9 +24,6 @@ mod format;
 mod memo_store;
 mod table;
 
-pub use byte_io::{
-    ByteSink, Failures, LimitedSink, MemorySink, SinkFault, SinkWriter, WriteFault, write_all,
-};
 pub use dbf::fields::told_fields;
 pub use dbf::read::read_table;
 pub use dbf::write::write_dbf;

@@ -15,8 +15,7 @@ mod marks;
 use crate::memo_store::block::{FreeList, MemoBlock, blocks_for, copied_blocks, push_free};
 use crate::memo_store::chain::{fill, gather, put_pieces, text_length};
 use crate::memo_store::marks::{mark, sweep};
-use byte_io::{ByteSink, SinkWriter};
-use dbf_fields::Bytes;
+use byte_io::{ByteSink, Bytes, SinkWriter};
 use std::alloc::{AllocError, Global};
 use std::marker::Model;
 

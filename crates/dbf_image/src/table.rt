@@ -20,7 +20,8 @@ use crate::format::{MAX_MEMO_BYTES, MAX_RECORDS, MEMO_END};
 use crate::memo_store::MemoStore;
 use crate::table::growing::GrowingTable;
 use crate::table::store::Store;
-use dbf_fields::{Bytes, MEMO, Schema};
+use byte_io::Bytes;
+use dbf_fields::{MEMO, Schema};
 use std::alloc::{AllocError, Global};
 use std::marker::Model;
 

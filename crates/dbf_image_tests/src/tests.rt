@@ -1,6 +1,7 @@
 //! Tests of the whole crate, and what they share.
 
-use dbf_fields::{Bytes, Field, MEMO, Schema, day_of};
+use byte_io::{Bytes, LimitedSink, MemorySink, SinkFault, WriteFault};
+use dbf_fields::{Field, MEMO, Schema, day_of};
 use dbf_image::*;
 use std::alloc::Global;
 use std::process::Abort;

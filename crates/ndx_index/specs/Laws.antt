@@ -2,13 +2,9 @@
 pub mod Lists
 pub mod Comparing
 pub mod Sorting
-pub mod RecordPairs
-pub mod RecordOrders
-pub mod RecordKeys
 pub mod Steps
 pub mod Seeking
-pub mod Places
 pub mod Counting
 pub mod Given
 pub mod Numbered
-pub mod Packing
+pub mod Renumbered

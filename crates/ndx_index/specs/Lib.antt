@@ -1,8 +1,7 @@
 pub mod Index
 pub mod Order
-pub mod TableOrder
 pub mod Places
-pub mod Packing
+pub mod Renumbered
 pub mod Laws
 pub mod Pages
 pub mod NdxTree

@@ -3,7 +3,6 @@ use Rattle.std.specs.Prelude.{◌≡◌, ℕ, Bool, true, false, List, [], ◌�
 use Rattle.ndx_index.specs.declared.pair.Pair.{Pair}
 use Rattle.ndx_index.specs.declared.fault.NdxFault.{NdxFault}
 use Rattle.ndx_index.specs.declared.fault.NdxFault.TheVariants.{PageOutside, PageTwice, NoMemory}
-use Rattle.ndx_index.specs.declared.fault.BadPage.{BadPage}
 use Rattle.ndx_index.specs.declared.read.page.PageLayout.{PageLayout}
 use Rattle.ndx_index.specs.declared.read.walk.WalkFault.{WalkFault}
 use Rattle.ndx_index.specs.declared.read.walk.WalkFault.TheVariants as walk

@@ -6,7 +6,7 @@ ghost use Rattle.key_expr.specs.declared.format.TheConstants.{MAX_KEY_BYTES};
 ghost use Rattle.ndx_index.specs.Bounds.{passes};
 ghost use Rattle.ndx_index.specs.Index.{HaveLength};
 ghost use Rattle.ndx_index.specs.Order.{same, in_order, placed, without_pair, first_from, next_of, previous_of, AreInOrder};
-ghost use Rattle.ndx_index.specs.Packing.{renumbered, HaveNewNumbers};
+ghost use Rattle.ndx_index.specs.Renumbered.{renumbered, HaveNewNumbers};
 
 use crate::pages::bound::Bound;
 use crate::pages::free::{FreeList, make_free};

@@ -11,14 +11,12 @@
 //! the ordered index, over the tree of pages in src/pages/ (specs/IndexTree.antt says when pages make a tree);
 //! src/read.rt with src/read/ reads a file, and src/write.rt with src/write/ writes one.
 //!
-//! What follows from the definitions, and callers' proofs may cite, stands in specs/Laws/ with its proofs: a
-//! record's pair put in and taken out, the pair after and the one before, where a record stands, where
-//! the keys that begin with a text are, and when given pairs are the order of a table.
+//! What follows from the definitions, and callers' proofs may cite, stands in specs/Laws/ with its proofs: pairs put in order,
+//! the pair after and the one before, where the keys that begin with a text are, when given pairs stand in order, and pairs by
+//! new numbers of their records. What the order of a table is stands above, in the crate `table_order`.
 #![tactic(auto)]
 
 ghost use Rattle.std.specs.Prelude.{◌≡◌, ◌↔◌, ℕ, List, [], ◌∷◌, Option, None, IsPermutation, IsSorted};
-ghost use Rattle.dbf_image.specs.Table.{Table};
-ghost use Rattle.key_expr.specs.Grammar.{Expr};
 ghost use Rattle.ndx_index.specs.declared.pair.Pair.{Pair as PairValue};
 ghost use Rattle.ndx_index.specs.declared.read.page.PageLayout.{PageLayout as LayoutValue};
 ghost use Rattle.ndx_index.specs.declared.fault.BadPage.{BadPage as BadPageValue};
@@ -26,8 +24,7 @@ ghost use Rattle.ndx_index.specs.Header.{before_zero, trimmed_end};
 ghost use Rattle.ndx_index.specs.Image.{IsWritable};
 ghost use Rattle.ndx_index.specs.IndexFile.{HasNoZero, ReadsBackAs};
 ghost use Rattle.ndx_index.specs.NdxTree.{IsFileTree, Visits};
-ghost use Rattle.ndx_index.specs.Order.{in_order, pair_cmp, AreInOrder};
-ghost use Rattle.ndx_index.specs.TableOrder.{order, pairs_of};
+ghost use Rattle.ndx_index.specs.Order.{in_order, pair_cmp};
 
 mod compare;
 mod fault;
@@ -57,8 +54,6 @@ pub fn one_order()
     ensures permutation { (ps : List PairValue) → IsPermutation ps (in_order ps) }
     ensures sorted { (ps : List PairValue) → IsSorted pair_cmp (in_order ps) }
     ensures only { (ps qs : List PairValue) → IsPermutation ps qs → IsSorted pair_cmp qs → qs ≡ in_order ps }
-    // The order of a table by a key expression has each record's pair once, each before all later ones.
-    ensures table { (table : Table) (e : Expr) → AreInOrder (order table e) × IsPermutation (pairs_of table e) (order table e) }
 {}
 
 /// The walk that breaks no rule visits the tree, and there is one walk from each page.

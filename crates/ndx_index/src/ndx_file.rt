@@ -3,7 +3,7 @@
 ghost use Rattle.std.specs.Prelude.{◌≡◌};
 
 use crate::pair_list::PairList;
-use dbf_fields::Bytes;
+use byte_io::Bytes;
 
 /// What an index file holds.
 #[derive(Drop)]

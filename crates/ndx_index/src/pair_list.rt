@@ -5,7 +5,7 @@ ghost use Rattle.key_expr.specs.declared.format.TheConstants.{MAX_KEY_BYTES};
 ghost use Rattle.ndx_index.specs.Index.{HaveLength};
 ghost use Rattle.ndx_index.specs.ListParts.{listed};
 ghost use Rattle.ndx_index.specs.Order.{AreInOrder};
-ghost use Rattle.ndx_index.specs.Packing.{renumbered, HaveNewNumbers};
+ghost use Rattle.ndx_index.specs.Renumbered.{renumbered, HaveNewNumbers};
 ghost use Rattle.ndx_index.specs.Slots.{slot_at};
 
 pub(crate) mod part;

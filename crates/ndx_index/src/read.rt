@@ -15,7 +15,7 @@ use crate::fault::{BadPage, NdxFault};
 use crate::ndx_file::NdxFile;
 use crate::read::header::{expression, read_header};
 use crate::read::walk::{WalkFault, read_tree};
-use dbf_fields::Bytes;
+use byte_io::Bytes;
 use std::alloc::{AllocError, Global};
 
 fn read_file(alloc: Global, bytes: &[u8]) -> Result<NdxFile, NdxFault>

@@ -10,10 +10,10 @@ use Rattle.table_core.specs.declared.edits.planned.Target.{Target}
 use Rattle.table_core.specs.declared.indexes.TableIndex.{TableIndex}
 use Rattle.table_core.specs.Indexes.{Follows, FollowsAside, FollowsBut, HasRoom, Seen, seen_index, indexed, have_room}
 use Rattle.ndx_index.specs.Order.{AreInOrder}
-use Rattle.ndx_index.specs.Laws.RecordOrders.{but_row, but_last, order_row, table_in_order}
+use Rattle.table_order.specs.Laws.RecordOrders.{but_row, but_last, order_row, table_in_order}
 use Rattle.key_expr.specs.Keys.{key, names}
 use Rattle.key_expr.specs.Laws.{key_unnamed}
-use Rattle.ndx_index.specs.Laws.RecordKeys.{key_of_memo}
+use Rattle.table_order.specs.Laws.RecordKeys.{key_of_memo}
 
 pub follows_in_order : (table : Table) (index : TableIndex) → Follows table index → AreInOrder index.order.pairs
 follows_in_order table index h = subst AreInOrder (sym h.pairs) (table_in_order table index.expr.expr)
@@ -64,7 +64,7 @@ follows_seen table x y e h =
         kept = ap (λ x. Rattle.key_expr.specs.Rules.broken_rule table.schema x.expr) (sym expr) ∙ h.is_for.kept;
         long = ap (λ (s : Seen). s.key_len) (sym e) ∙ h.is_for.long ∙ ap (λ x. Rattle.key_expr.specs.Keys.key_length x.fields x.expr) expr;
       };
-      pairs = sym pairs ∙ h.pairs ∙ ap (λ x. Rattle.ndx_index.specs.TableOrder.order table x.expr) expr;
+      pairs = sym pairs ∙ h.pairs ∙ ap (λ x. Rattle.table_order.specs.TableOrder.order table x.expr) expr;
     }
 
 pub follow_seen : (table : Table) (xs ys : List TableIndex) → map seen_index xs ≡ map seen_index ys → AllByRecursion (Follows table) xs → AllByRecursion (Follows table) ys

@@ -8,10 +8,11 @@ use Rattle.dbf_image.specs.Table.{Row, Table, kept_rows, packed}
 use Rattle.key_expr.specs.Expression.{Expression}
 use Rattle.ndx_index.specs.declared.pair.Pair.{Pair}
 use Rattle.ndx_index.specs.Order.{AreInOrder}
-use Rattle.ndx_index.specs.Packing.{packed_numbers, renumbered, HaveNewNumbers}
-use Rattle.ndx_index.specs.TableOrder.{order}
-use Rattle.ndx_index.specs.Laws.Packing.{order_packed, have_new_numbers, packed_numbers_more}
-use Rattle.ndx_index.specs.Laws.RecordOrders.{table_in_order}
+use Rattle.ndx_index.specs.Renumbered.{renumbered, HaveNewNumbers}
+use Rattle.table_order.specs.Packing.{packed_numbers}
+use Rattle.table_order.specs.TableOrder.{order}
+use Rattle.table_order.specs.Laws.Packing.{order_packed, have_new_numbers, packed_numbers_more}
+use Rattle.table_order.specs.Laws.RecordOrders.{table_in_order}
 use Rattle.table_core.specs.declared.indexes.TableIndex.{TableIndex}
 use Rattle.table_core.specs.Indexes.{Follows, indexed}
 use Rattle.table_core.specs.Content.{Indexed}

@@ -3,10 +3,10 @@ use Rattle.std.proofs.Common.{◌≡◌, ℕ, Bool, cond, List, Some, None, sym,
 use Rattle.dbf_image.specs.Table.{Table}
 use Rattle.key_expr.specs.Grammar.{Expr}
 use Rattle.ndx_index.specs.declared.pair.Pair.{Pair}
-use Rattle.ndx_index.specs.Laws.RecordOrders.{table_in_order}
+use Rattle.table_order.specs.Laws.RecordOrders.{table_in_order}
 use Rattle.ndx_index.specs.Laws.Seeking.{first_with-first_from}
 use Rattle.ndx_index.specs.Order.{begins_with, first_with, first_from, if_begins_with}
-use Rattle.ndx_index.specs.TableOrder.{order}
+use Rattle.table_order.specs.TableOrder.{order}
 
 pub sought : (table : Table) (e : Expr) (text : List ℕ) (ps : List Pair) (p : Pair) (b : Bool) → ps ≡ order table e → first_from text ps ≡ Some p → begins_with text p ≡ b
     → cond b (Some p) None ≡ first_with text (order table e)

@@ -7,7 +7,7 @@ use Rattle.dbf_image.specs.Table.{Table}
 use Rattle.key_expr.specs.Expression.{Expression}
 use Rattle.key_expr.specs.Keys.{key_length}
 use Rattle.ndx_index.specs.declared.pair.Pair.{Pair}
-use Rattle.ndx_index.specs.TableOrder.{order}
+use Rattle.table_order.specs.TableOrder.{order}
 
 -- an index: its name and its key expression
 pub record Indexed : Type 0 where

@@ -6,7 +6,7 @@ use Rattle.key_expr.specs.Expression.{Expression}
 use Rattle.key_expr.specs.Keys.{key_length, names}
 use Rattle.key_expr.specs.Rules.{broken_rule}
 use Rattle.ndx_index.specs.declared.pair.Pair.{Pair}
-use Rattle.ndx_index.specs.TableOrder.{order, order_but, ordered}
+use Rattle.table_order.specs.TableOrder.{order, order_but, ordered}
 use Rattle.table_core.specs.declared.edits.planned.Target.{Target}
 use Rattle.table_core.specs.declared.indexes.TableIndex.{TableIndex}
 use Rattle.table_core.specs.Content.{Indexed}

@@ -5,7 +5,7 @@ use Rattle.std.specs.Int.{is_in_range}
 use Rattle.ndx_index.specs.declared.pair.Pair.{Pair}
 use Rattle.ndx_index.specs.Order.{first_with}
 use Rattle.ndx_index.specs.Places.{back_from, counted, place_in}
-use Rattle.ndx_index.specs.TableOrder.{ordered}
+use Rattle.table_order.specs.TableOrder.{ordered}
 use Rattle.table_core.specs.declared.cursor.Cursor.{Cursor}
 use Rattle.table_core.specs.declared.refusal.Refusal.{Refusal}
 use Rattle.table_core.specs.declared.refusal.Refusal.TheVariants.{OutOfRange, EndOfFile, BeginOfFile, NotIndexed, NoSuchOrder}

@@ -3,7 +3,8 @@
 pub(crate) mod changes;
 pub(crate) mod planned;
 
-use dbf_fields::{Bytes, Literal};
+use byte_io::Bytes;
+use dbf_fields::Literal;
 
 /// A change of a table that a command asks for. What a Replace or a Memo takes stays the command's own, so that
 /// a refused edit has copied nothing.

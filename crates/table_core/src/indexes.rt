@@ -5,7 +5,7 @@ ghost use Rattle.dbf_image.specs.Table.{row_at};
 ghost use Rattle.key_expr.specs.Keys.{key, key_length};
 ghost use Rattle.ndx_index.specs.Order.{AreInOrder};
 ghost use Rattle.ndx_index.specs.Places.{back_from};
-ghost use Rattle.ndx_index.specs.TableOrder.{pair_at};
+ghost use Rattle.table_order.specs.TableOrder.{pair_at};
 ghost use Rattle.table_core.specs.Indexes.{AtPlacesOf, Follows, FollowsAside, FollowsBut, HasRoom, indexed, seen_index};
 
 pub(crate) mod all;
@@ -14,7 +14,7 @@ pub(crate) mod sort;
 
 use crate::edits::planned::Target;
 use crate::indexes::sort::sorted;
-use dbf_fields::Bytes;
+use byte_io::Bytes;
 use dbf_image::GrowingTable;
 use key_expr::{Key, KeyExpr};
 use ndx_index::{OrderedIndex, Pair};

@@ -5,7 +5,8 @@ ghost use Rattle.std.specs.List.{AllByRecursion};
 ghost use Rattle.table_core.specs.Content.{IsReadFor};
 ghost use Rattle.table_core.specs.Cursors.{IsCursor};
 
-use dbf_fields::{Bytes, CHARACTER, Field, Literal, Schema, WholeNumber, day_of};
+use byte_io::Bytes;
+use dbf_fields::{CHARACTER, Field, Literal, Schema, WholeNumber, day_of};
 use dbf_image::TableData;
 use key_expr::KeyExpr;
 use ndx_index::{Pair, PairList};

@@ -1,4 +1,5 @@
 use super::characters;
+use byte_io::Bytes;
 use dbf_fields::*;
 use std::alloc::{AllocError, Global};
 use std::process::Abort;

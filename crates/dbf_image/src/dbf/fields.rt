@@ -6,8 +6,9 @@ ghost use Rattle.dbf_image.specs.DbfText.{chunks, field_of, header_length};
 ghost use Rattle.dbf_image.specs.Reading.{TellsCount, TellsFields, field_count, has_whole_header};
 
 use crate::format::{DESCRIPTOR, HEADER, HEADER_END, NAME_BYTES};
+use byte_io::Bytes;
 use byteorder::{ByteOrder, LittleEndian};
-use dbf_fields::{Bytes, Field};
+use dbf_fields::Field;
 use std::alloc::{AllocError, Global};
 
 /// How many descriptors stand before the first 0x0D among the bytes 32, 64, .. below `end`.

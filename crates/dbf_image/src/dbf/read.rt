@@ -17,8 +17,9 @@ use crate::dbt::memos::memos_at;
 use crate::fault::ImageFault;
 use crate::format::{HEADER, MAX_RECORDS, VERSION, VERSION_WITH_MEMOS};
 use crate::table::TableData;
+use byte_io::Bytes;
 use byteorder::{ByteOrder, LittleEndian};
-use dbf_fields::{Bytes, Field, Schema, SchemaFault};
+use dbf_fields::{Field, Schema, SchemaFault};
 use std::alloc::{AllocError, Global};
 
 // The numbers of the header, where all of it is there.

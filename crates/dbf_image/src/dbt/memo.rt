@@ -13,7 +13,8 @@ ghost use Rattle.dbf_image.specs.declared.format.TheConstants.{MEMO_END};
 use crate::dbt::span::Span;
 use crate::fault::ImageFault;
 use crate::format::{BLOCK, MAX_MEMO_BYTES, MEMO_END};
-use dbf_fields::{Bytes, are_digits, number_of_digits, trimmed};
+use byte_io::Bytes;
+use dbf_fields::{are_digits, number_of_digits, trimmed};
 use memchr::memchr;
 use std::alloc::{AllocError, Global};
 

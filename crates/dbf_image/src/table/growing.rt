@@ -18,7 +18,8 @@ use crate::table::offsets::{cell_start, memo_count_of, memo_index, record_start}
 use crate::table::packing::keep_records;
 use crate::table::reserved::{extend_reserved, push_no_memos};
 use crate::table::store::Store;
-use dbf_fields::{BLANK, Bytes, MAX_RECORD_BYTES, Schema};
+use byte_io::Bytes;
+use dbf_fields::{BLANK, MAX_RECORD_BYTES, Schema};
 use std::alloc::{AllocError, Global};
 use std::marker::Model;
 

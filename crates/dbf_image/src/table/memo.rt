@@ -7,7 +7,7 @@ ghost use Rattle.dbf_image.specs.Table.{is_memo_text as may_be_memo};
 ghost use Rattle.dbf_image.specs.declared.format.TheConstants.{MAX_MEMO_BYTES};
 
 use crate::memo_store::MemoStore;
-use dbf_fields::Bytes;
+use byte_io::Bytes;
 use std::alloc::{AllocError, Global};
 
 /// How many bytes a memo's text has.

@@ -2,6 +2,7 @@
 
 use crate::tests::ENOUGH;
 use crate::tests::sample::{DBF, is_written, memo_file, sample, sink};
+use byte_io::MemorySink;
 use dbf_fields::MEMO;
 use dbf_image::*;
 use scarce::{Attempt, refusals};

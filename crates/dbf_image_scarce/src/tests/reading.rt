@@ -2,7 +2,8 @@
 
 use crate::tests::ENOUGH;
 use crate::tests::sample::{DBF, is_written, memo_file, sample, sink};
-use dbf_fields::{Bytes, MEMO};
+use byte_io::{Bytes, MemorySink};
+use dbf_fields::MEMO;
 use dbf_image::*;
 use scarce::{Attempt, refusals};
 use std::alloc::{AllocError, Global};

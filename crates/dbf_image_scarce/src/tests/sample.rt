@@ -1,6 +1,7 @@
 //! A table with memos, its files, and what is written of a table.
 
-use dbf_fields::{Bytes, day_of};
+use byte_io::{Bytes, MemorySink};
+use dbf_fields::day_of;
 use dbf_image::*;
 use std::alloc::Global;
 use std::test::Fail;

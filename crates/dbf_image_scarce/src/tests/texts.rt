@@ -5,7 +5,7 @@ ghost use Rattle.std.specs.FinMap as map;
 
 use crate::tests::ENOUGH;
 use crate::tests::sample::{DBF, is_written, memo_file, sample, sink};
-use dbf_fields::Bytes;
+use byte_io::Bytes;
 use dbf_image::*;
 use scarce::{Attempt, refusals};
 use std::alloc::{AllocError, Global};

@@ -1,6 +1,4 @@
 use Rattle.ndx_index.specs.Laws.Sorting.{in_order_from_sort, IsPermutation-in_order, IsSorted-in_order}
-use Rattle.ndx_index.specs.Laws.RecordOrders.{table_in_order}
-use Rattle.ndx_index.specs.TableOrder.{pairs_of}
 use Rattle.ndx_index.proofs.one_order.Goals as goal
 
 pub returns : goal.returns
@@ -8,5 +6,4 @@ returns c = record {
   permutation = IsPermutation-in_order;
   sorted = IsSorted-in_order;
   only = in_order_from_sort;
-  table = λ table e. (table_in_order table e, IsPermutation-in_order (pairs_of table e));
 }

@@ -1,19 +1,14 @@
--- Pairs that were given, as a file's: when they are the order of a table.
+-- Pairs that were given, as a file's: when they stand in order, and when they are all that stand there.
 use Rattle.std.proofs.Common.{◌≡◌, ℕ, zero, suc, ◌<◌, ◌≤◌, List, [], ◌∷◌, length, get_or, Contains, refl, ap, sym, subst, inl, inr, ◌∙◌, arith}
-use Rattle.std.specs.Prelude.{◌⊎◌, ◌↔◌}
+use Rattle.std.specs.Prelude.{◌⊎◌}
 use Rattle.std.specs.declared.cmp.Ordering.TheVariants.{Less}
 use Rattle.std.specs.List.{AllByRecursion}
-use Rattle.std.specs.List.Sorted.{IsPermutation, IsStrictlySortedBy}
-use Rattle.std.proofs.lemmas.List.Sorted.{IsPermutation-sym, IsPermutation-trans}
-use Rattle.dbf_image.specs.Table.{Table}
-use Rattle.key_expr.specs.Grammar.{Expr}
+use Rattle.std.specs.List.Sorted.{IsStrictlySortedBy}
 use Rattle.ndx_index.specs.declared.pair.Pair.{Pair}
 use Rattle.ndx_index.specs.Order.{pair_cmp, placed, in_order, AreInOrder}
-use Rattle.ndx_index.specs.TableOrder.{pairs_of, order, IsRecordPair}
 use Rattle.ndx_index.specs.Laws.Comparing.{before_trans, irreflexive}
 use Rattle.ndx_index.specs.Laws.Lists.{all_weaker}
-use Rattle.ndx_index.specs.Laws.Sorting.{not_after, in_order-IsPermutation, IsPermutation-in_order}
-use Rattle.ndx_index.specs.Laws.RecordOrders.{table_in_order, length-order, pair_there, record_there}
+use Rattle.ndx_index.specs.Laws.Sorting.{not_after}
 
 -- each pair before the next is each before all later ones
 pub from_neighbours : (ps : List Pair) → ((k : ℕ) (d : Pair) → suc k < length ps → pair_cmp (get_or ps k d) (get_or ps (suc k) d) ≡ Less) → AreInOrder ps
@@ -79,7 +74,7 @@ no_more (p ∷ ps) (q ∷ qs) a b all = elim (first_or_later p q ps qs a b all) 
   | inr h ↦ omega (arith, no_more (p ∷ ps) qs a b.1 h)
 ]
 
-all_there : (ps qs : List Pair) → AreInOrder ps → AreInOrder qs → AllByRecursion (Contains qs) ps → length qs ≤ length ps → ps ≡ qs
+pub all_there : (ps qs : List Pair) → AreInOrder ps → AreInOrder qs → AllByRecursion (Contains qs) ps → length qs ≤ length ps → ps ≡ qs
 unfolding IsStrictlySortedBy
 all_there [] [] a b all le = refl
 all_there [] (q ∷ qs) a b all le = absurd (omega arith)
@@ -89,27 +84,8 @@ all_there (p ∷ ps) (q ∷ qs) a b all le = elim (first_or_later p q ps qs a b 
   | inr h ↦ absurd (omega (arith, no_more (p ∷ ps) qs a b.1 h))
 ]
 
--- ---- the order of a table
-
--- pairs in order, each that of its record and as many as there are records, are the order of the table
-pub order_from_pairs : (table : Table) (e : Expr) (ps : List Pair) → length ps ≡ length table.rows → AreInOrder ps → AllByRecursion (IsRecordPair table e) ps → ps ≡ order table e
-order_from_pairs table e ps long sorted own =
-    all_there ps (order table e) sorted (table_in_order table e)
-    (all_weaker (IsRecordPair table e) (Contains (order table e)) (λ p h. subst (Contains (order table e)) (sym h.own) (pair_there table e p.number h.some h.inside)) ps own)
-    (omega (arith, length-order table e))
+-- ---- what holds of each pair that is there
 
 pub all_contained : (P : Pair → Type 0) (ps : List Pair) → ((p : Pair) → Contains ps p → P p) → AllByRecursion P ps
 all_contained P [] h = tt
 all_contained P (p ∷ ps) h = (h p (0, omega arith, refl), all_contained P ps (λ q c. h q (suc c.0, omega (arith, c.1), c.2)))
-
--- each pair of the order is that of its record
-pub order_own : (table : Table) (e : Expr) → AllByRecursion (IsRecordPair table e) (order table e)
-order_own table e = all_contained (IsRecordPair table e) (order table e) (record_there table e)
-
--- the table's pairs, each as often, are those that put in order are the order of the table
-pub order_of_pairs : (table : Table) (e : Expr) (ps : List Pair) → (in_order ps ≡ order table e) ↔ IsPermutation (pairs_of table e) ps
-order_of_pairs table e ps = (
-  λ same. IsPermutation-trans (pairs_of table e) (order table e) ps (IsPermutation-in_order (pairs_of table e))
-      (subst (λ xs. IsPermutation xs ps) same (IsPermutation-sym ps (in_order ps) (IsPermutation-in_order ps))),
-  λ perm. sym (in_order-IsPermutation (pairs_of table e) ps perm),
-)

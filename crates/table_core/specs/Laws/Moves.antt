@@ -6,7 +6,7 @@ use Rattle.std.proofs.lemmas.Bool.Decides.{nat_tests}
 use Rattle.ndx_index.specs.declared.pair.Pair.{Pair}
 use Rattle.ndx_index.specs.Order.{begins_with, first_with}
 use Rattle.ndx_index.specs.Places.{back_from, place_in}
-use Rattle.ndx_index.specs.Laws.RecordOrders.{record_there}
+use Rattle.table_order.specs.Laws.RecordOrders.{record_there}
 use Rattle.table_core.specs.declared.cursor.Cursor.{Cursor}
 use Rattle.table_core.specs.declared.refusal.Refusal.{Refusal}
 use Rattle.table_core.specs.declared.refusal.Refusal.TheVariants.{OutOfRange, EndOfFile, BeginOfFile, NotIndexed, NoSuchOrder}

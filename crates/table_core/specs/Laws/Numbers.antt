@@ -7,9 +7,9 @@ use Rattle.std.proofs.lemmas.Option.{slice_get-map, slice_get-get_or, slice_get_
 use Rattle.dbf_image.specs.Table.{Table}
 use Rattle.key_expr.specs.Grammar.{Expr}
 use Rattle.ndx_index.specs.declared.pair.Pair.{Pair}
-use Rattle.ndx_index.specs.Laws.RecordOrders.{record_there}
+use Rattle.table_order.specs.Laws.RecordOrders.{record_there}
 use Rattle.ndx_index.specs.Places.{counted}
-use Rattle.ndx_index.specs.TableOrder.{order, ordered}
+use Rattle.table_order.specs.TableOrder.{order, ordered}
 use Rattle.table_core.specs.Content.{Content, Indexed, record_count, index_at}
 use Rattle.table_core.specs.Cursors.{IsCursorPlace}
 use Rattle.table_core.specs.Moves.{by_index, numbers}

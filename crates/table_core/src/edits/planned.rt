@@ -1,7 +1,7 @@
 //! Plans of edits.
 
 use crate::indexes::TableIndex;
-use dbf_fields::Bytes;
+use byte_io::Bytes;
 
 /// A field of a record, to be changed or shown.
 #[derive(Clone, Copy, Debug, PartialEq, Eq)]

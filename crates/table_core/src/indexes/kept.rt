@@ -5,12 +5,12 @@ ghost use Rattle.std.specs.List.{AllByRecursion};
 ghost use Rattle.dbf_image.specs.Table.{row_at};
 ghost use Rattle.key_expr.specs.Keys.{key, key_length};
 ghost use Rattle.ndx_index.specs.Places.{counted};
-ghost use Rattle.ndx_index.specs.TableOrder.{order, pairs_of, IsRecordPair};
+ghost use Rattle.table_order.specs.TableOrder.{order, pairs_of, IsRecordPair};
 ghost use Rattle.table_core.specs.Indexes.{Follows, indexed};
 
 use crate::indexes::TableIndex;
 use crate::indexes::sort::sorted;
-use dbf_fields::Bytes;
+use byte_io::Bytes;
 use dbf_image::GrowingTable;
 use key_expr::KeyExpr;
 use ndx_index::{OrderedIndex, PairList};

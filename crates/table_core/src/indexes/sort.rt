@@ -6,11 +6,11 @@ ghost use Rattle.table_core.specs.Content.{named, IsReadFor};
 ghost use Rattle.table_core.specs.Indexes.{Follows, indexed};
 ghost use Rattle.dbf_image.specs.Table.{packed};
 ghost use Rattle.key_expr.specs.Keys.{key_length};
-ghost use Rattle.ndx_index.specs.Packing.{packed_numbers};
-ghost use Rattle.ndx_index.specs.TableOrder.{order, pairs_of};
+ghost use Rattle.table_order.specs.Packing.{packed_numbers};
+ghost use Rattle.table_order.specs.TableOrder.{order, pairs_of};
 
 use crate::indexes::{TableIndex, pair_of};
-use dbf_fields::Bytes;
+use byte_io::Bytes;
 use dbf_image::GrowingTable;
 use key_expr::KeyExpr;
 use ndx_index::{OrderedIndex, PairList};

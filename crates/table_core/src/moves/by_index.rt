@@ -1,7 +1,7 @@
 //! Moves by the order of an index.
 
 ghost use Rattle.std.specs.Prelude.{◌≡◌, ◌+◌, ◌-◌, ◌≤◌, length, slice_get};
-ghost use Rattle.ndx_index.specs.TableOrder.{order};
+ghost use Rattle.table_order.specs.TableOrder.{order};
 ghost use Rattle.table_core.specs.Indexes.{Follows, numbers_by};
 ghost use Rattle.std.specs.Option.{option_map};
 ghost use Rattle.ndx_index.specs.Order.{first_with as first_with_text};

@@ -2,12 +2,12 @@
 
 ghost use Rattle.std.specs.Prelude.{◌≡◌, ◌↔◌, bytes_eq, [], IfOk, IfErr, IsTrue, IsPermutation, OnErr, OnOk};
 ghost use Rattle.std.specs.List.{list_any};
-ghost use Rattle.ndx_index.specs.TableOrder.{pairs_of};
+ghost use Rattle.table_order.specs.TableOrder.{pairs_of};
 ghost use Rattle.table_core.specs.Content.{has_index, with_index, with_index_if};
 
 use crate::indexes::TableIndex;
 use crate::table::Table;
-use dbf_fields::Bytes;
+use byte_io::Bytes;
 use dbf_image::TableData;
 use key_expr::KeyExpr;
 use ndx_index::PairList;

@@ -3,7 +3,8 @@
 ghost use Rattle.std.specs.Prelude.{◌≡◌, IfOk};
 ghost use Rattle.table_core.specs.Shown.{shown as value_shown, truth_shown};
 
-use dbf_fields::{Bytes, DATE, Field, LOGICAL, read_truth, shown_date};
+use byte_io::Bytes;
+use dbf_fields::{DATE, Field, LOGICAL, read_truth, shown_date};
 use std::alloc::{AllocError, Global};
 
 /// The value of a field's cell as `?` shows it. An `Err` says that there was no memory.

@@ -2,7 +2,8 @@
 
 use crate::tests::ENOUGH;
 use crate::tests::sample::{at_first, files_of, has_order, is_cursor, is_kept, sample};
-use dbf_fields::{Bytes, Literal};
+use byte_io::Bytes;
+use dbf_fields::Literal;
 use scarce::{Attempt, refusals};
 use std::alloc::Global;
 use std::process::Abort;

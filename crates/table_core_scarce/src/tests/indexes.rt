@@ -4,7 +4,7 @@ ghost use Rattle.std.specs.Prelude.{◌≡◌, length, IfOk};
 
 use crate::tests::ENOUGH;
 use crate::tests::sample::{BY_NAME, at_first, has_order, is_cursor, is_kept, sample};
-use dbf_fields::Bytes;
+use byte_io::Bytes;
 use key_expr::{Key, KeyExpr};
 use ndx_index::{Pair, PairList};
 use scarce::{Attempt, refusals};

@@ -3,8 +3,9 @@
 ghost use Rattle.std.specs.Prelude.{IsTrue};
 ghost use Rattle.table_core.specs.Cursors.{IsCursor};
 
-use dbf_fields::{Bytes, CHARACTER, Field, MEMO, Schema, day_of};
-use dbf_image::{MemorySink, TableData, write_dbf, write_dbt};
+use byte_io::{Bytes, MemorySink};
+use dbf_fields::{CHARACTER, Field, MEMO, Schema, day_of};
+use dbf_image::{TableData, write_dbf, write_dbt};
 use key_expr::KeyExpr;
 use std::alloc::Global;
 use std::test::Fail;

@@ -2,8 +2,8 @@
 
 use crate::tests::ENOUGH;
 use crate::tests::sample::{at_first, data, files_of, is_cursor, is_kept, sample, write_files};
-use dbf_fields::Bytes;
-use dbf_image::{MemorySink, TableData};
+use byte_io::{Bytes, MemorySink};
+use dbf_image::TableData;
 use key_expr::KeyExpr;
 use scarce::{Attempt, refusals};
 use std::alloc::{AllocError, Global};

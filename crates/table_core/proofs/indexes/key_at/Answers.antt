@@ -4,7 +4,7 @@ use Rattle.dbf_fields.specs.Layout.{cells_of}
 use Rattle.dbf_image.specs.Store.{cells_with}
 use Rattle.dbf_image.specs.Table.{Row}
 use Rattle.key_expr.specs.Keys.{key, AgreeButMemos}
-use Rattle.ndx_index.specs.Laws.RecordKeys.{cells_agree}
+use Rattle.table_order.specs.Laws.RecordKeys.{cells_agree}
 use Rattle.table_core.proofs.indexes.key_at.Goals as goal
 
 pub returns-clause-value : goal.returns-clause-value

@@ -1,8 +1,8 @@
 use Rattle.std.proofs.Common.{◌≡◌, ℕ, ◌-◌, ◌<◌, List, [], ◌∷◌, ◌++◌, length, get_or, sym, ap, ◌∙◌, arith}
 use Rattle.ndx_index.specs.declared.pair.Pair.{Pair}
-use Rattle.ndx_index.specs.Packing.{new_number}
+use Rattle.ndx_index.specs.Renumbered.{new_number}
 use Rattle.ndx_index.specs.Slots.{slot_at, no_pair}
-use Rattle.ndx_index.specs.Laws.Packing.{renumbered_kept, renumbered_gone}
+use Rattle.ndx_index.specs.Laws.Renumbered.{renumbered_kept, renumbered_gone}
 use Rattle.ndx_index.proofs.pair_list.PairList.renumbered.Goals.{then-number-ne0, else-number-ne0}
 use Rattle.ndx_index.proofs.pair_list.PairList.renumbered.Goals as goal
 

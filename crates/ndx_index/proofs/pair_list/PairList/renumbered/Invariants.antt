@@ -1,5 +1,5 @@
 use Rattle.std.proofs.Common.{◌≡◌, ◌+◌, ◌≤◌, take}
-use Rattle.ndx_index.specs.Packing.{renumbered}
+use Rattle.ndx_index.specs.Renumbered.{renumbered}
 use Rattle.ndx_index.proofs.pair_list.PairList.renumbered.Given as goal
 
 abbrev pub invariant-loop-at : goal.invariant-loop-at

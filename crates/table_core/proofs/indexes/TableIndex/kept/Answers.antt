@@ -2,8 +2,8 @@ use Rattle.std.proofs.Common.{List, refl, sym, subst}
 use Rattle.std.specs.List.Sorted.{IsPermutation}
 use Rattle.ndx_index.specs.declared.pair.Pair.{Pair}
 use Rattle.ndx_index.specs.Order.{AreInOrder}
-use Rattle.ndx_index.specs.TableOrder.{pairs_of}
-use Rattle.ndx_index.specs.Laws.RecordOrders.{table_in_order}
+use Rattle.table_order.specs.TableOrder.{pairs_of}
+use Rattle.table_order.specs.Laws.RecordOrders.{table_in_order}
 use Rattle.ndx_index.specs.Laws.Sorting.{IsPermutation-in_order}
 use Rattle.table_core.proofs.indexes.TableIndex.kept.Goals as goal
 

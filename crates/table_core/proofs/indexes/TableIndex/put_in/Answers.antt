@@ -1,8 +1,8 @@
 use Rattle.std.proofs.Common.{List, Contains, ap, sym, subst, ◌∙◌}
 use Rattle.ndx_index.specs.declared.pair.Pair.{Pair}
 use Rattle.ndx_index.specs.Order.{placed}
-use Rattle.ndx_index.specs.TableOrder.{pair_at}
-use Rattle.ndx_index.specs.Laws.RecordOrders.{absent_but, order_put}
+use Rattle.table_order.specs.TableOrder.{pair_at}
+use Rattle.table_order.specs.Laws.RecordOrders.{absent_but, order_put}
 use Rattle.table_core.proofs.indexes.TableIndex.put_in.Goals as goal
 
 pub insert-requires-clause-absent : goal.insert-requires-clause-absent

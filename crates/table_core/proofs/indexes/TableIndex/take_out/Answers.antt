@@ -1,8 +1,8 @@
 use Rattle.std.proofs.Common.{ap, ◌∙◌}
 use Rattle.ndx_index.specs.declared.pair.Pair.{Pair}
 use Rattle.ndx_index.specs.Order.{without_pair}
-use Rattle.ndx_index.specs.TableOrder.{pair_at}
-use Rattle.ndx_index.specs.Laws.RecordOrders.{order_take}
+use Rattle.table_order.specs.TableOrder.{pair_at}
+use Rattle.table_order.specs.Laws.RecordOrders.{order_take}
 use Rattle.table_core.proofs.indexes.TableIndex.take_out.Goals as goal
 
 pub returns-clause-rest : goal.returns-clause-rest

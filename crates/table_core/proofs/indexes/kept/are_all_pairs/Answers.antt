@@ -3,7 +3,7 @@ use Rattle.std.specs.Prelude.{◌↔◌, IsTrue}
 use Rattle.std.specs.List.Sorted.{IsPermutation}
 use Rattle.std.proofs.lemmas.Bool.{false≢true}
 use Rattle.ndx_index.specs.Places.{counted}
-use Rattle.ndx_index.specs.Laws.Numbered.{own_from_permutation, pairs_by_numbers}
+use Rattle.table_order.specs.Laws.Numbered.{own_from_permutation, pairs_by_numbers}
 use Rattle.table_core.proofs.indexes.kept.are_all_pairs.Goals as goal
 
 pub returns-then-not-are_record_pairs : goal.returns-then-not-are_record_pairs

@@ -4,7 +4,7 @@ use Rattle.std.proofs.lemmas.Bool.{false≢true}
 use Rattle.std.proofs.lemmas.List.{take_all, take_more}
 use Rattle.ndx_index.specs.declared.pair.Pair.{Pair}
 use Rattle.ndx_index.specs.Slots.{slot_at, no_pair}
-use Rattle.ndx_index.specs.TableOrder.{IsRecordPair}
+use Rattle.table_order.specs.TableOrder.{IsRecordPair}
 use Rattle.table_core.proofs.Turned.{all_push}
 use Rattle.table_core.proofs.indexes.kept.are_record_pairs.Goals as goal
 

@@ -1,6 +1,6 @@
 use Rattle.std.proofs.Common.{take}
 use Rattle.std.specs.List.{AllByRecursion}
-use Rattle.ndx_index.specs.TableOrder.{IsRecordPair}
+use Rattle.table_order.specs.TableOrder.{IsRecordPair}
 use Rattle.table_core.proofs.indexes.kept.are_record_pairs.Given as goal
 
 abbrev pub invariant-loop-at : goal.invariant-loop-at

@@ -1,5 +1,5 @@
 use Rattle.std.proofs.Common.{arith}
-use Rattle.ndx_index.specs.Laws.Given.{order_from_pairs}
+use Rattle.table_order.specs.Laws.Given.{order_from_pairs}
 use Rattle.table_core.proofs.indexes.kept.is_order_of.Goals as goal
 
 pub returns-clause-order : goal.returns-clause-order

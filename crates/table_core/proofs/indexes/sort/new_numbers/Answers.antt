@@ -1,7 +1,7 @@
 use Rattle.std.proofs.Common.{◌≡◌, ℕ, true, false, ◌+◌, ◌-◌, ◌<◌, List, length, get_or, sym, ap, ◌∙◌, arith}
 use Rattle.std.proofs.lemmas.List.{take_all}
 use Rattle.dbf_image.specs.Table.{Row, blank_row}
-use Rattle.ndx_index.specs.Packing.{packed_numbers}
+use Rattle.table_order.specs.Packing.{packed_numbers}
 use Rattle.table_core.proofs.KeptPairs.{kept_marked, count_more, number_more}
 use Rattle.table_core.proofs.indexes.sort.new_numbers.Goals.{then-is_deleted+in_ok-push, else-is_deleted+in_ok-push-2}
 use Rattle.table_core.proofs.indexes.sort.new_numbers.Goals as goal

@@ -1,6 +1,6 @@
 use Rattle.std.proofs.Common.{◌≡◌, ◌+◌, ◌≤◌, length, take}
 use Rattle.dbf_image.specs.Table.{kept_rows}
-use Rattle.ndx_index.specs.Packing.{packed_numbers}
+use Rattle.table_order.specs.Packing.{packed_numbers}
 use Rattle.table_core.proofs.indexes.sort.new_numbers.Given as goal
 
 abbrev pub invariant-loop-index : goal.invariant-loop-index

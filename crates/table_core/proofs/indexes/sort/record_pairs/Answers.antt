@@ -2,8 +2,8 @@ use Rattle.std.proofs.Common.{◌≡◌, ℕ, ◌+◌, ◌-◌, ◌<◌, List, [
 use Rattle.std.proofs.lemmas.List.{take_all, take_more}
 use Rattle.dbf_image.specs.Table.{blank_row}
 use Rattle.ndx_index.specs.declared.pair.Pair.{Pair}
-use Rattle.ndx_index.specs.TableOrder.{pairs_of}
-use Rattle.ndx_index.specs.Laws.RecordPairs.{get-pairs, length-pairs, pair}
+use Rattle.table_order.specs.TableOrder.{pairs_of}
+use Rattle.table_order.specs.Laws.RecordPairs.{get-pairs, length-pairs, pair}
 use Rattle.table_core.proofs.indexes.sort.record_pairs.Goals as goal
 
 pub loop-index-preserved : goal.loop-index-preserved

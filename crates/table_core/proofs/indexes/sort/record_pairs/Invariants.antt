@@ -1,6 +1,6 @@
 use Rattle.std.proofs.Common.{◌≡◌, take}
 use Rattle.key_expr.specs.Keys.{key_length}
-use Rattle.ndx_index.specs.TableOrder.{pairs_of}
+use Rattle.table_order.specs.TableOrder.{pairs_of}
 use Rattle.table_core.proofs.indexes.sort.record_pairs.Given as goal
 
 abbrev pub invariant-loop-index : goal.invariant-loop-index

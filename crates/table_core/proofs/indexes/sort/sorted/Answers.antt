@@ -2,7 +2,7 @@ use Rattle.std.proofs.Common.{List, sym, subst}
 use Rattle.std.specs.List.{IsDistinct}
 use Rattle.ndx_index.specs.declared.pair.Pair.{Pair}
 use Rattle.ndx_index.specs.Order.{same}
-use Rattle.ndx_index.specs.Laws.RecordPairs.{pairs_distinct}
+use Rattle.table_order.specs.Laws.RecordPairs.{pairs_distinct}
 use Rattle.table_core.proofs.indexes.sort.sorted.Goals as goal
 
 pub from_pairs-requires : goal.from_pairs-requires

@@ -1,5 +1,5 @@
 use Rattle.std.proofs.Common.{◌∙◌}
-use Rattle.ndx_index.specs.Laws.Places.{before_record}
+use Rattle.table_order.specs.Laws.Places.{before_record}
 use Rattle.table_core.proofs.Follows.{follows_in_order}
 use Rattle.table_core.proofs.moves.by_index.record_before.Goals as goal
 

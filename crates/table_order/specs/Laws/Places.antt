@@ -11,8 +11,8 @@ use Rattle.dbf_image.specs.Table.{Table}
 use Rattle.key_expr.specs.Grammar.{Expr}
 use Rattle.ndx_index.specs.declared.pair.Pair.{Pair}
 use Rattle.ndx_index.specs.Places.{back_from, place_in}
-use Rattle.ndx_index.specs.TableOrder.{pair_at, order, ordered}
-use Rattle.ndx_index.specs.Laws.RecordOrders.{pair_there, record_there}
+use Rattle.table_order.specs.TableOrder.{pair_at, order, ordered}
+use Rattle.table_order.specs.Laws.RecordOrders.{pair_there, record_there}
 
 place_step : (m number : ℕ) (ns : List ℕ) (d : ℕ) (b : Bool) → eqb m number ≡ b → (b ≡ false → (place_in number ns < length ns) × (get_or ns (place_in number ns) d ≡ number))
     → (cond b 0 (suc (place_in number ns)) < suc (length ns)) × (get_or (m ∷ ns) (cond b 0 (suc (place_in number ns))) d ≡ number)

@@ -1,15 +1,9 @@
--- Records that are taken out of a table, and the numbers that the others have then.
-use Rattle.std.specs.Prelude.{ℕ, ◌+◌, ◌-◌, ◌≤◌, ◌==◌, List, [], ◌∷◌, length, slice_index, if◌then◌else◌}
+-- Pairs by new numbers of their records.
+use Rattle.std.specs.Prelude.{ℕ, ◌-◌, ◌≤◌, ◌==◌, List, [], ◌∷◌, length, slice_index, if◌then◌else◌}
 use Rattle.std.specs.List.{AllByRecursion}
-use Rattle.dbf_image.specs.Table.{Row}
 use Rattle.ndx_index.specs.declared.pair.Pair.{Pair}
 
--- the new number of each record, counted on from a number; 0 for one that is marked as deleted, which goes
-abbrev pub packed_numbers : ℕ → List Row → List ℕ
-packed_numbers next [] = []
-packed_numbers next (r ∷ rs) = if r.deleted then 0 ∷ packed_numbers next rs else next ∷ packed_numbers (next + 1) rs
-
--- the new number of a record
+-- where a list has the new number of each record, 0 for one that goes: that of a pair's record
 abbrev pub new_number : List ℕ → Pair → ℕ
 new_number numbers p = slice_index numbers (p.number - 1)
 

@@ -11,10 +11,10 @@ use Rattle.key_expr.specs.Grammar.{Expr}
 use Rattle.key_expr.specs.Keys.{key}
 use Rattle.ndx_index.specs.declared.pair.Pair.{Pair}
 use Rattle.ndx_index.specs.Order.{pair_cmp, placed, in_order, without_pair, AreInOrder}
-use Rattle.ndx_index.specs.TableOrder.{pairs_from, pairs_of, pair_at, order, order_but, IsRecordPair}
+use Rattle.table_order.specs.TableOrder.{pairs_from, pairs_of, pair_at, order, order_but, IsRecordPair}
 use Rattle.ndx_index.specs.Laws.Comparing.{irreflexive}
 use Rattle.ndx_index.specs.Laws.Sorting.{in_order-IsPermutation, IsPermutation-in_order, order_from_distinct, without_pair-placed}
-use Rattle.ndx_index.specs.Laws.RecordPairs.{pair, pairs_distinct, length-pairs, get-pairs, set-pairs, push-pairs, number-least, number-most, pair_of_number, absent_from}
+use Rattle.table_order.specs.Laws.RecordPairs.{pair, pairs_distinct, length-pairs, get-pairs, set-pairs, push-pairs, number-least, number-most, pair_of_number, absent_from}
 
 -- in the order of a table each pair stands before all later ones
 pub table_in_order : (table : Table) (e : Expr) → AreInOrder (order table e)

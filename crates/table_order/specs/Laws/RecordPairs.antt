@@ -11,7 +11,7 @@ use Rattle.key_expr.specs.Grammar.{Expr}
 use Rattle.key_expr.specs.Keys.{key}
 use Rattle.ndx_index.specs.declared.pair.Pair.{Pair}
 use Rattle.ndx_index.specs.Order.{same}
-use Rattle.ndx_index.specs.TableOrder.{pairs_from}
+use Rattle.table_order.specs.TableOrder.{pairs_from}
 
 abbrev pub pair : ℕ → Row → Expr → Pair
 pair number r e = record { key = key r.cells e; number = number }
