@@ -4,15 +4,13 @@
 //! opens the tables as the run found them, performs the journal's entries one after another in one thread, and compares each
 //! answer; where a folder is given it writes the tables as they are at the journal's end, and says whether their files are
 //! those that the run wrote. This file has `main`: it reads the words of the command line, has the journal audited, and has
-//! the end told. What the program does with the words is in `program.rt`. The audit itself is the crate `audit`: start
+//! the end told. What the program does with the words is the crate `audit_program`. The audit itself is the crate `audit`: start
 //! reading at its `specs/Audits.antt`.
 #![tactic(auto)]
 
-mod program;
-
-use crate::program::{AuditFailure, Audited, PROGRAM, run_program};
-use program_text::{Ending, Failure, Host, tell};
-use station_files::DiskSource;
+use audit_program::{AuditFailure, Audited, PROGRAM, run_program};
+use folders::DiskSource;
+use program_frame::{Ending, Failure, Host, tell};
 use std::env;
 use std::fs::File;
 use std::io::Write;

@@ -2,16 +2,15 @@
 //!
 //! The program reads a setup and the files that it names, runs a script for each station, and writes the tables
 //! as they were left and the stations' answers. This file has `main`: it reads the words of the command line, has the run
-//! served, and has its end told. What the program does with the words is in `program.rt`. The whole
-//! run is the crate `whole_run`: start reading at its `specs/WholeRun.antt`. Setups, files and
+//! served, and has its end told. What the program does with the words is the crate `server_program`. The whole
+//! run is the crate `office_run`: start reading at its `specs/WholeRun.antt`. Setups, files and
 //! the run of all stations are crates of their own, too.
 #![tactic(auto)]
 
-mod program;
-
-use crate::program::{PROGRAM, Served, run_program};
-use program_text::{Ending, Failure, Host, tell};
-use station_files::DiskSource;
+use folders::DiskSource;
+use office_run::ServeFault;
+use program_frame::{Ending, Failure, Host, tell};
+use server_program::{PROGRAM, Served, run_program};
 use std::env;
 use std::fs::File;
 use std::io::Write;
@@ -19,7 +18,6 @@ use std::process::ExitCode;
 use std::rt::{Files, Runtime};
 use std::sync::Wait;
 use std::thread::Threads;
-use whole_run::ServeFault;
 
 /// Runs the program. What it prints and its exit status are those of [`tell`]. A stream that takes no text changes
 /// nothing of them: where all files are written the status is 0.

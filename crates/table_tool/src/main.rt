@@ -2,19 +2,17 @@
 //!
 //! The program reads a table, with its memos, and prints it as people read it, as CSV, or what its fields are; or it
 //! prints the pages of an index, or looks at every file that a setup names. This file has `main`: it reads the command line, has
-//! what it asks for shown, and has its end told. The commands are in `program.rt`; what is printed of a table is defined in the
-//! crate `table_text`, and of an index in `index_tree`.
+//! what it asks for shown, and has its end told. The commands are the crate `tool_program`; what is printed of a table is defined in the
+//! crate `table_text`, and of an index in `index_text`.
 #![tactic(auto)]
 
-mod program;
-
-use crate::program::{StreamSink, ToolFault, ToolReport, run_words, tell_end};
-use program_text::Ending;
-use station_files::DiskSource;
+use folders::DiskSource;
+use program_frame::Ending;
 use std::env;
 use std::io::Write;
 use std::process::ExitCode;
 use std::rt::{Env, Files, Runtime};
+use tool_program::{StreamSink, ToolFault, ToolReport, run_words, tell_end};
 
 /// Runs the program. What it prints besides what is asked for, and its exit status, are those of [`tell_end`].
 fn main(rt: HostRuntime) -> ExitCode {

@@ -1,0 +1,46 @@
+-- What the words of a command line ask for, as `clap` has read them.
+use Rattle.std.proofs.Common.{◌≡◌, ◌∙◌, ap, refl, true, List, Option, Result, IfErr, IsErrAnd, inl, inr}
+use Rattle.clap.specs.Words.{App, HasMatchesOf, Row, Text, is_simple, kind_of, takes}
+use Rattle.clap.specs.declared.error.Error.{Error}
+use Rattle.clap.specs.declared.error.kind.ErrorKind.TheVariants.{OutOfMemory}
+use Rattle.clap.specs.declared.parser.matches.ArgMatches.{ArgMatches}
+use Rattle.clap.proofs.OnLiterals.{clap_on_literals}
+use Rattle.program_frame.specs.CommandLine.{option_rows}
+use Rattle.program_frame.specs.Laws.CommandLines.{by_words, told_end}
+use Rattle.program_frame.specs.declared.ending.Ending.{Ending}
+use Rattle.program_frame.specs.declared.ending.Ending.TheVariants as ended
+use Rattle.program_frame.specs.declared.ending.Failure.{Failure}
+use Rattle.program_frame.specs.declared.ending.Failure.TheVariants as failure
+use Rattle.folders.specs.declared.named.NamedFile.{NamedFile}
+use Rattle.audit_program.specs.declared.options.Options.{Options}
+use Rattle.audit_program.specs.declared.failure.AuditFailure.{AuditFailure}
+use Rattle.audit_program.specs.Asked.{audit_app, GivesBadDate, HasPaths, IsAskedBy, IsAskedIn, IsUnaudited, IsUnauditedAsAsked, IsWhyNotRead}
+
+audit_is_simple : is_simple audit_app ≡ true
+unfolding clap_on_literals
+audit_is_simple = refl
+
+pub asked_in : (app : App) (words : List Text) (matches : ArgMatches) (options : Options) → app ≡ audit_app → HasMatchesOf app words matches → IsAskedBy (option_rows matches) options → IsAskedIn words options
+asked_in app words matches options e h asked = by_words (λ (rows : List Row). IsAskedBy rows options) audit_app app words matches audit_is_simple e h asked
+
+-- words that the command does not take are told of
+pub not_taken : {T : Type 0} (told : Result T (Ending (Failure AuditFailure))) (app : App) (words : List Text) (error : Error) → IsErrAnd told (λ ending. ending ≡ ended.CommandLine error) → app ≡ audit_app
+    → (takes app words ≡ true → kind_of error ≡ OutOfMemory) → IfErr told (IsWhyNotRead words)
+not_taken told app words error is e h = told_end (IsWhyNotRead words) told (ended.CommandLine error) is (λ taken. h (ap (λ (a : App). takes a words) e ∙ taken))
+
+-- a date that is bad, as the words say it
+pub bad_date : (app : App) (words : List Text) (matches : ArgMatches) → app ≡ audit_app → HasMatchesOf app words matches → (HasPaths (option_rows matches) → GivesBadDate (option_rows matches))
+    → IsWhyNotRead words (ended.Failed failure.BadDate)
+bad_date app words matches e h bad = by_words (λ (rows : List Row). HasPaths rows → GivesBadDate rows) audit_app app words matches audit_is_simple e h bad
+
+-- ---- why it is not said that all entries hold
+
+-- the words are not read
+pub unread : {T : Type 0} (told : Result T (Ending (Failure AuditFailure))) (files : Option (List NamedFile)) (words : List Text) (why : Ending (Failure AuditFailure)) → IsErrAnd told (λ ending. ending ≡ why) → IsWhyNotRead words why
+    → IfErr told (IsUnauditedAsAsked files words)
+unread told files words why is h = told_end (IsUnauditedAsAsked files words) told why is (inl h)
+
+-- the audit failed
+pub unaudited : {T : Type 0} (told : Result T (Ending (Failure AuditFailure))) (files : Option (List NamedFile)) (words : List Text) (options : Options) (why : Failure AuditFailure) → IsErrAnd told (λ ending. ending ≡ ended.Failed why)
+    → IsAskedIn words options → IsUnaudited files options options.written why → IfErr told (IsUnauditedAsAsked files words)
+unaudited told files words options why is asked h = told_end (IsUnauditedAsAsked files words) told (ended.Failed why) is (inr (options, why, refl, asked, h))

@@ -1,0 +1,10 @@
+pub mod CommandLine
+pub mod Dates
+pub mod FaultNames
+pub mod PlaceFaults
+pub mod Placing
+pub mod Reasons
+pub mod Telling
+pub mod Endings
+pub mod Jobs
+pub mod Laws

@@ -1,0 +1,60 @@
+//! The options of a command line.
+
+ghost use Rattle.std.specs.Prelude.{◌≡◌, false, option_copied};
+ghost use Rattle.clap.specs.Words.{first_of, rule_of};
+ghost use Rattle.program_frame.specs.CommandLine.{flag_rule, option_rule, required_rule, option_rows, IsFlag};
+
+use clap::builder::ValueParser;
+use clap::{Arg, ArgAction, ArgMatches};
+use std::alloc::Global;
+
+/// An option `--NAME` that is given once, with a value that is not empty: an empty folder's name would mean the root.
+pub fn option<'a>(alloc: Global, name: &'a str, value_name: &'a str, help: &'a str) -> Arg<'a>
+    ensures rule { rule_of result ≡ option_rule name.entry.now }
+    ensures local { result.global ≡ false }
+{
+    Arg::new(alloc, name)
+        .long(name)
+        .value_name(value_name)
+        .help(help)
+        .action(ArgAction::Set)
+        .value_parser(ValueParser::NonEmptyString)
+}
+
+/// An option `--NAME` as [`option`] makes it, which has to be given.
+pub fn required_option<'a>(
+    alloc: Global,
+    name: &'a str,
+    value_name: &'a str,
+    help: &'a str,
+) -> Arg<'a>
+    ensures rule { rule_of result ≡ required_rule name.entry.now }
+    ensures local { result.global ≡ false }
+{
+    option(alloc, name, value_name, help).required(true)
+}
+
+/// A flag `--NAME`.
+pub fn flag<'a>(alloc: Global, name: &'a str, help: &'a str) -> Arg<'a>
+    ensures rule { rule_of result ≡ flag_rule name.entry.now }
+    ensures local { result.global ≡ false }
+{
+    Arg::new(alloc, name)
+        .long(name)
+        .help(help)
+        .action(ArgAction::SetTrue)
+}
+
+/// The value of the option of a name, where it is given. Takes no memory.
+pub fn value_of<'a>(matches: &ArgMatches<'a>, name: &str) -> Option<&'a str>
+    ensures value { option_copied result ≡ first_of name.now (option_rows matches.now) }
+{
+    matches.get_str(name)
+}
+
+/// Whether the flag of a name is given. Takes no memory.
+pub fn has_flag(matches: &ArgMatches<'_>, name: &str) -> bool
+    ensures flag { IsFlag (option_rows matches.now) name.now result }
+{
+    matches.get_flag(name)
+}

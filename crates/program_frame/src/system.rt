@@ -1,0 +1,122 @@
+//! The system that a program runs on, as far as it puts new files into a folder.
+
+ghost use Rattle.std.specs.Prelude.{◌≡◌, List, ℕ, IfErr, IfOk, IfSome, IsErr};
+ghost use Rattle.files_in_place.specs.Recovery.{OthersAreWhole};
+ghost use Rattle.program_frame.specs.Jobs.{ComesToItsEnd, IsRunFailure};
+ghost use Rattle.program_frame.specs.PlaceFaults.{IsOfLock};
+ghost use Rattle.program_frame.specs.Placing.{HasPutInto};
+
+use crate::ending::Failure;
+use crate::folder::{FolderFault, PlaceFault};
+use crate::in_place::run_in_place;
+use crate::job::Work;
+use files_in_place::{Disk, SystemDisk};
+use folders::{MissingFolder, Source, folder_of};
+use std::alloc::Global;
+use std::fs::{self, File};
+use std::io::Write;
+use std::rt::{Files, Runtime};
+
+/// The system that a program runs on, as far as it opens folders.
+pub trait System {
+    /// A folder that is open.
+    type Disk: Disk + Drop;
+
+    // this is the folder of a path
+    ghost opens: { Self → List ℕ → Self.Disk → Type 0 };
+
+    /// Opens the folder of a path, which no other run has as long as the disk is there. `None` where nothing has this path.
+    ///
+    /// `Folder(InUse)` where another run has it, `Folder(Unopened)` where it is none or the system refuses it, `NoMemory` where
+    /// memory is refused.
+    fn open(&self, alloc: Global, path: &str) -> Result<Option<Self::Disk>, PlaceFault>
+        ensures opened { IfOk result (λ found. IfSome found (opens self.now path.now)) }
+        // Of the files that recovery leaves alone, all bytes are on the disk.
+        ensures on_disk { IfOk result (λ found. IfSome found (λ disk. Self.Disk.meaning.keeps_promises
+            → OthersAreWhole (Self.Disk.meaning.seen disk) (Self.Disk.meaning.is_whole disk))) }
+        ensures fault { IfErr result IsOfLock };
+
+    /// Whether the file of a path lies in the folder of another, links followed. Where one of the two can't be found it doesn't.
+    fn lies_in(&self, path: &[u8], folder: &str) -> bool;
+}
+
+/// The system itself.
+#[derive(Drop)]
+pub struct Host<'a, R: Runtime + Files<File = File>> {
+    rt: &'a R,
+}
+
+impl<'a, R: Runtime + Files<File = File>> Host<'a, R> {
+    /// The system of a runtime.
+    pub fn new(rt: &'a R) -> Host<'a, R> {
+        Host { rt }
+    }
+}
+
+impl<'a, R: Runtime + Files<File = File>> System for Host<'a, R> {
+    ghost use Rattle.std.specs.Prelude.{◌≡◌, ◌++◌, ◌∷◌, []};
+
+    type Disk = SystemDisk<R>;
+
+    ghost opens = { λ host path disk. disk.path ≡ path ++ 47 ∷ [] };
+
+    fn open(&self, alloc: Global, path: &str) -> Result<Option<SystemDisk<R>>, PlaceFault> {
+        if let Ok(false) = fs::exists(self.rt, path) {
+            return Ok(None);
+        }
+        Ok(Some(SystemDisk::open(self.rt.clone()?, alloc, path)?))
+    }
+
+    fn lies_in(&self, path: &[u8], folder: &str) -> bool {
+        let Ok(own) = str::from_utf8(folder_of(path)) else {
+            return false;
+        };
+        match (
+            fs::canonicalize(self.rt, own),
+            fs::canonicalize(self.rt, folder),
+        ) {
+            (Ok(own), Ok(folder)) => own == folder,
+            _ => false,
+        }
+    }
+}
+
+// Does the work of a program where nothing has the path of the folder for its files: none can be written.
+fn run_nowhere<J: Work, S: Source, E: Write>(
+    alloc: Global,
+    job: &J,
+    source: &mut S,
+    err: &mut E,
+) -> Result<J::Report, Failure<J::Fault>>
+    ensures refused { IsErr result }
+    ensures fault { IfErr result
+        (IsRunFailure (J.fails job.now (S.files source.old)) J.Fault.no_memory (ComesToItsEnd (J.writes job.now (S.files source.old)))) }
+    ensures kept { S.files source.new ≡ S.files source.old }
+{
+    match job.work(alloc, source, &mut MissingFolder::new(), err) {
+        Ok(_) => Err(Failure::Folder(FolderFault::Unopened)),
+        Err(fault) => Err(Failure::Work(fault)),
+    }
+}
+
+/// Does the work of a program, and puts its files into the folder of a path: see [`run_in_place`]. No other run has the folder
+/// meanwhile.
+pub fn run_into<J: Work, S: Source, Y: System, E: Write>(
+    alloc: Global,
+    job: &J,
+    source: &mut S,
+    system: &Y,
+    out: &str,
+    err: &mut E,
+) -> Result<J::Report, Failure<J::Fault>>
+    ensures placed { IfOk result (λ report.
+        HasPutInto Y.Disk.meaning (Y.opens system.now out.now) (λ written. J.writes job.now (S.files source.old) written report)) }
+    ensures fault { IfErr result
+        (IsRunFailure (J.fails job.now (S.files source.old)) J.Fault.no_memory (ComesToItsEnd (J.writes job.now (S.files source.old)))) }
+    ensures kept { S.files source.new ≡ S.files source.old }
+{
+    match system.open(alloc, out)? {
+        Some(disk) => run_in_place(alloc, job, source, disk, err).ended,
+        None => run_nowhere(alloc, job, source, err),
+    }
+}

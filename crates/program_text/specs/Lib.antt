@@ -1,9 +1,0 @@
-pub mod CommandLine
-pub mod Dates
-pub mod FaultNames
-pub mod PlaceFaults
-pub mod Placing
-pub mod Reasons
-pub mod Telling
-pub mod Endings
-pub mod Jobs

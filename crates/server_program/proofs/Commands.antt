@@ -1,0 +1,46 @@
+-- What the words of a command line ask for, as `clap` has read them.
+use Rattle.std.proofs.Common.{◌≡◌, ◌∙◌, ap, refl, true, List, Option, Result, IfErr, IsErrAnd, inl, inr}
+use Rattle.clap.specs.Words.{App, HasMatchesOf, Row, Text, is_simple, kind_of, takes}
+use Rattle.clap.specs.declared.error.Error.{Error}
+use Rattle.clap.specs.declared.error.kind.ErrorKind.TheVariants.{OutOfMemory}
+use Rattle.clap.specs.declared.parser.matches.ArgMatches.{ArgMatches}
+use Rattle.clap.proofs.OnLiterals.{clap_on_literals}
+use Rattle.program_frame.specs.CommandLine.{option_rows, HasBadDate}
+use Rattle.program_frame.specs.Laws.CommandLines.{by_words, told_end}
+use Rattle.program_frame.specs.declared.ending.Ending.{Ending}
+use Rattle.program_frame.specs.declared.ending.Ending.TheVariants as ended
+use Rattle.program_frame.specs.declared.ending.Failure.{Failure}
+use Rattle.program_frame.specs.declared.ending.Failure.TheVariants as failure
+use Rattle.folders.specs.declared.named.NamedFile.{NamedFile}
+use Rattle.server_program.specs.declared.options.Options.{Options}
+use Rattle.server_program.specs.Program.{server_app, HasPaths, IsAskedBy, IsAskedIn, IsUnserved, IsUnservedAsAsked, IsWhyNotRead}
+use Rattle.office_run.specs.declared.fault.ServeFault.{ServeFault}
+
+server_is_simple : is_simple server_app ≡ true
+unfolding clap_on_literals
+server_is_simple = refl
+
+pub asked_in : (app : App) (words : List Text) (matches : ArgMatches) (options : Options) → app ≡ server_app → HasMatchesOf app words matches → IsAskedBy (option_rows matches) options → IsAskedIn words options
+asked_in app words matches options e h asked = by_words (λ (rows : List Row). IsAskedBy rows options) server_app app words matches server_is_simple e h asked
+
+-- words that the command does not take are told of
+pub not_taken : {T : Type 0} (told : Result T (Ending (Failure ServeFault))) (app : App) (words : List Text) (error : Error) → IsErrAnd told (λ ending. ending ≡ ended.CommandLine error) → app ≡ server_app
+    → (takes app words ≡ true → kind_of error ≡ OutOfMemory) → IfErr told (IsWhyNotRead words)
+not_taken told app words error is e h = told_end (IsWhyNotRead words) told (ended.CommandLine error) is (λ taken. h (ap (λ (a : App). takes a words) e ∙ taken))
+
+-- a date that is bad, as the words say it
+pub bad_date : (app : App) (words : List Text) (matches : ArgMatches) → app ≡ server_app → HasMatchesOf app words matches → (HasPaths (option_rows matches) → HasBadDate (option_rows matches))
+    → IsWhyNotRead words (ended.Failed failure.BadDate)
+bad_date app words matches e h bad = by_words (λ (rows : List Row). HasPaths rows → HasBadDate rows) server_app app words matches server_is_simple e h bad
+
+-- ---- why a run is not served
+
+-- the words are not read
+pub unread : {T : Type 0} (told : Result T (Ending (Failure ServeFault))) (files : Option (List NamedFile)) (words : List Text) (why : Ending (Failure ServeFault)) → IsErrAnd told (λ ending. ending ≡ why) → IsWhyNotRead words why
+    → IfErr told (IsUnservedAsAsked files words)
+unread told files words why is h = told_end (IsUnservedAsAsked files words) told why is (inl h)
+
+-- the run failed
+pub unserved : {T : Type 0} (told : Result T (Ending (Failure ServeFault))) (files : Option (List NamedFile)) (words : List Text) (options : Options) (why : Failure ServeFault) → IsErrAnd told (λ ending. ending ≡ ended.Failed why)
+    → IsAskedIn words options → IsUnserved files options why → IfErr told (IsUnservedAsAsked files words)
+unserved told files words options why is asked h = told_end (IsUnservedAsAsked files words) told (ended.Failed why) is (inr (options, why, refl, asked, h))

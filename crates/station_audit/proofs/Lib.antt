@@ -1,8 +1,0 @@
-mod Commands
-pub mod ComparingLaws
-pub mod PrintingLaws
-pub mod ProgramLaws
-pub mod RunJournals
-pub mod RunFiles
-pub mod Wanting
-pub mod WritingLaws

@@ -1,5 +1,0 @@
-use Rattle.program_text.proofs.Printing.{appends_then}
-use Rattle.station_audit.proofs.program.failure.print_difference.Goals as goal
-
-pub returns : goal.returns
-returns g c = record { text = appends_then _ _ _ _ _ c.in_ok-print_entry.ensures.text (appends_then _ _ _ _ _ c.in_ok-print_told.ensures.text c.in_ok-print_performed.ensures.text) }

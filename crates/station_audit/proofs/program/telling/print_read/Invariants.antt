@@ -1,8 +1,0 @@
-use Rattle.std.proofs.Common.{take}
-use Rattle.std.specs.Prelude.{flat_map}
-use Rattle.std.specs.Io.KnownBytes.{Appends}
-use Rattle.station_audit.specs.Endings.{read_line}
-use Rattle.station_audit.proofs.program.telling.print_read.Given as goal
-
-abbrev pub invariant-loop-file : goal.invariant-loop-file
-invariant-loop-file g l = Appends (g.W.Write.contents l.initial.out) (g.W.Write.contents l.out) (flat_map read_line (take l.file-index l.files))

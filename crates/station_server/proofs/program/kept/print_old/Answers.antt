@@ -1,9 +1,0 @@
-use Rattle.program_text.proofs.Printing.{appends_then}
-use Rattle.station_server.proofs.program.kept.print_old.Goals as goal
-
-pub returns : goal.returns
-returns g c = record {
-  text =
-      rw (← c.as_slice.ensures.value)
-      (appends_then _ _ _ _ _ c.in_ok-write_all.ensures.bytes (appends_then _ _ _ _ _ c.in_ok-write_all-2.ensures.bytes c.in_ok-write_all-3.ensures.bytes));
-}

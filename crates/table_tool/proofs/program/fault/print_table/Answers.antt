@@ -1,8 +1,0 @@
-use Rattle.table_tool.proofs.Printing.{appends_then}
-use Rattle.table_tool.proofs.program.fault.print_table.Goals as goal
-
-pub returns : goal.returns
-returns g c = record {
-  text = appends_then _ _ _ _ _ (rw c.as_bytes.ensures.value at c.in_ok-write_all.ensures.bytes)
-      (appends_then _ _ _ _ _ c.in_ok-write_all-2.ensures.bytes c.in_ok-print_show_reason.ensures.text);
-}

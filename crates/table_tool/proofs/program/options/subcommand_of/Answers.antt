@@ -1,5 +1,0 @@
-use Rattle.table_tool.proofs.Reading.{named_rows}
-use Rattle.table_tool.proofs.program.options.subcommand_of.Goals as goal
-
-pub returns : goal.returns
-returns c = record { value = named_rows _ _ c.subcommand.ensures.name c.subcommand.ensures.rows }

@@ -1,5 +1,0 @@
-use Rattle.table_tool.proofs.Printing.{appends_then}
-use Rattle.table_tool.proofs.program.reason.print_no_expression.Goals as goal
-
-pub returns : goal.returns
-returns g c = record { text = appends_then _ _ _ _ _ c.in_ok-write_all.ensures.bytes c.in_ok-print_expression.ensures.text }

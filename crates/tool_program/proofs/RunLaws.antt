@@ -1,0 +1,52 @@
+-- How a call of the program ends.
+use Rattle.std.proofs.Common.{◌≡◌, ◌∙◌, sym, subst, ℕ, Bool, true, List, Option, Result, Ok, Err, IfErr, OnOk, IsErrAnd, option_copied}
+use Rattle.dbf_image.specs.declared.fault.ImageFault.{ImageFault}
+use Rattle.folders.specs.declared.named.NamedFile.{NamedFile}
+use Rattle.folders.specs.declared.source.LoadFault.{LoadFault}
+use Rattle.folders.specs.declared.source.LoadFault.TheVariants as load
+use Rattle.folders.specs.Files.{IsUnrecovered}
+use Rattle.tool_program.specs.declared.checking.CheckFault.{CheckFault}
+use Rattle.tool_program.specs.declared.checking.CheckFault.TheVariants as check
+use Rattle.tool_program.specs.declared.fault.ToolFault.{ToolFault}
+use Rattle.tool_program.specs.declared.options.Options.{Options}
+use Rattle.tool_program.specs.declared.report.ToolReport.{ToolReport}
+use Rattle.tool_program.specs.declared.showing.ShowFault.{ShowFault}
+use Rattle.tool_program.specs.declared.showing.ShowFault.TheVariants as show
+use Rattle.tool_program.specs.Answers.{IsTrueOfTable}
+use Rattle.tool_program.specs.Check.{check_load_fault}
+use Rattle.tool_program.specs.Faults.{IsToolFaultOfSetup}
+use Rattle.tool_program.specs.Memos.{IsMemosFault}
+use Rattle.tool_program.specs.View.{IsNoTable}
+
+module _ {T : Type 0} (files : Option (List NamedFile)) (unread : List ℕ → Type 0) where
+  -- a fault of showing a table is true of its files
+  pub true_of_table : (options : Options) (shown : Result T ShowFault) (fault : ShowFault) → shown ≡ Err fault
+      → (shown ≡ Err (show.Load load.Unrecovered) → IsUnrecovered files options.table.now)
+      → ((why : LoadFault) → shown ≡ Err (show.Memos why) → IsMemosFault files unread options.table.now (option_copied options.memos) why)
+      → ((why : ImageFault) → shown ≡ Err (show.Table why) → IsNoTable files unread options why)
+      → IsTrueOfTable files unread options fault
+  true_of_table options shown (show.Load load.CannotRead) is unrecovered memos no_table = tt
+  true_of_table options shown (show.Load load.Unrecovered) is unrecovered memos no_table = unrecovered is
+  true_of_table options shown (show.Load load.NoMemory) is unrecovered memos no_table = tt
+  true_of_table options shown (show.Memos why) is unrecovered memos no_table = memos why is
+  true_of_table options shown (show.Table why) is unrecovered memos no_table = no_table why is
+  true_of_table options shown (show.Order why) is unrecovered memos no_table = tt
+  true_of_table options shown (show.Text why) is unrecovered memos no_table = tt
+
+pub err_is : {T E : Type 0} (r : Result T E) (a b : E) → r ≡ Err a → r ≡ Err b → a ≡ b
+err_is r a b e h = let same : Err a ≡ Err b = sym e ∙ h in cc
+
+pub ok_not_err : {T E : Type 0} (r : Result T E) (x : T) (e : E) → r ≡ Ok x → r ≡ Err e → ⊥
+ok_not_err r x e ok err = let clash : Ok x ≡ Err e = sym ok ∙ err in cc
+
+not_sink : (why : LoadFault) → check_load_fault why ≡ check.Sink → ⊥
+not_sink load.CannotRead e = absurd cc
+not_sink load.Unrecovered e = absurd cc
+not_sink load.NoMemory e = absurd cc
+
+-- a fault of loading a setup is told as such
+pub setup_load_told : (fault : CheckFault) (why : LoadFault) (path : List ℕ) (closed : Bool) (told : Result ToolReport ToolFault)
+    → fault ≡ check_load_fault why → IfErr told (IsToolFaultOfSetup fault path) → OnOk told ((fault ≡ check.Sink) × (closed ≡ true))
+    → IsErrAnd told (IsToolFaultOfSetup (check_load_fault why) path)
+setup_load_told fault why path closed (Ok report) e h k = absurd (not_sink why (sym e ∙ k.0))
+setup_load_told fault why path closed (Err ending) e h k = subst (λ (f : CheckFault). IsToolFaultOfSetup f path ending) e h

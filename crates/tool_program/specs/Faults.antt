@@ -1,0 +1,109 @@
+-- Why a call of the program shows or checks nothing, or not all: of which file, the exit status, and what is said.
+use Rattle.std.specs.Prelude.{◌≡◌, ℕ, Bool, true, false, List, ◌++◌, codes, option_copied, unwrap_or}
+use Rattle.dbf_image.specs.declared.fault.ImageFault.{ImageFault}
+use Rattle.dbf_image.specs.declared.fault.ImageFault.TheVariants as image
+use Rattle.key_expr.specs.declared.fault.ExprFault.{ExprFault}
+use Rattle.key_expr.specs.declared.fault.ExprFault.TheVariants as expression
+use Rattle.ndx_index.specs.declared.fault.NdxFault.{NdxFault}
+use Rattle.ndx_index.specs.declared.fault.NdxFault.TheVariants as ndx
+use Rattle.folders.specs.declared.source.LoadFault.{LoadFault}
+use Rattle.folders.specs.declared.source.LoadFault.TheVariants as load
+use Rattle.table_text.specs.declared.fault.TextFault.TheVariants as text
+use Rattle.tool_program.specs.declared.checking.CheckFault.{CheckFault}
+use Rattle.tool_program.specs.declared.checking.CheckFault.TheVariants as check
+use Rattle.tool_program.specs.declared.fault.ToolFault.{ToolFault}
+use Rattle.tool_program.specs.declared.fault.ToolFault.TheVariants as tool
+use Rattle.tool_program.specs.declared.options.Options.{Options}
+use Rattle.tool_program.specs.declared.order.OrderFault.{OrderFault}
+use Rattle.tool_program.specs.declared.order.OrderFault.TheVariants as order
+use Rattle.tool_program.specs.declared.showing.ShowFault.{ShowFault}
+use Rattle.tool_program.specs.declared.showing.ShowFault.TheVariants as show
+use Rattle.tool_program.specs.Reasons.{check_reason, show_reason}
+
+-- ---- of which file
+
+-- The path of the file that a fault of showing a table is one of: that of the index or of the file of memos, where it is given and
+-- the fault is one of it, and else the table's. Of a file of memos that is not given its folder alone is told, which is the table's.
+abbrev pub path_at_fault : Options → ShowFault → List ℕ
+path_at_fault options (show.Load why) = options.table.now
+path_at_fault options (show.Memos why) = unwrap_or (option_copied options.memos) options.table.now
+path_at_fault options (show.Table why) = options.table.now
+path_at_fault options (show.Order why) = unwrap_or (option_copied options.order) options.table.now
+path_at_fault options (show.Text why) = options.table.now
+
+-- the fault is a want of memory: of a load,
+abbrev pub is_load_no_memory : LoadFault → Bool
+is_load_no_memory load.NoMemory = true
+is_load_no_memory why = false
+
+-- of a table's files,
+abbrev pub is_image_no_memory : ImageFault → Bool
+is_image_no_memory image.NoMemory = true
+is_image_no_memory why = false
+
+-- of an index file's bytes,
+abbrev pub is_ndx_no_memory : NdxFault → Bool
+is_ndx_no_memory ndx.NoMemory = true
+is_ndx_no_memory why = false
+
+-- of its key expression,
+abbrev pub is_expression_no_memory : ExprFault → Bool
+is_expression_no_memory expression.NoMemory = true
+is_expression_no_memory why = false
+
+-- of the order of an index,
+abbrev pub is_order_no_memory : OrderFault → Bool
+is_order_no_memory (order.Load why) = is_load_no_memory why
+is_order_no_memory (order.Index why) = is_ndx_no_memory why
+is_order_no_memory (order.Expression why) = is_expression_no_memory why
+is_order_no_memory order.Stale = false
+is_order_no_memory order.NoMemory = true
+
+-- and of showing a file
+abbrev pub is_no_memory : ShowFault → Bool
+is_no_memory (show.Load why) = is_load_no_memory why
+is_no_memory (show.Memos why) = is_load_no_memory why
+is_no_memory (show.Table why) = is_image_no_memory why
+is_no_memory (show.Order why) = is_order_no_memory why
+is_no_memory (show.Text text.NoMemory) = true
+is_no_memory (show.Text text.Sink) = false
+
+-- what a fault of the file of a path is told as: with the path, but for a want of memory and a failure of the output
+abbrev pub IsToolFaultOf : ShowFault → List ℕ → ToolFault → Type 0
+IsToolFaultOf fault path tool.BadRange = ⊥
+IsToolFaultOf fault path tool.NoMemory = is_no_memory fault ≡ true
+IsToolFaultOf fault path (tool.Table told why) = (told.now ≡ path) × (why ≡ fault) × (is_no_memory fault ≡ false)
+IsToolFaultOf fault path (tool.Setup told why) = ⊥
+IsToolFaultOf fault path tool.Output = fault ≡ show.Text text.Sink
+
+-- the fault of a setup is told with its path
+abbrev pub IsSetupTold : CheckFault → Type 0
+IsSetupTold check.NoMemory = ⊥
+IsSetupTold check.Sink = ⊥
+IsSetupTold fault = Unit {0}
+
+-- what a fault of the setup of a path is told as: with the path, but for a want of memory and a failure of the output
+abbrev pub IsToolFaultOfSetup : CheckFault → List ℕ → ToolFault → Type 0
+IsToolFaultOfSetup fault path tool.BadRange = ⊥
+IsToolFaultOfSetup fault path tool.NoMemory = fault ≡ check.NoMemory
+IsToolFaultOfSetup fault path (tool.Table told why) = ⊥
+IsToolFaultOfSetup fault path (tool.Setup told why) = (told.now ≡ path) × (why ≡ fault) × IsSetupTold fault
+IsToolFaultOfSetup fault path tool.Output = fault ≡ check.Sink
+
+-- ---- the exit status, and what is said
+
+-- 1 for the command line, 2 for a file or a setup, 3 for want of memory, 4 for the output
+abbrev pub tool_status : ToolFault → ℕ
+tool_status tool.BadRange = 1
+tool_status tool.NoMemory = 3
+tool_status (tool.Table path why) = 2
+tool_status (tool.Setup path why) = 2
+tool_status tool.Output = 4
+
+-- why nothing is shown or checked, or not all; of a file, its path and why
+abbrev pub tool_words : ToolFault → List ℕ
+tool_words tool.BadRange = codes "--records wants a number N or a range N-M"
+tool_words tool.NoMemory = codes "out of memory"
+tool_words (tool.Table path why) = path.now ++ (codes ": " ++ show_reason path.now why)
+tool_words (tool.Setup path why) = path.now ++ (codes ": " ++ check_reason path.now why)
+tool_words tool.Output = codes "the output failed"

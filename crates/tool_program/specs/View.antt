@@ -1,0 +1,56 @@
+-- What of a table is shown.
+use Rattle.std.specs.Prelude.{◌≡◌, ℕ, List, Option, IfSome, option_copied}
+use Rattle.dbf_fields.specs.declared.day.Day.{Day}
+use Rattle.dbf_image.specs.declared.fault.ImageFault.{ImageFault}
+use Rattle.dbf_image.specs.DbfText.{IsDbf}
+use Rattle.dbf_image.specs.Reading.{IsImageRefusal}
+use Rattle.dbf_image.specs.Table.{Table}
+use Rattle.byte_io.specs.Sink.{grown}
+use Rattle.folders.specs.declared.named.NamedFile.{NamedFile}
+use Rattle.folders.specs.Files.{IsFileOf}
+use Rattle.table_text.specs.Csv.{csv_text}
+use Rattle.table_text.specs.Records.{records_text}
+use Rattle.table_text.specs.Structure.{fields_text, IsHeaderDate}
+use Rattle.tool_program.specs.Memos.{IsMemoFile, IsMemosFault, IsMissingBeside}
+use Rattle.tool_program.specs.Order.{IsOrder}
+use Rattle.tool_program.specs.declared.options.Options.{Options}
+use Rattle.tool_program.specs.declared.showing.ShowFault.{ShowFault}
+use Rattle.tool_program.specs.declared.showing.ShowFault.TheVariants.{Memos}
+use Rattle.tool_program.specs.declared.options.View.{View}
+use Rattle.tool_program.specs.declared.options.View.TheVariants.{Records, Csv, Fields}
+
+-- the text of a table that was asked for, its records in this order
+abbrev pub view_text : Table → Option Day → Option (List ℕ) → View → List ℕ
+view_text table date order (Records selection memos) = records_text table order selection memos
+view_text table date order (Csv selection deleted_column) = csv_text table order selection deleted_column
+view_text table date order Fields = fields_text table date
+
+-- a fault in loading the file of memos says why it was not had
+abbrev pub IsFaultOfMemos : Option (List NamedFile) → (List ℕ → Type 0) → List ℕ → Option (List ℕ) → ShowFault → Type 0
+IsFaultOfMemos files unread table given (Memos why) = IsMemosFault files unread table given why
+IsFaultOfMemos files unread table given fault = ⊥
+
+-- What a sink has after a table was shown: the text that was asked for, of the table whose files stand at the paths of the
+-- options, in the order of the index. The date is the one that the table's header tells.
+pub record IsShown (files : Option (List NamedFile)) (options : Options) (old new : Option (List ℕ)) : Type 0 where
+  pub dbf : List ℕ
+  pub dbt : Option (List ℕ)
+  pub date : Option Day
+  pub table : Table
+  pub order : Option (List ℕ)
+  pub table_file : IsFileOf files options.table.now dbf
+  pub memo_file : IsMemoFile files options.table.now dbf (option_copied options.memos) dbt
+  pub dated : IfSome date (IsHeaderDate dbf)
+  pub is : IsDbf dbf dbt table
+  pub ordered : IsOrder files (option_copied options.order) (option_copied options.from) table order
+  pub wrote : new ≡ grown old (view_text table date order options.view)
+
+-- The files whose paths the options give are no table for this: the fault is that of the table's file and of the file of memos that
+-- it is read with.
+pub record IsNoTable (files : Option (List NamedFile)) (unread : List ℕ → Type 0) (options : Options) (fault : ImageFault) : Type 0 where
+  pub dbf : List ℕ
+  pub dbt : Option (List ℕ)
+  pub table_file : IsFileOf files options.table.now dbf
+  pub memo_file : IsMemoFile files options.table.now dbf (option_copied options.memos) dbt
+  pub missing : IsMissingBeside unread options.table.now dbf (option_copied options.memos) dbt
+  pub refused : IsImageRefusal fault dbf dbt

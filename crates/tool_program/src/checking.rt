@@ -1,0 +1,154 @@
+//! A setup that is checked.
+
+ghost use Rattle.std.specs.Prelude.{◌≡◌, ◌⊎◌, Ok, Err, Some, IfOk, IfErr};
+ghost use Rattle.byte_io.specs.Sink.{IsFront, Rises};
+ghost use Rattle.folders.specs.Files.{IsTooLong, IsUnrecovered, load_refusal};
+ghost use Rattle.station_lines.specs.Setup.{IsSetup};
+ghost use Rattle.tool_program.specs.Check.{check_load_fault, IsBadLineFault, IsLineFault, IsOpening, IsTold, IsVerdict, TellsBadLine, TellsNothing};
+
+use crate::verdict::append_verdict;
+use byte_io::{ByteSink, Bytes, SinkFault, write_all};
+use folders::{LoadFault, Source};
+use office_run::{ServeFault, open_setup};
+use setup_check::{
+    BadLinesTold, bad_setup_text, findings_text, kept_files_text, look_at_all, scripts_text,
+};
+use station_lines::{SetupEntry, SetupFault, parse_setup};
+use std::alloc::{AllocError, Global};
+
+/// Why a setup was not checked.
+#[derive(Debug, PartialEq, Eq, Drop)]
+pub enum CheckFault {
+    /// The setup can't be read.
+    CannotRead,
+    /// The list of a set of new files lies in its folder: not all of them are in place.
+    Unrecovered,
+    /// Its line of this number is bad. The text says which it is, and why; there is none where memory was refused for it.
+    BadLine(usize, Option<Bytes>),
+    /// Memory was refused.
+    NoMemory,
+    /// The sink failed.
+    Sink,
+}
+
+impl From<AllocError> for CheckFault {
+    ghost use Rattle.std.specs.Prelude.{◌≡◌};
+    ghost use Rattle.tool_program.specs.declared.checking.CheckFault.TheVariants.{NoMemory};
+
+    ghost from_gives = { λ _ fault. fault ≡ NoMemory };
+
+    fn from(_refused: AllocError) -> CheckFault {
+        CheckFault::NoMemory
+    }
+}
+
+impl From<LoadFault> for CheckFault {
+    ghost use Rattle.tool_program.specs.Check.{check_load_fault};
+    ghost use Rattle.std.specs.Prelude.{◌≡◌};
+
+    ghost from_gives = { λ cause fault. fault ≡ check_load_fault cause };
+
+    fn from(cause: LoadFault) -> CheckFault {
+        match cause {
+            LoadFault::CannotRead => CheckFault::CannotRead,
+            LoadFault::Unrecovered => CheckFault::Unrecovered,
+            LoadFault::NoMemory => CheckFault::NoMemory,
+        }
+    }
+}
+
+impl From<SinkFault> for CheckFault {
+    ghost use Rattle.std.specs.Prelude.{◌≡◌};
+    ghost use Rattle.tool_program.specs.declared.checking.CheckFault.TheVariants.{Sink};
+
+    ghost from_gives = { λ _ fault. fault ≡ Sink };
+
+    fn from(_failed: SinkFault) -> CheckFault {
+        CheckFault::Sink
+    }
+}
+
+// Why the server opens nothing of what a setup names, or `None` where it opens all.
+fn fault_of_opening<F: Source>(
+    alloc: Global,
+    source: &mut F,
+    setup: &str,
+) -> Result<Option<ServeFault>, AllocError>
+    ensures opening { IfOk result (IsOpening (F.files source.old) setup.now) }
+    ensures kept { F.files source.new ≡ F.files source.old }
+{
+    let path = Bytes::from_slice(alloc, setup.as_bytes())?;
+    match open_setup(alloc, &path, false, source) {
+        Ok(_) => Ok(None),
+        Err(ServeFault::NoMemory) => Err(AllocError),
+        Err(fault) => Ok(Some(fault)),
+    }
+}
+
+// The fault of a bad line.
+fn bad_line(alloc: Global, text: &[u8], number: usize) -> CheckFault
+    ensures bad { IsBadLineFault text.now number result }
+{
+    let told = match bad_setup_text(alloc, text, number) {
+        Ok(told) => Some(Bytes::from_vec(told)),
+        Err(_) => None,
+    };
+    CheckFault::BadLine(number, told)
+}
+
+// What the lines of a setup say.
+fn entries_of(alloc: Global, text: &[u8]) -> Result<Vec<SetupEntry>, CheckFault>
+    ensures says { IfOk result (λ entries. IsSetup text.now (Ok entries.items)) }
+    // A bad line is not told as a want of memory, which is asked for only at a line that may stand there.
+    ensures fault { IfErr result (IsLineFault text.now) }
+{
+    match parse_setup(alloc, text) {
+        Ok(entries) => Ok(entries),
+        Err(SetupFault::Bad(number)) => Err(bad_line(alloc, text, number)),
+        Err(SetupFault::NoMemory) => Err(CheckFault::NoMemory),
+    }
+}
+
+/// Looks at every file that the setup of a path names, and tells what is found, a line a file, which files stay as they are beside
+/// new ones, which lines of the scripts are no commands, and whether the server would open all, or why it would open nothing.
+/// Whether it would is answered too.
+///
+/// `CannotRead` says that the setup can't be read, `Unrecovered` that the list of a set of new files lies in its folder, and
+/// `BadLine` that its line of this number is bad, and why; then nothing is told.
+/// `Sink` says that the sink failed, and `NoMemory` that there was no memory.
+#[tactic(auto, using(byte_io::specs::Laws::Sinks::front_same))]
+pub fn check_setup<F: Source, S: ByteSink>(
+    alloc: Global,
+    source: &mut F,
+    sink: &mut S,
+    setup: &str,
+    bad_lines: BadLinesTold,
+) -> Result<bool, CheckFault>
+    // It says that the server would open all exactly where `open_setup`, which the server begins with, opens it.
+    ensures opens { IfOk result (IsVerdict (F.files source.old) setup.now) }
+    ensures told { IfOk result (λ opens. IsTold (F.files source.old) setup.now bad_lines opens (S.written sink.old) (S.written sink.new)) }
+    // A line that is told as bad is the first that is, and what is told of it says why.
+    ensures bad_line { IfErr result (TellsBadLine (F.files source.old) setup.now) }
+    ensures kept { IsFront (S.written sink.old) (S.written sink.new) }
+    // That the setup can't be read is said only where its load has failed, or where it is over the limit; and the sink is said to
+    // have failed only where it has.
+    ensures unread { result ≡ Err CheckFault.CannotRead → Rises (F.failures source.old) (F.failures source.new) ⊎ IsTooLong (F.files source.old) setup.now }
+    ensures failed { result ≡ Err CheckFault.Sink → Rises (S.failures sink.old) (S.failures sink.new) }
+    // Where no load can give the setup the answer is why, whether there is memory or not.
+    ensures early { (why : LoadFault) → load_refusal (F.files source.old) setup.now ≡ Some why → result ≡ Err (check_load_fault why) }
+    ensures unrecovered { result ≡ Err CheckFault.Unrecovered → IsUnrecovered (F.files source.old) setup.now }
+    ensures untold { IfErr result (λ fault. TellsNothing fault → S.written sink.new ≡ S.written sink.old) }
+{
+    let text = source.load(alloc, setup.as_bytes())?;
+    let entries = entries_of(alloc, text.as_slice())?;
+    let findings = look_at_all(alloc, source, &entries)?;
+    let mut report = findings_text(alloc, &entries, &findings)?;
+    let kept = kept_files_text(alloc, &entries)?;
+    report.extend_from_slice(&kept)?;
+    let scripts = scripts_text(alloc, source, &entries, bad_lines)?;
+    report.extend_from_slice(&scripts)?;
+    let fault = fault_of_opening(alloc, source, setup)?;
+    append_verdict(alloc, &mut report, &fault)?;
+    write_all(sink, &report)?;
+    Ok(fault.is_none())
+}

@@ -1,0 +1,89 @@
+//! Why nothing is shown or checked, or not all.
+
+ghost use Rattle.std.specs.Prelude.{◌++◌, codes, OnOk};
+ghost use Rattle.std.specs.Io.KnownBytes.{Appends};
+ghost use Rattle.tool_program.specs.Faults.{tool_status, tool_words as words_of_tool};
+ghost use Rattle.tool_program.specs.Reasons.{check_reason, show_reason};
+
+use crate::checking::CheckFault;
+use crate::reason::{print_check_reason, print_show_reason};
+use crate::showing::ShowFault;
+use program_frame::Reason;
+use std::io;
+use std::io::Write;
+
+/// Why a call of the program did not show or check what it was asked for, or not all.
+#[derive(Debug, PartialEq, Eq, Drop)]
+pub enum ToolFault<'a> {
+    /// The range of records is none.
+    BadRange,
+    /// Memory was refused.
+    NoMemory,
+    /// The table or the index can't be shown for a fault of the file of this path.
+    Table(&'a str, ShowFault),
+    /// The setup of this path can't be checked.
+    Setup(&'a str, CheckFault),
+    /// The output failed.
+    Output,
+}
+
+impl Reason for ToolFault<'_> {
+    ghost use Rattle.tool_program.specs.Faults.{tool_status, tool_words};
+    ghost use Rattle.tool_program.specs.declared.fault.ToolFault.TheVariants.{NoMemory};
+
+    ghost words = { tool_words };
+
+    ghost status = { tool_status };
+
+    ghost no_memory = { NoMemory };
+
+    // 1 for the command line, 2 for a file or a setup, 3 for want of memory, 4 for the output.
+    fn exit_status(&self) -> u8 {
+        match self {
+            ToolFault::BadRange => 1,
+            ToolFault::Table(_, _) => 2,
+            ToolFault::Setup(_, _) => 2,
+            ToolFault::NoMemory => 3,
+            ToolFault::Output => 4,
+        }
+    }
+
+    fn print<W: Write>(&self, out: &mut W) -> io::Result<()> {
+        print_fault(out, self)
+    }
+
+    fn out_of_memory() -> Self {
+        ToolFault::NoMemory
+    }
+}
+
+// Prints why, without the program's name and a line's end.
+fn print_fault<W: Write>(out: &mut W, fault: &ToolFault<'_>) -> io::Result<()>
+    ensures text { OnOk result (Appends (W.contents out.old) (W.contents out.new) (words_of_tool fault.now)) }
+{
+    match fault {
+        ToolFault::BadRange => out.write_all(b"--records wants a number N or a range N-M"),
+        ToolFault::NoMemory => out.write_all(b"out of memory"),
+        ToolFault::Table(path, fault) => print_table(out, path, *fault),
+        ToolFault::Setup(path, fault) => print_setup(out, path, fault),
+        ToolFault::Output => out.write_all(b"the output failed"),
+    }
+}
+
+fn print_table<W: Write>(out: &mut W, path: &str, fault: ShowFault) -> io::Result<()>
+    ensures text { OnOk result (Appends (W.contents out.old) (W.contents out.new) (path.now ++ (codes ": " ++ show_reason path.now fault))) }
+{
+    out.write_all(path.as_bytes())?;
+    out.write_all(b": ")?;
+    print_show_reason(out, path, fault)?;
+    Ok(())
+}
+
+fn print_setup<W: Write>(out: &mut W, path: &str, fault: &CheckFault) -> io::Result<()>
+    ensures text { OnOk result (Appends (W.contents out.old) (W.contents out.new) (path.now ++ (codes ": " ++ check_reason path.now fault.now))) }
+{
+    out.write_all(path.as_bytes())?;
+    out.write_all(b": ")?;
+    print_check_reason(out, path, fault)?;
+    Ok(())
+}

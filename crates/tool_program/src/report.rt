@@ -1,0 +1,45 @@
+//! How a call of the program came to its end.
+
+use program_frame::Report;
+use std::io;
+use std::io::Write;
+
+/// How a call of the program came to its end. All that there is to print has been printed.
+#[derive(Clone, Copy, Debug, PartialEq, Eq)]
+pub enum ToolReport {
+    /// All that was asked for is shown, or the server would open the setup that was checked.
+    Good,
+    /// The server would not open the setup, which has been told.
+    NotOpened,
+    /// Nobody reads the output any more, so that not all of it was written.
+    Unread,
+}
+
+impl Report for ToolReport {
+    ghost use Rattle.std.specs.Prelude.{◌≡◌, []};
+    ghost use Rattle.std.specs.Io.KnownBytes.{Keeps};
+    ghost use Rattle.tool_program.specs.Answers.{report_status};
+
+    ghost has_status = { λ report status. status ≡ report_status report };
+
+    ghost prints = { λ _ old new. Keeps old new };
+
+    ghost aside = { λ _. [] };
+
+    // 2 for a setup that the server would not open.
+    fn exit_status(&self) -> u8 {
+        match self {
+            ToolReport::Good => 0,
+            ToolReport::NotOpened => 2,
+            ToolReport::Unread => 0,
+        }
+    }
+
+    fn print<W: Write>(&self, _out: &mut W) -> io::Result<()> {
+        Ok(())
+    }
+
+    fn print_aside<W: Write>(&self, _err: &mut W) -> io::Result<()> {
+        Ok(())
+    }
+}

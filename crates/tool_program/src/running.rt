@@ -1,0 +1,269 @@
+//! A call of the program: what its command line asks for is shown or checked, and how that ended.
+
+ghost use Rattle.std.specs.Prelude.{◌≡◌, map, true, false, Err, Ok, Some, IfErr, IfOk, IsErrAnd, OnOk};
+ghost use Rattle.byte_io.specs.Sink.{IsFront, Rises};
+ghost use Rattle.folders.specs.Files.{load_refusal};
+ghost use Rattle.tool_program.specs.Check.{check_load_fault};
+ghost use Rattle.tool_program.specs.Memos.{IsNotHad};
+ghost use Rattle.tool_program.specs.Answers.{asked_path, IsAnswered, IsAnsweredTo, IsCheckedAs, IsShownAs, IsTreeShownAs, IsToldUnloaded};
+ghost use Rattle.tool_program.specs.Answers.{IsWhyUnanswered, IsWhyUnchecked, IsWhyUnshown, IsWhyNoTree, IsWhyNotDone};
+ghost use Rattle.tool_program.specs.Faults.{path_at_fault, IsToolFaultOf, IsToolFaultOfSetup};
+ghost use Rattle.tool_program.specs.Faults.{is_no_memory as is_want_of_memory, is_load_no_memory as is_want_of_load, is_image_no_memory as is_want_of_image};
+ghost use Rattle.tool_program.specs.Faults.{is_ndx_no_memory as is_want_of_ndx, is_expression_no_memory as is_want_of_expression};
+ghost use Rattle.tool_program.specs.Faults.{is_order_no_memory as is_want_of_order};
+
+use crate::checking::{CheckFault, check_setup};
+use crate::fault::ToolFault;
+use crate::indexing::show_tree;
+use crate::options::{Asked, CheckOptions, Options, read_options};
+use crate::order::OrderFault;
+use crate::report::ToolReport;
+use crate::showing::{ShowFault, show_file};
+use crate::stream::MayClose;
+use byte_io::ByteSink;
+use dbf_image::ImageFault;
+use folders::{LoadFault, Source};
+use key_expr::ExprFault;
+use ndx_index::NdxFault;
+use program_frame::Ending;
+use std::alloc::Global;
+use std::convert::AsStr;
+use table_text::TextFault;
+
+// Whether a fault of a load is a want of memory.
+fn is_load_no_memory(why: LoadFault) -> bool
+    ensures value { result ≡ is_want_of_load why }
+{
+    matches!(why, LoadFault::NoMemory)
+}
+
+// Whether a fault of a table's files is one.
+fn is_image_no_memory(why: ImageFault) -> bool
+    ensures value { result ≡ is_want_of_image why }
+{
+    matches!(why, ImageFault::NoMemory)
+}
+
+// Whether a fault of an index file's bytes is one.
+fn is_ndx_no_memory(why: NdxFault) -> bool
+    ensures value { result ≡ is_want_of_ndx why }
+{
+    matches!(why, NdxFault::NoMemory)
+}
+
+// Whether a fault of a key expression is one.
+fn is_expression_no_memory(why: ExprFault) -> bool
+    ensures value { result ≡ is_want_of_expression why }
+{
+    matches!(why, ExprFault::NoMemory)
+}
+
+// Whether a fault of an index is one.
+fn is_order_no_memory(why: OrderFault) -> bool
+    ensures value { result ≡ is_want_of_order why }
+{
+    match why {
+        OrderFault::Load(why) => is_load_no_memory(why),
+        OrderFault::Index(why) => is_ndx_no_memory(why),
+        OrderFault::Expression(why) => is_expression_no_memory(why),
+        OrderFault::Stale => false,
+        OrderFault::NoMemory => true,
+    }
+}
+
+// Whether a fault is one.
+fn is_no_memory(fault: ShowFault) -> bool
+    ensures value { result ≡ is_want_of_memory fault }
+{
+    match fault {
+        ShowFault::Load(why) => is_load_no_memory(why),
+        ShowFault::Memos(why) => is_load_no_memory(why),
+        ShowFault::Table(why) => is_image_no_memory(why),
+        ShowFault::Order(why) => is_order_no_memory(why),
+        ShowFault::Text(TextFault::NoMemory) => true,
+        ShowFault::Text(TextFault::Sink) => false,
+    }
+}
+
+// The path of the index or of the file of memos, where the fault is one of it, and else of the table.
+fn faulty_path<'a>(options: &Options<'a>, fault: ShowFault) -> &'a str
+    ensures value { result.now ≡ path_at_fault options.now fault }
+{
+    match fault {
+        ShowFault::Order(_) => options.order.unwrap_or(options.table),
+        ShowFault::Memos(_) => options.memos.unwrap_or(options.table),
+        _ => options.table,
+    }
+}
+
+// What a call ends in whose output failed. That nobody reads it any more is no fault.
+fn output_failed<'a>(is_closed: bool) -> Result<ToolReport, ToolFault<'a>>
+    ensures unread { is_closed ≡ true → result ≡ Ok ToolReport.Unread }
+    ensures failed { is_closed ≡ false → result ≡ Err ToolFault.Output }
+{
+    if is_closed {
+        Ok(ToolReport::Unread)
+    } else {
+        Err(ToolFault::Output)
+    }
+}
+
+/// What a call ends in that could not show the file of a path, or not all of it.
+pub fn not_shown(fault: ShowFault, is_closed: bool, path: &str) -> Result<ToolReport, ToolFault<'_>>
+    ensures fault { IfErr result (IsToolFaultOf fault path.now) }
+    ensures output { result ≡ Err ToolFault.Output → is_closed ≡ false }
+    ensures unread { IfOk result (λ report. report ≡ ToolReport.Unread) }
+    ensures closed { OnOk result ((fault ≡ ShowFault.Text TextFault.Sink) × (is_closed ≡ true)) }
+{
+    match fault {
+        ShowFault::Text(TextFault::Sink) => output_failed(is_closed),
+        _ => {
+            if is_no_memory(fault) {
+                Err(ToolFault::NoMemory)
+            } else {
+                Err(ToolFault::Table(path, fault))
+            }
+        }
+    }
+}
+
+/// What a call ends in that could not check the setup of a path, or not tell all of it.
+pub fn not_checked(
+    fault: CheckFault,
+    is_closed: bool,
+    path: &str,
+) -> Result<ToolReport, ToolFault<'_>>
+    ensures fault { IfErr result (IsToolFaultOfSetup fault path.now) }
+    ensures output { result ≡ Err ToolFault.Output → is_closed ≡ false }
+    ensures unread { IfOk result (λ report. report ≡ ToolReport.Unread) }
+    ensures closed { OnOk result ((fault ≡ CheckFault.Sink) × (is_closed ≡ true)) }
+{
+    match fault {
+        CheckFault::Sink => output_failed(is_closed),
+        CheckFault::NoMemory => Err(ToolFault::NoMemory),
+        fault => Err(ToolFault::Setup(path, fault)),
+    }
+}
+
+// Shows a table, or its fields.
+fn run_show<'a, F: Source, S: ByteSink + MayClose>(
+    alloc: Global,
+    source: &mut F,
+    sink: &mut S,
+    options: &Options<'a>,
+) -> Result<ToolReport, ToolFault<'a>>
+    ensures answered { IfOk result (IsShownAs (F.files source.old) options.now (S.written sink.old) (S.written sink.new)) }
+    ensures unread { result ≡ Ok ToolReport.Unread → (S.closed sink.new ≡ true) × Rises (S.failures sink.old) (S.failures sink.new) }
+    ensures output { result ≡ Err ToolFault.Output → (S.closed sink.new ≡ false) × Rises (S.failures sink.old) (S.failures sink.new) }
+    ensures kept { IsFront (S.written sink.old) (S.written sink.new) }
+    ensures early { (why : LoadFault) → load_refusal (F.files source.old) options.now.table.now ≡ Some why
+        → IsErrAnd result (IsToolFaultOf (ShowFault.Load why) options.now.table.now) }
+    ensures fault { let unread = IsNotHad (F.files source.old) (F.failures source.old) (F.failures source.new) in
+        IfErr result (IsWhyUnshown (F.files source.old) unread options.now) }
+{
+    match show_file(alloc, source, sink, options) {
+        Ok(()) => Ok(ToolReport::Good),
+        Err(fault) => not_shown(fault, sink.is_closed(), faulty_path(options, fault)),
+    }
+}
+
+// Shows the pages of the index file of a path.
+fn run_tree<'a, F: Source, S: ByteSink + MayClose>(
+    alloc: Global,
+    source: &mut F,
+    sink: &mut S,
+    path: &'a str,
+) -> Result<ToolReport, ToolFault<'a>>
+    ensures answered { IfOk result (IsTreeShownAs (F.files source.old) path.now (S.written sink.old) (S.written sink.new)) }
+    ensures unread { result ≡ Ok ToolReport.Unread → (S.closed sink.new ≡ true) × Rises (S.failures sink.old) (S.failures sink.new) }
+    ensures output { result ≡ Err ToolFault.Output → (S.closed sink.new ≡ false) × Rises (S.failures sink.old) (S.failures sink.new) }
+    ensures kept { IsFront (S.written sink.old) (S.written sink.new) }
+    ensures early { (why : LoadFault) → load_refusal (F.files source.old) path.now ≡ Some why
+        → IsErrAnd result (IsToolFaultOf (ShowFault.Load why) path.now) }
+    ensures fault { let unread = IsNotHad (F.files source.old) (F.failures source.old) (F.failures source.new) in
+        IfErr result (IsWhyNoTree (F.files source.old) unread path.now) }
+{
+    match show_tree(alloc, source, sink, path) {
+        Ok(()) => Ok(ToolReport::Good),
+        Err(fault) => not_shown(fault, sink.is_closed(), path),
+    }
+}
+
+// Checks a setup.
+fn run_check<'a, F: Source, S: ByteSink + MayClose>(
+    alloc: Global,
+    source: &mut F,
+    sink: &mut S,
+    options: &CheckOptions<'a>,
+) -> Result<ToolReport, ToolFault<'a>>
+    ensures answered { IfOk result (IsCheckedAs (F.files source.old) options.now (S.written sink.old) (S.written sink.new)) }
+    ensures unread { result ≡ Ok ToolReport.Unread → (S.closed sink.new ≡ true) × Rises (S.failures sink.old) (S.failures sink.new) }
+    ensures output { result ≡ Err ToolFault.Output → (S.closed sink.new ≡ false) × Rises (S.failures sink.old) (S.failures sink.new) }
+    ensures kept { IsFront (S.written sink.old) (S.written sink.new) }
+    ensures early { (why : LoadFault) → load_refusal (F.files source.old) options.now.setup.now ≡ Some why
+        → IsErrAnd result (IsToolFaultOfSetup (check_load_fault why) options.now.setup.now) }
+    ensures fault { let unread = IsNotHad (F.files source.old) (F.failures source.old) (F.failures source.new) in
+        IfErr result (IsWhyUnchecked (F.files source.old) unread options.now.setup.now) }
+{
+    match check_setup(alloc, source, sink, options.setup, options.bad_lines) {
+        Ok(true) => Ok(ToolReport::Good),
+        Ok(false) => Ok(ToolReport::NotOpened),
+        Err(fault) => not_checked(fault, sink.is_closed(), options.setup),
+    }
+}
+
+/// Shows or checks what a command line asks for: reads the files that it names, and writes the text into a sink. The report says how
+/// that came to its end.
+///
+/// A fault is told with the path of the file that it is one of; `NoMemory` says that there was no memory, and `Output` that the sink
+/// failed, and still has its reader. `BadRange` is none of these.
+pub fn run_asked<'a, F: Source, S: ByteSink + MayClose>(
+    alloc: Global,
+    source: &mut F,
+    sink: &mut S,
+    asked: &Asked<'a>,
+) -> Result<ToolReport, ToolFault<'a>>
+    // What was written is what was asked for, and the report says whether the server would open a setup.
+    ensures answered { IfOk result (IsAnswered (F.files source.old) asked.now (S.written sink.old) (S.written sink.new)) }
+    // That nobody reads the output any more is said only where that is so, and that it failed only where it is not; and both only
+    // after a failure.
+    ensures unread { result ≡ Ok ToolReport.Unread → (S.closed sink.new ≡ true) × Rises (S.failures sink.old) (S.failures sink.new) }
+    ensures output { result ≡ Err ToolFault.Output → (S.closed sink.new ≡ false) × Rises (S.failures sink.old) (S.failures sink.new) }
+    ensures kept { IsFront (S.written sink.old) (S.written sink.new) }
+    // Where no load can give the file that is asked for the answer is why, whether there is memory or not.
+    ensures early { (why : LoadFault) → load_refusal (F.files source.old) (asked_path asked.now) ≡ Some why
+        → IsErrAnd result (IsToldUnloaded asked.now why) }
+    ensures fault { let unread = IsNotHad (F.files source.old) (F.failures source.old) (F.failures source.new) in
+        IfErr result (IsWhyUnanswered (F.files source.old) unread asked.now) }
+{
+    match asked {
+        Asked::Show(options) => run_show(alloc, source, sink, options),
+        Asked::Check(options) => run_check(alloc, source, sink, options),
+        Asked::Tree(path) => run_tree(alloc, source, sink, path),
+    }
+}
+
+/// Does what the words of a command line ask for, of which the first is the program's name: reads the files that it names, and
+/// writes the text into a sink.
+///
+/// An ending says that the words give no options, that their range of records is none, or what [`run_asked`] says.
+#[tactic(auto, using(byte_io::specs::Laws::Sinks::front_same))]
+pub fn run_words<'a, F: Source, S: ByteSink + MayClose, T: AsStr>(
+    alloc: Global,
+    source: &mut F,
+    sink: &mut S,
+    words: &'a [T],
+) -> Result<ToolReport, Ending<ToolFault<'a>>>
+    // What was written is what the words ask for.
+    ensures answered { IfOk result (IsAnsweredTo (map T.text words.entry.now) (F.files source.old) (S.written sink.old) (S.written sink.new)) }
+    // Why it was not is what the words say, or a fault of what they ask for.
+    ensures fault { let unread = IsNotHad (F.files source.old) (F.failures source.old) (F.failures source.new) in
+        IfErr result (IsWhyNotDone (map T.text words.entry.now) (F.files source.old) unread) }
+    ensures kept { IsFront (S.written sink.old) (S.written sink.new) }
+{
+    let asked = read_options(alloc, words)?;
+    match run_asked(alloc, source, sink, &asked) {
+        Ok(report) => Ok(report),
+        Err(fault) => Err(Ending::Failed(fault)),
+    }
+}

@@ -1,0 +1,124 @@
+//! Tests of the program: its command lines, what it prints of files in memory, and how it ends. What several of them share stands
+//! here.
+
+use byte_io::{Bytes, Failures};
+use folders::{MemorySource, NamedFile};
+use sample_files::{EMPTY_INDEX, NOTE, TABLE, with_zeros};
+use std::alloc::{AllocError, Global};
+use std::process::ExitCode;
+use std::test::*;
+use tool_program::{StreamSink, run_words, tell_end};
+
+mod checking;
+mod command_line;
+mod endings;
+mod memos;
+mod showing;
+mod trees;
+mod unrecovered;
+mod verdict;
+
+// The leaf of the index of BOB, record 1, and ADA, record 2, by NAME: the count, and of each key no child, the record number,
+// the key and two bytes that fill it up.
+const LEAF: &[u8] = b"\x02\0\0\0\0\0\0\0\x02\0\0\0ADA       \0\0\0\0\0\0\x01\0\0\0BOB       ";
+
+// The table of BOB and ADA.
+fn bob_and_ada(alloc: Global) -> Result<Vec<u8>, AllocError> {
+    let mut bytes = Vec::from_slice(alloc, &TABLE[..65])?;
+    bytes.extend_from_slice(b" BOB        ADA       \x1a")?;
+    Ok(bytes)
+}
+
+// Its index by NAME.
+fn by_name(alloc: Global) -> Result<Vec<u8>, AllocError> {
+    let mut bytes = with_zeros(alloc, &EMPTY_INDEX, 512)?;
+    bytes.extend_from_slice(with_zeros(alloc, LEAF, 512)?.as_slice())?;
+    Ok(bytes)
+}
+
+// The file of memos of a table of one, whose text is this.
+fn memo(alloc: Global, text: &[u8]) -> Result<Vec<u8>, AllocError> {
+    let mut bytes = with_zeros(alloc, &[], 512)?;
+    bytes.extend_from_slice(text)?;
+    bytes.extend_from_slice(b"\x1a\x1a")?;
+    Ok(bytes)
+}
+
+// The table of ADA and BOB, that of BOB and ADA and its index, under their paths, files that are no table and no index, and the table
+// of one memo with its file beside it and without one.
+fn files(alloc: Global) -> Result<MemorySource, Fail> {
+    let mut files = Vec::new(alloc);
+    let swapped = bob_and_ada(alloc)?;
+    let index = by_name(alloc)?;
+    let upper = memo(alloc, b"UPPER")?;
+    let lower = memo(alloc, b"LOWER")?;
+    let contents: [(&[u8], &[u8]); 18] = [
+        (b"T.DBF", &TABLE),
+        (b"S.DBF", swapped.as_slice()),
+        (b"S.NDX", index.as_slice()),
+        (b"BAD.DBF", b"\x03"),
+        (b"BAD.NDX", b""),
+        (b"M/N.DBF", &NOTE),
+        (b"M/N.DBT", upper.as_slice()),
+        (b"n.dbf", &NOTE),
+        (b"n.dbt", lower.as_slice()),
+        (b"N.DBF", &NOTE),
+        (b"N.Dbf", &NOTE),
+        (b"A.PRG", b"USE S\n"),
+        (b"B.PRG", b"USE S\nSET TALK OFF\n* NAMES\nCLEAR\n"),
+        (b"TALK.SET", b"TABLE S S.DBF\nSTATION B.PRG\n"),
+        (
+            b"GOOD.SET",
+            b"TABLE S S.DBF\nINDEX S BYNAME S.NDX\nSTATION A.PRG\n",
+        ),
+        (
+            b"STALE.SET",
+            b"TABLE T T.DBF\nINDEX T BYNAME S.NDX\nSTATION A.PRG\n",
+        ),
+        (
+            b"TWICE.SET",
+            b"TABLE S S.DBF\nTABLE S T.DBF\nSTATION A.PRG\n",
+        ),
+        (b"BAD.SET", b"TABLE S S.DBF\nTABEL T T.DBF\n"),
+    ];
+    for (name, bytes) in contents {
+        files.push(NamedFile {
+            name: Bytes::from_slice(alloc, name)?,
+            bytes: Bytes::from_slice(alloc, bytes)?,
+        })?;
+    }
+    Ok(MemorySource {
+        files,
+        loads: 99,
+        failures: Failures::none(),
+    })
+}
+
+// What a command line prints on standard output and on standard error over these files, and its exit status.
+fn answer(
+    alloc: Global,
+    source: &mut MemorySource,
+    words: &[&str],
+) -> (Vec<u8>, Vec<u8>, ExitCode) {
+    let mut shown = Vec::new(alloc);
+    let mut out = Vec::new(alloc);
+    let mut err = Vec::new(alloc);
+    let ended = run_words(alloc, source, &mut StreamSink::new(&mut shown), words);
+    let told = tell_end(&mut out, &mut err, &ended);
+    (shown, err, told.status)
+}
+
+// Whether a command line prints this, is told so on standard error, and has this exit status.
+fn is_answered(
+    alloc: Global,
+    source: &mut MemorySource,
+    words: &[&str],
+    status: u8,
+    text: &str,
+    line: &str,
+) -> bool {
+    let (printed, said, ended) = answer(alloc, source, words);
+    printed.as_slice() == text.as_bytes()
+        && said.as_slice() == line.as_bytes()
+        && ended == ExitCode::from(status)
+}

@@ -1,0 +1,56 @@
+//! Command lines, good and bad.
+
+use crate::tests::{answer, files};
+use std::process::{Abort, ExitCode};
+use std::test::*;
+use tool_program::range_of;
+
+#[test]
+fn ranges_are_one_number_or_two(rt: HostRuntime) -> Result<(), Fail> {
+    let cases: [(&[u8], Option<(u32, u32)>); 13] = [
+        (b"7", Some((7, 7))),
+        (b"1-20", Some((1, 20))),
+        (b"20-1", Some((20, 1))),
+        (b"0-4294967295", Some((0, 4_294_967_295))),
+        (b"007-8", Some((7, 8))),
+        (b"4294967296", None),
+        (b"00000000001", None),
+        (b"", None),
+        (b"-", None),
+        (b"-5", None),
+        (b"5-", None),
+        (b"1-2-3", None),
+        (b"1,2", None),
+    ];
+    for (text, range) in cases {
+        assert_eq!(rt; range_of(text), range);
+    }
+    Ok(())
+}
+
+#[test]
+fn bad_command_lines_end_with_one(rt: HostRuntime) -> Result<(), Fail> {
+    let cases: [(&[&str], u8); 15] = [
+        (&["table_tool", "--help"], 0),
+        (&["table_tool", "show", "--help"], 0),
+        (&["table_tool"], 1),
+        (&["table_tool", "show"], 1),
+        (&["table_tool", "print", "T.DBF"], 1),
+        (&["table_tool", "fields", "T.DBF", "--deleted"], 1),
+        (&["table_tool", "fields", "T.DBF", "--order", "T.NDX"], 1),
+        (&["table_tool", "show", "T.DBF", "--from", "A"], 1),
+        (&["table_tool", "show", "T.DBF", "--memo", ""], 1),
+        (&["table_tool", "show", "T.DBF", "--records", "x"], 1),
+        (&["table_tool", "csv", "T.DBF", "--records", "1-"], 1),
+        (&["table_tool", "fields", "T.DBF", "--lines"], 1),
+        (&["table_tool", "tree", "--help"], 0),
+        (&["table_tool", "tree"], 1),
+        (&["table_tool", "tree", "S.NDX", "--records", "1"], 1),
+    ];
+    let mut source = files(rt.alloc())?;
+    for (words, status) in cases {
+        let (_, _, ended) = answer(rt.alloc(), &mut source, words);
+        assert!(rt; ended == ExitCode::from(status));
+    }
+    Ok(())
+}
