@@ -1,6 +1,6 @@
 //! Why not all entries of a journal hold.
 
-use dbf_fields::Bytes;
+use byte_io::Bytes;
 use std::alloc::AllocError;
 
 /// An entry whose answer is another than the one that its command has at its place.

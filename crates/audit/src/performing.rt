@@ -7,8 +7,8 @@ ghost use Rattle.audit.specs.Audits.{IsJournalOf, BeginsWithReadable, HoldsFirst
 
 use crate::fault::{AuditFault, Difference};
 use crate::read::{ReadEntry, is_same, read_entry};
+use byte_io::Bytes;
 use catalogue_core::{Catalogue, Stop};
-use dbf_fields::Bytes;
 use station_lines::{answer_line, command_line};
 use std::alloc::{AllocError, Global};
 

@@ -11,7 +11,7 @@ use Rattle.key_expr.specs.Expression.{Expression}
 use Rattle.key_expr.specs.Keys.{key_length}
 use Rattle.key_expr.specs.Rules.{IsKeyText, IsFault}
 use Rattle.ndx_index.specs.declared.ndx_file.NdxFile.{NdxFile}
-use Rattle.ndx_index.specs.TableOrder.{pairs_of}
+use Rattle.table_order.specs.TableOrder.{pairs_of}
 use Rattle.table_core.specs.Content.{Content, Indexed, with_index, has_index}
 use Rattle.catalogue_core.specs.declared.opening.TheConstants.{MAX_STATIONS, MAX_TABLES, MAX_INDEXES}
 use Rattle.catalogue_core.specs.declared.opening.OpenFault.{OpenFault}

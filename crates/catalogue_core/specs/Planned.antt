@@ -19,7 +19,7 @@ use Rattle.catalogue_core.specs.declared.answer.Answer.TheVariants.{Done}
 use Rattle.catalogue_core.specs.declared.area.Area.{Area}
 use Rattle.catalogue_core.specs.declared.command.Command.{Command}
 use Rattle.catalogue_core.specs.declared.change.Change.{Change}
-use Rattle.catalogue_core.specs.declared.change.Change.TheVariants.{Nothing, Select, Close, Open, Move, Edit, Pack, LockRecord, LockRecords, LockFile, Unlock, UnlockAll}
+use Rattle.catalogue_core.specs.declared.change.Change.TheVariants.{Nothing, Select, Close, Open, Move, Edit, Pack, RecordLock, RecordLocks, FileLock, Unlock, UnlockAll}
 use Rattle.catalogue_core.specs.declared.change.Plan.{Plan}
 use Rattle.catalogue_core.specs.declared.plan.moves.Move.{Move as MoveTo}
 use Rattle.catalogue_core.specs.declared.plan.moves.Move.TheVariants as move_to
@@ -57,9 +57,9 @@ state_after s station (Open area) = with_area (closed s station) station (Some a
 state_after s station (Move area) = with_area s station (Some area)
 state_after s station (Edit area planned) = with_planned s station area planned
 state_after s station (Pack area planned) = without_lock (with_planned s station area planned) station (Some area)
-state_after s station (LockRecord area number) = with_held s (with_lock s.locks.locks station area.table number)
-state_after s station (LockRecords area records) = with_held s (with_records s.locks.locks station area.table records.items)
-state_after s station (LockFile area) = with_held s (with_lock s.locks.locks station area.table 0)
+state_after s station (RecordLock area number) = with_held s (with_lock s.locks.locks station area.table number)
+state_after s station (RecordLocks area records) = with_held s (with_records s.locks.locks station area.table records.items)
+state_after s station (FileLock area) = with_held s (with_lock s.locks.locks station area.table 0)
 state_after s station (Unlock area) = without_lock s station (Some area)
 state_after s station UnlockAll = with_held s (without_all s.locks.locks station)
 
@@ -101,8 +101,8 @@ AreLockable records = (1 ≤ length records) × (length records ≤ MAX_RECORD_L
 abbrev pub CanChange : WithRoom → ℕ → Change → Type 0
 CanChange w station (Edit area planned) = CanEdit w area planned
 CanChange w station (Pack area planned) = CanEdit w area planned
-CanChange w station (LockRecord area number) = IsArea (seen w).tables area × (1 ≤ number) × (free_record w.locks.locks station area.table number ≡ true)
-CanChange w station (LockRecords area records) = IsArea (seen w).tables area × AreLockable records.items × (free_records w.locks.locks station area.table records.items ≡ true)
-CanChange w station (LockFile area) = IsArea (seen w).tables area × (free_whole w.locks.locks station area.table ≡ true)
+CanChange w station (RecordLock area number) = IsArea (seen w).tables area × (1 ≤ number) × (free_record w.locks.locks station area.table number ≡ true)
+CanChange w station (RecordLocks area records) = IsArea (seen w).tables area × AreLockable records.items × (free_records w.locks.locks station area.table records.items ≡ true)
+CanChange w station (FileLock area) = IsArea (seen w).tables area × (free_whole w.locks.locks station area.table ≡ true)
 CanChange w station (Unlock area) = IsArea (seen w).tables area
 CanChange w station _ = Unit {0}

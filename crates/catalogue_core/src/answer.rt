@@ -3,7 +3,7 @@
 ghost use Rattle.std.specs.Prelude.{◌≡◌, ◌↔◌, IsTrue, IfOk};
 ghost use Rattle.catalogue_core.specs.Status.{answer_code};
 
-use dbf_fields::Bytes;
+use byte_io::Bytes;
 use std::alloc::{AllocError, Global};
 use table_core::Refusal;
 

@@ -14,7 +14,7 @@ use crate::plan::plan;
 use crate::source::TableSource;
 use crate::state::State;
 use crate::status::StatusRow;
-use dbf_fields::Bytes;
+use byte_io::Bytes;
 use dbf_image::TableData;
 use std::alloc::{AllocError, Global};
 use std::marker::Model;

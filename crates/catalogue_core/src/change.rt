@@ -30,11 +30,11 @@ pub(crate) enum Change {
     /// The table of this, which is the current area, is packed, and the station's locks in it are released.
     Pack(Area, Planned),
     /// A record of the area's table is locked.
-    LockRecord(Area, u32),
+    RecordLock(Area, u32),
     /// Records of the area's table are locked.
-    LockRecords(Area, Records),
+    RecordLocks(Area, Records),
     /// The area's table is locked.
-    LockFile(Area),
+    FileLock(Area),
     /// The station's locks in the area's table are released.
     Unlock(Area),
     /// All locks of the station are released.

@@ -3,7 +3,8 @@
 ghost use Rattle.std.specs.Prelude.{◌≡◌, ◌↔◌, IsTrue, IfOk};
 
 use crate::numbers::Numbers;
-use dbf_fields::{Bytes, Literal};
+use byte_io::Bytes;
+use dbf_fields::Literal;
 use std::alloc::{AllocError, Global};
 
 /// A question about the area's table and its cursor.

@@ -4,7 +4,7 @@ ghost use Rattle.std.specs.Prelude.{◌≡◌, map, IfOk};
 ghost use Rattle.catalogue_core.specs.Tables.{named_table, kept_table};
 
 use crate::opening::OpenedTable;
-use dbf_fields::Bytes;
+use byte_io::Bytes;
 use std::alloc::{AllocError, Global};
 use std::snapshot::Snapshot;
 use table_core::Table;

@@ -3,7 +3,7 @@
 ghost use Rattle.std.specs.Prelude.{◌≡◌, ◌<◌, not, [], length, IfOk, OnOk, OnErr, IfSome};
 ghost use Rattle.catalogue_core.specs.Names.{index_named, includes_name, with_name};
 
-use dbf_fields::Bytes;
+use byte_io::Bytes;
 use indexmap::IndexSet;
 use std::alloc::{AllocError, Global};
 use std::marker::Model;

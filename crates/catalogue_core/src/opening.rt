@@ -11,7 +11,7 @@ mod index;
 
 use crate::opening::index::open_index;
 use crate::source::{IndexSource, TableSource};
-use dbf_fields::Bytes;
+use byte_io::Bytes;
 use dbf_image::TableData;
 use key_expr::ExprFault;
 use std::alloc::{AllocError, AllocFailed, Global};

@@ -17,7 +17,7 @@ mod status;
 use crate::area::Area;
 use crate::names::Names;
 use crate::stations::Stations;
-use dbf_fields::Bytes;
+use byte_io::Bytes;
 use lock_table::Locks;
 use std::marker::Model;
 use table_core::Table;

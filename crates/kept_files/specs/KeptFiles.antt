@@ -1,6 +1,6 @@
 -- Files of a setup whose names are not those of the new files that a run writes of them.
 use Rattle.std.specs.Prelude.{List, ℕ, ◌++◌, Option, Some, None, bytes_eq, codes, if◌then◌else◌}
-use Rattle.station_files.specs.Paths.{name_at_end}
+use Rattle.folders.specs.Paths.{name_at_end}
 use Rattle.station_lines.specs.declared.setup.entry.SetupEntry.{SetupEntry}
 use Rattle.station_lines.specs.declared.setup.entry.SetupEntry.TheVariants as entry
 use Rattle.kept_files.specs.declared.KeptFile.{KeptFile}

@@ -6,11 +6,11 @@
 #![tactic(auto)]
 
 ghost use Rattle.std.specs.Prelude.{◌≡◌, ◌++◌, bytes_eq, option_map};
-ghost use Rattle.station_files.specs.Paths.{name_at_end};
+ghost use Rattle.folders.specs.Paths.{name_at_end};
 ghost use Rattle.kept_files.specs.KeptFiles.{ending_of, kept, kept_of, kept_unless_named, kept_file_in, kept_memo_file_in};
 
-use dbf_fields::Bytes;
-use station_files::file_name;
+use byte_io::Bytes;
+use folders::file_name;
 use station_lines::SetupEntry;
 
 /// What a new file has.

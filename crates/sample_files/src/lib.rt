@@ -11,7 +11,7 @@ ghost use Rattle.dbf_image.specs.DbfText.{IsDbf};
 mod files;
 mod index_file;
 
-use dbf_fields::Bytes;
+use byte_io::Bytes;
 use dbf_image::{ImageFault, TableData, read_table};
 pub use files::{EMPTY, EMPTY_INDEX, NOTE, TABLE, WITH_CYD};
 pub use index_file::{FIRST_LEAF, ROOT, SECOND_LEAF, two_leaves};

@@ -6,8 +6,8 @@ ghost use Rattle.catalogue_core.specs.declared.opening.TheConstants.{MAX_TABLES}
 ghost use Rattle.catalogue_core.specs.Replay.{state_of, names_of, IsLegal, AreOfStations};
 ghost use Rattle.catalogue_core.specs.State.{table_at};
 
+use byte_io::Bytes;
 use catalogue_core::{Catalogue, Entry};
-use dbf_fields::Bytes;
 use std::marker::Model;
 use table_core::Table;
 

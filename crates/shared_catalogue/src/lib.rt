@@ -17,11 +17,6 @@ mod seat;
 mod settle;
 mod shared;
 
-pub use catalogue_core::{
-    Answer, Catalogue, Command, Entry, IndexSource, MAX_AREAS, MAX_ENTRIES, MAX_INDEXES,
-    MAX_STATIONS, MAX_TABLES, Numbers, OpenFault, Question, Refusal, StatusRow, Stop, TableSource,
-    TableStatus,
-};
 pub use closed::Closed;
 pub use lot::{Lot, Naming};
 pub use receipt::Receipt;

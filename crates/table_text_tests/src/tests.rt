@@ -1,7 +1,8 @@
 //! Tests of the whole crate, and what they share. What is expected is written down by hand.
 
+use byte_io::{LimitedSink, MemorySink, SinkWriter};
 use dbf_fields::{CHARACTER, DATE, Field, LOGICAL, MEMO, NUMBER, Schema, day_of};
-use dbf_image::{LimitedSink, MemorySink, SinkWriter, TableData, is_memo_text};
+use dbf_image::{TableData, is_memo_text};
 use std::alloc::Global;
 use std::process::Abort;
 use std::test::*;

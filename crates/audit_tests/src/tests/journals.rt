@@ -2,7 +2,7 @@
 
 use super::sample::{audited, joined};
 use audit::{AuditFault, Difference};
-use dbf_fields::Bytes;
+use byte_io::Bytes;
 use std::alloc::Global;
 use std::test::Fail;
 

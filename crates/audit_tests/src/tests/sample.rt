@@ -3,8 +3,9 @@
 ghost use Rattle.std.specs.Prelude.{◌≡◌, [], IfOk};
 
 use audit::{AuditFault, audit};
+use byte_io::Bytes;
 use catalogue_core::{Catalogue, TableSource};
-use dbf_fields::{Bytes, CHARACTER, Field, MEMO, Schema};
+use dbf_fields::{CHARACTER, Field, MEMO, Schema};
 use dbf_image::{TableData, is_memo_text};
 use std::alloc::Global;
 use std::test::Fail;

@@ -10,7 +10,8 @@ ghost use Rattle.catalogue_core.specs.Tables.{named_table};
 
 use crate::opening::{MAX_INDEXES, MAX_TABLES, OpenFault, OpenedTable};
 use crate::source::IndexSource;
-use dbf_fields::{Bytes, Schema};
+use byte_io::Bytes;
+use dbf_fields::Schema;
 use key_expr::{ExprFault, KeyExpr};
 use ndx_index::NdxFile;
 use std::alloc::Global;

@@ -16,7 +16,7 @@ use crate::change::{Change, Plan, Records};
 use crate::command::Question;
 use crate::numbers::Numbers;
 use crate::state::State;
-use dbf_fields::Bytes;
+use byte_io::Bytes;
 use lock_table::MAX_RECORD_LOCKS;
 use std::alloc::Global;
 use table_core::{Cursor, Refusal, Table, TableFault};
@@ -80,7 +80,7 @@ pub(crate) fn plan_record_lock(state: &State, station: u32) -> Result<Plan, Refu
         return Ok(Plan::answered(Answer::Truth(false)));
     }
     Ok(Plan {
-        change: Change::LockRecord(area, number),
+        change: Change::RecordLock(area, number),
         answer: Answer::Truth(true),
     })
 }
@@ -109,7 +109,7 @@ pub(crate) fn plan_record_locks(
         return Ok(Plan::answered(Answer::Truth(false)));
     }
     Ok(Plan {
-        change: Change::LockRecords(area, records),
+        change: Change::RecordLocks(area, records),
         answer: Answer::Truth(true),
     })
 }
@@ -125,7 +125,7 @@ pub(crate) fn plan_file_lock(state: &State, station: u32) -> Result<Plan, Refusa
         return Ok(Plan::answered(Answer::Truth(false)));
     }
     Ok(Plan {
-        change: Change::LockFile(area),
+        change: Change::FileLock(area),
         answer: Answer::Truth(true),
     })
 }

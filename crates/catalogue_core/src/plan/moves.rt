@@ -9,7 +9,7 @@ ghost use Rattle.catalogue_core.specs.Step.{move};
 
 use crate::change::{Change, Plan};
 use crate::state::State;
-use dbf_fields::Bytes;
+use byte_io::Bytes;
 use table_core::{Cursor, Refusal, Table};
 
 /// Where a command moves the cursor.

@@ -27,12 +27,12 @@ impl State {
             Change::Move(area) => self.stations.put_area(station, Some(area)),
             Change::Edit(area, planned) => self.edit(station, area, planned),
             Change::Pack(area, planned) => self.pack(station, area, planned),
-            Change::LockRecord(area, number) => self.locks.lock_record(station, area.table, number),
-            Change::LockRecords(area, records) => {
+            Change::RecordLock(area, number) => self.locks.lock_record(station, area.table, number),
+            Change::RecordLocks(area, records) => {
                 self.locks
                     .lock_records(station, area.table, records.as_slice());
             }
-            Change::LockFile(area) => self.locks.lock_file(station, area.table),
+            Change::FileLock(area) => self.locks.lock_file(station, area.table),
             Change::Unlock(area) => self.locks.release(station, area.table),
             Change::UnlockAll => self.locks.release_all(station),
         }

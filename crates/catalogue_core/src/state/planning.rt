@@ -10,7 +10,7 @@ ghost use Rattle.catalogue_core.specs.State.{table_of, IsArea};
 
 use crate::area::Area;
 use crate::state::State;
-use dbf_fields::Bytes;
+use byte_io::Bytes;
 use key_expr::KeyExpr;
 use std::alloc::{AllocError, Global};
 use table_core::{Edit, Planned, TableFault};

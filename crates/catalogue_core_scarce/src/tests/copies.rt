@@ -2,8 +2,8 @@
 
 use super::ENOUGH;
 use super::lines::command_of;
+use byte_io::Bytes;
 use catalogue_core::{Answer, Command};
-use dbf_fields::Bytes;
 use scarce::{Attempt, refusals};
 use std::alloc::{AllocError, Global};
 use std::process::Abort;

@@ -3,9 +3,10 @@
 ghost use Rattle.std.specs.Prelude.{IsTrue};
 ghost use Rattle.table_core.specs.Cursors.{IsCursor};
 
+use byte_io::MemorySink;
 use catalogue_core::Catalogue;
 use dbf_fields::day_of;
-use dbf_image::{MemorySink, TableData, write_dbf, write_dbt};
+use dbf_image::{TableData, write_dbf, write_dbt};
 use std::alloc::Global;
 use std::test::Fail;
 use table_core::{Cursor, Table};

@@ -1,7 +1,8 @@
 //! The tables and the catalogue that the tests open.
 
+use byte_io::Bytes;
 use catalogue_core::{Catalogue, IndexSource, TableSource};
-use dbf_fields::{Bytes, CHARACTER, DATE, Field, MEMO, NUMBER, Schema};
+use dbf_fields::{CHARACTER, DATE, Field, MEMO, NUMBER, Schema};
 use dbf_image::TableData;
 use ndx_index::{NdxFile, PairList};
 use std::alloc::{AllocError, Global};

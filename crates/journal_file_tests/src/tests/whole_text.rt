@@ -1,6 +1,6 @@
 //! A journal's whole text, as it is written by hand.
 
-use dbf_fields::Bytes;
+use byte_io::Bytes;
 use journal_file::{
     CutSum, FileSum, JournalFault, ReadSums, cut_journal, cut_read_sum, cut_wrote_sum, head_text,
     sum_of, tail_text,

@@ -1,7 +1,7 @@
 use Rattle.std.proofs.Common.{◌≡◌, ◌∙◌, ap, bytes_eq, List, ℕ, ◌++◌, Some, None}
 use Rattle.std.specs.Cmp.{unsigned_Decides}
 use Rattle.std.proofs.lemmas.Slice.Eq.{strip_prefix_is}
-use Rattle.station_files.proofs.PathLaws.{same_end, other_front}
+use Rattle.folders.proofs.PathLaws.{same_end, other_front}
 use Rattle.kept_files.proofs.is_named.Goals as goal
 
 pub returns-in-Some : goal.returns-in-Some

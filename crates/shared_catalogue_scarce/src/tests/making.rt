@@ -4,9 +4,10 @@ ghost use Rattle.std.specs.Prelude.{◌≡◌, []};
 
 use super::ENOUGH;
 use super::sample::{open, sample};
+use catalogue_core::{Catalogue, OpenFault};
 use dbf_image::TableData;
 use scarce::{Attempt, refusals};
-use shared_catalogue::{Catalogue, Lot, Naming, OpenFault, Shared};
+use shared_catalogue::{Lot, Naming, Shared};
 use std::alloc::{AllocError, Global};
 use std::marker::Brand;
 use std::process::Abort;

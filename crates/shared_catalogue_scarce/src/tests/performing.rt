@@ -4,8 +4,9 @@ ghost use Rattle.std.specs.Prelude.{◌≡◌, []};
 
 use super::ENOUGH;
 use super::sample::{Case, cases, open, sample};
+use catalogue_core::{Catalogue, StatusRow, Stop};
 use scarce::{Attempt, Hoard, refusals};
-use shared_catalogue::{Catalogue, Lot, Naming, Seat, SettleFault, Shared, StatusRow, Stop};
+use shared_catalogue::{Lot, Naming, Seat, SettleFault, Shared};
 use std::alloc::{AllocError, Global};
 use std::marker::Brand;
 use std::process::Abort;

@@ -2,9 +2,10 @@
 
 ghost use Rattle.std.specs.Prelude.{◌≡◌, [], IfOk};
 
-use dbf_fields::{Bytes, CHARACTER, Field, Literal, Schema};
+use byte_io::Bytes;
+use catalogue_core::{Answer, Catalogue, Command, OpenFault, Refusal, TableSource};
+use dbf_fields::{CHARACTER, Field, Literal, Schema};
 use dbf_image::TableData;
-use shared_catalogue::{Answer, Catalogue, Command, OpenFault, Refusal, TableSource};
 use std::alloc::{AllocError, Global};
 use std::test::Fail;
 

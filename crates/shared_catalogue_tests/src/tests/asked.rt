@@ -1,9 +1,10 @@
 //! Tables of commands with their answers, and the walk through such a table.
 
 use super::sample::{first_table, named, open, open_sample};
-use dbf_fields::{Bytes, Literal, WholeNumber, day_of};
+use byte_io::Bytes;
+use catalogue_core::{Answer, Catalogue, Command, Numbers, Question};
+use dbf_fields::{Literal, WholeNumber, day_of};
 use dbf_image::TableData;
-use shared_catalogue::{Answer, Catalogue, Command, Numbers, Question};
 use std::alloc::Global;
 use std::test::Fail;
 

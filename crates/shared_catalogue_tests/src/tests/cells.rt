@@ -2,7 +2,8 @@
 
 use super::asked::{Asked, Case, Expected, Value, first_unexpected_in, table_after};
 use super::sample::{blank_table, cell_of};
-use dbf_fields::{Bytes, DATE, Field, LOGICAL, NUMBER};
+use byte_io::Bytes;
+use dbf_fields::{DATE, Field, LOGICAL, NUMBER};
 use dbf_image::{TableData, read_table};
 use std::alloc::Global;
 use std::test::Fail;

@@ -2,7 +2,7 @@
 
 use super::asked::{Asked, Case, Expected, Value, first_other};
 use super::sample::{named, open, three_records};
-use shared_catalogue::{Catalogue, Question};
+use catalogue_core::{Catalogue, Question};
 use std::alloc::Global;
 use std::test::Fail;
 

@@ -2,10 +2,10 @@
 
 use super::asked::{Asked, Case, Expected, Value, first_other, is_answered, performs};
 use super::sample::{blank_table, named, open};
+use catalogue_core::{Catalogue, Command, Numbers};
 use dbf_fields::{CHARACTER, Field};
 use dbf_image::TableData;
 use sample_files::{WITH_CYD, table};
-use shared_catalogue::{Catalogue, Command, Numbers};
 use std::alloc::Global;
 use std::test::Fail;
 

@@ -2,8 +2,9 @@
 
 use super::asked::{Asked, Case, Expected, Text, Value, first_unexpected_in, is_long, table_after};
 use super::sample::{blank_table, memo_of};
-use dbf_fields::{Bytes, Field, MEMO, NUMBER, day_of};
-use dbf_image::{MemorySink, TableData, read_table, write_dbf, write_dbt};
+use byte_io::{Bytes, MemorySink};
+use dbf_fields::{Field, MEMO, NUMBER, day_of};
+use dbf_image::{TableData, read_table, write_dbf, write_dbt};
 use std::alloc::Global;
 use std::test::Fail;
 

@@ -4,12 +4,12 @@ ghost use Rattle.std.specs.Prelude.{◌≤◌};
 
 use super::asked::{Asked, Case, Expected, first_other};
 use super::sample::{open, three_records};
-use dbf_fields::Bytes;
+use byte_io::Bytes;
+use catalogue_core::{Catalogue, IndexSource, OpenFault, Question, TableSource};
 use dbf_image::TableData;
 use key_expr::{ExprFault, Key, MAX_KEY_BYTES};
 use ndx_index::{NdxFile, Pair, PairList};
 use sample_files::{EMPTY, table};
-use shared_catalogue::{Catalogue, IndexSource, OpenFault, Question, TableSource};
 use std::alloc::Global;
 use std::test::Fail;
 

@@ -2,7 +2,7 @@
 
 use super::asked::{Asked, Case, Expected, Value, command_of, first_other, first_unexpected};
 use super::sample::open_sample;
-use shared_catalogue::{Answer, Catalogue, Command};
+use catalogue_core::{Answer, Catalogue, Command};
 use std::alloc::Global;
 use std::process::Abort;
 use std::test::Fail;

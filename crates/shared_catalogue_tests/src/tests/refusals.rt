@@ -3,8 +3,8 @@
 
 use super::asked::{Asked, Case, Expected, Text, Value, first_other};
 use super::sample::{blank_table, named, open};
+use catalogue_core::{Catalogue, Question, TableSource};
 use dbf_fields::{DATE, Field, MEMO, NUMBER};
-use shared_catalogue::{Catalogue, Question, TableSource};
 use std::alloc::Global;
 use std::test::Fail;
 

@@ -1,7 +1,7 @@
 //! Stations that share tables. The answers are those of dBASE's rules on areas and locks.
 
 use super::asked::{Asked, Case, Expected, Value, first_unexpected};
-use shared_catalogue::Question;
+use catalogue_core::Question;
 use std::test::Fail;
 
 pub const TWO_STATIONS: [Case; 7] = [

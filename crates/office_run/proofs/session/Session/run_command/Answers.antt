@@ -1,0 +1,23 @@
+use Rattle.std.proofs.Common.{◌≡◌, subst, rules}
+use mathlib.Core.List.{IsPrefix}
+use Rattle.shared_catalogue.specs.Seats.{Seated}
+use Rattle.office_run.proofs.RunLaws.{told_later}
+use Rattle.office_run.proofs.session.Session.run_command.Goals as goal
+
+pub returns-clause-shown : goal.returns-clause-shown
+returns-clause-shown g c =
+    let old : c.self.inside.seat ≡ c.args.self.now.seat = search rules in
+    let new : c.perform.new.seat ≡ c.push_line.new.self.seat = search rules in
+    let later : IsPrefix c.self.inside.seat.rows c.perform.new.seat.rows = told_later _ _ _ _ c.in_ok-answer.ensures.told in (
+      c.in_ok-answer.answer,
+      record {
+        shown = tt;
+        later =
+            subst (λ (z : Seated). IsPrefix c.args.self.now.seat.rows z.rows) new
+            (subst (λ (z : Seated). IsPrefix z.rows c.perform.new.seat.rows) old later);
+        station = search rules;
+        share = search rules;
+        receipts = search rules;
+        answers = search rules;
+      },
+    )

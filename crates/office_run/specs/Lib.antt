@@ -1,0 +1,15 @@
+pub mod Counts
+pub mod FileSums
+pub mod HandedOver
+pub mod JournalFile
+pub mod Loading
+pub mod OpenedSetup
+pub mod ReadBack
+pub mod Served
+pub mod TablesWritten
+pub mod WholeRun
+pub mod RunFaults
+pub mod Reports
+pub mod ClosedIndex
+pub mod Writable
+pub mod Closing

@@ -1,0 +1,111 @@
+//! A station at work.
+
+ghost use Rattle.std.specs.Prelude.{◌≡◌, ◌≢◌, [], ◌∷◌, ◌++◌, OnOk, IfErr, IsErrOf};
+ghost use Rattle.catalogue_core.specs.declared.status.StatusRow.{StatusRow as RowValue};
+ghost use Rattle.office_run.specs.Reports.{Shown, status, meaning_of, session, new_session, IsWithShown, IsWithAnswer};
+ghost use Rattle.office_run.specs.RunFaults.{IsStopOf};
+ghost use Rattle.station_lines.specs.declared.script.format.TheConstants.{LF as LINE_END};
+
+use byte_io::Bytes;
+use catalogue_core::{Command, Stop};
+use shared_catalogue::{Naming, Seat, Shared};
+use station_lines::{LF, Line, answer_line, status_line};
+use std::alloc::{AllocError, Global};
+use std::marker::Model;
+use std::sync::Wait;
+
+/// A station at work: its seat, and the text of its answer file so far.
+#[derive(Drop)]
+pub(crate) struct Session<J: Naming> {
+    seat: Seat<J>,
+    answers: Vec<u8>,
+}
+
+impl<J: Naming> Model for Session<J> {
+    ghost use Rattle.office_run.specs.Reports.{SessionValue, session};
+
+    ghost Value = { SessionValue };
+
+    ghost view = { λ s. session s.seat s.answers.items };
+}
+
+impl<J: Naming> Session<J> {
+    /// The session of a seat before the first line. It takes no memory.
+    pub(crate) fn new(alloc: Global, seat: Seat<J>) -> Session<J>
+        ensures value { result ≡ new_session seat }
+    {
+        Session {
+            seat,
+            answers: Vec::new(alloc),
+        }
+    }
+
+    /// Runs one line that is not blank: performs its command, or looks at the status row, and keeps what
+    /// is shown for it. A `Stop` is the catalogue's, or want of memory of the session itself; a status row is
+    /// never stopped because the journal is full.
+    pub(crate) fn run_line(
+        &mut self,
+        alloc: Global,
+        rt: &impl Wait,
+        shared: &Shared<J>,
+        line: Line,
+    ) -> Result<(), Stop>
+        requires some { line ≢ Line.Blank }
+        ensures shown { OnOk result ((shown : Shown) × (meaning_of shown ≡ line) × IsWithShown self.old shown self.new) }
+        ensures stop { IfErr result (IsStopOf J.opened) }
+        ensures status { line ≡ Line.Status → ¬ IsErrOf result Stop.JournalFull }
+    {
+        match line {
+            Line::Run(command) => self.run_command(alloc, rt, shared, command),
+            Line::Status => self.show_status(alloc, rt, shared),
+            Line::Blank => unreachable!(),
+        }
+    }
+
+    // Performs a command, and keeps the line of its answer.
+    fn run_command(
+        &mut self,
+        alloc: Global,
+        rt: &impl Wait,
+        shared: &Shared<J>,
+        command: Command,
+    ) -> Result<(), Stop>
+        ensures shown { OnOk result (IsWithAnswer self.old command self.new) }
+        ensures stop { IfErr result (IsStopOf J.opened) }
+    {
+        let answer = shared.perform(alloc, rt, &mut self.seat, &command)?;
+        let text = answer_line(alloc, &answer)?;
+        self.push_line(&text)?;
+        Ok(())
+    }
+
+    // Looks at the status row, and keeps its line.
+    fn show_status(&mut self, alloc: Global, rt: &impl Wait, shared: &Shared<J>) -> Result<(), Stop>
+        ensures shown { OnOk result ((row : RowValue) × IsWithShown self.old (status row) self.new) }
+        ensures stop { IfErr result (IsStopOf J.opened) }
+        ensures no_journal_full { ¬ IsErrOf result Stop.JournalFull }
+    {
+        let row = shared.look(rt, &mut self.seat);
+        let text = status_line(alloc, &row)?;
+        self.push_line(&text)?;
+        Ok(())
+    }
+
+    // Adds a line to the text of the answer file.
+    fn push_line(&mut self, text: &Bytes) -> Result<(), AllocError>
+        ensures ok { OnOk result (self.new ≡ session self.old.seat (self.old.answers ++ (text.now ++ LINE_END ∷ []))) }
+    {
+        self.answers.extend_from_slice(text.as_slice())?;
+        self.answers.push(LF)?;
+        Ok(())
+    }
+
+    /// The seat and the text of the answer file.
+    pub(crate) fn into_parts(self) -> (Seat<J>, Bytes)
+        ensures seat { result.0 ≡ self.seat }
+        ensures answers { result.1 ≡ self.answers }
+    {
+        let Session { seat, answers } = self;
+        (seat, Bytes::from_vec(answers))
+    }
+}

@@ -1,8 +1,0 @@
-pub mod PathLaws
-pub mod FolderLaws
-pub mod PlanLaws
-pub mod ListingLaws
-pub mod ReadingLaws
-pub mod ByteLaws
-pub mod PlacedLaws
-pub mod SinceLaws

@@ -1,9 +1,0 @@
-use Rattle.std.proofs.Common.{◌≡◌, ◌+◌, drop}
-use Rattle.station_files.specs.Closing.{first_blocked}
-use Rattle.station_files.proofs.close.first_too_many.Given as goal
-
-abbrev pub invariant-loop-closed : goal.invariant-loop-closed
-invariant-loop-closed l = record {
-  counted : l.number ≡ l.closed-index;
-  left : first_blocked (l.number + 1) (drop l.closed-index l.tables) ≡ first_blocked 1 l.tables;
-}

@@ -1,6 +1,0 @@
-use Rattle.std.proofs.Common.{◌≡◌, ◌++◌, take, map}
-use Rattle.station_files.specs.Closing.{file_of, index_file}
-use Rattle.station_files.proofs.plan.plan_indexes.Given as goal
-
-abbrev pub invariant-loop-index : goal.invariant-loop-index
-invariant-loop-index l = map file_of l.planned.items ≡ map file_of l.fn.planned.items ++ map index_file (take l.index-index l.indexes)

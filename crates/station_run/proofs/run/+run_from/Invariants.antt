@@ -1,5 +1,0 @@
-use Rattle.std.proofs.Common.{vec_len}
-use Rattle.station_run.proofs.run.+run_from.Given as goal
-
-abbrev pub decreases-run_from : goal.decreases-run_from
-decreases-run_from g l = vec_len l.seats

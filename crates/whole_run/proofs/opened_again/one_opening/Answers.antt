@@ -1,8 +1,0 @@
-use Rattle.whole_run.proofs.OneOpening.{one_opening, opens_as_before}
-use Rattle.whole_run.proofs.opened_again.one_opening.Goals as goal
-
-pub returns-clause-one : goal.returns-clause-one
-returns-clause-one c = one_opening
-
-pub returns-clause-still : goal.returns-clause-still
-returns-clause-still c = opens_as_before
