@@ -1,15 +1,16 @@
 #!/usr/bin/env python3
-"""Draws docs/crates.svg from crates.txt: each crate above those that it stands on.
+"""Draws docs/crates.svg from crates.txt: each crate one row below the lowest of those that stand on it.
 
     python3 docs/draw_crates.py
 
-The crates of tests and what they alone stand on (`memory_disk`, `sample_files`, `scarce`) are left out, and so is an arrow to a crate that is reached over another one.
+Arrows go from a row to the next one alone, so that none passes a box; each crate has one from above at least, but for the
+programs. The crates of tests and what they alone stand on (`memory_disk`, `sample_files`, `scarce`) are left out.
 """
 
 import pathlib
 
 TOP = pathlib.Path(__file__).resolve().parent.parent
-WIDTH, HEIGHT, GAP_X, GAP_Y, MARGIN = 150, 34, 24, 40, 20
+WIDTH, HEIGHT, GAP_X, GAP_Y, MARGIN = 150, 34, 24, 46, 20
 
 
 def crates():
@@ -25,14 +26,6 @@ def crates():
     return {name: [it for it in below if it in named] for name, below in named.items()}
 
 
-def reached(named, name):
-    """Returns all crates below one."""
-    found = set()
-    for it in named[name]:
-        found |= {it} | reached(named, it)
-    return found
-
-
 def rows_of(named):
     """Returns the crates in rows: each crate stands one row below the lowest of those that name it."""
     row = {}
@@ -44,18 +37,26 @@ def rows_of(named):
     return rows
 
 
-def path(a, b):
-    """Returns the points of an arrow from a box to one below it. One that passes rows goes round them at the outer side."""
-    (x, y), (u, v) = a, b
-    if v - y <= HEIGHT + GAP_Y or u == x:
-        return [(x + WIDTH / 2, y + HEIGHT), (u + WIDTH / 2, v)]
-    side, out = (0, -MARGIN / 2) if min(x, u) == x else (WIDTH, MARGIN / 2)
-    aisle = (min(x, u) if side == 0 else max(x, u) + WIDTH) + out
-    return [(x + side, y + HEIGHT / 2), (aisle, y + HEIGHT / 2), (aisle, v + HEIGHT / 2), (u + side, v + HEIGHT / 2)]
+def arrows_of(named, rows):
+    """Returns the arrows from each row to the next."""
+    return [(a, b) for upper, lower in zip(rows, rows[1:]) for a in upper for b in lower if b in named[a]]
+
+
+def untangle(rows, arrows):
+    """Sorts each row by the middle of its neighbours in the row before, down and up again, so that few arrows cross."""
+    middle = {name: (at + 0.5) / len(row) for row in rows for at, name in enumerate(row)}
+    for _ in range(8):
+        for order, side in ((rows[1:], 0), (rows[-2::-1], 1)):
+            for row in order:
+                near = {name: [middle[it[side]] for it in arrows if it[1 - side] == name] for name in row}
+                row.sort(key=lambda name: sum(near[name]) / len(near[name]) if near[name] else middle[name])
+                middle.update({name: (at + 0.5) / len(row) for at, name in enumerate(row)})
 
 
 def draw(named):
     rows = rows_of(named)
+    arrows = arrows_of(named, rows)
+    untangle(rows, arrows)
     most = max(map(len, rows))
     width = 2 * MARGIN + most * WIDTH + (most - 1) * GAP_X
     height = 2 * MARGIN + len(rows) * HEIGHT + (len(rows) - 1) * GAP_Y
@@ -72,13 +73,11 @@ def draw(named):
         '<path d="M0 0 L8 4 L0 8 z" fill="#667"/></marker></defs>',
         f'<rect width="{width}" height="{height}" fill="#fff"/>',
     ]
-    for name, below in named.items():
-        over = set().union(*(reached(named, it) for it in below)) if below else set()
-        for it in below:
-            if it in over:
-                continue
-            points = " ".join(f"{x:g},{y:g}" for x, y in path(at[name], at[it]))
-            out.append(f'<polyline points="{points}" fill="none" stroke="#667" marker-end="url(#head)"/>')
+    for a, b in arrows:
+        (x, y), (u, v) = at[a], at[b]
+        out.append(
+            f'<line x1="{x + WIDTH / 2:g}" y1="{y + HEIGHT:g}" x2="{u + WIDTH / 2:g}" y2="{v:g}" stroke="#667" marker-end="url(#head)"/>'
+        )
     for name, (x, y) in at.items():
         out.append(f'<rect x="{x:g}" y="{y:g}" width="{WIDTH}" height="{HEIGHT}" rx="5" fill="#eef" stroke="#447"/>')
         out.append(f'<text x="{x + WIDTH / 2:g}" y="{y + HEIGHT / 2 + 5:g}" text-anchor="middle" fill="#224">{name}</text>')
