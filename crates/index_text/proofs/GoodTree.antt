@@ -13,7 +13,8 @@ use Rattle.ndx_index.specs.Header.{ndx_header}
 use Rattle.ndx_index.specs.NdxTree.{is_visited, none, at_leaf, at_inner, Holds, IsFileTree, Trees}
 use Rattle.ndx_index.specs.Pages.{Node, leaf, inner, is_page}
 use Rattle.ndx_index.specs.declared.format.TheConstants.{PAGE}
-use Rattle.index_text.specs.TreeText.{PagesTold, enough_levels, met_with, one_by_one, page_in, pages_told, pages_under, tree_under}
+use Rattle.ndx_index.specs.Walks.{met_with, pages_under}
+use Rattle.index_text.specs.TreeText.{PagesTold, enough_levels, one_by_one, page_in, pages_told, tree_under}
 use Rattle.index_text.proofs.WalkSteps.{tree_step}
 
 -- none of the pages was met before, and none comes twice

@@ -10,8 +10,9 @@ use Rattle.ndx_index.specs.Header.{ndx_header}
 use Rattle.ndx_index.specs.NdxTree.{is_visited}
 use Rattle.ndx_index.specs.Pages.{Node, is_page, node_of, page_of}
 use Rattle.ndx_index.specs.declared.format.TheConstants.{PAGE}
+use Rattle.ndx_index.specs.Walks.{met_with, pages_under}
 use Rattle.index_text.specs.PageText.{page_line}
-use Rattle.index_text.specs.TreeText.{PagesTold, after_line, enough_levels, met_with, one_by_one, page_in, pages_under, told_after, tree_under}
+use Rattle.index_text.specs.TreeText.{PagesTold, after_line, enough_levels, one_by_one, page_in, told_after, tree_under}
 use Rattle.index_text.proofs.GoodTree.{below_count, met_under}
 use Rattle.index_text.proofs.WalkSteps.{tree_step}
 

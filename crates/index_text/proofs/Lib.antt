@@ -4,6 +4,5 @@ pub mod KeyBounds
 pub mod Levels
 pub mod PageLemmas
 pub mod Parts
-pub mod Positions
 pub mod Sinks
 pub mod WalkSteps

@@ -2,4 +2,3 @@ pub mod Shown
 pub mod HeaderText
 pub mod PageText
 pub mod TreeText
-pub mod Walk

@@ -1,9 +1,10 @@
 -- An index file as text: its header, and the tree of its pages.
-use Rattle.std.specs.Prelude.{ℕ, zero, suc, ◌+◌, ◌/◌, List, [], ◌∷◌, ◌++◌, length, Option, Some, None, Result, Ok, Err}
+use Rattle.std.specs.Prelude.{ℕ, zero, suc, ◌+◌, ◌/◌, List, [], ◌∷◌, ◌++◌, length, Option, Some, None, Result}
 use Rattle.ndx_index.specs.declared.fault.NdxFault.{NdxFault}
 use Rattle.ndx_index.specs.Header.{ndx_header}
 use Rattle.ndx_index.specs.NdxTree.{look}
-use Rattle.ndx_index.specs.Pages.{Node, leaf, inner}
+use Rattle.ndx_index.specs.Pages.{Node}
+use Rattle.ndx_index.specs.Walks.{met_with, pages_under}
 use Rattle.ndx_index.specs.declared.format.TheConstants.{PAGE}
 use Rattle.index_text.specs.HeaderText.{fault_line, header_text, layout_fault}
 use Rattle.index_text.specs.PageText.{page_line}
@@ -25,17 +26,6 @@ told_after first then = record { met = then.met; text = first.text ++ then.text 
 abbrev pub one_by_one : (List ℕ → ℕ → PagesTold) → List ℕ → List ℕ → PagesTold
 one_by_one tell met [] = record { met = met; text = [] }
 one_by_one tell met (p ∷ ps) = told_after (tell met p) (one_by_one tell (tell met p).met ps)
-
--- a page that holds something is met now
-abbrev pub met_with : List ℕ → ℕ → Result Node NdxFault → List ℕ
-met_with met p (Ok node) = p ∷ met
-met_with met p (Err fault) = met
-
--- the pages under a page: the children of an inner page alone
-abbrev pub pages_under : Result Node NdxFault → List ℕ
-pages_under (Ok (leaf pairs)) = []
-pages_under (Ok (inner children)) = children
-pages_under (Err fault) = []
 
 -- what a page of the file holds by the sizes that its header gives, or the rule that it breaks, where these pages were met before
 abbrev pub page_in : List ℕ → List ℕ → ℕ → Result Node NdxFault

@@ -1,7 +1,4 @@
-//! Where the number of pages stands in the header page, how far lines are indented, and what ends one.
-
-/// Where the number of pages stands in the header page.
-pub(crate) const PAGE_COUNT_OFFSET: usize = 4;
+//! How far lines are indented, and what ends one.
 
 /// The most levels that blanks stand for.
 pub(crate) const MAX_INDENT: usize = 20;

@@ -1,20 +1,37 @@
 //! The lines of the header page.
 #![tactic(auto, using(crate::proofs::Sinks::puts))]
 
-ghost use Rattle.std.specs.Prelude.{◌≡◌, ◌==◌, ◌≤◌, length};
-ghost use Rattle.std.specs.List.{before_first, position, position_or_len};
+ghost use Rattle.std.specs.Prelude.{◌≡◌, ◌≤◌, length, None, Some, IfErr, IfOk, OnOk};
 ghost use Rattle.byte_io.specs.Output.{Puts};
-ghost use Rattle.index_text.specs.HeaderText.{expression_line, fault_line as line_of_fault, fault_words, flag_meaning, header_text, key_lines, number_line, size_lines, type_meaning};
+ghost use Rattle.ndx_index.specs.Header.{ndx_header};
+ghost use Rattle.ndx_index.specs.Pages.{IsPageLayout};
+ghost use Rattle.index_text.specs.HeaderText.{expression_line, fault_line as line_of_fault, fault_words, flag_meaning, header_text, key_lines, layout_fault, number_line, size_lines, type_meaning};
 
-use crate::format::{LF, PAGE_COUNT_OFFSET};
-use crate::layout::{u16_at, u32_at};
+use crate::format::LF;
 use crate::number::put_number;
 use byte_io::{ByteSink, SinkWriter};
-use ndx_index::{
-    EXPRESSION_OFFSET, KEY_LENGTH_OFFSET, KEY_TYPE_OFFSET, NdxFault, PAGE, RECORD_SIZE_OFFSET,
-    UNIQUE_FLAG_OFFSET,
-};
+use ndx_index::{Header, HeaderNumbers, NdxFault, PAGE, header_numbers, padded_expression};
 use table_text::put_between_quotes;
+
+/// What the header page says of the pages, or why none can be read.
+#[tactic(auto, unfolding(crate::specs::HeaderText::needed_tests, ndx_index::specs::Header::ndx_header))]
+pub(crate) fn read_header(bytes: &[u8]) -> Result<Header, NdxFault>
+    ensures header { IfOk result (λ header. header ≡ ndx_header bytes.now) }
+    ensures accepted { OnOk result (layout_fault bytes.now ≡ None) }
+    ensures refused { IfErr result (λ fault. layout_fault bytes.now ≡ Some fault) }
+    ensures layout { IfOk result (λ header. IsPageLayout header.layout) }
+{
+    let Some(numbers) = header_numbers(bytes) else {
+        return Err(NdxFault::Truncated);
+    };
+    match numbers.page_layout() {
+        Ok(layout) => Ok(Header {
+            layout,
+            root: numbers.root,
+        }),
+        Err(fault) => Err(fault),
+    }
+}
 
 /// What a fault is told as: its name, and what it says.
 #[tactic(auto, using(crate::proofs::Sinks::puts), unfolding(crate::specs::HeaderText::fault_words))]
@@ -66,69 +83,41 @@ fn meaning_of_flag(flag: u8) -> &'static [u8]
     }
 }
 
-fn zero_at(text: &[u8]) -> Option<usize>
-    ensures value { result ≡ position (λ b. b == 0) text.now }
-{
-    text.iter().position(|byte| *byte == 0)
-}
-
-// How many bytes stand before the first zero, or all.
-#[tactic(auto, using(crate::proofs::Positions::position_none))]
-fn length_before_zero(text: &[u8]) -> usize
-    ensures value { result ≡ position_or_len (λ b. b == 0) text.now }
-    ensures short { result ≤ length text.now }
-{
-    match zero_at(text) {
-        Some(end) => end,
-        None => text.len(),
-    }
-}
-
-fn before_zero(text: &[u8]) -> &[u8]
-    ensures value { result.now ≡ before_first (λ b. b == 0) text.now }
-{
-    &text[..length_before_zero(text)]
-}
-
 #[tactic(auto, using(crate::proofs::Sinks::puts), unfolding(crate::specs::HeaderText::expression_line))]
 fn put_expression<S: ByteSink>(out: &mut SinkWriter<'_, S>, bytes: &[u8])
     requires long { PAGE ≤ length bytes.now }
     ensures put { Puts out.old (expression_line bytes.now) out.new }
 {
     out.put(b"Key expression: ");
-    put_between_quotes(out, before_zero(&bytes[EXPRESSION_OFFSET..PAGE]));
+    put_between_quotes(out, padded_expression(bytes));
     out.put(&[LF]);
 }
 
 // Where the tree begins, and the sizes of its pages.
-fn put_sizes<S: ByteSink>(out: &mut SinkWriter<'_, S>, bytes: &[u8])
-    requires long { PAGE ≤ length bytes.now }
-    ensures put { Puts out.old (size_lines bytes.now) out.new }
+fn put_sizes<S: ByteSink>(out: &mut SinkWriter<'_, S>, numbers: HeaderNumbers)
+    ensures put { Puts out.old (size_lines numbers) out.new }
 {
-    put_line(out, b"Root page: ", u32_at(bytes, 0) as usize, b"");
-    let page_count = u32_at(bytes, PAGE_COUNT_OFFSET) as usize;
+    put_line(out, b"Root page: ", numbers.root as usize, b"");
+    let page_count = numbers.page_count as usize;
     put_line(out, b"Pages by the header: ", page_count, b"");
-    let key_len = u16_at(bytes, KEY_LENGTH_OFFSET) as usize;
-    put_line(out, b"Key length: ", key_len, b"");
-    let size = u16_at(bytes, RECORD_SIZE_OFFSET) as usize;
+    put_line(out, b"Key length: ", numbers.key_len as usize, b"");
+    let size = numbers.record_size as usize;
     put_line(out, b"Key record size: ", size, b"");
 }
 
 // What keys there are.
-fn put_keys<S: ByteSink>(out: &mut SinkWriter<'_, S>, bytes: &[u8])
-    requires long { PAGE ≤ length bytes.now }
-    ensures put { Puts out.old (key_lines bytes.now) out.new }
+fn put_keys<S: ByteSink>(out: &mut SinkWriter<'_, S>, numbers: HeaderNumbers)
+    ensures put { Puts out.old (key_lines numbers) out.new }
 {
-    let key_type = u16_at(bytes, KEY_TYPE_OFFSET);
+    let key_type = numbers.key_type;
     put_line(
         out,
         b"Key type: ",
         key_type as usize,
         meaning_of_type(key_type),
     );
-    let flag = bytes[UNIQUE_FLAG_OFFSET];
+    let flag = numbers.unique_flag;
     put_line(out, b"Unique flag: ", flag as usize, meaning_of_flag(flag));
-    put_expression(out, bytes);
 }
 
 /// The lines of the header page, where the file has it whole.
@@ -136,8 +125,9 @@ fn put_keys<S: ByteSink>(out: &mut SinkWriter<'_, S>, bytes: &[u8])
 pub(crate) fn put_header<S: ByteSink>(out: &mut SinkWriter<'_, S>, bytes: &[u8])
     ensures put { Puts out.old (header_text bytes.now) out.new }
 {
-    if bytes.len() >= PAGE {
-        put_sizes(out, bytes);
-        put_keys(out, bytes);
+    if let Some(numbers) = header_numbers(bytes) {
+        put_sizes(out, numbers);
+        put_keys(out, numbers);
+        put_expression(out, bytes);
     }
 }

@@ -18,7 +18,6 @@ ghost use Rattle.index_text.specs.TreeText.{enough_levels, pages_told, tree_unde
 
 mod format;
 mod header;
-mod layout;
 mod lines;
 mod number;
 mod page;

@@ -7,8 +7,7 @@ ghost use Rattle.table_text.specs.Output.{PutsFront};
 ghost use Rattle.index_text.specs.HeaderText.{HasNoLayout};
 ghost use Rattle.index_text.specs.TreeText.{tree_text};
 
-use crate::header::{put_fault_line, put_header};
-use crate::layout::{read_layout, u32_at};
+use crate::header::{put_fault_line, put_header, read_header};
 use crate::walk::put_pages;
 use byte_io::{ByteSink, SinkWriter};
 use std::alloc::{AllocError, Global};
@@ -26,8 +25,8 @@ fn put_tree<S: ByteSink>(
     ensures early { HasNoLayout bytes.now → IsOk result }
 {
     put_header(out, bytes);
-    match read_layout(bytes) {
-        Ok(layout) => put_pages(alloc, out, bytes, layout, u32_at(bytes, 0)),
+    match read_header(bytes) {
+        Ok(header) => put_pages(alloc, out, bytes, header),
         Err(fault) => {
             put_fault_line(out, fault);
             Ok(())

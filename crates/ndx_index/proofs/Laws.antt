@@ -5,11 +5,10 @@ use Rattle.std.proofs.lemmas.Bool.{or_parts}
 use Rattle.std.proofs.lemmas.Cmp.{nat_eq_equiv}
 use Rattle.ndx_index.specs.declared.pair.Pair.{Pair}
 use Rattle.ndx_index.specs.declared.read.page.PageLayout.{PageLayout}
-use Rattle.ndx_index.specs.declared.fault.BadPage.{BadPage}
 use Rattle.ndx_index.specs.declared.fault.NdxFault.TheVariants.{PageOutside, PageTwice}
 use Rattle.ndx_index.specs.Pages.{Node, leaf, inner, node_of, page_of, is_page}
 use Rattle.ndx_index.specs.Laws.Lists.{all_weaker, all_zip}
-use Rattle.ndx_index.specs.NdxTree.{Visits, Trees, IsFileTree, Holds, is_visited, look, none, at_leaf, at_inner, done, stops, visit_leaf, visit_inner}
+use Rattle.ndx_index.specs.NdxTree.{BadPage, Visits, Trees, IsFileTree, Holds, is_visited, look, none, at_leaf, at_inner, done, stops, visit_leaf, visit_inner}
 
 -- each page is new where it comes
 abbrev pub Apart : List ℕ → List ℕ → Type 0

@@ -1,6 +1,7 @@
 pub mod Order
 pub mod PageLemmas
 pub mod WalkSteps
+pub mod TreeReading
 pub mod Laws
 pub mod Grouped
 pub mod PageBytes

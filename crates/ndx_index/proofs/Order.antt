@@ -13,10 +13,10 @@ use Rattle.std.proofs.lemmas.Bool.Decides.{nat_tests}
 use Rattle.std.proofs.lemmas.Cmp.{nat_list_cmp_total}
 use Rattle.std.proofs.lemmas.Map.Keys.{Less-from_sorted}
 use Rattle.ndx_index.specs.declared.pair.Pair.{Pair}
-use Rattle.ndx_index.specs.Order.{pair_cmp, before, same, placed, in_order, without_pair, AreInOrder}
+use Rattle.ndx_index.specs.Order.{pair_cmp, before, same, with_pair, in_order, without_pair, AreInOrder}
 use Rattle.ndx_index.specs.Laws.Lists.{filter_but, all_weaker}
 use Rattle.ndx_index.specs.Laws.Comparing.{Less-from_is_lt, before_is, before_trans, irreflexive, same_itself, before_other, not_same}
-use Rattle.ndx_index.specs.Laws.Sorting.{all-placed, contains_more}
+use Rattle.ndx_index.specs.Laws.Sorting.{all-with_pair, contains_more}
 
 -- a test that holds of each pair before one of which it holds
 pub parted_by : (u : Pair → Bool) → ((a b : Pair) → pair_cmp a b ≡ Less → u b ≡ true → u a ≡ true) → (ps : List Pair) → AreInOrder ps → IsPartitionedBy u ps
@@ -29,15 +29,15 @@ pub parted-before : (p : Pair) (ps : List Pair) → AreInOrder ps → IsPartitio
 parted-before p = parted_by (λ q. before q p) (λ a b h k. ap is_lt (before_trans a b p h (before_is b p k)))
 
 -- a pair goes where it belongs
-pub placed_at : (p : Pair) (ps : List Pair) (i : ℕ) → ((k : ℕ) (d : Pair) → k < i → before (get_or ps k d) p ≡ true) → ((d : Pair) → i < length ps → before (get_or ps i d) p ≡ false) → i ≤ length ps → insert ps i p ≡ placed p ps
-placed_at p [] zero low here le = refl
-placed_at p [] (suc i) low here le = absurd (omega arith)
-placed_at p (q ∷ qs) zero low here le = rw (here q (omega arith))
-placed_at p (q ∷ qs) (suc i) low here le = rw (low 0 q (omega arith)) (ap (λ ys. q ∷ ys) (placed_at p qs i (λ k d h. low (suc k) d (omega arith)) (λ d h. here d (omega arith)) (omega arith)))
+pub with_pair_at : (p : Pair) (ps : List Pair) (i : ℕ) → ((k : ℕ) (d : Pair) → k < i → before (get_or ps k d) p ≡ true) → ((d : Pair) → i < length ps → before (get_or ps i d) p ≡ false) → i ≤ length ps → insert ps i p ≡ with_pair p ps
+with_pair_at p [] zero low here le = refl
+with_pair_at p [] (suc i) low here le = absurd (omega arith)
+with_pair_at p (q ∷ qs) zero low here le = rw (here q (omega arith))
+with_pair_at p (q ∷ qs) (suc i) low here le = rw (low 0 q (omega arith)) (ap (λ ys. q ∷ ys) (with_pair_at p qs i (λ k d h. low (suc k) d (omega arith)) (λ d h. here d (omega arith)) (omega arith)))
 
 pub all-in_order : (P : Pair → Type 0) (ps : List Pair) → AllByRecursion P ps → AllByRecursion P (in_order ps)
 all-in_order P [] all = tt
-all-in_order P (p ∷ ps) all = all-placed P p (in_order ps) all.0 (all-in_order P ps all.1)
+all-in_order P (p ∷ ps) all = all-with_pair P p (in_order ps) all.0 (all-in_order P ps all.1)
 
 pub all-filter : (P : Pair → Type 0) (t : Pair → Bool) (ps : List Pair) → AllByRecursion P ps → AllByRecursion P (filter t ps)
 all-filter P t [] all = tt
@@ -47,11 +47,11 @@ all-filter P t (p ∷ ps) all = elim (t p) as (λ b. AllByRecursion P (cond b (p
 ]
 
 -- a new pair keeps the order
-pub sorted_placed : (p : Pair) (ps : List Pair) → AreInOrder ps → (Contains ps p → ⊥) → AreInOrder (placed p ps)
+pub sorted_with_pair : (p : Pair) (ps : List Pair) → AreInOrder ps → (Contains ps p → ⊥) → AreInOrder (with_pair p ps)
 unfolding IsStrictlySortedBy
-sorted_placed p [] sorted absent = (tt, tt)
-sorted_placed p (q ∷ qs) sorted absent = elim (before q p) as (λ b. before q p ≡ b → AreInOrder (cond b (q ∷ placed p qs) (p ∷ q ∷ qs))) [
-  | true ↦ λ e. (all-placed (λ r. pair_cmp q r ≡ Less) p qs (before_is q p e) sorted.0, sorted_placed p qs sorted.1 (λ h. absent (contains_more q qs p h)))
+sorted_with_pair p [] sorted absent = (tt, tt)
+sorted_with_pair p (q ∷ qs) sorted absent = elim (before q p) as (λ b. before q p ≡ b → AreInOrder (cond b (q ∷ with_pair p qs) (p ∷ q ∷ qs))) [
+  | true ↦ λ e. (all-with_pair (λ r. pair_cmp q r ≡ Less) p qs (before_is q p e) sorted.0, sorted_with_pair p qs sorted.1 (λ h. absent (contains_more q qs p h)))
   | false ↦ λ e. let h : pair_cmp p q ≡ Less = before_other q p e (λ is. absent (zero, omega arith, is)) in
       ((h, all_weaker (λ r. pair_cmp q r ≡ Less) (λ r. pair_cmp p r ≡ Less) (λ r k. before_trans p q r h k) qs sorted.0), sorted)
 ] refl

@@ -14,8 +14,8 @@ use Rattle.ndx_index.specs.PageStore.{Page, page_in}
 use Rattle.ndx_index.specs.PagedIndex.{HoldsIndex}
 use Rattle.ndx_index.specs.TreeSteps.{MakesFree, InsertsIn, RemovesIn}
 use Rattle.ndx_index.specs.Laws.Comparing.{irreflexive, before_is, same_itself}
-use Rattle.ndx_index.specs.Laws.Sorting.{all-placed}
-use Rattle.ndx_index.proofs.Order.{all-filter, sorted_none, sorted_placed}
+use Rattle.ndx_index.specs.Laws.Sorting.{all-with_pair}
+use Rattle.ndx_index.proofs.Order.{all-filter, sorted_none, sorted_with_pair}
 use Rattle.ndx_index.proofs.TreeFrame.{framed}
 use Rattle.ndx_index.proofs.FreeFrame.{uses_there}
 
@@ -77,8 +77,8 @@ holds_more k a b f g t h m =
 pub holds_inserted : (k : ℕ) (a b : List Page) (f g : FreeList) (t u : Root) (pair : Pair) → HoldsIndex k a f t → length pair.key ≡ k → (Contains (pairs_in a t) pair → ⊥) → InsertsIn a b f g t u pair → HoldsIndex k b g u
 holds_inserted k a b f g t u pair h key absent i = record {
   tree = i.tree;
-  order = subst AreInOrder (sym i.pairs) (sorted_placed pair (pairs_in a t) h.order absent);
-  keys = subst (HaveLength k) (sym i.pairs) (all-placed (λ p. length p.key ≡ k) pair (pairs_in a t) key h.keys);
+  order = subst AreInOrder (sym i.pairs) (sorted_with_pair pair (pairs_in a t) h.order absent);
+  keys = subst (HaveLength k) (sym i.pairs) (all-with_pair (λ p. length p.key ≡ k) pair (pairs_in a t) key h.keys);
   list = i.list;
   apart = λ r. omega (arith, i.uses_stay r, h.apart r);
   once = λ r lt. i.uses_stay r ∙ h.once r (omega (arith, lt, i.same_length));

@@ -7,9 +7,9 @@ use Rattle.std.specs.declared.cmp.Ordering.TheVariants.{Less, Equal, Greater}
 use Rattle.std.proofs.lemmas.Bool.{false≢true}
 use Rattle.std.proofs.lemmas.List.{append-nil}
 use Rattle.ndx_index.specs.declared.pair.Pair.{Pair}
-use Rattle.ndx_index.specs.Order.{pair_cmp, before, placed}
+use Rattle.ndx_index.specs.Order.{pair_cmp, before, with_pair}
 use Rattle.ndx_index.specs.Laws.Comparing.{pairs_total, exact_pair, before_is, before_trans}
-use Rattle.ndx_index.specs.Laws.Sorting.{all-placed}
+use Rattle.ndx_index.specs.Laws.Sorting.{all-with_pair}
 use Rattle.ndx_index.specs.IndexTree.{joined, AllBefore, AllFrom, Parted}
 use Rattle.ndx_index.specs.TreeSteps.{Chosen}
 
@@ -34,17 +34,17 @@ abbrev StartsFrom : Pair → List Pair → Type 0
 StartsFrom p [] = Unit {0}
 StartsFrom p (y ∷ ys) = before y p ≡ false
 
-placed_front : (p : Pair) (xs ys : List Pair) → StartsFrom p ys → placed p xs ++ ys ≡ placed p (xs ++ ys)
-placed_front p [] [] s = refl
-placed_front p [] (y ∷ ys) s = rw s refl
-placed_front p (x ∷ xs) ys s = elim (before x p) as (λ b. cond b (x ∷ placed p xs) (p ∷ x ∷ xs) ++ ys ≡ cond b (x ∷ placed p (xs ++ ys)) (p ∷ x ∷ (xs ++ ys))) [
-  | true ↦ ap (λ zs. x ∷ zs) (placed_front p xs ys s)
+with_pair_front : (p : Pair) (xs ys : List Pair) → StartsFrom p ys → with_pair p xs ++ ys ≡ with_pair p (xs ++ ys)
+with_pair_front p [] [] s = refl
+with_pair_front p [] (y ∷ ys) s = rw s refl
+with_pair_front p (x ∷ xs) ys s = elim (before x p) as (λ b. cond b (x ∷ with_pair p xs) (p ∷ x ∷ xs) ++ ys ≡ cond b (x ∷ with_pair p (xs ++ ys)) (p ∷ x ∷ (xs ++ ys))) [
+  | true ↦ ap (λ zs. x ∷ zs) (with_pair_front p xs ys s)
   | false ↦ refl
 ]
 
-placed_back : (p k : Pair) (xs ys : List Pair) → AllBefore k xs → before p k ≡ false → xs ++ placed p ys ≡ placed p (xs ++ ys)
-placed_back p k [] ys all h = refl
-placed_back p k (x ∷ xs) ys all h = rw (below x k p all.0 h) (ap (λ zs. x ∷ zs) (placed_back p k xs ys all.1 h))
+with_pair_back : (p k : Pair) (xs ys : List Pair) → AllBefore k xs → before p k ≡ false → xs ++ with_pair p ys ≡ with_pair p (xs ++ ys)
+with_pair_back p k [] ys all h = refl
+with_pair_back p k (x ∷ xs) ys all h = rw (below x k p all.0 h) (ap (λ zs. x ∷ zs) (with_pair_back p k xs ys all.1 h))
 
 starts : (p k : Pair) (qs : List Pair) (pss : List (List Pair)) → 0 < length qs → AllFrom k qs → before p k ≡ true → StartsFrom p (qs ++ joined pss)
 starts p k [] pss some all h = absurd (omega arith)
@@ -54,34 +54,34 @@ abbrev pub NoneEmpty : List (List Pair) → Type 0
 NoneEmpty pss = AllByRecursion (λ ps. 0 < length ps) pss
 
 abbrev pub put_in : Pair → ℕ → List (List Pair) → List (List Pair)
-put_in p i pss = set pss i (placed p (get_or pss i []))
+put_in p i pss = set pss i (with_pair p (get_or pss i []))
 
 pub record PutsInOne (p : Pair) (i : ℕ) (pss : List (List Pair)) (ks : List Pair) : Type 0 where
-  pub pairs : joined (put_in p i pss) ≡ placed p (joined pss)
+  pub pairs : joined (put_in p i pss) ≡ with_pair p (joined pss)
   pub parted : Parted (put_in p i pss) ks
 
 pub puts_in_one : (p : Pair) (i : ℕ) (pss : List (List Pair)) (ks : List Pair) → Parted pss ks → NoneEmpty pss → Chosen p i ks → PutsInOne p i pss ks
 puts_in_one p i [] ks parted some chosen = absurd parted
 puts_in_one p zero (ps ∷ []) [] parted some chosen = record {
-  pairs = append-nil (placed p ps) ∙ ap (placed p) (sym (append-nil ps));
+  pairs = append-nil (with_pair p ps) ∙ ap (with_pair p) (sym (append-nil ps));
   parted = tt;
 }
 puts_in_one p (suc i) (ps ∷ []) [] parted some chosen = absurd chosen
 puts_in_one p i (ps ∷ []) (k ∷ ks) parted some chosen = absurd parted
 puts_in_one p i (ps ∷ qs ∷ pss) [] parted some chosen = absurd parted
 puts_in_one p zero (ps ∷ qs ∷ pss) (k ∷ ks) parted some chosen = record {
-  pairs = placed_front p ps (joined (qs ∷ pss)) (starts p k qs pss some.1.0 parted.1 chosen);
-  parted = (all-placed (λ q. before q k ≡ true) p ps chosen parted.0, parted.1, parted.2);
+  pairs = with_pair_front p ps (joined (qs ∷ pss)) (starts p k qs pss some.1.0 parted.1 chosen);
+  parted = (all-with_pair (λ q. before q k ≡ true) p ps chosen parted.0, parted.1, parted.2);
 }
 puts_in_one p (suc zero) (ps ∷ qs ∷ pss) (k ∷ ks) parted some chosen =
     let rest = puts_in_one p zero (qs ∷ pss) ks parted.2 some.1 chosen.1 in
     record {
-      pairs = ap (λ zs. ps ++ zs) rest.pairs ∙ placed_back p k ps (joined (qs ∷ pss)) parted.0 chosen.0;
-      parted = (parted.0, all-placed (λ q. before q k ≡ false) p qs chosen.0 parted.1, rest.parted);
+      pairs = ap (λ zs. ps ++ zs) rest.pairs ∙ with_pair_back p k ps (joined (qs ∷ pss)) parted.0 chosen.0;
+      parted = (parted.0, all-with_pair (λ q. before q k ≡ false) p qs chosen.0 parted.1, rest.parted);
     }
 puts_in_one p (suc (suc i)) (ps ∷ qs ∷ pss) (k ∷ ks) parted some chosen =
     let rest = puts_in_one p (suc i) (qs ∷ pss) ks parted.2 some.1 chosen.1 in
     record {
-      pairs = ap (λ zs. ps ++ zs) rest.pairs ∙ placed_back p k ps (joined (qs ∷ pss)) parted.0 chosen.0;
+      pairs = ap (λ zs. ps ++ zs) rest.pairs ∙ with_pair_back p k ps (joined (qs ∷ pss)) parted.0 chosen.0;
       parted = (parted.0, parted.1, rest.parted);
     }

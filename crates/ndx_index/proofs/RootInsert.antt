@@ -5,7 +5,7 @@ use Rattle.std.specs.List.{AllByRecursion}
 use Rattle.ndx_index.specs.declared.pair.Pair.{Pair}
 use Rattle.ndx_index.specs.declared.pages.free.FreeList.{FreeList}
 use Rattle.ndx_index.specs.declared.pages.root.Root.{Root}
-use Rattle.ndx_index.specs.Order.{placed, AreInOrder}
+use Rattle.ndx_index.specs.Order.{with_pair, AreInOrder}
 use Rattle.ndx_index.specs.PageStore.{Page, page_in, no_page}
 use Rattle.ndx_index.specs.IndexTree.{pairs_under, joined, total, here, uses, uses_free, uses_both, IsTree, IsFreeList, Parted, pairs_of_levels, uses_of_levels, IsTreeOfLevels}
 use Rattle.ndx_index.specs.TreeSteps.{Inserts, CanInsertIn, InsertsIn, CanRaise, Raises}
@@ -30,7 +30,7 @@ planted a b1 b f g t pair q x none can takes written one =
     let other : (r : ℕ) → here q r ≡ 0 → page_in b r ≡ page_in b1 r = λ r h. rw written (get_or-set_other b1 q r x no_page (here_other q r h)) in
     let free = list_framed b1 b g takes.2 n (λ r h. other r (omega (arith, h, takes.3 r, can.whole.apart r))) in
     record {
-      pairs = pairs ∙ sym (ap (λ k. placed pair (pairs_of_levels k a t.page)) none);
+      pairs = pairs ∙ sym (ap (λ k. with_pair pair (pairs_of_levels k a t.page)) none);
       tree = (omega (arith, n, n1, takes.0), omega (arith, ap length pairs));
       list = free.free;
       uses_stay = λ r. omega (arith, free.uses_stay r, takes.3 r, ap (λ k. uses_of_levels k a t.page r) none);
@@ -108,7 +108,7 @@ pub inserted_at_top : (a b : List Page) (f g : FreeList) (t : Root) (pair : Pair
 inserted_at_top a b f g t pair some deep done =
     let e : suc (t.levels - 1) ≡ t.levels = omega (arith, some) in
     record {
-      pairs = subst (λ k. pairs_of_levels k b t.page ≡ placed pair (pairs_of_levels k a t.page)) e done.pairs;
+      pairs = subst (λ k. pairs_of_levels k b t.page ≡ with_pair pair (pairs_of_levels k a t.page)) e done.pairs;
       tree = subst (λ k. IsTreeOfLevels k b t.page) e done.keeps.tree;
       list = done.keeps.list;
       uses_stay = λ r. subst (λ k. uses_of_levels k b t.page r + uses_free b g r ≡ uses_of_levels k a t.page r + uses_free a f r) e (done.keeps.uses_stay r);
@@ -121,7 +121,7 @@ pub inserted_below_top : (a m b : List Page) (f h g : FreeList) (t u : Root) (pa
 inserted_below_top a m b f h g t u pair can raise done =
     let x = inserted_at_top m b h g u pair (omega (arith, raise.levels)) (omega (arith, raise.levels, raise.same_length, levels_few a f t pair can)) done in
     record {
-      pairs = x.pairs ∙ ap (placed pair) raise.pairs;
+      pairs = x.pairs ∙ ap (with_pair pair) raise.pairs;
       tree = x.tree;
       list = x.list;
       uses_stay = λ r. x.uses_stay r ∙ raise.uses_stay r;

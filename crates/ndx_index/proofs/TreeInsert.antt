@@ -7,7 +7,7 @@ use Rattle.std.proofs.lemmas.List.{get_or-set_same, get_or-set_other, length-set
 use Rattle.std.proofs.lemmas.List.Elements.{Contains-append_left, Contains-append_right, Contains-get_or}
 use Rattle.ndx_index.specs.declared.pair.Pair.{Pair}
 use Rattle.ndx_index.specs.declared.pages.free.FreeList.{FreeList}
-use Rattle.ndx_index.specs.Order.{before, placed, AreInOrder}
+use Rattle.ndx_index.specs.Order.{before, with_pair, AreInOrder}
 use Rattle.ndx_index.specs.Laws.Comparing.{before_is, before_other}
 use Rattle.ndx_index.specs.Laws.Sorting.{not_after}
 use Rattle.ndx_index.specs.Slots.{slot_at, no_pair}
@@ -16,7 +16,7 @@ use Rattle.ndx_index.specs.IndexTree.{pairs_under, joined, total, here, uses, us
 use Rattle.ndx_index.specs.TreeSteps.{Chosen, IsChildFor, IsSubtreeApart, CanInsert, Inserts, ChildWithRoom}
 use Rattle.ndx_index.proofs.TreeFrame.{framed, Framed, here_itself}
 use Rattle.ndx_index.proofs.Keeping.{keeps_then, list_framed}
-use Rattle.ndx_index.proofs.Order.{placed_at}
+use Rattle.ndx_index.proofs.Order.{with_pair_at}
 use Rattle.ndx_index.proofs.Parting.{put_in, puts_in_one}
 use Rattle.ndx_index.proofs.TreeLists.{all_at, all_from, child_order, map_same, none_empty, total_at, total_same, total_two}
 
@@ -45,29 +45,29 @@ child_contains f (x ∷ xs) zero p lt h = Contains-append_left (f x) (joined (ma
 child_contains f (x ∷ xs) (suc i) p lt h = Contains-append_right (f x) (joined (map f xs)) p (child_contains f xs i p (omega arith) h)
 
 -- ---- a leaf
-placed_some : (pair : Pair) (ps : List Pair) → 0 < length (placed pair ps)
-placed_some pair [] = omega arith
-placed_some pair (q ∷ qs) = elim (before q pair) as (λ b. 0 < length (cond b (q ∷ placed pair qs) (pair ∷ q ∷ qs))) [ true ↦ omega arith | false ↦ omega arith ]
+with_pair_some : (pair : Pair) (ps : List Pair) → 0 < length (with_pair pair ps)
+with_pair_some pair [] = omega arith
+with_pair_some pair (q ∷ qs) = elim (before q pair) as (λ b. 0 < length (cond b (q ∷ with_pair pair qs) (pair ∷ q ∷ qs))) [ true ↦ omega arith | false ↦ omega arith ]
 
 -- where a bisection found the first pair above the new one
-pub placed_above : (pair : Pair) (ps : List Pair) (i : ℕ) → i ≤ length ps → (Contains ps pair → ⊥) → ((k : ℕ) → k < i → before pair (slot_at ps k) ≡ false) → ((k : ℕ) → i ≤ k → k < length ps → before pair (slot_at ps k) ≡ true) → insert ps i pair ≡ placed pair ps
-placed_above pair ps i le absent low high = placed_at pair ps i
+pub with_pair_above : (pair : Pair) (ps : List Pair) (i : ℕ) → i ≤ length ps → (Contains ps pair → ⊥) → ((k : ℕ) → k < i → before pair (slot_at ps k) ≡ false) → ((k : ℕ) → i ≤ k → k < length ps → before pair (slot_at ps k) ≡ true) → insert ps i pair ≡ with_pair pair ps
+with_pair_above pair ps i le absent low high = with_pair_at pair ps i
     (λ k d lt. let there : k < length ps = omega (arith, le, lt) in
     ap is_lt (before_other pair (get_or ps k d) (ap (before pair) (get_or_default ps k d no_pair there) ∙ low k lt) (λ e. absent (subst (λ x. Contains ps x) (sym e) (Contains-get_or ps k d there)))))
     (λ d lt. not_after pair (get_or ps i d) (before_is pair (get_or ps i d) (ap (before pair) (get_or_default ps i d no_pair lt) ∙ high i (omega arith) lt)))
     le
 
-pub insert_leaf : (a b : List Page) (f : FreeList) (p : ℕ) (pair : Pair) (g : Page) → CanInsert 0 a f p pair → b ≡ set a p g → g.pairs ≡ placed pair (page_in a p).pairs → Inserts 0 a b f f p pair
+pub insert_leaf : (a b : List Page) (f : FreeList) (p : ℕ) (pair : Pair) (g : Page) → CanInsert 0 a f p pair → b ≡ set a p g → g.pairs ≡ with_pair pair (page_in a p).pairs → Inserts 0 a b f f p pair
 insert_leaf a b f p pair g can e is =
     let at : page_in b p ≡ g = rw e (get_or-set_same a p g no_page can.whole.tree.0) in
-    let pairs : (page_in b p).pairs ≡ placed pair (page_in a p).pairs = rw at is in
+    let pairs : (page_in b p).pairs ≡ with_pair pair (page_in a p).pairs = rw at is in
     let n : length b ≡ length a = rw e (length-set a p g) in
     let other : (r : ℕ) → here p r ≡ 0 → page_in b r ≡ page_in a r = λ r h. rw e (get_or-set_other a p r g no_page (here_other p r h)) in
     let free = list_framed a b f can.whole.list n (λ r h. other r (omega (arith, h, can.whole.apart r))) in
     record {
       pairs = pairs;
       keeps = record {
-        tree = (rw n can.whole.tree.0, rw pairs (placed_some pair (page_in a p).pairs));
+        tree = (rw n can.whole.tree.0, rw pairs (with_pair_some pair (page_in a p).pairs));
         list = free.free;
         uses_stay = λ r. ap (λ k. here p r + k) (free.uses_stay r);
         frame = λ r h. other r (omega (arith, h));
@@ -108,7 +108,7 @@ insert_above d a b f g p pair c tree apart child done =
     omega (arith, u, apart r, subst (λ x. uses d a (get_or links j 0) r + uses d a x r ≤ total (λ y. uses d a y r) links) is (total_two (λ x. uses d a x r) links j i lt child.there.in_range ne)))) in
     let puts = puts_in_one pair i (map (λ x. pairs_under d a x) links) keys tree.1 (none_empty d a links tree.3) child.there.chosen in
     let at_i : get_or (map (λ x. pairs_under d a x) links) i [] ≡ pairs_under d a c = get_or-map (λ x. pairs_under d a x) links i 0 [] child.there.in_range ∙ ap (λ x. pairs_under d a x) is in
-    let new_i : pairs_under d b (get_or links i 0) ≡ placed pair (get_or (map (λ x. pairs_under d a x) links) i []) = ap (λ x. pairs_under d b x) is ∙ done.pairs ∙ ap (placed pair) (sym at_i) in
+    let new_i : pairs_under d b (get_or links i 0) ≡ with_pair pair (get_or (map (λ x. pairs_under d a x) links) i []) = ap (λ x. pairs_under d b x) is ∙ done.pairs ∙ ap (with_pair pair) (sym at_i) in
     let maps : map (λ x. pairs_under d b x) links ≡ put_in pair i (map (λ x. pairs_under d a x) links) =
     map_one (λ x. pairs_under d a x) (λ x. pairs_under d b x) links i child.there.in_range (λ j lt ne. (other j lt ne).pairs) ∙ ap (λ x. set (map (λ y. pairs_under d a y) links) i x) new_i in
     let sums : (r : ℕ) → total (λ x. uses d b x r) links + uses d a c r ≡ total (λ x. uses d a x r) links + uses d b c r = λ r.
@@ -139,7 +139,7 @@ pub insert_below : (d : ℕ) (a b e : List Page) (f g h : FreeList) (p : ℕ) (p
 insert_below d a b e f g h p pair c can made done =
     let above = insert_above d b e g h p pair c made.keeps.tree (λ r. omega (arith, made.keeps.uses_stay r, can.whole.apart r)) made.child done in
     record {
-      pairs = above.pairs ∙ ap (placed pair) made.pairs;
+      pairs = above.pairs ∙ ap (with_pair pair) made.pairs;
       keeps = keeps_then (suc d) a b e f g h p made.keeps above.keeps;
     }
 

@@ -1,114 +1,100 @@
--- One step of the walk, at the state that its loop keeps.
-use Rattle.std.proofs.Common.{◌≡◌, ◌≢◌, ℕ, ◌+◌, ◌*◌, ◌<◌, ◌≤◌, Bool, true, false, List, [], ◌∷◌, ◌++◌, length, get_or, set, reverse, Option, None, Result, Ok, Err, refl, ap, sym, ◌∙◌, subst, inl, inr, append_assoc, arith}
-use Rattle.std.proofs.lemmas.Bool.{cases_eq, cases_lt, eq-eqb, ne_eqb, false≢true}
-use Rattle.std.proofs.lemmas.Bool.Decides.{nat_tests}
-use Rattle.std.proofs.lemmas.List.{reverse-append, reverse-reverse, append-nil, get_or-set_same, get_or-set_other, get_or_past, length-set}
+-- One step of the walk over pages.
+use Rattle.std.proofs.Common.{◌≡◌, ℕ, suc, ◌+◌, ◌*◌, ◌/◌, ◌<◌, ◌≤◌, Bool, not, List, [], ◌∷◌, ◌++◌, length, count_by, reverse, Result, Ok, Err, refl, ap, sym, ◌∙◌, subst, append_assoc, length-append, arith}
+use Rattle.std.specs.Prelude.{OnOk}
+use Rattle.std.proofs.Math.Nat.{mul-le-mul_right}
+use Rattle.std.proofs.lemmas.List.{length-reverse, reverse-append}
+use Rattle.std.proofs.lemmas.List.Sums.{count_by-le-length}
 use Rattle.ndx_index.specs.declared.format.TheConstants.{PAGE}
-use Rattle.ndx_index.specs.declared.pair.Pair.{Pair}
-use Rattle.ndx_index.specs.declared.read.page.PageLayout.{PageLayout}
-use Rattle.ndx_index.specs.declared.fault.BadPage.{BadPage}
 use Rattle.ndx_index.specs.declared.fault.NdxFault.{NdxFault}
-use Rattle.ndx_index.specs.declared.fault.NdxFault.TheVariants.{Truncated, NumericIndex, UniqueIndex, BadKeyLength, BadRecordSize, PageOutside, PageTwice, TooManyEntries, MixedPage, NoMemory}
-use Rattle.ndx_index.specs.Pages.{Node, leaf, inner, node_of, is_page}
-use Rattle.ndx_index.specs.NdxTree.{Visits, is_visited, look, done, stops, visit_leaf, visit_inner}
-use Rattle.ndx_index.specs.Walks.{Takes, Refuses, IsFirstVisit, IsWalkFault, FailsToVisit, fault_at}
+use Rattle.ndx_index.specs.declared.read.page.PageLayout.{PageLayout}
+use Rattle.ndx_index.specs.declared.read.view.PageAt.{PageAt}
+use Rattle.ndx_index.specs.declared.read.view.PageView.{PageView}
+use Rattle.ndx_index.specs.declared.read.view.PageView.TheVariants.{Leaf, Inner, Broken}
+use Rattle.ndx_index.specs.Pages.{Node, child, children}
+use Rattle.ndx_index.specs.Shallow.{met_count, AreShallow, IsWalk}
+use Rattle.ndx_index.specs.Walks.{at_depth, node_seen, pages_under, work_left, UnmetAfter}
+use Rattle.ndx_index.proofs.PageLemmas.{length_children}
 
--- the flags are those of the pages visited
-abbrev pub IsFlagged : List Bool → List ℕ → Type 0
-IsFlagged visited seen = (k : ℕ) → k < length visited → get_or visited k true ≡ is_visited k seen
+pub shallow_append : (most : ℕ) (xs ys : List PageAt) → AreShallow most xs → AreShallow most ys → AreShallow most (xs ++ ys)
+shallow_append most [] ys h k = k
+shallow_append most (x ∷ xs) ys h k = (h.0, shallow_append most xs ys h.1 k)
 
--- what the walk does from here completes what it did
-abbrev pub Completes : PageLayout → List ℕ → ℕ → List ℕ → List ℕ → List ℕ → List Pair → Type 0
-Completes s bytes root seen before pending so_far =
-    (pages : List ℕ) (pairs : List Pair) (r : Option BadPage) → Visits s bytes seen (reverse pending) pages pairs r
-    → Visits s bytes [] (root ∷ []) (before ++ pages) (so_far ++ pairs) r
+shallow_front : (most : ℕ) (xs ys : List PageAt) → AreShallow most (xs ++ ys) → AreShallow most xs
+shallow_front most [] ys h = tt
+shallow_front most (x ∷ xs) ys h = (h.0, shallow_front most xs ys h.1)
 
-pub record State (s : PageLayout) (bytes : List ℕ) (root : ℕ) (visited : List Bool) (pending : List ℕ) (so_far : List Pair) : Type 0 where
-  pub seen : List ℕ
-  pub before : List ℕ
-  pub flagged : IsFlagged visited seen
-  pub completes : Completes s bytes root seen before pending so_far
+shallow_last : (most : ℕ) (xs : List PageAt) (y : PageAt) → AreShallow most (xs ++ y ∷ []) → y.depth ≤ most
+shallow_last most [] y h = h.0
+shallow_last most (x ∷ xs) y h = shallow_last most xs y h.1
 
--- before the first page
-pub state_init : (s : PageLayout) (bytes : List ℕ) (root : ℕ) (visited : List Bool) (pending : List ℕ) (so_far : List Pair) → ((k : ℕ) → k < length visited → get_or visited k true ≡ false) → pending ≡ root ∷ [] → so_far ≡ [] → State s bytes root visited pending so_far
-state_init s bytes root visited pending so_far clear one none = record {
-  seen = [];
-  before = [];
-  flagged = clear;
-  completes = λ pages pairs r v. rw none (subst (λ xs. Visits s bytes [] (reverse xs) pages pairs r) one v);
+shallow_more : (most n : ℕ) (xs : List PageAt) → most ≤ n → AreShallow most xs → AreShallow n xs
+shallow_more most n [] le h = tt
+shallow_more most n (x ∷ xs) le h = (omega (arith, h.0), shallow_more most n xs le h.1)
+
+at_depth-append : (depth : ℕ) (ps qs : List ℕ) → at_depth depth (ps ++ qs) ≡ at_depth depth ps ++ at_depth depth qs
+at_depth-append depth [] qs = refl
+at_depth-append depth (p ∷ ps) qs = ap (λ (xs : List PageAt). record { page = p; depth = depth } ∷ xs) (at_depth-append depth ps qs)
+
+-- the last of the first children goes to the end
+pub child_less : (depth : ℕ) (s : PageLayout) (page : List ℕ) (old : List PageAt) (i : ℕ)
+    → (old ++ record { page = child s page i; depth = depth } ∷ []) ++ reverse (at_depth depth (children s page i)) ≡ old ++ reverse (at_depth depth (children s page (suc i)))
+child_less depth s page old i =
+    let x : PageAt = record { page = child s page i; depth = depth } in
+    let before : List PageAt = at_depth depth (children s page i) in
+    append_assoc old (x ∷ []) (reverse before)
+    ∙ ap (λ xs. old ++ xs) (sym (ap reverse (at_depth-append depth (children s page i) (child s page i ∷ [])) ∙ reverse-append before (x ∷ [])))
+
+-- a page that was met may stand above others
+pub walk_next : (s : PageLayout) (bytes : List ℕ) (flags flags' : List Bool) (pending pending' : List PageAt) (node : Result Node NdxFault) (depth : ℕ)
+    → IsWalk s bytes flags pending → length flags' ≡ length flags → UnmetAfter node (count_by not flags) (count_by not flags') → depth ≤ met_count flags
+    → ((most : ℕ) → OnOk node (depth + 1 ≤ most) → AreShallow most pending → AreShallow most pending') → IsWalk s bytes flags' pending'
+walk_next s bytes flags flags' pending pending' (Ok node) depth walk same unmet le pushed =
+    let some : count_by not flags ≤ length flags = count_by-le-length not flags in
+    record {
+      laid_out = walk.laid_out;
+      whole = same ∙ walk.whole;
+      shallow = pushed (met_count flags') (omega arith) (shallow_more (met_count flags) (met_count flags') pending (omega arith) walk.shallow);
+    }
+walk_next s bytes flags flags' pending pending' (Err fault) depth walk same unmet le pushed = record {
+  laid_out = walk.laid_out;
+  whole = same ∙ walk.whole;
+  shallow = pushed (met_count flags') tt (shallow_more (met_count flags) (met_count flags') pending (omega arith) walk.shallow);
 }
 
-module _ (s : PageLayout) (bytes : List ℕ) (root : ℕ) (visited : List Bool) (old pending : List ℕ) (so_far : List Pair) (p : ℕ) (popped : old ≡ pending ++ p ∷ []) (state : State s bytes root visited old so_far) where
-  -- the page that was popped is the next
-  next_page : (pages : List ℕ) (pairs : List Pair) (r : Option BadPage) → Visits s bytes state.seen (p ∷ reverse pending) pages pairs r → Visits s bytes [] (root ∷ []) (state.before ++ pages) (so_far ++ pairs) r
-  next_page pages pairs r v = state.completes pages pairs r (subst (λ xs. Visits s bytes state.seen xs pages pairs r) (sym (ap reverse popped ∙ reverse-append pending (p ∷ []))) v)
+-- the next page is taken off
+pub walk_popped : (s : PageLayout) (bytes : List ℕ) (flags : List Bool) (old rest : List PageAt) (at : PageAt) → old ≡ rest ++ at ∷ [] → IsWalk s bytes flags old → IsWalk s bytes flags rest × (at.depth ≤ met_count flags)
+walk_popped s bytes flags old rest at e walk =
+    let shallow : AreShallow (met_count flags) (rest ++ at ∷ []) = subst (AreShallow (met_count flags)) e walk.shallow in
+    (record { laid_out = walk.laid_out; whole = walk.whole; shallow = shallow_front (met_count flags) rest (at ∷ []) shallow }, shallow_last (met_count flags) rest at shallow)
 
-  unvisited : get_or visited p true ≡ false → is_visited p state.seen ≡ false
-  unvisited h = elim (cases_lt p (length visited)) [
-    | inl lt ↦ sym (state.flagged p lt) ∙ h
-    | inr past ↦ absurd (false≢true (sym h ∙ get_or_past visited p true past))
-  ]
+-- and it was not too deep
+pub shallow_step : (s : PageLayout) (bytes : List ℕ) (flags : List Bool) (pending : List PageAt) (depth : ℕ) → IsWalk s bytes flags pending → depth ≤ met_count flags → depth ≤ length bytes / PAGE
+shallow_step s bytes flags pending depth walk le = omega (arith, walk.whole)
 
-  flags_next : (new : List Bool) → new ≡ set visited p true → IsFlagged new (p ∷ state.seen)
-  flags_next new e = subst (λ (m : List Bool). IsFlagged m (p ∷ state.seen)) (sym e) (λ k lt. elim (cases_eq k p) [
-    | inl here ↦ let in_range : p < length visited = omega (arith, length-set visited p true) in
-        rw (here, eq-eqb p p refl) (get_or-set_same visited p true true in_range)
-    | inr other ↦ rw (ne_eqb k p other) (get_or-set_other visited p k true true other ∙ state.flagged k (omega (arith, length-set visited p true)))
-  ])
+-- a page has few children
+few_under : (view : PageView) → length (pages_under (node_seen view)) < 2 * PAGE
+few_under (Leaf page) = omega arith
+few_under (Inner page) =
+    let many : 1 * page.count ≤ page.layout.size * page.count = mul-le-mul_right page.count (omega (arith, page.laid_out.key_fits)) in
+    omega (arith, length_children page.layout page.bytes.now page.count, many, page.fits, page.laid_out.size_fits)
+few_under (Broken fault) = omega arith
 
-  looks_twice : is_page bytes p ≡ true → is_visited p state.seen ≡ true → look s bytes state.seen p ≡ Err PageTwice
-  looks_twice h k = rw (h, k)
+length_at : (depth : ℕ) (ps : List ℕ) → length (at_depth depth ps) ≡ length ps
+length_at depth [] = refl
+length_at depth (p ∷ ps) = ap (λ (n : ℕ). suc n) (length_at depth ps)
 
-  looks : {new : List Bool} {page : List ℕ} → IsFirstVisit bytes p visited new page → is_visited p state.seen ≡ false → look s bytes state.seen p ≡ node_of s page
-  looks entered new = rw (entered.whole, new) (ap (node_of s) (sym entered.bytes_are))
+less_by : (node : Result Node NdxFault) (before after others waiting : ℕ) → waiting ≡ others + length (pages_under node)
+    → UnmetAfter node before after → length (pages_under node) < 2 * PAGE → 2 * PAGE * after + waiting < 2 * PAGE * before + others + 1
+less_by (Ok node) before after others waiting is unmet few = omega arith
+less_by (Err fault) before after others waiting is unmet few = omega arith
 
-  pub step : (new : List Bool) (page : List ℕ) (pending' : List ℕ) (so_far' : List Pair) → IsFirstVisit bytes p visited new page → (node : Result Node NdxFault) → node_of s page ≡ node → Takes node pending pending' so_far so_far' → State s bytes root new pending' so_far'
-  step new page pending' so_far' entered (Ok (leaf own)) e takes = record {
-    seen = p ∷ state.seen;
-    before = state.before ++ p ∷ [];
-    flagged = flags_next new entered.marked;
-    completes = λ pages pairs r v.
-        let seen_as : look s bytes state.seen p ≡ Ok (leaf own) = looks entered (unvisited entered.unvisited) ∙ e in
-        rw (takes.1, append_assoc state.before (p ∷ []) pages, append_assoc so_far own pairs)
-        (next_page (p ∷ pages) (own ++ pairs) r (visit_leaf seen_as (subst (λ xs. Visits s bytes (p ∷ state.seen) (reverse xs) pages pairs r) takes.0 v)));
-  }
-  step new page pending' so_far' entered (Ok (inner children)) e takes = record {
-    seen = p ∷ state.seen;
-    before = state.before ++ p ∷ [];
-    flagged = flags_next new entered.marked;
-    completes = λ pages pairs r v.
-        let seen_as : look s bytes state.seen p ≡ Ok (inner children) = looks entered (unvisited entered.unvisited) ∙ e in
-        let pending_is : reverse pending' ≡ children ++ reverse pending = ap reverse takes.0 ∙ reverse-append pending (reverse children) ∙ ap (λ xs. xs ++ reverse pending) (reverse-reverse children) in
-        rw (takes.1, append_assoc state.before (p ∷ []) pages)
-        (next_page (p ∷ pages) pairs r (visit_inner seen_as (subst (λ xs. Visits s bytes (p ∷ state.seen) xs pages pairs r) pending_is v)));
-  }
-  step new page pending' so_far' entered (Err f) e takes = absurd takes
-
-  -- the walk ends at this page, for want of memory or by a rule
-  ends_at : (f : NdxFault) → (f ≢ NoMemory → look s bytes state.seen p ≡ Err f) → IsWalkFault s bytes root (fault_at p f)
-  ends_at Truncated h = (state.before ++ [], so_far ++ [], next_page [] [] _ (stops (h (λ is. cc))))
-  ends_at NumericIndex h = (state.before ++ [], so_far ++ [], next_page [] [] _ (stops (h (λ is. cc))))
-  ends_at UniqueIndex h = (state.before ++ [], so_far ++ [], next_page [] [] _ (stops (h (λ is. cc))))
-  ends_at BadKeyLength h = (state.before ++ [], so_far ++ [], next_page [] [] _ (stops (h (λ is. cc))))
-  ends_at BadRecordSize h = (state.before ++ [], so_far ++ [], next_page [] [] _ (stops (h (λ is. cc))))
-  ends_at PageOutside h = (state.before ++ [], so_far ++ [], next_page [] [] _ (stops (h (λ is. cc))))
-  ends_at PageTwice h = (state.before ++ [], so_far ++ [], next_page [] [] _ (stops (h (λ is. cc))))
-  ends_at TooManyEntries h = (state.before ++ [], so_far ++ [], next_page [] [] _ (stops (h (λ is. cc))))
-  ends_at MixedPage h = (state.before ++ [], so_far ++ [], next_page [] [] _ (stops (h (λ is. cc))))
-  ends_at NoMemory h = tt
-
-  pub step_broken : (new : List Bool) (page : List ℕ) (f : NdxFault) → IsFirstVisit bytes p visited new page → Refuses (node_of s page) f → IsWalkFault s bytes root (fault_at p f)
-  step_broken new page f entered (inl e) = ends_at f (λ ne. absurd (ne e))
-  step_broken new page f entered (inr e) = ends_at f (λ ne. looks entered (unvisited entered.unvisited) ∙ e)
-
-  pub step_unvisited : (f : NdxFault) → ((k : ℕ) → is_page bytes k ≡ true → k < length visited) → FailsToVisit bytes p visited f → IsWalkFault s bytes root (fault_at p f)
-  step_unvisited f within (inl h) = ends_at f (λ ne. rw (h.0, h.1))
-  step_unvisited f within (inr h) = ends_at f (λ ne. rw h.0 (looks_twice h.1 (sym (state.flagged p (within p h.1)) ∙ h.2)))
-
--- no page is left
-pub state_done : (s : PageLayout) (bytes : List ℕ) (root : ℕ) (visited : List Bool) (pending : List ℕ) (so_far : List Pair) → State s bytes root visited pending so_far → pending ≡ [] → (pages : List ℕ) × Visits s bytes [] (root ∷ []) pages so_far None
-state_done s bytes root visited pending so_far state none =
-    (state.before ++ [], subst (λ ps. Visits s bytes [] (root ∷ []) (state.before ++ []) ps None) (append-nil so_far) (state.completes [] [] None (subst (λ xs. Visits s bytes state.seen (reverse xs) [] [] None) (sym none) done)))
-
-pub is_page_whole : (bytes : List ℕ) (p : ℕ) → is_page bytes p ≡ true → PAGE * p + PAGE ≤ length bytes
-is_page_whole bytes p h = grind (arith, nat_tests)
+-- there is less to do than with the page
+pub less_work : (flags flags' : List Bool) (pending pending' : List PageAt) (view : PageView) (depth : ℕ)
+    → UnmetAfter (node_seen view) (count_by not flags) (count_by not flags') → pending' ≡ pending ++ reverse (at_depth depth (pages_under (node_seen view)))
+    → work_left flags' pending' < work_left flags pending + 1
+less_work flags flags' pending pending' view depth unmet pushed =
+    let node : Result Node NdxFault = node_seen view in
+    let after : length pending' ≡ length pending + length (pages_under node) =
+    ap length pushed ∙ length-append pending (reverse (at_depth depth (pages_under node)))
+    ∙ ap (λ (n : ℕ). length pending + n) (length-reverse (at_depth depth (pages_under node)) ∙ length_at depth (pages_under node)) in
+    less_by node (count_by not flags) (count_by not flags') (length pending) (length pending') after unmet (few_under view)

@@ -6,17 +6,40 @@ use Rattle.byteorder.specs.Endian.{little_number}
 use Rattle.dbf_fields.specs.Faults.{first_fault}
 use Rattle.ndx_index.specs.declared.pair.Pair.{Pair}
 use Rattle.ndx_index.specs.declared.read.header.Header.{Header}
-use Rattle.ndx_index.specs.declared.fault.BadPage.{BadPage}
+use Rattle.ndx_index.specs.declared.read.header.HeaderNumbers.{HeaderNumbers}
+use Rattle.ndx_index.specs.declared.read.page.PageLayout.{PageLayout}
 use Rattle.ndx_index.specs.declared.fault.NdxFault.{NdxFault}
 use Rattle.key_expr.specs.declared.format.TheConstants.{MAX_KEY_BYTES}
-use Rattle.ndx_index.specs.declared.format.TheConstants.{PAGE, KEY_LENGTH_OFFSET, KEY_TYPE_OFFSET, RECORD_SIZE_OFFSET, UNIQUE_FLAG_OFFSET, EXPRESSION_OFFSET, MAX_RECORDS_BYTES}
+use Rattle.ndx_index.specs.declared.format.TheConstants.{PAGE, PAGE_COUNT_OFFSET, KEY_LENGTH_OFFSET, KEY_TYPE_OFFSET, RECORD_SIZE_OFFSET, UNIQUE_FLAG_OFFSET, EXPRESSION_OFFSET, MAX_RECORDS_BYTES}
 use Rattle.ndx_index.specs.declared.fault.NdxFault.TheVariants.{Truncated, NumericIndex, UniqueIndex, BadKeyLength, BadRecordSize}
 use Rattle.ndx_index.specs.Pages.{u32_at}
-use Rattle.ndx_index.specs.NdxTree.{IsFileTree, Visits}
+use Rattle.ndx_index.specs.NdxTree.{BadPage, IsFileTree, Visits}
 
 -- the number in the two bytes at an offset
 unfoldable pub u16_at : List ℕ → ℕ → ℕ
 u16_at bytes at = little_number 2 (drop at bytes)
+
+-- the numbers of the header page, as they stand there
+abbrev pub header_numbers : List ℕ → HeaderNumbers
+header_numbers bytes = record {
+  root = u32_at bytes 0;
+  page_count = u32_at bytes PAGE_COUNT_OFFSET;
+  key_len = u16_at bytes KEY_LENGTH_OFFSET;
+  key_type = u16_at bytes KEY_TYPE_OFFSET;
+  record_size = u16_at bytes RECORD_SIZE_OFFSET;
+  unique_flag = slice_index bytes UNIQUE_FLAG_OFFSET;
+}
+
+-- how pages are laid out by these numbers, where no test fails
+abbrev pub layout_of : HeaderNumbers → PageLayout
+layout_of numbers = record { key_len = numbers.key_len; size = numbers.record_size }
+
+-- each test of a key's length and a key record's size, without which no page can be read, beside the fault that it is for
+abbrev pub layout_tests : ℕ → ℕ → List (Bool × NdxFault)
+layout_tests key_len size =
+    (is_in_range 1 MAX_KEY_BYTES key_len, BadKeyLength)
+    ∷ (is_in_range (key_len + 8) MAX_RECORDS_BYTES size, BadRecordSize)
+    ∷ []
 
 -- each test of the header page beside the fault that it is for
 unfoldable pub header_page_tests : List ℕ → List (Bool × NdxFault)
@@ -24,9 +47,7 @@ header_page_tests bytes =
     (nat_le PAGE (length bytes), Truncated)
     ∷ (u16_at bytes KEY_TYPE_OFFSET == 0, NumericIndex)
     ∷ (slice_index bytes UNIQUE_FLAG_OFFSET == 0, UniqueIndex)
-    ∷ (is_in_range 1 MAX_KEY_BYTES (u16_at bytes KEY_LENGTH_OFFSET), BadKeyLength)
-    ∷ (is_in_range (u16_at bytes KEY_LENGTH_OFFSET + 8) MAX_RECORDS_BYTES (u16_at bytes RECORD_SIZE_OFFSET), BadRecordSize)
-    ∷ []
+    ∷ layout_tests (u16_at bytes KEY_LENGTH_OFFSET) (u16_at bytes RECORD_SIZE_OFFSET)
 
 -- the first rule that the header page breaks
 abbrev pub header_refusal : List ℕ → Option NdxFault
@@ -50,9 +71,13 @@ after_blanks (b ∷ bs) = if b == BLANK then after_blanks bs else b ∷ bs
 unfoldable pub trimmed_end : List ℕ → List ℕ
 trimmed_end bs = reverse (after_blanks (reverse bs))
 
--- the text of the key expression: to the header page's end
+-- the text of the key expression with the blanks after it: up to its first zero, or to the header page's end
+abbrev pub padded_expression : List ℕ → List ℕ
+padded_expression bytes = before_zero (slice_range bytes EXPRESSION_OFFSET PAGE)
+
+-- the text of the key expression
 abbrev pub expression : List ℕ → List ℕ
-expression bytes = trimmed_end (before_zero (slice_range bytes EXPRESSION_OFFSET PAGE))
+expression bytes = trimmed_end (padded_expression bytes)
 
 -- the bytes are an index file with this key expression, keys of this length, and these pairs
 pub record IsIndex (bytes text : List ℕ) (key_len : ℕ) (pairs : List Pair) : Type 0 where
@@ -67,9 +92,10 @@ abbrev pub IsBadPage : List ℕ → BadPage → Type 0
 IsBadPage bytes bad =
     (header_refusal bytes ≡ None) × (pages : List ℕ) × (pairs : List Pair) × Visits (ndx_header bytes).layout bytes [] ((ndx_header bytes).root ∷ []) pages pairs (Some bad)
 
--- the header page breaks a rule, or none is broken
-abbrev pub HasNoBadPage : List ℕ → Type 0
-HasNoBadPage bytes = (bad : BadPage) → IsBadPage bytes bad → ⊥
+-- this is the page at which the walk breaks this rule, and none before it; where there is none, the header page breaks it
+abbrev pub IsRefusedPage : List ℕ → NdxFault → Option ℕ → Type 0
+IsRefusedPage bytes why None = header_refusal bytes ≡ Some why
+IsRefusedPage bytes why (Some page) = IsBadPage bytes (record { page = page; why = why })
 
 -- this is the first rule that the bytes break
 abbrev pub HasNdxFault : List ℕ → NdxFault → Type 0

@@ -6,6 +6,7 @@ pub mod Laws
 pub mod Pages
 pub mod NdxTree
 pub mod Walks
+pub mod Shallow
 pub mod Header
 pub mod Image
 pub mod IndexFile

@@ -2,7 +2,6 @@
 use Rattle.std.specs.Prelude.{◌≡◌, ℕ, Bool, true, nat_eq, List, [], ◌∷◌, ◌++◌, Option, Some, None, Result, Ok, Err, if◌then◌else◌}
 use Rattle.std.specs.List.{list_any, IsDistinct}
 use Rattle.ndx_index.specs.declared.pair.Pair.{Pair}
-use Rattle.ndx_index.specs.declared.fault.BadPage.{BadPage}
 use Rattle.ndx_index.specs.declared.fault.NdxFault.{NdxFault}
 use Rattle.ndx_index.specs.declared.fault.NdxFault.TheVariants.{PageOutside, PageTwice}
 use Rattle.ndx_index.specs.declared.read.page.PageLayout.{PageLayout}
@@ -35,6 +34,11 @@ pub record IsFileTree (s : PageLayout) (bytes : List ℕ) (p : ℕ) (pages : Lis
 abbrev pub look : PageLayout → List ℕ → List ℕ → ℕ → Result Node NdxFault
 look s bytes visited p =
     if is_page bytes p then (if is_visited p visited then Err PageTwice else node_of s (page_of bytes p)) else Err PageOutside
+
+-- a page that breaks a rule
+pub record BadPage : Type 0 where
+  pub page : ℕ
+  pub why : NdxFault
 
 -- A walk, depth first: which pages were visited before, which are still to be visited, and then the pages that are
 -- visited up to the first that breaks a rule, their pairs, and that page with the rule.

@@ -19,14 +19,14 @@ abbrev pub same : Pair → Pair → Bool
 same a b = is_eq (pair_cmp a b)
 
 -- a pair put among pairs in order
-abbrev pub placed : Pair → List Pair → List Pair
-placed p [] = p ∷ []
-placed p (q ∷ qs) = if before q p then q ∷ placed p qs else p ∷ q ∷ qs
+abbrev pub with_pair : Pair → List Pair → List Pair
+with_pair p [] = p ∷ []
+with_pair p (q ∷ qs) = if before q p then q ∷ with_pair p qs else p ∷ q ∷ qs
 
 -- the pairs in order
 abbrev pub in_order : List Pair → List Pair
 in_order [] = []
-in_order (p ∷ ps) = placed p (in_order ps)
+in_order (p ∷ ps) = with_pair p (in_order ps)
 
 -- the pairs but for p
 abbrev pub without_pair : Pair → List Pair → List Pair

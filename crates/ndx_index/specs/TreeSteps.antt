@@ -1,7 +1,7 @@
 -- What changes a tree of pages and the free pages beside it.
 use Rattle.std.specs.Prelude.{true, false, Option, None, Some, ◌++◌, Contains, slice_index, ◌≡◌, ℕ, zero, suc, ◌+◌, ◌^◌, ◌<◌, ◌≤◌, List, [], ◌∷◌, length, slice_set}
 use Rattle.std.specs.List.{insert}
-use Rattle.ndx_index.specs.Order.{before, placed, without_pair, AreInOrder}
+use Rattle.ndx_index.specs.Order.{before, with_pair, without_pair, AreInOrder}
 use Rattle.ndx_index.specs.Slots.{slot_at}
 use Rattle.ndx_index.specs.declared.pair.Pair.{Pair}
 use Rattle.ndx_index.specs.declared.pages.free.FreeList.{FreeList}
@@ -109,7 +109,7 @@ pub record CanInsert (d : ℕ) (a : List Page) (f : FreeList) (p : ℕ) (pair : 
   pub absent : Contains (pairs_under d a p) pair → ⊥
 
 pub record Inserts (d : ℕ) (a b : List Page) (f g : FreeList) (p : ℕ) (pair : Pair) : Type 0 where
-  pub pairs : pairs_under d b p ≡ placed pair (pairs_under d a p)
+  pub pairs : pairs_under d b p ≡ with_pair pair (pairs_under d a p)
   pub keeps : Keeps d a b f g p
 
 -- the child for the pair has room, after it was split where it was full
@@ -210,7 +210,7 @@ pub record CanInsertIn (a : List Page) (f : FreeList) (t : Root) (pair : Pair) :
 
 -- the pages in the tree and the free ones are the same together
 pub record InsertsIn (a b : List Page) (f g : FreeList) (t u : Root) (pair : Pair) : Type 0 where
-  pub pairs : pairs_in b u ≡ placed pair (pairs_in a t)
+  pub pairs : pairs_in b u ≡ with_pair pair (pairs_in a t)
   pub tree : IsTreeIn b u
   pub list : IsFreeList b g
   pub uses_stay : (r : ℕ) → uses_in b u r + uses_free b g r ≡ uses_in a t r + uses_free a f r

@@ -1,46 +1,81 @@
--- What a step of the walk does to the pages that are still to be visited, the last one first, and to the pairs.
-use Rattle.std.specs.Prelude.{◌≡◌, ℕ, Bool, true, false, List, [], ◌∷◌, ◌++◌, reverse, ◌⊎◌, Some, Result, Ok, Err, slice_index_or, slice_set}
-use Rattle.ndx_index.specs.declared.pair.Pair.{Pair}
+-- A walk over the pages of an index file, depth first, whatever its bytes are.
+use Rattle.std.specs.Prelude.{◌≡◌, ℕ, ◌+◌, ◌*◌, ◌/◌, ◌<◌, ◌≤◌, Bool, true, false, not, List, [], ◌∷◌, ◌++◌, length, map, replicate, count_by, slice_index_or, Result, Ok, Err}
 use Rattle.ndx_index.specs.declared.fault.NdxFault.{NdxFault}
-use Rattle.ndx_index.specs.declared.fault.NdxFault.TheVariants.{PageOutside, PageTwice, NoMemory}
+use Rattle.ndx_index.specs.declared.format.TheConstants.{PAGE}
 use Rattle.ndx_index.specs.declared.read.page.PageLayout.{PageLayout}
-use Rattle.ndx_index.specs.declared.read.walk.WalkFault.{WalkFault}
-use Rattle.ndx_index.specs.declared.read.walk.WalkFault.TheVariants as walk
-use Rattle.ndx_index.specs.NdxTree.{Visits}
-use Rattle.ndx_index.specs.Pages.{Node, leaf, inner, is_page, page_of}
+use Rattle.ndx_index.specs.declared.read.view.PageAt.{PageAt}
+use Rattle.ndx_index.specs.declared.read.view.PageView.{PageView}
+use Rattle.ndx_index.specs.declared.read.view.PageView.TheVariants.{Leaf, Inner, Broken}
+use Rattle.ndx_index.specs.NdxTree.{is_visited, look}
+use Rattle.ndx_index.specs.Pages.{Node, leaf, inner, children, leaf_pairs}
 
-abbrev pub Takes : Result Node NdxFault → List ℕ → List ℕ → List Pair → List Pair → Type 0
-Takes (Ok (leaf own)) pending pending' pairs pairs' = (pending' ≡ pending) × (pairs' ≡ pairs ++ own)
-Takes (Ok (inner children)) pending pending' pairs pairs' = (pending' ≡ pending ++ reverse children) × (pairs' ≡ pairs)
-Takes (Err e) pending pending' pairs pairs' = ⊥
+-- what a view says that a page holds
+abbrev pub node_seen : PageView → Result Node NdxFault
+node_seen (Leaf page) = Ok (leaf (leaf_pairs page.layout page.bytes.now page.count))
+node_seen (Inner page) = Ok (inner (children page.layout page.bytes.now page.count))
+node_seen (Broken fault) = Err fault
 
--- memory is refused, or the page breaks this rule
-abbrev pub Refuses : Result Node NdxFault → NdxFault → Type 0
-Refuses node e = (e ≡ NoMemory) ⊎ (node ≡ Err e)
+-- the keys of a page that breaks no rule have this length
+abbrev pub HasKeyLength : ℕ → PageView → Type 0
+HasKeyLength key_len (Leaf page) = key_len ≡ page.layout.key_len
+HasKeyLength key_len (Inner page) = key_len ≡ page.layout.key_len
+HasKeyLength key_len (Broken fault) = Unit {0}
 
--- page p is there and wasn't visited before
-pub record IsFirstVisit (bytes : List ℕ) (p : ℕ) (old new : List Bool) (taken : List ℕ) : Type 0 where
-  pub whole : is_page bytes p ≡ true
-  pub unvisited : slice_index_or old p true ≡ false
-  pub marked : new ≡ slice_set old p true
-  pub bytes_are : taken ≡ page_of bytes p
+-- a page that holds something is met now
+abbrev pub met_with : List ℕ → ℕ → Result Node NdxFault → List ℕ
+met_with met p (Ok node) = p ∷ met
+met_with met p (Err fault) = met
 
-abbrev pub FailsToVisit : List ℕ → ℕ → List Bool → NdxFault → Type 0
-FailsToVisit bytes p old e =
-    ((e ≡ PageOutside) × (is_page bytes p ≡ false))
-    ⊎ ((e ≡ PageTwice) × (is_page bytes p ≡ true) × (slice_index_or old p true ≡ true))
+-- the pages under a page: the children of an inner page alone
+abbrev pub pages_under : Result Node NdxFault → List ℕ
+pages_under (Ok (leaf pairs)) = []
+pages_under (Ok (inner children)) = children
+pages_under (Err fault) = []
 
--- why the walk ends at a page
-abbrev pub fault_at : ℕ → NdxFault → WalkFault
-fault_at page NoMemory = walk.NoMemory
-fault_at page why = walk.BadPage (record { page = page; why = why })
+-- pages at a depth
+abbrev pub at_depth : ℕ → List ℕ → List PageAt
+at_depth depth pages = map (λ p. record { page = p; depth = depth }) pages
 
--- the rule that is broken where a walk ends
-abbrev pub rule_of : WalkFault → NdxFault
-rule_of (walk.BadPage bad) = bad.why
-rule_of walk.NoMemory = NoMemory
+-- the file, which of its pages were met, and the pages that the walk is to come to, the next one first
+pub record Walk : Type 0 where
+  pub bytes : List ℕ
+  pub layout : PageLayout
+  pub flags : List Bool
+  pub pending : List PageAt
 
--- memory is refused, or this is where the walk over the tree under a page breaks a rule first
-abbrev pub IsWalkFault : PageLayout → List ℕ → ℕ → WalkFault → Type 0
-IsWalkFault s bytes root (walk.BadPage bad) = (pages : List ℕ) × (pairs : List Pair) × Visits s bytes [] (root ∷ []) pages pairs (Some bad)
-IsWalkFault s bytes root walk.NoMemory = Unit {0}
+-- the walk from a root, before its first page
+abbrev pub walk_from : List ℕ → PageLayout → ℕ → Walk
+walk_from bytes layout root = record {
+  bytes = bytes;
+  layout = layout;
+  flags = replicate (length bytes / PAGE) false;
+  pending = record { page = root; depth = 0 } ∷ [];
+}
+
+-- the flags are those of the pages that were met
+abbrev pub IsFlagged : List Bool → List ℕ → Type 0
+IsFlagged flags met = (k : ℕ) → k < length flags → slice_index_or flags k true ≡ is_visited k met
+
+-- A step of a walk: it comes to this page, which holds this, or breaks this rule; then the page is met, and those under it are the
+-- next. No page stands deeper than the file has pages.
+pub record IsStep (old : Walk) (at : PageAt) (node : Result Node NdxFault) (new : Walk) : Type 0 where
+  pub rest : List PageAt
+  pub next : old.pending ≡ at ∷ rest
+  pub shallow : at.depth ≤ length old.bytes / PAGE
+  pub holds : (met : List ℕ) → IsFlagged old.flags met → node ≡ look old.layout old.bytes met at.page
+  pub met : (met : List ℕ) → IsFlagged old.flags met → IsFlagged new.flags (met_with met at.page node)
+  pub pending : new.pending ≡ at_depth (at.depth + 1) (pages_under node) ++ rest
+  pub same_file : new.bytes ≡ old.bytes
+  pub same_layout : new.layout ≡ old.layout
+
+-- how much is left to do: the pages that were not met, each with its children, and those that the walk is to come to
+abbrev pub work_left : List Bool → List PageAt → ℕ
+work_left flags pending = 2 * PAGE * count_by not flags + length pending
+
+abbrev pub work_of : Walk → ℕ
+work_of walk = work_left walk.flags walk.pending
+
+-- how many pages were not met, before a page was looked at and then
+abbrev pub UnmetAfter : Result Node NdxFault → ℕ → ℕ → Type 0
+UnmetAfter (Ok node) before after = after + 1 ≡ before
+UnmetAfter (Err fault) before after = after ≡ before

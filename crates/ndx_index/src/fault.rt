@@ -1,10 +1,10 @@
 //! Why an index file is refused.
 
-ghost use Rattle.std.specs.Prelude.{◌≡◌};
+ghost use Rattle.std.specs.Prelude.{◌≡◌, Some};
 ghost use Rattle.ndx_index.specs.declared.fault.NdxFault.TheVariants.{NoMemory};
 ghost use Rattle.ndx_index.specs.FaultWords.{ndx_name, ndx_words};
 
-use std::alloc::{AllocError, AllocFailed};
+use std::alloc::AllocError;
 use std::fmt;
 use thiserror::Error;
 
@@ -81,27 +81,44 @@ impl fmt::Display for NdxFault {
     }
 }
 
-impl From<AllocError> for NdxFault {
-    ghost from_gives = { λ _ e. e ≡ NoMemory };
-
-    fn from(_e: AllocError) -> NdxFault {
-        NdxFault::NoMemory
-    }
-}
-
-impl<T: Drop> From<AllocFailed<T>> for NdxFault {
-    ghost from_gives = { λ _ e. e ≡ NoMemory };
-
-    fn from(_e: AllocFailed<T>) -> NdxFault {
-        NdxFault::NoMemory
-    }
-}
-
-/// The page at which the walk over an index file ends, and the rule that it breaks there.
+/// Why an index file is refused, and where.
 #[derive(Clone, Copy, Debug, PartialEq, Eq)]
-pub struct BadPage {
-    /// Its number: the bytes from 512 times that on. It may lie outside the file.
-    pub page: u32,
-    /// The rule.
+pub struct BadIndex {
+    /// The rule that is broken first.
     pub why: NdxFault,
+    /// The number of the page that breaks it: the bytes from 512 times that on, which may lie outside the file. None where the header
+    /// page breaks it, or memory is refused.
+    pub page: Option<u32>,
+}
+
+impl BadIndex {
+    /// This page breaks this rule.
+    pub(crate) fn at_page(page: u32, why: NdxFault) -> BadIndex
+        ensures value { result ≡ record { why = why; page = Some page } }
+    {
+        BadIndex {
+            why,
+            page: Some(page),
+        }
+    }
+}
+
+impl From<NdxFault> for BadIndex {
+    ghost use Rattle.std.specs.Prelude.{None};
+
+    ghost from_gives = { λ why bad. bad ≡ record { why = why; page = None } };
+
+    fn from(why: NdxFault) -> BadIndex {
+        BadIndex { why, page: None }
+    }
+}
+
+impl From<AllocError> for BadIndex {
+    ghost use Rattle.std.specs.Prelude.{None};
+
+    ghost from_gives = { λ _ bad. bad ≡ record { why = NoMemory; page = None } };
+
+    fn from(_e: AllocError) -> BadIndex {
+        BadIndex::from(NdxFault::NoMemory)
+    }
 }

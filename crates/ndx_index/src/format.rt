@@ -6,6 +6,9 @@ pub const PAGE: usize = 512;
 /// The most bytes of a page's key records: the number of its keys and the last child's pointer take eight.
 pub const MAX_RECORDS_BYTES: usize = 504;
 
+/// Where the number of pages stands in the header page.
+pub const PAGE_COUNT_OFFSET: usize = 4;
+
 /// Where the length of keys stands in the header page.
 pub const KEY_LENGTH_OFFSET: usize = 12;
 

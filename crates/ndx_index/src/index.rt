@@ -5,7 +5,7 @@ ghost use Rattle.std.specs.List.{IsDistinct};
 ghost use Rattle.key_expr.specs.declared.format.TheConstants.{MAX_KEY_BYTES};
 ghost use Rattle.ndx_index.specs.Bounds.{passes};
 ghost use Rattle.ndx_index.specs.Index.{HaveLength};
-ghost use Rattle.ndx_index.specs.Order.{same, in_order, placed, without_pair, first_from, next_of, previous_of, AreInOrder};
+ghost use Rattle.ndx_index.specs.Order.{same, in_order, with_pair, without_pair, first_from, next_of, previous_of, AreInOrder};
 ghost use Rattle.ndx_index.specs.Renumbered.{renumbered, HaveNewNumbers};
 
 use crate::pages::bound::Bound;
@@ -119,7 +119,7 @@ impl OrderedIndex {
         requires key { length pair.key ≡ self.old.key_len }
         requires absent { Contains self.old.pairs pair → ⊥ }
         ensures key_len { self.new.key_len ≡ self.old.key_len }
-        ensures pairs { self.new.pairs ≡ placed pair self.old.pairs }
+        ensures pairs { self.new.pairs ≡ with_pair pair self.old.pairs }
         ensures spare { self.old.spare ≤ self.new.spare + 1 }
     {
         insert_in(&mut self.store, &mut self.free, &mut self.root, &pair);

@@ -141,13 +141,18 @@ fn reading_attempt(alloc: Global, bytes: &[u8]) -> Attempt {
 // The page of that file that breaks a rule where its root has 43 keys.
 fn bad_page_attempt(alloc: Global, mut bytes: [u8; 1024]) -> Attempt {
     bytes[512] = 43;
-    let bad = BadPage {
-        page: 1,
+    let bad = BadIndex {
         why: NdxFault::TooManyEntries,
+        page: Some(1),
     };
-    match first_bad_page(alloc, &bytes) {
-        Ok(found) => Attempt::right_if(found == Some(bad)),
-        Err(AllocError) => Attempt::Refused,
+    let refused = BadIndex {
+        why: NdxFault::NoMemory,
+        page: None,
+    };
+    match read_ndx_at(alloc, &bytes) {
+        Ok(_) => Attempt::right_if(false),
+        Err(found) if found == refused => Attempt::Refused,
+        Err(found) => Attempt::right_if(found == bad),
     }
 }
 
@@ -169,7 +174,7 @@ fn make_sample(alloc: Global) -> Result<Sample, Fail> {
 #[derive(Clone, Copy, Debug)]
 enum Called {
     ReadNdx,
-    FirstBadPage,
+    ReadNdxAt,
     FromSorted,
     FromPairs,
     Pairs,
@@ -180,7 +185,7 @@ enum Called {
 fn attempt_of(alloc: Global, sample: &mut Sample, called: Called) -> Attempt {
     match called {
         Called::ReadNdx => reading_attempt(alloc, &sample.file),
-        Called::FirstBadPage => bad_page_attempt(alloc, sample.file),
+        Called::ReadNdxAt => bad_page_attempt(alloc, sample.file),
         Called::FromSorted => index_attempt(sorted_index(alloc)),
         Called::FromPairs => index_attempt(index_of_pairs(alloc)),
         Called::Pairs => list_attempt(alloc, &sample.index),
@@ -193,7 +198,7 @@ fn each_request_is_refused_in_turn(rt: HostRuntime) -> Result<(), Fail> {
     let alloc = rt.alloc();
     for called in [
         Called::ReadNdx,
-        Called::FirstBadPage,
+        Called::ReadNdxAt,
         Called::FromSorted,
         Called::FromPairs,
         Called::Pairs,

@@ -1,6 +1,8 @@
-//! Damaged index files: the answer is the file, or one refusal.
+//! Damaged index files: the answer is the file, or one refusal; and an index of many pairs.
 
-use ndx_index::{BadPage, NdxFault, first_bad_page, read_ndx};
+mod thousand;
+
+use ndx_index::{BadIndex, NdxFault, read_ndx, read_ndx_at};
 use sample_files::{EMPTY_INDEX, FIRST_LEAF, ROOT, two_leaves, with_zeros};
 use std::alloc::{AllocError, Global};
 use std::test::Fail;
@@ -75,11 +77,10 @@ fn damaged_index_files(rt: HostRuntime) -> Result<(), Fail> {
 #[test]
 fn first_bad_pages(rt: HostRuntime) -> Result<(), Fail> {
     let alloc = rt.alloc();
-    assert_eq!(rt; first_bad_page(alloc, two_leaves(alloc)?.as_slice())?, None);
     for (length, changes, why, page) in DAMAGED {
         let bytes = damaged(alloc, length, changes)?;
-        let bad = page.map(|page| BadPage { page, why });
-        assert_eq!(rt; first_bad_page(alloc, bytes.as_slice())?, bad);
+        let bad = BadIndex { why, page };
+        assert_eq!(rt; read_ndx_at(alloc, bytes.as_slice()).err(), Some(bad));
     }
     Ok(())
 }

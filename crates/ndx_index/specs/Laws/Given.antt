@@ -5,7 +5,7 @@ use Rattle.std.specs.declared.cmp.Ordering.TheVariants.{Less}
 use Rattle.std.specs.List.{AllByRecursion}
 use Rattle.std.specs.List.Sorted.{IsStrictlySortedBy}
 use Rattle.ndx_index.specs.declared.pair.Pair.{Pair}
-use Rattle.ndx_index.specs.Order.{pair_cmp, placed, in_order, AreInOrder}
+use Rattle.ndx_index.specs.Order.{pair_cmp, with_pair, in_order, AreInOrder}
 use Rattle.ndx_index.specs.Laws.Comparing.{before_trans, irreflexive}
 use Rattle.ndx_index.specs.Laws.Lists.{all_weaker}
 use Rattle.ndx_index.specs.Laws.Sorting.{not_after}
@@ -28,15 +28,15 @@ neighbours (p ∷ []) a k d lt = absurd (omega arith)
 neighbours (p ∷ q ∷ qs) a zero d lt = a.0.0
 neighbours (p ∷ q ∷ qs) a (suc k) d lt = neighbours (q ∷ qs) a.1 k d (omega arith)
 
-placed_first : (p : Pair) (ps : List Pair) → AllByRecursion (λ q. pair_cmp p q ≡ Less) ps → placed p ps ≡ p ∷ ps
-placed_first p [] all = refl
-placed_first p (q ∷ qs) all = rw (not_after p q all.0) refl
+with_pair_first : (p : Pair) (ps : List Pair) → AllByRecursion (λ q. pair_cmp p q ≡ Less) ps → with_pair p ps ≡ p ∷ ps
+with_pair_first p [] all = refl
+with_pair_first p (q ∷ qs) all = rw (not_after p q all.0) refl
 
 -- pairs that stand in order stay as they are
 pub in_order_already : (ps : List Pair) → AreInOrder ps → in_order ps ≡ ps
 unfolding IsStrictlySortedBy
 in_order_already [] a = refl
-in_order_already (p ∷ ps) a = ap (placed p) (in_order_already ps a.1) ∙ placed_first p ps a.0
+in_order_already (p ∷ ps) a = ap (with_pair p) (in_order_already ps a.1) ∙ with_pair_first p ps a.0
 
 -- ---- pairs in order among which no other stands are all of them
 

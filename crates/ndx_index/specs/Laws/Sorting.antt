@@ -12,15 +12,15 @@ use Rattle.std.proofs.lemmas.Map.Keys.{IsDistinct-IsPermutation}
 use Rattle.std.proofs.lemmas.Cmp.{eq_by_cmp_equiv}
 use Rattle.std.proofs.lemmas.List.Sorted.{sum_by-IsPermutation, IsPermutation-refl, IsPermutation-cons, IsPermutation-trans, IsPermutation-insert, sorted_far, ranks_by}
 use Rattle.ndx_index.specs.declared.pair.Pair.{Pair}
-use Rattle.ndx_index.specs.Order.{pair_cmp, before, same, placed, in_order, without_pair, AreInOrder}
+use Rattle.ndx_index.specs.Order.{pair_cmp, before, same, with_pair, in_order, without_pair, AreInOrder}
 use Rattle.ndx_index.specs.Laws.Lists.{filter_all, all_weaker, all_zip}
 use Rattle.ndx_index.specs.Laws.Comparing.{pairs_total, exact_pair, before_is, before_trans, irreflexive, same_itself, before_other, not_same}
 
 -- what holds of a pair and of pairs holds of them with it put among them
-pub all-placed : (P : Pair → Type 0) (p : Pair) (ps : List Pair) → P p → AllByRecursion P ps → AllByRecursion P (placed p ps)
-all-placed P p [] h all = (h, tt)
-all-placed P p (q ∷ qs) h all = elim (before q p) as (λ b. AllByRecursion P (cond b (q ∷ placed p qs) (p ∷ q ∷ qs))) [
-  | true ↦ (all.0, all-placed P p qs h all.1)
+pub all-with_pair : (P : Pair → Type 0) (p : Pair) (ps : List Pair) → P p → AllByRecursion P ps → AllByRecursion P (with_pair p ps)
+all-with_pair P p [] h all = (h, tt)
+all-with_pair P p (q ∷ qs) h all = elim (before q p) as (λ b. AllByRecursion P (cond b (q ∷ with_pair p qs) (p ∷ q ∷ qs))) [
+  | true ↦ (all.0, all-with_pair P p qs h all.1)
   | false ↦ (h, all)
 ]
 
@@ -32,12 +32,12 @@ pub without_absent : (p : Pair) (ps : List Pair) → (Contains ps p → ⊥) →
 without_absent p ps absent = filter_all (λ q. not (same p q)) ps (λ k d lt. not_same p (get_or ps k d) (λ e. absent (k, lt, get_or_default ps k p d lt ∙ e)))
 
 -- a pair put in and taken out
-pub without_pair-placed : (p : Pair) (ps : List Pair) → (Contains ps p → ⊥) → without_pair p (placed p ps) ≡ ps
-without_pair-placed p [] absent = rw (same_itself p) refl
-without_pair-placed p (q ∷ qs) absent =
+pub without_pair-with_pair : (p : Pair) (ps : List Pair) → (Contains ps p → ⊥) → without_pair p (with_pair p ps) ≡ ps
+without_pair-with_pair p [] absent = rw (same_itself p) refl
+without_pair-with_pair p (q ∷ qs) absent =
     let other : not (same p q) ≡ true = not_same p q (λ e. absent (0, omega arith, e)) in
-    elim (before q p) as (λ b. without_pair p (cond b (q ∷ placed p qs) (p ∷ q ∷ qs)) ≡ q ∷ qs) [
-      | true ↦ rw other (ap (λ xs. q ∷ xs) (without_pair-placed p qs (λ h. absent (contains_more q qs p h))))
+    elim (before q p) as (λ b. without_pair p (cond b (q ∷ with_pair p qs) (p ∷ q ∷ qs)) ≡ q ∷ qs) [
+      | true ↦ rw other (ap (λ xs. q ∷ xs) (without_pair-with_pair p qs (λ h. absent (contains_more q qs p h))))
       | false ↦ rw (same_itself p) (without_absent p (q ∷ qs) absent)
     ]
 
@@ -77,27 +77,27 @@ not_before_trans p q r h k = elim (before r p) as (λ t. before r p ≡ t → t 
     step Equal o l = sym (ap is_lt (subst (λ x. pair_cmp x p ≡ Less) (sym (exact_pair q r o)) l)) ∙ h
     step Greater o l = sym (ap is_lt (pairs_total.antisymm r q ∙ ap ordering_reverse o)) ∙ k
 
-ascends-placed : (p : Pair) (ps : List Pair) → Ascends ps → Ascends (placed p ps)
-ascends-placed p [] a = (tt, tt)
-ascends-placed p (q ∷ qs) a = elim (before q p) as (λ b. before q p ≡ b → Ascends (cond b (q ∷ placed p qs) (p ∷ q ∷ qs))) [
-  | true ↦ λ e. (all-placed (λ r. before r q ≡ false) p qs (not_after q p (before_is q p e)) a.0, ascends-placed p qs a.1)
+ascends-with_pair : (p : Pair) (ps : List Pair) → Ascends ps → Ascends (with_pair p ps)
+ascends-with_pair p [] a = (tt, tt)
+ascends-with_pair p (q ∷ qs) a = elim (before q p) as (λ b. before q p ≡ b → Ascends (cond b (q ∷ with_pair p qs) (p ∷ q ∷ qs))) [
+  | true ↦ λ e. (all-with_pair (λ r. before r q ≡ false) p qs (not_after q p (before_is q p e)) a.0, ascends-with_pair p qs a.1)
   | false ↦ λ e. ((e, all_weaker (λ r. before r q ≡ false) (λ r. before r p ≡ false) (λ r h. not_before_trans p q r e h) qs a.0), a)
 ] refl
 
 pub ascends-in_order : (ps : List Pair) → Ascends (in_order ps)
 ascends-in_order [] = tt
-ascends-in_order (p ∷ ps) = ascends-placed p (in_order ps) (ascends-in_order ps)
+ascends-in_order (p ∷ ps) = ascends-with_pair p (in_order ps) (ascends-in_order ps)
 
-times-placed : (x p : Pair) (ps : List Pair) → times x (placed p ps) ≡ times x (p ∷ ps)
-times-placed x p [] = refl
-times-placed x p (q ∷ qs) = elim (before q p) as (λ b. times x (cond b (q ∷ placed p qs) (p ∷ q ∷ qs)) ≡ times x (p ∷ q ∷ qs)) [
-  | true ↦ let h = times-placed x p qs in omega arith
+times-with_pair : (x p : Pair) (ps : List Pair) → times x (with_pair p ps) ≡ times x (p ∷ ps)
+times-with_pair x p [] = refl
+times-with_pair x p (q ∷ qs) = elim (before q p) as (λ b. times x (cond b (q ∷ with_pair p qs) (p ∷ q ∷ qs)) ≡ times x (p ∷ q ∷ qs)) [
+  | true ↦ let h = times-with_pair x p qs in omega arith
   | false ↦ refl
 ]
 
 pub times-in_order : (x : Pair) (ps : List Pair) → times x (in_order ps) ≡ times x ps
 times-in_order x [] = refl
-times-in_order x (p ∷ ps) = times-placed x p (in_order ps) ∙ omega (arith, times-in_order x ps)
+times-in_order x (p ∷ ps) = times-with_pair x p (in_order ps) ∙ omega (arith, times-in_order x ps)
 
 never : (x : Pair) (ps : List Pair) → AllByRecursion (λ q. pair_cmp x q ≡ Less) ps → times x ps ≡ 0
 never x [] all = refl
@@ -140,16 +140,16 @@ pub in_order-IsPermutation : (xs ys : List Pair) → IsPermutation xs ys → in_
 in_order-IsPermutation xs ys h = one_order (in_order xs) (in_order ys) (ascends-in_order xs) (ascends-in_order ys) (λ p.
     times-in_order p xs ∙ sym (times-IsPermutation p xs ys h) ∙ sym (times-in_order p ys))
 
-placed_perm : (p : Pair) (ps : List Pair) → IsPermutation (p ∷ ps) (placed p ps)
-placed_perm p [] = IsPermutation-refl (p ∷ [])
-placed_perm p (q ∷ qs) = elim (before q p) as (λ b. IsPermutation (p ∷ q ∷ qs) (cond b (q ∷ placed p qs) (p ∷ q ∷ qs))) [
-  | true ↦ IsPermutation-trans (p ∷ q ∷ qs) (q ∷ p ∷ qs) (q ∷ placed p qs) (Rattle.std.proofs.lemmas.List.Sorted.IsPermutation-sym _ _ (IsPermutation-insert (p ∷ qs) 1 q)) (IsPermutation-cons q (p ∷ qs) (placed p qs) (placed_perm p qs))
+with_pair_perm : (p : Pair) (ps : List Pair) → IsPermutation (p ∷ ps) (with_pair p ps)
+with_pair_perm p [] = IsPermutation-refl (p ∷ [])
+with_pair_perm p (q ∷ qs) = elim (before q p) as (λ b. IsPermutation (p ∷ q ∷ qs) (cond b (q ∷ with_pair p qs) (p ∷ q ∷ qs))) [
+  | true ↦ IsPermutation-trans (p ∷ q ∷ qs) (q ∷ p ∷ qs) (q ∷ with_pair p qs) (Rattle.std.proofs.lemmas.List.Sorted.IsPermutation-sym _ _ (IsPermutation-insert (p ∷ qs) 1 q)) (IsPermutation-cons q (p ∷ qs) (with_pair p qs) (with_pair_perm p qs))
   | false ↦ IsPermutation-refl (p ∷ q ∷ qs)
 ]
 
 pub IsPermutation-in_order : (ps : List Pair) → IsPermutation ps (in_order ps)
 IsPermutation-in_order [] = IsPermutation-refl []
-IsPermutation-in_order (p ∷ ps) = IsPermutation-trans (p ∷ ps) (p ∷ in_order ps) (placed p (in_order ps)) (IsPermutation-cons p ps (in_order ps) (IsPermutation-in_order ps)) (placed_perm p (in_order ps))
+IsPermutation-in_order (p ∷ ps) = IsPermutation-trans (p ∷ ps) (p ∷ in_order ps) (with_pair p (in_order ps)) (IsPermutation-cons p ps (in_order ps) (IsPermutation-in_order ps)) (with_pair_perm p (in_order ps))
 
 -- what a sort leaves
 ascends_far : (ps : List Pair) → ((i j : ℕ) (d : Pair) → i ≤ j → j < length ps → before (get_or ps j d) (get_or ps i d) ≡ false) → Ascends ps

@@ -1,26 +1,44 @@
 //! The header page of an index file.
 
-ghost use Rattle.std.specs.Prelude.{◌≡◌, ◌+◌, ◌≤◌, length, IfOk, IfErr, OnOk};
-ghost use Rattle.ndx_index.specs.Header.{u16_at, header_refusal, ndx_header, before_zero, trimmed_end, expression};
+ghost use Rattle.std.specs.Prelude.{◌≡◌, ◌+◌, ◌<◌, ◌≤◌, length, IfOk, IfErr, MatchOption, OnOk, OnSome};
+ghost use Rattle.dbf_fields.specs.Faults.{first_fault};
+ghost use Rattle.ndx_index.specs.Header.{u16_at, header_numbers as numbers_in, header_refusal, layout_of, layout_tests, ndx_header, before_zero, trimmed_end, expression, padded_expression};
 ghost use Rattle.ndx_index.specs.Pages.{IsPageLayout};
 
 use crate::fault::NdxFault;
 use crate::format::{
     EXPRESSION_OFFSET, KEY_LENGTH_OFFSET, KEY_TYPE_OFFSET, MAX_RECORDS_BYTES, PAGE,
-    RECORD_SIZE_OFFSET, UNIQUE_FLAG_OFFSET,
+    PAGE_COUNT_OFFSET, RECORD_SIZE_OFFSET, UNIQUE_FLAG_OFFSET,
 };
 use crate::read::page::{PageLayout, u32_at};
 use byteorder::{ByteOrder, LittleEndian};
 use dbf_fields::BLANK;
 use key_expr::MAX_KEY_BYTES;
 
-/// What the header of an index file says of its pages.
-#[derive(Clone, Copy)]
-pub(crate) struct Header {
-    /// The key length and the size of a key record.
-    pub(crate) layout: PageLayout,
+/// The numbers of the header page, as they stand there.
+#[derive(Clone, Copy, Debug, PartialEq, Eq)]
+pub struct HeaderNumbers {
     /// The number of the root page.
-    pub(crate) root: u32,
+    pub root: u32,
+    /// How many pages there are with the header page.
+    pub page_count: u32,
+    /// How many bytes a key has.
+    pub key_len: u16,
+    /// The kind of the keys: 0 for characters.
+    pub key_type: u16,
+    /// How many bytes a key record has.
+    pub record_size: u16,
+    /// Whether equal keys are left out: 0 where not.
+    pub unique_flag: u8,
+}
+
+/// What the header of an index file says of its pages.
+#[derive(Clone, Copy, Debug, PartialEq, Eq)]
+pub struct Header {
+    /// The key length and the size of a key record.
+    pub layout: PageLayout,
+    /// The number of the root page.
+    pub root: u32,
 }
 
 // The number in the two bytes at an offset.
@@ -32,6 +50,46 @@ fn u16_at(bytes: &[u8], at: usize) -> u16
     LittleEndian::read_u16(&bytes[at..])
 }
 
+/// The numbers of the header page, or none where the file is shorter than that page.
+pub fn header_numbers(bytes: &[u8]) -> Option<HeaderNumbers>
+    ensures value { MatchOption result (length bytes.now < PAGE) (λ numbers. numbers ≡ numbers_in bytes.now) }
+    ensures long { OnSome result (PAGE ≤ length bytes.now) }
+{
+    if bytes.len() < PAGE {
+        return None;
+    }
+    Some(HeaderNumbers {
+        root: u32_at(bytes, 0),
+        page_count: u32_at(bytes, PAGE_COUNT_OFFSET),
+        key_len: u16_at(bytes, KEY_LENGTH_OFFSET),
+        key_type: u16_at(bytes, KEY_TYPE_OFFSET),
+        record_size: u16_at(bytes, RECORD_SIZE_OFFSET),
+        unique_flag: bytes[UNIQUE_FLAG_OFFSET],
+    })
+}
+
+impl HeaderNumbers {
+    /// How the key records of pages are laid out.
+    ///
+    /// `BadKeyLength` and `BadRecordSize` say why no page can be read.
+    pub fn page_layout(self) -> Result<PageLayout, NdxFault>
+        ensures value { IfOk result (λ layout. layout ≡ layout_of self) }
+        ensures layout { IfOk result IsPageLayout }
+        ensures accepted { OnOk result (first_fault (layout_tests self.key_len self.record_size) ≡ None) }
+        ensures refused { IfErr result (λ e. first_fault (layout_tests self.key_len self.record_size) ≡ Some e) }
+    {
+        let key_len = self.key_len as usize;
+        if key_len == 0 || key_len > MAX_KEY_BYTES {
+            return Err(NdxFault::BadKeyLength);
+        }
+        let size = self.record_size as usize;
+        if size < key_len + 8 || size > MAX_RECORDS_BYTES {
+            return Err(NdxFault::BadRecordSize);
+        }
+        Ok(PageLayout { key_len, size })
+    }
+}
+
 /// Reads the header, or says which rule it breaks first.
 #[tactic(auto, unfolding(crate::specs::Header::header_page_tests, crate::specs::Header::ndx_header))]
 pub(crate) fn read_header(bytes: &[u8]) -> Result<Header, NdxFault>
@@ -41,27 +99,22 @@ pub(crate) fn read_header(bytes: &[u8]) -> Result<Header, NdxFault>
     ensures long { IfOk result (λ header. PAGE ≤ length bytes.now) }
     ensures layout { IfOk result (λ header. IsPageLayout header.layout) }
 {
-    if bytes.len() < PAGE {
+    let Some(numbers) = header_numbers(bytes) else {
         return Err(NdxFault::Truncated);
-    }
-    if u16_at(bytes, KEY_TYPE_OFFSET) != 0 {
+    };
+    if numbers.key_type != 0 {
         return Err(NdxFault::NumericIndex);
     }
-    if bytes[UNIQUE_FLAG_OFFSET] != 0 {
+    if numbers.unique_flag != 0 {
         return Err(NdxFault::UniqueIndex);
     }
-    let key_len = u16_at(bytes, KEY_LENGTH_OFFSET) as usize;
-    if key_len == 0 || key_len > MAX_KEY_BYTES {
-        return Err(NdxFault::BadKeyLength);
+    match numbers.page_layout() {
+        Ok(layout) => Ok(Header {
+            layout,
+            root: numbers.root,
+        }),
+        Err(fault) => Err(fault),
     }
-    let size = u16_at(bytes, RECORD_SIZE_OFFSET) as usize;
-    if size < key_len + 8 || size > MAX_RECORDS_BYTES {
-        return Err(NdxFault::BadRecordSize);
-    }
-    Ok(Header {
-        layout: PageLayout { key_len, size },
-        root: u32_at(bytes, 0),
-    })
 }
 
 // The bytes up to the first zero.
@@ -90,11 +143,19 @@ fn trimmed_end(text: &[u8]) -> &[u8]
     &text[..end]
 }
 
-/// The text of the key expression: from byte 24 of the header page up to its first zero or the page's
-/// end, without the blanks after it.
+/// The text of the key expression with the blanks after it: from byte 24 of the header page up to its first zero or the page's
+/// end.
+pub fn padded_expression(bytes: &[u8]) -> &[u8]
+    requires long { PAGE ≤ length bytes.now }
+    ensures value { result.now ≡ padded_expression bytes.now }
+{
+    before_zero(&bytes[EXPRESSION_OFFSET..PAGE])
+}
+
+/// The text of the key expression, without the blanks after it.
 pub(crate) fn expression(bytes: &[u8]) -> &[u8]
     requires long { PAGE ≤ length bytes.now }
     ensures value { result.now ≡ expression bytes.now }
 {
-    trimmed_end(before_zero(&bytes[EXPRESSION_OFFSET..PAGE]))
+    trimmed_end(padded_expression(bytes))
 }

@@ -1,106 +1,172 @@
 //! The walk over the pages of an index file, depth first.
 
-ghost use Rattle.std.specs.Prelude.{◌≡◌, ◌+◌, ◌*◌, ◌/◌, ◌<◌, ℕ, List, [], ◌∷◌, length, vec_len, IfErr, IfOk, None};
-ghost use Rattle.ndx_index.specs.declared.read.walk.WalkFault.TheVariants.{NoMemory};
-ghost use Rattle.ndx_index.specs.Pages.{IsPageLayout};
-ghost use Rattle.ndx_index.specs.NdxTree.{Visits};
-ghost use Rattle.ndx_index.specs.Walks.{IsFirstVisit, IsWalkFault, FailsToVisit, fault_at as fault_at_page, rule_of};
+ghost use Rattle.std.specs.Prelude.{◌≡◌, ◌+◌, ◌*◌, ◌/◌, ◌<◌, ◌≤◌, ◌++◌, ℕ, List, [], length, reverse, vec_len, count_by, not, IfOk, IfSome, OnOk, OnSome, MatchOption};
+ghost use Rattle.ndx_index.specs.Pages.{IsPageLayout, children};
+ghost use Rattle.ndx_index.specs.NdxTree.{look};
+ghost use Rattle.ndx_index.specs.Walks.{at_depth, met_with, node_seen, pages_under, walk_from, work_left, work_of, HasKeyLength, IsFlagged, IsStep, UnmetAfter};
+ghost use Rattle.ndx_index.specs.Shallow.{met_count, AreShallow, IsWalk};
 
-use crate::fault::{BadPage, NdxFault};
+use crate::fault::NdxFault;
 use crate::format::PAGE;
-use crate::pages::slots::PairSlots;
-use crate::pair_list::PairList;
-use crate::read::page::{PageLayout, take_page};
-use std::alloc::{AllocError, AllocFailed, Global};
+use crate::read::page::{InnerPage, PageLayout};
+use crate::read::view::{PageAt, PageSeen, PageView, view_of};
+use std::alloc::{AllocError, Global};
+use std::marker::Model;
 
-/// Why a walk ends before it visited all pages.
-#[derive(Clone, Copy)]
-pub(crate) enum WalkFault {
-    /// A page breaks a rule.
-    BadPage(BadPage),
-    /// Memory is refused.
-    NoMemory,
+/// A walk over the pages of an index file from a root, depth first and children from left to right. It comes to every page that a
+/// page which breaks no rule names; where a page breaks one, it goes on with the pages beside it. It ends, whatever the bytes are:
+/// a page that it comes to for the second time is broken.
+#[derive(Drop)]
+pub struct PageWalk<'a> {
+    bytes: &'a [u8],
+    layout: PageLayout,
+    met: Vec<bool>,
+    pending: Vec<PageAt>,
 }
 
-impl From<AllocError> for WalkFault {
-    ghost from_gives = { λ _ fault. fault ≡ NoMemory };
+impl<'a> Model for PageWalk<'a> {
+    ghost use Rattle.std.specs.Prelude.{reverse};
+    ghost use Rattle.ndx_index.specs.Walks.{Walk};
+    ghost use Rattle.ndx_index.specs.Shallow.{IsWalk};
 
-    fn from(_e: AllocError) -> WalkFault {
-        WalkFault::NoMemory
-    }
+    ghost Value = { Walk };
+
+    ghost view = { λ w. record { bytes = w.bytes.now; layout = w.layout; flags = w.met.items; pending = reverse w.pending.items } };
+
+    ghost invariant = { λ w. IsWalk w.layout w.bytes.now w.met.items w.pending.items };
 }
 
-impl<T: Drop> From<AllocFailed<T>> for WalkFault {
-    ghost from_gives = { λ _ fault. fault ≡ NoMemory };
-
-    fn from(_e: AllocFailed<T>) -> WalkFault {
-        WalkFault::NoMemory
-    }
-}
-
-impl From<WalkFault> for NdxFault {
-    ghost from_gives = { λ fault e. e ≡ rule_of fault };
-
-    fn from(fault: WalkFault) -> NdxFault {
-        match fault {
-            WalkFault::BadPage(bad) => bad.why,
-            WalkFault::NoMemory => NdxFault::NoMemory,
-        }
-    }
-}
-
-// Why the walk ends at a page.
-fn fault_at(page: u32, why: NdxFault) -> WalkFault
-    ensures value { result ≡ fault_at_page page why }
-{
-    match why {
-        NdxFault::NoMemory => WalkFault::NoMemory,
-        why => WalkFault::BadPage(BadPage { page, why }),
-    }
-}
-
-// The bytes of a page that is there and wasn't visited before. It is visited then.
-fn visit<'a>(bytes: &'a [u8], page: u32, visited: &mut Vec<bool>) -> Result<&'a [u8], NdxFault>
-    requires flags { vec_len visited.old ≡ length bytes.now / PAGE }
-    ensures ok { IfOk result (λ taken. IsFirstVisit bytes.now page visited.old.items visited.new.items taken.now) }
-    ensures err { IfErr result (FailsToVisit bytes.now page visited.old.items) }
+// What a page holds, where the flags are those of the pages met before, or the rule that it breaks. A page that holds
+// something is met then.
+fn look_at<'a>(
+    bytes: &'a [u8],
+    layout: PageLayout,
+    flags: &mut Vec<bool>,
+    page: u32,
+) -> PageView<'a>
+    requires layout { IsPageLayout layout }
+    requires flags { vec_len flags.old ≡ length bytes.now / PAGE }
+    ensures node { (met : List ℕ) → IsFlagged flags.old.items met → node_seen result ≡ look layout bytes.now met page }
+    ensures met { (met : List ℕ) → IsFlagged flags.old.items met → IsFlagged flags.new.items (met_with met page (node_seen result)) }
+    ensures key_len { HasKeyLength layout.key_len result }
+    ensures same_count { vec_len flags.new ≡ vec_len flags.old }
+    ensures unmet { UnmetAfter (node_seen result) (count_by not flags.old.items) (count_by not flags.new.items) }
 {
     let at = page as usize;
-    if at == 0 || at >= visited.len() {
-        return Err(NdxFault::PageOutside);
+    if at == 0 || at >= flags.len() {
+        return PageView::Broken(NdxFault::PageOutside);
     }
-    if visited[at] {
-        return Err(NdxFault::PageTwice);
+    if flags[at] {
+        return PageView::Broken(NdxFault::PageTwice);
     }
-    visited[at] = true;
-    Ok(&bytes[PAGE * at..PAGE * at + PAGE])
+    let view = view_of(layout, &bytes[PAGE * at..PAGE * at + PAGE]);
+    if !matches!(view, PageView::Broken(_)) {
+        flags[at] = true;
+    }
+    view
 }
 
-/// The pairs of the tree under a page, in the order of its leaves.
-pub(crate) fn read_tree(
-    alloc: Global,
-    bytes: &[u8],
-    layout: PageLayout,
-    root: u32,
-) -> Result<PairList, WalkFault>
-    requires layout { IsPageLayout layout }
-    // The walk over these pages breaks no rule, and gives the pairs.
-    ensures ok { IfOk result (λ found. (pages : List ℕ) × Visits layout bytes.now [] (root ∷ []) pages found.pairs None) }
-    ensures key_len { IfOk result (λ found. found.key_len ≡ layout.key_len) }
-    // The fault is the first rule that the walk breaks, at the page where it ends.
-    ensures err { IfErr result (IsWalkFault layout bytes.now root) }
+// Puts the children of a page at the end, the first one last.
+fn push_children(
+    inner: &InnerPage<'_>,
+    depth: usize,
+    pending: &mut Vec<PageAt>,
+) -> Result<(), AllocError>
+    ensures pending { OnOk result (pending.new.items ≡ pending.old.items ++ reverse (at_depth depth (children inner.now.layout inner.now.bytes.now inner.now.count))) }
+    ensures shallow { (most : ℕ) → depth ≤ most → AreShallow most pending.old.items → AreShallow most pending.new.items }
 {
-    let mut visited = vec![in alloc; false; bytes.len() / PAGE]?;
-    let mut pending = vec![in alloc; root]?;
-    let mut slots = PairSlots::new(alloc, layout.key_len);
-    while let Some(next) = pending.pop() {
-        let page = match visit(bytes, next, &mut visited) {
-            Ok(page) => page,
-            Err(why) => return Err(fault_at(next, why)),
-        };
-        if let Err(why) = take_page(layout, page, &mut pending, &mut slots) {
-            return Err(fault_at(next, why));
-        }
+    for i in (0..inner.count).rev() {
+        pending.push(PageAt {
+            page: inner.child(i),
+            depth,
+        })?;
     }
-    Ok(PairList { slots })
+    Ok(())
+}
+
+// Puts the pages under a page at the end, the first one last.
+fn push_under(
+    view: &PageView<'_>,
+    depth: usize,
+    pending: &mut Vec<PageAt>,
+) -> Result<(), AllocError>
+    ensures pending { OnOk result (pending.new.items ≡ pending.old.items ++ reverse (at_depth depth (pages_under (node_seen view.now)))) }
+    ensures shallow { (most : ℕ) → OnOk (node_seen view.now) (depth ≤ most) → AreShallow most pending.old.items → AreShallow most pending.new.items }
+{
+    match view {
+        PageView::Inner(inner) => push_children(inner, depth, pending),
+        _ => Ok(()),
+    }
+}
+
+// Takes a step: what the next page holds, which is met then, and the pages under it are the next.
+fn step<'a>(
+    bytes: &'a [u8],
+    layout: PageLayout,
+    flags: &mut Vec<bool>,
+    pending: &mut Vec<PageAt>,
+    next: PageAt,
+) -> Result<PageView<'a>, AllocError>
+    requires walk { IsWalk layout bytes.now flags.old.items pending.old.items }
+    requires depth { next.depth ≤ met_count flags.old.items }
+    ensures node { IfOk result (λ view. (met : List ℕ) → IsFlagged flags.old.items met → node_seen view ≡ look layout bytes.now met next.page) }
+    ensures met { IfOk result (λ view. (met : List ℕ) → IsFlagged flags.old.items met → IsFlagged flags.new.items (met_with met next.page (node_seen view))) }
+    ensures pending { IfOk result (λ view. pending.new.items ≡ pending.old.items ++ reverse (at_depth (next.depth + 1) (pages_under (node_seen view)))) }
+    ensures key_len { IfOk result (HasKeyLength layout.key_len) }
+    ensures less { OnOk result (work_left flags.new.items pending.new.items < work_left flags.old.items pending.old.items + 1) }
+    ensures walk { IsWalk layout bytes.now flags.new.items pending.new.items }
+{
+    let view = look_at(bytes, layout, flags, next.page);
+    push_under(&view, next.depth + 1, pending)?;
+    Ok(view)
+}
+
+impl<'a> PageWalk<'a> {
+    /// A walk from a root page, which may have any number.
+    ///
+    /// An `Err` says that there was no memory.
+    pub fn new(
+        alloc: Global,
+        bytes: &'a [u8],
+        layout: PageLayout,
+        root: u32,
+    ) -> Result<PageWalk<'a>, AllocError>
+        requires layout { IsPageLayout layout }
+        ensures walk { IfOk result (λ walk. walk ≡ walk_from bytes.now layout root) }
+    {
+        let met = vec![in alloc; false; bytes.len() / PAGE]?;
+        let pending = vec![in alloc;
+            PageAt {
+                page: root,
+                depth: 0
+            },
+        ]?;
+        Ok(PageWalk {
+            bytes,
+            layout,
+            met,
+            pending,
+        })
+    }
+
+    /// The next page and what it holds, or none where the walk is over.
+    ///
+    /// An `Err` says that there was no memory.
+    pub fn next_page(&mut self) -> Result<Option<PageSeen<'a>>, AllocError>
+        ensures step { IfOk result (λ seen. MatchOption seen (self.old.pending ≡ []) (λ s. IsStep self.old s.at (node_seen s.view) self.new)) }
+        ensures key_len { IfOk result (λ seen. IfSome seen (λ s. HasKeyLength self.old.layout.key_len s.view)) }
+        ensures less { IfOk result (λ seen. OnSome seen (work_of self.new < work_of self.old)) }
+    {
+        let Some(at) = self.pending.pop() else {
+            return Ok(None);
+        };
+        let view = step(
+            self.bytes,
+            self.layout,
+            &mut self.met,
+            &mut self.pending,
+            at,
+        )?;
+        Ok(Some(PageSeen { at, view }))
+    }
 }

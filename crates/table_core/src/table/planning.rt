@@ -30,6 +30,19 @@ impl Table {
     /// `TypeMismatch`, `BadDate`, `NumberTooWide`; of Memo `EndOfFile`, `NoSuchField`, `TypeMismatch`, `BadText`; of
     /// Delete and Recall `EndOfFile`; of Pack none. All of them are tested before memory is taken, so
     /// `NoMemory` comes only for an edit that is not refused.
+    ///
+    /// As a test has it (`table_core_tests`, `src/tests.rt`):
+    ///
+    /// ```text
+    /// match table.plan(alloc, cursor, edit) {
+    ///     Ok(planned) => {
+    ///         table.carry_out(planned, cursor);
+    ///         Ok(0)
+    ///     }
+    ///     Err(TableFault::Refused(refusal)) => Ok(refusal.code()),
+    ///     Err(TableFault::NoMemory) => Err("out of memory".into()),
+    /// }
+    /// ```
     pub fn plan(
         &mut self,
         alloc: Global,

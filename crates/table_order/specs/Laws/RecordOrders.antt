@@ -10,10 +10,10 @@ use Rattle.dbf_image.specs.Table.{Row, Table, row_at, blank_row, with_row}
 use Rattle.key_expr.specs.Grammar.{Expr}
 use Rattle.key_expr.specs.Keys.{key}
 use Rattle.ndx_index.specs.declared.pair.Pair.{Pair}
-use Rattle.ndx_index.specs.Order.{pair_cmp, placed, in_order, without_pair, AreInOrder}
+use Rattle.ndx_index.specs.Order.{pair_cmp, with_pair, in_order, without_pair, AreInOrder}
 use Rattle.table_order.specs.TableOrder.{pairs_from, pairs_of, pair_at, order, order_but, IsRecordPair}
 use Rattle.ndx_index.specs.Laws.Comparing.{irreflexive}
-use Rattle.ndx_index.specs.Laws.Sorting.{in_order-IsPermutation, IsPermutation-in_order, order_from_distinct, without_pair-placed}
+use Rattle.ndx_index.specs.Laws.Sorting.{in_order-IsPermutation, IsPermutation-in_order, order_from_distinct, without_pair-with_pair}
 use Rattle.table_order.specs.Laws.RecordPairs.{pair, pairs_distinct, length-pairs, get-pairs, set-pairs, push-pairs, number-least, number-most, pair_of_number, absent_from}
 
 -- in the order of a table each pair stands before all later ones
@@ -33,7 +33,7 @@ pair_at_index table e number one inside =
     get-pairs table.rows e 1 (number - 1) (pair_at table number e) (blank_row table.schema) (omega arith) ∙ ap (λ (m : ℕ). pair m (row_at table number) e) k
 
 -- the pair of a record put among those of all others
-pub order_put : (table : Table) (e : Expr) (number : ℕ) → 1 ≤ number → number ≤ length table.rows → order table e ≡ placed (pair_at table number e) (order_but number table e)
+pub order_put : (table : Table) (e : Expr) (number : ℕ) → 1 ≤ number → number ≤ length table.rows → order table e ≡ with_pair (pair_at table number e) (order_but number table e)
 order_put table e number one inside =
     let ps : List Pair = pairs_of table e in
     let p : Pair = pair_at table number e in
@@ -45,7 +45,7 @@ pub order_take : (table : Table) (e : Expr) (number : ℕ) → 1 ≤ number → 
 order_take table e number one inside =
     let p : Pair = pair_at table number e in
     ap (without_pair p) (order_put table e number one inside)
-    ∙ without_pair-placed p (order_but number table e) (λ h. absent_but table e number p one refl h)
+    ∙ without_pair-with_pair p (order_but number table e) (λ h. absent_but table e number p one refl h)
 
 remove-set : {X : Type 0} (xs : List X) (i : ℕ) (x : X) → remove (set xs i x) i ≡ remove xs i
 remove-set xs i x = ap (λ ys. ys ++ drop (suc i) (set xs i x)) (take-set xs i x) ∙ ap (λ ys. take i xs ++ ys) (drop-set-lt (suc i) xs i x (omega arith))

@@ -6,10 +6,6 @@ pub returns : goal.returns
 returns g c = record {
   put = (
     c.put_line-4.ensures.put.0 ∙ (c.put_line-3.ensures.put.0 ∙ (c.put_line-2.ensures.put.0 ∙ c.put_line.ensures.put.0)),
-    four_parts _ _ _ _ _ _ _ _ _
-        (rw c.u32_at.ensures.value at c.put_line.ensures.put.1)
-        (rw c.u32_at-page_count.ensures.value at c.put_line-2.ensures.put.1)
-        (rw c.u16_at-key_len.ensures.value at c.put_line-3.ensures.put.1)
-        (rw c.u16_at-size.ensures.value at c.put_line-4.ensures.put.1),
+    four_parts _ _ _ _ _ _ _ _ _ c.put_line.ensures.put.1 c.put_line-2.ensures.put.1 c.put_line-3.ensures.put.1 c.put_line-4.ensures.put.1,
   );
 }

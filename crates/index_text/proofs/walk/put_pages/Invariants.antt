@@ -1,13 +1,9 @@
-use Rattle.std.proofs.Common.{◌≡◌, ◌/◌, length}
-use Rattle.ndx_index.specs.declared.format.TheConstants.{PAGE}
-use Rattle.index_text.proofs.WalkSteps.{State, work_left}
+use Rattle.ndx_index.specs.Walks.{work_of}
+use Rattle.index_text.proofs.WalkSteps.{State}
 use Rattle.index_text.proofs.walk.put_pages.Given as goal
 
-abbrev pub invariant-loop-next : goal.invariant-loop-next
-invariant-loop-next g l = record {
-  flags : length l.flags.items ≡ length l.bytes / PAGE;
-  state : State l.bytes l.root l.fn.out l.flags.items l.pending.items l.out;
-}
+abbrev pub invariant-loop-walk : goal.invariant-loop-walk
+invariant-loop-walk g l = State l.bytes l.fn.header.root l.fn.out l.walk l.out
 
-abbrev pub decreases-loop-next : goal.decreases-loop-next
-decreases-loop-next g l = work_left l.flags.items l.pending.items
+abbrev pub decreases-loop-walk : goal.decreases-loop-walk
+decreases-loop-walk g l = work_of l.walk

@@ -1,9 +1,7 @@
 use Rattle.std.proofs.Common.{◌∙◌, ap, subst}
-use Rattle.std.proofs.lemmas.Result.{err_from_is_err_and}
 use Rattle.ndx_index.specs.declared.read.header.Header.{Header}
 use Rattle.ndx_index.specs.NdxTree.{IsFileTree}
 use Rattle.ndx_index.proofs.Laws.{tree_from_visits}
-use Rattle.ndx_index.proofs.OneReading.{broken_rule}
 use Rattle.ndx_index.proofs.read.read_file.Goals as goal
 
 pub returns-clause-found : goal.returns-clause-found
@@ -19,8 +17,3 @@ returns-clause-found c =
       pages = walk.0;
       tree = subst (λ (h : Header). IsFileTree h.layout bytes h.root walk.0 c.in_ok-pairs.pairs.pairs) c.in_ok-header.ensures.header tree;
     }
-
-pub returns-in_err-pairs-clause-refused : goal.returns-in_err-pairs-clause-refused
-returns-in_err-pairs-clause-refused c =
-    let p = err_from_is_err_and c.from_residual-in_err-pairs.result c.from_residual-in_err-pairs.ensures.1 in
-    rw (p.1, p.2) (broken_rule c.args.bytes.now c.in_ok-header.header c.in_ok-header.ensures.header c.in_ok-header.ensures.accepted c.in_err-pairs.field-0.0 c.in_err-pairs.ensures.err)

@@ -2,7 +2,7 @@ use Rattle.std.proofs.Common.{◌≡◌, suc, ◌-◌, sym, subst, ◌∙◌, ar
 use Rattle.std.specs.List.{insert}
 use Rattle.ndx_index.specs.PageStore.{page_in, with_pairs}
 use Rattle.ndx_index.specs.TreeSteps.{CanInsert, Inserts}
-use Rattle.ndx_index.proofs.TreeInsert.{placed_above, insert_leaf, can_insert_below, insert_below}
+use Rattle.ndx_index.proofs.TreeInsert.{with_pair_above, insert_leaf, can_insert_below, insert_below}
 use Rattle.ndx_index.proofs.pages.insert.+insert_under.Goals as goal
 
 pub returns-then-level-eq0-clause-inserted : goal.returns-then-level-eq0-clause-inserted
@@ -15,7 +15,7 @@ returns-then-level-eq0-clause-inserted t c =
     let can = subst (λ d. CanInsert d a f p pair) e c.requires.can in
     let found = c.place_after-at.ensures in
     subst (λ d. Inserts d a c.put_pair.new.self.pages f f p pair) (sym e)
-    (insert_leaf a c.put_pair.new.self.pages f p pair (with_pairs (insert (page_in a p).pairs c.place_after-at.result pair) (page_in a p)) can c.put_pair.ensures.pages (placed_above pair (page_in a p).pairs c.place_after-at.result found.within can.absent found.below found.above))
+    (insert_leaf a c.put_pair.new.self.pages f p pair (with_pairs (insert (page_in a p).pairs c.place_after-at.result pair) (page_in a p)) can c.put_pair.ensures.pages (with_pair_above pair (page_in a p).pairs c.place_after-at.result found.within can.absent found.below found.above))
 
 pub insert_under-requires : goal.insert_under-requires
 insert_under-requires t c =

@@ -1,6 +1,6 @@
 use Rattle.std.proofs.Common.{List, Contains, ap, sym, subst, ◌∙◌}
 use Rattle.ndx_index.specs.declared.pair.Pair.{Pair}
-use Rattle.ndx_index.specs.Order.{placed}
+use Rattle.ndx_index.specs.Order.{with_pair}
 use Rattle.table_order.specs.TableOrder.{pair_at}
 use Rattle.table_order.specs.Laws.RecordOrders.{absent_but, order_put}
 use Rattle.table_core.proofs.indexes.TableIndex.put_in.Goals as goal
@@ -17,7 +17,7 @@ returns-clause-follows c =
     let rest = c.requires.rest in
     record {
       is_for = record { fields = rest.is_for.fields; kept = rest.is_for.kept; long = c.insert.ensures.key_len ∙ rest.is_for.long };
-      pairs = c.insert.ensures.pairs ∙ ap (λ (p : Pair). placed p index.order.pairs) c.pair_of.ensures.value
-          ∙ ap (placed (pair_at table c.args.number index.expr.expr)) rest.pairs
+      pairs = c.insert.ensures.pairs ∙ ap (λ (p : Pair). with_pair p index.order.pairs) c.pair_of.ensures.value
+          ∙ ap (with_pair (pair_at table c.args.number index.expr.expr)) rest.pairs
           ∙ sym (order_put table index.expr.expr c.args.number c.requires.one c.requires.inside);
     }

@@ -1,7 +1,0 @@
-use Rattle.std.proofs.Common.{◌≡◌, false}
-use Rattle.ndx_index.specs.Pages.{some_child, is_null}
-use Rattle.index_text.specs.PageText.{sizes_of}
-use Rattle.index_text.proofs.page.lacks_child.Given as goal
-
-abbrev pub invariant-loop-i : goal.invariant-loop-i
-invariant-loop-i l = some_child is_null (sizes_of l.layout) l.page l.i ≡ false
