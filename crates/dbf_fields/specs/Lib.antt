@@ -2,6 +2,7 @@ pub mod Faults
 pub mod Name
 pub mod Field
 pub mod Schema
+pub mod BadField
 pub mod Day
 pub mod Padding
 pub mod Digits

@@ -111,8 +111,8 @@ fn check_field(earlier: &[Field], field: &Field) -> Result<(), SchemaFault>
     Ok(())
 }
 
-// Tests the fields, one after the other. Takes no memory.
-fn check_fields(fields: &[Field]) -> Result<(), SchemaFault>
+/// Tests the fields, one after the other. Takes no memory.
+pub(crate) fn check_fields(fields: &[Field]) -> Result<(), SchemaFault>
     ensures accepted { OnOk result (schema_refusal fields.now ≡ None) }
     ensures refused { IfErr result (λ fault. schema_refusal fields.now ≡ Some fault) }
 {

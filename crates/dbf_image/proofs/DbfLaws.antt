@@ -13,7 +13,7 @@ use Rattle.dbf_fields.specs.declared.field.Field.{Field}
 use Rattle.dbf_image.specs.Table.{Row, Table, has_memos}
 use Rattle.dbf_image.specs.DbfText.{chunks, header_length, record_length, header_record_count, field_of, EncodesRows, IsDbf}
 use Rattle.dbf_image.specs.Reading.{first_passing, field_count, fields_of, schema_of, has_version, header_tests, descriptor_tests, record_tests, memos_tests, records_of, row_read, image_refusal, table_read, dbf_header}
-use Rattle.dbf_image.specs.Spans.{table_memo_tests}
+use Rattle.dbf_image.specs.BadTable.{table_memos_tests}
 use Rattle.dbf_image.proofs.Rows.{chunks_take}
 use Rattle.dbf_fields.proofs.FaultLaws.{first_parts}
 use Rattle.dbf_image.proofs.MemoTests.{rows_ok, ok_rows, some_is}
@@ -154,8 +154,7 @@ records_read bytes schema header records h w r =
 -- the tests of the records that the reader found, and its rows
 pub tests_read : (bytes : List ℕ) (dbt : Option (List ℕ)) (schema : List Field) (header : Header) (records : List ℕ) → header ≡ dbf_header bytes → schema ≡ schema_of bytes → header.record_length ≡ 1 + widths schema
     → records ≡ take (header.record_count * header.record_length) (drop header.header_length bytes)
-    → table_memo_tests dbt schema (chunks (1 + widths schema) header.record_count records) ≡ memos_tests bytes dbt
-unfolding table_memo_tests memos_tests
+    → table_memos_tests dbt schema (chunks (1 + widths schema) header.record_count records) ≡ table_memos_tests dbt (schema_of bytes) (records_of bytes)
 tests_read bytes dbt schema header records h s w r = rw (records_read bytes schema header records h w r) (rw s refl)
 
 pub rows_read : (bytes : List ℕ) (dbt : Option (List ℕ)) (schema : List Field) (header : Header) (records : List ℕ) (rows : List Row) → header ≡ dbf_header bytes → schema ≡ schema_of bytes → header.record_length ≡ 1 + widths schema
@@ -212,3 +211,7 @@ dbf_is bytes dbt table d =
       }),
       same,
     )
+
+-- two files are those of one table at most
+pub one_table : (bytes : List ℕ) (dbt : Option (List ℕ)) (a b : Table) → IsDbf bytes dbt a → IsDbf bytes dbt b → a ≡ b
+one_table bytes dbt a b p q = sym (dbf_is bytes dbt a p).1 ∙ (dbf_is bytes dbt b q).1

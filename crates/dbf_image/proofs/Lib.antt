@@ -1,6 +1,7 @@
 pub mod DbfLaws
 pub mod MemoRows
 pub mod MemoLoops
+pub mod PartLaws
 pub mod Groups
 pub mod MemoTests
 pub mod Chunks

@@ -15,8 +15,9 @@ use Rattle.dbf_image.specs.DbfText.{chunks, AreRecords}
 use Rattle.dbf_image.specs.MemoNumbers.{cell_texts, cells_texts, row_texts}
 use Rattle.dbf_image.specs.MemoStore.{Texts}
 use Rattle.dbf_image.specs.Store.{text_of, texts_of, IsMemo, memo_count, cells_with, rows_with, IsStore}
-use Rattle.dbf_image.specs.Reading.{cell_tests, cell_text, cells_tests, cells_read, row_tests, row_read}
-use Rattle.dbf_image.specs.Spans.{table_memo_tests}
+use Rattle.dbf_image.specs.Reading.{cell_tests, cell_text, cells_read, row_read}
+use Rattle.dbf_image.specs.declared.bad_table.TablePart.TheVariants.{Header}
+use Rattle.dbf_image.specs.BadTable.{bad_in, record_memos_tests, records_memos_tests, table_memos_tests}
 use Rattle.dbf_image.proofs.Rows.{length-chunks}
 
 -- ---- what they tell
@@ -63,12 +64,12 @@ store_read dbt fields count bytes texts numbers records each read =
 
 -- ---- where no field is a memo
 
-plain_tests : (dbt : List ℕ) (fields : List Field) (bytes : List ℕ) → has_memos fields ≡ false → cells_tests dbt fields bytes ≡ []
+plain_tests : (dbt : List ℕ) (number n : ℕ) (fields : List Field) (bytes : List ℕ) → has_memos fields ≡ false → record_memos_tests dbt number n fields bytes ≡ []
 unfolding cell_tests
-plain_tests dbt [] bytes e = refl
-plain_tests dbt (f ∷ fs) bytes e =
+plain_tests dbt number n [] bytes e = refl
+plain_tests dbt number n (f ∷ fs) bytes e =
     let p = or_parts (eqb f.kind MEMO) (has_memos fs) e in
-    rw (p.0, plain_tests dbt fs (drop f.width bytes) p.1) refl
+    rw (p.0, plain_tests dbt number (n + 1) fs (drop f.width bytes) p.1) refl
 
 plain_cells : (dbt : List ℕ) (fields : List Field) (bytes : List ℕ) (memos : List (List ℕ)) → has_memos fields ≡ false → cells_with fields bytes memos ≡ cells_read dbt fields bytes
 unfolding cell_text
@@ -87,13 +88,13 @@ pub plain_rows : (dbt : List ℕ) (fields : List Field) (ps memos : List (List �
 plain_rows dbt fields [] memos e = refl
 plain_rows dbt fields (p ∷ ps) memos e = rw (plain_cells dbt fields (drop 1 p) memos e, plain_rows dbt fields ps (drop (memo_count fields) memos) e) refl
 
-plain_all : (dbt : List ℕ) (fields : List Field) (ps : List (List ℕ)) → has_memos fields ≡ false → flat_map (row_tests dbt fields) ps ≡ []
-plain_all dbt fields [] e = refl
-plain_all dbt fields (p ∷ ps) e = rw (plain_tests dbt fields (drop 1 p) e) (plain_all dbt fields ps e)
+plain_all : (dbt : List ℕ) (number : ℕ) (fields : List Field) (ps : List (List ℕ)) → has_memos fields ≡ false → records_memos_tests dbt number fields ps ≡ []
+plain_all dbt number fields [] e = refl
+plain_all dbt number fields (p ∷ ps) e = rw (plain_tests dbt number 1 fields (drop 1 p) e) (plain_all dbt (number + 1) fields ps e)
 
-pub plain_passes : (dbt : Option (List ℕ)) (fields : List Field) (ps : List (List ℕ)) → has_memos fields ≡ false → first_fault (table_memo_tests dbt fields ps) ≡ None
-unfolding table_memo_tests
-plain_passes dbt fields ps e = rw (e, plain_all (unwrap_or dbt []) fields ps e) refl
+pub plain_passes : (dbt : Option (List ℕ)) (fields : List Field) (ps : List (List ℕ)) → has_memos fields ≡ false → first_fault (table_memos_tests dbt fields ps) ≡ None
+unfolding table_memos_tests
+plain_passes dbt fields ps e = rw (e, plain_all (unwrap_or dbt []) 1 fields ps e) refl
 
 pub plain_store : (fields : List Field) (count : ℕ) (bytes : List ℕ) (texts : Texts) (numbers : List ℕ) → AreRecords fields count bytes → has_memos fields ≡ false → numbers ≡ [] → IsStore fields count bytes texts numbers
 plain_store fields count bytes texts numbers records e nothing =
@@ -102,10 +103,10 @@ plain_store fields count bytes texts numbers records e nothing =
 
 -- ---- where some field is a memo
 
-pub missing : (fields : List Field) (ps : List (List ℕ)) → has_memos fields ≡ true → first_fault (table_memo_tests None fields ps) ≡ Some MemoFileMissing
-unfolding table_memo_tests
+pub missing : (fields : List Field) (ps : List (List ℕ)) → has_memos fields ≡ true → first_fault (table_memos_tests None fields ps) ≡ Some (bad_in Header MemoFileMissing)
+unfolding table_memos_tests
 missing fields ps e = rw e refl
 
-pub tests_in : (dbt : List ℕ) (fields : List Field) (ps : List (List ℕ)) → first_fault (table_memo_tests (Some dbt) fields ps) ≡ first_fault (flat_map (row_tests dbt fields) ps)
-unfolding table_memo_tests
+pub tests_in : (dbt : List ℕ) (fields : List Field) (ps : List (List ℕ)) → first_fault (table_memos_tests (Some dbt) fields ps) ≡ first_fault (records_memos_tests dbt 1 fields ps)
+unfolding table_memos_tests
 tests_in dbt fields ps = cond-true (not (has_memos fields) || true) _ _ (or-true (not (has_memos fields)))

@@ -5,7 +5,7 @@ use Rattle.byteorder.specs.Endian.{little_number}
 use Rattle.dbf_fields.specs.declared.field.Field.{Field}
 use Rattle.dbf_fields.specs.Field.{folded, widths}
 use Rattle.dbf_fields.specs.Schema as schemas
-use Rattle.dbf_image.specs.declared.format.TheConstants.{DELETED, DESCRIPTOR, HEADER, HEADER_END, MAX_RECORDS, NAME_BYTES, VERSION, VERSION_WITH_MEMOS}
+use Rattle.dbf_image.specs.declared.format.TheConstants.{DELETED, DESCRIPTOR, HEADER, HEADER_END, HEADER_LENGTH_OFFSET, MAX_RECORDS, NAME_BYTES, RECORD_COUNT_OFFSET, RECORD_LENGTH_OFFSET, VERSION, VERSION_WITH_MEMOS}
 use Rattle.dbf_image.specs.Table.{Row, Table, has_memos}
 use Rattle.dbf_image.specs.Memo.{EncodesCells}
 
@@ -16,13 +16,13 @@ chunks size (suc n) bytes = take size bytes ∷ chunks size n (drop size bytes)
 
 -- the numbers of the header
 abbrev pub header_record_count : List ℕ → ℕ
-header_record_count bytes = little_number 4 (drop 4 bytes)
+header_record_count bytes = little_number 4 (drop RECORD_COUNT_OFFSET bytes)
 
 abbrev pub header_length : List ℕ → ℕ
-header_length bytes = little_number 2 (drop 8 bytes)
+header_length bytes = little_number 2 (drop HEADER_LENGTH_OFFSET bytes)
 
 abbrev pub record_length : List ℕ → ℕ
-record_length bytes = little_number 2 (drop 10 bytes)
+record_length bytes = little_number 2 (drop RECORD_LENGTH_OFFSET bytes)
 
 -- a field by its descriptor of 32 bytes: the name stands before the first zero of 11 bytes
 abbrev pub field_of : List ℕ → Field

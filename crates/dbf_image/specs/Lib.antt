@@ -4,6 +4,7 @@ pub mod DbfText
 pub mod Store
 pub mod Growing
 pub mod Reading
+pub mod BadTable
 pub mod Spans
 pub mod Blocks
 pub mod Image

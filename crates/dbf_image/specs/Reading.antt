@@ -1,5 +1,5 @@
 -- The tests of a reader of DBF files in their order, and what it reads.
-use Rattle.std.specs.Prelude.{◌≡◌, ℕ, zero, suc, ◌+◌, ◌-◌, ◌*◌, ◌/◌, ◌≤◌, Bool, true, false, not, ◌&&◌, ◌||◌, ◌==◌, nat_lt, nat_le, ◌⊎◌, List, [], ◌∷◌, ◌++◌, length, map, flat_map, take, drop, slice_index, Option, Some, None, is_some, is_none, unwrap_or, if◌then◌else◌}
+use Rattle.std.specs.Prelude.{◌≡◌, ℕ, zero, suc, ◌+◌, ◌-◌, ◌*◌, ◌/◌, ◌≤◌, Bool, true, not, ◌&&◌, ◌||◌, ◌==◌, nat_lt, nat_le, ◌⊎◌, List, [], ◌∷◌, ◌++◌, length, map, flat_map, take, drop, slice_index, Option, Some, None, is_some, is_none, unwrap_or, if◌then◌else◌}
 use Rattle.dbf_fields.specs.declared.field.Field.{Field}
 use Rattle.dbf_fields.specs.declared.format.TheConstants.{MEMO}
 use Rattle.dbf_fields.specs.Faults.{first_fault}
@@ -9,6 +9,7 @@ use Rattle.dbf_image.specs.declared.fault.ImageFault.{ImageFault}
 use Rattle.dbf_image.specs.declared.fault.ImageFault.TheVariants.{Truncated, BadVersion, BadHeaderLength, BadSchema, BadRecordLength, TooManyRecords, MemoFileMissing, BadMemoNumber, MemoOutside, MemoTooLong, NoMemory}
 use Rattle.dbf_image.specs.declared.format.TheConstants.{BLOCK, DELETED, DESCRIPTOR, HEADER, HEADER_END, MAX_MEMO_BYTES, MAX_RECORDS, VERSION, VERSION_WITH_MEMOS}
 use Rattle.dbf_image.specs.declared.dbf.header.Header.{Header}
+use Rattle.dbf_image.specs.declared.dbf.header.TableNumbers.{TableNumbers}
 use Rattle.dbf_image.specs.Table.{Row, Table, has_memos}
 use Rattle.dbf_image.specs.Memo.{memo_number, memo_at}
 use Rattle.dbf_image.specs.DbfText.{chunks, header_record_count, header_length, record_length, field_of}
@@ -141,13 +142,22 @@ IsRefusal fault tests = (fault ≡ NoMemory) ⊎ (first_fault tests ≡ Some fau
 abbrev pub IsImageRefusal : ImageFault → List ℕ → Option (List ℕ) → Type 0
 IsImageRefusal fault bytes dbt = (fault ≡ NoMemory) ⊎ (image_refusal bytes dbt ≡ Some fault)
 
--- the fields are no schema, and that is the fault; or there was no memory
-abbrev pub IsFieldsRefusal : ImageFault → List Field → Type 0
-IsFieldsRefusal fault fields = (fault ≡ NoMemory) ⊎ ((fault ≡ BadSchema) × (is_none (schemas.schema_refusal fields) ≡ false))
-
 -- the numbers of the header, as the code keeps them
 abbrev pub dbf_header : List ℕ → Header
 dbf_header bytes = record { header_length = header_length bytes; record_length = record_length bytes; record_count = header_record_count bytes }
+
+-- how long a file is, and the numbers of its header, where all of that is there
+abbrev pub table_numbers : List ℕ → TableNumbers
+table_numbers bytes =
+    if nat_lt (length bytes) HEADER
+    then record { file_length = length bytes; version = 0; header_length = 0; record_length = 0; record_count = 0 }
+    else record {
+      file_length = length bytes;
+      version = slice_index bytes 0;
+      header_length = header_length bytes;
+      record_length = record_length bytes;
+      record_count = header_record_count bytes;
+    }
 
 -- the table, where no test fails
 abbrev pub table_read : List ℕ → Option (List ℕ) → Table

@@ -1,12 +1,7 @@
 -- Where the texts of memos stand in their file, as the reader finds them.
-use Rattle.std.specs.Prelude.{◌≡◌, ℕ, ◌+◌, ◌*◌, ◌/◌, ◌<◌, Bool, not, ◌||◌, ◌==◌, List, [], ◌∷◌, length, drop, slice_index, Option, is_some, unwrap_or}
+use Rattle.std.specs.Prelude.{◌≡◌, ℕ, ◌+◌, ◌*◌, ◌/◌, ◌<◌, ◌==◌, List, length, drop, slice_index}
 use Rattle.std.specs.List.{position_or_len}
-use Rattle.dbf_fields.specs.declared.field.Field.{Field}
-use Rattle.dbf_image.specs.declared.fault.ImageFault.{ImageFault}
-use Rattle.dbf_image.specs.declared.fault.ImageFault.TheVariants.{MemoFileMissing}
 use Rattle.dbf_image.specs.declared.dbt.span.Span.{Span}
-use Rattle.dbf_image.specs.Table.{has_memos}
-use Rattle.dbf_image.specs.Reading.{rows_tests}
 use Rattle.dbf_image.specs.declared.format.TheConstants.{BLOCK, MEMO_END}
 
 -- where the first 0x1A stands at or after an offset, or the file's end
@@ -21,9 +16,3 @@ pub record AreEnds (dbt ends : List ℕ) : Type 0 where
 -- where the text of a block stands
 abbrev pub span_of : List ℕ → ℕ → Span
 span_of dbt block = record { start = BLOCK * block; length = position_or_len (λ b. b == MEMO_END) (drop (BLOCK * block) dbt) }
-
--- the tests of all memos of a table, whose records are known
-unfoldable pub table_memo_tests : Option (List ℕ) → List Field → List (List ℕ) → List (Bool × ImageFault)
-table_memo_tests dbt fields records =
-    (not (has_memos fields) || is_some dbt, MemoFileMissing)
-    ∷ rows_tests (unwrap_or dbt []) fields records

@@ -15,6 +15,15 @@ pub(crate) const LAST_YEAR: u16 = 2155;
 /// How many bytes stand before the descriptors.
 pub const HEADER: usize = 32;
 
+/// Where the number of records stands in the header: four bytes.
+pub(crate) const RECORD_COUNT_OFFSET: usize = 4;
+
+/// Where the length of the header stands in it: two bytes.
+pub(crate) const HEADER_LENGTH_OFFSET: usize = 8;
+
+/// Where the length of a record stands in the header: two bytes.
+pub(crate) const RECORD_LENGTH_OFFSET: usize = 10;
+
 /// How many bytes the descriptor of a field has.
 pub(crate) const DESCRIPTOR: usize = 32;
 

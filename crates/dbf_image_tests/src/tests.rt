@@ -3,10 +3,11 @@
 use byte_io::{Bytes, LimitedSink, MemorySink, SinkFault, WriteFault};
 use dbf_fields::{Field, MEMO, Schema, day_of};
 use dbf_image::*;
-use std::alloc::Global;
+use std::alloc::{AllocError, Global};
 use std::process::Abort;
 use std::test::*;
 
+mod bad_parts;
 mod blocks;
 mod faults;
 mod growing;

@@ -5,9 +5,9 @@ ghost use Rattle.std.specs.List.{position};
 ghost use Rattle.dbf_image.specs.DbfText.{chunks, field_of, header_length};
 ghost use Rattle.dbf_image.specs.Reading.{TellsCount, TellsFields, field_count, has_whole_header};
 
+use crate::dbf::header::header_of;
 use crate::format::{DESCRIPTOR, HEADER, HEADER_END, NAME_BYTES};
 use byte_io::Bytes;
-use byteorder::{ByteOrder, LittleEndian};
 use dbf_fields::Field;
 use std::alloc::{AllocError, Global};
 
@@ -72,7 +72,7 @@ fn told_count(dbf: &[u8]) -> Option<usize>
     if dbf.len() < HEADER {
         return None;
     }
-    let end = usize::from(LittleEndian::read_u16(&dbf[8..]));
+    let end = usize::from(header_of(dbf).header_length);
     if end > dbf.len() {
         return None;
     }
@@ -82,8 +82,8 @@ fn told_count(dbf: &[u8]) -> Option<usize>
 /// The fields that the descriptors of a DBF file tell, whatever they are; `None` where the header isn't all there, or the
 /// list of fields doesn't end in it.
 ///
-/// For whoever says what is wrong with a file that [`read_table`](crate::read_table) refuses: the fields need be no schema,
-/// and the records aren't looked at. Bytes 8 and 9 of the file tell the header's length, from byte 32 on a descriptor of
+/// For whoever looks for the file of memos before the table is read: the fields need be no schema, and the records aren't
+/// looked at. Bytes 8 and 9 of the file tell the header's length, from byte 32 on a descriptor of
 /// 32 bytes tells each field, up to a byte 0x0D in place of one.
 ///
 /// An `Err` says that there was no memory, of which `None` takes none.

@@ -2,6 +2,7 @@
 
 ghost use Rattle.std.specs.Prelude.{◌≡◌, ◌+◌, ◌*◌, ◌≤◌, ◌==◌, ◌||◌, true, nat_le, length, map, take, drop, Some, None, is_none, IfOk, IfErr, OnOk, MatchResult};
 ghost use Rattle.std.specs.Option.{option_copied};
+ghost use Rattle.dbf_fields.specs.BadField.{first_bad_field as first_bad_in};
 ghost use Rattle.dbf_fields.specs.Faults.{first_fault};
 ghost use Rattle.dbf_fields.specs.Field.{folded, widths};
 ghost use Rattle.dbf_fields.specs.Schema as schemas;
@@ -9,17 +10,19 @@ ghost use Rattle.dbf_image.specs.DbfText.{IsDbf, header_length as dbf_header_len
 ghost use Rattle.dbf_image.specs.Table.{Table};
 ghost use Rattle.dbf_image.specs.declared.fault.ImageFault.{ImageFault};
 ghost use Rattle.dbf_image.specs.declared.format.TheConstants.{HEADER, MAX_RECORDS, VERSION, VERSION_WITH_MEMOS};
-ghost use Rattle.dbf_image.specs.Reading.{field_count, dbf_header, schema_of, header_tests, descriptor_tests, record_tests, early_refusal, table_read, image_refusal, IsRefusal, IsFieldsRefusal, IsImageRefusal};
+ghost use Rattle.dbf_image.specs.Reading.{field_count, dbf_header, schema_of, header_tests, record_tests, early_refusal, table_read, image_refusal, IsImageRefusal};
+ghost use Rattle.dbf_image.specs.BadTable.{bad_in, part_of_field, fields_tests, IsBad, IsFieldsRefusal, IsTableRefusal};
+ghost use Rattle.dbf_image.specs.declared.bad_table.TablePart.TheVariants.{Header as InHeader};
 
+use crate::bad_table::{BadTable, TablePart};
 use crate::dbf::fields::{descriptor_count, fields_at};
-use crate::dbf::header::Header;
+use crate::dbf::header::{Header, header_of};
 use crate::dbt::memos::memos_at;
 use crate::fault::ImageFault;
 use crate::format::{HEADER, MAX_RECORDS, VERSION, VERSION_WITH_MEMOS};
 use crate::table::TableData;
 use byte_io::Bytes;
-use byteorder::{ByteOrder, LittleEndian};
-use dbf_fields::{Field, Schema, SchemaFault};
+use dbf_fields::{Field, Schema, SchemaFault, first_bad_field};
 use std::alloc::{AllocError, Global};
 
 // The numbers of the header, where all of it is there.
@@ -37,11 +40,7 @@ fn header_at(dbf: &[u8]) -> Result<Header, ImageFault>
     if !has_version(dbf[0]) {
         return Err(ImageFault::BadVersion);
     }
-    let header = Header {
-        header_length: LittleEndian::read_u16(&dbf[8..]),
-        record_length: LittleEndian::read_u16(&dbf[10..]),
-        record_count: LittleEndian::read_u32(&dbf[4..]),
-    };
+    let header = header_of(dbf);
     if usize::from(header.header_length) > dbf.len() {
         return Err(ImageFault::Truncated);
     }
@@ -56,18 +55,18 @@ fn has_version(first: u8) -> bool
 }
 
 // The fields of the schema, by their descriptors.
-#[tactic(auto, unfolding(crate::specs::Reading::descriptor_tests))]
-fn schema_at(alloc: Global, dbf: &[u8], header_length: usize) -> Result<Schema, ImageFault>
+#[tactic(auto, unfolding(crate::specs::BadTable::fields_tests))]
+fn schema_at(alloc: Global, dbf: &[u8], header_length: usize) -> Result<Schema, BadTable>
     requires long { HEADER ≤ length dbf.now }
     requires inside { header_length ≤ length dbf.now }
     requires value { header_length ≡ dbf_header_length dbf.now }
-    ensures accepted { IfOk result (λ _. first_fault (descriptor_tests dbf.now) ≡ None) }
-    ensures refused { IfErr result (λ fault. IsRefusal fault (descriptor_tests dbf.now)) }
-    ensures early { IfErr result (λ fault. field_count dbf.now ≡ None → fault ≡ ImageFault.BadHeaderLength) }
+    ensures accepted { IfOk result (λ _. first_fault (fields_tests dbf.now) ≡ None) }
+    ensures refused { IfErr result (λ bad. IsBad bad (fields_tests dbf.now)) }
+    ensures early { IfErr result (λ bad. field_count dbf.now ≡ None → bad ≡ bad_in InHeader ImageFault.BadHeaderLength) }
     ensures value { IfOk result (λ schema. schema ≡ schema_of dbf.now) }
 {
     let Some(count) = descriptor_count(dbf, header_length) else {
-        return Err(ImageFault::BadHeaderLength);
+        return Err(ImageFault::BadHeaderLength.into());
     };
     let fields = fields_at(alloc, count, &dbf[HEADER..])?;
     let schema = schema_of_fields(alloc, &fields)?;
@@ -75,15 +74,28 @@ fn schema_at(alloc: Global, dbf: &[u8], header_length: usize) -> Result<Schema, 
 }
 
 // A list of fields as a schema.
-fn schema_of_fields(alloc: Global, fields: &[Field]) -> Result<Schema, ImageFault>
+fn schema_of_fields(alloc: Global, fields: &[Field]) -> Result<Schema, BadTable>
     ensures accepted { IfOk result (λ _. is_none (schemas.schema_refusal fields.now) ≡ true) }
     ensures value { IfOk result (λ schema. schema ≡ map folded fields.now) }
-    ensures refused { IfErr result (λ fault. IsFieldsRefusal fault fields.now) }
+    ensures refused { IfErr result (λ bad. IsFieldsRefusal bad fields.now) }
 {
     match Schema::new(alloc, fields) {
         Ok(schema) => Ok(schema),
-        Err(SchemaFault::NoMemory) => Err(ImageFault::NoMemory),
-        Err(_) => Err(ImageFault::BadSchema),
+        Err(SchemaFault::NoMemory) => Err(ImageFault::NoMemory.into()),
+        Err(_) => Err(BadTable {
+            why: ImageFault::BadSchema,
+            part: bad_part(fields),
+        }),
+    }
+}
+
+// The part of the files in which the fields are no schema.
+fn bad_part(fields: &[Field]) -> TablePart
+    ensures value { result ≡ part_of_field (first_bad_in fields.now) }
+{
+    match first_bad_field(fields) {
+        Some(bad) => TablePart::Field(bad),
+        None => TablePart::Header,
     }
 }
 
@@ -143,11 +155,11 @@ fn records_of(dbf: Bytes, header: Header) -> Vec<u8>
 }
 
 // The table that the bytes tell, or the first test that fails.
-fn table_at(alloc: Global, dbf: Bytes, dbt: Option<&[u8]>) -> Result<TableData, ImageFault>
+fn table_at(alloc: Global, dbf: Bytes, dbt: Option<&[u8]>) -> Result<TableData, BadTable>
     ensures accepted { IfOk result (λ _. image_refusal dbf (option_copied dbt.entry) ≡ None) }
     ensures value { IfOk result (λ table. table ≡ table_read dbf (option_copied dbt.entry)) }
-    ensures refused { IfErr result (λ fault. IsImageRefusal fault dbf (option_copied dbt.entry)) }
-    ensures early { IfErr result (λ fault. (first : ImageFault) → early_refusal dbf ≡ Some first → fault ≡ first) }
+    ensures refused { IfErr result (λ bad. IsTableRefusal bad dbf (option_copied dbt.entry)) }
+    ensures early { IfErr result (λ bad. (first : ImageFault) → early_refusal dbf ≡ Some first → bad ≡ bad_in InHeader first) }
 {
     let file = dbf.as_slice();
     let header = header_at(file)?;
@@ -178,8 +190,31 @@ fn table_at(alloc: Global, dbf: Bytes, dbt: Option<&[u8]>) -> Result<TableData, 
 ///
 /// The bytes of the DBF file become those of the table, which has its records in them.
 ///
-/// An `Err` is the fault of the first test that fails: see [`ImageFault`]. `NoMemory` may stand in its place
-/// where memory was refused before that test, and so never in place of a fault of the header.
+/// An `Err` is the fault of the first test that fails, with the part of the files that it is found in: see [`ImageFault`] and
+/// [`TablePart`]. `NoMemory` may stand in its place where memory was refused before that test, and so never in place of a fault
+/// of the header.
+pub fn read_table_at(alloc: Global, dbf: Bytes, dbt: Option<&[u8]>) -> Result<TableData, BadTable>
+    // What is read is the files' table.
+    ensures found { IfOk result (IsDbf dbf (option_copied dbt.entry)) }
+    // No test fails where a table is read.
+    ensures accepted { IfOk result (λ _. image_refusal dbf (option_copied dbt.entry) ≡ None) }
+    // Files of a table are read, unless memory is refused.
+    ensures only { (table : Table) → IsDbf dbf (option_copied dbt.entry) table → MatchResult result (λ t. t ≡ table) (λ bad. bad.why ≡ ImageFault.NoMemory) }
+    // Which fault it is, and where.
+    ensures refused { IfErr result (λ bad. IsTableRefusal bad dbf (option_copied dbt.entry)) }
+    // What is tested before memory is taken is answered as it is, and never as `NoMemory`.
+    ensures early { IfErr result (λ bad. (first : ImageFault) → early_refusal dbf ≡ Some first → bad ≡ bad_in InHeader first) }
+{
+    table_at(alloc, dbf, dbt)
+}
+
+/// Reads a table as [`read_table_at`] does, and says of a fault only what it is.
+///
+/// As a test has it (`dbf_image_tests`, `src/tests.rt`):
+///
+/// ```text
+/// read_table(alloc, Bytes::from_slice(alloc, dbf)?, dbt)
+/// ```
 pub fn read_table(alloc: Global, dbf: Bytes, dbt: Option<&[u8]>) -> Result<TableData, ImageFault>
     // What is read is the files' table.
     ensures found { IfOk result (IsDbf dbf (option_copied dbt.entry)) }
@@ -194,5 +229,8 @@ pub fn read_table(alloc: Global, dbf: Bytes, dbt: Option<&[u8]>) -> Result<Table
     // Two files are those of one table at most.
     ensures one { (a b : Table) → IsDbf dbf (option_copied dbt.entry) a → IsDbf dbf (option_copied dbt.entry) b → a ≡ b }
 {
-    table_at(alloc, dbf, dbt)
+    match read_table_at(alloc, dbf, dbt) {
+        Ok(table) => Ok(table),
+        Err(bad) => Err(bad.why),
+    }
 }

@@ -18,7 +18,8 @@ use crate::dbf::rows::put_records;
 use crate::dbt::blocks::next_free_block;
 use crate::dbt::memos::has_memos;
 use crate::format::{
-    DESCRIPTOR, END_OF_FILE, FIRST_YEAR, HEADER, HEADER_END, LAST_YEAR, VERSION, VERSION_WITH_MEMOS,
+    DESCRIPTOR, END_OF_FILE, FIRST_YEAR, HEADER, HEADER_END, HEADER_LENGTH_OFFSET, LAST_YEAR,
+    RECORD_COUNT_OFFSET, RECORD_LENGTH_OFFSET, VERSION, VERSION_WITH_MEMOS,
 };
 use crate::table::TableData;
 use byte_io::{ByteSink, SinkFault, SinkWriter, WriteFault};
@@ -47,9 +48,9 @@ fn header_bytes(version: u8, header: Header, day: Day) -> [u8; HEADER]
     bytes[1] = (day.year - FIRST_YEAR) as u8;
     bytes[2] = day.month;
     bytes[3] = day.day;
-    LittleEndian::write_u32(&mut bytes[4..], header.record_count);
-    LittleEndian::write_u16(&mut bytes[8..], header.header_length);
-    LittleEndian::write_u16(&mut bytes[10..], header.record_length);
+    LittleEndian::write_u32(&mut bytes[RECORD_COUNT_OFFSET..], header.record_count);
+    LittleEndian::write_u16(&mut bytes[HEADER_LENGTH_OFFSET..], header.header_length);
+    LittleEndian::write_u16(&mut bytes[RECORD_LENGTH_OFFSET..], header.record_length);
     bytes
 }
 

@@ -22,7 +22,7 @@ use std::alloc::{AllocError, Global};
 /// or a blank cell, is no memo. `None` is a cell that has no number. Such a cell has at most
 /// [`MEMO_WIDTH`](dbf_fields::MEMO_WIDTH) bytes.
 #[tactic(auto, unfolding(crate::specs::Memo::memo_number))]
-pub fn memo_block(cell: &[u8]) -> Option<u64>
+pub(crate) fn memo_block(cell: &[u8]) -> Option<u64>
     requires count_bounded { length cell.now ≤ MEMO_WIDTH }
     ensures value { result ≡ memo_number cell.now }
 {

@@ -11,9 +11,11 @@ ghost use Rattle.dbf_image.specs.DbfText.{chunks, row_chunks, AreRecords};
 ghost use Rattle.dbf_image.specs.Memo.{memo_at};
 ghost use Rattle.dbf_image.specs.MemoNumbers.{KeepsMemos, cell_texts, cells_texts, row_texts, all_texts, HasTextsOf, IsReading};
 ghost use Rattle.dbf_image.specs.Store.{text_of, IsMemo, IsStore};
-ghost use Rattle.dbf_image.specs.Reading.{text_tests, memo_tests, memo_text, cell_tests, cells_tests, rows_tests, IsRefusal};
-ghost use Rattle.dbf_image.specs.Spans.{AreEnds, table_memo_tests};
+ghost use Rattle.dbf_image.specs.Reading.{text_tests, memo_tests, memo_text, cell_tests, IsRefusal};
+ghost use Rattle.dbf_image.specs.BadTable.{part_of_memo, tests_of, record_memos_tests, records_memos_tests, table_memos_tests, IsBad};
+ghost use Rattle.dbf_image.specs.Spans.{AreEnds};
 
+use crate::bad_table::{BadTable, MemoCell, TablePart};
 use crate::dbt::memo::{block_ends, memo_block, span_at};
 use crate::fault::ImageFault;
 use crate::format::BLOCK;
@@ -100,51 +102,73 @@ fn number_of_cell(
     }
 }
 
-// Reads a cell, where its field is a memo.
-#[tactic(auto, unfolding(crate::specs::Reading::cell_tests, crate::specs::MemoNumbers::cell_texts))]
+// The part of a table's files that the memo of a cell is.
+fn memo_part(record_number: u32, field_number: usize, cell: &[u8]) -> TablePart
+    requires count_bounded { length cell.now ≤ MEMO_WIDTH }
+    ensures value { result ≡ part_of_memo record_number field_number cell.now }
+{
+    TablePart::Memo(MemoCell {
+        record_number,
+        field_number,
+        block: memo_block(cell),
+    })
+}
+
+// Reads the cell of the field of a record, where the field is a memo.
+#[tactic(auto, unfolding(crate::specs::Reading::cell_tests, crate::specs::MemoNumbers::cell_texts), using(crate::proofs::PartLaws::part_passes))]
 fn read_cell(
     dbt: &[u8],
     ends: &[usize],
     field: &Field,
     cell: &[u8],
+    record_number: u32,
+    field_number: usize,
     memos: &mut ReadMemos,
-) -> Result<(), ImageFault>
+) -> Result<(), BadTable>
     requires ends { AreEnds dbt.now ends.now }
     requires reading { IsReading dbt.now memos.old }
     requires count_bounded { field.now.kind ≡ MEMO → length cell.now ≤ MEMO_WIDTH }
-    ensures accepted { OnOk result (first_fault (cell_tests dbt.now field.now cell.now) ≡ None) }
+    ensures accepted { OnOk result (first_fault (tests_of (part_of_memo record_number field_number cell.now) (cell_tests dbt.now field.now cell.now)) ≡ None) }
     ensures reading { OnOk result (IsReading dbt.now memos.new) }
     ensures texts { OnOk result (all_texts memos.new ≡ all_texts memos.old ++ cell_texts dbt.now field.now cell.now) }
-    ensures refused { IfErr result (λ fault. IsRefusal fault (cell_tests dbt.now field.now cell.now)) }
+    ensures refused { IfErr result (λ bad. IsBad bad (tests_of (part_of_memo record_number field_number cell.now) (cell_tests dbt.now field.now cell.now))) }
 {
     if field.kind == MEMO {
-        let number = number_of_cell(dbt, ends, cell, memos)?;
-        memos.numbers.push(number)?;
+        match number_of_cell(dbt, ends, cell, memos) {
+            Ok(number) => memos.numbers.push(number)?,
+            Err(why) => {
+                return Err(BadTable {
+                    why,
+                    part: memo_part(record_number, field_number, cell),
+                });
+            }
+        }
     }
     Ok(())
 }
 
-// Reads the memos of a record.
+// Reads the memos of the record of this number.
 fn read_cells(
     dbt: &[u8],
     ends: &[usize],
     fields: &[Field],
+    record_number: u32,
     bytes: &[u8],
     memos: &mut ReadMemos,
-) -> Result<(), ImageFault>
+) -> Result<(), BadTable>
     requires ends { AreEnds dbt.now ends.now }
     requires reading { IsReading dbt.now memos.old }
     requires schema { IsSchema fields.now }
     requires room { widths fields.now ≤ length bytes.now }
-    ensures accepted { OnOk result (first_fault (cells_tests dbt.now fields.now bytes.now) ≡ None) }
+    ensures accepted { OnOk result (first_fault (record_memos_tests dbt.now record_number 1 fields.now bytes.now) ≡ None) }
     ensures reading { OnOk result (IsReading dbt.now memos.new) }
     ensures texts { OnOk result (all_texts memos.new ≡ all_texts memos.old ++ cells_texts dbt.now fields.now bytes.now) }
-    ensures refused { IfErr result (λ fault. IsRefusal fault (cells_tests dbt.now fields.now bytes.now)) }
+    ensures refused { IfErr result (λ bad. IsBad bad (record_memos_tests dbt.now record_number 1 fields.now bytes.now)) }
 {
     let mut rest = bytes;
-    for field in fields {
+    for (index, field) in fields.iter().enumerate() {
         let (cell, after) = rest.split_at(usize::from(field.width));
-        read_cell(dbt, ends, field, cell, memos)?;
+        read_cell(dbt, ends, field, cell, record_number, index + 1, memos)?;
         rest = after;
     }
     Ok(())
@@ -158,22 +182,22 @@ fn read_all(
     size: usize,
     count: u32,
     bytes: &[u8],
-) -> Result<ReadMemos, ImageFault>
+) -> Result<ReadMemos, BadTable>
     requires schema { IsSchema fields.now }
     requires size { size ≡ 1 + widths fields.now }
     requires room { count * size ≤ length bytes.now }
-    ensures accepted { IfOk result (λ _. first_fault (rows_tests dbt.now fields.now (chunks size count bytes.now)) ≡ None) }
+    ensures accepted { IfOk result (λ _. first_fault (records_memos_tests dbt.now 1 fields.now (chunks size count bytes.now)) ≡ None) }
     ensures reading { IfOk result (IsReading dbt.now) }
     ensures texts { IfOk result (λ memos. all_texts memos ≡ flat_map (row_texts dbt.now fields.now) (chunks size count bytes.now)) }
-    ensures refused { IfErr result (λ fault. IsRefusal fault (rows_tests dbt.now fields.now (chunks size count bytes.now))) }
+    ensures refused { IfErr result (λ bad. IsBad bad (records_memos_tests dbt.now 1 fields.now (chunks size count bytes.now))) }
 {
     let ends = block_ends(alloc, dbt)?;
     let mut memos = nothing_read(alloc, dbt)?;
     let mut rest = bytes;
-    for _ in 0..count {
+    for earlier in 0..count {
         let (front, after) = rest.split_at(size);
         let (_, cells) = front.split_at(1);
-        read_cells(dbt, &ends, fields, cells, &mut memos)?;
+        read_cells(dbt, &ends, fields, earlier + 1, cells, &mut memos)?;
         rest = after;
     }
     Ok(memos)
@@ -193,12 +217,12 @@ fn memos_in(
     schema: &Schema,
     count: u32,
     bytes: &[u8],
-) -> Result<(MemoStore, Vec<u32>), ImageFault>
+) -> Result<(MemoStore, Vec<u32>), BadTable>
     requires records { AreRecords schema.now count bytes.now }
-    ensures accepted { IfOk result (λ _. first_fault (rows_tests dbt.now schema.now (row_chunks schema.now count bytes.now)) ≡ None) }
+    ensures accepted { IfOk result (λ _. first_fault (records_memos_tests dbt.now 1 schema.now (row_chunks schema.now count bytes.now)) ≡ None) }
     ensures value { IfOk result (λ memos. HasTextsOf (Some dbt.now) schema.now count bytes.now memos.0.texts memos.1.items) }
     ensures kept { IfOk result (λ memos. IsStore schema.now count bytes.now memos.0.texts memos.1.items) }
-    ensures refused { IfErr result (λ fault. IsRefusal fault (rows_tests dbt.now schema.now (row_chunks schema.now count bytes.now))) }
+    ensures refused { IfErr result (λ bad. IsBad bad (records_memos_tests dbt.now 1 schema.now (row_chunks schema.now count bytes.now))) }
 {
     let size = schema.record_length();
     let memos = read_all(alloc, dbt, schema.fields(), size, count, bytes)?;
@@ -213,18 +237,18 @@ pub(crate) fn memos_at(
     schema: &Schema,
     count: u32,
     bytes: &[u8],
-) -> Result<(MemoStore, Vec<u32>), ImageFault>
+) -> Result<(MemoStore, Vec<u32>), BadTable>
     requires records { AreRecords schema.now count bytes.now }
-    ensures accepted { IfOk result (λ _. first_fault (table_memo_tests (option_copied dbt.entry) schema.now (row_chunks schema.now count bytes.now)) ≡ None) }
+    ensures accepted { IfOk result (λ _. first_fault (table_memos_tests (option_copied dbt.entry) schema.now (row_chunks schema.now count bytes.now)) ≡ None) }
     ensures value { IfOk result (λ memos. HasTextsOf (option_copied dbt.entry) schema.now count bytes.now memos.0.texts memos.1.items) }
     ensures kept { IfOk result (λ memos. IsStore schema.now count bytes.now memos.0.texts memos.1.items) }
-    ensures refused { IfErr result (λ fault. IsRefusal fault (table_memo_tests (option_copied dbt.entry) schema.now (row_chunks schema.now count bytes.now))) }
+    ensures refused { IfErr result (λ bad. IsBad bad (table_memos_tests (option_copied dbt.entry) schema.now (row_chunks schema.now count bytes.now))) }
 {
     if !has_memos(schema.fields()) {
         return Ok((MemoStore::new(alloc), Vec::new(alloc)));
     }
     let Some(dbt) = dbt else {
-        return Err(ImageFault::MemoFileMissing);
+        return Err(ImageFault::MemoFileMissing.into());
     };
     memos_in(alloc, dbt, schema, count, bytes)
 }

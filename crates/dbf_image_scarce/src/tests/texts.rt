@@ -93,7 +93,7 @@ fn store_refusals(alloc: Global) -> Result<(usize, usize), Fail> {
 }
 
 #[test]
-fn each_refused_room_leaves_the_memos(rt: HostRuntime) -> Result<(), Fail> {
+fn each_refused_room_of_a_store_is_given_at_last(rt: HostRuntime) -> Result<(), Fail> {
     let (rooms, texts) = store_refusals(rt.alloc())?;
     println!(rt; "MemoStore::reserve: {rooms}, text: {texts}")?;
     assert!(rt; 0 < rooms);

@@ -34,26 +34,6 @@ fn named(alloc: Global) -> Result<TableData, Fail> {
     Ok(table)
 }
 
-// Cells of memos, each of ten bytes, and the blocks that they name.
-const MEMO_CELLS: [(&[u8; 10], Option<u64>); 8] = [
-    (b"         1", Some(1)),
-    (b"  7       ", Some(7)),
-    (b"0000000012", Some(12)),
-    (b"9999999999", Some(9_999_999_999)),
-    (b"         0", Some(0)),
-    (b"          ", Some(0)),
-    (b"       1 2", None),
-    (b"        -1", None),
-];
-
-#[test]
-fn memo_cells_name_blocks(rt: HostRuntime) -> Result<(), Fail> {
-    for (cell, block) in &MEMO_CELLS {
-        assert_eq!(rt; memo_block(*cell), *block);
-    }
-    Ok(())
-}
-
 #[test]
 fn memo_reading(rt: HostRuntime) -> Result<(), Fail> {
     let dbt = hello();

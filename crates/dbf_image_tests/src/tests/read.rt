@@ -13,10 +13,25 @@ const TOLERATED: [u8; 88] = [
     0x20,
 ];
 
+// The field of TWO_NAMES.
+fn assert_name(rt: &impl Abort, fields: &[Field]) {
+    assert_eq!(rt; fields.len(), 1);
+    let field = &fields[0];
+    assert_eq!(rt;
+        (
+            field.name.as_slice(),
+            field.kind,
+            field.width,
+            field.decimals
+        ),
+        (b"NAME".as_slice(), b'C', 10, 0)
+    );
+}
+
 // The two records of TWO_NAMES, neither of which is marked as deleted.
 fn assert_two_names(alloc: Global, rt: &impl Abort, table: &TableData) {
     assert_eq!(rt; table.record_count(), 2);
-    assert_eq!(rt; table.schema().fields().len(), 1);
+    assert_name(rt, table.schema().fields());
     assert!(rt; !table.is_deleted(1));
     assert!(rt; !table.is_deleted(2));
     assert_cells(
@@ -37,6 +52,7 @@ fn first_image(rt: HostRuntime) -> Result<(), Fail> {
 #[test]
 fn tolerant_header(rt: HostRuntime) -> Result<(), Fail> {
     let table = read_copy(rt.alloc(), &TOLERATED, None)?;
+    assert_two_names(rt.alloc(), &rt, &table);
     assert_written(rt.alloc(), &rt, &table, &TWO_NAMES)
 }
 

@@ -1,16 +1,13 @@
-use Rattle.std.proofs.Common.{sym, ◌∙◌}
 use Rattle.std.specs.Option.{option_copied}
-use Rattle.dbf_image.proofs.DbfLaws.{is_dbf, dbf_is}
-use Rattle.dbf_image.proofs.Groups.{found_by, only_by}
+use Rattle.dbf_image.proofs.DbfLaws.{one_table}
+use Rattle.dbf_image.proofs.PartLaws.{refused_without}
 use Rattle.dbf_image.proofs.dbf.read.read_table.Goals as goal
 
-pub returns-clause-found : goal.returns-clause-found
-returns-clause-found c = found_by _ _ _ _ c.table_at.ensures.accepted c.table_at.ensures.value (is_dbf c.args.dbf (option_copied c.args.dbt))
+pub returns-in-Ok-clause-one : goal.returns-in-Ok-clause-one
+returns-in-Ok-clause-one c = one_table c.args.dbf (option_copied c.args.dbt)
 
-pub returns-clause-only : goal.returns-clause-only
-returns-clause-only c = λ table d.
-    let is = dbf_is c.args.dbf (option_copied c.args.dbt) table d in
-    only_by _ _ _ _ c.table_at.ensures.value c.table_at.ensures.refused is.0 is.1
+pub returns-in-Err-clause-refused : goal.returns-in-Err-clause-refused
+returns-in-Err-clause-refused c = refused_without c.args.dbf (option_copied c.args.dbt) c.in-Err.bad c.in-Err.ensures.refused
 
-pub returns-clause-one : goal.returns-clause-one
-returns-clause-one c = λ a b p q. sym (dbf_is c.args.dbf (option_copied c.args.dbt) a p).1 ∙ (dbf_is c.args.dbf (option_copied c.args.dbt) b q).1
+pub returns-in-Err-clause-one : goal.returns-in-Err-clause-one
+returns-in-Err-clause-one c = one_table c.args.dbf (option_copied c.args.dbt)

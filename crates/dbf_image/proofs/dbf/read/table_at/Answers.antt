@@ -2,6 +2,7 @@ use Rattle.std.proofs.Common.{◌≡◌, List, ℕ, sym, ap, ◌∙◌}
 use Rattle.std.specs.Option.{option_copied}
 use Rattle.dbf_image.specs.Store.{texts_of, rows_of}
 use Rattle.dbf_image.proofs.Groups.{early_by_header, early_by_fields, early_passed, refused_by_header, refused_by_fields, refused_by_records, refused_by_memos, decided_by_memos, err_exit}
+use Rattle.dbf_image.proofs.PartLaws.{passes_without}
 use Rattle.dbf_image.proofs.DbfLaws.{rows_read, tests_read}
 use Rattle.dbf_image.proofs.dbf.read.table_at.Goals as goal
 
@@ -34,7 +35,7 @@ returns-in_err-texts-clause-early c = rw (← c.as_slice-file.ensures.value) (er
 pub returns-clause-accepted : goal.returns-clause-accepted
 returns-clause-accepted c =
     let tests = tests_read c.as_slice-file.result.now (option_copied c.args.dbt) c.in_ok-schema.schema c.in_ok-header.header _ c.in_ok-header.ensures.value c.in_ok-schema.ensures.value (c.in_ok-check_records.ensures.wide ∙ c.record_length-size.ensures.value) c.records_at-bytes.ensures.value in
-    rw (← c.as_slice-file.ensures.value) (decided_by_memos c.as_slice-file.result.now (option_copied c.args.dbt) c.in_ok-header.ensures.accepted c.in_ok-schema.ensures.accepted c.in_ok-check_records.ensures.accepted ∙ rw tests at c.in_ok-texts.ensures.accepted)
+    rw (← c.as_slice-file.ensures.value) (passes_without c.as_slice-file.result.now (option_copied c.args.dbt) (decided_by_memos c.as_slice-file.result.now (option_copied c.args.dbt) c.in_ok-header.ensures.accepted c.in_ok-schema.ensures.accepted c.in_ok-check_records.ensures.accepted ∙ rw tests at c.in_ok-texts.ensures.accepted))
 
 pub returns-clause-value : goal.returns-clause-value
 returns-clause-value c =

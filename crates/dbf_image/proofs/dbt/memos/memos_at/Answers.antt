@@ -30,7 +30,7 @@ pub returns-in_default-clause-refused : goal.returns-in_default-clause-refused
 returns-in_default-clause-refused c =
     let schema = c.args.schema.now in
     let some : has_memos schema ≡ true = ap has_memos (sym c.fields.ensures.fields) ∙ sym c.has_memos.ensures.value ∙ c.if-not-has_memos.false in
-    inr (rw c.in_default.is (missing schema (chunks (1 + widths schema) c.args.count c.args.bytes.now) some))
+    inr (rw (c.in_default.is, c.into.ensures) (missing schema (chunks (1 + widths schema) c.args.count c.args.bytes.now) some))
 
 pub returns-clause-accepted : goal.returns-clause-accepted
 returns-clause-accepted c =

@@ -1,16 +1,16 @@
-use Rattle.std.proofs.Common.{◌≡◌, ◌≤◌, ◌++◌, length, drop}
+use Rattle.std.proofs.Common.{◌≡◌, ◌+◌, ◌≤◌, ◌++◌, length, drop}
 use Rattle.dbf_fields.specs.Faults.{first_fault}
 use Rattle.dbf_fields.specs.Field.{widths}
 use Rattle.dbf_image.specs.MemoNumbers.{cells_texts, IsReading}
-use Rattle.dbf_image.specs.Reading.{cells_tests}
+use Rattle.dbf_image.specs.BadTable.{record_memos_tests}
 use Rattle.dbf_image.specs.Store.{texts_of}
 use Rattle.dbf_image.proofs.dbt.memos.read_cells.Given as goal
 
-abbrev pub invariant-loop-field : goal.invariant-loop-field
-invariant-loop-field l = record {
+abbrev pub invariant-loop-index : goal.invariant-loop-index
+invariant-loop-index l = record {
   reading : IsReading l.dbt l.memos;
-  room : widths (drop l.field-index l.fields) ≤ length l.rest;
-  texts : texts_of l.memos.texts.texts l.memos.numbers.items ++ cells_texts l.dbt (drop l.field-index l.fields) l.rest
+  room : widths (drop l.index l.fields) ≤ length l.rest;
+  texts : texts_of l.memos.texts.texts l.memos.numbers.items ++ cells_texts l.dbt (drop l.index l.fields) l.rest
       ≡ texts_of l.fn.memos.texts.texts l.fn.memos.numbers.items ++ cells_texts l.dbt l.fields l.bytes;
-  left : first_fault (cells_tests l.dbt (drop l.field-index l.fields) l.rest) ≡ first_fault (cells_tests l.dbt l.fields l.bytes);
+  left : first_fault (record_memos_tests l.dbt l.record_number (l.index + 1) (drop l.index l.fields) l.rest) ≡ first_fault (record_memos_tests l.dbt l.record_number 1 l.fields l.bytes);
 }
