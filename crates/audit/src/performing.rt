@@ -90,6 +90,13 @@ fn audit_entry<'a>(
 /// At a fault the text is the journal of no legal history on the opened tables, but where memory was refused. Memory is
 /// taken only for the line of an entry of one of the stations, whose command's line means a command: an empty text holds,
 /// and where another line is first the fault is [`AuditFault::NoEntry`].
+///
+/// As a test has it (`audit_tests`, `src/tests/sample.rt`):
+///
+/// ```text
+/// let mut catalogue = open(alloc, records, b"")?;
+/// Ok(audit(alloc, &mut catalogue, text))
+/// ```
 pub fn audit(alloc: Global, catalogue: &mut Catalogue, text: &[u8]) -> Result<u64, AuditFault>
     requires at_opening { catalogue.old.journal ≡ [] }
     ensures opened { IfOk result (λ _. catalogue.new.opened ≡ catalogue.old.opened) }

@@ -94,6 +94,13 @@ impl Catalogue {
     /// are not those of the table's records, each as often; in which order they stand doesn't matter. With
     /// `reindex` that is not asked, and the order is built from the records. `NoMemory` comes only where all tests
     /// before it pass.
+    ///
+    /// As a test has it (`audit_tests`, `src/tests/sample.rt`):
+    ///
+    /// ```text
+    /// let sources = vec![in alloc; table(alloc, records, note)?]?;
+    /// Ok(Catalogue::open(alloc, sources, 2, false)?)
+    /// ```
     pub fn open(
         alloc: Global,
         sources: Vec<TableSource>,
@@ -130,6 +137,16 @@ impl Catalogue {
     /// expression is read in memory before `BadExpression`, `IndexNameUsed` and `TooManyIndexes` can be told. `NoMemory`
     /// comes from the plan of a command that no test before it refuses, or from the journal's entry, which a refused
     /// command has too. After `JournalFull` and `NoMemory` the catalogue is as it was.
+    ///
+    /// As a test has it (`shared_catalogue_tests`, `src/tests/asked.rt`):
+    ///
+    /// ```text
+    /// if station < 1 || station > catalogue.station_count() {
+    ///     return Err("there is no such station".into());
+    /// }
+    /// let before = catalogue.journal().len() as u64;
+    /// let (number, answer) = catalogue.perform(alloc, station, command)?;
+    /// ```
     pub fn perform(
         &mut self,
         alloc: Global,

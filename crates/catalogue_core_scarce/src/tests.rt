@@ -3,6 +3,8 @@
 mod cases;
 mod copies;
 mod lines;
+mod locks;
+mod opening;
 mod performing;
 mod same;
 mod sample;

@@ -23,6 +23,19 @@ use std::marker::Model;
 
 /// A set of new files for a folder. They are written one after the other under temporary names, and count from the
 /// moment on when [`FileSet::finish`] puts the set in place.
+///
+/// As a test has it (`files_in_place_tests`, `src/new_files.rt`):
+///
+/// ```text
+/// set.begin(b"A")?;
+/// set.write(b"new a,")?;
+/// set.write(b" longer")?;
+/// set.begin(b"B")?;
+/// set.begin(b"D")?;
+/// set.write(b"new d")
+/// write_files(set)?;
+/// set.finish()
+/// ```
 #[derive(Drop)]
 pub struct FileSet<D: Disk + Drop> {
     alloc: Global,

@@ -98,6 +98,18 @@ impl KeyExpr {
     /// `KeyTooLong` for keys over 100 bytes. `NoMemory` may stand in place of what would have come after the
     /// growth that was refused, so never for a text over 488 bytes.
     #[tactic(auto, using(crate::proofs::Parsing::memory_only, crate::proofs::Parsing::one_expr, crate::proofs::ParseLaws::fault_none))]
+    ///
+    /// As a test has it (`key_expr_tests`, `src/tests/keys.rt`):
+    ///
+    /// ```text
+    /// let schema = people(alloc)?;
+    /// let expr = KeyExpr::parse(alloc, text, &schema)?;
+    /// let record = b" Ada Lovela 3618151210".as_slice();
+    /// if record.len() != schema.record_length() {
+    ///     return Err("a record of another length".into());
+    /// }
+    /// Ok(expr.has_key(record, key))
+    /// ```
     pub fn parse(alloc: Global, text: &[u8], schema: &Schema) -> Result<KeyExpr, ExprFault>
         ensures text { IfOk result (λ e. e.text ≡ text.now) }
         ensures fields { IfOk result (λ e. e.fields ≡ schema.now) }

@@ -6,3 +6,4 @@ pub mod ReceiptLaws
 pub mod Moves
 pub mod CallLaws
 pub mod Crossing
+pub mod MatchLaws

@@ -1,5 +1,5 @@
 -- The calls of one station in a journal, and the receipts of its seat.
-use Rattle.std.specs.Prelude.{◌≡◌, ◌⊎◌, ℕ, ◌==◌, List, [], ◌∷◌, map, filter}
+use Rattle.std.specs.Prelude.{◌≡◌, ◌⊎◌, ℕ, ◌+◌, ◌-◌, ◌<◌, ◌≤◌, ◌==◌, List, [], ◌∷◌, length, map, filter, slice_get, Some}
 use Rattle.catalogue_core.specs.declared.answer.Answer.{Answer}
 use Rattle.catalogue_core.specs.declared.command.Command.{Command}
 use Rattle.catalogue_core.specs.declared.entry.Entry.{Entry}
@@ -22,3 +22,11 @@ abbrev pub IsSublist : List Receipt → List Receipt → Type 0
 IsSublist [] ys = Unit {0}
 IsSublist (x ∷ xs) [] = ⊥
 IsSublist (x ∷ xs) (y ∷ ys) = ((x ≡ y) × IsSublist xs ys) ⊎ IsSublist (x ∷ xs) ys
+
+-- the lists are the commands and answers of the stations 1 to n in the journal, each in order
+abbrev pub AreOwn : List Entry → List (List Receipt) → ℕ → Type 0
+AreOwn journal lists n = (i : ℕ) → i < n → slice_get lists i ≡ Some (of_station journal (i + 1))
+
+-- the lowest station whose list is not its commands and answers in the journal
+abbrev pub IsLowestOther : List Entry → List (List Receipt) → ℕ → Type 0
+IsLowestOther journal lists s = (1 ≤ s) × (s ≤ length lists) × ¬ (slice_get lists (s - 1) ≡ Some (of_station journal s)) × AreOwn journal lists (s - 1)

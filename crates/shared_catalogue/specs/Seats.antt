@@ -1,5 +1,5 @@
 -- What contracts see of a seat, and which stations have one.
-use Rattle.std.specs.Prelude.{◌≡◌, false, ℕ, zero, suc, ◌+◌, ◌<◌, ◌≤◌, List, [], ◌∷◌, ◌++◌, length, Any}
+use Rattle.std.specs.Prelude.{◌≡◌, false, ℕ, zero, suc, ◌+◌, ◌-◌, ◌<◌, ◌≤◌, List, [], ◌∷◌, ◌++◌, length, slice_get, Some, All, Any}
 use mathlib.Core.List.{IsPrefix}
 use Rattle.atomic_table.specs.Seated.{TableId}
 use Rattle.catalogue_core.specs.declared.entry.Entry.{Entry}
@@ -77,6 +77,14 @@ AgreesWith rows z = IsPrefix z.rows rows × (z.share ≡ calls_of rows z.station
 -- the seat's receipts are the commands and answers of its station in the journal, in order
 abbrev pub IsOwn : List Entry → Seated → Type 0
 IsOwn journal z = z.receipts ≡ of_station journal z.station
+
+-- each seat of the station has the receipts that stand for the station in the lists, which are counted from 1
+abbrev pub IsMatched : List Seated → List (List Receipt) → ℕ → Type 0
+IsMatched seats lists station = All (λ z. z.station ≡ station → slice_get lists (station - 1) ≡ Some z.receipts) seats
+
+-- the lowest station whose seat has other receipts than those that stand for it in the lists
+abbrev pub IsLowestMismatch : List Seated → List (List Receipt) → ℕ → Type 0
+IsLowestMismatch seats lists s = (1 ≤ s) × (s ≤ length lists) × ¬ IsMatched seats lists s × ((t : ℕ) → 1 ≤ t → t < s → IsMatched seats lists t)
 
 -- the rows that the seat knows are a beginning of all rows, its share is no more than the calls of its station in them, and
 -- its receipts are among the entries

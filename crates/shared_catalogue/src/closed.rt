@@ -37,6 +37,20 @@ impl Closed {
         Closed { catalogue }
     }
 
+    /// How many stations there were.
+    pub(crate) fn station_count(&self) -> u32
+        ensures value { result ≡ self.now.opened.stations }
+    {
+        self.catalogue.station_count()
+    }
+
+    /// The entries of the journal, in order.
+    pub(crate) fn journal(&self) -> &[Entry]
+        ensures value { result.now ≡ self.now.journal }
+    {
+        self.catalogue.journal()
+    }
+
     /// How many tables were opened: 10 at most.
     pub fn table_count(&self) -> usize
         ensures value { result ≡ length self.now.opened.tables }

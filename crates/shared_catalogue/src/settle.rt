@@ -1,8 +1,10 @@
-//! Settling: what the seats know is compared with the journal, for contracts alone.
+//! Settling: what the seats know is compared with the journal, for contracts alone, and the receipts that a caller kept are
+//! compared with it entry by entry.
 
 ghost use Rattle.std.specs.Prelude.{◌≡◌, ℕ, ◌≤◌, ◌↔◌, true, length, vec_len, All, IsTrue, IfSome, IfNone, IfOk, IsErrOf};
 ghost use Rattle.std.specs.List.{sum_by};
 ghost use Rattle.crossbeam_utils.specs.Seq.{cell_view};
+ghost use Rattle.shared_catalogue.specs.OwnCalls.{AreOwn, IsLowestOther};
 ghost use Rattle.shared_catalogue.specs.Seats.{HasSeat, AreSeated, IsLowestMissing, IsOwn, AgreesWith, IsWithin};
 ghost use Rattle.shared_catalogue.specs.StatusRows.{status_rows};
 
@@ -10,7 +12,9 @@ use crate::board::{Board, BoardPass};
 use crate::closed::Closed;
 use crate::locked::LockedCatalogue;
 use crate::lot::Naming;
+use crate::receipt::{Receipts, are_receipts_of};
 use crate::seat::Seat;
+use catalogue_core::Entry;
 use std::sync::Wait;
 use std::sync::ledger::Share;
 use thiserror::Error;
@@ -21,11 +25,14 @@ pub enum SettleFault {
     /// The station has no seat in the list.
     #[error("the seat of station {0} is missing")]
     SeatMissing(u32),
+    /// The station's receipts are not its entries of the journal.
+    #[error("the receipts of station {0} are not those of the journal")]
+    ReceiptMismatch(u32),
 }
 
 impl<J: Naming> LockedCatalogue<J> {
-    /// See [`crate::Shared::settle`].
-    pub(crate) fn settle<R: Wait>(
+    /// See [`crate::Shared::settle_seats`].
+    pub(crate) fn settle_seats<R: Wait>(
         self,
         rt: &R,
         board: &Board,
@@ -39,6 +46,7 @@ impl<J: Naming> LockedCatalogue<J> {
         ensures counted { IfOk result (λ closed. length closed.journal ≡ sum_by (λ z. z.share) seats.items) }
         ensures agrees { IfOk result (λ closed. All (AgreesWith (status_rows closed)) seats.items) }
         ensures missing { (s : ℕ) → IsErrOf result (SettleFault.SeatMissing s) ↔ IsLowestMissing seats.items J.opened.stations s }
+        ensures no_mismatch { (s : ℕ) → ¬ IsErrOf result (SettleFault.ReceiptMismatch s) }
     {
         let LockedCatalogue {
             catalogue,
@@ -95,4 +103,19 @@ fn gather<J: Naming, R: Wait>(
         whole.merge(seat.give_up(rt, board, pass));
     }
     whole
+}
+
+// The lowest station whose receipts are not its entries of the journal.
+pub(crate) fn first_mismatch(journal: &[Entry], stations: u32, receipts: &[Receipts]) -> Option<u32>
+    requires lists { length receipts.now ≡ stations }
+    ensures some { IfSome result (IsLowestOther journal.now receipts.now) }
+    ensures none { IfNone result (AreOwn journal.now receipts.now stations) }
+{
+    for index in 0..stations {
+        let own = receipts[index as usize].as_slice();
+        if !are_receipts_of(index + 1, own, journal) {
+            return Some(index + 1);
+        }
+    }
+    None
 }

@@ -5,16 +5,17 @@ ghost use Rattle.std.specs.List.{sum_by};
 ghost use mathlib.Core.List.{IsPrefix};
 ghost use Rattle.catalogue_core.specs.declared.catalogue.TheConstants.{MAX_ENTRIES};
 ghost use Rattle.catalogue_core.specs.Replay.{History, answer_of, IsHistoryOf};
-ghost use Rattle.shared_catalogue.specs.OwnCalls.{receipt};
-ghost use Rattle.shared_catalogue.specs.Seats.{seated, new_seats, AreSeated, IsLowestMissing, IsOwn, AgreesWith};
+ghost use Rattle.shared_catalogue.specs.OwnCalls.{receipt, AreOwn};
+ghost use Rattle.shared_catalogue.specs.Seats.{seated, new_seats, AreSeated, IsLowestMissing, IsLowestMismatch, IsOwn, AgreesWith};
 ghost use Rattle.shared_catalogue.specs.StatusRows.{status_rows, last_row, IsNumbered, calls_of, IsToldOfCall, AreRowsOfCall};
 
 use crate::board::{Board, Copied};
 use crate::closed::Closed;
 use crate::locked::LockedCatalogue;
 use crate::lot::{Lot, Naming};
+use crate::receipt::Receipts;
 use crate::seat::Seat;
-use crate::settle::SettleFault;
+use crate::settle::{SettleFault, first_mismatch};
 use catalogue_core::{Answer, Catalogue, Command, StatusRow, Stop};
 use std::alloc::{AllocError, Global};
 use std::sync::{Mutex, Wait};
@@ -69,6 +70,16 @@ impl<J: Naming> Shared<J> {
     ///
     /// A `Stop` is the catalogue's, and then seat, board and catalogue are as they were: `JournalFull` says that the
     /// journal had `MAX_ENTRIES` entries.
+    ///
+    /// As a test has it (`shared_catalogue_tests`, `src/tests/shared.rt`):
+    ///
+    /// ```text
+    /// let Some(seat) = seats.get_mut((station as usize).wrapping_sub(1)) else {
+    ///     return Err("there is no such seat".into());
+    /// };
+    /// let command = command_of(alloc, asked, name)?;
+    /// let answer = shared.perform(alloc, rt, seat, &command)?;
+    /// ```
     pub fn perform<R: Wait>(
         &self,
         alloc: Global,
@@ -102,12 +113,43 @@ impl<J: Naming> Shared<J> {
         seat.load(rt, &self.board)
     }
 
+    /// Closes the catalogue, where each station has its seat and the receipts that the caller kept are those of the journal: the
+    /// lists stand in the order of the stations, and each has to be its station's entries, in order, each once, with their
+    /// commands and answers. What [`Shared::settle_seats`] says of the journal holds here too. It takes no memory.
+    ///
+    /// The faults, in order: `SeatMissing` for the lowest station that has no seat in the list; `ReceiptMismatch` for the lowest
+    /// station whose receipts are others than those that its seat knows.
+    pub fn settle<R: Wait>(
+        self,
+        rt: &R,
+        seats: Vec<Seat<J>>,
+        receipts: Vec<Receipts>,
+    ) -> Result<Closed, SettleFault>
+        requires parts { J.parts ≡ J.opened.stations }
+        requires lists { length receipts.items ≡ J.opened.stations }
+        ensures opened { IfOk result (λ closed. closed.opened ≡ J.opened) }
+        ensures seated { IfOk result (λ _. AreSeated seats.items J.opened.stations) }
+        ensures own { IfOk result (λ closed. All (IsOwn closed.journal) seats.items) }
+        ensures handed { IfOk result (λ closed. AreOwn closed.journal receipts.items J.opened.stations) }
+        ensures counted { IfOk result (λ closed. length closed.journal ≡ sum_by (λ z. z.share) seats.items) }
+        ensures agrees { IfOk result (λ closed. All (AgreesWith (status_rows closed)) seats.items) }
+        ensures missing { (s : ℕ) → IsErrOf result (SettleFault.SeatMissing s) ↔ IsLowestMissing seats.items J.opened.stations s }
+        ensures mismatch { let seated = AreSeated seats.items J.opened.stations in
+            (s : ℕ) → IsErrOf result (SettleFault.ReceiptMismatch s) ↔ (seated × IsLowestMismatch seats.items receipts.items s) }
+    {
+        let closed = self.settle_seats(rt, seats)?;
+        match first_mismatch(closed.journal(), closed.station_count(), &receipts) {
+            Some(station) => Err(SettleFault::ReceiptMismatch(station)),
+            None => Ok(closed),
+        }
+    }
+
     /// Closes the catalogue. What each station was answered is its entries of the journal, in order: a seat's receipts are
     /// all of them. The journal is as long as the seats' shares together. The rows that each seat knew are those of the
     /// journal, from the first on, and each of its commands has one of them.
     ///
-    /// `SeatMissing` comes for the lowest station that has no seat in the list. It takes no memory.
-    pub fn settle<R: Wait>(self, rt: &R, seats: Vec<Seat<J>>) -> Result<Closed, SettleFault>
+    /// `SeatMissing` comes for the lowest station that has no seat in the list, and is the one fault. It takes no memory.
+    pub fn settle_seats<R: Wait>(self, rt: &R, seats: Vec<Seat<J>>) -> Result<Closed, SettleFault>
         requires parts { J.parts ≡ J.opened.stations }
         ensures opened { IfOk result (λ closed. closed.opened ≡ J.opened) }
         ensures seated { IfOk result (λ _. AreSeated seats.items J.opened.stations) }
@@ -115,9 +157,10 @@ impl<J: Naming> Shared<J> {
         ensures counted { IfOk result (λ closed. length closed.journal ≡ sum_by (λ z. z.share) seats.items) }
         ensures agrees { IfOk result (λ closed. All (AgreesWith (status_rows closed)) seats.items) }
         ensures missing { (s : ℕ) → IsErrOf result (SettleFault.SeatMissing s) ↔ IsLowestMissing seats.items J.opened.stations s }
+        ensures no_mismatch { (s : ℕ) → ¬ IsErrOf result (SettleFault.ReceiptMismatch s) }
     {
         let Shared { board, locked } = self;
         let locked = locked.into_inner();
-        locked.settle(rt, &board, seats)
+        locked.settle_seats(rt, &board, seats)
     }
 }

@@ -5,6 +5,7 @@ mod lists;
 mod memos;
 mod openings;
 mod performing;
+mod receipts;
 mod refusals;
 mod sample;
 mod shared;

@@ -1,11 +1,55 @@
-//! Every command and every refusal but `TableFull`, on the sample's tables, in the order in which they are given.
+//! Every command, and each of its refusals, on the sample's tables, in the order in which they are given. `TableFull` alone is
+//! left out: it wants a table of 1,000,000,000 records.
 
 use super::lines::{Case, Expected};
 use catalogue_core::Refusal;
 
-// Areas, and what is refused there: EMPTY has no records and no index, and STAFF, which has both, is open at two stations.
-pub(super) const AREAS: [Case; 21] = [
+// What is refused in an area without a table.
+pub(super) const NO_TABLE: [Case; 24] = [
     (1, b"GO 1", Expected::Refused(Refusal::NoTableInUse)),
+    (1, b"GO TOP", Expected::Refused(Refusal::NoTableInUse)),
+    (1, b"GO BOTTOM", Expected::Refused(Refusal::NoTableInUse)),
+    (1, b"SKIP", Expected::Refused(Refusal::NoTableInUse)),
+    (1, b"SEEK 'A'", Expected::Refused(Refusal::NoTableInUse)),
+    (
+        1,
+        b"SET ORDER TO 1",
+        Expected::Refused(Refusal::NoTableInUse),
+    ),
+    (1, b"APPEND BLANK", Expected::Refused(Refusal::NoTableInUse)),
+    (
+        1,
+        b"REPLACE NAME WITH 'X'",
+        Expected::Refused(Refusal::NoTableInUse),
+    ),
+    (
+        1,
+        b"MEMO NOTE WITH 'X'",
+        Expected::Refused(Refusal::NoTableInUse),
+    ),
+    (1, b"DELETE", Expected::Refused(Refusal::NoTableInUse)),
+    (1, b"RECALL", Expected::Refused(Refusal::NoTableInUse)),
+    (1, b"PACK", Expected::Refused(Refusal::NoTableInUse)),
+    (
+        1,
+        b"INDEX ON NAME TO X1",
+        Expected::Refused(Refusal::NoTableInUse),
+    ),
+    (1, b"UNLOCK", Expected::Refused(Refusal::NoTableInUse)),
+    (1, b"? NAME", Expected::Refused(Refusal::NoTableInUse)),
+    (1, b"? RLOCK()", Expected::Refused(Refusal::NoTableInUse)),
+    (1, b"? RLOCK(1,2)", Expected::Refused(Refusal::NoTableInUse)),
+    (1, b"? FLOCK()", Expected::Refused(Refusal::NoTableInUse)),
+    (1, b"? EOF()", Expected::Refused(Refusal::NoTableInUse)),
+    (1, b"? BOF()", Expected::Refused(Refusal::NoTableInUse)),
+    (1, b"? FOUND()", Expected::Refused(Refusal::NoTableInUse)),
+    (1, b"? DELETED()", Expected::Refused(Refusal::NoTableInUse)),
+    (1, b"? RECNO()", Expected::Refused(Refusal::NoTableInUse)),
+    (1, b"? RECCOUNT()", Expected::Refused(Refusal::NoTableInUse)),
+];
+
+// Areas, and what is refused there: EMPTY has no records and no index, and STAFF, which has both, is open at two stations.
+pub(super) const AREAS: [Case; 20] = [
     (1, b"USE NONE", Expected::Refused(Refusal::NoTable)),
     (1, b"SELECT 0", Expected::Refused(Refusal::BadArea)),
     (1, b"GOOD DAY", Expected::Refused(Refusal::BadCommand)),
@@ -36,6 +80,42 @@ pub(super) const AREAS: [Case; 21] = [
     (1, b"GO 9", Expected::Refused(Refusal::OutOfRange)),
 ];
 
+// What is refused at the end of a table, and at a record that is not locked.
+pub(super) const UNLOCKED: [Case; 16] = [
+    (1, b"GO BOTTOM", Expected::Done),
+    (1, b"SKIP", Expected::Done),
+    (1, b"SKIP", Expected::Refused(Refusal::EndOfFile)),
+    (
+        1,
+        b"REPLACE NAME WITH 'X'",
+        Expected::Refused(Refusal::EndOfFile),
+    ),
+    (
+        1,
+        b"MEMO NOTE WITH 'X'",
+        Expected::Refused(Refusal::EndOfFile),
+    ),
+    (1, b"DELETE", Expected::Refused(Refusal::EndOfFile)),
+    (1, b"RECALL", Expected::Refused(Refusal::EndOfFile)),
+    (1, b"? NAME", Expected::Refused(Refusal::EndOfFile)),
+    (1, b"? RLOCK()", Expected::Refused(Refusal::EndOfFile)),
+    (1, b"GO 1", Expected::Done),
+    (
+        1,
+        b"REPLACE NAME WITH 'X'",
+        Expected::Refused(Refusal::NotLocked),
+    ),
+    (
+        1,
+        b"MEMO NOTE WITH 'X'",
+        Expected::Refused(Refusal::NotLocked),
+    ),
+    (1, b"RECALL", Expected::Refused(Refusal::NotLocked)),
+    (1, b"GO 0", Expected::Refused(Refusal::OutOfRange)),
+    (1, b"? RLOCK(1,9)", Expected::Refused(Refusal::OutOfRange)),
+    (1, b"GO TOP", Expected::Done),
+];
+
 // A list of 51 records, one more than can be locked.
 const TOO_MANY: &[u8] =
     b"? RLOCK(1,1,1,1,1,1,1,1,1,1,1,1,1,1,1,1,1,1,1,1,1,1,1,1,1,1,1,1,1,1,1,1,1,1,1,1,1,1,1,1,1,1,1,1,1,1,1,1,1,1,1)";
@@ -60,7 +140,8 @@ pub(super) const LOCKS: [Case; 15] = [
 ];
 
 // Edits of the record BOB under the lock of the table.
-pub(super) const EDITS: [Case; 17] = [
+pub(super) const EDITS: [Case; 21] = [
+    (2, b"APPEND BLANK", Expected::Refused(Refusal::TableInUse)),
     (1, b"REPLACE NAME WITH 'CYD'", Expected::Done),
     (1, b"? NAME", Expected::Text(b"CYD       ")),
     (1, b"REPLACE AMT WITH 7.5", Expected::Done),
@@ -71,6 +152,17 @@ pub(super) const EDITS: [Case; 17] = [
         1,
         b"REPLACE ZIP WITH 'X'",
         Expected::Refused(Refusal::NoSuchField),
+    ),
+    (
+        1,
+        b"MEMO ZIP WITH 'X'",
+        Expected::Refused(Refusal::NoSuchField),
+    ),
+    (1, b"? ZIP", Expected::Refused(Refusal::NoSuchField)),
+    (
+        1,
+        b"MEMO NAME WITH 'X'",
+        Expected::Refused(Refusal::TypeMismatch),
     ),
     (
         1,
@@ -101,7 +193,7 @@ pub(super) const EDITS: [Case; 17] = [
 ];
 
 // What wants the table exclusively: packing, and indexes up to the greatest number of them.
-pub(super) const EXCLUSIVE: [Case; 16] = [
+pub(super) const EXCLUSIVE: [Case; 18] = [
     (
         1,
         b"INDEX ON NAME TO X1",
@@ -109,6 +201,7 @@ pub(super) const EXCLUSIVE: [Case; 16] = [
     ),
     (2, b"USE", Expected::Done),
     (1, b"USE STAFF EXCLUSIVE", Expected::Done),
+    (2, b"USE STAFF", Expected::Refused(Refusal::TableInUse)),
     (1, b"PACK", Expected::Done),
     (1, b"? RECCOUNT()", Expected::Number(2)),
     (1, b"INDEX ON DTOC(BORN) TO X1", Expected::Done),
@@ -121,6 +214,11 @@ pub(super) const EXCLUSIVE: [Case; 16] = [
         1,
         b"INDEX ON NAME TO X1",
         Expected::Refused(Refusal::IndexNameUsed),
+    ),
+    (
+        1,
+        b"INDEX ON NAME TO LONGNAME9",
+        Expected::Refused(Refusal::BadCommand),
     ),
     (1, b"INDEX ON STR(AMT,6,2) TO X2", Expected::Done),
     (1, b"INDEX ON NAME TO X3", Expected::Done),

@@ -1,7 +1,7 @@
 //! Commands that are stopped for want of memory: nothing changes, and the same command then does what it would have done.
 
 use super::ENOUGH;
-use super::cases::{AREAS, EDITS, EXCLUSIVE, LOCKS};
+use super::cases::{AREAS, EDITS, EXCLUSIVE, LOCKS, NO_TABLE, UNLOCKED};
 use super::lines::{Case, Expected, command_of, is_expected};
 use super::same::{files_of, is_same};
 use super::sample::open;
@@ -166,6 +166,22 @@ fn same_command_after_a_stop(rt: HostRuntime) -> Result<(), Fail> {
 fn same_command_of_an_area_after_a_stop(rt: HostRuntime) -> Result<(), Fail> {
     let found = swept(rt.alloc(), &[], &AREAS)?;
     println!(rt; "{found} stops of commands of areas")?;
+    assert!(rt; 0 < found);
+    Ok(())
+}
+
+#[test]
+fn same_refusal_without_a_table_after_a_stop(rt: HostRuntime) -> Result<(), Fail> {
+    let found = swept(rt.alloc(), &[], &NO_TABLE)?;
+    println!(rt; "{found} stops of commands without a table")?;
+    assert!(rt; 0 < found);
+    Ok(())
+}
+
+#[test]
+fn same_refusal_without_a_lock_after_a_stop(rt: HostRuntime) -> Result<(), Fail> {
+    let found = swept(rt.alloc(), &[&AREAS], &UNLOCKED)?;
+    println!(rt; "{found} stops of commands at the end, and of edits without a lock")?;
     assert!(rt; 0 < found);
     Ok(())
 }

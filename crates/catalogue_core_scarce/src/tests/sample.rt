@@ -4,7 +4,8 @@ use byte_io::Bytes;
 use catalogue_core::{Catalogue, IndexSource, TableSource};
 use dbf_fields::{CHARACTER, DATE, Field, MEMO, NUMBER, Schema};
 use dbf_image::TableData;
-use ndx_index::{NdxFile, PairList};
+use key_expr::Key;
+use ndx_index::{NdxFile, Pair, PairList};
 use std::alloc::{AllocError, Global};
 use std::test::Fail;
 
@@ -38,12 +39,34 @@ fn data(alloc: Global, records: &[&[u8]]) -> Result<TableData, Fail> {
     Ok(data)
 }
 
-// An index, whose pairs are made of the records.
-fn index(alloc: Global, name: &[u8], expr: &[u8]) -> Result<IndexSource, AllocError> {
+// The key of each of those records, by its name, and its number.
+const BY_NAME: [(&[u8; 10], u32); 3] = [(b"ADA       ", 2), (b"BOB       ", 1), (b"DAN       ", 3)];
+
+// The pairs of keys and numbers.
+fn pairs_of(alloc: Global, numbered: &[(&[u8; 10], u32)]) -> Result<PairList, Fail> {
+    let mut pairs = PairList::new(alloc, 10);
+    for (bytes, number) in numbered {
+        let key = Key::new(*bytes);
+        let number = *number;
+        if key.as_bytes().len() != pairs.key_len() {
+            return Err("a key of another length".into());
+        }
+        pairs.push(&Pair { key, number })?;
+    }
+    Ok(pairs)
+}
+
+// An index of these pairs.
+fn index(
+    alloc: Global,
+    name: &[u8],
+    expr: &[u8],
+    pairs: PairList,
+) -> Result<IndexSource, AllocError> {
     let file = NdxFile {
         expr: Bytes::from_slice(alloc, expr)?,
-        key_len: 10,
-        pairs: PairList::new(alloc, 10),
+        key_len: pairs.key_len(),
+        pairs,
     };
     Ok(IndexSource {
         name: Bytes::from_slice(alloc, name)?,
@@ -60,10 +83,15 @@ fn empty(alloc: Global) -> Result<TableSource, Fail> {
     })
 }
 
-// The table STAFF, with two indexes.
-fn staff(alloc: Global) -> Result<TableSource, Fail> {
-    let by_name = index(alloc, b"BYNAME", b"NAME")?;
-    let by_upper = index(alloc, b"BYUPPER", b"UPPER(NAME)")?;
+// The table STAFF, with two indexes of these pairs.
+fn staff(alloc: Global, numbered: &[(&[u8; 10], u32)]) -> Result<TableSource, Fail> {
+    let by_name = index(alloc, b"BYNAME", b"NAME", pairs_of(alloc, numbered)?)?;
+    let by_upper = index(
+        alloc,
+        b"BYUPPER",
+        b"UPPER(NAME)",
+        pairs_of(alloc, numbered)?,
+    )?;
     Ok(TableSource {
         name: Bytes::from_slice(alloc, b"STAFF")?,
         content: data(alloc, &RECORDS)?,
@@ -71,8 +99,13 @@ fn staff(alloc: Global) -> Result<TableSource, Fail> {
     })
 }
 
-// The catalogue of both tables for two stations.
+// Both tables, with indexes whose pairs are those of the records.
+pub(super) fn sources(alloc: Global) -> Result<Vec<TableSource>, Fail> {
+    Ok(vec![in alloc; empty(alloc)?, staff(alloc, &BY_NAME)?]?)
+}
+
+// The catalogue of both tables for two stations, whose indexes are made of the records.
 pub(super) fn open(alloc: Global) -> Result<Catalogue, Fail> {
-    let sources = vec![in alloc; empty(alloc)?, staff(alloc)?]?;
+    let sources = vec![in alloc; empty(alloc)?, staff(alloc, &[])?]?;
     Ok(Catalogue::open(alloc, sources, 2, true)?)
 }

@@ -3,10 +3,10 @@
 ghost use Rattle.std.specs.Prelude.{◌≡◌, []};
 
 use super::ENOUGH;
-use super::sample::{Case, cases, open, sample};
+use super::sample::{Case, cases, open, receipts_at, sample};
 use catalogue_core::{Catalogue, StatusRow, Stop};
 use scarce::{Attempt, Hoard, refusals};
-use shared_catalogue::{Lot, Naming, Seat, SettleFault, Shared};
+use shared_catalogue::{Lot, Naming, Receipts, Seat, SettleFault, Shared};
 use std::alloc::{AllocError, Global};
 use std::marker::Brand;
 use std::process::Abort;
@@ -81,14 +81,33 @@ struct Found {
     settled: Result<u64, SettleFault>,
 }
 
-// Performs the cases, and settles the catalogue while no memory is left. `None` where there is no memory for it to be shared.
+// What is made before a run: its cases, the receipts of both stations, and a hoard for the settling.
+#[derive(Drop)]
+struct Parts {
+    cases: Vec<Case>,
+    receipts: Vec<Receipts>,
+    hoard: Hoard,
+}
+
+fn make_parts(alloc: Global) -> Result<Parts, AllocError> {
+    let cases = cases(alloc)?;
+    let first = receipts_at(alloc, &cases, 0)?;
+    let second = receipts_at(alloc, &cases, 1)?;
+    Ok(Parts {
+        cases,
+        receipts: vec![in alloc; first, second]?,
+        hoard: Hoard::new(alloc, 1, 64)?,
+    })
+}
+
+// Performs the cases, and settles the catalogue with the receipts while no memory is left. `None` where there is no memory for it
+// to be shared.
 fn run_as<J: Naming, R: Wait>(
     alloc: Global,
     rt: &R,
     lot: Lot,
     catalogue: Catalogue,
-    cases: &[Case],
-    mut hoard: Hoard,
+    made: Parts,
     is_scarce: bool,
 ) -> Option<Found>
     requires empty { catalogue.journal ≡ [] }
@@ -97,11 +116,20 @@ fn run_as<J: Naming, R: Wait>(
     requires board { lot.board ≡ J.board }
     requires parts { lot.parts ≡ catalogue.opened.stations }
 {
+    let stations = catalogue.station_count();
+    let Parts {
+        cases,
+        receipts,
+        mut hoard,
+    } = made;
     match Shared::<J>::new(alloc, catalogue, lot) {
         Ok((shared, mut seats)) => {
-            let stops = stops_of_all(alloc, rt, &shared, &mut seats, cases, is_scarce);
+            if receipts.len() != stations as usize {
+                return None;
+            }
+            let stops = stops_of_all(alloc, rt, &shared, &mut seats, &cases, is_scarce);
             let _ = hoard.leave(0);
-            let settled = match shared.settle(rt, seats) {
+            let settled = match shared.settle(rt, seats, receipts) {
                 Ok(closed) => Ok(closed.entry_count()),
                 Err(fault) => Err(fault),
             };
@@ -113,19 +141,10 @@ fn run_as<J: Naming, R: Wait>(
 
 // The same on the sample's table, under a name of its own.
 fn run<R: Wait>(alloc: Global, rt: &R, is_scarce: bool) -> Result<Option<Found>, Fail> {
-    let cases = cases(alloc)?;
-    let hoard = Hoard::new(alloc, 1, 64)?;
+    let parts = make_parts(alloc)?;
     let catalogue = open(alloc, &sample(alloc)?)?;
     let lot = Lot::new(alloc, 2)?;
-    Ok(run_as::<Brand, R>(
-        alloc,
-        rt,
-        lot,
-        catalogue,
-        cases.as_slice(),
-        hoard,
-        is_scarce,
-    ))
+    Ok(run_as::<Brand, R>(alloc, rt, lot, catalogue, parts, is_scarce))
 }
 
 // How often all cases are stopped; `None` where seven entries are not settled.

@@ -6,6 +6,7 @@ use byte_io::Bytes;
 use catalogue_core::{Answer, Catalogue, Command, OpenFault, Refusal, TableSource};
 use dbf_fields::{CHARACTER, Field, Literal, Schema};
 use dbf_image::TableData;
+use shared_catalogue::{Receipt, Receipts};
 use std::alloc::{AllocError, Global};
 use std::test::Fail;
 
@@ -88,4 +89,26 @@ pub(super) fn cases(alloc: Global) -> Result<Vec<Case>, AllocError> {
         given(0, Command::Show(field), Answer::Text(text)),
         given(0, Command::Pack, Answer::Done),
     ]?)
+}
+
+// The receipt of a case.
+pub(super) fn receipt_of(alloc: Global, case: &Case) -> Result<Receipt, AllocError> {
+    let command = case.command.copy(alloc)?;
+    let answer = case.answer.copy(alloc)?;
+    Ok(Receipt { command, answer })
+}
+
+// The receipts of a seat's cases, in order.
+pub(super) fn receipts_at(
+    alloc: Global,
+    cases: &[Case],
+    seat: usize,
+) -> Result<Receipts, AllocError> {
+    let mut receipts = Receipts::new(alloc);
+    for case in cases {
+        if case.seat == seat {
+            receipts.push(receipt_of(alloc, case)?)?;
+        }
+    }
+    Ok(receipts)
 }

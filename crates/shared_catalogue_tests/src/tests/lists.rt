@@ -10,7 +10,7 @@ use std::alloc::Global;
 use std::test::Fail;
 
 // On a table of three records.
-const LISTED: [Case; 7] = [
+pub(crate) const LISTED: [Case; 7] = [
     (1, Asked::Use, b"T", Expected::Ok),
     (2, Asked::Use, b"T", Expected::Ok),
     (1, Asked::RecordLocks(&[1, 3]), b"", Expected::Truth(true)),

@@ -122,6 +122,8 @@ const INDEXED: Source = (b"T", &[X]);
 
 const REVERSED_KEYS: Source = (b"T", &[(b"X", b"NAME", 1, REVERSED)]);
 
+const LACKING: Source = (b"T", &[(b"X", b"NAME", 1, &[(b'A', 2), (b'B', 1)])]);
+
 const TEN: [Source; 10] = [
     T,
     (b"A", &[]),
@@ -209,7 +211,7 @@ fn openings_are_refused_in_order(rt: HostRuntime) -> Result<(), Fail> {
 }
 
 // Equal keys stand in reverse order of record number: the index is good, and its order is by number.
-const BY_NUMBER: [Case; 7] = [
+const BY_NUMBER: [Case; 9] = [
     (1, Asked::Use, b"T", Expected::Ok),
     (1, Asked::Ask(Question::Recno), b"", Expected::Number(2)),
     (1, Asked::Skip(1), b"", Expected::Ok),
@@ -217,12 +219,24 @@ const BY_NUMBER: [Case; 7] = [
     (1, Asked::Skip(1), b"", Expected::Ok),
     (1, Asked::Ask(Question::Recno), b"", Expected::Number(1)),
     (1, Asked::Show, b"NAME", Expected::Text(b"B")),
+    (1, Asked::Skip(1), b"", Expected::Ok),
+    (1, Asked::Ask(Question::Eof), b"", Expected::Truth(true)),
 ];
 
 #[test]
 fn reversed_equal_keys(rt: HostRuntime) -> Result<(), Fail> {
     let other = first_other_over(rt.alloc(), REVERSED_KEYS, &BY_NUMBER)?;
     assert_eq!(rt; other, None);
+    Ok(())
+}
+
+// The index lacks a pair: made anew of the records it is whole, and its order is that of all of them.
+#[test]
+fn index_without_a_pair_is_made_whole(rt: HostRuntime) -> Result<(), Fail> {
+    let alloc = rt.alloc();
+    let sources = sources_of(alloc, &[LACKING])?;
+    let mut catalogue = Catalogue::open(alloc, sources, 2, true)?;
+    assert_eq!(rt; first_other(alloc, &mut catalogue, &BY_NUMBER)?, None);
     Ok(())
 }
 

@@ -3,14 +3,35 @@
 ghost use Rattle.std.specs.Prelude.{◌≡◌, []};
 
 use super::asked::{Asked, Case, Expected, command_of, is_expected};
-use super::sample::open_sample;
+use super::lists::LISTED;
+use super::sample::{named, open, open_sample};
 use super::stations::TWO_STATIONS;
-use catalogue_core::Catalogue;
-use shared_catalogue::{Lot, Naming, Seat, SettleFault, Shared};
-use std::alloc::Global;
+use catalogue_core::{Answer, Catalogue, Command};
+use sample_files::{WITH_CYD, table};
+use shared_catalogue::{Closed, Lot, Naming, Receipt, Receipts, Seat, SettleFault, Shared};
+use std::alloc::{AllocError, Global};
 use std::marker::Brand;
 use std::sync::Wait;
 use std::test::Fail;
+
+// The receipts with which a catalogue is settled.
+#[derive(Clone, Copy, PartialEq, Eq)]
+enum Handed {
+    // None: it is settled by its seats alone.
+    Nothing,
+    // Those of all calls.
+    Kept,
+    // The last one says false.
+    OtherAnswer,
+    // The last one has another command.
+    OtherCommand,
+    // The last one is left out.
+    Fewer,
+    // The last one stands there twice.
+    Twice,
+    // The stations' lists stand in the other order.
+    Exchanged,
+}
 
 // What is seen of a run: the status rows that the stations see after its calls, the last station first, and how many
 // entries there are at the end.
@@ -20,14 +41,14 @@ struct Seen {
     settled: Result<u64, SettleFault>,
 }
 
-// Performs a case at its station's seat. It fails where the answer is not the expected one.
+// Performs a case at its station's seat, and answers the receipt. It fails where the answer is not the expected one.
 fn perform<J: Naming>(
     alloc: Global,
     rt: &impl Wait,
     shared: &Shared<J>,
     seats: &mut [Seat<J>],
     case: Case,
-) -> Result<(), Fail> {
+) -> Result<Receipt, Fail> {
     let (station, asked, name, expected) = case;
     let Some(seat) = seats.get_mut((station as usize).wrapping_sub(1)) else {
         return Err("there is no such seat".into());
@@ -37,19 +58,73 @@ fn perform<J: Naming>(
     if !is_expected(&answer, expected) {
         return Err("another answer".into());
     }
-    Ok(())
+    Ok(Receipt { command, answer })
 }
 
-// Performs the cases in order.
+// No receipts, for each of the stations.
+fn no_receipts(alloc: Global, stations: u32) -> Result<Vec<Receipts>, AllocError> {
+    let mut receipts = Vec::new(alloc);
+    for _ in 0..stations {
+        receipts.push(Receipts::new(alloc))?;
+    }
+    Ok(receipts)
+}
+
+// Puts a receipt to those of its station.
+fn keep(receipts: &mut [Receipts], station: u32, receipt: Receipt) -> Result<(), Fail> {
+    match receipts.get_mut((station as usize).wrapping_sub(1)) {
+        Some(own) => Ok(own.push(receipt)?),
+        None => Err("there is no such station".into()),
+    }
+}
+
+// Keeps the last receipt as it is to be handed.
+fn keep_last(
+    alloc: Global,
+    receipts: &mut [Receipts],
+    station: u32,
+    receipt: Receipt,
+    handed: Handed,
+) -> Result<(), Fail> {
+    let Receipt { command, answer } = receipt.copy(alloc)?;
+    match handed {
+        Handed::Fewer => Ok(()),
+        Handed::OtherAnswer => {
+            let answer = Answer::Truth(false);
+            keep(receipts, station, Receipt { command, answer })
+        }
+        Handed::OtherCommand => {
+            let command = Command::FileLock;
+            keep(receipts, station, Receipt { command, answer })
+        }
+        Handed::Twice => {
+            keep(receipts, station, Receipt { command, answer })?;
+            keep(receipts, station, receipt)
+        }
+        Handed::Nothing | Handed::Kept | Handed::Exchanged => keep(receipts, station, receipt),
+    }
+}
+
+// Performs the cases in order, and keeps the receipts as they are to be handed.
 fn perform_all<J: Naming>(
     alloc: Global,
     rt: &impl Wait,
     shared: &Shared<J>,
     seats: &mut [Seat<J>],
+    receipts: &mut [Receipts],
     cases: &[Case],
+    handed: Handed,
 ) -> Result<(), Fail> {
-    for case in cases {
-        perform(alloc, rt, shared, seats, *case)?;
+    for i in 0..cases.len() {
+        let receipt = perform(alloc, rt, shared, seats, cases[i])?;
+        if i == cases.len() - 1 {
+            keep_last(alloc, receipts, cases[i].0, receipt, handed)?;
+        } else {
+            keep(receipts, cases[i].0, receipt)?;
+        }
+    }
+    if handed == Handed::Exchanged {
+        receipts.reverse();
     }
     Ok(())
 }
@@ -68,6 +143,14 @@ fn rows_seen<J: Naming>(
     Ok(rows)
 }
 
+// How many entries there are at the end, or why there is none.
+fn entries_of(settled: Result<Closed, SettleFault>) -> Result<u64, SettleFault> {
+    match settled {
+        Ok(closed) => Ok(closed.entry_count()),
+        Err(fault) => Err(fault),
+    }
+}
+
 // Runs the cases on a catalogue that has performed nothing, for the ledger and the opened tables of a name, and settles it
 // with all seats, or without that of station 1.
 fn run_as<J: Naming, R: Wait>(
@@ -76,6 +159,7 @@ fn run_as<J: Naming, R: Wait>(
     lot: Lot,
     catalogue: Catalogue,
     cases: &[Case],
+    handed: Handed,
     without_first: bool,
 ) -> Result<Seen, Fail>
     requires empty { catalogue.journal ≡ [] }
@@ -84,15 +168,21 @@ fn run_as<J: Naming, R: Wait>(
     requires board { lot.board ≡ J.board }
     requires parts { lot.parts ≡ catalogue.opened.stations }
 {
+    let stations = catalogue.station_count();
     let (shared, mut seats) = Shared::<J>::new(alloc, catalogue, lot)?;
-    perform_all(alloc, rt, &shared, &mut seats, cases)?;
+    let mut receipts = no_receipts(alloc, stations)?;
+    perform_all(alloc, rt, &shared, &mut seats, &mut receipts, cases, handed)?;
     let rows = rows_seen(alloc, rt, &shared, &mut seats)?;
     if without_first && !seats.is_empty() {
         seats.remove(0);
     }
-    let settled = match shared.settle(rt, seats) {
-        Ok(closed) => Ok(closed.entry_count()),
-        Err(fault) => Err(fault),
+    if receipts.len() != stations as usize {
+        return Err("a list of receipts is gone".into());
+    }
+    let settled = if handed == Handed::Nothing {
+        entries_of(shared.settle_seats(rt, seats))
+    } else {
+        entries_of(shared.settle(rt, seats, receipts))
     };
     Ok(Seen { rows, settled })
 }
@@ -103,11 +193,26 @@ fn run<R: Wait>(
     rt: &R,
     stations: u32,
     cases: &[Case],
+    handed: Handed,
     without_first: bool,
 ) -> Result<Seen, Fail> {
     let catalogue = open_sample(alloc, stations)?;
-    let lot = Lot::new(alloc, stations)?;
-    run_as::<Brand, R>(alloc, rt, lot, catalogue, cases, without_first)
+    run_on(alloc, rt, catalogue, cases, handed, without_first)
+}
+
+// The same on a catalogue that has performed nothing.
+fn run_on<R: Wait>(
+    alloc: Global,
+    rt: &R,
+    catalogue: Catalogue,
+    cases: &[Case],
+    handed: Handed,
+    without_first: bool,
+) -> Result<Seen, Fail>
+    requires empty { catalogue.journal ≡ [] }
+{
+    let lot = Lot::new(alloc, catalogue.station_count())?;
+    run_as::<Brand, R>(alloc, rt, lot, catalogue, cases, handed, without_first)
 }
 
 // Whether as many stations saw a row, and each this one.
@@ -120,10 +225,37 @@ const AFTER_SEVEN: [u64; 23] = [
     7, 2, 2, 0, 1, 0, 0, 0, 0, 0, 0, 0, 0, 0, 0, 0, 0, 0, 0, 0, 0, 0, 0,
 ];
 
+// The receipts that are handed, whether the seat of station 1 is gone, and how the seven calls are settled.
+const SETTLINGS: [(Handed, bool, Result<u64, SettleFault>); 11] = [
+    (Handed::Kept, false, Ok(7)),
+    (Handed::Nothing, false, Ok(7)),
+    (
+        Handed::OtherAnswer,
+        false,
+        Err(SettleFault::ReceiptMismatch(2)),
+    ),
+    (
+        Handed::OtherCommand,
+        false,
+        Err(SettleFault::ReceiptMismatch(2)),
+    ),
+    (Handed::Fewer, false, Err(SettleFault::ReceiptMismatch(2))),
+    (Handed::Twice, false, Err(SettleFault::ReceiptMismatch(2))),
+    (
+        Handed::Exchanged,
+        false,
+        Err(SettleFault::ReceiptMismatch(1)),
+    ),
+    (Handed::Kept, true, Err(SettleFault::SeatMissing(1))),
+    (Handed::Nothing, true, Err(SettleFault::SeatMissing(1))),
+    (Handed::OtherAnswer, true, Err(SettleFault::SeatMissing(1))),
+    (Handed::Exchanged, true, Err(SettleFault::SeatMissing(1))),
+];
+
 #[test]
 fn two_stations_one_record(rt: HostRuntime) -> Result<(), Fail> {
-    for (without_first, settled) in [(false, Ok(7)), (true, Err(SettleFault::SeatMissing(1)))] {
-        let seen = run(rt.alloc(), &rt, 2, &TWO_STATIONS, without_first)?;
+    for (handed, without_first, settled) in SETTLINGS {
+        let seen = run(rt.alloc(), &rt, 2, &TWO_STATIONS, handed, without_first)?;
         assert_eq!(rt; seen.settled, settled);
         assert_eq!(rt; have_seen(&seen.rows, 2, &AFTER_SEVEN), true);
     }
@@ -133,7 +265,7 @@ fn two_stations_one_record(rt: HostRuntime) -> Result<(), Fail> {
 // Station 2 looks first, whose call was the seventh; the last call of station 1 was the sixth.
 #[test]
 fn status_after_seven_calls(rt: HostRuntime) -> Result<(), Fail> {
-    let seen = run(rt.alloc(), &rt, 2, &TWO_STATIONS, false)?;
+    let seen = run(rt.alloc(), &rt, 2, &TWO_STATIONS, Handed::Kept, false)?;
     assert_eq!(rt; have_seen(&seen.rows, 2, &AFTER_SEVEN), true);
     Ok(())
 }
@@ -146,12 +278,57 @@ const FILE_LOCKED: [Case; 3] = [
 
 #[test]
 fn status_row(rt: HostRuntime) -> Result<(), Fail> {
-    let seen = run(rt.alloc(), &rt, 1, &FILE_LOCKED, false)?;
+    let seen = run(rt.alloc(), &rt, 1, &FILE_LOCKED, Handed::Kept, false)?;
     let mut row = [0; 23];
     row[0] = 3;
     row[1] = 1;
     row[2] = 2;
     row[3] = 1;
     assert_eq!(rt; have_seen(&seen.rows, 1, &row), true);
+    Ok(())
+}
+
+// The calls of `LISTED`, and one more, after which station 2 has the records 1 and 2 locked.
+const LISTED_AND_ONE: [Case; 8] = [
+    (1, Asked::Use, b"T", Expected::Ok),
+    (2, Asked::Use, b"T", Expected::Ok),
+    (1, Asked::RecordLocks(&[1, 3]), b"", Expected::Truth(true)),
+    (2, Asked::RecordLocks(&[2, 3]), b"", Expected::Truth(false)),
+    (2, Asked::RecordLocks(&[2]), b"", Expected::Truth(true)),
+    (2, Asked::FileLock, b"", Expected::Truth(false)),
+    (1, Asked::RecordLocks(&[3, 3]), b"", Expected::Truth(true)),
+    (2, Asked::RecordLocks(&[1, 2]), b"", Expected::Truth(true)),
+];
+
+const AFTER_LISTED: [u64; 23] = [
+    7, 1, 2, 0, 2, 0, 0, 0, 0, 0, 0, 0, 0, 0, 0, 0, 0, 0, 0, 0, 0, 0, 0,
+];
+
+const AFTER_ONE_MORE: [u64; 23] = [
+    8, 2, 2, 0, 3, 0, 0, 0, 0, 0, 0, 0, 0, 0, 0, 0, 0, 0, 0, 0, 0, 0, 0,
+];
+
+// Whether both stations see this row after these calls on a table of three records.
+fn see_after<R: Wait>(
+    alloc: Global,
+    rt: &R,
+    cases: &[Case],
+    row: &[u64; 23],
+) -> Result<bool, Fail> {
+    let content = table(alloc, &WITH_CYD)?;
+    let catalogue = open(alloc, vec![in alloc; named(alloc, b"T", content)?]?, 2)?;
+    let seen = run_on(alloc, rt, catalogue, cases, Handed::Kept, false)?;
+    Ok(have_seen(&seen.rows, 2, row))
+}
+
+#[test]
+fn locks_over_a_list_are_seen(rt: HostRuntime) -> Result<(), Fail> {
+    let cases: [(&[Case], &[u64; 23]); 2] = [
+        (&LISTED, &AFTER_LISTED),
+        (&LISTED_AND_ONE, &AFTER_ONE_MORE),
+    ];
+    for (asked, row) in cases {
+        assert_eq!(rt; see_after(rt.alloc(), &rt, asked, row)?, true);
+    }
     Ok(())
 }

@@ -197,18 +197,37 @@ fn other_texts_begin_with_no_entry(rt: HostRuntime) -> Result<(), Fail> {
     Ok(())
 }
 
-// A MEMO of 65,535 bytes, its line with quotes, and its answer as long.
+// 65,535 bytes, of 200 values from a first one on, in turn.
+fn long_text(alloc: Global, first: u8) -> Result<Bytes, AllocError> {
+    let mut text = Vec::new(alloc);
+    for i in 0..65_535_u32 {
+        text.push(first.wrapping_add((i % 200) as u8))?;
+    }
+    Ok(Bytes::from_vec(text))
+}
+
+// Whether the entry of a command and an answer of station 7 begins so, and is cut back.
+fn is_long_entry(
+    alloc: Global,
+    command: &Command,
+    answer: &Answer,
+    head: &[u8],
+) -> Result<bool, AllocError> {
+    let line = entry_line(alloc, 7, command, answer)?;
+    Ok(line.as_slice().starts_with(head) && is_cut_back(alloc, 7, line.as_slice(), b"\n")?)
+}
+
+// A MEMO of 65,535 bytes between quotes, of which it has none; and an answer of as many bytes, quotes and LF among them.
 #[test]
 fn a_long_memo_is_cut_back(rt: HostRuntime) -> Result<(), Fail> {
     let alloc = rt.alloc();
-    let mut text = Vec::new(alloc);
-    for i in 0..65_535_u32 {
-        text.push((i % 256) as u8)?;
-    }
-    let command = Command::Show(Bytes::from_slice(alloc, b"NOTES")?);
-    let answer = Answer::Text(Bytes::from_vec(text));
-    let line = entry_line(alloc, 7, &command, &answer)?;
-    assert!(rt; line.as_slice().starts_with(b"7 7 65535 ? NOTES \0\x01"));
-    assert!(rt; is_cut_back(alloc, 7, line.as_slice(), b"\n")?);
+    let field = Bytes::from_slice(alloc, b"NOTES")?;
+    let text = long_text(alloc, b'(')?;
+    let memo = Command::Memo { field, text };
+    let head = b"7 65553 2 MEMO NOTES WITH \"()*+,-./0123";
+    assert!(rt; is_long_entry(alloc, &memo, &Answer::Done, head)?);
+    let show = Command::Show(Bytes::from_slice(alloc, b"NOTES")?);
+    let answer = Answer::Text(long_text(alloc, 0)?);
+    assert!(rt; is_long_entry(alloc, &show, &answer, b"7 7 65535 ? NOTES \0\x01")?);
     Ok(())
 }

@@ -1,4 +1,4 @@
-use Rattle.shared_catalogue_scarce.proofs.tests.making.making_attempt.Given as goal
+use Rattle.shared_catalogue_scarce.proofs.tests.making.sharing_attempt.Given as goal
 
 -- the tables that were just opened, and the ledger and the board of the lot that was just made
 abbrev pub ghosts-seats_attempt-J-Naming : goal.ghosts-seats_attempt-J-Naming

@@ -10,7 +10,7 @@ use Rattle.shared_catalogue.specs.Seats.{Seated, AreSeated, IsLowestMissing, IsW
 use Rattle.shared_catalogue.specs.StatusRows.{status_rows}
 use Rattle.shared_catalogue.proofs.ReceiptLaws.{settled}
 use Rattle.shared_catalogue.proofs.SeatLaws.{enough, missing_here, missing_nowhere}
-use Rattle.shared_catalogue.proofs.locked.LockedCatalogue.settle.Goals as goal
+use Rattle.shared_catalogue.proofs.locked.LockedCatalogue.settle_seats.Goals as goal
 
 pub returns-in-Some-clause-missing : goal.returns-in-Some-clause-missing
 returns-in-Some-clause-missing g c =

@@ -1,4 +1,4 @@
-use Rattle.shared_catalogue_tests.proofs.tests.shared.run.Given as goal
+use Rattle.shared_catalogue_tests.proofs.tests.shared.run_on.Given as goal
 
 -- the tables that were just opened, and the ledger and the board of the lot that was just made
 abbrev pub ghosts-run_as-J-Naming : goal.ghosts-run_as-J-Naming
