@@ -1,15 +1,13 @@
 -- What the command line asks for, and what a call of the program does.
-use Rattle.std.specs.Prelude.{◌≡◌, ◌⊎◌, ℕ, List, codes, true, false, Option, Some, None, IsSome, IfSome}
-use Rattle.clap.specs.Words.{App, Row, Rule, Text, first_of, kind_of, matches_of, new_app, takes, with_rule}
+use Rattle.std.specs.Prelude.{◌≡◌, ◌⊎◌, ℕ, List, codes, true, false, Option, Some, None, IsSome}
+use Rattle.clap.specs.Words.{App, Row, Rule, Text, first_of, kind_of, matches_of, takes, with_rule}
 use Rattle.clap.specs.declared.error.kind.ErrorKind.TheVariants.{OutOfMemory}
-use Rattle.dbf_fields.specs.Date.{SaysDay}
-use Rattle.dbf_image.specs.Image.{IsOutside}
 use Rattle.files_in_place.specs.Disk.{DiskMeaning}
 use Rattle.program_frame.specs.declared.ending.Ending.{Ending}
 use Rattle.program_frame.specs.declared.ending.Ending.TheVariants as ended
 use Rattle.program_frame.specs.declared.ending.Failure.{Failure}
 use Rattle.program_frame.specs.declared.ending.Failure.TheVariants as failure
-use Rattle.program_frame.specs.CommandLine.{flag_rule, option_rule, required_rule, HasBadDate, IsFlag}
+use Rattle.program_frame.specs.CommandLine.{flag_rule, option_rule, program_app, required_rule, GivesDay, HasBadDate, IsFlag}
 use Rattle.program_frame.specs.Jobs.{ComesToItsEnd, IsRunFailure}
 use Rattle.program_frame.specs.Placing.{HasPutInto}
 use Rattle.folders.specs.declared.named.NamedFile.{NamedFile}
@@ -29,7 +27,7 @@ wanting_rule name = record (option_rule name) { is_free = false }
 
 -- the program with the paths that have to be given
 abbrev pub paths_app : App
-paths_app = with_rule (with_rule (new_app (codes "station_audit")) (required_rule (codes "setup"))) (required_rule (codes "journal"))
+paths_app = with_rule (with_rule (program_app (codes "station_audit")) (required_rule (codes "setup"))) (required_rule (codes "journal"))
 
 -- the program and all its options
 abbrev pub audit_app : App
@@ -48,7 +46,7 @@ GivesBadDate rows = IsSome (first_of (codes "today") rows) × HasBadDate rows
 abbrev pub SaysWritten : List Row → Option Written → Type 0
 SaysWritten rows None = (first_of (codes "out") rows ≡ None) ⊎ (first_of (codes "today") rows ≡ None)
 SaysWritten rows (Some written) =
-    (first_of (codes "out") rows ≡ Some written.out.now) × IfSome (first_of (codes "today") rows) (λ text. SaysDay text written.today) × (¬ IsOutside written.today.year)
+    (first_of (codes "out") rows ≡ Some written.out.now) × GivesDay rows written.today
 
 -- what the options ask for
 pub record IsAskedBy (rows : List Row) (options : Options) : Type 0 where

@@ -8,7 +8,9 @@ ghost use Rattle.audit_program.specs.Asked.{audit_app, paths_app, wanting_rule, 
 use crate::failure::AuditFailure;
 use clap::{Arg, ArgMatches, Command};
 use dbf_fields::Day;
-use program_frame::{Ending, Failure, date_of, flag, has_flag, option, required_option, value_of};
+use program_frame::{
+    Ending, Failure, date_of, flag, has_flag, option, program, required_option, value_of,
+};
 use std::alloc::{AllocError, Global};
 use std::convert::AsStr;
 
@@ -49,9 +51,8 @@ pub struct Written<'a> {
 fn command_of_paths<'a>(alloc: Global) -> Result<Command<'a>, AllocError>
     ensures app { IfOk result (λ command. app_of command ≡ paths_app) }
 {
-    Command::new(alloc, "station_audit")
-        .about("Performs the journal of a run once more and compares each answer")
-        .after_help(STATUSES)
+    let about = "Performs the journal of a run once more and compares each answer";
+    program(alloc, "station_audit", about, STATUSES)
         .arg(required_option(
             alloc,
             "setup",

@@ -13,6 +13,7 @@ use Rattle.catalogue_core.specs.declared.entry.Entry.{Entry}
 use Rattle.office_run.specs.declared.close_fault.CloseFault.TheVariants.{Write}
 use Rattle.office_run.specs.declared.closed.ClosedTable.{ClosedTable}
 use Rattle.folders.specs.declared.named.NamedFile.{NamedFile}
+use Rattle.folders.specs.declared.source.TheConstants.{MAX_FILE_BYTES}
 use Rattle.office_run.specs.Closing.{IsCutAt}
 use Rattle.folders.specs.Files.{listing, opening, IsOfBytes}
 use Rattle.station_lines.specs.declared.script.format.TheConstants.{LF}
@@ -118,7 +119,7 @@ cut_last files text old mid new first kept front = record {
 -- a fault before the journal's file
 pub cut_before_journal : (files : List NamedFile) (text : List ℕ) (old new : Option (List ℕ)) (fault : ServeFault)
     → (((name : List ℕ) → fault ≢ Close (Write name)) → new ≡ old) → IsCutWriting files old new fault → IsCutFiles true (and_journal files text) old new fault
-cut_before_journal files text old new (Close (Write name)) begun cut = cut_more name old new files (journal_file text ∷ []) cut
+cut_before_journal files text old new (Close (Write name)) begun cut = inl (cut_more name old new files (journal_file text ∷ []) cut)
 cut_before_journal files text old new NoMemory begun cut = inl (begun (λ name e. absurd cc))
 cut_before_journal files text old new fault begun cut = tt
 
@@ -126,9 +127,14 @@ cut_before_journal files text old new fault begun cut = tt
 pub cut_in_journal : (files : List NamedFile) (text : List ℕ) (old mid new : Option (List ℕ)) (fault : ServeFault) → IsJournalFault fault → mid ≡ grown old (listing files) → IsFront mid new
     → IsFront new (grown mid (listing (journal_file text ∷ []))) → IsCutFiles true (and_journal files text) old new fault
 cut_in_journal files text old mid new (Close (Write name)) why first kept front =
-    subst (λ (n : List ℕ). IsCutAt n old new (and_journal files text)) (sym why) (cut_last files text old mid new first kept front)
+    inl (subst (λ (n : List ℕ). IsCutAt n old new (and_journal files text)) (sym why) (cut_last files text old mid new first kept front))
 cut_in_journal files text old mid new NoMemory why first kept front = inr (refl, cut_last files text old mid new first kept front)
 cut_in_journal files text old mid new fault why first kept front = absurd why
+
+-- all are held back, since the journal's text is too long
+pub held_back : (files : List NamedFile) (text name : List ℕ) (old new : Option (List ℕ)) → name ≡ journal_name → MAX_FILE_BYTES < length text → new ≡ old
+    → IsCutFiles true (and_journal files text) old new (Close (Write name))
+held_back files text name old new is long unwritten = inr (refl, record { name_is = is; others = files; text = text; files_are = refl; long = long; unwritten = unwritten })
 
 -- it is one of the writing
 pub journal_fault : (year : ℕ) (tables : List ClosedTable) (fault : ServeFault) → IsJournalFault fault → IsWriteFault year tables fault

@@ -19,5 +19,6 @@ pub mod WritingLaws
 pub mod JournalFileLaws
 pub mod ServedLaws
 pub mod RunLaws
+pub mod EndLaws
 pub mod Crossing
 pub mod PlanLaws

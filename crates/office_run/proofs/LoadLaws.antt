@@ -1,15 +1,25 @@
 -- What entries load, the last one last, and whose faults they are.
-use Rattle.std.proofs.Common.{◌≡◌, ℕ, List, [], ◌∷◌, ◌++◌, Option, refl, subst, sym, ap, ◌∙◌, ◌+◌, ◌<◌, take, get_or, length, Result, Ok, Err}
-use Rattle.std.specs.Prelude.{IfErr, IsErrAnd}
+use Rattle.std.proofs.Common.{◌≡◌, ◌≢◌, ◌⊎◌, inl, inr, ℕ, List, [], ◌∷◌, ◌++◌, Option, Some, refl, subst, sym, ap, ◌∙◌, ◌+◌, ◌<◌, take, drop, drop-cons, add-one, suc, get_or, length, Result, Ok, Err}
+use Rattle.std.specs.Prelude.{IfErr, IsErrAnd, IsOk, OnOk}
+use Rattle.std.proofs.lemmas.Bool.{false≢true}
 use Rattle.std.proofs.lemmas.List.{take_more}
+use Rattle.catalogue_core.specs.declared.source.IndexSource.{IndexSource}
 use Rattle.folders.specs.declared.named.NamedFile.{NamedFile}
 use Rattle.station_lines.specs.declared.setup.entry.SetupEntry.{SetupEntry}
+use Rattle.station_lines.specs.declared.setup.entry.SetupEntry.TheVariants.{Index}
+use Rattle.setup_files.specs.declared.content.EntryContent.{EntryContent}
+use Rattle.setup_files.specs.declared.fault.EntryFault.{EntryFault}
+use Rattle.setup_files.specs.declared.fault.EntryFault.TheVariants.{Unloaded, UnloadedMemos, NoTable, NoIndex}
+use Rattle.setup_files.specs.declared.fault.LoadRefusal.TheVariants as refusal
+use Rattle.setup_files.specs.EntryFiles.{IsRefusalOf, refused_path, IsEntryRead, AreEntriesRead}
+use Rattle.setup_files.specs.Loads.{IsFailureAt}
 use Rattle.office_run.specs.declared.fault.ServeFault.{ServeFault}
+use Rattle.office_run.specs.declared.fault.ServeFault.TheVariants.{File, NoMemory}
 use Rattle.folders.specs.Files.{IsFileOf}
 use Rattle.station_lines.specs.declared.setup.fault.SetupFault.{SetupFault}
 use Rattle.station_lines.specs.declared.setup.fault.SetupFault.TheVariants.{Bad, NoMemory as NoMemoryToParse}
 use Rattle.station_lines.specs.Setup.{IsSetup}
-use Rattle.office_run.specs.Loading.{Read, nothing, Loads, LoadAll}
+use Rattle.office_run.specs.Loading.{Read, nothing, file_fault, refusal_told, first_refused, HasIndex, IsEntryFault, IsFailure, IsIndexRead, Loads, LoadAll}
 use Rattle.office_run.specs.WholeRun.{setup_fault, IsReadFault}
 
 load_all_last : (files : Option (List NamedFile)) (entries : List SetupEntry) (entry : SetupEntry) (a b c : Read)
@@ -33,3 +43,62 @@ err_exit (Err y) P h p = subst P (sym h) p
 pub unsaid : (files : Option (List NamedFile)) (setup text : List ℕ) (fault : SetupFault) → IsFileOf files setup text → ((n : ℕ) → fault ≡ Bad n → IsSetup text (Err n)) → IsReadFault files setup (setup_fault fault)
 unsaid files setup text (Bad n) found bad = record { text = text; found = found; says = bad n refl }
 unsaid files setup text NoMemoryToParse found bad = tt
+
+-- an index is loaded where it is added to its table
+pub index_loads : {T E : Type 0} (r : Result T E) (files : Option (List NamedFile)) (table name ndx : List ℕ) (index : IndexSource) (old new : Read)
+    → IsIndexRead files name ndx index → OnOk r (HasIndex table index old.tables new.tables) → new.scripts ≡ old.scripts → OnOk r (Loads files (Index table name ndx) old new)
+index_loads (Ok x) files table name ndx index old new own h e = (index, own, h, e)
+index_loads (Err y) files table name ndx index old new own h e = tt
+
+-- ---- an entry whose files are refused
+
+-- what the fault says is true of the files,
+pub fault_told : (files : Option (List NamedFile)) (entry : SetupEntry) (why : EntryFault) (fault : ServeFault) → (fault ≡ NoMemory) ⊎ (fault ≡ File (refused_path entry why) (file_fault why)) → IsRefusalOf files entry why → IsEntryFault files entry fault
+fault_told files entry why fault (inl none) h = subst (λ (f : ServeFault). IsEntryFault files entry f) (sym none) tt
+fault_told files entry why fault (inr is) h = subst (λ (f : ServeFault). IsEntryFault files entry f) (sym is) (why, h, refl, refl)
+
+-- it is the fault of this entry, but for want of memory,
+pub refusal_first : (entry : SetupEntry) (why : EntryFault) (fault : ServeFault) → (fault ≡ NoMemory) ⊎ (fault ≡ File (refused_path entry why) (file_fault why)) → fault ≢ NoMemory → refusal_told entry (Err why) ≡ Some fault
+refusal_first entry why fault (inl none) ne = absurd (ne none)
+refusal_first entry why fault (inr is) ne = ap (λ (f : ServeFault). Some f) (sym is)
+
+failure_at : (files : Option (List NamedFile)) (before after : Option ℕ) (entry : SetupEntry) (why : EntryFault) → IsFailureAt files before after entry why → IsFailure files before after (File (refused_path entry why) (file_fault why))
+failure_at files before after entry (Unloaded refusal.CannotRead) h = h
+failure_at files before after entry (Unloaded refusal.Unrecovered) h = h
+failure_at files before after entry (UnloadedMemos refusal.CannotRead) h = h
+failure_at files before after entry (UnloadedMemos refusal.Unrecovered) h = h
+failure_at files before after entry (NoTable bad numbers) h = h
+failure_at files before after entry (NoIndex bad numbers) h = h
+
+-- and the count of loads that failed is as it says
+pub failure_told : (files : Option (List NamedFile)) (before after : Option ℕ) (entry : SetupEntry) (why : EntryFault) (fault : ServeFault) → (fault ≡ NoMemory) ⊎ (fault ≡ File (refused_path entry why) (file_fault why)) → IsFailureAt files before after entry why → IsFailure files before after fault
+failure_told files before after entry why fault (inl none) h = subst (λ (f : ServeFault). IsFailure files before after f) (sym none) tt
+failure_told files before after entry why fault (inr is) h = subst (λ (f : ServeFault). IsFailure files before after f) (sym is) (failure_at files before after entry why h)
+
+-- ---- what was read of entries, put together one after another
+
+-- what is left begins with the next entry
+pub left_read : (files : Option (List NamedFile)) (left entries : List SetupEntry) (entry : SetupEntry) (reads rest : List (Result EntryContent EntryFault)) (read : Result EntryContent EntryFault)
+    → left ≡ entry ∷ entries → reads ≡ read ∷ rest → AreEntriesRead files left reads → IsEntryRead files entry read × AreEntriesRead files entries rest
+left_read files left entries entry reads rest read e f h =
+    subst (λ (es : List SetupEntry). AreEntriesRead files es (read ∷ rest)) e (subst (λ (rs : List (Result EntryContent EntryFault)). AreEntriesRead files left rs) f h)
+
+not_refused : (entry : SetupEntry) (entries : List SetupEntry) (read : Result EntryContent EntryFault) (rest : List (Result EntryContent EntryFault)) → IsOk read → first_refused (entry ∷ entries) (read ∷ rest) ≡ first_refused entries rest
+not_refused entry entries (Ok found) rest h = refl
+not_refused entry entries (Err why) rest h = absurd (false≢true h)
+
+-- where its files are not refused, the first that is refused is one of the others
+pub next_refused : (left entries : List SetupEntry) (entry : SetupEntry) (reads rest : List (Result EntryContent EntryFault)) (read : Result EntryContent EntryFault)
+    → left ≡ entry ∷ entries → reads ≡ read ∷ rest → IsOk read → first_refused left reads ≡ first_refused entries rest
+next_refused left entries entry reads rest read e f h =
+    ap (λ (es : List SetupEntry). first_refused es reads) e ∙ ap (λ (rs : List (Result EntryContent EntryFault)). first_refused (entry ∷ entries) rs) f ∙ not_refused entry entries read rest h
+
+-- where they are, it is this entry
+pub this_refused : (left entries : List SetupEntry) (entry : SetupEntry) (reads rest : List (Result EntryContent EntryFault)) (read : Result EntryContent EntryFault) (fault : ServeFault)
+    → left ≡ entry ∷ entries → reads ≡ read ∷ rest → refusal_told entry read ≡ Some fault → first_refused left reads ≡ Some fault
+this_refused left entries entry reads rest (Ok found) fault e f h = absurd cc
+this_refused left entries entry reads rest (Err why) fault e f h =
+    ap (λ (es : List SetupEntry). first_refused es reads) e ∙ ap (λ (rs : List (Result EntryContent EntryFault)). first_refused (entry ∷ entries) rs) f ∙ h
+
+pub next_entry : (entries : List SetupEntry) (i : ℕ) (entry : SetupEntry) → i < length entries → entry ≡ get_or entries i entry → drop i entries ≡ entry ∷ drop (i + 1) entries
+next_entry entries i entry lt is = drop-cons entries i entry lt ∙ (ap (λ (e : SetupEntry). e ∷ drop (suc i) entries) (sym is) ∙ ap (λ (n : ℕ). entry ∷ drop n entries) (sym (add-one i)))

@@ -9,7 +9,8 @@ use Rattle.journal_file.specs.declared.sum.FileSum.{FileSum}
 use Rattle.journal_file.specs.WholeText.{sum_of_file, with_sum, IsSum}
 use Rattle.folders.specs.declared.named.NamedFile.{NamedFile}
 use Rattle.station_lines.specs.declared.setup.entry.SetupEntry.{SetupEntry}
-use Rattle.office_run.specs.FileSums.{paths_of, paths_in, AreNoted, AreAllNoted, NotesAsBefore, sum_of_named}
+use Rattle.setup_files.specs.Noted.{paths_of, AreNoted}
+use Rattle.office_run.specs.FileSums.{paths_in, AreAllNoted, NotesAsBefore, sum_of_named}
 use Rattle.office_run.specs.OpenedSetup.{HaveStill}
 use Rattle.office_run.specs.WholeRun.{IsSaid}
 use Rattle.office_run.proofs.OneOpening.{one_file, one_said}

@@ -24,7 +24,8 @@ use Rattle.station_lines.specs.declared.setup.entry.SetupEntry.{SetupEntry}
 use Rattle.station_lines.specs.declared.setup.entry.SetupEntry.TheVariants.{Table as OfTable, Index as OfIndex, Station}
 use Rattle.station_lines.specs.Setup.{IsSetup}
 use Rattle.station_lines.proofs.SetupLaws.TextLaws.{one_setup}
-use Rattle.office_run.specs.Loading.{Read, read_as, nothing, first_named, HasOneMore, IsIndexRead, IsMemoFileOf, IsTableRead, Loads, LoadAll}
+use Rattle.setup_files.specs.EntryFiles.{IsMemoFileOf, IsTableOfFiles}
+use Rattle.office_run.specs.Loading.{Read, read_as, nothing, first_named, HasOneMore, IsIndexRead, IsTableRead, Loads, LoadAll}
 use Rattle.office_run.specs.OpenedSetup.{HaveStill, OpensAsBefore, OpensAsOne}
 use Rattle.office_run.specs.WholeRun.{IsAllRead, IsSaid}
 use Rattle.office_run.proofs.Headings.{fresh_ok, made_ok, passing_ok, then_ok}
@@ -111,24 +112,29 @@ one_memo files (Some path) a b h k = h.2 ∙ ap (λ (l : List ℕ). Some l) (one
 one_table : (bytes : List ℕ) (memo : Option (List ℕ)) (a b : Table) → IsDbf bytes memo a → IsDbf bytes memo b → a ≡ b
 one_table bytes memo a b h k = sym (dbf_is bytes memo a h).1 ∙ (dbf_is bytes memo b k).1
 
-like_table : (files : List NamedFile) (name dbf : List ℕ) (dbt : Option (List ℕ)) (a b : TableSource) → IsTableRead (Some files) name dbf dbt a → IsTableRead (Some files) name dbf dbt b → IsLikeTable a b
-like_table files name dbf dbt a b h k =
+one_content : (files : List NamedFile) (dbf : List ℕ) (dbt : Option (List ℕ)) (a b : Table) → IsTableOfFiles (Some files) dbf dbt a → IsTableOfFiles (Some files) dbf dbt b → a ≡ b
+one_content files dbf dbt a b h k =
     let bytes : h.bytes ≡ k.bytes = one_file files dbf h.bytes k.bytes h.found k.found in
     let memo : h.memo ≡ k.memo = one_memo files dbt h.memo k.memo h.memo_found k.memo_found in
-    let content : IsDbf k.bytes k.memo a.content = subst (λ (m : Option (List ℕ)). IsDbf k.bytes m a.content) memo (subst (λ (l : List ℕ). IsDbf l h.memo a.content) bytes h.content) in
+    one_table k.bytes k.memo a b (subst (λ (m : Option (List ℕ)). IsDbf k.bytes m a) memo (subst (λ (l : List ℕ). IsDbf l h.memo a) bytes h.is)) k.is
+
+like_table : (files : List NamedFile) (name dbf : List ℕ) (dbt : Option (List ℕ)) (a b : TableSource) → IsTableRead (Some files) name dbf dbt a → IsTableRead (Some files) name dbf dbt b → IsLikeTable a b
+like_table files name dbf dbt a b h k =
     let none : List IndexSource = [] in
     let plain : Pairwise IsLikeIndex none b.indexes.items = subst (λ (l : List IndexSource). Pairwise IsLikeIndex none l) (sym k.plain) tt in
     record {
       named = h.named ∙ sym k.named;
-      content = one_table k.bytes k.memo a.content b.content content k.content;
+      content = one_content files dbf dbt a.content b.content h.content k.content;
       indexes = subst (λ (l : List IndexSource). Pairwise IsLikeIndex l b.indexes.items) (sym h.plain) plain;
     }
 
 like_index : (files : List NamedFile) (name ndx : List ℕ) (a b : IndexSource) → IsIndexRead (Some files) name ndx a → IsIndexRead (Some files) name ndx b → IsLikeIndex a b
 like_index files name ndx a b h k =
-    let bytes : h.bytes ≡ k.bytes = one_file files ndx h.bytes k.bytes h.found k.found in
-    let content : IsIndex k.bytes a.file.expr a.file.key_len a.file.pairs.pairs = subst (λ (l : List ℕ). IsIndex l a.file.expr a.file.key_len a.file.pairs.pairs) bytes h.content in
-    record { named = h.named ∙ sym k.named; text = (same_index k.bytes a.file.expr b.file.expr a.file.key_len b.file.key_len a.file.pairs.pairs b.file.pairs.pairs content k.content).0 }
+    let x = h.content in
+    let y = k.content in
+    let bytes : x.bytes ≡ y.bytes = one_file files ndx x.bytes y.bytes x.found y.found in
+    let index : IsIndex y.bytes a.file.expr a.file.key_len a.file.pairs.pairs = subst (λ (l : List ℕ). IsIndex l a.file.expr a.file.key_len a.file.pairs.pairs) bytes x.is in
+    record { named = h.named ∙ sym k.named; text = (same_index y.bytes a.file.expr b.file.expr a.file.key_len b.file.key_len a.file.pairs.pairs b.file.pairs.pairs index y.is).0 }
 
 one_more_alike : (i j : IndexSource) (t u s r : TableSource) → IsLikeIndex i j → IsLikeTable t u → HasOneMore i t s → HasOneMore j u r → IsLikeTable s r
 one_more_alike i j t u s r index like h k =
@@ -290,24 +296,22 @@ memo_still : (files later : List NamedFile) (path memo : Option (List ℕ)) → 
 memo_still files later None memo still h = h
 memo_still files later (Some path) memo still h = (h.0, still path h.0 h.1, h.2)
 
+content_still : (files later : List NamedFile) (dbf : List ℕ) (dbt : Option (List ℕ)) (table : Table) → HaveStill files later → IsTableOfFiles (Some files) dbf dbt table → IsTableOfFiles (Some later) dbf dbt table
+content_still files later dbf dbt table still t = record {
+  bytes = t.bytes;
+  memo = t.memo;
+  found = still dbf t.bytes t.found;
+  memo_found = memo_still files later dbt t.memo still t.memo_found;
+  is = t.is;
+}
+
 loads_still : (files later : List NamedFile) (entry : SetupEntry) (a b : Read) → HaveStill files later → Loads (Some files) entry a b → Loads (Some later) entry a b
 loads_still files later (OfTable name dbf dbt) a b still h =
-    let t = h.1 in (
-      h.0,
-      record {
-        bytes = t.bytes;
-        memo = t.memo;
-        found = still dbf t.bytes t.found;
-        memo_found = memo_still files later dbt t.memo still t.memo_found;
-        content = t.content;
-        named = t.named;
-        plain = t.plain;
-      },
-      h.2,
-    )
+    let t = h.1 in
+    (h.0, record { content = content_still files later dbf dbt h.0.content still t.content; named = t.named; plain = t.plain }, h.2)
 loads_still files later (OfIndex table name ndx) a b still h =
     let x = h.1 in
-    (h.0, record { bytes = x.bytes; found = still ndx x.bytes x.found; content = x.content; named = x.named }, h.2, h.3)
+    (h.0, record { content = record { bytes = x.content.bytes; found = still ndx x.content.bytes x.content.found; is = x.content.is }; named = x.named }, h.2, h.3)
 loads_still files later (Station script) a b still h = (h.0, still script h.0 h.1, h.2)
 
 load_all_still : (files later : List NamedFile) (entries : List SetupEntry) (a b : Read) → HaveStill files later → LoadAll (Some files) entries a b → LoadAll (Some later) entries a b

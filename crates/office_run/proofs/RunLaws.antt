@@ -1,26 +1,21 @@
--- What workers do line by line, and one worker more.
-use Rattle.std.proofs.Common.{◌≡◌, ◌⊎◌, ℕ, zero, suc, ◌+◌, ◌-◌, ◌<◌, ◌≤◌, List, [], ◌∷◌, ◌++◌, length, map, take, Some, refl, ap, sym, subst, ◌∙◌, inl, inr, ⊎_elim, arith, length-append, zero-le}
-use Rattle.std.specs.Prelude.{slice_get, option_map, All, Result, IfErr}
+-- What workers do line by line.
+use Rattle.std.proofs.Common.{◌≡◌, ◌⊎◌, ℕ, zero, suc, ◌+◌, ◌-◌, ◌<◌, ◌≤◌, List, [], ◌∷◌, ◌++◌, length, take, Some, refl, ap, sym, subst, ◌∙◌, inl, inr, ⊎_elim, arith, length-append, zero-le}
+use Rattle.std.specs.Prelude.{slice_get, Result, Ok, Err, OnErr}
 use mathlib.Core.List.{IsPrefix}
-use Rattle.std.proofs.lemmas.Bool.{cases_lt}
-use Rattle.std.proofs.lemmas.List.{append-nil, append_assoc, length-map, take-append-le, take_all}
-use Rattle.std.proofs.lemmas.Option.{slice_get-map, slice_get_within, get_or_from_slice_get}
-use Rattle.catalogue_core.specs.declared.entry.Entry.{Entry}
+use Rattle.std.proofs.lemmas.List.{append-nil, append_assoc, take-append-le, take_all}
+use Rattle.std.proofs.lemmas.Option.{slice_get_within}
 use Rattle.shared_catalogue.specs.declared.receipt.Receipt.{Receipt}
-use Rattle.shared_catalogue.specs.declared.settle.SettleFault.{SettleFault}
-use Rattle.shared_catalogue.specs.declared.settle.SettleFault.TheVariants.{SeatMissing}
-use Rattle.shared_catalogue.specs.OwnCalls.{of_station}
+use Rattle.shared_catalogue.specs.OwnCalls.{receipt}
 use Rattle.catalogue_core.specs.declared.answer.Answer.{Answer}
+use Rattle.catalogue_core.specs.declared.command.Command.{Command}
 use Rattle.catalogue_core.specs.declared.status.StatusRow.{StatusRow}
-use Rattle.catalogue_core.specs.Replay.{Opened, history}
 use Rattle.shared_catalogue.specs.RowLaws.{last_numbered, last_row_at}
-use Rattle.shared_catalogue.specs.Seats.{Seated, seated, new_seats, IsLowestMissing, IsOwn, AgreesWith}
-use Rattle.shared_catalogue.specs.StatusRows.{status_rows, last_row, calls_of, opening_row, IsToldOfCall}
-use Rattle.station_lines.specs.declared.script.line.Line.TheVariants.{Blank}
-use Rattle.office_run.specs.declared.run_fault.RunFault.{RunFault}
-use Rattle.office_run.specs.RunFaults.{IsFaultOfRun}
-use Rattle.office_run.specs.Reports.{Shown, answered, status, SessionValue, new_session, meaning_of, shown_line, receipt_in, receipts_of, answers_of, IsShownFor, IsRowIn, AreShownIn, IsShownAt, IsWithShown, HasShown, HasRun, HaveRun, AreSeatsInOrder, AreReports}
-use Rattle.station_lines.specs.Script.Lines.{BeginsWithLine}
+use Rattle.shared_catalogue.specs.Seats.{Seated}
+use Rattle.shared_catalogue.specs.StatusRows.{last_row, calls_of, IsToldOfCall}
+use Rattle.station_lines.specs.declared.script.line.Line.{Line}
+use Rattle.station_lines.specs.declared.script.line.Line.TheVariants.{Blank, Run}
+use Rattle.office_run.specs.Reports.{Shown, answered, status, SessionValue, new_session, meaning_of, shown_line, receipt_in, receipts_of, answers_of, AreShown, AreFirstLines, IsLeftAt, HasBegun, IsRowIn, AreShownIn, IsShownAt, IsWithShown, HasShown, HasRun}
+use Rattle.station_lines.specs.Script.Lines.{AreLines, BeginsWithLine}
 use Rattle.station_lines.specs.Script.Meaning.{Means}
 
 -- ---- line by line
@@ -33,12 +28,30 @@ answers_of-push : (xs : List Shown) (x : Shown) → answers_of (xs ++ x ∷ []) 
 answers_of-push [] x = append-nil (shown_line x)
 answers_of-push (y ∷ ys) x = ap (λ (l : List ℕ). shown_line y ++ l) (answers_of-push ys x) ∙ sym (append_assoc (shown_line y) (answers_of ys) (shown_line x))
 
-blank_first : (script line rest : List ℕ) (more : List Shown) → BeginsWithLine script line rest → Means line Blank → IsShownFor rest more → IsShownFor script more
-blank_first script line rest [] begins blank h = (line ∷ h.0, (rest, begins, h.1), (blank, h.2))
-blank_first script line rest (x ∷ xs) begins blank h = (line ∷ h.0, (rest, begins, h.1), inl (blank, h.2))
+lines-push : (lines : List (List ℕ)) (script rest line after : List ℕ) → AreFirstLines lines script rest → BeginsWithLine rest line after → AreFirstLines (lines ++ line ∷ []) script after
+lines-push [] script rest line after e begins = (after, subst (λ (l : List ℕ). BeginsWithLine l line after) (sym e) begins, refl)
+lines-push (l ∷ ls) script rest line after h begins = (h.0, h.1, lines-push ls h.0 rest line after h.2 begins)
 
-shown_first : (script line rest : List ℕ) (x : Shown) (more : List Shown) → BeginsWithLine script line rest → Means line (meaning_of x) → IsShownFor rest more → IsShownFor script (x ∷ more)
-shown_first script line rest x more begins means h = (line ∷ h.0, (rest, begins, h.1), inr (means, h.2))
+blank-push : (lines : List (List ℕ)) (xs : List Shown) (line : List ℕ) → AreShown lines xs → Means line Blank → AreShown (lines ++ line ∷ []) xs
+blank-push [] [] line h blank = (blank, tt)
+blank-push [] (y ∷ ys) line h blank = absurd h
+blank-push (l ∷ ls) [] line h blank = (h.0, blank-push ls [] line h.1 blank)
+blank-push (l ∷ ls) (y ∷ ys) line h blank = ⊎_elim (λ a. inl (a.0, blank-push ls (y ∷ ys) line a.1 blank)) (λ a. inr (a.0, blank-push ls ys line a.1 blank)) h
+
+shown-push : (lines : List (List ℕ)) (xs : List Shown) (line : List ℕ) (x : Shown) → AreShown lines xs → Means line (meaning_of x) → AreShown (lines ++ line ∷ []) (xs ++ x ∷ [])
+shown-push [] [] line x h means = inr (means, tt)
+shown-push [] (y ∷ ys) line x h means = absurd h
+shown-push (l ∷ ls) [] line x h means = inl (h.0, shown-push ls [] line x h.1 means)
+shown-push (l ∷ ls) (y ∷ ys) line x h means = ⊎_elim (λ a. inl (a.0, shown-push ls (y ∷ ys) line x a.1 means)) (λ a. inr (a.0, shown-push ls ys line x a.1 means)) h
+
+-- the first lines with nothing after them are all
+all_lines : (lines : List (List ℕ)) (script : List ℕ) → AreFirstLines lines script [] → AreLines lines script
+all_lines [] script e = e
+all_lines (l ∷ ls) script h = (h.0, h.1, all_lines ls h.0 h.2)
+
+pub lines_first : (lines : List (List ℕ)) (script : List ℕ) → AreLines lines script → AreFirstLines lines script []
+lines_first [] script e = e
+lines_first (l ∷ ls) script h = (h.0, h.1, lines_first ls h.0 h.2)
 
 -- ---- the rows that are shown
 
@@ -110,16 +123,26 @@ told_later old new station answer t = (t.0 ++ t.1 ∷ [], sym (append_assoc old 
 
 -- ---- the front of a script
 
+-- this is shown for the first lines of the script, up to the rest
+abbrev IsShownTo : List ℕ → List ℕ → List Shown → Type 0
+IsShownTo rest script shown = (lines : List (List ℕ)) × AreFirstLines lines script rest × AreShown lines shown
+
 -- the session has shown what belongs to the front of the script, up to the rest
 abbrev pub IsUpTo : List ℕ → Seated → List ℕ → SessionValue → Type 0
-IsUpTo rest seat script s = (shown : List Shown) × HasShown seat shown s × ((more : List Shown) → IsShownFor rest more → IsShownFor script (shown ++ more))
+IsUpTo rest seat script s = (shown : List Shown) × HasShown seat shown s × IsShownTo rest script shown
 
 pub up_to_start : (z : Seated) (script : List ℕ) → IsUpTo script z script (new_session z)
-up_to_start z script = ([], record { rows = tt; station_is = refl; counted = zero-le; receipts = sym (append-nil z.receipts); answers = refl }, λ more h. h)
+up_to_start z script = ([], record { rows = tt; station_is = refl; counted = zero-le; receipts = sym (append-nil z.receipts); answers = refl }, ([], refl, tt))
+
+to_blank : (rest line after script : List ℕ) (shown : List Shown) → IsShownTo rest script shown → BeginsWithLine rest line after → Means line Blank → IsShownTo after script shown
+to_blank rest line after script shown h begins blank = (h.0 ++ line ∷ [], lines-push h.0 script rest line after h.1 begins, blank-push h.0 shown line h.2 blank)
+
+to_shown : (rest line after script : List ℕ) (shown : List Shown) (x : Shown) → IsShownTo rest script shown → BeginsWithLine rest line after → Means line (meaning_of x) → IsShownTo after script (shown ++ x ∷ [])
+to_shown rest line after script shown x h begins means = (h.0 ++ line ∷ [], lines-push h.0 script rest line after h.1 begins, shown-push h.0 shown line x h.2 means)
 
 pub up_to_blank : (rest line after : List ℕ) (z : Seated) (script : List ℕ) (s : SessionValue) → IsUpTo rest z script s → BeginsWithLine rest line after
     → Means line Blank → IsUpTo after z script s
-up_to_blank rest line after z script s up begins blank = (up.0, up.1, λ more h. up.2 more (blank_first rest line after more begins blank h))
+up_to_blank rest line after z script s up begins blank = (up.0, up.1, to_blank rest line after script up.0 up.2 begins blank)
 
 pub up_to_shown : (rest line after : List ℕ) (z : Seated) (script : List ℕ) (s t : SessionValue) (x : Shown) → IsUpTo rest z script s
     → BeginsWithLine rest line after → Means line (meaning_of x) → IsWithShown s x t → IsUpTo after z script t
@@ -137,90 +160,40 @@ up_to_shown rest line after z script s t x up begins means with =
         receipts = with.receipts ∙ (ap (λ (l : List Receipt). l ++ receipt_in x) had.receipts ∙ (append_assoc z.receipts own (receipt_in x) ∙ ap (λ (l : List Receipt). z.receipts ++ l) (sym all)));
         answers = with.answers ∙ ap (λ (l : List ℕ). l ++ shown_line x) up.1.answers ∙ sym (answers_of-push up.0 x);
       },
-      λ more h. subst (IsShownFor script) (sym (append_assoc up.0 (x ∷ []) more)) (up.2 (x ∷ more) (shown_first rest line after x more begins means h)),
+      to_shown rest line after script up.0 x up.2 begins means,
     )
 
 pub up_to_end : (z : Seated) (script : List ℕ) (s : SessionValue) → IsUpTo [] z script s → HasRun z script s
-up_to_end z script s up = (up.0, subst (IsShownFor script) (append-nil up.0) (up.2 [] ([], refl, tt)), up.1)
+up_to_end z script s up = (up.0, (up.2.0, all_lines up.2.0 script up.2.1, up.2.2), up.1)
 
--- ---- one worker more
+-- a worker that was stopped before a line has begun its script
+pub up_to_begun : (rest : List ℕ) (z : Seated) (script : List ℕ) (s : SessionValue) → IsUpTo rest z script s → HasBegun z script s.seat
+up_to_begun rest z script s up = record { shown = up.0; for_first = (up.2.0, rest, up.2.1, up.2.2); station_is = up.1.station_is; receipts = up.1.receipts }
 
-at_push : {A : Type 0} (xs : List A) (x y : A) (i : ℕ) → slice_get (xs ++ x ∷ []) i ≡ Some y → ((i < length xs) × (slice_get xs i ≡ Some y)) ⊎ ((i ≡ length xs) × (x ≡ y))
-at_push [] x y zero e = inr (refl, cc)
-at_push [] x y (suc i) e = absurd (cc)
-at_push (z ∷ zs) x y zero e = inl (omega arith, e)
-at_push (z ∷ zs) x y (suc i) e = ⊎_elim (λ h. inl (let l = h.0 in omega arith, h.1)) (λ h. inr (ap suc h.0, h.1)) (at_push zs x y i e)
+-- a command was performed, and its answer was not shown
+pub left_answered : (old new : SessionValue) (command : Command) (answer : Answer) → new.seat.station ≡ old.seat.station → new.seat.receipts ≡ old.seat.receipts ++ receipt command answer ∷ [] → IsLeftAt old (Run command) new
+left_answered old new command answer same more = record { station = same; receipts = inr (answered (receipt command answer), refl, more) }
 
-pub get_front : {A : Type 0} (xs ys : List A) (i : ℕ) (x : A) → slice_get xs i ≡ Some x → slice_get (xs ++ ys) i ≡ Some x
-get_front [] ys i x e = absurd (cc)
-get_front (z ∷ zs) ys zero x e = e
-get_front (z ∷ zs) ys (suc i) x e = get_front zs ys i x e
-
-pub get_last : {A : Type 0} (xs : List A) (x : A) (i : ℕ) → i ≡ length xs → slice_get (xs ++ x ∷ []) i ≡ Some x
-get_last [] x zero e = refl
-get_last [] x (suc i) e = absurd (omega arith)
-get_last (z ∷ zs) x zero e = absurd (omega arith)
-get_last (z ∷ zs) x (suc i) e = get_last zs x i (omega arith)
-
-pub have_run-push : (scripts : List (List ℕ)) (zs : List Seated) (z : Seated) (ss : List SessionValue) (s : SessionValue) (script : List ℕ) (n : ℕ)
-    → HaveRun scripts zs ss → length zs ≡ n → length ss ≡ n → slice_get scripts n ≡ Some script → HasRun z script s → HaveRun scripts (zs ++ z ∷ []) (ss ++ s ∷ [])
-have_run-push scripts zs z ss s script n ran many same there has i y at =
+-- and so has one that was stopped at a line, whether its command was performed or not
+pub up_to_left : (rest line after : List ℕ) (z : Seated) (script : List ℕ) (s t : SessionValue) (l : Line) → IsUpTo rest z script s → BeginsWithLine rest line after → Means line l → IsLeftAt s l t → HasBegun z script t.seat
+up_to_left rest line after z script s t l up begins means left =
+    let had = up.1 in
+    let station : t.seat.station ≡ z.station = left.station ∙ had.station_is in
     ⊎_elim
-    (λ (old : (i < length zs) × (slice_get zs i ≡ Some y)). let r = ran i y old.1 in (r.0, r.1, get_front ss (s ∷ []) i r.0 r.2, r.3, r.4))
-    (λ (new : (i ≡ length zs) × (z ≡ y)). let e = new.0 in let k : i ≡ length ss = omega arith in let at_n : n ≡ i = omega arith in
-    (s, script, get_last ss s i k, subst (λ (j : ℕ). slice_get scripts j ≡ Some script) at_n there, subst (λ (w : Seated). HasRun w script s) new.1 has))
-    (at_push zs z y i at)
+    (λ (same : t.seat.receipts ≡ s.seat.receipts). record { shown = up.0; for_first = (up.2.0, rest, up.2.1, up.2.2); station_is = station; receipts = same ∙ had.receipts })
+    (λ (more : (x : Shown) × (meaning_of x ≡ l) × (t.seat.receipts ≡ s.seat.receipts ++ receipt_in x)).
+    let x = more.0 in
+    let own = receipts_of up.0 in
+    let to = to_shown rest line after script up.0 x up.2 begins (subst (Means line) (sym more.1) means) in
+    record {
+      shown = up.0 ++ x ∷ [];
+      for_first = (to.0, after, to.1, to.2);
+      station_is = station;
+      receipts = more.2 ∙ (ap (λ (r : List Receipt). r ++ receipt_in x) had.receipts ∙ (append_assoc z.receipts own (receipt_in x) ∙ ap (λ (r : List Receipt). z.receipts ++ r) (sym (receipts_of-push up.0 x))));
+    })
+    left.receipts
 
--- what the sessions did is what is reported, once their seats' receipts are the entries of the journal
-pub reports : (opened : Opened) (journal : List Entry) (scripts : List (List ℕ)) (zs : List Seated) (ss : List SessionValue) (answers : List (List ℕ))
-    → AreSeatsInOrder opened.stations zs → HaveRun scripts zs ss → length ss ≡ length zs → answers ≡ map (λ s. s.answers) ss → All (IsOwn journal) (map (λ s. s.seat) ss)
-    → All (AgreesWith (status_rows (history opened journal))) (map (λ s. s.seat) ss)
-    → AreReports opened journal scripts answers
-reports opened journal scripts zs ss answers order ran many texts own agree = record {
-  count = ap length texts ∙ length-map ss (λ (s : SessionValue). s.answers) ∙ many ∙ order.0;
-  each = λ i low.
-      let at = order.1 i low in
-      let r = ran i at.0 at.1 in
-      let s = r.0 in
-      let has = r.4 in
-      let text : slice_get answers i ≡ Some s.answers = ap (λ (l : List (List ℕ)). slice_get l i) texts ∙ (slice_get-map (λ (x : SessionValue). x.answers) ss i ∙ ap (option_map (λ (x : SessionValue). x.answers)) r.2) in
-      let rows = status_rows (history opened journal) in
-      let seat : slice_get (map (λ (s : SessionValue). s.seat) ss) i ≡ Some s.seat = slice_get-map (λ (x : SessionValue). x.seat) ss i ∙ ap (option_map (λ (x : SessionValue). x.seat)) r.2 in
-      let seats = map (λ (x : SessionValue). x.seat) ss in
-      let mine_of : AgreesWith rows s.seat = subst (AgreesWith rows) (get_or_from_slice_get seats i s.seat s.seat seat) (agree i s.seat (slice_get_within seats i s.seat seat)) in
-      let entries : IsOwn journal s.seat = subst (IsOwn journal) (get_or_from_slice_get seats i s.seat s.seat seat) (own i s.seat (slice_get_within seats i s.seat seat)) in
-      let station : s.seat.station ≡ i + 1 = has.2.station_is ∙ at.2 in
-      let receipts : s.seat.receipts ≡ receipts_of has.0 = has.2.receipts ∙ ap (λ (l : List Receipt). l ++ receipts_of has.0) at.3 in
-      let shown : AreShownIn rows (i + 1) 0 0 has.0 = subst (λ (n : ℕ). AreShownIn rows n 0 0 has.0) at.2 (shown_in-more s.seat.rows rows at.0.station 0 0 has.0 mine_of.0 has.2.rows) in
-      (r.1, s.answers, r.3, text, record { shown = has.0; for_script = has.1; rows = shown; own = sym receipts ∙ (entries ∙ ap (of_station journal) station); lines = has.2.answers });
-}
-
--- each station has its seat after a run
-pub all_seated : (opened : Opened) (scripts : List (List ℕ)) (zs : List Seated) (ss : List SessionValue) → AreSeatsInOrder opened.stations zs → HaveRun scripts zs ss
-    → (station : ℕ) → IsLowestMissing (map (λ s. s.seat) ss) opened.stations station → ⊥
-all_seated opened scripts zs ss order ran station missing =
-    let i = station - 1 in
-    let at = order.1 i (omega (arith, missing.0, missing.1)) in
-    let r = ran i at.0 at.1 in
-    let seat : slice_get (map (λ (s : SessionValue). s.seat) ss) i ≡ Some r.0.seat = slice_get-map (λ (x : SessionValue). x.seat) ss i ∙ ap (option_map (λ (x : SessionValue). x.seat)) r.2 in
-    let number : r.0.seat.station ≡ station = omega (arith, r.4.2.station_is, at.2, missing.0) in
-    missing.2 (i, r.0.seat, slice_get_within (map (λ (s : SessionValue). s.seat) ss) i r.0.seat seat, get_or_from_slice_get (map (λ (s : SessionValue). s.seat) ss) i r.0.seat r.0.seat seat, number)
-
--- so no run ends because it is not settled
-pub none_unsettled : {T : Type 0} (r : Result T RunFault) (opened : Opened) (seats : List Seated) (fault : SettleFault) → ((station : ℕ) → fault ≡ SeatMissing station → IsLowestMissing seats opened.stations station)
-    → ((station : ℕ) → IsLowestMissing seats opened.stations station → ⊥) → IfErr r (IsFaultOfRun opened)
-none_unsettled r opened seats (SeatMissing station) missing none = absurd (none station (missing station refl))
-
--- new seats are in order
-pub in_order : (n : ℕ) → AreSeatsInOrder n (new_seats n)
-in_order zero = (refl, λ i low. absurd (omega arith))
-in_order (suc n) =
-    let below = in_order n in
-    let last = seated (n + 1) 0 (opening_row ∷ []) [] 0 in
-    let many = below.0 in (
-      omega (arith, length-append (new_seats n) (last ∷ [])),
-      λ i low. ⊎_elim
-          (λ (l : i < n). let h = below.1 i l in let r : (z : Seated) × (slice_get (new_seats (suc n)) i ≡ Some z) × (z.station ≡ i + 1) × (z.receipts ≡ []) = (h.0, get_front (new_seats n) (last ∷ []) i h.0 h.1, h.2, h.3) in r)
-          (λ (l : n ≤ i). let k : i ≡ length (new_seats n) = omega arith in let e : n + 1 ≡ i + 1 = omega arith in let r : (z : Seated) × (slice_get (new_seats (suc n)) i ≡ Some z) × (z.station ≡ i + 1) × (z.receipts ≡ []) = (last, get_last (new_seats n) last i k, e, refl) in r)
-          (cases_lt i n),
-    )
+-- what holds at an end is so at an error
+pub on_err : {T E : Type 0} (r : Result T E) (P : Type 0) → P → OnErr r P
+on_err (Ok x) P p = tt
+on_err (Err y) P p = p

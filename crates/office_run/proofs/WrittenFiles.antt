@@ -31,7 +31,7 @@ use Rattle.ndx_index.specs.Index.{HaveLength}
 use Rattle.table_order.specs.Laws.Given.{order_own}
 use Rattle.ndx_index.specs.Laws.Lists.{all_weaker}
 use Rattle.table_order.specs.Laws.RecordOrders.{length-order}
-use Rattle.ndx_index.specs.Laws.Sorting.{all-placed, IsPermutation-in_order}
+use Rattle.ndx_index.specs.Laws.Sorting.{all-with_pair, IsPermutation-in_order}
 use Rattle.ndx_index.specs.Order.{in_order}
 use Rattle.table_order.specs.TableOrder.{pairs_from, pairs_of, order, IsRecordPair}
 use Rattle.ndx_index.proofs.ImageLaw.{written_reads}
@@ -110,7 +110,7 @@ pairs_long fields (r ∷ rs) e number kept h = (key_long fields r.cells e kept h
 
 all_in_order : (P : Pair → Type 0) (ps : List Pair) → AllByRecursion P ps → AllByRecursion P (in_order ps)
 all_in_order P [] h = tt
-all_in_order P (p ∷ ps) h = all-placed P p (in_order ps) h.0 (all_in_order P ps h.1)
+all_in_order P (p ∷ ps) h = all-with_pair P p (in_order ps) h.0 (all_in_order P ps h.1)
 
 -- ---- an index
 

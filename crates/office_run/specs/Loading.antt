@@ -1,19 +1,18 @@
 -- What is read for a run: the files that the entries of a setup name.
-use Rattle.std.specs.Prelude.{◌≡◌, ◌≢◌, ◌⊎◌, ℕ, List, [], ◌∷◌, ◌++◌, Option, Some, None, IsSome, bytes_eq, slice_get, slice_set, take}
+use Rattle.std.specs.Prelude.{◌≡◌, ◌≢◌, ◌⊎◌, ℕ, List, [], ◌∷◌, ◌++◌, Option, Some, None, Result, Ok, Err, IsSome, bytes_eq, slice_get, slice_set, take}
 use Rattle.std.specs.List.{position}
-use Rattle.dbf_image.specs.declared.fault.ImageFault.{ImageFault}
-use Rattle.dbf_image.specs.declared.fault.ImageFault.TheVariants.{NoMemory as NoRoomForImage}
-use Rattle.dbf_image.specs.DbfText.{IsDbf}
-use Rattle.dbf_image.specs.Reading.{IsImageRefusal}
 use Rattle.byte_io.specs.Sink.{Rises}
-use Rattle.ndx_index.specs.declared.fault.NdxFault.{NdxFault}
-use Rattle.ndx_index.specs.declared.fault.NdxFault.TheVariants.{NoMemory as NoRoomForIndex}
-use Rattle.ndx_index.specs.Header.{IsIndex, HasNdxFault}
 use Rattle.catalogue_core.specs.declared.source.IndexSource.{IndexSource}
 use Rattle.catalogue_core.specs.declared.source.TableSource.{TableSource}
 use Rattle.folders.specs.declared.named.NamedFile.{NamedFile}
 use Rattle.station_lines.specs.declared.setup.entry.SetupEntry.{SetupEntry}
 use Rattle.station_lines.specs.declared.setup.entry.SetupEntry.TheVariants.{Table, Index, Station}
+use Rattle.setup_files.specs.declared.content.EntryContent.{EntryContent}
+use Rattle.setup_files.specs.declared.fault.EntryFault.{EntryFault}
+use Rattle.setup_files.specs.declared.fault.EntryFault.TheVariants.{Unloaded, UnloadedMemos, NoTable, NoIndex}
+use Rattle.setup_files.specs.declared.fault.LoadRefusal.{LoadRefusal}
+use Rattle.setup_files.specs.declared.fault.LoadRefusal.TheVariants as refusal
+use Rattle.setup_files.specs.EntryFiles.{IsIndexOfFile, IsRefusalOf, IsTableOfFiles, refused_path}
 use Rattle.office_run.specs.declared.fault.FileFault.{FileFault}
 use Rattle.office_run.specs.declared.fault.FileFault.TheVariants.{CannotRead, Unrecovered, Image, Ndx}
 use Rattle.office_run.specs.declared.fault.ServeFault.{ServeFault}
@@ -38,26 +37,15 @@ nothing = read_as [] []
 abbrev pub read_of : Loaded → Read
 read_of loaded = read_as loaded.tables.items loaded.scripts.items
 
--- the bytes of a memo file, where one is named
-abbrev pub IsMemoFileOf : Option (List NamedFile) → Option (List ℕ) → Option (List ℕ) → Type 0
-IsMemoFileOf files None memo = memo ≡ None
-IsMemoFileOf files (Some path) memo = (bytes : List ℕ) × IsFileOf files path bytes × (memo ≡ Some bytes)
-
 -- the table is that of its two files, under its name and without indexes
 pub record IsTableRead (files : Option (List NamedFile)) (name dbf : List ℕ) (dbt : Option (List ℕ)) (table : TableSource) : Type 0 where
-  pub bytes : List ℕ
-  pub memo : Option (List ℕ)
-  pub found : IsFileOf files dbf bytes
-  pub memo_found : IsMemoFileOf files dbt memo
-  pub content : IsDbf bytes memo table.content
+  pub content : IsTableOfFiles files dbf dbt table.content
   pub named : table.name ≡ name
   pub plain : table.indexes.items ≡ []
 
 -- the index is that of its file, under its name
 pub record IsIndexRead (files : Option (List NamedFile)) (name ndx : List ℕ) (index : IndexSource) : Type 0 where
-  pub bytes : List ℕ
-  pub found : IsFileOf files ndx bytes
-  pub content : IsIndex bytes index.file.expr index.file.key_len index.file.pairs.pairs
+  pub content : IsIndexOfFile files ndx index.file
   pub named : index.name ≡ name
 
 -- the same table with one more index
@@ -109,38 +97,32 @@ IsUnloaded files path fault = ⊥
 abbrev pub IsFileFault : Option (List NamedFile) → List ℕ → ServeFault → Type 0
 IsFileFault files path fault = (fault ≡ NoMemory) ⊎ ((why : FileFault) × IsUnloaded files path why × (fault ≡ File path why))
 
--- a memo file is named of which no bytes are had, or memory is refused
-abbrev pub IsMemoFault : Option (List NamedFile) → Option (List ℕ) → ServeFault → Type 0
-IsMemoFault files dbt fault = (fault ≡ NoMemory) ⊎ ((path : List ℕ) × (dbt ≡ Some path) × (why : FileFault) × IsUnloaded files path why × (fault ≡ File path why))
+-- what a run says of a file of which no bytes are had
+abbrev pub load_fault : LoadRefusal → FileFault
+load_fault refusal.CannotRead = CannotRead
+load_fault refusal.Unrecovered = Unrecovered
 
--- the bytes of the file of this path are refused as a table's, with these memos, or memory is
-abbrev pub IsTableFault : List ℕ → List ℕ → Option (List ℕ) → ServeFault → Type 0
-IsTableFault path bytes memo fault =
-    (fault ≡ NoMemory)
-    ⊎ ((why : ImageFault) × (why ≢ NoRoomForImage) × IsImageRefusal why bytes memo × (fault ≡ File path (Image why)))
+-- and of the files of an entry that are refused
+abbrev pub file_fault : EntryFault → FileFault
+file_fault (Unloaded why) = load_fault why
+file_fault (UnloadedMemos why) = load_fault why
+file_fault (NoTable bad numbers) = Image bad.why
+file_fault (NoIndex bad numbers) = Ndx bad.why
 
--- the bytes of the file of this path are refused as an index's, or memory is
-abbrev pub IsIndexFault : List ℕ → List ℕ → ServeFault → Type 0
-IsIndexFault path bytes fault =
-    (fault ≡ NoMemory)
-    ⊎ ((why : NdxFault) × (why ≢ NoRoomForIndex) × HasNdxFault bytes why × (fault ≡ File path (Ndx why)))
-
--- the entry names the path; of a table's two files the DBF is loaded first, and the DBT only where it was found
-abbrev pub IsPathIn : Option (List NamedFile) → SetupEntry → List ℕ → Type 0
-IsPathIn files (Table name dbf None) path = path ≡ dbf
-IsPathIn files (Table name dbf (Some dbt)) path = (path ≡ dbf) ⊎ ((path ≡ dbt) × (bytes : List ℕ) × IsFileOf files dbf bytes)
-IsPathIn files (Index table name ndx) path = path ≡ ndx
-IsPathIn files (Station script) path = path ≡ script
-
--- the reader of the entry's files refuses them, or no bytes are had of a file that the entry names
+-- the files of the entry are refused, and the fault says why, and of which path
 abbrev pub IsUnread : Option (List NamedFile) → SetupEntry → List ℕ → FileFault → Type 0
-IsUnread files entry path CannotRead = IsPathIn files entry path × IsUnloaded files path CannotRead
-IsUnread files entry path Unrecovered = IsPathIn files entry path × IsUnloaded files path Unrecovered
-IsUnread files (Table name dbf dbt) path (Image fault) =
-    (path ≡ dbf) × (fault ≢ NoRoomForImage) × (bytes : List ℕ) × (memo : Option (List ℕ)) × IsFileOf files dbf bytes × IsMemoFileOf files dbt memo × IsImageRefusal fault bytes memo
-IsUnread files (Index table name ndx) path (Ndx fault) =
-    (path ≡ ndx) × (fault ≢ NoRoomForIndex) × (bytes : List ℕ) × IsFileOf files ndx bytes × HasNdxFault bytes fault
-IsUnread files entry path fault = ⊥
+IsUnread files entry path fault = (why : EntryFault) × IsRefusalOf files entry why × (path ≡ refused_path entry why) × (fault ≡ file_fault why)
+
+-- the fault of an entry whose files are refused
+abbrev pub refusal_told : SetupEntry → Result EntryContent EntryFault → Option ServeFault
+refusal_told entry (Ok content) = None
+refusal_told entry (Err fault) = Some (File (refused_path entry fault) (file_fault fault))
+
+-- the fault of the first of some entries whose files are refused
+abbrev pub first_refused : List SetupEntry → List (Result EntryContent EntryFault) → Option ServeFault
+first_refused (entry ∷ entries) (Ok content ∷ reads) = first_refused entries reads
+first_refused (entry ∷ entries) (Err fault ∷ reads) = refusal_told entry (Err fault)
+first_refused entries reads = None
 
 -- why an entry is not loaded: a file that is not read, or want of memory
 abbrev pub IsEntryFault : Option (List NamedFile) → SetupEntry → ServeFault → Type 0

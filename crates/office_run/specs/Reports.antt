@@ -1,7 +1,9 @@
 -- What stations are shown for the lines of their scripts.
-use Rattle.std.specs.Prelude.{◌≡◌, ◌⊎◌, ℕ, ◌+◌, ◌<◌, ◌≤◌, List, [], ◌∷◌, ◌++◌, length, take, slice_get, Some}
+use Rattle.std.specs.Prelude.{◌≡◌, ◌⊎◌, ℕ, ◌+◌, ◌<◌, ◌≤◌, List, [], ◌∷◌, ◌++◌, length, take, slice_get, Option, Some, None, Result, Ok, Err, MatchResult}
+use Rattle.std.specs.Option.{option_or}
 use mathlib.Core.List.{IsPrefix}
 use Rattle.catalogue_core.specs.declared.answer.Answer.{Answer}
+use Rattle.catalogue_core.specs.declared.catalogue.Stop.{Stop}
 use Rattle.catalogue_core.specs.declared.command.Command.{Command}
 use Rattle.catalogue_core.specs.declared.entry.Entry.{Entry}
 use Rattle.shared_catalogue.specs.declared.receipt.Receipt.{Receipt}
@@ -14,7 +16,7 @@ use Rattle.station_lines.specs.declared.script.format.TheConstants.{LF}
 use Rattle.station_lines.specs.declared.script.line.Line.{Line}
 use Rattle.station_lines.specs.declared.script.line.Line.TheVariants.{Run, Status, Blank}
 use Rattle.station_lines.specs.AnswerLines.{line_of, status_text}
-use Rattle.station_lines.specs.Script.Lines.{AreLines}
+use Rattle.station_lines.specs.Script.Lines.{AreLines, BeginsWithLine}
 use Rattle.station_lines.specs.Script.Meaning.{Means}
 
 -- what a station is shown for a line: what its command was answered, or a status row
@@ -56,6 +58,15 @@ AreShown (line ∷ lines) (x ∷ xs) = (Means line Blank × AreShown lines (x �
 -- this is shown for the lines of a script
 abbrev pub IsShownFor : List ℕ → List Shown → Type 0
 IsShownFor script shown = (lines : List (List ℕ)) × AreLines lines script × AreShown lines shown
+
+-- the script begins with these lines, and this stands after them
+abbrev pub AreFirstLines : List (List ℕ) → List ℕ → List ℕ → Type 0
+AreFirstLines [] script rest = script ≡ rest
+AreFirstLines (line ∷ lines) script rest = (after : List ℕ) × BeginsWithLine script line after × AreFirstLines lines after rest
+
+-- this is shown for first lines of a script, which may be all or none
+abbrev pub IsShownForFirst : List ℕ → List Shown → Type 0
+IsShownForFirst script shown = (lines : List (List ℕ)) × (rest : List ℕ) × AreFirstLines lines script rest × AreShown lines shown
 
 -- the row stands among these rows, at the index that is its length; it is no shorter than `least`, and up to it the station
 -- has `own` calls at least
@@ -108,6 +119,11 @@ abbrev pub IsWithAnswer : SessionValue → Command → SessionValue → Type 0
 IsWithAnswer old command new =
     (answer : Answer) × IsWithShown old (answered (record { command = command; answer = answer })) new
 
+-- A line was not shown in a session: the seat has the receipts that it had, or that of the line's command too.
+pub record IsLeftAt (old : SessionValue) (line : Line) (new : SessionValue) : Type 0 where
+  pub station : new.seat.station ≡ old.seat.station
+  pub receipts : (new.seat.receipts ≡ old.seat.receipts) ⊎ ((x : Shown) × (meaning_of x ≡ line) × (new.seat.receipts ≡ old.seat.receipts ++ receipt_in x))
+
 -- what was shown up to now in the session of a seat, of the rows that the seat knows now
 pub record HasShown (seat : Seated) (shown : List Shown) (s : SessionValue) : Type 0 where
   pub rows : AreShownIn s.seat.rows seat.station 0 0 shown
@@ -120,11 +136,51 @@ pub record HasShown (seat : Seated) (shown : List Shown) (s : SessionValue) : Ty
 abbrev pub HasRun : Seated → List ℕ → SessionValue → Type 0
 HasRun seat script s = (shown : List Shown) × IsShownFor script shown × HasShown seat shown s
 
--- at each seat's index is its session, which has run the script of that index
-abbrev pub HaveRun : List (List ℕ) → List Seated → List SessionValue → Type 0
-HaveRun scripts seats sessions =
+-- a seat that began as this one has performed the commands of first lines of this script, and no others
+pub record HasBegun (seat : Seated) (script : List ℕ) (now : Seated) : Type 0 where
+  pub shown : List Shown
+  pub for_first : IsShownForFirst script shown
+  pub station_is : now.station ≡ seat.station
+  pub receipts : now.receipts ≡ seat.receipts ++ receipts_of shown
+
+-- what a worker leaves: its seat, and the text of its answer file, or why it was stopped
+pub record EndValue : Type 0 where
+  pub seat : Seated
+  pub answers : Result (List ℕ) Stop
+
+abbrev pub end_of : Seated → Result (List ℕ) Stop → EndValue
+end_of seat answers = record { seat = seat; answers = answers }
+
+-- why the worker of this seat was stopped, where it was
+abbrev pub stop_in : Seated → Result (List ℕ) Stop → Option (ℕ × Stop)
+stop_in seat (Ok text) = None
+stop_in seat (Err stop) = Some (seat.station, stop)
+
+abbrev pub stop_of : EndValue → Option (ℕ × Stop)
+stop_of end = stop_in end.seat end.answers
+
+-- the text of the answer file, which is empty where the worker was stopped
+abbrev pub text_in : Result (List ℕ) Stop → List ℕ
+text_in (Ok text) = text
+text_in (Err stop) = []
+
+abbrev pub text_of : EndValue → List ℕ
+text_of end = text_in end.answers
+
+-- the worker of this seat has run this script, or has run first lines of it and was stopped
+abbrev pub HasEnded : Seated → List ℕ → EndValue → Type 0
+HasEnded seat script end = MatchResult end.answers (λ answers. HasRun seat script (session end.seat answers)) (λ stop. HasBegun seat script end.seat)
+
+-- at each seat's index is the end of its worker, which had the script of that index
+abbrev pub HaveEnded : List (List ℕ) → List Seated → List EndValue → Type 0
+HaveEnded scripts seats ends =
     (i : ℕ) (z : Seated) → slice_get seats i ≡ Some z
-    → (s : SessionValue) × (script : List ℕ) × (slice_get sessions i ≡ Some s) × (slice_get scripts i ≡ Some script) × HasRun z script s
+    → (e : EndValue) × (script : List ℕ) × (slice_get ends i ≡ Some e) × (slice_get scripts i ≡ Some script) × HasEnded z script e
+
+-- the first of these workers that was stopped, and why
+abbrev pub first_stop : List EndValue → Option (ℕ × Stop)
+first_stop [] = None
+first_stop (e ∷ es) = option_or (stop_of e) (first_stop es)
 
 -- the seats are those of the stations 1 to n, in order, and have no receipts yet
 abbrev pub AreSeatsInOrder : ℕ → List Seated → Type 0
@@ -144,6 +200,11 @@ pub record IsReport (opened : Opened) (journal : List Entry) (station : ℕ) (sc
 abbrev pub HasReport : Opened → List Entry → List (List ℕ) → List (List ℕ) → ℕ → Type 0
 HasReport opened journal scripts answers i =
     (script : List ℕ) × (text : List ℕ) × (slice_get scripts i ≡ Some script) × (slice_get answers i ≡ Some text) × IsReport opened journal (i + 1) script text
+
+-- the station of an index has a script, and its entries are the commands and answers of what is shown so for the script
+abbrev pub HasEntriesOf : (List ℕ → List Shown → Type 0) → List Entry → List (List ℕ) → ℕ → Type 0
+HasEntriesOf shows journal scripts i =
+    (script : List ℕ) × (shown : List Shown) × (slice_get scripts i ≡ Some script) × shows script shown × (receipts_of shown ≡ of_station journal (i + 1))
 
 -- each station's answers are the report of its script, and there are as many as stations
 pub record AreReports (opened : Opened) (journal : List Entry) (scripts answers : List (List ℕ)) : Type 0 where

@@ -79,7 +79,7 @@ pub record IsRun (reindex : Bool) (read : Read) (h : History) (answers : List (L
 -- the tables were opened for the stations, and the fault is one of a run over them
 abbrev pub IsOpenedFault : Bool → Read → RunFault → Type 0
 IsOpenedFault reindex read fault =
-    (opened : Opened) × Opening reindex (length read.scripts) read.tables (Ok opened.tables) × (opened.stations ≡ length read.scripts) × IsFaultOfRun opened fault
+    (opened : Opened) × Opening reindex (length read.scripts) read.tables (Ok opened.tables) × (opened.stations ≡ length read.scripts) × IsFaultOfRun opened read.scripts fault
 
 -- why there is no end
 abbrev pub IsRunFault : Bool → Read → ServeFault → Type 0

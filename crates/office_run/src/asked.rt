@@ -1,6 +1,6 @@
 //! The whole run, with its journal's file or without.
 
-ghost use Rattle.std.specs.Prelude.{◌≡◌, ◌≢◌, ◌≤◌, ℕ, List, true, false, Err, None, IfOk, IfErr, OnOk};
+ghost use Rattle.std.specs.Prelude.{◌≡◌, ◌≢◌, ◌≤◌, ◌⊎◌, ℕ, List, length, true, false, Err, None, IfOk, IfErr, OnOk};
 ghost use Rattle.std.specs.List.{AllByRecursion};
 ghost use Rattle.byte_io.specs.Sink.{grown, Rises};
 ghost use Rattle.catalogue_core.specs.declared.catalogue.TheConstants.{MAX_ENTRIES};
@@ -8,9 +8,10 @@ ghost use Rattle.journal_file.specs.WholeText.{CanBeTold, IsSum};
 ghost use Rattle.office_run.specs.Closing.{first_blocked, run_files};
 ghost use Rattle.folders.specs.Files.{IsOfBytes, listing};
 ghost use Rattle.folders.specs.Placed.{IsListedAfter};
-ghost use Rattle.office_run.specs.JournalFile.{all_files, parts_text, told_run, HaveSmallEntries};
+ghost use Rattle.folders.specs.declared.source.TheConstants.{MAX_FILE_BYTES};
+ghost use Rattle.office_run.specs.JournalFile.{all_files, parts_text, run_text, told_run, HaveSmallEntries};
 ghost use Rattle.office_run.specs.Loading.{IsFailure};
-ghost use Rattle.office_run.specs.Served.{files_to_write, IsServed, UnlessBegun, IsCutFiles, IsCutRun};
+ghost use Rattle.office_run.specs.Served.{files_to_write, IsServed, UnlessBegun, IsHeld, IsCutFiles, IsCutRun};
 ghost use Rattle.office_run.specs.WholeRun.{IsServeFault, IsWriteFault};
 
 use crate::close_fault::CloseFault;
@@ -19,7 +20,8 @@ use crate::closing::closed_parts;
 use crate::counts::{CommandCounts, command_counts};
 use crate::fault::ServeFault;
 use crate::gate::Gate;
-use crate::journal::{JournalText, write_journal};
+use crate::journal::{JournalText, journal_name, write_journal};
+use crate::journal_length::is_too_long;
 use crate::run::{read_all, run_loaded, write_files};
 use crate::sums::{asked_sums, sums_to_write};
 use byte_io::Bytes;
@@ -44,7 +46,8 @@ pub struct Asked<'a> {
     pub journal: bool,
 }
 
-// Writes the files of tables and answers, and the journal's after them.
+// Writes the files of tables and answers, and the journal's after them. None is begun where the journal's would have more bytes than a
+// file that is read may have.
 fn write_with_journal<F: Folder>(
     alloc: Global,
     tables: &[ClosedTable],
@@ -55,15 +58,19 @@ fn write_with_journal<F: Folder>(
 ) -> Result<(), ServeFault>
     ensures wrote { OnOk result (F.written folder.new ≡ grown (F.written folder.old) (listing (all_files today tables.now answers.now (parts_text text.now)))) }
     ensures small { OnOk result (HaveSmallEntries text.now) }
+    ensures readable { OnOk result (length (parts_text text.now) ≤ MAX_FILE_BYTES) }
     ensures bytes { OnOk result (AllByRecursion IsOfBytes (all_files today tables.now answers.now (parts_text text.now))) }
     ensures blocks_fit { OnOk result (first_blocked 1 tables.now ≡ None) }
     ensures no_failure { OnOk result (F.failures folder.new ≡ F.failures folder.old) }
     ensures fault { IfErr result (λ fault. IsWriteFault today.year tables.now fault) }
     ensures no_file_begun { IfErr result (λ fault. UnlessBegun true fault (folder.new ≡ folder.old)) }
-    ensures failed { (name : List ℕ) → result ≡ Err (ServeFault.Close (CloseFault.Write name)) → Rises (F.failures folder.old) (F.failures folder.new) }
+    ensures failed { (name : List ℕ) → result ≡ Err (ServeFault.Close (CloseFault.Write name)) → Rises (F.failures folder.old) (F.failures folder.new) ⊎ IsHeld true name (folder.new ≡ folder.old) }
     ensures unfailed { result ≡ Err ServeFault.NoMemory → F.failures folder.new ≡ F.failures folder.old }
     ensures whole_before_fault { IfErr result (IsCutFiles true (all_files today tables.now answers.now (parts_text text.now)) (F.written folder.old) (F.written folder.new)) }
 {
+    if is_too_long(alloc, text)? {
+        return Err(ServeFault::Close(CloseFault::Write(journal_name(alloc)?)));
+    }
     write_files(alloc, tables, answers, today, folder)?;
     write_journal(alloc, text, folder)?;
     Ok(())
@@ -83,12 +90,13 @@ fn write_asked<F: Folder>(
     requires small { AllByRecursion IsSum read.now }
     ensures wrote { OnOk result (F.written folder.new ≡ grown (F.written folder.old) (listing (files_to_write asked.now tables.now answers.now entries.now read.now))) }
     ensures one_journal { asked.now.journal ≡ true → OnOk result (CanBeTold (told_run read.now asked.now.reindex entries.now (run_files asked.now.today tables.now answers.now))) }
+    ensures readable { asked.now.journal ≡ true → OnOk result (length (run_text read.now asked.now.reindex entries.now (run_files asked.now.today tables.now answers.now)) ≤ MAX_FILE_BYTES) }
     ensures bytes { OnOk result (AllByRecursion IsOfBytes (files_to_write asked.now tables.now answers.now entries.now read.now)) }
     ensures blocks_fit { OnOk result (first_blocked 1 tables.now ≡ None) }
     ensures no_failure { OnOk result (F.failures folder.new ≡ F.failures folder.old) }
     ensures fault { IfErr result (λ fault. IsWriteFault asked.now.today.year tables.now fault) }
     ensures no_file_begun { IfErr result (λ fault. UnlessBegun asked.now.journal fault (folder.new ≡ folder.old)) }
-    ensures failed { (name : List ℕ) → result ≡ Err (ServeFault.Close (CloseFault.Write name)) → Rises (F.failures folder.old) (F.failures folder.new) }
+    ensures failed { (name : List ℕ) → result ≡ Err (ServeFault.Close (CloseFault.Write name)) → Rises (F.failures folder.old) (F.failures folder.new) ⊎ IsHeld asked.now.journal name (folder.new ≡ folder.old) }
     ensures unfailed { result ≡ Err ServeFault.NoMemory → F.failures folder.new ≡ F.failures folder.old }
     ensures whole_before_fault { IfErr result (IsCutFiles asked.now.journal (files_to_write asked.now tables.now answers.now entries.now read.now) (F.written folder.old) (F.written folder.new)) }
 {
@@ -119,7 +127,9 @@ fn write_asked<F: Folder>(
 ///
 /// The journal says first which files were read, and last which were written, with their lengths and digests. Its entries are
 /// written one by one, so that their text is never whole in memory; each other file is made once more for its digest, before any
-/// is begun. Only `Close(Write(..))`, and `NoMemory` where the journal is asked for, may come when files are begun.
+/// is begun. Only `Close(Write(..))`, and `NoMemory` where the journal is asked for, may come when files are begun. Where the
+/// journal's file would have more than `folders::MAX_FILE_BYTES`, so that no audit could read it, the fault is
+/// `Close(Write(JOURNAL.TXT))`, and none is begun.
 pub fn serve_asked<S: Source, F: Folder, G: Gate + Sync, R: Threads + Wait + Sync>(
     rt: &R,
     alloc: Global,
@@ -139,7 +149,7 @@ pub fn serve_asked<S: Source, F: Folder, G: Gate + Sync, R: Threads + Wait + Syn
     ensures loads { OnOk result (S.failures source.new ≡ S.failures source.old) }
     ensures failure { IfErr result (IsFailure (S.files source.old) (S.failures source.old) (S.failures source.new)) }
     ensures no_file_begun { IfErr result (λ fault. UnlessBegun asked.now.journal fault (folder.new ≡ folder.old)) }
-    ensures failed { (name : List ℕ) → result ≡ Err (ServeFault.Close (CloseFault.Write name)) → Rises (F.failures folder.old) (F.failures folder.new) }
+    ensures failed { (name : List ℕ) → result ≡ Err (ServeFault.Close (CloseFault.Write name)) → Rises (F.failures folder.old) (F.failures folder.new) ⊎ IsHeld asked.now.journal name (folder.new ≡ folder.old) }
     ensures unfailed { result ≡ Err ServeFault.NoMemory → F.failures folder.new ≡ F.failures folder.old }
     ensures whole_before_fault { IfErr result (IsCutRun (S.files source.old) asked.now.setup.now asked.now.reindex asked.now.today asked.now.journal (F.written folder.old) (F.written folder.new)) }
 {
@@ -156,6 +166,13 @@ pub fn serve_asked<S: Source, F: Folder, G: Gate + Sync, R: Threads + Wait + Syn
 }
 
 /// A whole run of the setup of a path as [`serve_asked`] makes it, without the journal's file.
+///
+/// As a test has it (`office_run_tests`, `src/tests.rt`):
+///
+/// ```text
+/// let setup = Bytes::from_slice(alloc, SETUP)?;
+/// let served = serve(rt, alloc, &setup, today, reindex, source, folder, &OpenGate);
+/// ```
 pub fn serve<S: Source, F: Folder, G: Gate + Sync, R: Threads + Wait + Sync>(
     rt: &R,
     alloc: Global,

@@ -1,6 +1,6 @@
 //! The run of a catalogue, from its opening to its end.
 
-ghost use Rattle.std.specs.Prelude.{◌≡◌, ◌≢◌, [], IfOk, IfErr, IsErrOf, length};
+ghost use Rattle.std.specs.Prelude.{◌≡◌, ◌≢◌, ◌↔◌, [], IfOk, IfErr, IsErrOf, length};
 ghost use Rattle.office_run.specs.RunFaults.{IsFaultOfRun};
 ghost use Rattle.office_run.specs.Reports.{AreReports};
 
@@ -16,7 +16,7 @@ use std::sync::Wait;
 use std::thread::Threads;
 
 /// Runs a script for each station of a catalogue that has performed no command: see
-/// [`crate::stations::run_stations`].
+/// [`crate::stations::run_stations`]. Whether there are as many scripts as stations is tested before memory is taken.
 pub fn run_catalogue<G: Gate + Sync, R: Threads + Wait + Sync>(
     rt: &R,
     alloc: Global,
@@ -28,9 +28,12 @@ pub fn run_catalogue<G: Gate + Sync, R: Threads + Wait + Sync>(
     ensures opened { IfOk result (λ outcome. outcome.closed.opened ≡ catalogue.opened) }
     ensures scripts { IfOk result (λ _. length scripts.now ≡ catalogue.opened.stations) }
     ensures reports { IfOk result (λ outcome. AreReports catalogue.opened outcome.closed.journal scripts.now outcome.answers.items) }
-    ensures fault { IfErr result (IsFaultOfRun catalogue.opened) }
-    ensures count { IsErrOf result RunFault.ScriptCount → length scripts.now ≢ catalogue.opened.stations }
+    ensures fault { IfErr result (IsFaultOfRun catalogue.opened scripts.now) }
+    ensures count { IsErrOf result RunFault.ScriptCount ↔ (length scripts.now ≢ catalogue.opened.stations) }
 {
+    if scripts.len() != catalogue.station_count() as usize {
+        return Err(RunFault::ScriptCount);
+    }
     let lot = Lot::new(alloc, catalogue.station_count())?;
     run_as::<Brand, G, R>(rt, alloc, lot, catalogue, scripts, gate)
 }
@@ -49,11 +52,12 @@ fn run_as<J: Naming + Send + Sync, G: Gate + Sync, R: Threads + Wait + Sync>(
     requires ledger { (lot.ledger ≡ J.name) × (lot.parts ≡ J.parts) }
     requires board { lot.board ≡ J.board }
     requires parts { lot.parts ≡ catalogue.opened.stations }
+    requires counted { length scripts.now ≡ catalogue.opened.stations }
     ensures opened { IfOk result (λ outcome. outcome.closed.opened ≡ J.opened) }
     ensures scripts { IfOk result (λ _. length scripts.now ≡ J.opened.stations) }
     ensures reports { IfOk result (λ outcome. AreReports J.opened outcome.closed.journal scripts.now outcome.answers.items) }
-    ensures fault { IfErr result (IsFaultOfRun J.opened) }
-    ensures count { IsErrOf result RunFault.ScriptCount → length scripts.now ≢ J.opened.stations }
+    ensures fault { IfErr result (IsFaultOfRun J.opened scripts.now) }
+    ensures count { ¬ IsErrOf result RunFault.ScriptCount }
 {
     let (shared, seats) = Shared::<J>::new(alloc, catalogue, lot)?;
     run_stations(rt, alloc, shared, seats, scripts, gate)

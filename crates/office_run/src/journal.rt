@@ -1,13 +1,13 @@
 //! The journal's file, written entry by entry.
 #![tactic(auto, using(byte_io::specs::Laws::Sinks::sinks))]
 
-ghost use Rattle.std.specs.Prelude.{◌≡◌, ◌∷◌, [], ℕ, List, map, Err, true, OnOk, OnErr, IfErr};
+ghost use Rattle.std.specs.Prelude.{◌≡◌, ◌∷◌, [], ℕ, List, map, Err, true, OnOk, OnErr, IfOk, IfErr};
 ghost use Rattle.std.specs.List.{list_all};
 ghost use Rattle.byte_io.specs.Output.{Puts};
 ghost use Rattle.byte_io.specs.Sink.{grown, is_byte, IsFront, Rises};
 ghost use Rattle.folders.specs.Files.{IsOfBytes, listing};
 ghost use Rattle.station_lines.specs.JournalLines.{line_parts, journal_text, HaveSmallNumbers};
-ghost use Rattle.office_run.specs.JournalFile.{journal_file, journal_under, parts_text, HaveSmallEntries, PutsFront, IsJournalFault};
+ghost use Rattle.office_run.specs.JournalFile.{journal_name as journal_name_of, journal_file, journal_under, parts_text, HaveSmallEntries, PutsFront, IsJournalFault};
 
 use crate::close_fault::CloseFault;
 use crate::fault::ServeFault;
@@ -137,6 +137,13 @@ fn write_file<F: Folder>(
     write_text(alloc, folder, text)
 }
 
+/// The name of the journal's file.
+pub(crate) fn journal_name(alloc: Global) -> Result<Bytes, AllocError>
+    ensures value { IfOk result (λ name. name ≡ journal_name_of) }
+{
+    Bytes::from_slice(alloc, b"JOURNAL.TXT")
+}
+
 /// Writes the journal's file into the folder: JOURNAL.TXT. The text of its entries is never whole in memory.
 ///
 /// `Close(Write(JOURNAL.TXT))` says that the folder failed, and `NoMemory` that memory was refused; a front part of the file
@@ -156,7 +163,7 @@ pub(crate) fn write_journal<F: Folder>(
     ensures front { OnErr result (IsFront (F.written folder.new) (grown (F.written folder.old) (listing (journal_file (parts_text text.now) ∷ [])))) }
     ensures bytes { OnOk result (IsOfBytes (journal_file (parts_text text.now))) }
 {
-    let name = Bytes::from_slice(alloc, b"JOURNAL.TXT")?;
+    let name = journal_name(alloc)?;
     match write_file(alloc, folder, name.as_slice(), text) {
         Ok(()) => Ok(()),
         Err(LinesFault::Sink) => Err(ServeFault::Close(CloseFault::Write(name))),

@@ -28,6 +28,7 @@ mod counts;
 mod fault;
 mod gate;
 mod journal;
+mod journal_length;
 mod load;
 mod loaded;
 mod opened_again;

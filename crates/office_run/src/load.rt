@@ -1,23 +1,25 @@
 //! Reading what the entries of a setup name.
 
-ghost use Rattle.std.specs.Prelude.{◌≡◌, ◌⊎◌, ◌<◌, ◌∷◌, [], ℕ, List, length, IfOk, IfErr, IfSome, IsSome, OnOk};
-ghost use Rattle.dbf_image.specs.DbfText.{IsDbf};
-ghost use Rattle.ndx_index.specs.Header.{IsIndex};
-ghost use Rattle.station_lines.specs.declared.setup.entry.SetupEntry.TheVariants.{Table, Index};
+ghost use Rattle.std.specs.Prelude.{◌≡◌, ◌≢◌, ◌⊎◌, ◌<◌, [], ℕ, List, Option, Some, length, MatchResult, IfOk, IfErr, IfSome, IsOk, IsSome, OnOk};
 ghost use Rattle.station_lines.specs.Setup.{IndexesFollowTables};
+ghost use Rattle.folders.specs.declared.named.NamedFile.{NamedFile};
 ghost use Rattle.folders.specs.Files.{IsFileOf};
 ghost use Rattle.journal_file.specs.WholeText.{sum_of_file, with_sum};
-ghost use Rattle.office_run.specs.FileSums.{memo_paths, paths_of, paths_in, AreNoted};
-ghost use Rattle.office_run.specs.Loading.{nothing, read_of, first_named, IsMemoFileOf, IsTableRead, IsIndexRead, HasIndex, CanLoad, Loads, LoadAll, IsFileFault, IsMemoFault, IsTableFault, IsIndexFault, IsEntryFault, IsFailure, IsFaultIn};
+ghost use Rattle.setup_files.specs.EntryFiles.{refused_path as path_refused, IsContentOf, IsEntryRead};
+ghost use Rattle.setup_files.specs.Loads.{IsEntryLoad};
+ghost use Rattle.setup_files.specs.Noted.{paths_of, AreNoted};
+ghost use Rattle.office_run.specs.FileSums.{paths_in};
+ghost use Rattle.office_run.specs.Loading.{load_fault as fault_of_load, file_fault as fault_of_files, refusal_told, nothing, read_of, first_named};
+ghost use Rattle.office_run.specs.Loading.{HasIndex, CanLoad, Loads, LoadAll, IsFileFault, IsEntryFault, IsFailure, IsFaultIn};
 
 use crate::fault::{FileFault, ServeFault};
 use crate::loaded::Loaded;
 use byte_io::Bytes;
 use catalogue_core::{IndexSource, TableSource};
-use dbf_image::{ImageFault, TableData, read_table};
-use folders::{LoadFault, Source};
+use dbf_image::{GrowingTable, TableData};
+use folders::Source;
 use journal_file::ReadSums;
-use ndx_index::{NdxFault, NdxFile, read_ndx};
+use setup_files::{EntryContent, EntryFault, LoadRefusal, read_entry, refused_path};
 use station_lines::SetupEntry;
 use std::alloc::{AllocError, Global};
 
@@ -29,6 +31,35 @@ fn unread(alloc: Global, path: &Bytes, fault: FileFault) -> ServeFault
         Ok(path) => ServeFault::File(path, fault),
         Err(_) => ServeFault::NoMemory,
     }
+}
+
+// What is said of a file of which no bytes are had.
+fn load_fault(why: LoadRefusal) -> FileFault
+    ensures value { result ≡ fault_of_load why }
+{
+    match why {
+        LoadRefusal::CannotRead => FileFault::CannotRead,
+        LoadRefusal::Unrecovered => FileFault::Unrecovered,
+    }
+}
+
+// What is said of the files of an entry that are refused.
+fn file_fault(fault: EntryFault) -> FileFault
+    ensures value { result ≡ fault_of_files fault }
+{
+    match fault {
+        EntryFault::Unloaded(why) => load_fault(why),
+        EntryFault::UnloadedMemos(why) => load_fault(why),
+        EntryFault::NoTable(bad, _) => FileFault::Image(bad.why),
+        EntryFault::NoIndex(bad, _) => FileFault::Ndx(bad.why),
+    }
+}
+
+// The fault of an entry whose files are refused.
+fn entry_fault(alloc: Global, entry: &SetupEntry, fault: EntryFault) -> ServeFault
+    ensures value { (result ≡ ServeFault.NoMemory) ⊎ (result ≡ ServeFault.File (path_refused entry.now fault) (fault_of_files fault)) }
+{
+    unread(alloc, refused_path(entry, fault), file_fault(fault))
 }
 
 /// The bytes of the file of a path, which are noted where a journal is wanted.
@@ -45,124 +76,35 @@ pub(crate) fn load_file<S: Source>(
     ensures loads { OnOk result (S.failures source.new ≡ S.failures source.old) }
     ensures failure { IfErr result (IsFailure (S.files source.old) (S.failures source.old) (S.failures source.new)) }
 {
-    match source.load(alloc, path.as_slice()) {
-        Ok(bytes) => {
-            sums.note(alloc, path.as_slice(), bytes.as_slice())?;
-            Ok(bytes)
-        }
-        Err(LoadFault::NoMemory) => Err(ServeFault::NoMemory),
-        Err(LoadFault::CannotRead) => Err(unread(alloc, path, FileFault::CannotRead)),
-        Err(LoadFault::Unrecovered) => Err(unread(alloc, path, FileFault::Unrecovered)),
+    match setup_files::load_file(alloc, source, path, sums)? {
+        Ok(bytes) => Ok(bytes),
+        Err(why) => Err(unread(alloc, path, load_fault(why))),
     }
 }
 
-// The bytes of a memo file, where one is named.
-fn load_memos<S: Source>(
-    alloc: Global,
-    source: &mut S,
-    dbt: &Option<Bytes>,
-    sums: &mut ReadSums,
-) -> Result<Option<Bytes>, ServeFault>
-    ensures noted { OnOk result (AreNoted (S.files source.old) (memo_paths dbt.now) sums.old sums.new) }
-    ensures found { IfOk result (λ memo. IsMemoFileOf (S.files source.old) dbt.now memo) }
-    ensures kept { S.files source.new ≡ S.files source.old }
-    ensures fault { IfErr result (IsMemoFault (S.files source.old) dbt.now) }
-    ensures loads { OnOk result (S.failures source.new ≡ S.failures source.old) }
-    ensures failure { IfErr result (IsFailure (S.files source.old) (S.failures source.old) (S.failures source.new)) }
-{
-    match dbt {
-        None => Ok(None),
-        Some(path) => Ok(Some(load_file(alloc, source, path, sums)?)),
-    }
-}
-
-// The table of the bytes of its files. A fault names the path of the DBF file.
-fn read_content(
-    alloc: Global,
-    path: &Bytes,
-    dbf: Bytes,
-    dbt: &Option<Bytes>,
-) -> Result<TableData, ServeFault>
-    ensures read { IfOk result (IsDbf dbf dbt.now) }
-    ensures fault { IfErr result (IsTableFault path.now dbf dbt.now) }
-{
-    let memos = match dbt {
-        None => None,
-        Some(bytes) => Some(bytes.as_slice()),
-    };
-    match read_table(alloc, dbf, memos) {
-        Ok(content) => Ok(content),
-        Err(ImageFault::NoMemory) => Err(ServeFault::NoMemory),
-        Err(fault) => Err(unread(alloc, path, FileFault::Image(fault))),
-    }
-}
-
-// The index of the bytes of its file.
-fn read_index(alloc: Global, path: &Bytes, bytes: &Bytes) -> Result<NdxFile, ServeFault>
-    ensures read { IfOk result (λ file. IsIndex bytes.now file.expr file.key_len file.pairs.pairs) }
-    ensures fault { IfErr result (IsIndexFault path.now bytes.now) }
-{
-    match read_ndx(alloc, bytes.as_slice()) {
-        Ok(file) => Ok(file),
-        Err(NdxFault::NoMemory) => Err(ServeFault::NoMemory),
-        Err(fault) => Err(unread(alloc, path, FileFault::Ndx(fault))),
-    }
-}
-
-// Loads and reads the files of a table, the DBF first.
-fn load_table<S: Source>(
-    alloc: Global,
-    source: &mut S,
-    name: &Bytes,
-    dbf: &Bytes,
-    dbt: &Option<Bytes>,
-    sums: &mut ReadSums,
-) -> Result<TableSource, ServeFault>
-    ensures noted { OnOk result (AreNoted (S.files source.old) (paths_of (Table name.now dbf.now dbt.now)) sums.old sums.new) }
-    ensures read { IfOk result (IsTableRead (S.files source.old) name.now dbf.now dbt.now) }
-    ensures kept { S.files source.new ≡ S.files source.old }
-    ensures fault { IfErr result (IsEntryFault (S.files source.old) (Table name.now dbf.now dbt.now)) }
-    ensures loads { OnOk result (S.failures source.new ≡ S.failures source.old) }
-    ensures failure { IfErr result (IsFailure (S.files source.old) (S.failures source.old) (S.failures source.new)) }
-{
-    let bytes = load_file(alloc, source, dbf, sums)?;
-    let memo = load_memos(alloc, source, dbt, sums)?;
-    let content = read_content(alloc, dbf, bytes, &memo)?;
-    let name = name.copy(alloc)?;
-    Ok(TableSource {
-        name,
-        content,
-        indexes: Vec::new(alloc),
-    })
-}
-
-// Loads and reads the file of an index of a table.
-fn load_index<S: Source>(
-    alloc: Global,
-    source: &mut S,
-    name: &Bytes,
-    ndx: &Bytes,
-    sums: &mut ReadSums,
-) -> Result<IndexSource, ServeFault>
-    ensures noted { OnOk result (AreNoted (S.files source.old) (ndx.now ∷ []) sums.old sums.new) }
-    ensures read { IfOk result (IsIndexRead (S.files source.old) name.now ndx.now) }
-    ensures kept { S.files source.new ≡ S.files source.old }
-    ensures fault { (table : List ℕ) → IfErr result (IsEntryFault (S.files source.old) (Index table name.now ndx.now)) }
-    ensures loads { OnOk result (S.failures source.new ≡ S.failures source.old) }
-    ensures failure { IfErr result (IsFailure (S.files source.old) (S.failures source.old) (S.failures source.new)) }
-{
-    let bytes = load_file(alloc, source, ndx, sums)?;
-    let file = read_index(alloc, ndx, &bytes)?;
-    let name = name.copy(alloc)?;
-    Ok(IndexSource { name, file })
-}
-
-// The place of the first table of a name.
-fn place_of(tables: &[TableSource], name: &Bytes) -> Option<usize>
+// Where the first table of a name stands.
+fn position_of(tables: &[TableSource], name: &Bytes) -> Option<usize>
     ensures value { result ≡ first_named name.now tables.now }
-    ensures inside { IfSome result (λ place. place < length tables.now) }
+    ensures inside { IfSome result (λ position. position < length tables.now) }
 {
     tables.iter().position(|table| *name == table.name)
+}
+
+// A table of this name, without indexes.
+fn named_table(
+    alloc: Global,
+    name: &Bytes,
+    records: GrowingTable,
+) -> Result<TableSource, AllocError>
+    ensures named { IfOk result (λ table. table.name ≡ name.now) }
+    ensures content { IfOk result (λ table. table.content ≡ records.table) }
+    ensures plain { IfOk result (λ table. table.indexes.items ≡ []) }
+{
+    Ok(TableSource {
+        name: name.copy(alloc)?,
+        content: TableData::from_growing(records),
+        indexes: Vec::new(alloc),
+    })
 }
 
 // Adds an index to the first table of a name, which has been loaded.
@@ -174,11 +116,63 @@ fn add_index(
     requires loaded { IsSome (first_named table.now tables.old.items) }
     ensures added { OnOk result (HasIndex table.now index tables.old.items tables.new.items) }
 {
-    let Some(place) = place_of(tables, table) else {
+    let Some(position) = position_of(tables, table) else {
         unreachable!();
     };
-    tables[place].indexes.push(index)?;
+    tables[position].indexes.push(index)?;
     Ok(())
+}
+
+// Adds what the files of an entry are. The table of an index has been loaded.
+fn add_content(
+    alloc: Global,
+    loaded: &mut Loaded,
+    entry: &SetupEntry,
+    content: EntryContent,
+) -> Result<(), AllocError>
+    requires ready { CanLoad loaded.old.tables.items entry.now }
+    requires of_entry { (files : Option (List NamedFile)) × IsContentOf files entry.now content }
+    ensures read { (files : Option (List NamedFile)) → IsContentOf files entry.now content
+        → OnOk result (Loads files entry.now (read_of loaded.old) (read_of loaded.new)) }
+{
+    match (entry, content) {
+        (SetupEntry::Table { name, .. }, EntryContent::Table(records)) => {
+            loaded.tables.push(named_table(alloc, name, records)?)?;
+            Ok(())
+        }
+        (SetupEntry::Index { table, name, .. }, EntryContent::Index(file)) => {
+            let name = name.copy(alloc)?;
+            add_index(&mut loaded.tables, table, IndexSource { name, file })
+        }
+        (SetupEntry::Station { .. }, EntryContent::Script(bytes)) => {
+            loaded.scripts.push(bytes)?;
+            Ok(())
+        }
+        _ => unreachable!(),
+    }
+}
+
+/// Adds what the files of an entry are, where they are not refused. The table of an index has been loaded.
+pub(crate) fn add_read(
+    alloc: Global,
+    loaded: &mut Loaded,
+    entry: &SetupEntry,
+    read: Result<EntryContent, EntryFault>,
+) -> Result<(), ServeFault>
+    requires ready { CanLoad loaded.old.tables.items entry.now }
+    requires of_entry { (files : Option (List NamedFile)) × IsEntryRead files entry.now read }
+    ensures read { (files : Option (List NamedFile)) → IsEntryRead files entry.now read
+        → OnOk result (Loads files entry.now (read_of loaded.old) (read_of loaded.new)) }
+    ensures fault { (files : Option (List NamedFile)) → IsEntryRead files entry.now read → IfErr result (IsEntryFault files entry.now) }
+    ensures whole { OnOk result (IsOk read) }
+    ensures first { IfErr result (λ fault. fault ≢ ServeFault.NoMemory → refusal_told entry.now read ≡ Some fault) }
+    ensures loads { (files : Option (List NamedFile)) (before after : Option ℕ) → IsEntryLoad files before after entry.now read
+        → MatchResult result (λ _. after ≡ before) (IsFailure files before after) }
+{
+    match read {
+        Ok(content) => Ok(add_content(alloc, loaded, entry, content)?),
+        Err(fault) => Err(entry_fault(alloc, entry, fault)),
+    }
 }
 
 // Loads and reads what an entry names. The table of an index has been loaded.
@@ -197,25 +191,8 @@ fn load_entry<S: Source>(
     ensures loads { OnOk result (S.failures source.new ≡ S.failures source.old) }
     ensures failure { IfErr result (IsFailure (S.files source.old) (S.failures source.old) (S.failures source.new)) }
 {
-    match entry {
-        SetupEntry::Table { name, dbf, dbt } => {
-            loaded
-                .tables
-                .push(load_table(alloc, source, name, dbf, dbt, sums)?)?;
-            Ok(())
-        }
-        SetupEntry::Index { table, name, ndx } => {
-            let index = load_index(alloc, source, name, ndx, sums)?;
-            add_index(&mut loaded.tables, table, index)?;
-            Ok(())
-        }
-        SetupEntry::Station { script } => {
-            loaded
-                .scripts
-                .push(load_file(alloc, source, script, sums)?)?;
-            Ok(())
-        }
-    }
+    let read = read_entry(alloc, source, entry, sums)?;
+    add_read(alloc, loaded, entry, read)
 }
 
 /// Loads and reads what the entries of a setup name, entry by entry; each index stands after its table. The fault is

@@ -6,7 +6,8 @@ ghost use Rattle.byte_io.specs.Sink.{grown, Rises};
 ghost use Rattle.office_run.specs.Closing.{run_files, first_blocked};
 ghost use Rattle.folders.specs.Files.{IsOfBytes, files_in, listing};
 ghost use Rattle.station_lines.specs.Setup.{IndexesFollowTables};
-ghost use Rattle.office_run.specs.FileSums.{AreNoted, AreAllNoted};
+ghost use Rattle.setup_files.specs.Noted.{AreNoted};
+ghost use Rattle.office_run.specs.FileSums.{AreAllNoted};
 ghost use Rattle.office_run.specs.Loading.{read_of, IsFailure};
 ghost use Rattle.office_run.specs.WholeRun.{IsAllRead, IsReadFault, IsRun, IsRunFault, IsSaid, IsWriteFault, IsCutWriting};
 

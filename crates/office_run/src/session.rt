@@ -1,9 +1,8 @@
 //! A station at work.
 
-ghost use Rattle.std.specs.Prelude.{◌≡◌, ◌≢◌, [], ◌∷◌, ◌++◌, OnOk, IfErr, IsErrOf};
+ghost use Rattle.std.specs.Prelude.{◌≡◌, ◌≢◌, [], ◌∷◌, ◌++◌, OnOk, OnErr, IsErrOf};
 ghost use Rattle.catalogue_core.specs.declared.status.StatusRow.{StatusRow as RowValue};
-ghost use Rattle.office_run.specs.Reports.{Shown, status, meaning_of, session, new_session, IsWithShown, IsWithAnswer};
-ghost use Rattle.office_run.specs.RunFaults.{IsStopOf};
+ghost use Rattle.office_run.specs.Reports.{Shown, status, meaning_of, session, new_session, IsWithShown, IsWithAnswer, IsLeftAt};
 ghost use Rattle.station_lines.specs.declared.script.format.TheConstants.{LF as LINE_END};
 
 use byte_io::Bytes;
@@ -52,7 +51,7 @@ impl<J: Naming> Session<J> {
     ) -> Result<(), Stop>
         requires some { line ≢ Line.Blank }
         ensures shown { OnOk result ((shown : Shown) × (meaning_of shown ≡ line) × IsWithShown self.old shown self.new) }
-        ensures stop { IfErr result (IsStopOf J.opened) }
+        ensures left { OnErr result (IsLeftAt self.old line self.new) }
         ensures status { line ≡ Line.Status → ¬ IsErrOf result Stop.JournalFull }
     {
         match line {
@@ -71,7 +70,7 @@ impl<J: Naming> Session<J> {
         command: Command,
     ) -> Result<(), Stop>
         ensures shown { OnOk result (IsWithAnswer self.old command self.new) }
-        ensures stop { IfErr result (IsStopOf J.opened) }
+        ensures left { OnErr result (IsLeftAt self.old (Line.Run command) self.new) }
     {
         let answer = shared.perform(alloc, rt, &mut self.seat, &command)?;
         let text = answer_line(alloc, &answer)?;
@@ -82,7 +81,7 @@ impl<J: Naming> Session<J> {
     // Looks at the status row, and keeps its line.
     fn show_status(&mut self, alloc: Global, rt: &impl Wait, shared: &Shared<J>) -> Result<(), Stop>
         ensures shown { OnOk result ((row : RowValue) × IsWithShown self.old (status row) self.new) }
-        ensures stop { IfErr result (IsStopOf J.opened) }
+        ensures left { OnErr result (IsLeftAt self.old Line.Status self.new) }
         ensures no_journal_full { ¬ IsErrOf result Stop.JournalFull }
     {
         let row = shared.look(rt, &mut self.seat);
@@ -94,6 +93,7 @@ impl<J: Naming> Session<J> {
     // Adds a line to the text of the answer file.
     fn push_line(&mut self, text: &Bytes) -> Result<(), AllocError>
         ensures ok { OnOk result (self.new ≡ session self.old.seat (self.old.answers ++ (text.now ++ LINE_END ∷ []))) }
+        ensures seat { self.new.seat ≡ self.old.seat }
     {
         self.answers.extend_from_slice(text.as_slice())?;
         self.answers.push(LF)?;

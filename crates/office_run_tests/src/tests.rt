@@ -192,7 +192,7 @@ fn first_path(rt: HostRuntime) -> Result<(), Fail> {
     Ok(())
 }
 
-// The written table is read and written again as it is.
+// The written table is read, record by record, and written again as it is.
 #[test]
 fn written_table_reads_back(rt: HostRuntime) -> Result<(), Fail> {
     let alloc = rt.alloc();
@@ -200,15 +200,16 @@ fn written_table_reads_back(rt: HostRuntime) -> Result<(), Fail> {
     let mut source = office(
         alloc,
         b"TABLE T new.dbf\nSTATION s.prg",
-        b"USE T\nGO 3\n? NAME",
+        b"USE T\n? NAME\nSKIP\n? NAME\nSKIP\n? NAME\nSKIP\n? EOF()",
     )?;
     source.files.push(named(alloc, b"new.dbf", &WITH_CYD)?)?;
     assert_eq!(rt;
         serve_in(&rt, alloc, &mut source, 1987, false, &mut folder)?,
-        Ok(3)
+        Ok(8)
     );
-    assert!(rt; has_file(&folder, 0, b"T.DBF", &WITH_CYD));
-    assert!(rt; has_file(&folder, 1, b"STATION1.TXT", b"OK\nOK\nCYD       \n"));
+    let answers = b"OK\nADA       \nOK\nBOB       \nOK\nCYD       \nOK\n.T.\n";
+    let files: [(&[u8], &[u8]); 2] = [(b"T.DBF", &WITH_CYD), (b"STATION1.TXT", answers)];
+    assert!(rt; has_files(&folder, &files));
     Ok(())
 }
 

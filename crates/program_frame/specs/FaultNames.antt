@@ -28,6 +28,7 @@ stop_name stop.NoMemory = codes "NoMemory"
 
 abbrev pub settle_name : SettleFault → List ℕ
 settle_name (settle.SeatMissing station) = codes "SeatMissing"
+settle_name (settle.ReceiptMismatch station) = codes "ReceiptMismatch"
 
 -- of a run that was stopped or not settled the name is that of the fault for which it was
 abbrev pub run_name : RunFault → List ℕ

@@ -10,9 +10,10 @@ use Rattle.station_lines.specs.declared.script.format.TheConstants.{LF}
 abbrev pub no_text_status : ℕ
 no_text_status = 1
 
--- where `clap` gave no options: the help is asked for, memory was refused, or there is a mistake
+-- where `clap` gave no options: the help or the version is asked for, memory was refused, or there is a mistake
 abbrev pub mistake_status : ErrorKind → ℕ
 mistake_status kind.DisplayHelp = 0
+mistake_status kind.DisplayVersion = 0
 mistake_status kind.OutOfMemory = 3
 mistake_status _ = 1
 

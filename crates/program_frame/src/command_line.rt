@@ -1,12 +1,26 @@
 //! The options of a command line.
 
 ghost use Rattle.std.specs.Prelude.{◌≡◌, false, option_copied};
-ghost use Rattle.clap.specs.Words.{first_of, rule_of};
-ghost use Rattle.program_frame.specs.CommandLine.{flag_rule, option_rule, required_rule, option_rows, IsFlag};
+ghost use Rattle.clap.specs.Words.{app_of, first_of, rule_of};
+ghost use Rattle.program_frame.specs.CommandLine.{program_app, flag_rule, option_rule, required_rule, option_rows, IsFlag};
 
 use clap::builder::ValueParser;
-use clap::{Arg, ArgAction, ArgMatches};
+use clap::{Arg, ArgAction, ArgMatches, Command};
 use std::alloc::Global;
+
+/// The version of the programs, and the toolchain that they are proved and built with, as `rt version` tells it. `--version`
+/// prints both.
+pub const VERSION: &str = "0.9.0 (rattle-kit-13f logic dac8208d650f15bf)";
+
+/// A program of a name, with no option yet: what it does, and what its help says after the options.
+pub fn program<'a>(alloc: Global, name: &'a str, about: &'a str, after_help: &'a str) -> Command<'a>
+    ensures app { app_of result ≡ program_app name.entry.now }
+{
+    Command::new(alloc, name)
+        .about(about)
+        .after_help(after_help)
+        .version(VERSION)
+}
 
 /// An option `--NAME` that is given once, with a value that is not empty: an empty folder's name would mean the root.
 pub fn option<'a>(alloc: Global, name: &'a str, value_name: &'a str, help: &'a str) -> Arg<'a>

@@ -93,7 +93,7 @@ impl<F: Reason> From<PlaceFault> for Failure<F> {
 pub enum Ending<F> {
     /// An argument is no UTF-8 text.
     NoText,
-    /// `clap` gave no options: the help is asked for, the command line is wrong, or memory was refused.
+    /// `clap` gave no options: the help or the version is asked for, the command line is wrong, or memory was refused.
     CommandLine(clap::Error),
     /// It failed.
     Failed(F),

@@ -21,7 +21,7 @@ mod report;
 mod system;
 mod telling;
 
-pub use command_line::{flag, has_flag, option, required_option, value_of};
+pub use command_line::{VERSION, flag, has_flag, option, program, required_option, value_of};
 pub use date::date_of;
 pub use ending::{Ending, Failure, Reason};
 pub use folder::{FolderFault, PlaceFault, print_folder};

@@ -40,6 +40,7 @@ fn settle_name(fault: SettleFault) -> &'static str
 {
     match fault {
         SettleFault::SeatMissing(_) => "SeatMissing",
+        SettleFault::ReceiptMismatch(_) => "ReceiptMismatch",
     }
 }
 

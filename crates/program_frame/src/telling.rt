@@ -66,19 +66,19 @@ fn tell_no_text<W: Write>(err: &mut W) -> Told
     told_by_error(1, printed)
 }
 
-/// The exit status after a command line of which `clap` gave no options: 0 where it asks for the help, 3 where
+/// The exit status after a command line of which `clap` gave no options: 0 where it asks for the help or the version, 3 where
 /// memory was refused, and else 1.
 fn mistake_status(error: &clap::Error) -> u8
     ensures value { result ≡ status_of_mistake (kind_of error.now) }
 {
     match error.kind() {
-        ErrorKind::DisplayHelp => 0,
+        ErrorKind::DisplayHelp | ErrorKind::DisplayVersion => 0,
         ErrorKind::OutOfMemory => 3,
         _ => 1,
     }
 }
 
-/// Prints what `clap` says of a command line of which it gave no options: the help on standard output, a mistake on standard
+/// Prints what `clap` says of a command line of which it gave no options: the help or the version on standard output, a mistake on standard
 /// error. It has no text where memory was refused: then that is said as of all failures.
 fn tell_mistake<F: Reason, O: Write, E: Write>(
     out: &mut O,
@@ -96,7 +96,7 @@ fn tell_mistake<F: Reason, O: Write, E: Write>(
             let printed = print_reason(err, program, &F::out_of_memory());
             told_by_error(mistake_status(error), printed)
         }
-        ErrorKind::DisplayHelp => {
+        ErrorKind::DisplayHelp | ErrorKind::DisplayVersion => {
             let printed = write!(out, "{error}");
             told_by_output(err, program, mistake_status(error), printed)
         }
@@ -118,7 +118,7 @@ fn print_reason<F: Reason, W: Write>(err: &mut W, program: &str, why: &F) -> io:
     Ok(())
 }
 
-// Says why a call of a program has not done what it was asked for, or prints the help.
+// Says why a call of a program has not done what it was asked for, or prints the help or the version.
 fn tell_ending<F: Reason, O: Write, E: Write>(
     out: &mut O,
     err: &mut E,
@@ -164,7 +164,7 @@ fn tell_report<R: Report, O: Write, E: Write>(
 }
 
 /// Says how a call of the program of a name ended, where `ended` has what its work reports or why it has not done what it was
-/// asked for: on standard output what the report prints or the help, on standard error what is said besides or what went
+/// asked for: on standard output what the report prints, the help or the version, on standard error what is said besides or what went
 /// wrong. What a stream does not take changes no exit status. That standard output took no text is said on standard error.
 pub fn tell<R: Report, F: Reason, O: Write, E: Write>(
     out: &mut O,

@@ -1,15 +1,13 @@
 -- What the command line asks for, and what a call of the program does.
-use Rattle.std.specs.Prelude.{◌≡◌, ◌⊎◌, ℕ, Bool, true, false, List, Option, Some, IsSome, IfSome, codes}
-use Rattle.clap.specs.Words.{App, Row, Text, first_of, kind_of, matches_of, new_app, takes, with_rule}
+use Rattle.std.specs.Prelude.{◌≡◌, ◌⊎◌, ℕ, Bool, true, false, List, Option, Some, IsSome, codes}
+use Rattle.clap.specs.Words.{App, Row, Text, first_of, kind_of, matches_of, takes, with_rule}
 use Rattle.clap.specs.declared.error.kind.ErrorKind.TheVariants.{OutOfMemory}
-use Rattle.dbf_fields.specs.Date.{SaysDay}
-use Rattle.dbf_image.specs.Image.{IsOutside}
 use Rattle.files_in_place.specs.Disk.{DiskMeaning}
 use Rattle.program_frame.specs.declared.ending.Ending.{Ending}
 use Rattle.program_frame.specs.declared.ending.Ending.TheVariants as ended
 use Rattle.program_frame.specs.declared.ending.Failure.{Failure}
 use Rattle.program_frame.specs.declared.ending.Failure.TheVariants as failure
-use Rattle.program_frame.specs.CommandLine.{flag_rule, required_rule, HasBadDate, IsFlag}
+use Rattle.program_frame.specs.CommandLine.{flag_rule, program_app, required_rule, GivesDay, HasBadDate, IsFlag}
 use Rattle.program_frame.specs.Jobs.{ComesToItsEnd, IsLoadFailure as IsLoadFailureOf, IsPlaceFailure as IsPlaceFailureOf, IsRunFailure}
 use Rattle.program_frame.specs.Placing.{HasPutInto}
 use Rattle.office_run.specs.declared.close_fault.CloseFault.TheVariants.{Write}
@@ -27,7 +25,7 @@ use Rattle.office_run.specs.WholeRun.{IsServeFault}
 -- the program with the options that have to be given
 abbrev pub paths_app : App
 paths_app =
-    with_rule (with_rule (with_rule (new_app (codes "station_server")) (required_rule (codes "setup"))) (required_rule (codes "out"))) (required_rule (codes "today"))
+    with_rule (with_rule (with_rule (program_app (codes "station_server")) (required_rule (codes "setup"))) (required_rule (codes "out"))) (required_rule (codes "today"))
 
 -- the program and all its options
 abbrev pub server_app : App
@@ -43,8 +41,7 @@ pub record HasPaths (rows : List Row) : Type 0 where
 pub record IsAskedBy (rows : List Row) (options : Options) : Type 0 where
   pub setup : first_of (codes "setup") rows ≡ Some options.setup.now
   pub out : first_of (codes "out") rows ≡ Some options.out.now
-  pub today : IfSome (first_of (codes "today") rows) (λ text. SaysDay text options.today)
-  pub years : ¬ IsOutside options.today.year
+  pub today : GivesDay rows options.today
   pub reindex : IsFlag rows (codes "reindex") options.reindex
   pub journal : IsFlag rows (codes "journal") options.journal
 

@@ -8,7 +8,7 @@ ghost use Rattle.server_program.specs.Program.{paths_app, server_app, HasPaths, 
 use clap::{ArgMatches, Command};
 use dbf_fields::Day;
 use office_run::ServeFault;
-use program_frame::{Ending, Failure, date_of, flag, has_flag, required_option, value_of};
+use program_frame::{Ending, Failure, date_of, flag, has_flag, program, required_option, value_of};
 use std::alloc::{AllocError, Global};
 use std::convert::AsStr;
 
@@ -39,9 +39,8 @@ pub struct Options<'a> {
 fn command_of_paths<'a>(alloc: Global) -> Result<Command<'a>, AllocError>
     ensures app { IfOk result (λ command. app_of command ≡ paths_app) }
 {
-    Command::new(alloc, "station_server")
-        .about("Runs the scripts of stations on shared dBASE III PLUS tables")
-        .after_help(STATUSES)
+    let about = "Runs the scripts of stations on shared dBASE III PLUS tables";
+    program(alloc, "station_server", about, STATUSES)
         .arg(required_option(
             alloc,
             "setup",

@@ -215,6 +215,15 @@ For more information, try '--help'.
 }
 
 #[test]
+fn version(rt: HostRuntime) -> Result<(), Fail> {
+    let (status, text) = mistake_of(rt.alloc(), &["station_server", "--version"])?;
+    assert!(rt; status == ExitCode::from(0));
+    let wanted = "station_server 0.9.0 (rattle-kit-13f logic dac8208d650f15bf)\n";
+    assert!(rt; text.as_slice() == wanted.as_bytes());
+    Ok(())
+}
+
+#[test]
 fn help(rt: HostRuntime) -> Result<(), Fail> {
     let (status, text) = mistake_of(rt.alloc(), &["station_server", "--help"])?;
     assert!(rt; status == ExitCode::from(0));
@@ -229,6 +238,7 @@ Options:
       --reindex           Make the indexes anew from the records
       --journal           Write the journal too, as JOURNAL.TXT
   -h, --help              Print help
+  -V, --version           Print version
 
 Exit status:
   0  all files are written
@@ -357,6 +367,11 @@ fn failures_of_the_run(rt: HostRuntime) -> Result<(), Fail> {
             stopped(RunFault::Settle(SettleFault::SeatMissing(1))),
             3,
             "run: SeatMissing",
+        ),
+        (
+            stopped(RunFault::Settle(SettleFault::ReceiptMismatch(2))),
+            3,
+            "run: ReceiptMismatch",
         ),
         (stopped(RunFault::NoMemory), 3, "run: NoMemory"),
         (Failure::Work(ServeFault::NoMemory), 3, "run: NoMemory"),

@@ -1,10 +1,5 @@
 pub mod FindingLaws
 pub mod AppendLaws
 pub mod WrongPairLaws
-pub mod TableFileLaws
-pub mod MarkLaws
-pub mod BadMemoLaws
-pub mod RefusedMemoLaws
-pub mod HeaderLaws
-pub mod PageLaws
 pub mod ScriptTextLaws
+pub mod PairLaws

@@ -1,11 +1,7 @@
 pub mod WrongPair
 pub mod Freshness
 pub mod Findings
-pub mod Looks
 pub mod HeadNumbers
-pub mod IndexFile
-pub mod TableFile
 pub mod Lines
-pub mod LoadCounts
 pub mod ScriptLines
 pub mod KeptLines

@@ -11,20 +11,21 @@ use Rattle.ndx_index.specs.FaultWords.{ndx_name, ndx_words}
 use Rattle.station_lines.specs.declared.script.format.TheConstants.{LF}
 use Rattle.station_lines.specs.declared.setup.entry.SetupEntry.{SetupEntry}
 use Rattle.station_lines.specs.declared.setup.entry.SetupEntry.TheVariants.{Table, Index, Station}
-use Rattle.setup_check.specs.declared.fault.EntryFault.{EntryFault}
-use Rattle.setup_check.specs.declared.fault.EntryFault.TheVariants.{Unloaded, UnloadedMemos, NoTable, NoIndex}
-use Rattle.setup_check.specs.declared.fault.LoadRefusal.{LoadRefusal}
-use Rattle.setup_check.specs.declared.fault.LoadRefusal.TheVariants.{CannotRead, Unrecovered}
+use Rattle.setup_files.specs.declared.fault.EntryFault.{EntryFault}
+use Rattle.setup_files.specs.declared.fault.EntryFault.TheVariants.{Unloaded, UnloadedMemos, NoTable, NoIndex}
+use Rattle.setup_files.specs.declared.fault.LoadRefusal.{LoadRefusal}
+use Rattle.setup_files.specs.declared.fault.LoadRefusal.TheVariants.{CannotRead, Unrecovered}
+use Rattle.setup_files.specs.declared.head_numbers.IndexNumbers.{IndexNumbers}
+use Rattle.setup_files.specs.EntryFiles.{refused_path}
 use Rattle.folders.specs.Paths.{folder_of_path}
 use Rattle.setup_check.specs.declared.finding.Finding.{Finding}
 use Rattle.setup_check.specs.declared.finding.Finding.TheVariants as found
 use Rattle.setup_check.specs.declared.finding.TableCounts.{TableCounts}
 use Rattle.setup_check.specs.declared.freshness.IndexState.{IndexState}
 use Rattle.setup_check.specs.declared.freshness.IndexState.TheVariants.{Fresh, NoTable as HasNoTable, NoExpression, OtherLength, Stale}
-use Rattle.setup_check.specs.declared.index_file.IndexDetails.{IndexDetails}
-use Rattle.setup_check.specs.declared.table_file.TableDetails.{TableDetails}
-use Rattle.setup_check.specs.declared.table_file.bad_field.BadField.{BadField}
-use Rattle.setup_check.specs.declared.table_file.memo_cells.MemoCell.{MemoCell}
+use Rattle.dbf_image.specs.declared.bad_table.TablePart.{TablePart}
+use Rattle.dbf_image.specs.declared.bad_table.TablePart.TheVariants as parts
+use Rattle.dbf_image.specs.declared.dbf.header.TableNumbers.{TableNumbers}
 use Rattle.setup_check.specs.declared.wrong_pair.WrongPair.{WrongPair}
 use Rattle.dbf_fields.specs.declared.schema.SchemaFault.{SchemaFault}
 use Rattle.dbf_fields.specs.declared.schema.SchemaFault.TheVariants as schema
@@ -46,33 +47,25 @@ field_refusal schema.BadWidth = codes "its width is bad"
 field_refusal schema.RecordTooLong = codes "with it a record is too long"
 field_refusal schema.NoMemory = codes "out of memory"
 
--- the first such field, where there is one
-abbrev pub bad_field_words : Option BadField → List ℕ
-bad_field_words None = []
-bad_field_words (Some bad) = codes ": field " ++ (decimal bad.field ++ (codes ": " ++ field_refusal bad.why))
-
 -- the block that a memo's cell names
 abbrev pub block_words : Option ℕ → List ℕ
 block_words None = []
 block_words (Some block) = codes ", block " ++ decimal block
 
--- where the first memo stands that is refused
-abbrev pub bad_memo_words : Option MemoCell → List ℕ
-bad_memo_words None = []
-bad_memo_words (Some cell) = codes ": record " ++ (decimal cell.record_number ++ (codes ", field " ++ (decimal cell.field_number ++ block_words cell.block)))
+-- the field or the memo of a table's files that is bad
+abbrev pub part_words : TablePart → List ℕ
+part_words parts.Header = []
+part_words (parts.Field bad) = codes ": field " ++ (decimal bad.field_number ++ (codes ": " ++ field_refusal bad.why))
+part_words (parts.Memo cell) = codes ": record " ++ (decimal cell.record_number ++ (codes ", field " ++ (decimal cell.field_number ++ block_words cell.block)))
 
 -- what is told of a table beside why it is refused: the numbers of the header that it is about, or where it is
-abbrev pub table_detail_words : ImageFault → TableDetails → List ℕ
-table_detail_words image.Truncated details = codes ": " ++ (decimal details.numbers.file_length ++ (codes " bytes, not " ++ decimal (wanted_length details.numbers)))
-table_detail_words image.BadVersion details = codes ": " ++ decimal details.numbers.version
-table_detail_words image.BadHeaderLength details = codes ": " ++ decimal details.numbers.header_length
-table_detail_words image.BadSchema details = bad_field_words details.bad_field
-table_detail_words image.BadRecordLength details = codes ": " ++ decimal details.numbers.record_length
-table_detail_words image.TooManyRecords details = codes ": " ++ decimal details.numbers.record_count
-table_detail_words image.BadMemoNumber details = bad_memo_words details.bad_memo
-table_detail_words image.MemoOutside details = bad_memo_words details.bad_memo
-table_detail_words image.MemoTooLong details = bad_memo_words details.bad_memo
-table_detail_words why details = []
+abbrev pub table_detail_words : ImageFault → TablePart → TableNumbers → List ℕ
+table_detail_words image.Truncated at numbers = codes ": " ++ (decimal numbers.file_length ++ (codes " bytes, not " ++ decimal (wanted_length numbers)))
+table_detail_words image.BadVersion at numbers = codes ": " ++ decimal numbers.version
+table_detail_words image.BadHeaderLength at numbers = codes ": " ++ decimal numbers.header_length
+table_detail_words image.BadRecordLength at numbers = codes ": " ++ decimal numbers.record_length
+table_detail_words image.TooManyRecords at numbers = codes ": " ++ decimal numbers.record_count
+table_detail_words why at numbers = part_words at
 
 -- the page of an index that is refused
 abbrev pub bad_page_words : Option ℕ → List ℕ
@@ -80,13 +73,13 @@ bad_page_words None = []
 bad_page_words (Some page) = codes ": page " ++ decimal page
 
 -- what is told of an index beside why it is refused: the numbers of the header that it is about, or the page
-abbrev pub index_detail_words : NdxFault → IndexDetails → List ℕ
-index_detail_words index.Truncated details = codes ": " ++ (decimal details.numbers.file_length ++ (codes " bytes, not " ++ decimal PAGE))
-index_detail_words index.NumericIndex details = codes ": type " ++ decimal details.numbers.key_type
-index_detail_words index.UniqueIndex details = codes ": flag " ++ decimal details.numbers.unique_flag
-index_detail_words index.BadKeyLength details = codes ": " ++ decimal details.numbers.key_length
-index_detail_words index.BadRecordSize details = codes ": " ++ (decimal details.numbers.record_size ++ (codes " bytes for keys of " ++ decimal details.numbers.key_length))
-index_detail_words why details = bad_page_words details.bad_page
+abbrev pub index_detail_words : NdxFault → Option ℕ → IndexNumbers → List ℕ
+index_detail_words index.Truncated page numbers = codes ": " ++ (decimal numbers.file_length ++ (codes " bytes, not " ++ decimal PAGE))
+index_detail_words index.NumericIndex page numbers = codes ": type " ++ decimal numbers.key_type
+index_detail_words index.UniqueIndex page numbers = codes ": flag " ++ decimal numbers.unique_flag
+index_detail_words index.BadKeyLength page numbers = codes ": " ++ decimal numbers.key_length
+index_detail_words index.BadRecordSize page numbers = codes ": " ++ (decimal numbers.record_size ++ (codes " bytes for keys of " ++ decimal numbers.key_length))
+index_detail_words why page numbers = bad_page_words page
 
 -- that the folder of a path is not recovered, and how that is done
 abbrev pub unrecovered_words : List ℕ → List ℕ
@@ -101,8 +94,8 @@ load_words path Unrecovered = unrecovered_words path
 abbrev pub refusal_words : List ℕ → EntryFault → List ℕ
 refusal_words path (Unloaded why) = load_words path why
 refusal_words path (UnloadedMemos why) = load_words path why
-refusal_words path (NoTable why details) = codes "no table: " ++ (named_words (image_name why) (image_words why) ++ table_detail_words why details)
-refusal_words path (NoIndex why details) = codes "no index: " ++ (named_words (ndx_name why) (ndx_words why) ++ index_detail_words why details)
+refusal_words path (NoTable bad numbers) = codes "no table: " ++ (named_words (image_name bad.why) (image_words bad.why) ++ table_detail_words bad.why bad.part numbers)
+refusal_words path (NoIndex bad numbers) = codes "no index: " ++ (named_words (ndx_name bad.why) (ndx_words bad.why) ++ index_detail_words bad.why bad.page numbers)
 
 -- the length of the keys and that of the expression's
 abbrev pub length_words : ℕ → ℕ → List ℕ
@@ -164,7 +157,7 @@ entry_name (Station script) = codes "STATION"
 
 -- the path that is told: of a table's two the DBF's, but where it is that of its memos of which no bytes are had
 abbrev pub entry_path : SetupEntry → Finding → List ℕ
-entry_path (Table name dbf (Some dbt)) (found.Refused (UnloadedMemos why)) = dbt
+entry_path entry (found.Refused fault) = refused_path entry fault
 entry_path (Table name dbf dbt) finding = dbf
 entry_path (Index table name ndx) finding = ndx
 entry_path (Station script) finding = script

@@ -14,13 +14,13 @@ use Rattle.station_lines.specs.Script.BadLines as script
 use Rattle.station_lines.specs.BadSetupLines.{SetupReason, setup_reason}
 use Rattle.station_lines.specs.BadSetupLines as setup
 use Rattle.table_text.specs.Shown.{shown_byte}
-use Rattle.setup_check.specs.declared.fault.LoadRefusal.{LoadRefusal}
 use Rattle.setup_check.specs.declared.scripts.ScriptCounts.{ScriptCounts}
 use Rattle.setup_check.specs.declared.scripts.NumberedLine.{NumberedLine}
 use Rattle.setup_check.specs.declared.scripts.BadLinesTold.{BadLinesTold}
 use Rattle.setup_check.specs.declared.scripts.BadLinesTold.TheVariants.{First, Each}
 use Rattle.setup_check.specs.declared.shown_line.TheConstants.{MAX_SHOWN_BYTES}
-use Rattle.setup_check.specs.Findings.{IsLoadRefusal}
+use Rattle.setup_files.specs.declared.fault.LoadRefusal.{LoadRefusal}
+use Rattle.setup_files.specs.EntryFiles.{IsLoadRefusal}
 
 -- ---- lines
 

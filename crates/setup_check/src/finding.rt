@@ -1,7 +1,7 @@
 //! What is found at an entry of a setup.
 
-use crate::fault::EntryFault;
 use crate::freshness::IndexState;
+use setup_files::{EntryContent, EntryFault};
 
 /// How many records a table has.
 #[derive(Clone, Copy, Debug, PartialEq, Eq)]
@@ -32,4 +32,13 @@ pub enum Finding {
     Script,
     /// It is refused.
     Refused(EntryFault),
+}
+
+/// What is found at the entries of a setup.
+#[derive(Drop)]
+pub struct Looked {
+    /// A finding for each entry.
+    pub findings: Vec<Finding>,
+    /// What the files of each entry are, or why they are refused.
+    pub reads: Vec<Result<EntryContent, EntryFault>>,
 }

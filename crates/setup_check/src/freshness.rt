@@ -6,7 +6,7 @@ ghost use Rattle.setup_check.specs.Freshness.{IsIndexState, IsIndexStateWith};
 use crate::wrong_pair::{WrongPair, first_wrong};
 use dbf_image::GrowingTable;
 use key_expr::{ExprFault, KeyExpr};
-use ndx_index::NdxFile;
+use ndx_index::{NdxFile, PairList};
 use std::alloc::{AllocError, Global};
 use table_core::are_all_pairs;
 
@@ -32,29 +32,47 @@ pub enum IndexState {
 pub(crate) fn state_of(
     alloc: Global,
     records: &GrowingTable,
-    file: NdxFile,
+    file: &NdxFile,
 ) -> Result<IndexState, AllocError>
-    ensures state { IfOk result (IsIndexState records.now.table file) }
+    ensures state { IfOk result (IsIndexState records.now.table file.now) }
 {
     let expr = match KeyExpr::parse(alloc, file.expr.as_slice(), records.schema()) {
         Ok(expr) => expr,
         Err(ExprFault::NoMemory) => return Err(AllocError),
         Err(fault) => return Ok(IndexState::NoExpression(fault)),
     };
-    Ok(state_with(records, &expr, file))
+    state_with(alloc, records, &expr, file)
 }
 
-// The same where its text is a key expression. Takes no memory.
-fn state_with(records: &GrowingTable, expr: &KeyExpr, file: NdxFile) -> IndexState
+// The same pairs once more.
+fn copy_of(alloc: Global, pairs: &PairList) -> Result<PairList, AllocError>
+    ensures pairs { IfOk result (λ copy. copy.pairs ≡ pairs.now.pairs) }
+{
+    let mut copy = PairList::new(alloc, pairs.key_len());
+    copy.reserve(pairs.len())?;
+    for at in 0..pairs.len() {
+        copy.push(&pairs.get(at))?;
+    }
+    Ok(copy)
+}
+
+// What the file of an index is beside its table where its text is a key expression. The pairs are compared in a copy, since they are
+// put in order for it.
+fn state_with(
+    alloc: Global,
+    records: &GrowingTable,
+    expr: &KeyExpr,
+    file: &NdxFile,
+) -> Result<IndexState, AllocError>
     requires fields { expr.now.fields ≡ records.now.table.schema }
-    ensures state { IsIndexStateWith records.now.table file expr.now.expr result }
+    ensures state { IfOk result (IsIndexStateWith records.now.table file.now expr.now.expr) }
 {
     if file.key_len != expr.key_len() {
-        return IndexState::OtherLength(file.key_len, expr.key_len());
+        return Ok(IndexState::OtherLength(file.key_len, expr.key_len()));
     }
     let first = first_wrong(records, expr, &file.pairs);
-    if are_all_pairs(records, expr, file.pairs) {
-        return IndexState::Fresh;
+    if are_all_pairs(records, expr, copy_of(alloc, &file.pairs)?) {
+        return Ok(IndexState::Fresh);
     }
-    IndexState::Stale(first)
+    Ok(IndexState::Stale(first))
 }

@@ -1,41 +1,30 @@
 //! What a look at every file of a setup finds.
 //!
 //! [`look_at_all`] loads and reads what each entry of a setup names, whatever was found at the others, and answers a
-//! [`Finding`] for each: why a file is refused and where, and of an index what it is beside its table. [`findings_text`] tells
-//! them in words, a line a file. [`scripts_text`] reads the scripts of the stations and tells which of their lines are bad, and
-//! [`bad_setup_text`] why a line of the setup is.
+//! [`Finding`] for each: why a file is refused and where, and of an index what it is beside its table. Beside the findings it hands
+//! out what was read. [`findings_text`] tells them in words, a line a file. [`scripts_text`] tells which lines of the stations'
+//! scripts are bad, and [`bad_setup_text`] why a line of the setup is.
 //! [`kept_files_text`] tells which files stay as they are beside new ones.
 //!
-//! Start with specs/Findings.antt (what a finding says of the files), specs/TableFile.antt (what a table's files tell before
-//! they are read as a table), specs/IndexFile.antt (what an index's file that is refused tells), specs/Freshness.antt (what an
-//! index is beside its table), specs/WrongPair.antt (the first of its pairs that isn't its record's), specs/Lines.antt (how it is
-//! told), specs/ScriptLines.antt (what is told of scripts) and specs/KeptLines.antt, then read src/look.rt, src/table_file.rt,
-//! src/index_file.rt, src/freshness.rt and src/scripts.rt.
+//! Start with specs/Findings.antt (what a finding says of the files), specs/Freshness.antt (what an index is beside its table),
+//! specs/WrongPair.antt (the first of its pairs that isn't its record's), specs/Lines.antt (how it is told), specs/ScriptLines.antt
+//! (what is told of scripts) and specs/KeptLines.antt, then read src/look.rt, src/freshness.rt and src/scripts.rt.
 #![tactic(auto)]
 
-mod fault;
 mod finding;
 mod freshness;
-mod head_numbers;
-mod index_file;
 mod kept_lines;
 mod lines;
-mod load;
 mod look;
 mod reasons;
 mod scripts;
 mod shown_line;
-mod table_file;
 mod wrong_pair;
 
-pub use fault::{EntryFault, LoadRefusal};
-pub use finding::{Finding, IndexFinding, TableCounts};
+pub use finding::{Finding, IndexFinding, Looked, TableCounts};
 pub use freshness::IndexState;
-pub use head_numbers::{IndexNumbers, TableNumbers};
-pub use index_file::IndexDetails;
 pub use kept_lines::kept_files_text;
 pub use lines::findings_text;
 pub use look::{all_are_good, look_at_all};
 pub use scripts::{BadLinesTold, bad_setup_text, scripts_text};
-pub use table_file::{BadField, MemoCell, TableDetails, bad_memo_is_told, first_memo_fault};
 pub use wrong_pair::WrongPair;

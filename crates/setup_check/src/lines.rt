@@ -10,7 +10,6 @@ mod named;
 pub(crate) mod numbers;
 mod refusal;
 
-use crate::fault::EntryFault;
 use crate::finding::{Finding, TableCounts};
 use crate::freshness::IndexState;
 use crate::lines::named::append_expression_fault;
@@ -18,6 +17,7 @@ use crate::lines::numbers::append_number;
 use crate::lines::refusal::append_refusal;
 use crate::wrong_pair::WrongPair;
 use key_expr::Key;
+use setup_files::refused_path;
 use station_lines::{LF, SetupEntry};
 use std::alloc::{AllocError, Global};
 use table_text::append_between_quotes;
@@ -171,11 +171,11 @@ fn entry_name(entry: &SetupEntry) -> &[u8]
 fn entry_path<'a>(entry: &'a SetupEntry, finding: &Finding) -> &'a [u8]
     ensures value { result.now ≡ path_in entry.now finding.now }
 {
+    if let Finding::Refused(fault) = finding {
+        return refused_path(entry, *fault).as_slice();
+    }
     match entry {
-        SetupEntry::Table { dbf, dbt, .. } => match (dbt, finding) {
-            (Some(dbt), Finding::Refused(EntryFault::UnloadedMemos(_))) => dbt.as_slice(),
-            _ => dbf.as_slice(),
-        },
+        SetupEntry::Table { dbf, .. } => dbf.as_slice(),
         SetupEntry::Index { ndx, .. } => ndx.as_slice(),
         SetupEntry::Station { script } => script.as_slice(),
     }

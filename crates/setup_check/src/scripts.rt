@@ -1,17 +1,16 @@
 //! What the lines of a setup's scripts are, in words.
 
-ghost use Rattle.std.specs.Prelude.{◌≡◌, ◌+◌, ◌^◌, ◌<◌, ◌++◌, ℕ, List, [], option_map, IfOk, OnOk, if◌then◌else◌};
-ghost use Rattle.station_lines.specs.declared.setup.entry.SetupEntry.TheVariants.{Station};
+ghost use Rattle.std.specs.Prelude.{◌≡◌, ◌+◌, ◌^◌, ◌<◌, ◌++◌, ℕ, List, [], length, Option, option_map, IfOk, OnOk, if◌then◌else◌};
+ghost use Rattle.folders.specs.declared.named.NamedFile.{NamedFile};
+ghost use Rattle.setup_files.specs.EntryFiles.{AreEntriesRead, IsEntryRead};
 ghost use Rattle.station_lines.specs.Script.Lines.{AreLines};
 ghost use Rattle.setup_check.specs.ScriptLines.{is_bad_line as bad_line_is, line_of_number, AreCounts, pair_of, first_bad as first_bad_of, numbered_line, verdict_words, counted_line};
 ghost use Rattle.setup_check.specs.ScriptLines.{bad_line_text, bad_lines_text, script_text, IsScriptText, IsEntryText, AreScriptTexts, IsBadSetupText};
 
 use crate::lines::numbers::append_words;
-use crate::load::load_file;
 use crate::reasons::{append_reason, append_setup_reason};
 use crate::shown_line::append_shown;
-use byte_io::Bytes;
-use folders::Source;
+use setup_files::{EntryContent, EntryFault};
 use station_lines::{LF, SetupEntry, lines, setup_line_reason, why_bad};
 use std::alloc::{AllocError, Global};
 
@@ -223,55 +222,43 @@ fn text_of(
     Ok(text)
 }
 
-// What is told of a station's script.
-fn text_of_script<S: Source>(
+// What is told of the script of an entry of which this was read.
+fn text_of_entry(
     alloc: Global,
-    source: &mut S,
-    told: BadLinesTold,
-    path: &Bytes,
-) -> Result<Vec<u8>, AllocError>
-    ensures value { IfOk result (λ text. IsEntryText (S.files source.old) told (Station path.now) text.items) }
-    ensures kept { S.files source.new ≡ S.files source.old }
-{
-    match load_file(alloc, source, path)? {
-        Ok(script) => text_of(alloc, told, path.as_slice(), script.as_slice()),
-        Err(_) => Ok(Vec::new(alloc)),
-    }
-}
-
-// What is told of an entry's script, where it is a station's.
-fn text_of_entry<S: Source>(
-    alloc: Global,
-    source: &mut S,
     told: BadLinesTold,
     entry: &SetupEntry,
+    read: &Result<EntryContent, EntryFault>,
 ) -> Result<Vec<u8>, AllocError>
-    ensures value { IfOk result (λ text. IsEntryText (S.files source.old) told entry.now text.items) }
-    ensures kept { S.files source.new ≡ S.files source.old }
+    ensures value { (files : Option (List NamedFile)) → IsEntryRead files entry.now read.now
+        → IfOk result (λ text. IsEntryText files told entry.now text.items) }
 {
-    match entry {
-        SetupEntry::Station { script } => text_of_script(alloc, source, told, script),
+    match (entry, read) {
+        (SetupEntry::Station { script }, Ok(EntryContent::Script(bytes))) => {
+            text_of(alloc, told, script.as_slice(), bytes.as_slice())
+        }
         _ => Ok(Vec::new(alloc)),
     }
 }
 
-/// What the lines of the scripts of a setup are, in words: of each that can be read a line, with how many lines it has and
+/// What the lines of the scripts of a setup are, in words: of each that was read a line, with how many lines it has and
 /// how many of them are no command, and where it is asked for a line for each of these, with why it is bad. Lines are
-/// counted as they stand in the file, blank ones and remarks too. Of a script that can't be read nothing is told here.
+/// counted as they stand in the file, blank ones and remarks too. Of a script that is refused nothing is told here. What was read of
+/// the entries is told, for each of them.
 ///
 /// An `Err` says that there was no memory.
-pub fn scripts_text<S: Source>(
+pub fn scripts_text(
     alloc: Global,
-    source: &mut S,
     entries: &[SetupEntry],
+    reads: &[Result<EntryContent, EntryFault>],
     told: BadLinesTold,
 ) -> Result<Vec<u8>, AllocError>
-    ensures value { IfOk result (λ text. AreScriptTexts (S.files source.old) told entries.now text.items) }
-    ensures kept { S.files source.new ≡ S.files source.old }
+    requires one_each { length reads.now ≡ length entries.now }
+    ensures value { (files : Option (List NamedFile)) → AreEntriesRead files entries.now reads.now
+        → IfOk result (λ text. AreScriptTexts files told entries.now text.items) }
 {
     let mut text = Vec::new(alloc);
-    for entry in entries {
-        let own = text_of_entry(alloc, source, told, entry)?;
+    for (index, entry) in entries.iter().enumerate() {
+        let own = text_of_entry(alloc, told, entry, &reads[index])?;
         text.extend_from_slice(&own)?;
     }
     Ok(text)

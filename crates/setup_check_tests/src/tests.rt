@@ -139,10 +139,10 @@ fn each_file_of_a_setup_is_told(rt: HostRuntime) -> Result<(), Fail> {
     let alloc = rt.alloc();
     for (setup, told, good) in CASES {
         let entries = parse_setup(alloc, setup.as_bytes())?;
-        let findings = look_at_all(alloc, &mut files(alloc)?, &entries)?;
-        let text = findings_text(alloc, &entries, &findings)?;
+        let looked = look_at_all(alloc, &mut files(alloc)?, &entries)?;
+        let text = findings_text(alloc, &entries, &looked.findings)?;
         assert_eq!(rt;
-            (text.as_slice(), all_are_good(&findings)),
+            (text.as_slice(), all_are_good(&looked.findings)),
             (told.as_bytes(), good)
         );
     }
@@ -221,8 +221,8 @@ fn stale_indexes_are_told_in_detail(rt: HostRuntime) -> Result<(), Fail> {
     let alloc = rt.alloc();
     let entries = parse_setup(alloc, b"TABLE GOOD S.DBF\nINDEX GOOD BYNAME X.NDX\n")?;
     for (leaf, told) in STALE {
-        let findings = look_at_all(alloc, &mut beside(alloc, leaf)?, &entries)?;
-        let text = findings_text(alloc, &entries, &findings)?;
+        let looked = look_at_all(alloc, &mut beside(alloc, leaf)?, &entries)?;
+        let text = findings_text(alloc, &entries, &looked.findings)?;
         let line = format!(in alloc;
             "GOOD  S.DBF  2 records, 0 marked: good\nBYNAME  X.NDX  {told}\n"
         )?;
@@ -323,8 +323,8 @@ fn told_of(alloc: Global, setup: &[u8], name: &[u8], bytes: Vec<u8>) -> Result<V
         failures: Failures::none(),
     };
     let entries = parse_setup(alloc, setup)?;
-    let findings = look_at_all(alloc, &mut source, &entries)?;
-    Ok(findings_text(alloc, &entries, &findings)?)
+    let looked = look_at_all(alloc, &mut source, &entries)?;
+    Ok(findings_text(alloc, &entries, &looked.findings)?)
 }
 
 #[test]

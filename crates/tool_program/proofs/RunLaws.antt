@@ -1,5 +1,5 @@
 -- How a call of the program ends.
-use Rattle.std.proofs.Common.{◌≡◌, ◌∙◌, sym, subst, ℕ, Bool, true, List, Option, Result, Ok, Err, IfErr, OnOk, IsErrAnd, option_copied}
+use Rattle.std.proofs.Common.{◌≡◌, ◌∙◌, sym, subst, ℕ, Bool, true, List, Option, Result, Ok, Err, IfErr, IfOk, OnOk, IsErrAnd, option_copied}
 use Rattle.dbf_image.specs.declared.fault.ImageFault.{ImageFault}
 use Rattle.folders.specs.declared.named.NamedFile.{NamedFile}
 use Rattle.folders.specs.declared.source.LoadFault.{LoadFault}
@@ -21,20 +21,24 @@ use Rattle.tool_program.specs.View.{IsNoTable}
 module _ {T : Type 0} (files : Option (List NamedFile)) (unread : List ℕ → Type 0) where
   -- a fault of showing a table is true of its files
   pub true_of_table : (options : Options) (shown : Result T ShowFault) (fault : ShowFault) → shown ≡ Err fault
+      → (shown ≡ Err (show.Load load.CannotRead) → unread options.table.now)
       → (shown ≡ Err (show.Load load.Unrecovered) → IsUnrecovered files options.table.now)
       → ((why : LoadFault) → shown ≡ Err (show.Memos why) → IsMemosFault files unread options.table.now (option_copied options.memos) why)
       → ((why : ImageFault) → shown ≡ Err (show.Table why) → IsNoTable files unread options why)
       → IsTrueOfTable files unread options fault
-  true_of_table options shown (show.Load load.CannotRead) is unrecovered memos no_table = tt
-  true_of_table options shown (show.Load load.Unrecovered) is unrecovered memos no_table = unrecovered is
-  true_of_table options shown (show.Load load.NoMemory) is unrecovered memos no_table = tt
-  true_of_table options shown (show.Memos why) is unrecovered memos no_table = memos why is
-  true_of_table options shown (show.Table why) is unrecovered memos no_table = no_table why is
-  true_of_table options shown (show.Order why) is unrecovered memos no_table = tt
-  true_of_table options shown (show.Text why) is unrecovered memos no_table = tt
+  true_of_table options shown (show.Load load.CannotRead) is failed unrecovered memos no_table = failed is
+  true_of_table options shown (show.Load load.Unrecovered) is failed unrecovered memos no_table = unrecovered is
+  true_of_table options shown (show.Load load.NoMemory) is failed unrecovered memos no_table = tt
+  true_of_table options shown (show.Memos why) is failed unrecovered memos no_table = memos why is
+  true_of_table options shown (show.Table why) is failed unrecovered memos no_table = no_table why is
+  true_of_table options shown (show.Order why) is failed unrecovered memos no_table = tt
+  true_of_table options shown (show.Text why) is failed unrecovered memos no_table = tt
 
 pub err_is : {T E : Type 0} (r : Result T E) (a b : E) → r ≡ Err a → r ≡ Err b → a ≡ b
 err_is r a b e h = let same : Err a ≡ Err b = sym e ∙ h in cc
+
+pub answered_as : {E : Type 0} (r : Result Bool E) (x b : Bool) (P : Bool → Type 0) → r ≡ Ok x → x ≡ b → IfOk r P → P b
+answered_as r x b P e is h = subst P is (subst (λ s. IfOk s P) e h)
 
 pub ok_not_err : {T E : Type 0} (r : Result T E) (x : T) (e : E) → r ≡ Ok x → r ≡ Err e → ⊥
 ok_not_err r x e ok err = let clash : Ok x ≡ Err e = sym ok ∙ err in cc

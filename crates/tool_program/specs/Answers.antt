@@ -17,7 +17,7 @@ use Rattle.tool_program.specs.declared.report.ToolReport.{ToolReport}
 use Rattle.tool_program.specs.declared.report.ToolReport.TheVariants.{Good, NotOpened, Unread}
 use Rattle.tool_program.specs.declared.showing.ShowFault.{ShowFault}
 use Rattle.tool_program.specs.declared.showing.ShowFault.TheVariants as show
-use Rattle.tool_program.specs.Check.{check_load_fault, IsTold, IsVerdict, TellsBadLine}
+use Rattle.tool_program.specs.Check.{check_load_fault, IsTold, IsVerdict, Loads, TellsBadLine}
 use Rattle.tool_program.specs.Command.{IsAskedIn, IsWhyNotRead}
 use Rattle.tool_program.specs.Faults.{path_at_fault, IsToolFaultOf, IsToolFaultOfSetup}
 use Rattle.tool_program.specs.IndexTree.{IsTreeFault, IsTreeShown}
@@ -45,20 +45,23 @@ IsTreeShownAs files path old new NotOpened = ⊥
 IsTreeShownAs files path old new Unread = Unit {0}
 
 -- all was told of a setup: the server would open it, or would not
-abbrev pub IsCheckedAs : Option (List NamedFile) → CheckOptions → Option (List ℕ) → Option (List ℕ) → ToolReport → Type 0
-IsCheckedAs files options old new Good = IsTold files options.setup.now options.bad_lines true old new × IsVerdict files options.setup.now true
-IsCheckedAs files options old new NotOpened = IsTold files options.setup.now options.bad_lines false old new × IsVerdict files options.setup.now false
-IsCheckedAs files options old new Unread = Unit {0}
+abbrev pub IsCheckedAs : Option (List NamedFile) → Loads → CheckOptions → Option (List ℕ) → Option (List ℕ) → ToolReport → Type 0
+IsCheckedAs files loads options old new Good =
+    IsTold files loads options.setup.now options.bad_lines true old new × IsVerdict files loads options.setup.now true
+IsCheckedAs files loads options old new NotOpened =
+    IsTold files loads options.setup.now options.bad_lines false old new × IsVerdict files loads options.setup.now false
+IsCheckedAs files loads options old new Unread = Unit {0}
 
--- what is asked for was written, over these files, after what the output had
-abbrev pub IsAnswered : Option (List NamedFile) → Asked → Option (List ℕ) → Option (List ℕ) → ToolReport → Type 0
-IsAnswered files (Show options) = IsShownAs files options
-IsAnswered files (Check options) = IsCheckedAs files options
-IsAnswered files (Tree path) = IsTreeShownAs files path.now
+-- what is asked for was written, over these files, after what the output had; `loads` says of what was read of a setup's entries what
+-- happened to the count of loads that failed
+abbrev pub IsAnswered : Option (List NamedFile) → Loads → Asked → Option (List ℕ) → Option (List ℕ) → ToolReport → Type 0
+IsAnswered files loads (Show options) = IsShownAs files options
+IsAnswered files loads (Check options) = IsCheckedAs files loads options
+IsAnswered files loads (Tree path) = IsTreeShownAs files path.now
 
 -- what these words ask for was written
-abbrev pub IsAnsweredTo : List (List ℕ) → Option (List NamedFile) → Option (List ℕ) → Option (List ℕ) → ToolReport → Type 0
-IsAnsweredTo words files old new report = (asked : Asked) × IsAskedIn words asked × IsAnswered files asked old new report
+abbrev pub IsAnsweredTo : List (List ℕ) → Option (List NamedFile) → Loads → Option (List ℕ) → Option (List ℕ) → ToolReport → Type 0
+IsAnsweredTo words files loads old new report = (asked : Asked) × IsAskedIn words asked × IsAnswered files loads asked old new report
 
 -- ---- why it was not
 
@@ -74,15 +77,15 @@ IsToldUnloaded (Show options) why = IsToolFaultOf (show.Load why) options.table.
 IsToldUnloaded (Check options) why = IsToolFaultOfSetup (check_load_fault why) options.setup.now
 IsToldUnloaded (Tree path) why = IsToolFaultOf (show.Load why) path.now
 
--- what a fault of loading the file of a path says: where its folder is not recovered, that it is so
-abbrev pub IsTrueOfLoad : Option (List NamedFile) → List ℕ → LoadFault → Type 0
-IsTrueOfLoad files path load.CannotRead = Unit {0}
-IsTrueOfLoad files path load.Unrecovered = IsUnrecovered files path
-IsTrueOfLoad files path load.NoMemory = Unit {0}
+-- what a fault of loading the file of a path says: that it was not had, or that its folder is not recovered
+abbrev pub IsTrueOfLoad : Option (List NamedFile) → (List ℕ → Type 0) → List ℕ → LoadFault → Type 0
+IsTrueOfLoad files unread path load.CannotRead = unread path
+IsTrueOfLoad files unread path load.Unrecovered = IsUnrecovered files path
+IsTrueOfLoad files unread path load.NoMemory = Unit {0}
 
 -- what a fault of showing a table says is true of its files
 abbrev pub IsTrueOfTable : Option (List NamedFile) → (List ℕ → Type 0) → Options → ShowFault → Type 0
-IsTrueOfTable files unread options (show.Load why) = IsTrueOfLoad files options.table.now why
+IsTrueOfTable files unread options (show.Load why) = IsTrueOfLoad files unread options.table.now why
 IsTrueOfTable files unread options (show.Memos why) = IsMemosFault files unread options.table.now (option_copied options.memos) why
 IsTrueOfTable files unread options (show.Table why) = IsNoTable files unread options why
 IsTrueOfTable files unread options (show.Order why) = Unit {0}

@@ -1,6 +1,7 @@
 -- A setup that is checked.
-use Rattle.std.specs.Prelude.{◌≡◌, ◌≢◌, ℕ, Bool, true, false, List, ◌++◌, Option, Some, None, is_none, Ok, Err}
+use Rattle.std.specs.Prelude.{◌≡◌, ◌≢◌, ◌⊎◌, ℕ, Bool, true, false, List, ◌++◌, Option, Some, None, is_none, IfSome, Result, Ok, Err}
 use Rattle.byte_io.specs.Sink.{grown}
+use Rattle.catalogue_core.specs.declared.opening.OpenFault.{OpenFault}
 use Rattle.catalogue_core.specs.Replay.{Opened}
 use Rattle.folders.specs.declared.named.NamedFile.{NamedFile}
 use Rattle.folders.specs.declared.source.LoadFault.{LoadFault}
@@ -9,14 +10,19 @@ use Rattle.folders.specs.Files.{IsFileOf}
 use Rattle.station_lines.specs.declared.setup.entry.SetupEntry.{SetupEntry}
 use Rattle.station_lines.specs.Setup.{HasNextEntry, IsSetup}
 use Rattle.setup_check.specs.declared.finding.Finding.{Finding}
-use Rattle.setup_check.specs.Findings.{AreFindings}
+use Rattle.setup_files.specs.declared.content.EntryContent.{EntryContent}
+use Rattle.setup_files.specs.declared.fault.EntryFault.{EntryFault}
+use Rattle.setup_files.specs.EntryFiles.{AreEntriesRead}
+use Rattle.setup_check.specs.Findings.{AreFindings, AreFoundOf}
 use Rattle.setup_check.specs.KeptLines.{kept_lines}
 use Rattle.setup_check.specs.Lines.{setup_lines}
 use Rattle.setup_check.specs.declared.scripts.BadLinesTold.{BadLinesTold}
 use Rattle.setup_check.specs.ScriptLines.{AreScriptTexts, IsBadSetupText}
 use Rattle.office_run.specs.declared.fault.ServeFault.{ServeFault}
-use Rattle.office_run.specs.declared.fault.ServeFault.TheVariants.{NoMemory as NoMemoryToServe}
+use Rattle.office_run.specs.declared.fault.ServeFault.TheVariants.{Refused, NoMemory as NoMemoryToServe}
+use Rattle.office_run.specs.Loading.{first_refused}
 use Rattle.office_run.specs.OpenedSetup.{IsOpenedBy, IsUnopened}
+use Rattle.office_run.specs.WholeRun.{IsSaid}
 use Rattle.tool_program.specs.Verdict.{verdict_line}
 use Rattle.tool_program.specs.declared.checking.CheckFault.{CheckFault}
 use Rattle.tool_program.specs.declared.checking.CheckFault.TheVariants.{CannotRead, Unrecovered, BadLine, NoMemory, Sink}
@@ -31,24 +37,42 @@ abbrev pub IsOpening : Option (List NamedFile) → List ℕ → Option ServeFaul
 IsOpening files path None = (opened : Opened) × IsOpenedBy files path false opened
 IsOpening files path (Some fault) = (fault ≢ NoMemoryToServe) × IsUnopened files path false fault
 
--- whether it opens all
-abbrev pub IsVerdict : Option (List NamedFile) → List ℕ → Bool → Type 0
-IsVerdict files path true = IsOpening files path None
-IsVerdict files path false = (fault : ServeFault) × IsOpening files path (Some fault)
+-- what is said of entries and what was read of them
+abbrev pub Loads : Type 1
+Loads = List SetupEntry → List (Result EntryContent EntryFault) → Type 0
+
+-- what was read of the entries of a setup, where `loads` says what happened to the count of loads that failed
+pub record IsSetupRead (files : Option (List NamedFile)) (loads : Loads) (path : List ℕ) (entries : List SetupEntry) (reads : List (Result EntryContent EntryFault)) : Type 0 where
+  pub said : IsSaid files path (Ok entries)
+  pub read : AreEntriesRead files entries reads
+  pub loaded : loads entries reads
+
+-- the fault is that of the first entry whose files are refused, or no entry's are, and it is one of opening
+abbrev pub IsFirstFault : List SetupEntry → List (Result EntryContent EntryFault) → ServeFault → Type 0
+IsFirstFault entries reads fault = (first_refused entries reads ≡ Some fault) ⊎ ((first_refused entries reads ≡ None) × (why : OpenFault) × (fault ≡ Refused why))
+
+-- whether it opens all; where it does not, why is one of what was read
+abbrev pub IsVerdict : Option (List NamedFile) → Loads → List ℕ → Bool → Type 0
+IsVerdict files loads path true = IsOpening files path None
+IsVerdict files loads path false =
+    (fault : ServeFault) × IsOpening files path (Some fault)
+    × (entries : List SetupEntry) × (reads : List (Result EntryContent EntryFault)) × IsSetupRead files loads path entries reads × IsFirstFault entries reads fault
 
 -- What was told of a setup: what is found at each of its entries, which of its files stay as they are beside new ones, which lines
--- of its scripts are no commands, and whether the server opens all, or why it opens nothing.
-pub record IsTold (files : Option (List NamedFile)) (path : List ℕ) (bad_lines : BadLinesTold) (opens : Bool) (old new : Option (List ℕ)) : Type 0 where
-  pub text : List ℕ
+-- of its scripts are no commands, and whether the server opens all, or why it opens nothing. Of files that are refused it is told what
+-- was met where they were read.
+pub record IsTold (files : Option (List NamedFile)) (loads : Loads) (path : List ℕ) (bad_lines : BadLinesTold) (opens : Bool) (old new : Option (List ℕ)) : Type 0 where
   pub entries : List SetupEntry
+  pub reads : List (Result EntryContent EntryFault)
   pub findings : List Finding
   pub scripts : List ℕ
   pub fault : Option ServeFault
-  pub found : IsFileOf files path text
-  pub says : IsSetup text (Ok entries)
+  pub setup : IsSetupRead files loads path entries reads
   pub looked : AreFindings files entries findings
+  pub refused : AreFoundOf reads findings
   pub read : AreScriptTexts files bad_lines entries scripts
   pub opening : IsOpening files path fault
+  pub first : IfSome fault (IsFirstFault entries reads)
   pub answer : opens ≡ is_none fault
   pub wrote : new ≡ grown old (((setup_lines entries findings ++ kept_lines entries) ++ scripts) ++ verdict_line fault)
 

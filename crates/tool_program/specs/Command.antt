@@ -4,7 +4,7 @@ use Rattle.clap.specs.Words.{App, Rule, Text, kind_of, new_app, new_rule, subcom
 use Rattle.clap.specs.declared.builder.action.ArgAction.TheVariants.{Set}
 use Rattle.clap.specs.declared.builder.value_parser.ValueParser.TheVariants.{NonEmptyString, String}
 use Rattle.clap.specs.declared.error.kind.ErrorKind.TheVariants.{OutOfMemory}
-use Rattle.program_frame.specs.CommandLine.{flag_rule, option_rule}
+use Rattle.program_frame.specs.CommandLine.{flag_rule, option_rule, program_app}
 use Rattle.program_frame.specs.declared.ending.Ending.{Ending}
 use Rattle.program_frame.specs.declared.ending.Ending.TheVariants as ended
 use Rattle.tool_program.specs.declared.fault.ToolFault.{ToolFault}
@@ -46,8 +46,8 @@ tree_app = with_rule (new_app (codes "tree")) (path_rule (codes "index"))
 
 -- the program, which wants a sub-command
 abbrev pub bare_app : App
-bare_app = record (new_app (codes "table_tool")) {
-  top = record (new_app (codes "table_tool")).top { subcommand_required = true; arg_required_else_help = true };
+bare_app = record (program_app (codes "table_tool")) {
+  top = record (program_app (codes "table_tool")).top { subcommand_required = true; arg_required_else_help = true };
 }
 
 -- the program and its sub-commands

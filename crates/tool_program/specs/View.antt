@@ -15,7 +15,7 @@ use Rattle.tool_program.specs.Memos.{IsMemoFile, IsMemosFault, IsMissingBeside}
 use Rattle.tool_program.specs.Order.{IsOrder}
 use Rattle.tool_program.specs.declared.options.Options.{Options}
 use Rattle.tool_program.specs.declared.showing.ShowFault.{ShowFault}
-use Rattle.tool_program.specs.declared.showing.ShowFault.TheVariants.{Memos}
+use Rattle.tool_program.specs.declared.showing.ShowFault.TheVariants.{Memos, Text}
 use Rattle.tool_program.specs.declared.options.View.{View}
 use Rattle.tool_program.specs.declared.options.View.TheVariants.{Records, Csv, Fields}
 
@@ -29,6 +29,11 @@ view_text table date order Fields = fields_text table date
 abbrev pub IsFaultOfMemos : Option (List NamedFile) → (List ℕ → Type 0) → List ℕ → Option (List ℕ) → ShowFault → Type 0
 IsFaultOfMemos files unread table given (Memos why) = IsMemosFault files unread table given why
 IsFaultOfMemos files unread table given fault = ⊥
+
+-- the fault comes before any text is written
+abbrev pub IsBeforeText : ShowFault → Type 0
+IsBeforeText (Text why) = ⊥
+IsBeforeText fault = Unit {0}
 
 -- What a sink has after a table was shown: the text that was asked for, of the table whose files stand at the paths of the
 -- options, in the order of the index. The date is the one that the table's header tells.

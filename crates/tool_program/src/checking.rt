@@ -1,18 +1,24 @@
 //! A setup that is checked.
 
-ghost use Rattle.std.specs.Prelude.{◌≡◌, ◌⊎◌, Ok, Err, Some, IfOk, IfErr};
+ghost use Rattle.std.specs.Prelude.{◌≡◌, ◌⊎◌, ℕ, List, Option, Ok, Err, Some, IfOk, IfErr, IfSome};
 ghost use Rattle.byte_io.specs.Sink.{IsFront, Rises};
 ghost use Rattle.folders.specs.Files.{IsTooLong, IsUnrecovered, load_refusal};
-ghost use Rattle.station_lines.specs.Setup.{IsSetup};
-ghost use Rattle.tool_program.specs.Check.{check_load_fault, IsBadLineFault, IsLineFault, IsOpening, IsTold, IsVerdict, TellsBadLine, TellsNothing};
+ghost use Rattle.folders.specs.declared.named.NamedFile.{NamedFile};
+ghost use Rattle.station_lines.specs.Setup.{IndexesFollowTables, IsSetup};
+ghost use Rattle.setup_files.specs.EntryFiles.{AreEntriesRead};
+ghost use Rattle.setup_files.specs.Loads.{AreEntryLoads};
+ghost use Rattle.office_run.specs.WholeRun.{IsSaid};
+ghost use Rattle.tool_program.specs.Check.{check_load_fault, IsFirstFault, IsOpening, IsTold, IsVerdict};
+ghost use Rattle.tool_program.specs.Check.{IsBadLineFault, IsLineFault, TellsBadLine, TellsNothing};
 
 use crate::verdict::append_verdict;
 use byte_io::{ByteSink, Bytes, SinkFault, write_all};
 use folders::{LoadFault, Source};
-use office_run::{ServeFault, open_setup};
+use office_run::{Loaded, ServeFault, open_loaded};
 use setup_check::{
-    BadLinesTold, bad_setup_text, findings_text, kept_files_text, look_at_all, scripts_text,
+    BadLinesTold, Looked, bad_setup_text, findings_text, kept_files_text, look_at_all, scripts_text,
 };
+use setup_files::{EntryContent, EntryFault};
 use station_lines::{SetupEntry, SetupFault, parse_setup};
 use std::alloc::{AllocError, Global};
 
@@ -68,17 +74,24 @@ impl From<SinkFault> for CheckFault {
     }
 }
 
-// Why the server opens nothing of what a setup names, or `None` where it opens all.
-fn fault_of_opening<F: Source>(
+// Why the server opens nothing of what was read of a setup's entries, or `None` where it opens all.
+fn fault_of_opening(
     alloc: Global,
-    source: &mut F,
-    setup: &str,
+    entries: &[SetupEntry],
+    reads: Vec<Result<EntryContent, EntryFault>>,
 ) -> Result<Option<ServeFault>, AllocError>
-    ensures opening { IfOk result (IsOpening (F.files source.old) setup.now) }
-    ensures kept { F.files source.new ≡ F.files source.old }
+    requires tables_first { IndexesFollowTables entries.now }
+    requires of_entries { (files : Option (List NamedFile)) × AreEntriesRead files entries.now reads.items }
+    ensures opening { (files : Option (List NamedFile)) (path : List ℕ) → IsSaid files path (Ok entries.now) → AreEntriesRead files entries.now reads.items
+        → IfOk result (IsOpening files path) }
+    ensures first { IfOk result (λ fault. IfSome fault (IsFirstFault entries.now reads.items)) }
 {
-    let path = Bytes::from_slice(alloc, setup.as_bytes())?;
-    match open_setup(alloc, &path, false, source) {
+    let loaded = match Loaded::from_reads(alloc, entries, reads) {
+        Ok(loaded) => loaded,
+        Err(ServeFault::NoMemory) => return Err(AllocError),
+        Err(fault) => return Ok(Some(fault)),
+    };
+    match open_loaded(alloc, loaded, false) {
         Ok(_) => Ok(None),
         Err(ServeFault::NoMemory) => Err(AllocError),
         Err(fault) => Ok(Some(fault)),
@@ -99,6 +112,7 @@ fn bad_line(alloc: Global, text: &[u8], number: usize) -> CheckFault
 // What the lines of a setup say.
 fn entries_of(alloc: Global, text: &[u8]) -> Result<Vec<SetupEntry>, CheckFault>
     ensures says { IfOk result (λ entries. IsSetup text.now (Ok entries.items)) }
+    ensures tables_first { IfOk result (λ entries. IndexesFollowTables entries.items) }
     // A bad line is not told as a want of memory, which is asked for only at a line that may stand there.
     ensures fault { IfErr result (IsLineFault text.now) }
 {
@@ -111,7 +125,7 @@ fn entries_of(alloc: Global, text: &[u8]) -> Result<Vec<SetupEntry>, CheckFault>
 
 /// Looks at every file that the setup of a path names, and tells what is found, a line a file, which files stay as they are beside
 /// new ones, which lines of the scripts are no commands, and whether the server would open all, or why it would open nothing.
-/// Whether it would is answered too.
+/// Whether it would is answered too. Each file is loaded once.
 ///
 /// `CannotRead` says that the setup can't be read, `Unrecovered` that the list of a set of new files lies in its folder, and
 /// `BadLine` that its line of this number is bad, and why; then nothing is told.
@@ -124,9 +138,12 @@ pub fn check_setup<F: Source, S: ByteSink>(
     setup: &str,
     bad_lines: BadLinesTold,
 ) -> Result<bool, CheckFault>
-    // It says that the server would open all exactly where `open_setup`, which the server begins with, opens it.
-    ensures opens { IfOk result (IsVerdict (F.files source.old) setup.now) }
-    ensures told { IfOk result (λ opens. IsTold (F.files source.old) setup.now bad_lines opens (S.written sink.old) (S.written sink.new)) }
+    // It says that the server would open all exactly where `open_setup`, which the server begins with, opens it. That a file can't be
+    // read is said only where its load has failed, or where it is over the limit.
+    ensures opens { let loads = AreEntryLoads (F.files source.old) (F.failures source.old) (F.failures source.new) in
+        IfOk result (IsVerdict (F.files source.old) loads setup.now) }
+    ensures told { let loads = AreEntryLoads (F.files source.old) (F.failures source.old) (F.failures source.new) in
+        IfOk result (λ opens. IsTold (F.files source.old) loads setup.now bad_lines opens (S.written sink.old) (S.written sink.new)) }
     // A line that is told as bad is the first that is, and what is told of it says why.
     ensures bad_line { IfErr result (TellsBadLine (F.files source.old) setup.now) }
     ensures kept { IsFront (S.written sink.old) (S.written sink.new) }
@@ -141,13 +158,13 @@ pub fn check_setup<F: Source, S: ByteSink>(
 {
     let text = source.load(alloc, setup.as_bytes())?;
     let entries = entries_of(alloc, text.as_slice())?;
-    let findings = look_at_all(alloc, source, &entries)?;
+    let Looked { findings, reads } = look_at_all(alloc, source, &entries)?;
     let mut report = findings_text(alloc, &entries, &findings)?;
     let kept = kept_files_text(alloc, &entries)?;
     report.extend_from_slice(&kept)?;
-    let scripts = scripts_text(alloc, source, &entries, bad_lines)?;
+    let scripts = scripts_text(alloc, &entries, &reads, bad_lines)?;
     report.extend_from_slice(&scripts)?;
-    let fault = fault_of_opening(alloc, source, setup)?;
+    let fault = fault_of_opening(alloc, &entries, reads)?;
     append_verdict(alloc, &mut report, &fault)?;
     write_all(sink, &report)?;
     Ok(fault.is_none())

@@ -12,7 +12,7 @@ use crate::fault::ToolFault;
 use crate::range::range_of;
 use clap::builder::ValueParser;
 use clap::{Arg, ArgAction, ArgMatches, Command};
-use program_frame::{Ending, flag, has_flag, option, value_of};
+use program_frame::{Ending, flag, has_flag, option, program, value_of};
 use setup_check::BadLinesTold;
 use std::alloc::{AllocError, Global};
 use std::convert::AsStr;
@@ -84,9 +84,8 @@ pub(crate) enum Asked<'a> {
 pub(crate) fn command<'a>(alloc: Global) -> Result<Command<'a>, AllocError>
     ensures app { IfOk result (λ command. app_of command ≡ tool_app) }
 {
-    Command::new(alloc, "table_tool")
-        .about("Shows dBASE III PLUS tables and indexes")
-        .after_help(EXAMPLES)
+    let about = "Shows dBASE III PLUS tables and indexes";
+    program(alloc, "table_tool", about, EXAMPLES)
         .subcommand_required(true)
         .arg_required_else_help(true)
         .subcommand(show_command(alloc)?)?

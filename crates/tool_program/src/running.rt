@@ -5,6 +5,7 @@ ghost use Rattle.byte_io.specs.Sink.{IsFront, Rises};
 ghost use Rattle.folders.specs.Files.{load_refusal};
 ghost use Rattle.tool_program.specs.Check.{check_load_fault};
 ghost use Rattle.tool_program.specs.Memos.{IsNotHad};
+ghost use Rattle.setup_files.specs.Loads.{AreEntryLoads};
 ghost use Rattle.tool_program.specs.Answers.{asked_path, IsAnswered, IsAnsweredTo, IsCheckedAs, IsShownAs, IsTreeShownAs, IsToldUnloaded};
 ghost use Rattle.tool_program.specs.Answers.{IsWhyUnanswered, IsWhyUnchecked, IsWhyUnshown, IsWhyNoTree, IsWhyNotDone};
 ghost use Rattle.tool_program.specs.Faults.{path_at_fault, IsToolFaultOf, IsToolFaultOfSetup};
@@ -196,7 +197,8 @@ fn run_check<'a, F: Source, S: ByteSink + MayClose>(
     sink: &mut S,
     options: &CheckOptions<'a>,
 ) -> Result<ToolReport, ToolFault<'a>>
-    ensures answered { IfOk result (IsCheckedAs (F.files source.old) options.now (S.written sink.old) (S.written sink.new)) }
+    ensures answered { let loads = AreEntryLoads (F.files source.old) (F.failures source.old) (F.failures source.new) in
+        IfOk result (IsCheckedAs (F.files source.old) loads options.now (S.written sink.old) (S.written sink.new)) }
     ensures unread { result ≡ Ok ToolReport.Unread → (S.closed sink.new ≡ true) × Rises (S.failures sink.old) (S.failures sink.new) }
     ensures output { result ≡ Err ToolFault.Output → (S.closed sink.new ≡ false) × Rises (S.failures sink.old) (S.failures sink.new) }
     ensures kept { IsFront (S.written sink.old) (S.written sink.new) }
@@ -224,7 +226,8 @@ pub fn run_asked<'a, F: Source, S: ByteSink + MayClose>(
     asked: &Asked<'a>,
 ) -> Result<ToolReport, ToolFault<'a>>
     // What was written is what was asked for, and the report says whether the server would open a setup.
-    ensures answered { IfOk result (IsAnswered (F.files source.old) asked.now (S.written sink.old) (S.written sink.new)) }
+    ensures answered { let loads = AreEntryLoads (F.files source.old) (F.failures source.old) (F.failures source.new) in
+        IfOk result (IsAnswered (F.files source.old) loads asked.now (S.written sink.old) (S.written sink.new)) }
     // That nobody reads the output any more is said only where that is so, and that it failed only where it is not; and both only
     // after a failure.
     ensures unread { result ≡ Ok ToolReport.Unread → (S.closed sink.new ≡ true) × Rises (S.failures sink.old) (S.failures sink.new) }
@@ -255,7 +258,8 @@ pub fn run_words<'a, F: Source, S: ByteSink + MayClose, T: AsStr>(
     words: &'a [T],
 ) -> Result<ToolReport, Ending<ToolFault<'a>>>
     // What was written is what the words ask for.
-    ensures answered { IfOk result (IsAnsweredTo (map T.text words.entry.now) (F.files source.old) (S.written sink.old) (S.written sink.new)) }
+    ensures answered { let loads = AreEntryLoads (F.files source.old) (F.failures source.old) (F.failures source.new) in
+        IfOk result (IsAnsweredTo (map T.text words.entry.now) (F.files source.old) loads (S.written sink.old) (S.written sink.new)) }
     // Why it was not is what the words say, or a fault of what they ask for.
     ensures fault { let unread = IsNotHad (F.files source.old) (F.failures source.old) (F.failures source.new) in
         IfErr result (IsWhyNotDone (map T.text words.entry.now) (F.files source.old) unread) }

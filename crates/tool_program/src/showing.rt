@@ -6,7 +6,7 @@ ghost use Rattle.byte_io.specs.Sink.{grown, IsFront, Rises};
 ghost use Rattle.folders.specs.Files.{IsUnrecovered, load_refusal};
 ghost use Rattle.tool_program.specs.Order.{from_text, IsOrder};
 ghost use Rattle.tool_program.specs.Memos.{IsMemoFile, IsMemosFault, IsMissingBeside, IsNotHad};
-ghost use Rattle.tool_program.specs.View.{view_text, IsFaultOfMemos, IsNoTable, IsShown};
+ghost use Rattle.tool_program.specs.View.{view_text, IsBeforeText, IsFaultOfMemos, IsNoTable, IsShown};
 
 use crate::memos::load_memos;
 use crate::options::{Options, View};
@@ -193,6 +193,10 @@ pub fn show_file<F: Source, S: ByteSink>(
     // Where no load can give the table's file the answer is why, whether there is memory or not.
     ensures early { (why : LoadFault) → load_refusal (F.files source.old) options.now.table.now ≡ Some why → result ≡ Err (ShowFault.Load why) }
     ensures unrecovered { result ≡ Err (ShowFault.Load LoadFault.Unrecovered) → IsUnrecovered (F.files source.old) options.now.table.now }
+    // That the table's file can't be read is said only where its load has failed, or where it is over the limit.
+    ensures unread { let unread = IsNotHad (F.files source.old) (F.failures source.old) (F.failures source.new) in
+        result ≡ Err (ShowFault.Load LoadFault.CannotRead) → unread options.now.table.now }
+    ensures untold { IfErr result (λ fault. IsBeforeText fault → S.written sink.new ≡ S.written sink.old) }
     // A fault of `Memos` is one of the file of memos, and one of `Table` is the reader's of the table's own files.
     ensures memos { let unread = IsNotHad (F.files source.old) (F.failures source.old) (F.failures source.new) in
         (why : LoadFault) → result ≡ Err (ShowFault.Memos why) → IsMemosFault (F.files source.old) unread options.now.table.now (option_copied options.now.memos) why }

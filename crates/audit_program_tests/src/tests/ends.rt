@@ -103,6 +103,22 @@ For more information, try '--help'.
     Ok(())
 }
 
+// Whether a call that ends so has the exit status 0, and prints this.
+fn is_told(alloc: Global, ended: &Ended, said: &str) -> bool {
+    let mut out = Vec::new(alloc);
+    let mut err: Vec<u8> = Vec::new(alloc);
+    let told = tell(&mut out, &mut err, PROGRAM, ended);
+    told.status == ExitCode::from(0) && out.as_slice() == said.as_bytes()
+}
+
+#[test]
+fn version(rt: HostRuntime) -> Result<(), Fail> {
+    let ended = Err(said_of(rt.alloc(), &["station_audit", "--version"])?);
+    let said = "station_audit 0.9.0 (rattle-kit-13f logic dac8208d650f15bf)\n";
+    assert!(rt; is_told(rt.alloc(), &ended, said));
+    Ok(())
+}
+
 #[test]
 fn each_failure_has_its_status_and_line(rt: HostRuntime) -> Result<(), Fail> {
     let alloc = rt.alloc();

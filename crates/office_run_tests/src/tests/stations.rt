@@ -95,7 +95,7 @@ fn faults_of_opening_have_their_texts(rt: HostRuntime) -> Result<(), Fail> {
 #[test]
 fn faults_of_a_run_have_their_texts(rt: HostRuntime) -> Result<(), Fail> {
     let alloc = rt.alloc();
-    let cases: [(RunFault, &str); 6] = [
+    let cases: [(RunFault, &str); 7] = [
         (
             RunFault::ScriptCount,
             "there are not as many scripts as stations",
@@ -112,6 +112,10 @@ fn faults_of_a_run_have_their_texts(rt: HostRuntime) -> Result<(), Fail> {
         (
             RunFault::Settle(SettleFault::SeatMissing(1)),
             "not settled: the seat of station 1 is missing",
+        ),
+        (
+            RunFault::Settle(SettleFault::ReceiptMismatch(2)),
+            "not settled: the receipts of station 2 are not those of the journal",
         ),
         (RunFault::NoMemory, "out of memory"),
     ];

@@ -336,14 +336,52 @@ fn is_told_beside_full_output(alloc: Global, ended: &Ended, status: u8) -> bool 
 }
 
 #[test]
-fn full_streams_change_no_status(rt: HostRuntime) -> Result<(), Fail> {
+fn full_output_is_told(rt: HostRuntime) -> Result<(), Fail> {
     let alloc = rt.alloc();
     let help = said_of(alloc, &["station_server", "--help"])?;
     let seven = Ok(counts(alloc, 7, 0, &[0])?);
-    assert!(rt; is_told_beside_full_output(alloc, &seven, 0));
-    assert!(rt; is_told_beside_full_output(alloc, &Err(help), 0));
-    let failed: Ended = Err(Ending::Failed(Failure::Work(ServeFault::Setup(2))));
-    let told = tell(&mut Full, &mut Full, PROGRAM, &failed);
-    assert!(rt; told.status == ExitCode::from(1));
+    for ended in [seven, Err(help)] {
+        assert!(rt; is_told_beside_full_output(alloc, &ended, 0));
+    }
+    Ok(())
+}
+
+// Whether a call that ends so has this exit status where standard output, standard error or both take no text.
+fn has_status_over_full_streams(alloc: Global, ended: &Ended, status: u8) -> bool {
+    let mut out: Vec<u8> = Vec::new(alloc);
+    let mut err: Vec<u8> = Vec::new(alloc);
+    let without_output = tell(&mut Full, &mut err, PROGRAM, ended);
+    let without_error = tell(&mut out, &mut Full, PROGRAM, ended);
+    let without_both = tell(&mut Full, &mut Full, PROGRAM, ended);
+    let wanted = ExitCode::from(status);
+    without_output.status == wanted
+        && without_error.status == wanted
+        && without_both.status == wanted
+}
+
+// How a call ended, of some kinds that are numbered, and its exit status.
+fn end_of_kind(alloc: Global, kind: u8) -> Result<(Ended, u8), Fail> {
+    match kind {
+        0 => Ok((Ok(counts(alloc, 7, 0, &[0])?), 0)),
+        1 => Ok((Ok(counts(alloc, 58, 51, &[51])?), 0)),
+        2 => Ok((Err(said_of(alloc, &["station_server", "--help"])?), 0)),
+        3 => Ok((Err(said_of(alloc, &["station_server", "--out"])?), 1)),
+        4 => Ok((Err(Ending::Failed(Failure::Work(ServeFault::Setup(2)))), 1)),
+        5 => Ok((Err(Ending::Failed(Failure::BadDate)), 1)),
+        6 => {
+            let refused = io::Error::from(io::ErrorKind::OutOfMemory);
+            Ok((Err(Ending::from(refused)), 3))
+        }
+        _ => Ok((Err(unwritten(alloc)?), 4)),
+    }
+}
+
+#[test]
+fn full_streams_change_no_status(rt: HostRuntime) -> Result<(), Fail> {
+    let alloc = rt.alloc();
+    for kind in 0..8u8 {
+        let (ended, status) = end_of_kind(alloc, kind)?;
+        assert!(rt; has_status_over_full_streams(alloc, &ended, status));
+    }
     Ok(())
 }

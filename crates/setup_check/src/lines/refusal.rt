@@ -2,18 +2,16 @@
 
 ghost use Rattle.std.specs.Prelude.{◌≡◌, ◌++◌, OnOk};
 ghost use Rattle.setup_check.specs.HeadNumbers.{wanted_length as wanted_length_of};
-ghost use Rattle.setup_check.specs.Lines.{bad_field_words, bad_memo_words, bad_page_words, block_words, field_refusal, index_detail_words, load_words, unrecovered_words, refusal_words, table_detail_words};
+ghost use Rattle.setup_check.specs.Lines.{bad_page_words, block_words, field_refusal, index_detail_words, load_words, part_words, unrecovered_words, refusal_words, table_detail_words};
+ghost use Rattle.dbf_image.specs.declared.bad_table.TablePart.TheVariants.{Field, Memo};
 
-use crate::fault::{EntryFault, LoadRefusal};
-use crate::head_numbers::TableNumbers;
-use crate::index_file::IndexDetails;
 use crate::lines::named::append_named;
 use crate::lines::numbers::{append_two, append_words};
-use crate::table_file::{BadField, MemoCell, TableDetails};
-use dbf_fields::SchemaFault;
-use dbf_image::{HEADER, ImageFault};
+use dbf_fields::{BadField, SchemaFault};
+use dbf_image::{BadTable, HEADER, ImageFault, MemoCell, TableNumbers, TablePart};
 use folders::folder_of;
-use ndx_index::{NdxFault, PAGE};
+use ndx_index::{BadIndex, NdxFault, PAGE};
+use setup_files::{EntryFault, IndexNumbers, LoadRefusal};
 use std::alloc::{AllocError, Global};
 
 // How long a table's file has to be, by its header.
@@ -41,22 +39,13 @@ fn field_words(why: SchemaFault) -> &'static [u8]
     }
 }
 
-// The first field up to which the fields are no schema, where there is one.
-fn append_bad_field(
-    alloc: Global,
-    text: &mut Vec<u8>,
-    bad: &Option<BadField>,
-) -> Result<(), AllocError>
-    ensures ok { OnOk result (text.new.items ≡ text.old.items ++ bad_field_words bad.now) }
+// A field up to which the fields are no schema.
+fn append_bad_field(alloc: Global, text: &mut Vec<u8>, bad: BadField) -> Result<(), AllocError>
+    ensures ok { OnOk result (text.new.items ≡ text.old.items ++ part_words (Field bad)) }
 {
-    match bad {
-        Some(bad) => {
-            append_words(alloc, text, b": field ", bad.field)?;
-            text.extend_from_slice(b": ")?;
-            text.extend_from_slice(field_words(bad.why))
-        }
-        None => Ok(()),
-    }
+    append_words(alloc, text, b": field ", bad.field_number)?;
+    text.extend_from_slice(b": ")?;
+    text.extend_from_slice(field_words(bad.why))
 }
 
 // The block that a memo's cell names.
@@ -69,21 +58,23 @@ fn append_block(alloc: Global, text: &mut Vec<u8>, block: Option<u64>) -> Result
     }
 }
 
-// Where the first memo stands that is refused.
-fn append_bad_memo(
-    alloc: Global,
-    text: &mut Vec<u8>,
-    bad: &Option<MemoCell>,
-) -> Result<(), AllocError>
-    ensures ok { OnOk result (text.new.items ≡ text.old.items ++ bad_memo_words bad.now) }
+// Where a memo stands that is refused.
+fn append_bad_memo(alloc: Global, text: &mut Vec<u8>, cell: MemoCell) -> Result<(), AllocError>
+    ensures ok { OnOk result (text.new.items ≡ text.old.items ++ part_words (Memo cell)) }
 {
-    match bad {
-        Some(cell) => {
-            append_words(alloc, text, b": record ", cell.record_number as usize)?;
-            append_words(alloc, text, b", field ", cell.field_number)?;
-            append_block(alloc, text, cell.block)
-        }
-        None => Ok(()),
+    append_words(alloc, text, b": record ", cell.record_number as usize)?;
+    append_words(alloc, text, b", field ", cell.field_number)?;
+    append_block(alloc, text, cell.block)
+}
+
+// The field or the memo of a table's files that is bad.
+fn append_part(alloc: Global, text: &mut Vec<u8>, part: TablePart) -> Result<(), AllocError>
+    ensures ok { OnOk result (text.new.items ≡ text.old.items ++ part_words part) }
+{
+    match part {
+        TablePart::Header => Ok(()),
+        TablePart::Field(bad) => append_bad_field(alloc, text, bad),
+        TablePart::Memo(cell) => append_bad_memo(alloc, text, cell),
     }
 }
 
@@ -91,13 +82,12 @@ fn append_bad_memo(
 fn append_table_details(
     alloc: Global,
     text: &mut Vec<u8>,
-    why: ImageFault,
-    details: &TableDetails,
+    bad: BadTable,
+    numbers: &TableNumbers,
 ) -> Result<(), AllocError>
-    ensures ok { OnOk result (text.new.items ≡ text.old.items ++ table_detail_words why details.now) }
+    ensures ok { OnOk result (text.new.items ≡ text.old.items ++ table_detail_words bad.why bad.part numbers.now) }
 {
-    let numbers = &details.numbers;
-    match why {
+    match bad.why {
         ImageFault::Truncated => {
             let wanted = wanted_length(numbers);
             append_two(
@@ -119,11 +109,7 @@ fn append_table_details(
         ImageFault::TooManyRecords => {
             append_words(alloc, text, b": ", numbers.record_count as usize)
         }
-        ImageFault::BadSchema => append_bad_field(alloc, text, &details.bad_field),
-        ImageFault::BadMemoNumber | ImageFault::MemoOutside | ImageFault::MemoTooLong => {
-            append_bad_memo(alloc, text, &details.bad_memo)
-        }
-        _ => Ok(()),
+        _ => append_part(alloc, text, bad.part),
     }
 }
 
@@ -145,13 +131,12 @@ fn append_bad_page(
 fn append_index_details(
     alloc: Global,
     text: &mut Vec<u8>,
-    why: NdxFault,
-    details: &IndexDetails,
+    bad: BadIndex,
+    numbers: &IndexNumbers,
 ) -> Result<(), AllocError>
-    ensures ok { OnOk result (text.new.items ≡ text.old.items ++ index_detail_words why details.now) }
+    ensures ok { OnOk result (text.new.items ≡ text.old.items ++ index_detail_words bad.why bad.page numbers.now) }
 {
-    let numbers = &details.numbers;
-    match why {
+    match bad.why {
         NdxFault::Truncated => {
             append_two(
                 alloc,
@@ -176,7 +161,7 @@ fn append_index_details(
             let keys = usize::from(numbers.key_length);
             append_two(alloc, text, b": ", size, b" bytes for keys of ", keys)
         }
-        _ => append_bad_page(alloc, text, details.bad_page),
+        _ => append_bad_page(alloc, text, bad.page),
     }
 }
 
@@ -213,15 +198,15 @@ pub(crate) fn append_refusal(
     match fault {
         EntryFault::Unloaded(why) => append_load_refusal(text, path, why),
         EntryFault::UnloadedMemos(why) => append_load_refusal(text, path, why),
-        EntryFault::NoTable(why, details) => {
+        EntryFault::NoTable(bad, numbers) => {
             text.extend_from_slice(b"no table: ")?;
-            append_named(text, why.name(), why.words())?;
-            append_table_details(alloc, text, why, &details)
+            append_named(text, bad.why.name(), bad.why.words())?;
+            append_table_details(alloc, text, bad, &numbers)
         }
-        EntryFault::NoIndex(why, details) => {
+        EntryFault::NoIndex(bad, numbers) => {
             text.extend_from_slice(b"no index: ")?;
-            append_named(text, why.name(), why.words())?;
-            append_index_details(alloc, text, why, &details)
+            append_named(text, bad.why.name(), bad.why.words())?;
+            append_index_details(alloc, text, bad, &numbers)
         }
     }
 }

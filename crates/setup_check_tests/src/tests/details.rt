@@ -127,8 +127,8 @@ fn told_with(alloc: Global, dbf: Vec<u8>, memos: Vec<u8>) -> Result<Vec<u8>, Fai
         failures: Failures::none(),
     };
     let entries = parse_setup(alloc, b"TABLE D D.DBF D.DBT\n")?;
-    let findings = look_at_all(alloc, &mut source, &entries)?;
-    Ok(findings_text(alloc, &entries, &findings)?)
+    let looked = look_at_all(alloc, &mut source, &entries)?;
+    Ok(findings_text(alloc, &entries, &looked.findings)?)
 }
 
 #[test]

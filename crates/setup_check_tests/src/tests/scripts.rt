@@ -2,8 +2,8 @@
 
 use byte_io::{Bytes, Failures};
 use folders::{MemorySource, NamedFile};
-use setup_check::{BadLinesTold, bad_setup_text, scripts_text};
-use station_lines::parse_setup;
+use setup_check::{BadLinesTold, bad_setup_text, look_at_all, scripts_text};
+use station_lines::{SetupEntry, parse_setup};
 use std::alloc::Global;
 use std::test::*;
 
@@ -66,6 +66,20 @@ fn source(alloc: Global) -> Result<MemorySource, Fail> {
     })
 }
 
+// What is said of the scripts of a setup.
+fn text_of_scripts(
+    alloc: Global,
+    source: &mut MemorySource,
+    entries: &[SetupEntry],
+    told: BadLinesTold,
+) -> Result<Vec<u8>, Fail> {
+    let looked = look_at_all(alloc, source, entries)?;
+    if looked.reads.len() != entries.len() {
+        return Err("not each entry was looked at".into());
+    }
+    Ok(scripts_text(alloc, entries, &looked.reads, told)?)
+}
+
 #[test]
 fn bad_lines_of_scripts_are_told(rt: HostRuntime) -> Result<(), Fail> {
     let alloc = rt.alloc();
@@ -75,7 +89,7 @@ fn bad_lines_of_scripts_are_told(rt: HostRuntime) -> Result<(), Fail> {
     ];
     let entries = parse_setup(alloc, SETUP)?;
     for (told, wanted) in cases {
-        let text = scripts_text(alloc, &mut source(alloc)?, &entries, told)?;
+        let text = text_of_scripts(alloc, &mut source(alloc)?, &entries, told)?;
         assert_eq!(rt; text.as_slice(), wanted);
     }
     Ok(())
@@ -98,7 +112,7 @@ fn a_long_line_is_cut(rt: HostRuntime) -> Result<(), Fail> {
         failures: Failures::none(),
     };
     let entries = parse_setup(alloc, b"STATION L.PRG")?;
-    let text = scripts_text(alloc, &mut long, &entries, BadLinesTold::First)?;
+    let text = text_of_scripts(alloc, &mut long, &entries, BadLinesTold::First)?;
     let mut wanted = Vec::from_slice(
         alloc,
         b"L.PRG: 1 lines, 1 are no command: the first is line 1: ",

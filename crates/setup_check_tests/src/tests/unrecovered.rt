@@ -37,8 +37,8 @@ fn folders_that_are_not_recovered_are_told(rt: HostRuntime) -> Result<(), Fail> 
         })?;
     }
     let entries = parse_setup(alloc, SETUP)?;
-    let findings = look_at_all(alloc, &mut source, &entries)?;
-    let text = findings_text(alloc, &entries, &findings)?;
+    let looked = look_at_all(alloc, &mut source, &entries)?;
+    let text = findings_text(alloc, &entries, &looked.findings)?;
     assert_eq!(rt; text.as_slice(), TOLD.as_bytes());
     Ok(())
 }

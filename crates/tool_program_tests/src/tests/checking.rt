@@ -85,3 +85,13 @@ fn setups_are_checked_file_by_file(rt: HostRuntime) -> Result<(), Fail> {
     }
     Ok(())
 }
+
+// The setup, its table, its index and its script are four files, and the load after the fourth would fail.
+#[test]
+fn each_file_is_loaded_once(rt: HostRuntime) -> Result<(), Fail> {
+    let mut source = files(rt.alloc())?;
+    source.loads = 4;
+    let (words, status, text, line) = CASES[0];
+    assert!(rt; is_answered(rt.alloc(), &mut source, words, status, text, line));
+    Ok(())
+}

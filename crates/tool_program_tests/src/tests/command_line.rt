@@ -30,8 +30,9 @@ fn ranges_are_one_number_or_two(rt: HostRuntime) -> Result<(), Fail> {
 
 #[test]
 fn bad_command_lines_end_with_one(rt: HostRuntime) -> Result<(), Fail> {
-    let cases: [(&[&str], u8); 15] = [
+    let cases: [(&[&str], u8); 16] = [
         (&["table_tool", "--help"], 0),
+        (&["table_tool", "--version"], 0),
         (&["table_tool", "show", "--help"], 0),
         (&["table_tool"], 1),
         (&["table_tool", "show"], 1),

@@ -11,6 +11,7 @@ returns-clause-ran g c =
     (λ is. all_had _ _ _ _ c.into_sums-read.result.items (c.asked_sums-sums.ensures.none_yet is) c.in_ok-loaded.ensures.noted c.into_sums-read.ensures.sums)
     c.in_ok-tables.ensures.entries c.in_ok-counts.ensures.refused (rw c.deref.ensures.value at c.in_ok-write_asked.ensures.blocks_fit)
     (rw (c.deref.ensures.value, c.deref-2.ensures.value, c.deref-3.ensures.value, c.deref-4.ensures.value) at c.in_ok-write_asked.ensures.one_journal)
+    (rw (c.deref.ensures.value, c.deref-2.ensures.value, c.deref-3.ensures.value, c.deref-4.ensures.value) at c.in_ok-write_asked.ensures.readable)
     (rw (c.deref.ensures.value, c.deref-2.ensures.value, c.deref-3.ensures.value, c.deref-4.ensures.value) at c.in_ok-write_asked.ensures.wrote)
     (rw (c.deref.ensures.value, c.deref-2.ensures.value, c.deref-3.ensures.value, c.deref-4.ensures.value) at c.in_ok-write_asked.ensures.bytes)
 

@@ -11,18 +11,18 @@ pub returns-clause-bytes : goal.returns-clause-bytes
 returns-clause-bytes g c = bytes_with_journal _ (parts_text c.args.text.now) c.in_ok-write_files.ensures.bytes c.in_ok-write_journal.ensures.bytes
 
 pub returns-in_err-write_files-clause-fault : goal.returns-in_err-write_files-clause-fault
-returns-in_err-write_files-clause-fault g c = err_exit _ _ c.from_residual.ensures.1 c.in_err-write_files.ensures.fault
+returns-in_err-write_files-clause-fault g c = err_exit _ _ c.from_residual-in_err-write_files.ensures.1 c.in_err-write_files.ensures.fault
 
 pub returns-in_err-write_files-clause-no_file_begun : goal.returns-in_err-write_files-clause-no_file_begun
-returns-in_err-write_files-clause-no_file_begun g c = err_exit _ _ c.from_residual.ensures.1 (λ some unwritten. c.in_err-write_files.ensures.no_file_begun unwritten)
+returns-in_err-write_files-clause-no_file_begun g c = err_exit _ _ c.from_residual-in_err-write_files.ensures.1 (λ some unwritten. c.in_err-write_files.ensures.no_file_begun unwritten)
 
 pub returns-in_err-write_files-clause-unfailed : goal.returns-in_err-write_files-clause-unfailed
 returns-in_err-write_files-clause-unfailed g c =
-    unfailed_unbegun g.F.ByteSink.failures _ _ _ _ c.from_residual.ensures.1 c.in_err-write_files.ensures.no_file_begun
+    unfailed_unbegun g.F.ByteSink.failures _ _ _ _ c.from_residual-in_err-write_files.ensures.1 c.in_err-write_files.ensures.no_file_begun
 
 pub returns-in_err-write_files-clause-whole_before_fault : goal.returns-in_err-write_files-clause-whole_before_fault
 returns-in_err-write_files-clause-whole_before_fault g c =
-    err_exit _ _ c.from_residual.ensures.1
+    err_exit _ _ c.from_residual-in_err-write_files.ensures.1
     (cut_before_journal _ (parts_text c.args.text.now) _ _ _ (λ unwritten. ap g.F.ByteSink.written (c.in_err-write_files.ensures.no_file_begun unwritten)) c.in_err-write_files.ensures.whole_before_fault)
 
 pub returns-in_err-write_journal-clause-fault : goal.returns-in_err-write_journal-clause-fault

@@ -1,7 +1,7 @@
 use Rattle.std.proofs.Common.{List, sym, subst}
 use Rattle.shared_catalogue.specs.Seats.{Seated}
 use Rattle.office_run.specs.Reports.{AreSeatsInOrder}
-use Rattle.office_run.proofs.RunLaws.{in_order}
+use Rattle.office_run.proofs.EndLaws.{in_order}
 use Rattle.office_run.proofs.catalogue.run_as.Goals as goal
 
 pub run_stations-requires-clause-seats : goal.run_stations-requires-clause-seats

@@ -7,7 +7,7 @@ pub returns : goal.returns
 returns c =
     let old = c.args.tables.now.items in
     let table = c.index_mut.result.now in
-    let place = c.in-Some.place in
+    let place = c.in-Some.position in
     let changed : TableSource = record { name = table.name; content = table.content; indexes = c.push.new.self } in
     record {
       added = record {

@@ -1,5 +1,6 @@
 use Rattle.std.proofs.Common.{◌≡◌, take}
-use Rattle.office_run.specs.FileSums.{paths_in, AreNoted}
+use Rattle.setup_files.specs.Noted.{AreNoted}
+use Rattle.office_run.specs.FileSums.{paths_in}
 use Rattle.office_run.specs.Loading.{nothing, read_of, LoadAll}
 use Rattle.office_run.proofs.load.load_entries.Given as goal
 

@@ -1,7 +1,9 @@
 use Rattle.std.proofs.Common.{[], length, take, ap, ◌∙◌}
 use Rattle.std.proofs.lemmas.List.{take_all}
-use Rattle.setup_check.specs.Looks.{AreKeptTables}
-use Rattle.setup_check.proofs.FindingLaws.{found_more, kept_more, loads_more, next_taken, one_each}
+use Rattle.setup_files.specs.EntryFiles.{AreEntriesRead}
+use Rattle.setup_files.proofs.ReadLaws.{reads_more, loads_more}
+use Rattle.setup_check.specs.Findings.{AreFoundOf}
+use Rattle.setup_check.proofs.FindingLaws.{found_more, found_of_more, next_taken, one_each}
 use Rattle.setup_check.proofs.look.look_at_all.Goals as goal
 
 pub loop-index-preserved : goal.loop-index-preserved
@@ -12,20 +14,22 @@ loop-index-preserved g c =
     let i = c.loop-index.index in
     let entry = c.index-entries-index.result in
     let findings = c.loop-index.findings.items in
-    let tables = c.loop-index.tables.items in
-    let finding = c.in_ok-finding.field-0.finding in
-    let table = c.in_ok-finding.field-0.table in
+    let reads = c.loop-index.reads.items in
+    let finding = c.in_ok-look_at.field-0 in
+    let read = c.in_ok-read.read in
     let before = c.loop-index.invariant in
     let taken = next_taken entries i entry c.loop-index-test.true c.index-entries-index.is in
-    let kept : AreKeptTables (g.S.Source.files c.loop-index.source) (take i entries) findings c.deref.result.now = rw (before.kept, c.deref.ensures.value) before.tables in
-    let look = rw before.kept at (c.in_ok-finding.ensures.look findings kept) in
-    let loads = rw before.kept at c.in_ok-finding.ensures.loads in
+    let passed : AreEntriesRead files (take i entries) c.deref.result.now = rw c.deref.ensures.value before.read in
+    let refused : AreFoundOf c.deref.result.now findings = rw c.deref.ensures.value before.refused in
+    let own = rw before.kept at c.in_ok-read.ensures.read in
+    let loads = rw before.kept at c.in_ok-read.ensures.loads in
     record {
-      found = rw (taken, c.in_ok-push.ensures.items) (found_more files (take i entries) findings entry finding before.found look.finding);
-      tables = rw (taken, c.in_ok-push.ensures.items, c.in_ok-push-2.ensures.items) (kept_more files (take i entries) findings tables entry finding table before.tables look.kept);
-      loads = rw (taken, c.in_ok-push.ensures.items)
-          (loads_more files (failures c.args.source.now) (failures c.loop-index.source) (failures c.look_at.new.source) (take i entries) findings entry finding before.loads loads);
-      kept = c.look_at.ensures.kept ∙ before.kept;
+      found = rw (taken, c.in_ok-push.ensures.items) (found_more files (take i entries) findings entry finding before.found (c.in_ok-look_at.ensures.finding files findings passed refused own));
+      read = rw (taken, c.in_ok-push-2.ensures.items) (reads_more files (take i entries) reads entry read before.read own);
+      refused = rw (c.in_ok-push-2.ensures.items, c.in_ok-push.ensures.items) (found_of_more reads findings read finding before.refused c.in_ok-look_at.ensures.found);
+      loads = rw (taken, c.in_ok-push-2.ensures.items)
+          (loads_more files (failures c.args.source.now) (failures c.loop-index.source) (failures c.read_entry.new.source) (take i entries) reads entry read before.loads loads);
+      kept = c.read_entry.ensures.kept ∙ before.kept;
     }
 
 pub returns-clause-one_each : goal.returns-clause-one_each

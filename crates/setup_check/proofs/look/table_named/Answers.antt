@@ -1,50 +1,32 @@
-use Rattle.std.proofs.Common.{◌≡◌, ℕ, [], Option, Some, None, sym, subst, ap, ◌∙◌, arith}
-use Rattle.std.specs.Prelude.{slice_get}
+use Rattle.std.proofs.Common.{◌≡◌, Some, Result, [], sym, ap, ◌∙◌, arith}
+use Rattle.std.specs.Prelude.{option_copied, slice_get}
 use Rattle.std.proofs.lemmas.List.Quantifiers.{position-Some}
 use Rattle.std.proofs.lemmas.Option.{slice_get-get_or}
-use Rattle.dbf_image.specs.Growing.{Growing}
-use Rattle.station_lines.specs.declared.setup.entry.SetupEntry.{SetupEntry}
 use Rattle.station_lines.specs.declared.setup.entry.SetupEntry.TheVariants.{Station}
 use Rattle.station_lines.specs.Setup.{is_table_of}
-use Rattle.setup_check.specs.Findings.{IsRefusedAt}
-use Rattle.setup_check.proofs.FindingLaws.{kept_at, kept_each, refused_at}
+use Rattle.setup_files.specs.declared.content.EntryContent.{EntryContent}
+use Rattle.setup_files.specs.declared.fault.EntryFault.{EntryFault}
+use Rattle.setup_files.proofs.ReadLaws.{reads_each}
+use Rattle.setup_check.proofs.FindingLaws.{borrowed, named_by}
 use Rattle.setup_check.proofs.look.table_named.Goals as goal
 
-pub returns-in-Some-Some : goal.returns-in-Some-Some
-returns-in-Some-Some c = record {
-  named = λ files findings kept.
-      let tables = c.args.tables.now in
-      let place = c.in_ok-place.place in
-      let records = c.in-Some-Some.records in
-      let some : Option Growing = Some records in
-      let at = c.in-Some-Some.ensures.lookup.3 in
-      let there : slice_get tables place ≡ Some some =
-      slice_get-get_or tables place some at.0 ∙ ap (λ (t : Option Growing). Some t) (sym (at.1 some) ∙ c.in-Some-Some.field-0-is) in
-      let k = kept_at files c.args.before.now findings tables place records kept there in
-      record { place = place; entry = k.0; first = sym c.in_ok-place.ensures.value; there = k.1; table_of = k.2 };
+pub returns : goal.returns
+returns c = record {
+  named = λ files findings h k.
+      let reads = c.args.reads.now in
+      let position = c.in_ok-position.position in
+      let read = c.in_ok-get.field-0.now in
+      let at = c.in_ok-get.ensures.lookup.3 in
+      let there : slice_get reads position ≡ Some read = slice_get-get_or reads position read at.0 ∙ ap (λ (r : Result EntryContent EntryFault). Some r) (sym (at.1 read)) in
+      borrowed c.table_of.result _ _
+      (named_by files c.args.table.now c.args.before.now reads findings position read (option_copied c.table_of.result) (sym c.in_ok-position.ensures.value) there c.table_of.ensures.value h k);
 }
 
-pub returns-in-Some-None : goal.returns-in-Some-None
-returns-in-Some-None c = record {
-  named = λ files findings kept.
-      let name = c.args.table.now in
-      let before = c.args.before.now in
-      let tables = c.args.tables.now in
-      let place = c.in_ok-place.place in
-      let none : Option Growing = None in
-      let at = c.in-Some-None.ensures.lookup.3 in
-      let there : slice_get tables place ≡ Some none =
-      slice_get-get_or tables place none at.0 ∙ ap (λ (t : Option Growing). Some t) (sym (at.1 none) ∙ c.in-Some-None.field-0-is) in
-      let d : SetupEntry = Station [] in
-      let passes = position-Some (is_table_of name) before place d (sym c.in_ok-place.ensures.value) in
-      subst (λ (o : Option ℕ). IsRefusedAt findings o) c.in_ok-place.ensures.value (refused_at files name before findings tables place d kept passes.1 there);
-}
-
-pub returns-in-None : goal.returns-in-None
-returns-in-None c = record {
-  named = λ files findings kept.
-      let passes = position-Some (is_table_of c.args.table.now) c.args.before.now c.in_ok-place.place (Station []) (sym c.in_ok-place.ensures.value) in
-      let many = kept_each files c.args.before.now findings c.args.tables.now kept in
-      let past = c.in-None.ensures.lookup.3 in
+pub returns-in_err-get : goal.returns-in_err-get
+returns-in_err-get c = record {
+  named = λ files findings h k.
+      let passes = position-Some (is_table_of c.args.table.now) c.args.before.now c.in_ok-position.position (Station []) (sym c.in_ok-position.ensures.value) in
+      let many = reads_each files c.args.before.now c.args.reads.now h in
+      let past = c.in_err-get.ensures.lookup.3 in
       absurd (omega (arith, past, many, passes.0));
 }

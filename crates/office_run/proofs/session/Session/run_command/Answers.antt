@@ -1,7 +1,7 @@
 use Rattle.std.proofs.Common.{◌≡◌, subst, rules}
 use mathlib.Core.List.{IsPrefix}
 use Rattle.shared_catalogue.specs.Seats.{Seated}
-use Rattle.office_run.proofs.RunLaws.{told_later}
+use Rattle.office_run.proofs.RunLaws.{told_later, left_answered, on_err}
 use Rattle.office_run.proofs.session.Session.run_command.Goals as goal
 
 pub returns-clause-shown : goal.returns-clause-shown
@@ -21,3 +21,9 @@ returns-clause-shown g c =
         answers = search rules;
       },
     )
+
+pub returns-in_err-text-clause-left : goal.returns-in_err-text-clause-left
+returns-in_err-text-clause-left g c = on_err _ _ (left_answered c.args.self.now _ c.args.command c.in_ok-answer.answer (search rules) (search rules))
+
+pub returns-in_err-push_line-clause-left : goal.returns-in_err-push_line-clause-left
+returns-in_err-push_line-clause-left g c = on_err _ _ (left_answered c.args.self.now c.push_line.new.self c.args.command c.in_ok-answer.answer (search rules) (search rules))

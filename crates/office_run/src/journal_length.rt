@@ -1,0 +1,41 @@
+//! Whether the journal's file will be too long to be read, before it is written.
+
+ghost use Rattle.std.specs.Prelude.{◌<◌, ◌↔◌, length, IfOk, IsTrue};
+ghost use Rattle.folders.specs.declared.source.TheConstants.{MAX_FILE_BYTES};
+ghost use Rattle.station_lines.specs.JournalLines.{journal_text};
+ghost use Rattle.office_run.specs.JournalFile.{parts_text};
+
+use crate::journal::JournalText;
+use catalogue_core::Entry;
+use folders::MAX_FILE_BYTES;
+use station_lines::entry_line;
+use std::alloc::{AllocError, Global};
+
+// Whether the lines of the journal's entries have more bytes than there is room. One line at a time is in memory. An error where
+// memory is refused.
+fn lines_exceed(alloc: Global, journal: &[Entry], room: usize) -> Result<bool, AllocError>
+    ensures value { IfOk result (λ more. IsTrue more ↔ (room < length (journal_text journal.now))) }
+{
+    let mut left = room;
+    for entry in journal {
+        let line = entry_line(alloc, entry.station, &entry.command, &entry.answer)?;
+        let bytes = line.as_slice().len();
+        if bytes > left {
+            return Ok(true);
+        }
+        left -= bytes;
+    }
+    Ok(false)
+}
+
+/// Whether the journal's file will have more bytes than a file that is read may have: `MAX_FILE_BYTES`. An error where memory is
+/// refused.
+pub(crate) fn is_too_long(alloc: Global, text: &JournalText<'_>) -> Result<bool, AllocError>
+    ensures value { IfOk result (λ long. IsTrue long ↔ (MAX_FILE_BYTES < length (parts_text text.now))) }
+{
+    let others = text.head.len() + text.tail.len();
+    if others > MAX_FILE_BYTES {
+        return Ok(true);
+    }
+    lines_exceed(alloc, text.entries, MAX_FILE_BYTES - others)
+}

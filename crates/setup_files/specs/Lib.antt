@@ -1,0 +1,4 @@
+pub mod HeadNumbers
+pub mod EntryFiles
+pub mod Loads
+pub mod Noted
