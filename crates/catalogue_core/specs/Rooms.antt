@@ -16,7 +16,7 @@ abbrev pub seen : WithRoom → State
 seen w = record { names = w.names; tables = map (λ t. t.content) w.tables; locks = w.locks; stations = w.stations }
 
 abbrev pub no_held : Held
-no_held = record { content = no_content; room = record { for_record = false; for_text = 0; for_pairs = false } }
+no_held = record { content = no_content; room = record { for_record = false; for_text = 0; for_pairs = false; blocks_in_use = 0 } }
 
 -- the table of a number, with its room
 abbrev pub held_at : List Held → ℕ → Held

@@ -23,6 +23,7 @@ pub mod ReadBack
 pub mod MemoFrame
 pub mod MemoOwners
 pub mod MemoTotals
+pub mod MemoUse
 pub mod MemoFilling
 pub mod MemoTexts
 pub mod MemoHeld

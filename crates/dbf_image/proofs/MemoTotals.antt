@@ -6,13 +6,13 @@ use Rattle.std.specs.List.{sum_by}
 use Rattle.std.specs.Cmp.{nat_cmp_total, unsigned_tied}
 use Rattle.std.specs.Ordering.{is_eq}
 use Rattle.std.specs.declared.cmp.Ordering.TheVariants.{Less, Equal, Greater}
-use Rattle.std.specs.FinMap.{find, put, entries, empty, from_entries, get-entries, get-from_entries, entries-insert, len-entries, len-empty}
+use Rattle.std.specs.FinMap.{find, get, insert, put, entries, empty, from_entries, get-entries, get-from_entries, entries-insert, len-entries, len-empty}
 use Rattle.std.specs.FinMap.Entries.{by_order}
 use Rattle.dbf_image.specs.declared.format.TheConstants.{BLOCK}
 use Rattle.dbf_image.specs.declared.memo_store.block.MemoBlock.{MemoBlock}
 use Rattle.dbf_image.specs.declared.memo_store.MemoStore.TheInside.{Inside}
 use Rattle.dbf_image.specs.MemoChains.{block_at, blocks_in, blocks_owned, text_at, text_blocks, AreCounted}
-use Rattle.dbf_image.specs.MemoStore.{with_text_entry, entries_to, stored_texts, used_blocks, all_bytes, memos_view, IsMemoStore}
+use Rattle.dbf_image.specs.MemoStore.{Texts, with_text_entry, entries_to, stored_texts, used_blocks, all_bytes, memos_view, IsMemoStore}
 use Rattle.dbf_image.proofs.MemoOwners.{owned_some, owned_to, owned_next, owned_first, owned_all}
 use Rattle.dbf_image.proofs.MemoTexts.{none_is, there}
 
@@ -36,11 +36,13 @@ no_sum (x ∷ es) e = absurd (omega (arith, e))
 pub used_none : used_blocks (empty {R = nat_cmp}) ≡ 0
 used_none = no_sum (entries empty) (sym (len-entries {R = nat_cmp} empty) ∙ len-empty nat_cmp (List ℕ))
 
+-- a text of a new number
+pub used_insert : (texts : Texts) (k : ℕ) (v : List ℕ) → get texts k ≡ None → used_blocks (insert texts k v) ≡ blocks_in (length v) + used_blocks texts
+used_insert texts k v fresh = ap (sum_by entry_blocks) (entries-insert nat_cmp_total texts k v) ∙ put_sum k v (entries texts) (sym (get-entries texts k) ∙ fresh)
+
 used_entry : (o : Option (List ℕ)) (m : ℕ) (es : List (ℕ × List ℕ)) → find nat_cmp m es ≡ None → used_blocks (from_entries (with_text_entry o m es)) ≡ text_blocks o + used_blocks (from_entries es)
 used_entry None m es h = omega arith
-used_entry (Some t) m es h =
-    ap (sum_by entry_blocks) (entries-insert nat_cmp_total (from_entries es) m t)
-    ∙ put_sum m t (entries (from_entries es)) (sym (get-entries (from_entries es) m) ∙ get-from_entries nat_cmp_total es m ∙ h)
+used_entry (Some t) m es h = used_insert (from_entries es) m t (get-from_entries nat_cmp_total es m ∙ h)
 
 -- a number past the first n
 skip : (o : Option (List ℕ)) (m q : ℕ) (es : List (ℕ × List ℕ)) → q ≢ m → find nat_cmp q (with_text_entry o m es) ≡ find nat_cmp q es

@@ -21,6 +21,10 @@ get_text texts number = map.get texts number
 abbrev pub used_blocks : Texts → ℕ
 used_blocks texts = sum_by (λ e. blocks_in (length e.1)) (map.entries texts)
 
+-- how many blocks these texts take, each by itself
+abbrev pub blocks_of_all : List (List ℕ) → ℕ
+blocks_of_all texts = sum_by (λ text. blocks_in (length text)) texts
+
 -- a store's texts, and how many bytes the next text may have without memory being taken
 pub record Memos : Type 0 where
   pub texts : Texts

@@ -4,7 +4,8 @@
 ghost use Rattle.std.specs.Prelude.{◌≡◌, ◌+◌, ◌<◌, ◌≤◌, [], length, IfOk, OnOk, Some, None, IsSome, unwrap_or, nat_eq};
 ghost use Rattle.std.specs.List.{list_any};
 ghost use Rattle.std.specs.FinMap as map;
-ghost use Rattle.dbf_image.specs.MemoStore.{all_bytes};
+ghost use Rattle.dbf_image.specs.MemoStore.{all_bytes, blocks_of_all, used_blocks};
+ghost use Rattle.dbf_image.specs.Store.{texts_of};
 ghost use Rattle.byte_io.specs.Output.{Puts};
 ghost use Rattle.dbf_image.specs.declared.format.TheConstants.{BLOCK};
 
@@ -142,11 +143,13 @@ impl MemoStore {
         })
     }
 
-    /// Keeps the texts with these numbers, and no other: all blocks of the dropped ones are spare. It takes no memory.
+    /// Keeps the texts with these numbers, and no other: all blocks of the dropped ones are spare. A number may stand
+    /// more than once, and 0 has no text. It takes no memory.
     pub fn drop_unused(&mut self, numbers: &[u32])
         ensures texts { self.new.texts ≡ map.retain_keys self.old.texts (λ q. list_any (nat_eq q) numbers.now) }
         ensures spare { self.old.spare ≤ self.new.spare }
         ensures blocks { all_bytes self.new ≡ all_bytes self.old }
+        ensures used { used_blocks self.new.texts ≤ blocks_of_all (texts_of self.old.texts numbers.now) }
     {
         mark(&mut self.blocks, numbers);
         self.free = sweep(&mut self.blocks);

@@ -19,11 +19,13 @@ pub record Content : Type 0 where
   pub table : Table
   pub indexes : List Indexed
 
--- what has room without memory being taken: one more record, a number of bytes of memos, one more pair in each index
+-- what has room without memory being taken: one more record, a number of bytes of memos, one more pair in each index; and how many
+-- blocks hold texts of memos, of which some may be those of texts that were replaced
 pub record Room : Type 0 where
   pub for_record : Bool
   pub for_text : ℕ
   pub for_pairs : Bool
+  pub blocks_in_use : ℕ
 
 -- a table with its indexes, and its room
 pub record Held : Type 0 where

@@ -1,9 +1,10 @@
 -- What a plan makes of a table and of the cursor, and when it can be carried out.
-use Rattle.std.specs.Prelude.{◌≡◌, ◌≢◌, ℕ, ◌+◌, ◌<◌, ◌≤◌, true, List, [], map, length, vec_capacity, Result, Ok}
+use Rattle.std.specs.Prelude.{◌≡◌, ◌≢◌, ℕ, ◌+◌, ◌*◌, ◌<◌, ◌≤◌, true, List, [], map, length, vec_capacity, Result, Ok}
 use Rattle.std.specs.List.{AllByRecursion}
 use Rattle.dbf_fields.specs.declared.format.TheConstants.{MEMO}
 use Rattle.dbf_fields.specs.Layout.{width_of}
-use Rattle.dbf_image.specs.declared.format.TheConstants.{MAX_RECORDS}
+use Rattle.dbf_image.specs.declared.format.TheConstants.{BLOCK, MAX_RECORDS}
+use Rattle.dbf_image.specs.Growing.{memo_blocks}
 use Rattle.dbf_image.specs.Table.{Table, kind_at, is_memo_text, packed}
 use Rattle.table_core.specs.declared.cursor.Cursor.{Cursor}
 use Rattle.table_core.specs.declared.edits.planned.TableChange.{TableChange}
@@ -12,7 +13,7 @@ use Rattle.table_core.specs.declared.edits.planned.Planned.{Planned}
 use Rattle.table_core.specs.declared.edits.planned.Target.{Target}
 use Rattle.table_core.specs.declared.indexes.TableIndex.{TableIndex}
 use Rattle.table_core.specs.declared.refusal.Refusal.{Refusal}
-use Rattle.table_core.specs.Content.{Content, Held, Indexed, record_count, with_index, with_table}
+use Rattle.table_core.specs.Content.{Content, Held, Indexed, Room, record_count, with_index, with_table}
 use Rattle.table_core.specs.Edits.{with_blank, with_value, with_deleted, with_made_index}
 use Rattle.table_core.specs.Indexes.{Follows, indexed}
 use Rattle.table_core.specs.Moves.{at_record, at_top}
@@ -108,3 +109,13 @@ CanMake held (AddIndex index list) = CanAddIndex held index list.items (vec_capa
 -- planned for the table as it stands
 abbrev pub IsPlanned : Held → Planned → Type 0
 IsPlanned held planned = CanMake held planned.change
+
+-- after PACK no more blocks hold texts of memos than the memos that are left take, and all others have room
+pub record GivesBlocksBack (content : Content) (old new : Room) : Type 0 where
+  pub used : new.blocks_in_use ≤ memo_blocks (packed content.table)
+  pub blocks : BLOCK * new.blocks_in_use + new.for_text ≡ BLOCK * old.blocks_in_use + old.for_text
+
+-- where the change is PACK
+abbrev pub IsRoomAfter : Held → TableChange → Room → Type 0
+IsRoomAfter held (Pack indexes) new = GivesBlocksBack held.content held.room new
+IsRoomAfter held change new = Unit {0}

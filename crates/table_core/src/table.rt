@@ -56,7 +56,12 @@ impl Model for Table {
 
     ghost view = { λ t. record {
       content = record { table = t.records.table; indexes = map indexed t.indexes.items };
-      room = record { for_record = t.records.record_room; for_text = t.records.text_room; for_pairs = have_room t.indexes.items };
+      room = record {
+        for_record = t.records.record_room;
+        for_text = t.records.text_room;
+        for_pairs = have_room t.indexes.items;
+        blocks_in_use = t.records.blocks_in_use;
+      };
     } };
 
     ghost invariant = { λ t. AllByRecursion (Follows t.records.table) t.indexes.items };

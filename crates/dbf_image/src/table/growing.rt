@@ -6,7 +6,8 @@ ghost use Rattle.dbf_fields.specs.Layout.{width_of};
 ghost use Rattle.dbf_fields.specs.declared.format.TheConstants.{MEMO};
 ghost use Rattle.dbf_image.specs.Table.{IsTable, is_memo_text as may_be_memo, kind_at, blank_row, row_at, cell_at, with_row, with_cell, with_mark, packed};
 ghost use Rattle.dbf_image.specs.Store.{texts_of, row_with, rows_of, rows_in, IsStore};
-ghost use Rattle.dbf_image.specs.Growing.{IsRecord};
+ghost use Rattle.dbf_image.specs.Growing.{IsRecord, memo_blocks, memo_bytes};
+ghost use Rattle.dbf_image.specs.MemoChains.{blocks_in};
 ghost use Rattle.dbf_image.specs.declared.format.TheConstants.{MAX_RECORDS};
 
 use crate::format::{DELETED, MAX_RECORDS};
@@ -47,12 +48,14 @@ impl Model for GrowingTable {
 
     ghost use Rattle.std.specs.Prelude.{◌+◌, ◌-◌, ◌&&◌, nat_le, vec_len, vec_capacity};
     ghost use Rattle.dbf_fields.specs.Field.{widths};
+    ghost use Rattle.dbf_image.specs.MemoStore.{used_blocks};
     ghost use Rattle.dbf_image.specs.Store.{memo_count, texts_of, rows_of, IsStore};
 
     ghost view = { λ t. record {
       table = record { schema = t.schema; rows = rows_of t.schema t.count t.records.items (texts_of t.texts.texts t.memos.items) };
       record_room = nat_le (vec_len t.records + (1 + widths t.schema)) (vec_capacity t.records) && nat_le (vec_len t.memos + memo_count t.schema) (vec_capacity t.memos);
       text_room = t.texts.spare;
+      blocks_in_use = used_blocks t.texts.texts;
     } };
 
     ghost invariant = { λ t. IsStore t.schema t.count t.records.items t.texts.texts t.memos.items };
@@ -177,10 +180,12 @@ impl GrowingTable {
 
     /// Makes room for a memo of at most `length` bytes.
     ///
-    /// An `Err` says that there was no memory. The table is the same in either case.
+    /// An `Err` says that there was no memory. The table is the same in either case, and no room is lost.
     pub fn reserve_text(&mut self, length: usize) -> Result<(), AllocError>
         ensures ok { OnOk result (length ≤ self.new.text_room) }
         ensures table { self.new.table ≡ self.old.table }
+        ensures room { self.old.text_room ≤ self.new.text_room }
+        ensures used { self.new.blocks_in_use ≡ self.old.blocks_in_use }
     {
         self.texts.reserve(length)
     }
@@ -234,6 +239,8 @@ impl GrowingTable {
         requires text { may_be_memo text.now ≡ true }
         requires room { length text.now ≤ self.old.text_room }
         ensures value { self.new.table ≡ with_cell self.old.table number field text.now }
+        ensures used { self.new.blocks_in_use ≡ self.old.blocks_in_use + blocks_in (length text.now) }
+        ensures blocks { memo_bytes self.new ≡ memo_bytes self.old }
     {
         let index = memo_index(&self.schema, number, field);
         self.memos[index] = put_memo(&mut self.texts, text);
@@ -254,6 +261,8 @@ impl GrowingTable {
     pub fn pack(&mut self)
         ensures value { self.new.table ≡ packed self.old.table }
         ensures room { self.old.text_room ≤ self.new.text_room }
+        ensures blocks { memo_bytes self.new ≡ memo_bytes self.old }
+        ensures used { self.new.blocks_in_use ≤ memo_blocks (packed self.old.table) }
     {
         self.count = keep_records(&self.schema, self.count, &mut self.records, &mut self.memos);
         self.texts.drop_unused(&self.memos);

@@ -1,7 +1,9 @@
 //! The memos of a table: numbers of texts, 0 for none.
 
-ghost use Rattle.std.specs.Prelude.{◌≡◌, ◌≤◌, length, true, IfOk, OnOk};
+ghost use Rattle.std.specs.Prelude.{◌≡◌, ◌+◌, ◌≤◌, length, true, IfOk, OnOk};
+ghost use Rattle.dbf_image.specs.MemoChains.{blocks_in};
 ghost use Rattle.dbf_image.specs.MemoNumbers.{KeepsMemos};
+ghost use Rattle.dbf_image.specs.MemoStore.{all_bytes, used_blocks};
 ghost use Rattle.dbf_image.specs.Store.{text_of, IsMemo};
 ghost use Rattle.dbf_image.specs.Table.{is_memo_text as may_be_memo};
 ghost use Rattle.dbf_image.specs.declared.format.TheConstants.{MAX_MEMO_BYTES};
@@ -41,6 +43,8 @@ pub(crate) fn put_memo(texts: &mut MemoStore, text: &[u8]) -> u32
     ensures memo { IsMemo texts.new.texts result }
     ensures value { text_of texts.new.texts result ≡ text.now }
     ensures others { KeepsMemos texts.old.texts texts.new.texts }
+    ensures used { used_blocks texts.new.texts ≡ used_blocks texts.old.texts + blocks_in (length text.now) }
+    ensures blocks { all_bytes texts.new ≡ all_bytes texts.old }
 {
     if text.is_empty() {
         return 0;

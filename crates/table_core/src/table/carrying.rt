@@ -4,7 +4,7 @@ ghost use Rattle.std.specs.Prelude.{◌≡◌, ◌≤◌, length, vec_capacity};
 ghost use Rattle.table_core.specs.Content.{with_index};
 ghost use Rattle.table_core.specs.Edits.{with_value, with_deleted};
 ghost use Rattle.table_core.specs.Indexes.{indexed};
-ghost use Rattle.table_core.specs.Planned.{changed, cursor_after, CanAddIndex, IsMemoOf, IsPlanned, IsRecordOf};
+ghost use Rattle.table_core.specs.Planned.{changed, cursor_after, CanAddIndex, IsMemoOf, IsPlanned, IsRecordOf, IsRoomAfter};
 
 use crate::cursor::Cursor;
 use crate::edits::changes::{add_blank, set_cell};
@@ -15,12 +15,13 @@ use crate::table::Table;
 
 impl Table {
     /// Carries out a plan that was made for the table as it stands, and moves the cursor by it. It takes no
-    /// memory, and can't fail.
+    /// memory, and can't fail. After PACK all blocks of memos are free but those of the memos that are left.
     pub fn carry_out(&mut self, planned: Planned, cursor: &mut Cursor)
         requires planned { IsPlanned self.old planned }
         requires order { cursor.old.order ≤ length self.old.content.indexes }
         ensures content { self.new.content ≡ changed self.old.content planned }
         ensures cursor { cursor.new ≡ cursor_after self.old.content cursor.old planned }
+        ensures room { IsRoomAfter self.old planned.change self.new.room }
     {
         match planned.change {
             TableChange::AddBlank => {

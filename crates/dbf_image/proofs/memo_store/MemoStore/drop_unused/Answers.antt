@@ -7,9 +7,12 @@ use Rattle.dbf_image.specs.declared.memo_store.block.MemoBlock.{MemoBlock}
 use Rattle.dbf_image.specs.MemoChains.{blocks_owned, IsChain, AreHeld, AreCounted}
 use Rattle.dbf_image.specs.MemoSteps.{Marks, Sweeps}
 use Rattle.dbf_image.specs.declared.format.TheConstants.{BLOCK}
-use Rattle.dbf_image.specs.MemoStore.{Memos, all_bytes, stored_texts}
+use Rattle.dbf_image.specs.MemoStore.{Memos, all_bytes, blocks_of_all, used_blocks, stored_texts}
+use Rattle.dbf_image.specs.Store.{texts_of}
 use Rattle.dbf_image.proofs.MemoDropping.{marked_held, marked_counted, swept_held, swept_counted, swept_chain, swept_free, dropped, drop_keeps_free}
+use Rattle.dbf_image.proofs.MemoTexts.{get_texts}
 use Rattle.dbf_image.proofs.MemoTotals.{bytes_of_all}
+use Rattle.dbf_image.proofs.MemoUse.{used_kept}
 use Rattle.dbf_image.proofs.memo_store.MemoStore.drop_unused.Goals as goal
 
 marked : (c : goal.After-self-3-1) → Marks c.self.inside.blocks.items c.mark.new.blocks c.args.numbers.now
@@ -58,3 +61,11 @@ returns-clause-blocks c =
     bytes_of_all _ (invariant_of-self c)
     ∙ ap (λ n. BLOCK * (n + c.self.inside.ready)) long
     ∙ sym (bytes_of_all c.self.inside c.self.invariant) ∙ ap all_bytes c.self.view_is
+
+pub returns-clause-used : goal.returns-clause-used
+returns-clause-used c =
+    let numbers = c.args.numbers.now in
+    let most = used_kept (stored_texts c.self.inside.blocks.items) numbers (get_texts c.self.inside.blocks.items 0) in
+    let is = ap used_blocks (ap stored_texts (after c) ∙ dropped _ _ _ _ _ c.self.invariant.held (marked c) (swept c)) in
+    let view = ap (λ (v : Memos). blocks_of_all (texts_of v.texts numbers)) c.self.view_is in
+    omega (arith, most, is, view)

@@ -23,8 +23,8 @@ invariant_of-self c =
     let inside = c.self.inside in
     store_put inside.schema inside.count inside.records.items inside.texts.texts c.put_memo.new.texts.texts inside.memos.items c.memo_index-index.result c.put_memo.result c.self.invariant c.put_memo.ensures.others c.put_memo.ensures.memo
 
-pub returns : goal.returns
-returns c =
+pub returns-clause-value : goal.returns-clause-value
+returns-clause-value c =
     let inside = c.self.inside in
     let texts = inside.texts.texts in
     let numbers = inside.memos.items in
@@ -37,4 +37,4 @@ returns c =
     let rows = ap (rows_of inside.schema inside.count inside.records.items) (texts_put texts c.put_memo.new.texts.texts text numbers c.memo_index-index.result c.put_memo.result c.put_memo.ensures.others c.self.invariant.each c.put_memo.ensures.value)
     ∙ ap (λ (k : ℕ). rows_of inside.schema inside.count inside.records.items (set (texts_of texts numbers) k text)) c.memo_index-index.ensures.value
     ∙ rows_memo inside.schema inside.count i c.args.field inside.records.items text (texts_of texts numbers) (blank_row inside.schema) many (omega arith) field kind in
-    record { value = rw (← c.self.view_is) (ap (λ (rows : List Row). record { schema = inside.schema; rows = rows }) rows) }
+    rw (← c.self.view_is) (ap (λ (rows : List Row). record { schema = inside.schema; rows = rows }) rows)
