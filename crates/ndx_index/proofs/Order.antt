@@ -115,22 +115,6 @@ same_by_parts a b =
     ∙ ap (λ t. is_eq (slice_cmp nat_cmp a.key b.key) && t) (is_eq-nat_cmp a.number b.number)
     ∙ tied_then (slice_cmp nat_cmp a.key b.key) (nat_cmp a.number b.number)
 
-kept_step : (f : Pair → Bool) (q : Pair) (rest : List Pair) (d : Pair) (b : Bool) → f q ≡ b → ((k : ℕ) → k < length rest → f (get_or rest k d) ≡ true)
-    → (k : ℕ) → k < length (cond b (q ∷ rest) rest) → f (get_or (cond b (q ∷ rest) rest) k d) ≡ true
-kept_step f q rest d true e ih zero h = e
-kept_step f q rest d true e ih (suc k) h = ih k (omega arith)
-kept_step f q rest d false e ih k h = ih k h
-
-kept_pass : (f : Pair → Bool) (ps : List Pair) (d : Pair) (k : ℕ) → k < length (filter f ps) → f (get_or (filter f ps) k d) ≡ true
-kept_pass f [] d k h = absurd (omega arith)
-kept_pass f (q ∷ qs) d k h = kept_step f q (filter f qs) d (f q) refl (λ j lt. kept_pass f qs d j lt) k h
-
--- a pair that was taken out is absent
-pub absent_without : (p : Pair) (ps : List Pair) → Contains (without_pair p ps) p → ⊥
-absent_without p ps h =
-    let pass : not (same p (get_or (without_pair p ps) h.0 p)) ≡ true = kept_pass (λ q. not (same p q)) ps p h.0 h.1 in
-    false≢true (sym (not-true _ (subst (λ q. not (same p q) ≡ true) h.2 pass)) ∙ same_itself p)
-
 pub three_apart : (a b c : Pair) → same a b ≡ false → same a c ≡ false → same b c ≡ false → IsDistinct same (a ∷ b ∷ c ∷ [])
 unfolding IsDistinct
 three_apart a b c ab ac bc = ((ab, (ac, tt)), ((bc, tt), (tt, tt)))

@@ -51,7 +51,8 @@ fn key(number: u32, len: usize) -> Key
     Key::new(&bytes[..len])
 }
 
-fn put(index: &mut OrderedIndex, pair: &Pair) -> Result<(), Fail> {
+// Puts a pair in, which may be there already.
+pub(crate) fn put(index: &mut OrderedIndex, pair: &Pair) -> Result<(), Fail> {
     if pair.key.as_bytes().len() != index.key_len() {
         return Err("a key of another length".into());
     }

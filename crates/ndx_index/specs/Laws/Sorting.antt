@@ -1,11 +1,11 @@
 -- `in_order` gives the sorted permutation, and there is one.
-use Rattle.std.proofs.Common.{◌≡◌, ℕ, zero, suc, ◌+◌, ◌<◌, ◌≤◌, true, false, not, cond, List, [], ◌∷◌, length, get_or, Contains, refl, ap, sym, ◌∙◌, subst, add-one, arith}
+use Rattle.std.proofs.Common.{◌≡◌, ℕ, zero, suc, ◌+◌, ◌<◌, ◌≤◌, Bool, true, false, not, cond, List, [], ◌∷◌, length, get_or, Contains, refl, ap, sym, ◌∙◌, subst, add-one, arith}
 use Rattle.std.specs.declared.cmp.Ordering.{Ordering}
 use Rattle.std.specs.declared.cmp.Ordering.TheVariants.{Less, Equal, Greater}
 use Rattle.std.specs.Ordering.{is_lt, ordering_reverse}
-use Rattle.std.specs.List.{AllByRecursion, sum_by, IsDistinct}
+use Rattle.std.specs.List.{AllByRecursion, filter, sum_by, IsDistinct}
 use Rattle.std.specs.List.Sorted.{IsStrictlySortedBy, IsPermutation, IsSorted}
-use Rattle.std.proofs.lemmas.Bool.{false≢true}
+use Rattle.std.proofs.lemmas.Bool.{false≢true, not-true}
 use Rattle.std.proofs.lemmas.List.{get_or_default}
 use Rattle.std.proofs.lemmas.List.Sums.{sum_by-cons}
 use Rattle.std.proofs.lemmas.Map.Keys.{IsDistinct-IsPermutation}
@@ -40,6 +40,23 @@ without_pair-with_pair p (q ∷ qs) absent =
       | true ↦ rw other (ap (λ xs. q ∷ xs) (without_pair-with_pair p qs (λ h. absent (contains_more q qs p h))))
       | false ↦ rw (same_itself p) (without_absent p (q ∷ qs) absent)
     ]
+
+-- what stands in a filtered list passes
+kept_step : (f : Pair → Bool) (q : Pair) (rest : List Pair) (d : Pair) (b : Bool) → f q ≡ b → ((k : ℕ) → k < length rest → f (get_or rest k d) ≡ true)
+    → (k : ℕ) → k < length (cond b (q ∷ rest) rest) → f (get_or (cond b (q ∷ rest) rest) k d) ≡ true
+kept_step f q rest d true e ih zero h = e
+kept_step f q rest d true e ih (suc k) h = ih k (omega arith)
+kept_step f q rest d false e ih k h = ih k h
+
+kept_pass : (f : Pair → Bool) (ps : List Pair) (d : Pair) (k : ℕ) → k < length (filter f ps) → f (get_or (filter f ps) k d) ≡ true
+kept_pass f [] d k h = absurd (omega arith)
+kept_pass f (q ∷ qs) d k h = kept_step f q (filter f qs) d (f q) refl (λ j lt. kept_pass f qs d j lt) k h
+
+-- a pair that was taken out is absent
+pub absent_without : (p : Pair) (ps : List Pair) → Contains (without_pair p ps) p → ⊥
+absent_without p ps h =
+    let pass : not (same p (get_or (without_pair p ps) h.0 p)) ≡ true = kept_pass (λ q. not (same p q)) ps p h.0 h.1 in
+    false≢true (sym (not-true _ (subst (λ q. not (same p q) ≡ true) h.2 pass)) ∙ same_itself p)
 
 -- no later pair stands before the first
 abbrev pub Ascends : List Pair → Type 0

@@ -1,10 +1,10 @@
-//! An index with many pairs, and its pages read from inside.
+//! The pages of an index with many pairs, read from inside.
 
 ghost use Rattle.std.specs.Prelude.{◌≡◌, length};
 
 use super::*;
+use crate::tests::put;
 use key_expr::Key;
-use std::process::Abort;
 use std::test::*;
 
 // The key of three digits and the record of a number: key 000 has record 1.
@@ -19,30 +19,6 @@ fn numbered(number: u32) -> Pair
     }
 }
 
-fn put(index: &mut OrderedIndex, pair: &Pair) -> Result<(), Fail> {
-    if pair.key.as_bytes().len() != index.key_len() {
-        return Err("a key of another length".into());
-    }
-    index.remove(*pair);
-    index.reserve()?;
-    index.insert(*pair);
-    Ok(())
-}
-
-// The index of records 1 to 1,000, put in from the last to the first.
-fn thousand(alloc: Global) -> Result<OrderedIndex, Fail> {
-    let mut index = OrderedIndex::new(alloc, 3);
-    for i in 0..1000 {
-        put(&mut index, &numbered(1000 - i))?;
-    }
-    Ok(index)
-}
-
-// The same pairs in pages that are filled from the left.
-fn built_again(alloc: Global, index: &OrderedIndex) -> Result<OrderedIndex, Fail> {
-    Ok(OrderedIndex::from_sorted(alloc, &index.pairs(alloc)?)?)
-}
-
 // The record numbers of all pairs, in order.
 fn numbers(index: &OrderedIndex, alloc: Global) -> Result<Vec<u32>, Fail> {
     let mut numbers = Vec::new(alloc);
@@ -53,64 +29,38 @@ fn numbers(index: &OrderedIndex, alloc: Global) -> Result<Vec<u32>, Fail> {
     Ok(numbers)
 }
 
-// How many pages are not free; `None` where one has more than sixteen pairs.
+// How many pages are not free; `None` where one has more than sixteen pairs or links.
 fn pages_in_use(index: &OrderedIndex) -> Option<usize> {
     for page in 0..index.store.page_count() {
-        if index.store.pair_count(page) > 16 {
+        if index.store.pair_count(page) > 16 || index.store.link_count(page) > 16 {
             return None;
         }
     }
     Some((index.store.page_count() as usize).saturating_sub(index.free.count))
 }
 
-#[test]
-fn thousand_keys(rt: HostRuntime) -> Result<(), Fail> {
-    let alloc = rt.alloc();
-    let index = thousand(alloc)?;
-    assert!(rt; numbers(&index, alloc)?.iter().copied().eq(1..1001));
-    assert!(rt; pages_in_use(&index).is_some_and(|pages| pages >= 63));
-    let built = built_again(alloc, &index)?;
-    assert!(rt; numbers(&built, alloc)?.iter().copied().eq(1..1001));
-    // 63 leaves, 4 pages above them and one above these
-    assert_eq!(rt; pages_in_use(&built), Some(68));
-    Ok(())
-}
-
-// Takes every second record out, from this number on; whether all were there.
-fn all_removed(index: &mut OrderedIndex, first: u32) -> bool {
-    for half in 0..500_u32 {
-        if !index.remove(numbered(first.saturating_add(2 * half))) {
-            return false;
+// Takes the even records of 1 to 1,000 out, and then the odd ones.
+fn remove_thousand(index: &mut OrderedIndex) {
+    for first in [2_u32, 1] {
+        for half in 0..500_u32 {
+            index.remove(numbered(first.saturating_add(2 * half)));
         }
     }
-    true
-}
-
-// The even records are taken out, and odd ones are found.
-fn even_records_removed(rt: &impl Abort, index: &mut OrderedIndex) -> Result<(), Fail> {
-    assert!(rt; all_removed(index, 2));
-    let Some(found) = index.first_from(b"99") else {
-        return Err("nothing is found".into());
-    };
-    assert_eq!(rt; found.number, 991);
-    assert_eq!(rt; index.next(found).map(|pair| pair.number), Some(993));
-    Ok(())
-}
-
-// The odd records are taken out, and no page is left.
-fn odd_records_removed(rt: &impl Abort, index: &mut OrderedIndex) {
-    assert!(rt; all_removed(index, 1));
-    assert!(rt; index.first().is_none());
-    assert_eq!(rt; pages_in_use(index), Some(0));
 }
 
 #[test]
-fn even_records_and_then_all_removed(rt: HostRuntime) -> Result<(), Fail> {
-    let mut index = thousand(rt.alloc())?;
-    even_records_removed(&rt, &mut index)?;
-    odd_records_removed(&rt, &mut index);
-    put(&mut index, &numbered(7))?;
-    assert!(rt; numbers(&index, rt.alloc())?.iter().copied().eq([7]));
+fn thousand_pairs_use_few_pages(rt: HostRuntime) -> Result<(), Fail> {
+    let alloc = rt.alloc();
+    let mut index = OrderedIndex::new(alloc, 3);
+    for i in 0..1000_u32 {
+        put(&mut index, &numbered(1000 - i))?;
+    }
+    assert!(rt; pages_in_use(&index).is_some_and(|pages| pages >= 63));
+    // The same pairs in pages that are filled from the left: 63 leaves, 4 pages above them and one above these.
+    let built = OrderedIndex::from_sorted(alloc, &index.pairs(alloc)?)?;
+    assert_eq!(rt; pages_in_use(&built), Some(68));
+    remove_thousand(&mut index);
+    assert_eq!(rt; pages_in_use(&index), Some(0));
     Ok(())
 }
 

@@ -1,5 +1,5 @@
 use Rattle.std.proofs.Common.{Contains, ◌∙◌, subst}
-use Rattle.ndx_index.proofs.Order.{absent_without}
+use Rattle.ndx_index.specs.Laws.Sorting.{absent_without}
 use Rattle.ndx_index.proofs.tests.put.Goals as goal
 
 pub insert-requires-clause-absent : goal.insert-requires-clause-absent
