@@ -1,7 +1,12 @@
 //! One run at a time in a folder of the system.
 
+ghost use Rattle.std.specs.Prelude.{OnOk, IsErrOf};
+ghost use Rattle.files_in_place.specs.declared.folder_lock.LockFault.TheVariants as F;
+ghost use Rattle.files_in_place.specs.System.{IsRefused};
+
+use crate::calls::SystemCalls;
 use std::alloc::AllocError;
-use std::fs::{File, TryLockError};
+use std::fs::TryLockError;
 use std::io;
 use thiserror::Error;
 
@@ -46,8 +51,12 @@ impl From<AllocError> for LockFault {
 
 // Locks a folder that is open (`flock`), without waiting. The lock is on the folder itself and leaves no file there; it ends with
 // the handle, or with the program, however that ends.
-pub(crate) fn lock(folder: &File) -> Result<(), LockFault> {
-    match folder.try_lock() {
+pub(crate) fn lock<R: SystemCalls>(rt: &R, folder: &R::File) -> Result<(), LockFault>
+    ensures locked { OnOk result (R.answers.locks folder.now) }
+    ensures in_use { IsErrOf result F.InUse → R.answers.is_busy folder.now }
+    ensures failed { IsErrOf result F.Failed → IsRefused R.answers }
+{
+    match rt.try_lock(folder) {
         Ok(()) => Ok(()),
         Err(TryLockError::WouldBlock) => Err(LockFault::InUse),
         Err(TryLockError::Error(e)) => Err(LockFault::from(e)),

@@ -4,12 +4,13 @@
 //! names; [`FileSet::finish`] puts all of its files in place, and [`FileSet::abandon`] removes them. [`recover`] is called
 //! before anything is read: it finishes what a crash left, or removes it, and may crash too. [`old_or_new`] says it of any
 //! number of crashes, and [`files_hold_what_was_written`] what the new files hold. [`SystemDisk`] is a folder of the
-//! system, which one run has at a time.
+//! system, which one run has at a time; it makes the calls of [`SystemCalls`].
 //!
 //! Start with `recovered` in specs/Folder.antt, then specs/Staged.antt and `file_set.rt`. What is believed of a disk
 //! stands at the calls of [`Disk`].
 #![tactic(auto)]
 
+mod calls;
 mod clean;
 mod commit;
 mod disk;
@@ -30,6 +31,7 @@ mod system_disk;
 mod system_file;
 mod written;
 
+pub use calls::SystemCalls;
 pub use disk::Disk;
 pub use faults::{DiskFault, RecoveryFault, SetFault};
 pub use file_set::FileSet;

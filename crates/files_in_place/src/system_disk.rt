@@ -1,33 +1,36 @@
 //! A folder of the system.
 
-ghost use Rattle.std.specs.Prelude.{◌≡◌, ◌++◌, ◌∷◌, [], IfOk, IsErrOf};
+ghost use Rattle.std.specs.Prelude.{◌≡◌, ◌++◌, ◌∷◌, ◌⊎◌, [], IfOk, OnOk, IfNone, IfSome, IsErrOf, IsTrue, IsFalse};
 ghost use Rattle.files_in_place.specs.declared.faults.DiskFault.TheVariants.{Failed};
+ghost use Rattle.files_in_place.specs.declared.folder_lock.LockFault.TheVariants as Lock;
 ghost use Rattle.files_in_place.specs.Disk.{HasCause};
+ghost use Rattle.files_in_place.specs.System.{CannotBegin, IsNoEntry, IsRefused, LeadsToNoFolder, HasNoFile, HasFile, HasNoRegularFile, HasNoBytes, HasRead, HasReadNames, HasSynced, HasMade, HasLocked, IsInUse, HasSyncedFolder, HasAppended};
 
+use crate::calls::SystemCalls;
 use crate::disk::Disk;
 use crate::faults::DiskFault;
 use crate::folder_lock::{LockFault, lock};
 use crate::system_calls::{
-    folder_names, has_file, open_folder, read_file, remove_file, rename_file, sync_found,
-    uninterrupted,
+    folder_names, has_file, open_folder, read_file, remove_file, rename_file, sync_found, sync_open,
 };
 use crate::system_file::{SystemFile, append_to, is_current, sync_once};
 use byte_io::{Bytes, Failures};
 use std::alloc::Global;
-use std::fs::{File, OpenFile};
 use std::marker::Model;
-use std::rt::Files;
 
 /// A folder of the system, which exists, and which no other run has meanwhile. Its files are those whose names are UTF-8; a link is a file, and a folder is none.
 /// A file is made where its name has nothing, and takes bytes until it is synced; a rename replaces a link, and not what
 /// it leads to. A call that a signal interrupts is made again, and a short write goes on.
+///
+/// Each answer is one that the system has given: `Ok` where it said so of the file that the name means, a failure where it
+/// refused a call. That is proved for every [`SystemCalls`].
 ///
 /// No contract knows what a file of the system holds. So `keeps_promises` is claimed of no folder of the system, and the
 /// clauses that stand under it say nothing here, as a sink's do where nothing is known of what it has taken. What is
 /// proved of every [`Disk`] holds of a folder of the system as far as it keeps the promises that the calls of [`Disk`]
 /// name.
 #[derive(Drop)]
-pub struct SystemDisk<R: Files + Drop> {
+pub struct SystemDisk<R: SystemCalls + Drop> {
     rt: R,
     alloc: Global,
     // Its path, ended by a slash.
@@ -40,16 +43,18 @@ pub struct SystemDisk<R: Files + Drop> {
     failures: Failures,
 }
 
-impl<R: Files + Drop> Model for SystemDisk<R> {
-    ghost use Rattle.std.specs.Prelude.{string_bytes};
-    ghost use Rattle.files_in_place.specs.System.{SystemFolder};
+impl<R: SystemCalls + Drop> Model for SystemDisk<R> {
+    ghost use Rattle.std.specs.Prelude.{IfSome, string_bytes};
+    ghost use Rattle.files_in_place.specs.System.{SystemFolder, IsLockedFolder, IsMadeUnder};
 
     ghost Value = { SystemFolder };
 
     ghost view = { λ d. record { path = string_bytes d.path; failures = d.failures } };
+
+    ghost invariant = { λ d. IsLockedFolder R.answers (string_bytes d.path) d.folder × IfSome d.current (λ c. IsMadeUnder R.answers (string_bytes d.path) c.name c.file) };
 }
 
-impl<R: Files<File = File> + Drop> SystemDisk<R> {
+impl<R: SystemCalls + Drop> SystemDisk<R> {
     /// Opens the folder of a path and locks it (`flock`), without waiting. As long as the disk is there no other one of the
     /// folder is opened, in this program or in another; the lock ends with it, or with the program, however that ends.
     ///
@@ -58,9 +63,12 @@ impl<R: Files<File = File> + Drop> SystemDisk<R> {
     pub fn open(rt: R, alloc: Global, path: &str) -> Result<SystemDisk<R>, LockFault>
         ensures path { IfOk result (λ disk. disk.path ≡ path.now ++ 47 ∷ []) }
         ensures failures { IfOk result (λ disk. disk.failures ≡ 0) }
+        ensures locked { OnOk result (HasLocked R.answers path.now) }
+        ensures in_use { IsErrOf result Lock.InUse → IsInUse R.answers path.now }
+        ensures failed { IsErrOf result Lock.Failed → LeadsToNoFolder R.answers path.now ⊎ IsRefused R.answers }
     {
         let folder = open_folder(&rt, path)?;
-        lock(&folder)?;
+        lock(&rt, &folder)?;
         let path = format!(in alloc; "{path}/")?;
         Ok(SystemDisk {
             rt,
@@ -73,10 +81,11 @@ impl<R: Files<File = File> + Drop> SystemDisk<R> {
     }
 }
 
-impl<R: Files + Drop> SystemDisk<R> {
+impl<R: SystemCalls + Drop> SystemDisk<R> {
     // Counts a failure of the disk.
     fn told<T: Drop>(&mut self, outcome: Result<T, DiskFault>) -> Result<T, DiskFault>
         ensures same { result ≡ outcome }
+        ensures folder { self.new.path ≡ self.old.path }
         ensures cause { HasCause self.old.failures self.new.failures (IsErrOf result Failed) }
     {
         match outcome {
@@ -90,59 +99,104 @@ impl<R: Files + Drop> SystemDisk<R> {
     }
 }
 
-impl<R: Files + Drop> Disk for SystemDisk<R> {
+impl<R: SystemCalls + Drop> Disk for SystemDisk<R> {
     ghost use Rattle.files_in_place.specs.Disk.{nothing_promised};
 
     ghost meaning = { nothing_promised (λ d. d.failures) };
 
-    fn read(&mut self, alloc: Global, name: &[u8]) -> Result<Option<Bytes>, DiskFault> {
+    fn read(&mut self, alloc: Global, name: &[u8]) -> Result<Option<Bytes>, DiskFault>
+        ensures cause { HasCause self.old.failures self.new.failures (IsErrOf result Failed) }
+        ensures folder { self.new.path ≡ self.old.path }
+        ensures none { IfOk result (λ content. IfNone content (HasNoFile R.answers (self.old.path ++ name.now))) }
+        ensures bytes { IfOk result (λ content. IfSome content (λ bytes. HasRead R.answers (self.old.path ++ name.now) bytes)) }
+        ensures failed { IsErrOf result Failed → IsNoEntry name.now ⊎ HasNoRegularFile R.answers (self.old.path ++ name.now) ⊎ IsRefused R.answers }
+    {
         let outcome = read_file(&self.rt, alloc, self.path.as_str(), name);
         self.told(outcome)
     }
 
-    fn has(&mut self, name: &[u8]) -> Result<bool, DiskFault> {
+    fn has(&mut self, name: &[u8]) -> Result<bool, DiskFault>
+        ensures cause { HasCause self.old.failures self.new.failures (IsErrOf result Failed) }
+        ensures folder { self.new.path ≡ self.old.path }
+        ensures there { IfOk result (λ found. IsTrue found → HasFile R.answers (self.old.path ++ name.now)) }
+        ensures none { IfOk result (λ found. IsFalse found → HasNoFile R.answers (self.old.path ++ name.now)) }
+        ensures failed { IsErrOf result Failed → IsNoEntry name.now ⊎ IsRefused R.answers }
+    {
         let outcome = has_file(&self.rt, self.alloc, self.path.as_str(), name);
         self.told(outcome)
     }
 
-    fn list(&mut self, alloc: Global) -> Result<Vec<Bytes>, DiskFault> {
+    fn list(&mut self, alloc: Global) -> Result<Vec<Bytes>, DiskFault>
+        ensures cause { HasCause self.old.failures self.new.failures (IsErrOf result Failed) }
+        ensures folder { self.new.path ≡ self.old.path }
+        ensures all { OnOk result (HasReadNames R.answers self.old.path) }
+    {
         let outcome = folder_names(&self.rt, alloc, self.path.as_str());
         self.told(outcome)
     }
 
-    fn create(&mut self, name: &[u8]) -> Result<(), DiskFault> {
+    fn create(&mut self, name: &[u8]) -> Result<(), DiskFault>
+        ensures cause { HasCause self.old.failures self.new.failures (IsErrOf result Failed) }
+        ensures folder { self.new.path ≡ self.old.path }
+        ensures made { OnOk result (HasMade R.answers self.old.path name.now) }
+        ensures failed { IsErrOf result Failed → CannotBegin R.answers self.old.path name.now ⊎ IsRefused R.answers }
+    {
         let outcome = SystemFile::create(&self.rt, self.alloc, self.path.as_str(), name);
         let made = self.told(outcome)?;
         self.current = Some(made);
         Ok(())
     }
 
-    fn append(&mut self, name: &[u8], bytes: &[u8]) -> Result<(), DiskFault> {
-        let outcome = append_to(&mut self.current, name, bytes);
+    fn append(&mut self, name: &[u8], bytes: &[u8]) -> Result<(), DiskFault>
+        ensures cause { HasCause self.old.failures self.new.failures (IsErrOf result Failed) }
+        ensures folder { self.new.path ≡ self.old.path }
+        ensures written { OnOk result (HasAppended R.answers R.File.contents (self.old.path ++ name.now) bytes.now) }
+    {
+        let outcome = append_to(&self.rt, &mut self.current, name, bytes);
         self.told(outcome)
     }
 
-    fn sync_file(&mut self, name: &[u8]) -> Result<(), DiskFault> {
+    fn sync_file(&mut self, name: &[u8]) -> Result<(), DiskFault>
+        ensures cause { HasCause self.old.failures self.new.failures (IsErrOf result Failed) }
+        ensures folder { self.new.path ≡ self.old.path }
+        ensures synced { OnOk result (HasSynced R.answers (self.old.path ++ name.now) ⊎ HasNoBytes R.answers (self.old.path ++ name.now)) }
+        ensures failed { IsErrOf result Failed → IsNoEntry name.now ⊎ IsRefused R.answers }
+    {
         let outcome = if is_current(&self.current, name) {
-            sync_once(self.current.take(), name)
+            sync_once(&self.rt, self.current.take(), name)
         } else {
             sync_found(&self.rt, self.alloc, self.path.as_str(), name)
         };
         self.told(outcome)
     }
 
-    fn rename(&mut self, from: &[u8], to: &[u8]) -> Result<(), DiskFault> {
+    fn rename(&mut self, from: &[u8], to: &[u8]) -> Result<(), DiskFault>
+        ensures cause { HasCause self.old.failures self.new.failures (IsErrOf result Failed) }
+        ensures folder { self.new.path ≡ self.old.path }
+        ensures renamed { OnOk result (R.answers.renames (self.old.path ++ from.now) (self.old.path ++ to.now)) }
+        ensures failed { IsErrOf result Failed → IsNoEntry from.now ⊎ IsNoEntry to.now ⊎ IsRefused R.answers }
+    {
         let outcome = rename_file(&self.rt, self.alloc, self.path.as_str(), from, to);
         self.told(outcome)
     }
 
-    fn remove(&mut self, name: &[u8]) -> Result<(), DiskFault> {
+    fn remove(&mut self, name: &[u8]) -> Result<(), DiskFault>
+        ensures cause { HasCause self.old.failures self.new.failures (IsErrOf result Failed) }
+        ensures folder { self.new.path ≡ self.old.path }
+        ensures removed { OnOk result (R.answers.removes (self.old.path ++ name.now) ⊎ HasNoFile R.answers (self.old.path ++ name.now)) }
+        ensures failed { IsErrOf result Failed → IsNoEntry name.now ⊎ IsRefused R.answers }
+    {
         let outcome = remove_file(&self.rt, self.alloc, self.path.as_str(), name);
         self.told(outcome)
     }
 
-    fn sync_folder(&mut self) -> Result<(), DiskFault> {
-        let outcome = uninterrupted(|| self.folder.sync_all()).map_err(DiskFault::from);
+    fn sync_folder(&mut self) -> Result<(), DiskFault>
+        ensures cause { HasCause self.old.failures self.new.failures (IsErrOf result Failed) }
+        ensures folder { self.new.path ≡ self.old.path }
+        ensures synced { OnOk result (HasSyncedFolder R.answers self.old.path) }
+        ensures failed { IsErrOf result Failed → IsRefused R.answers }
+    {
+        let outcome = sync_open(&self.rt, &self.folder);
         self.told(outcome)
     }
 }
