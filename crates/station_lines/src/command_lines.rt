@@ -1,6 +1,6 @@
 //! Commands as lines of a script.
 
-ghost use Rattle.std.specs.Prelude.{◌≡◌, ◌++◌, true, codes, IfOk};
+ghost use Rattle.std.specs.Prelude.{◌≡◌, ◌++◌, true, codes, OnOk, IfOk};
 ghost use Rattle.std.specs.Fmt.{decimal, signed_decimal};
 ghost use Rattle.station_lines.specs.Script.Meaning.{Means};
 ghost use Rattle.station_lines.specs.Script.Lines.{has_no_lf};
@@ -8,127 +8,128 @@ ghost use Rattle.station_lines.specs.CommandLines.{text_of_command, IsMeant, IsO
 
 mod value;
 
-use crate::command_lines::value::{joined, quoted, value_text, with_commas};
+pub(crate) use crate::command_lines::value::append_number;
+use crate::command_lines::value::{append_both, append_quoted, append_value, append_with_commas};
 use crate::script::Line;
 use crate::script::call::{CallName, call_text};
 use byte_io::Bytes;
 use catalogue_core::{Command, Numbers};
+use dbf_fields::Literal;
+use itoa::Buffer;
 use std::alloc::{AllocError, Global};
 
-// A command's words before its number, and the number.
-fn with_number(alloc: Global, words: &[u8], number: u64) -> Result<Bytes, AllocError>
-    ensures value { IfOk result (λ line. line ≡ words.now ++ decimal number) }
+// Appends a command's words before its number, and the number.
+fn append_words_and_number(line: &mut Vec<u8>, words: &[u8], number: u64) -> Result<(), AllocError>
+    ensures ok { OnOk result (line.new.items ≡ line.old.items ++ (words.now ++ decimal number)) }
 {
-    let digits = format!(in alloc; "{number}")?;
-    joined(alloc, words, digits.as_bytes())
+    line.extend_from_slice(words)?;
+    append_number(line, number)
 }
 
-// SKIP and how many records.
-fn skip_line(alloc: Global, records: i64) -> Result<Bytes, AllocError>
-    ensures value { IfOk result (λ line. line ≡ codes "SKIP " ++ signed_decimal records) }
+// Appends SKIP and how many records.
+fn append_skip(line: &mut Vec<u8>, records: i64) -> Result<(), AllocError>
+    ensures ok { OnOk result (line.new.items ≡ line.old.items ++ (codes "SKIP " ++ signed_decimal records)) }
 {
-    let digits = format!(in alloc; "{records}")?;
-    joined(alloc, b"SKIP ", digits.as_bytes())
+    let mut buffer = Buffer::new();
+    append_both(line, b"SKIP ", buffer.format(records).as_bytes())
 }
 
-// A first word, a part, a word between two parts and a part.
-fn two_parts(
-    alloc: Global,
+// Appends SEEK and a text.
+fn append_seek(line: &mut Vec<u8>, text: &[u8]) -> Result<(), AllocError>
+    ensures ok { OnOk result (line.new.items ≡ line.old.items ++ text_of_command (Command.Seek text.now)) }
+{
+    line.extend_from_slice(b"SEEK ")?;
+    append_quoted(line, text)
+}
+
+// Appends a first word, a part, and a word after it.
+fn append_three(
+    line: &mut Vec<u8>,
     word: &[u8],
     part: &[u8],
-    between: &[u8],
-    last: &[u8],
-) -> Result<Bytes, AllocError>
-    ensures value { IfOk result (λ line. line ≡ word.now ++ (part.now ++ (between.now ++ last.now))) }
+    after: &[u8],
+) -> Result<(), AllocError>
+    ensures ok { OnOk result (line.new.items ≡ line.old.items ++ (word.now ++ (part.now ++ after.now))) }
 {
-    let mut line = Vec::from_slice(alloc, word)?;
+    line.extend_from_slice(word)?;
     line.extend_from_slice(part)?;
-    line.extend_from_slice(between)?;
-    line.extend_from_slice(last)?;
-    Ok(Bytes::from_vec(line))
+    line.extend_from_slice(after)
 }
 
-// USE, a table's name, and nothing or EXCLUSIVE.
-fn use_line(alloc: Global, name: &[u8], exclusive: bool) -> Result<Bytes, AllocError>
-    ensures value { IfOk result (λ line. line ≡ text_of_command (Command.UseTable name.now exclusive)) }
+// Appends REPLACE, a field and a value.
+fn append_replace(line: &mut Vec<u8>, field: &[u8], value: &Literal) -> Result<(), AllocError>
+    ensures ok { OnOk result (line.new.items ≡ line.old.items ++ text_of_command (Command.Replace field.now value.now)) }
 {
-    let mut line = Vec::from_slice(alloc, b"USE ")?;
-    line.extend_from_slice(name)?;
+    append_three(line, b"REPLACE ", field, b" WITH ")?;
+    append_value(line, value)
+}
+
+// Appends MEMO, a field and a text.
+fn append_memo(line: &mut Vec<u8>, field: &[u8], text: &[u8]) -> Result<(), AllocError>
+    ensures ok { OnOk result (line.new.items ≡ line.old.items ++ text_of_command (Command.Memo field.now text.now)) }
+{
+    append_three(line, b"MEMO ", field, b" WITH ")?;
+    append_quoted(line, text)
+}
+
+// Appends INDEX ON, an expression and a name.
+fn append_index_on(line: &mut Vec<u8>, expr: &[u8], name: &[u8]) -> Result<(), AllocError>
+    ensures ok { OnOk result (line.new.items ≡ line.old.items ++ text_of_command (Command.IndexOn expr.now name.now)) }
+{
+    append_three(line, b"INDEX ON ", expr, b" TO ")?;
+    line.extend_from_slice(name)
+}
+
+// Appends USE, a table's name, and nothing or EXCLUSIVE.
+fn append_use(line: &mut Vec<u8>, name: &[u8], exclusive: bool) -> Result<(), AllocError>
+    ensures ok { OnOk result (line.new.items ≡ line.old.items ++ text_of_command (Command.UseTable name.now exclusive)) }
+{
     if exclusive {
-        line.extend_from_slice(b" EXCLUSIVE")?;
+        append_three(line, b"USE ", name, b" EXCLUSIVE")
+    } else {
+        append_both(line, b"USE ", name)
     }
-    Ok(Bytes::from_vec(line))
 }
 
-// ?, and RLOCK with record numbers in its parentheses.
-fn locks_line(alloc: Global, numbers: &Numbers) -> Result<Bytes, AllocError>
-    ensures value { IfOk result (λ line. line ≡ text_of_command (Command.RecordLocks numbers.now)) }
+// Appends ?, and RLOCK with record numbers in its parentheses.
+fn append_locks(line: &mut Vec<u8>, numbers: &Numbers) -> Result<(), AllocError>
+    ensures ok { OnOk result (line.new.items ≡ line.old.items ++ text_of_command (Command.RecordLocks numbers.now)) }
 {
-    let mut line = Vec::from_slice(alloc, b"? RLOCK(")?;
-    let list = with_commas(alloc, numbers.as_slice())?;
-    line.extend_from_slice(list.as_slice())?;
+    line.extend_from_slice(b"? RLOCK(")?;
+    append_with_commas(line, numbers.as_slice())?;
     line.push(b')')?;
-    Ok(Bytes::from_vec(line))
+    Ok(())
 }
 
-// The line of a command.
-fn line_text(alloc: Global, command: &Command) -> Result<Bytes, AllocError>
-    ensures value { IfOk result (λ line. line ≡ text_of_command command.now) }
+/// Appends the line of a command, as [`command_line`] makes it. Where memory is refused a front part of it may have been appended.
+pub(crate) fn append_command(line: &mut Vec<u8>, command: &Command) -> Result<(), AllocError>
+    ensures ok { OnOk result (line.new.items ≡ line.old.items ++ text_of_command command.now) }
 {
     match command {
-        Command::Select(area) => with_number(alloc, b"SELECT ", *area),
-        Command::UseTable { name, exclusive } => use_line(alloc, name.as_slice(), *exclusive),
-        Command::CloseTable => Bytes::from_slice(alloc, b"USE"),
-        Command::Go(record) => with_number(alloc, b"GO ", *record),
-        Command::Top => Bytes::from_slice(alloc, b"GO TOP"),
-        Command::Bottom => Bytes::from_slice(alloc, b"GO BOTTOM"),
-        Command::Skip(records) => skip_line(alloc, *records),
-        Command::Seek(text) => {
-            let text = quoted(alloc, text.as_slice())?;
-            joined(alloc, b"SEEK ", text.as_slice())
-        }
-        Command::Order(order) => with_number(alloc, b"SET ORDER TO ", *order),
-        Command::AppendBlank => Bytes::from_slice(alloc, b"APPEND BLANK"),
-        Command::Replace { field, value } => {
-            let value = value_text(alloc, value)?;
-            two_parts(
-                alloc,
-                b"REPLACE ",
-                field.as_slice(),
-                b" WITH ",
-                value.as_slice(),
-            )
-        }
-        Command::Memo { field, text } => {
-            let text = quoted(alloc, text.as_slice())?;
-            two_parts(
-                alloc,
-                b"MEMO ",
-                field.as_slice(),
-                b" WITH ",
-                text.as_slice(),
-            )
-        }
-        Command::Delete => Bytes::from_slice(alloc, b"DELETE"),
-        Command::Recall => Bytes::from_slice(alloc, b"RECALL"),
-        Command::Pack => Bytes::from_slice(alloc, b"PACK"),
-        Command::IndexOn { expr, name } => {
-            two_parts(
-                alloc,
-                b"INDEX ON ",
-                expr.as_slice(),
-                b" TO ",
-                name.as_slice(),
-            )
-        }
-        Command::Unlock => Bytes::from_slice(alloc, b"UNLOCK"),
-        Command::UnlockAll => Bytes::from_slice(alloc, b"UNLOCK ALL"),
-        Command::Show(field) => joined(alloc, b"? ", field.as_slice()),
-        Command::RecordLock => joined(alloc, b"? ", call_text(CallName::Rlock)),
-        Command::RecordLocks(numbers) => locks_line(alloc, numbers),
-        Command::FileLock => joined(alloc, b"? ", call_text(CallName::Flock)),
-        Command::Ask(question) => joined(alloc, b"? ", call_text(CallName::Ask(*question))),
-        Command::Bad => Bytes::from_slice(alloc, b"BAD"),
+        Command::Select(area) => append_words_and_number(line, b"SELECT ", *area),
+        Command::UseTable { name, exclusive } => append_use(line, name.as_slice(), *exclusive),
+        Command::CloseTable => line.extend_from_slice(b"USE"),
+        Command::Go(record) => append_words_and_number(line, b"GO ", *record),
+        Command::Top => line.extend_from_slice(b"GO TOP"),
+        Command::Bottom => line.extend_from_slice(b"GO BOTTOM"),
+        Command::Skip(records) => append_skip(line, *records),
+        Command::Seek(text) => append_seek(line, text.as_slice()),
+        Command::Order(order) => append_words_and_number(line, b"SET ORDER TO ", *order),
+        Command::AppendBlank => line.extend_from_slice(b"APPEND BLANK"),
+        Command::Replace { field, value } => append_replace(line, field.as_slice(), value),
+        Command::Memo { field, text } => append_memo(line, field.as_slice(), text.as_slice()),
+        Command::Delete => line.extend_from_slice(b"DELETE"),
+        Command::Recall => line.extend_from_slice(b"RECALL"),
+        Command::Pack => line.extend_from_slice(b"PACK"),
+        Command::IndexOn { expr, name } => append_index_on(line, expr.as_slice(), name.as_slice()),
+        Command::Unlock => line.extend_from_slice(b"UNLOCK"),
+        Command::UnlockAll => line.extend_from_slice(b"UNLOCK ALL"),
+        Command::Show(field) => append_both(line, b"? ", field.as_slice()),
+        Command::RecordLock => append_both(line, b"? ", call_text(CallName::Rlock)),
+        Command::RecordLocks(numbers) => append_locks(line, numbers),
+        Command::FileLock => append_both(line, b"? ", call_text(CallName::Flock)),
+        Command::Ask(question) => append_both(line, b"? ", call_text(CallName::Ask(*question))),
+        Command::Bad => line.extend_from_slice(b"BAD"),
     }
 }
 
@@ -144,6 +145,7 @@ pub fn command_line(alloc: Global, command: &Command) -> Result<Bytes, AllocErro
     ensures read_back { IfOk result (λ line. IsMeant command.now → Means line (Line.Run command.now)) }
     ensures one_line { IfOk result (λ line. IsOfALine command.now → has_no_lf line ≡ true) }
 {
-    let line = line_text(alloc, command)?;
-    Ok(line)
+    let mut line = Vec::new(alloc);
+    append_command(&mut line, command)?;
+    Ok(Bytes::from_vec(line))
 }

@@ -1,43 +1,108 @@
 //! The journal as a file: a line an entry.
 
-ghost use Rattle.std.specs.Prelude.{◌≡◌, ◌==◌, List, [], ℕ, position, IfOk, IfSome, IfNone};
+ghost use Rattle.std.specs.Prelude.{◌≡◌, ◌==◌, ◌++◌, ◌∷◌, List, [], ℕ, position, OnOk, IfOk, IfSome, IfNone};
 ghost use Rattle.std.specs.Fmt.{decimal};
 ghost use Rattle.dbf_fields.specs.declared.format.TheConstants.{BLANK};
 ghost use Rattle.station_lines.specs.AnswerLines.{line_of};
 ghost use Rattle.station_lines.specs.CommandLines.{text_of_command};
-ghost use Rattle.station_lines.specs.JournalLines.{entry_and, lines_and, is_plain_number, HaveSmallNumbers, IsNoNumber, BeginsWithNumber, BeginsWithNoNumber, BeginsWithPart, BeginsWithNoPart, BeginsWithEntry, BeginsWithNoEntry};
+ghost use Rattle.station_lines.specs.JournalLines.{entry_and, lines_and, is_plain_number, HasSmallNumbers, HaveSmallNumbers, IsNoNumber, BeginsWithNumber, BeginsWithNoNumber, BeginsWithPart, BeginsWithNoPart, BeginsWithEntry, BeginsWithNoEntry};
 
-use crate::answer_lines::answer_line;
-use crate::command_lines::command_line;
+use crate::answer_lines::append_answer;
+use crate::command_lines::{append_command, append_number};
 use crate::script::format::LF;
 use byte_io::Bytes;
 use catalogue_core::{Answer, Command};
 use dbf_fields::{BLANK, ZERO_DIGIT, are_digits};
 use std::alloc::{AllocError, Global};
 
-// The line that shows these parts of an entry.
-fn line_of_parts(
-    alloc: Global,
+// Appends a part of a line, and the byte after it.
+fn append_part(line: &mut Vec<u8>, part: &[u8], after: u8) -> Result<(), AllocError>
+    ensures ok { OnOk result (line.new.items ≡ line.old.items ++ (part.now ++ (after ∷ []))) }
+{
+    line.extend_from_slice(part)?;
+    line.push(after)?;
+    Ok(())
+}
+
+// Appends a number and a blank.
+fn append_count(line: &mut Vec<u8>, count: u64) -> Result<(), AllocError>
+    ensures ok { OnOk result (line.new.items ≡ line.old.items ++ (decimal count ++ (BLANK ∷ []))) }
+{
+    append_number(line, count)?;
+    line.push(BLANK)?;
+    Ok(())
+}
+
+// Appends the numbers that are first in an entry's line, each with a blank after it.
+fn append_counts(line: &mut Vec<u8>, first: u64, second: u64, third: u64) -> Result<(), AllocError>
+    ensures ok { OnOk result (line.new.items ≡ line.old.items ++ (decimal first ++ (BLANK ∷ (decimal second ++ (BLANK ∷ (decimal third ++ (BLANK ∷ []))))))) }
+{
+    append_count(line, first)?;
+    append_count(line, second)?;
+    append_count(line, third)
+}
+
+// Appends the line that shows these parts of an entry.
+fn append_parts(
+    line: &mut Vec<u8>,
     station: u32,
     command: &[u8],
     answer: &[u8],
-) -> Result<Bytes, AllocError>
-    ensures value { IfOk result (λ line. line ≡ entry_and (station, command.now, answer.now) []) }
+) -> Result<(), AllocError>
+    ensures ok { OnOk result (line.new.items ≡ line.old.items ++ entry_and (station, command.now, answer.now) []) }
 {
-    let command_len = command.len();
-    let answer_len = answer.len();
-    let counts = format!(in alloc; "{station} {command_len} {answer_len} ")?;
-    let mut line = Vec::from_slice(alloc, counts.as_bytes())?;
-    line.extend_from_slice(command)?;
-    line.push(BLANK)?;
-    line.extend_from_slice(answer)?;
-    line.push(LF)?;
-    Ok(Bytes::from_vec(line))
+    append_counts(
+        line,
+        u64::from(station),
+        command.len() as u64,
+        answer.len() as u64,
+    )?;
+    append_part(line, command, BLANK)?;
+    append_part(line, answer, LF)
 }
 
-/// The line of an entry of the journal, with the LF that ends it, as `1 12 2 APPEND BLANK OK`: the station's number, how
-/// many bytes the command's line and the answer's line have, and these two lines, apart by one blank. An error where
-/// memory is refused.
+/// The line of an entry of the journal, made in memory that is used again for the next entry's.
+#[derive(Drop)]
+pub struct EntryLine {
+    // The command's line and the answer's, one after the other.
+    parts: Vec<u8>,
+    line: Vec<u8>,
+}
+
+impl EntryLine {
+    /// No line yet. Takes no memory.
+    pub fn new(alloc: Global) -> EntryLine {
+        EntryLine {
+            parts: Vec::new(alloc),
+            line: Vec::new(alloc),
+        }
+    }
+
+    /// The line of an entry, with the LF that ends it, as `1 12 2 APPEND BLANK OK`: the station's number, how many bytes the
+    /// command's line and the answer's line have, and these two lines, apart by one blank. These numbers are of 64 bits. An error where
+    /// memory is refused.
+    #[tactic(auto, using(crate::proofs::JournalLaws::entry_small))]
+    pub fn of(
+        &mut self,
+        station: u32,
+        command: &Command,
+        answer: &Answer,
+    ) -> Result<&[u8], AllocError>
+        ensures value { IfOk result (λ line. line.now ≡ entry_and (station, text_of_command command.now, line_of answer.now) []) }
+        ensures small { OnOk result (HasSmallNumbers (station, text_of_command command.now, line_of answer.now)) }
+    {
+        self.parts.clear();
+        append_command(&mut self.parts, command)?;
+        let command_length = self.parts.len();
+        append_answer(&mut self.parts, answer)?;
+        let (command, answer) = self.parts.as_slice().split_at(command_length);
+        self.line.clear();
+        append_parts(&mut self.line, station, command, answer)?;
+        Ok(self.line.as_slice())
+    }
+}
+
+/// The line of one entry of the journal, as [`EntryLine::of`] makes it. An error where memory is refused.
 pub fn entry_line(
     alloc: Global,
     station: u32,
@@ -46,9 +111,9 @@ pub fn entry_line(
 ) -> Result<Bytes, AllocError>
     ensures value { IfOk result (λ line. line ≡ entry_and (station, text_of_command command.now, line_of answer.now) []) }
 {
-    let command = command_line(alloc, command)?;
-    let answer = answer_line(alloc, answer)?;
-    line_of_parts(alloc, station, command.as_slice(), answer.as_slice())
+    let mut line = EntryLine::new(alloc);
+    let line = line.of(station, command, answer)?;
+    Bytes::from_slice(alloc, line)
 }
 
 /// An entry that is cut off a journal's text, and what stands after its line.

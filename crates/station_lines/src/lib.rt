@@ -16,16 +16,17 @@ mod journal_lines;
 mod script;
 mod setup;
 
-pub use answer_lines::{answer_line, status_line};
+pub use answer_lines::{answer_line, append_answer, append_status, status_line};
 pub use command_lines::command_line;
 pub use journal_lines::{
-    CutEntry, cut_entry, cut_number, cut_part, entry_line, one_journal, plain_number,
+    CutEntry, EntryLine, cut_entry, cut_number, cut_part, entry_line, one_journal, plain_number,
 };
 pub use script::format::LF;
 pub use script::{
-    BadLine, Line, LineCursor, is_one_line, lines, one_cutting, one_meaning, parse_line, why_bad,
+    BadLine, Line, LineCursor, count_in, is_one_line, lines, one_cutting, one_meaning, parse_line,
+    why_bad,
 };
 pub use setup::{
-    BadSetupLine, SetupEntry, SetupFault, one_setup, parse_setup, setup_line_reason,
-    why_bad_setup_line,
+    BadSetupLine, SetupEntry, SetupFault, cut_plain_word, one_setup, parse_setup,
+    setup_line_reason, why_bad_setup_line,
 };

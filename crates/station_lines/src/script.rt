@@ -23,5 +23,6 @@ pub use bad_line::{BadLine, why_bad};
 pub(crate) use line::is_remark;
 pub use line::{Line, one_meaning, parse_line};
 pub use script_lines::{LineCursor, is_one_line, lines, one_cutting};
+pub use value::count_in;
 pub(crate) use value::{in_capitals, is_name};
 pub(crate) use word::{is_gap, without_gaps};

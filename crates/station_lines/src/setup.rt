@@ -23,6 +23,7 @@ pub use bad_setup_line::{BadSetupLine, setup_line_reason, why_bad_setup_line};
 pub use entry::SetupEntry;
 pub use fault::SetupFault;
 use std::alloc::{AllocError, Global};
+pub use words::cut_plain_word;
 
 // Adds what a line says to what those before it said. The answer is whether it may stand there.
 fn add_line(alloc: Global, entries: &mut Vec<SetupEntry>, line: &[u8]) -> Result<bool, AllocError>

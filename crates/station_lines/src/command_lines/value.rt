@@ -1,26 +1,33 @@
-//! The words of a command's texts, values and numbers.
+//! The words of a command's texts, values and numbers. Where memory is refused a front part of a word may have been appended.
 
-ghost use Rattle.std.specs.Prelude.{◌≡◌, ◌++◌, ◌∷◌, [], ◌==◌, not, IfOk};
+ghost use Rattle.std.specs.Prelude.{◌≡◌, ◌++◌, ◌∷◌, [], ◌==◌, not, OnOk};
 ghost use Rattle.std.specs.List.{list_all};
 ghost use Rattle.std.specs.Fmt.{decimal};
 ghost use Rattle.std.specs.Int.RustNames.{unsigned_abs};
 ghost use Rattle.dbf_fields.specs.declared.format.TheConstants.{POINT};
 ghost use Rattle.dbf_fields.specs.Digits.{last_digits};
 ghost use Rattle.dbf_fields.specs.NumberText.{sign};
-ghost use Rattle.station_lines.specs.CommandLines.{quoted as text_quoted, written_number, written_day, date_call as call_of_date, written_value, after_commas, with_commas as numbers_apart};
+ghost use Rattle.station_lines.specs.CommandLines.{quoted, written_number, written_day, date_call, written_value, after_commas, with_commas};
 
-use crate::script::format::{APOSTROPHE, MAX_LITERAL_DIGITS, QUOTE};
-use byte_io::Bytes;
+use crate::script::format::{APOSTROPHE, COMMA, MAX_LITERAL_DIGITS, QUOTE};
 use dbf_fields::{Day, Literal, NumberText, SLASH, ZERO_DIGIT};
-use std::alloc::{AllocError, Global};
+use itoa::Buffer;
+use std::alloc::AllocError;
 
-/// Two texts, one after the other. An error where memory is refused.
-pub(crate) fn joined(alloc: Global, first: &[u8], second: &[u8]) -> Result<Bytes, AllocError>
-    ensures value { IfOk result (λ text. text ≡ first.now ++ second.now) }
+/// Appends two texts, one after the other.
+pub(crate) fn append_both(line: &mut Vec<u8>, first: &[u8], second: &[u8]) -> Result<(), AllocError>
+    ensures ok { OnOk result (line.new.items ≡ line.old.items ++ (first.now ++ second.now)) }
 {
-    let mut text = Vec::from_slice(alloc, first)?;
-    text.extend_from_slice(second)?;
-    Ok(Bytes::from_vec(text))
+    line.extend_from_slice(first)?;
+    line.extend_from_slice(second)
+}
+
+/// Appends the decimal digits of a number.
+pub(crate) fn append_number(line: &mut Vec<u8>, number: u64) -> Result<(), AllocError>
+    ensures ok { OnOk result (line.new.items ≡ line.old.items ++ decimal number) }
+{
+    let mut buffer = Buffer::new();
+    line.extend_from_slice(buffer.format(number).as_bytes())
 }
 
 // Whether a text holds no `"`.
@@ -30,20 +37,19 @@ fn has_no_quote(text: &[u8]) -> bool
     text.iter().all(|byte| *byte != QUOTE)
 }
 
-/// A text between two `"`, or between two `'` where it holds a `"`. An error where memory is refused.
-pub(crate) fn quoted(alloc: Global, text: &[u8]) -> Result<Bytes, AllocError>
-    ensures value { IfOk result (λ word. word ≡ text_quoted text.now) }
+/// Appends a text between two `"`, or between two `'` where it holds a `"`.
+pub(crate) fn append_quoted(line: &mut Vec<u8>, text: &[u8]) -> Result<(), AllocError>
+    ensures ok { OnOk result (line.new.items ≡ line.old.items ++ quoted text.now) }
 {
     let quote = if has_no_quote(text) {
         QUOTE
     } else {
         APOSTROPHE
     };
-    let mut word = Vec::new(alloc);
-    word.push(quote)?;
-    word.extend_from_slice(text)?;
-    word.push(quote)?;
-    Ok(Bytes::from_vec(word))
+    line.push(quote)?;
+    line.extend_from_slice(text)?;
+    line.push(quote)?;
+    Ok(())
 }
 
 // The sign of a number, and the point.
@@ -53,27 +59,27 @@ fn sign_and_point(digits: i128) -> &'static [u8]
     if digits < 0 { b"-." } else { b"." }
 }
 
-// A number of whose digits none stands before the point.
+// Appends a number of whose digits none stands before the point.
 #[tactic(auto, using(crate::proofs::CommandLaws::NumberLaws::text_end))]
-fn decimals_alone(alloc: Global, digits: i128, scale: u8) -> Result<Bytes, AllocError>
-    ensures value { IfOk result (λ word. word ≡ sign digits ++ (POINT ∷ last_digits scale (unsigned_abs digits))) }
+fn append_decimals_alone(line: &mut Vec<u8>, digits: i128, scale: u8) -> Result<(), AllocError>
+    ensures ok { OnOk result (line.new.items ≡ line.old.items ++ (sign digits ++ (POINT ∷ last_digits scale (unsigned_abs digits)))) }
 {
     let text = NumberText::new(digits, scale, scale);
     let bytes = text.as_bytes();
     let (_, decimals) = bytes.split_at(bytes.len() - usize::from(scale));
-    joined(alloc, sign_and_point(digits), decimals)
+    append_both(line, sign_and_point(digits), decimals)
 }
 
-// A number with all its decimals. A line has room for a digit before the point of one with fewer decimals than the most
+// Appends a number with all its decimals. A line has room for a digit before the point of one with fewer decimals than the most
 // digits of a number.
-fn number_text(alloc: Global, digits: i128, scale: u8) -> Result<Bytes, AllocError>
-    ensures value { IfOk result (λ word. word ≡ written_number digits scale) }
+fn append_decimal_number(line: &mut Vec<u8>, digits: i128, scale: u8) -> Result<(), AllocError>
+    ensures ok { OnOk result (line.new.items ≡ line.old.items ++ written_number digits scale) }
 {
     if usize::from(scale) < MAX_LITERAL_DIGITS {
         let text = NumberText::new(digits, scale, scale);
-        Bytes::from_slice(alloc, text.as_bytes())
+        line.extend_from_slice(text.as_bytes())
     } else {
-        decimals_alone(alloc, digits, scale)
+        append_decimals_alone(line, digits, scale)
     }
 }
 
@@ -99,50 +105,50 @@ fn day_text(day: &Day) -> [u8; 8]
     ]
 }
 
-// CTOD with a text in its parentheses.
-fn date_call(alloc: Global, text: &[u8]) -> Result<Bytes, AllocError>
-    ensures value { IfOk result (λ word. word ≡ call_of_date text.now) }
+// Appends CTOD with a text in its parentheses.
+fn append_date_call(line: &mut Vec<u8>, text: &[u8]) -> Result<(), AllocError>
+    ensures ok { OnOk result (line.new.items ≡ line.old.items ++ date_call text.now) }
 {
-    let mut word = Vec::from_slice(alloc, b"CTOD(\"")?;
-    word.extend_from_slice(text)?;
-    word.extend_from_slice(b"\")")?;
-    Ok(Bytes::from_vec(word))
+    line.extend_from_slice(b"CTOD(\"")?;
+    line.extend_from_slice(text)?;
+    line.extend_from_slice(b"\")")
 }
 
-/// The word of a value. An error where memory is refused.
-pub(crate) fn value_text(alloc: Global, value: &Literal) -> Result<Bytes, AllocError>
-    ensures value { IfOk result (λ word. word ≡ written_value value.now) }
+/// Appends the word of a value.
+pub(crate) fn append_value(line: &mut Vec<u8>, value: &Literal) -> Result<(), AllocError>
+    ensures ok { OnOk result (line.new.items ≡ line.old.items ++ written_value value.now) }
 {
     match value {
-        Literal::Text(text) => quoted(alloc, text.as_slice()),
-        Literal::Number { digits, scale } => number_text(alloc, digits.get(), *scale),
-        Literal::Truth(true) => Bytes::from_slice(alloc, b".T."),
-        Literal::Truth(false) => Bytes::from_slice(alloc, b".F."),
-        Literal::Date(day) => date_call(alloc, &day_text(day)),
-        Literal::BlankDate => date_call(alloc, b"  /  /  "),
-        Literal::BadDate => date_call(alloc, b"99/99/99"),
+        Literal::Text(text) => append_quoted(line, text.as_slice()),
+        Literal::Number { digits, scale } => append_decimal_number(line, digits.get(), *scale),
+        Literal::Truth(true) => line.extend_from_slice(b".T."),
+        Literal::Truth(false) => line.extend_from_slice(b".F."),
+        Literal::Date(day) => append_date_call(line, &day_text(day)),
+        Literal::BlankDate => append_date_call(line, b"  /  /  "),
+        Literal::BadDate => append_date_call(line, b"99/99/99"),
     }
 }
 
-// A number, and others each after a comma.
-fn listed(alloc: Global, first: u64, others: &[u64]) -> Result<Bytes, AllocError>
-    ensures value { IfOk result (λ list. list ≡ decimal first ++ after_commas others.now) }
+// Appends numbers, each after a comma.
+fn append_after_commas(line: &mut Vec<u8>, numbers: &[u64]) -> Result<(), AllocError>
+    ensures ok { OnOk result (line.new.items ≡ line.old.items ++ after_commas numbers.now) }
 {
-    let text = format!(in alloc; "{first}")?;
-    let mut list = Vec::from_slice(alloc, text.as_bytes())?;
-    for number in others {
-        let text = format!(in alloc; ",{number}")?;
-        list.extend_from_slice(text.as_bytes())?;
+    for number in numbers {
+        line.push(COMMA)?;
+        append_number(line, *number)?;
     }
-    Ok(Bytes::from_vec(list))
+    Ok(())
 }
 
-/// Numbers apart by commas. An error where memory is refused.
-pub(crate) fn with_commas(alloc: Global, numbers: &[u64]) -> Result<Bytes, AllocError>
-    ensures value { IfOk result (λ list. list ≡ numbers_apart numbers.now) }
+/// Appends numbers, apart by commas.
+pub(crate) fn append_with_commas(line: &mut Vec<u8>, numbers: &[u64]) -> Result<(), AllocError>
+    ensures ok { OnOk result (line.new.items ≡ line.old.items ++ with_commas numbers.now) }
 {
     match numbers {
-        [] => Ok(Bytes::new(alloc)),
-        [first, others @ ..] => listed(alloc, *first, others),
+        [] => Ok(()),
+        [first, others @ ..] => {
+            append_number(line, *first)?;
+            append_after_commas(line, others)
+        }
     }
 }

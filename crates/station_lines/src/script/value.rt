@@ -63,7 +63,7 @@ fn is_count(word: &[u8]) -> bool
 }
 
 /// The number that 1 to 10 digits are. Takes no memory.
-pub(crate) fn count_in(word: &[u8]) -> Option<u64>
+pub fn count_in(word: &[u8]) -> Option<u64>
     ensures value { result ≡ count_of word.now }
     ensures bounded { IfSome result (λ n. n < 10 ^ 10) }
 {

@@ -28,7 +28,7 @@ fn word_length(text: &[u8]) -> usize
 }
 
 /// The first word of a line, which is empty where there is none, and what stands after it. Takes no memory.
-pub(crate) fn cut_plain_word(line: &[u8]) -> (&[u8], &[u8])
+pub fn cut_plain_word(line: &[u8]) -> (&[u8], &[u8])
     ensures word { result.0.now ≡ plain_word line.now }
     ensures after { result.1.now ≡ after_plain_word line.now }
 {

@@ -1,0 +1,4 @@
+pub mod ReadLaws
+pub mod WordLaws
+pub mod LayoutLaws
+pub mod PrintedLaws
