@@ -1,1 +1,2 @@
 pub mod AuditLaws
+pub mod FirstOtherLaws

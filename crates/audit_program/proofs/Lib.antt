@@ -5,3 +5,5 @@ pub mod ProgramLaws
 pub mod RunJournals
 pub mod RunFiles
 pub mod WritingLaws
+mod FirstOther
+mod RunLoads

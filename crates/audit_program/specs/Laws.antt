@@ -1,23 +1,30 @@
 -- What an audit says of the journal that a run has written.
-use Rattle.std.specs.Prelude.{◌≡◌, ℕ, ◌^◌, ◌<◌, Bool, true, List, [], length, Option, Some}
+use Rattle.std.specs.Prelude.{◌≡◌, ◌⊎◌, ℕ, ◌^◌, ◌<◌, Bool, true, List, [], length, map, Option, Some}
+use Rattle.byte_io.specs.Sink.{Rises}
+use Rattle.catalogue_core.specs.declared.entry.Entry.{Entry}
+use Rattle.catalogue_core.specs.Replay.{Opened, History}
 use Rattle.dbf_fields.specs.declared.day.Day.{Day}
 use Rattle.journal_file.specs.WholeText.{whole_text, wrote_word, CanBeTold, IsNotWhole, WholeJournal}
 use Rattle.folders.specs.declared.named.NamedFile.{NamedFile}
-use Rattle.folders.specs.Files.{IsFileOf}
-use Rattle.station_lines.specs.JournalLines.{journal_text, lines_and}
+use Rattle.folders.specs.Files.{IsFileOf, IsTooLong}
+use Rattle.station_lines.specs.JournalLines.{journal_text, line_parts, lines_and}
 use Rattle.audit.specs.declared.fault.AuditFault.{AuditFault}
-use Rattle.audit.specs.declared.fault.AuditFault.TheVariants.{NoMemory}
+use Rattle.audit.specs.declared.fault.AuditFault.TheVariants.{Differs, NoMemory}
+use Rattle.audit.specs.declared.fault.Difference.{Difference}
 use Rattle.audit.specs.Audits.{IsJournalOf, RefutesAll}
+use Rattle.audit.specs.FirstOther.{CanBeAudited, IsFirstOther}
 use Rattle.office_run.specs.declared.counts.CommandCounts.{CommandCounts}
+use Rattle.office_run.specs.declared.fault.FileFault.TheVariants as file
+use Rattle.office_run.specs.declared.fault.ServeFault.TheVariants as serve
 use Rattle.office_run.specs.JournalFile.{journal_file}
 use Rattle.office_run.specs.OpenedSetup.{IsOpenedBy, HaveStill}
 use Rattle.office_run.specs.Served.{IsServed}
 use Rattle.audit_program.specs.declared.audited.Audited.{Audited}
 use Rattle.audit_program.specs.declared.failure.AuditFailure.{AuditFailure}
-use Rattle.audit_program.specs.declared.failure.AuditFailure.TheVariants.{NoJournal, CutJournal, OtherReindex, OtherFile, Audit}
+use Rattle.audit_program.specs.declared.failure.AuditFailure.TheVariants.{Serve, Unread, NoJournal, CutJournal, OtherReindex, OtherFile, Audit}
 use Rattle.audit_program.specs.declared.options.Options.{Options}
 use Rattle.audit_program.specs.Comparing.{IfLinesOf, are_of_run}
-use Rattle.audit_program.specs.Program.{IsFailedBy}
+use Rattle.audit_program.specs.Program.{IsAuditedTo, IsFailedBy, IsJournalIn, IsLoadFailure}
 use Rattle.audit_program.specs.Writing.{IsWrittenBy}
 
 -- the bytes of the journal's file of a run
@@ -70,6 +77,22 @@ NeverRefutes files later options =
     → HaveStill files later → IsFileOf (Some later) options.journal.now (journal_bytes served)
     → (why : AuditFailure) → IsRefutation why → IsFailedBy (Some later) options why → ⊥
 
+-- it is said that memory was refused; or that a file can't be read, and a load has failed, or a file of the setup is over the limit
+abbrev pub IsOfMemoryOrLoads : Option (List NamedFile) → Option ℕ → Option ℕ → AuditFailure → Type 0
+IsOfMemoryOrLoads files before after (Serve serve.NoMemory) = Unit {0}
+IsOfMemoryOrLoads files before after (Serve (serve.File path file.CannotRead)) = Rises before after ⊎ IsTooLong files path
+IsOfMemoryOrLoads files before after Unread = Rises before after
+IsOfMemoryOrLoads files before after why = ⊥
+
+-- Over the same files, with the run's options, nothing else makes it fail.
+abbrev pub FailsForLoadsAlone : List NamedFile → List NamedFile → Options → Type 0
+FailsForLoadsAlone files later options =
+    (today : Day) (written : List NamedFile) (counts : CommandCounts)
+    (served : IsServed (Some files) options.setup.now options.reindex today true written counts)
+    → HaveStill files later → IsFileOf (Some later) options.journal.now (journal_bytes served)
+    → (before after : Option ℕ) (why : AuditFailure) → IsFailedBy (Some later) options why → IsLoadFailure (Some later) options before after why
+    → IsOfMemoryOrLoads (Some later) before after why
+
 -- The files that it writes then on the run's day are the run's, where the stations and the bytes of the entries' lines are counted by
 -- numbers of 64 bits.
 abbrev pub WritesTheSame : List NamedFile → List NamedFile → Options → Type 0
@@ -79,3 +102,26 @@ WritesTheSame files later options =
     → served.run.history.opened.stations < 2 ^ 64 → length (journal_text served.run.history.journal) < 2 ^ 64
     → (made : List NamedFile) (audited : Audited) → IsWrittenBy (Some later) options today made audited
     → IfLinesOf wrote_word audited.wrote (λ wrote. are_of_run wrote audited.written.items ≡ true)
+
+-- ---- a journal that was changed
+
+-- the file of this path has a journal's whole text, whose lines of entries are those of these entries
+pub record TellsEntriesOf (files : List NamedFile) (path : List ℕ) (entries : List Entry) : Type 0 where
+  pub journal : WholeJournal
+  pub in_file : IsJournalIn (Some files) path journal
+  pub lines : journal.entries ≡ map line_parts entries
+
+-- Where the tables open so, and the journal has these entries, of which this is the first that does not hold, then the program, where it
+-- says of the journal that an entry does not hold, says this.
+abbrev pub NamesTheFirst : List NamedFile → Options → Type 0
+NamesTheFirst files options =
+    (opened : Opened) (entries : List Entry) (d : Difference) → IsOpenedBy (Some files) options.setup.now options.reindex opened
+    → TellsEntriesOf files options.journal.now entries → CanBeAudited opened entries → IsFirstOther opened entries d
+    → (why : AuditFault) → IsFailedBy (Some files) options (Audit why) → why ≡ Differs d
+
+-- And it never says that all hold.
+abbrev pub NeverPasses : List NamedFile → Options → Type 0
+NeverPasses files options =
+    (opened : Opened) (entries : List Entry) (d : Difference) → IsOpenedBy (Some files) options.setup.now options.reindex opened
+    → TellsEntriesOf files options.journal.now entries → CanBeAudited opened entries → IsFirstOther opened entries d
+    → (h : History) (audited : Audited) → ¬ IsAuditedTo (Some files) options h audited

@@ -5,7 +5,8 @@
 //! the tables at the journal's end, take their places all together. [`Audited`] is what is said where all entries hold,
 //! [`AuditFailure`] why that is not said. What an audit of files is is defined in `specs/Program.antt`, when they are the run's
 //! in `specs/Comparing.antt`, what is written in `specs/Writing.antt`, what the command line asks for in `specs/Asked.antt`; the
-//! lines and the statuses are in `specs/Endings.antt`. Start reading there. That the journal of a run holds is a law, in `law.rt`.
+//! lines and the statuses are in `specs/Endings.antt`. Start reading there. What holds of a journal that a run has written, and of
+//! one that was changed, is in `law.rt`.
 #![tactic(auto)]
 
 mod audited;
@@ -22,7 +23,7 @@ mod writing;
 pub use audited::Audited;
 pub use auditing::audit_options;
 pub use failure::AuditFailure;
-pub use law::journals_of_runs_hold;
+pub use law::{first_other_is_named, journals_of_runs_hold};
 pub use options::{Options, command, options_of};
 pub use running::{PROGRAM, run_program};
 pub use writing::audit_into;

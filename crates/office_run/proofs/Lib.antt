@@ -22,3 +22,5 @@ pub mod RunLaws
 pub mod EndLaws
 pub mod Crossing
 pub mod PlanLaws
+pub mod AnswerLaws
+pub mod NeverRefused

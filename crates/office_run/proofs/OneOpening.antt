@@ -35,15 +35,17 @@ use Rattle.office_run.proofs.WrittenFiles.{same_index}
 -- ---- alike
 
 -- of two lists the elements are alike, one by one
-abbrev Pairwise : {X : Type 0} → (X → X → Type 0) → List X → List X → Type 0
+abbrev pub Pairwise : {X : Type 0} → (X → X → Type 0) → List X → List X → Type 0
 Pairwise R [] [] = Unit {0}
 Pairwise R (x ∷ xs) (y ∷ ys) = R x y × Pairwise R xs ys
 Pairwise R xs ys = ⊥
 
--- an opened catalogue has no more of an index than its name and its expression
+-- of the same name, and of a file that was read as the same index
 pub record IsLikeIndex (a b : IndexSource) : Type 0 where
   pub named : a.name ≡ b.name
   pub text : a.file.expr ≡ b.file.expr
+  pub long : a.file.key_len ≡ b.file.key_len
+  pub pairs : a.file.pairs.pairs ≡ b.file.pairs.pairs
 
 pub record IsLikeTable (a b : TableSource) : Type 0 where
   pub named : a.name ≡ b.name
@@ -77,7 +79,7 @@ set_alike R (a ∷ xs) [] i x y h k = absurd h
 set_alike R (a ∷ xs) (b ∷ ys) zero x y h k = (k, h.1)
 set_alike R (a ∷ xs) (b ∷ ys) (suc i) x y h k = (h.0, set_alike R xs ys i x y h.1 k)
 
-as_many : {X : Type 0} (R : X → X → Type 0) (xs ys : List X) → Pairwise R xs ys → length xs ≡ length ys
+pub as_many : {X : Type 0} (R : X → X → Type 0) (xs ys : List X) → Pairwise R xs ys → length xs ≡ length ys
 as_many R [] [] h = refl
 as_many R [] (b ∷ ys) h = absurd h
 as_many R (a ∷ xs) [] h = absurd h
@@ -105,7 +107,7 @@ first_alike name xs ys h =
 pub one_file : (files : List NamedFile) (path a b : List ℕ) → IsFileOf (Some files) path a → IsFileOf (Some files) path b → a ≡ b
 one_file files path a b h k = let same : Some a ≡ Some b = sym h.has ∙ k.has in cc
 
-one_memo : (files : List NamedFile) (path a b : Option (List ℕ)) → IsMemoFileOf (Some files) path a → IsMemoFileOf (Some files) path b → a ≡ b
+pub one_memo : (files : List NamedFile) (path a b : Option (List ℕ)) → IsMemoFileOf (Some files) path a → IsMemoFileOf (Some files) path b → a ≡ b
 one_memo files None a b h k = h ∙ sym k
 one_memo files (Some path) a b h k = h.2 ∙ ap (λ (l : List ℕ). Some l) (one_file files path h.0 k.0 h.1 k.1) ∙ sym k.2
 
@@ -134,7 +136,8 @@ like_index files name ndx a b h k =
     let y = k.content in
     let bytes : x.bytes ≡ y.bytes = one_file files ndx x.bytes y.bytes x.found y.found in
     let index : IsIndex y.bytes a.file.expr a.file.key_len a.file.pairs.pairs = subst (λ (l : List ℕ). IsIndex l a.file.expr a.file.key_len a.file.pairs.pairs) bytes x.is in
-    record { named = h.named ∙ sym k.named; text = (same_index y.bytes a.file.expr b.file.expr a.file.key_len b.file.key_len a.file.pairs.pairs b.file.pairs.pairs index y.is).0 }
+    let same = same_index y.bytes a.file.expr b.file.expr a.file.key_len b.file.key_len a.file.pairs.pairs b.file.pairs.pairs index y.is in
+    record { named = h.named ∙ sym k.named; text = same.0; long = same.1; pairs = same.2 }
 
 one_more_alike : (i j : IndexSource) (t u s r : TableSource) → IsLikeIndex i j → IsLikeTable t u → HasOneMore i t s → HasOneMore j u r → IsLikeTable s r
 one_more_alike i j t u s r index like h k =
@@ -187,14 +190,14 @@ one_said files setup xs ys h k =
     let said : said_ok xs ≡ said_ok ys = one_setup k.text (said_ok xs) (said_ok ys) (subst (λ (l : List ℕ). IsSetup l (said_ok xs)) text h.says) k.says in
     cc
 
-reads_alike : (files : List NamedFile) (setup : List ℕ) (a b : Read) → IsAllRead (Some files) setup a → IsAllRead (Some files) setup b → IsLikeRead a b
+pub reads_alike : (files : List NamedFile) (setup : List ℕ) (a b : Read) → IsAllRead (Some files) setup a → IsAllRead (Some files) setup b → IsLikeRead a b
 reads_alike files setup a b h k =
     let entries : h.entries ≡ k.entries = one_said files setup h.entries k.entries h.said k.said in
     all_loads_alike files k.entries nothing nothing a b (record { tables = tt; scripts = refl }) (subst (λ (l : List SetupEntry). LoadAll (Some files) l nothing a) entries h.loaded) k.loaded
 
 -- ---- opening
 
-one_reading : (fields : List Field) (text : List ℕ) (bad : ExprFault → OpenFault) (a b : Expression) → Reading fields text bad (Ok a) → Reading fields text bad (Ok b) → a ≡ b
+pub one_reading : (fields : List Field) (text : List ℕ) (bad : ExprFault → OpenFault) (a b : Expression) → Reading fields text bad (Ok a) → Reading fields text bad (Ok b) → a ≡ b
 one_reading fields text bad a b h k = same_expression a b (h.0 ∙ sym k.0) (h.1 ∙ sym k.1) (one_expr fields text a.expr b.expr h.2 k.2)
 
 -- what an index that was opened is
@@ -214,7 +217,7 @@ index_added reindex earlier content source next h =
     let e : Expression = read.0 in
     (e, read.1, made_ok (with_index content (named_index source.name e)) next (fresh_ok reindex (IsFresh content.table e source.file) (IndexStale n m) (made e) next read.2))
 
-one_index : (reindex : Bool) (earlier : List NamedTable) (content : Content) (s t : IndexSource) (a b : Content) → IsLikeIndex s t → IndexOpening reindex earlier content s (Ok a) → IndexOpening reindex earlier content t (Ok b)
+pub one_index : (reindex : Bool) (earlier : List NamedTable) (content : Content) (s t : IndexSource) (a b : Content) → IsLikeIndex s t → IndexOpening reindex earlier content s (Ok a) → IndexOpening reindex earlier content t (Ok b)
     → a ≡ b
 one_index reindex earlier content s t a b like h k =
     let x = index_added reindex earlier content s a h in
@@ -255,7 +258,7 @@ table_added reindex earlier source t h =
 same_table : (a b : NamedTable) → a.name ≡ b.name → a.content ≡ b.content → a ≡ b
 same_table a b n c i = record { name = n i; content = c i }
 
-one_table_opened : (reindex : Bool) (earlier : List NamedTable) (s t : TableSource) (a b : NamedTable) → IsLikeTable s t → TableOpening reindex earlier s (Ok a) → TableOpening reindex earlier t (Ok b) → a ≡ b
+pub one_table_opened : (reindex : Bool) (earlier : List NamedTable) (s t : TableSource) (a b : NamedTable) → IsLikeTable s t → TableOpening reindex earlier s (Ok a) → TableOpening reindex earlier t (Ok b) → a ≡ b
 one_table_opened reindex earlier s t a b like h k =
     let x = table_added reindex earlier s a h in
     let y = table_added reindex earlier t b k in

@@ -1,3 +1,4 @@
+pub mod AnswerFiles
 pub mod Counts
 pub mod FileSums
 pub mod HandedOver

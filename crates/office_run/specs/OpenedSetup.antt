@@ -5,6 +5,7 @@ use Rattle.catalogue_core.specs.Opening.{Opening}
 use Rattle.catalogue_core.specs.Replay.{Opened}
 use Rattle.folders.specs.declared.named.NamedFile.{NamedFile}
 use Rattle.folders.specs.Files.{IsFileOf}
+use Rattle.office_run.specs.declared.fault.FileFault.TheVariants.{CannotRead}
 use Rattle.office_run.specs.declared.fault.ServeFault.{ServeFault}
 use Rattle.office_run.specs.declared.fault.ServeFault.TheVariants.{Setup, File, Refused, NoMemory}
 use Rattle.office_run.specs.Loading.{Read}
@@ -49,3 +50,15 @@ HaveStill files later = (path bytes : List ℕ) → IsFileOf (Some files) path b
 abbrev pub OpensAsBefore : List NamedFile → List NamedFile → List ℕ → Type 0
 OpensAsBefore files later setup =
     (reindex : Bool) (opened : Opened) → IsOpenedBy (Some files) setup reindex opened → IsOpenedBy (Some later) setup reindex opened
+
+-- it is said that memory was refused, or that a file can't be read
+abbrev pub IsOfLoads : ServeFault → Type 0
+IsOfLoads NoMemory = Unit {0}
+IsOfLoads (File path CannotRead) = Unit {0}
+IsOfLoads fault = ⊥
+
+-- what the setup opens as once, it is refused as only for want of memory, or since a file can't be read
+abbrev pub NeverRefused : List NamedFile → List ℕ → Type 0
+NeverRefused files setup =
+    (reindex : Bool) (opened : Opened) → IsOpenedBy (Some files) setup reindex opened
+    → (fault : ServeFault) → IsUnopened (Some files) setup reindex fault → IsOfLoads fault

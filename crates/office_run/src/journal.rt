@@ -14,7 +14,7 @@ use crate::fault::ServeFault;
 use byte_io::{ByteSink, Bytes, SinkFault, SinkWriter};
 use catalogue_core::Entry;
 use folders::Folder;
-use station_lines::entry_line;
+use station_lines::EntryLine;
 use std::alloc::{AllocError, Global};
 
 /// The text of a journal's file, in parts.
@@ -70,9 +70,10 @@ fn put_lines<S: ByteSink>(
     ensures small { OnOk result (HaveSmallNumbers (map line_parts journal.now)) }
     ensures front { PutsFront out.old (journal_text journal.now) out.new }
 {
+    let mut line = EntryLine::new(alloc);
     for entry in journal {
-        let line = entry_line(alloc, entry.station, &entry.command, &entry.answer)?;
-        out.put(line.as_slice());
+        let text = line.of(entry.station, &entry.command, &entry.answer)?;
+        out.put(text);
     }
     Ok(())
 }

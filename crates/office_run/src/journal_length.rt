@@ -8,7 +8,7 @@ ghost use Rattle.office_run.specs.JournalFile.{parts_text};
 use crate::journal::JournalText;
 use catalogue_core::Entry;
 use folders::MAX_FILE_BYTES;
-use station_lines::entry_line;
+use station_lines::EntryLine;
 use std::alloc::{AllocError, Global};
 
 // Whether the lines of the journal's entries have more bytes than there is room. One line at a time is in memory. An error where
@@ -17,9 +17,10 @@ fn lines_exceed(alloc: Global, journal: &[Entry], room: usize) -> Result<bool, A
     ensures value { IfOk result (λ more. IsTrue more ↔ (room < length (journal_text journal.now))) }
 {
     let mut left = room;
+    let mut line = EntryLine::new(alloc);
     for entry in journal {
-        let line = entry_line(alloc, entry.station, &entry.command, &entry.answer)?;
-        let bytes = line.as_slice().len();
+        let text = line.of(entry.station, &entry.command, &entry.answer)?;
+        let bytes = text.len();
         if bytes > left {
             return Ok(true);
         }

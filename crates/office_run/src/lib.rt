@@ -8,13 +8,15 @@
 //!
 //! The stations: [`run_catalogue`] runs a script for each station of a catalogue, each in a thread of its own, joins all threads
 //! and settles: each station's answers are those of its entries in the journal. What the answers are is defined in
-//! `specs/Reports.antt`. A station's work, line by line, is in `session.rt`, its thread in `worker.rt`, and the run of all in
-//! `stations.rt`. A [`Gate`] is called around each line, so that a test can say which station is next.
+//! `specs/Reports.antt`; that the files of a whole run have them is the law [`answers_are_the_journals`]. A station's work, line by
+//! line, is in `session.rt`, its thread in `worker.rt`, and the run of all in `stations.rt`. A [`Gate`] is called around each line,
+//! so that a test can say which station is next.
 //!
 //! The files: handing the closed tables over to the writing is in `closing.rt`. [`close_files`] writes the files of a run into a
 //! folder; which they are is defined in `specs/Closing.antt`. [`RunFiles`] has each of them before it is written.
 #![tactic(auto)]
 
+mod answer_law;
 mod asked;
 mod catalogue;
 mod close;
@@ -45,6 +47,7 @@ mod sums;
 mod worker;
 mod writing;
 
+pub use answer_law::answers_are_the_journals;
 pub use asked::{Asked, serve, serve_asked};
 pub use catalogue::run_catalogue;
 pub use close::close_files;

@@ -3,12 +3,13 @@
 ghost use Rattle.std.specs.Prelude.{◌≡◌, ◌≢◌, [], ◌∷◌, ◌++◌, OnOk, OnErr, IsErrOf};
 ghost use Rattle.catalogue_core.specs.declared.status.StatusRow.{StatusRow as RowValue};
 ghost use Rattle.office_run.specs.Reports.{Shown, status, meaning_of, session, new_session, IsWithShown, IsWithAnswer, IsLeftAt};
+ghost use Rattle.station_lines.specs.AnswerLines.{line_of, status_text};
 ghost use Rattle.station_lines.specs.declared.script.format.TheConstants.{LF as LINE_END};
 
 use byte_io::Bytes;
-use catalogue_core::{Command, Stop};
+use catalogue_core::{Answer, Command, StatusRow, Stop};
 use shared_catalogue::{Naming, Seat, Shared};
-use station_lines::{LF, Line, answer_line, status_line};
+use station_lines::{LF, Line, append_answer, append_status};
 use std::alloc::{AllocError, Global};
 use std::marker::Model;
 use std::sync::Wait;
@@ -56,7 +57,7 @@ impl<J: Naming> Session<J> {
     {
         match line {
             Line::Run(command) => self.run_command(alloc, rt, shared, command),
-            Line::Status => self.show_status(alloc, rt, shared),
+            Line::Status => self.show_status(rt, shared),
             Line::Blank => unreachable!(),
         }
     }
@@ -73,29 +74,37 @@ impl<J: Naming> Session<J> {
         ensures left { OnErr result (IsLeftAt self.old (Line.Run command) self.new) }
     {
         let answer = shared.perform(alloc, rt, &mut self.seat, &command)?;
-        let text = answer_line(alloc, &answer)?;
-        self.push_line(&text)?;
+        self.push_answer(&answer)?;
         Ok(())
     }
 
     // Looks at the status row, and keeps its line.
-    fn show_status(&mut self, alloc: Global, rt: &impl Wait, shared: &Shared<J>) -> Result<(), Stop>
+    fn show_status(&mut self, rt: &impl Wait, shared: &Shared<J>) -> Result<(), Stop>
         ensures shown { OnOk result ((row : RowValue) × IsWithShown self.old (status row) self.new) }
         ensures left { OnErr result (IsLeftAt self.old Line.Status self.new) }
         ensures no_journal_full { ¬ IsErrOf result Stop.JournalFull }
     {
         let row = shared.look(rt, &mut self.seat);
-        let text = status_line(alloc, &row)?;
-        self.push_line(&text)?;
+        self.push_row(&row)?;
         Ok(())
     }
 
-    // Adds a line to the text of the answer file.
-    fn push_line(&mut self, text: &Bytes) -> Result<(), AllocError>
-        ensures ok { OnOk result (self.new ≡ session self.old.seat (self.old.answers ++ (text.now ++ LINE_END ∷ []))) }
+    // Adds the line of an answer to the text of the answer file.
+    fn push_answer(&mut self, answer: &Answer) -> Result<(), AllocError>
+        ensures ok { OnOk result (self.new ≡ session self.old.seat (self.old.answers ++ (line_of answer.now ++ LINE_END ∷ []))) }
         ensures seat { self.new.seat ≡ self.old.seat }
     {
-        self.answers.extend_from_slice(text.as_slice())?;
+        append_answer(&mut self.answers, answer)?;
+        self.answers.push(LF)?;
+        Ok(())
+    }
+
+    // Adds the line of a status row.
+    fn push_row(&mut self, row: &StatusRow) -> Result<(), AllocError>
+        ensures ok { OnOk result (self.new ≡ session self.old.seat (self.old.answers ++ (status_text row.now ++ LINE_END ∷ []))) }
+        ensures seat { self.new.seat ≡ self.old.seat }
+    {
+        append_status(&mut self.answers, row)?;
         self.answers.push(LF)?;
         Ok(())
     }

@@ -1,3 +1,4 @@
+use Rattle.audit_program.proofs.RunLoads.{fails_for_loads}
 use Rattle.audit_program.proofs.RunJournals.{as_reindexed, entries_of_run, is_whole, never_refuted, only_memory, opened_by}
 use Rattle.audit_program.proofs.RunFiles.{files_of_run}
 use Rattle.audit_program.proofs.law.journals_of_runs_hold.Goals as goal
@@ -23,3 +24,7 @@ returns-clause-never_refuted c files later options today written counts served s
 pub returns-clause-same_files : goal.returns-clause-same_files
 returns-clause-same_files c files later options today written counts served still there few long made audited wrote_tables wrote lines =
     files_of_run files later options today written counts served still there few long made audited wrote_tables wrote lines
+
+pub returns-clause-loads_alone : goal.returns-clause-loads_alone
+returns-clause-loads_alone c files later options today written counts served still there before after why failed failure =
+    fails_for_loads files later options today written counts served still there before after why failed failure

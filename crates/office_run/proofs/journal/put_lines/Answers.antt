@@ -1,4 +1,4 @@
-use Rattle.std.proofs.Common.{◌≡◌, ℕ, List, [], ◌+◌, ◌^◌, ◌<◌, ◌++◌, Some, length, map, drop, refl, subst, sym, ap, ◌∙◌, append_assoc, arith}
+use Rattle.std.proofs.Common.{◌≡◌, ℕ, List, [], ◌+◌, ◌++◌, Some, map, drop, refl, subst, sym, ap, ◌∙◌, append_assoc, arith}
 use Rattle.std.specs.List.{slice_get}
 use Rattle.std.proofs.lemmas.List.{append-nil, drop_all, take_all}
 use Rattle.std.proofs.lemmas.Option.{slice_get-get_or}
@@ -6,7 +6,6 @@ use Rattle.byte_io.specs.Laws.Puts.{more_parts}
 use Rattle.byte_io.specs.Writer.{more}
 use Rattle.catalogue_core.specs.declared.entry.Entry.{Entry}
 use Rattle.station_lines.specs.JournalLines.{line_parts, journal_text, HaveSmallNumbers}
-use Rattle.station_lines.proofs.JournalLaws.{entry_small}
 use Rattle.office_run.proofs.JournalFileLaws.{text_from, small_more}
 use Rattle.office_run.proofs.journal.put_lines.Goals as goal
 
@@ -16,21 +15,20 @@ loop-entry-preserved g c =
     let i = c.loop-entry.entry-index in
     let entry = c.entry-item.result in
     let before = c.loop-entry.invariant.0 in
-    let line = c.in_ok-line.line in
-    let put = rw c.as_slice.ensures.value at c.put.ensures.put in
+    let line = c.in_ok-text.text.now in
+    let put = c.put.ensures.put in
     let at : slice_get journal i ≡ Some entry = slice_get-get_or journal i entry c.loop-entry-test.true ∙ ap (λ (e : Entry). Some e) (sym c.entry-item.is) in
-    let text : journal_text (drop i journal) ≡ line ++ journal_text (drop (i + 1) journal) = text_from journal i entry line at c.in_ok-line.ensures.value in
-    let long : length line < 2 ^ 64 = omega (arith, ap length c.as_slice.ensures.value) in (
+    let text : journal_text (drop i journal) ≡ line ++ journal_text (drop (i + 1) journal) = text_from journal i entry line at c.in_ok-text.ensures.value in (
       record {
         front = before.front ++ line;
         whole = append_assoc before.front line _ ∙ ap (λ (l : List ℕ). before.front ++ l) (sym text) ∙ before.whole;
         put = (put.0 ∙ before.put.0, more_parts _ _ _ before.front line _ put.1 before.put.1 refl);
       },
-      small_more journal i entry at (entry_small line (line_parts entry) [] c.in_ok-line.ensures.value long (omega arith)) c.loop-entry.invariant.1,
+      small_more journal i entry at c.in_ok-text.ensures.small c.loop-entry.invariant.1,
     )
 
-pub returns-in_err-line-clause-front : goal.returns-in_err-line-clause-front
-returns-in_err-line-clause-front g c = (_, c.loop-entry.invariant.0)
+pub returns-in_err-text-clause-front : goal.returns-in_err-text-clause-front
+returns-in_err-text-clause-front g c = (_, c.loop-entry.invariant.0)
 
 pub returns-clause-front : goal.returns-clause-front
 returns-clause-front g c = (_, c.loop-entry.invariant.0)

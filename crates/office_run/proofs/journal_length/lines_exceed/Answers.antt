@@ -1,4 +1,4 @@
-use Rattle.std.proofs.Common.{◌≡◌, ◌+◌, ◌<◌, ◌∙◌, ℕ, [], Some, length, drop, ap, sym, arith, length-append}
+use Rattle.std.proofs.Common.{◌≡◌, ◌+◌, ◌∙◌, Some, length, drop, ap, sym, arith, length-append}
 use Rattle.std.specs.List.{slice_get}
 use Rattle.std.proofs.lemmas.List.{drop_all}
 use Rattle.std.proofs.lemmas.Option.{slice_get-get_or}
@@ -12,11 +12,10 @@ loop-entry-preserved c =
     let journal = c.args.journal.now in
     let i = c.loop-entry.entry-index in
     let entry = c.entry-item.result in
-    let line = c.in_ok-line.line in
+    let line = c.in_ok-text.text.now in
     let at : slice_get journal i ≡ Some entry = slice_get-get_or journal i entry c.loop-entry-test.true ∙ ap (λ (e : Entry). Some e) (sym c.entry-item.is) in
-    let text = ap length (text_from journal i entry line at c.in_ok-line.ensures.value) ∙ length-append line (journal_text (drop (i + 1) journal)) in
-    let long = ap length c.as_slice-bytes.ensures.value in
-    omega (arith, text, long, c.loop-entry.invariant)
+    let text = ap length (text_from journal i entry line at c.in_ok-text.ensures.value) ∙ length-append line (journal_text (drop (i + 1) journal)) in
+    omega (arith, text, c.loop-entry.invariant)
 
 pub returns : goal.returns
 returns c =

@@ -7,7 +7,7 @@ use Rattle.office_run.proofs.session.Session.run_command.Goals as goal
 pub returns-clause-shown : goal.returns-clause-shown
 returns-clause-shown g c =
     let old : c.self.inside.seat ≡ c.args.self.now.seat = search rules in
-    let new : c.perform.new.seat ≡ c.push_line.new.self.seat = search rules in
+    let new : c.perform.new.seat ≡ c.push_answer.new.self.seat = search rules in
     let later : IsPrefix c.self.inside.seat.rows c.perform.new.seat.rows = told_later _ _ _ _ c.in_ok-answer.ensures.told in (
       c.in_ok-answer.answer,
       record {
@@ -22,8 +22,5 @@ returns-clause-shown g c =
       },
     )
 
-pub returns-in_err-text-clause-left : goal.returns-in_err-text-clause-left
-returns-in_err-text-clause-left g c = on_err _ _ (left_answered c.args.self.now _ c.args.command c.in_ok-answer.answer (search rules) (search rules))
-
-pub returns-in_err-push_line-clause-left : goal.returns-in_err-push_line-clause-left
-returns-in_err-push_line-clause-left g c = on_err _ _ (left_answered c.args.self.now c.push_line.new.self c.args.command c.in_ok-answer.answer (search rules) (search rules))
+pub returns-in_err-push_answer-clause-left : goal.returns-in_err-push_answer-clause-left
+returns-in_err-push_answer-clause-left g c = on_err _ _ (left_answered c.args.self.now c.push_answer.new.self c.args.command c.in_ok-answer.answer (search rules) (search rules))
