@@ -9,30 +9,32 @@ use Rattle.tool_program.specs.declared.checking.CheckFault.{CheckFault}
 use Rattle.tool_program.specs.declared.checking.CheckFault.TheVariants as check
 use Rattle.tool_program.specs.declared.fault.ToolFault.{ToolFault}
 use Rattle.tool_program.specs.declared.options.Options.{Options}
+use Rattle.tool_program.specs.declared.order.OrderFault.{OrderFault}
 use Rattle.tool_program.specs.declared.report.ToolReport.{ToolReport}
 use Rattle.tool_program.specs.declared.showing.ShowFault.{ShowFault}
 use Rattle.tool_program.specs.declared.showing.ShowFault.TheVariants as show
 use Rattle.tool_program.specs.Answers.{IsTrueOfTable}
 use Rattle.tool_program.specs.Check.{check_load_fault}
 use Rattle.tool_program.specs.Faults.{IsToolFaultOfSetup}
-use Rattle.tool_program.specs.Memos.{IsMemosFault}
-use Rattle.tool_program.specs.View.{IsNoTable}
+use Rattle.tool_program.specs.Memos.{IsMemosFault, IsNotHad}
+use Rattle.tool_program.specs.View.{IsNoOrder, IsNoTable}
 
-module _ {T : Type 0} (files : Option (List NamedFile)) (unread : List ℕ → Type 0) where
+module _ {T : Type 0} (files : Option (List NamedFile)) (before after : Option ℕ) where
   -- a fault of showing a table is true of its files
   pub true_of_table : (options : Options) (shown : Result T ShowFault) (fault : ShowFault) → shown ≡ Err fault
-      → (shown ≡ Err (show.Load load.CannotRead) → unread options.table.now)
+      → (shown ≡ Err (show.Load load.CannotRead) → IsNotHad files before after options.table.now)
       → (shown ≡ Err (show.Load load.Unrecovered) → IsUnrecovered files options.table.now)
-      → ((why : LoadFault) → shown ≡ Err (show.Memos why) → IsMemosFault files unread options.table.now (option_copied options.memos) why)
-      → ((why : ImageFault) → shown ≡ Err (show.Table why) → IsNoTable files unread options why)
-      → IsTrueOfTable files unread options fault
-  true_of_table options shown (show.Load load.CannotRead) is failed unrecovered memos no_table = failed is
-  true_of_table options shown (show.Load load.Unrecovered) is failed unrecovered memos no_table = unrecovered is
-  true_of_table options shown (show.Load load.NoMemory) is failed unrecovered memos no_table = tt
-  true_of_table options shown (show.Memos why) is failed unrecovered memos no_table = memos why is
-  true_of_table options shown (show.Table why) is failed unrecovered memos no_table = no_table why is
-  true_of_table options shown (show.Order why) is failed unrecovered memos no_table = tt
-  true_of_table options shown (show.Text why) is failed unrecovered memos no_table = tt
+      → ((why : LoadFault) → shown ≡ Err (show.Memos why) → IsMemosFault files (IsNotHad files before after) options.table.now (option_copied options.memos) why)
+      → ((why : ImageFault) → shown ≡ Err (show.Table why) → IsNoTable files (IsNotHad files before after) options why)
+      → ((why : OrderFault) → shown ≡ Err (show.Order why) → IsNoOrder files before after options why)
+      → IsTrueOfTable files before after options fault
+  true_of_table options shown (show.Load load.CannotRead) is failed unrecovered memos no_table no_order = failed is
+  true_of_table options shown (show.Load load.Unrecovered) is failed unrecovered memos no_table no_order = unrecovered is
+  true_of_table options shown (show.Load load.NoMemory) is failed unrecovered memos no_table no_order = tt
+  true_of_table options shown (show.Memos why) is failed unrecovered memos no_table no_order = memos why is
+  true_of_table options shown (show.Table why) is failed unrecovered memos no_table no_order = no_table why is
+  true_of_table options shown (show.Order why) is failed unrecovered memos no_table no_order = no_order why is
+  true_of_table options shown (show.Text why) is failed unrecovered memos no_table no_order = tt
 
 pub err_is : {T E : Type 0} (r : Result T E) (a b : E) → r ≡ Err a → r ≡ Err b → a ≡ b
 err_is r a b e h = let same : Err a ≡ Err b = sym e ∙ h in cc

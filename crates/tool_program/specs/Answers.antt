@@ -21,8 +21,8 @@ use Rattle.tool_program.specs.Check.{check_load_fault, IsTold, IsVerdict, Loads,
 use Rattle.tool_program.specs.Command.{IsAskedIn, IsWhyNotRead}
 use Rattle.tool_program.specs.Faults.{path_at_fault, IsToolFaultOf, IsToolFaultOfSetup}
 use Rattle.tool_program.specs.IndexTree.{IsTreeFault, IsTreeShown}
-use Rattle.tool_program.specs.Memos.{IsMemosFault}
-use Rattle.tool_program.specs.View.{IsNoTable, IsShown}
+use Rattle.tool_program.specs.Memos.{IsMemosFault, IsNotHad}
+use Rattle.tool_program.specs.View.{IsNoOrder, IsNoTable, IsShown}
 
 -- the exit status of a call that came to its end: 2 for a setup that the server would not open
 abbrev pub report_status : ToolReport → ℕ
@@ -83,17 +83,17 @@ IsTrueOfLoad files unread path load.CannotRead = unread path
 IsTrueOfLoad files unread path load.Unrecovered = IsUnrecovered files path
 IsTrueOfLoad files unread path load.NoMemory = Unit {0}
 
--- what a fault of showing a table says is true of its files
-abbrev pub IsTrueOfTable : Option (List NamedFile) → (List ℕ → Type 0) → Options → ShowFault → Type 0
-IsTrueOfTable files unread options (show.Load why) = IsTrueOfLoad files unread options.table.now why
-IsTrueOfTable files unread options (show.Memos why) = IsMemosFault files unread options.table.now (option_copied options.memos) why
-IsTrueOfTable files unread options (show.Table why) = IsNoTable files unread options why
-IsTrueOfTable files unread options (show.Order why) = Unit {0}
-IsTrueOfTable files unread options (show.Text why) = Unit {0}
+-- what a fault of showing a table says is true of its files, between these counts of failed loads
+abbrev pub IsTrueOfTable : Option (List NamedFile) → Option ℕ → Option ℕ → Options → ShowFault → Type 0
+IsTrueOfTable files before after options (show.Load why) = IsTrueOfLoad files (IsNotHad files before after) options.table.now why
+IsTrueOfTable files before after options (show.Memos why) = IsMemosFault files (IsNotHad files before after) options.table.now (option_copied options.memos) why
+IsTrueOfTable files before after options (show.Table why) = IsNoTable files (IsNotHad files before after) options why
+IsTrueOfTable files before after options (show.Order why) = IsNoOrder files before after options why
+IsTrueOfTable files before after options (show.Text why) = Unit {0}
 
 -- why a table was not shown, or not all of it: a fault that is true of its files, told with the path of the file that it is one of
-abbrev pub IsWhyUnshown : Option (List NamedFile) → (List ℕ → Type 0) → Options → ToolFault → Type 0
-IsWhyUnshown files unread options fault = (why : ShowFault) × IsToolFaultOf why (path_at_fault options why) fault × IsTrueOfTable files unread options why
+abbrev pub IsWhyUnshown : Option (List NamedFile) → Option ℕ → Option ℕ → Options → ToolFault → Type 0
+IsWhyUnshown files before after options fault = (why : ShowFault) × IsToolFaultOf why (path_at_fault options why) fault × IsTrueOfTable files before after options why
 
 -- what a fault of showing an index file says is true of it
 abbrev pub IsTrueOfTree : Option (List NamedFile) → (List ℕ → Type 0) → List ℕ → ShowFault → Type 0
@@ -115,13 +115,14 @@ IsTrueOfSetup files unread path fault = TellsBadLine files path fault
 abbrev pub IsWhyUnchecked : Option (List NamedFile) → (List ℕ → Type 0) → List ℕ → ToolFault → Type 0
 IsWhyUnchecked files unread path fault = (why : CheckFault) × IsToolFaultOfSetup why path fault × IsTrueOfSetup files unread path why
 
--- why what is asked for was not written, or not all of it; `unread` says of a path that its file was not had
-abbrev pub IsWhyUnanswered : Option (List NamedFile) → (List ℕ → Type 0) → Asked → ToolFault → Type 0
-IsWhyUnanswered files unread (Show options) = IsWhyUnshown files unread options
-IsWhyUnanswered files unread (Check options) = IsWhyUnchecked files unread options.setup.now
-IsWhyUnanswered files unread (Tree path) = IsWhyNoTree files unread path.now
+-- why what is asked for was not written, or not all of it, between these counts of failed loads
+abbrev pub IsWhyUnanswered : Option (List NamedFile) → Option ℕ → Option ℕ → Asked → ToolFault → Type 0
+IsWhyUnanswered files before after (Show options) = IsWhyUnshown files before after options
+IsWhyUnanswered files before after (Check options) = IsWhyUnchecked files (IsNotHad files before after) options.setup.now
+IsWhyUnanswered files before after (Tree path) = IsWhyNoTree files (IsNotHad files before after) path.now
 
 -- why what these words ask for was not written, or not all of it
-abbrev pub IsWhyNotDone : List (List ℕ) → Option (List NamedFile) → (List ℕ → Type 0) → Ending ToolFault → Type 0
-IsWhyNotDone words files unread ending =
-    IsWhyNotRead words ending ⊎ ((fault : ToolFault) × (asked : Asked) × (ending ≡ Failed fault) × IsAskedIn words asked × IsWhyUnanswered files unread asked fault)
+abbrev pub IsWhyNotDone : List (List ℕ) → Option (List NamedFile) → Option ℕ → Option ℕ → Ending ToolFault → Type 0
+IsWhyNotDone words files before after ending =
+    IsWhyNotRead words ending
+    ⊎ ((fault : ToolFault) × (asked : Asked) × (ending ≡ Failed fault) × IsAskedIn words asked × IsWhyUnanswered files before after asked fault)

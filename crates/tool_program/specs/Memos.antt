@@ -41,6 +41,10 @@ IsMemoFile files table dbf None (Some bytes) = (wants_memos dbf ≡ true) × IsF
 abbrev pub IsNotHad : Option (List NamedFile) → Option ℕ → Option ℕ → List ℕ → Type 0
 IsNotHad files before after path = Rises before after ⊎ IsTooLong files path
 
+-- No load has failed in looking for a table's file of memos, or the one beside the table was not had.
+abbrev pub IsLookedFor : Option (List NamedFile) → Option ℕ → Option ℕ → List ℕ → Type 0
+IsLookedFor files before after table = (after ≡ before) ⊎ ((path : List ℕ) × (memo_path table ≡ Some path) × IsNotHad files before after path)
+
 -- Where no path is given, some field is a memo and none was had, there is no file beside the table: it has no such path, or that can't be read.
 abbrev pub IsMissingBeside : (List ℕ → Type 0) → List ℕ → List ℕ → Option (List ℕ) → Option (List ℕ) → Type 0
 IsMissingBeside unread table dbf given memos = given ≡ None → wants_memos dbf ≡ true → memos ≡ None → IfSome (memo_path table) unread

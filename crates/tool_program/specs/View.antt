@@ -1,5 +1,5 @@
 -- What of a table is shown.
-use Rattle.std.specs.Prelude.{◌≡◌, ℕ, List, Option, IfSome, option_copied}
+use Rattle.std.specs.Prelude.{◌≡◌, ◌≤◌, ◌↔◌, ℕ, List, length, Option, IfSome, IsSome, option_copied}
 use Rattle.dbf_fields.specs.declared.day.Day.{Day}
 use Rattle.dbf_image.specs.declared.fault.ImageFault.{ImageFault}
 use Rattle.dbf_image.specs.DbfText.{IsDbf}
@@ -10,10 +10,11 @@ use Rattle.folders.specs.declared.named.NamedFile.{NamedFile}
 use Rattle.folders.specs.Files.{IsFileOf}
 use Rattle.table_text.specs.Csv.{csv_text}
 use Rattle.table_text.specs.Records.{records_text}
-use Rattle.table_text.specs.Structure.{fields_text, IsHeaderDate}
-use Rattle.tool_program.specs.Memos.{IsMemoFile, IsMemosFault, IsMissingBeside}
-use Rattle.tool_program.specs.Order.{IsOrder}
+use Rattle.table_text.specs.Structure.{fields_text, IsHeaderDate, TellsDay}
+use Rattle.tool_program.specs.Memos.{IsLookedFor, IsMemoFile, IsMemosFault, IsMissingBeside, IsNotHad}
+use Rattle.tool_program.specs.Order.{IsGivenOrderFault, IsOrder}
 use Rattle.tool_program.specs.declared.options.Options.{Options}
+use Rattle.tool_program.specs.declared.order.OrderFault.{OrderFault}
 use Rattle.tool_program.specs.declared.showing.ShowFault.{ShowFault}
 use Rattle.tool_program.specs.declared.showing.ShowFault.TheVariants.{Memos, Text}
 use Rattle.tool_program.specs.declared.options.View.{View}
@@ -36,7 +37,7 @@ IsBeforeText (Text why) = ⊥
 IsBeforeText fault = Unit {0}
 
 -- What a sink has after a table was shown: the text that was asked for, of the table whose files stand at the paths of the
--- options, in the order of the index. The date is the one that the table's header tells.
+-- options, in the order of the index. The date is the one that the table's header tells, and there is none only where that tells none.
 pub record IsShown (files : Option (List NamedFile)) (options : Options) (old new : Option (List ℕ)) : Type 0 where
   pub dbf : List ℕ
   pub dbt : Option (List ℕ)
@@ -46,6 +47,7 @@ pub record IsShown (files : Option (List NamedFile)) (options : Options) (old ne
   pub table_file : IsFileOf files options.table.now dbf
   pub memo_file : IsMemoFile files options.table.now dbf (option_copied options.memos) dbt
   pub dated : IfSome date (IsHeaderDate dbf)
+  pub has_date : IsSome date ↔ ((4 ≤ length dbf) × TellsDay dbf)
   pub is : IsDbf dbf dbt table
   pub ordered : IsOrder files (option_copied options.order) (option_copied options.from) table order
   pub wrote : new ≡ grown old (view_text table date order options.view)
@@ -59,3 +61,16 @@ pub record IsNoTable (files : Option (List NamedFile)) (unread : List ℕ → Ty
   pub memo_file : IsMemoFile files options.table.now dbf (option_copied options.memos) dbt
   pub missing : IsMissingBeside unread options.table.now dbf (option_copied options.memos) dbt
   pub refused : IsImageRefusal fault dbf dbt
+
+-- The table of these files can't be shown in the order of the index file whose path the options give, for this fault of that file. No
+-- load had failed before it was looked for, but that of a file of memos beside the table.
+pub record IsNoOrder (files : Option (List NamedFile)) (before after : Option ℕ) (options : Options) (fault : OrderFault) : Type 0 where
+  pub dbf : List ℕ
+  pub dbt : Option (List ℕ)
+  pub table : Table
+  pub between : Option ℕ
+  pub table_file : IsFileOf files options.table.now dbf
+  pub memo_file : IsMemoFile files options.table.now dbf (option_copied options.memos) dbt
+  pub memos : IsLookedFor files before between options.table.now
+  pub is : IsDbf dbf dbt table
+  pub refused : IsGivenOrderFault files (IsNotHad files between after) (option_copied options.order) table fault

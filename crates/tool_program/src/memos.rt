@@ -1,9 +1,9 @@
 //! The file of memos that a table is read with.
 
-ghost use Rattle.std.specs.Prelude.{◌≡◌, true, Ok, None, IfOk, IfErr, IfSome, List, ℕ};
+ghost use Rattle.std.specs.Prelude.{◌≡◌, true, Ok, None, IfOk, IfErr, IfSome, OnOk, List, ℕ};
 ghost use Rattle.std.specs.Option.{option_copied, option_map};
 ghost use Rattle.dbf_image.specs.Table.{has_memos};
-ghost use Rattle.tool_program.specs.Memos.{memo_extension as extension_of_memos, memo_path as path_of_memos, wants_memos as has_memo_fields, IsMemoFile, IsMemosFault, IsMissingBeside, IsNotHad};
+ghost use Rattle.tool_program.specs.Memos.{memo_extension as extension_of_memos, memo_path as path_of_memos, wants_memos as has_memo_fields, IsLookedFor, IsMemoFile, IsMemosFault, IsMissingBeside, IsNotHad};
 
 use byte_io::Bytes;
 use dbf_fields::{Field, MEMO};
@@ -61,6 +61,7 @@ fn load_beside<F: Source>(
 ) -> Result<Option<Bytes>, LoadFault>
     ensures found { IfOk result (λ memos. (dbf : List ℕ) → has_memo_fields dbf ≡ true → IsMemoFile (F.files source.old) table.now dbf None memos) }
     ensures missing { result ≡ Ok None → IfSome (path_of_memos table.now) (IsNotHad (F.files source.old) (F.failures source.old) (F.failures source.new)) }
+    ensures counted { OnOk result (IsLookedFor (F.files source.old) (F.failures source.old) (F.failures source.new) table.now) }
     ensures fault { IfErr result (IsMemosFault (F.files source.old) (λ _. ⊥) table.now None) }
     ensures kept { F.files source.new ≡ F.files source.old }
 {
@@ -90,6 +91,7 @@ pub(crate) fn load_memos<F: Source>(
     ensures found { IfOk result (IsMemoFile (F.files source.old) table.now dbf.now (option_copied given.entry)) }
     ensures missing { let unread = IsNotHad (F.files source.old) (F.failures source.old) (F.failures source.new) in
         IfOk result (IsMissingBeside unread table.now dbf.now (option_copied given.entry)) }
+    ensures counted { OnOk result (IsLookedFor (F.files source.old) (F.failures source.old) (F.failures source.new) table.now) }
     ensures fault { let unread = IsNotHad (F.files source.old) (F.failures source.old) (F.failures source.new) in
         IfErr result (IsMemosFault (F.files source.old) unread table.now (option_copied given.entry)) }
     ensures kept { F.files source.new ≡ F.files source.old }

@@ -1,11 +1,12 @@
 //! The order of an index file, in which records are shown.
 
-ghost use Rattle.std.specs.Prelude.{◌≡◌, ◌≢◌, Err, Some, IfOk, IfErr, length};
+ghost use Rattle.std.specs.Prelude.{◌≡◌, Err, Some, IfOk, IfErr, length};
 ghost use Rattle.ndx_index.specs.Order.{reaches as reaches_text};
 ghost use Rattle.table_order.specs.TableOrder.{order as order_of};
 ghost use Rattle.table_core.specs.Content.{order_at};
-ghost use Rattle.folders.specs.Files.{IsUnrecovered, load_refusal};
-ghost use Rattle.tool_program.specs.Order.{numbers_from as numbers_of_pairs, AreKeysOf, IsOrderOf, IsStale, IsTestedFirst};
+ghost use Rattle.folders.specs.Files.{load_refusal};
+ghost use Rattle.tool_program.specs.Memos.{IsNotHad};
+ghost use Rattle.tool_program.specs.Order.{numbers_from as numbers_of_pairs, AreKeysOf, IsOrderFault, IsOrderOf, IsReadFault, IsTestedFirst};
 
 use byte_io::Bytes;
 use dbf_image::TableData;
@@ -108,7 +109,7 @@ fn with_index(
     ensures order { IfOk result (λ indexed. order_at indexed.content 1 ≡ order_of table expr.expr) }
     ensures own { IfOk result (λ _. AreKeysOf table expr.expr file.key_len file.pairs.pairs) }
     ensures stale { IfErr result (λ fault. fault ≡ OrderFault.Stale → AreKeysOf table expr.expr file.key_len file.pairs.pairs → ⊥) }
-    ensures loads_nothing { IfErr result (λ fault. (cause : LoadFault) → fault ≢ OrderFault.Load cause) }
+    ensures fault { IfErr result IsReadFault }
 {
     let NdxFile {
         expr: name,
@@ -141,11 +142,12 @@ pub fn read_order<F: Source>(
 ) -> Result<(TableData, Vec<u32>), OrderFault>
     ensures table { IfOk result (λ read. read.0 ≡ table) }
     ensures order { IfOk result (λ read. IsOrderOf (F.files source.old) path.now text.now table read.1.items) }
-    ensures stale { IfErr result (λ fault. fault ≡ OrderFault.Stale → IsStale (F.files source.old) path.now table) }
+    // A fault is that of the file: why it was not had, its reader's own, that its text is no key expression, or that it is stale.
+    ensures refused { let unread = IsNotHad (F.files source.old) (F.failures source.old) (F.failures source.new) in
+        IfErr result (IsOrderFault (F.files source.old) unread path.now table) }
     ensures kept { F.files source.new ≡ F.files source.old }
     // Where no load can give the file the answer is why, whether there is memory or not,
     ensures unread { (why : LoadFault) → load_refusal (F.files source.old) path.now ≡ Some why → result ≡ Err (OrderFault.Load why) }
-    ensures unrecovered { result ≡ Err (OrderFault.Load LoadFault.Unrecovered) → IsUnrecovered (F.files source.old) path.now }
     // and where its header page breaks a rule the answer is that, once it is loaded.
     ensures early { IfErr result (IsTestedFirst (F.files source.old) path.now) }
 {

@@ -159,8 +159,7 @@ fn run_show<'a, F: Source, S: ByteSink + MayClose>(
     ensures kept { IsFront (S.written sink.old) (S.written sink.new) }
     ensures early { (why : LoadFault) → load_refusal (F.files source.old) options.now.table.now ≡ Some why
         → IsErrAnd result (IsToolFaultOf (ShowFault.Load why) options.now.table.now) }
-    ensures fault { let unread = IsNotHad (F.files source.old) (F.failures source.old) (F.failures source.new) in
-        IfErr result (IsWhyUnshown (F.files source.old) unread options.now) }
+    ensures fault { IfErr result (IsWhyUnshown (F.files source.old) (F.failures source.old) (F.failures source.new) options.now) }
 {
     match show_file(alloc, source, sink, options) {
         Ok(()) => Ok(ToolReport::Good),
@@ -236,8 +235,7 @@ pub fn run_asked<'a, F: Source, S: ByteSink + MayClose>(
     // Where no load can give the file that is asked for the answer is why, whether there is memory or not.
     ensures early { (why : LoadFault) → load_refusal (F.files source.old) (asked_path asked.now) ≡ Some why
         → IsErrAnd result (IsToldUnloaded asked.now why) }
-    ensures fault { let unread = IsNotHad (F.files source.old) (F.failures source.old) (F.failures source.new) in
-        IfErr result (IsWhyUnanswered (F.files source.old) unread asked.now) }
+    ensures fault { IfErr result (IsWhyUnanswered (F.files source.old) (F.failures source.old) (F.failures source.new) asked.now) }
 {
     match asked {
         Asked::Show(options) => run_show(alloc, source, sink, options),
@@ -261,8 +259,7 @@ pub fn run_words<'a, F: Source, S: ByteSink + MayClose, T: AsStr>(
     ensures answered { let loads = AreEntryLoads (F.files source.old) (F.failures source.old) (F.failures source.new) in
         IfOk result (IsAnsweredTo (map T.text words.entry.now) (F.files source.old) loads (S.written sink.old) (S.written sink.new)) }
     // Why it was not is what the words say, or a fault of what they ask for.
-    ensures fault { let unread = IsNotHad (F.files source.old) (F.failures source.old) (F.failures source.new) in
-        IfErr result (IsWhyNotDone (map T.text words.entry.now) (F.files source.old) unread) }
+    ensures fault { IfErr result (IsWhyNotDone (map T.text words.entry.now) (F.files source.old) (F.failures source.old) (F.failures source.new)) }
     ensures kept { IsFront (S.written sink.old) (S.written sink.new) }
 {
     let asked = read_options(alloc, words)?;

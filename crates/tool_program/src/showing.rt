@@ -4,9 +4,9 @@ ghost use Rattle.std.specs.Prelude.{◌≡◌, Err, Some, OnOk, OnErr, IfOk, IfE
 ghost use Rattle.std.specs.Option.{option_map};
 ghost use Rattle.byte_io.specs.Sink.{grown, IsFront, Rises};
 ghost use Rattle.folders.specs.Files.{IsUnrecovered, load_refusal};
-ghost use Rattle.tool_program.specs.Order.{from_text, IsOrder};
-ghost use Rattle.tool_program.specs.Memos.{IsMemoFile, IsMemosFault, IsMissingBeside, IsNotHad};
-ghost use Rattle.tool_program.specs.View.{view_text, IsBeforeText, IsFaultOfMemos, IsNoTable, IsShown};
+ghost use Rattle.tool_program.specs.Order.{from_text, IsGivenOrderFault, IsOrder};
+ghost use Rattle.tool_program.specs.Memos.{IsLookedFor, IsMemoFile, IsMemosFault, IsMissingBeside, IsNotHad};
+ghost use Rattle.tool_program.specs.View.{view_text, IsBeforeText, IsFaultOfMemos, IsNoOrder, IsNoTable, IsShown};
 
 use crate::memos::load_memos;
 use crate::options::{Options, View};
@@ -115,6 +115,7 @@ fn memos_of<F: Source>(
     ensures found { IfOk result (IsMemoFile (F.files source.old) table.now dbf.now (option_copied given.entry)) }
     ensures missing { let unread = IsNotHad (F.files source.old) (F.failures source.old) (F.failures source.new) in
         IfOk result (IsMissingBeside unread table.now dbf.now (option_copied given.entry)) }
+    ensures counted { OnOk result (IsLookedFor (F.files source.old) (F.failures source.old) (F.failures source.new) table.now) }
     ensures fault { let unread = IsNotHad (F.files source.old) (F.failures source.old) (F.failures source.new) in
         IfErr result (IsFaultOfMemos (F.files source.old) unread table.now (option_copied given.entry)) }
     ensures kept { F.files source.new ≡ F.files source.old }
@@ -143,6 +144,8 @@ fn load_order<F: Source>(
     table: TableData,
 ) -> Result<(TableData, Option<Vec<u32>>), OrderFault>
     ensures table { IfOk result (λ read. read.0 ≡ table) }
+    ensures fault { let unread = IsNotHad (F.files source.old) (F.failures source.old) (F.failures source.new) in
+        IfErr result (IsGivenOrderFault (F.files source.old) unread (option_copied path.entry) table) }
     ensures order { IfOk result (λ read. IsOrder (F.files source.old) (option_copied path.entry) (option_copied from.entry) table (option_map (λ numbers. numbers.items) read.1)) }
     ensures kept { F.files source.new ≡ F.files source.old }
 {
@@ -202,6 +205,9 @@ pub fn show_file<F: Source, S: ByteSink>(
         (why : LoadFault) → result ≡ Err (ShowFault.Memos why) → IsMemosFault (F.files source.old) unread options.now.table.now (option_copied options.now.memos) why }
     ensures no_table { let unread = IsNotHad (F.files source.old) (F.failures source.old) (F.failures source.new) in
         (why : ImageFault) → result ≡ Err (ShowFault.Table why) → IsNoTable (F.files source.old) unread options.now why }
+    // A fault of `Order` is one of the index file for that table.
+    ensures no_order { (why : OrderFault) → result ≡ Err (ShowFault.Order why)
+        → IsNoOrder (F.files source.old) (F.failures source.old) (F.failures source.new) options.now why }
 {
     let dbf = source.load(alloc, options.table.as_bytes())?;
     let date = header_date(dbf.as_slice());

@@ -10,7 +10,7 @@ returns-in-Err-clause-fault g c =
     (λ told at. (
       c.in-Err.fault,
       subst (λ (path : List ℕ). IsToolFaultOf c.in-Err.fault path told) c.faulty_path.ensures.value at,
-      true_of_table _ _ c.args.options.now c.show_file.result c.in-Err.fault c.in-Err.is c.show_file.ensures.unread c.show_file.ensures.unrecovered c.show_file.ensures.memos
-          c.show_file.ensures.no_table,
+      true_of_table _ _ _ c.args.options.now c.show_file.result c.in-Err.fault c.in-Err.is c.show_file.ensures.unread c.show_file.ensures.unrecovered c.show_file.ensures.memos
+          c.show_file.ensures.no_table c.show_file.ensures.no_order,
     ))
     c.not_shown.ensures.fault
