@@ -32,14 +32,6 @@ fn held(alloc: Global, count: u64) -> Audited {
     }
 }
 
-fn failed(failure: AuditFailure) -> Ended {
-    Err(Ending::Failed(Failure::Work(failure)))
-}
-
-fn of_program(failure: Failure<AuditFailure>) -> Ended {
-    Err(Ending::Failed(failure))
-}
-
 fn unread(alloc: Global) -> Result<AuditFailure, AllocError> {
     let path = Bytes::from_slice(alloc, b"T.DBF")?;
     let fault = ServeFault::File(path, FileFault::CannotRead);
@@ -56,166 +48,149 @@ fn differs(alloc: Global) -> Result<AuditFailure, AllocError> {
     })))
 }
 
-// The first call that ends otherwise: with another exit status, or with another line on one of the streams.
-fn first_untold(alloc: Global, cases: &[(Ended, u8, &str, &str)]) -> Result<Option<usize>, Fail> {
-    for i in 0..cases.len() {
-        let (ended, status, said, warned) = &cases[i];
-        let mut out = Vec::new(alloc);
-        let mut err = Vec::new(alloc);
-        let told = tell(&mut out, &mut err, PROGRAM, ended);
-        if told.status != ExitCode::from(*status) {
-            return Ok(Some(i));
-        }
-        if out.as_slice() != said.as_bytes() || err.as_slice() != warned.as_bytes() {
-            return Ok(Some(i));
-        }
+// Whether a call that ends so has this exit status, and prints these lines on the two streams.
+fn is_told(alloc: Global, ended: &Ended, (status, said, warned): (u8, &str, &str)) -> bool {
+    let mut out: Vec<u8> = Vec::new(alloc);
+    let mut err: Vec<u8> = Vec::new(alloc);
+    let told = tell(&mut out, &mut err, PROGRAM, ended);
+    told.status == ExitCode::from(status)
+        && out.as_slice() == said.as_bytes()
+        && err.as_slice() == warned.as_bytes()
+}
+
+const ENDS: [(u8, &str, &str); 6] = [
+    (0, "station_audit: 0 entries hold\n", ""),
+    (0, "station_audit: 1205 entries hold\n", ""),
+    (1, "", "error: an argument is no UTF-8 text\n"),
+    (3, "", "station_audit: run: NoMemory\n"),
+    (
+        1,
+        "",
+        "error: a value is required for '--journal <FILE>' but none was supplied
+
+For more information, try '--help'.
+",
+    ),
+    (
+        0,
+        "station_audit 0.9.0 (rattle-kit-13f logic dac8208d650f15bf)\n",
+        "",
+    ),
+];
+
+// The end with this number in `ENDS`.
+fn end_of(alloc: Global, number: usize) -> Result<Ended, Fail> {
+    match number {
+        0 => Ok(Ok(held(alloc, 0))),
+        1 => Ok(Ok(held(alloc, 1205))),
+        2 => Ok(Err(Ending::from(io::Error::from(io::ErrorKind::InvalidData)))),
+        3 => Ok(Err(Ending::from(io::Error::from(io::ErrorKind::OutOfMemory)))),
+        4 => Ok(Err(said_of(alloc, &["station_audit", "--journal"])?)),
+        _ => Ok(Err(said_of(alloc, &["station_audit", "--version"])?)),
     }
-    Ok(None)
 }
 
 #[test]
 fn each_end_has_its_status_and_line(rt: HostRuntime) -> Result<(), Fail> {
-    let alloc = rt.alloc();
-    let no_text = Err(Ending::from(io::Error::from(io::ErrorKind::InvalidData)));
-    let refused = Err(Ending::from(io::Error::from(io::ErrorKind::OutOfMemory)));
-    let lone = "error: a value is required for '--journal <FILE>' but none was supplied
-
-For more information, try '--help'.
-";
-    let cases = [
-        (Ok(held(alloc, 0)), 0, "station_audit: 0 entries hold\n", ""),
-        (
-            Ok(held(alloc, 1205)),
-            0,
-            "station_audit: 1205 entries hold\n",
-            "",
-        ),
-        (no_text, 1, "", "error: an argument is no UTF-8 text\n"),
-        (refused, 3, "", "station_audit: run: NoMemory\n"),
-        (
-            Err(said_of(alloc, &["station_audit", "--journal"])?),
-            1,
-            "",
-            lone,
-        ),
-    ];
-    assert_eq!(rt; first_untold(alloc, &cases)?, None);
+    for number in 0..ENDS.len() {
+        let ended = end_of(rt.alloc(), number)?;
+        assert!(rt; is_told(rt.alloc(), &ended, ENDS[number]));
+    }
     Ok(())
 }
 
-// Whether a call that ends so has the exit status 0, and prints this.
-fn is_told(alloc: Global, ended: &Ended, said: &str) -> bool {
-    let mut out = Vec::new(alloc);
-    let mut err: Vec<u8> = Vec::new(alloc);
-    let told = tell(&mut out, &mut err, PROGRAM, ended);
-    told.status == ExitCode::from(0) && out.as_slice() == said.as_bytes()
+const FAILURES: [(u8, &str); 11] = [
+    (1, "station_audit: bad date\n"),
+    (4, "station_audit: another run writes into the folder\n"),
+    (1, "station_audit: setup line 7 is bad\n"),
+    (2, "station_audit: T.DBF: cannot read\n"),
+    (2, "station_audit: open: NoStation\n"),
+    (2, "station_audit: cannot read the journal\n"),
+    (
+        2,
+        "station_audit: kept/J.TXT: the folder is not recovered: start with --out kept\n",
+    ),
+    (3, "station_audit: run: NoMemory\n"),
+    (
+        5,
+        "station_audit: entry 3: no entry of a station stands here\n",
+    ),
+    (
+        5,
+        "station_audit: entry 4: station 1: ? NAME
+  the journal says: BOX
+  the answer is: BOB
+",
+    ),
+    (5, "station_audit: there are too many entries\n"),
+];
+
+// The failure with this number in `FAILURES`.
+fn failure_of(alloc: Global, number: usize) -> Result<Failure<AuditFailure>, AllocError> {
+    match number {
+        0 => Ok(Failure::BadDate),
+        1 => Ok(Failure::Folder(FolderFault::InUse)),
+        2 => Ok(Failure::Work(AuditFailure::Serve(ServeFault::Setup(7)))),
+        3 => Ok(Failure::Work(unread(alloc)?)),
+        4 => Ok(Failure::Work(AuditFailure::Serve(ServeFault::Refused(OpenFault::NoStation)))),
+        5 => Ok(Failure::Work(AuditFailure::Unread)),
+        6 => {
+            let journal = Bytes::from_slice(alloc, b"kept/J.TXT")?;
+            Ok(Failure::Work(AuditFailure::UnrecoveredJournal(journal)))
+        }
+        7 => Ok(Failure::Work(AuditFailure::from(AuditFault::NoMemory))),
+        8 => Ok(Failure::Work(AuditFailure::from(AuditFault::NoEntry(3)))),
+        9 => Ok(Failure::Work(differs(alloc)?)),
+        _ => Ok(Failure::Work(AuditFailure::from(AuditFault::TooLong))),
+    }
 }
 
-#[test]
-fn version(rt: HostRuntime) -> Result<(), Fail> {
-    let ended = Err(said_of(rt.alloc(), &["station_audit", "--version"])?);
-    let said = "station_audit 0.9.0 (rattle-kit-13f logic dac8208d650f15bf)\n";
-    assert!(rt; is_told(rt.alloc(), &ended, said));
-    Ok(())
+// Whether a call that fails so has this exit status, and prints this line on standard error alone.
+fn is_failure_told(
+    alloc: Global,
+    failure: Failure<AuditFailure>,
+    (status, line): (u8, &str),
+) -> bool {
+    is_told(alloc, &Err(Ending::Failed(failure)), (status, "", line))
 }
 
 #[test]
 fn each_failure_has_its_status_and_line(rt: HostRuntime) -> Result<(), Fail> {
-    let alloc = rt.alloc();
-    let bad = "station_audit: setup line 7 is bad\n";
-    let missing = "station_audit: T.DBF: cannot read\n";
-    let unopened = "station_audit: open: NoStation\n";
-    let no_journal = "station_audit: cannot read the journal\n";
-    let unrecovered =
-        "station_audit: kept/J.TXT: the folder is not recovered: start with --out kept\n";
-    let no_entry = "station_audit: entry 3: no entry of a station stands here\n";
-    let other = "station_audit: entry 4: station 1: ? NAME
-  the journal says: BOX
-  the answer is: BOB
-";
-    let too_long = "station_audit: there are too many entries\n";
-    let no_memory = "station_audit: run: NoMemory\n";
-    let refused = ServeFault::Refused(OpenFault::NoStation);
-    let journal = Bytes::from_slice(alloc, b"kept/J.TXT")?;
-    let cases = [
-        (
-            of_program(Failure::BadDate),
-            1,
-            "",
-            "station_audit: bad date\n",
-        ),
-        (
-            of_program(Failure::Folder(FolderFault::InUse)),
-            4,
-            "",
-            "station_audit: another run writes into the folder\n",
-        ),
-        (
-            failed(AuditFailure::Serve(ServeFault::Setup(7))),
-            1,
-            "",
-            bad,
-        ),
-        (failed(unread(alloc)?), 2, "", missing),
-        (failed(AuditFailure::Serve(refused)), 2, "", unopened),
-        (failed(AuditFailure::Unread), 2, "", no_journal),
-        (
-            failed(AuditFailure::UnrecoveredJournal(journal)),
-            2,
-            "",
-            unrecovered,
-        ),
-        (
-            failed(AuditFailure::from(AuditFault::NoMemory)),
-            3,
-            "",
-            no_memory,
-        ),
-        (
-            failed(AuditFailure::from(AuditFault::NoEntry(3))),
-            5,
-            "",
-            no_entry,
-        ),
-        (failed(differs(alloc)?), 5, "", other),
-        (
-            failed(AuditFailure::from(AuditFault::TooLong)),
-            5,
-            "",
-            too_long,
-        ),
-    ];
-    assert_eq!(rt; first_untold(alloc, &cases)?, None);
+    for number in 0..FAILURES.len() {
+        let failure = failure_of(rt.alloc(), number)?;
+        assert!(rt; is_failure_told(rt.alloc(), failure, FAILURES[number]));
+    }
     Ok(())
+}
+
+const OTHER_RUNS: [(u8, &str); 5] = [
+    (6, "station_audit: J.TXT is no journal\n"),
+    (6, "station_audit: kept/J.TXT is cut\n"),
+    (6, "station_audit: the run was with --reindex\n"),
+    (6, "station_audit: the run was without --reindex\n"),
+    (
+        6,
+        "station_audit: MEMBERS.DBF is not the file that the run read\n",
+    ),
+];
+
+// The failure with this number in `OTHER_RUNS`.
+fn other_run_of(alloc: Global, number: usize) -> Result<Failure<AuditFailure>, AllocError> {
+    match number {
+        0 => Ok(Failure::Work(AuditFailure::NoJournal(Bytes::from_slice(alloc, b"J.TXT")?))),
+        1 => Ok(Failure::Work(AuditFailure::CutJournal(Bytes::from_slice(alloc, b"kept/J.TXT")?))),
+        2 => Ok(Failure::Work(AuditFailure::OtherReindex(true))),
+        3 => Ok(Failure::Work(AuditFailure::OtherReindex(false))),
+        _ => Ok(Failure::Work(AuditFailure::OtherFile(Bytes::from_slice(alloc, b"MEMBERS.DBF")?))),
+    }
 }
 
 #[test]
 fn each_other_run_has_its_status_and_line(rt: HostRuntime) -> Result<(), Fail> {
-    let alloc = rt.alloc();
-    let none = Bytes::from_slice(alloc, b"J.TXT")?;
-    let cut = Bytes::from_slice(alloc, b"kept/J.TXT")?;
-    let other = Bytes::from_slice(alloc, b"MEMBERS.DBF")?;
-    let with = "station_audit: the run was with --reindex\n";
-    let without = "station_audit: the run was without --reindex\n";
-    let not_read = "station_audit: MEMBERS.DBF is not the file that the run read\n";
-    let cases = [
-        (
-            failed(AuditFailure::NoJournal(none)),
-            6,
-            "",
-            "station_audit: J.TXT is no journal\n",
-        ),
-        (
-            failed(AuditFailure::CutJournal(cut)),
-            6,
-            "",
-            "station_audit: kept/J.TXT is cut\n",
-        ),
-        (failed(AuditFailure::OtherReindex(true)), 6, "", with),
-        (failed(AuditFailure::OtherReindex(false)), 6, "", without),
-        (failed(AuditFailure::OtherFile(other)), 6, "", not_read),
-    ];
-    assert_eq!(rt; first_untold(alloc, &cases)?, None);
+    for number in 0..OTHER_RUNS.len() {
+        let failure = other_run_of(rt.alloc(), number)?;
+        assert!(rt; is_failure_told(rt.alloc(), failure, OTHER_RUNS[number]));
+    }
     Ok(())
 }
 
@@ -251,15 +226,9 @@ fn long_answers_are_shown_by_their_first_bytes(rt: HostRuntime) -> Result<(), Fa
   the answer is: {front}{front}{front}{front}.. (201 bytes)
 "
     )?;
-    let cases = [
-        (
-            failed(differs_at_the_end(alloc, 199)?),
-            5,
-            "",
-            last_shown.as_str(),
-        ),
-        (failed(differs_at_the_end(alloc, 200)?), 5, "", cut.as_str()),
-    ];
-    assert_eq!(rt; first_untold(alloc, &cases)?, None);
+    let nearly_same = Failure::Work(differs_at_the_end(alloc, 199)?);
+    assert!(rt; is_failure_told(alloc, nearly_same, (5, last_shown.as_str())));
+    let longer = Failure::Work(differs_at_the_end(alloc, 200)?);
+    assert!(rt; is_failure_told(alloc, longer, (5, cut.as_str())));
     Ok(())
 }

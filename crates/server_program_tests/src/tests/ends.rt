@@ -194,121 +194,124 @@ fn unwritten(alloc: Global) -> Result<Ending<Failure<ServeFault>>, AllocError> {
     Ok(Ending::Failed(Failure::Work(ServeFault::Close(CloseFault::Write(name)))))
 }
 
-// The first call that ends otherwise: with another exit status, or with another line on one of the streams.
-fn first_untold(alloc: Global, cases: &[(Ended, u8, &str, &str)]) -> Result<Option<usize>, Fail> {
-    for i in 0..cases.len() {
-        let (ended, status, said, warned) = &cases[i];
-        let mut out = Vec::new(alloc);
-        let mut err = Vec::new(alloc);
-        let told = tell(&mut out, &mut err, PROGRAM, ended);
-        if told.status != ExitCode::from(*status) {
-            return Ok(Some(i));
-        }
-        if out.as_slice() != said.as_bytes() || err.as_slice() != warned.as_bytes() {
-            return Ok(Some(i));
-        }
+// Whether a call that ends so has this exit status, and prints these lines on the two streams.
+fn is_told(alloc: Global, ended: &Ended, (status, said, warned): (u8, &str, &str)) -> bool {
+    let mut out: Vec<u8> = Vec::new(alloc);
+    let mut err: Vec<u8> = Vec::new(alloc);
+    let told = tell(&mut out, &mut err, PROGRAM, ended);
+    told.status == ExitCode::from(status)
+        && out.as_slice() == said.as_bytes()
+        && err.as_slice() == warned.as_bytes()
+}
+
+const ENDS: [(u8, &str, &str); 9] = [
+    (0, "station_server: 0 commands\n", ""),
+    (0, "station_server: 1205 commands\n", ""),
+    (
+        0,
+        "station_server: 58 commands\n",
+        "station_server: 51 refused: STATION1.TXT 51\n",
+    ),
+    (
+        0,
+        "station_server: 70 commands\n",
+        "station_server: 13 refused: STATION2.TXT 12 STATION4.TXT 1\n",
+    ),
+    (1, "", "error: an argument is no UTF-8 text\n"),
+    (3, "", "station_server: run: NoMemory\n"),
+    (
+        1,
+        "",
+        "error: a value is required for '--out <DIR>' but none was supplied
+
+For more information, try '--help'.
+",
+    ),
+    (1, "", "station_server: bad date\n"),
+    (4, "", "station_server: cannot write T.DBF\n"),
+];
+
+// The end with this number in `ENDS`.
+fn end_of(alloc: Global, number: usize) -> Result<Ended, Fail> {
+    match number {
+        0 => Ok(Ok(counts(alloc, 0, 0, &[])?)),
+        1 => Ok(Ok(counts(alloc, 1205, 0, &[0, 0])?)),
+        2 => Ok(Ok(counts(alloc, 58, 51, &[51])?)),
+        3 => Ok(Ok(counts(alloc, 70, 13, &[0, 12, 0, 1])?)),
+        4 => Ok(Err(Ending::from(io::Error::from(io::ErrorKind::InvalidData)))),
+        5 => Ok(Err(Ending::from(io::Error::from(io::ErrorKind::OutOfMemory)))),
+        6 => Ok(Err(said_of(alloc, &["station_server", "--out"])?)),
+        7 => Ok(Err(Ending::Failed(Failure::BadDate))),
+        _ => Ok(Err(unwritten(alloc)?)),
     }
-    Ok(None)
 }
 
 #[test]
 fn each_end_has_its_status_and_line(rt: HostRuntime) -> Result<(), Fail> {
-    let alloc = rt.alloc();
-    let refused = io::Error::from(io::ErrorKind::OutOfMemory);
-    let no_text = io::Error::from(io::ErrorKind::InvalidData);
-    let lone = "error: a value is required for '--out <DIR>' but none was supplied
-
-For more information, try '--help'.
-";
-    let cases = [
-        (
-            Ok(counts(alloc, 0, 0, &[])?),
-            0,
-            "station_server: 0 commands\n",
-            "",
-        ),
-        (
-            Ok(counts(alloc, 1205, 0, &[0, 0])?),
-            0,
-            "station_server: 1205 commands\n",
-            "",
-        ),
-        (
-            Ok(counts(alloc, 58, 51, &[51])?),
-            0,
-            "station_server: 58 commands\n",
-            "station_server: 51 refused: STATION1.TXT 51\n",
-        ),
-        (
-            Ok(counts(alloc, 70, 13, &[0, 12, 0, 1])?),
-            0,
-            "station_server: 70 commands\n",
-            "station_server: 13 refused: STATION2.TXT 12 STATION4.TXT 1\n",
-        ),
-        (
-            Err(Ending::from(no_text)),
-            1,
-            "",
-            "error: an argument is no UTF-8 text\n",
-        ),
-        (
-            Err(Ending::from(refused)),
-            3,
-            "",
-            "station_server: run: NoMemory\n",
-        ),
-        (
-            Err(said_of(alloc, &["station_server", "--out"])?),
-            1,
-            "",
-            lone,
-        ),
-        (
-            Err(Ending::Failed(Failure::BadDate)),
-            1,
-            "",
-            "station_server: bad date\n",
-        ),
-        (
-            Err(unwritten(alloc)?),
-            4,
-            "",
-            "station_server: cannot write T.DBF\n",
-        ),
-    ];
-    assert_eq!(rt; first_untold(alloc, &cases)?, None);
+    for number in 0..ENDS.len() {
+        let ended = end_of(rt.alloc(), number)?;
+        assert!(rt; is_told(rt.alloc(), &ended, ENDS[number]));
+    }
     Ok(())
 }
 
+const FOLDER_ENDS: [(u8, &str); 8] = [
+    (4, "station_server: another run writes into the folder\n"),
+    (4, "station_server: cannot open the folder\n"),
+    (3, "station_server: run: NoMemory\n"),
+    (4, "station_server: cannot recover the folder\n"),
+    (
+        4,
+        "station_server: cannot recover the folder: ~niqarthu.list is no list of new files\n",
+    ),
+    (
+        4,
+        "station_server: cannot recover the folder: STOCK.DBF: cannot be replaced\n",
+    ),
+    (4, "station_server: cannot write the new files\n"),
+    (
+        4,
+        "station_server: not all new files are in place: the next start goes on\n",
+    ),
+];
+
 // A call that could not open the folder.
-fn unopened_by(fault: LockFault) -> Ended {
-    Err(Ending::Failed(Failure::from(PlaceFault::from(fault))))
+fn unopened_by(fault: LockFault) -> Failure<ServeFault> {
+    Failure::from(PlaceFault::from(fault))
+}
+
+// The failure with this number in `FOLDER_ENDS`.
+fn folder_end_of(alloc: Global, number: usize) -> Result<Failure<ServeFault>, AllocError> {
+    match number {
+        0 => Ok(unopened_by(LockFault::InUse)),
+        1 => Ok(unopened_by(LockFault::Failed)),
+        2 => Ok(unopened_by(LockFault::NoMemory)),
+        3 => Ok(Failure::Folder(FolderFault::Unrecovered)),
+        4 => Ok(Failure::Folder(FolderFault::BadList)),
+        5 => {
+            let name = Bytes::from_slice(alloc, b"STOCK.DBF")?;
+            Ok(Failure::Folder(FolderFault::Unreplaced(name)))
+        }
+        6 => Ok(Failure::Folder(FolderFault::Unwritten)),
+        _ => Ok(Failure::Folder(FolderFault::Unfinished)),
+    }
+}
+
+// Whether a call that fails so has this exit status, and prints this line on standard error alone.
+fn is_failure_told(
+    alloc: Global,
+    failure: Failure<ServeFault>,
+    (status, line): (u8, &str),
+) -> bool {
+    is_told(alloc, &Err(Ending::Failed(failure)), (status, "", line))
 }
 
 #[test]
 fn each_end_at_the_folder_has_its_status_and_line(rt: HostRuntime) -> Result<(), Fail> {
-    let of_folder = |fault| Err(Ending::Failed(Failure::Folder(fault)));
-    let in_use = "station_server: another run writes into the folder\n";
-    let unopened = "station_server: cannot open the folder\n";
-    let unrecovered = "station_server: cannot recover the folder\n";
-    let bad_list =
-        "station_server: cannot recover the folder: ~niqarthu.list is no list of new files\n";
-    let unreplaced = "station_server: cannot recover the folder: STOCK.DBF: cannot be replaced\n";
-    let name = Bytes::from_slice(rt.alloc(), b"STOCK.DBF")?;
-    let unwritten = "station_server: cannot write the new files\n";
-    let unfinished = "station_server: not all new files are in place: the next start goes on\n";
-    let no_memory = "station_server: run: NoMemory\n";
-    let cases = [
-        (unopened_by(LockFault::InUse), 4, "", in_use),
-        (unopened_by(LockFault::Failed), 4, "", unopened),
-        (unopened_by(LockFault::NoMemory), 3, "", no_memory),
-        (of_folder(FolderFault::Unrecovered), 4, "", unrecovered),
-        (of_folder(FolderFault::BadList), 4, "", bad_list),
-        (of_folder(FolderFault::Unreplaced(name)), 4, "", unreplaced),
-        (of_folder(FolderFault::Unwritten), 4, "", unwritten),
-        (of_folder(FolderFault::Unfinished), 4, "", unfinished),
-    ];
-    assert_eq!(rt; first_untold(rt.alloc(), &cases)?, None);
+    for number in 0..FOLDER_ENDS.len() {
+        let failure = folder_end_of(rt.alloc(), number)?;
+        assert!(rt; is_failure_told(rt.alloc(), failure, FOLDER_ENDS[number]));
+    }
     Ok(())
 }
 
