@@ -1,13 +1,17 @@
 -- That the model of a disk holds of these outcomes.
-use Rattle.std.proofs.Common.{◌≡◌, ◌≢◌, inl, inr, ⊎_elim, ◌⊎◌, ℕ, ◌≤◌, List, [], ◌∷◌, ◌++◌, length, Bool, true, false, Option, None, Some, option_map, cond, refl, sym, ◌∙◌, ap, subst, arith}
-use Rattle.std.proofs.lemmas.Bool.{cases_Bool, both_ways, cond-true, cond-false}
+use Rattle.std.proofs.Common.{◌≡◌, ◌≢◌, inl, inr, ⊎_elim, ◌⊎◌, ℕ, ◌+◌, ◌≤◌, List, [], ◌∷◌, ◌++◌, length, take, drop, Bool, true, false, Option, None, Some, option_map, cond, refl, sym, ◌∙◌, ap, subst, arith, ◌-◌, append_assoc, length-append, length-take, length-drop}
+use Rattle.std.specs.Prelude.{nat_le}
+use Rattle.std.proofs.lemmas.Bool.{cases_Bool, both_ways, cond-true, cond-false, leb-true}
+use Rattle.std.proofs.lemmas.List.{take_at}
+use Rattle.std.proofs.lemmas.Slice.{drop-append-drop}
 use Rattle.std.proofs.lemmas.Slice.Eq.{bytes_eq-Decides}
 use Rattle.std.specs.Str.{bytes_eq}
 use Rattle.files_in_place.specs.Folder.{Name, Folder, SameBut}
 use Rattle.files_in_place.specs.Disk.{MayMove, HasMoved, SameButTwo, DiskMeaning, Elapses}
+use Rattle.disk_in_place.specs.InPlace.{written_over, IsTorn, MayTear}
 use Rattle.memory_disk.specs.declared.disk_call.DiskCall.{DiskCall}
-use Rattle.memory_disk.specs.declared.disk_call.DiskCall.TheVariants.{Create, Append, SyncFile, Rename, Remove, SyncFolder}
-use Rattle.memory_disk.specs.Seen.{DiskHistory, seen_after}
+use Rattle.memory_disk.specs.declared.disk_call.DiskCall.TheVariants.{Create, Append, SyncFile, Rename, Remove, SyncFolder, WriteAt, SyncInPlace}
+use Rattle.memory_disk.specs.Seen.{DiskHistory, with_over, seen_after}
 use Rattle.memory_disk.specs.Outcomes.{IsWhole, IsCreated, MayLeave, MightHaveLeft}
 
 pub eq_same : (a b : Name) → a ≡ b → bytes_eq a b ≡ true
@@ -76,6 +80,41 @@ may_move from to before = elim (same_or_other from to) [
   }
 ]
 
+-- bytes that are written over change no byte outside of their range
+written_is_torn : (offset n : ℕ) (bytes old : List ℕ) → length bytes ≤ n → offset ≤ length old → IsTorn offset n old (written_over offset bytes old)
+written_is_torn offset n bytes old no_more fits =
+    let front : length (take offset old) ≡ offset = omega (arith, length-take offset old) in
+    let whole : length (written_over offset bytes old) ≡ offset + (length bytes + (length old - (offset + length bytes))) =
+    omega (arith, length-append (take offset old) (bytes ++ drop (offset + length bytes) old), length-append bytes (drop (offset + length bytes) old), length-drop (offset + length bytes) old, front) in
+    record {
+      before = take_at (take offset old) (bytes ++ drop (offset + length bytes) old) offset front;
+      after = ap (drop (offset + n)) (sym (append_assoc (take offset old) bytes (drop (offset + length bytes) old)))
+          ∙ drop-append-drop (offset + length bytes) old (take offset old ++ bytes) (offset + n) (omega arith) (omega (arith, length-append (take offset old) bytes, front));
+      no_shorter = omega arith;
+      no_longer = omega arith;
+    }
+
+-- a file that is written over, by no more bytes than these
+pub over_is_torn : (offset n : ℕ) (bytes old : List ℕ) → length bytes ≤ n → IsTorn offset n old (with_over offset bytes old)
+over_is_torn offset n bytes old no_more = elim (cases_Bool (nat_le offset (length old))) [
+  | inl fits ↦ rw fits (written_is_torn offset n bytes old no_more (leb-true offset (length old) fits))
+  | inr short ↦ rw short (record { before = refl; after = refl; no_shorter = omega arith; no_longer = omega arith })
+]
+
+pub written_other : (name : Name) (offset : ℕ) (bytes : List ℕ) (before : List DiskCall) → SameBut name (seen_after before) (seen_after (WriteAt name offset bytes ∷ before))
+written_other name offset bytes before n other =
+    cond-false (bytes_eq name n) (option_map (with_over offset bytes) (seen_after before n)) (seen_after before n) (eq_other name n (λ same. other (sym same)))
+
+pub written : (name : Name) (offset : ℕ) (bytes : List ℕ) (before : List DiskCall) → seen_after (WriteAt name offset bytes ∷ before) name ≡ option_map (with_over offset bytes) (seen_after before name)
+written name offset bytes before = cond-true (bytes_eq name name) (option_map (with_over offset bytes) (seen_after before name)) (seen_after before name) (eq_same name name refl)
+
+-- a folder of which a file is written over, by no more bytes than these
+pub over_may_tear : (name : Name) (offset n : ℕ) (bytes : List ℕ) (before : List DiskCall) → length bytes ≤ n → MayTear name offset n (seen_after before) (seen_after (WriteAt name offset bytes ∷ before))
+over_may_tear name offset n bytes before no_more = record {
+  torn = λ a is. (with_over offset bytes a, written name offset bytes before ∙ ap (option_map (with_over offset bytes)) is, over_is_torn offset n bytes a no_more);
+  elsewhere = written_other name offset bytes before;
+}
+
 -- what is seen is one of the folders that a crash may leave
 pub seen_may_stay : (calls : List DiskCall) → MayLeave calls (seen_after calls)
 seen_may_stay [] = λ n. refl
@@ -85,6 +124,8 @@ seen_may_stay (SyncFile name ∷ before) = seen_may_stay before
 seen_may_stay (Rename from to ∷ before) = (seen_after before, seen_may_stay before, may_move from to before)
 seen_may_stay (Remove name ∷ before) = (seen_after before, seen_may_stay before, record { either = inr (removed name before); elsewhere = removed_other name before })
 seen_may_stay (SyncFolder ∷ before) = (seen_may_stay before, λ n whole. refl)
+seen_may_stay (WriteAt name offset bytes ∷ before) = (seen_after before, seen_may_stay before, over_may_tear name offset (length bytes) bytes before (omega arith))
+seen_may_stay (SyncInPlace name ∷ before) = (seen_may_stay before, refl)
 
 pub none_whole : (calls : List DiskCall) (n : Name) → seen_after calls n ≡ None → IsWhole calls n
 none_whole calls n none = inl none

@@ -19,7 +19,7 @@ use std::alloc::{AllocError, Global};
 use steps::take_step;
 use tearing::tear_all;
 
-// What a crash may leave after a sync of the folder that followed the calls: what is seen, but for files that may be torn.
+// What a crash may leave after the calls, of which the latest is a sync: what is seen, but for files that may be torn.
 fn left_by_sync(
     alloc: Global,
     calls: &[DiskCall],
@@ -45,7 +45,7 @@ pub(crate) fn left_by_crash(
         return Ok(Vec::new(alloc));
     };
     match last {
-        DiskCall::SyncFolder => left_by_sync(alloc, before, choices),
+        DiskCall::SyncFolder | DiskCall::SyncInPlace(_) => left_by_sync(alloc, calls, choices),
         _ => {
             let mut left = left_by_crash(alloc, before, choices)?;
             take_step(alloc, last, &mut left, choices)?;

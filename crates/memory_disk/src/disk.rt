@@ -13,11 +13,12 @@ use crate::crash::{left_by_crash, settle};
 use crate::disk_call::DiskCall;
 use crate::seen_files::{content_of, names_of};
 use byte_io::{Bytes, Failures};
+use disk_in_place::DiskInPlace;
 use files_in_place::{Disk, DiskFault};
 use std::alloc::{AllocError, Global};
 use std::marker::Model;
 
-/// A folder in memory, which keeps each promise of [`Disk`]. Contracts see it as the calls that it has done, the latest
+/// A folder in memory, which keeps each promise of [`Disk`] and of [`DiskInPlace`]. Contracts see it as the calls that it has done, the latest
 /// first, and how often it has failed.
 ///
 /// Its calls are all done, until [`MemoryDisk::allow`] or [`MemoryDisk::fail_once`] says otherwise. A call that fails
@@ -193,6 +194,21 @@ impl Disk for MemoryDisk {
 
     fn sync_folder(&mut self) -> Result<(), DiskFault> {
         self.do_call(DiskCall::SyncFolder)?;
+        Ok(())
+    }
+}
+
+impl DiskInPlace for MemoryDisk {
+    fn write_at(&mut self, name: &[u8], offset: u64, bytes: &[u8]) -> Result<(), DiskFault> {
+        let name = Bytes::from_slice(self.alloc, name)?;
+        let bytes = Bytes::from_slice(self.alloc, bytes)?;
+        self.do_call(DiskCall::WriteAt(name, offset, bytes))?;
+        Ok(())
+    }
+
+    fn sync_in_place(&mut self, name: &[u8]) -> Result<(), DiskFault> {
+        let name = Bytes::from_slice(self.alloc, name)?;
+        self.do_call(DiskCall::SyncInPlace(name))?;
         Ok(())
     }
 }

@@ -20,6 +20,10 @@ pub enum DiskCall {
     Remove(Bytes),
     /// The names were brought to the disk.
     SyncFolder,
+    /// The bytes were written over those of the file of the name, from an offset on.
+    WriteAt(Bytes, u64, Bytes),
+    /// The bytes of the name's file, which was written over where it is, were brought to the disk.
+    SyncInPlace(Bytes),
 }
 
 // The call once more.
@@ -35,6 +39,12 @@ fn copy_call(alloc: Global, call: &DiskCall) -> Result<DiskCall, AllocError>
         DiskCall::Rename(from, to) => Ok(DiskCall::Rename(from.copy(alloc)?, to.copy(alloc)?)),
         DiskCall::Remove(name) => Ok(DiskCall::Remove(name.copy(alloc)?)),
         DiskCall::SyncFolder => Ok(DiskCall::SyncFolder),
+        DiskCall::WriteAt(name, offset, bytes) => Ok(DiskCall::WriteAt(
+            name.copy(alloc)?,
+            *offset,
+            bytes.copy(alloc)?,
+        )),
+        DiskCall::SyncInPlace(name) => Ok(DiskCall::SyncInPlace(name.copy(alloc)?)),
     }
 }
 

@@ -1,11 +1,13 @@
 //! What is proved of each disk that keeps its promises, at this one: it has no premise left. And how much a crash may take.
 
-ghost use Rattle.std.specs.Prelude.{◌≡◌, List, IsErr, OnOk};
+ghost use Rattle.std.specs.Prelude.{◌≡◌, ◌∷◌, ℕ, List, length, IsErr, OnOk};
 ghost use Rattle.files_in_place.specs.Folder.{Name, Folder, recovered};
 ghost use Rattle.files_in_place.specs.Disk.{AfterStep, LeavesOnly};
 ghost use Rattle.files_in_place.specs.Recovery.{IsClean, StillRecovers};
 ghost use Rattle.files_in_place.specs.Staged.{HasBadList};
+ghost use Rattle.disk_in_place.specs.InPlace.{MayTear};
 ghost use Rattle.memory_disk.specs.declared.disk_call.DiskCall.{DiskCall as Call};
+ghost use Rattle.memory_disk.specs.declared.disk_call.DiskCall.TheVariants.{WriteAt};
 ghost use Rattle.memory_disk.specs.Seen.{seen_after};
 ghost use Rattle.memory_disk.specs.Outcomes.{MayLeave};
 ghost use Rattle.memory_disk.specs.Laws.{memory_meaning};
@@ -30,8 +32,13 @@ pub fn recover_memory(alloc: Global, disk: &mut MemoryDisk) -> Result<(), Recove
     recover(alloc, disk)
 }
 
-/// A law: each folder in which the names whose bytes are on the disk have what is seen is one that a crash may leave,
-/// whatever the other names have.
+/// A law: each folder in which the names whose bytes are on the disk, or written over where they are, have what is seen is one that a
+/// crash may leave, whatever the other names have.
 pub fn unsynced_files_may_hold_anything()
     ensures { (calls : List Call) (c : Folder) → KeepsWhole calls c → MayLeave calls c }
+{}
+
+/// A law: until a file that was written over is synced, a crash may leave any bytes in the range, and past the old end up to the range's.
+pub fn files_written_over_may_be_torn()
+    ensures { (before : List Call) (name : Name) (offset : ℕ) (bytes : List ℕ) (c : Folder) → MayTear name offset (length bytes) (seen_after before) c → MayLeave (WriteAt name offset bytes ∷ before) c }
 {}

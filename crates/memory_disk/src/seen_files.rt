@@ -2,7 +2,7 @@
 
 ghost use Rattle.std.specs.Prelude.{◌≡◌, ◌++◌, true, option_map, IfOk, IsSome, OnOk, Contains};
 ghost use Rattle.files_in_place.specs.Folder.{Name};
-ghost use Rattle.memory_disk.specs.Seen.{gives_file, seen_after};
+ghost use Rattle.memory_disk.specs.Seen.{gives_file, with_over, seen_after};
 
 use crate::disk_call::DiskCall;
 use byte_io::Bytes;
@@ -22,6 +22,37 @@ fn with_more(
     let mut longer = content.into_vec();
     longer.extend_from_slice(more)?;
     Ok(Some(Bytes::from_vec(longer)))
+}
+
+// A file's bytes with these over those from an offset on. A file that has fewer stays as it is.
+fn written_over(alloc: Global, old: Bytes, offset: u64, bytes: &[u8]) -> Result<Bytes, AllocError>
+    ensures value { IfOk result (λ written. written ≡ with_over offset bytes.now old) }
+{
+    if offset > old.as_slice().len() as u64 {
+        return Ok(old);
+    }
+    let (front, rest) = old.as_slice().split_at(offset as usize);
+    let mut written = Vec::from_slice(alloc, front)?;
+    written.extend_from_slice(bytes)?;
+    if bytes.len() < rest.len() {
+        written.extend_from_slice(&rest[bytes.len()..])?;
+    }
+    Ok(Bytes::from_vec(written))
+}
+
+// The same, if there is a file.
+fn with_over(
+    alloc: Global,
+    content: Option<Bytes>,
+    offset: u64,
+    bytes: &[u8],
+) -> Result<Option<Bytes>, AllocError>
+    ensures value { IfOk result (λ written. written ≡ option_map (with_over offset bytes.now) content) }
+{
+    match content {
+        Some(old) => Ok(Some(written_over(alloc, old, offset, bytes)?)),
+        None => Ok(None),
+    }
 }
 
 // What the name's file has after the calls.
@@ -64,7 +95,16 @@ pub(crate) fn content_of(
             }
             content_of(alloc, before, name)
         }
-        DiskCall::SyncFile(_) | DiskCall::SyncFolder => content_of(alloc, before, name),
+        DiskCall::WriteAt(written, offset, bytes) => {
+            let content = content_of(alloc, before, name)?;
+            if written.as_slice() == name {
+                return with_over(alloc, content, *offset, bytes.as_slice());
+            }
+            Ok(content)
+        }
+        DiskCall::SyncFile(_) | DiskCall::SyncFolder | DiskCall::SyncInPlace(_) => {
+            content_of(alloc, before, name)
+        }
     }
 }
 

@@ -1,8 +1,8 @@
-//! Files whose names are on the disk, and whose bytes need not be.
+//! Files whose names are on the disk, and whose bytes need not be. A file that was written over where it is stays as it is seen here.
 
 ghost use Rattle.std.specs.Prelude.{◌≡◌, IfOk, OnOk};
 ghost use Rattle.memory_disk.specs.Seen.{seen_after};
-ghost use Rattle.memory_disk.specs.Crashes.{are_synced, is_torn_by, KeepsWhole};
+ghost use Rattle.memory_disk.specs.Crashes.{are_kept, is_torn_by, KeepsWhole};
 
 use crate::crash::steps::tear_file;
 use crate::disk_call::DiskCall;
@@ -10,9 +10,9 @@ use crate::seen_files::content_of;
 use byte_io::Bytes;
 use std::alloc::{AllocError, Global};
 
-// Whether the bytes of the name's file have been synced since they were written.
-fn are_synced(calls: &[DiskCall], name: &[u8]) -> bool
-    ensures value { result ≡ are_synced calls.now name.now }
+// Whether the bytes of the name's file have been synced since they were written, or written over where they are.
+fn are_kept(calls: &[DiskCall], name: &[u8]) -> bool
+    ensures value { result ≡ are_kept calls.now name.now }
 {
     let [last, before @ ..] = calls else {
         return true;
@@ -22,29 +22,29 @@ fn are_synced(calls: &[DiskCall], name: &[u8]) -> bool
             if changed.as_slice() == name {
                 return false;
             }
-            are_synced(before, name)
+            are_kept(before, name)
         }
-        DiskCall::SyncFile(synced) => {
-            if synced.as_slice() == name {
+        DiskCall::SyncFile(kept) | DiskCall::WriteAt(kept, _, _) | DiskCall::SyncInPlace(kept) => {
+            if kept.as_slice() == name {
                 return true;
             }
-            are_synced(before, name)
+            are_kept(before, name)
         }
         DiskCall::Rename(from, to) => {
             if to.as_slice() == name {
-                return are_synced(before, from.as_slice());
+                return are_kept(before, from.as_slice());
             }
-            are_synced(before, name)
+            are_kept(before, name)
         }
-        DiskCall::Remove(_) | DiskCall::SyncFolder => are_synced(before, name),
+        DiskCall::Remove(_) | DiskCall::SyncFolder => are_kept(before, name),
     }
 }
 
-// Whether a crash may tear the name's file.
+// Whether a crash may make anything of the name's file.
 fn is_torn(alloc: Global, calls: &[DiskCall], name: &[u8]) -> Result<bool, AllocError>
-    ensures torn { IfOk result (λ torn. torn ≡ is_torn_by (are_synced calls.now name.now) (seen_after calls.now name.now)) }
+    ensures torn { IfOk result (λ torn. torn ≡ is_torn_by (are_kept calls.now name.now) (seen_after calls.now name.now)) }
 {
-    if are_synced(calls, name) {
+    if are_kept(calls, name) {
         return Ok(false);
     }
     match content_of(alloc, calls, name)? {

@@ -1,6 +1,7 @@
-use Rattle.std.proofs.Common.{OnOk, sym, subst}
+use Rattle.std.proofs.Common.{ℕ, List, length, OnOk, sym, subst}
 use Rattle.files_in_place.specs.Folder.{Name}
 use Rattle.files_in_place.specs.Disk.{MayMove, MayRemove}
+use Rattle.disk_in_place.specs.InPlace.{MayTear}
 use Rattle.memory_disk.specs.declared.disk_call.DiskCall.{DiskCall}
 use Rattle.memory_disk.specs.Seen.{seen_after}
 use Rattle.memory_disk.specs.Crashes.{MayStep}
@@ -17,4 +18,11 @@ pub returns-in-Remove : goal.returns-in-Remove
 returns-in-Remove c = record {
   step = subst (λ (x : DiskCall). OnOk c.remove_in_part.result (MayStep x (seen_after c.args.left.now.items) (seen_after c.remove_in_part.new.left.items))) (sym c.in-Remove.is)
       (subst (λ (f : Name). OnOk c.remove_in_part.result (MayRemove f (seen_after c.args.left.now.items) (seen_after c.remove_in_part.new.left.items))) c.as_slice-in-Remove.ensures.value c.remove_in_part.ensures.removed);
+}
+
+pub returns-in-WriteAt : goal.returns-in-WriteAt
+returns-in-WriteAt c = record {
+  step = subst (λ (x : DiskCall). OnOk c.write_in_part.result (MayStep x (seen_after c.args.left.now.items) (seen_after c.write_in_part.new.left.items))) (sym c.in-WriteAt.is)
+      (subst (λ (f : Name). OnOk c.write_in_part.result (MayTear f c.in-WriteAt.offset (length c.in-WriteAt.bytes) (seen_after c.args.left.now.items) (seen_after c.write_in_part.new.left.items))) c.as_slice-in-WriteAt.ensures.value
+      (subst (λ (t : List ℕ). OnOk c.write_in_part.result (MayTear c.as_slice-in-WriteAt.result.now c.in-WriteAt.offset (length t) (seen_after c.args.left.now.items) (seen_after c.write_in_part.new.left.items))) c.as_slice-in-WriteAt-2.ensures.value c.write_in_part.ensures.torn));
 }
