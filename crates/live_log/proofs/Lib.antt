@@ -1,0 +1,6 @@
+pub mod GateLaws
+mod Tearing
+pub mod Reading
+pub mod Putting
+mod GroupLaws
+mod PlacingLaws

@@ -1,0 +1,17 @@
+use Rattle.std.proofs.Common.{map, sym, ◌∙◌, subst, arith}
+use Rattle.station_lines.specs.JournalLines.{line_parts}
+use Rattle.live_log.specs.Logs.{LogValue, HasLog}
+use Rattle.live_log.proofs.Putting.{too_long}
+use Rattle.live_log.proofs.GroupLaws.{is_group}
+use Rattle.live_log.proofs.log.Log.put.Goals as goal
+
+pub put_group-requires-clause-group : goal.put_group-requires-clause-group
+put_group-requires-clause-group g c =
+    (map line_parts c.args.entries.now, is_group c.args.entries.now c.as_slice-group.result.now (c.as_slice-group.ensures.value ∙ c.in_ok-bytes.ensures.bytes) c.in_ok-bytes.ensures.small c.requires.some)
+
+pub returns-then-group-self-clause-too_long : goal.returns-then-group-self-clause-too_long
+returns-then-group-self-clause-too_long g c keeps is before log =
+    let m = g.D.Disk.meaning in
+    let here : HasLog c.self.inside.name before (m.seen c.self.inside.disk) = subst (λ (l : LogValue _). HasLog l.name before (m.seen l.disk)) (sym c.self.view_is) log in
+    let group = is_group c.args.entries.now c.as_slice-group.result.now (c.as_slice-group.ensures.value ∙ c.in_ok-bytes.ensures.bytes) c.in_ok-bytes.ensures.small c.requires.some in
+    too_long m c.self.inside.name c.self.inside.offset c.self.inside.disk (c.self.invariant keeps c.if-not-self.false) before (map line_parts c.args.entries.now) c.as_slice-group.result.now here group (omega arith)

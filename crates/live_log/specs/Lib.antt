@@ -1,0 +1,4 @@
+pub mod Faults
+pub mod Gates
+pub mod Logs
+pub mod Placing
