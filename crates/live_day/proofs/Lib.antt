@@ -1,0 +1,4 @@
+mod DayLaws
+mod SessionLaws
+mod ShowLaws
+mod StartLaws

@@ -1,0 +1,58 @@
+use Rattle.std.proofs.Common.{ℕ, ◌∙◌, ap, Option, Ok, arith}
+use Rattle.live_day.specs.declared.keyboard.Typed.{Typed}
+use Rattle.live_day.specs.Days.{DayValue}
+use Rattle.live_day.proofs.SessionLaws.{obeyed_none, obeyed_one, run_ends, run_quits, still_obeyed}
+use Rattle.live_day.proofs.ShowLaws.{after_none, shown_both, shown_none}
+use Rattle.live_day.proofs.running.run_day.Goals as goal
+
+pub lines-init : goal.lines-init
+lines-init g c = record {
+  takes = c.requires.takes;
+  counted = omega arith;
+  inside = c.requires.some;
+  obeyed = obeyed_none (g.K.Keyboard.typed c.args.keyboard.now) c.args.day.now.history (g.S.Screen.shown c.args.screen.now);
+  kept = shown_none g.D.Disk.meaning c.args.day.now c.args.day.now (g.S.Screen.shown c.args.screen.now)
+      (after_none g.D.Disk.meaning c.args.day.now (λ keeps. c.station_count.ensures.logged keeps c.requires.takes) (λ keeps. c.station_count.ensures.durable keeps c.requires.takes));
+}
+
+pub lines-preserved : goal.lines-preserved
+lines-preserved g c =
+    let read = rw c.in-Some.is at c.in_ok-typed.ensures.typed in
+    let made = rw c.in-Some-2.is at c.in_ok-next.ensures.obeyed in
+    let counted = rw c.in-Some-2.is at c.in_ok-next.ensures.counted in
+    let inside = rw c.in-Some-2.is at c.in_ok-next.ensures.inside in
+    record {
+      takes = c.in_ok-next.ensures.takes;
+      counted = counted;
+      inside = inside;
+      obeyed = obeyed_one (g.K.Keyboard.typed c.args.keyboard.now) (g.K.Keyboard.typed c.lines.keyboard) (g.K.Keyboard.typed c.next_line.new.self) c.args.day.now.history c.lines.day.history c.obey.new.day.history
+          (g.S.Screen.shown c.args.screen.now) (g.S.Screen.shown c.lines.screen) (g.S.Screen.shown c.obey.new.screen) c.lines.station c.in-Some-2.next c.in-Some.typed made.0 c.lines.invariant.obeyed read made.1 made.2;
+      kept = shown_both g.D.Disk.meaning c.args.day.now c.lines.day c.obey.new.day (g.S.Screen.shown c.args.screen.now) (g.S.Screen.shown c.lines.screen) (g.S.Screen.shown c.obey.new.screen)
+          c.lines.invariant.kept c.obey.ensures.kept;
+    }
+
+pub returns-in_default-clause-obeyed : goal.returns-in_default-clause-obeyed
+returns-in_default-clause-obeyed g c =
+    let ended = c.next_line.ensures.end (c.in_ok-typed.was ∙ ap (λ (o : Option Typed). Ok o) c.in_default.is) in
+    run_ends (g.K.Keyboard.has_ended c.next_line.new.self) (g.K.Keyboard.typed c.args.keyboard.now) (g.K.Keyboard.typed c.lines.keyboard) (g.K.Keyboard.typed c.next_line.new.self) c.args.day.now.history c.lines.day.history
+    (g.S.Screen.shown c.args.screen.now) (g.S.Screen.shown c.lines.screen) c.lines.station c.lines.invariant.obeyed ended.0 ended.1
+
+pub returns-in-None-clause-obeyed : goal.returns-in-None-clause-obeyed
+returns-in-None-clause-obeyed g c =
+    let read = rw c.in-Some.is at c.in_ok-typed.ensures.typed in
+    let none = c.in_ok-next.was ∙ ap (λ (o : Option ℕ). Ok o) c.in-None.is in
+    let quits = c.obey.ensures.quits none in
+    let undone = c.obey.ensures.undone none in
+    run_quits (g.K.Keyboard.has_ended c.next_line.new.self) (g.K.Keyboard.typed c.args.keyboard.now) (g.K.Keyboard.typed c.lines.keyboard) (g.K.Keyboard.typed c.next_line.new.self) c.args.day.now.history c.obey.new.day.history
+    (g.S.Screen.shown c.args.screen.now) (g.S.Screen.shown c.obey.new.screen) c.lines.station c.in-Some.typed
+    (still_obeyed (g.K.Keyboard.typed c.args.keyboard.now) (g.K.Keyboard.typed c.lines.keyboard) c.args.day.now.history c.lines.day.history c.obey.new.day.history (g.S.Screen.shown c.args.screen.now) (g.S.Screen.shown c.lines.screen)
+    (g.S.Screen.shown c.obey.new.screen) c.lines.station (ap (λ (d : DayValue g.row.D.Denot). d.history) undone.0) undone.1 c.lines.invariant.obeyed)
+    read quits
+
+pub returns-in-None-clause-kept : goal.returns-in-None-clause-kept
+returns-in-None-clause-kept g c =
+    shown_both g.D.Disk.meaning c.args.day.now c.lines.day c.obey.new.day (g.S.Screen.shown c.args.screen.now) (g.S.Screen.shown c.lines.screen) (g.S.Screen.shown c.obey.new.screen) c.lines.invariant.kept c.obey.ensures.kept
+
+pub returns-in_err-next-clause-kept : goal.returns-in_err-next-clause-kept
+returns-in_err-next-clause-kept g c =
+    shown_both g.D.Disk.meaning c.args.day.now c.lines.day c.obey.new.day (g.S.Screen.shown c.args.screen.now) (g.S.Screen.shown c.lines.screen) (g.S.Screen.shown c.obey.new.screen) c.lines.invariant.kept c.obey.ensures.kept

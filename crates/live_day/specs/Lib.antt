@@ -1,0 +1,6 @@
+pub mod Days
+pub mod Faults
+pub mod Sessions
+pub mod Shows
+pub mod Starts
+pub mod Wishes

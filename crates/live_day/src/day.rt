@@ -1,0 +1,237 @@
+//! The tables of a day, and the log of what was performed on them.
+
+ghost use Rattle.std.specs.Prelude.{◌≡◌, ◌≤◌, true, false, Some, Err, IfOk, IfErr, IfSome, OnOk, IsErrOf};
+ghost use Rattle.files_in_place.specs.Folder.{SameBut};
+ghost use Rattle.files_in_place.specs.Disk.{LeavesOnly, IsSyncedDisk, HasDiskCause};
+ghost use Rattle.catalogue_core.specs.Replay.{answer_of, with_entry};
+ghost use Rattle.station_lines.specs.declared.script.line.Line.{Line as Meaning};
+ghost use Rattle.catalogue_core.specs.Status.{row};
+ghost use Rattle.station_lines.specs.AnswerLines.{line_of, status_text};
+ghost use Rattle.station_lines.specs.Script.Meaning.{Means};
+ghost use Rattle.live_log.specs.declared.faults.LogFault.TheVariants.{Closed, Failed};
+ghost use Rattle.live_log.specs.Logs.{HasLog};
+ghost use Rattle.live_day.specs.Days.{parts_of, AnswersLine, HasPutSince, HasGoneOn, IsAnswerTold, IsLogged, IsPerformed, IsUnperformed};
+
+use crate::faults::LineFault;
+use byte_io::Bytes;
+use catalogue_core::{Catalogue, Command};
+use disk_in_place::DiskInPlace;
+use live_log::{Log, LogFault};
+use station_lines::{Line, answer_line, parse_line, status_line};
+use std::alloc::Global;
+use std::marker::Model;
+
+/// A day: tables, what was performed on them, and the log of it in a folder of a disk. It takes lines until a group of the log fails;
+/// until then the log on the disk is that of the journal.
+#[derive(Drop)]
+pub struct Day<D: DiskInPlace + Drop> {
+    alloc: Global,
+    catalogue: Catalogue,
+    log: Log<D>,
+    takes: bool,
+}
+
+impl<D: DiskInPlace + Drop> Model for Day<D> {
+    ghost use Rattle.std.specs.Prelude.{◌≡◌, true};
+    ghost use Rattle.live_log.specs.Logs.{HasLog};
+    ghost use Rattle.std.specs.Coded.{codes};
+    ghost use Rattle.key_expr.specs.ExprCode.{expr_code};
+    ghost use Rattle.live_day.specs.Days.{DayValue as What, parts_of};
+
+    ghost Value = { What D };
+
+    ghost coded = { Prim.hlevel (codes, expr_code) };
+
+    ghost view = { λ d. record { history = d.catalogue; log = d.log; takes = d.takes } };
+
+    ghost invariant = { λ d. d.takes ≡ true
+        → (d.log.takes ≡ true) × (D.meaning.keeps_promises → HasLog d.log.name (parts_of d.catalogue.journal) (D.meaning.seen d.log.disk)) };
+}
+
+impl<D: DiskInPlace + Drop> Day<D> {
+    /// A day with these tables and what was performed on them, of which this is the log.
+    pub fn new(alloc: Global, catalogue: Catalogue, log: Log<D>) -> Day<D>
+        requires takes { log.takes ≡ true }
+        requires logged { D.meaning.keeps_promises → HasLog log.name (parts_of catalogue.journal) (D.meaning.seen log.disk) }
+        ensures history { result.history ≡ catalogue }
+        ensures log { result.log ≡ log }
+        ensures takes { result.takes ≡ true }
+    {
+        Day {
+            alloc,
+            catalogue,
+            log,
+            takes: true,
+        }
+    }
+
+    // Performs a command, and makes the line of its answer.
+    #[tactic(auto, using(crate::proofs::DayLaws::goes_same, crate::proofs::DayLaws::goes_entry))]
+    fn perform(&mut self, station: u32, command: &Command) -> Result<Bytes, LineFault>
+        requires counted { 1 ≤ station }
+        requires inside { station ≤ self.old.history.opened.stations }
+        ensures answer { IfOk result (λ answer. answer ≡ line_of (answer_of self.old.history station command.now)) }
+        ensures entry { OnOk result (self.new.history ≡ with_entry self.old.history station command.now) }
+        ensures goes_on { HasGoneOn self.old.history self.new.history }
+        ensures unperformed { IfErr result (λ fault. IsUnperformed fault → self.new ≡ self.old) }
+        ensures performed { IfErr result (λ fault. ¬ (IsUnperformed fault) → self.new.history ≡ with_entry self.old.history station command.now) }
+        ensures ended { IfErr result (λ fault. ¬ (IsUnperformed fault) → fault ≡ LineFault.Ended LogFault.NoMemory) }
+        ensures no_disk { ¬ IsErrOf result (LineFault.Ended Failed) }
+        ensures takes { self.new.takes ≡ true → self.new ≡ self.old }
+        ensures log { self.new.log ≡ self.old.log }
+    {
+        let (_, answer) = self.catalogue.perform(self.alloc, station, command)?;
+        self.takes = false;
+        match answer_line(self.alloc, &answer) {
+            Ok(line) => Ok(line),
+            Err(_) => Err(LineFault::Ended(LogFault::NoMemory)),
+        }
+    }
+
+    // The status row.
+    fn status_answer(&self) -> Result<Option<Bytes>, LineFault>
+        ensures row { IfOk result (λ answer. answer ≡ Some (status_text (row self.now.history))) }
+        ensures fault { IfErr result (λ fault. fault ≡ LineFault.NoMemory) }
+    {
+        let row = self.catalogue.status();
+        match status_line(self.alloc, &row) {
+            Ok(line) => Ok(Some(line)),
+            Err(_) => Err(LineFault::NoMemory),
+        }
+    }
+
+    // Performs a command, and puts its entry to the log before its answer is given back.
+    #[tactic(auto, using(crate::proofs::DayLaws::goes_entry))]
+    fn command_answer(
+        &mut self,
+        station: u32,
+        command: &Command,
+    ) -> Result<Option<Bytes>, LineFault>
+        requires takes { self.old.takes ≡ true }
+        requires counted { 1 ≤ station }
+        requires inside { station ≤ self.old.history.opened.stations }
+        ensures answer { IfOk result (λ answer. answer ≡ Some (line_of (answer_of self.old.history station command.now))) }
+        ensures entry { OnOk result (self.new.history ≡ with_entry self.old.history station command.now) }
+        ensures takes { OnOk result (self.new.takes ≡ true) }
+        ensures logged { D.meaning.keeps_promises → OnOk result (IsLogged D.meaning self.new) }
+        ensures durable { D.meaning.keeps_promises → OnOk result (IsSyncedDisk D.meaning self.new.log.disk) }
+        ensures name { self.new.log.name ≡ self.old.log.name }
+        ensures goes_on { HasGoneOn self.old.history self.new.history }
+        ensures unperformed { IfErr result (λ fault. IsUnperformed fault → self.new ≡ self.old) }
+        ensures performed { IfErr result (λ fault. ¬ (IsUnperformed fault) → self.new.history ≡ with_entry self.old.history station command.now) }
+        ensures ended { IfErr result (λ fault. ¬ (IsUnperformed fault) → self.new.takes ≡ false) }
+        ensures others { SameBut self.old.log.name (D.meaning.seen self.old.log.disk) (D.meaning.seen self.new.log.disk) }
+        ensures any_moment { D.meaning.keeps_promises → LeavesOnly D.meaning self.old.log.disk self.new.log.disk
+            (HasPutSince D.meaning self.old self.new) }
+        ensures cause { HasDiskCause D.meaning self.old.log.disk self.new.log.disk (IsErrOf result (LineFault.Ended Failed)) }
+    {
+        // For contracts alone: all that is seen is on the disk.
+        let _ = self.log.name();
+        let performed = self.catalogue.journal().len();
+        let answer = self.perform(station, command)?;
+        self.log.put(&self.catalogue.journal()[performed..])?;
+        self.takes = true;
+        // For contracts alone: all that is seen is on the disk.
+        let _ = self.log.name();
+        Ok(Some(answer))
+    }
+
+    /// Performs what a line of a station means. At `Ok` its entry is on the disk, if it has one, and only then its answer is given back: the
+    /// line of a command's answer, of DISPLAY STATUS the status row, and nothing for a line without words.
+    ///
+    /// [`LineFault::NoMemory`] and [`LineFault::JournalFull`] where nothing was performed: the day goes on. [`LineFault::Ended`] where
+    /// something was that may not be in the log: then the day takes no more lines.
+    #[tactic(auto, using(live_log::proofs::Putting::nothing_put, crate::proofs::DayLaws::goes_same))]
+    pub fn answer(&mut self, station: u32, meaning: &Line) -> Result<Option<Bytes>, LineFault>
+        requires counted { 1 ≤ station }
+        requires inside { station ≤ self.old.history.opened.stations }
+        ensures answered { IfOk result (λ answer. AnswersLine meaning.now station self.old.history self.new.history answer) }
+        ensures told { IfOk result (λ answer. IfSome answer (IsAnswerTold self.new.history station)) }
+        ensures goes_on { HasGoneOn self.old.history self.new.history }
+        ensures takes { OnOk result (self.new.takes ≡ true) }
+        // The journal that is on the disk then has the entry.
+        ensures logged { D.meaning.keeps_promises → OnOk result (IsLogged D.meaning self.new) }
+        ensures durable { D.meaning.keeps_promises → OnOk result (IsSyncedDisk D.meaning self.new.log.disk) }
+        ensures name { self.new.log.name ≡ self.old.log.name }
+        ensures unperformed { IfErr result (λ fault. IsUnperformed fault → self.new ≡ self.old) }
+        ensures performed { IfErr result (λ fault. ¬ (IsUnperformed fault) → self.old.takes ≡ true
+            → IsPerformed meaning.now station self.old.history self.new.history) }
+        ensures ended { IfErr result (λ fault. ¬ (IsUnperformed fault) → self.new.takes ≡ false) }
+        ensures closed { self.old.takes ≡ false → (result ≡ Err (LineFault.Ended Closed)) × (self.new ≡ self.old) }
+        ensures others { SameBut self.old.log.name (D.meaning.seen self.old.log.disk) (D.meaning.seen self.new.log.disk) }
+        // A crash at any moment leaves the log of the journal as it was, with the line's entry or without it.
+        ensures any_moment { D.meaning.keeps_promises → self.old.takes ≡ true → LeavesOnly D.meaning self.old.log.disk self.new.log.disk
+            (HasPutSince D.meaning self.old self.new) }
+        ensures cause { HasDiskCause D.meaning self.old.log.disk self.new.log.disk (IsErrOf result (LineFault.Ended Failed)) }
+    {
+        if !self.takes {
+            return Err(LineFault::Ended(LogFault::Closed));
+        }
+        // For contracts alone: all that is seen is on the disk.
+        let _ = self.log.name();
+        match meaning {
+            Line::Blank => Ok(None),
+            Line::Status => self.status_answer(),
+            Line::Run(command) => self.command_answer(station, command),
+        }
+    }
+
+    /// Performs a line of a station, as a script's line without its ending: what it means, as [`Day::answer`] does.
+    #[tactic(auto, using(live_log::proofs::Putting::nothing_put, crate::proofs::DayLaws::goes_same))]
+    pub fn line(&mut self, station: u32, line: &[u8]) -> Result<Option<Bytes>, LineFault>
+        requires counted { 1 ≤ station }
+        requires inside { station ≤ self.old.history.opened.stations }
+        // A line has one meaning, and is answered by it.
+        ensures answered { IfOk result (λ answer. (meaning : Meaning) → Means line.now meaning
+            → AnswersLine meaning station self.old.history self.new.history answer) }
+        ensures told { IfOk result (λ answer. IfSome answer (IsAnswerTold self.new.history station)) }
+        ensures goes_on { HasGoneOn self.old.history self.new.history }
+        ensures takes { OnOk result (self.new.takes ≡ true) }
+        ensures logged { D.meaning.keeps_promises → OnOk result (IsLogged D.meaning self.new) }
+        ensures durable { D.meaning.keeps_promises → OnOk result (IsSyncedDisk D.meaning self.new.log.disk) }
+        ensures name { self.new.log.name ≡ self.old.log.name }
+        ensures unperformed { IfErr result (λ fault. IsUnperformed fault → self.new ≡ self.old) }
+        ensures performed { IfErr result (λ fault. ¬ (IsUnperformed fault) → self.old.takes ≡ true
+            → (meaning : Meaning) → Means line.now meaning → IsPerformed meaning station self.old.history self.new.history) }
+        ensures ended { IfErr result (λ fault. ¬ (IsUnperformed fault) → self.new.takes ≡ false) }
+        ensures closed { self.old.takes ≡ false → (result ≡ Err (LineFault.Ended Closed)) × (self.new ≡ self.old) }
+        ensures others { SameBut self.old.log.name (D.meaning.seen self.old.log.disk) (D.meaning.seen self.new.log.disk) }
+        // A crash at any moment leaves the log of the journal as it was, with the line's entry or without it.
+        ensures any_moment { D.meaning.keeps_promises → self.old.takes ≡ true → LeavesOnly D.meaning self.old.log.disk self.new.log.disk
+            (HasPutSince D.meaning self.old self.new) }
+        ensures cause { HasDiskCause D.meaning self.old.log.disk self.new.log.disk (IsErrOf result (LineFault.Ended Failed)) }
+    {
+        if !self.takes {
+            return Err(LineFault::Ended(LogFault::Closed));
+        }
+        // For contracts alone: all that is seen is on the disk.
+        let _ = self.log.name();
+        match parse_line(self.alloc, line) {
+            Ok(meaning) => self.answer(station, &meaning),
+            Err(_) => Err(LineFault::NoMemory),
+        }
+    }
+
+    /// How many stations there are.
+    pub fn station_count(&self) -> u32
+        ensures value { result ≡ self.now.history.opened.stations }
+        // Where the day takes lines, the log on the disk is that of the journal, and all that is seen is on the disk.
+        ensures logged { D.meaning.keeps_promises → self.now.takes ≡ true → IsLogged D.meaning self.now }
+        ensures durable { D.meaning.keeps_promises → self.now.takes ≡ true → IsSyncedDisk D.meaning self.now.log.disk }
+    {
+        // For contracts alone: all that is seen is on the disk.
+        let _ = self.log.name();
+        self.catalogue.station_count()
+    }
+
+    /// The tables, and the log.
+    pub fn into_parts(self) -> (Catalogue, Log<D>)
+        ensures history { result.0 ≡ self.history }
+        ensures log { result.1 ≡ self.log }
+        // Where the day takes lines, the log takes groups, and on the disk it is that of the journal.
+        ensures takes { self.takes ≡ true → self.log.takes ≡ true }
+        ensures logged { D.meaning.keeps_promises → self.takes ≡ true → IsLogged D.meaning self }
+    {
+        (self.catalogue, self.log)
+    }
+}

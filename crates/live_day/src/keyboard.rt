@@ -1,0 +1,54 @@
+//! Where the lines of a day come from.
+
+ghost use Rattle.std.specs.Prelude.{◌≡◌, ◌++◌, ◌∷◌, [], List, None, Ok, IfOk, IfSome, OnErr};
+ghost use Rattle.live_day.specs.declared.keyboard.Typed.{Typed as TypedLine};
+
+use byte_io::Bytes;
+use std::alloc::{AllocError, Global};
+
+/// How many bytes a line may have that is performed.
+pub const MAX_LINE_BYTES: usize = 70_000;
+
+/// What is typed, up to the end of a line.
+#[derive(Debug, Drop)]
+pub enum Typed {
+    /// A line without its ending, of at most [`MAX_LINE_BYTES`] bytes.
+    Text(Bytes),
+    /// A line that has more bytes. It is skipped.
+    TooLong,
+}
+
+/// Why there is no line.
+#[derive(Clone, Copy, Debug, PartialEq, Eq)]
+pub enum TypingFault {
+    /// Memory was refused.
+    NoMemory,
+    /// The lines can't be read.
+    Failed,
+}
+
+impl From<AllocError> for TypingFault {
+    ghost use Rattle.std.specs.Prelude.{◌≡◌};
+    ghost use Rattle.live_day.specs.declared.keyboard.TypingFault.TheVariants.{NoMemory};
+
+    ghost from_gives = { λ _ fault. fault ≡ NoMemory };
+
+    fn from(_: AllocError) -> TypingFault {
+        TypingFault::NoMemory
+    }
+}
+
+/// Where lines are typed.
+pub trait Keyboard {
+    // what was typed, up to now
+    ghost typed: { Self → List TypedLine };
+
+    // no more lines come
+    ghost has_ended: { Self → Type 0 };
+
+    /// The next line, typed for this station. `None` where no more come.
+    fn next_line(&mut self, alloc: Global, station: u32) -> Result<Option<Typed>, TypingFault>
+        ensures typed { IfOk result (λ next. IfSome next (λ line. typed self.new ≡ typed self.old ++ line ∷ [])) }
+        ensures end { result ≡ Ok None → (typed self.new ≡ typed self.old) × has_ended self.new }
+        ensures unread { OnErr result (typed self.new ≡ typed self.old) };
+}

@@ -1,0 +1,32 @@
+//! A live day: lines are answered as they come, and nothing that was answered is lost.
+//!
+//! A [`Day`] has the tables, what was performed on them, and the log of it in a folder of a disk. [`Day::line`] performs a line of a
+//! station: before its answer is given back, its entry is on the disk. [`perform_again`] performs what the log of an earlier life says.
+//!
+//! Start with specs/Days.antt and `day.rt`.
+#![tactic(auto)]
+
+mod again;
+mod answering;
+mod day;
+mod faults;
+mod keyboard;
+mod notice;
+mod run_fault;
+mod running;
+mod screen;
+mod start_fault;
+mod starting;
+mod wish;
+
+pub use again::perform_again;
+pub use day::Day;
+pub use faults::LineFault;
+pub use keyboard::{Keyboard, MAX_LINE_BYTES, Typed, TypingFault};
+pub use notice::Notice;
+pub use run_fault::RunFault;
+pub use running::run_day;
+pub use screen::{Screen, ScreenFault};
+pub use start_fault::StartFault;
+pub use starting::{Unstarted, start_day};
+pub use wish::{Wish, wish_of};

@@ -1,0 +1,48 @@
+//! The lines of a day are answered as they come.
+
+ghost use Rattle.std.specs.Prelude.{◌≡◌, ◌≤◌, true, OnOk};
+ghost use Rattle.live_day.specs.Sessions.{IsDayRun};
+ghost use Rattle.live_day.specs.Shows.{KeepsShown};
+
+use crate::answering::obey;
+use crate::day::Day;
+use crate::keyboard::Keyboard;
+use crate::run_fault::RunFault;
+use crate::screen::Screen;
+use disk_in_place::DiskInPlace;
+use std::alloc::Global;
+
+/// Answers the lines of a keyboard as they come, up to QUIT or to their end. The first station has the keyboard, until a line
+/// STATION n gives it to another.
+///
+/// Whatever crashes meanwhile, nothing that was shown is lost: each line that was shown stands in the journal, and a crash at any
+/// moment since leaves a log that has it. After a failure the log stands, and the next start goes on with it.
+pub fn run_day<D: DiskInPlace + Drop, S: Screen<D>, K: Keyboard>(
+    alloc: Global,
+    day: &mut Day<D>,
+    keyboard: &mut K,
+    screen: &mut S,
+) -> Result<(), RunFault>
+    requires takes { day.old.takes ≡ true }
+    requires some { 1 ≤ day.old.history.opened.stations }
+    // Each line that was typed is obeyed by its meaning, in order, and what is shown is what these are answered, in order.
+    ensures obeyed { OnOk result (IsDayRun (K.has_ended keyboard.new) (K.typed keyboard.old) (K.typed keyboard.new) day.old.history day.new.history
+        (S.shown screen.old) (S.shown screen.new)) }
+    ensures takes { OnOk result (day.new.takes ≡ true) }
+    // Nothing that was shown is lost, and a crash at any moment leaves a log of the journal's first entries.
+    ensures kept { KeepsShown D.meaning day.old day.new (S.shown screen.old) (S.shown screen.new) }
+{
+    // For contracts alone: the journal is on the disk.
+    let _ = day.station_count();
+    let mut station = 1;
+    'lines: for _ in 0..u64::MAX {
+        let Some(typed) = keyboard.next_line(alloc, station)? else {
+            return Ok(());
+        };
+        match obey(day, screen, station, &typed)? {
+            Some(next) => station = next,
+            None => return Ok(()),
+        }
+    }
+    Err(RunFault::Unread)
+}
