@@ -14,7 +14,7 @@ use Rattle.folders.specs.Placed.{names_of, AreUnreserved, IsListedAfter, IsOldOr
 use Rattle.program_frame.specs.declared.ending.Failure.{Failure}
 use Rattle.program_frame.specs.declared.ending.Failure.TheVariants.{BadDate, Work, Folder as OfFolder}
 use Rattle.program_frame.specs.declared.folder.FolderFault.{FolderFault}
-use Rattle.program_frame.specs.declared.folder.FolderFault.TheVariants.{BadList, InUse, Unfinished, Unopened, Unrecovered, Unreplaced, Unwritten}
+use Rattle.program_frame.specs.declared.folder.FolderFault.TheVariants.{BadList, DayOpen, InUse, Unfinished, Unopened, Unrecovered, Unreplaced, Unwritten}
 use Rattle.program_frame.specs.declared.folder.PlaceFault.{PlaceFault}
 use Rattle.program_frame.specs.Endings.{place_failure}
 use Rattle.program_frame.specs.Jobs.{AreFilesOf, IsFailureOf, IsLoadFailure, IsPlaceFailure, IsUnbegun}
@@ -107,6 +107,7 @@ unbegun_fault none fails whole (Err (OfFolder Unopened)) unbegun = unbegun
 unbegun_fault none fails whole (Err (OfFolder Unrecovered)) unbegun = tt
 unbegun_fault none fails whole (Err (OfFolder BadList)) unbegun = tt
 unbegun_fault none fails whole (Err (OfFolder (Unreplaced name))) unbegun = tt
+unbegun_fault none fails whole (Err (OfFolder DayOpen)) unbegun = absurd unbegun
 unbegun_fault none fails whole (Err (OfFolder Unwritten)) unbegun = absurd unbegun
 unbegun_fault none fails whole (Err (OfFolder Unfinished)) unbegun = absurd unbegun
 

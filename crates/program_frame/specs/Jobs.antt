@@ -25,6 +25,7 @@ IsFolderFault ended folder.Unopened = ⊥
 IsFolderFault ended folder.Unrecovered = Unit {0}
 IsFolderFault ended folder.BadList = Unit {0}
 IsFolderFault ended (folder.Unreplaced name) = Unit {0}
+IsFolderFault ended folder.DayOpen = ⊥
 IsFolderFault ended folder.Unwritten = ended
 IsFolderFault ended folder.Unfinished = ended
 

@@ -31,6 +31,7 @@ IsOfRecovery folder.Unopened = ⊥
 IsOfRecovery folder.Unrecovered = Unit {0}
 IsOfRecovery folder.BadList = Unit {0}
 IsOfRecovery (folder.Unreplaced name) = Unit {0}
+IsOfRecovery folder.DayOpen = ⊥
 IsOfRecovery folder.Unwritten = ⊥
 IsOfRecovery folder.Unfinished = ⊥
 

@@ -69,5 +69,6 @@ folder_reason folder.Unopened = codes "cannot open the folder"
 folder_reason folder.Unrecovered = codes "cannot recover the folder"
 folder_reason folder.BadList = codes "cannot recover the folder: ~niqarthu.list is no list of new files"
 folder_reason (folder.Unreplaced name) = unreplaced name
+folder_reason folder.DayOpen = codes "a day is open in the folder: station_prompt goes on with it"
 folder_reason folder.Unwritten = codes "cannot write the new files"
 folder_reason folder.Unfinished = codes "not all new files are in place: the next start goes on"

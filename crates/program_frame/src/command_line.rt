@@ -8,9 +8,9 @@ use clap::builder::ValueParser;
 use clap::{Arg, ArgAction, ArgMatches, Command};
 use std::alloc::Global;
 
-/// The version of the programs, and the toolchain that they are proved and built with, as `rt version` tells it. `--version`
-/// prints both.
-pub const VERSION: &str = "0.9.0 (rattle-kit-13f logic dac8208d650f15bf)";
+/// The version of the programs, and the logic that they are proved in, as `rt version` tells it: kits of the toolchain that have the
+/// same logic prove the same. `--version` prints both.
+pub const VERSION: &str = "0.10.0 (rattle logic dac8208d650f15bf)";
 
 /// A program of a name, with no option yet: what it does, and what its help says after the options.
 pub fn program<'a>(alloc: Global, name: &'a str, about: &'a str, after_help: &'a str) -> Command<'a>

@@ -17,12 +17,14 @@ pub enum FolderFault {
     InUse,
     /// It can't be opened.
     Unopened,
-    /// What an earlier run left in it was not brought to its end.
+    /// What an earlier run left in it was not brought to its end, or can't be read.
     Unrecovered,
     /// It has a list of new files that no run has written. Nothing in it was touched.
     BadList,
     /// The new file of this name, of an earlier run, can't take its place.
     Unreplaced(Bytes),
+    /// A live day is open in it, whose answers are in none of its tables yet.
+    DayOpen,
     /// The new files were not written whole, and none of them is in place.
     Unwritten,
     /// Not all new files are in place, and the next start goes on.
@@ -41,6 +43,9 @@ pub fn print_folder<W: Write>(out: &mut W, fault: &FolderFault) -> io::Result<()
             out.write_all(b"cannot recover the folder: ~niqarthu.list is no list of new files")
         }
         FolderFault::Unreplaced(name) => print_unreplaced(out, name.as_slice()),
+        FolderFault::DayOpen => {
+            out.write_all(b"a day is open in the folder: station_prompt goes on with it")
+        }
         FolderFault::Unwritten => out.write_all(b"cannot write the new files"),
         FolderFault::Unfinished => {
             out.write_all(b"not all new files are in place: the next start goes on")

@@ -1,6 +1,7 @@
-//! The system that a program runs on, as far as it puts new files into a folder.
+//! The system that a program runs on, as far as it puts new files into a folder, and looks for files beside those that it reads.
 
-ghost use Rattle.std.specs.Prelude.{◌≡◌, List, ℕ, IfErr, IfOk, IfSome, IsErr};
+ghost use Rattle.std.specs.Prelude.{◌≡◌, List, ℕ, Option, Result, IfErr, IfOk, IfSome, IsErr};
+ghost use Rattle.folders.specs.declared.source.LoadFault.{LoadFault};
 ghost use Rattle.files_in_place.specs.Recovery.{OthersAreWhole};
 ghost use Rattle.program_frame.specs.Jobs.{ComesToItsEnd, IsRunFailure};
 ghost use Rattle.program_frame.specs.PlaceFaults.{IsOfLock};
@@ -10,20 +11,28 @@ use crate::ending::Failure;
 use crate::folder::{FolderFault, PlaceFault};
 use crate::in_place::run_in_place;
 use crate::job::Work;
+use byte_io::Bytes;
 use files_in_place::{Disk, SystemDisk};
-use folders::{MissingFolder, Source, folder_of};
+use folders::{DiskSource, LoadFault, MissingFolder, Source, folder_of};
 use std::alloc::Global;
 use std::fs::{self, File};
-use std::io::Write;
+use std::io::{self, ErrorKind, Write};
 use std::rt::{Files, Runtime};
 
-/// The system that a program runs on, as far as it opens folders.
+// How often a call that a signal interrupts is made.
+const MAX_TRIES: usize = 1000;
+
+/// The system that a program runs on, as far as it opens folders, and looks for files beside those that the program reads.
 pub trait System {
     /// A folder that is open.
     type Disk: Disk + Drop;
 
     // this is the folder of a path
     ghost opens: { Self → List ℕ → Self.Disk → Type 0 };
+
+    // What it has answered where the file of a path was asked for: its bytes, that there is none, or why they can't be had. Nothing
+    // else is known of it: so whoever says that it has answered so has asked.
+    ghost answers: { Self → List ℕ → Result (Option (List ℕ)) LoadFault → Type 0 };
 
     /// Opens the folder of a path, which no other run has as long as the disk is there. `None` where nothing has this path.
     ///
@@ -35,6 +44,13 @@ pub trait System {
         ensures on_disk { IfOk result (λ found. IfSome found (λ disk. Self.Disk.meaning.keeps_promises
             → OthersAreWhole (Self.Disk.meaning.seen disk) (Self.Disk.meaning.is_whole disk))) }
         ensures fault { IfErr result IsOfLock };
+
+    /// The bytes of the file of a path. `None` where no file has this path: a link is one, and a folder is none.
+    ///
+    /// `CannotRead` where the system doesn't say what has the path, or where the file can't be read or is over the limit,
+    /// `Unrecovered` where the list of a set of new files lies beside it, `NoMemory` where memory is refused.
+    fn read_if_there(&self, alloc: Global, path: &[u8]) -> Result<Option<Bytes>, LoadFault>
+        ensures said { answers self.now path.now result };
 
     /// Whether the file of a path lies in the folder of another, links followed. Where one of the two can't be found it doesn't.
     fn lies_in(&self, path: &[u8], folder: &str) -> bool;
@@ -53,6 +69,21 @@ impl<'a, R: Runtime + Files<File = File>> Host<'a, R> {
     }
 }
 
+// Whether a file has the path: a link is one, and a folder is none. An error where the system doesn't say.
+fn is_file_there<R: Files>(rt: &R, path: &str) -> io::Result<bool> {
+    for _ in 0..MAX_TRIES {
+        match fs::symlink_metadata(rt, path) {
+            Ok(found) => return Ok(!found.is_dir()),
+            Err(e) => match e.kind() {
+                ErrorKind::NotFound | ErrorKind::NotADirectory => return Ok(false),
+                ErrorKind::Interrupted => {}
+                _ => return Err(e),
+            },
+        }
+    }
+    Err(io::Error::from(ErrorKind::Interrupted))
+}
+
 impl<'a, R: Runtime + Files<File = File>> System for Host<'a, R> {
     ghost use Rattle.std.specs.Prelude.{◌≡◌, ◌++◌, ◌∷◌, []};
 
@@ -60,11 +91,24 @@ impl<'a, R: Runtime + Files<File = File>> System for Host<'a, R> {
 
     ghost opens = { λ host path disk. disk.path ≡ path ++ 47 ∷ [] };
 
+    // contracts know nothing of what a file of the system holds
+    ghost answers = { λ host path answer. Unit {0} };
+
     fn open(&self, alloc: Global, path: &str) -> Result<Option<SystemDisk<R>>, PlaceFault> {
         if let Ok(false) = fs::exists(self.rt, path) {
             return Ok(None);
         }
         Ok(Some(SystemDisk::open(self.rt.clone()?, alloc, path)?))
+    }
+
+    fn read_if_there(&self, alloc: Global, path: &[u8]) -> Result<Option<Bytes>, LoadFault> {
+        let Ok(text) = str::from_utf8(path) else {
+            return Err(LoadFault::CannotRead);
+        };
+        if !is_file_there(self.rt, text)? {
+            return Ok(None);
+        }
+        Ok(Some(DiskSource::new(self.rt.clone()?).load(alloc, path)?))
     }
 
     fn lies_in(&self, path: &[u8], folder: &str) -> bool {
