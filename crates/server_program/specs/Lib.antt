@@ -1,3 +1,5 @@
+pub mod BesideDay
+pub mod InputDays
 pub mod Kept
 pub mod PlacedAnswers
 pub mod Program

@@ -20,10 +20,10 @@ use program_frame::System;
 /// [`run_program`]: crate::run_program
 pub fn answers_are_in_place<Y: System>()
     ensures answers { (promised : Y.Disk.meaning.keeps_promises) (system : Y) (files : Option (List NamedFile)) (words : List Text) (served : ServedValue) →
-        (asked : IsServedAsAsked Y.Disk.meaning (Y.opens system) files words served) →
+        (asked : IsServedAsAsked Y.Disk.meaning (Y.opens system) (Y.answers system) files words served) →
         HasAnswersOf (Y.Disk.meaning.seen asked.put.end) (asked.put.put promised).put.such }
     ensures entries { (promised : Y.Disk.meaning.keeps_promises) (system : Y) (files : Option (List NamedFile)) (words : List Text) (served : ServedValue) →
-        (asked : IsServedAsAsked Y.Disk.meaning (Y.opens system) files words served) → asked.options.journal ≡ true →
+        (asked : IsServedAsAsked Y.Disk.meaning (Y.opens system) (Y.answers system) files words served) → asked.options.journal ≡ true →
         HasJournalOf (Y.Disk.meaning.seen asked.put.end) (asked.put.put promised).put.such }
 {}
 

@@ -3,3 +3,4 @@ pub mod AppendLaws
 pub mod WrongPairLaws
 pub mod ScriptTextLaws
 pub mod PairLaws
+pub mod DayLaws

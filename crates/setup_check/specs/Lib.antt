@@ -5,3 +5,4 @@ pub mod HeadNumbers
 pub mod Lines
 pub mod ScriptLines
 pub mod KeptLines
+pub mod OpenDays

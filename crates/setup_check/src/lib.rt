@@ -4,11 +4,11 @@
 //! [`Finding`] for each: why a file is refused and where, and of an index what it is beside its table. Beside the findings it hands
 //! out what was read. [`findings_text`] tells them in words, a line a file. [`scripts_text`] tells which lines of the stations'
 //! scripts are bad, and [`bad_setup_text`] why a line of the setup is.
-//! [`kept_files_text`] tells which files stay as they are beside new ones.
+//! [`kept_files_text`] tells which files stay as they are beside new ones, [`open_days_text`] in which folders of tables a day is open.
 //!
 //! Start with specs/Findings.antt (what a finding says of the files), specs/Freshness.antt (what an index is beside its table),
 //! specs/WrongPair.antt (the first of its pairs that isn't its record's), specs/Lines.antt (how it is told), specs/ScriptLines.antt
-//! (what is told of scripts) and specs/KeptLines.antt, then read src/look.rt, src/freshness.rt and src/scripts.rt.
+//! (what is told of scripts), specs/KeptLines.antt and specs/OpenDays.antt, then read src/look.rt, src/freshness.rt and src/scripts.rt.
 #![tactic(auto)]
 
 mod finding;
@@ -16,6 +16,7 @@ mod freshness;
 mod kept_lines;
 mod lines;
 mod look;
+mod open_days;
 mod reasons;
 mod scripts;
 mod shown_line;
@@ -26,5 +27,6 @@ pub use freshness::IndexState;
 pub use kept_lines::kept_files_text;
 pub use lines::findings_text;
 pub use look::{all_are_good, look_at_all};
+pub use open_days::{LogFinding, open_days_text};
 pub use scripts::{BadLinesTold, bad_setup_text, scripts_text};
 pub use wrong_pair::WrongPair;

@@ -12,6 +12,7 @@ use std::test::*;
 mod details;
 mod indexes;
 mod kept;
+mod open_days;
 mod scripts;
 mod unrecovered;
 

@@ -35,16 +35,27 @@ fn named(alloc: Global, name: &[u8], bytes: &[u8]) -> Result<NamedFile, AllocErr
     })
 }
 
-// A setup of a table and a script, and these.
-fn one_table(alloc: Global) -> Result<MemorySource, AllocError> {
-    let setup = named(alloc, b"A.SET", b"TABLE T t.dbf\nSTATION s.prg\n")?;
-    let table = named(alloc, b"t.dbf", &TABLE)?;
-    let script = named(alloc, b"s.prg", b"USE T\n")?;
+/// A setup of this text at a path, with a table and a script at theirs.
+pub(crate) fn source_of(
+    alloc: Global,
+    (setup, text): (&[u8], &[u8]),
+    table: &[u8],
+    script: &[u8],
+) -> Result<MemorySource, AllocError> {
+    let setup = named(alloc, setup, text)?;
+    let table = named(alloc, table, &TABLE)?;
+    let script = named(alloc, script, b"USE T\n")?;
     Ok(MemorySource {
         files: vec![in alloc; setup, table, script]?,
         loads: u64::MAX,
         failures: Failures::none(),
     })
+}
+
+/// A setup of a table and a script.
+pub(crate) fn one_table(alloc: Global) -> Result<MemorySource, AllocError> {
+    let text = b"TABLE T t.dbf\nSTATION s.prg\n".as_slice();
+    source_of(alloc, (b"A.SET".as_slice(), text), b"t.dbf", b"s.prg")
 }
 
 // How a call of the program ends.
@@ -61,8 +72,8 @@ fn counts(alloc: Global, all: u64, refused: u64, by_station: &[u64]) -> Result<S
     })
 }
 
-// What a run of the one station's one command has performed.
-fn one_command(alloc: Global) -> Result<Served, AllocError> {
+/// What a run of the one station's one command has performed.
+pub(crate) fn one_command(alloc: Global) -> Result<Served, AllocError> {
     counts(alloc, 1, 0, &[0])
 }
 
@@ -102,8 +113,8 @@ fn tables_are_dated_by_the_command_line(rt: HostRuntime) -> Result<(), Fail> {
     Ok(())
 }
 
-// A run of a setup over a folder of the system.
-fn serve_at<R: Runtime + Files<File = File> + AllocGlobal + Threads + Wait + Sync>(
+/// A run of a setup over a folder of the system.
+pub(crate) fn serve_at<R: Runtime + Files<File = File> + AllocGlobal + Threads + Wait + Sync>(
     rt: &R,
     source: &mut MemorySource,
     setup: &str,
@@ -255,7 +266,7 @@ fn each_end_has_its_status_and_line(rt: HostRuntime) -> Result<(), Fail> {
     Ok(())
 }
 
-const FOLDER_ENDS: [(u8, &str); 8] = [
+const FOLDER_ENDS: [(u8, &str); 9] = [
     (4, "station_server: another run writes into the folder\n"),
     (4, "station_server: cannot open the folder\n"),
     (3, "station_server: run: NoMemory\n"),
@@ -267,6 +278,10 @@ const FOLDER_ENDS: [(u8, &str); 8] = [
     (
         4,
         "station_server: cannot recover the folder: STOCK.DBF: cannot be replaced\n",
+    ),
+    (
+        4,
+        "station_server: a day is open in the folder: station_prompt goes on with it\n",
     ),
     (4, "station_server: cannot write the new files\n"),
     (
@@ -292,7 +307,8 @@ fn folder_end_of(alloc: Global, number: usize) -> Result<Failure<ServeFault>, Al
             let name = Bytes::from_slice(alloc, b"STOCK.DBF")?;
             Ok(Failure::Folder(FolderFault::Unreplaced(name)))
         }
-        6 => Ok(Failure::Folder(FolderFault::Unwritten)),
+        6 => Ok(Failure::Folder(FolderFault::DayOpen)),
+        7 => Ok(Failure::Folder(FolderFault::Unwritten)),
         _ => Ok(Failure::Folder(FolderFault::Unfinished)),
     }
 }
