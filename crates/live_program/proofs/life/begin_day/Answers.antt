@@ -1,0 +1,42 @@
+use Rattle.std.proofs.Common.{◌∙◌, ap, inl, inr, subst, sym}
+use Rattle.catalogue_core.specs.Replay.{History}
+use Rattle.files_in_place.specs.Folder.{Folder}
+use Rattle.folders.proofs.SinceLaws.{leaves_as}
+use Rattle.live_day.specs.Days.{parts_of}
+use Rattle.live_log.specs.Gates.{log_of}
+use Rattle.live_program.specs.Lives.{IsFound}
+use Rattle.live_program.proofs.LifeLaws.{begun_leaves, err_by, ok_both, ok_by, synced_left}
+use Rattle.live_program.proofs.life.begin_day.Goals as goal
+
+pub returns-in-Ok-clause-found : goal.returns-in-Ok-clause-found
+returns-in-Ok-clause-found g c promised =
+    ok_by c.begin_found.result _ _ (λ day is. subst (λ (h : History). IsFound (g.S.Source.files c.args.source.now) c.args.options.now (g.D.Disk.meaning.seen c.args.disk) h) (sym is) (c.in-Ok.ensures.found promised)) c.begin_found.ensures.history
+
+pub returns-in-Ok-clause-stations : goal.returns-in-Ok-clause-stations
+returns-in-Ok-clause-stations g c =
+    ok_by c.begin_found.result _ _ (λ day is. rw is c.in-Ok.ensures.stations) c.begin_found.ensures.history
+
+pub returns-in-Ok-clause-others : goal.returns-in-Ok-clause-others
+returns-in-Ok-clause-others g c promised =
+    ok_by c.begin_found.result _ _ (λ day others n free other. others n free other ∙ ap (λ (f : Folder). f n) c.find_day.ensures.seen) (c.begin_found.ensures.others promised)
+
+pub returns-in-Ok-clause-any_moment : goal.returns-in-Ok-clause-any_moment
+returns-in-Ok-clause-any_moment g c promised =
+    ok_both c.begin_found.result _ _ _ (λ day is leaves.
+    rw is (begun_leaves g.D.Disk.meaning c.args.disk c.find_day.new.disk day.log.disk (log_of (parts_of c.in-Ok.found.catalogue.journal)) (c.requires.synced promised) (c.requires.clean promised) c.find_day.ensures.seen
+    c.find_day.ensures.any_moment leaves)) c.begin_found.ensures.history (c.begin_found.ensures.any_moment promised)
+
+pub returns-in-Ok-clause-unbegun : goal.returns-in-Ok-clause-unbegun
+returns-in-Ok-clause-unbegun g c promised =
+    err_by c.begin_found.result _ _ (λ unbegun leaves.
+    inr (
+      c.in-Ok.found.catalogue,
+      c.in-Ok.ensures.found promised,
+      begun_leaves g.D.Disk.meaning c.args.disk c.find_day.new.disk unbegun.disk (log_of (parts_of c.in-Ok.found.catalogue.journal)) (c.requires.synced promised) (c.requires.clean promised) c.find_day.ensures.seen
+          c.find_day.ensures.any_moment leaves,
+    )) (c.begin_found.ensures.moment_of_fault promised)
+
+pub returns-in-Err-clause-unbegun : goal.returns-in-Err-clause-unbegun
+returns-in-Err-clause-unbegun g c promised =
+    rw c.failed.ensures.disk (inl (leaves_as g.D.Disk.meaning c.args.disk c.find_day.new.disk (g.D.Disk.meaning.may_leave c.args.disk) _ c.find_day.ensures.any_moment
+    (λ left may. synced_left g.D.Disk.meaning c.args.disk left (c.requires.synced promised) (c.requires.clean promised) may)))

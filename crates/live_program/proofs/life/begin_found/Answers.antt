@@ -1,0 +1,19 @@
+use Rattle.std.proofs.Common.{◌∙◌, ap}
+use Rattle.live_program.proofs.LifeLaws.{log_fits, placed_as}
+use Rattle.live_program.proofs.life.begin_found.Goals as goal
+
+pub start_day-requires-clause-name : goal.start_day-requires-clause-name
+start_day-requires-clause-name g c = rw c.requires.name log_fits
+
+pub returns-in-Ok-clause-others : goal.returns-in-Ok-clause-others
+returns-in-Ok-clause-others g c promised n free other =
+    c.in-Ok.ensures.others promised n free (λ is. other (is ∙ c.requires.name)) ∙ ap (λ d. g.D.Disk.meaning.seen d n) c.new.ensures.disk
+
+pub returns-in-Ok-clause-any_moment : goal.returns-in-Ok-clause-any_moment
+returns-in-Ok-clause-any_moment g c promised =
+    placed_as g.D.Disk.meaning c.args.disk c.new.result.disk _ _ _ _ c.new.ensures.disk c.requires.name (c.as_slice.ensures.value ∙ c.requires.log) (c.in-Ok.ensures.any_moment promised)
+
+pub returns-clause-moment_of_fault : goal.returns-clause-moment_of_fault
+returns-clause-moment_of_fault g c promised =
+    rw c.failed.ensures.disk
+    (placed_as g.D.Disk.meaning c.args.disk c.new.result.disk _ _ _ _ c.new.ensures.disk c.requires.name (c.as_slice.ensures.value ∙ c.requires.log) (c.in-Err.ensures.moment_of_fault promised))

@@ -1,0 +1,30 @@
+use Rattle.live_program.proofs.LifeLaws.{closed_day, day_ends, placed_day, stopped_day, stopped_ends}
+use Rattle.live_program.proofs.life.live_day.Goals as goal
+
+pub returns-in-Ok : goal.returns-in-Ok
+returns-in-Ok g c = record {
+  ends = λ promised.
+      let m = g.D.Disk.meaning in
+      let begun = c.args.day in
+      let day = c.run_day.new.day in
+      let today = c.args.today in
+      let x = g.C.Screen.shown c.args.screen.now in
+      let y = g.C.Screen.shown c.run_day.new.screen in
+      let kept = c.run_day.ensures.kept in
+      let clean = c.requires.clean promised in
+      let logged = c.close.ensures.logged promised in
+      let closing = c.close.ensures.any_moment promised in
+      day_ends m _ _ _ _ _ begun.history day.history today x y begun.log.disk c.close.result.disk c.close.result.ended c.in-Ok.ensures.obeyed
+      (closed_day m promised begun day today x y kept c.requires.name clean c.close.result.disk logged closing) _
+      (placed_day m promised begun day today x y kept c.requires.name clean c.close.result.disk logged closing) (c.close.ensures.placed promised) c.close.ensures.count;
+}
+
+pub returns-in-Err : goal.returns-in-Err
+returns-in-Err g c = record {
+  ends = λ promised.
+      let m = g.D.Disk.meaning in
+      let x = g.C.Screen.shown c.args.screen.now in
+      let y = g.C.Screen.shown c.run_day.new.screen in
+      let stopped = stopped_day m promised c.args.day c.run_day.new.day c.args.today x y c.run_day.ensures.kept c.requires.name (c.requires.clean promised) in
+      stopped_ends m _ _ _ _ _ c.args.day.history c.run_day.new.day.history c.args.today x y c.args.day.log.disk c.stop.result.disk c.stop.result.ended c.stop.ensures.ended (rw c.stop.ensures.disk stopped);
+}

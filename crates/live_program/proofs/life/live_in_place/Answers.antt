@@ -1,0 +1,17 @@
+use Rattle.std.proofs.Common.{◌≡◌}
+use Rattle.live_program.proofs.LifeLaws.{begun_life, unbegun_life, unrecovered_life}
+use Rattle.live_program.proofs.life.live_in_place.Goals as goal
+
+pub returns-in-Err-clause-life : goal.returns-in-Err-clause-life
+returns-in-Err-clause-life g c promised =
+    unrecovered_life g.D.Disk.meaning _ _ _ (g.S.Source.files c.args.source.now) c.args.options.now _ c.args.disk c.in-Err.refused.disk c.in-Err.refused.ended c.in-Err.ensures.refused (c.in-Err.ensures.old_files promised)
+
+pub returns-in-Ok-begin_day-clause-life : goal.returns-in-Ok-begin_day-clause-life
+returns-in-Ok-begin_day-clause-life g c promised =
+    begun_life g.D.Disk.meaning promised c.args.disk c.in-Ok.disk (c.in-Ok.ensures.recovered promised) (g.S.Source.files c.args.source.now) c.args.options.now c.in-Ok-begin_day.day (c.in-Ok-begin_day.ensures.found promised) (c.in-Ok-begin_day.ensures.clean promised)
+    (c.in-Ok-begin_day.ensures.others promised) (c.in-Ok-begin_day.ensures.any_moment promised) _ _ _ _ _ c.live_day.result.disk c.live_day.result.ended (c.live_day.ensures.ends promised)
+
+pub returns-in-Err-begin_day-clause-life : goal.returns-in-Err-begin_day-clause-life
+returns-in-Err-begin_day-clause-life g c promised =
+    unbegun_life g.D.Disk.meaning promised c.args.disk c.in-Ok.disk (c.in-Ok.ensures.recovered promised) _ _ _ (g.S.Source.files c.args.source.now) c.args.options.now _ c.in-Err-begin_day.unbegun.disk c.in-Err-begin_day.unbegun.ended
+    c.in-Err-begin_day.ensures.refused (c.in-Err-begin_day.ensures.unbegun promised)

@@ -1,0 +1,19 @@
+use Rattle.std.proofs.Common.{map}
+use Rattle.live_program.proofs.LifeLaws.{failed_unlived, unread_unlived}
+use Rattle.live_program.proofs.running.run_program.Goals as goal
+
+pub returns-in_err-options-clause-unlived : goal.returns-in_err-options-clause-unlived
+returns-in_err-options-clause-unlived g c =
+    unread_unlived g.Y.Disk.Disk.meaning (g.Y.Places.opens c.args.places.now) (g.S.Source.files c.args.source.now) (map g.T.AsStr.text c.args.words.now) _ _ _ _ _ _ c.from_residual.ensures.1 c.in_err-options.ensures.fault
+
+pub returns-in_err-live_options-clause-unlived : goal.returns-in_err-live_options-clause-unlived
+returns-in_err-live_options-clause-unlived g c =
+    failed_unlived g.Y.Disk.Disk.meaning (g.Y.Places.opens c.args.places.now) (g.S.Source.files c.args.source.now) (map g.T.AsStr.text c.args.words.now) _ _ _ _ _ _ c.in_ok-options.options _
+    c.from_residual-in_err-live_options.ensures.1 c.in_ok-options.ensures.asked c.in_err-live_options.ensures.life
+
+pub returns-clause-lived : goal.returns-clause-lived
+returns-clause-lived g c = record {
+  options = c.in_ok-options.options;
+  asked = c.in_ok-options.ensures.asked;
+  life = c.in_ok-live_options.ensures.life;
+}

@@ -1,0 +1,66 @@
+-- The files of a day's end.
+use Rattle.std.specs.Prelude.{◌≡◌, ◌⊎◌, ℕ, zero, suc, ◌==◌, List, [], ◌∷◌, ◌++◌, flat_map, Option, None, if◌then◌else◌}
+use Rattle.std.specs.List.{AllByRecursion}
+use Rattle.byte_io.specs.Sink.{grown}
+use Rattle.dbf_fields.specs.declared.day.Day.{Day}
+use Rattle.files_in_place.specs.Folder.{Folder}
+use Rattle.files_in_place.specs.Recovery.{HasOldFiles, RecoversTo}
+use Rattle.folders.specs.declared.named.NamedFile.{NamedFile}
+use Rattle.folders.specs.Files.{files_in, listing, IsOfBytes}
+use Rattle.folders.specs.Placed.{with_files}
+use Rattle.catalogue_core.specs.declared.entry.Entry.{Entry}
+use Rattle.catalogue_core.specs.Replay.{History}
+use Rattle.station_lines.specs.AnswerLines.{line_of}
+use Rattle.station_lines.specs.declared.script.format.TheConstants.{LF}
+use Rattle.live_log.specs.Gates.{log_of}
+use Rattle.open_day.specs.OpenDay.{log_name}
+use Rattle.office_run.specs.declared.closed.ClosedTable.{ClosedTable}
+use Rattle.office_run.specs.Closing.{answer_name, first_blocked}
+use Rattle.office_run.specs.HandedOver.{AreHandedOver}
+use Rattle.office_run.specs.TablesWritten.{dated_files}
+
+-- the line of an entry's answer, where the entry is the station's
+abbrev pub own_line : ℕ → Entry → List ℕ
+own_line station e = if e.station == station then line_of e.answer ++ LF ∷ [] else []
+
+-- the lines of a station's answers in a journal
+abbrev pub answers_in : ℕ → List Entry → List ℕ
+answers_in station journal = flat_map (own_line station) journal
+
+-- the one file of this name, with these bytes
+abbrev pub file_of_bytes : List ℕ → List ℕ → List NamedFile
+file_of_bytes name bytes = record { name = name; bytes = bytes } ∷ []
+
+-- the files of the answers of the first so many stations
+abbrev pub answer_files_of : ℕ → List Entry → List NamedFile
+answer_files_of zero journal = []
+answer_files_of (suc n) journal = answer_files_of n journal ++ file_of_bytes (answer_name (suc n)) (answers_in (suc n) journal)
+
+-- the file of the log without entries
+abbrev pub empty_log_file : List NamedFile
+empty_log_file = file_of_bytes log_name (log_of [])
+
+-- The files of a day's end: those of the tables and indexes at the journal's end, dated, of each station's answers, and the log
+-- without entries. None of the tables has more blocks than its file can have.
+pub record AreDayFiles (h : History) (today : Day) (files : List NamedFile) : Type 0 where
+  pub tables : List ClosedTable
+  pub handed : AreHandedOver h tables
+  pub few_blocks : first_blocked 1 tables ≡ None
+  pub files_are : files ≡ dated_files today tables ++ (answer_files_of h.opened.stations h.journal ++ empty_log_file)
+
+-- they stand after what was written before
+pub record AreDayWritten (h : History) (today : Day) (old new : Option (List ℕ)) : Type 0 where
+  pub files : List NamedFile
+  pub such : AreDayFiles h today files
+  pub written : new ≡ grown old (listing files)
+  pub told : files_in (listing files) ≡ files
+
+-- the folder has the day's files in their places, the empty log among them, and each other file as it was
+pub record IsDayPlaced (h : History) (today : Day) (old new : Folder) : Type 0 where
+  pub files : List NamedFile
+  pub such : AreDayFiles h today files
+  pub placed : (n : List ℕ) → new n ≡ with_files files old n
+
+-- what a crash leaves stands for the old files, their log among them, or for the day's files, the empty log among them
+abbrev pub IsOldOrDay : History → Day → Folder → Folder → Type 0
+IsOldOrDay h today old left = HasOldFiles old left ⊎ ((files : List NamedFile) × AreDayFiles h today files × RecoversTo (with_files files old) left)

@@ -1,0 +1,27 @@
+-- What was typed and shown, as lists of numbers.
+use Rattle.std.specs.Prelude.{ℕ, List, [], ◌∷◌, ◌++◌}
+use Rattle.station_lines.specs.declared.script.format.TheConstants.{LF}
+use Rattle.live_day.specs.declared.keyboard.Typed.{Typed}
+use Rattle.live_day.specs.declared.keyboard.Typed.TheVariants.{Text, TooLong}
+use Rattle.live_day.specs.Shows.{ShownLine}
+
+-- a typed line: 1 and its bytes, or nothing where it is too long
+abbrev pub numbers_of_typed : Typed → List ℕ
+numbers_of_typed (Text line) = 1 ∷ line
+numbers_of_typed TooLong = []
+
+abbrev pub typed_of_numbers : List ℕ → Typed
+typed_of_numbers [] = TooLong
+typed_of_numbers (n ∷ line) = Text line
+
+-- a line that was shown: the moment, the count, the station, and its bytes
+abbrev pub numbers_of_shown : ShownLine → List ℕ
+numbers_of_shown s = s.moment ∷ (s.count ∷ (s.station ∷ s.line))
+
+abbrev pub shown_of_numbers : List ℕ → ShownLine
+shown_of_numbers (moment ∷ (count ∷ (station ∷ line))) = record { moment = moment; count = count; station = station; line = line }
+shown_of_numbers other = record { moment = 0; count = 0; station = 0; line = [] }
+
+-- a line as it is printed, its LF too
+abbrev pub shown_text : List ℕ → List ℕ
+shown_text line = line ++ LF ∷ []

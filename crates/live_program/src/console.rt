@@ -1,0 +1,263 @@
+//! Lines that are typed, and answers that are printed.
+
+ghost use Rattle.std.specs.Prelude.{◌≡◌, ◌⊎◌, ◌<◌, ◌≤◌, ◌+◌, ◌++◌, ◌∷◌, [], length, map, vec_len, OnErr, OnOk};
+ghost use Rattle.std.specs.Io.KnownBytes.{Appends};
+ghost use Rattle.live_day.specs.Shows.{shown_now};
+ghost use Rattle.live_program.specs.Consoles.{shown_of_numbers, shown_text};
+ghost use Rattle.live_program.specs.declared.console.TheConstants.{LINE_AT_ONCE, MAX_KEPT_BYTES};
+
+use crate::number_lists::{NumberLists, Numbered};
+use byte_io::Bytes;
+use disk_in_place::DiskInPlace;
+use live_day::{Day, Keyboard, MAX_LINE_BYTES, Screen, ScreenFault, Typed, TypingFault};
+use station_lines::LF;
+use std::alloc::Global;
+use std::io;
+use std::io::{BufRead, Write};
+
+// The byte before LF where a line ends in two.
+const CR: u8 = b'\r';
+
+// How many bytes a line has, its LF too, that is printed by one write: nearly each answer is as short.
+const LINE_AT_ONCE: usize = 512;
+
+// How many bytes of a line are kept: one more than it may have, for the CR.
+const MAX_KEPT_BYTES: usize = MAX_LINE_BYTES + 1;
+
+// A line that is read in pieces. Of one that is too long no more is kept.
+#[derive(Drop)]
+struct PartLine {
+    bytes: Vec<u8>,
+    too_long: bool,
+    ghost bounded: { vec_len bytes ≤ MAX_KEPT_BYTES },
+}
+
+impl PartLine {
+    // Adds a piece.
+    fn add(&mut self, piece: &[u8]) -> Result<(), TypingFault> {
+        if self.too_long || piece.len() > MAX_KEPT_BYTES - self.bytes.len() {
+            self.too_long = true;
+            return Ok(());
+        }
+        self.bytes.extend_from_slice(piece)?;
+        Ok(())
+    }
+
+    // Whether there is nothing of a line.
+    fn is_empty(&self) -> bool {
+        !self.too_long && self.bytes.is_empty()
+    }
+
+    // The whole line, without a CR at its end.
+    fn ended(mut self) -> Typed {
+        if self.bytes.last() == Some(&CR) {
+            let _ = self.bytes.pop();
+        }
+        self.whole()
+    }
+
+    // The whole line.
+    fn whole(self) -> Typed {
+        if self.too_long || self.bytes.len() > MAX_LINE_BYTES {
+            return Typed::TooLong;
+        }
+        Typed::Text(Bytes::from_vec(self.bytes))
+    }
+}
+
+// What a piece of the input ends in.
+#[derive(Clone, Copy, PartialEq, Eq)]
+enum PieceEnd {
+    // Neither of the others.
+    Open,
+    // The end of a line.
+    Line,
+    // The end of all that is typed.
+    Input,
+}
+
+// Reads a piece of a line: up to its end, or to the end of what is there.
+fn read_piece<R: BufRead>(reader: &mut R, line: &mut PartLine) -> Result<PieceEnd, TypingFault> {
+    let (read, end) = match reader.fill_buf() {
+        Err(e) if e.kind() == io::ErrorKind::Interrupted => return Ok(PieceEnd::Open),
+        Err(_) => return Err(TypingFault::Failed),
+        Ok(bytes) => {
+            if bytes.is_empty() {
+                return Ok(PieceEnd::Input);
+            }
+            match bytes.iter().position(|byte| *byte == LF) {
+                Some(end) => {
+                    let (piece, _) = bytes.split_at(end);
+                    line.add(piece)?;
+                    (end + 1, PieceEnd::Line)
+                }
+                None => {
+                    line.add(bytes)?;
+                    (bytes.len(), PieceEnd::Open)
+                }
+            }
+        }
+    };
+    reader.consume(read);
+    Ok(end)
+}
+
+// Reads a line. `None` at the end of all that is typed.
+fn read_line<R: BufRead>(alloc: Global, reader: &mut R) -> Result<Option<Typed>, TypingFault> {
+    let mut line = PartLine {
+        bytes: Vec::new(alloc),
+        too_long: false,
+    };
+    'pieces: for _ in 0..u64::MAX {
+        match read_piece(reader, &mut line)? {
+            PieceEnd::Open => {}
+            PieceEnd::Line => return Ok(Some(line.ended())),
+            PieceEnd::Input if line.is_empty() => return Ok(None),
+            PieceEnd::Input => return Ok(Some(line.whole())),
+        }
+    }
+    Err(TypingFault::Failed)
+}
+
+impl Numbered for Typed {
+    ghost use Rattle.live_program.specs.Consoles.{numbers_of_typed};
+
+    ghost numbered = { numbers_of_typed };
+}
+
+/// The lines of a reader, and a prompt before each where there is a writer for it.
+#[derive(Drop)]
+pub struct TypedLines<R: BufRead + Drop, P: Write + Drop> {
+    reader: R,
+    prompt: Option<P>,
+    // What was typed, and whether it has ended, for contracts.
+    typed: NumberLists,
+    ended: bool,
+}
+
+impl<R: BufRead + Drop, P: Write + Drop> TypedLines<R, P> {
+    /// The lines of a reader from here on.
+    pub fn new(reader: R, prompt: Option<P>) -> TypedLines<R, P> {
+        TypedLines {
+            reader,
+            prompt,
+            typed: NumberLists::empty(),
+            ended: false,
+        }
+    }
+
+    // Prints the prompt of a station: its number, a point and a blank. A writer that takes no text changes nothing.
+    fn ask(&mut self, station: u32)
+        ensures typed { self.new.typed ≡ self.old.typed }
+        ensures ended { self.new.ended ≡ self.old.ended }
+    {
+        if let Some(prompt) = &mut self.prompt {
+            let _ = write!(prompt, "{station}. ");
+        }
+    }
+}
+
+impl<R: BufRead + Drop, P: Write + Drop> Keyboard for TypedLines<R, P> {
+    ghost use Rattle.std.specs.Prelude.{◌≡◌, map, true};
+    ghost use Rattle.live_program.specs.Consoles.{typed_of_numbers};
+
+    ghost typed = { λ k. map typed_of_numbers k.typed };
+
+    ghost has_ended = { λ k. k.ended ≡ true };
+
+    #[tactic(auto, using(crate::proofs::ConsoleLaws::typed_more))]
+    fn next_line(&mut self, alloc: Global, station: u32) -> Result<Option<Typed>, TypingFault> {
+        self.ask(station);
+        match read_line(alloc, &mut self.reader)? {
+            Some(typed) => {
+                self.typed.push(&typed);
+                Ok(Some(typed))
+            }
+            None => {
+                self.ended = true;
+                Ok(None)
+            }
+        }
+    }
+}
+
+// What is shown of a day, for contracts.
+#[derive(Drop)]
+struct Showing<'a, D: DiskInPlace + Drop> {
+    day: &'a Day<D>,
+    station: u32,
+    line: &'a [u8],
+}
+
+impl<'a, D: DiskInPlace + Drop> Numbered for Showing<'a, D> {
+    ghost use Rattle.live_day.specs.Shows.{shown_now};
+    ghost use Rattle.live_program.specs.Consoles.{numbers_of_shown};
+
+    ghost numbered = { λ s. numbers_of_shown (shown_now D.meaning s.day.now s.station s.line.now) };
+}
+
+/// Answers that are printed, each as a line of an answer file.
+#[derive(Drop)]
+pub struct PrintedAnswers<W: Write + Drop> {
+    out: W,
+    // What was shown, for contracts.
+    shown: NumberLists,
+}
+
+impl<W: Write + Drop> PrintedAnswers<W> {
+    /// For a writer.
+    pub fn new(out: W) -> PrintedAnswers<W> {
+        PrintedAnswers {
+            out,
+            shown: NumberLists::empty(),
+        }
+    }
+}
+
+// Prints a short line and LF, by one write.
+#[tactic(auto, using(crate::proofs::ConsoleLaws::line_in_front))]
+fn print_short<W: Write>(out: &mut W, line: &[u8]) -> io::Result<()>
+    requires short { length line.now < LINE_AT_ONCE }
+    ensures text { OnOk result (Appends (W.contents out.old) (W.contents out.new) (shown_text line.now)) }
+{
+    let mut text = [0; LINE_AT_ONCE];
+    text[..line.len()].copy_from_slice(line);
+    text[line.len()] = LF;
+    out.write_all(&text[..line.len() + 1])
+}
+
+// Prints a line and LF.
+fn print_line<W: Write>(out: &mut W, line: &[u8]) -> io::Result<()>
+    ensures text { OnOk result (Appends (W.contents out.old) (W.contents out.new) (shown_text line.now)) }
+{
+    if line.len() < LINE_AT_ONCE {
+        return print_short(out, line);
+    }
+    out.write_all(line)?;
+    out.write_all(b"\n")?;
+    Ok(())
+}
+
+impl<D: DiskInPlace + Drop, W: Write + Drop> Screen<D> for PrintedAnswers<W> {
+    ghost use Rattle.std.specs.Prelude.{map};
+    ghost use Rattle.live_program.specs.Consoles.{shown_of_numbers};
+
+    ghost shown = { λ s. map shown_of_numbers s.shown };
+
+    #[tactic(auto, using(crate::proofs::ConsoleLaws::shown_more))]
+    fn show(&mut self, day: &Day<D>, station: u32, line: &[u8]) -> Result<(), ScreenFault>
+        ensures shown { OnOk result (map shown_of_numbers self.new.shown
+            ≡ map shown_of_numbers self.old.shown ++ shown_now D.meaning day.now station line.now ∷ []) }
+        ensures unshown { OnErr result ((map shown_of_numbers self.new.shown ≡ map shown_of_numbers self.old.shown)
+            ⊎ (map shown_of_numbers self.new.shown ≡ map shown_of_numbers self.old.shown ++ shown_now D.meaning day.now station line.now ∷ [])) }
+        // The writer has taken the line and its LF.
+        ensures printed { OnOk result (Appends (W.contents self.old.out) (W.contents self.new.out) (shown_text line.now)) }
+    {
+        let printed = print_line(&mut self.out, line);
+        self.shown.push(&Showing { day, station, line });
+        match printed {
+            Ok(()) => Ok(()),
+            Err(_) => Err(ScreenFault),
+        }
+    }
+}

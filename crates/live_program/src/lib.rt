@@ -1,0 +1,35 @@
+//! The program around a live day: its command line, the lines that are typed, the answers that are printed, the day's end, and what the
+//! program says then.
+//!
+//! [`run_program`] does what the words of a command line ask for: [`Options`] is what they say. [`TypedLines`] has the lines of a
+//! reader, [`PrintedAnswers`] prints the answers. A life is in `life.rt`: it goes on with the log of an earlier one, and
+//! [`close_day`] puts the new files in place with an empty log. [`Lived`] is what is said of a day that was closed, [`LiveFailure`] why
+//! it was not. What a day's files are is defined in `specs/Closings.antt`, what the command line asks for in `specs/Asked.antt`; the lines
+//! and the statuses are in `specs/Endings.antt`. Start reading there.
+#![tactic(auto)]
+
+mod answers;
+mod closing;
+mod console;
+mod failure;
+mod greeting;
+mod life;
+mod lived;
+mod number_lists;
+mod opening;
+mod options;
+mod places;
+mod running;
+mod warning;
+
+pub use closing::close_day;
+pub use console::{PrintedAnswers, TypedLines};
+pub use failure::LiveFailure;
+pub use greeting::tell_again;
+pub use life::live_in_place;
+pub use lived::Lived;
+pub use open_day::LOG_NAME;
+pub use opening::open_tables;
+pub use options::{Options, command, options_of};
+pub use places::{HostPlaces, Places};
+pub use running::{PROGRAM, run_program};

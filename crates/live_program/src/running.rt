@@ -1,0 +1,60 @@
+//! What the program does with the words of its command line.
+
+ghost use Rattle.std.specs.Prelude.{◌≡◌, Ok, IfErr, IfOk, map};
+ghost use Rattle.live_program.specs.Lives.{IsAskedLife, IsLifeOver, IsUnlived};
+
+use crate::failure::LiveFailure;
+use crate::life::live_in_place;
+use crate::lived::Lived;
+use crate::options::{Options, read_options};
+use crate::places::Places;
+use folders::Source;
+use live_day::{Keyboard, Screen};
+use program_frame::{Ending, Failure, FolderFault};
+use std::alloc::Global;
+use std::convert::AsStr;
+use std::io::Write;
+
+/// The program's name, as it begins what is printed.
+pub const PROGRAM: &str = "station_prompt";
+
+// Lives the day of a command line in its folder.
+fn live_options<Y: Places, S: Source, K: Keyboard, C: Screen<Y::Disk>, E: Write>(
+    alloc: Global,
+    places: &Y,
+    options: &Options<'_>,
+    source: &mut S,
+    keyboard: &mut K,
+    screen: &mut C,
+    err: &mut E,
+) -> Result<Lived, Failure<LiveFailure>>
+    ensures life { IsLifeOver Y.Disk.meaning (Y.opens places.now options.now.out.now) (K.has_ended keyboard.new) (K.typed keyboard.old) (K.typed keyboard.new)
+        (S.files source.old) options.now (C.shown screen.old) (C.shown screen.new) result }
+    ensures kept { S.files source.new ≡ S.files source.old }
+{
+    match places.open(alloc, options.out)? {
+        Some(disk) => live_in_place(alloc, options, source, disk, keyboard, screen, err).ended,
+        None => Err(Failure::Folder(FolderFault::Unopened)),
+    }
+}
+
+/// Lives the day that the words of a command line ask for, of which the first is the program's name. The setup's files are read from the
+/// source; the log and the new files lie in the folder that the words name, which no other run has meanwhile.
+pub fn run_program<Y: Places, S: Source, K: Keyboard, C: Screen<Y::Disk>, E: Write, T: AsStr>(
+    alloc: Global,
+    places: &Y,
+    source: &mut S,
+    keyboard: &mut K,
+    screen: &mut C,
+    err: &mut E,
+    words: &[T],
+) -> Result<Lived, Ending<Failure<LiveFailure>>>
+    ensures lived { IfOk result (λ lived. IsAskedLife Y.Disk.meaning (Y.opens places.now) (S.files source.old) (map T.text words.entry.now)
+        (K.has_ended keyboard.new) (K.typed keyboard.old) (K.typed keyboard.new) (C.shown screen.old) (C.shown screen.new) (Ok lived)) }
+    ensures unlived { IfErr result (IsUnlived Y.Disk.meaning (Y.opens places.now) (S.files source.old) (map T.text words.entry.now)
+        (K.has_ended keyboard.new) (K.typed keyboard.old) (K.typed keyboard.new) (C.shown screen.old) (C.shown screen.new)) }
+    ensures kept { S.files source.new ≡ S.files source.old }
+{
+    let options = read_options(alloc, words)?;
+    Ok(live_options(alloc, places, &options, source, keyboard, screen, err)?)
+}

@@ -1,0 +1,4 @@
+mod crashes;
+mod day;
+mod ends;
+mod lines;

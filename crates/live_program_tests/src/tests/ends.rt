@@ -1,0 +1,327 @@
+//! How calls of the program end: what is printed, the exit status, and days over a folder of the system.
+
+use super::day::source;
+use audit::AuditFault;
+use live_log::LogFault;
+use live_program::{
+    HostPlaces, LiveFailure, Lived, PROGRAM, PrintedAnswers, TypedLines, run_program,
+};
+use office_run::ServeFault;
+use program_frame::{Ending, Failure, FolderFault, tell};
+use std::alloc::Global;
+use std::fs::{self, File};
+use std::io::{self, BufRead, BufReader, Read, Write};
+use std::process::ExitCode;
+use std::rt::{Files, Runtime};
+use std::test::Fail;
+
+// How a call of the program ends.
+type Ended = Result<Lived, Ending<Failure<LiveFailure>>>;
+
+// Whether a call that ends so has this exit status, and prints these lines on the two streams.
+fn is_told(alloc: Global, ended: &Ended, (status, said, warned): (u8, &str, &str)) -> bool {
+    let mut out: Vec<u8> = Vec::new(alloc);
+    let mut err: Vec<u8> = Vec::new(alloc);
+    let told = tell(&mut out, &mut err, PROGRAM, ended);
+    told.status == ExitCode::from(status)
+        && out.as_slice() == said.as_bytes()
+        && err.as_slice() == warned.as_bytes()
+}
+
+const ENDS: [(u8, &str, &str); 9] = [
+    (0, "station_prompt: 1205 commands\n", ""),
+    (1, "", "station_prompt: bad date\n"),
+    (
+        4,
+        "",
+        "station_prompt: another run writes into the folder\n",
+    ),
+    (3, "", "station_prompt: run: NoMemory\n"),
+    (
+        5,
+        "",
+        "station_prompt: STATIONS.LOG is no log, or somebody has changed it\n",
+    ),
+    (
+        5,
+        "",
+        "station_prompt: entry 3 of the log: no entry of a station stands here\n",
+    ),
+    (
+        4,
+        "",
+        "station_prompt: cannot write the log: the next start goes on with it\n",
+    ),
+    (
+        4,
+        "",
+        "station_prompt: cannot print the answers: the next start goes on with the log\n",
+    ),
+    (
+        2,
+        "",
+        "station_prompt: cannot read the lines: the next start goes on with the log\n",
+    ),
+];
+
+// The failure with this number in `ENDS`.
+fn failure_of(number: usize) -> Failure<LiveFailure> {
+    match number {
+        1 => Failure::BadDate,
+        2 => Failure::Folder(FolderFault::InUse),
+        3 => Failure::Work(LiveFailure::Serve(ServeFault::NoMemory)),
+        4 => Failure::Work(LiveFailure::NoLog),
+        5 => Failure::Work(LiveFailure::Entry(AuditFault::NoEntry(3))),
+        6 => Failure::Work(LiveFailure::Log(LogFault::Failed)),
+        7 => Failure::Work(LiveFailure::Unshown),
+        _ => Failure::Work(LiveFailure::Unread),
+    }
+}
+
+// The end with this number in `ENDS`.
+fn end_of(number: usize) -> Ended {
+    if number == 0 {
+        return Ok(Lived { count: 1205 });
+    }
+    Err(Ending::Failed(failure_of(number)))
+}
+
+#[test]
+fn each_end_has_its_status_and_line(rt: HostRuntime) -> Result<(), Fail> {
+    for number in 0..ENDS.len() {
+        assert!(rt; is_told(rt.alloc(), &end_of(number), ENDS[number]));
+    }
+    Ok(())
+}
+
+// A day in a folder of the system: how many commands were performed, what was shown, and what was said of the log.
+#[derive(Drop)]
+struct LivedDay {
+    count: Result<u64, Failure<LiveFailure>>,
+    shown: Vec<u8>,
+    said: Vec<u8>,
+}
+
+// How a call of the program ends that had a command line.
+fn count_of(ended: Ended) -> Result<Result<u64, Failure<LiveFailure>>, Fail> {
+    match ended {
+        Ok(lived) => Ok(Ok(lived.count)),
+        Err(Ending::Failed(failure)) => Ok(Err(failure)),
+        Err(_) => Err("there are no options".into()),
+    }
+}
+
+// The words of a command line for a folder.
+fn words_of(folder: &str) -> [&str; 5] {
+    [
+        "station_prompt",
+        "--setup=A.SET",
+        "--out",
+        folder,
+        "--today=19870315",
+    ]
+}
+
+// Calls the program with these words, and what it said of the log.
+fn call<R: Runtime + Files<File = File> + AllocGlobal, B: BufRead + Drop, W: Write + Drop>(
+    rt: &R,
+    words: &[&str],
+    reader: B,
+    out: W,
+) -> Result<(Ended, Vec<u8>), Fail> {
+    let alloc = rt.alloc();
+    let prompt: Option<Vec<u8>> = None;
+    let mut said = Vec::new(alloc);
+    let ended = run_program(
+        alloc,
+        &HostPlaces::new(rt),
+        &mut source(alloc)?,
+        &mut TypedLines::new(reader, prompt),
+        &mut PrintedAnswers::new(out),
+        &mut said,
+        words,
+    );
+    Ok((ended, said))
+}
+
+// Lives a day with these lines in a folder of the system.
+fn live_in<R: Runtime + Files<File = File> + AllocGlobal>(
+    rt: &R,
+    folder: &str,
+    typed: &[u8],
+) -> Result<LivedDay, Fail> {
+    let mut shown = Vec::new(rt.alloc());
+    let (ended, said) = call(rt, &words_of(folder), typed, &mut shown)?;
+    let count = count_of(ended)?;
+    Ok(LivedDay { count, shown, said })
+}
+
+// Makes a folder of the system without files.
+fn make_folder<R: Runtime + Files<File = File> + AllocGlobal>(
+    rt: &R,
+    folder: &str,
+) -> Result<(), Fail> {
+    if fs::exists(rt, folder)? {
+        fs::remove_dir_all(rt, folder)?;
+    }
+    fs::create_dir(rt, folder)?;
+    Ok(())
+}
+
+// What is said of a table whose new file has another name, and of a log of two entries that is performed again.
+const AGAIN: &[u8] =
+    b"t.dbf stays as it is where new files go into its folder: the new table is T.DBF
+station_prompt: 2 commands performed again
+station 1: USE T: OK
+station 2: USE T: OK
+";
+
+#[test]
+fn a_day_goes_on_in_a_folder_of_the_system(rt: HostRuntime) -> Result<(), Fail> {
+    make_folder(&rt, "lived")?;
+    fs::write(
+        &rt,
+        "lived/STATIONS.LOG",
+        b"+1 5 2 USE T OK\n+2 5 2 USE T OK\n-1 4 2 G",
+    )?;
+    let day = live_in(&rt, "lived", b"GO 2\n? EOF()\nQUIT\n")?;
+    assert!(rt; day.count == Ok(4) && day.shown.as_slice() == b"OK\n.F.\n".as_slice());
+    assert!(rt; day.said.as_slice() == AGAIN && fs::exists(&rt, "lived/T.DBF")?);
+    assert!(rt; fs::read(&rt, "lived/STATIONS.LOG")?.as_slice() == b"-".as_slice());
+    fs::remove_dir_all(&rt, "lived")?;
+    Ok(())
+}
+
+// Whether a day ends so on a log in a folder of the system that does not hold on the tables, and whether the log stays as it is.
+fn stays<R: Runtime + Files<File = File> + AllocGlobal>(
+    rt: &R,
+    log: &str,
+    failure: LiveFailure,
+) -> Result<bool, Fail> {
+    make_folder(rt, "refused")?;
+    fs::write(rt, "refused/STATIONS.LOG", log.as_bytes())?;
+    let day = live_in(rt, "refused", b"GO 2\n")?;
+    let is_told = day.count == Err(Failure::Work(failure)) && day.shown.is_empty();
+    let left = fs::read(rt, "refused/STATIONS.LOG")?;
+    let is_alone = !fs::exists(rt, "refused/T.DBF")?;
+    fs::remove_dir_all(rt, "refused")?;
+    Ok(is_told && is_alone && left.as_slice() == log.as_bytes())
+}
+
+#[test]
+fn a_log_that_does_not_hold_stays_as_it_is(rt: HostRuntime) -> Result<(), Fail> {
+    for log in ["+1 5 2 USE T OK\n+", "Dear Anna,\n"] {
+        assert!(rt; stays(&rt, log, LiveFailure::NoLog)?);
+    }
+    assert!(rt;
+        stays(
+            &rt,
+            "+3 5 2 USE T OK\n-",
+            LiveFailure::Entry(AuditFault::NoEntry(1))
+        )?
+    );
+    Ok(())
+}
+
+#[test]
+fn a_folder_that_is_not_there_is_told(rt: HostRuntime) -> Result<(), Fail> {
+    let day = live_in(&rt, "no_folder", b"USE T\n")?;
+    assert!(rt; day.count == Err(Failure::Folder(FolderFault::Unopened)) && day.shown.is_empty());
+    Ok(())
+}
+
+// A stream that takes no text, and has none that can be read.
+#[derive(Drop)]
+struct Broken;
+
+impl Write for Broken {
+    fn write(&mut self, _bytes: &[u8]) -> io::Result<usize> {
+        Err(io::Error::from(io::ErrorKind::BrokenPipe))
+    }
+
+    fn flush(&mut self) -> io::Result<()> {
+        Ok(())
+    }
+}
+
+impl Read for Broken {
+    fn read(&mut self, _bytes: &mut [u8]) -> io::Result<usize> {
+        Err(io::Error::from(io::ErrorKind::BrokenPipe))
+    }
+}
+
+// Whether the log of a folder of the system is this one. The folder is removed.
+fn had_log<R: Runtime + Files<File = File> + AllocGlobal>(
+    rt: &R,
+    folder: &str,
+    log: &str,
+) -> Result<bool, Fail> {
+    let alloc = rt.alloc();
+    let path = format!(in alloc; "{folder}/STATIONS.LOG")?;
+    let found = fs::read(rt, path.as_str())?;
+    fs::remove_dir_all(rt, folder)?;
+    Ok(found.as_slice() == log.as_bytes())
+}
+
+#[test]
+fn a_day_whose_answers_nobody_reads_keeps_its_log(rt: HostRuntime) -> Result<(), Fail> {
+    make_folder(&rt, "unshown")?;
+    let typed: &[u8] = b"USE T\nGO 2\n";
+    let (ended, _) = call(&rt, &words_of("unshown"), typed, Broken)?;
+    assert!(rt; count_of(ended)? == Err(Failure::Work(LiveFailure::Unshown)));
+    assert!(rt; had_log(&rt, "unshown", "+1 5 2 USE T OK\n-")?);
+    Ok(())
+}
+
+#[test]
+fn a_day_whose_lines_are_not_read_keeps_its_log(rt: HostRuntime) -> Result<(), Fail> {
+    make_folder(&rt, "unread")?;
+    let reader = BufReader::new(rt.alloc(), Broken)?;
+    let shown: Vec<u8> = Vec::new(rt.alloc());
+    let (ended, _) = call(&rt, &words_of("unread"), reader, shown)?;
+    assert!(rt; count_of(ended)? == Err(Failure::Work(LiveFailure::Unread)));
+    assert!(rt; had_log(&rt, "unread", "-")?);
+    Ok(())
+}
+
+// Command lines that are bad.
+const BAD_WORDS: [&[&str]; 4] = [
+    &["station_prompt"],
+    &["station_prompt", "--setup=A.SET", "--out=x"],
+    &[
+        "station_prompt",
+        "--setup=A.SET",
+        "--out=x",
+        "--today=19870230",
+    ],
+    &[
+        "station_prompt",
+        "--setup=A.SET",
+        "--out=x",
+        "--today=19870315",
+        "--journal",
+    ],
+];
+
+// The exit status of a call with these words.
+fn has_status<R: Runtime + Files<File = File> + AllocGlobal>(
+    rt: &R,
+    words: &[&str],
+    status: u8,
+) -> Result<bool, Fail> {
+    let typed: &[u8] = b"";
+    let mut out: Vec<u8> = Vec::new(rt.alloc());
+    let mut err: Vec<u8> = Vec::new(rt.alloc());
+    let shown: Vec<u8> = Vec::new(rt.alloc());
+    let (ended, _) = call(rt, words, typed, shown)?;
+    Ok(tell(&mut out, &mut err, PROGRAM, &ended).status == ExitCode::from(status))
+}
+
+#[test]
+fn a_bad_command_line_is_status_1(rt: HostRuntime) -> Result<(), Fail> {
+    for words in BAD_WORDS {
+        assert!(rt; has_status(&rt, words, 1)?);
+    }
+    assert!(rt; has_status(&rt, &["station_prompt", "--help"], 0)?);
+    Ok(())
+}
