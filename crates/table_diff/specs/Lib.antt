@@ -1,0 +1,4 @@
+pub mod Fields
+pub mod Changes
+pub mod Told
+pub mod DiffText
