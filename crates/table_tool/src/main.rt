@@ -1,14 +1,16 @@
-//! Shows dBASE III PLUS tables and indexes, and checks setups of them.
+//! Shows and compares dBASE III PLUS tables, shows indexes, checks setups of them, and makes tables.
 //!
-//! The program reads a table, with its memos, and prints it as people read it, as CSV, or what its fields are; or it
-//! prints the pages of an index, or looks at every file that a setup names. This file has `main`: it reads the command line, has
-//! what it asks for shown, and has its end told. The commands are the crate `tool_program`; what is printed of a table is defined in the
-//! crate `table_text`, and of an index in `index_text`.
+//! The program reads a table, with its memos, and prints it as people read it, as CSV, or what its fields are; or it prints what has
+//! changed from one table to another, or the pages of an index, or looks at every file that a setup names, or makes an empty table.
+//! This file has `main`: it reads the command line, has what it asks for done, and has its end told. The commands are the crate
+//! `tool_program`; what is printed of a table is defined in the crate `table_text`, of two in `table_diff`, and of an index in
+//! `index_text`; a table is made by `table_maker`.
 #![tactic(auto)]
 
 use folders::DiskSource;
-use program_frame::Ending;
+use program_frame::{Ending, Host};
 use std::env;
+use std::fs::File;
 use std::io::Write;
 use std::process::ExitCode;
 use std::rt::{Env, Files, Runtime};
@@ -30,12 +32,12 @@ fn read_words<'a, R: Env + AllocGlobal>(rt: &R) -> Result<Vec<String>, Ending<To
 }
 
 // Does what the words ask for, over the files of the system and a stream.
-fn run_program<'a, R: Runtime + AllocGlobal, W: Write + Drop>(
+fn run_program<'a, R: Runtime + Files<File = File> + AllocGlobal, W: Write + Drop>(
     rt: &R,
     out: W,
     words: &'a [String],
 ) -> Result<ToolReport, Ending<ToolFault<'a>>> {
     let mut source = DiskSource::new(rt.clone()?);
     let mut sink = StreamSink::new(out);
-    run_words(rt.alloc(), &mut source, &mut sink, words)
+    run_words(rt.alloc(), &mut source, &mut sink, &Host::new(rt), words)
 }

@@ -14,12 +14,12 @@ use Rattle.office_run.specs.WholeRun.{IsSaid}
 use Rattle.tool_program.specs.Check.{IsFirstFault, IsOpening, IsSetupRead, IsVerdict, Loads}
 
 -- all is opened exactly where no fault is told
-pub verdict_of : (files : Option (List NamedFile)) (loads : Loads) (path : List ℕ) (entries : List SetupEntry) (reads : List (Result EntryContent EntryFault)) (fault : Option ServeFault) (b : Bool)
-    → is_some fault ≡ not b → IsOpening files path fault → IsSetupRead files loads path entries reads → IfSome fault (IsFirstFault entries reads) → IsVerdict files loads path b
-verdict_of files loads path entries reads None true e h k first = h
-verdict_of files loads path entries reads None false e h k first = absurd cc
-verdict_of files loads path entries reads (Some fault) true e h k first = absurd cc
-verdict_of files loads path entries reads (Some fault) false e h k first = (fault, h, entries, reads, k, first)
+pub verdict_of : (files : Option (List NamedFile)) (loads : Loads) (path : List ℕ) (entries : List SetupEntry) (reads : List (Result EntryContent EntryFault)) (days : List ℕ) (fault : Option ServeFault) (b : Bool)
+    → is_some fault ≡ not b → IsOpening files path fault → IsSetupRead files loads path entries reads days → IfSome fault (IsFirstFault entries reads) → IsVerdict files loads path b
+verdict_of files loads path entries reads days None true e h k first = h
+verdict_of files loads path entries reads days None false e h k first = absurd cc
+verdict_of files loads path entries reads days (Some fault) true e h k first = absurd cc
+verdict_of files loads path entries reads days (Some fault) false e h k first = (fault, h, entries, reads, days, k, first)
 
 -- ---- what was read of a setup, opened
 
@@ -58,8 +58,8 @@ none_told (Some fault) true e = absurd cc
 none_told (Some fault) false e = refl
 
 -- parts that are appended one after another, each after it was passed on
-pub parts_appended : (first second third last report kept kept_passed two third_passed three whole : List ℕ)
+pub parts_appended : (first second third fourth last report kept kept_passed two third_passed three fourth_passed four whole : List ℕ)
     → report ≡ first → kept ≡ second → kept_passed ≡ kept → two ≡ report ++ kept_passed
-    → third_passed ≡ third → three ≡ two ++ third_passed → whole ≡ three ++ last
-    → whole ≡ ((first ++ second) ++ third) ++ last
-parts_appended first second third last report kept kept_passed two third_passed three whole e f g h i j k = cc
+    → third_passed ≡ third → three ≡ two ++ third_passed → fourth_passed ≡ fourth → four ≡ three ++ fourth_passed → whole ≡ four ++ last
+    → whole ≡ (((first ++ second) ++ third) ++ fourth) ++ last
+parts_appended first second third fourth last report kept kept_passed two third_passed three fourth_passed four whole e f g h i j k l m = cc

@@ -25,7 +25,7 @@ module _ {T : Type 0} (files : Option (List NamedFile)) (before after : Option �
       → (shown ≡ Err (show.Load load.CannotRead) → IsNotHad files before after options.table.now)
       → (shown ≡ Err (show.Load load.Unrecovered) → IsUnrecovered files options.table.now)
       → ((why : LoadFault) → shown ≡ Err (show.Memos why) → IsMemosFault files (IsNotHad files before after) options.table.now (option_copied options.memos) why)
-      → ((why : ImageFault) → shown ≡ Err (show.Table why) → IsNoTable files (IsNotHad files before after) options why)
+      → ((why : ImageFault) → shown ≡ Err (show.Table why) → IsNoTable files (IsNotHad files before after) options.table.now (option_copied options.memos) why)
       → ((why : OrderFault) → shown ≡ Err (show.Order why) → IsNoOrder files before after options why)
       → IsTrueOfTable files before after options fault
   true_of_table options shown (show.Load load.CannotRead) is failed unrecovered memos no_table no_order = failed is

@@ -1,33 +1,40 @@
 -- How a call of the program comes to its end: what it has written, and why it has not.
-use Rattle.std.specs.Prelude.{◌≡◌, ◌⊎◌, ℕ, true, false, List, Option, option_copied}
+use Rattle.std.specs.Prelude.{◌≡◌, ◌⊎◌, ℕ, true, false, List, Option, None, option_copied}
 use Rattle.program_frame.specs.declared.ending.Ending.{Ending}
 use Rattle.program_frame.specs.declared.ending.Ending.TheVariants.{Failed}
 use Rattle.folders.specs.declared.named.NamedFile.{NamedFile}
 use Rattle.folders.specs.declared.source.LoadFault.{LoadFault}
 use Rattle.folders.specs.declared.source.LoadFault.TheVariants as load
-use Rattle.folders.specs.Files.{IsUnrecovered}
+use Rattle.files_in_place.specs.Disk.{DiskMeaning}
+use Rattle.folders.specs.Files.{load_refusal, IsUnrecovered}
+use Rattle.folders.specs.Paths.{folder_of_path}
 use Rattle.tool_program.specs.declared.checking.CheckFault.{CheckFault}
 use Rattle.tool_program.specs.declared.checking.CheckFault.TheVariants as check
 use Rattle.tool_program.specs.declared.fault.ToolFault.{ToolFault}
 use Rattle.tool_program.specs.declared.options.Asked.{Asked}
-use Rattle.tool_program.specs.declared.options.Asked.TheVariants.{Show, Check, Tree}
+use Rattle.tool_program.specs.declared.options.Asked.TheVariants.{Show, Check, Tree, Make, Diff}
 use Rattle.tool_program.specs.declared.options.CheckOptions.{CheckOptions}
+use Rattle.tool_program.specs.declared.options.DiffOptions.{DiffOptions}
+use Rattle.tool_program.specs.declared.comparing.CompareFault.{CompareFault}
 use Rattle.tool_program.specs.declared.options.Options.{Options}
 use Rattle.tool_program.specs.declared.report.ToolReport.{ToolReport}
-use Rattle.tool_program.specs.declared.report.ToolReport.TheVariants.{Good, NotOpened, Unread}
+use Rattle.tool_program.specs.declared.report.ToolReport.TheVariants.{Good, NotOpened, Differ, Unread}
 use Rattle.tool_program.specs.declared.showing.ShowFault.{ShowFault}
 use Rattle.tool_program.specs.declared.showing.ShowFault.TheVariants as show
 use Rattle.tool_program.specs.Check.{check_load_fault, IsTold, IsVerdict, Loads, TellsBadLine}
 use Rattle.tool_program.specs.Command.{IsAskedIn, IsWhyNotRead}
+use Rattle.tool_program.specs.Comparison.{AreCompared, IsWhyUncompared}
 use Rattle.tool_program.specs.Faults.{path_at_fault, IsToolFaultOf, IsToolFaultOfSetup}
 use Rattle.tool_program.specs.IndexTree.{IsTreeFault, IsTreeShown}
-use Rattle.tool_program.specs.Memos.{IsMemosFault, IsNotHad}
+use Rattle.tool_program.specs.Memos.{IsMemosFault, IsNotHad, IsWhyUnread}
+use Rattle.tool_program.specs.TableMade.{IsPlacedBy, IsTakenBy, IsWhyNoTableMade}
 use Rattle.tool_program.specs.View.{IsNoOrder, IsNoTable, IsShown}
 
--- the exit status of a call that came to its end: 2 for a setup that the server would not open
+-- the exit status of a call that came to its end: 2 for a setup that the server would not open, 1 for tables that differ
 abbrev pub report_status : ToolReport → ℕ
 report_status Good = 0
 report_status NotOpened = 2
+report_status Differ = 1
 report_status Unread = 0
 
 -- ---- what was written
@@ -36,12 +43,14 @@ report_status Unread = 0
 abbrev pub IsShownAs : Option (List NamedFile) → Options → Option (List ℕ) → Option (List ℕ) → ToolReport → Type 0
 IsShownAs files options old new Good = IsShown files options old new
 IsShownAs files options old new NotOpened = ⊥
+IsShownAs files options old new Differ = ⊥
 IsShownAs files options old new Unread = Unit {0}
 
 -- the index file of a path was
 abbrev pub IsTreeShownAs : Option (List NamedFile) → List ℕ → Option (List ℕ) → Option (List ℕ) → ToolReport → Type 0
 IsTreeShownAs files path old new Good = IsTreeShown files path old new
 IsTreeShownAs files path old new NotOpened = ⊥
+IsTreeShownAs files path old new Differ = ⊥
 IsTreeShownAs files path old new Unread = Unit {0}
 
 -- all was told of a setup: the server would open it, or would not
@@ -50,7 +59,19 @@ IsCheckedAs files loads options old new Good =
     IsTold files loads options.setup.now options.bad_lines true old new × IsVerdict files loads options.setup.now true
 IsCheckedAs files loads options old new NotOpened =
     IsTold files loads options.setup.now options.bad_lines false old new × IsVerdict files loads options.setup.now false
+IsCheckedAs files loads options old new Differ = ⊥
 IsCheckedAs files loads options old new Unread = Unit {0}
+
+-- two tables were compared: they are the same, or differ
+abbrev pub IsComparedAs : Option (List NamedFile) → DiffOptions → Option (List ℕ) → Option (List ℕ) → ToolReport → Type 0
+IsComparedAs files options old new Good = AreCompared files options false old new
+IsComparedAs files options old new NotOpened = ⊥
+IsComparedAs files options old new Differ = AreCompared files options true old new
+IsComparedAs files options old new Unread = Unit {0}
+
+-- a table was made, of which nothing is written
+abbrev pub IsMadeAs : Option (List ℕ) → Option (List ℕ) → ToolReport → Type 0
+IsMadeAs old new report = (report ≡ Good) × (new ≡ old)
 
 -- what is asked for was written, over these files, after what the output had; `loads` says of what was read of a setup's entries what
 -- happened to the count of loads that failed
@@ -58,36 +79,55 @@ abbrev pub IsAnswered : Option (List NamedFile) → Loads → Asked → Option (
 IsAnswered files loads (Show options) = IsShownAs files options
 IsAnswered files loads (Check options) = IsCheckedAs files loads options
 IsAnswered files loads (Tree path) = IsTreeShownAs files path.now
+IsAnswered files loads (Make options) = IsMadeAs
+IsAnswered files loads (Diff options) = IsComparedAs files options
 
 -- what these words ask for was written
 abbrev pub IsAnsweredTo : List (List ℕ) → Option (List NamedFile) → Loads → Option (List ℕ) → Option (List ℕ) → ToolReport → Type 0
 IsAnsweredTo words files loads old new report = (asked : Asked) × IsAskedIn words asked × IsAnswered files loads asked old new report
 
+-- a table that is asked for was put into its folder, where a folder of a path is opened so
+abbrev pub IsPlacedIn : {D : Type 0} → DiskMeaning D → (List ℕ → D → Type 0) → Option (List NamedFile) → Asked → Type 0
+IsPlacedIn {D} m opens files (Make options) = IsPlacedBy m (opens (folder_of_path options.out.now)) files options
+IsPlacedIn {D} m opens files asked = Unit {0}
+
+-- and one that these words ask for
+abbrev pub IsPlacedTo : {D : Type 0} → DiskMeaning D → (List ℕ → D → Type 0) → Option (List NamedFile) → List (List ℕ) → Type 0
+IsPlacedTo {D} m opens files words = (asked : Asked) × IsAskedIn words asked × IsPlacedIn m opens files asked
+
+-- a file stood in the way of a table that is asked for
+abbrev pub IsTakenIn : {D : Type 0} → DiskMeaning D → (List ℕ → D → Type 0) → Asked → Type 0
+IsTakenIn {D} m opens (Make options) = IsTakenBy m (opens (folder_of_path options.out.now)) options
+IsTakenIn {D} m opens asked = Unit {0}
+
+-- and of one that these words ask for
+abbrev pub IsTakenTo : {D : Type 0} → DiskMeaning D → (List ℕ → D → Type 0) → List (List ℕ) → Type 0
+IsTakenTo {D} m opens words = (asked : Asked) × IsAskedIn words asked × IsTakenIn m opens asked
+
 -- ---- why it was not
 
--- the path of the file that is asked for
-abbrev pub asked_path : Asked → List ℕ
-asked_path (Show options) = options.table.now
-asked_path (Check options) = options.setup.now
-asked_path (Tree path) = path.now
+-- why no load can give the file that is asked for, of two tables the old one; of a list of fields it is not said, since the folder
+-- comes first
+abbrev pub asked_refusal : Option (List NamedFile) → Asked → Option LoadFault
+asked_refusal files (Show options) = load_refusal files options.table.now
+asked_refusal files (Check options) = load_refusal files options.setup.now
+asked_refusal files (Tree path) = load_refusal files path.now
+asked_refusal files (Make options) = None
+asked_refusal files (Diff options) = load_refusal files options.old_table.now
 
 -- the fault says why no load gives the file that is asked for
 abbrev pub IsToldUnloaded : Asked → LoadFault → ToolFault → Type 0
 IsToldUnloaded (Show options) why = IsToolFaultOf (show.Load why) options.table.now
 IsToldUnloaded (Check options) why = IsToolFaultOfSetup (check_load_fault why) options.setup.now
 IsToldUnloaded (Tree path) why = IsToolFaultOf (show.Load why) path.now
-
--- what a fault of loading the file of a path says: that it was not had, or that its folder is not recovered
-abbrev pub IsTrueOfLoad : Option (List NamedFile) → (List ℕ → Type 0) → List ℕ → LoadFault → Type 0
-IsTrueOfLoad files unread path load.CannotRead = unread path
-IsTrueOfLoad files unread path load.Unrecovered = IsUnrecovered files path
-IsTrueOfLoad files unread path load.NoMemory = Unit {0}
+IsToldUnloaded (Make options) why = λ fault. ⊥
+IsToldUnloaded (Diff options) why = IsToolFaultOf (show.Load why) options.old_table.now
 
 -- what a fault of showing a table says is true of its files, between these counts of failed loads
 abbrev pub IsTrueOfTable : Option (List NamedFile) → Option ℕ → Option ℕ → Options → ShowFault → Type 0
-IsTrueOfTable files before after options (show.Load why) = IsTrueOfLoad files (IsNotHad files before after) options.table.now why
+IsTrueOfTable files before after options (show.Load why) = IsWhyUnread files (IsNotHad files before after) options.table.now why
 IsTrueOfTable files before after options (show.Memos why) = IsMemosFault files (IsNotHad files before after) options.table.now (option_copied options.memos) why
-IsTrueOfTable files before after options (show.Table why) = IsNoTable files (IsNotHad files before after) options why
+IsTrueOfTable files before after options (show.Table why) = IsNoTable files (IsNotHad files before after) options.table.now (option_copied options.memos) why
 IsTrueOfTable files before after options (show.Order why) = IsNoOrder files before after options why
 IsTrueOfTable files before after options (show.Text why) = Unit {0}
 
@@ -115,11 +155,18 @@ IsTrueOfSetup files unread path fault = TellsBadLine files path fault
 abbrev pub IsWhyUnchecked : Option (List NamedFile) → (List ℕ → Type 0) → List ℕ → ToolFault → Type 0
 IsWhyUnchecked files unread path fault = (why : CheckFault) × IsToolFaultOfSetup why path fault × IsTrueOfSetup files unread path why
 
+-- why two tables were not compared, or not all was told of them
+abbrev pub IsWhyNoDiff : Option (List NamedFile) → Option ℕ → Option ℕ → DiffOptions → ToolFault → Type 0
+IsWhyNoDiff files before after options fault =
+    (why : CompareFault) × IsToolFaultOf why.why why.path.now fault × IsWhyUncompared files before after options why
+
 -- why what is asked for was not written, or not all of it, between these counts of failed loads
 abbrev pub IsWhyUnanswered : Option (List NamedFile) → Option ℕ → Option ℕ → Asked → ToolFault → Type 0
 IsWhyUnanswered files before after (Show options) = IsWhyUnshown files before after options
 IsWhyUnanswered files before after (Check options) = IsWhyUnchecked files (IsNotHad files before after) options.setup.now
 IsWhyUnanswered files before after (Tree path) = IsWhyNoTree files (IsNotHad files before after) path.now
+IsWhyUnanswered files before after (Make options) = IsWhyNoTableMade files options
+IsWhyUnanswered files before after (Diff options) = IsWhyNoDiff files before after options
 
 -- why what these words ask for was not written, or not all of it
 abbrev pub IsWhyNotDone : List (List ℕ) → Option (List NamedFile) → Option ℕ → Option ℕ → Ending ToolFault → Type 0

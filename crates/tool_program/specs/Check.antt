@@ -13,9 +13,11 @@ use Rattle.setup_check.specs.declared.finding.Finding.{Finding}
 use Rattle.setup_files.specs.declared.content.EntryContent.{EntryContent}
 use Rattle.setup_files.specs.declared.fault.EntryFault.{EntryFault}
 use Rattle.setup_files.specs.EntryFiles.{AreEntriesRead}
+use Rattle.setup_files.specs.Loads.{AreEntryLoads}
 use Rattle.setup_check.specs.Findings.{AreFindings, AreFoundOf}
 use Rattle.setup_check.specs.KeptLines.{kept_lines}
 use Rattle.setup_check.specs.Lines.{setup_lines}
+use Rattle.setup_check.specs.OpenDays.{AreDaysTold}
 use Rattle.setup_check.specs.declared.scripts.BadLinesTold.{BadLinesTold}
 use Rattle.setup_check.specs.ScriptLines.{AreScriptTexts, IsBadSetupText}
 use Rattle.office_run.specs.declared.fault.ServeFault.{ServeFault}
@@ -37,15 +39,22 @@ abbrev pub IsOpening : Option (List NamedFile) → List ℕ → Option ServeFaul
 IsOpening files path None = (opened : Opened) × IsOpenedBy files path false opened
 IsOpening files path (Some fault) = (fault ≢ NoMemoryToServe) × IsUnopened files path false fault
 
--- what is said of entries and what was read of them
+-- what is said of entries, of what was read of them, and of what was told of days that are open beside them
 abbrev pub Loads : Type 1
-Loads = List SetupEntry → List (Result EntryContent EntryFault) → Type 0
+Loads = List SetupEntry → List (Result EntryContent EntryFault) → List ℕ → Type 0
+
+-- The files of the entries were loaded, and then the logs in the folders of their tables, of which this was told: what happened to the
+-- count of loads that failed.
+pub record AreCheckLoads (files : Option (List NamedFile)) (before after : Option ℕ) (entries : List SetupEntry) (reads : List (Result EntryContent EntryFault)) (days : List ℕ) : Type 0 where
+  pub next : Option ℕ
+  pub loads : AreEntryLoads files before next entries reads
+  pub logs : AreDaysTold files next after entries days
 
 -- what was read of the entries of a setup, where `loads` says what happened to the count of loads that failed
-pub record IsSetupRead (files : Option (List NamedFile)) (loads : Loads) (path : List ℕ) (entries : List SetupEntry) (reads : List (Result EntryContent EntryFault)) : Type 0 where
+pub record IsSetupRead (files : Option (List NamedFile)) (loads : Loads) (path : List ℕ) (entries : List SetupEntry) (reads : List (Result EntryContent EntryFault)) (days : List ℕ) : Type 0 where
   pub said : IsSaid files path (Ok entries)
   pub read : AreEntriesRead files entries reads
-  pub loaded : loads entries reads
+  pub loaded : loads entries reads days
 
 -- the fault is that of the first entry whose files are refused, or no entry's are, and it is one of opening
 abbrev pub IsFirstFault : List SetupEntry → List (Result EntryContent EntryFault) → ServeFault → Type 0
@@ -56,25 +65,26 @@ abbrev pub IsVerdict : Option (List NamedFile) → Loads → List ℕ → Bool �
 IsVerdict files loads path true = IsOpening files path None
 IsVerdict files loads path false =
     (fault : ServeFault) × IsOpening files path (Some fault)
-    × (entries : List SetupEntry) × (reads : List (Result EntryContent EntryFault)) × IsSetupRead files loads path entries reads × IsFirstFault entries reads fault
+    × (entries : List SetupEntry) × (reads : List (Result EntryContent EntryFault)) × (days : List ℕ) × IsSetupRead files loads path entries reads days × IsFirstFault entries reads fault
 
 -- What was told of a setup: what is found at each of its entries, which of its files stay as they are beside new ones, which lines
--- of its scripts are no commands, and whether the server opens all, or why it opens nothing. Of files that are refused it is told what
--- was met where they were read.
+-- of its scripts are no commands, in which folders of its tables a day is open, and whether the server opens all, or why it opens
+-- nothing. Of files that are refused it is told what was met where they were read.
 pub record IsTold (files : Option (List NamedFile)) (loads : Loads) (path : List ℕ) (bad_lines : BadLinesTold) (opens : Bool) (old new : Option (List ℕ)) : Type 0 where
   pub entries : List SetupEntry
   pub reads : List (Result EntryContent EntryFault)
   pub findings : List Finding
   pub scripts : List ℕ
+  pub days : List ℕ
   pub fault : Option ServeFault
-  pub setup : IsSetupRead files loads path entries reads
+  pub setup : IsSetupRead files loads path entries reads days
   pub looked : AreFindings files entries findings
   pub refused : AreFoundOf reads findings
   pub read : AreScriptTexts files bad_lines entries scripts
   pub opening : IsOpening files path fault
   pub first : IfSome fault (IsFirstFault entries reads)
   pub answer : opens ≡ is_none fault
-  pub wrote : new ≡ grown old (((setup_lines entries findings ++ kept_lines entries) ++ scripts) ++ verdict_line fault)
+  pub wrote : new ≡ grown old ((((setup_lines entries findings ++ kept_lines entries) ++ scripts) ++ days) ++ verdict_line fault)
 
 -- what is told of the bad line of this number says why it is; it is nothing where memory was refused for it
 abbrev pub IsReasonOf : List ℕ → ℕ → Option (List ℕ) → Type 0

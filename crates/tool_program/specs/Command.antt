@@ -4,7 +4,7 @@ use Rattle.clap.specs.Words.{App, Rule, Text, kind_of, new_app, new_rule, subcom
 use Rattle.clap.specs.declared.builder.action.ArgAction.TheVariants.{Set}
 use Rattle.clap.specs.declared.builder.value_parser.ValueParser.TheVariants.{NonEmptyString, String}
 use Rattle.clap.specs.declared.error.kind.ErrorKind.TheVariants.{OutOfMemory}
-use Rattle.program_frame.specs.CommandLine.{flag_rule, option_rule, program_app}
+use Rattle.program_frame.specs.CommandLine.{flag_rule, option_rule, program_app, required_rule}
 use Rattle.program_frame.specs.declared.ending.Ending.{Ending}
 use Rattle.program_frame.specs.declared.ending.Ending.TheVariants as ended
 use Rattle.tool_program.specs.declared.fault.ToolFault.{ToolFault}
@@ -44,17 +44,31 @@ check_app = with_rule (with_rule (new_app (codes "check")) (path_rule (codes "se
 abbrev pub tree_app : App
 tree_app = with_rule (new_app (codes "tree")) (path_rule (codes "index"))
 
+abbrev pub make_app : App
+make_app =
+    with_rule (with_rule (with_rule (with_rule (new_app (codes "make")) (path_rule (codes "list"))) (required_rule (codes "out"))) (required_rule (codes "today")))
+    (flag_rule (codes "replace"))
+
+abbrev pub diff_app : App
+diff_app =
+    with_rule (with_rule (with_rule (with_rule (new_app (codes "diff")) (path_rule (codes "old"))) (path_rule (codes "new"))) (option_rule (codes "memo-old")))
+    (option_rule (codes "memo-new"))
+
 -- the program, which wants a sub-command
 abbrev pub bare_app : App
 bare_app = record (program_app (codes "table_tool")) {
   top = record (program_app (codes "table_tool")).top { subcommand_required = true; arg_required_else_help = true };
 }
 
--- the program and its sub-commands
-abbrev pub tool_app : App
-tool_app =
+-- the program and its sub-commands that show and check
+abbrev pub shown_app : App
+shown_app =
     with_subcommand (with_subcommand (with_subcommand (with_subcommand (with_subcommand bare_app show_app.top) fields_app.top) csv_app.top) check_app.top)
     tree_app.top
+
+-- the program and its sub-commands
+abbrev pub tool_app : App
+tool_app = with_subcommand (with_subcommand shown_app make_app.top) diff_app.top
 
 -- what the words of a command line ask for, of which the first is the program's name
 abbrev pub IsAskedIn : List Text → Asked → Type 0

@@ -18,6 +18,8 @@ use Rattle.tool_program.specs.declared.order.OrderFault.{OrderFault}
 use Rattle.tool_program.specs.declared.order.OrderFault.TheVariants as order
 use Rattle.tool_program.specs.declared.showing.ShowFault.{ShowFault}
 use Rattle.tool_program.specs.declared.showing.ShowFault.TheVariants as show
+use Rattle.program_frame.specs.Endings.{failure_status, failure_words}
+use Rattle.table_maker.specs.MakeFaults.{make_status, make_words}
 use Rattle.tool_program.specs.Reasons.{check_reason, show_reason}
 
 -- ---- of which file
@@ -75,6 +77,8 @@ IsToolFaultOf fault path tool.NoMemory = is_no_memory fault ≡ true
 IsToolFaultOf fault path (tool.Table told why) = (told.now ≡ path) × (why ≡ fault) × (is_no_memory fault ≡ false)
 IsToolFaultOf fault path (tool.Setup told why) = ⊥
 IsToolFaultOf fault path tool.Output = fault ≡ show.Text text.Sink
+IsToolFaultOf fault path tool.BadOut = ⊥
+IsToolFaultOf fault path (tool.Make why) = ⊥
 
 -- the fault of a setup is told with its path
 abbrev pub IsSetupTold : CheckFault → Type 0
@@ -89,16 +93,20 @@ IsToolFaultOfSetup fault path tool.NoMemory = fault ≡ check.NoMemory
 IsToolFaultOfSetup fault path (tool.Table told why) = ⊥
 IsToolFaultOfSetup fault path (tool.Setup told why) = (told.now ≡ path) × (why ≡ fault) × IsSetupTold fault
 IsToolFaultOfSetup fault path tool.Output = fault ≡ check.Sink
+IsToolFaultOfSetup fault path tool.BadOut = ⊥
+IsToolFaultOfSetup fault path (tool.Make why) = ⊥
 
 -- ---- the exit status, and what is said
 
--- 1 for the command line, 2 for a file or a setup, 3 for want of memory, 4 for the output
+-- 1 for the command line, 2 for a file or a setup, 3 for want of memory, 4 for the output or a folder
 abbrev pub tool_status : ToolFault → ℕ
 tool_status tool.BadRange = 1
 tool_status tool.NoMemory = 3
 tool_status (tool.Table path why) = 2
 tool_status (tool.Setup path why) = 2
 tool_status tool.Output = 4
+tool_status tool.BadOut = 1
+tool_status (tool.Make why) = failure_status make_status why
 
 -- why nothing is shown or checked, or not all; of a file, its path and why
 abbrev pub tool_words : ToolFault → List ℕ
@@ -107,3 +115,5 @@ tool_words tool.NoMemory = codes "out of memory"
 tool_words (tool.Table path why) = path.now ++ (codes ": " ++ show_reason path.now why)
 tool_words (tool.Setup path why) = path.now ++ (codes ": " ++ check_reason path.now why)
 tool_words tool.Output = codes "the output failed"
+tool_words tool.BadOut = codes "--out wants a name that ends with .DBF or .dbf"
+tool_words (tool.Make why) = failure_words make_words why

@@ -9,4 +9,6 @@ pub mod IndexTree
 pub mod Memos
 pub mod Reasons
 pub mod Faults
+pub mod TableMade
+pub mod Comparison
 pub mod Answers

@@ -8,8 +8,10 @@ use Rattle.table_text.specs.declared.memo_form.MemoForm.{MemoForm}
 use Rattle.table_text.specs.declared.memo_form.MemoForm.TheVariants.{FirstLine, Whole}
 use Rattle.table_text.specs.declared.selection.Selection.{Selection}
 use Rattle.tool_program.specs.declared.options.Asked.{Asked}
-use Rattle.tool_program.specs.declared.options.Asked.TheVariants.{Show, Check, Tree}
+use Rattle.tool_program.specs.declared.options.Asked.TheVariants.{Show, Check, Tree, Make, Diff}
 use Rattle.tool_program.specs.declared.options.CheckOptions.{CheckOptions}
+use Rattle.tool_program.specs.declared.options.DiffOptions.{DiffOptions}
+use Rattle.tool_program.specs.declared.options.MakeOptions.{MakeOptions}
 use Rattle.tool_program.specs.declared.options.Options.{Options}
 use Rattle.tool_program.specs.declared.options.View.{View}
 use Rattle.tool_program.specs.declared.options.View.TheVariants.{Records, Csv, Fields}
@@ -61,22 +63,63 @@ pub record IsOfSetup (rows : List Row) (options : CheckOptions) : Type 0 where
   pub setup : first_of (codes "setup") rows ≡ Some options.setup.now
   pub lines : IsFlag rows (codes "lines") (is_each options.bad_lines)
 
--- what a sub-command of this name, with these options, asks for: `check` of a setup, `tree` of an index, any other of a table
+-- what is asked for of a table that is made
+pub record IsOfMake (rows : List Row) (options : MakeOptions) : Type 0 where
+  pub list : first_of (codes "list") rows ≡ Some options.list.now
+  pub out : first_of (codes "out") rows ≡ Some options.out.now
+  pub today : first_of (codes "today") rows ≡ Some options.today.now
+  pub replace : IsFlag rows (codes "replace") options.replace
+
+-- what is asked for of two tables that are compared
+pub record IsOfDiff (rows : List Row) (options : DiffOptions) : Type 0 where
+  pub old_table : first_of (codes "old") rows ≡ Some options.old_table.now
+  pub new_table : first_of (codes "new") rows ≡ Some options.new_table.now
+  pub old_memos : first_of (codes "memo-old") rows ≡ option_copied options.old_memos
+  pub new_memos : first_of (codes "memo-new") rows ≡ option_copied options.new_memos
+
+-- the name is that of a sub-command that shows a table: none of the others
+abbrev pub IsOfShow : Text → Type 0
+IsOfShow name = (name ≢ codes "check") × (name ≢ codes "tree") × (name ≢ codes "make") × (name ≢ codes "diff")
+
+-- what a sub-command of this name, with these options, asks for: `check` of a setup, `tree` of an index, `make` of a table that is made,
+-- `diff` of two tables, any other of a table
 abbrev pub IsAskedBy : Text → List Row → Asked → Type 0
-IsAskedBy name rows (Show options) = (name ≢ codes "check") × (name ≢ codes "tree") × IsOfTable name rows options
+IsAskedBy name rows (Show options) = IsOfShow name × IsOfTable name rows options
 IsAskedBy name rows (Check options) = (name ≡ codes "check") × IsOfSetup rows options
 IsAskedBy name rows (Tree index) = (name ≡ codes "tree") × (first_of (codes "index") rows ≡ Some index.now)
+IsAskedBy name rows (Make options) = (name ≡ codes "make") × IsOfMake rows options
+IsAskedBy name rows (Diff options) = (name ≡ codes "diff") × IsOfDiff rows options
 
 -- what a command line asks for, of which this is the sub-command
 abbrev pub IsAskedOf : Option (Text × List Row) → Asked → Type 0
 IsAskedOf None asked = ⊥
 IsAskedOf (Some read) asked = IsAskedBy read.0 read.1 asked
 
+-- the first of three texts, where all are there
+abbrev pub first_of_three : Option Text → Option Text → Option Text → Option Text
+first_of_three (Some first) (Some second) (Some third) = Some first
+first_of_three first second third = None
+
+-- the path of the list of fields, where that of the table and the date are there, too
+abbrev pub made_list : List Row → Option Text
+made_list rows = first_of_three (first_of (codes "list") rows) (first_of (codes "out") rows) (first_of (codes "today") rows)
+
+-- the first of two texts, where both are there
+abbrev pub first_of_two : Option Text → Option Text → Option Text
+first_of_two (Some first) (Some second) = Some first
+first_of_two first second = None
+
+-- the path of the old table, where that of the new one is there, too
+abbrev pub compared_table : List Row → Option Text
+compared_table rows = first_of_two (first_of (codes "old") rows) (first_of (codes "new") rows)
+
 -- the path that a sub-command has to have
 abbrev pub path_of : Text → List Row → Option Text
 path_of name rows =
     if bytes_eq name (codes "check") then first_of (codes "setup") rows
     else if bytes_eq name (codes "tree") then first_of (codes "index") rows
+    else if bytes_eq name (codes "make") then made_list rows
+    else if bytes_eq name (codes "diff") then compared_table rows
     else first_of (codes "table") rows
 
 -- the sub-command has its path, as `clap` sees to it

@@ -52,14 +52,14 @@ pub record IsShown (files : Option (List NamedFile)) (options : Options) (old ne
   pub ordered : IsOrder files (option_copied options.order) (option_copied options.from) table order
   pub wrote : new ≡ grown old (view_text table date order options.view)
 
--- The files whose paths the options give are no table for this: the fault is that of the table's file and of the file of memos that
--- it is read with.
-pub record IsNoTable (files : Option (List NamedFile)) (unread : List ℕ → Type 0) (options : Options) (fault : ImageFault) : Type 0 where
+-- The files of these paths are no table for this: the fault is that of the table's file and of the file of memos that it is read with,
+-- which is that of a path, where one is given.
+pub record IsNoTable (files : Option (List NamedFile)) (unread : List ℕ → Type 0) (path : List ℕ) (memos : Option (List ℕ)) (fault : ImageFault) : Type 0 where
   pub dbf : List ℕ
   pub dbt : Option (List ℕ)
-  pub table_file : IsFileOf files options.table.now dbf
-  pub memo_file : IsMemoFile files options.table.now dbf (option_copied options.memos) dbt
-  pub missing : IsMissingBeside unread options.table.now dbf (option_copied options.memos) dbt
+  pub table_file : IsFileOf files path dbf
+  pub memo_file : IsMemoFile files path dbf memos dbt
+  pub missing : IsMissingBeside unread path dbf memos dbt
   pub refused : IsImageRefusal fault dbf dbt
 
 -- The table of these files can't be shown in the order of the index file whose path the options give, for this fault of that file. No

@@ -6,9 +6,8 @@ ghost use Rattle.folders.specs.Files.{IsTooLong, IsUnrecovered, load_refusal};
 ghost use Rattle.folders.specs.declared.named.NamedFile.{NamedFile};
 ghost use Rattle.station_lines.specs.Setup.{IndexesFollowTables, IsSetup};
 ghost use Rattle.setup_files.specs.EntryFiles.{AreEntriesRead};
-ghost use Rattle.setup_files.specs.Loads.{AreEntryLoads};
 ghost use Rattle.office_run.specs.WholeRun.{IsSaid};
-ghost use Rattle.tool_program.specs.Check.{check_load_fault, IsFirstFault, IsOpening, IsTold, IsVerdict};
+ghost use Rattle.tool_program.specs.Check.{check_load_fault, AreCheckLoads, IsFirstFault, IsOpening, IsTold, IsVerdict};
 ghost use Rattle.tool_program.specs.Check.{IsBadLineFault, IsLineFault, TellsBadLine, TellsNothing};
 
 use crate::verdict::append_verdict;
@@ -16,7 +15,8 @@ use byte_io::{ByteSink, Bytes, SinkFault, write_all};
 use folders::{LoadFault, Source};
 use office_run::{Loaded, ServeFault, open_loaded};
 use setup_check::{
-    BadLinesTold, Looked, bad_setup_text, findings_text, kept_files_text, look_at_all, scripts_text,
+    BadLinesTold, Looked, bad_setup_text, findings_text, kept_files_text, look_at_all,
+    open_days_text, scripts_text,
 };
 use setup_files::{EntryContent, EntryFault};
 use station_lines::{SetupEntry, SetupFault, parse_setup};
@@ -124,8 +124,8 @@ fn entries_of(alloc: Global, text: &[u8]) -> Result<Vec<SetupEntry>, CheckFault>
 }
 
 /// Looks at every file that the setup of a path names, and tells what is found, a line a file, which files stay as they are beside
-/// new ones, which lines of the scripts are no commands, and whether the server would open all, or why it would open nothing.
-/// Whether it would is answered too. Each file is loaded once.
+/// new ones, which lines of the scripts are no commands, in which folders of tables a live day is open, and whether the server would
+/// open all, or why it would open nothing. Whether it would is answered too. Each file is loaded once.
 ///
 /// `CannotRead` says that the setup can't be read, `Unrecovered` that the list of a set of new files lies in its folder, and
 /// `BadLine` that its line of this number is bad, and why; then nothing is told.
@@ -140,9 +140,9 @@ pub fn check_setup<F: Source, S: ByteSink>(
 ) -> Result<bool, CheckFault>
     // It says that the server would open all exactly where `open_setup`, which the server begins with, opens it. That a file can't be
     // read is said only where its load has failed, or where it is over the limit.
-    ensures opens { let loads = AreEntryLoads (F.files source.old) (F.failures source.old) (F.failures source.new) in
+    ensures opens { let loads = AreCheckLoads (F.files source.old) (F.failures source.old) (F.failures source.new) in
         IfOk result (IsVerdict (F.files source.old) loads setup.now) }
-    ensures told { let loads = AreEntryLoads (F.files source.old) (F.failures source.old) (F.failures source.new) in
+    ensures told { let loads = AreCheckLoads (F.files source.old) (F.failures source.old) (F.failures source.new) in
         IfOk result (λ opens. IsTold (F.files source.old) loads setup.now bad_lines opens (S.written sink.old) (S.written sink.new)) }
     // A line that is told as bad is the first that is, and what is told of it says why.
     ensures bad_line { IfErr result (TellsBadLine (F.files source.old) setup.now) }
@@ -165,6 +165,8 @@ pub fn check_setup<F: Source, S: ByteSink>(
     let scripts = scripts_text(alloc, &entries, &reads, bad_lines)?;
     report.extend_from_slice(&scripts)?;
     let fault = fault_of_opening(alloc, &entries, reads)?;
+    let days = open_days_text(alloc, source, &entries)?;
+    report.extend_from_slice(&days)?;
     append_verdict(alloc, &mut report, &fault)?;
     write_all(sink, &report)?;
     Ok(fault.is_none())

@@ -8,11 +8,12 @@ ghost use Rattle.tool_program.specs.Reasons.{check_reason, show_reason};
 use crate::checking::CheckFault;
 use crate::reason::{print_check_reason, print_show_reason};
 use crate::showing::ShowFault;
-use program_frame::Reason;
+use program_frame::{Failure, Reason};
 use std::io;
 use std::io::Write;
+use table_maker::MakeFault;
 
-/// Why a call of the program did not show or check what it was asked for, or not all.
+/// Why a call of the program did not show, check or make what it was asked for, or not all.
 #[derive(Debug, PartialEq, Eq, Drop)]
 pub enum ToolFault<'a> {
     /// The range of records is none.
@@ -25,6 +26,10 @@ pub enum ToolFault<'a> {
     Setup(&'a str, CheckFault),
     /// The output failed.
     Output,
+    /// The name of a table that is to be made ends with neither `.DBF` nor `.dbf`.
+    BadOut,
+    /// The table is not made.
+    Make(Failure<MakeFault<'a>>),
 }
 
 impl Reason for ToolFault<'_> {
@@ -37,7 +42,7 @@ impl Reason for ToolFault<'_> {
 
     ghost no_memory = { NoMemory };
 
-    // 1 for the command line, 2 for a file or a setup, 3 for want of memory, 4 for the output.
+    // 1 for the command line, 2 for a file or a setup, 3 for want of memory, 4 for the output or a folder.
     fn exit_status(&self) -> u8 {
         match self {
             ToolFault::BadRange => 1,
@@ -45,6 +50,8 @@ impl Reason for ToolFault<'_> {
             ToolFault::Setup(_, _) => 2,
             ToolFault::NoMemory => 3,
             ToolFault::Output => 4,
+            ToolFault::BadOut => 1,
+            ToolFault::Make(fault) => fault.exit_status(),
         }
     }
 
@@ -67,6 +74,8 @@ fn print_fault<W: Write>(out: &mut W, fault: &ToolFault<'_>) -> io::Result<()>
         ToolFault::Table(path, fault) => print_table(out, path, *fault),
         ToolFault::Setup(path, fault) => print_setup(out, path, fault),
         ToolFault::Output => out.write_all(b"the output failed"),
+        ToolFault::BadOut => out.write_all(b"--out wants a name that ends with .DBF or .dbf"),
+        ToolFault::Make(fault) => fault.print(out),
     }
 }
 

@@ -4,15 +4,16 @@ ghost use Rattle.std.specs.Prelude.{◌≡◌, map, false, None, IfErr, IfOk, If
 ghost use Rattle.clap.specs.Words.{app_of, first_of, rule_of, subcommand_rows_of};
 ghost use Rattle.program_frame.specs.CommandLine.{option_rows};
 ghost use Rattle.tool_program.specs.Command.{check_app, csv_app, fields_app, from_rule, path_rule, show_app, tool_app, tree_app};
+ghost use Rattle.tool_program.specs.Command.{bare_app, diff_app, make_app};
 ghost use Rattle.tool_program.specs.Command.{with_record_choice, with_table_paths, IsAskedIn, IsWhyNotRead};
 ghost use Rattle.tool_program.specs.Options.{is_each, path_of, range_given, shows_whole, AsksBadRange, HasBadRange, HasPath};
-ghost use Rattle.tool_program.specs.Options.{IsAskedBy, IsAskedOf, IsOfSetup, IsOfTable, IsSelection, IsView};
+ghost use Rattle.tool_program.specs.Options.{compared_table, made_list, IsAskedBy, IsAskedOf, IsOfDiff, IsOfMake, IsOfSetup, IsOfTable, IsSelection, IsView};
 
 use crate::fault::ToolFault;
 use crate::range::range_of;
 use clap::builder::ValueParser;
 use clap::{Arg, ArgAction, ArgMatches, Command};
-use program_frame::{Ending, flag, has_flag, option, program, value_of};
+use program_frame::{Ending, flag, has_flag, option, program, required_option, value_of};
 use setup_check::BadLinesTold;
 use std::alloc::{AllocError, Global};
 use std::convert::AsStr;
@@ -26,13 +27,15 @@ const EXAMPLES: &str = "Examples:
   table_tool check OFFICE.SET --lines
   table_tool tree NAMES.NDX
   table_tool csv LEDGER.DBF --deleted --deleted-column > LEDGER.CSV
+  table_tool make FIELDS.TXT --out DATA/PEOPLE.DBF --today 19870302
+  table_tool diff MEMBERS.DBF NEW/MEMBERS.DBF
 
 Exit status:
-  0  the table or the index is shown, or the server would open the setup, or the reader of the output is gone
-  1  the command line is bad
-  2  a file can't be read or is no table, or the server would not open the setup
+  0  what was asked for is shown or made, or the server would open the setup, or the two tables are the same, or the reader of the output is gone
+  1  the command line is bad, or the two tables differ
+  2  a file can't be read or is no table, or the server would not open the setup, or the list of fields is none, or the table is there
   3  memory was refused
-  4  the output failed";
+  4  the output failed, or the folder has not got the table";
 
 /// What of a table is shown.
 #[derive(Clone, Copy, Debug, PartialEq, Eq)]
@@ -69,6 +72,32 @@ pub(crate) struct CheckOptions<'a> {
     pub bad_lines: BadLinesTold,
 }
 
+/// What a command line says of a table that is made.
+#[derive(Clone, Copy, Debug)]
+pub(crate) struct MakeOptions<'a> {
+    /// The path of the list of its fields.
+    pub list: &'a str,
+    /// The path of the table.
+    pub out: &'a str,
+    /// The text of the date that it tells.
+    pub today: &'a str,
+    /// Whether files that are there are replaced.
+    pub replace: bool,
+}
+
+/// What a command line says of two tables that are compared.
+#[derive(Clone, Copy, Debug)]
+pub(crate) struct DiffOptions<'a> {
+    /// The path of the old table.
+    pub old_table: &'a str,
+    /// The path of the new table.
+    pub new_table: &'a str,
+    /// The path of the file of the old table's memos, where it is given.
+    pub old_memos: Option<&'a str>,
+    /// The path of the file of the new table's memos, where it is given.
+    pub new_memos: Option<&'a str>,
+}
+
 /// What a command line asks for.
 #[derive(Clone, Copy, Debug)]
 pub(crate) enum Asked<'a> {
@@ -78,21 +107,34 @@ pub(crate) enum Asked<'a> {
     Check(CheckOptions<'a>),
     /// The pages of the index file of this path.
     Tree(&'a str),
+    /// A table that is made.
+    Make(MakeOptions<'a>),
+    /// What has changed from one table to another.
+    Diff(DiffOptions<'a>),
 }
 
 /// The command line, for `clap` to read. An error where memory is refused.
 pub(crate) fn command<'a>(alloc: Global) -> Result<Command<'a>, AllocError>
     ensures app { IfOk result (λ command. app_of command ≡ tool_app) }
 {
-    let about = "Shows dBASE III PLUS tables and indexes";
-    program(alloc, "table_tool", about, EXAMPLES)
-        .subcommand_required(true)
-        .arg_required_else_help(true)
+    bare_command(alloc)
         .subcommand(show_command(alloc)?)?
         .subcommand(fields_command(alloc)?)?
         .subcommand(csv_command(alloc)?)?
         .subcommand(check_command(alloc)?)?
-        .subcommand(tree_command(alloc)?)
+        .subcommand(tree_command(alloc)?)?
+        .subcommand(make_command(alloc)?)?
+        .subcommand(diff_command(alloc)?)
+}
+
+// The command line without its sub-commands, of which one is wanted.
+fn bare_command<'a>(alloc: Global) -> Command<'a>
+    ensures app { app_of result ≡ bare_app }
+{
+    let about = "Shows dBASE III PLUS tables and indexes, compares and makes tables";
+    program(alloc, "table_tool", about, EXAMPLES)
+        .subcommand_required(true)
+        .arg_required_else_help(true)
 }
 
 fn show_command<'a>(alloc: Global) -> Result<Command<'a>, AllocError>
@@ -157,6 +199,43 @@ fn tree_command<'a>(alloc: Global) -> Result<Command<'a>, AllocError>
             "index",
             "FILE.NDX",
             "The index, which may be damaged",
+        ))
+}
+
+fn make_command<'a>(alloc: Global) -> Result<Command<'a>, AllocError>
+    ensures app { IfOk result (λ command. app_of command ≡ make_app) }
+{
+    Command::new(alloc, "make")
+        .about("Makes an empty table, and the file of its memos, from a list of its fields")
+        .arg(path(
+            alloc,
+            "list",
+            "FIELDS.TXT",
+            "The list: a line for each field, as `fields` prints it",
+        ))?
+        .arg(required_option(alloc, "out", "FILE.DBF", "The table, FILE.DBF or file.dbf"))?
+        .arg(required_option(alloc, "today", "YYYYMMDD", "The date that the table tells"))?
+        .arg(flag(alloc, "replace", "Replace files that are there"))
+}
+
+fn diff_command<'a>(alloc: Global) -> Result<Command<'a>, AllocError>
+    ensures app { IfOk result (λ command. app_of command ≡ diff_app) }
+{
+    Command::new(alloc, "diff")
+        .about("Prints what has changed from one table to another, a line a change")
+        .arg(path(alloc, "old", "OLD.DBF", "The old table"))?
+        .arg(path(alloc, "new", "NEW.DBF", "The new table"))?
+        .arg(option(
+            alloc,
+            "memo-old",
+            "OLD.DBT",
+            "The file of the old table's memos; if not given, the one beside it",
+        ))?
+        .arg(option(
+            alloc,
+            "memo-new",
+            "NEW.DBT",
+            "The file of the new table's memos; if not given, the one beside it",
         ))
 }
 
@@ -317,6 +396,34 @@ fn setup_asked<'a>(matches: &ArgMatches<'a>) -> Option<CheckOptions<'a>>
     })
 }
 
+// What is asked for of a table that is made. `None` where one of its three texts is missing.
+#[tactic(auto, using(crate::proofs::MadeLaws::none_first, crate::proofs::MadeLaws::none_second, crate::proofs::MadeLaws::none_third))]
+fn make_asked<'a>(matches: &ArgMatches<'a>) -> Option<MakeOptions<'a>>
+    ensures asked { IfSome result (IsOfMake (option_rows matches.now)) }
+    ensures bad { result ≡ None → made_list (option_rows matches.now) ≡ None }
+{
+    Some(MakeOptions {
+        list: value_of(matches, "list")?,
+        out: value_of(matches, "out")?,
+        today: value_of(matches, "today")?,
+        replace: has_flag(matches, "replace"),
+    })
+}
+
+// What is asked for of two tables that are compared. `None` where the path of one is missing.
+#[tactic(auto, using(crate::proofs::MadeLaws::none_of_two, crate::proofs::MadeLaws::none_after))]
+fn diff_asked<'a>(matches: &ArgMatches<'a>) -> Option<DiffOptions<'a>>
+    ensures asked { IfSome result (IsOfDiff (option_rows matches.now)) }
+    ensures bad { result ≡ None → compared_table (option_rows matches.now) ≡ None }
+{
+    Some(DiffOptions {
+        old_table: value_of(matches, "old")?,
+        new_table: value_of(matches, "new")?,
+        old_memos: value_of(matches, "memo-old"),
+        new_memos: value_of(matches, "memo-new"),
+    })
+}
+
 // What a sub-command asks for. `None` where its path is missing or its range of records is none.
 fn asked_by<'a>(name: &str, matches: &ArgMatches<'a>) -> Option<Asked<'a>>
     ensures asked { IfSome result (IsAskedBy name.now (option_rows matches.now)) }
@@ -325,6 +432,8 @@ fn asked_by<'a>(name: &str, matches: &ArgMatches<'a>) -> Option<Asked<'a>>
     match name {
         "check" => Some(Asked::Check(setup_asked(matches)?)),
         "tree" => Some(Asked::Tree(value_of(matches, "index")?)),
+        "make" => Some(Asked::Make(make_asked(matches)?)),
+        "diff" => Some(Asked::Diff(diff_asked(matches)?)),
         _ => Some(Asked::Show(table_asked(name, matches)?)),
     }
 }

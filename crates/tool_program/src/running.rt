@@ -1,22 +1,26 @@
-//! A call of the program: what its command line asks for is shown or checked, and how that ended.
+//! A call of the program: what its command line asks for is shown, checked, compared or made, and how that ended.
 
-ghost use Rattle.std.specs.Prelude.{◌≡◌, map, true, false, Err, Ok, Some, IfErr, IfOk, IsErrAnd, OnOk};
+ghost use Rattle.std.specs.Prelude.{◌≡◌, map, true, false, Err, Ok, Some, IfErr, IfOk, IsErrAnd, IsErrOf, OnOk};
+ghost use Rattle.program_frame.specs.declared.ending.Failure.TheVariants.{Work as OfWork};
+ghost use Rattle.table_maker.specs.declared.fault.MakeFault.TheVariants.{Exists};
 ghost use Rattle.byte_io.specs.Sink.{IsFront, Rises};
 ghost use Rattle.folders.specs.Files.{load_refusal};
-ghost use Rattle.tool_program.specs.Check.{check_load_fault};
+ghost use Rattle.tool_program.specs.Check.{check_load_fault, AreCheckLoads};
 ghost use Rattle.tool_program.specs.Memos.{IsNotHad};
-ghost use Rattle.setup_files.specs.Loads.{AreEntryLoads};
-ghost use Rattle.tool_program.specs.Answers.{asked_path, IsAnswered, IsAnsweredTo, IsCheckedAs, IsShownAs, IsTreeShownAs, IsToldUnloaded};
+ghost use Rattle.tool_program.specs.Answers.{asked_refusal, IsAnswered, IsAnsweredTo, IsCheckedAs, IsShownAs, IsTreeShownAs, IsToldUnloaded};
 ghost use Rattle.tool_program.specs.Answers.{IsWhyUnanswered, IsWhyUnchecked, IsWhyUnshown, IsWhyNoTree, IsWhyNotDone};
+ghost use Rattle.tool_program.specs.Answers.{IsComparedAs, IsPlacedIn, IsPlacedTo, IsTakenIn, IsTakenTo, IsWhyNoDiff};
 ghost use Rattle.tool_program.specs.Faults.{path_at_fault, IsToolFaultOf, IsToolFaultOfSetup};
 ghost use Rattle.tool_program.specs.Faults.{is_no_memory as is_want_of_memory, is_load_no_memory as is_want_of_load, is_image_no_memory as is_want_of_image};
 ghost use Rattle.tool_program.specs.Faults.{is_ndx_no_memory as is_want_of_ndx, is_expression_no_memory as is_want_of_expression};
 ghost use Rattle.tool_program.specs.Faults.{is_order_no_memory as is_want_of_order};
 
 use crate::checking::{CheckFault, check_setup};
+use crate::comparing::compare_tables;
 use crate::fault::ToolFault;
 use crate::indexing::show_tree;
-use crate::options::{Asked, CheckOptions, Options, read_options};
+use crate::making::make_table;
+use crate::options::{Asked, CheckOptions, DiffOptions, Options, read_options};
 use crate::order::OrderFault;
 use crate::report::ToolReport;
 use crate::showing::{ShowFault, show_file};
@@ -26,7 +30,7 @@ use dbf_image::ImageFault;
 use folders::{LoadFault, Source};
 use key_expr::ExprFault;
 use ndx_index::NdxFault;
-use program_frame::Ending;
+use program_frame::{Ending, System};
 use std::alloc::Global;
 use std::convert::AsStr;
 use table_text::TextFault;
@@ -196,7 +200,7 @@ fn run_check<'a, F: Source, S: ByteSink + MayClose>(
     sink: &mut S,
     options: &CheckOptions<'a>,
 ) -> Result<ToolReport, ToolFault<'a>>
-    ensures answered { let loads = AreEntryLoads (F.files source.old) (F.failures source.old) (F.failures source.new) in
+    ensures answered { let loads = AreCheckLoads (F.files source.old) (F.failures source.old) (F.failures source.new) in
         IfOk result (IsCheckedAs (F.files source.old) loads options.now (S.written sink.old) (S.written sink.new)) }
     ensures unread { result ≡ Ok ToolReport.Unread → (S.closed sink.new ≡ true) × Rises (S.failures sink.old) (S.failures sink.new) }
     ensures output { result ≡ Err ToolFault.Output → (S.closed sink.new ≡ false) × Rises (S.failures sink.old) (S.failures sink.new) }
@@ -213,27 +217,55 @@ fn run_check<'a, F: Source, S: ByteSink + MayClose>(
     }
 }
 
-/// Shows or checks what a command line asks for: reads the files that it names, and writes the text into a sink. The report says how
-/// that came to its end.
-///
-/// A fault is told with the path of the file that it is one of; `NoMemory` says that there was no memory, and `Output` that the sink
-/// failed, and still has its reader. `BadRange` is none of these.
-pub fn run_asked<'a, F: Source, S: ByteSink + MayClose>(
+// Compares two tables.
+fn run_diff<'a, F: Source, S: ByteSink + MayClose>(
     alloc: Global,
     source: &mut F,
     sink: &mut S,
+    options: &DiffOptions<'a>,
+) -> Result<ToolReport, ToolFault<'a>>
+    ensures answered { IfOk result (IsComparedAs (F.files source.old) options.now (S.written sink.old) (S.written sink.new)) }
+    ensures unread { result ≡ Ok ToolReport.Unread → (S.closed sink.new ≡ true) × Rises (S.failures sink.old) (S.failures sink.new) }
+    ensures output { result ≡ Err ToolFault.Output → (S.closed sink.new ≡ false) × Rises (S.failures sink.old) (S.failures sink.new) }
+    ensures kept { IsFront (S.written sink.old) (S.written sink.new) }
+    ensures early { (why : LoadFault) → load_refusal (F.files source.old) options.now.old_table.now ≡ Some why
+        → IsErrAnd result (IsToolFaultOf (ShowFault.Load why) options.now.old_table.now) }
+    ensures fault { IfErr result (IsWhyNoDiff (F.files source.old) (F.failures source.old) (F.failures source.new) options.now) }
+{
+    match compare_tables(alloc, source, sink, options) {
+        Ok(false) => Ok(ToolReport::Good),
+        Ok(true) => Ok(ToolReport::Differ),
+        Err(fault) => not_shown(fault.why, sink.is_closed(), fault.path),
+    }
+}
+
+/// Does what a command line asks for: reads the files that it names, and writes the text into a sink, or makes a table in a folder of
+/// the system. The report says how that came to its end.
+///
+/// A fault is told with the path of the file that it is one of; `NoMemory` says that there was no memory, and `Output` that the sink
+/// failed, and still has its reader; `Make` and `BadOut` say why a table is not made. `BadRange` is none of these.
+#[tactic(auto, using(byte_io::specs::Laws::Sinks::front_same, crate::proofs::MadeLaws::made_unread, crate::proofs::MadeLaws::made_output))]
+pub fn run_asked<'a, F: Source, S: ByteSink + MayClose, Y: System>(
+    alloc: Global,
+    source: &mut F,
+    sink: &mut S,
+    system: &Y,
     asked: &Asked<'a>,
 ) -> Result<ToolReport, ToolFault<'a>>
-    // What was written is what was asked for, and the report says whether the server would open a setup.
-    ensures answered { let loads = AreEntryLoads (F.files source.old) (F.failures source.old) (F.failures source.new) in
+    // What was written is what was asked for, and the report says whether the server would open a setup, and whether two tables differ.
+    ensures answered { let loads = AreCheckLoads (F.files source.old) (F.failures source.old) (F.failures source.new) in
         IfOk result (IsAnswered (F.files source.old) loads asked.now (S.written sink.old) (S.written sink.new)) }
+    // A table that is asked for is put into its folder.
+    ensures made { IfOk result (λ _. IsPlacedIn Y.Disk.meaning (Y.opens system.now) (F.files source.old) asked.now) }
+    // That a file is there is told only where one of the table's two names has one.
+    ensures taken { IsErrOf result (ToolFault.Make (OfWork Exists)) → IsTakenIn Y.Disk.meaning (Y.opens system.now) asked.now }
     // That nobody reads the output any more is said only where that is so, and that it failed only where it is not; and both only
     // after a failure.
     ensures unread { result ≡ Ok ToolReport.Unread → (S.closed sink.new ≡ true) × Rises (S.failures sink.old) (S.failures sink.new) }
     ensures output { result ≡ Err ToolFault.Output → (S.closed sink.new ≡ false) × Rises (S.failures sink.old) (S.failures sink.new) }
     ensures kept { IsFront (S.written sink.old) (S.written sink.new) }
-    // Where no load can give the file that is asked for the answer is why, whether there is memory or not.
-    ensures early { (why : LoadFault) → load_refusal (F.files source.old) (asked_path asked.now) ≡ Some why
+    // Where no load can give the file that is to be shown or checked, or the old table, the answer is why, whether there is memory or not.
+    ensures early { (why : LoadFault) → asked_refusal (F.files source.old) asked.now ≡ Some why
         → IsErrAnd result (IsToldUnloaded asked.now why) }
     ensures fault { IfErr result (IsWhyUnanswered (F.files source.old) (F.failures source.old) (F.failures source.new) asked.now) }
 {
@@ -241,29 +273,37 @@ pub fn run_asked<'a, F: Source, S: ByteSink + MayClose>(
         Asked::Show(options) => run_show(alloc, source, sink, options),
         Asked::Check(options) => run_check(alloc, source, sink, options),
         Asked::Tree(path) => run_tree(alloc, source, sink, path),
+        Asked::Make(options) => make_table(alloc, source, system, options),
+        Asked::Diff(options) => run_diff(alloc, source, sink, options),
     }
 }
 
 /// Does what the words of a command line ask for, of which the first is the program's name: reads the files that it names, and
-/// writes the text into a sink.
+/// writes the text into a sink, or makes a table in a folder of the system.
 ///
 /// An ending says that the words give no options, that their range of records is none, or what [`run_asked`] says.
 #[tactic(auto, using(byte_io::specs::Laws::Sinks::front_same))]
-pub fn run_words<'a, F: Source, S: ByteSink + MayClose, T: AsStr>(
+pub fn run_words<'a, F: Source, S: ByteSink + MayClose, Y: System, T: AsStr>(
     alloc: Global,
     source: &mut F,
     sink: &mut S,
+    system: &Y,
     words: &'a [T],
 ) -> Result<ToolReport, Ending<ToolFault<'a>>>
     // What was written is what the words ask for.
-    ensures answered { let loads = AreEntryLoads (F.files source.old) (F.failures source.old) (F.failures source.new) in
+    ensures answered { let loads = AreCheckLoads (F.files source.old) (F.failures source.old) (F.failures source.new) in
         IfOk result (IsAnsweredTo (map T.text words.entry.now) (F.files source.old) loads (S.written sink.old) (S.written sink.new)) }
+    // A table that they ask for is put into its folder.
+    ensures made { IfOk result (λ _. IsPlacedTo Y.Disk.meaning (Y.opens system.now) (F.files source.old) (map T.text words.entry.now)) }
+    // That a file is there is told only where one of the names of such a table has one.
+    ensures taken { IsErrOf result (Ending.Failed (ToolFault.Make (OfWork Exists)))
+        → IsTakenTo Y.Disk.meaning (Y.opens system.now) (map T.text words.entry.now) }
     // Why it was not is what the words say, or a fault of what they ask for.
     ensures fault { IfErr result (IsWhyNotDone (map T.text words.entry.now) (F.files source.old) (F.failures source.old) (F.failures source.new)) }
     ensures kept { IsFront (S.written sink.old) (S.written sink.new) }
 {
     let asked = read_options(alloc, words)?;
-    match run_asked(alloc, source, sink, &asked) {
+    match run_asked(alloc, source, sink, system, &asked) {
         Ok(report) => Ok(report),
         Err(fault) => Err(Ending::Failed(fault)),
     }

@@ -5,13 +5,13 @@ ghost use Rattle.std.specs.Option.{option_map};
 ghost use Rattle.byte_io.specs.Sink.{grown, IsFront, Rises};
 ghost use Rattle.folders.specs.Files.{IsUnrecovered, load_refusal};
 ghost use Rattle.tool_program.specs.Order.{from_text, IsGivenOrderFault, IsOrder};
-ghost use Rattle.tool_program.specs.Memos.{IsLookedFor, IsMemoFile, IsMemosFault, IsMissingBeside, IsNotHad};
-ghost use Rattle.tool_program.specs.View.{view_text, IsBeforeText, IsFaultOfMemos, IsNoOrder, IsNoTable, IsShown};
+ghost use Rattle.tool_program.specs.Memos.{IsMemosFault, IsNotHad};
+ghost use Rattle.tool_program.specs.View.{view_text, IsBeforeText, IsNoOrder, IsNoTable, IsShown};
 
-use crate::memos::load_memos;
+use crate::loading::{bytes_of, memos_of};
 use crate::options::{Options, View};
 use crate::order::{OrderFault, read_order};
-use byte_io::{ByteSink, Bytes};
+use byte_io::ByteSink;
 use dbf_fields::Day;
 use dbf_image::{ImageFault, TableData, read_table};
 use folders::{LoadFault, Source};
@@ -104,37 +104,6 @@ fn write_view<S: ByteSink>(
     }
 }
 
-// The file of memos of a table whose own file has these bytes.
-fn memos_of<F: Source>(
-    alloc: Global,
-    source: &mut F,
-    table: &str,
-    dbf: &[u8],
-    given: Option<&str>,
-) -> Result<Option<Bytes>, ShowFault>
-    ensures found { IfOk result (IsMemoFile (F.files source.old) table.now dbf.now (option_copied given.entry)) }
-    ensures missing { let unread = IsNotHad (F.files source.old) (F.failures source.old) (F.failures source.new) in
-        IfOk result (IsMissingBeside unread table.now dbf.now (option_copied given.entry)) }
-    ensures counted { OnOk result (IsLookedFor (F.files source.old) (F.failures source.old) (F.failures source.new) table.now) }
-    ensures fault { let unread = IsNotHad (F.files source.old) (F.failures source.old) (F.failures source.new) in
-        IfErr result (IsFaultOfMemos (F.files source.old) unread table.now (option_copied given.entry)) }
-    ensures kept { F.files source.new ≡ F.files source.old }
-{
-    match load_memos(alloc, source, table, dbf, given) {
-        Ok(memos) => Ok(memos),
-        Err(why) => Err(ShowFault::Memos(why)),
-    }
-}
-
-fn bytes_of(memos: &Option<Bytes>) -> Option<&[u8]>
-    ensures value { option_copied result ≡ memos.now }
-{
-    match memos {
-        Some(bytes) => Some(bytes.as_slice()),
-        None => None,
-    }
-}
-
 // The table, and the numbers of its records in the order of the index whose path is given.
 fn load_order<F: Source>(
     alloc: Global,
@@ -204,7 +173,8 @@ pub fn show_file<F: Source, S: ByteSink>(
     ensures memos { let unread = IsNotHad (F.files source.old) (F.failures source.old) (F.failures source.new) in
         (why : LoadFault) → result ≡ Err (ShowFault.Memos why) → IsMemosFault (F.files source.old) unread options.now.table.now (option_copied options.now.memos) why }
     ensures no_table { let unread = IsNotHad (F.files source.old) (F.failures source.old) (F.failures source.new) in
-        (why : ImageFault) → result ≡ Err (ShowFault.Table why) → IsNoTable (F.files source.old) unread options.now why }
+        (why : ImageFault) → result ≡ Err (ShowFault.Table why)
+        → IsNoTable (F.files source.old) unread options.now.table.now (option_copied options.now.memos) why }
     // A fault of `Order` is one of the index file for that table.
     ensures no_order { (why : OrderFault) → result ≡ Err (ShowFault.Order why)
         → IsNoOrder (F.files source.old) (F.failures source.old) (F.failures source.new) options.now why }

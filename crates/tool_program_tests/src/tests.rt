@@ -2,7 +2,9 @@
 //! here.
 
 use byte_io::{Bytes, Failures};
-use folders::{MemorySource, NamedFile};
+use folders::{LoadFault, MemorySource, NamedFile};
+use memory_disk::MemoryDisk;
+use program_frame::{PlaceFault, System};
 use sample_files::{EMPTY_INDEX, NOTE, TABLE, with_zeros};
 use std::alloc::{AllocError, Global};
 use std::process::ExitCode;
@@ -11,7 +13,9 @@ use tool_program::{StreamSink, run_words, tell_end};
 
 mod checking;
 mod command_line;
+mod comparing;
 mod endings;
+mod making;
 mod memos;
 mod showing;
 mod trees;
@@ -52,7 +56,7 @@ fn files(alloc: Global) -> Result<MemorySource, Fail> {
     let index = by_name(alloc)?;
     let upper = memo(alloc, b"UPPER")?;
     let lower = memo(alloc, b"LOWER")?;
-    let contents: [(&[u8], &[u8]); 18] = [
+    let contents: [(&[u8], &[u8]); 20] = [
         (b"T.DBF", &TABLE),
         (b"S.DBF", swapped.as_slice()),
         (b"S.NDX", index.as_slice()),
@@ -80,6 +84,8 @@ fn files(alloc: Global) -> Result<MemorySource, Fail> {
             b"TABLE S S.DBF\nTABLE S T.DBF\nSTATION A.PRG\n",
         ),
         (b"BAD.SET", b"TABLE S S.DBF\nTABEL T T.DBF\n"),
+        (b"FIELDS.TXT", b"NAME Character 10\nNOTE Memo 10\n"),
+        (b"BAD.TXT", b"NAME Character 10\nNAME Memo 10\n"),
     ];
     for (name, bytes) in contents {
         files.push(NamedFile {
@@ -94,6 +100,38 @@ fn files(alloc: Global) -> Result<MemorySource, Fail> {
     })
 }
 
+// A system whose one folder, DATA, has a file of this name.
+#[derive(Clone, Copy)]
+struct OneFolder {
+    there: &'static [u8],
+}
+
+impl System for OneFolder {
+    type Disk = MemoryDisk;
+
+    ghost opens = { λ _ _ _. Unit {0} };
+
+    ghost answers = { λ _ _ _. Unit {0} };
+
+    fn open(&self, alloc: Global, path: &str) -> Result<Option<MemoryDisk>, PlaceFault> {
+        if path != "DATA" {
+            return Ok(None);
+        }
+        match MemoryDisk::new(alloc).with_file(self.there, b"old") {
+            Ok(disk) => Ok(Some(disk)),
+            Err(_) => Err(PlaceFault::NoMemory),
+        }
+    }
+
+    fn read_if_there(&self, _alloc: Global, _path: &[u8]) -> Result<Option<Bytes>, LoadFault> {
+        Ok(None)
+    }
+
+    fn lies_in(&self, _path: &[u8], _folder: &str) -> bool {
+        false
+    }
+}
+
 // What a command line prints on standard output and on standard error over these files, and its exit status.
 fn answer(
     alloc: Global,
@@ -103,7 +141,16 @@ fn answer(
     let mut shown = Vec::new(alloc);
     let mut out = Vec::new(alloc);
     let mut err = Vec::new(alloc);
-    let ended = run_words(alloc, source, &mut StreamSink::new(&mut shown), words);
+    let system = OneFolder {
+        there: b"PEOPLE.DBF",
+    };
+    let ended = run_words(
+        alloc,
+        source,
+        &mut StreamSink::new(&mut shown),
+        &system,
+        words,
+    );
     let told = tell_end(&mut out, &mut err, &ended);
     (shown, err, told.status)
 }

@@ -1,0 +1,3 @@
+pub mod MakeFaults
+pub mod Making
+pub mod Placing

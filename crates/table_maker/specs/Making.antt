@@ -1,0 +1,93 @@
+-- The files of a table that is made from a list of its fields.
+use Rattle.std.specs.Prelude.{◌≡◌, ◌⊎◌, ℕ, Bool, true, false, List, [], ◌∷◌, ◌++◌, codes, Option, Ok, Err, if◌then◌else◌}
+use Rattle.byte_io.specs.Sink.{Rises}
+use Rattle.dbf_fields.specs.declared.day.Day.{Day}
+use Rattle.dbf_fields.specs.declared.field.Field.{Field}
+use Rattle.dbf_image.specs.Blocks.{memo_image}
+use Rattle.dbf_image.specs.Image.{image}
+use Rattle.dbf_image.specs.Table.{Table, empty_table, has_memos}
+use Rattle.field_list.specs.FieldList.{IsFieldList}
+use Rattle.field_list.specs.declared.fault.FieldListFault.{FieldListFault}
+use Rattle.field_list.specs.declared.fault.FieldListFault.TheVariants as fault
+use Rattle.folders.specs.declared.named.NamedFile.{NamedFile}
+use Rattle.folders.specs.declared.source.LoadFault.{LoadFault}
+use Rattle.folders.specs.declared.source.LoadFault.TheVariants.{CannotRead, NoMemory, Unrecovered}
+use Rattle.folders.specs.Files.{IsFileOf, IsTooLong, IsUnrecovered}
+use Rattle.table_maker.specs.declared.fault.MakeFault.{MakeFault}
+use Rattle.table_maker.specs.declared.fault.MakeFault.TheVariants as make
+
+-- the extension of the table's file, in capitals or in small letters
+abbrev pub table_extension : Bool → List ℕ
+table_extension in_capitals = if in_capitals then codes ".DBF" else codes ".dbf"
+
+-- and that of the file of its memos
+abbrev pub memos_extension : Bool → List ℕ
+memos_extension in_capitals = if in_capitals then codes ".DBT" else codes ".dbt"
+
+-- the file of a table, with a date, under a name
+abbrev pub dated_file : List ℕ → Table → Day → NamedFile
+dated_file name table day = record { name = name; bytes = image table day.year day.month day.day }
+
+-- and that of its memos
+abbrev pub memo_file : List ℕ → Table → NamedFile
+memo_file name table = record { name = name; bytes = memo_image table }
+
+-- the file of the empty table of these fields
+abbrev pub table_file : List ℕ → Bool → Day → List Field → NamedFile
+table_file stem in_capitals day fields = dated_file (stem ++ table_extension in_capitals) (empty_table fields) day
+
+-- and that of its memos
+abbrev pub memos_file : List ℕ → Bool → List Field → NamedFile
+memos_file stem in_capitals fields = memo_file (stem ++ memos_extension in_capitals) (empty_table fields)
+
+-- the files of the empty table: its own, and that of its memos where a field is a memo
+abbrev pub made_files : List ℕ → Bool → Day → List Field → List NamedFile
+made_files stem in_capitals day fields = table_file stem in_capitals day fields ∷ (if has_memos fields then memos_file stem in_capitals fields ∷ [] else [])
+
+-- these are the fields that the file of a path lists
+abbrev pub AreFieldsIn : Option (List NamedFile) → List ℕ → List Field → Type 0
+AreFieldsIn files list fields = (text : List ℕ) × IsFileOf files list text × IsFieldList text (Ok fields)
+
+-- these are the files of the empty table whose fields the file of a path lists
+abbrev pub AreMadeFiles : Option (List NamedFile) → List ℕ → List ℕ → Bool → Day → List NamedFile → Type 0
+AreMadeFiles files list stem in_capitals day made =
+    (fields : List Field) × AreFieldsIn files list fields × (made ≡ made_files stem in_capitals day fields)
+
+-- why it is not made, where this is the path of the list of fields
+abbrev pub IsWhyNotMade : Option (List NamedFile) → List ℕ → MakeFault → Type 0
+IsWhyNotMade files list (make.Load path Unrecovered) = (path.now ≡ list) × IsUnrecovered files list
+IsWhyNotMade files list (make.Load path CannotRead) = path.now ≡ list
+IsWhyNotMade files list (make.Load path NoMemory) = ⊥
+IsWhyNotMade files list (make.List path why) = (path.now ≡ list) × ((text : List ℕ) × IsFileOf files list text × IsFieldList text (Err why))
+IsWhyNotMade files list make.Write = Unit {0}
+IsWhyNotMade files list make.Exists = ⊥
+IsWhyNotMade files list make.Unread = ⊥
+IsWhyNotMade files list make.NoMemory = Unit {0}
+
+-- a load has failed since then, or the file is over the limit, where the fault says that it can't be read
+abbrev pub IsMakeFailure : Option (List NamedFile) → List ℕ → Option ℕ → Option ℕ → MakeFault → Type 0
+IsMakeFailure files list before after (make.Load path CannotRead) = Rises before after ⊎ IsTooLong files list
+IsMakeFailure files list before after why = after ≡ before
+
+-- what is told of the list of a path that is not loaded: a want of memory as such
+abbrev pub IsUnloaded : List ℕ → LoadFault → MakeFault → Type 0
+IsUnloaded list NoMemory told = told ≡ make.NoMemory
+IsUnloaded list why (make.Load path said) = (path.now ≡ list) × (said ≡ why)
+IsUnloaded list why told = ⊥
+
+-- and of a text of it that is no list of fields
+abbrev pub IsNoList : List ℕ → FieldListFault → MakeFault → Type 0
+IsNoList list fault.NoMemory told = told ≡ make.NoMemory
+IsNoList list why (make.List path said) = (path.now ≡ list) × (said ≡ why)
+IsNoList list why told = ⊥
+
+-- the fault is one of writing the files
+abbrev pub IsOfWriting : MakeFault → Type 0
+IsOfWriting make.Write = Unit {0}
+IsOfWriting make.NoMemory = Unit {0}
+IsOfWriting why = ⊥
+
+-- the folder has not taken a file
+abbrev pub is_write_fault : MakeFault → Bool
+is_write_fault make.Write = true
+is_write_fault why = false

@@ -1,0 +1,100 @@
+//! A table that is made from a list of its fields.
+
+ghost use Rattle.std.specs.Prelude.{◌≡◌, IfErr, IfOk, IfSome, IsErrOf};
+ghost use Rattle.program_frame.specs.declared.ending.Failure.TheVariants.{Work as OfWork};
+ghost use Rattle.table_maker.specs.declared.fault.MakeFault.TheVariants.{Exists};
+ghost use Rattle.folders.specs.Paths.{folder_of_path};
+ghost use Rattle.tool_program.specs.TableMade.{told_of, IsBadMake, IsJobOf, IsPlacedBy, IsTakenBy, IsWhyNoTableMade};
+
+use crate::fault::ToolFault;
+use crate::options::MakeOptions;
+use crate::report::ToolReport;
+use folders::{Source, file_name, folder_of};
+use program_frame::{Failure, FolderFault, System, date_of};
+use std::alloc::Global;
+use table_maker::{MakeFault, MakeJob, make_into, stem_of};
+
+// The work that makes the table of a command line.
+fn job_of<'a>(options: &MakeOptions<'a>) -> Result<MakeJob<'a>, ToolFault<'a>>
+    ensures job { IfOk result (IsJobOf options.now) }
+    ensures fault { IfErr result (IsBadMake options.now) }
+{
+    let Some((stem, in_capitals)) = stem_of(file_name(options.out.as_bytes())) else {
+        return Err(ToolFault::BadOut);
+    };
+    match date_of(options.today.as_bytes()) {
+        Some(today) => Ok(MakeJob {
+            list: options.list,
+            stem,
+            in_capitals,
+            today,
+        }),
+        None => Err(ToolFault::Make(Failure::BadDate)),
+    }
+}
+
+// What is told of the work of making a table that failed.
+fn not_worked(fault: MakeFault<'_>) -> ToolFault<'_>
+    ensures value { result ≡ told_of (OfWork fault.entry) }
+{
+    match fault {
+        MakeFault::NoMemory => ToolFault::NoMemory,
+        fault => ToolFault::Make(Failure::Work(fault)),
+    }
+}
+
+// What is told of a table that is not made.
+fn not_made(why: Failure<MakeFault<'_>>) -> ToolFault<'_>
+    ensures value { result ≡ told_of why.entry }
+{
+    match why {
+        Failure::Work(fault) => not_worked(fault),
+        why => ToolFault::Make(why),
+    }
+}
+
+// The folder that the file of a path lies in. `None` where its path is no text.
+fn folder_text(path: &str) -> Option<&str>
+    ensures value { IfSome result (λ folder. folder.now ≡ folder_of_path path.now) }
+{
+    match str::from_utf8(folder_of(path.as_bytes())) {
+        Ok(folder) => Some(folder),
+        Err(_) => None,
+    }
+}
+
+/// Makes the table of a command line, in the folder that its path is in.
+///
+/// `BadOut` where its name ends with neither `.DBF` nor `.dbf`, `NoMemory` where memory is refused; else `Make` says why it is not made.
+pub(crate) fn make_table<'a, F: Source, Y: System>(
+    alloc: Global,
+    source: &mut F,
+    system: &Y,
+    options: &MakeOptions<'a>,
+) -> Result<ToolReport, ToolFault<'a>>
+    ensures report { IfOk result (λ report. report ≡ ToolReport.Good) }
+    ensures made { IfOk result (λ _. IsPlacedBy Y.Disk.meaning (Y.opens system.now (folder_of_path options.now.out.now)) (F.files source.old) options.now) }
+    ensures taken { IsErrOf result (ToolFault.Make (OfWork Exists))
+        → IsTakenBy Y.Disk.meaning (Y.opens system.now (folder_of_path options.now.out.now)) options.now }
+    ensures fault { IfErr result (IsWhyNoTableMade (F.files source.old) options.now) }
+    ensures kept { F.files source.new ≡ F.files source.old }
+{
+    let job = job_of(options)?;
+    let Some(folder) = folder_text(options.out) else {
+        return Err(ToolFault::Make(Failure::Folder(FolderFault::Unopened)));
+    };
+    // The work says nothing meanwhile.
+    let mut said: Vec<u8> = Vec::new(alloc);
+    match make_into(
+        alloc,
+        &job,
+        options.replace,
+        source,
+        system,
+        folder,
+        &mut said,
+    ) {
+        Ok(_) => Ok(ToolReport::Good),
+        Err(why) => Err(not_made(why)),
+    }
+}

@@ -1,0 +1,113 @@
+//! Tables that are compared.
+
+use crate::tests::{files, is_answered};
+use std::process::Abort;
+use std::test::*;
+
+// Command lines, and the exit status, the text and the line on standard error.
+const CASES: [(&[&str], u8, &str, &str); 11] = [
+    (&["table_tool", "diff", "T.DBF", "T.DBF"], 0, "", ""),
+    (
+        &["table_tool", "diff", "T.DBF", "S.DBF"],
+        1,
+        "record 1: NAME ADA -> BOB\nrecord 2: NAME BOB -> ADA\n",
+        "",
+    ),
+    // The files of memos beside the tables are taken, and those that are given.
+    (
+        &["table_tool", "diff", "M/N.DBF", "n.dbf"],
+        1,
+        "record 1: NOTE UPPER -> LOWER\n",
+        "",
+    ),
+    (
+        &[
+            "table_tool",
+            "diff",
+            "M/N.DBF",
+            "N.DBF",
+            "--memo-new",
+            "M/N.DBT",
+        ],
+        0,
+        "",
+        "",
+    ),
+    (
+        &[
+            "table_tool",
+            "diff",
+            "--memo-old=n.dbt",
+            "--memo-new=M/N.DBT",
+            "N.DBF",
+            "N.DBF",
+        ],
+        1,
+        "record 1: NOTE LOWER -> UPPER\n",
+        "",
+    ),
+    // Each file is named, the old table's before the new one's.
+    (
+        &["table_tool", "diff", "NONE.DBF", "BAD.DBF"],
+        2,
+        "",
+        "table_tool: NONE.DBF: cannot read\n",
+    ),
+    (
+        &["table_tool", "diff", "T.DBF", "BAD.DBF"],
+        2,
+        "",
+        "table_tool: BAD.DBF: Truncated: the file is too short\n",
+    ),
+    (
+        &["table_tool", "diff", "M/N.DBF", "N.DBF"],
+        2,
+        "",
+        "table_tool: N.DBF: MemoFileMissing: the file of memos is missing\n",
+    ),
+    (
+        &[
+            "table_tool",
+            "diff",
+            "T.DBF",
+            "S.DBF",
+            "--memo-old",
+            "NONE.DBT",
+        ],
+        2,
+        "",
+        "table_tool: NONE.DBT: cannot read\n",
+    ),
+    (
+        &[
+            "table_tool",
+            "diff",
+            "T.DBF",
+            "S.DBF",
+            "--memo-new",
+            "NONE.DBT",
+        ],
+        2,
+        "",
+        "table_tool: NONE.DBT: cannot read\n",
+    ),
+    // Other fields.
+    (
+        &["table_tool", "diff", "T.DBF", "n.dbf"],
+        1,
+        "old field NAME: Character 10
+new field NOTE: Memo 10
+record 2 removed: NAME BOB
+",
+        "",
+    ),
+];
+
+#[test]
+fn tables_are_compared_or_why_not_is_told(rt: HostRuntime) -> Result<(), Fail> {
+    let mut source = files(rt.alloc())?;
+    for (words, status, text, line) in CASES {
+        assert!(rt; is_answered(rt.alloc(), &mut source, words, status, text, line));
+    }
+    Ok(())
+}
