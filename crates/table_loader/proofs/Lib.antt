@@ -1,0 +1,10 @@
+pub mod DateLaws
+pub mod LineLaws
+pub mod HeadingLaws
+pub mod RowLaws
+pub mod BlankLaws
+pub mod ValuesBack
+pub mod NamesBack
+pub mod TextBack
+pub mod RowsBack
+pub mod ReplaceLaws

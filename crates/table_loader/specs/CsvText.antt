@@ -1,0 +1,40 @@
+-- The lines of a text of CSV, each as the texts between its commas.
+use Rattle.std.specs.Prelude.{◌≡◌, ℕ, ◌+◌, Bool, true, false, List, [], ◌∷◌, length, Option, Some, None, IsSome}
+use Rattle.std.proofs.Common.{Bor}
+use Rattle.csv.specs.Machine.{ends_at_end}
+use Rattle.csv.specs.Reading.{Ready, default_config, is_flexible, reader_config, reader_state, reader_trim, records, records_from, source_of, strip_bom}
+use Rattle.csv.specs.declared.parser.State.{State}
+use Rattle.csv.specs.declared.reader.Reader.{Reader}
+use Rattle.csv.specs.declared.reader.Trim.TheVariants as trim
+
+-- The lines of a text, after a byte order mark at its start, as the reader of CSV takes them: a text between quotes may go
+-- over several lines of the file, and a line of the file without a byte is none.
+abbrev pub csv_lines : List ℕ → List (List (List ℕ))
+csv_lines text = records default_config (strip_bom text)
+
+-- the lines of bytes that are left, read from a state on
+abbrev pub lines_from : State → Option (List ℕ) → List (List (List ℕ))
+lines_from state None = []
+lines_from state (Some bytes) = records_from default_config (length bytes + 1) state bytes
+
+-- the bytes that a reader has left
+abbrev pub bytes_left : Reader (Bor (List ℕ)) → Option (List ℕ)
+bytes_left reader = source_of (λ source. Some source.now) reader
+
+-- the lines that it has left
+abbrev pub lines_left : Reader (Bor (List ℕ)) → List (List (List ℕ))
+lines_left reader = lines_from (reader_state reader) (bytes_left reader)
+
+-- a reader of CSV, between two lines of bytes that are known; its lines may have cells of any number
+pub record ReadsCsv (reader : Reader (Bor (List ℕ))) : Type 0 where
+  pub config : reader_config reader ≡ default_config
+  pub trims : reader_trim reader ≡ trim.None
+  pub any_length : is_flexible reader ≡ true
+  pub ready : Ready reader
+  pub known : IsSome (bytes_left reader)
+  pub between : ends_at_end (reader_state reader) ≡ false
+
+-- the first of the lines is taken, or there is none
+abbrev pub IsNextLine : Bool → List (List (List ℕ)) → List (List ℕ) → List (List (List ℕ)) → Type 0
+IsNextLine true lines cells rest = lines ≡ cells ∷ rest
+IsNextLine false lines cells rest = lines ≡ []

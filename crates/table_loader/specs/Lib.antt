@@ -1,0 +1,5 @@
+pub mod CsvText
+pub mod Values
+pub mod Headings
+pub mod Loading
+pub mod ComingBack
