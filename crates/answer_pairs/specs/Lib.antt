@@ -1,0 +1,5 @@
+pub mod Kinds
+pub mod Pairs
+pub mod Ways
+pub mod Layout
+pub mod Runs
