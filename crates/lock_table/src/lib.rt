@@ -60,6 +60,3 @@ pub fn other_locks_stay()
     ensures all_released { (locks : List Lock) (station : ℕ) (l : Lock) → IsHeld (without_all locks station) l → IsHeld locks l × (l.station ≢ station) }
     ensures all_others_left { (locks : List Lock) (station : ℕ) (l : Lock) → IsHeld locks l → l.station ≢ station → IsHeld (without_all locks station) l }
 {}
-
-#[cfg(test)]
-mod tests;

@@ -21,9 +21,6 @@ use crate::pair_list::sorting::sorted;
 use std::alloc::{AllocError, Global};
 use std::marker::Model;
 
-#[cfg(test)]
-mod tests;
-
 /// The pairs of an index in order, none of them twice, whose keys all have one length. Contracts see that
 /// length, the list of pairs, and how many inserts have room.
 ///

@@ -80,6 +80,3 @@ pub fn reads_back()
     ensures plain { (text : List ℕ) (key_len : ℕ) (pairs : List PairValue) → IsWritable text key_len pairs → HasNoZero text
         → ReadsBackAs (trimmed_end text) text key_len pairs }
 {}
-
-#[cfg(test)]
-mod tests;

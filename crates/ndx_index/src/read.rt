@@ -56,15 +56,17 @@ pub fn read_ndx_at(alloc: Global, bytes: &[u8]) -> Result<NdxFile, BadIndex>
 /// answer, but for the header page's faults, which are found before any memory is taken. Pages that the
 /// walk does not reach, and keys and record numbers of inner pages, are never looked at.
 ///
-/// As a test has it (`ndx_index`, `src/tests/writings.rt`):
+/// As a test has it (`ndx_index_tests`, `src/tests/writings.rt`):
 ///
 /// ```text
-/// let read = read_ndx(alloc, &written(alloc, index, len)?)?;
+/// let read = read_ndx(alloc, &written(alloc, &index, len)?)?;
 /// let pairs = index.pairs(alloc)?;
-/// Ok((pairs, read))
-/// assert_eq!(rt; read.expr.as_slice(), b"NAME".as_slice());
-/// assert_eq!(rt; read.key_len, key_len);
-/// assert!(rt; are_same(&read.pairs, pairs));
+/// Ok(
+///     read.expr.as_slice() == b"NAME".as_slice()
+///         && read.key_len == usize::from(len)
+///         && pairs.len() == count as usize
+///         && are_same(&read.pairs, &pairs),
+/// )
 /// ```
 pub fn read_ndx(alloc: Global, bytes: &[u8]) -> Result<NdxFile, NdxFault>
     ensures found { IfOk result (λ file. IsIndex bytes.now file.expr file.key_len file.pairs.pairs) }

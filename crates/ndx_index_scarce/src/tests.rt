@@ -2,6 +2,8 @@
 
 ghost use Rattle.std.specs.Prelude.{◌≡◌, length};
 
+mod pages;
+
 use key_expr::Key;
 use ndx_index::*;
 use scarce::{Attempt, refusals};

@@ -1,6 +1,12 @@
-//! Damaged index files: the answer is the file, or one refusal; and an index of many pairs.
+//! Damaged index files: the answer is the file, or one refusal; indexes of few and of many pairs, and their files.
 
+mod orders;
+mod readings;
+mod sample;
+mod sinks;
+mod sorting;
 mod thousand;
+mod writings;
 
 use ndx_index::{BadIndex, NdxFault, read_ndx, read_ndx_at};
 use sample_files::{EMPTY_INDEX, FIRST_LEAF, ROOT, two_leaves, with_zeros};

@@ -20,9 +20,6 @@ use catalogue_core::{Answer, Catalogue, Command, StatusRow, Stop};
 use std::alloc::{AllocError, Global};
 use std::sync::{Mutex, Wait};
 
-#[cfg(test)]
-mod tests;
-
 /// A catalogue that stations share. It is under one lock, and whoever has the lock finds the state that
 /// the commands of the journal make of the opened tables, and a journal as long as the ledger's book. The status board
 /// is beside the lock.

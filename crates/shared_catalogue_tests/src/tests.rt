@@ -1,4 +1,5 @@
 mod asked;
+mod beside;
 mod cells;
 mod index_on;
 mod lists;

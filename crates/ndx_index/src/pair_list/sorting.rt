@@ -14,9 +14,6 @@ use byteorder::{BigEndian, ByteOrder};
 use std::alloc::{AllocError, Global};
 use std::cmp::Ordering;
 
-#[cfg(test)]
-mod tests;
-
 /// A pair while a list is sorted: the first bytes of its key as one number, and its place in the list.
 #[derive(Clone, Copy)]
 pub(crate) struct SortEntry {

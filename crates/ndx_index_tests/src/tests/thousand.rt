@@ -2,21 +2,11 @@
 
 ghost use Rattle.std.specs.Prelude.{◌≡◌, length};
 
-use key_expr::Key;
+use super::sample::{pair, put};
 use ndx_index::{OrderedIndex, Pair};
 use std::alloc::Global;
 use std::process::Abort;
 use std::test::Fail;
-
-// The pair of a key of three bytes and a record.
-fn pair(key: &[u8; 3], number: u32) -> Pair
-    ensures key { length result.key ≡ 3 }
-{
-    Pair {
-        key: Key::new(key),
-        number,
-    }
-}
 
 // The pair of a record, whose key is the three digits of the number below its own: record 1 has the key 000.
 fn numbered(number: u32) -> Pair
@@ -25,16 +15,6 @@ fn numbered(number: u32) -> Pair
     let value = number.saturating_sub(1);
     let digit = |place: u32| b'0' + (value / place % 10) as u8;
     pair(&[digit(100), digit(10), digit(1)], number)
-}
-
-fn put(index: &mut OrderedIndex, pair: &Pair) -> Result<(), Fail> {
-    if pair.key.as_bytes().len() != index.key_len() {
-        return Err("a key of another length".into());
-    }
-    index.remove(*pair);
-    index.reserve()?;
-    index.insert(*pair);
-    Ok(())
 }
 
 // The index of records 1 to 1,000, put in from the last to the first.

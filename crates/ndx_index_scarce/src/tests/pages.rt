@@ -1,0 +1,187 @@
+//! Pages of an index, by the memory that they take: those of a new index are full, and those that removals empty are used again.
+
+ghost use Rattle.std.specs.Prelude.{◌≡◌, length};
+
+use key_expr::Key;
+use ndx_index::{OrderedIndex, Pair, PairList};
+use scarce::Hoard;
+use std::alloc::{AllocError, Global};
+use std::test::Fail;
+
+// Room for a list of a thousand pairs while it grows, and none for pages of them with their links.
+const A_LIST: usize = 32 << 10;
+
+// Room for the 63 leaves of a thousand pairs and the 5 pages above them. The leaves would be 125 if they were filled by halves,
+// for which there is no room.
+const FULL_PAGES: usize = 64 << 10;
+
+// The pairs that the random edits put in would fill thousands of pages if none were used again, and there is no room for them.
+const USED_AGAIN: usize = 96 << 10;
+
+// A hoard that can leave so many bytes. A room of over 128 KB would go back to the system.
+fn hoard_for(alloc: Global, bytes: usize) -> Result<Hoard, AllocError> {
+    Hoard::new(alloc, 1, bytes.saturating_add(4096))
+}
+
+// The pair of a record, whose key is the three digits of its number.
+fn numbered(number: u32) -> Pair
+    ensures key { length result.key ≡ 3 }
+{
+    let digit = |place: u32| b'0' + (number / place % 10) as u8;
+    Pair {
+        key: Key::new(&[digit(100), digit(10), digit(1)]),
+        number,
+    }
+}
+
+// The pairs of the records 0 to 999, in order.
+fn thousand(alloc: Global) -> Result<PairList, Fail> {
+    let mut pairs = PairList::new(alloc, 3);
+    for number in 0..1000 {
+        if pairs.key_len() != 3 {
+            return Err("keys of another length".into());
+        }
+        pairs.push(&numbered(number))?;
+    }
+    Ok(pairs)
+}
+
+// Whether an index is made of pairs that stand in order. It tells nothing of others.
+fn is_made(alloc: Global, pairs: &PairList) -> bool {
+    pairs.is_in_order() && OrderedIndex::from_sorted(alloc, pairs).is_ok()
+}
+
+// Whether so many bytes can be left, and whether the index is made where they are.
+fn is_made_in(alloc: Global, pairs: &PairList, bytes: usize) -> Result<(bool, bool), AllocError> {
+    let mut hoard = hoard_for(alloc, bytes)?;
+    let is_left = hoard.leave(bytes);
+    Ok((is_left, is_made(alloc, pairs)))
+}
+
+#[test]
+fn new_index_fills_its_pages(rt: HostRuntime) -> Result<(), Fail> {
+    let alloc = rt.alloc();
+    let pairs = thousand(alloc)?;
+    let ample = is_made(alloc, &pairs);
+    let scarce = [
+        is_made_in(alloc, &pairs, A_LIST)?,
+        is_made_in(alloc, &pairs, FULL_PAGES)?,
+    ];
+    assert_eq!(rt; (ample, scarce), (true, [(true, false), (true, true)]));
+    Ok(())
+}
+
+// Takes a pair out where it is there, and puts it in where not; whether it was there. One whose key has another length can't be.
+fn turned(index: &mut OrderedIndex, pair: &Pair) -> Result<bool, AllocError> {
+    if pair.key.as_bytes().len() != index.key_len() {
+        return Ok(false);
+    }
+    if index.remove(*pair) {
+        return Ok(true);
+    }
+    index.reserve()?;
+    index.insert(*pair);
+    Ok(false)
+}
+
+// Turns the even records of 0 to 999, and then the odd ones; how many were there.
+fn all_turned(index: &mut OrderedIndex) -> Result<u32, AllocError> {
+    let mut there = 0_u32;
+    for first in [0_u32, 1] {
+        for half in 0..500_u32 {
+            let number = first.saturating_add(2 * half);
+            if turned(index, &numbered(number))? {
+                there = there.saturating_add(1);
+            }
+        }
+    }
+    Ok(there)
+}
+
+// Whether so many bytes can be left, and how many records are there of those that are turned where they are.
+fn turned_in(
+    alloc: Global,
+    index: &mut OrderedIndex,
+    bytes: usize,
+) -> Result<(bool, Option<u32>), AllocError> {
+    let mut hoard = hoard_for(alloc, bytes)?;
+    let is_left = hoard.leave(bytes);
+    Ok((is_left, all_turned(index).ok()))
+}
+
+#[test]
+fn pairs_are_put_into_pages(rt: HostRuntime) -> Result<(), Fail> {
+    let alloc = rt.alloc();
+    let ample = all_turned(&mut OrderedIndex::new(alloc, 3))?;
+    let scarce = turned_in(alloc, &mut OrderedIndex::new(alloc, 3), A_LIST)?;
+    assert_eq!(rt; (ample, scarce), (0, (true, None)));
+    Ok(())
+}
+
+#[test]
+fn emptied_pages_are_used_again(rt: HostRuntime) -> Result<(), Fail> {
+    let alloc = rt.alloc();
+    let mut index = OrderedIndex::new(alloc, 3);
+    let ample = [all_turned(&mut index)?, all_turned(&mut index)?];
+    let scarce = turned_in(alloc, &mut index, 0)?;
+    let last = all_turned(&mut index)?;
+    assert_eq!(rt; (ample, scarce, last), ([0, 1000], (true, Some(0)), 1000));
+    Ok(())
+}
+
+// Turns records of 0 to 999, and tells whether the index knew of each whether it was there.
+fn edited(
+    index: &mut OrderedIndex,
+    there: &mut [bool; 1000],
+    edits: u32,
+) -> Result<bool, AllocError> {
+    let mut state = 1_u32;
+    for _ in 0..edits {
+        state = state.wrapping_mul(1_664_525).wrapping_add(1_013_904_223);
+        let number = (state >> 16) % 1000;
+        let removed = turned(index, &numbered(number))?;
+        if there[number as usize] != removed {
+            return Ok(false);
+        }
+        there[number as usize] = !removed;
+    }
+    Ok(true)
+}
+
+// Whether the index's records are those that are there, in order.
+fn has_those(
+    alloc: Global,
+    index: &OrderedIndex,
+    there: &[bool; 1000],
+) -> Result<bool, AllocError> {
+    let numbers = index.pairs(alloc)?.into_numbers();
+    let mut wanted = Vec::new(alloc);
+    for number in 0..1000_u32 {
+        if there[number as usize] {
+            wanted.push(number)?;
+        }
+    }
+    Ok(numbers == wanted)
+}
+
+// Whether random edits of a new index meet no want of memory where so much is left.
+fn edited_where_left(
+    alloc: Global,
+    index: &mut OrderedIndex,
+    there: &mut [bool; 1000],
+) -> Result<bool, AllocError> {
+    let mut hoard = hoard_for(alloc, USED_AGAIN)?;
+    Ok(hoard.leave(USED_AGAIN) && edited(index, there, 100_000)?)
+}
+
+#[test]
+fn random_edits_use_pages_again(rt: HostRuntime) -> Result<(), Fail> {
+    let alloc = rt.alloc();
+    let ample = edited(&mut OrderedIndex::new(alloc, 3), &mut [false; 1000], 1000)?;
+    let mut index = OrderedIndex::new(alloc, 3);
+    let mut there = [false; 1000];
+    let scarce = edited_where_left(alloc, &mut index, &mut there)?;
+    assert_eq!(rt; (ample, scarce), (true, true));
+    assert!(rt; has_those(alloc, &index, &there)?);
+    Ok(())
+}
