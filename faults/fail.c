@@ -46,13 +46,15 @@ static void note(const char *what, const char *name, long descriptor) {
 }
 
 /* An entry of the trace, of a call that was made. The descriptors of standard streams are no files of the folder. */
-static void trace(const char *what, const char *name, long number, long a, long b, long answer) {
+static void trace(const char *what, const char *name, long number, long a, long b, long d, long answer) {
     char head[100];
     const char *bytes = name ? name : "", *other = "";
     size_t length = strlen(bytes);
     long file = number == SYS_openat ? answer : name ? 0 : a, place = 0;
     if (number == SYS_write)
         bytes = (const char *)b, length = answer, place = syscall(SYS_lseek, a, 0, SEEK_CUR) - answer;
+    if (number == SYS_pwrite64)
+        bytes = (const char *)b, length = answer, place = d;
     if (number == SYS_ftruncate)
         place = b;
     if (number == SYS_rename)
@@ -84,11 +86,11 @@ static long call(const char *what, const char *name, long number, long a, long b
         usleep(1000);
     if (error && !closes && (due || (on && first && n > first)))
         return errno = error, -1;
-    if (due && is("half") && (number == SYS_read || number == SYS_write) && within(number, a, c) > 1)
+    if (due && is("half") && (number == SYS_read || number == SYS_write || number == SYS_pwrite64) && within(number, a, c) > 1)
         c = within(number, a, c) / 2;
     long answer = syscall(number, a, b, c, d, e);
     if (trace_file >= 0 && answer >= 0 && number != SYS_read && number != SYS_getdents64 && number != SYS_statx)
-        trace(what, name, number, a, b, answer);
+        trace(what, name, number, a, b, d, answer);
     if (due && is("killed"))
         die();
     if (due && (is("after") || (error && closes)))
@@ -107,6 +109,8 @@ int openat(int folder, const char *path, int flags, ...) { MODE(flags); return o
 int openat64(int folder, const char *path, int flags, ...) { MODE(flags); return open_at(folder, path, flags, mode); }
 ssize_t read(int f, void *bytes, size_t n) { return call("read", NULL, SYS_read, f, (long)bytes, n, 0, 0); }
 ssize_t write(int f, const void *bytes, size_t n) { return call("write", NULL, SYS_write, f, (long)bytes, n, 0, 0); }
+ssize_t pwrite(int f, const void *bytes, size_t n, off_t place) { return call("write", NULL, SYS_pwrite64, f, (long)bytes, n, place, 0); }
+ssize_t pwrite64(int f, const void *bytes, size_t n, off64_t place) { return call("write", NULL, SYS_pwrite64, f, (long)bytes, n, place, 0); }
 int close(int f) { return call("close", NULL, SYS_close, f, 0, 0, 0, 0); }
 int fsync(int f) { return call("sync", NULL, SYS_fsync, f, 0, 0, 0, 0); }
 int fdatasync(int f) { return call("sync", NULL, SYS_fdatasync, f, 0, 0, 0, 0); }
