@@ -4,3 +4,7 @@ pub mod SameLaws
 pub mod TextLaws
 pub mod Steps
 pub mod Fronts
+pub mod KeyOrder
+pub mod KeyMatching
+pub mod KeySame
+pub mod Listed

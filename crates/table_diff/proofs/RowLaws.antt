@@ -12,6 +12,7 @@ use Rattle.dbf_image.specs.Store.{cells_with, row_with}
 use Rattle.dbf_image.specs.Table.{Row, Table, AreCells, cell_at, has_memos, kind_at, row_at}
 use Rattle.table_text.specs.Csv.{csv_value}
 use Rattle.table_diff.specs.declared.fields.SharedField.{SharedField}
+use Rattle.table_diff.specs.declared.matching.RecordNumbers.{RecordNumbers}
 use Rattle.table_diff.specs.Changes.{Change, cell_changes, mark_changes, name_of_field, replaced_value, row_changes, value_changes}
 use Rattle.table_diff.specs.Fields.{shared_fields}
 use Rattle.table_diff.proofs.FieldLaws.{matched, same_at, same_from}
@@ -33,46 +34,46 @@ told_none : (b : Bool) (c : Change) → cond b [] (c ∷ []) ≡ [] → b ≡ tr
 told_none true c e = refl
 told_none false c e = absurd cc
 
-same_value : (number : ℕ) (name : List ℕ) (old_kind new_kind : ℕ) (a b : List ℕ) → value_changes number name true old_kind new_kind a b ≡ [] → a ≡ b
-same_value number name old_kind new_kind a b e =
-    (bytes_eq-Decides a b).0 (told_none (bytes_eq a b) (replaced_value number name a b (csv_value old_kind a) (csv_value new_kind b)) e)
+same_value : (numbers : RecordNumbers) (name : List ℕ) (old_kind new_kind : ℕ) (a b : List ℕ) → value_changes numbers name true old_kind new_kind a b ≡ [] → a ≡ b
+same_value numbers name old_kind new_kind a b e =
+    (bytes_eq-Decides a b).0 (told_none (bytes_eq a b) (replaced_value numbers name a b (csv_value old_kind a) (csv_value new_kind b)) e)
 
-no_change : (number : ℕ) (name : List ℕ) (old_kind new_kind : ℕ) (a b : List ℕ) → a ≡ b → value_changes number name true old_kind new_kind a b ≡ []
-no_change number name old_kind new_kind a b e = rw ((bytes_eq-Decides a b).1 e) refl
+no_change : (numbers : RecordNumbers) (name : List ℕ) (old_kind new_kind : ℕ) (a b : List ℕ) → a ≡ b → value_changes numbers name true old_kind new_kind a b ≡ []
+no_change numbers name old_kind new_kind a b e = rw ((bytes_eq-Decides a b).1 e) refl
 
-cells_same : (old new : Table) (number i k : ℕ) (fs : List Field) → flat_map (cell_changes old new number) (same_from i fs) ≡ [] → k < length fs
-    → cell_at old number (i + k) ≡ cell_at new number (i + k)
-cells_same old new number i k [] e lt = absurd (omega (arith, lt))
-cells_same old new number i zero (f ∷ fs) e lt =
-    let parts = both_none (cell_changes old new number (same_at i)) (flat_map (cell_changes old new number) (same_from (i + 1) fs)) e in
-    let here : cell_at old number i ≡ cell_at new number i =
-    same_value number (name_of_field old.schema i) (kind_at old.schema i) (kind_at new.schema i) (cell_at old number i) (cell_at new number i) parts.0 in
+cells_same : (old new : Table) (numbers : RecordNumbers) (i k : ℕ) (fs : List Field) → flat_map (cell_changes old new numbers) (same_from i fs) ≡ [] → k < length fs
+    → cell_at old numbers.old_number (i + k) ≡ cell_at new numbers.new_number (i + k)
+cells_same old new numbers i k [] e lt = absurd (omega (arith, lt))
+cells_same old new numbers i zero (f ∷ fs) e lt =
+    let parts = both_none (cell_changes old new numbers (same_at i)) (flat_map (cell_changes old new numbers) (same_from (i + 1) fs)) e in
+    let here : cell_at old numbers.old_number i ≡ cell_at new numbers.new_number i =
+    same_value numbers (name_of_field old.schema i) (kind_at old.schema i) (kind_at new.schema i) (cell_at old numbers.old_number i) (cell_at new numbers.new_number i) parts.0 in
     let at : i ≡ i + zero = omega arith in
-    subst (λ (n : ℕ). cell_at old number n ≡ cell_at new number n) at here
-cells_same old new number i (suc k) (f ∷ fs) e lt =
-    let parts = both_none (cell_changes old new number (same_at i)) (flat_map (cell_changes old new number) (same_from (i + 1) fs)) e in
+    subst (λ (n : ℕ). cell_at old numbers.old_number n ≡ cell_at new numbers.new_number n) at here
+cells_same old new numbers i (suc k) (f ∷ fs) e lt =
+    let parts = both_none (cell_changes old new numbers (same_at i)) (flat_map (cell_changes old new numbers) (same_from (i + 1) fs)) e in
     let at : (i + 1) + k ≡ i + suc k = omega arith in
-    subst (λ (n : ℕ). cell_at old number n ≡ cell_at new number n) at (cells_same old new number (i + 1) k fs parts.1 (omega (arith, lt)))
+    subst (λ (n : ℕ). cell_at old numbers.old_number n ≡ cell_at new numbers.new_number n) at (cells_same old new numbers (i + 1) k fs parts.1 (omega (arith, lt)))
 
-no_cell_changes : (old new : Table) (number i : ℕ) (fs : List Field) → row_at old number ≡ row_at new number
-    → flat_map (cell_changes old new number) (same_from i fs) ≡ []
-no_cell_changes old new number i [] e = refl
-no_cell_changes old new number i (f ∷ fs) e =
-    let cells : cell_at old number i ≡ cell_at new number i = ap (λ (row : Row). slice_index_or row.cells i []) e in
-    let here = no_change number (name_of_field old.schema i) (kind_at old.schema i) (kind_at new.schema i) (cell_at old number i) (cell_at new number i) cells in
-    ap (λ (cs : List Change). cs ++ flat_map (cell_changes old new number) (same_from (i + 1) fs)) here ∙ no_cell_changes old new number (i + 1) fs e
+no_cell_changes : (old new : Table) (numbers : RecordNumbers) (i : ℕ) (fs : List Field) → row_at old numbers.old_number ≡ row_at new numbers.new_number
+    → flat_map (cell_changes old new numbers) (same_from i fs) ≡ []
+no_cell_changes old new numbers i [] e = refl
+no_cell_changes old new numbers i (f ∷ fs) e =
+    let cells : cell_at old numbers.old_number i ≡ cell_at new numbers.new_number i = ap (λ (row : Row). slice_index_or row.cells i []) e in
+    let here = no_change numbers (name_of_field old.schema i) (kind_at old.schema i) (kind_at new.schema i) (cell_at old numbers.old_number i) (cell_at new numbers.new_number i) cells in
+    ap (λ (cs : List Change). cs ++ flat_map (cell_changes old new numbers) (same_from (i + 1) fs)) here ∙ no_cell_changes old new numbers (i + 1) fs e
 
-marks_same : (number : ℕ) (was is : Bool) → mark_changes number was is ≡ [] → was ≡ is
-marks_same number true true e = refl
-marks_same number true false e = absurd cc
-marks_same number false true e = absurd cc
-marks_same number false false e = refl
+marks_same : (numbers : RecordNumbers) (was is : Bool) → mark_changes numbers was is ≡ [] → was ≡ is
+marks_same numbers true true e = refl
+marks_same numbers true false e = absurd cc
+marks_same numbers false true e = absurd cc
+marks_same numbers false false e = refl
 
-no_mark_changes : (number : ℕ) (was is : Bool) → was ≡ is → mark_changes number was is ≡ []
-no_mark_changes number true true e = refl
-no_mark_changes number true false e = absurd cc
-no_mark_changes number false true e = absurd cc
-no_mark_changes number false false e = refl
+no_mark_changes : (numbers : RecordNumbers) (was is : Bool) → was ≡ is → mark_changes numbers was is ≡ []
+no_mark_changes numbers true true e = refl
+no_mark_changes numbers true false e = absurd cc
+no_mark_changes numbers false true e = absurd cc
+no_mark_changes numbers false false e = refl
 
 many_cells : (fields : List Field) (cells : List (List ℕ)) → AreCells fields cells → length cells ≡ length fields
 many_cells [] [] h = refl
@@ -84,29 +85,29 @@ same_row : (a b : Row) → a.deleted ≡ b.deleted → a.cells ≡ b.cells → a
 same_row a b mark cells = λ i. record { deleted = mark i; cells = cells i }
 
 -- a record of which nothing has changed is the same,
-pub row_same : (old new : Table) (number : ℕ) → IsSchema old.schema → old.schema ≡ new.schema
-    → AreCells old.schema (row_at old number).cells → AreCells old.schema (row_at new number).cells
-    → row_changes old new number ≡ [] → row_at old number ≡ row_at new number
-row_same old new number is fields own other e =
-    let parts = both_none (mark_changes number (row_at old number).deleted (row_at new number).deleted) (flat_map (cell_changes old new number) (shared_fields old.schema new.schema)) e in
-    let mark = marks_same number (row_at old number).deleted (row_at new number).deleted parts.0 in
+pub row_same : (old new : Table) (numbers : RecordNumbers) → IsSchema old.schema → old.schema ≡ new.schema
+    → AreCells old.schema (row_at old numbers.old_number).cells → AreCells old.schema (row_at new numbers.new_number).cells
+    → row_changes old new numbers ≡ [] → row_at old numbers.old_number ≡ row_at new numbers.new_number
+row_same old new numbers is fields own other e =
+    let parts = both_none (mark_changes numbers (row_at old numbers.old_number).deleted (row_at new numbers.new_number).deleted) (flat_map (cell_changes old new numbers) (shared_fields old.schema new.schema)) e in
+    let mark = marks_same numbers (row_at old numbers.old_number).deleted (row_at new numbers.new_number).deleted parts.0 in
     let shared : shared_fields old.schema new.schema ≡ same_from 0 old.schema = ap (shared_fields old.schema) (sym fields) ∙ matched old.schema is in
-    let none = subst (λ (xs : List SharedField). flat_map (cell_changes old new number) xs ≡ []) shared parts.1 in
-    let many : length (row_at old number).cells ≡ length old.schema = many_cells old.schema (row_at old number).cells own in
-    let as_many : length (row_at new number).cells ≡ length old.schema = many_cells old.schema (row_at new number).cells other in
-    let cells = ext_get_or {A = List ℕ} [] (row_at old number).cells (row_at new number).cells (many ∙ sym as_many) (λ k lt.
+    let none = subst (λ (xs : List SharedField). flat_map (cell_changes old new numbers) xs ≡ []) shared parts.1 in
+    let many : length (row_at old numbers.old_number).cells ≡ length old.schema = many_cells old.schema (row_at old numbers.old_number).cells own in
+    let as_many : length (row_at new numbers.new_number).cells ≡ length old.schema = many_cells old.schema (row_at new numbers.new_number).cells other in
+    let cells = ext_get_or {A = List ℕ} [] (row_at old numbers.old_number).cells (row_at new numbers.new_number).cells (many ∙ sym as_many) (λ k lt.
     let inside : k < length old.schema = omega (arith, lt, many) in
     let zero-k : 0 + k ≡ k = omega arith in
-    subst (λ (n : ℕ). cell_at old number n ≡ cell_at new number n) zero-k (cells_same old new number 0 k old.schema none inside)) in
-    same_row (row_at old number) (row_at new number) mark cells
+    subst (λ (n : ℕ). cell_at old numbers.old_number n ≡ cell_at new numbers.new_number n) zero-k (cells_same old new numbers 0 k old.schema none inside)) in
+    same_row (row_at old numbers.old_number) (row_at new numbers.new_number) mark cells
 
 -- and of the same record nothing has changed
-pub same_unchanged : (old new : Table) (number : ℕ) → IsSchema old.schema → old.schema ≡ new.schema → row_at old number ≡ row_at new number → row_changes old new number ≡ []
-same_unchanged old new number is fields e =
+pub same_unchanged : (old new : Table) (numbers : RecordNumbers) → IsSchema old.schema → old.schema ≡ new.schema → row_at old numbers.old_number ≡ row_at new numbers.new_number → row_changes old new numbers ≡ []
+same_unchanged old new numbers is fields e =
     let shared : shared_fields old.schema new.schema ≡ same_from 0 old.schema = ap (shared_fields old.schema) (sym fields) ∙ matched old.schema is in
-    let mark : (row_at old number).deleted ≡ (row_at new number).deleted = ap (λ (row : Row). row.deleted) e in
-    let none = subst (λ (xs : List SharedField). flat_map (cell_changes old new number) xs ≡ []) (sym shared) (no_cell_changes old new number 0 old.schema e) in
-    ap (λ (cs : List Change). cs ++ flat_map (cell_changes old new number) (shared_fields old.schema new.schema)) (no_mark_changes number _ _ mark) ∙ none
+    let mark : (row_at old numbers.old_number).deleted ≡ (row_at new numbers.new_number).deleted = ap (λ (row : Row). row.deleted) e in
+    let none = subst (λ (xs : List SharedField). flat_map (cell_changes old new numbers) xs ≡ []) (sym shared) (no_cell_changes old new numbers 0 old.schema e) in
+    ap (λ (cs : List Change). cs ++ flat_map (cell_changes old new numbers) (shared_fields old.schema new.schema)) (no_mark_changes numbers _ _ mark) ∙ none
 
 -- ---- bytes of records without memos
 
@@ -129,8 +130,8 @@ by_their_bytes fields bytes others row other h is are same =
     is.is ∙ own ∙ ap (λ (bs : List ℕ). row_with fields bs are.memos) same ∙ sym are.is
 
 -- so nothing has changed of them
-pub bytes_tell : (old new : Table) (number : ℕ) (bytes others : List ℕ) → IsSchema old.schema → old.schema ≡ new.schema → has_memos old.schema ≡ false
-    → IsRecord old.schema bytes (row_at old number) → IsRecord new.schema others (row_at new number) → bytes ≡ others → row_changes old new number ≡ []
-bytes_tell old new number bytes others is fields h own other same =
-    let moved = subst (λ (fs : List Field). IsRecord fs others (row_at new number)) (sym fields) other in
-    same_unchanged old new number is fields (by_their_bytes old.schema bytes others (row_at old number) (row_at new number) h own moved same)
+pub bytes_tell : (old new : Table) (numbers : RecordNumbers) (bytes others : List ℕ) → IsSchema old.schema → old.schema ≡ new.schema → has_memos old.schema ≡ false
+    → IsRecord old.schema bytes (row_at old numbers.old_number) → IsRecord new.schema others (row_at new numbers.new_number) → bytes ≡ others → row_changes old new numbers ≡ []
+bytes_tell old new numbers bytes others is fields h own other same =
+    let moved = subst (λ (fs : List Field). IsRecord fs others (row_at new numbers.new_number)) (sym fields) other in
+    same_unchanged old new numbers is fields (by_their_bytes old.schema bytes others (row_at old numbers.old_number) (row_at new numbers.new_number) h own moved same)

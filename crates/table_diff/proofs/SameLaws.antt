@@ -8,7 +8,7 @@ use Rattle.std.proofs.lemmas.List.FromFn.{get_or-range_with_len, length-range_wi
 use Rattle.dbf_fields.specs.declared.field.Field.{Field}
 use Rattle.dbf_fields.specs.Schema.{IsSchema}
 use Rattle.dbf_image.specs.Table.{Row, Table, IsRow, IsTable, blank_row, row_at}
-use Rattle.table_diff.specs.Changes.{Change, record_added, record_removed, all_numbers, changes, field_changes, number_changes, record_changes, row_changes}
+use Rattle.table_diff.specs.Changes.{Change, record_added, record_removed, all_numbers, changes, field_changes, in_both, number_changes, record_changes, row_changes}
 use Rattle.table_diff.proofs.FieldLaws.{fields_same}
 use Rattle.table_diff.proofs.FieldLaws as field_laws
 use Rattle.table_diff.proofs.RowLaws.{both_none, none_at, row_same, same_unchanged}
@@ -28,11 +28,11 @@ is_at_most m n h = grind (arith, nat_tests, h)
 pub record Unchanged (old new : Table) (number : ℕ) : Type 0 where
   pub new_has : number ≤ length new.rows
   pub old_has : number ≤ length old.rows
-  pub none : row_changes old new number ≡ []
+  pub none : row_changes old new (in_both number) ≡ []
 
 number_unchanged : (old new : Table) (number : ℕ) → number_changes old new number ≡ [] → Unchanged old new number
 number_unchanged old new number e =
-    let parts = has_both (nat_le number (length new.rows)) (nat_le number (length old.rows)) (row_changes old new number) (record_added number new.schema (row_at new number)) (record_removed number old.schema (row_at old number)) e in
+    let parts = has_both (nat_le number (length new.rows)) (nat_le number (length old.rows)) (row_changes old new (in_both number)) (record_added number new.schema (row_at new number)) (record_removed number old.schema (row_at old number)) e in
     record { new_has = at_most number (length new.rows) parts.0; old_has = at_most number (length old.rows) parts.1; none = parts.2 }
 
 each_unchanged : (old new : Table) (k : ℕ) → record_changes old new ≡ [] → k < max (length old.rows) (length new.rows) → Unchanged old new (1 + k)
@@ -53,7 +53,7 @@ lengths_by old new (suc k) at e =
 as_many : (old new : Table) → record_changes old new ≡ [] → length old.rows ≡ length new.rows
 as_many old new e = lengths_by old new (max (length old.rows) (length new.rows)) refl e
 
-row_fits : (fields : List Field) (rows : List Row) (k : ℕ) (d : Row) → AllByRecursion (IsRow fields) rows → k < length rows → IsRow fields (get_or rows k d)
+pub row_fits : (fields : List Field) (rows : List Row) (k : ℕ) (d : Row) → AllByRecursion (IsRow fields) rows → k < length rows → IsRow fields (get_or rows k d)
 row_fits fields [] k d h lt = absurd (omega (arith, lt))
 row_fits fields (r ∷ rs) zero d h lt = h.0
 row_fits fields (r ∷ rs) (suc k) d h lt = row_fits fields rs k d h.1 (omega (arith, lt))
@@ -75,7 +75,7 @@ rows_same fields olds news is own other e =
     let here = each_unchanged old new k e below in
     let fits = subst (λ (r : Row). IsRow fields r) (sym (before_next olds k blank)) (row_fits fields olds k blank own lt) in
     let fit = subst (λ (r : Row). IsRow fields r) (sym (before_next news k blank)) (row_fits fields news k blank other in_new) in
-    sym (before_next olds k blank) ∙ row_same old new (1 + k) is refl fits fit here.none ∙ before_next news k blank)
+    sym (before_next olds k blank) ∙ row_same old new (in_both (1 + k)) is refl fits fit here.none ∙ before_next news k blank)
 
 tables_by : (s t : List Field) (olds news : List Row) → s ≡ t → IsSchema s → AllByRecursion (IsRow s) olds → AllByRecursion (IsRow t) news
     → record_changes (record { schema = s; rows = olds }) (record { schema = t; rows = news }) ≡ [] → olds ≡ news
@@ -98,7 +98,7 @@ none_of f (x ∷ xs) h = ap (λ (cs : List Change). cs ++ flat_map f xs) h.0 ∙
 
 same_number : (table : Table) (number : ℕ) → IsSchema table.schema → number ≤ length table.rows → number_changes table table number ≡ []
 same_number table number is inside =
-    rw (is_at_most number (length table.rows) inside) (same_unchanged table table number is refl refl)
+    rw (is_at_most number (length table.rows) inside) (same_unchanged table table (in_both number) is refl refl)
 
 counted_none : (table : Table) (from count : ℕ) → IsSchema table.schema → from + count ≤ 1 + length table.rows → AllByRecursion (λ x. number_changes table table x ≡ []) (range_with_len from count)
 counted_none table from zero is h = tt

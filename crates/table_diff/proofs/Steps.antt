@@ -1,37 +1,25 @@
--- The steps of loops over fields and over the numbers of records.
-use Rattle.std.proofs.Common.{◌≡◌, ℕ, ◌+◌, ◌<◌, ◌≤◌, Bool, List, [], ◌∷◌, ◌++◌, length, get_or, drop, take, sym, ap, ◌∙◌, append_assoc, arith}
+-- The steps of loops over fields and over records.
+use Rattle.std.proofs.Common.{◌≡◌, ℕ, ◌+◌, ◌<◌, ◌≤◌, Bool, List, [], ◌∷◌, ◌++◌, length, get_or, drop, take, sym, ap, ◌∙◌, append_assoc}
 use Rattle.std.specs.Prelude.{filter, flat_map}
-use Rattle.std.specs.List.{range_with_len}
 use Rattle.std.proofs.lemmas.Grind.{flat_map-append}
 use Rattle.std.proofs.lemmas.List.{append-nil, drop_all, drop_more, take_more}
 use Rattle.std.proofs.lemmas.List.Elements.{filter-append}
-use Rattle.std.proofs.lemmas.List.FromFn.{get_or-range_with_len, length-range_with_len}
 use Rattle.table_diff.specs.Changes.{Change}
 use Rattle.table_diff.specs.DiffText.{change_line, change_lines}
 
--- the numbers from 1 on that are left, where a place is looked at
-pub left_next : (most place : ℕ) → place < most → drop place (range_with_len 1 most) ≡ (place + 1) ∷ drop (place + 1) (range_with_len 1 most)
-left_next most place lt =
-    let inside : place < length (range_with_len 1 most) = omega (arith, lt, length-range_with_len 1 most) in
-    let moved : 1 + place ≡ place + 1 = omega arith in
-    let next : get_or (range_with_len 1 most) place 0 ≡ place + 1 = get_or-range_with_len 1 most place 0 lt ∙ moved in
-    drop_more (range_with_len 1 most) place 0 inside ∙ ap (λ (n : ℕ). n ∷ drop (place + 1) (range_with_len 1 most)) next
+-- the changes that are left, of the element that is looked at and of those after it
+pub changes_next : {X : Type 0} (of : X → List Change) (xs : List X) (place : ℕ) (d : X) → place < length xs
+    → flat_map of (drop place xs) ≡ of (get_or xs place d) ++ flat_map of (drop (place + 1) xs)
+changes_next of xs place d lt = ap (flat_map of) (drop_more xs place d lt)
 
--- the changes that are left, of the number that is looked at and of those after it
-pub changes_next : (of : ℕ → List Change) (most place : ℕ) → place < most
-    → flat_map of (drop place (range_with_len 1 most)) ≡ of (place + 1) ++ flat_map of (drop (place + 1) (range_with_len 1 most))
-changes_next of most place lt = ap (flat_map of) (left_next most place lt)
-
-pub lines_next : (of : ℕ → List Change) (most place : ℕ) → place < most
-    → change_lines (flat_map of (drop place (range_with_len 1 most))) ≡ change_lines (of (place + 1)) ++ change_lines (flat_map of (drop (place + 1) (range_with_len 1 most)))
-lines_next of most place lt =
-    ap change_lines (changes_next of most place lt) ∙ flat_map-append change_line (of (place + 1)) (flat_map of (drop (place + 1) (range_with_len 1 most)))
+pub lines_next : {X : Type 0} (of : X → List Change) (xs : List X) (place : ℕ) (d : X) → place < length xs
+    → change_lines (flat_map of (drop place xs)) ≡ change_lines (of (get_or xs place d)) ++ change_lines (flat_map of (drop (place + 1) xs))
+lines_next of xs place d lt =
+    ap change_lines (changes_next of xs place d lt) ∙ flat_map-append change_line (of (get_or xs place d)) (flat_map of (drop (place + 1) xs))
 
 -- none are left after the last
-pub nothing_left : (of : ℕ → List Change) (most place : ℕ) → most ≤ place → flat_map of (drop place (range_with_len 1 most)) ≡ []
-nothing_left of most place h =
-    let few : length (range_with_len 1 most) ≤ place = omega (arith, h, length-range_with_len 1 most) in
-    ap (flat_map of) (drop_all place (range_with_len 1 most) few)
+pub nothing_left : {X : Type 0} (of : X → List Change) (xs : List X) (place : ℕ) → length xs ≤ place → flat_map of (drop place xs) ≡ []
+nothing_left of xs place h = ap (flat_map of) (drop_all place xs h)
 
 -- one more part of a text
 pub one_more : (base before own after line next : List ℕ) → line ≡ base ++ before → next ≡ line ++ own → after ≡ before ++ own → next ≡ base ++ after

@@ -15,9 +15,9 @@ line_some (new_field f) e = cc
 line_some other_order e = cc
 line_some (record_added number fields row) e = cc
 line_some (record_removed number fields row) e = cc
-line_some (record_marked number) e = cc
-line_some (record_recalled number) e = cc
-line_some (replaced number name a b) e = cc
+line_some (record_marked numbers) e = cc
+line_some (record_recalled numbers) e = cc
+line_some (replaced numbers name a b) e = cc
 
 -- so where there is no text nothing has changed
 pub no_lines : (cs : List Change) → change_lines cs ≡ [] → cs ≡ []

@@ -7,6 +7,7 @@ use Rattle.dbf_image.specs.Table.{Row, Table}
 use Rattle.table_text.specs.Csv.{csv_fields, csv_value}
 use Rattle.table_text.specs.Structure.{kind_word}
 use Rattle.table_diff.specs.declared.format.TheConstants.{LF}
+use Rattle.table_diff.specs.declared.matching.RecordNumbers.{RecordNumbers}
 use Rattle.table_diff.specs.Changes.{Change, old_field, new_field, other_order, record_added, record_removed, record_marked, record_recalled, replaced}
 use Rattle.table_diff.specs.Changes.{changes, record_changes, replaced_value}
 use Rattle.table_diff.specs.Told.{text_told}
@@ -26,6 +27,14 @@ field_told words f = words ++ (f.name ++ (codes ": " ++ (description f ++ LF ∷
 abbrev pub record_words : ℕ → List ℕ
 record_words number = codes "record " ++ decimal number
 
+-- the number that a record has now, where it was another
+abbrev pub now_words : RecordNumbers → List ℕ
+now_words numbers = if numbers.old_number == numbers.new_number then [] else codes " (now " ++ (decimal numbers.new_number ++ codes ")")
+
+-- a record that both tables have, by its numbers
+abbrev pub numbers_words : RecordNumbers → List ℕ
+numbers_words numbers = record_words numbers.old_number ++ now_words numbers
+
 -- that a record is marked as deleted
 abbrev pub mark_words : Bool → List ℕ
 mark_words deleted = if deleted then codes ", marked as deleted" else []
@@ -40,16 +49,16 @@ row_told words number fields row =
     record_words number ++ (words ++ (mark_words row.deleted ++ (codes ":" ++ (csv_fields (value_words row) 0 fields ++ LF ∷ []))))
 
 -- the line of a record's mark that was set or taken away
-unfoldable pub mark_told : List ℕ → ℕ → List ℕ
-mark_told words number = record_words number ++ (words ++ LF ∷ [])
+unfoldable pub mark_told : List ℕ → RecordNumbers → List ℕ
+mark_told words numbers = numbers_words numbers ++ (words ++ LF ∷ [])
 
 -- a field's name, and its old and its new text
 unfoldable pub both_told : List ℕ → List ℕ → List ℕ → List ℕ
 both_told name old_text new_text = name ++ (BLANK ∷ (text_told old_text ++ (codes " -> " ++ text_told new_text)))
 
 -- the line of a value of a record
-unfoldable pub value_told : ℕ → List ℕ → List ℕ → List ℕ → List ℕ
-value_told number name old_text new_text = record_words number ++ (codes ": " ++ (both_told name old_text new_text ++ LF ∷ []))
+unfoldable pub value_told : RecordNumbers → List ℕ → List ℕ → List ℕ → List ℕ
+value_told numbers name old_text new_text = numbers_words numbers ++ (codes ": " ++ (both_told name old_text new_text ++ LF ∷ []))
 
 -- the line of a change
 abbrev pub change_line : Change → List ℕ
@@ -58,13 +67,13 @@ change_line (new_field f) = field_told (codes "new field ") f
 change_line other_order = codes "the fields stand in another order" ++ LF ∷ []
 change_line (record_added number fields row) = row_told (codes " added") number fields row
 change_line (record_removed number fields row) = row_told (codes " removed") number fields row
-change_line (record_marked number) = mark_told (codes " marked as deleted") number
-change_line (record_recalled number) = mark_told (codes " recalled") number
-change_line (replaced number name old_text new_text) = value_told number name old_text new_text
+change_line (record_marked numbers) = mark_told (codes " marked as deleted") numbers
+change_line (record_recalled numbers) = mark_told (codes " recalled") numbers
+change_line (replaced numbers name old_text new_text) = value_told numbers name old_text new_text
 
 -- the line of a value that was another
-abbrev pub replaced_line : ℕ → List ℕ → List ℕ → List ℕ → List ℕ → List ℕ → List ℕ
-replaced_line number name old_cell new_cell old_text new_text = change_line (replaced_value number name old_cell new_cell old_text new_text)
+abbrev pub replaced_line : RecordNumbers → List ℕ → List ℕ → List ℕ → List ℕ → List ℕ → List ℕ
+replaced_line numbers name old_cell new_cell old_text new_text = change_line (replaced_value numbers name old_cell new_cell old_text new_text)
 
 -- the lines of changes
 abbrev pub change_lines : List Change → List ℕ

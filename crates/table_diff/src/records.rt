@@ -1,18 +1,20 @@
 //! What has changed of a record.
 
-ghost use Rattle.std.specs.Prelude.{◌≡◌, ◌≤◌, ◌<◌, ◌++◌, ◌+◌, [], length, max, IfOk, IsTrue, OnOk};
+ghost use Rattle.std.specs.Prelude.{◌≡◌, ◌≤◌, ◌<◌, ◌++◌, ◌+◌, [], length, IfOk, IsTrue, OnOk};
 ghost use Rattle.std.specs.Prelude.{false};
 ghost use Rattle.std.specs.List.{All};
 ghost use Rattle.dbf_fields.specs.declared.format.TheConstants.{MAX_FIELDS};
 ghost use Rattle.dbf_image.specs.Table.{has_memos, kind_at, row_at};
 ghost use Rattle.table_text.specs.Csv.{csv_fields, separator};
-ghost use Rattle.table_diff.specs.Changes.{mark_changes, number_changes, row_changes, values_changed};
+ghost use Rattle.table_diff.specs.Changes.{mark_changes, match_changes, row_changes, values_changed};
 ghost use Rattle.table_diff.specs.DiffText.{change_lines, mark_told, mark_words as words_of_mark, row_told, value_words};
 ghost use Rattle.table_diff.specs.Fields.{shared_fields};
+ghost use Rattle.table_diff.specs.Matching.{HasRecord, HaveRecords};
 
-use crate::cells::{append_cell_changes, append_record_words, copied_cell};
+use crate::cells::{append_cell_changes, append_numbers, append_record_words, copied_cell};
 use crate::fields::SharedField;
 use crate::format::{COMMA, LF};
+use crate::matching::{Match, RecordNumbers};
 use crate::told::{append_told, text_of};
 use dbf_fields::{BLANK, Field};
 use dbf_image::GrowingTable;
@@ -103,11 +105,11 @@ fn append_mark(
     alloc: Global,
     line: &mut Vec<u8>,
     words: &[u8],
-    number: u32,
+    numbers: RecordNumbers,
 ) -> Result<(), AllocError>
-    ensures ok { OnOk result (line.new.items ≡ line.old.items ++ mark_told words.now number) }
+    ensures ok { OnOk result (line.new.items ≡ line.old.items ++ mark_told words.now numbers) }
 {
-    append_record_words(alloc, line, number)?;
+    append_numbers(alloc, line, numbers)?;
     line.extend_from_slice(words)?;
     line.push(LF)?;
     Ok(())
@@ -117,21 +119,21 @@ fn append_mark(
 fn append_mark_changes(
     alloc: Global,
     line: &mut Vec<u8>,
-    number: u32,
+    numbers: RecordNumbers,
     was: bool,
     is: bool,
 ) -> Result<usize, AllocError>
-    ensures lines { OnOk result (line.new.items ≡ line.old.items ++ change_lines (mark_changes number was is)) }
-    ensures count { IfOk result (λ count. count ≡ length (mark_changes number was is)) }
+    ensures lines { OnOk result (line.new.items ≡ line.old.items ++ change_lines (mark_changes numbers was is)) }
+    ensures count { IfOk result (λ count. count ≡ length (mark_changes numbers was is)) }
     ensures bounded { IfOk result (λ count. count ≤ 1) }
 {
     if was == is {
         return Ok(0);
     }
     if is {
-        append_mark(alloc, line, b" marked as deleted", number)?;
+        append_mark(alloc, line, b" marked as deleted", numbers)?;
     } else {
-        append_mark(alloc, line, b" recalled", number)?;
+        append_mark(alloc, line, b" recalled", numbers)?;
     }
     Ok(1)
 }
@@ -142,21 +144,20 @@ fn append_values_changed(
     line: &mut Vec<u8>,
     old_table: &GrowingTable,
     new_table: &GrowingTable,
-    number: u32,
+    numbers: RecordNumbers,
     shared: &[SharedField],
 ) -> Result<usize, AllocError>
-    requires number { 1 ≤ number }
-    requires old_has { number ≤ length old_table.now.table.rows }
-    requires new_has { number ≤ length new_table.now.table.rows }
+    requires old_has { HasRecord old_table.now.table numbers.old_number }
+    requires new_has { HasRecord new_table.now.table numbers.new_number }
     requires old_indexes { All (λ s. s.old_index < length old_table.now.table.schema) shared.now }
     requires new_indexes { All (λ s. s.new_index < length new_table.now.table.schema) shared.now }
-    ensures lines { OnOk result (line.new.items ≡ line.old.items ++ change_lines (values_changed old_table.now.table new_table.now.table number shared.now)) }
-    ensures count { IfOk result (λ count. count ≡ length (values_changed old_table.now.table new_table.now.table number shared.now)) }
+    ensures lines { OnOk result (line.new.items ≡ line.old.items ++ change_lines (values_changed old_table.now.table new_table.now.table numbers shared.now)) }
+    ensures count { IfOk result (λ count. count ≡ length (values_changed old_table.now.table new_table.now.table numbers shared.now)) }
     ensures bounded { IfOk result (λ count. count ≤ length shared.now) }
 {
     let mut count = 0;
     for field in shared {
-        let told = append_cell_changes(alloc, line, old_table, new_table, number, *field)?;
+        let told = append_cell_changes(alloc, line, old_table, new_table, numbers, *field)?;
         count += told;
     }
     Ok(count)
@@ -168,76 +169,103 @@ fn append_row_changes(
     line: &mut Vec<u8>,
     old_table: &GrowingTable,
     new_table: &GrowingTable,
-    number: u32,
+    numbers: RecordNumbers,
     shared: &[SharedField],
 ) -> Result<usize, AllocError>
-    requires number { 1 ≤ number }
-    requires old_has { number ≤ length old_table.now.table.rows }
-    requires new_has { number ≤ length new_table.now.table.rows }
+    requires old_has { HasRecord old_table.now.table numbers.old_number }
+    requires new_has { HasRecord new_table.now.table numbers.new_number }
     requires shared { shared.now ≡ shared_fields old_table.now.table.schema new_table.now.table.schema }
-    ensures lines { OnOk result (line.new.items ≡ line.old.items ++ change_lines (row_changes old_table.now.table new_table.now.table number)) }
-    ensures count { IfOk result (λ count. count ≡ length (row_changes old_table.now.table new_table.now.table number)) }
+    ensures lines { OnOk result (line.new.items ≡ line.old.items ++ change_lines (row_changes old_table.now.table new_table.now.table numbers)) }
+    ensures count { IfOk result (λ count. count ≡ length (row_changes old_table.now.table new_table.now.table numbers)) }
     ensures bounded { IfOk result (λ count. count ≤ 1 + MAX_FIELDS) }
 {
     // For contracts alone: how many fields there are.
     let _fields = old_table.schema().fields();
-    let was = old_table.is_deleted(number);
-    let is = new_table.is_deleted(number);
-    let marks = append_mark_changes(alloc, line, number, was, is)?;
-    let values = append_values_changed(alloc, line, old_table, new_table, number, shared)?;
+    let was = old_table.is_deleted(numbers.old_number);
+    let is = new_table.is_deleted(numbers.new_number);
+    let marks = append_mark_changes(alloc, line, numbers, was, is)?;
+    let values = append_values_changed(alloc, line, old_table, new_table, numbers, shared)?;
     Ok(marks + values)
 }
 
 // Whether a record that both tables have is of the same bytes in both. Where the fields are the same and none is a memo, nothing
 // has changed of it then.
-fn has_same_bytes(old_table: &GrowingTable, new_table: &GrowingTable, number: u32) -> bool
-    requires number { 1 ≤ number }
-    requires old_has { number ≤ length old_table.now.table.rows }
-    requires new_has { number ≤ length new_table.now.table.rows }
+fn has_same_bytes(
+    old_table: &GrowingTable,
+    new_table: &GrowingTable,
+    numbers: RecordNumbers,
+) -> bool
+    requires old_has { HasRecord old_table.now.table numbers.old_number }
+    requires new_has { HasRecord new_table.now.table numbers.new_number }
     requires fields { old_table.now.table.schema ≡ new_table.now.table.schema }
     requires memos { has_memos old_table.now.table.schema ≡ false }
-    ensures same { IsTrue result → row_changes old_table.now.table new_table.now.table number ≡ [] }
+    ensures same { IsTrue result → row_changes old_table.now.table new_table.now.table numbers ≡ [] }
 {
     // For contracts alone: the fields are those of a table.
     let _count = old_table.record_count();
-    let old_bytes = old_table.record(number);
-    let new_bytes = new_table.record(number);
+    let old_bytes = old_table.record(numbers.old_number);
+    let new_bytes = new_table.record(numbers.new_number);
     old_bytes == new_bytes
 }
 
-/// The lines of what has changed of the record of a number, which one of the tables has at least, after what the line has; and
-/// how many they are. `by_bytes` says that the fields are the same, and none is a memo: then a record is the same where its
-/// bytes are.
-///
-/// An `Err` says that there was no memory.
-pub(crate) fn append_number_changes(
+// The lines of a record that both tables have, and how many they are. `by_bytes` says that the fields are the same, and none is a
+// memo: then a record is the same where its bytes are.
+fn append_both_changes(
     alloc: Global,
     line: &mut Vec<u8>,
     old_table: &GrowingTable,
     new_table: &GrowingTable,
-    number: u32,
+    numbers: RecordNumbers,
     shared: &[SharedField],
     by_bytes: bool,
 ) -> Result<usize, AllocError>
-    requires number { 1 ≤ number }
-    requires inside { number ≤ max (length old_table.now.table.rows) (length new_table.now.table.rows) }
+    requires old_has { HasRecord old_table.now.table numbers.old_number }
+    requires new_has { HasRecord new_table.now.table numbers.new_number }
     requires shared { shared.now ≡ shared_fields old_table.now.table.schema new_table.now.table.schema }
     requires fields { IsTrue by_bytes → old_table.now.table.schema ≡ new_table.now.table.schema }
     requires memos { IsTrue by_bytes → has_memos old_table.now.table.schema ≡ false }
-    ensures lines { OnOk result (line.new.items ≡ line.old.items ++ change_lines (number_changes old_table.now.table new_table.now.table number)) }
-    ensures count { IfOk result (λ count. count ≡ length (number_changes old_table.now.table new_table.now.table number)) }
+    ensures lines { OnOk result (line.new.items ≡ line.old.items ++ change_lines (row_changes old_table.now.table new_table.now.table numbers)) }
+    ensures count { IfOk result (λ count. count ≡ length (row_changes old_table.now.table new_table.now.table numbers)) }
     ensures bounded { IfOk result (λ count. count ≤ 1 + MAX_FIELDS) }
 {
-    if number > new_table.record_count() {
-        append_row(alloc, line, b" removed", old_table, number)?;
-        return Ok(1);
-    }
-    if number > old_table.record_count() {
-        append_row(alloc, line, b" added", new_table, number)?;
-        return Ok(1);
-    }
-    if by_bytes && has_same_bytes(old_table, new_table, number) {
+    if by_bytes && has_same_bytes(old_table, new_table, numbers) {
         return Ok(0);
     }
-    append_row_changes(alloc, line, old_table, new_table, number, shared)
+    append_row_changes(alloc, line, old_table, new_table, numbers, shared)
+}
+
+/// The lines of what has changed of records that are matched, or of one that one table alone has, after what the line has; and how
+/// many they are. `by_bytes` says that the fields are the same, and none is a memo: then a record is the same where its bytes are.
+///
+/// An `Err` says that there was no memory.
+pub(crate) fn append_match_changes(
+    alloc: Global,
+    line: &mut Vec<u8>,
+    old_table: &GrowingTable,
+    new_table: &GrowingTable,
+    matched: Match,
+    shared: &[SharedField],
+    by_bytes: bool,
+) -> Result<usize, AllocError>
+    requires records { HaveRecords old_table.now.table new_table.now.table matched }
+    requires shared { shared.now ≡ shared_fields old_table.now.table.schema new_table.now.table.schema }
+    requires fields { IsTrue by_bytes → old_table.now.table.schema ≡ new_table.now.table.schema }
+    requires memos { IsTrue by_bytes → has_memos old_table.now.table.schema ≡ false }
+    ensures lines { OnOk result (line.new.items ≡ line.old.items ++ change_lines (match_changes old_table.now.table new_table.now.table matched)) }
+    ensures count { IfOk result (λ count. count ≡ length (match_changes old_table.now.table new_table.now.table matched)) }
+    ensures bounded { IfOk result (λ count. count ≤ 1 + MAX_FIELDS) }
+{
+    match matched {
+        Match::Both(numbers) => append_both_changes(
+            alloc, line, old_table, new_table, numbers, shared, by_bytes,
+        ),
+        Match::Old(number) => {
+            append_row(alloc, line, b" removed", old_table, number)?;
+            Ok(1)
+        }
+        Match::New(number) => {
+            append_row(alloc, line, b" added", new_table, number)?;
+            Ok(1)
+        }
+    }
 }

@@ -1,6 +1,6 @@
 //! Tests of the whole crate, and what they share. What is expected is written down by hand.
 
-use byte_io::{LimitedSink, MemorySink};
+use byte_io::{ByteSink, LimitedSink, MemorySink};
 use dbf_fields::{CHARACTER, DATE, Field, LOGICAL, MEMO, NUMBER, Schema};
 use dbf_image::{GrowingTable, TableData, is_memo_text};
 use std::alloc::Global;
@@ -11,6 +11,7 @@ use table_text::TextFault;
 
 mod faults;
 mod fields;
+mod keys;
 mod records;
 
 // A field: its name, its kind, its width and its decimals.

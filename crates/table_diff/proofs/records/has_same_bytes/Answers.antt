@@ -12,6 +12,6 @@ returns c =
     let others = c.record-new_bytes.result.now in record {
       same = λ e.
           let test : bytes_eq bytes others ≡ true = sym c.eq.ensures ∙ e in
-          bytes_tell old new c.args.number bytes others c.record_count-count.ensures.each.fields c.requires.fields c.requires.memos
+          bytes_tell old new c.args.numbers bytes others c.record_count-count.ensures.each.fields c.requires.fields c.requires.memos
           c.record-old_bytes.ensures.value c.record-new_bytes.ensures.value ((bytes_eq-Decides bytes others).0 test);
     }

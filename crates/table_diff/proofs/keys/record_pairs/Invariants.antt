@@ -1,0 +1,11 @@
+use Rattle.std.proofs.Common.{◌≡◌, take}
+use Rattle.key_expr.specs.Keys.{key_length}
+use Rattle.table_order.specs.TableOrder.{pairs_of}
+use Rattle.table_diff.proofs.keys.record_pairs.Given as goal
+
+-- the pairs of the records so far
+abbrev pub invariant-loop-index : goal.invariant-loop-index
+invariant-loop-index l = record {
+  pairs : l.pairs.pairs ≡ take l.index (pairs_of l.table.table l.key.expr);
+  key_len : l.pairs.key_len ≡ key_length l.key.fields l.key.expr;
+}
