@@ -8,3 +8,4 @@ pub mod NamesBack
 pub mod TextBack
 pub mod RowsBack
 pub mod ReplaceLaws
+pub mod MarkLaws

@@ -1,11 +1,19 @@
 -- The lines of a text of CSV, each as the texts between its commas.
-use Rattle.std.specs.Prelude.{◌≡◌, ℕ, ◌+◌, Bool, true, false, List, [], ◌∷◌, length, Option, Some, None, IsSome}
+use Rattle.std.specs.Prelude.{◌≡◌, ◌≢◌, ℕ, ◌+◌, ◌++◌, Bool, true, false, List, [], ◌∷◌, length, Option, Some, None, IsSome}
 use Rattle.std.proofs.Common.{Bor}
 use Rattle.csv.specs.Machine.{ends_at_end}
 use Rattle.csv.specs.Reading.{Ready, default_config, is_flexible, reader_config, reader_state, reader_trim, records, records_from, source_of, strip_bom}
 use Rattle.csv.specs.declared.parser.State.{State}
 use Rattle.csv.specs.declared.reader.Reader.{Reader}
 use Rattle.csv.specs.declared.reader.Trim.TheVariants as trim
+
+-- the mark that some programs write before a text: U+FEFF in UTF-8
+abbrev pub utf8_mark : List ℕ
+utf8_mark = 0xEF ∷ 0xBB ∷ 0xBF ∷ []
+
+-- no such mark stands before the text
+abbrev pub HasNoMark : List ℕ → Type 0
+HasNoMark text = (rest : List ℕ) → text ≢ utf8_mark ++ rest
 
 -- The lines of a text, after a byte order mark at its start, as the reader of CSV takes them: a text between quotes may go
 -- over several lines of the file, and a line of the file without a byte is none.

@@ -3,3 +3,4 @@ pub mod Values
 pub mod Headings
 pub mod Loading
 pub mod ComingBack
+pub mod FaultWords

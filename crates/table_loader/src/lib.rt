@@ -13,8 +13,12 @@ mod fault;
 mod heading;
 mod lines;
 mod load;
+mod named;
 mod record;
 mod value;
 
 pub use fault::{CsvFault, ValueFault};
-pub use load::{load_csv, printed_table_is_loaded, values_are_those_of_replace};
+pub use load::{
+    load_csv, mark_is_passed_over, printed_table_is_loaded, values_are_those_of_replace,
+};
+pub use named::{NamedFault, load_csv_named};

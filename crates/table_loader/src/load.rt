@@ -1,7 +1,7 @@
 //! The records of a text of CSV after those of a table.
 
 ghost use Rattle.std.specs.Prelude.{◌≡◌, length, Ok, IfOk, IfErr, OnOk};
-ghost use Rattle.std.specs.Prelude.{◌≢◌, [], ℕ, Bool, List, ℤ, Some, true};
+ghost use Rattle.std.specs.Prelude.{◌≢◌, ◌++◌, [], ℕ, Bool, List, ℤ, Some, true};
 ghost use Rattle.dbf_fields.specs.declared.day.Day.{Day as OneDay};
 ghost use Rattle.dbf_fields.specs.declared.field.Field.{Field as OneField};
 ghost use Rattle.dbf_fields.specs.declared.format.TheConstants.{CHARACTER, DATE, LOGICAL, NUMBER};
@@ -13,7 +13,7 @@ ghost use Rattle.dbf_fields.specs.Number.{number};
 ghost use Rattle.table_loader.specs.Values.{truth_said, value_of};
 ghost use Rattle.dbf_image.specs.Table.{IsTable, Table, empty_table};
 ghost use Rattle.table_loader.specs.ComingBack.{ComesBack, whole_csv};
-ghost use Rattle.table_loader.specs.CsvText.{lines_left, ReadsCsv};
+ghost use Rattle.table_loader.specs.CsvText.{utf8_mark, lines_left, HasNoMark, ReadsCsv};
 ghost use Rattle.table_loader.specs.Loading.{csv_loaded, with_lines, IsCsvFault};
 
 use crate::fault::CsvFault;
@@ -82,6 +82,11 @@ pub fn load_csv(
     add_lines(alloc, &mut growing, &plan, &mut reader, &mut cells)?;
     Ok(TableData::from_growing(growing))
 }
+
+/// A law: a byte order mark before a text, as spreadsheets write it, is passed over.
+pub fn mark_is_passed_over()
+    ensures passed { (cut : Bool) (table : Table) (text : List ℕ) → HasNoMark text → csv_loaded cut table (utf8_mark ++ text) ≡ csv_loaded cut table text }
+{}
 
 /// A law: what [`table_text::write_csv`] prints of a table with all its records and the column of marks, loaded into the empty table
 /// of its fields, is this table again: the same fields, rows, marks and memos. It holds of each table whose cells mean

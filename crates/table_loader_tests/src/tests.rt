@@ -6,7 +6,7 @@ use dbf_image::TableData;
 use std::alloc::Global;
 use std::process::Abort;
 use std::test::*;
-use table_loader::{CsvFault, ValueFault, load_csv};
+use table_loader::{CsvFault, ValueFault, load_csv, load_csv_named};
 use table_text::{Selection, write_csv};
 
 // The name of each field, the letter of its kind, its width and its decimals.
@@ -37,8 +37,9 @@ fn people(alloc: Global) -> Result<TableData, Fail> {
 const HEADING: &str = "NAME,BORN,DUES,PAID,NOTE,deleted\r\n";
 
 // Texts of other programs, and their records as CSV: with a byte order mark and an empty last line, with every text between
-// quotes, with LF alone and fields in another order, without a last line's end and with fields that lack, and a heading alone.
-const LOADED: [(&str, &str); 5] = [
+// quotes, with LF alone and fields in another order, without a last line's end and with fields that lack, a heading alone; and
+// what Python's `csv` writes as `utf-8-sig`, also with every text between quotes, as spreadsheets do.
+const LOADED: [(&str, &str); 7] = [
     (
         "\u{feff}NAME,BORN,DUES,PAID,NOTE,deleted\r\nADA,18151210,12.5,T,,false\r\n\r\n",
         "ADA,18151210,12.50,T,,false\r\n",
@@ -53,12 +54,22 @@ const LOADED: [(&str, &str); 5] = [
     ),
     ("NAME\nADA   \nBOB", "ADA,,,,,false\r\nBOB,,,,,false\r\n"),
     ("NAME,NOTE\r\n", ""),
+    (
+        "\u{feff}NOTE,NAME,DUES,BORN\r\n\"Said \"\"no\"\", twice.\nThen paid.\",O'HARA,12.5,18151210\r\n,,-3,\r\n,\"A, B\",0,\r\n",
+        "O'HARA,18151210,12.50,,\"Said \"\"no\"\", twice.\nThen paid.\",false\r\n,,-3.00,,,false\r\n\"A, B\",,0.00,,,false\r\n",
+    ),
+    (
+        "\u{feff}\"NAME\",\"PAID\",\"DUES\"\n\"ADA\",\"T\",7\n\"\",\"F\",1.25\n\n",
+        "ADA,,7.00,T,,false\r\n,,1.25,F,,false\r\n",
+    ),
 ];
 
 // Texts that are not loaded, and why.
-const REFUSED: [(&str, CsvFault); 17] = [
+const REFUSED: [(&str, CsvFault); 18] = [
     ("", CsvFault::NoHeading),
     ("\r\n\r\n", CsvFault::NoHeading),
+    // Of two marks one is passed over.
+    ("\u{feff}\u{feff}NAME\n", CsvFault::UnknownName(1)),
     ("NAME,name\n", CsvFault::UnknownName(2)),
     ("NAME,BORN,NAME\n", CsvFault::DoubledName(3)),
     ("deleted,deleted\n", CsvFault::DoubledName(2)),
@@ -170,5 +181,40 @@ fn records_come_after_those_of_the_table(rt: HostRuntime) -> Result<(), Fail> {
     let bytes = printed(alloc, &once)?;
     let twice = load_csv(alloc, once, &bytes, false)?;
     assert_eq!(rt; twice.record_count(), 2);
+    Ok(())
+}
+
+// Texts that are not loaded, and what is told of them.
+const TOLD: [(&str, &str); 6] = [
+    ("NAME\nADA\nMATILDA\n", "line 3, NAME: TextTooWide"),
+    ("DUES,NAME\n1,A\n1000,B\n", "line 3, DUES: NumberTooWide"),
+    ("", "there is no heading"),
+    ("NAME,name\n", "column 2: no field has the name"),
+    (
+        "NAME\nADA\nBOB,1\n",
+        "line 3: not as many cells as the heading",
+    ),
+    (
+        "NAME,deleted\nADA,TRUE\n",
+        "line 2: the mark is not true or false",
+    ),
+];
+
+// What is told of a text that is not loaded.
+fn told(alloc: Global, text: &str) -> Result<Vec<u8>, Fail> {
+    let table = people(alloc)?;
+    let mut words = Vec::new(alloc);
+    if let Err(fault) = load_csv_named(alloc, table, text.as_bytes(), false) {
+        let _ = fault.print(&mut words);
+    }
+    Ok(words)
+}
+
+#[test]
+fn refusals_are_told_with_the_name_of_the_field(rt: HostRuntime) -> Result<(), Fail> {
+    for (text, words) in TOLD {
+        let said = told(rt.alloc(), text)?;
+        assert_eq!(rt; said.as_slice(), words.as_bytes());
+    }
     Ok(())
 }
