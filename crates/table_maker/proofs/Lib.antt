@@ -1,2 +1,3 @@
+pub mod LoadLaws
 pub mod MakeLaws
 pub mod PlaceLaws

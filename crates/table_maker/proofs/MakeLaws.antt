@@ -1,4 +1,4 @@
--- The files of an empty table, as a folder has them.
+-- The files of a table, as a folder has them.
 use Rattle.std.proofs.Common.{◌≡◌, ℕ, List, [], ◌∷◌, ◌++◌, Bool, true, false, cond, subst, ◌==◌, ◌&&◌, Option, refl, ap, ◌∙◌, sym}
 use Rattle.std.specs.Prelude.{bytes_eq, Result, Ok, Err, OnOk}
 use Rattle.std.specs.List.{IsDistinct}
@@ -6,13 +6,12 @@ use Rattle.std.proofs.lemmas.List.{append-nil}
 use Rattle.byte_io.specs.Sink.{grown}
 use Rattle.byte_io.specs.Laws.Sinks.{grown_then}
 use Rattle.dbf_fields.specs.declared.day.Day.{Day}
-use Rattle.dbf_fields.specs.declared.field.Field.{Field}
-use Rattle.dbf_image.specs.Table.{Table, empty_table, has_memos}
+use Rattle.dbf_image.specs.Table.{Table, has_memos}
 use Rattle.folders.specs.declared.named.NamedFile.{NamedFile}
 use Rattle.folders.specs.Files.{opening, listing, IsOfBytes}
 use Rattle.folders.specs.Placed.{IsListedAfter}
 use Rattle.folders.proofs.ListingLaws.{files_again}
-use Rattle.table_maker.specs.Making.{dated_file, memo_file, table_extension, memos_extension, table_file, memos_file, made_files}
+use Rattle.table_maker.specs.Making.{dated_file, files_of_table, memo_file, table_extension, memos_extension}
 
 -- ---- the two names differ
 
@@ -36,56 +35,56 @@ names_differ stem in_capitals = differ_after stem (table_extension in_capitals) 
 without_end : (a b : List ℕ) → (a ++ []) ++ b ≡ a ++ b
 without_end a b = ap (λ (xs : List ℕ). xs ++ b) (append-nil a)
 
-module _ (stem : List ℕ) (in_capitals : Bool) (day : Day) (fields : List Field) (old : Option (List ℕ)) where
-  abbrev table : NamedFile
-  table = table_file stem in_capitals day fields
+module _ (stem : List ℕ) (in_capitals : Bool) (day : Day) (table : Table) (old : Option (List ℕ)) where
+  abbrev own : NamedFile
+  own = dated_file (stem ++ table_extension in_capitals) table day
 
   abbrev memos : NamedFile
-  memos = memos_file stem in_capitals fields
+  memos = memo_file (stem ++ memos_extension in_capitals) table
 
-  table_same : (name : List ℕ) (made : Table) → name ≡ stem ++ table_extension in_capitals → made ≡ empty_table fields → dated_file name made day ≡ table
-  table_same name made named is = λ i. dated_file (named i) (is i) day
+  own_same : (name : List ℕ) → name ≡ stem ++ table_extension in_capitals → dated_file name table day ≡ own
+  own_same name named = λ i. dated_file (named i) table day
 
-  memos_same : (name : List ℕ) (made : Table) → name ≡ stem ++ memos_extension in_capitals → made ≡ empty_table fields → memo_file name made ≡ memos
-  memos_same name made named is = λ i. memo_file (named i) (is i)
+  memos_same : (name : List ℕ) → name ≡ stem ++ memos_extension in_capitals → memo_file name table ≡ memos
+  memos_same name named = λ i. memo_file (named i) table
 
   -- of a table without memos one
-  pub one_listed : (new : Option (List ℕ)) (name : List ℕ) (made : Table) → name ≡ stem ++ table_extension in_capitals → made ≡ empty_table fields → has_memos fields ≡ false
-      → new ≡ grown old (listing (dated_file name made day ∷ [])) → IsOfBytes (dated_file name made day) → IsListedAfter (λ files. files ≡ made_files stem in_capitals day fields) old new
+  pub one_listed : (new : Option (List ℕ)) (name : List ℕ) → name ≡ stem ++ table_extension in_capitals → has_memos table.schema ≡ false
+      → new ≡ grown old (listing (dated_file name table day ∷ [])) → IsOfBytes (dated_file name table day) → IsListedAfter (λ files. files ≡ files_of_table stem in_capitals day table) old new
   unfolding IsDistinct
-  one_listed new name made named is none written bytes =
-      let same = table_same name made named is in
-      let fine : IsOfBytes table = subst (λ (file : NamedFile). IsOfBytes file) same bytes in
+  one_listed new name named none written bytes =
+      let same = own_same name named in
+      let fine : IsOfBytes own = subst (λ (file : NamedFile). IsOfBytes file) same bytes in
       record {
-        files = table ∷ [];
-        such = ap (λ (q : Bool). table ∷ cond q (memos ∷ []) []) (sym none);
+        files = own ∷ [];
+        such = ap (λ (q : Bool). own ∷ cond q (memos ∷ []) []) (sym none);
         written = written ∙ ap (λ (file : NamedFile). grown old (listing (file ∷ []))) same;
         bytes = (fine, tt);
-        told = files_again (table ∷ []) (fine, tt);
+        told = files_again (own ∷ []) (fine, tt);
         distinct = (tt, tt);
       }
 
   -- and of another both
-  pub two_listed : (middle new : Option (List ℕ)) (name other : List ℕ) (made : Table) → name ≡ stem ++ table_extension in_capitals → other ≡ stem ++ memos_extension in_capitals → made ≡ empty_table fields
-      → has_memos fields ≡ true → middle ≡ grown old (listing (dated_file name made day ∷ [])) → IsOfBytes (dated_file name made day)
-      → new ≡ grown middle (listing (memo_file other made ∷ [])) → IsOfBytes (memo_file other made) → IsListedAfter (λ files. files ≡ made_files stem in_capitals day fields) old new
+  pub two_listed : (middle new : Option (List ℕ)) (name other : List ℕ) → name ≡ stem ++ table_extension in_capitals → other ≡ stem ++ memos_extension in_capitals
+      → has_memos table.schema ≡ true → middle ≡ grown old (listing (dated_file name table day ∷ [])) → IsOfBytes (dated_file name table day)
+      → new ≡ grown middle (listing (memo_file other table ∷ [])) → IsOfBytes (memo_file other table) → IsListedAfter (λ files. files ≡ files_of_table stem in_capitals day table) old new
   unfolding IsDistinct
-  two_listed middle new name other made named others is some first bytes second others_bytes =
-      let same = table_same name made named is in
-      let same_memos = memos_same other made others is in
-      let fine : IsOfBytes table = subst (λ (file : NamedFile). IsOfBytes file) same bytes in
+  two_listed middle new name other named others some first bytes second others_bytes =
+      let same = own_same name named in
+      let same_memos = memos_same other others in
+      let fine : IsOfBytes own = subst (λ (file : NamedFile). IsOfBytes file) same bytes in
       let fine_memos : IsOfBytes memos = subst (λ (file : NamedFile). IsOfBytes file) same_memos others_bytes in
       record {
-        files = table ∷ memos ∷ [];
-        such = ap (λ (q : Bool). table ∷ cond q (memos ∷ []) []) (sym some);
+        files = own ∷ memos ∷ [];
+        such = ap (λ (q : Bool). own ∷ cond q (memos ∷ []) []) (sym some);
         written =
             second
-            ∙ (ap (λ (o : Option (List ℕ)). grown o (listing (memo_file other made ∷ []))) (first ∙ ap (λ (file : NamedFile). grown old (listing (file ∷ []))) same)
-            ∙ (ap (λ (file : NamedFile). grown (grown old (listing (table ∷ []))) (listing (file ∷ []))) same_memos
-            ∙ (grown_then old (listing (table ∷ [])) (listing (memos ∷ []))
-            ∙ ap (λ (xs : List ℕ). grown old xs) (without_end (opening table.name ++ table.bytes) (listing (memos ∷ []))))));
+            ∙ (ap (λ (o : Option (List ℕ)). grown o (listing (memo_file other table ∷ []))) (first ∙ ap (λ (file : NamedFile). grown old (listing (file ∷ []))) same)
+            ∙ (ap (λ (file : NamedFile). grown (grown old (listing (own ∷ []))) (listing (file ∷ []))) same_memos
+            ∙ (grown_then old (listing (own ∷ [])) (listing (memos ∷ []))
+            ∙ ap (λ (xs : List ℕ). grown old xs) (without_end (opening own.name ++ own.bytes) (listing (memos ∷ []))))));
         bytes = (fine, (fine_memos, tt));
-        told = files_again (table ∷ memos ∷ []) (fine, (fine_memos, tt));
+        told = files_again (own ∷ memos ∷ []) (fine, (fine_memos, tt));
         distinct = ((names_differ stem in_capitals, tt), (tt, tt));
       }
 

@@ -9,22 +9,15 @@ use Rattle.files_in_place.proofs.Runs.{goes_on}
 use Rattle.folders.specs.declared.named.NamedFile.{NamedFile}
 use Rattle.program_frame.specs.declared.ending.Failure.{Failure}
 use Rattle.program_frame.specs.declared.ending.Failure.TheVariants.{BadDate, Work as OfWork, Folder as OfFolder}
-use Rattle.program_frame.specs.declared.folder.FolderFault.{FolderFault}
 use Rattle.program_frame.specs.declared.folder.FolderFault.TheVariants.{InUse, Unopened, Unrecovered, BadList, Unreplaced, DayOpen, Unwritten, Unfinished}
-use Rattle.files_in_place.specs.declared.folder_lock.LockFault.TheVariants as lock
 use Rattle.program_frame.specs.declared.folder.PlaceFault.{PlaceFault}
 use Rattle.program_frame.specs.declared.folder.PlaceFault.TheVariants as place
 use Rattle.program_frame.specs.Endings.{place_failure}
-use Rattle.program_frame.specs.PlaceFaults.{IsOfLock}
-use Rattle.program_frame.specs.Jobs.{ComesToItsEnd, IsPlaceFailure, IsUnbegun}
+use Rattle.program_frame.specs.Jobs.{IsLoadFailure, IsPlaceFailure, IsRunFailure, IsUnbegun}
 use Rattle.program_frame.specs.Placing.{EndsInPlace, HasPut, IsRecovered, RecoversAsOneOf, TellsRecovery}
 use Rattle.program_frame.proofs.EndLaws.{ends_unbegun}
-use Rattle.table_maker.specs.declared.fault.MakeFault.{MakeFault}
-use Rattle.table_maker.specs.declared.fault.MakeFault.TheVariants as make
-use Rattle.table_maker.specs.declared.job.Made.{Made}
-use Rattle.table_maker.specs.declared.job.MakeJob.{MakeJob}
-use Rattle.table_maker.specs.Making.{memos_extension, table_extension, IsWhyNotMade}
-use Rattle.table_maker.specs.Placing.{AreFilesOfJob, HasMadeInto, IsFree, IsLooking, IsInTheWay, IsUnmade, IsUnmadeInto, IsUnmadeLoad, IsUntried, StaysRecovered}
+use Rattle.table_maker.specs.Making.{memos_extension, table_extension}
+use Rattle.table_maker.specs.Placing.{HasMadeInto, IsFree, IsInTheWay, IsLooking, IsUnplaced, IsUnplacedInto, IsUnplacedLoad, IsUntried, LookFaults, StaysRecovered}
 
 -- ---- looking at a disk that was recovered
 
@@ -47,93 +40,76 @@ stays_both m old mid new first second start was = second start (first start was)
 
 -- ---- where no file was begun
 
-pub ends_untried : {D R : Type 0} (m : DiskMeaning D) (writes : List NamedFile → R → Type 0) (replace : Bool) (start now : D) (ended : Result R (Failure MakeFault)) → IsErr ended → IfErr ended (IsUntried replace)
-    → (m.keeps_promises → LeavesOnly m start now (RecoversAsOneOf (m.may_leave start))) → EndsInPlace m writes (RecoversAsOneOf (m.may_leave start)) (recovered (m.seen start)) start now ended
-ends_untried m writes replace start now (Ok report) refused untried old = absurd cc
-ends_untried m writes replace start now (Err BadDate) refused untried old = absurd untried
-ends_untried m writes replace start now (Err (OfWork fault)) refused untried old = ends_unbegun m writes fault start now (Err (OfWork fault)) refused refl old
-ends_untried m writes replace start now (Err (OfFolder why)) refused untried old = ends_unbegun m writes make.NoMemory start now (Err (OfFolder why)) refused untried old
+-- of what is told of names alone, and of what is not, nothing was begun
+pub ends_untried : {D R F : Type 0} (m : DiskMeaning D) (writes : List NamedFile → R → Type 0) (look : LookFaults F) (none : F) (replace : Bool) (start now : D) (ended : Result R (Failure F)) → IsErr ended
+    → IfErr ended (IsUntried look none replace) → (m.keeps_promises → LeavesOnly m start now (RecoversAsOneOf (m.may_leave start)))
+    → EndsInPlace m writes (RecoversAsOneOf (m.may_leave start)) (recovered (m.seen start)) start now ended
+ends_untried m writes look none replace start now (Ok report) refused untried old = absurd cc
+ends_untried m writes look none replace start now (Err why) refused (inl unbegun) old = ends_unbegun m writes none start now (Err why) refused unbegun old
+ends_untried m writes look none replace start now (Err BadDate) refused (inr taken) old = absurd (elim taken.1 [ inl is ↦ cc | inr is ↦ cc ])
+ends_untried m writes look none replace start now (Err (OfWork fault)) refused (inr taken) old = ends_unbegun m writes fault start now (Err (OfWork fault)) refused refl old
+ends_untried m writes look none replace start now (Err (OfFolder why)) refused (inr taken) old = absurd (elim taken.1 [ inl is ↦ cc | inr is ↦ cc ])
 
-pub untried_fault : {R : Type 0} (files : Option (List NamedFile)) (job : MakeJob) (replace : Bool) (ended : Result R (Failure MakeFault)) → IfErr ended (IsUntried replace) → IfErr ended (IsUnmade files job replace)
-untried_fault files job replace (Ok report) untried = tt
-untried_fault files job replace (Err BadDate) untried = untried
-untried_fault files job replace (Err (OfWork make.Exists)) untried = untried
-untried_fault files job replace (Err (OfWork make.Unread)) untried = untried
-untried_fault files job replace (Err (OfWork (make.Load path why))) untried = inl untried
-untried_fault files job replace (Err (OfWork (make.List path why))) untried = inl untried
-untried_fault files job replace (Err (OfWork make.Write)) untried = inl untried
-untried_fault files job replace (Err (OfWork make.NoMemory)) untried = inl refl
-untried_fault files job replace (Err (OfFolder InUse)) untried = absurd untried
-untried_fault files job replace (Err (OfFolder Unopened)) untried = absurd untried
-untried_fault files job replace (Err (OfFolder Unrecovered)) untried = tt
-untried_fault files job replace (Err (OfFolder BadList)) untried = tt
-untried_fault files job replace (Err (OfFolder (Unreplaced name))) untried = tt
-untried_fault files job replace (Err (OfFolder DayOpen)) untried = absurd untried
-untried_fault files job replace (Err (OfFolder Unwritten)) untried = absurd untried
-untried_fault files job replace (Err (OfFolder Unfinished)) untried = absurd untried
+unbegun_place : {F : Type 0} (none : F) (fails : F → Type 0) (ended : Type 0) (why : Failure F) → IsUnbegun none why → IsPlaceFailure fails none ended why
+unbegun_place none fails ended BadDate h = h
+unbegun_place none fails ended (OfWork fault) h = inl h
+unbegun_place none fails ended (OfFolder InUse) h = h
+unbegun_place none fails ended (OfFolder Unopened) h = h
+unbegun_place none fails ended (OfFolder Unrecovered) h = tt
+unbegun_place none fails ended (OfFolder BadList) h = tt
+unbegun_place none fails ended (OfFolder (Unreplaced name)) h = tt
+unbegun_place none fails ended (OfFolder DayOpen) h = h
+unbegun_place none fails ended (OfFolder Unwritten) h = absurd h
+unbegun_place none fails ended (OfFolder Unfinished) h = absurd h
+
+untried_why : {F : Type 0} (look : LookFaults F) (none : F) (fails : F → Type 0) (ended : Type 0) (replace : Bool) (why : Failure F) → IsUntried look none replace why → IsUnplaced look none fails ended replace why
+untried_why look none fails ended replace why (inl unbegun) = inl (unbegun_place none fails ended why unbegun)
+untried_why look none fails ended replace why (inr taken) = inr taken
+
+pub untried_fault : {R F : Type 0} (look : LookFaults F) (none : F) (fails : F → Type 0) (whole : Type 0) (replace : Bool) (ended : Result R (Failure F)) → IfErr ended (IsUntried look none replace)
+    → IfErr ended (IsUnplaced look none fails whole replace)
+untried_fault look none fails whole replace (Ok report) untried = tt
+untried_fault look none fails whole replace (Err why) untried = untried_why look none fails whole replace why untried
+
+unbegun_load : {F : Type 0} (none : F) (loads : F → Type 0) (same : Type 0) (why : Failure F) → same → IsUnbegun none why → IsLoadFailure loads none same why
+unbegun_load none loads same BadDate is h = is
+unbegun_load none loads same (OfWork fault) is h = inl h
+unbegun_load none loads same (OfFolder why) is h = is
+
+untried_count : {F : Type 0} (look : LookFaults F) (none : F) (loads : F → Type 0) (same : Type 0) (replace : Bool) (why : Failure F) → same → IsUntried look none replace why
+    → IsUnplacedLoad look none loads same replace why
+untried_count look none loads same replace why is (inl unbegun) = inl (unbegun_load none loads same why is unbegun)
+untried_count look none loads same replace why is (inr taken) = inr (taken, is)
 
 -- no load has failed
-pub untried_load : {R : Type 0} (files : Option (List NamedFile)) (list : List ℕ) (before : Option ℕ) (replace : Bool) (ended : Result R (Failure MakeFault)) → IfErr ended (IsUntried replace)
-    → IfErr ended (IsUnmadeLoad files list before before)
-untried_load files list before replace (Ok report) untried = tt
-untried_load files list before replace (Err BadDate) untried = refl
-untried_load files list before replace (Err (OfWork make.Exists)) untried = inr refl
-untried_load files list before replace (Err (OfWork make.Unread)) untried = inr refl
-untried_load files list before replace (Err (OfWork (make.Load path why))) untried = inl untried
-untried_load files list before replace (Err (OfWork (make.List path why))) untried = inl untried
-untried_load files list before replace (Err (OfWork make.Write)) untried = inl untried
-untried_load files list before replace (Err (OfWork make.NoMemory)) untried = inl refl
-untried_load files list before replace (Err (OfFolder why)) untried = refl
+pub untried_load : {R F : Type 0} (look : LookFaults F) (none : F) (loads : F → Type 0) (same : Type 0) (replace : Bool) (ended : Result R (Failure F)) → same → IfErr ended (IsUntried look none replace)
+    → IfErr ended (IsUnplacedLoad look none loads same replace)
+untried_load look none loads same replace (Ok report) is untried = tt
+untried_load look none loads same replace (Err why) is untried = untried_count look none loads same replace why is untried
 
 -- ---- where its files were begun
 
+pub begun_fault : {R F : Type 0} (look : LookFaults F) (none : F) (fails : F → Type 0) (whole : Type 0) (replace : Bool) (ended : Result R (Failure F)) → IfErr ended (IsPlaceFailure fails none whole)
+    → IfErr ended (IsUnplaced look none fails whole replace)
+begun_fault look none fails whole replace (Ok report) h = tt
+begun_fault look none fails whole replace (Err why) h = inl h
+
+pub begun_load : {R F : Type 0} (look : LookFaults F) (none : F) (loads : F → Type 0) (same : Type 0) (replace : Bool) (ended : Result R (Failure F)) → IfErr ended (IsLoadFailure loads none same)
+    → IfErr ended (IsUnplacedLoad look none loads same replace)
+begun_load look none loads same replace (Ok report) h = tt
+begun_load look none loads same replace (Err why) h = inl h
+
 -- the fault of the work is none of a name that is taken
-begun_case : (files : Option (List NamedFile)) (job : MakeJob) (fault : MakeFault) → (fault ≡ make.NoMemory) ⊎ IsWhyNotMade files job.list.now fault → IsUnmade files job true (OfWork fault)
-begun_case files job (make.Load path why) h = h
-begun_case files job (make.List path why) h = h
-begun_case files job make.Write h = h
-begun_case files job make.NoMemory h = h
-begun_case files job make.Exists (inl is) = absurd cc
-begun_case files job make.Exists (inr none) = absurd none
-begun_case files job make.Unread (inl is) = absurd cc
-begun_case files job make.Unread (inr none) = absurd none
+not_of_work : {F : Type 0} (exists none : F) (fails : F → Type 0) (fault : F) → (¬ fails exists) → exists ≢ none → (fault ≡ none) ⊎ fails fault → fault ≡ exists → ⊥
+not_of_work exists none fails fault never other (inl is) same = other (sym same ∙ is)
+not_of_work exists none fails fault never other (inr of_work) same = never (subst fails same of_work)
 
-pub begun_fault : {R : Type 0} (files : Option (List NamedFile)) (job : MakeJob) (ended : Result R (Failure MakeFault))
-    → IfErr ended (IsPlaceFailure (IsWhyNotMade files job.list.now) make.NoMemory (ComesToItsEnd (λ made (told : Made). AreFilesOfJob files job made)))
-    → IfErr ended (IsUnmade files job true)
-begun_fault files job (Ok report) h = tt
-begun_fault files job (Err BadDate) h = h
-begun_fault files job (Err (OfWork fault)) h = begun_case files job fault h
-begun_fault files job (Err (OfFolder why)) h = h
-
--- whether they may be replaced or not, and that a file may not be is none of their faults
-any_case : (files : Option (List NamedFile)) (job : MakeJob) (replace : Bool) (fault : MakeFault) → IsUnmade files job true (OfWork fault) → IsUnmade files job replace (OfWork fault)
-any_case files job replace (make.Load path why) h = h
-any_case files job replace (make.List path why) h = h
-any_case files job replace make.Write h = h
-any_case files job replace make.NoMemory h = h
-any_case files job replace make.Exists h = absurd cc
-any_case files job replace make.Unread h = absurd cc
-
-pub any_fault : {R : Type 0} (files : Option (List NamedFile)) (job : MakeJob) (replace : Bool) (ended : Result R (Failure MakeFault)) → IfErr ended (IsUnmade files job true) → IfErr ended (IsUnmade files job replace)
-any_fault files job replace (Ok report) h = tt
-any_fault files job replace (Err BadDate) h = h
-any_fault files job replace (Err (OfWork fault)) h = any_case files job replace fault h
-any_fault files job replace (Err (OfFolder why)) h = h
-
-none_exists : (files : Option (List NamedFile)) (job : MakeJob) (fault : MakeFault) → IsUnmade files job true (OfWork fault) → fault ≡ make.Exists → ⊥
-none_exists files job make.Exists h is = absurd cc
-none_exists files job (make.Load path why) h is = absurd cc
-none_exists files job (make.List path why) h is = absurd cc
-none_exists files job make.Write h is = absurd cc
-none_exists files job make.NoMemory h is = absurd cc
-none_exists files job make.Unread h is = absurd cc
-
-pub begun_exists : {R : Type 0} (files : Option (List NamedFile)) (job : MakeJob) (ended : Result R (Failure MakeFault)) → IfErr ended (IsUnmade files job true) → IsErrOf ended (OfWork make.Exists) → ⊥
-begun_exists files job (Ok report) h told = absurd cc
-begun_exists files job (Err BadDate) h told = absurd cc
-begun_exists files job (Err (OfWork fault)) h told = let is : fault ≡ make.Exists = cc in none_exists files job fault h is
-begun_exists files job (Err (OfFolder why)) h told = absurd cc
+pub begun_exists : {R F : Type 0} (exists none : F) (fails : F → Type 0) (whole : Type 0) (ended : Result R (Failure F)) → (¬ fails exists) → exists ≢ none
+    → IfErr ended (IsPlaceFailure fails none whole) → IsErrOf ended (OfWork exists) → ⊥
+begun_exists exists none fails whole (Ok report) never other h told = absurd cc
+begun_exists exists none fails whole (Err BadDate) never other h told = absurd h
+begun_exists exists none fails whole (Err (OfWork fault)) never other h told = let same : fault ≡ exists = cc in not_of_work exists none fails fault never other h same
+begun_exists exists none fails whole (Err (OfFolder why)) never other h told = absurd cc
 
 -- ---- names that are free
 
@@ -159,15 +135,12 @@ neither_extension name first second stem false = second stem
 
 -- ---- what is told after looking
 
-pub looking_untried : (replace : Bool) (fault : MakeFault) → replace ≡ false → IsLooking fault → IsUntried replace (OfWork fault)
-looking_untried replace make.Exists may looks = may
-looking_untried replace make.Unread may looks = may
-looking_untried replace make.NoMemory may looks = refl
-looking_untried replace make.Write may looks = absurd looks
-looking_untried replace (make.Load path why) may looks = absurd looks
-looking_untried replace (make.List path why) may looks = absurd looks
+pub looking_untried : {F : Type 0} (look : LookFaults F) (none : F) (replace : Bool) (fault : F) → replace ≡ false → IsLooking look none fault → IsUntried look none replace (OfWork fault)
+looking_untried look none replace fault may (inl is) = inr (may, inl (ap (λ (f : _). OfWork f) is))
+looking_untried look none replace fault may (inr (inl is)) = inr (may, inr (ap (λ (f : _). OfWork f) is))
+looking_untried look none replace fault may (inr (inr is)) = inl is
 
-pub looked_tells : {D R : Type 0} (m : DiskMeaning D) (start now : D) (fault : MakeFault) → (m.keeps_promises → IsRecovered m start now) → TellsRecovery {D = D} {R = R} m start now (Err (OfWork fault))
+pub looked_tells : {D R F : Type 0} (m : DiskMeaning D) (start now : D) (fault : F) → (m.keeps_promises → IsRecovered m start now) → TellsRecovery {D = D} {R = R} m start now (Err (OfWork fault))
 looked_tells m start now fault since = record {
   unrecovered = λ told. absurd cc;
   unreplaced = λ name told. absurd cc;
@@ -175,83 +148,66 @@ looked_tells m start now fault since = record {
   untouched = λ promised bad. absurd ((since promised).good_list bad);
 }
 
--- what is told of a folder that was not recovered
+-- what is told of a folder that was not recovered is untried
+pub unbegun_untried : {R F : Type 0} (look : LookFaults F) (none : F) (replace : Bool) (ended : Result R (Failure F)) → IfErr ended (IsUnbegun none) → IfErr ended (IsUntried look none replace)
+unbegun_untried look none replace (Ok report) unbegun = tt
+unbegun_untried look none replace (Err why) unbegun = inl unbegun
 
-unbegun_case : (replace : Bool) (fault : MakeFault) → fault ≡ make.NoMemory → IsUntried replace (OfWork fault)
-unbegun_case replace make.NoMemory is = refl
-unbegun_case replace make.Exists is = absurd cc
-unbegun_case replace make.Unread is = absurd cc
-unbegun_case replace make.Write is = absurd cc
-unbegun_case replace (make.Load path why) is = absurd cc
-unbegun_case replace (make.List path why) is = absurd cc
-
-pub unbegun_untried : {R : Type 0} (replace : Bool) (ended : Result R (Failure MakeFault)) → IfErr ended (IsUnbegun make.NoMemory) → IfErr ended (IsUntried replace)
-unbegun_untried replace (Ok report) unbegun = tt
-unbegun_untried replace (Err BadDate) unbegun = unbegun
-unbegun_untried replace (Err (OfWork fault)) unbegun = unbegun_case replace fault unbegun
-unbegun_untried replace (Err (OfFolder why)) unbegun = unbegun
-
-pub unbegun_exists : {R : Type 0} (ended : Result R (Failure MakeFault)) → IfErr ended (IsUnbegun make.NoMemory) → IsErrOf ended (OfWork make.Exists) → ⊥
-unbegun_exists (Ok report) unbegun told = absurd cc
-unbegun_exists (Err BadDate) unbegun told = absurd unbegun
-unbegun_exists (Err (OfWork fault)) unbegun told = absurd cc
-unbegun_exists (Err (OfFolder why)) unbegun told = absurd cc
+pub unbegun_exists : {R F : Type 0} (exists none : F) (ended : Result R (Failure F)) → exists ≢ none → IfErr ended (IsUnbegun none) → IsErrOf ended (OfWork exists) → ⊥
+unbegun_exists exists none (Ok report) other unbegun told = absurd cc
+unbegun_exists exists none (Err BadDate) other unbegun told = absurd unbegun
+unbegun_exists exists none (Err (OfWork fault)) other unbegun told = let same : fault ≡ exists = cc in other (sym same ∙ unbegun)
+unbegun_exists exists none (Err (OfFolder why)) other unbegun told = absurd cc
 
 -- ---- a table in the folder of a path
 
--- what is told where nothing has this path
-pub nowhere_fault : (files : Option (List NamedFile)) (job : MakeJob) (fault : MakeFault) → IsWhyNotMade files job.list.now fault → IsUnmadeInto files job true (OfWork fault)
-nowhere_fault files job fault fails = begun_case files job fault (inr fails)
-
-pub nowhere_any : {R : Type 0} (files : Option (List NamedFile)) (job : MakeJob) (replace : Bool) (ended : Result R (Failure MakeFault)) → IfErr ended (IsUnmadeInto files job true) → IfErr ended (IsUnmadeInto files job replace)
-nowhere_any files job replace (Ok report) h = tt
-nowhere_any files job replace (Err BadDate) h = h
-nowhere_any files job replace (Err (OfWork fault)) h = any_case files job replace fault h
-nowhere_any files job replace (Err (OfFolder InUse)) h = tt
-nowhere_any files job replace (Err (OfFolder Unopened)) h = tt
-nowhere_any files job replace (Err (OfFolder Unrecovered)) h = h
-nowhere_any files job replace (Err (OfFolder BadList)) h = h
-nowhere_any files job replace (Err (OfFolder (Unreplaced name))) h = h
-nowhere_any files job replace (Err (OfFolder DayOpen)) h = h
-nowhere_any files job replace (Err (OfFolder Unwritten)) h = h
-nowhere_any files job replace (Err (OfFolder Unfinished)) h = h
-
-pub nowhere_exists : {R : Type 0} (files : Option (List NamedFile)) (job : MakeJob) (ended : Result R (Failure MakeFault)) → IfErr ended (IsUnmadeInto files job true) → IsErrOf ended (OfWork make.Exists) → ⊥
-nowhere_exists files job (Ok report) h told = absurd cc
-nowhere_exists files job (Err BadDate) h told = absurd cc
-nowhere_exists files job (Err (OfWork fault)) h told = let is : fault ≡ make.Exists = cc in none_exists files job fault h is
-nowhere_exists files job (Err (OfFolder why)) h told = absurd cc
-
--- what is told where the folder can't be had
-pub unopened_fault : (files : Option (List NamedFile)) (job : MakeJob) (replace : Bool) (said : PlaceFault) → IsOfLock said → IsUnmadeInto files job replace (place_failure make.NoMemory said)
-unopened_fault files job replace said (lock.InUse, is) = subst (λ (s : PlaceFault). IsUnmadeInto files job replace (place_failure make.NoMemory s)) (sym is) tt
-unopened_fault files job replace said (lock.Failed, is) = subst (λ (s : PlaceFault). IsUnmadeInto files job replace (place_failure make.NoMemory s)) (sym is) tt
-unopened_fault files job replace said (lock.NoMemory, is) = subst (λ (s : PlaceFault). IsUnmadeInto files job replace (place_failure make.NoMemory s)) (sym is) (inl refl)
-
-pub unopened_exists : (said : PlaceFault) → place_failure make.NoMemory said ≡ OfWork make.Exists → ⊥
-unopened_exists place.NoMemory is = absurd cc
-unopened_exists (place.Folder why) is = absurd cc
+run_why : {F : Type 0} (fails : F → Type 0) (none : F) (whole : Type 0) (why : Failure F) → IsPlaceFailure fails none whole why → IsRunFailure fails none whole why
+run_why fails none whole BadDate h = h
+run_why fails none whole (OfWork fault) h = h
+run_why fails none whole (OfFolder InUse) h = tt
+run_why fails none whole (OfFolder Unopened) h = tt
+run_why fails none whole (OfFolder Unrecovered) h = h
+run_why fails none whole (OfFolder BadList) h = h
+run_why fails none whole (OfFolder (Unreplaced name)) h = h
+run_why fails none whole (OfFolder DayOpen) h = h
+run_why fails none whole (OfFolder Unwritten) h = h
+run_why fails none whole (OfFolder Unfinished) h = h
 
 -- what is told where it was opened
-pub opened_fault : {R : Type 0} (files : Option (List NamedFile)) (job : MakeJob) (replace : Bool) (ended : Result R (Failure MakeFault)) → IfErr ended (IsUnmade files job replace) → IfErr ended (IsUnmadeInto files job replace)
-opened_fault files job replace (Ok report) h = tt
-opened_fault files job replace (Err BadDate) h = h
-opened_fault files job replace (Err (OfWork fault)) h = h
-opened_fault files job replace (Err (OfFolder InUse)) h = tt
-opened_fault files job replace (Err (OfFolder Unopened)) h = tt
-opened_fault files job replace (Err (OfFolder Unrecovered)) h = h
-opened_fault files job replace (Err (OfFolder BadList)) h = h
-opened_fault files job replace (Err (OfFolder (Unreplaced name))) h = h
-opened_fault files job replace (Err (OfFolder DayOpen)) h = h
-opened_fault files job replace (Err (OfFolder Unwritten)) h = h
-opened_fault files job replace (Err (OfFolder Unfinished)) h = h
+opened_why : {F : Type 0} (look : LookFaults F) (none : F) (fails : F → Type 0) (whole : Type 0) (replace : Bool) (why : Failure F) → IsUnplaced look none fails whole replace why
+    → IsUnplacedInto look none fails whole replace why
+opened_why look none fails whole replace why (inl h) = inl (run_why fails none whole why h)
+opened_why look none fails whole replace why (inr taken) = inr taken
 
-pub in_the_way : {D R : Type 0} (m : DiskMeaning D) (is_opened : D → Type 0) (is_free : Folder → Type 0) (start : D) (ended : Result R (Failure MakeFault)) → is_opened start
-    → (m.keeps_promises → IsErrOf ended (OfWork make.Exists) → ¬ is_free (recovered (m.seen start))) → IsErrOf ended (OfWork make.Exists) → IsInTheWay m is_opened is_free
-in_the_way m is_opened is_free start ended opened taken told = record { start = start; opened = opened; taken = λ promised. taken promised told }
+pub opened_fault : {R F : Type 0} (look : LookFaults F) (none : F) (fails : F → Type 0) (whole : Type 0) (replace : Bool) (ended : Result R (Failure F)) → IfErr ended (IsUnplaced look none fails whole replace)
+    → IfErr ended (IsUnplacedInto look none fails whole replace)
+opened_fault look none fails whole replace (Ok report) h = tt
+opened_fault look none fails whole replace (Err why) h = opened_why look none fails whole replace why h
 
-pub made_into : {D R : Type 0} (m : DiskMeaning D) (is_opened : D → Type 0) (are_such : List NamedFile → Type 0) (is_free : Folder → Type 0) (start now : D) (ended : Result R (Failure MakeFault)) → is_opened start
-    → (m.keeps_promises → IfOk ended (λ report. HasPut m are_such (RecoversAsOneOf (m.may_leave start)) (recovered (m.seen start)) start now)) → (m.keeps_promises → OnOk ended (is_free (recovered (m.seen start))))
-    → IfOk ended (λ report. HasMadeInto m is_opened are_such is_free)
+-- what is told where nothing has this path
+pub nowhere_fault : {R F : Type 0} (look : LookFaults F) (none : F) (fails : F → Type 0) (whole : Type 0) (replace : Bool) (ended : Result R (Failure F)) → IfErr ended (IsRunFailure fails none whole)
+    → IfErr ended (IsUnplacedInto look none fails whole replace)
+nowhere_fault look none fails whole replace (Ok report) h = tt
+nowhere_fault look none fails whole replace (Err why) h = inl h
+
+pub nowhere_exists : {R F : Type 0} (exists none : F) (fails : F → Type 0) (whole : Type 0) (ended : Result R (Failure F)) → (¬ fails exists) → exists ≢ none
+    → IfErr ended (IsRunFailure fails none whole) → IsErrOf ended (OfWork exists) → ⊥
+nowhere_exists exists none fails whole (Ok report) never other h told = absurd cc
+nowhere_exists exists none fails whole (Err BadDate) never other h told = absurd h
+nowhere_exists exists none fails whole (Err (OfWork fault)) never other h told = let same : fault ≡ exists = cc in not_of_work exists none fails fault never other h same
+nowhere_exists exists none fails whole (Err (OfFolder why)) never other h told = absurd cc
+
+-- what is told where the folder can't be had
+pub unopened_exists : {F : Type 0} (exists none : F) (said : PlaceFault) → exists ≢ none → place_failure none said ≡ OfWork exists → ⊥
+unopened_exists exists none place.NoMemory other is = let same : none ≡ exists = cc in other (sym same)
+unopened_exists exists none (place.Folder why) other is = absurd cc
+
+pub in_the_way : {D R F : Type 0} (m : DiskMeaning D) (is_opened : D → Type 0) (is_free : Folder → Type 0) (exists : F) (start : D) (ended : Result R (Failure F)) → is_opened start
+    → (m.keeps_promises → IsErrOf ended (OfWork exists) → ¬ is_free (recovered (m.seen start))) → IsErrOf ended (OfWork exists) → IsInTheWay m is_opened is_free
+in_the_way m is_opened is_free exists start ended opened taken told = record { start = start; opened = opened; taken = λ promised. taken promised told }
+
+pub made_into : {D R F : Type 0} (m : DiskMeaning D) (is_opened : D → Type 0) (are_such : R → List NamedFile → Type 0) (is_free : Folder → Type 0) (start now : D) (ended : Result R (Failure F)) → is_opened start
+    → (m.keeps_promises → IfOk ended (λ report. HasPut m (are_such report) (RecoversAsOneOf (m.may_leave start)) (recovered (m.seen start)) start now)) → (m.keeps_promises → OnOk ended (is_free (recovered (m.seen start))))
+    → IfOk ended (λ report. HasMadeInto m is_opened (are_such report) is_free)
 made_into m is_opened are_such is_free start now (Ok report) opened put free = record { start = start; end = now; opened = opened; free = free; put = put }
 made_into m is_opened are_such is_free start now (Err failure) opened put free = tt

@@ -13,6 +13,8 @@ use Rattle.folders.specs.declared.named.NamedFile.{NamedFile}
 use Rattle.folders.specs.declared.source.LoadFault.{LoadFault}
 use Rattle.folders.specs.declared.source.LoadFault.TheVariants.{CannotRead, NoMemory, Unrecovered}
 use Rattle.folders.specs.Files.{IsFileOf, IsTooLong, IsUnrecovered}
+use Rattle.table_maker.specs.declared.files.FilesFault.{FilesFault}
+use Rattle.table_maker.specs.declared.files.FilesFault.TheVariants as files
 use Rattle.table_maker.specs.declared.fault.MakeFault.{MakeFault}
 use Rattle.table_maker.specs.declared.fault.MakeFault.TheVariants as make
 
@@ -32,17 +34,15 @@ dated_file name table day = record { name = name; bytes = image table day.year d
 abbrev pub memo_file : List ℕ → Table → NamedFile
 memo_file name table = record { name = name; bytes = memo_image table }
 
--- the file of the empty table of these fields
-abbrev pub table_file : List ℕ → Bool → Day → List Field → NamedFile
-table_file stem in_capitals day fields = dated_file (stem ++ table_extension in_capitals) (empty_table fields) day
+-- the files of a table with a date under a stem: its own, and that of its memos where a field is a memo
+abbrev pub files_of_table : List ℕ → Bool → Day → Table → List NamedFile
+files_of_table stem in_capitals day table =
+    dated_file (stem ++ table_extension in_capitals) table day
+    ∷ (if has_memos table.schema then memo_file (stem ++ memos_extension in_capitals) table ∷ [] else [])
 
--- and that of its memos
-abbrev pub memos_file : List ℕ → Bool → List Field → NamedFile
-memos_file stem in_capitals fields = memo_file (stem ++ memos_extension in_capitals) (empty_table fields)
-
--- the files of the empty table: its own, and that of its memos where a field is a memo
+-- those of the empty table of these fields
 abbrev pub made_files : List ℕ → Bool → Day → List Field → List NamedFile
-made_files stem in_capitals day fields = table_file stem in_capitals day fields ∷ (if has_memos fields then memos_file stem in_capitals fields ∷ [] else [])
+made_files stem in_capitals day fields = files_of_table stem in_capitals day (empty_table fields)
 
 -- these are the fields that the file of a path lists
 abbrev pub AreFieldsIn : Option (List NamedFile) → List ℕ → List Field → Type 0
@@ -81,11 +81,10 @@ IsNoList list fault.NoMemory told = told ≡ make.NoMemory
 IsNoList list why (make.List path said) = (path.now ≡ list) × (said ≡ why)
 IsNoList list why told = ⊥
 
--- the fault is one of writing the files
-abbrev pub IsOfWriting : MakeFault → Type 0
-IsOfWriting make.Write = Unit {0}
-IsOfWriting make.NoMemory = Unit {0}
-IsOfWriting why = ⊥
+-- what is told of files that are not written
+abbrev pub made_of_writing : FilesFault → MakeFault
+made_of_writing files.Write = make.Write
+made_of_writing files.NoMemory = make.NoMemory
 
 -- the folder has not taken a file
 abbrev pub is_write_fault : MakeFault → Bool

@@ -1,68 +1,57 @@
--- A table that is made in the folder of a disk, and why it is not.
-use Rattle.std.specs.Prelude.{◌≡◌, ℕ, Bool, false, List, Option, None, ◌++◌}
+-- A table's files that are made in the folder of a disk, and why they are not.
+use Rattle.std.specs.Prelude.{◌≡◌, ◌⊎◌, ℕ, Bool, false, List, None, ◌++◌}
 use Rattle.files_in_place.specs.Disk.{DiskMeaning}
 use Rattle.files_in_place.specs.Folder.{Folder, recovered}
 use Rattle.folders.specs.declared.named.NamedFile.{NamedFile}
-use Rattle.program_frame.specs.Jobs.{ComesToItsEnd, IsLoadFailure, IsPlaceFailure}
-use Rattle.program_frame.specs.PlaceFaults.{IsOfRecovery}
+use Rattle.program_frame.specs.Jobs.{IsLoadFailure, IsPlaceFailure, IsRunFailure, IsUnbegun}
 use Rattle.program_frame.specs.Placing.{HasPut, IsRecovered, RecoversAsOneOf}
 use Rattle.program_frame.specs.declared.ending.Failure.{Failure}
 use Rattle.program_frame.specs.declared.ending.Failure.TheVariants as failure
-use Rattle.program_frame.specs.declared.folder.FolderFault.TheVariants as folder
-use Rattle.table_maker.specs.declared.fault.MakeFault.{MakeFault}
-use Rattle.table_maker.specs.declared.fault.MakeFault.TheVariants as make
-use Rattle.table_maker.specs.declared.job.Made.{Made}
-use Rattle.table_maker.specs.declared.job.MakeJob.{MakeJob}
-use Rattle.table_maker.specs.Making.{memos_extension, table_extension, AreMadeFiles, IsMakeFailure, IsWhyNotMade}
+use Rattle.table_maker.specs.Making.{memos_extension, table_extension}
+
+-- ---- the names
 
 -- neither the name of the table's file nor that of the file of its memos has a file
 pub record IsFree (stem : List ℕ) (in_capitals : Bool) (folder : Folder) : Type 0 where
   pub table : folder (stem ++ table_extension in_capitals) ≡ None
   pub memos : folder (stem ++ memos_extension in_capitals) ≡ None
 
--- neither name of a job's table has one
-abbrev pub IsFreeOfTable : MakeJob → Folder → Type 0
-IsFreeOfTable job folder = IsFree job.stem.now job.in_capitals folder
-
--- these are the files of a job's table, over these files
-abbrev pub AreFilesOfJob : Option (List NamedFile) → MakeJob → List NamedFile → Type 0
-AreFilesOfJob files job made = AreMadeFiles files job.list.now job.stem.now job.in_capitals job.today made
-
 -- whatever was recovered on the disk is so still
 abbrev pub StaysRecovered : {D : Type 0} → DiskMeaning D → D → D → Type 0
 StaysRecovered {D} m old new = (start : D) → IsRecovered m start old → IsRecovered m start new
 
+-- ---- why files are not in their places
+
+-- the faults of looking for the names: one of them has a file, or the folder can't be read
+pub record LookFaults (F : Type 0) : Type 0 where
+  pub exists : F
+  pub unread : F
+
 -- why a name may not be taken: it has a file, or that is not known
-abbrev pub IsLooking : MakeFault → Type 0
-IsLooking make.Exists = Unit {0}
-IsLooking make.Unread = Unit {0}
-IsLooking make.NoMemory = Unit {0}
-IsLooking why = ⊥
+abbrev pub IsLooking : {F : Type 0} → LookFaults F → F → F → Type 0
+IsLooking look no_memory fault = (fault ≡ look.exists) ⊎ ((fault ≡ look.unread) ⊎ (fault ≡ no_memory))
 
--- what is told where no file of the table was begun: the folder was not recovered, or its files may not be replaced
-abbrev pub IsUntried : Bool → Failure MakeFault → Type 0
-IsUntried replace failure.BadDate = ⊥
-IsUntried replace (failure.Work make.Exists) = replace ≡ false
-IsUntried replace (failure.Work make.Unread) = replace ≡ false
-IsUntried replace (failure.Work why) = why ≡ make.NoMemory
-IsUntried replace (failure.Folder why) = IsOfRecovery why
+-- the files may not be replaced, and one of the names has a file, or that is not known
+abbrev pub IsTaken : {F : Type 0} → LookFaults F → Bool → Failure F → Type 0
+IsTaken look replace why = (replace ≡ false) × ((why ≡ failure.Work look.exists) ⊎ (why ≡ failure.Work look.unread))
 
--- why a table is not in its place, where this says whether its files may be replaced
-abbrev pub IsUnmade : Option (List NamedFile) → MakeJob → Bool → Failure MakeFault → Type 0
-IsUnmade files job replace (failure.Work make.Exists) = replace ≡ false
-IsUnmade files job replace (failure.Work make.Unread) = replace ≡ false
-IsUnmade files job replace why =
-    IsPlaceFailure (IsWhyNotMade files job.list.now) make.NoMemory (ComesToItsEnd (λ made (told : Made). AreFilesOfJob files job made)) why
+-- what is told where no file was begun: memory was refused, the folder was not recovered, or the names may not be taken
+abbrev pub IsUntried : {F : Type 0} → LookFaults F → F → Bool → Failure F → Type 0
+IsUntried look no_memory replace why = IsUnbegun no_memory why ⊎ IsTaken look replace why
+
+-- why files are not in their places, where this is said of the work: it fails so, or it came to its end
+abbrev pub IsUnplaced : {F : Type 0} → LookFaults F → F → (F → Type 0) → Type 0 → Bool → Failure F → Type 0
+IsUnplaced look no_memory fails ended replace why = IsPlaceFailure fails no_memory ended why ⊎ IsTaken look replace why
 
 -- what that says of the count of loads that failed
-abbrev pub IsUnmadeLoad : Option (List NamedFile) → List ℕ → Option ℕ → Option ℕ → Failure MakeFault → Type 0
-IsUnmadeLoad files list before after why = IsLoadFailure (IsMakeFailure files list before after) make.NoMemory (after ≡ before) why
+abbrev pub IsUnplacedLoad : {F : Type 0} → LookFaults F → F → (F → Type 0) → Type 0 → Bool → Failure F → Type 0
+IsUnplacedLoad look no_memory loads same replace why = IsLoadFailure loads no_memory same why ⊎ (IsTaken look replace why × same)
 
 -- also since the folder of a path can't be had
-abbrev pub IsUnmadeInto : Option (List NamedFile) → MakeJob → Bool → Failure MakeFault → Type 0
-IsUnmadeInto files job replace (failure.Folder folder.InUse) = Unit {0}
-IsUnmadeInto files job replace (failure.Folder folder.Unopened) = Unit {0}
-IsUnmadeInto files job replace why = IsUnmade files job replace why
+abbrev pub IsUnplacedInto : {F : Type 0} → LookFaults F → F → (F → Type 0) → Type 0 → Bool → Failure F → Type 0
+IsUnplacedInto look no_memory fails ended replace why = IsRunFailure fails no_memory ended why ⊎ IsTaken look replace why
+
+-- ---- in the folder of a path
 
 -- a folder was opened so, and a file stood in the way: once it was recovered this was not true of it
 pub record IsInTheWay {D : Type 0} (m : DiskMeaning D) (is_opened : D → Type 0) (is_free : Folder → Type 0) : Type 0 where

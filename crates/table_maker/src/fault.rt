@@ -3,15 +3,16 @@
 ghost use Rattle.std.specs.Prelude.{◌≡◌, ◌++◌, codes, OnOk};
 ghost use Rattle.std.specs.Io.KnownBytes.{Appends};
 ghost use Rattle.field_list.specs.FaultWords.{field_list_words};
-ghost use Rattle.table_maker.specs.MakeFaults.{load_words, make_words};
+ghost use Rattle.table_maker.specs.MakeFaults.{exists_words, unread_words, unwritten_words};
+ghost use Rattle.table_reader.specs.TableFiles.{load_words};
 
-use byte_io::SinkFault;
+use crate::files::FilesFault;
 use field_list::FieldListFault;
-use folders::{LoadFault, folder_of};
+use folders::LoadFault;
 use program_frame::Reason;
-use std::alloc::AllocError;
 use std::io;
 use std::io::Write;
+use table_reader::print_load;
 
 /// Why a table is not made.
 #[derive(Clone, Copy, Debug, PartialEq, Eq)]
@@ -30,45 +31,17 @@ pub enum MakeFault<'a> {
     NoMemory,
 }
 
-impl From<SinkFault> for MakeFault<'_> {
+impl From<FilesFault> for MakeFault<'_> {
     ghost use Rattle.std.specs.Prelude.{◌≡◌};
-    ghost use Rattle.table_maker.specs.declared.fault.MakeFault.TheVariants.{Write};
+    ghost use Rattle.table_maker.specs.Making.{made_of_writing};
 
-    ghost from_gives = { λ _ fault. fault ≡ Write };
+    ghost from_gives = { λ why fault. fault ≡ made_of_writing why };
 
-    fn from(_refused: SinkFault) -> Self {
-        MakeFault::Write
-    }
-}
-
-impl From<AllocError> for MakeFault<'_> {
-    ghost use Rattle.std.specs.Prelude.{◌≡◌};
-    ghost use Rattle.table_maker.specs.declared.fault.MakeFault.TheVariants.{NoMemory};
-
-    ghost from_gives = { λ _ fault. fault ≡ NoMemory };
-
-    fn from(_refused: AllocError) -> Self {
-        MakeFault::NoMemory
-    }
-}
-
-// Prints that a folder is not recovered, and what to do.
-fn print_unrecovered<W: Write>(out: &mut W, folder: &[u8]) -> io::Result<()>
-    ensures text { OnOk result (Appends (W.contents out.old) (W.contents out.new) (codes "the folder is not recovered: start with --out " ++ folder.now)) }
-{
-    out.write_all(b"the folder is not recovered: start with --out ")?;
-    out.write_all(folder)?;
-    Ok(())
-}
-
-// Prints why the file of a path was not loaded, and what to do where its folder is not recovered.
-fn print_load<W: Write>(out: &mut W, path: &str, why: LoadFault) -> io::Result<()>
-    ensures text { OnOk result (Appends (W.contents out.old) (W.contents out.new) (load_words path.now why)) }
-{
-    match why {
-        LoadFault::CannotRead => out.write_all(b"cannot read"),
-        LoadFault::Unrecovered => print_unrecovered(out, folder_of(path.as_bytes())),
-        LoadFault::NoMemory => out.write_all(b"out of memory"),
+    fn from(why: FilesFault) -> Self {
+        match why {
+            FilesFault::Write => MakeFault::Write,
+            FilesFault::NoMemory => MakeFault::NoMemory,
+        }
     }
 }
 
@@ -88,6 +61,27 @@ fn print_no_list<W: Write>(out: &mut W, path: &str, why: FieldListFault) -> io::
     out.write_all(path.as_bytes())?;
     out.write_all(b": ")?;
     why.print(out)
+}
+
+/// Prints that a file of the table was not written.
+pub(crate) fn print_unwritten<W: Write>(out: &mut W) -> io::Result<()>
+    ensures text { OnOk result (Appends (W.contents out.old) (W.contents out.new) unwritten_words) }
+{
+    out.write_all(b"cannot write the table")
+}
+
+/// Prints that one of the table's names has a file.
+pub(crate) fn print_exists<W: Write>(out: &mut W) -> io::Result<()>
+    ensures text { OnOk result (Appends (W.contents out.old) (W.contents out.new) exists_words) }
+{
+    out.write_all(b"the table, or the file of its memos, is there already: --replace replaces it")
+}
+
+/// Prints that the folder can't be read.
+pub(crate) fn print_unread<W: Write>(out: &mut W) -> io::Result<()>
+    ensures text { OnOk result (Appends (W.contents out.old) (W.contents out.new) unread_words) }
+{
+    out.write_all(b"cannot read the folder")
 }
 
 impl Reason for MakeFault<'_> {
@@ -116,13 +110,9 @@ impl Reason for MakeFault<'_> {
         match self {
             MakeFault::Load(path, why) => print_unloaded(out, path, *why),
             MakeFault::List(path, why) => print_no_list(out, path, *why),
-            MakeFault::Write => out.write_all(b"cannot write the table"),
-            MakeFault::Exists => {
-                out.write_all(
-                    b"the table, or the file of its memos, is there already: --replace replaces it",
-                )
-            }
-            MakeFault::Unread => out.write_all(b"cannot read the folder"),
+            MakeFault::Write => print_unwritten(out),
+            MakeFault::Exists => print_exists(out),
+            MakeFault::Unread => print_unread(out),
             MakeFault::NoMemory => out.write_all(b"out of memory"),
         }
     }

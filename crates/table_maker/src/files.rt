@@ -1,4 +1,4 @@
-//! The files of an empty table.
+//! The files of a table.
 #![tactic(auto, using(byte_io::specs::Laws::Sinks::sinks))]
 
 ghost use Rattle.std.specs.Prelude.{◌≡◌, ◌++◌, ◌∷◌, [], true, IfOk, OnOk};
@@ -8,7 +8,8 @@ ghost use Rattle.dbf_image.specs.Blocks.{memo_image};
 ghost use Rattle.dbf_image.specs.Image.{image};
 ghost use Rattle.dbf_image.specs.Table.{has_memos};
 ghost use Rattle.folders.specs.Files.{listing, IsOfBytes};
-ghost use Rattle.table_maker.specs.Making.{dated_file, memo_file, table_extension as extension_of_table, memos_extension as extension_of_memos};
+ghost use Rattle.folders.specs.Placed.{IsListedAfter};
+ghost use Rattle.table_maker.specs.Making.{dated_file, files_of_table, memo_file, table_extension as extension_of_table, memos_extension as extension_of_memos};
 
 use byte_io::{ByteSink, Bytes, SinkFault};
 use dbf_fields::{Day, Field, MEMO};
@@ -16,8 +17,38 @@ use dbf_image::{TableData, write_dbf, write_dbt};
 use folders::Folder;
 use std::alloc::{AllocError, Global};
 
-/// Whether a field is a memo. Takes no memory.
-pub(crate) fn any_memo(fields: &[Field]) -> bool
+/// Why the files of a table are not written.
+pub(crate) enum FilesFault {
+    /// A file was not written.
+    Write,
+    /// Memory was refused.
+    NoMemory,
+}
+
+impl From<SinkFault> for FilesFault {
+    ghost use Rattle.std.specs.Prelude.{◌≡◌};
+    ghost use Rattle.table_maker.specs.declared.files.FilesFault.TheVariants.{Write};
+
+    ghost from_gives = { λ _ fault. fault ≡ Write };
+
+    fn from(_refused: SinkFault) -> FilesFault {
+        FilesFault::Write
+    }
+}
+
+impl From<AllocError> for FilesFault {
+    ghost use Rattle.std.specs.Prelude.{◌≡◌};
+    ghost use Rattle.table_maker.specs.declared.files.FilesFault.TheVariants.{NoMemory};
+
+    ghost from_gives = { λ _ fault. fault ≡ NoMemory };
+
+    fn from(_refused: AllocError) -> FilesFault {
+        FilesFault::NoMemory
+    }
+}
+
+// Whether a field is a memo. Takes no memory.
+fn any_memo(fields: &[Field]) -> bool
     ensures value { result ≡ has_memos fields.now }
 {
     fields.iter().any(|field| field.kind == MEMO)
@@ -68,8 +99,8 @@ fn put_memos<S: ByteSink>(sink: &mut S, table: &TableData) -> Result<(), SinkFau
     write_dbt(sink, table).map_err(|_| SinkFault)
 }
 
-/// Writes the file of a table.
-pub(crate) fn write_table<F: Folder>(
+// Writes the file of a table.
+fn write_table<F: Folder>(
     folder: &mut F,
     name: &[u8],
     table: &TableData,
@@ -83,16 +114,36 @@ pub(crate) fn write_table<F: Folder>(
     put_table(folder, table, day)
 }
 
-/// Writes the file of a table's memos.
-pub(crate) fn write_memos<F: Folder>(
-    folder: &mut F,
-    name: &[u8],
-    table: &TableData,
-) -> Result<(), SinkFault>
+// Writes the file of a table's memos.
+fn write_memos<F: Folder>(folder: &mut F, name: &[u8], table: &TableData) -> Result<(), SinkFault>
     ensures wrote { OnOk result (F.written folder.new ≡ grown (F.written folder.old) (listing (memo_file name.now table.now ∷ []))) }
     ensures no_failure { OnOk result (F.failures folder.new ≡ F.failures folder.old) }
     ensures bytes { OnOk result (IsOfBytes (memo_file name.now table.now)) }
 {
     folder.begin(name)?;
     put_memos(folder, table)
+}
+
+/// Writes the files of a table, with the date of its last change, under a stem: its own, and that of its memos where a field is a memo.
+pub(crate) fn write_files<F: Folder>(
+    alloc: Global,
+    folder: &mut F,
+    stem: &[u8],
+    in_capitals: bool,
+    table: &TableData,
+    day: Day,
+) -> Result<(), FilesFault>
+    ensures written { OnOk result
+        (IsListedAfter (λ made. made ≡ files_of_table stem.now in_capitals day table.now) (F.written folder.old) (F.written folder.new)) }
+    ensures no_failure { OnOk result (F.failures folder.new ≡ F.failures folder.old) }
+{
+    let dbf = with_extension(alloc, stem, table_extension(in_capitals))?;
+    let dbt = with_extension(alloc, stem, memos_extension(in_capitals))?;
+    let has_memos = any_memo(table.schema().fields());
+    write_table(folder, dbf.as_slice(), table, day)?;
+    if has_memos {
+        write_memos(folder, dbt.as_slice(), table)?;
+        return Ok(());
+    }
+    Ok(())
 }

@@ -2,16 +2,15 @@
 
 ghost use Rattle.std.specs.Prelude.{◌≡◌, ◌≢◌, ◌++◌, ℕ, Bool, List, false, true, None, IfErr, IfOk, IfSome, IsErr, IsErrOf};
 ghost use Rattle.table_maker.specs.Making.{table_extension as extension_of_table};
-ghost use Rattle.table_maker.specs.Placing.{AreFilesOfJob, HasMadeInto, IsFreeOfTable, IsInTheWay, IsUnmadeInto};
-ghost use Rattle.table_maker.specs.declared.fault.MakeFault.TheVariants.{Exists};
+ghost use Rattle.table_maker.specs.Placing.{HasMadeInto, IsFree, IsInTheWay, IsUnplacedInto};
+ghost use Rattle.program_frame.specs.Jobs.{ComesToItsEnd, IsRunFailure};
 ghost use Rattle.program_frame.specs.declared.ending.Failure.TheVariants.{Work as OfWork};
 
-use crate::fault::MakeFault;
 use crate::files::table_extension;
 use crate::in_place::make_in_place;
-use crate::job::{Made, MakeJob};
+use crate::table_work::TableWork;
 use folders::{MissingFolder, Source};
-use program_frame::{Failure, FolderFault, System, Work};
+use program_frame::{Failure, FolderFault, System};
 use std::alloc::Global;
 use std::io::Write;
 
@@ -38,16 +37,16 @@ pub fn stem_of(name: &[u8]) -> Option<(&[u8], bool)>
     }
 }
 
-// Makes a table where nothing has the path of the folder: its files can't be written.
-#[tactic(auto, using(crate::proofs::PlaceLaws::nowhere_fault))]
-fn make_nowhere<'a, S: Source, E: Write>(
+// Does the work where nothing has the path of the folder: its files can't be written.
+fn make_nowhere<J: TableWork, S: Source, E: Write>(
     alloc: Global,
-    job: &MakeJob<'a>,
+    job: &J,
     source: &mut S,
     err: &mut E,
-) -> Result<Made, Failure<MakeFault<'a>>>
+) -> Result<J::Report, Failure<J::Fault>>
     ensures refused { IsErr result }
-    ensures fault { IfErr result (IsUnmadeInto (S.files source.old) job.now true) }
+    ensures fault { IfErr result
+        (IsRunFailure (J.fails job.now (S.files source.old)) J.Fault.no_memory (ComesToItsEnd (J.writes job.now (S.files source.old)))) }
     ensures kept { S.files source.new ≡ S.files source.old }
 {
     match job.work(alloc, source, &mut MissingFolder::new(), err) {
@@ -57,23 +56,27 @@ fn make_nowhere<'a, S: Source, E: Write>(
 }
 
 /// Makes a table in the folder of a path, as [`make_in_place`] does. No other run has the folder meanwhile.
-#[tactic(auto, using(crate::proofs::PlaceLaws::unopened_fault, crate::proofs::PlaceLaws::unopened_exists))]
-pub fn make_into<'a, S: Source, Y: System, E: Write>(
+#[tactic(auto, using(crate::proofs::PlaceLaws::unopened_exists))]
+pub fn make_into<J: TableWork, S: Source, Y: System, E: Write>(
     alloc: Global,
-    job: &MakeJob<'a>,
+    job: &J,
     replace: bool,
     source: &mut S,
     system: &Y,
     folder: &str,
     err: &mut E,
-) -> Result<Made, Failure<MakeFault<'a>>>
-    ensures made { IfOk result (λ _. HasMadeInto Y.Disk.meaning (Y.opens system.now folder.now)
-        (AreFilesOfJob (S.files source.old) job.now) (λ before. replace ≡ false → IsFreeOfTable job.now before)) }
+) -> Result<J::Report, Failure<J::Fault>>
+    ensures made { IfOk result (λ report. HasMadeInto Y.Disk.meaning (Y.opens system.now folder.now)
+        (λ written. J.writes job.now (S.files source.old) written report)
+        (λ before. replace ≡ false → IsFree (J.stem job.now) (J.in_capitals job.now) before)) }
     // That a file is there is told only where one of the table's two names has one.
-    ensures exists { IsErrOf result (OfWork Exists) → IsInTheWay Y.Disk.meaning (Y.opens system.now folder.now) (IsFreeOfTable job.now) }
-    ensures fault { IfErr result (IsUnmadeInto (S.files source.old) job.now replace) }
+    ensures exists { IsErrOf result (OfWork J.look.exists)
+        → IsInTheWay Y.Disk.meaning (Y.opens system.now folder.now) (IsFree (J.stem job.now) (J.in_capitals job.now)) }
+    ensures fault { IfErr result (IsUnplacedInto J.look J.Fault.no_memory (J.fails job.now (S.files source.old))
+        (ComesToItsEnd (J.writes job.now (S.files source.old))) replace) }
     ensures kept { S.files source.new ≡ S.files source.old }
 {
+    job.exists_is_of_names_alone();
     match system.open(alloc, folder)? {
         Some(disk) => make_in_place(alloc, job, replace, source, disk, err).ended,
         None => make_nowhere(alloc, job, source, err),

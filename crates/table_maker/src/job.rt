@@ -1,13 +1,11 @@
 //! The work of making a table.
 
 ghost use Rattle.std.specs.Prelude.{◌≡◌, IfErr, IfOk, OnOk};
-ghost use Rattle.folders.specs.Placed.{IsListedAfter};
-ghost use Rattle.table_maker.specs.Making.{made_files, AreFieldsIn, AreMadeFiles, IsMakeFailure, IsNoList, IsOfWriting, IsUnloaded, IsWhyNotMade};
+ghost use Rattle.table_maker.specs.Making.{AreFieldsIn, IsMakeFailure, IsNoList, IsUnloaded, IsWhyNotMade};
 
 use crate::fault::MakeFault;
-use crate::files::{
-    any_memo, memos_extension, table_extension, with_extension, write_memos, write_table,
-};
+use crate::files::write_files;
+use crate::table_work::TableWork;
 use dbf_fields::{Day, Schema};
 use dbf_image::TableData;
 use field_list::{FieldListFault, read_field_list};
@@ -58,7 +56,7 @@ pub struct MakeJob<'a> {
 }
 
 impl<'a> Job for MakeJob<'a> {
-    ghost use Rattle.table_maker.specs.Making.{is_write_fault};
+    ghost use Rattle.table_maker.specs.Making.{is_write_fault, AreMadeFiles, IsMakeFailure, IsWhyNotMade};
 
     type Report = Made;
 
@@ -122,33 +120,6 @@ fn load_fields<'a, S: Source>(
     }
 }
 
-impl<'a> MakeJob<'a> {
-    // Writes the files of the table of these fields.
-    fn write_files<F: Folder>(
-        &self,
-        alloc: Global,
-        folder: &mut F,
-        schema: Schema,
-    ) -> Result<(), MakeFault<'a>>
-        ensures written { OnOk result
-            (IsListedAfter (λ made. made ≡ made_files self.now.stem.now self.now.in_capitals self.now.today schema)
-            (F.written folder.old) (F.written folder.new)) }
-        ensures no_failure { OnOk result (F.failures folder.new ≡ F.failures folder.old) }
-        ensures fault { IfErr result IsOfWriting }
-    {
-        let dbf = with_extension(alloc, self.stem, table_extension(self.in_capitals))?;
-        let dbt = with_extension(alloc, self.stem, memos_extension(self.in_capitals))?;
-        let has_memos = any_memo(schema.fields());
-        let table = TableData::empty(alloc, schema);
-        write_table(folder, dbf.as_slice(), &table, self.today)?;
-        if has_memos {
-            write_memos(folder, dbt.as_slice(), &table)?;
-            return Ok(());
-        }
-        Ok(())
-    }
-}
-
 impl<'a> Work for MakeJob<'a> {
     fn work<S: Source, F: Folder, E: Write>(
         &self,
@@ -158,7 +129,43 @@ impl<'a> Work for MakeJob<'a> {
         _err: &mut E,
     ) -> Result<Made, MakeFault<'a>> {
         let schema = load_fields(alloc, source, self.list)?;
-        self.write_files(alloc, folder, schema)?;
+        let table = TableData::empty(alloc, schema);
+        write_files(
+            alloc,
+            folder,
+            self.stem,
+            self.in_capitals,
+            &table,
+            self.today,
+        )?;
         Ok(Made)
     }
+}
+
+impl<'a> TableWork for MakeJob<'a> {
+    ghost use Rattle.table_maker.specs.MadeTable.{make_look};
+
+    ghost stem = { λ job. job.stem.now };
+
+    ghost in_capitals = { λ job. job.in_capitals };
+
+    ghost look = { make_look };
+
+    fn stem(&self) -> &[u8] {
+        self.stem
+    }
+
+    fn in_capitals(&self) -> bool {
+        self.in_capitals
+    }
+
+    fn exists() -> MakeFault<'a> {
+        MakeFault::Exists
+    }
+
+    fn unread() -> MakeFault<'a> {
+        MakeFault::Unread
+    }
+
+    fn exists_is_of_names_alone(&self) {}
 }

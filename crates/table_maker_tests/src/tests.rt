@@ -8,6 +8,7 @@ use std::test::Fail;
 use table_maker::{Made, MakeFault, MakeJob};
 
 mod in_place;
+mod loading;
 
 // A source of one file, the list of fields.
 fn source_of(alloc: Global, text: &[u8]) -> Result<MemorySource, AllocError> {

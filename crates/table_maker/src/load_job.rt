@@ -1,0 +1,198 @@
+//! The work of loading the records of a text of CSV after those of a table.
+
+ghost use Rattle.std.specs.Prelude.{◌≡◌, ◌≢◌, Some, Ok, IfErr, IfOk, OnOk, option_copied};
+ghost use Rattle.folders.specs.Files.{load_refusal, IsFileOf};
+ghost use Rattle.table_loader.specs.Loading.{csv_loaded};
+ghost use Rattle.table_reader.specs.Memos.{IsNotHad};
+ghost use Rattle.table_reader.specs.TableFiles.{IsTableAt};
+ghost use Rattle.table_maker.specs.LoadedTable.{csv_told, IsLoadedTable, IsLoadJobCount, IsLoadJobFailure, IsLoadJobFault, IsUnloadedText};
+
+use crate::files::write_files;
+use crate::job::Made;
+use crate::load_fault::LoadJobFault;
+use crate::table_work::TableWork;
+use byte_io::Bytes;
+use dbf_fields::Day;
+use dbf_image::TableData;
+use folders::{Folder, LoadFault, Source};
+use program_frame::{Job, Work};
+use std::alloc::Global;
+use std::io::Write;
+use table_loader::{CsvFault, load_csv_named};
+use table_reader::load_table;
+
+/// The work of making a table of another one and the records of a text of CSV, which come after its own.
+#[derive(Clone, Copy, Debug)]
+pub struct LoadJob<'a> {
+    /// The path of the text of CSV.
+    pub csv: &'a str,
+    /// The path of the table whose records come first.
+    pub table: &'a str,
+    /// The path of the file of its memos. Where none is given it is the file beside the table, if a field is a memo.
+    pub memos: Option<&'a str>,
+    /// The names of the new files without their extensions.
+    pub stem: &'a [u8],
+    /// Whether the extensions are in capitals.
+    pub in_capitals: bool,
+    /// The date that the new table tells.
+    pub today: Day,
+    /// Whether a text that is too wide for its field is cut.
+    pub cut: bool,
+}
+
+impl<'a> Job for LoadJob<'a> {
+    ghost use Rattle.table_maker.specs.LoadedTable.{is_load_write_fault, AreLoadedFiles, IsLoadJobFailure, IsWhyNotLoaded};
+
+    type Report = Made;
+
+    type Fault = LoadJobFault<'a>;
+
+    ghost writes = { λ job files made _. AreLoadedFiles files job made };
+
+    ghost fails = { λ job files fault. IsWhyNotLoaded files (λ _. Unit {0}) job fault };
+
+    ghost loads = { λ job files before after fault. IsLoadJobFailure files job before after fault };
+
+    ghost is_unwritten = { is_load_write_fault };
+
+    fn is_unwritten(fault: &LoadJobFault<'a>) -> bool {
+        matches!(fault, LoadJobFault::Write)
+    }
+}
+
+// What is told of a text of CSV that is not loaded.
+fn unread_text(path: &str, why: LoadFault) -> LoadJobFault<'_>
+    ensures value { result ≡ csv_told path.entry why }
+{
+    match why {
+        LoadFault::NoMemory => LoadJobFault::NoMemory,
+        LoadFault::CannotRead => LoadJobFault::Csv(path, why),
+        LoadFault::Unrecovered => LoadJobFault::Csv(path, why),
+    }
+}
+
+impl<'a> LoadJob<'a> {
+    // The text of CSV.
+    fn text<S: Source>(&self, alloc: Global, source: &mut S) -> Result<Bytes, LoadJobFault<'a>>
+        ensures found { IfOk result (IsFileOf (S.files source.old) self.now.csv.now) }
+        ensures readable { OnOk result ((why : LoadFault) → load_refusal (S.files source.old) self.now.csv.now ≢ Some why) }
+        ensures no_failure { OnOk result (S.failures source.new ≡ S.failures source.old) }
+        ensures fault { IfErr result (IsLoadJobFailure (S.files source.old) self.now (S.failures source.old) (S.failures source.new)) }
+        ensures kept { S.files source.new ≡ S.files source.old }
+    {
+        match source.load(alloc, self.csv.as_bytes()) {
+            Ok(text) => Ok(text),
+            Err(why) => Err(unread_text(self.csv, why)),
+        }
+    }
+
+    // The table that the records come after.
+    #[tactic(auto, using(crate::proofs::LoadLaws::memory_count))]
+    fn old_table<S: Source>(
+        &self,
+        alloc: Global,
+        source: &mut S,
+    ) -> Result<TableData, LoadJobFault<'a>>
+        ensures table { IfOk result (IsTableAt (S.files source.old) self.now.table.now (option_copied self.now.memos)) }
+        ensures no_failure { OnOk result (S.failures source.new ≡ S.failures source.old) }
+        ensures fault { let unread = IsNotHad (S.files source.old) (S.failures source.old) (S.failures source.new) in
+            IfErr result (IsLoadJobFault (S.files source.old) unread self.now) }
+        ensures count { IfErr result (IsLoadJobCount (S.files source.old) (S.failures source.old) (S.failures source.new) self.now) }
+        ensures kept { S.files source.new ≡ S.files source.old }
+    {
+        match load_table(alloc, source, self.table, self.memos) {
+            Ok(table) => Ok(table),
+            Err(why) => {
+                if why.is_no_memory() {
+                    return Err(LoadJobFault::NoMemory);
+                }
+                Err(LoadJobFault::Old(why.path_of(self.table, self.memos), why))
+            }
+        }
+    }
+
+    // The table with the records of a text of CSV after its own.
+    fn with_records(
+        &self,
+        alloc: Global,
+        old: TableData,
+        text: &[u8],
+    ) -> Result<TableData, LoadJobFault<'a>>
+        ensures loaded { IfOk result (λ new. csv_loaded self.now.cut old text.now ≡ Ok new) }
+        ensures fault { IfErr result (IsUnloadedText self.now old text.now) }
+    {
+        match load_csv_named(alloc, old, text, self.cut) {
+            Ok(new) => Ok(new),
+            Err(fault) => match fault.why {
+                CsvFault::NoMemory => Err(LoadJobFault::NoMemory),
+                _ => Err(LoadJobFault::Text(self.csv, fault)),
+            },
+        }
+    }
+
+    // Reads the text of CSV and the old table, and puts the text's records after its own.
+    fn new_table<S: Source>(
+        &self,
+        alloc: Global,
+        source: &mut S,
+    ) -> Result<TableData, LoadJobFault<'a>>
+        ensures table { IfOk result (IsLoadedTable (S.files source.old) self.now) }
+        ensures readable { OnOk result ((why : LoadFault) → load_refusal (S.files source.old) self.now.csv.now ≢ Some why) }
+        ensures no_failure { OnOk result (S.failures source.new ≡ S.failures source.old) }
+        ensures fault { IfErr result (IsLoadJobFailure (S.files source.old) self.now (S.failures source.old) (S.failures source.new)) }
+        ensures kept { S.files source.new ≡ S.files source.old }
+    {
+        let text = self.text(alloc, source)?;
+        let old = self.old_table(alloc, source)?;
+        self.with_records(alloc, old, text.as_slice())
+    }
+}
+
+impl<'a> Work for LoadJob<'a> {
+    fn work<S: Source, F: Folder, E: Write>(
+        &self,
+        alloc: Global,
+        source: &mut S,
+        folder: &mut F,
+        _err: &mut E,
+    ) -> Result<Made, LoadJobFault<'a>> {
+        let table = self.new_table(alloc, source)?;
+        write_files(
+            alloc,
+            folder,
+            self.stem,
+            self.in_capitals,
+            &table,
+            self.today,
+        )?;
+        Ok(Made)
+    }
+}
+
+impl<'a> TableWork for LoadJob<'a> {
+    ghost use Rattle.table_maker.specs.LoadedTable.{load_look};
+
+    ghost stem = { λ job. job.stem.now };
+
+    ghost in_capitals = { λ job. job.in_capitals };
+
+    ghost look = { load_look };
+
+    fn stem(&self) -> &[u8] {
+        self.stem
+    }
+
+    fn in_capitals(&self) -> bool {
+        self.in_capitals
+    }
+
+    fn exists() -> LoadJobFault<'a> {
+        LoadJobFault::Exists
+    }
+
+    fn unread() -> LoadJobFault<'a> {
+        LoadJobFault::Unread
+    }
+
+    fn exists_is_of_names_alone(&self) {}
+}
