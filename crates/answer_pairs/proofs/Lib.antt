@@ -5,3 +5,5 @@ pub mod SizeLaws
 pub mod TextLaws
 pub mod ShownLaws
 pub mod RunLaws
+pub mod StepLaws
+pub mod OneLineLaws

@@ -1,5 +1,5 @@
 -- The pairs of a script and an answer file.
-use Rattle.std.proofs.Common.{◌≡◌, ℕ, ◌+◌, ◌-◌, ◌≤◌, true, List, [], ◌∷◌, ◌++◌, length, take, drop, refl, ap, sym, ◌∙◌, subst, append_assoc}
+use Rattle.std.proofs.Common.{◌≡◌, ℕ, ◌+◌, ◌≤◌, true, List, [], ◌∷◌, ◌++◌, length, take, drop, refl, ap, sym, ◌∙◌, subst, append_assoc}
 use Rattle.std.proofs.lemmas.List.{append-nil, append_cancel_right, take-append-drop}
 use Rattle.station_lines.specs.Script.Lines.{AreLines}
 use Rattle.station_lines.specs.Script.Reading.{read}
@@ -38,10 +38,10 @@ asked_more script number asked rest line behind more are next more_is = record {
 pub all_asked : (script : List ℕ) (number : ℕ) (asked : List AskedLine) (rest : List ℕ) → AreAskedTo script number asked rest → rest ≡ [] → AreAsked script asked
 all_asked script number asked rest are end = let a = are.ahead [] end in (a.0, a.1, sym (a.2 ∙ append-nil asked))
 
-one_asked : (script : List ℕ) (a b : List AskedLine) → AreAsked script a → AreAsked script b → a ≡ b
+pub one_asked : (script : List ℕ) (a b : List AskedLine) → AreAsked script a → AreAsked script b → a ≡ b
 one_asked script a b p q = p.2 ∙ (ap (λ (ls : List (List ℕ)). asked_lines 1 ls) (one_cutting script p.0 q.0 p.1 q.1) ∙ sym q.2)
 
-one_file : (text : List ℕ) (a b : List (List ℕ)) → AreFileLines a text → AreFileLines b text → a ≡ b
+pub one_file : (text : List ℕ) (a b : List (List ℕ)) → AreFileLines a text → AreFileLines b text → a ≡ b
 one_file text a b p q = append_cancel_right a b ([] ∷ []) (sym p ∙ q)
 
 -- ---- pieces

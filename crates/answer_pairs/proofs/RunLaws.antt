@@ -2,7 +2,7 @@
 use Rattle.std.proofs.Common.{◌≡◌, ℕ, ◌==◌, Bool, true, false, cond, List, [], ◌∷◌, ◌++◌, map, refl, ap, sym, ◌∙◌, append_assoc}
 use Rattle.std.specs.List.{onto_first}
 use Rattle.station_lines.specs.declared.script.format.TheConstants.{LF}
-use Rattle.answer_pairs.specs.Pairs.{AskedLine, lines_of}
+use Rattle.answer_pairs.specs.Pairs.{AskedLine, AreFileLines, lines_of}
 use Rattle.answer_pairs.specs.Runs.{answer_lines_in, answer_file_text, AreAnswersTo, ArePairedSo}
 
 -- a text has a first line
@@ -19,7 +19,7 @@ either_has : (so : Bool) (x : ℕ) (parts : List (List ℕ)) → HasFirst (cond 
 either_has true x parts = record { first = []; others = parts; is = refl }
 either_has false x parts = onto_has x parts
 
-has_first : (text : List ℕ) → HasFirst (answer_lines_in text)
+pub has_first : (text : List ℕ) → HasFirst (answer_lines_in text)
 has_first [] = record { first = []; others = []; is = refl }
 has_first (x ∷ text) = either_has (x == LF) x (answer_lines_in text)
 
@@ -47,12 +47,17 @@ file_lines_are (text ∷ texts) =
     ∙ (ap (λ (parts : List (List ℕ)). answer_lines_in text ++ parts) (file_lines_are texts)
     ∙ sym (append_assoc (answer_lines_in text) (lines_of (map answer_lines_in texts)) ([] ∷ []))))
 
+-- the lines of the texts are those of the file
+pub texts_whole : (script answers : List ℕ) (asked : List AskedLine) (texts : List (List ℕ)) → AreAnswersTo script answers asked texts
+    → AreFileLines (lines_of (map answer_lines_in texts)) answers
+texts_whole script answers asked texts are = ap (λ (t : List ℕ). answer_lines_in t) are.written ∙ file_lines_are texts
+
 pub paired_so : (script answers : List ℕ) (asked : List AskedLine) (texts : List (List ℕ)) → AreAnswersTo script answers asked texts → ArePairedSo script answers asked texts
 paired_so script answers asked texts are = record {
   asked = asked;
   of_script = are.of_script;
   given = map answer_lines_in texts;
   kinds = are.may_be;
-  whole = ap (λ (t : List ℕ). answer_lines_in t) are.written ∙ file_lines_are texts;
+  whole = texts_whole script answers asked texts are;
   own = refl;
 }

@@ -18,5 +18,5 @@ mod text;
 mod ways;
 
 pub use fault::PairFault;
-pub use law::own_answers_are_pairs;
+pub use law::{answers_fit_their_lines, own_answers_are_pairs};
 pub use pair::{Pairs, pair_answers};
