@@ -2,3 +2,4 @@ mod DayLaws
 mod SessionLaws
 mod ShowLaws
 mod StartLaws
+mod TypingLaws

@@ -3,4 +3,5 @@ pub mod Faults
 pub mod Sessions
 pub mod Shows
 pub mod Starts
+pub mod Typing
 pub mod Wishes

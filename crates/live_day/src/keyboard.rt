@@ -1,6 +1,7 @@
 //! Where the lines of a day come from.
 
-ghost use Rattle.std.specs.Prelude.{◌≡◌, ◌++◌, ◌∷◌, [], List, None, Ok, IfOk, IfSome, OnErr};
+ghost use Rattle.std.specs.Prelude.{◌≡◌, ◌++◌, ◌∷◌, [], ℕ, List, Option, None, Ok, IfOk, IfSome, OnErr};
+ghost use Rattle.live_day.specs.Typing.{TypesNext};
 ghost use Rattle.live_day.specs.declared.keyboard.Typed.{Typed as TypedLine};
 
 use byte_io::Bytes;
@@ -46,9 +47,14 @@ pub trait Keyboard {
     // no more lines come
     ghost has_ended: { Self → Type 0 };
 
+    // the text that is still to be read, where it is known
+    ghost text_left: { Self → Option (List ℕ) };
+
     /// The next line, typed for this station. `None` where no more come.
     fn next_line(&mut self, alloc: Global, station: u32) -> Result<Option<Typed>, TypingFault>
         ensures typed { IfOk result (λ next. IfSome next (λ line. typed self.new ≡ typed self.old ++ line ∷ [])) }
         ensures end { result ≡ Ok None → (typed self.new ≡ typed self.old) × has_ended self.new }
-        ensures unread { OnErr result (typed self.new ≡ typed self.old) };
+        ensures unread { OnErr result (typed self.new ≡ typed self.old) }
+        // It is the first line of the text that is left, and that goes on after it; and none comes only where nothing is left.
+        ensures text { IfOk result (λ next. TypesNext (text_left self.old) next (text_left self.new)) };
 }

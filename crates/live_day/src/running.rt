@@ -3,6 +3,7 @@
 ghost use Rattle.std.specs.Prelude.{◌≡◌, ◌≤◌, true, OnOk};
 ghost use Rattle.live_day.specs.Sessions.{IsDayRun};
 ghost use Rattle.live_day.specs.Shows.{KeepsShown};
+ghost use Rattle.live_day.specs.Typing.{IsAllTyped, HasTyped};
 
 use crate::answering::obey;
 use crate::day::Day;
@@ -26,8 +27,10 @@ pub fn run_day<D: DiskInPlace + Drop, S: Screen<D>, K: Keyboard>(
     requires takes { day.old.takes ≡ true }
     requires some { 1 ≤ day.old.history.opened.stations }
     // Each line that was typed is obeyed by its meaning, in order, and what is shown is what these are answered, in order.
-    ensures obeyed { OnOk result (IsDayRun (K.has_ended keyboard.new) (K.typed keyboard.old) (K.typed keyboard.new) day.old.history day.new.history
-        (S.shown screen.old) (S.shown screen.new)) }
+    ensures obeyed { OnOk result (IsDayRun (IsAllTyped (K.has_ended keyboard.new) (K.text_left keyboard.old) (K.text_left keyboard.new))
+        (K.typed keyboard.old) (K.typed keyboard.new) day.old.history day.new.history (S.shown screen.old) (S.shown screen.new)) }
+    // These lines are the first of the text, in order; what stands after them is left.
+    ensures read { OnOk result (HasTyped (K.text_left keyboard.old) (K.text_left keyboard.new) (K.typed keyboard.old) (K.typed keyboard.new)) }
     ensures takes { OnOk result (day.new.takes ≡ true) }
     // Nothing that was shown is lost, and a crash at any moment leaves a log of the journal's first entries.
     ensures kept { KeepsShown D.meaning day.old day.new (S.shown screen.old) (S.shown screen.new) }

@@ -6,3 +6,4 @@ mod GreetingLaws
 mod LifeLaws
 mod NumberListLaws
 mod OpeningLaws
+mod ReadingLaws

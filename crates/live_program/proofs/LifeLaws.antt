@@ -196,6 +196,15 @@ pub ok_both : {T E : Type 0} (r : Result T E) (P Q R : T → Type 0) → ((t : T
 ok_both (Ok t) P Q R by is and = by t is and
 ok_both (Err e) P Q R by is and = tt
 
+-- what holds at each result, or at no Ok
+pub ok_always : {T E : Type 0} (r : Result T E) (P : Type 0) → P → OnOk r P
+ok_always (Ok t) P is = is
+ok_always (Err e) P is = tt
+
+pub ok_never : {T E : Type 0} (r : Result T E) (P : Type 0) → IsErr r → OnOk r P
+ok_never (Ok t) P failed = absurd cc
+ok_never (Err e) P failed = tt
+
 pub err_by : {T E : Type 0} (r : Result T E) (P Q : E → Type 0) → ((e : E) → P e → Q e) → IfErr r P → IfErr r Q
 err_by (Ok t) P Q by is = tt
 err_by (Err e) P Q by is = by e is

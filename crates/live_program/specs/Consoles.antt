@@ -1,5 +1,5 @@
 -- What was typed and shown, as lists of numbers.
-use Rattle.std.specs.Prelude.{ℕ, List, [], ◌∷◌, ◌++◌}
+use Rattle.std.specs.Prelude.{Bool, ℕ, List, [], ◌∷◌, ◌++◌}
 use Rattle.station_lines.specs.declared.script.format.TheConstants.{LF}
 use Rattle.live_day.specs.declared.keyboard.Typed.{Typed}
 use Rattle.live_day.specs.declared.keyboard.Typed.TheVariants.{Text, TooLong}
@@ -13,6 +13,12 @@ numbers_of_typed TooLong = []
 abbrev pub typed_of_numbers : List ℕ → Typed
 typed_of_numbers [] = TooLong
 typed_of_numbers (n ∷ line) = Text line
+
+-- What contracts see of typed lines: where they are read, what was typed, and whether no more come.
+pub record TypedValue (R : Type 0) : Type 0 where
+  pub reader : R
+  pub typed : List Typed
+  pub ended : Bool
 
 -- a line that was shown: the moment, the count, the station, and its bytes
 abbrev pub numbers_of_shown : ShownLine → List ℕ

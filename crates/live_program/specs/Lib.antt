@@ -6,3 +6,4 @@ pub mod Greetings
 pub mod Lives
 pub mod NumberLists
 pub mod Openings
+pub mod Reading

@@ -1,123 +1,23 @@
 //! Lines that are typed, and answers that are printed.
 
-ghost use Rattle.std.specs.Prelude.{◌≡◌, ◌⊎◌, ◌<◌, ◌≤◌, ◌+◌, ◌++◌, ◌∷◌, [], length, map, vec_len, OnErr, OnOk};
+ghost use Rattle.std.specs.Prelude.{◌≡◌, ◌⊎◌, ◌<◌, ◌+◌, ◌++◌, ◌∷◌, [], false, length, map, OnErr, OnOk};
 ghost use Rattle.std.specs.Io.KnownBytes.{Appends};
 ghost use Rattle.live_day.specs.Shows.{shown_now};
 ghost use Rattle.live_program.specs.Consoles.{shown_of_numbers, shown_text};
-ghost use Rattle.live_program.specs.declared.console.TheConstants.{LINE_AT_ONCE, MAX_KEPT_BYTES};
+ghost use Rattle.live_program.specs.declared.console.TheConstants.{LINE_AT_ONCE};
 
 use crate::number_lists::{NumberLists, Numbered};
-use byte_io::Bytes;
+use crate::reading::read_line;
 use disk_in_place::DiskInPlace;
-use live_day::{Day, Keyboard, MAX_LINE_BYTES, Screen, ScreenFault, Typed, TypingFault};
+use live_day::{Day, Keyboard, Screen, ScreenFault, Typed, TypingFault};
 use station_lines::LF;
 use std::alloc::Global;
 use std::io;
 use std::io::{BufRead, Write};
-
-// The byte before LF where a line ends in two.
-const CR: u8 = b'\r';
+use std::marker::Model;
 
 // How many bytes a line has, its LF too, that is printed by one write: nearly each answer is as short.
 const LINE_AT_ONCE: usize = 512;
-
-// How many bytes of a line are kept: one more than it may have, for the CR.
-const MAX_KEPT_BYTES: usize = MAX_LINE_BYTES + 1;
-
-// A line that is read in pieces. Of one that is too long no more is kept.
-#[derive(Drop)]
-struct PartLine {
-    bytes: Vec<u8>,
-    too_long: bool,
-    ghost bounded: { vec_len bytes ≤ MAX_KEPT_BYTES },
-}
-
-impl PartLine {
-    // Adds a piece.
-    fn add(&mut self, piece: &[u8]) -> Result<(), TypingFault> {
-        if self.too_long || piece.len() > MAX_KEPT_BYTES - self.bytes.len() {
-            self.too_long = true;
-            return Ok(());
-        }
-        self.bytes.extend_from_slice(piece)?;
-        Ok(())
-    }
-
-    // Whether there is nothing of a line.
-    fn is_empty(&self) -> bool {
-        !self.too_long && self.bytes.is_empty()
-    }
-
-    // The whole line, without a CR at its end.
-    fn ended(mut self) -> Typed {
-        if self.bytes.last() == Some(&CR) {
-            let _ = self.bytes.pop();
-        }
-        self.whole()
-    }
-
-    // The whole line.
-    fn whole(self) -> Typed {
-        if self.too_long || self.bytes.len() > MAX_LINE_BYTES {
-            return Typed::TooLong;
-        }
-        Typed::Text(Bytes::from_vec(self.bytes))
-    }
-}
-
-// What a piece of the input ends in.
-#[derive(Clone, Copy, PartialEq, Eq)]
-enum PieceEnd {
-    // Neither of the others.
-    Open,
-    // The end of a line.
-    Line,
-    // The end of all that is typed.
-    Input,
-}
-
-// Reads a piece of a line: up to its end, or to the end of what is there.
-fn read_piece<R: BufRead>(reader: &mut R, line: &mut PartLine) -> Result<PieceEnd, TypingFault> {
-    let (read, end) = match reader.fill_buf() {
-        Err(e) if e.kind() == io::ErrorKind::Interrupted => return Ok(PieceEnd::Open),
-        Err(_) => return Err(TypingFault::Failed),
-        Ok(bytes) => {
-            if bytes.is_empty() {
-                return Ok(PieceEnd::Input);
-            }
-            match bytes.iter().position(|byte| *byte == LF) {
-                Some(end) => {
-                    let (piece, _) = bytes.split_at(end);
-                    line.add(piece)?;
-                    (end + 1, PieceEnd::Line)
-                }
-                None => {
-                    line.add(bytes)?;
-                    (bytes.len(), PieceEnd::Open)
-                }
-            }
-        }
-    };
-    reader.consume(read);
-    Ok(end)
-}
-
-// Reads a line. `None` at the end of all that is typed.
-fn read_line<R: BufRead>(alloc: Global, reader: &mut R) -> Result<Option<Typed>, TypingFault> {
-    let mut line = PartLine {
-        bytes: Vec::new(alloc),
-        too_long: false,
-    };
-    'pieces: for _ in 0..u64::MAX {
-        match read_piece(reader, &mut line)? {
-            PieceEnd::Open => {}
-            PieceEnd::Line => return Ok(Some(line.ended())),
-            PieceEnd::Input if line.is_empty() => return Ok(None),
-            PieceEnd::Input => return Ok(Some(line.whole())),
-        }
-    }
-    Err(TypingFault::Failed)
-}
 
 impl Numbered for Typed {
     ghost use Rattle.live_program.specs.Consoles.{numbers_of_typed};
@@ -135,9 +35,22 @@ pub struct TypedLines<R: BufRead + Drop, P: Write + Drop> {
     ended: bool,
 }
 
+impl<R: BufRead + Drop, P: Write + Drop> Model for TypedLines<R, P> {
+    ghost use Rattle.std.specs.Prelude.{map};
+    ghost use Rattle.live_program.specs.Consoles.{typed_of_numbers, TypedValue as What};
+
+    ghost Value = { What R };
+
+    ghost view = { λ k. record { reader = k.reader; typed = map typed_of_numbers k.typed; ended = k.ended } };
+}
+
 impl<R: BufRead + Drop, P: Write + Drop> TypedLines<R, P> {
     /// The lines of a reader from here on.
-    pub fn new(reader: R, prompt: Option<P>) -> TypedLines<R, P> {
+    pub fn new(reader: R, prompt: Option<P>) -> TypedLines<R, P>
+        ensures reader { result.reader ≡ reader }
+        ensures untyped { result.typed ≡ [] }
+        ensures open { result.ended ≡ false }
+    {
         TypedLines {
             reader,
             prompt,
@@ -148,8 +61,7 @@ impl<R: BufRead + Drop, P: Write + Drop> TypedLines<R, P> {
 
     // Prints the prompt of a station: its number, a point and a blank. A writer that takes no text changes nothing.
     fn ask(&mut self, station: u32)
-        ensures typed { self.new.typed ≡ self.old.typed }
-        ensures ended { self.new.ended ≡ self.old.ended }
+        ensures same { self.new ≡ self.old }
     {
         if let Some(prompt) = &mut self.prompt {
             let _ = write!(prompt, "{station}. ");
@@ -158,12 +70,13 @@ impl<R: BufRead + Drop, P: Write + Drop> TypedLines<R, P> {
 }
 
 impl<R: BufRead + Drop, P: Write + Drop> Keyboard for TypedLines<R, P> {
-    ghost use Rattle.std.specs.Prelude.{◌≡◌, map, true};
-    ghost use Rattle.live_program.specs.Consoles.{typed_of_numbers};
+    ghost use Rattle.std.specs.Prelude.{◌≡◌, true};
 
-    ghost typed = { λ k. map typed_of_numbers k.typed };
+    ghost typed = { λ k. k.typed };
 
     ghost has_ended = { λ k. k.ended ≡ true };
+
+    ghost text_left = { λ k. R.remaining k.reader };
 
     #[tactic(auto, using(crate::proofs::ConsoleLaws::typed_more))]
     fn next_line(&mut self, alloc: Global, station: u32) -> Result<Option<Typed>, TypingFault> {

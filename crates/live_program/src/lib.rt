@@ -19,6 +19,7 @@ mod number_lists;
 mod opening;
 mod options;
 mod places;
+mod reading;
 mod running;
 mod warning;
 

@@ -8,6 +8,7 @@ ghost use Rattle.station_lines.specs.JournalLines.{HaveSmallNumbers};
 ghost use Rattle.live_log.specs.Gates.{log_of};
 ghost use Rattle.live_log.specs.Placing.{IsOldOrPlacedWith};
 ghost use Rattle.live_day.specs.Days.{parts_of, IsLogged};
+ghost use Rattle.live_day.specs.Typing.{HasTyped, IsAllTyped};
 ghost use Rattle.live_program.specs.Closings.{IsDayPlaced, IsOldOrDay};
 ghost use Rattle.open_day.specs.OpenDay.{log_name};
 ghost use Rattle.live_program.specs.Endings.{unplaced_log};
@@ -205,8 +206,10 @@ fn live_day<D: DiskInPlace + Drop, K: Keyboard, C: Screen<D>>(
     requires stations { 1 ≤ day.history.opened.stations }
     requires name { day.log.name ≡ log_name }
     requires clean { D.meaning.keeps_promises → IsClean (D.meaning.seen day.log.disk) }
-    ensures ends { D.meaning.keeps_promises → EndsDay D.meaning (K.has_ended keyboard.new) (K.typed keyboard.old) (K.typed keyboard.new)
-        (λ left. ⊥) (D.meaning.seen day.log.disk) day.history today (C.shown screen.old) (C.shown screen.new) day.log.disk result.disk result.ended }
+    ensures ends { D.meaning.keeps_promises → EndsDay D.meaning (IsAllTyped (K.has_ended keyboard.new) (K.text_left keyboard.old) (K.text_left keyboard.new))
+        (K.typed keyboard.old) (K.typed keyboard.new) (λ left. ⊥) (D.meaning.seen day.log.disk) day.history today
+        (C.shown screen.old) (C.shown screen.new) day.log.disk result.disk result.ended }
+    ensures read { OnOk result.ended (HasTyped (K.text_left keyboard.old) (K.text_left keyboard.new) (K.typed keyboard.old) (K.typed keyboard.new)) }
 {
     let mut day = day;
     match run_day(alloc, &mut day, keyboard, screen) {
@@ -230,8 +233,10 @@ pub fn live_in_place<S: Source, D: DiskInPlace + Drop, K: Keyboard, C: Screen<D>
     // Of the files that recovery leaves alone, all bytes are on the disk.
     requires on_disk { D.meaning.keeps_promises → OthersAreWhole (D.meaning.seen disk) (D.meaning.is_whole disk) }
     // The lines are obeyed on what the log says, nothing that was shown is lost, and a crash leaves the log or the new files.
-    ensures life { D.meaning.keeps_promises → IsLife D.meaning (K.has_ended keyboard.new) (K.typed keyboard.old) (K.typed keyboard.new)
-        (S.files source.old) options.now (C.shown screen.old) (C.shown screen.new) disk result.disk result.ended }
+    ensures life { D.meaning.keeps_promises → IsLife D.meaning (IsAllTyped (K.has_ended keyboard.new) (K.text_left keyboard.old) (K.text_left keyboard.new))
+        (K.typed keyboard.old) (K.typed keyboard.new) (S.files source.old) options.now (C.shown screen.old) (C.shown screen.new) disk result.disk result.ended }
+    // These lines are the first of the text, in order; what stands after them is left.
+    ensures read { OnOk result.ended (HasTyped (K.text_left keyboard.old) (K.text_left keyboard.new) (K.typed keyboard.old) (K.typed keyboard.new)) }
     ensures kept { S.files source.new ≡ S.files source.old }
 {
     let disk = match begin_in_place::<Lived, LiveFailure, D>(alloc, disk) {

@@ -1,6 +1,7 @@
 //! What the program does with the words of its command line.
 
-ghost use Rattle.std.specs.Prelude.{◌≡◌, Ok, IfErr, IfOk, map};
+ghost use Rattle.std.specs.Prelude.{◌≡◌, Ok, IfErr, IfOk, OnOk, map};
+ghost use Rattle.live_day.specs.Typing.{HasTyped, IsAllTyped};
 ghost use Rattle.live_program.specs.Lives.{IsAskedLife, IsLifeOver, IsUnlived};
 
 use crate::failure::LiveFailure;
@@ -28,8 +29,10 @@ fn live_options<Y: Places, S: Source, K: Keyboard, C: Screen<Y::Disk>, E: Write>
     screen: &mut C,
     err: &mut E,
 ) -> Result<Lived, Failure<LiveFailure>>
-    ensures life { IsLifeOver Y.Disk.meaning (Y.opens places.now options.now.out.now) (K.has_ended keyboard.new) (K.typed keyboard.old) (K.typed keyboard.new)
+    ensures life { IsLifeOver Y.Disk.meaning (Y.opens places.now options.now.out.now)
+        (IsAllTyped (K.has_ended keyboard.new) (K.text_left keyboard.old) (K.text_left keyboard.new)) (K.typed keyboard.old) (K.typed keyboard.new)
         (S.files source.old) options.now (C.shown screen.old) (C.shown screen.new) result }
+    ensures read { OnOk result (HasTyped (K.text_left keyboard.old) (K.text_left keyboard.new) (K.typed keyboard.old) (K.typed keyboard.new)) }
     ensures kept { S.files source.new ≡ S.files source.old }
 {
     match places.open(alloc, options.out)? {
@@ -50,9 +53,13 @@ pub fn run_program<Y: Places, S: Source, K: Keyboard, C: Screen<Y::Disk>, E: Wri
     words: &[T],
 ) -> Result<Lived, Ending<Failure<LiveFailure>>>
     ensures lived { IfOk result (λ lived. IsAskedLife Y.Disk.meaning (Y.opens places.now) (S.files source.old) (map T.text words.entry.now)
-        (K.has_ended keyboard.new) (K.typed keyboard.old) (K.typed keyboard.new) (C.shown screen.old) (C.shown screen.new) (Ok lived)) }
+        (IsAllTyped (K.has_ended keyboard.new) (K.text_left keyboard.old) (K.text_left keyboard.new)) (K.typed keyboard.old) (K.typed keyboard.new)
+        (C.shown screen.old) (C.shown screen.new) (Ok lived)) }
     ensures unlived { IfErr result (IsUnlived Y.Disk.meaning (Y.opens places.now) (S.files source.old) (map T.text words.entry.now)
-        (K.has_ended keyboard.new) (K.typed keyboard.old) (K.typed keyboard.new) (C.shown screen.old) (C.shown screen.new)) }
+        (IsAllTyped (K.has_ended keyboard.new) (K.text_left keyboard.old) (K.text_left keyboard.new)) (K.typed keyboard.old) (K.typed keyboard.new)
+        (C.shown screen.old) (C.shown screen.new)) }
+    // The lines that were obeyed are the first of the text, in order; what stands after them is left.
+    ensures read { OnOk result (HasTyped (K.text_left keyboard.old) (K.text_left keyboard.new) (K.typed keyboard.old) (K.typed keyboard.new)) }
     ensures kept { S.files source.new ≡ S.files source.old }
 {
     let options = read_options(alloc, words)?;

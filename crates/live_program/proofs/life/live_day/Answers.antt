@@ -1,4 +1,4 @@
-use Rattle.live_program.proofs.LifeLaws.{closed_day, day_ends, placed_day, stopped_day, stopped_ends}
+use Rattle.live_program.proofs.LifeLaws.{closed_day, day_ends, ok_always, ok_never, placed_day, stopped_day, stopped_ends}
 use Rattle.live_program.proofs.life.live_day.Goals as goal
 
 pub returns-in-Ok : goal.returns-in-Ok
@@ -17,6 +17,7 @@ returns-in-Ok g c = record {
       day_ends m _ _ _ _ _ begun.history day.history today x y begun.log.disk c.close.result.disk c.close.result.ended c.in-Ok.ensures.obeyed
       (closed_day m promised begun day today x y kept c.requires.name clean c.close.result.disk logged closing) _
       (placed_day m promised begun day today x y kept c.requires.name clean c.close.result.disk logged closing) (c.close.ensures.placed promised) c.close.ensures.count;
+  read = ok_always c.close.result.ended _ c.in-Ok.ensures.read;
 }
 
 pub returns-in-Err : goal.returns-in-Err
@@ -27,4 +28,5 @@ returns-in-Err g c = record {
       let y = g.C.Screen.shown c.run_day.new.screen in
       let stopped = stopped_day m promised c.args.day c.run_day.new.day c.args.today x y c.run_day.ensures.kept c.requires.name (c.requires.clean promised) in
       stopped_ends m _ _ _ _ _ c.args.day.history c.run_day.new.day.history c.args.today x y c.args.day.log.disk c.stop.result.disk c.stop.result.ended c.stop.ensures.ended (rw c.stop.ensures.disk stopped);
+  read = ok_never c.stop.result.ended _ c.stop.ensures.ended;
 }

@@ -1,5 +1,5 @@
 use Rattle.std.proofs.Common.{◌≡◌}
-use Rattle.live_program.proofs.LifeLaws.{begun_life, unbegun_life, unrecovered_life}
+use Rattle.live_program.proofs.LifeLaws.{begun_life, ok_never, unbegun_life, unrecovered_life}
 use Rattle.live_program.proofs.life.live_in_place.Goals as goal
 
 pub returns-in-Err-clause-life : goal.returns-in-Err-clause-life
@@ -15,3 +15,9 @@ pub returns-in-Err-begin_day-clause-life : goal.returns-in-Err-begin_day-clause-
 returns-in-Err-begin_day-clause-life g c promised =
     unbegun_life g.D.Disk.meaning promised c.args.disk c.in-Ok.disk (c.in-Ok.ensures.recovered promised) _ _ _ (g.S.Source.files c.args.source.now) c.args.options.now _ c.in-Err-begin_day.unbegun.disk c.in-Err-begin_day.unbegun.ended
     c.in-Err-begin_day.ensures.refused (c.in-Err-begin_day.ensures.unbegun promised)
+
+pub returns-in-Err-clause-read : goal.returns-in-Err-clause-read
+returns-in-Err-clause-read g c = ok_never c.in-Err.refused.ended _ c.in-Err.ensures.refused
+
+pub returns-in-Err-begin_day-clause-read : goal.returns-in-Err-begin_day-clause-read
+returns-in-Err-begin_day-clause-read g c = ok_never c.in-Err-begin_day.unbegun.ended _ c.in-Err-begin_day.ensures.refused
