@@ -1,10 +1,11 @@
-//! Shows and compares dBASE III PLUS tables, shows indexes, checks setups of them, and makes tables.
+//! Shows and compares dBASE III PLUS tables, shows indexes and answers, checks setups, makes tables and loads records into them.
 //!
 //! The program reads a table, with its memos, and prints it as people read it, as CSV, or what its fields are; or it prints what has
-//! changed from one table to another, or the pages of an index, or looks at every file that a setup names, or makes an empty table.
+//! changed from one table to another, or the pages of an index, or the lines of a script with their answers, or looks at every file that a
+//! setup names, or makes a table, empty or with the records of a CSV file.
 //! This file has `main`: it reads the command line, has what it asks for done, and has its end told. The commands are the crate
-//! `tool_program`; what is printed of a table is defined in the crate `table_text`, of two in `table_diff`, and of an index in
-//! `index_text`; a table is made by `table_maker`.
+//! `tool_program`; what is printed of a table is defined in the crate `table_text`, of two in `table_diff`, of an index in `index_text`, and
+//! of answers in `answer_pairs`; a table is made by `table_maker`.
 #![tactic(auto)]
 
 use folders::DiskSource;

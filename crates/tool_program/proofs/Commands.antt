@@ -15,7 +15,7 @@ use Rattle.program_frame.specs.declared.ending.Ending.{Ending}
 use Rattle.program_frame.specs.declared.ending.Ending.TheVariants as ended
 use Rattle.tool_program.specs.declared.fault.ToolFault.{ToolFault}
 use Rattle.tool_program.specs.declared.fault.ToolFault.TheVariants as tool
-use Rattle.tool_program.specs.declared.options.Asked.{Asked}
+use Rattle.tool_program.specs.declared.asked.Asked.{Asked}
 
 no_globals : (a b g rest : Bool) → (a && (b && (not g && rest))) ≡ true → g ≡ false
 no_globals a b false rest e = refl

@@ -7,7 +7,7 @@ use Rattle.table_maker.specs.declared.fault.MakeFault.{MakeFault}
 use Rattle.table_maker.specs.declared.fault.MakeFault.TheVariants as make
 use Rattle.tool_program.specs.declared.fault.ToolFault.{ToolFault}
 use Rattle.tool_program.specs.declared.fault.ToolFault.TheVariants as tool
-use Rattle.tool_program.specs.declared.options.MakeOptions.{MakeOptions}
+use Rattle.tool_program.specs.declared.asked.MakeOptions.{MakeOptions}
 use Rattle.tool_program.specs.Options.{first_of_three, first_of_two}
 use Rattle.folders.specs.declared.named.NamedFile.{NamedFile}
 use Rattle.tool_program.specs.declared.report.ToolReport.{ToolReport}

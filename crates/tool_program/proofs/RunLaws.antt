@@ -8,7 +8,7 @@ use Rattle.folders.specs.Files.{IsUnrecovered}
 use Rattle.tool_program.specs.declared.checking.CheckFault.{CheckFault}
 use Rattle.tool_program.specs.declared.checking.CheckFault.TheVariants as check
 use Rattle.tool_program.specs.declared.fault.ToolFault.{ToolFault}
-use Rattle.tool_program.specs.declared.options.Options.{Options}
+use Rattle.tool_program.specs.declared.asked.Options.{Options}
 use Rattle.tool_program.specs.declared.order.OrderFault.{OrderFault}
 use Rattle.tool_program.specs.declared.report.ToolReport.{ToolReport}
 use Rattle.tool_program.specs.declared.showing.ShowFault.{ShowFault}
@@ -16,8 +16,9 @@ use Rattle.tool_program.specs.declared.showing.ShowFault.TheVariants as show
 use Rattle.tool_program.specs.Answers.{IsTrueOfTable}
 use Rattle.tool_program.specs.Check.{check_load_fault}
 use Rattle.tool_program.specs.Faults.{IsToolFaultOfSetup}
-use Rattle.tool_program.specs.Memos.{IsMemosFault, IsNotHad}
-use Rattle.tool_program.specs.View.{IsNoOrder, IsNoTable}
+use Rattle.table_reader.specs.Memos.{IsMemosFault, IsNotHad}
+use Rattle.table_reader.specs.TableFiles.{IsNoTable}
+use Rattle.tool_program.specs.View.{IsNoOrder}
 
 module _ {T : Type 0} (files : Option (List NamedFile)) (before after : Option ℕ) where
   -- a fault of showing a table is true of its files

@@ -11,30 +11,37 @@ use Rattle.folders.specs.Paths.{folder_of_path}
 use Rattle.tool_program.specs.declared.checking.CheckFault.{CheckFault}
 use Rattle.tool_program.specs.declared.checking.CheckFault.TheVariants as check
 use Rattle.tool_program.specs.declared.fault.ToolFault.{ToolFault}
-use Rattle.tool_program.specs.declared.options.Asked.{Asked}
-use Rattle.tool_program.specs.declared.options.Asked.TheVariants.{Show, Check, Tree, Make, Diff}
-use Rattle.tool_program.specs.declared.options.CheckOptions.{CheckOptions}
-use Rattle.tool_program.specs.declared.options.DiffOptions.{DiffOptions}
+use Rattle.tool_program.specs.declared.asked.Asked.{Asked}
+use Rattle.tool_program.specs.declared.asked.Asked.TheVariants.{Show, Check, Tree, Make, Load, Diff, Answers}
+use Rattle.tool_program.specs.declared.asked.CheckOptions.{CheckOptions}
+use Rattle.tool_program.specs.declared.asked.DiffOptions.{DiffOptions}
+use Rattle.tool_program.specs.declared.asked.AnswersOptions.{AnswersOptions}
+use Rattle.tool_program.specs.declared.pairing.AnswersFault.{AnswersFault}
 use Rattle.tool_program.specs.declared.comparing.CompareFault.{CompareFault}
-use Rattle.tool_program.specs.declared.options.Options.{Options}
+use Rattle.tool_program.specs.declared.asked.Options.{Options}
 use Rattle.tool_program.specs.declared.report.ToolReport.{ToolReport}
-use Rattle.tool_program.specs.declared.report.ToolReport.TheVariants.{Good, NotOpened, Differ, Unread}
+use Rattle.tool_program.specs.declared.report.ToolReport.TheVariants.{Good, NotOpened, Differ, Refused, Unread}
 use Rattle.tool_program.specs.declared.showing.ShowFault.{ShowFault}
 use Rattle.tool_program.specs.declared.showing.ShowFault.TheVariants as show
 use Rattle.tool_program.specs.Check.{check_load_fault, IsTold, IsVerdict, Loads, TellsBadLine}
 use Rattle.tool_program.specs.Command.{IsAskedIn, IsWhyNotRead}
 use Rattle.tool_program.specs.Comparison.{AreCompared, IsWhyUncompared}
-use Rattle.tool_program.specs.Faults.{path_at_fault, IsToolFaultOf, IsToolFaultOfSetup}
+use Rattle.tool_program.specs.Faults.{path_at_fault, IsToolFaultOf, IsToolFaultOfAnswers, IsToolFaultOfDiff, IsToolFaultOfSetup}
 use Rattle.tool_program.specs.IndexTree.{IsTreeFault, IsTreeShown}
-use Rattle.tool_program.specs.Memos.{IsMemosFault, IsNotHad, IsWhyUnread}
+use Rattle.table_reader.specs.Memos.{IsMemosFault, IsNotHad, IsWhyUnread}
+use Rattle.tool_program.specs.Pairing.{ArePaired, IsWhyUnpaired}
+use Rattle.tool_program.specs.TableLoaded.{IsLoadPlacedBy, IsLoadTakenBy, IsWhyNoTableLoaded}
 use Rattle.tool_program.specs.TableMade.{IsPlacedBy, IsTakenBy, IsWhyNoTableMade}
-use Rattle.tool_program.specs.View.{IsNoOrder, IsNoTable, IsShown}
+use Rattle.table_reader.specs.TableFiles.{IsNoTable}
+use Rattle.tool_program.specs.View.{IsNoOrder, IsShown}
 
--- the exit status of a call that came to its end: 2 for a setup that the server would not open, 1 for tables that differ
+-- the exit status of a call that came to its end: 2 for a setup that the server would not open, 1 for tables that differ and for
+-- answers that are refusals
 abbrev pub report_status : ToolReport → ℕ
 report_status Good = 0
 report_status NotOpened = 2
 report_status Differ = 1
+report_status Refused = 1
 report_status Unread = 0
 
 -- ---- what was written
@@ -44,6 +51,7 @@ abbrev pub IsShownAs : Option (List NamedFile) → Options → Option (List ℕ)
 IsShownAs files options old new Good = IsShown files options old new
 IsShownAs files options old new NotOpened = ⊥
 IsShownAs files options old new Differ = ⊥
+IsShownAs files options old new Refused = ⊥
 IsShownAs files options old new Unread = Unit {0}
 
 -- the index file of a path was
@@ -51,6 +59,7 @@ abbrev pub IsTreeShownAs : Option (List NamedFile) → List ℕ → Option (List
 IsTreeShownAs files path old new Good = IsTreeShown files path old new
 IsTreeShownAs files path old new NotOpened = ⊥
 IsTreeShownAs files path old new Differ = ⊥
+IsTreeShownAs files path old new Refused = ⊥
 IsTreeShownAs files path old new Unread = Unit {0}
 
 -- all was told of a setup: the server would open it, or would not
@@ -60,6 +69,7 @@ IsCheckedAs files loads options old new Good =
 IsCheckedAs files loads options old new NotOpened =
     IsTold files loads options.setup.now options.bad_lines false old new × IsVerdict files loads options.setup.now false
 IsCheckedAs files loads options old new Differ = ⊥
+IsCheckedAs files loads options old new Refused = ⊥
 IsCheckedAs files loads options old new Unread = Unit {0}
 
 -- two tables were compared: they are the same, or differ
@@ -67,7 +77,16 @@ abbrev pub IsComparedAs : Option (List NamedFile) → DiffOptions → Option (Li
 IsComparedAs files options old new Good = AreCompared files options false old new
 IsComparedAs files options old new NotOpened = ⊥
 IsComparedAs files options old new Differ = AreCompared files options true old new
+IsComparedAs files options old new Refused = ⊥
 IsComparedAs files options old new Unread = Unit {0}
+
+-- a script was shown with its answers: none is a refusal, or some are
+abbrev pub IsPairedAs : Option (List NamedFile) → AnswersOptions → Option (List ℕ) → Option (List ℕ) → ToolReport → Type 0
+IsPairedAs files options old new Good = ArePaired files options false old new
+IsPairedAs files options old new NotOpened = ⊥
+IsPairedAs files options old new Differ = ⊥
+IsPairedAs files options old new Refused = ArePaired files options true old new
+IsPairedAs files options old new Unread = Unit {0}
 
 -- a table was made, of which nothing is written
 abbrev pub IsMadeAs : Option (List ℕ) → Option (List ℕ) → ToolReport → Type 0
@@ -80,7 +99,9 @@ IsAnswered files loads (Show options) = IsShownAs files options
 IsAnswered files loads (Check options) = IsCheckedAs files loads options
 IsAnswered files loads (Tree path) = IsTreeShownAs files path.now
 IsAnswered files loads (Make options) = IsMadeAs
+IsAnswered files loads (Load options) = IsMadeAs
 IsAnswered files loads (Diff options) = IsComparedAs files options
+IsAnswered files loads (Answers options) = IsPairedAs files options
 
 -- what these words ask for was written
 abbrev pub IsAnsweredTo : List (List ℕ) → Option (List NamedFile) → Loads → Option (List ℕ) → Option (List ℕ) → ToolReport → Type 0
@@ -89,6 +110,7 @@ IsAnsweredTo words files loads old new report = (asked : Asked) × IsAskedIn wor
 -- a table that is asked for was put into its folder, where a folder of a path is opened so
 abbrev pub IsPlacedIn : {D : Type 0} → DiskMeaning D → (List ℕ → D → Type 0) → Option (List NamedFile) → Asked → Type 0
 IsPlacedIn {D} m opens files (Make options) = IsPlacedBy m (opens (folder_of_path options.out.now)) files options
+IsPlacedIn {D} m opens files (Load options) = IsLoadPlacedBy m (opens (folder_of_path options.out.now)) files options
 IsPlacedIn {D} m opens files asked = Unit {0}
 
 -- and one that these words ask for
@@ -104,16 +126,27 @@ IsTakenIn {D} m opens asked = Unit {0}
 abbrev pub IsTakenTo : {D : Type 0} → DiskMeaning D → (List ℕ → D → Type 0) → List (List ℕ) → Type 0
 IsTakenTo {D} m opens words = (asked : Asked) × IsAskedIn words asked × IsTakenIn m opens asked
 
+-- a file stood in the way of the new table of records that are loaded
+abbrev pub IsLoadTakenIn : {D : Type 0} → DiskMeaning D → (List ℕ → D → Type 0) → Asked → Type 0
+IsLoadTakenIn {D} m opens (Load options) = IsLoadTakenBy m (opens (folder_of_path options.out.now)) options
+IsLoadTakenIn {D} m opens asked = Unit {0}
+
+-- and of one that these words ask for
+abbrev pub IsLoadTakenTo : {D : Type 0} → DiskMeaning D → (List ℕ → D → Type 0) → List (List ℕ) → Type 0
+IsLoadTakenTo {D} m opens words = (asked : Asked) × IsAskedIn words asked × IsLoadTakenIn m opens asked
+
 -- ---- why it was not
 
--- why no load can give the file that is asked for, of two tables the old one; of a list of fields it is not said, since the folder
--- comes first
+-- why no load can give the file that is asked for, of two tables the old one, of a script with answers the script; of a list of fields and
+-- a text of CSV it is not said, since the folder comes first
 abbrev pub asked_refusal : Option (List NamedFile) → Asked → Option LoadFault
 asked_refusal files (Show options) = load_refusal files options.table.now
 asked_refusal files (Check options) = load_refusal files options.setup.now
 asked_refusal files (Tree path) = load_refusal files path.now
 asked_refusal files (Make options) = None
+asked_refusal files (Load options) = None
 asked_refusal files (Diff options) = load_refusal files options.old_table.now
+asked_refusal files (Answers options) = load_refusal files options.script.now
 
 -- the fault says why no load gives the file that is asked for
 abbrev pub IsToldUnloaded : Asked → LoadFault → ToolFault → Type 0
@@ -121,7 +154,9 @@ IsToldUnloaded (Show options) why = IsToolFaultOf (show.Load why) options.table.
 IsToldUnloaded (Check options) why = IsToolFaultOfSetup (check_load_fault why) options.setup.now
 IsToldUnloaded (Tree path) why = IsToolFaultOf (show.Load why) path.now
 IsToldUnloaded (Make options) why = λ fault. ⊥
+IsToldUnloaded (Load options) why = λ fault. ⊥
 IsToldUnloaded (Diff options) why = IsToolFaultOf (show.Load why) options.old_table.now
+IsToldUnloaded (Answers options) why = IsToolFaultOf (show.Load why) options.script.now
 
 -- what a fault of showing a table says is true of its files, between these counts of failed loads
 abbrev pub IsTrueOfTable : Option (List NamedFile) → Option ℕ → Option ℕ → Options → ShowFault → Type 0
@@ -158,7 +193,12 @@ IsWhyUnchecked files unread path fault = (why : CheckFault) × IsToolFaultOfSetu
 -- why two tables were not compared, or not all was told of them
 abbrev pub IsWhyNoDiff : Option (List NamedFile) → Option ℕ → Option ℕ → DiffOptions → ToolFault → Type 0
 IsWhyNoDiff files before after options fault =
-    (why : CompareFault) × IsToolFaultOf why.why why.path.now fault × IsWhyUncompared files before after options why
+    (why : CompareFault) × IsToolFaultOfDiff why fault × IsWhyUncompared files before after options why
+
+-- why a script was not shown with its answers, or not all
+abbrev pub IsWhyNoAnswers : Option (List NamedFile) → Option ℕ → Option ℕ → AnswersOptions → ToolFault → Type 0
+IsWhyNoAnswers files before after options fault =
+    (why : AnswersFault) × IsToolFaultOfAnswers why options.answers.now fault × IsWhyUnpaired files before after options why
 
 -- why what is asked for was not written, or not all of it, between these counts of failed loads
 abbrev pub IsWhyUnanswered : Option (List NamedFile) → Option ℕ → Option ℕ → Asked → ToolFault → Type 0
@@ -166,7 +206,9 @@ IsWhyUnanswered files before after (Show options) = IsWhyUnshown files before af
 IsWhyUnanswered files before after (Check options) = IsWhyUnchecked files (IsNotHad files before after) options.setup.now
 IsWhyUnanswered files before after (Tree path) = IsWhyNoTree files (IsNotHad files before after) path.now
 IsWhyUnanswered files before after (Make options) = IsWhyNoTableMade files options
+IsWhyUnanswered files before after (Load options) = IsWhyNoTableLoaded files options
 IsWhyUnanswered files before after (Diff options) = IsWhyNoDiff files before after options
+IsWhyUnanswered files before after (Answers options) = IsWhyNoAnswers files before after options
 
 -- why what these words ask for was not written, or not all of it
 abbrev pub IsWhyNotDone : List (List ℕ) → Option (List NamedFile) → Option ℕ → Option ℕ → Ending ToolFault → Type 0

@@ -9,7 +9,7 @@ use Rattle.program_frame.specs.declared.ending.Ending.{Ending}
 use Rattle.program_frame.specs.declared.ending.Ending.TheVariants as ended
 use Rattle.tool_program.specs.declared.fault.ToolFault.{ToolFault}
 use Rattle.tool_program.specs.declared.fault.ToolFault.TheVariants as tool
-use Rattle.tool_program.specs.declared.options.Asked.{Asked}
+use Rattle.tool_program.specs.declared.asked.Asked.{Asked}
 use Rattle.tool_program.specs.Options.{AsksBadRange, HasPath, IsAskedOf}
 
 -- a path that has to be given, and is not empty
@@ -49,10 +49,29 @@ make_app =
     with_rule (with_rule (with_rule (with_rule (new_app (codes "make")) (path_rule (codes "list"))) (required_rule (codes "out"))) (required_rule (codes "today")))
     (flag_rule (codes "replace"))
 
-abbrev pub diff_app : App
-diff_app =
-    with_rule (with_rule (with_rule (with_rule (new_app (codes "diff")) (path_rule (codes "old"))) (path_rule (codes "new"))) (option_rule (codes "memo-old")))
+-- the paths of a text of CSV and of the table whose records come first
+abbrev pub with_csv_paths : App → App
+with_csv_paths app = with_rule (with_rule (with_rule app (path_rule (codes "csv"))) (required_rule (codes "into"))) (option_rule (codes "memo"))
+
+-- the path of a new table, and its date
+abbrev pub with_new_table_path : App → App
+with_new_table_path app = with_rule (with_rule app (required_rule (codes "out"))) (required_rule (codes "today"))
+
+abbrev pub load_app : App
+load_app = with_rule (with_rule (with_new_table_path (with_csv_paths (new_app (codes "load")))) (flag_rule (codes "cut"))) (flag_rule (codes "replace"))
+
+-- the paths of two tables, and of the files of their memos
+abbrev pub with_two_table_paths : App → App
+with_two_table_paths app =
+    with_rule (with_rule (with_rule (with_rule app (path_rule (codes "old"))) (path_rule (codes "new"))) (option_rule (codes "memo-old")))
     (option_rule (codes "memo-new"))
+
+abbrev pub diff_app : App
+diff_app = with_rule (with_two_table_paths (new_app (codes "diff"))) (option_rule (codes "key"))
+
+abbrev pub answers_app : App
+answers_app =
+    with_rule (with_rule (with_rule (new_app (codes "answers")) (path_rule (codes "script"))) (path_rule (codes "answers"))) (flag_rule (codes "refused"))
 
 -- the program, which wants a sub-command
 abbrev pub bare_app : App
@@ -68,7 +87,7 @@ shown_app =
 
 -- the program and its sub-commands
 abbrev pub tool_app : App
-tool_app = with_subcommand (with_subcommand shown_app make_app.top) diff_app.top
+tool_app = with_subcommand (with_subcommand (with_subcommand (with_subcommand shown_app make_app.top) load_app.top) diff_app.top) answers_app.top
 
 -- what the words of a command line ask for, of which the first is the program's name
 abbrev pub IsAskedIn : List Text → Asked → Type 0

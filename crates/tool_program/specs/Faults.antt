@@ -1,26 +1,32 @@
 -- Why a call of the program shows or checks nothing, or not all: of which file, the exit status, and what is said.
 use Rattle.std.specs.Prelude.{◌≡◌, ℕ, Bool, true, false, List, ◌++◌, codes, option_copied, unwrap_or}
-use Rattle.dbf_image.specs.declared.fault.ImageFault.{ImageFault}
-use Rattle.dbf_image.specs.declared.fault.ImageFault.TheVariants as image
 use Rattle.key_expr.specs.declared.fault.ExprFault.{ExprFault}
 use Rattle.key_expr.specs.declared.fault.ExprFault.TheVariants as expression
 use Rattle.ndx_index.specs.declared.fault.NdxFault.{NdxFault}
 use Rattle.ndx_index.specs.declared.fault.NdxFault.TheVariants as ndx
-use Rattle.folders.specs.declared.source.LoadFault.{LoadFault}
-use Rattle.folders.specs.declared.source.LoadFault.TheVariants as load
+use Rattle.table_reader.specs.declared.fault.TableReadFault.{TableReadFault}
+use Rattle.table_reader.specs.declared.fault.TableReadFault.TheVariants as read
+use Rattle.table_reader.specs.TableFiles.{is_image_no_memory, is_load_no_memory}
+use Rattle.table_text.specs.declared.fault.TextFault.{TextFault}
 use Rattle.table_text.specs.declared.fault.TextFault.TheVariants as text
+use Rattle.answer_pairs.specs.declared.fault.PairFault.TheVariants as pairs
+use Rattle.tool_program.specs.declared.pairing.AnswersFault.{AnswersFault}
+use Rattle.tool_program.specs.declared.pairing.AnswersFault.TheVariants as answers
 use Rattle.tool_program.specs.declared.checking.CheckFault.{CheckFault}
 use Rattle.tool_program.specs.declared.checking.CheckFault.TheVariants as check
+use Rattle.tool_program.specs.declared.comparing.CompareFault.{CompareFault}
+use Rattle.tool_program.specs.declared.comparing.CompareFault.TheVariants as compare
 use Rattle.tool_program.specs.declared.fault.ToolFault.{ToolFault}
 use Rattle.tool_program.specs.declared.fault.ToolFault.TheVariants as tool
-use Rattle.tool_program.specs.declared.options.Options.{Options}
+use Rattle.tool_program.specs.declared.asked.Options.{Options}
 use Rattle.tool_program.specs.declared.order.OrderFault.{OrderFault}
 use Rattle.tool_program.specs.declared.order.OrderFault.TheVariants as order
 use Rattle.tool_program.specs.declared.showing.ShowFault.{ShowFault}
 use Rattle.tool_program.specs.declared.showing.ShowFault.TheVariants as show
 use Rattle.program_frame.specs.Endings.{failure_status, failure_words}
+use Rattle.table_maker.specs.LoadFaults.{load_job_words, load_status}
 use Rattle.table_maker.specs.MakeFaults.{make_status, make_words}
-use Rattle.tool_program.specs.Reasons.{check_reason, show_reason}
+use Rattle.tool_program.specs.Reasons.{check_reason, key_reason, pair_reason, show_reason}
 
 -- ---- of which file
 
@@ -33,17 +39,7 @@ path_at_fault options (show.Table why) = options.table.now
 path_at_fault options (show.Order why) = unwrap_or (option_copied options.order) options.table.now
 path_at_fault options (show.Text why) = options.table.now
 
--- the fault is a want of memory: of a load,
-abbrev pub is_load_no_memory : LoadFault → Bool
-is_load_no_memory load.NoMemory = true
-is_load_no_memory why = false
-
--- of a table's files,
-abbrev pub is_image_no_memory : ImageFault → Bool
-is_image_no_memory image.NoMemory = true
-is_image_no_memory why = false
-
--- of an index file's bytes,
+-- the fault is a want of memory: of an index file's bytes,
 abbrev pub is_ndx_no_memory : NdxFault → Bool
 is_ndx_no_memory ndx.NoMemory = true
 is_ndx_no_memory why = false
@@ -79,6 +75,9 @@ IsToolFaultOf fault path (tool.Setup told why) = ⊥
 IsToolFaultOf fault path tool.Output = fault ≡ show.Text text.Sink
 IsToolFaultOf fault path tool.BadOut = ⊥
 IsToolFaultOf fault path (tool.Make why) = ⊥
+IsToolFaultOf fault path (tool.Pairs told why) = ⊥
+IsToolFaultOf fault path (tool.Key told why) = ⊥
+IsToolFaultOf fault path (tool.Load why) = ⊥
 
 -- the fault of a setup is told with its path
 abbrev pub IsSetupTold : CheckFault → Type 0
@@ -95,6 +94,37 @@ IsToolFaultOfSetup fault path (tool.Setup told why) = (told.now ≡ path) × (wh
 IsToolFaultOfSetup fault path tool.Output = fault ≡ check.Sink
 IsToolFaultOfSetup fault path tool.BadOut = ⊥
 IsToolFaultOfSetup fault path (tool.Make why) = ⊥
+IsToolFaultOfSetup fault path (tool.Pairs told why) = ⊥
+IsToolFaultOfSetup fault path (tool.Key told why) = ⊥
+IsToolFaultOfSetup fault path (tool.Load why) = ⊥
+
+-- what a fault of a text is told as
+abbrev pub IsToolFaultOfText : TextFault → ToolFault → Type 0
+IsToolFaultOfText text.Sink fault = fault ≡ tool.Output
+IsToolFaultOfText text.NoMemory fault = fault ≡ tool.NoMemory
+
+-- why a table is not read, as why it is not shown
+abbrev pub shown_fault : TableReadFault → ShowFault
+shown_fault (read.Load why) = show.Load why
+shown_fault (read.Memos why) = show.Memos why
+shown_fault (read.NoTable why) = show.Table why
+
+-- what a fault of comparing two tables is told as
+abbrev pub IsToolFaultOfDiff : CompareFault → ToolFault → Type 0
+IsToolFaultOfDiff (compare.Table path why) fault = IsToolFaultOf (shown_fault why) path.now fault
+IsToolFaultOfDiff (compare.Key path expression.NoMemory) fault = fault ≡ tool.NoMemory
+IsToolFaultOfDiff (compare.Key path why) (tool.Key told said) = (told.now ≡ path.now) × (said ≡ why)
+IsToolFaultOfDiff (compare.Key path why) fault = ⊥
+IsToolFaultOfDiff (compare.Text why) fault = IsToolFaultOfText why fault
+
+-- what a fault of showing a script with its answers is told as, where this is the path of the answer file
+abbrev pub IsToolFaultOfAnswers : AnswersFault → List ℕ → ToolFault → Type 0
+IsToolFaultOfAnswers (answers.Load file why) path fault = IsToolFaultOf (show.Load why) file.now fault
+IsToolFaultOfAnswers (answers.Pairs pairs.NoMemory) path fault = fault ≡ tool.NoMemory
+IsToolFaultOfAnswers (answers.Pairs why) path (tool.Pairs told said) = (told.now ≡ path) × (said ≡ why)
+IsToolFaultOfAnswers (answers.Pairs why) path fault = ⊥
+IsToolFaultOfAnswers answers.NoMemory path fault = fault ≡ tool.NoMemory
+IsToolFaultOfAnswers answers.Sink path fault = fault ≡ tool.Output
 
 -- ---- the exit status, and what is said
 
@@ -107,6 +137,9 @@ tool_status (tool.Setup path why) = 2
 tool_status tool.Output = 4
 tool_status tool.BadOut = 1
 tool_status (tool.Make why) = failure_status make_status why
+tool_status (tool.Pairs path why) = 2
+tool_status (tool.Key path why) = 2
+tool_status (tool.Load why) = failure_status load_status why
 
 -- why nothing is shown or checked, or not all; of a file, its path and why
 abbrev pub tool_words : ToolFault → List ℕ
@@ -117,3 +150,6 @@ tool_words (tool.Setup path why) = path.now ++ (codes ": " ++ check_reason path.
 tool_words tool.Output = codes "the output failed"
 tool_words tool.BadOut = codes "--out wants a name that ends with .DBF or .dbf"
 tool_words (tool.Make why) = failure_words make_words why
+tool_words (tool.Pairs path why) = path.now ++ (codes ": " ++ pair_reason why)
+tool_words (tool.Key path why) = path.now ++ (codes ": " ++ key_reason why)
+tool_words (tool.Load why) = failure_words load_job_words why

@@ -6,9 +6,11 @@ pub mod Range
 pub mod Options
 pub mod Command
 pub mod IndexTree
-pub mod Memos
 pub mod Reasons
 pub mod Faults
 pub mod TableMade
+pub mod TableLoaded
 pub mod Comparison
+pub mod Pairing
 pub mod Answers
+pub mod RunAnswers

@@ -7,14 +7,16 @@ use Rattle.program_frame.specs.CommandLine.{IsFlag}
 use Rattle.table_text.specs.declared.memo_form.MemoForm.{MemoForm}
 use Rattle.table_text.specs.declared.memo_form.MemoForm.TheVariants.{FirstLine, Whole}
 use Rattle.table_text.specs.declared.selection.Selection.{Selection}
-use Rattle.tool_program.specs.declared.options.Asked.{Asked}
-use Rattle.tool_program.specs.declared.options.Asked.TheVariants.{Show, Check, Tree, Make, Diff}
-use Rattle.tool_program.specs.declared.options.CheckOptions.{CheckOptions}
-use Rattle.tool_program.specs.declared.options.DiffOptions.{DiffOptions}
-use Rattle.tool_program.specs.declared.options.MakeOptions.{MakeOptions}
-use Rattle.tool_program.specs.declared.options.Options.{Options}
-use Rattle.tool_program.specs.declared.options.View.{View}
-use Rattle.tool_program.specs.declared.options.View.TheVariants.{Records, Csv, Fields}
+use Rattle.tool_program.specs.declared.asked.Asked.{Asked}
+use Rattle.tool_program.specs.declared.asked.Asked.TheVariants.{Show, Check, Tree, Make, Load, Diff, Answers}
+use Rattle.tool_program.specs.declared.asked.CheckOptions.{CheckOptions}
+use Rattle.tool_program.specs.declared.asked.AnswersOptions.{AnswersOptions}
+use Rattle.tool_program.specs.declared.asked.DiffOptions.{DiffOptions}
+use Rattle.tool_program.specs.declared.asked.LoadOptions.{LoadOptions}
+use Rattle.tool_program.specs.declared.asked.MakeOptions.{MakeOptions}
+use Rattle.tool_program.specs.declared.asked.Options.{Options}
+use Rattle.tool_program.specs.declared.asked.View.{View}
+use Rattle.tool_program.specs.declared.asked.View.TheVariants.{Records, Csv, Fields}
 use Rattle.tool_program.specs.declared.range.TheConstants.{MAX_RECORD_NUMBER}
 use Rattle.tool_program.specs.Range.{range_in}
 
@@ -70,25 +72,45 @@ pub record IsOfMake (rows : List Row) (options : MakeOptions) : Type 0 where
   pub today : first_of (codes "today") rows ≡ Some options.today.now
   pub replace : IsFlag rows (codes "replace") options.replace
 
+-- what is asked for of records that are loaded
+pub record IsOfLoad (rows : List Row) (options : LoadOptions) : Type 0 where
+  pub csv : first_of (codes "csv") rows ≡ Some options.csv.now
+  pub table : first_of (codes "into") rows ≡ Some options.table.now
+  pub memos : first_of (codes "memo") rows ≡ option_copied options.memos
+  pub out : first_of (codes "out") rows ≡ Some options.out.now
+  pub today : first_of (codes "today") rows ≡ Some options.today.now
+  pub cut : IsFlag rows (codes "cut") options.cut
+  pub replace : IsFlag rows (codes "replace") options.replace
+
 -- what is asked for of two tables that are compared
 pub record IsOfDiff (rows : List Row) (options : DiffOptions) : Type 0 where
   pub old_table : first_of (codes "old") rows ≡ Some options.old_table.now
   pub new_table : first_of (codes "new") rows ≡ Some options.new_table.now
   pub old_memos : first_of (codes "memo-old") rows ≡ option_copied options.old_memos
   pub new_memos : first_of (codes "memo-new") rows ≡ option_copied options.new_memos
+  pub key : first_of (codes "key") rows ≡ option_copied options.key
+
+-- what is asked for of a script with its answers
+pub record IsOfAnswers (rows : List Row) (options : AnswersOptions) : Type 0 where
+  pub script : first_of (codes "script") rows ≡ Some options.script.now
+  pub answers : first_of (codes "answers") rows ≡ Some options.answers.now
+  pub refused : IsFlag rows (codes "refused") options.refused_only
 
 -- the name is that of a sub-command that shows a table: none of the others
 abbrev pub IsOfShow : Text → Type 0
-IsOfShow name = (name ≢ codes "check") × (name ≢ codes "tree") × (name ≢ codes "make") × (name ≢ codes "diff")
+IsOfShow name =
+    (name ≢ codes "check") × (name ≢ codes "tree") × (name ≢ codes "make") × (name ≢ codes "load") × (name ≢ codes "diff") × (name ≢ codes "answers")
 
 -- what a sub-command of this name, with these options, asks for: `check` of a setup, `tree` of an index, `make` of a table that is made,
--- `diff` of two tables, any other of a table
+-- `load` of records that are loaded, `diff` of two tables, `answers` of a script, any other of a table
 abbrev pub IsAskedBy : Text → List Row → Asked → Type 0
 IsAskedBy name rows (Show options) = IsOfShow name × IsOfTable name rows options
 IsAskedBy name rows (Check options) = (name ≡ codes "check") × IsOfSetup rows options
 IsAskedBy name rows (Tree index) = (name ≡ codes "tree") × (first_of (codes "index") rows ≡ Some index.now)
 IsAskedBy name rows (Make options) = (name ≡ codes "make") × IsOfMake rows options
+IsAskedBy name rows (Load options) = (name ≡ codes "load") × IsOfLoad rows options
 IsAskedBy name rows (Diff options) = (name ≡ codes "diff") × IsOfDiff rows options
+IsAskedBy name rows (Answers options) = (name ≡ codes "answers") × IsOfAnswers rows options
 
 -- what a command line asks for, of which this is the sub-command
 abbrev pub IsAskedOf : Option (Text × List Row) → Asked → Type 0
@@ -109,9 +131,18 @@ abbrev pub first_of_two : Option Text → Option Text → Option Text
 first_of_two (Some first) (Some second) = Some first
 first_of_two first second = None
 
+-- the path of the text of CSV, where those of both tables and the date are there, too
+abbrev pub loaded_text : List Row → Option Text
+loaded_text rows =
+    first_of_two (first_of (codes "csv") rows) (first_of_three (first_of (codes "into") rows) (first_of (codes "out") rows) (first_of (codes "today") rows))
+
 -- the path of the old table, where that of the new one is there, too
 abbrev pub compared_table : List Row → Option Text
 compared_table rows = first_of_two (first_of (codes "old") rows) (first_of (codes "new") rows)
+
+-- the path of the script, where that of the answer file is there, too
+abbrev pub answered_script : List Row → Option Text
+answered_script rows = first_of_two (first_of (codes "script") rows) (first_of (codes "answers") rows)
 
 -- the path that a sub-command has to have
 abbrev pub path_of : Text → List Row → Option Text
@@ -119,7 +150,9 @@ path_of name rows =
     if bytes_eq name (codes "check") then first_of (codes "setup") rows
     else if bytes_eq name (codes "tree") then first_of (codes "index") rows
     else if bytes_eq name (codes "make") then made_list rows
+    else if bytes_eq name (codes "load") then loaded_text rows
     else if bytes_eq name (codes "diff") then compared_table rows
+    else if bytes_eq name (codes "answers") then answered_script rows
     else first_of (codes "table") rows
 
 -- the sub-command has its path, as `clap` sees to it

@@ -16,7 +16,7 @@ use Rattle.folders.specs.declared.named.NamedFile.{NamedFile}
 use Rattle.folders.specs.Files.{IsFileOf}
 use Rattle.tool_program.specs.declared.order.OrderFault.{OrderFault}
 use Rattle.tool_program.specs.declared.order.OrderFault.TheVariants.{Load, Index, Expression, Stale, NoMemory}
-use Rattle.tool_program.specs.Memos.{IsWhyUnread}
+use Rattle.table_reader.specs.Memos.{IsWhyUnread}
 
 -- keys of this length, in these pairs, are those of the table by the expression: each record's pair as often as it is there
 pub record AreKeysOf (table : Table) (e : Expr) (key_len : ℕ) (pairs : List Pair) : Type 0 where

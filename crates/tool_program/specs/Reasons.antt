@@ -2,13 +2,15 @@
 use Rattle.std.specs.Prelude.{ℕ, List, ◌++◌, codes, Some, None}
 use Rattle.std.specs.Fmt.{decimal}
 use Rattle.dbf_image.specs.FaultWords.{image_name, image_words}
+use Rattle.key_expr.specs.declared.fault.ExprFault.{ExprFault}
 use Rattle.key_expr.specs.FaultWords.{expression_name, expression_words}
 use Rattle.ndx_index.specs.FaultWords.{ndx_name, ndx_words}
-use Rattle.folders.specs.Paths.{folder_of_path}
-use Rattle.folders.specs.declared.source.LoadFault.{LoadFault}
 use Rattle.folders.specs.declared.source.LoadFault.TheVariants as load
+use Rattle.table_reader.specs.TableFiles.{load_words}
 use Rattle.table_text.specs.declared.fault.TextFault.{TextFault}
 use Rattle.table_text.specs.declared.fault.TextFault.TheVariants as text
+use Rattle.answer_pairs.specs.declared.fault.PairFault.{PairFault}
+use Rattle.answer_pairs.specs.declared.fault.PairFault.TheVariants as pairs
 use Rattle.tool_program.specs.declared.checking.CheckFault.{CheckFault}
 use Rattle.tool_program.specs.declared.checking.CheckFault.TheVariants as check
 use Rattle.tool_program.specs.declared.order.OrderFault.{OrderFault}
@@ -19,19 +21,13 @@ use Rattle.tool_program.specs.declared.showing.ShowFault.TheVariants as show
 abbrev pub no_memory_words : List ℕ
 no_memory_words = codes "out of memory"
 
--- why the file of a path was not loaded; where its folder is not recovered, also what to do
-abbrev pub load_reason : List ℕ → LoadFault → List ℕ
-load_reason path load.CannotRead = codes "cannot read"
-load_reason path load.Unrecovered = codes "the folder is not recovered: start with --out " ++ folder_of_path path
-load_reason path load.NoMemory = no_memory_words
-
 -- a fault by its name, and what it says
 abbrev pub named_reason : List ℕ → List ℕ → List ℕ
 named_reason name words = name ++ (codes ": " ++ words)
 
 -- why records can't be shown in the order of the index file of a path
 abbrev pub order_reason : List ℕ → OrderFault → List ℕ
-order_reason path (order.Load why) = load_reason path why
+order_reason path (order.Load why) = load_words path why
 order_reason path (order.Index why) = named_reason (ndx_name why) (ndx_words why)
 order_reason path (order.Expression why) = codes "its key expression is not one for the table: " ++ named_reason (expression_name why) (expression_words why)
 order_reason path order.Stale = codes "the index is stale: its keys are not those of the table's records"
@@ -43,17 +39,27 @@ text_reason text.NoMemory = no_memory_words
 
 -- why the file of a path, or its table, is not shown
 abbrev pub show_reason : List ℕ → ShowFault → List ℕ
-show_reason path (show.Load why) = load_reason path why
-show_reason path (show.Memos why) = load_reason path why
+show_reason path (show.Load why) = load_words path why
+show_reason path (show.Memos why) = load_words path why
 show_reason path (show.Table why) = named_reason (image_name why) (image_words why)
 show_reason path (show.Order why) = order_reason path why
 show_reason path (show.Text why) = text_reason why
 
 -- why the setup of a path is not checked
 abbrev pub check_reason : List ℕ → CheckFault → List ℕ
-check_reason path check.CannotRead = load_reason path load.CannotRead
-check_reason path check.Unrecovered = load_reason path load.Unrecovered
+check_reason path check.CannotRead = load_words path load.CannotRead
+check_reason path check.Unrecovered = load_words path load.Unrecovered
 check_reason path (check.BadLine number None) = codes "setup line " ++ (decimal number ++ codes " is bad")
 check_reason path (check.BadLine number (Some told)) = told
 check_reason path check.NoMemory = no_memory_words
 check_reason path check.Sink = text_reason text.Sink
+
+-- why an answer file is not paired with a script
+abbrev pub pair_reason : PairFault → List ℕ
+pair_reason pairs.NotTogether = codes "these are no answers to this script"
+pair_reason pairs.TwoWays = codes "a text of several lines can end in two places"
+pair_reason pairs.NoMemory = no_memory_words
+
+-- why the text of `--key` is no key expression for a table
+abbrev pub key_reason : ExprFault → List ℕ
+key_reason why = codes "--key is no key expression for the table: " ++ named_reason (expression_name why) (expression_words why)

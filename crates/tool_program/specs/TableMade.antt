@@ -11,10 +11,11 @@ use Rattle.table_maker.specs.declared.fault.MakeFault.{MakeFault}
 use Rattle.table_maker.specs.declared.fault.MakeFault.TheVariants as make
 use Rattle.table_maker.specs.declared.job.MakeJob.{MakeJob}
 use Rattle.table_maker.specs.Making.{table_extension}
-use Rattle.table_maker.specs.Placing.{AreFilesOfJob, HasMadeInto, IsFreeOfTable, IsInTheWay, IsUnmadeInto}
+use Rattle.table_maker.specs.MadeTable.{AreFilesOfJob, IsFreeOfTable, IsUnmadeInto}
+use Rattle.table_maker.specs.Placing.{HasMadeInto, IsInTheWay}
 use Rattle.tool_program.specs.declared.fault.ToolFault.{ToolFault}
 use Rattle.tool_program.specs.declared.fault.ToolFault.TheVariants as tool
-use Rattle.tool_program.specs.declared.options.MakeOptions.{MakeOptions}
+use Rattle.tool_program.specs.declared.asked.MakeOptions.{MakeOptions}
 
 -- the name at the end of a path is this stem and the extension of a table
 abbrev pub IsStemOf : List ℕ → List ℕ → Bool → Type 0

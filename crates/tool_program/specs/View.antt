@@ -1,9 +1,7 @@
 -- What of a table is shown.
 use Rattle.std.specs.Prelude.{◌≡◌, ◌≤◌, ◌↔◌, ℕ, List, length, Option, IfSome, IsSome, option_copied}
 use Rattle.dbf_fields.specs.declared.day.Day.{Day}
-use Rattle.dbf_image.specs.declared.fault.ImageFault.{ImageFault}
 use Rattle.dbf_image.specs.DbfText.{IsDbf}
-use Rattle.dbf_image.specs.Reading.{IsImageRefusal}
 use Rattle.dbf_image.specs.Table.{Table}
 use Rattle.byte_io.specs.Sink.{grown}
 use Rattle.folders.specs.declared.named.NamedFile.{NamedFile}
@@ -11,14 +9,14 @@ use Rattle.folders.specs.Files.{IsFileOf}
 use Rattle.table_text.specs.Csv.{csv_text}
 use Rattle.table_text.specs.Records.{records_text}
 use Rattle.table_text.specs.Structure.{fields_text, IsHeaderDate, TellsDay}
-use Rattle.tool_program.specs.Memos.{IsLookedFor, IsMemoFile, IsMemosFault, IsMissingBeside, IsNotHad}
+use Rattle.table_reader.specs.Memos.{IsLookedFor, IsMemoFile, IsMemosFault, IsNotHad}
 use Rattle.tool_program.specs.Order.{IsGivenOrderFault, IsOrder}
-use Rattle.tool_program.specs.declared.options.Options.{Options}
+use Rattle.tool_program.specs.declared.asked.Options.{Options}
 use Rattle.tool_program.specs.declared.order.OrderFault.{OrderFault}
 use Rattle.tool_program.specs.declared.showing.ShowFault.{ShowFault}
 use Rattle.tool_program.specs.declared.showing.ShowFault.TheVariants.{Memos, Text}
-use Rattle.tool_program.specs.declared.options.View.{View}
-use Rattle.tool_program.specs.declared.options.View.TheVariants.{Records, Csv, Fields}
+use Rattle.tool_program.specs.declared.asked.View.{View}
+use Rattle.tool_program.specs.declared.asked.View.TheVariants.{Records, Csv, Fields}
 
 -- the text of a table that was asked for, its records in this order
 abbrev pub view_text : Table → Option Day → Option (List ℕ) → View → List ℕ
@@ -51,16 +49,6 @@ pub record IsShown (files : Option (List NamedFile)) (options : Options) (old ne
   pub is : IsDbf dbf dbt table
   pub ordered : IsOrder files (option_copied options.order) (option_copied options.from) table order
   pub wrote : new ≡ grown old (view_text table date order options.view)
-
--- The files of these paths are no table for this: the fault is that of the table's file and of the file of memos that it is read with,
--- which is that of a path, where one is given.
-pub record IsNoTable (files : Option (List NamedFile)) (unread : List ℕ → Type 0) (path : List ℕ) (memos : Option (List ℕ)) (fault : ImageFault) : Type 0 where
-  pub dbf : List ℕ
-  pub dbt : Option (List ℕ)
-  pub table_file : IsFileOf files path dbf
-  pub memo_file : IsMemoFile files path dbf memos dbt
-  pub missing : IsMissingBeside unread path dbf memos dbt
-  pub refused : IsImageRefusal fault dbf dbt
 
 -- The table of these files can't be shown in the order of the index file whose path the options give, for this fault of that file. No
 -- load had failed before it was looked for, but that of a file of memos beside the table.

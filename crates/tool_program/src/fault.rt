@@ -3,15 +3,17 @@
 ghost use Rattle.std.specs.Prelude.{◌++◌, codes, OnOk};
 ghost use Rattle.std.specs.Io.KnownBytes.{Appends};
 ghost use Rattle.tool_program.specs.Faults.{tool_status, tool_words as words_of_tool};
-ghost use Rattle.tool_program.specs.Reasons.{check_reason, show_reason};
+ghost use Rattle.tool_program.specs.Reasons.{check_reason, key_reason, pair_reason, show_reason};
 
 use crate::checking::CheckFault;
-use crate::reason::{print_check_reason, print_show_reason};
+use crate::reason::{print_check_reason, print_key_reason, print_pair_reason, print_show_reason};
 use crate::showing::ShowFault;
+use answer_pairs::PairFault;
+use key_expr::ExprFault;
 use program_frame::{Failure, Reason};
 use std::io;
 use std::io::Write;
-use table_maker::MakeFault;
+use table_maker::{LoadJobFault, MakeFault};
 
 /// Why a call of the program did not show, check or make what it was asked for, or not all.
 #[derive(Debug, PartialEq, Eq, Drop)]
@@ -30,6 +32,12 @@ pub enum ToolFault<'a> {
     BadOut,
     /// The table is not made.
     Make(Failure<MakeFault<'a>>),
+    /// The records of a text of CSV are not loaded.
+    Load(Failure<LoadJobFault<'a>>),
+    /// The answer file of this path is not paired with the script.
+    Pairs(&'a str, PairFault),
+    /// The text of `--key` is no key expression for the table of this path.
+    Key(&'a str, ExprFault),
 }
 
 impl Reason for ToolFault<'_> {
@@ -52,6 +60,9 @@ impl Reason for ToolFault<'_> {
             ToolFault::Output => 4,
             ToolFault::BadOut => 1,
             ToolFault::Make(fault) => fault.exit_status(),
+            ToolFault::Load(fault) => fault.exit_status(),
+            ToolFault::Pairs(_, _) => 2,
+            ToolFault::Key(_, _) => 2,
         }
     }
 
@@ -76,6 +87,9 @@ fn print_fault<W: Write>(out: &mut W, fault: &ToolFault<'_>) -> io::Result<()>
         ToolFault::Output => out.write_all(b"the output failed"),
         ToolFault::BadOut => out.write_all(b"--out wants a name that ends with .DBF or .dbf"),
         ToolFault::Make(fault) => fault.print(out),
+        ToolFault::Load(fault) => fault.print(out),
+        ToolFault::Pairs(path, fault) => print_pairs(out, path, *fault),
+        ToolFault::Key(path, fault) => print_key(out, path, *fault),
     }
 }
 
@@ -94,5 +108,23 @@ fn print_setup<W: Write>(out: &mut W, path: &str, fault: &CheckFault) -> io::Res
     out.write_all(path.as_bytes())?;
     out.write_all(b": ")?;
     print_check_reason(out, path, fault)?;
+    Ok(())
+}
+
+fn print_pairs<W: Write>(out: &mut W, path: &str, fault: PairFault) -> io::Result<()>
+    ensures text { OnOk result (Appends (W.contents out.old) (W.contents out.new) (path.now ++ (codes ": " ++ pair_reason fault))) }
+{
+    out.write_all(path.as_bytes())?;
+    out.write_all(b": ")?;
+    print_pair_reason(out, fault)?;
+    Ok(())
+}
+
+fn print_key<W: Write>(out: &mut W, path: &str, fault: ExprFault) -> io::Result<()>
+    ensures text { OnOk result (Appends (W.contents out.old) (W.contents out.new) (path.now ++ (codes ": " ++ key_reason fault))) }
+{
+    out.write_all(path.as_bytes())?;
+    out.write_all(b": ")?;
+    print_key_reason(out, fault)?;
     Ok(())
 }

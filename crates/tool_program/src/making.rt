@@ -1,18 +1,19 @@
 //! A table that is made from a list of its fields.
 
-ghost use Rattle.std.specs.Prelude.{◌≡◌, IfErr, IfOk, IfSome, IsErrOf};
+ghost use Rattle.std.specs.Prelude.{◌≡◌, IfErr, IfOk, IsErrOf};
 ghost use Rattle.program_frame.specs.declared.ending.Failure.TheVariants.{Work as OfWork};
 ghost use Rattle.table_maker.specs.declared.fault.MakeFault.TheVariants.{Exists};
 ghost use Rattle.folders.specs.Paths.{folder_of_path};
 ghost use Rattle.tool_program.specs.TableMade.{told_of, IsBadMake, IsJobOf, IsPlacedBy, IsTakenBy, IsWhyNoTableMade};
 
+use crate::asked::MakeOptions;
 use crate::fault::ToolFault;
-use crate::options::MakeOptions;
+use crate::placing::place_table;
 use crate::report::ToolReport;
-use folders::{Source, file_name, folder_of};
-use program_frame::{Failure, FolderFault, System, date_of};
+use folders::{Source, file_name};
+use program_frame::{Failure, System, date_of};
 use std::alloc::Global;
-use table_maker::{MakeFault, MakeJob, make_into, stem_of};
+use table_maker::{MakeFault, MakeJob, stem_of};
 
 // The work that makes the table of a command line.
 fn job_of<'a>(options: &MakeOptions<'a>) -> Result<MakeJob<'a>, ToolFault<'a>>
@@ -53,16 +54,6 @@ fn not_made(why: Failure<MakeFault<'_>>) -> ToolFault<'_>
     }
 }
 
-// The folder that the file of a path lies in. `None` where its path is no text.
-fn folder_text(path: &str) -> Option<&str>
-    ensures value { IfSome result (λ folder. folder.now ≡ folder_of_path path.now) }
-{
-    match str::from_utf8(folder_of(path.as_bytes())) {
-        Ok(folder) => Some(folder),
-        Err(_) => None,
-    }
-}
-
 /// Makes the table of a command line, in the folder that its path is in.
 ///
 /// `BadOut` where its name ends with neither `.DBF` nor `.dbf`, `NoMemory` where memory is refused; else `Make` says why it is not made.
@@ -80,20 +71,7 @@ pub(crate) fn make_table<'a, F: Source, Y: System>(
     ensures kept { F.files source.new ≡ F.files source.old }
 {
     let job = job_of(options)?;
-    let Some(folder) = folder_text(options.out) else {
-        return Err(ToolFault::Make(Failure::Folder(FolderFault::Unopened)));
-    };
-    // The work says nothing meanwhile.
-    let mut said: Vec<u8> = Vec::new(alloc);
-    match make_into(
-        alloc,
-        &job,
-        options.replace,
-        source,
-        system,
-        folder,
-        &mut said,
-    ) {
+    match place_table(alloc, &job, options.replace, source, system, options.out) {
         Ok(_) => Ok(ToolReport::Good),
         Err(why) => Err(not_made(why)),
     }

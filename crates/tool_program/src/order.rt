@@ -5,7 +5,7 @@ ghost use Rattle.ndx_index.specs.Order.{reaches as reaches_text};
 ghost use Rattle.table_order.specs.TableOrder.{order as order_of};
 ghost use Rattle.table_core.specs.Content.{order_at};
 ghost use Rattle.folders.specs.Files.{load_refusal};
-ghost use Rattle.tool_program.specs.Memos.{IsNotHad};
+ghost use Rattle.table_reader.specs.Memos.{IsNotHad};
 ghost use Rattle.tool_program.specs.Order.{numbers_from as numbers_of_pairs, AreKeysOf, IsOrderFault, IsOrderOf, IsReadFault, IsTestedFirst};
 
 use byte_io::Bytes;

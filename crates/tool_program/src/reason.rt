@@ -1,17 +1,19 @@
 //! Why a file can't be shown, or a setup not checked, in words.
 
-ghost use Rattle.std.specs.Prelude.{◌≡◌, ◌++◌, OnOk};
+ghost use Rattle.std.specs.Prelude.{◌≡◌, OnOk};
 ghost use Rattle.std.specs.Io.KnownBytes.{Appends};
 ghost use Rattle.key_expr.specs.FaultWords.{expression_name, expression_words};
-ghost use Rattle.tool_program.specs.Reasons.{check_reason, load_reason, named_reason, order_reason, show_reason, text_reason as reason_of_text};
+ghost use Rattle.tool_program.specs.Reasons.{check_reason, key_reason, named_reason, order_reason, pair_reason, show_reason, text_reason as reason_of_text};
 
 use crate::checking::CheckFault;
 use crate::order::OrderFault;
 use crate::showing::ShowFault;
-use folders::{LoadFault, folder_of};
+use answer_pairs::PairFault;
+use folders::LoadFault;
 use key_expr::ExprFault;
 use std::io;
 use std::io::Write;
+use table_reader::print_load;
 use table_text::TextFault;
 
 fn text_reason(fault: TextFault) -> &'static [u8]
@@ -35,33 +37,6 @@ fn print_expression<W: Write>(err: &mut W, fault: ExprFault) -> io::Result<()>
 {
     let name = fault.name();
     write!(err, "{name}: {fault}")
-}
-
-// Why the file of a path was not loaded, and what to do where its folder is not recovered.
-fn print_load<W: Write>(err: &mut W, path: &str, fault: LoadFault) -> io::Result<()>
-    ensures text { OnOk result (Appends (W.contents err.old) (W.contents err.new) (load_reason path.now fault)) }
-{
-    match fault {
-        LoadFault::CannotRead => err.write_all(b"cannot read"),
-        LoadFault::Unrecovered => {
-            let folder = folder_of(path.as_bytes());
-            print_both(
-                err,
-                b"the folder is not recovered: start with --out ",
-                folder,
-            )
-        }
-        LoadFault::NoMemory => err.write_all(b"out of memory"),
-    }
-}
-
-// Prints a text and one after it.
-fn print_both<W: Write>(err: &mut W, first: &[u8], second: &[u8]) -> io::Result<()>
-    ensures text { OnOk result (Appends (W.contents err.old) (W.contents err.new) (first.now ++ second.now)) }
-{
-    err.write_all(first)?;
-    err.write_all(second)?;
-    Ok(())
 }
 
 // That the text of an index is no key expression for its table, and why.
@@ -120,4 +95,24 @@ pub(crate) fn print_check_reason<W: Write>(
         CheckFault::NoMemory => err.write_all(b"out of memory"),
         CheckFault::Sink => err.write_all(b"the sink failed"),
     }
+}
+
+/// Prints why an answer file is not paired with a script. Takes no memory. An error where a write fails.
+pub(crate) fn print_pair_reason<W: Write>(err: &mut W, fault: PairFault) -> io::Result<()>
+    ensures text { OnOk result (Appends (W.contents err.old) (W.contents err.new) (pair_reason fault)) }
+{
+    match fault {
+        PairFault::NotTogether => err.write_all(b"these are no answers to this script"),
+        PairFault::TwoWays => err.write_all(b"a text of several lines can end in two places"),
+        PairFault::NoMemory => err.write_all(b"out of memory"),
+    }
+}
+
+/// Prints why the text of `--key` is no key expression for a table. Takes no memory. An error where a write fails.
+pub(crate) fn print_key_reason<W: Write>(err: &mut W, fault: ExprFault) -> io::Result<()>
+    ensures text { OnOk result (Appends (W.contents err.old) (W.contents err.new) (key_reason fault)) }
+{
+    err.write_all(b"--key is no key expression for the table: ")?;
+    print_expression(err, fault)?;
+    Ok(())
 }

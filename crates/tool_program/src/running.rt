@@ -1,154 +1,37 @@
-//! A call of the program: what its command line asks for is shown, checked, compared or made, and how that ended.
+//! A call of the program: what its command line asks for is shown, checked, compared, made or loaded, and how that ended.
 
-ghost use Rattle.std.specs.Prelude.{◌≡◌, map, true, false, Err, Ok, Some, IfErr, IfOk, IsErrAnd, IsErrOf, OnOk};
+ghost use Rattle.std.specs.Prelude.{◌≡◌, map, true, false, Err, Ok, Some, IfErr, IfOk, IsErrAnd, IsErrOf};
 ghost use Rattle.program_frame.specs.declared.ending.Failure.TheVariants.{Work as OfWork};
 ghost use Rattle.table_maker.specs.declared.fault.MakeFault.TheVariants.{Exists};
+ghost use Rattle.table_maker.specs.declared.load_fault.LoadJobFault.TheVariants.{Exists as IsThere};
 ghost use Rattle.byte_io.specs.Sink.{IsFront, Rises};
 ghost use Rattle.folders.specs.Files.{load_refusal};
 ghost use Rattle.tool_program.specs.Check.{check_load_fault, AreCheckLoads};
-ghost use Rattle.tool_program.specs.Memos.{IsNotHad};
+ghost use Rattle.table_reader.specs.Memos.{IsNotHad};
 ghost use Rattle.tool_program.specs.Answers.{asked_refusal, IsAnswered, IsAnsweredTo, IsCheckedAs, IsShownAs, IsTreeShownAs, IsToldUnloaded};
 ghost use Rattle.tool_program.specs.Answers.{IsWhyUnanswered, IsWhyUnchecked, IsWhyUnshown, IsWhyNoTree, IsWhyNotDone};
-ghost use Rattle.tool_program.specs.Answers.{IsComparedAs, IsPlacedIn, IsPlacedTo, IsTakenIn, IsTakenTo, IsWhyNoDiff};
-ghost use Rattle.tool_program.specs.Faults.{path_at_fault, IsToolFaultOf, IsToolFaultOfSetup};
-ghost use Rattle.tool_program.specs.Faults.{is_no_memory as is_want_of_memory, is_load_no_memory as is_want_of_load, is_image_no_memory as is_want_of_image};
-ghost use Rattle.tool_program.specs.Faults.{is_ndx_no_memory as is_want_of_ndx, is_expression_no_memory as is_want_of_expression};
-ghost use Rattle.tool_program.specs.Faults.{is_order_no_memory as is_want_of_order};
+ghost use Rattle.tool_program.specs.Answers.{IsComparedAs, IsPairedAs, IsPlacedIn, IsPlacedTo, IsTakenIn, IsTakenTo, IsLoadTakenIn, IsLoadTakenTo};
+ghost use Rattle.tool_program.specs.Answers.{IsWhyNoAnswers, IsWhyNoDiff};
+ghost use Rattle.tool_program.specs.Faults.{IsToolFaultOf, IsToolFaultOfSetup};
 
-use crate::checking::{CheckFault, check_setup};
+use crate::asked::{AnswersOptions, Asked, CheckOptions, DiffOptions, Options};
+use crate::checking::check_setup;
 use crate::comparing::compare_tables;
+use crate::csv_loading::load_records;
+use crate::ending::{faulty_path, no_answers, not_checked, not_compared, not_shown};
 use crate::fault::ToolFault;
 use crate::indexing::show_tree;
 use crate::making::make_table;
-use crate::options::{Asked, CheckOptions, DiffOptions, Options, read_options};
-use crate::order::OrderFault;
+use crate::options::read_options;
+use crate::pairing::show_answers;
 use crate::report::ToolReport;
 use crate::showing::{ShowFault, show_file};
 use crate::stream::MayClose;
 use byte_io::ByteSink;
-use dbf_image::ImageFault;
 use folders::{LoadFault, Source};
-use key_expr::ExprFault;
-use ndx_index::NdxFault;
 use program_frame::{Ending, System};
 use std::alloc::Global;
 use std::convert::AsStr;
-use table_text::TextFault;
-
-// Whether a fault of a load is a want of memory.
-fn is_load_no_memory(why: LoadFault) -> bool
-    ensures value { result ≡ is_want_of_load why }
-{
-    matches!(why, LoadFault::NoMemory)
-}
-
-// Whether a fault of a table's files is one.
-fn is_image_no_memory(why: ImageFault) -> bool
-    ensures value { result ≡ is_want_of_image why }
-{
-    matches!(why, ImageFault::NoMemory)
-}
-
-// Whether a fault of an index file's bytes is one.
-fn is_ndx_no_memory(why: NdxFault) -> bool
-    ensures value { result ≡ is_want_of_ndx why }
-{
-    matches!(why, NdxFault::NoMemory)
-}
-
-// Whether a fault of a key expression is one.
-fn is_expression_no_memory(why: ExprFault) -> bool
-    ensures value { result ≡ is_want_of_expression why }
-{
-    matches!(why, ExprFault::NoMemory)
-}
-
-// Whether a fault of an index is one.
-fn is_order_no_memory(why: OrderFault) -> bool
-    ensures value { result ≡ is_want_of_order why }
-{
-    match why {
-        OrderFault::Load(why) => is_load_no_memory(why),
-        OrderFault::Index(why) => is_ndx_no_memory(why),
-        OrderFault::Expression(why) => is_expression_no_memory(why),
-        OrderFault::Stale => false,
-        OrderFault::NoMemory => true,
-    }
-}
-
-// Whether a fault is one.
-fn is_no_memory(fault: ShowFault) -> bool
-    ensures value { result ≡ is_want_of_memory fault }
-{
-    match fault {
-        ShowFault::Load(why) => is_load_no_memory(why),
-        ShowFault::Memos(why) => is_load_no_memory(why),
-        ShowFault::Table(why) => is_image_no_memory(why),
-        ShowFault::Order(why) => is_order_no_memory(why),
-        ShowFault::Text(TextFault::NoMemory) => true,
-        ShowFault::Text(TextFault::Sink) => false,
-    }
-}
-
-// The path of the index or of the file of memos, where the fault is one of it, and else of the table.
-fn faulty_path<'a>(options: &Options<'a>, fault: ShowFault) -> &'a str
-    ensures value { result.now ≡ path_at_fault options.now fault }
-{
-    match fault {
-        ShowFault::Order(_) => options.order.unwrap_or(options.table),
-        ShowFault::Memos(_) => options.memos.unwrap_or(options.table),
-        _ => options.table,
-    }
-}
-
-// What a call ends in whose output failed. That nobody reads it any more is no fault.
-fn output_failed<'a>(is_closed: bool) -> Result<ToolReport, ToolFault<'a>>
-    ensures unread { is_closed ≡ true → result ≡ Ok ToolReport.Unread }
-    ensures failed { is_closed ≡ false → result ≡ Err ToolFault.Output }
-{
-    if is_closed {
-        Ok(ToolReport::Unread)
-    } else {
-        Err(ToolFault::Output)
-    }
-}
-
-/// What a call ends in that could not show the file of a path, or not all of it.
-pub fn not_shown(fault: ShowFault, is_closed: bool, path: &str) -> Result<ToolReport, ToolFault<'_>>
-    ensures fault { IfErr result (IsToolFaultOf fault path.now) }
-    ensures output { result ≡ Err ToolFault.Output → is_closed ≡ false }
-    ensures unread { IfOk result (λ report. report ≡ ToolReport.Unread) }
-    ensures closed { OnOk result ((fault ≡ ShowFault.Text TextFault.Sink) × (is_closed ≡ true)) }
-{
-    match fault {
-        ShowFault::Text(TextFault::Sink) => output_failed(is_closed),
-        _ => {
-            if is_no_memory(fault) {
-                Err(ToolFault::NoMemory)
-            } else {
-                Err(ToolFault::Table(path, fault))
-            }
-        }
-    }
-}
-
-/// What a call ends in that could not check the setup of a path, or not tell all of it.
-pub fn not_checked(
-    fault: CheckFault,
-    is_closed: bool,
-    path: &str,
-) -> Result<ToolReport, ToolFault<'_>>
-    ensures fault { IfErr result (IsToolFaultOfSetup fault path.now) }
-    ensures output { result ≡ Err ToolFault.Output → is_closed ≡ false }
-    ensures unread { IfOk result (λ report. report ≡ ToolReport.Unread) }
-    ensures closed { OnOk result ((fault ≡ CheckFault.Sink) × (is_closed ≡ true)) }
-{
-    match fault {
-        CheckFault::Sink => output_failed(is_closed),
-        CheckFault::NoMemory => Err(ToolFault::NoMemory),
-        fault => Err(ToolFault::Setup(path, fault)),
-    }
-}
 
 // Shows a table, or its fields.
 fn run_show<'a, F: Source, S: ByteSink + MayClose>(
@@ -235,7 +118,29 @@ fn run_diff<'a, F: Source, S: ByteSink + MayClose>(
     match compare_tables(alloc, source, sink, options) {
         Ok(false) => Ok(ToolReport::Good),
         Ok(true) => Ok(ToolReport::Differ),
-        Err(fault) => not_shown(fault.why, sink.is_closed(), fault.path),
+        Err(fault) => not_compared(fault, sink.is_closed()),
+    }
+}
+
+// Shows a script with its answers.
+fn run_answers<'a, F: Source, S: ByteSink + MayClose>(
+    alloc: Global,
+    source: &mut F,
+    sink: &mut S,
+    options: &AnswersOptions<'a>,
+) -> Result<ToolReport, ToolFault<'a>>
+    ensures answered { IfOk result (IsPairedAs (F.files source.old) options.now (S.written sink.old) (S.written sink.new)) }
+    ensures unread { result ≡ Ok ToolReport.Unread → (S.closed sink.new ≡ true) × Rises (S.failures sink.old) (S.failures sink.new) }
+    ensures output { result ≡ Err ToolFault.Output → (S.closed sink.new ≡ false) × Rises (S.failures sink.old) (S.failures sink.new) }
+    ensures kept { IsFront (S.written sink.old) (S.written sink.new) }
+    ensures early { (why : LoadFault) → load_refusal (F.files source.old) options.now.script.now ≡ Some why
+        → IsErrAnd result (IsToolFaultOf (ShowFault.Load why) options.now.script.now) }
+    ensures fault { IfErr result (IsWhyNoAnswers (F.files source.old) (F.failures source.old) (F.failures source.new) options.now) }
+{
+    match show_answers(alloc, source, sink, options) {
+        Ok(false) => Ok(ToolReport::Good),
+        Ok(true) => Ok(ToolReport::Refused),
+        Err(fault) => no_answers(fault, sink.is_closed(), options.answers),
     }
 }
 
@@ -243,8 +148,8 @@ fn run_diff<'a, F: Source, S: ByteSink + MayClose>(
 /// the system. The report says how that came to its end.
 ///
 /// A fault is told with the path of the file that it is one of; `NoMemory` says that there was no memory, and `Output` that the sink
-/// failed, and still has its reader; `Make` and `BadOut` say why a table is not made. `BadRange` is none of these.
-#[tactic(auto, using(byte_io::specs::Laws::Sinks::front_same, crate::proofs::MadeLaws::made_unread, crate::proofs::MadeLaws::made_output))]
+/// failed, and still has its reader; `Make`, `Load` and `BadOut` say why a table is not made. `BadRange` is none of these.
+#[tactic(auto, using(byte_io::specs::Laws::Sinks::front_same, crate::proofs::MadeLaws::made_unread, crate::proofs::MadeLaws::made_output, crate::proofs::LoadLaws::loaded_output))]
 pub fn run_asked<'a, F: Source, S: ByteSink + MayClose, Y: System>(
     alloc: Global,
     source: &mut F,
@@ -252,13 +157,15 @@ pub fn run_asked<'a, F: Source, S: ByteSink + MayClose, Y: System>(
     system: &Y,
     asked: &Asked<'a>,
 ) -> Result<ToolReport, ToolFault<'a>>
-    // What was written is what was asked for, and the report says whether the server would open a setup, and whether two tables differ.
+    // What was written is what was asked for, and the report says whether the server would open a setup, whether two tables differ, and
+    // whether an answer is a refusal.
     ensures answered { let loads = AreCheckLoads (F.files source.old) (F.failures source.old) (F.failures source.new) in
         IfOk result (IsAnswered (F.files source.old) loads asked.now (S.written sink.old) (S.written sink.new)) }
     // A table that is asked for is put into its folder.
     ensures made { IfOk result (λ _. IsPlacedIn Y.Disk.meaning (Y.opens system.now) (F.files source.old) asked.now) }
     // That a file is there is told only where one of the table's two names has one.
     ensures taken { IsErrOf result (ToolFault.Make (OfWork Exists)) → IsTakenIn Y.Disk.meaning (Y.opens system.now) asked.now }
+    ensures load_taken { IsErrOf result (ToolFault.Load (OfWork IsThere)) → IsLoadTakenIn Y.Disk.meaning (Y.opens system.now) asked.now }
     // That nobody reads the output any more is said only where that is so, and that it failed only where it is not; and both only
     // after a failure.
     ensures unread { result ≡ Ok ToolReport.Unread → (S.closed sink.new ≡ true) × Rises (S.failures sink.old) (S.failures sink.new) }
@@ -274,7 +181,9 @@ pub fn run_asked<'a, F: Source, S: ByteSink + MayClose, Y: System>(
         Asked::Check(options) => run_check(alloc, source, sink, options),
         Asked::Tree(path) => run_tree(alloc, source, sink, path),
         Asked::Make(options) => make_table(alloc, source, system, options),
+        Asked::Load(options) => load_records(alloc, source, system, options),
         Asked::Diff(options) => run_diff(alloc, source, sink, options),
+        Asked::Answers(options) => run_answers(alloc, source, sink, options),
     }
 }
 
@@ -298,6 +207,8 @@ pub fn run_words<'a, F: Source, S: ByteSink + MayClose, Y: System, T: AsStr>(
     // That a file is there is told only where one of the names of such a table has one.
     ensures taken { IsErrOf result (Ending.Failed (ToolFault.Make (OfWork Exists)))
         → IsTakenTo Y.Disk.meaning (Y.opens system.now) (map T.text words.entry.now) }
+    ensures load_taken { IsErrOf result (Ending.Failed (ToolFault.Load (OfWork IsThere)))
+        → IsLoadTakenTo Y.Disk.meaning (Y.opens system.now) (map T.text words.entry.now) }
     // Why it was not is what the words say, or a fault of what they ask for.
     ensures fault { IfErr result (IsWhyNotDone (map T.text words.entry.now) (F.files source.old) (F.failures source.old) (F.failures source.new)) }
     ensures kept { IsFront (S.written sink.old) (S.written sink.new) }

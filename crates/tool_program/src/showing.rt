@@ -5,11 +5,12 @@ ghost use Rattle.std.specs.Option.{option_map};
 ghost use Rattle.byte_io.specs.Sink.{grown, IsFront, Rises};
 ghost use Rattle.folders.specs.Files.{IsUnrecovered, load_refusal};
 ghost use Rattle.tool_program.specs.Order.{from_text, IsGivenOrderFault, IsOrder};
-ghost use Rattle.tool_program.specs.Memos.{IsMemosFault, IsNotHad};
-ghost use Rattle.tool_program.specs.View.{view_text, IsBeforeText, IsNoOrder, IsNoTable, IsShown};
+ghost use Rattle.table_reader.specs.Memos.{IsMemosFault, IsNotHad};
+ghost use Rattle.table_reader.specs.TableFiles.{IsNoTable};
+ghost use Rattle.tool_program.specs.View.{view_text, IsBeforeText, IsNoOrder, IsShown};
 
+use crate::asked::{Options, View};
 use crate::loading::{bytes_of, memos_of};
-use crate::options::{Options, View};
 use crate::order::{OrderFault, read_order};
 use byte_io::ByteSink;
 use dbf_fields::Day;

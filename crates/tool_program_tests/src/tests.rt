@@ -5,16 +5,18 @@ use byte_io::{Bytes, Failures};
 use folders::{LoadFault, MemorySource, NamedFile};
 use memory_disk::MemoryDisk;
 use program_frame::{PlaceFault, System};
-use sample_files::{EMPTY_INDEX, NOTE, TABLE, with_zeros};
+use sample_files::{EMPTY_INDEX, NOTE, TABLE, WITH_CYD, with_zeros};
 use std::alloc::{AllocError, Global};
 use std::process::ExitCode;
 use std::test::*;
 use tool_program::{StreamSink, run_words, tell_end};
 
+mod answers;
 mod checking;
 mod command_line;
 mod comparing;
 mod endings;
+mod loading;
 mod making;
 mod memos;
 mod showing;
@@ -56,7 +58,7 @@ fn files(alloc: Global) -> Result<MemorySource, Fail> {
     let index = by_name(alloc)?;
     let upper = memo(alloc, b"UPPER")?;
     let lower = memo(alloc, b"LOWER")?;
-    let contents: [(&[u8], &[u8]); 20] = [
+    let contents: [(&[u8], &[u8]); 26] = [
         (b"T.DBF", &TABLE),
         (b"S.DBF", swapped.as_slice()),
         (b"S.NDX", index.as_slice()),
@@ -70,6 +72,15 @@ fn files(alloc: Global) -> Result<MemorySource, Fail> {
         (b"N.Dbf", &NOTE),
         (b"A.PRG", b"USE S\n"),
         (b"B.PRG", b"USE S\nSET TALK OFF\n* NAMES\nCLEAR\n"),
+        (b"A.TXT", b"OK\n"),
+        (
+            b"B.TXT",
+            b"OK\nREFUSED 19 BadCommand\nREFUSED 19 BadCommand\n",
+        ),
+        (b"C.DBF", &WITH_CYD),
+        (b"D.CSV", b"NAME\r\nCYD\r\n"),
+        (b"W.CSV", b"NAME\r\nCYD\r\nCYDONIA THE GREAT\r\n"),
+        (b"TOWN.CSV", b"NAME,TOWN\r\nCYD,ROME\r\n"),
         (b"TALK.SET", b"TABLE S S.DBF\nSTATION B.PRG\n"),
         (
             b"GOOD.SET",

@@ -30,7 +30,7 @@ fn ranges_are_one_number_or_two(rt: HostRuntime) -> Result<(), Fail> {
 
 #[test]
 fn bad_command_lines_end_with_one(rt: HostRuntime) -> Result<(), Fail> {
-    let cases: [(&[&str], u8); 21] = [
+    let cases: [(&[&str], u8); 26] = [
         (&["table_tool", "--help"], 0),
         (&["table_tool", "--version"], 0),
         (&["table_tool", "show", "--help"], 0),
@@ -47,6 +47,11 @@ fn bad_command_lines_end_with_one(rt: HostRuntime) -> Result<(), Fail> {
         (&["table_tool", "tree", "--help"], 0),
         (&["table_tool", "tree"], 1),
         (&["table_tool", "tree", "S.NDX", "--records", "1"], 1),
+        (&["table_tool", "answers", "--help"], 0),
+        (&["table_tool", "answers", "A.PRG"], 1),
+        (&["table_tool", "load", "--help"], 0),
+        (&["table_tool", "load", "D.CSV", "--into", "T.DBF"], 1),
+        (&["table_tool", "diff", "T.DBF", "S.DBF", "--key", ""], 1),
         (&["table_tool", "diff", "--help"], 0),
         (&["table_tool", "diff", "T.DBF"], 1),
         (&["table_tool", "make", "--help"], 0),

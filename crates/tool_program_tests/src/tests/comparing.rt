@@ -5,7 +5,7 @@ use std::process::Abort;
 use std::test::*;
 
 // Command lines, and the exit status, the text and the line on standard error.
-const CASES: [(&[&str], u8, &str, &str); 11] = [
+const CASES: [(&[&str], u8, &str, &str); 16] = [
     (&["table_tool", "diff", "T.DBF", "T.DBF"], 0, "", ""),
     (
         &["table_tool", "diff", "T.DBF", "S.DBF"],
@@ -90,6 +90,45 @@ const CASES: [(&[&str], u8, &str, &str); 11] = [
         2,
         "",
         "table_tool: NONE.DBT: cannot read\n",
+    ),
+    // By their keys: another number alone is no change.
+    (
+        &["table_tool", "diff", "T.DBF", "S.DBF", "--key", "NAME"],
+        0,
+        "",
+        "",
+    ),
+    (
+        &["table_tool", "diff", "S.DBF", "C.DBF", "--key=UPPER(NAME)"],
+        1,
+        "record 3 added: NAME CYD\n",
+        "",
+    ),
+    // All have one key, the blank: the first is matched with the first.
+    (
+        &[
+            "table_tool",
+            "diff",
+            "T.DBF",
+            "S.DBF",
+            "--key",
+            "SUBSTR(NAME,4,1)",
+        ],
+        1,
+        "record 1: NAME ADA -> BOB\nrecord 2: NAME BOB -> ADA\n",
+        "",
+    ),
+    (
+        &["table_tool", "diff", "T.DBF", "S.DBF", "--key", "NAME+"],
+        2,
+        "",
+        "table_tool: T.DBF: --key is no key expression for the table: BadSyntax: bad syntax at byte 5\n",
+    ),
+    (
+        &["table_tool", "diff", "T.DBF", "n.dbf", "--key", "NAME"],
+        2,
+        "",
+        "table_tool: n.dbf: --key is no key expression for the table: NoSuchField: there is no such field\n",
     ),
     // Other fields.
     (

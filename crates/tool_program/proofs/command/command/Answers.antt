@@ -1,8 +1,8 @@
 use Rattle.std.proofs.Common.{refl}
 use Rattle.std.proofs.lemmas.Result.{IfOk-weaker}
-use Rattle.tool_program.specs.Command.{check_app, csv_app, diff_app, fields_app, make_app, show_app, tree_app}
+use Rattle.tool_program.specs.Command.{answers_app, check_app, csv_app, diff_app, fields_app, load_app, make_app, show_app, tree_app}
 use Rattle.tool_program.proofs.Commands.{added}
-use Rattle.tool_program.proofs.options.command.Goals as goal
+use Rattle.tool_program.proofs.command.command.Goals as goal
 
 pub returns : goal.returns
 returns c =
@@ -12,4 +12,6 @@ returns c =
     let four = added _ _ _ _ check_app c.in_ok-subcommand-4.ensures three c.in_ok-check_command.ensures.app refl in
     let five = added _ _ _ _ tree_app c.in_ok-subcommand-5.ensures four c.in_ok-tree_command.ensures.app refl in
     let six = added _ _ _ _ make_app c.in_ok-subcommand-6.ensures five c.in_ok-make_command.ensures.app refl in
-    record { app = IfOk-weaker c.subcommand-7.result _ _ (λ r h. added _ _ r _ diff_app h six c.in_ok-diff_command.ensures.app refl) c.subcommand-7.ensures }
+    let seven = added _ _ _ _ load_app c.in_ok-subcommand-7.ensures six c.in_ok-load_command.ensures.app refl in
+    let eight = added _ _ _ _ diff_app c.in_ok-subcommand-8.ensures seven c.in_ok-diff_command.ensures.app refl in
+    record { app = IfOk-weaker c.subcommand-9.result _ _ (λ r h. added _ _ r _ answers_app h eight c.in_ok-answers_command.ensures.app refl) c.subcommand-9.ensures }

@@ -4,7 +4,7 @@ use Rattle.clap.specs.Words.{rule_of}
 use Rattle.clap.specs.declared.builder.value_parser.ValueParser.TheVariants.{String}
 use Rattle.program_frame.specs.CommandLine.{option_rule}
 use Rattle.program_frame.specs.Laws.CommandLines.{wants_another}
-use Rattle.tool_program.proofs.options.from_option.Goals as goal
+use Rattle.tool_program.proofs.command.from_option.Goals as goal
 
 pub returns-clause-rule : goal.returns-clause-rule
 returns-clause-rule c =

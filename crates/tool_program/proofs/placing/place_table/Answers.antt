@@ -1,0 +1,4 @@
+use Rattle.tool_program.proofs.placing.place_table.Goals as goal
+
+pub returns-clause-made : goal.returns-clause-made
+returns-clause-made g c = rw c.in-Some.ensures.value at c.make_into.ensures.made
