@@ -3,9 +3,9 @@
 
     python3 beside.py PROGRAM FOLDER
 
-The model is mark.c, which cc builds; without cc, and without the program sqlite3, their columns stay empty. Each job is done five
-times, by turns with the others, and the least processor time of each counts, of the process and of the system for it. Where the
-model writes the same files, they are compared byte by byte. The commands of a script are SQLite's by statements.py. Memory is the
+The model is mark.c with mark_script.c, which cc builds; without cc, and without the program sqlite3, their columns stay empty. Each
+job is done five times, by turns with the others, and the least processor time of each counts, of the process and of the system for
+it. Where the model writes the same files, they are compared byte by byte. The commands of a script are SQLite's by statements.py. Memory is the
 greatest of a run by the size of the files that it reads, where GNU time is.
 """
 
@@ -64,8 +64,8 @@ class Bench:
         self.mark = folder / "mark" if shutil.which("cc") else None
         self.sqlite = shutil.which("sqlite3")
         if self.mark:
-            source = Path(__file__).resolve().parent / "mark.c"
-            subprocess.run(["cc", "-O2", "-o", self.mark, source], check=True)
+            sources = [Path(__file__).resolve().parent / name for name in ("mark.c", "mark_script.c")]
+            subprocess.run(["cc", "-O2", "-o", self.mark, *sources], check=True)
         if self.sqlite:
             rows = list(records_of(folder / "MARKED.DBF"))
             for count in (0, 1, 3):
@@ -75,10 +75,13 @@ class Bench:
         words = [self.program, "--setup", setup, "--out", str(fresh(self.out)), "--today", "19870315", *options]
         return processor_seconds(words, self.folder)
 
-    def model(self, indexes):
+    def model(self, indexes, *options, script=None):
         """The model's time, over files that the server has just written."""
         made = fresh(self.folder / "made")
-        words = [str(self.mark), "T.DBF", str(made / "T.DBF")]
+        words = [str(self.mark), *options]
+        if script:
+            words += ["--script", script, str(made / "STATION1.TXT")]
+        words += ["T.DBF", str(made / "T.DBF")]
         for name in indexes:
             words += [f"{name}.NDX", str(made / f"{name}.NDX")]
         seconds = processor_seconds(words, self.folder)
@@ -144,12 +147,18 @@ def main():
             bench.sqlite and (lambda: bench.base(count, into)),
         ]
         show(f"read and write all, {count} indexes", *bench.least(jobs))
-    reindex = bench.sqlite and (lambda: bench.base(3, "REINDEX"))
-    seconds, beside = bench.least([lambda: bench.server("THREE-EMPTY.SET", "--reindex"), reindex])
-    show("the same with --reindex, 3 indexes", seconds, None, beside)
-    statements = bench.sqlite and (lambda: bench.commands(1, "MIXED.PRG"))
-    seconds, beside = bench.least([lambda: bench.server("INDEXED-MIXED.SET"), statements])
-    show("MIXED.PRG, 1 index", seconds, None, beside)
+    jobs = [
+        lambda: bench.server("THREE-EMPTY.SET", "--reindex"),
+        bench.mark and (lambda: bench.model(INDEXES, "--reindex")),
+        bench.sqlite and (lambda: bench.base(3, "REINDEX")),
+    ]
+    show("the same with --reindex, 3 indexes", *bench.least(jobs))
+    jobs = [
+        lambda: bench.server("INDEXED-MIXED.SET"),
+        bench.mark and (lambda: bench.model(INDEXES[:1], script="MIXED.PRG")),
+        bench.sqlite and (lambda: bench.commands(1, "MIXED.PRG")),
+    ]
+    show("MIXED.PRG, 1 index", *bench.least(jobs))
     pack = bench.sqlite and (lambda: bench.base(3, "delete from t where marked; VACUUM"))
     jobs = [lambda: bench.server("MARKED-EMPTY.SET"), lambda: bench.server("MARKED-PACK.SET"), pack]
     empty, packed, beside = bench.least(jobs)

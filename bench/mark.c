@@ -1,44 +1,27 @@
 /* A mark to measure by: reads a table and indexes on character fields, looks over both, and writes them anew, as the server
  * does where its scripts are empty. By hand, with no care for memos, damaged files' names or want of memory.
  *
- *     mark OLD.DBF NEW.DBF [OLD.NDX NEW.NDX]...
+ *     mark [--reindex | --script SCRIPT ANSWERS] OLD.DBF NEW.DBF [OLD.NDX NEW.NDX]...
  *
  * What is checked: the headers, each page of an index read once and inside the file, each key the one of its record, each record
- * once, and the order of keys and record numbers. What is written has the date 1987-03-15, so it is the server's, byte by byte.
+ * once, and the order of keys and record numbers. With --reindex only the headers of the indexes are read, and their pairs are
+ * those of the table, sorted. With --script the commands of a script are performed before all is written (mark_script.c). What is written has the date 1987-03-15, so it is the server's, byte by byte.
  */
 
-#include <stdint.h>
-#include <stdio.h>
+#include "mark.h"
+
 #include <stdlib.h>
 #include <string.h>
 
 enum { PAGE = 512, FIELD = 32, MOST_LEVELS = 32, BUFFER = 65536 };
 
-struct bytes {
-    unsigned char *at;
-    size_t length;
-};
-
-struct table {
-    struct bytes file;
-    uint32_t records;
-    unsigned header, width;
-};
-
-/* The pairs of an index in order, as the numbers of their records: a key stands in its record, at an offset. */
-struct index {
-    const char *text;
-    unsigned key, size, offset;
-    uint32_t *numbers, count;
-};
-
-static void fail(const char *why)
+void fail(const char *why)
 {
     fprintf(stderr, "mark: %s\n", why);
     exit(2);
 }
 
-static void *room(size_t bytes)
+void *room(size_t bytes)
 {
     void *at = malloc(bytes ? bytes : 1);
     if (!at)
@@ -68,7 +51,7 @@ static void put_u32(unsigned char *at, uint32_t number)
     put_u16(at + 2, number >> 16);
 }
 
-static struct bytes read_file(const char *path)
+struct bytes read_file(const char *path)
 {
     FILE *file = fopen(path, "rb");
     if (!file || fseek(file, 0, SEEK_END))
@@ -82,7 +65,7 @@ static struct bytes read_file(const char *path)
     return bytes;
 }
 
-static FILE *new_file(const char *path)
+FILE *new_file(const char *path)
 {
     FILE *file = fopen(path, "wb");
     if (!file)
@@ -91,13 +74,13 @@ static FILE *new_file(const char *path)
     return file;
 }
 
-static void put(FILE *file, const void *bytes, size_t length)
+void put(FILE *file, const void *bytes, size_t length)
 {
     if (fwrite(bytes, 1, length, file) != length)
         fail("a file can't be written");
 }
 
-static void end_file(FILE *file)
+void end_file(FILE *file)
 {
     if (fclose(file))
         fail("a file can't be written");
@@ -122,29 +105,28 @@ static void write_table(const struct table *table, const char *path)
     static const unsigned char date[3] = { 87, 3, 15 }, mark = 0x1a;
     FILE *file = new_file(path);
     memcpy(table->file.at + 1, date, 3);
+    put_u32(table->file.at + 4, table->records);
     put(file, table->file.at, table->header + (size_t)table->records * table->width);
     put(file, &mark, 1);
     end_file(file);
 }
 
-/* Where the field of a name begins in a record. */
-static unsigned field_offset(const struct table *table, const char *name, unsigned width)
+struct field field_of(const struct table *table, const char *name, size_t length)
 {
-    unsigned offset = 1;
+    struct field found = { 1, 0, 0 };
     for (unsigned at = FIELD; at + FIELD < table->header; at += FIELD) {
         const unsigned char *field = table->file.at + at;
-        if (!strncmp((const char *)field, name, 11)) {
-            if (field[11] != 'C' || field[16] != width)
-                fail("an index on another field");
-            return offset;
-        }
-        offset += field[16];
+        found.width = field[16];
+        found.kind = field[11];
+        if (length < 11 && !memcmp(field, name, length) && !field[length])
+            return found;
+        found.offset += found.width;
     }
     fail("no such field");
-    return 0;
+    return found;
 }
 
-static const unsigned char *record_key(const struct table *table, const struct index *index, uint32_t number)
+unsigned char *record_key(const struct table *table, const struct index *index, uint32_t number)
 {
     return table->file.at + table->header + (size_t)(number - 1) * table->width + index->offset;
 }
@@ -199,20 +181,32 @@ static void check_order(const struct table *table, const struct index *index)
     }
 }
 
-static struct index read_index(const struct table *table, const char *path)
+/* What an index's header says, and room for its pairs. */
+static struct index read_header(const struct table *table, const struct bytes *file)
 {
     struct index index = { 0 };
-    struct walk walk = { table, &index, read_file(path), 0, 0 };
-    unsigned char *header = walk.file.at;
-    if (walk.file.length < PAGE || u16(header + 16) || header[23])
+    const unsigned char *header = file->at;
+    if (file->length < PAGE || u16(header + 16) || header[23])
         fail("no index");
-    index.text = strndup((char *)header + 24, PAGE - 24);
+    index.text = strndup((const char *)header + 24, PAGE - 24);
     index.key = u16(header + 12);
     index.size = u16(header + 18);
     if (index.key < 1 || index.key > 100 || index.size < index.key + 8 || index.size > PAGE - 8)
         fail("no index");
-    index.offset = field_offset(table, index.text, index.key);
+    struct field field = field_of(table, index.text, strlen(index.text));
+    if (field.kind != 'C' || field.width != index.key)
+        fail("an index on another field");
+    index.offset = field.offset;
     index.numbers = room((size_t)table->records * 4);
+    return index;
+}
+
+static struct index read_index(const struct table *table, const char *path)
+{
+    struct bytes file = read_file(path);
+    struct index index = read_header(table, &file);
+    struct walk walk = { table, &index, file, 0, 0 };
+    const unsigned char *header = file.at;
     walk.seen_page = calloc(walk.file.length / PAGE + 1, 1);
     walk.seen_record = calloc((size_t)table->records + 1, 1);
     if (!walk.seen_page || !walk.seen_record)
@@ -224,6 +218,106 @@ static struct index read_index(const struct table *table, const char *path)
     free(walk.seen_page);
     free(walk.seen_record);
     free(walk.file.at);
+    return index;
+}
+
+/* A record that is sorted by its key: eight bytes of the key as one number, those after what all keys have in common. */
+struct entry {
+    uint64_t front;
+    uint32_t number;
+};
+
+/* The index whose equal fronts are compared, for qsort. */
+static const struct table *sorted_table;
+static const struct index *sorted_index;
+
+static int by_key(const void *left, const void *right)
+{
+    const struct entry *a = left, *b = right;
+    const unsigned char *key = record_key(sorted_table, sorted_index, a->number);
+    int order = memcmp(key, record_key(sorted_table, sorted_index, b->number), sorted_index->key);
+    return order ? order : a->number < b->number ? -1 : 1;
+}
+
+/* How many bytes all keys begin with alike. */
+static unsigned common_front(const struct table *table, const struct index *index)
+{
+    unsigned common = index->key;
+    for (uint32_t number = 2; number <= table->records && common; number++) {
+        const unsigned char *first = record_key(table, index, 1), *key = record_key(table, index, number);
+        unsigned alike = 0;
+        while (alike < common && first[alike] == key[alike])
+            alike++;
+        common = alike;
+    }
+    return common;
+}
+
+uint64_t front_of(const unsigned char *key, unsigned from, unsigned length)
+{
+    uint64_t front = 0;
+    for (unsigned i = 0; i < 8; i++)
+        front = front << 8 | (from + i < length ? key[from + i] : 0);
+    return front;
+}
+
+/* Sorts by the fronts, byte by byte from the last one on, where `differing` has a bit of the byte. Answers which of the two lists has the
+ * entries then. */
+static struct entry *sort_by_fronts(struct entry *entries, struct entry *others, uint32_t count, uint64_t differing)
+{
+    for (unsigned shift = 0; shift < 64; shift += 8) {
+        uint32_t place[257] = { 0 };
+        if (!(differing >> shift & 255))
+            continue;
+        for (uint32_t i = 0; i < count; i++)
+            place[(entries[i].front >> shift & 255) + 1]++;
+        for (unsigned byte = 1; byte < 257; byte++)
+            place[byte] += place[byte - 1];
+        for (uint32_t i = 0; i < count; i++)
+            others[place[entries[i].front >> shift & 255]++] = entries[i];
+        struct entry *sorted = others;
+        others = entries;
+        entries = sorted;
+    }
+    return entries;
+}
+
+/* Sorts the runs of one front by the whole keys. */
+static void sort_runs(struct entry *entries, uint32_t count)
+{
+    for (uint32_t first = 0, end; first < count; first = end) {
+        for (end = first + 1; end < count && entries[end].front == entries[first].front;)
+            end++;
+        if (end - first > 1)
+            qsort(entries + first, end - first, sizeof *entries, by_key);
+    }
+}
+
+/* An index whose pairs are those of the table. */
+static struct index make_index(const struct table *table, const char *path)
+{
+    struct bytes file = read_file(path);
+    struct index index = read_header(table, &file);
+    uint32_t count = table->records;
+    unsigned common = common_front(table, &index);
+    struct entry *entries = room(count * sizeof *entries), *others = room(count * sizeof *others);
+    uint64_t differing = 0;
+    for (uint32_t i = 0; i < count; i++) {
+        entries[i].front = front_of(record_key(table, &index, i + 1), common, index.key);
+        entries[i].number = i + 1;
+        differing |= entries[i].front ^ entries[0].front;
+    }
+    struct entry *sorted = sort_by_fronts(entries, others, count, differing);
+    sorted_table = table;
+    sorted_index = &index;
+    if (common + 8 < index.key)
+        sort_runs(sorted, count);
+    for (uint32_t i = 0; i < count; i++)
+        index.numbers[i] = sorted[i].number;
+    index.count = count;
+    free(entries);
+    free(others);
+    free(file.at);
     return index;
 }
 
@@ -297,15 +391,20 @@ static void write_index(const struct table *table, const struct index *index, co
 
 int main(int words, char **word)
 {
-    if (words < 3 || words % 2 == 0)
-        fail("usage: mark OLD.DBF NEW.DBF [OLD.NDX NEW.NDX]...");
-    struct table table = read_table(word[1]);
-    unsigned count = (words - 3) / 2;
+    int makes = words > 1 && !strcmp(word[1], "--reindex"), runs = words > 3 && !strcmp(word[1], "--script");
+    char **path = word + 1 + makes + 3 * runs;
+    int paths = words - 1 - makes - 3 * runs;
+    if (paths < 2 || paths % 2)
+        fail("usage: mark [--reindex | --script SCRIPT ANSWERS] OLD.DBF NEW.DBF [OLD.NDX NEW.NDX]...");
+    struct table table = read_table(path[0]);
+    unsigned count = paths / 2 - 1;
     struct index *indexes = room(count * sizeof *indexes);
     for (unsigned i = 0; i < count; i++)
-        indexes[i] = read_index(&table, word[3 + 2 * i]);
-    write_table(&table, word[2]);
+        indexes[i] = makes ? make_index(&table, path[2 + 2 * i]) : read_index(&table, path[2 + 2 * i]);
+    if (runs)
+        run_script(&table, indexes, count, word[2], word[3]);
+    write_table(&table, path[1]);
     for (unsigned i = 0; i < count; i++)
-        write_index(&table, &indexes[i], word[4 + 2 * i]);
+        write_index(&table, &indexes[i], path[3 + 2 * i]);
     return 0;
 }
