@@ -4,7 +4,7 @@
     python3 docs/draw_crates.py
 
 Arrows go from a row to the next one alone, so that none passes a box; each crate has one from above at least, but for the
-programs. The crates of tests and what they alone stand on (`memory_disk`, `sample_files`, `scarce`) are left out.
+programs. The crates of tests, what they alone stand on (`memory_disk`, `sample_files`, `scarce`), and the demo's are left out.
 """
 
 import pathlib
@@ -21,7 +21,7 @@ def crates():
         if line:
             name, below = line.split(":")
             named[name] = below.split()
-    for_tests = [name for name in named if name.endswith(("_tests", "_scarce")) or name in ("memory_disk", "sample_files", "scarce")]
+    for_tests = [name for name in named if name.endswith(("_tests", "_scarce")) or name in ("memory_disk", "sample_files", "scarce", "demo_office")]
     named = {name: below for name, below in named.items() if name not in for_tests}
     return {name: [it for it in below if it in named] for name, below in named.items()}
 

@@ -10,7 +10,7 @@ use std::alloc::Global;
 
 /// The version of the programs, and the logic that they are proved in, as `rt version` tells it: kits of the toolchain that have the
 /// same logic prove the same. `--version` prints both.
-pub const VERSION: &str = "0.10.0 (rattle logic dac8208d650f15bf)";
+pub const VERSION: &str = "0.11.0 (rattle logic dac8208d650f15bf)";
 
 /// A program of a name, with no option yet: what it does, and what its help says after the options.
 pub fn program<'a>(alloc: Global, name: &'a str, about: &'a str, after_help: &'a str) -> Command<'a>

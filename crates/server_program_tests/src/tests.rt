@@ -219,7 +219,7 @@ For more information, try '--help'.
 fn version(rt: HostRuntime) -> Result<(), Fail> {
     let (status, text) = mistake_of(rt.alloc(), &["station_server", "--version"])?;
     assert!(rt; status == ExitCode::from(0));
-    let wanted = "station_server 0.10.0 (rattle logic dac8208d650f15bf)\n";
+    let wanted = "station_server 0.11.0 (rattle logic dac8208d650f15bf)\n";
     assert!(rt; text.as_slice() == wanted.as_bytes());
     Ok(())
 }

@@ -73,7 +73,7 @@ For more information, try '--help'.
     ),
     (
         0,
-        "station_audit 0.10.0 (rattle logic dac8208d650f15bf)\n",
+        "station_audit 0.11.0 (rattle logic dac8208d650f15bf)\n",
         "",
     ),
 ];
