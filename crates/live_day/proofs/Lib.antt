@@ -2,4 +2,5 @@ mod DayLaws
 mod SessionLaws
 mod ShowLaws
 mod StartLaws
+mod StopLaws
 mod TypingLaws

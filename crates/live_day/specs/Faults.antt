@@ -17,3 +17,8 @@ line_fault_of of_catalogue.JournalFull = of_line.JournalFull
 abbrev pub typing_fault_of : TypingFault → RunFault
 typing_fault_of of_typing.NoMemory = of_run.NoMemory
 typing_fault_of of_typing.Failed = of_run.Unread
+
+-- a line was performed whose entry may not be in the log
+abbrev pub IsOfLog : RunFault → Type 0
+IsOfLog (of_run.Log fault) = Unit {0}
+IsOfLog why = ⊥

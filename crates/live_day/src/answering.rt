@@ -1,9 +1,10 @@
 //! A typed line is obeyed: its answer is shown, where it is one of a script.
 
-ghost use Rattle.std.specs.Prelude.{◌≡◌, ◌≤◌, List, true, Ok, None, IfOk, IfErr, IfSome, OnOk};
+ghost use Rattle.std.specs.Prelude.{◌≡◌, ◌↔◌, ◌≤◌, List, true, false, Ok, None, IfOk, IfErr, IfSome, IsErrAnd, OnOk};
 ghost use Rattle.station_lines.specs.declared.script.line.Line.{Line as Meaning};
 ghost use Rattle.live_day.specs.declared.wish.Wish.TheVariants.{Quit};
 ghost use Rattle.live_day.specs.Days.{AnswersLine, IsAnswerTold, IsUnperformed};
+ghost use Rattle.live_day.specs.Faults.{IsOfLog};
 ghost use Rattle.live_day.specs.Sessions.{Told, answer_told, notice_told, IsLineDone, IsObeyed, IsSeated, IsWishTyped, MeansTyped, TellsMore};
 ghost use Rattle.live_day.specs.Shows.{IsDayAfter, KeepsShown};
 
@@ -28,6 +29,7 @@ fn notify<D: DiskInPlace + Drop, S: Screen<D>>(
 ) -> Result<(), RunFault>
     requires takes { day.now.takes ≡ true }
     ensures told { OnOk result (TellsMore (S.shown screen.old) (S.shown screen.new) (notice_told station notice)) }
+    ensures fault { IfErr result (λ fault. fault ≡ RunFault.Screen) }
     ensures kept { KeepsShown D.meaning day.now day.now (S.shown screen.old) (S.shown screen.new) }
 {
     // For contracts alone: the journal is on the disk.
@@ -46,6 +48,7 @@ fn show_answer<D: DiskInPlace + Drop, S: Screen<D>>(
     requires takes { day.now.takes ≡ true }
     requires told { IfSome answer.now (IsAnswerTold day.now.history station) }
     ensures told { OnOk result (TellsMore (S.shown screen.old) (S.shown screen.new) (answer_told station answer.now)) }
+    ensures fault { IfErr result (λ fault. fault ≡ RunFault.Screen) }
     ensures kept { KeepsShown D.meaning day.now day.now (S.shown screen.old) (S.shown screen.new) }
 {
     // For contracts alone: the journal is on the disk.
@@ -69,6 +72,7 @@ fn perform_typed<D: DiskInPlace + Drop>(
         → AnswersLine meaning station day.old.history day.new.history answer) }
     ensures told { IfOk result (λ answer. IfSome answer (IsAnswerTold day.new.history station)) }
     ensures unperformed { IfErr result (λ fault. IsUnperformed fault → day.new ≡ day.old) }
+    ensures ended { IfErr result (λ fault. ¬ (IsUnperformed fault) → day.new.takes ≡ false) }
     ensures takes { OnOk result (day.new.takes ≡ true) }
     ensures goes_on { IsDayAfter D.meaning day.old day.new }
 {
@@ -91,6 +95,7 @@ fn answer_typed<D: DiskInPlace + Drop, S: Screen<D>>(
     ensures done { OnOk result ((told : List Told) × TellsMore (S.shown screen.old) (S.shown screen.new) told
         × IsLineDone station typed.now day.old.history day.new.history told) }
     ensures takes { OnOk result (day.new.takes ≡ true) }
+    ensures stopped { IsErrAnd result IsOfLog ↔ (day.new.takes ≡ false) }
     ensures kept { KeepsShown D.meaning day.old day.new (S.shown screen.old) (S.shown screen.new) }
 {
     match perform_typed(day, station, typed) {
@@ -115,6 +120,7 @@ fn take_seat<D: DiskInPlace + Drop, S: Screen<D>>(
         × IsSeated day.now.history.opened.stations wanted station next told) }
     ensures counted { IfOk result (λ next. 1 ≤ next) }
     ensures inside { IfOk result (λ next. next ≤ day.now.history.opened.stations) }
+    ensures fault { IfErr result (λ fault. fault ≡ RunFault.Screen) }
     ensures kept { KeepsShown D.meaning day.now day.now (S.shown screen.old) (S.shown screen.new) }
 {
     let stations = day.station_count() as u64;
@@ -152,6 +158,7 @@ pub(crate) fn obey<D: DiskInPlace + Drop, S: Screen<D>>(
     ensures counted { IfOk result (λ next. IfSome next (λ next. 1 ≤ next)) }
     ensures inside { IfOk result (λ next. IfSome next (λ next. next ≤ day.new.history.opened.stations)) }
     ensures takes { OnOk result (day.new.takes ≡ true) }
+    ensures stopped { IsErrAnd result IsOfLog ↔ (day.new.takes ≡ false) }
     ensures kept { KeepsShown D.meaning day.old day.new (S.shown screen.old) (S.shown screen.new) }
 {
     // For contracts alone: the journal is on the disk.

@@ -1,6 +1,7 @@
 //! The lines of a day are answered as they come.
 
-ghost use Rattle.std.specs.Prelude.{◌≡◌, ◌≤◌, true, OnOk};
+ghost use Rattle.std.specs.Prelude.{◌≡◌, ◌↔◌, ◌≤◌, true, false, IsErrAnd, OnOk};
+ghost use Rattle.live_day.specs.Faults.{IsOfLog};
 ghost use Rattle.live_day.specs.Sessions.{IsDayRun};
 ghost use Rattle.live_day.specs.Shows.{KeepsShown};
 ghost use Rattle.live_day.specs.Typing.{IsAllTyped, HasTyped};
@@ -32,6 +33,8 @@ pub fn run_day<D: DiskInPlace + Drop, S: Screen<D>, K: Keyboard>(
     // These lines are the first of the text, in order; what stands after them is left.
     ensures read { OnOk result (HasTyped (K.text_left keyboard.old) (K.text_left keyboard.new) (K.typed keyboard.old) (K.typed keyboard.new)) }
     ensures takes { OnOk result (day.new.takes ≡ true) }
+    // The day takes no more lines where one was performed whose entry may not be in the log, and only then this is said.
+    ensures stopped { IsErrAnd result IsOfLog ↔ (day.new.takes ≡ false) }
     // Nothing that was shown is lost, and a crash at any moment leaves a log of the journal's first entries.
     ensures kept { KeepsShown D.meaning day.old day.new (S.shown screen.old) (S.shown screen.new) }
 {

@@ -1,5 +1,7 @@
-use Rattle.std.proofs.Common.{refl}
+use Rattle.std.proofs.Common.{refl, subst}
+use Rattle.live_day.specs.Faults.{IsOfLog}
 use Rattle.live_day.specs.declared.wish.Wish.TheVariants.{Station, Perform}
+use Rattle.live_day.proofs.StopLaws.{goes_on_err, stopped_same}
 use Rattle.live_day.proofs.ShowLaws.{after_none, shown_none}
 use Rattle.live_day.proofs.answering.obey.Goals as goal
 
@@ -17,3 +19,11 @@ pub returns-in_ok-answer_typed-in-Perform-clause-obeyed : goal.returns-in_ok-ans
 returns-in_ok-answer_typed-in-Perform-clause-obeyed g c =
     let d = c.in_ok-answer_typed-in-Perform.ensures.done in
     (d.0, d.1, record { wish = Perform; asked = c.in-Perform.ensures.value; made = (refl, d.2) })
+
+pub returns-in_err-take_seat-in-Station-clause-stopped : goal.returns-in_err-take_seat-in-Station-clause-stopped
+returns-in_err-take_seat-in-Station-clause-stopped g c =
+    goes_on_err c.from_residual.result _ c.args.day.now.takes c.requires.takes c.from_residual.ensures.1 (λ of_log. subst IsOfLog c.in_err-take_seat-in-Station.ensures.fault of_log)
+
+pub returns-in_err-answer_typed-in-Perform-clause-stopped : goal.returns-in_err-answer_typed-in-Perform-clause-stopped
+returns-in_err-answer_typed-in-Perform-clause-stopped g c =
+    stopped_same c.from_residual-in_err-answer_typed-in-Perform.result _ c.answer_typed.new.day.takes c.from_residual-in_err-answer_typed-in-Perform.ensures.1 c.in_err-answer_typed-in-Perform.ensures.stopped

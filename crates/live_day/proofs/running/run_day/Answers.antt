@@ -2,6 +2,7 @@ use Rattle.std.proofs.Common.{ℕ, ◌∙◌, ap, Option, Ok, arith}
 use Rattle.live_day.specs.declared.keyboard.Typed.{Typed}
 use Rattle.live_day.specs.Days.{DayValue}
 use Rattle.live_day.proofs.SessionLaws.{obeyed_none, obeyed_one, run_ends, run_quits, still_obeyed}
+use Rattle.live_day.proofs.StopLaws.{goes_on_err, of_no_log, stopped_same}
 use Rattle.live_day.proofs.ShowLaws.{after_none, shown_both, shown_none}
 use Rattle.live_day.specs.Typing.{IsAllTyped}
 use Rattle.live_day.proofs.TypingLaws.{text_ended, typed_end, typed_none, typed_one}
@@ -77,3 +78,10 @@ returns-in-None-clause-kept g c =
 pub returns-in_err-next-clause-kept : goal.returns-in_err-next-clause-kept
 returns-in_err-next-clause-kept g c =
     shown_both g.D.Disk.meaning c.args.day.now c.lines.day c.obey.new.day (g.S.Screen.shown c.args.screen.now) (g.S.Screen.shown c.lines.screen) (g.S.Screen.shown c.obey.new.screen) c.lines.invariant.kept c.obey.ensures.kept
+
+pub returns-in_err-typed-clause-stopped : goal.returns-in_err-typed-clause-stopped
+returns-in_err-typed-clause-stopped g c = goes_on_err c.from_residual.result _ c.lines.day.takes c.lines.invariant.takes c.from_residual.ensures.1 (of_no_log c.in_err-typed.field-0.0)
+
+pub returns-in_err-next-clause-stopped : goal.returns-in_err-next-clause-stopped
+returns-in_err-next-clause-stopped g c =
+    stopped_same c.from_residual-in_err-next.result _ c.obey.new.day.takes c.from_residual-in_err-next.ensures.1 c.in_err-next.ensures.stopped
