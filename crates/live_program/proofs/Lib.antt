@@ -1,5 +1,6 @@
 mod Commands
 mod ConsoleLaws
+mod DateLaws
 mod DayLaws
 mod FileLaws
 mod GreetingLaws

@@ -38,10 +38,14 @@ pub record IsAskedBy (rows : List Row) (options : Options) : Type 0 where
 abbrev pub IsAskedIn : List Text → Options → Type 0
 IsAskedIn words options = IsAskedBy (matches_of prompt_app words) options
 
+-- the words have a bad date, where they have all options that have to be given
+abbrev pub IsDateBadIn : List Text → Type 0
+IsDateBadIn words = HasPaths (matches_of prompt_app words) → HasBadDate (matches_of prompt_app words)
+
 -- why these words are not read as what they ask for: they are not taken, the date is bad, or memory was refused
 abbrev pub IsWhyNotRead : List Text → Ending (Failure LiveFailure) → Type 0
 IsWhyNotRead words ended.NoText = ⊥
 IsWhyNotRead words (ended.CommandLine error) = takes prompt_app words ≡ true → kind_of error ≡ OutOfMemory
-IsWhyNotRead words (ended.Failed failure.BadDate) = HasPaths (matches_of prompt_app words) → HasBadDate (matches_of prompt_app words)
+IsWhyNotRead words (ended.Failed failure.BadDate) = IsDateBadIn words
 IsWhyNotRead words (ended.Failed (failure.Work why)) = why ≡ no_memory
 IsWhyNotRead words (ended.Failed why) = ⊥

@@ -28,6 +28,11 @@ abbrev pub shown_of_numbers : List ℕ → ShownLine
 shown_of_numbers (moment ∷ (count ∷ (station ∷ line))) = record { moment = moment; count = count; station = station; line = line }
 shown_of_numbers other = record { moment = 0; count = 0; station = 0; line = [] }
 
+-- What contracts see of printed answers: the writer that they are printed by, and what was shown.
+pub record PrintedValue (W : Type 0) : Type 0 where
+  pub out : W
+  pub shown : List ShownLine
+
 -- a line as it is printed, its LF too
 abbrev pub shown_text : List ℕ → List ℕ
 shown_text line = line ++ LF ∷ []

@@ -1,7 +1,7 @@
 //! A day is closed: its files and an empty log take their places all together.
 #![tactic(auto, using(byte_io::specs::Laws::Sinks::sinks))]
 
-ghost use Rattle.std.specs.Prelude.{◌≡◌, Some, length, OnOk, IfOk};
+ghost use Rattle.std.specs.Prelude.{◌≡◌, Some, length, OnOk, IfOk, IsErrOf};
 ghost use Rattle.files_in_place.specs.Disk.{LeavesOnly, IsSyncedDisk};
 ghost use Rattle.files_in_place.specs.Recovery.{IsClean};
 ghost use Rattle.live_program.specs.Closings.{AreDayWritten, IsDayPlaced, IsOldOrDay};
@@ -94,6 +94,7 @@ fn close_into<D: Disk + Drop, O: Origin<D>>(
     requires clean { D.meaning.keeps_promises → IsClean (D.meaning.seen disk) }
     requires origin { O.origin ≡ Some disk }
     ensures count { IfOk result.0 (λ lived. lived.count ≡ length catalogue.now.journal) }
+    ensures dated { ¬ IsErrOf result.0 Failure.BadDate }
     ensures placed { D.meaning.keeps_promises → OnOk result.0 (IsDayPlaced catalogue.now today (D.meaning.seen disk) (D.meaning.seen result.1)) }
     ensures any_moment { D.meaning.keeps_promises → LeavesOnly D.meaning disk result.1 (IsOldOrDay catalogue.now today (D.meaning.seen disk)) }
 {
@@ -123,6 +124,7 @@ pub fn close_day<D: Disk + Drop>(
     requires synced { D.meaning.keeps_promises → IsSyncedDisk D.meaning disk }
     requires clean { D.meaning.keeps_promises → IsClean (D.meaning.seen disk) }
     ensures count { IfOk result.0 (λ lived. lived.count ≡ length catalogue.now.journal) }
+    ensures dated { ¬ IsErrOf result.0 Failure.BadDate }
     ensures placed { D.meaning.keeps_promises → OnOk result.0 (IsDayPlaced catalogue.now today (D.meaning.seen disk) (D.meaning.seen result.1)) }
     // A crash at any moment leaves the old files and their log, or the new ones and the empty log.
     ensures any_moment { D.meaning.keeps_promises → LeavesOnly D.meaning disk result.1 (IsOldOrDay catalogue.now today (D.meaning.seen disk)) }

@@ -1,9 +1,9 @@
 //! Lines that are typed, and answers that are printed.
 
-ghost use Rattle.std.specs.Prelude.{◌≡◌, ◌⊎◌, ◌<◌, ◌+◌, ◌++◌, ◌∷◌, [], false, length, map, OnErr, OnOk};
+ghost use Rattle.std.specs.Prelude.{◌≡◌, ◌⊎◌, ◌<◌, ◌+◌, ◌++◌, ◌∷◌, [], false, length, OnErr, OnOk};
 ghost use Rattle.std.specs.Io.KnownBytes.{Appends};
 ghost use Rattle.live_day.specs.Shows.{shown_now};
-ghost use Rattle.live_program.specs.Consoles.{shown_of_numbers, shown_text};
+ghost use Rattle.live_program.specs.Consoles.{shown_text};
 ghost use Rattle.live_program.specs.declared.console.TheConstants.{LINE_AT_ONCE};
 
 use crate::number_lists::{NumberLists, Numbered};
@@ -117,9 +117,21 @@ pub struct PrintedAnswers<W: Write + Drop> {
     shown: NumberLists,
 }
 
+impl<W: Write + Drop> Model for PrintedAnswers<W> {
+    ghost use Rattle.std.specs.Prelude.{map};
+    ghost use Rattle.live_program.specs.Consoles.{shown_of_numbers, PrintedValue as What};
+
+    ghost Value = { What W };
+
+    ghost view = { λ s. record { out = s.out; shown = map shown_of_numbers s.shown } };
+}
+
 impl<W: Write + Drop> PrintedAnswers<W> {
-    /// For a writer.
-    pub fn new(out: W) -> PrintedAnswers<W> {
+    /// For a writer: nothing is shown yet.
+    pub fn new(out: W) -> PrintedAnswers<W>
+        ensures out { result.out ≡ out }
+        ensures unshown { result.shown ≡ [] }
+    {
         PrintedAnswers {
             out,
             shown: NumberLists::empty(),
@@ -152,17 +164,13 @@ fn print_line<W: Write>(out: &mut W, line: &[u8]) -> io::Result<()>
 }
 
 impl<D: DiskInPlace + Drop, W: Write + Drop> Screen<D> for PrintedAnswers<W> {
-    ghost use Rattle.std.specs.Prelude.{map};
-    ghost use Rattle.live_program.specs.Consoles.{shown_of_numbers};
-
-    ghost shown = { λ s. map shown_of_numbers s.shown };
+    ghost shown = { λ s. s.shown };
 
     #[tactic(auto, using(crate::proofs::ConsoleLaws::shown_more))]
     fn show(&mut self, day: &Day<D>, station: u32, line: &[u8]) -> Result<(), ScreenFault>
-        ensures shown { OnOk result (map shown_of_numbers self.new.shown
-            ≡ map shown_of_numbers self.old.shown ++ shown_now D.meaning day.now station line.now ∷ []) }
-        ensures unshown { OnErr result ((map shown_of_numbers self.new.shown ≡ map shown_of_numbers self.old.shown)
-            ⊎ (map shown_of_numbers self.new.shown ≡ map shown_of_numbers self.old.shown ++ shown_now D.meaning day.now station line.now ∷ [])) }
+        ensures shown { OnOk result (self.new.shown ≡ self.old.shown ++ shown_now D.meaning day.now station line.now ∷ []) }
+        ensures unshown { OnErr result ((self.new.shown ≡ self.old.shown)
+            ⊎ (self.new.shown ≡ self.old.shown ++ shown_now D.meaning day.now station line.now ∷ [])) }
         // The writer has taken the line and its LF.
         ensures printed { OnOk result (Appends (W.contents self.old.out) (W.contents self.new.out) (shown_text line.now)) }
     {

@@ -1,6 +1,6 @@
 //! A life of the program: from the folder of its log to the day's end.
 
-ghost use Rattle.std.specs.Prelude.{◌≡◌, ◌≢◌, ◌≤◌, ℕ, [], true, false, length, IfErr, IfOk, IsErr, OnOk};
+ghost use Rattle.std.specs.Prelude.{◌≡◌, ◌≢◌, ◌≤◌, ℕ, [], true, false, length, IfErr, IfOk, IsErr, IsErrOf, OnOk};
 ghost use Rattle.files_in_place.specs.Disk.{IsSyncedDisk, LeavesOnly};
 ghost use Rattle.files_in_place.specs.Folder.{Name, is_reserved};
 ghost use Rattle.files_in_place.specs.Recovery.{IsClean, OthersAreWhole};
@@ -90,6 +90,7 @@ fn unstarted(fault: SetFault) -> LiveFailure
 // A life that ended for this.
 fn failed<D: DiskInPlace + Drop>(why: LiveFailure, disk: D) -> InPlace<Lived, LiveFailure, D>
     ensures ended { IsErr result.ended }
+    ensures dated { ¬ IsErrOf result.ended Failure.BadDate }
     ensures disk { result.disk ≡ disk }
 {
     InPlace {
@@ -118,6 +119,7 @@ fn begin_found<D: DiskInPlace + Drop>(
     ensures any_moment { D.meaning.keeps_promises → IfOk result (λ day.
         LeavesOnly D.meaning disk day.log.disk (IsOldOrPlacedWith log_name (log_of (parts_of found.catalogue.journal)) [] (D.meaning.seen disk))) }
     ensures refused { IfErr result (λ unbegun. IsErr unbegun.ended) }
+    ensures dated { IfErr result (λ unbegun. ¬ IsErrOf unbegun.ended Failure.BadDate) }
     ensures moment_of_fault { D.meaning.keeps_promises → IfErr result (λ unbegun.
         LeavesOnly D.meaning disk unbegun.disk (IsOldOrPlacedWith log_name (log_of (parts_of found.catalogue.journal)) [] (D.meaning.seen disk))) }
 {
@@ -158,6 +160,7 @@ fn begin_day<S: Source, D: DiskInPlace + Drop, E: Write>(
     ensures any_moment { D.meaning.keeps_promises → IfOk result (λ day.
         LeavesOnly D.meaning disk day.log.disk (IsOldOrPlacedWith log_name (log_of (parts_of day.history.journal)) [] (D.meaning.seen disk))) }
     ensures refused { IfErr result (λ unbegun. IsErr unbegun.ended) }
+    ensures dated { IfErr result (λ unbegun. ¬ IsErrOf unbegun.ended Failure.BadDate) }
     ensures unbegun { D.meaning.keeps_promises → IfErr result (λ unbegun. IsUnbegunDay D.meaning (S.files source.old) options.now disk unbegun.disk) }
     ensures kept { S.files source.new ≡ S.files source.old }
 {
@@ -176,6 +179,7 @@ fn close<D: DiskInPlace + Drop>(
 ) -> InPlace<Lived, LiveFailure, D>
     requires takes { day.takes ≡ true }
     ensures count { IfOk result.ended (λ lived. lived.count ≡ length day.history.journal) }
+    ensures dated { ¬ IsErrOf result.ended Failure.BadDate }
     ensures logged { D.meaning.keeps_promises → IsLogged D.meaning day }
     ensures placed { D.meaning.keeps_promises → OnOk result.ended (IsDayPlaced day.history today (D.meaning.seen day.log.disk) (D.meaning.seen result.disk)) }
     ensures any_moment { D.meaning.keeps_promises → LeavesOnly D.meaning day.log.disk result.disk (IsOldOrDay day.history today (D.meaning.seen day.log.disk)) }
@@ -188,6 +192,7 @@ fn close<D: DiskInPlace + Drop>(
 // The end of a day that was stopped: its log stands.
 fn stop<D: DiskInPlace + Drop>(why: LiveFailure, day: Day<D>) -> InPlace<Lived, LiveFailure, D>
     ensures ended { IsErr result.ended }
+    ensures dated { ¬ IsErrOf result.ended Failure.BadDate }
     ensures disk { result.disk ≡ day.log.disk }
 {
     let (_, log) = day.into_parts();
@@ -210,6 +215,7 @@ fn live_day<D: DiskInPlace + Drop, K: Keyboard, C: Screen<D>>(
         (K.typed keyboard.old) (K.typed keyboard.new) (λ left. ⊥) (D.meaning.seen day.log.disk) day.history today
         (C.shown screen.old) (C.shown screen.new) day.log.disk result.disk result.ended }
     ensures read { OnOk result.ended (HasTyped (K.text_left keyboard.old) (K.text_left keyboard.new) (K.typed keyboard.old) (K.typed keyboard.new)) }
+    ensures dated { ¬ IsErrOf result.ended Failure.BadDate }
 {
     let mut day = day;
     match run_day(alloc, &mut day, keyboard, screen) {
@@ -237,6 +243,8 @@ pub fn live_in_place<S: Source, D: DiskInPlace + Drop, K: Keyboard, C: Screen<D>
         (K.typed keyboard.old) (K.typed keyboard.new) (S.files source.old) options.now (C.shown screen.old) (C.shown screen.new) disk result.disk result.ended }
     // These lines are the first of the text, in order; what stands after them is left.
     ensures read { OnOk result.ended (HasTyped (K.text_left keyboard.old) (K.text_left keyboard.new) (K.typed keyboard.old) (K.typed keyboard.new)) }
+    // The date was read before.
+    ensures dated { ¬ IsErrOf result.ended Failure.BadDate }
     ensures kept { S.files source.new ≡ S.files source.old }
 {
     let disk = match begin_in_place::<Lived, LiveFailure, D>(alloc, disk) {

@@ -1,6 +1,7 @@
 use Rattle.std.proofs.Common.{◌≡◌, inl}
 use Rattle.files_in_place.specs.declared.phase.Phase.TheVariants.{Staging}
 use Rattle.folders.proofs.SinceLaws.{leaves_as}
+use Rattle.live_program.proofs.DateLaws.{placed_dated}
 use Rattle.live_program.proofs.DayLaws.{day_placed, none_failed, old_or_day, written_alone}
 use Rattle.live_program.proofs.closing.close_into.Goals as goal
 
@@ -23,3 +24,6 @@ returns-in-Err-default-clause-any_moment g c promised =
     let staging : c.write_day.new.folder.set.phase ≡ Staging = c.finish.ensures.staging (none_failed _ _ c.in-Ok.ensures.no_failure c.new-folder.ensures.failures) in
     leaves_as g.D.Disk.meaning c.args.disk c.finish.result.1 _ _ (rw c.requires.origin at (c.finish.ensures.since promised staging))
     (λ left. old_or_day _ _ _ _ left (written_alone _ _ _ _ c.new-folder.ensures.written c.in-Ok.ensures.wrote))
+
+pub returns-in-Err-default-clause-dated : goal.returns-in-Err-default-clause-dated
+returns-in-Err-default-clause-dated g c = placed_dated _ c.unplaced.result c.unplaced.ensures.value

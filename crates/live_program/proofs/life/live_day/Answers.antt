@@ -18,6 +18,7 @@ returns-in-Ok g c = record {
       (closed_day m promised begun day today x y kept c.requires.name clean c.close.result.disk logged closing) _
       (placed_day m promised begun day today x y kept c.requires.name clean c.close.result.disk logged closing) (c.close.ensures.placed promised) c.close.ensures.count;
   read = ok_always c.close.result.ended _ c.in-Ok.ensures.read;
+  dated = c.close.ensures.dated;
 }
 
 pub returns-in-Err : goal.returns-in-Err
@@ -29,4 +30,5 @@ returns-in-Err g c = record {
       let stopped = stopped_day m promised c.args.day c.run_day.new.day c.args.today x y c.run_day.ensures.kept c.requires.name (c.requires.clean promised) in
       stopped_ends m _ _ _ _ _ c.args.day.history c.run_day.new.day.history c.args.today x y c.args.day.log.disk c.stop.result.disk c.stop.result.ended c.stop.ensures.ended (rw c.stop.ensures.disk stopped);
   read = ok_never c.stop.result.ended _ c.stop.ensures.ended;
+  dated = c.stop.ensures.dated;
 }

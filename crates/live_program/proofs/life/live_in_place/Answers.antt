@@ -1,4 +1,4 @@
-use Rattle.std.proofs.Common.{◌≡◌}
+use Rattle.live_program.proofs.DateLaws.{unbegun_dated}
 use Rattle.live_program.proofs.LifeLaws.{begun_life, ok_never, unbegun_life, unrecovered_life}
 use Rattle.live_program.proofs.life.live_in_place.Goals as goal
 
@@ -21,3 +21,6 @@ returns-in-Err-clause-read g c = ok_never c.in-Err.refused.ended _ c.in-Err.ensu
 
 pub returns-in-Err-begin_day-clause-read : goal.returns-in-Err-begin_day-clause-read
 returns-in-Err-begin_day-clause-read g c = ok_never c.in-Err-begin_day.unbegun.ended _ c.in-Err-begin_day.ensures.refused
+
+pub returns-in-Err-clause-dated : goal.returns-in-Err-clause-dated
+returns-in-Err-clause-dated g c = unbegun_dated c.in-Err.refused.ended c.in-Err.ensures.unbegun

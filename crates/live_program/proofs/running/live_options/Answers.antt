@@ -1,4 +1,5 @@
 use Rattle.std.proofs.Common.{inl, refl}
+use Rattle.live_program.proofs.DateLaws.{unopened_dated}
 use Rattle.live_program.proofs.LifeLaws.{life_over}
 use Rattle.live_program.proofs.running.live_options.Goals as goal
 
@@ -8,3 +9,6 @@ returns-in-Some-clause-life g c =
 
 pub returns-in-None-clause-life : goal.returns-in-None-clause-life
 returns-in-None-clause-life g c = inl refl
+
+pub returns-in_err-disk-clause-dated : goal.returns-in_err-disk-clause-dated
+returns-in_err-disk-clause-dated g c = unopened_dated c.from_residual.result c.in_err-disk.field-0.0 c.from_residual.ensures.1
