@@ -4,3 +4,5 @@ pub mod Steps
 pub mod SelectedLaws
 pub mod Fronts
 pub mod Kept
+pub mod WidthLaws
+pub mod Among

@@ -12,7 +12,7 @@ kept-contained p xs x h = All-contains (Contains xs) (filter p xs) x (All-filter
 pub kept-passes : {X : Type 0} (p : X → Bool) (xs : List X) (x : X) → Contains (filter p xs) x → p x ≡ true
 kept-passes p xs x h = All-contains (λ y. p y ≡ true) (filter p xs) x (filter_passes p xs) h
 
-contained-later : {X : Type 0} (y : X) (ys : List X) (x : X) → Contains ys x → Contains (y ∷ ys) x
+pub contained-later : {X : Type 0} (y : X) (ys : List X) (x : X) → Contains ys x → Contains (y ∷ ys) x
 contained-later y ys x h = Contains-append_right (y ∷ []) ys x h
 
 contained-first : {X : Type 0} (y : X) (ys : List X) (x : X) → y ≡ x → Contains (y ∷ ys) x

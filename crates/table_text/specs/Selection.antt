@@ -1,6 +1,6 @@
 -- Which records of a table are shown.
-use Rattle.std.specs.Prelude.{ℕ, Bool, not, ◌&&◌, ◌||◌, List, length, Option, Some, None}
-use Rattle.std.specs.List.{filter, range_with_len}
+use Rattle.std.specs.Prelude.{ℕ, Bool, not, ◌&&◌, ◌||◌, ◌==◌, List, length, Option, Some, None}
+use Rattle.std.specs.List.{filter, list_any, range_with_len}
 use Rattle.std.specs.Int.{is_in_range}
 use Rattle.dbf_image.specs.Table.{Table, row_at}
 use Rattle.table_text.specs.declared.selection.Selection.{Selection}
@@ -26,3 +26,7 @@ numbers_in table (Some numbers) = numbers
 -- the numbers of the records that are shown: of the numbers in their order those that are selected
 abbrev pub selected : Table → Option (List ℕ) → Selection → List ℕ
 selected table order selection = filter (is_selected table selection) (numbers_in table order)
+
+-- the number is one of these
+abbrev pub is_among : List ℕ → ℕ → Bool
+is_among numbers number = list_any (λ n. number == n) numbers

@@ -1,14 +1,10 @@
 //! Texts in columns.
 
-ghost use Rattle.std.specs.Prelude.{◌≡◌, ◌++◌, ◌≤◌, ◌<◌, length, replicate, option_copied, IfOk, OnOk};
-ghost use Rattle.dbf_image.specs.Table.{kind_at};
+ghost use Rattle.std.specs.Prelude.{◌≡◌, ◌++◌, ◌≤◌, length, replicate, IfOk, OnOk};
 ghost use Rattle.dbf_fields.specs.declared.format.TheConstants.{BLANK as BLANK_BYTE};
-ghost use Rattle.table_text.specs.Columns.{aligned, cell_shown, columns_text, column_width as width_of_column};
-ghost use Rattle.table_text.specs.Columns.{filled_width as width_filled, column_widths as widths_of, number_width as width_of_numbers};
-ghost use Rattle.table_text.specs.Selection.{selected};
+ghost use Rattle.table_text.specs.Columns.{aligned, cell_shown, columns_text, number_width as width_of_numbers};
 
 use crate::memo_form::MemoForm;
-use crate::selection::{Selection, number_at, number_count};
 use crate::shown::show_cell;
 use dbf_fields::{BLANK, Field, NUMBER};
 use dbf_image::TableData;
@@ -83,79 +79,6 @@ pub(crate) fn append_cells(
         append_aligned(line, field.kind, widths[index], text.as_slice())?;
     }
     Ok(())
-}
-
-// How wide the column of a field is.
-fn column_width(
-    alloc: Global,
-    text: &mut Vec<u8>,
-    table: &TableData,
-    order: Option<&[u32]>,
-    selection: Selection,
-    index: usize,
-    field: &Field,
-    memos: MemoForm,
-) -> Result<usize, AllocError>
-    requires index { index < length table.now.schema }
-    requires kind { kind_at table.now.schema index ≡ field.now.kind }
-    ensures value { IfOk result (λ width. width ≡ width_of_column table.now (selected table.now (option_copied order.entry) selection) memos index field.now) }
-{
-    let mut width = field.name.as_slice().len();
-    for place in 0..number_count(table, order) {
-        let number = number_at(table, order, place);
-        if selection.takes(table, number) {
-            show_cell(alloc, text, table, number, index, field.kind, memos)?;
-            width = width.max(text.as_slice().len());
-        }
-    }
-    Ok(width)
-}
-
-// The width that the column of a field is filled up to. The last one isn't filled up at its end.
-fn filled_width(
-    alloc: Global,
-    text: &mut Vec<u8>,
-    table: &TableData,
-    order: Option<&[u32]>,
-    selection: Selection,
-    index: usize,
-    field: &Field,
-    memos: MemoForm,
-) -> Result<usize, AllocError>
-    requires index { index < length table.now.schema }
-    requires kind { kind_at table.now.schema index ≡ field.now.kind }
-    ensures value { IfOk result (λ width. width ≡ width_filled table.now (selected table.now (option_copied order.entry) selection) memos index field.now) }
-{
-    let fields = table.schema().fields();
-    let is_last = index + 1 == fields.len();
-    if is_last && field.kind != NUMBER {
-        return Ok(0);
-    }
-    column_width(alloc, text, table, order, selection, index, field, memos)
-}
-
-/// The widths that the columns of a table are filled up to.
-///
-/// An `Err` says that there was no memory.
-pub(crate) fn column_widths(
-    alloc: Global,
-    table: &TableData,
-    order: Option<&[u32]>,
-    selection: Selection,
-    memos: MemoForm,
-) -> Result<Vec<usize>, AllocError>
-    ensures value { IfOk result (λ widths. widths.items ≡ widths_of table.now (selected table.now (option_copied order.entry) selection) memos) }
-    ensures many { IfOk result (λ widths. length widths.items ≡ length table.now.schema) }
-{
-    let mut text = Vec::new(alloc);
-    let mut widths = Vec::new(alloc);
-    let fields = table.schema().fields();
-    for (index, field) in fields.iter().enumerate() {
-        widths.push(filled_width(
-            alloc, &mut text, table, order, selection, index, field, memos,
-        )?)?;
-    }
-    Ok(widths)
 }
 
 /// How wide the column of record numbers is.

@@ -22,6 +22,7 @@ mod selection;
 mod shown;
 mod shown_byte;
 mod structure;
+mod widths;
 
 pub use fault::TextFault;
 pub use memo_form::MemoForm;

@@ -5,13 +5,14 @@ ghost use Rattle.byte_io.specs.Sink.{grown, IsFront, Rises};
 ghost use Rattle.table_text.specs.Csv.{csv_text};
 ghost use Rattle.table_text.specs.Records.{heading_with, records_text};
 
-use crate::columns::{NUMBER_HEADING, append_aligned, append_names, column_widths, number_width};
+use crate::columns::{NUMBER_HEADING, append_aligned, append_names, number_width};
 use crate::csv::append_csv_heading;
 use crate::fault::TextFault;
 use crate::format::LF;
 use crate::lines::{ColumnLayout, LineFormat, write_lines};
 use crate::memo_form::MemoForm;
 use crate::selection::Selection;
+use crate::widths::column_widths;
 use byte_io::ByteSink;
 use dbf_fields::{BLANK, Field, NUMBER};
 use dbf_image::TableData;
@@ -42,8 +43,8 @@ fn heading(
 /// Columns are as wide as what is shown in them, but the last isn't filled up with blanks. Record numbers and numbers
 /// stand at the right. Dates are shown as MM/DD/YY. Of a memo `memos` says how much is shown. A byte that is no printable
 /// character of ASCII is shown as a backslash, `x` and two digits to the base 16, and a backslash twice. The records are
-/// gone through once for each column, to see how wide it is, and once more to be written, each as a line of its own: the
-/// memory that is taken is that of one line and of one memo.
+/// gone through once as they stand in the table, to see how wide the columns are, and once more to be written, each as a line of
+/// its own: the memory that is taken is that of one line, of one memo, and of a byte for each record.
 ///
 /// `NoMemory` says that there was no memory, for the widths, a line or a memo, and `Sink` that the sink failed. It has
 /// then taken a front part of the text, which may be nothing.
