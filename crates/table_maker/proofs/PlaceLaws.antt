@@ -1,5 +1,5 @@
 -- A table that is made in the folder of a disk, over no file that is there.
-use Rattle.std.proofs.Common.{◌≡◌, ◌≢◌, ◌⊎◌, ℕ, List, ◌++◌, Bool, true, false, Some, None, inl, inr, refl, ap, sym, ◌∙◌, subst}
+use Rattle.std.proofs.Common.{◌≡◌, ◌≢◌, ◌⊎◌, ℕ, ◌<◌, List, ◌++◌, Bool, true, false, Some, None, inl, inr, refl, ap, sym, ◌∙◌, subst}
 use Rattle.std.specs.Prelude.{Result, Ok, Err, Option, IfErr, IfOk, IfSome, IsErr, IsErrOf, MatchOption, OnOk}
 use Rattle.std.specs.Borrow.{Bor}
 use Rattle.files_in_place.specs.Disk.{AfterStep, DiskMeaning, LeavesOnly, OnlyReads}
@@ -17,7 +17,7 @@ use Rattle.program_frame.specs.Jobs.{IsLoadFailure, IsPlaceFailure, IsRunFailure
 use Rattle.program_frame.specs.Placing.{EndsInPlace, HasPut, IsRecovered, RecoversAsOneOf, TellsRecovery}
 use Rattle.program_frame.proofs.EndLaws.{ends_unbegun}
 use Rattle.table_maker.specs.Making.{memos_extension, table_extension}
-use Rattle.table_maker.specs.Placing.{HasMadeInto, IsFree, IsInTheWay, IsLooking, IsUnplaced, IsUnplacedInto, IsUnplacedLoad, IsUntried, LookFaults, StaysRecovered}
+use Rattle.table_maker.specs.Placing.{HasFailed, HasMadeInto, IsFree, IsInTheWay, IsLooking, IsUnplaced, IsUnplacedInto, IsUnplacedLoad, IsUntried, LookFaults, StaysRecovered}
 
 -- ---- looking at a disk that was recovered
 
@@ -205,6 +205,10 @@ unopened_exists exists none (place.Folder why) other is = absurd cc
 pub in_the_way : {D R F : Type 0} (m : DiskMeaning D) (is_opened : D → Type 0) (is_free : Folder → Type 0) (exists : F) (start : D) (ended : Result R (Failure F)) → is_opened start
     → (m.keeps_promises → IsErrOf ended (OfWork exists) → ¬ is_free (recovered (m.seen start))) → IsErrOf ended (OfWork exists) → IsInTheWay m is_opened is_free
 in_the_way m is_opened is_free exists start ended opened taken told = record { start = start; opened = opened; taken = λ promised. taken promised told }
+
+pub has_failed : {D R F : Type 0} (m : DiskMeaning D) (is_opened : D → Type 0) (unread : F) (start now : D) (ended : Result R (Failure F)) → is_opened start
+    → (IsErrOf ended (OfWork unread) → m.faults start < m.faults now) → IsErrOf ended (OfWork unread) → HasFailed m is_opened
+has_failed m is_opened unread start now ended opened failed told = record { start = start; end = now; opened = opened; failed = failed told }
 
 pub made_into : {D R F : Type 0} (m : DiskMeaning D) (is_opened : D → Type 0) (are_such : R → List NamedFile → Type 0) (is_free : Folder → Type 0) (start now : D) (ended : Result R (Failure F)) → is_opened start
     → (m.keeps_promises → IfOk ended (λ report. HasPut m (are_such report) (RecoversAsOneOf (m.may_leave start)) (recovered (m.seen start)) start now)) → (m.keeps_promises → OnOk ended (is_free (recovered (m.seen start))))

@@ -1,5 +1,5 @@
 -- A table's files that are made in the folder of a disk, and why they are not.
-use Rattle.std.specs.Prelude.{◌≡◌, ◌⊎◌, ℕ, Bool, false, List, None, ◌++◌}
+use Rattle.std.specs.Prelude.{◌≡◌, ◌⊎◌, ◌<◌, ℕ, Bool, false, List, None, ◌++◌}
 use Rattle.files_in_place.specs.Disk.{DiskMeaning}
 use Rattle.files_in_place.specs.Folder.{Folder, recovered}
 use Rattle.folders.specs.declared.named.NamedFile.{NamedFile}
@@ -58,6 +58,13 @@ pub record IsInTheWay {D : Type 0} (m : DiskMeaning D) (is_opened : D → Type 0
   pub start : D
   pub opened : is_opened start
   pub taken : m.keeps_promises → ¬ is_free (recovered (m.seen start))
+
+-- a folder was opened so, and since then a call of its disk has failed
+pub record HasFailed {D : Type 0} (m : DiskMeaning D) (is_opened : D → Type 0) : Type 0 where
+  pub start : D
+  pub end : D
+  pub opened : is_opened start
+  pub failed : m.faults start < m.faults end
 
 -- a table's files, which are such, were put into a folder that was opened so, of which this was true before
 pub record HasMadeInto {D : Type 0} (m : DiskMeaning D) (is_opened : D → Type 0) (are_such : List NamedFile → Type 0) (is_free : Folder → Type 0) : Type 0 where

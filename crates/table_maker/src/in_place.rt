@@ -1,7 +1,7 @@
 //! The making of a table in the folder of a disk, where its files take their places all together, over no file that is there
 //! unless it may be replaced.
 
-ghost use Rattle.std.specs.Prelude.{◌≡◌, ◌≤◌, ◌++◌, false, None, Some, IfErr, IfOk, IsErr, IsErrOf, IsSome, OnOk};
+ghost use Rattle.std.specs.Prelude.{◌≡◌, ◌<◌, ◌≤◌, ◌++◌, false, None, Some, IfErr, IfOk, IsErr, IsErrOf, IsSome, OnOk};
 ghost use Rattle.files_in_place.specs.Disk.{IsSyncedDisk, LeavesOnly};
 ghost use Rattle.files_in_place.specs.Folder.{recovered};
 ghost use Rattle.files_in_place.specs.Recovery.{HasOldFiles, IsClean, OthersAreWhole};
@@ -28,12 +28,14 @@ use std::marker::Brand;
 fn refuse_file<J: TableWork, D: Disk>(job: &J, disk: &mut D, name: &[u8]) -> Result<(), J::Fault>
     ensures free { D.meaning.keeps_promises → OnOk result (D.meaning.seen disk.old name.now ≡ None) }
     ensures exists { D.meaning.keeps_promises → IsErrOf result J.look.exists → IsSome (D.meaning.seen disk.old name.now) }
+    ensures unread { IsErrOf result J.look.unread → D.meaning.faults disk.old < D.meaning.faults disk.new }
     ensures fault { IfErr result (IsLooking J.look J.Fault.no_memory) }
     ensures recovered { StaysRecovered D.meaning disk.old disk.new }
     ensures same { D.meaning.seen disk.new ≡ D.meaning.seen disk.old }
     ensures later { D.meaning.faults disk.old ≤ D.meaning.faults disk.new }
 {
     job.exists_is_of_names_alone();
+    job.unread_is_of_the_folder_alone();
     match disk.has(name) {
         Ok(false) => Ok(()),
         Ok(true) => Err(J::exists()),
@@ -59,12 +61,14 @@ fn refuse_files<J: TableWork, D: Disk>(alloc: Global, job: &J, disk: &mut D) -> 
     ensures free { D.meaning.keeps_promises → OnOk result (IsFree (J.stem job.now) (J.in_capitals job.now) (D.meaning.seen disk.old)) }
     ensures exists { D.meaning.keeps_promises → IsErrOf result J.look.exists
         → ¬ IsFree (J.stem job.now) (J.in_capitals job.now) (D.meaning.seen disk.old) }
+    ensures unread { IsErrOf result J.look.unread → D.meaning.faults disk.old < D.meaning.faults disk.new }
     ensures fault { IfErr result (IsLooking J.look J.Fault.no_memory) }
     ensures recovered { StaysRecovered D.meaning disk.old disk.new }
     ensures same { D.meaning.seen disk.new ≡ D.meaning.seen disk.old }
     ensures later { D.meaning.faults disk.old ≤ D.meaning.faults disk.new }
 {
     job.exists_is_of_names_alone();
+    job.unread_is_of_the_folder_alone();
     let (dbf, dbt) = match names_of(alloc, job) {
         Ok(names) => names,
         Err(_) => return Err(J::Fault::out_of_memory()),
@@ -92,10 +96,12 @@ fn begin_free<J: TableWork, D: Disk + Drop>(
     ensures untried { IfErr result (λ refused. IfErr refused.ended (IsUntried J.look J.Fault.no_memory replace)) }
     ensures exists { D.meaning.keeps_promises → IfErr result (λ refused. IsErrOf refused.ended (OfWork J.look.exists)
         → ¬ IsFree (J.stem job.now) (J.in_capitals job.now) (recovered (D.meaning.seen disk))) }
+    ensures unread { IfErr result (λ refused. IsErrOf refused.ended (OfWork J.look.unread) → D.meaning.faults disk < D.meaning.faults refused.disk) }
     ensures old_files { IfErr result (λ refused. D.meaning.keeps_promises → LeavesOnly D.meaning disk refused.disk (RecoversAsOneOf (D.meaning.may_leave disk))) }
     ensures tells { IfErr result (λ refused. TellsRecovery D.meaning disk refused.disk refused.ended) }
 {
     job.exists_is_of_names_alone();
+    job.unread_is_of_the_folder_alone();
     let mut disk = match begin_in_place(alloc, disk) {
         Ok(disk) => disk,
         Err(refused) => return Err(refused),
@@ -158,6 +164,8 @@ pub fn make_in_place<J: TableWork, S: Source, D: Disk + Drop, E: Write>(
         → OnOk result.ended (replace ≡ false → IsFree (J.stem job.now) (J.in_capitals job.now) (recovered (D.meaning.seen disk))) }
     ensures exists { D.meaning.keeps_promises → IsErrOf result.ended (OfWork J.look.exists)
         → ¬ IsFree (J.stem job.now) (J.in_capitals job.now) (recovered (D.meaning.seen disk)) }
+    // That the folder can't be read is said only where a call of the disk has failed.
+    ensures unread { IsErrOf result.ended (OfWork J.look.unread) → D.meaning.faults disk < D.meaning.faults result.disk }
     ensures ends { EndsInPlace D.meaning (J.writes job.now (S.files source.old))
         (RecoversAsOneOf (D.meaning.may_leave disk)) (recovered (D.meaning.seen disk)) disk result.disk result.ended }
     ensures tells { TellsRecovery D.meaning disk result.disk result.ended }
@@ -170,6 +178,7 @@ pub fn make_in_place<J: TableWork, S: Source, D: Disk + Drop, E: Write>(
         (J.loads job.now (S.files source.old) (S.failures source.old) (S.failures source.new)) (S.failures source.new ≡ S.failures source.old) replace) }
 {
     job.exists_is_of_names_alone();
+    job.unread_is_of_the_folder_alone();
     match begin_free(alloc, job, replace, disk) {
         // Which disk the new files begin on is picked for contracts, at `Brand`.
         Ok(disk) => make_recovered::<J, S, D, Brand, E>(alloc, job, source, disk, err),

@@ -2,7 +2,7 @@
 
 ghost use Rattle.std.specs.Prelude.{◌≡◌, ◌≢◌, ◌++◌, ℕ, Bool, List, false, true, None, IfErr, IfOk, IfSome, IsErr, IsErrOf};
 ghost use Rattle.table_maker.specs.Making.{table_extension as extension_of_table};
-ghost use Rattle.table_maker.specs.Placing.{HasMadeInto, IsFree, IsInTheWay, IsUnplacedInto};
+ghost use Rattle.table_maker.specs.Placing.{HasFailed, HasMadeInto, IsFree, IsInTheWay, IsUnplacedInto};
 ghost use Rattle.program_frame.specs.Jobs.{ComesToItsEnd, IsRunFailure};
 ghost use Rattle.program_frame.specs.declared.ending.Failure.TheVariants.{Work as OfWork};
 
@@ -72,11 +72,14 @@ pub fn make_into<J: TableWork, S: Source, Y: System, E: Write>(
     // That a file is there is told only where one of the table's two names has one.
     ensures exists { IsErrOf result (OfWork J.look.exists)
         → IsInTheWay Y.Disk.meaning (Y.opens system.now folder.now) (IsFree (J.stem job.now) (J.in_capitals job.now)) }
+    // That the folder can't be read is told only where a call of its disk has failed.
+    ensures unread { IsErrOf result (OfWork J.look.unread) → HasFailed Y.Disk.meaning (Y.opens system.now folder.now) }
     ensures fault { IfErr result (IsUnplacedInto J.look J.Fault.no_memory (J.fails job.now (S.files source.old))
         (ComesToItsEnd (J.writes job.now (S.files source.old))) replace) }
     ensures kept { S.files source.new ≡ S.files source.old }
 {
     job.exists_is_of_names_alone();
+    job.unread_is_of_the_folder_alone();
     match system.open(alloc, folder)? {
         Some(disk) => make_in_place(alloc, job, replace, source, disk, err).ended,
         None => make_nowhere(alloc, job, source, err),

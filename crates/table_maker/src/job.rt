@@ -168,4 +168,6 @@ impl<'a> TableWork for MakeJob<'a> {
     }
 
     fn exists_is_of_names_alone(&self) {}
+
+    fn unread_is_of_the_folder_alone(&self) {}
 }

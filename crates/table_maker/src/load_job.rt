@@ -195,4 +195,6 @@ impl<'a> TableWork for LoadJob<'a> {
     }
 
     fn exists_is_of_names_alone(&self) {}
+
+    fn unread_is_of_the_folder_alone(&self) {}
 }

@@ -39,4 +39,9 @@ pub trait TableWork: Work {
         ensures work { (files : Option (List NamedFile)) → ¬ Self.fails self.now files look.exists }
         ensures memory { look.exists ≢ Self.Fault.no_memory }
         ensures unread { look.exists ≢ look.unread };
+
+    /// A law: that the folder can't be read is no fault of the work, and no want of memory.
+    fn unread_is_of_the_folder_alone(&self)
+        ensures work { (files : Option (List NamedFile)) → ¬ Self.fails self.now files look.unread }
+        ensures memory { look.unread ≢ Self.Fault.no_memory };
 }

@@ -24,6 +24,11 @@ returns-in-Ok-clause-exists g c promised told =
     absurd (begun_exists _ _ _ _ c.make_recovered.result.ended (c.exists_is_of_names_alone.ensures.work (g.S.Source.files c.args.source.now))
     c.exists_is_of_names_alone.ensures.memory c.make_recovered.ensures.fault told)
 
+pub returns-in-Ok-clause-unread : goal.returns-in-Ok-clause-unread
+returns-in-Ok-clause-unread g c told =
+    absurd (begun_exists _ _ _ _ c.make_recovered.result.ended (c.unread_is_of_the_folder_alone.ensures.work (g.S.Source.files c.args.source.now))
+    c.unread_is_of_the_folder_alone.ensures.memory c.make_recovered.ensures.fault told)
+
 pub returns-in-Err-clause-ends : goal.returns-in-Err-clause-ends
 returns-in-Err-clause-ends g c =
     ends_untried g.D.Disk.meaning (g.J.Job.writes c.args.job.now (g.S.Source.files c.args.source.now))

@@ -2,7 +2,7 @@ use Rattle.std.proofs.Common.{◌≡◌, false, List}
 use Rattle.files_in_place.specs.Folder.{Folder}
 use Rattle.folders.specs.declared.named.NamedFile.{NamedFile}
 use Rattle.table_maker.specs.Placing.{IsFree}
-use Rattle.table_maker.proofs.PlaceLaws.{made_into, nowhere_exists, nowhere_fault, opened_fault, in_the_way}
+use Rattle.table_maker.proofs.PlaceLaws.{has_failed, made_into, nowhere_exists, nowhere_fault, opened_fault, in_the_way}
 use Rattle.table_maker.proofs.into.make_into.Goals as goal
 
 pub returns-in-Some-clause-made : goal.returns-in-Some-clause-made
@@ -17,6 +17,11 @@ returns-in-Some-clause-exists g c =
     in_the_way g.Y.Disk.Disk.meaning (g.Y.System.opens c.args.system.now c.args.folder.now) (IsFree (g.J.TableWork.stem c.args.job.now) (g.J.TableWork.in_capitals c.args.job.now))
     _ c.in-Some.disk c.make_in_place.result.ended (rw c.in-Some.is at c.in_ok-disk.ensures.opened) c.make_in_place.ensures.exists
 
+pub returns-in-Some-clause-unread : goal.returns-in-Some-clause-unread
+returns-in-Some-clause-unread g c =
+    has_failed g.Y.Disk.Disk.meaning (g.Y.System.opens c.args.system.now c.args.folder.now) _
+    c.in-Some.disk c.make_in_place.result.disk c.make_in_place.result.ended (rw c.in-Some.is at c.in_ok-disk.ensures.opened) c.make_in_place.ensures.unread
+
 pub returns-in-Some-clause-fault : goal.returns-in-Some-clause-fault
 returns-in-Some-clause-fault g c = opened_fault _ _ _ _ _ c.make_in_place.result.ended c.make_in_place.ensures.fault
 
@@ -24,6 +29,11 @@ pub returns-in-None-clause-exists : goal.returns-in-None-clause-exists
 returns-in-None-clause-exists g c told =
     absurd (nowhere_exists _ _ _ _ c.make_nowhere.result (c.exists_is_of_names_alone.ensures.work (g.S.Source.files c.args.source.now))
     c.exists_is_of_names_alone.ensures.memory c.make_nowhere.ensures.fault told)
+
+pub returns-in-None-clause-unread : goal.returns-in-None-clause-unread
+returns-in-None-clause-unread g c told =
+    absurd (nowhere_exists _ _ _ _ c.make_nowhere.result (c.unread_is_of_the_folder_alone.ensures.work (g.S.Source.files c.args.source.now))
+    c.unread_is_of_the_folder_alone.ensures.memory c.make_nowhere.ensures.fault told)
 
 pub returns-in-None-clause-fault : goal.returns-in-None-clause-fault
 returns-in-None-clause-fault g c = nowhere_fault _ _ _ _ _ c.make_nowhere.result c.make_nowhere.ensures.fault
