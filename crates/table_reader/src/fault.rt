@@ -74,15 +74,15 @@ fn print_no_table<W: Write>(out: &mut W, why: ImageFault) -> io::Result<()>
     Ok(())
 }
 
-// Whether a load failed for want of memory.
-fn is_load_without_memory(why: LoadFault) -> bool
+/// Whether a load failed for want of memory. Takes none.
+pub fn is_load_without_memory(why: LoadFault) -> bool
     ensures value { result ≡ is_load_no_memory why }
 {
     matches!(why, LoadFault::NoMemory)
 }
 
-// Whether a table's files were not read for want of memory.
-fn is_image_without_memory(why: ImageFault) -> bool
+/// Whether a table's files were not read for want of memory. Takes none.
+pub fn is_image_without_memory(why: ImageFault) -> bool
     ensures value { result ≡ is_image_no_memory why }
 {
     matches!(why, ImageFault::NoMemory)

@@ -10,6 +10,6 @@ mod fault;
 mod memos;
 mod table;
 
-pub use fault::{TableReadFault, print_load};
+pub use fault::{TableReadFault, is_image_without_memory, is_load_without_memory, print_load};
 pub use memos::load_memos;
 pub use table::load_table;

@@ -2,7 +2,6 @@
 
 ghost use Rattle.std.specs.Prelude.{◌≡◌, ◌≢◌, true, false, Err, Ok, IfErr, IfOk, OnOk};
 ghost use Rattle.tool_program.specs.Faults.{path_at_fault, IsToolFaultOf, IsToolFaultOfAnswers, IsToolFaultOfDiff, IsToolFaultOfSetup};
-ghost use Rattle.table_reader.specs.TableFiles.{is_load_no_memory as is_want_of_load, is_image_no_memory as is_want_of_image};
 ghost use Rattle.tool_program.specs.Faults.{is_no_memory as is_want_of_memory, shown_fault as fault_of_showing};
 ghost use Rattle.tool_program.specs.Faults.{is_ndx_no_memory as is_want_of_ndx, is_expression_no_memory as is_want_of_expression};
 ghost use Rattle.tool_program.specs.Faults.{is_order_no_memory as is_want_of_order};
@@ -16,28 +15,13 @@ use crate::pairing::AnswersFault;
 use crate::report::ToolReport;
 use crate::showing::ShowFault;
 use answer_pairs::PairFault;
-use dbf_image::ImageFault;
 use folders::LoadFault;
 use key_expr::ExprFault;
 use ndx_index::NdxFault;
-use table_reader::TableReadFault;
+use table_reader::{TableReadFault, is_image_without_memory, is_load_without_memory};
 use table_text::TextFault;
 
-// Whether a fault of a load is a want of memory.
-fn is_load_no_memory(why: LoadFault) -> bool
-    ensures value { result ≡ is_want_of_load why }
-{
-    matches!(why, LoadFault::NoMemory)
-}
-
-// Whether a fault of a table's files is one.
-fn is_image_no_memory(why: ImageFault) -> bool
-    ensures value { result ≡ is_want_of_image why }
-{
-    matches!(why, ImageFault::NoMemory)
-}
-
-// Whether a fault of an index file's bytes is one.
+// Whether a fault of an index file's bytes is a want of memory.
 fn is_ndx_no_memory(why: NdxFault) -> bool
     ensures value { result ≡ is_want_of_ndx why }
 {
@@ -56,7 +40,7 @@ fn is_order_no_memory(why: OrderFault) -> bool
     ensures value { result ≡ is_want_of_order why }
 {
     match why {
-        OrderFault::Load(why) => is_load_no_memory(why),
+        OrderFault::Load(why) => is_load_without_memory(why),
         OrderFault::Index(why) => is_ndx_no_memory(why),
         OrderFault::Expression(why) => is_expression_no_memory(why),
         OrderFault::Stale => false,
@@ -69,9 +53,9 @@ fn is_no_memory(fault: ShowFault) -> bool
     ensures value { result ≡ is_want_of_memory fault }
 {
     match fault {
-        ShowFault::Load(why) => is_load_no_memory(why),
-        ShowFault::Memos(why) => is_load_no_memory(why),
-        ShowFault::Table(why) => is_image_no_memory(why),
+        ShowFault::Load(why) => is_load_without_memory(why),
+        ShowFault::Memos(why) => is_load_without_memory(why),
+        ShowFault::Table(why) => is_image_without_memory(why),
         ShowFault::Order(why) => is_order_no_memory(why),
         ShowFault::Text(TextFault::NoMemory) => true,
         ShowFault::Text(TextFault::Sink) => false,

@@ -209,6 +209,10 @@ pub fn run_words<'a, F: Source, S: ByteSink + MayClose, Y: System, T: AsStr>(
         → IsTakenTo Y.Disk.meaning (Y.opens system.now) (map T.text words.entry.now) }
     ensures load_taken { IsErrOf result (Ending.Failed (ToolFault.Load (OfWork IsThere)))
         → IsLoadTakenTo Y.Disk.meaning (Y.opens system.now) (map T.text words.entry.now) }
+    // That nobody reads the output any more is said only where that is so, and that it failed only where it is not; and both only
+    // after a failure.
+    ensures unread { result ≡ Ok ToolReport.Unread → (S.closed sink.new ≡ true) × Rises (S.failures sink.old) (S.failures sink.new) }
+    ensures output { result ≡ Err (Ending.Failed ToolFault.Output) → (S.closed sink.new ≡ false) × Rises (S.failures sink.old) (S.failures sink.new) }
     // Why it was not is what the words say, or a fault of what they ask for.
     ensures fault { IfErr result (IsWhyNotDone (map T.text words.entry.now) (F.files source.old) (F.failures source.old) (F.failures source.new)) }
     ensures kept { IsFront (S.written sink.old) (S.written sink.new) }

@@ -1,6 +1,6 @@
 //! Standard output as a sink.
 
-ghost use Rattle.std.specs.Prelude.{◌≡◌, ◌<◌, ◌≤◌, Bool, IfOk, OnOk, length};
+ghost use Rattle.std.specs.Prelude.{◌≡◌, ◌<◌, ◌≤◌, Bool, false, IfOk, OnOk, length};
 ghost use Rattle.std.specs.Io.KnownBytes.{WriteAppends};
 
 use byte_io::{ByteSink, SinkFault};
@@ -25,8 +25,11 @@ pub struct StreamSink<W: Write + Drop> {
 }
 
 impl<W: Write + Drop> StreamSink<W> {
-    /// The stream as a sink.
-    pub fn new(out: W) -> StreamSink<W> {
+    /// The stream as a sink, of which no write has failed.
+    pub fn new(out: W) -> StreamSink<W>
+        ensures out { result.out ≡ out }
+        ensures open { result.is_closed ≡ false }
+    {
         StreamSink {
             out,
             is_closed: false,
