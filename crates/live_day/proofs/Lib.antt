@@ -1,6 +1,9 @@
 mod DayLaws
+mod GroupLaws
 mod SessionLaws
 mod ShowLaws
+mod SinceLaws
 mod StartLaws
 mod StopLaws
 mod TypingLaws
+mod WaitingLaws

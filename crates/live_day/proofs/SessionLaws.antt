@@ -3,7 +3,6 @@ use Rattle.std.proofs.Common.{◌≡◌, ◌⊎◌, inl, ◌<◌, ◌≤◌, ℕ
 use Rattle.std.proofs.lemmas.List.{append-nil, map-append}
 use Rattle.catalogue_core.specs.Replay.{History}
 use Rattle.live_day.specs.declared.keyboard.Typed.{Typed}
-use Rattle.live_day.specs.declared.wish.Wish.TheVariants.{Quit}
 use Rattle.files_in_place.specs.Disk.{DiskMeaning}
 use Rattle.catalogue_core.specs.declared.command.Command.TheVariants.{Bad}
 use Rattle.station_lines.specs.declared.script.line.Line.{Line}
@@ -13,7 +12,7 @@ use Rattle.live_day.specs.declared.faults.LineFault.{LineFault}
 use Rattle.live_day.specs.declared.keyboard.Typed.TheVariants.{Text, TooLong}
 use Rattle.live_day.specs.Days.{DayValue, IsAnswerTold}
 use Rattle.live_day.specs.Shows.{ShownLine, MayBeTold, shown_now}
-use Rattle.live_day.specs.Sessions.{Told, told_in, one_told, answer_told, MeansTyped, TellsMore, IsObeyed, AreObeyed, HasObeyed, IsDayRun, IsWishTyped}
+use Rattle.live_day.specs.Sessions.{Told, told_in, one_told, answer_told, MeansTyped, TellsMore, IsObeyed, AreObeyed, HasObeyed}
 
 pub tells_none : (shown : List ShownLine) → TellsMore shown shown []
 tells_none shown = record { lines = []; more = sym (append-nil shown); told_is = refl }
@@ -33,7 +32,7 @@ tells_both x y z a b first second = record {
 }
 
 -- one line more
-obeyed_more : (lines : List Typed) (line : Typed) (station : ℕ) (old : History) (next : ℕ) (mid : History) (told : List Told) (last : ℕ) (new : History) (more : List Told)
+pub obeyed_more : (lines : List Typed) (line : Typed) (station : ℕ) (old : History) (next : ℕ) (mid : History) (told : List Told) (last : ℕ) (new : History) (more : List Told)
     → AreObeyed lines station old next mid told → IsObeyed next line mid last new more → AreObeyed (lines ++ line ∷ []) station old last new (told ++ more)
 obeyed_more [] line station old next mid told last new more are one = record {
   next = last;
@@ -56,46 +55,6 @@ obeyed_more (l ∷ lines) line station old next mid told last new more are one =
 
 pub obeyed_none : (typed : List Typed) (h : History) (shown : List ShownLine) → HasObeyed typed typed h h shown shown 1
 obeyed_none typed h shown = record { lines = []; read = sym (append-nil typed); told = []; obeyed = (refl, refl, refl); tells = tells_none shown }
-
-pub obeyed_one : (typed typed_now typed_then : List Typed) (old now new : History) (x y z : List ShownLine) (station next : ℕ) (line : Typed) (told : List Told)
-    → HasObeyed typed typed_now old now x y station → typed_then ≡ typed_now ++ line ∷ [] → TellsMore y z told → IsObeyed station line now next new told
-    → HasObeyed typed typed_then old new x z next
-obeyed_one typed typed_now typed_then old now new x y z station next line told has read tells one = record {
-  lines = has.lines ++ line ∷ [];
-  read = read ∙ ap (λ (l : List Typed). l ++ line ∷ []) has.read ∙ append_assoc typed has.lines (line ∷ []);
-  told = has.told ++ told;
-  obeyed = obeyed_more has.lines line 1 old station now has.told next new told has.obeyed one;
-  tells = tells_both x y z has.told told has.tells tells;
-}
-
--- nothing more was made
-pub still_obeyed : (typed typed_now : List Typed) (old now then_ : History) (x y z : List ShownLine) (station : ℕ) → then_ ≡ now → z ≡ y → HasObeyed typed typed_now old now x y station → HasObeyed typed typed_now old then_ x z station
-still_obeyed typed typed_now old now then_ x y z station same shown has =
-    subst (λ (h : History). HasObeyed typed typed_now old h x z station) (sym same) (subst (λ (l : List ShownLine). HasObeyed typed typed_now old now x l station) (sym shown) has)
-
--- no more come
-pub run_ends : (ended : Type 0) (typed typed_now typed_then : List Typed) (old new : History) (x y : List ShownLine) (station : ℕ)
-    → HasObeyed typed typed_now old new x y station → typed_then ≡ typed_now → ended → IsDayRun ended typed typed_then old new x y
-run_ends ended typed typed_now typed_then old new x y station has same now = record {
-  end = [];
-  at_end = now;
-  typed_before = typed_now;
-  read = same ∙ sym (append-nil typed_now);
-  station = station;
-  obeyed = has;
-}
-
--- QUIT was typed
-pub run_quits : (ended : Type 0) (typed typed_now typed_then : List Typed) (old new : History) (x y : List ShownLine) (station : ℕ) (line : Typed)
-    → HasObeyed typed typed_now old new x y station → typed_then ≡ typed_now ++ line ∷ [] → IsWishTyped line Quit → IsDayRun ended typed typed_then old new x y
-run_quits ended typed typed_now typed_then old new x y station line has read quits = record {
-  end = line ∷ [];
-  at_end = (quits, refl);
-  typed_before = typed_now;
-  read = read;
-  station = station;
-  obeyed = has;
-}
 
 -- ---- at the exits of calls
 

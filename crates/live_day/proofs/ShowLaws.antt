@@ -17,11 +17,11 @@ use Rattle.live_day.proofs.DayLaws.{since_more}
 
 -- ---- lists
 
-all_append : {A : Type 0} (P : A → Type 0) (xs ys : List A) → AllByRecursion P xs → AllByRecursion P ys → AllByRecursion P (xs ++ ys)
+pub all_append : {A : Type 0} (P : A → Type 0) (xs ys : List A) → AllByRecursion P xs → AllByRecursion P ys → AllByRecursion P (xs ++ ys)
 all_append P [] ys all more = more
 all_append P (x ∷ xs) ys all more = (all.0, all_append P xs ys all.1 more)
 
-all_by : {A : Type 0} (P Q : A → Type 0) → ((x : A) → P x → Q x) → (xs : List A) → AllByRecursion P xs → AllByRecursion Q xs
+pub all_by : {A : Type 0} (P Q : A → Type 0) → ((x : A) → P x → Q x) → (xs : List A) → AllByRecursion P xs → AllByRecursion Q xs
 all_by P Q by [] all = tt
 all_by P Q by (x ∷ xs) all = (by x all.0, all_by P Q by xs all.1)
 
@@ -43,7 +43,7 @@ front_more name least journal next more c is has = record {
   enough = has.enough;
 }
 
-front_less : (name other : Name) (least fewer : ℕ) (journal : List LineParts) (c : Folder) → other ≡ name → fewer ≤ least → HasFront name least journal c → HasFront other fewer journal c
+pub front_less : (name other : Name) (least fewer : ℕ) (journal : List LineParts) (c : Folder) → other ≡ name → fewer ≤ least → HasFront name least journal c → HasFront other fewer journal c
 front_less name other least fewer journal c same le has = record {
   log = has.log;
   there = ap c same ∙ has.there;
@@ -84,18 +84,18 @@ parts_more : (old new : History) (on : HasGoneOn old new) → parts_of new.journ
 parts_more old new on = ap parts_of on.journal ∙ map-append line_parts old.journal on.more
 
 -- the history with the first entries is the same, however it goes on
-at_count_more : (old new : History) (on : HasGoneOn old new) (count : ℕ) → count ≤ length old.journal → at_count new count ≡ at_count old count
+pub at_count_more : (old new : History) (on : HasGoneOn old new) (count : ℕ) → count ≤ length old.journal → at_count new count ≡ at_count old count
 at_count_more old new on count le =
     ap (λ (o : Opened). history o (take count new.journal)) on.opened
     ∙ ap (λ (es : List Entry). history old.opened (take count es)) on.journal
     ∙ ap (λ (es : List Entry). history old.opened es) (take-append-le count old.journal on.more le)
 
-at_count_all : (h : History) → at_count h (length h.journal) ≡ h
+pub at_count_all : (h : History) → at_count h (length h.journal) ≡ h
 at_count_all h = ap (λ (es : List Entry). history h.opened es) (take_all (length h.journal) h.journal (omega arith))
 
 module _ {D : Type 0} (m : DiskMeaning D) where
   -- what a crash leaves where the log on the disk is that of the journal, and all that is seen is on the disk
-  front_now : (day : DayValue D) → IsLogged m day → IsSyncedDisk m day.log.disk → (c : Folder) → m.may_leave day.log.disk c
+  pub front_now : (day : DayValue D) → IsLogged m day → IsSyncedDisk m day.log.disk → (c : Folder) → m.may_leave day.log.disk c
       → HasFrontIn day.log.name (length day.history.journal) (parts_of day.history.journal) (m.seen day.log.disk) c
   front_now day logged synced c left = record {
     kept = record {

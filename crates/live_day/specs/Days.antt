@@ -1,5 +1,5 @@
 -- A live day: tables as they were opened, what was performed since, and the log of it.
-use Rattle.std.specs.Prelude.{◌≡◌, ◌⊎◌, ◌++◌, ℕ, List, length, drop, map, Bool, Option, Some, None}
+use Rattle.std.specs.Prelude.{◌≡◌, ◌⊎◌, ◌<◌, ◌++◌, ℕ, List, length, drop, map, Bool, false, Option, Some, None}
 use Rattle.files_in_place.specs.Disk.{DiskMeaning}
 use Rattle.catalogue_core.specs.declared.command.Command.{Command}
 use Rattle.catalogue_core.specs.declared.entry.Entry.{Entry}
@@ -72,3 +72,10 @@ module _ {D : Type 0} (m : DiskMeaning D) where
   -- the log on the disk is that of the journal
   abbrev pub IsLogged : DayValue D → Type 0
   IsLogged day = HasLog day.log.name (parts_of day.history.journal) (m.seen day.log.disk)
+
+-- The one day has gone on as the other, and nothing was put to the log since: nothing was performed, or something was, and then the day
+-- takes no lines.
+pub record HasPerformedSince {D : Type 0} (old new : DayValue D) : Type 0 where
+  pub history : HasGoneOn old.history new.history
+  pub log : new.log ≡ old.log
+  pub either : (new ≡ old) ⊎ ((new.takes ≡ false) × (length old.history.journal < length new.history.journal))

@@ -1,7 +1,9 @@
 pub mod Days
 pub mod Faults
+pub mod Groups
 pub mod Sessions
 pub mod Shows
 pub mod Starts
 pub mod Typing
+pub mod Waiting
 pub mod Wishes

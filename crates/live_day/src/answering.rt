@@ -1,11 +1,12 @@
 //! A typed line is obeyed: its answer is shown, where it is one of a script.
 
-ghost use Rattle.std.specs.Prelude.{◌≡◌, ◌↔◌, ◌≤◌, List, true, false, Ok, None, IfOk, IfErr, IfSome, IsErrAnd, OnOk};
+ghost use Rattle.std.specs.Prelude.{◌≡◌, ◌↔◌, ◌≤◌, ◌<◌, List, length, take, true, false, IfOk, IfErr, IfSome, IsErrAnd, OnOk};
+ghost use Rattle.std.specs.List.{AllByRecursion};
 ghost use Rattle.station_lines.specs.declared.script.line.Line.{Line as Meaning};
-ghost use Rattle.live_day.specs.declared.wish.Wish.TheVariants.{Quit};
 ghost use Rattle.live_day.specs.Days.{AnswersLine, IsAnswerTold, IsUnperformed};
 ghost use Rattle.live_day.specs.Faults.{IsOfLog};
-ghost use Rattle.live_day.specs.Sessions.{Told, answer_told, notice_told, IsLineDone, IsObeyed, IsSeated, IsWishTyped, MeansTyped, TellsMore};
+ghost use Rattle.live_day.specs.Groups.{IsNoQuit};
+ghost use Rattle.live_day.specs.Sessions.{Told, answer_told, AreObeyed, notice_told, IsLineDone, IsObeyed, IsSeated, IsWishTyped, MeansTyped, TellsMore};
 ghost use Rattle.live_day.specs.Shows.{IsDayAfter, KeepsShown};
 
 use crate::day::Day;
@@ -131,8 +132,8 @@ fn take_seat<D: DiskInPlace + Drop, S: Screen<D>>(
     Ok(station)
 }
 
-// What a typed line asks for: one that is too long, nothing of the keyboard.
-fn wish_typed(typed: &Typed) -> Wish
+/// What a typed line asks for: one that is too long, nothing of the keyboard.
+pub(crate) fn wish_typed(typed: &Typed) -> Wish
     ensures value { IsWishTyped typed.now result }
 {
     match typed {
@@ -141,34 +142,118 @@ fn wish_typed(typed: &Typed) -> Wish
     }
 }
 
-/// Obeys a typed line, and answers which station has the keyboard then. `None` where it is QUIT: then nothing is done.
-pub(crate) fn obey<D: DiskInPlace + Drop, S: Screen<D>>(
+// Obeys a typed line that is not QUIT by itself, and answers which station has the keyboard then.
+fn obey<D: DiskInPlace + Drop, S: Screen<D>>(
     day: &mut Day<D>,
     screen: &mut S,
     station: u32,
     typed: &Typed,
-) -> Result<Option<u32>, RunFault>
+) -> Result<u32, RunFault>
     requires takes { day.old.takes ≡ true }
     requires counted { 1 ≤ station }
     requires inside { station ≤ day.old.history.opened.stations }
-    ensures obeyed { IfOk result (λ next. IfSome next (λ next. (told : List Told) × TellsMore (S.shown screen.old) (S.shown screen.new) told
-        × IsObeyed station typed.now day.old.history next day.new.history told)) }
-    ensures quits { result ≡ Ok None → IsWishTyped typed.now Quit }
-    ensures undone { result ≡ Ok None → (day.new ≡ day.old) × (S.shown screen.new ≡ S.shown screen.old) }
-    ensures counted { IfOk result (λ next. IfSome next (λ next. 1 ≤ next)) }
-    ensures inside { IfOk result (λ next. IfSome next (λ next. next ≤ day.new.history.opened.stations)) }
+    requires no_quit { IsNoQuit typed.now }
+    ensures obeyed { IfOk result (λ next. (told : List Told) × TellsMore (S.shown screen.old) (S.shown screen.new) told
+        × IsObeyed station typed.now day.old.history next day.new.history told) }
+    ensures counted { IfOk result (λ next. 1 ≤ next) }
+    ensures inside { IfOk result (λ next. next ≤ day.new.history.opened.stations) }
+    ensures takes { OnOk result (day.new.takes ≡ true) }
+    ensures stopped { IsErrAnd result IsOfLog ↔ (day.new.takes ≡ false) }
+    ensures kept { KeepsShown D.meaning day.old day.new (S.shown screen.old) (S.shown screen.new) }
+{
+    match wish_typed(typed) {
+        Wish::Station(wanted) => take_seat(day, screen, station, wanted),
+        Wish::Perform | Wish::Quit => {
+            answer_typed(day, screen, station, typed)?;
+            Ok(station)
+        }
+    }
+}
+
+// Obeys the first of these lines as one group, and shows their answers. Answers how many lines these were, and which station has the
+// keyboard then.
+fn obey_front<D: DiskInPlace + Drop, S: Screen<D>>(
+    day: &mut Day<D>,
+    screen: &mut S,
+    station: u32,
+    lines: &[Typed],
+) -> Result<(usize, u32), RunFault>
+    requires takes { day.old.takes ≡ true }
+    requires counted { 1 ≤ station }
+    requires inside { station ≤ day.old.history.opened.stations }
+    ensures within { IfOk result (λ done. done.0 ≤ length lines.now) }
+    ensures obeyed { IfOk result (λ done. (told : List Told) × TellsMore (S.shown screen.old) (S.shown screen.new) told
+        × AreObeyed (take done.0 lines.now) station day.old.history done.1 day.new.history told) }
+    ensures counted { IfOk result (λ done. 1 ≤ done.1) }
+    ensures inside { IfOk result (λ done. done.1 ≤ day.new.history.opened.stations) }
+    ensures takes { OnOk result (day.new.takes ≡ true) }
+    ensures stopped { IsErrAnd result IsOfLog ↔ (day.new.takes ≡ false) }
+    ensures kept { KeepsShown D.meaning day.old day.new (S.shown screen.old) (S.shown screen.new) }
+{
+    let front = day.lines(station, lines)?;
+    // For contracts alone: the journal is on the disk.
+    let _ = day.station_count();
+    screen.show_all(day, front.answers.as_slice())?;
+    Ok((front.count, front.station))
+}
+
+// Obeys the first of these lines as one group, and the line that ended it by itself.
+fn obey_some<D: DiskInPlace + Drop, S: Screen<D>>(
+    day: &mut Day<D>,
+    screen: &mut S,
+    station: u32,
+    lines: &[Typed],
+) -> Result<(usize, u32), RunFault>
+    requires takes { day.old.takes ≡ true }
+    requires counted { 1 ≤ station }
+    requires inside { station ≤ day.old.history.opened.stations }
+    requires no_quit { AllByRecursion IsNoQuit lines.now }
+    ensures some { IfOk result (λ done. 0 < length lines.now → 0 < done.0) }
+    ensures within { IfOk result (λ done. done.0 ≤ length lines.now) }
+    ensures obeyed { IfOk result (λ done. (told : List Told) × TellsMore (S.shown screen.old) (S.shown screen.new) told
+        × AreObeyed (take done.0 lines.now) station day.old.history done.1 day.new.history told) }
+    ensures counted { IfOk result (λ done. 1 ≤ done.1) }
+    ensures inside { IfOk result (λ done. done.1 ≤ day.new.history.opened.stations) }
+    ensures takes { OnOk result (day.new.takes ≡ true) }
+    ensures stopped { IsErrAnd result IsOfLog ↔ (day.new.takes ≡ false) }
+    ensures kept { KeepsShown D.meaning day.old day.new (S.shown screen.old) (S.shown screen.new) }
+{
+    let (count, next) = obey_front(day, screen, station, lines)?;
+    if count == lines.len() {
+        return Ok((count, next));
+    }
+    let last = obey(day, screen, next, &lines[count])?;
+    Ok((count + 1, last))
+}
+
+/// Obeys lines that are there together, none of them QUIT, and answers which station has the keyboard then.
+pub(crate) fn obey_lines<D: DiskInPlace + Drop, S: Screen<D>>(
+    day: &mut Day<D>,
+    screen: &mut S,
+    station: u32,
+    lines: &[Typed],
+) -> Result<u32, RunFault>
+    requires takes { day.old.takes ≡ true }
+    requires counted { 1 ≤ station }
+    requires inside { station ≤ day.old.history.opened.stations }
+    requires no_quit { AllByRecursion IsNoQuit lines.now }
+    ensures obeyed { IfOk result (λ next. (told : List Told) × TellsMore (S.shown screen.old) (S.shown screen.new) told
+        × AreObeyed lines.now station day.old.history next day.new.history told) }
+    ensures counted { IfOk result (λ next. 1 ≤ next) }
+    ensures inside { IfOk result (λ next. next ≤ day.new.history.opened.stations) }
     ensures takes { OnOk result (day.new.takes ≡ true) }
     ensures stopped { IsErrAnd result IsOfLog ↔ (day.new.takes ≡ false) }
     ensures kept { KeepsShown D.meaning day.old day.new (S.shown screen.old) (S.shown screen.new) }
 {
     // For contracts alone: the journal is on the disk.
     let _ = day.station_count();
-    match wish_typed(typed) {
-        Wish::Quit => Ok(None),
-        Wish::Station(wanted) => Ok(Some(take_seat(day, screen, station, wanted)?)),
-        Wish::Perform => {
-            answer_typed(day, screen, station, typed)?;
-            Ok(Some(station))
-        }
+    let mut seated = station;
+    let mut rest = lines;
+    'obeying: while !rest.is_empty() {
+        let (count, next) = obey_some(day, screen, seated, rest)?;
+        let (_, others) = rest.split_at(count);
+        seated = next;
+        rest = others;
     }
+    Ok(seated)
 }

@@ -1,6 +1,7 @@
 //! The tables of a day, and the log of what was performed on them.
 
-ghost use Rattle.std.specs.Prelude.{◌≡◌, ◌≤◌, true, false, Some, Err, IfOk, IfErr, IfSome, OnOk, IsErrOf};
+ghost use Rattle.std.specs.Prelude.{◌≡◌, ◌≤◌, true, false, length, Some, Err, IfOk, IfErr, IfSome, OnOk, OnErr, IsErrOf};
+ghost use Rattle.std.specs.List.{AllByRecursion};
 ghost use Rattle.files_in_place.specs.Folder.{SameBut};
 ghost use Rattle.files_in_place.specs.Disk.{LeavesOnly, IsSyncedDisk, HasDiskCause};
 ghost use Rattle.catalogue_core.specs.Replay.{answer_of, with_entry};
@@ -10,9 +11,14 @@ ghost use Rattle.station_lines.specs.AnswerLines.{line_of, status_text};
 ghost use Rattle.station_lines.specs.Script.Meaning.{Means};
 ghost use Rattle.live_log.specs.declared.faults.LogFault.TheVariants.{Closed, Failed};
 ghost use Rattle.live_log.specs.Logs.{HasLog};
-ghost use Rattle.live_day.specs.Days.{parts_of, AnswersLine, HasPutSince, HasGoneOn, IsAnswerTold, IsLogged, IsPerformed, IsUnperformed};
+ghost use Rattle.live_day.specs.Days.{parts_of, AnswersLine, HasPerformedSince, HasPutSince, HasGoneOn, IsAnswerTold, IsLogged, IsPerformed, IsUnperformed};
+ghost use Rattle.live_day.specs.Groups.{IsFrontObeyed};
+ghost use Rattle.live_day.specs.Sessions.{MeansTyped};
+ghost use Rattle.live_day.specs.Waiting.{IsWaiting};
 
 use crate::faults::LineFault;
+use crate::group::{Front, perform_front};
+use crate::keyboard::Typed;
 use byte_io::Bytes;
 use catalogue_core::{Catalogue, Command};
 use disk_in_place::DiskInPlace;
@@ -66,7 +72,7 @@ impl<D: DiskInPlace + Drop> Day<D> {
     }
 
     // Performs a command, and makes the line of its answer.
-    #[tactic(auto, using(crate::proofs::DayLaws::goes_same, crate::proofs::DayLaws::goes_entry))]
+    #[tactic(auto, using(crate::proofs::DayLaws::goes_same, crate::proofs::DayLaws::goes_entry, crate::proofs::SinceLaws::since_same, crate::proofs::SinceLaws::since_entry_one))]
     fn perform(&mut self, station: u32, command: &Command) -> Result<Bytes, LineFault>
         requires counted { 1 ≤ station }
         requires inside { station ≤ self.old.history.opened.stations }
@@ -79,6 +85,8 @@ impl<D: DiskInPlace + Drop> Day<D> {
         ensures no_disk { ¬ IsErrOf result (LineFault.Ended Failed) }
         ensures takes { self.new.takes ≡ true → self.new ≡ self.old }
         ensures log { self.new.log ≡ self.old.log }
+        ensures since { HasPerformedSince self.old self.new }
+        ensures closed { IfErr result (λ fault. ¬ (IsUnperformed fault) → self.new.takes ≡ false) }
     {
         let (_, answer) = self.catalogue.perform(self.alloc, station, command)?;
         self.takes = false;
@@ -97,6 +105,66 @@ impl<D: DiskInPlace + Drop> Day<D> {
         match status_line(self.alloc, &row) {
             Ok(line) => Ok(Some(line)),
             Err(_) => Err(LineFault::NoMemory),
+        }
+    }
+
+    // Performs what a line of a station means, and puts nothing to the log.
+    #[tactic(auto, using(crate::proofs::SinceLaws::since_same))]
+    fn perform_meaning(&mut self, station: u32, meaning: &Line) -> Result<Option<Bytes>, LineFault>
+        requires counted { 1 ≤ station }
+        requires inside { station ≤ self.old.history.opened.stations }
+        ensures answered { IfOk result (λ answer. AnswersLine meaning.now station self.old.history self.new.history answer) }
+        ensures told { IfOk result (λ answer. IfSome answer (IsAnswerTold self.new.history station)) }
+        ensures unperformed { IfErr result (λ fault. IsUnperformed fault → self.new ≡ self.old) }
+        ensures ended { IfErr result (λ fault. ¬ (IsUnperformed fault) → self.new.takes ≡ false) }
+        ensures no_disk { ¬ IsErrOf result (LineFault.Ended Failed) }
+        ensures since { HasPerformedSince self.old self.new }
+    {
+        match meaning {
+            Line::Blank => Ok(None),
+            Line::Status => self.status_answer(),
+            Line::Run(command) => Ok(Some(self.perform(station, command)?)),
+        }
+    }
+
+    // Performs a line of a station by its meaning, and puts nothing to the log.
+    #[tactic(auto, using(crate::proofs::SinceLaws::since_same))]
+    fn perform_text(&mut self, station: u32, line: &[u8]) -> Result<Option<Bytes>, LineFault>
+        requires counted { 1 ≤ station }
+        requires inside { station ≤ self.old.history.opened.stations }
+        ensures answered { IfOk result (λ answer. (meaning : Meaning) → Means line.now meaning
+            → AnswersLine meaning station self.old.history self.new.history answer) }
+        ensures told { IfOk result (λ answer. IfSome answer (IsAnswerTold self.new.history station)) }
+        ensures unperformed { IfErr result (λ fault. IsUnperformed fault → self.new ≡ self.old) }
+        ensures ended { IfErr result (λ fault. ¬ (IsUnperformed fault) → self.new.takes ≡ false) }
+        ensures no_disk { ¬ IsErrOf result (LineFault.Ended Failed) }
+        ensures since { HasPerformedSince self.old self.new }
+    {
+        match parse_line(self.alloc, line) {
+            Ok(meaning) => self.perform_meaning(station, &meaning),
+            Err(_) => Err(LineFault::NoMemory),
+        }
+    }
+
+    // Performs what a typed line of a station means, and puts nothing to the log: one that is too long can't be read.
+    pub(crate) fn perform_typed(
+        &mut self,
+        station: u32,
+        typed: &Typed,
+    ) -> Result<Option<Bytes>, LineFault>
+        requires counted { 1 ≤ station }
+        requires inside { station ≤ self.old.history.opened.stations }
+        ensures answered { IfOk result (λ answer. (meaning : Meaning) → MeansTyped typed.now meaning
+            → AnswersLine meaning station self.old.history self.new.history answer) }
+        ensures told { IfOk result (λ answer. IfSome answer (IsAnswerTold self.new.history station)) }
+        ensures unperformed { IfErr result (λ fault. IsUnperformed fault → self.new ≡ self.old) }
+        ensures ended { IfErr result (λ fault. ¬ (IsUnperformed fault) → self.new.takes ≡ false) }
+        ensures no_disk { ¬ IsErrOf result (LineFault.Ended Failed) }
+        ensures since { HasPerformedSince self.old self.new }
+    {
+        match typed {
+            Typed::Text(line) => self.perform_text(station, line.as_slice()),
+            Typed::TooLong => self.perform_meaning(station, &Line::Run(Command::Bad)),
         }
     }
 
@@ -210,6 +278,55 @@ impl<D: DiskInPlace + Drop> Day<D> {
             Ok(meaning) => self.answer(station, &meaning),
             Err(_) => Err(LineFault::NoMemory),
         }
+    }
+
+    /// Performs the first of these lines that are there together, beginning with those of a station, and puts the entries of all to the
+    /// log as one group. At `Ok` they are on the disk, and only then the answers are given back. Another line ends the group, or the
+    /// want of memory for a further answer: it may be obeyed after it.
+    ///
+    /// An error where something was performed that may not be in the log: then the day takes no more lines, and none of the group was
+    /// answered.
+    pub fn lines(&mut self, station: u32, lines: &[Typed]) -> Result<Front, LogFault>
+        requires takes { self.old.takes ≡ true }
+        requires counted { 1 ≤ station }
+        requires inside { station ≤ self.old.history.opened.stations }
+        ensures obeyed { IfOk result (λ front. IsFrontObeyed station lines.now self.old.history front self.new.history) }
+        ensures waiting { IfOk result (λ front. AllByRecursion (IsWaiting self.new.history) front.answers.items) }
+        ensures counted { IfOk result (λ front. 1 ≤ front.station) }
+        ensures inside { IfOk result (λ front. front.station ≤ self.new.history.opened.stations) }
+        ensures goes_on { HasGoneOn self.old.history self.new.history }
+        ensures takes { OnOk result (self.new.takes ≡ true) }
+        // The journal that is on the disk then has all entries.
+        ensures logged { D.meaning.keeps_promises → OnOk result (IsLogged D.meaning self.new) }
+        ensures durable { D.meaning.keeps_promises → OnOk result (IsSyncedDisk D.meaning self.new.log.disk) }
+        ensures name { self.new.log.name ≡ self.old.log.name }
+        ensures ended { OnErr result (self.new.takes ≡ false) }
+        ensures others { SameBut self.old.log.name (D.meaning.seen self.old.log.disk) (D.meaning.seen self.new.log.disk) }
+        // A crash at any moment leaves the log of the journal as it was, with the entries of the group or without them.
+        ensures any_moment { D.meaning.keeps_promises → LeavesOnly D.meaning self.old.log.disk self.new.log.disk
+            (HasPutSince D.meaning self.old self.new) }
+        ensures cause { HasDiskCause D.meaning self.old.log.disk self.new.log.disk (IsErrOf result Failed) }
+    {
+        // For contracts alone: all that is seen is on the disk.
+        let _ = self.log.name();
+        let performed = self.catalogue.journal().len();
+        let front = perform_front(self.alloc, self, station, lines)?;
+        if self.entry_count() == performed {
+            return Ok(front);
+        }
+        let since = &self.catalogue.journal()[performed..];
+        self.log.put(since)?;
+        self.takes = true;
+        // For contracts alone: all that is seen is on the disk.
+        let _ = self.log.name();
+        Ok(front)
+    }
+
+    // How many entries the journal has.
+    pub(crate) fn entry_count(&self) -> usize
+        ensures value { result ≡ length self.now.history.journal }
+    {
+        self.catalogue.journal().len()
     }
 
     /// How many stations there are.

@@ -57,4 +57,8 @@ pub trait Keyboard {
         ensures unread { OnErr result (typed self.new ≡ typed self.old) }
         // It is the first line of the text that is left, and that goes on after it; and none comes only where nothing is left.
         ensures text { IfOk result (λ next. TypesNext (text_left self.old) next (text_left self.new)) };
+
+    /// Whether a further whole line is there already. It is a hint for how many lines are put to the log at once: a `false` is always
+    /// right, and where it is `true` the next call of [`Keyboard::next_line`] need not wait.
+    fn has_line(&self) -> bool;
 }

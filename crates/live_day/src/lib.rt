@@ -1,7 +1,8 @@
 //! A live day: lines are answered as they come, and nothing that was answered is lost.
 //!
 //! A [`Day`] has the tables, what was performed on them, and the log of it in a folder of a disk. [`Day::line`] performs a line of a
-//! station: before its answer is given back, its entry is on the disk. [`perform_again`] performs what the log of an earlier life says.
+//! station: before its answer is given back, its entry is on the disk. [`Day::lines`] does so with lines that are there together, whose
+//! entries are put as one group. [`perform_again`] performs what the log of an earlier life says.
 //!
 //! Start with specs/Days.antt and `day.rt`.
 #![tactic(auto)]
@@ -10,6 +11,7 @@ mod again;
 mod answering;
 mod day;
 mod faults;
+mod group;
 mod keyboard;
 mod notice;
 mod run_fault;
@@ -17,11 +19,14 @@ mod running;
 mod screen;
 mod start_fault;
 mod starting;
+mod typing;
+mod waiting;
 mod wish;
 
 pub use again::perform_again;
 pub use day::Day;
 pub use faults::LineFault;
+pub use group::Front;
 pub use keyboard::{Keyboard, MAX_LINE_BYTES, Typed, TypingFault};
 pub use notice::Notice;
 pub use run_fault::RunFault;
@@ -29,4 +34,6 @@ pub use running::run_day;
 pub use screen::{Screen, ScreenFault};
 pub use start_fault::StartFault;
 pub use starting::{Unstarted, start_day};
+pub use typing::MAX_GROUP_LINES;
+pub use waiting::WaitingAnswer;
 pub use wish::{Wish, wish_of};

@@ -17,6 +17,17 @@ pub enum RunFault {
     NoMemory,
 }
 
+impl From<LogFault> for RunFault {
+    ghost use Rattle.std.specs.Prelude.{◌≡◌};
+    ghost use Rattle.live_day.specs.declared.run_fault.RunFault.TheVariants.{Log};
+
+    ghost from_gives = { λ log fault. fault ≡ Log log };
+
+    fn from(fault: LogFault) -> RunFault {
+        RunFault::Log(fault)
+    }
+}
+
 impl From<ScreenFault> for RunFault {
     ghost use Rattle.std.specs.Prelude.{◌≡◌};
     ghost use Rattle.live_day.specs.declared.run_fault.RunFault.TheVariants.{Screen};

@@ -6,16 +6,17 @@ ghost use Rattle.live_day.specs.Sessions.{IsDayRun};
 ghost use Rattle.live_day.specs.Shows.{KeepsShown};
 ghost use Rattle.live_day.specs.Typing.{IsAllTyped, HasTyped};
 
-use crate::answering::obey;
+use crate::answering::obey_lines;
 use crate::day::Day;
 use crate::keyboard::Keyboard;
 use crate::run_fault::RunFault;
 use crate::screen::Screen;
+use crate::typing::{Then, read_group};
 use disk_in_place::DiskInPlace;
 use std::alloc::Global;
 
 /// Answers the lines of a keyboard as they come, up to QUIT or to their end. The first station has the keyboard, until a line
-/// STATION n gives it to another.
+/// STATION n gives it to another. Lines that are there together are put to the log as one group, and are answered after it.
 ///
 /// Whatever crashes meanwhile, nothing that was shown is lost: each line that was shown stands in the journal, and a crash at any
 /// moment since leaves a log that has it. After a failure the log stands, and the next start goes on with it.
@@ -41,13 +42,13 @@ pub fn run_day<D: DiskInPlace + Drop, S: Screen<D>, K: Keyboard>(
     // For contracts alone: the journal is on the disk.
     let _ = day.station_count();
     let mut station = 1;
-    'lines: for _ in 0..u64::MAX {
-        let Some(typed) = keyboard.next_line(alloc, station)? else {
-            return Ok(());
-        };
-        match obey(day, screen, station, &typed)? {
-            Some(next) => station = next,
-            None => return Ok(()),
+    'groups: for _ in 0..u64::MAX {
+        let group = read_group(alloc, keyboard, station);
+        station = obey_lines(day, screen, station, group.lines.as_slice())?;
+        match group.then {
+            Then::More => {}
+            Then::Over => return Ok(()),
+            Then::Failed(fault) => return Err(RunFault::from(fault)),
         }
     }
     Err(RunFault::Unread)

@@ -1,11 +1,14 @@
 //! Where the answers of a day are shown.
 
 ghost use Rattle.std.specs.Prelude.{◌≡◌, ◌⊎◌, ◌++◌, ◌∷◌, [], List, OnOk, OnErr};
+ghost use Rattle.std.specs.List.{AllByRecursion};
 ghost use Rattle.files_in_place.specs.Disk.{IsSyncedDisk};
 ghost use Rattle.live_day.specs.Days.{IsLogged};
 ghost use Rattle.live_day.specs.Shows.{ShownLine, shown_now, MayBeTold};
+ghost use Rattle.live_day.specs.Waiting.{all_shown_after, IsWaiting, ShowsFront};
 
 use crate::day::Day;
+use crate::waiting::WaitingAnswer;
 use disk_in_place::DiskInPlace;
 
 /// The screen takes no more lines.
@@ -26,4 +29,13 @@ pub trait Screen<D: DiskInPlace + Drop> {
         ensures shown { OnOk result (shown self.new ≡ shown self.old ++ shown_now D.meaning day.now station line.now ∷ []) }
         ensures unshown { OnErr result ((shown self.new ≡ shown self.old)
             ⊎ (shown self.new ≡ shown self.old ++ shown_now D.meaning day.now station line.now ∷ [])) };
+
+    /// Shows answers that waited until their entries were on the disk, one after another: each is one of the journal's first entries, as
+    /// many as it counts. At an error the first of them may be shown, and the others not.
+    fn show_all(&mut self, day: &Day<D>, answers: &[WaitingAnswer]) -> Result<(), ScreenFault>
+        requires logged { D.meaning.keeps_promises → IsLogged D.meaning day.now }
+        requires durable { D.meaning.keeps_promises → IsSyncedDisk D.meaning day.now.log.disk }
+        requires waiting { AllByRecursion (IsWaiting day.now.history) answers.now }
+        ensures shown { OnOk result (shown self.new ≡ shown self.old ++ all_shown_after D.meaning day.now answers.now) }
+        ensures unshown { OnErr result (ShowsFront (shown self.old) (shown self.new) (all_shown_after D.meaning day.now answers.now)) };
 }

@@ -27,8 +27,8 @@ fn split(line: &[u8], count: usize) -> (&[u8], &[u8])
     line.split_at(line.len().min(count))
 }
 
-// Whether a line is QUIT, in letters of either case.
-fn is_quit(line: &[u8]) -> bool
+/// Whether a line is QUIT, in letters of either case.
+pub(crate) fn is_quit(line: &[u8]) -> bool
     ensures value { result ≡ quits line.now }
 {
     line.eq_ignore_ascii_case(b"QUIT")

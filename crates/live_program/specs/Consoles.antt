@@ -1,8 +1,10 @@
 -- What was typed and shown, as lists of numbers.
-use Rattle.std.specs.Prelude.{Bool, ℕ, List, [], ◌∷◌, ◌++◌}
+use Rattle.std.specs.Prelude.{◌≡◌, Bool, ℕ, List, [], ◌∷◌, ◌++◌, Option}
+use Rattle.std.specs.Io.KnownBytes.{Appends}
 use Rattle.station_lines.specs.declared.script.format.TheConstants.{LF}
 use Rattle.live_day.specs.declared.keyboard.Typed.{Typed}
 use Rattle.live_day.specs.declared.keyboard.Typed.TheVariants.{Text, TooLong}
+use Rattle.live_day.specs.declared.waiting.WaitingAnswer.{WaitingAnswer}
 use Rattle.live_day.specs.Shows.{ShownLine}
 
 -- a typed line: 1 and its bytes, or nothing where it is too long
@@ -36,3 +38,14 @@ pub record PrintedValue (W : Type 0) : Type 0 where
 -- a line as it is printed, its LF too
 abbrev pub shown_text : List ℕ → List ℕ
 shown_text line = line ++ LF ∷ []
+
+-- answers as they are printed, one after another
+abbrev pub shown_texts : List WaitingAnswer → List ℕ
+shown_texts [] = []
+shown_texts (answer ∷ answers) = shown_text answer.line ++ shown_texts answers
+
+-- A text of which the first part was printed since, and the rest waits on a page.
+pub record HasPrinted (old now : Option (List ℕ)) (page text : List ℕ) : Type 0 where
+  pub printed : List ℕ
+  pub gone : Appends old now printed
+  pub text_is : text ≡ printed ++ page

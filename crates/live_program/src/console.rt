@@ -1,15 +1,17 @@
 //! Lines that are typed, and answers that are printed.
 
-ghost use Rattle.std.specs.Prelude.{◌≡◌, ◌⊎◌, ◌<◌, ◌+◌, ◌++◌, ◌∷◌, [], false, length, OnErr, OnOk};
+ghost use Rattle.std.specs.Prelude.{◌≡◌, ◌⊎◌, ◌<◌, ◌+◌, ◌++◌, ◌∷◌, [], ℕ, List, Option, false, length, map, OnErr, OnOk};
 ghost use Rattle.std.specs.Io.KnownBytes.{Appends};
 ghost use Rattle.live_day.specs.Shows.{shown_now};
-ghost use Rattle.live_program.specs.Consoles.{shown_text};
+ghost use Rattle.live_day.specs.Waiting.{all_shown_after, ShowsFront};
+ghost use Rattle.live_program.specs.Consoles.{shown_of_numbers, shown_text, shown_texts, HasPrinted};
 ghost use Rattle.live_program.specs.declared.console.TheConstants.{LINE_AT_ONCE};
 
 use crate::number_lists::{NumberLists, Numbered};
 use crate::reading::read_line;
+use arrayvec::ArrayVec;
 use disk_in_place::DiskInPlace;
-use live_day::{Day, Keyboard, Screen, ScreenFault, Typed, TypingFault};
+use live_day::{Day, Keyboard, Screen, ScreenFault, Typed, TypingFault, WaitingAnswer};
 use station_lines::LF;
 use std::alloc::Global;
 use std::io;
@@ -18,6 +20,9 @@ use std::marker::Model;
 
 // How many bytes a line has, its LF too, that is printed by one write: nearly each answer is as short.
 const LINE_AT_ONCE: usize = 512;
+
+// How many bytes of answers, with their LFs, are printed by one write where they come together.
+const PAGE_BYTES: usize = 8_192;
 
 impl Numbered for Typed {
     ghost use Rattle.live_program.specs.Consoles.{numbers_of_typed};
@@ -30,6 +35,8 @@ impl Numbered for Typed {
 pub struct TypedLines<R: BufRead + Drop, P: Write + Drop> {
     reader: R,
     prompt: Option<P>,
+    // Whether a further whole line is in the reader's buffer.
+    has_more: bool,
     // What was typed, and whether it has ended, for contracts.
     typed: NumberLists,
     ended: bool,
@@ -54,6 +61,7 @@ impl<R: BufRead + Drop, P: Write + Drop> TypedLines<R, P> {
         TypedLines {
             reader,
             prompt,
+            has_more: false,
             typed: NumberLists::empty(),
             ended: false,
         }
@@ -81,7 +89,7 @@ impl<R: BufRead + Drop, P: Write + Drop> Keyboard for TypedLines<R, P> {
     #[tactic(auto, using(crate::proofs::ConsoleLaws::typed_more))]
     fn next_line(&mut self, alloc: Global, station: u32) -> Result<Option<Typed>, TypingFault> {
         self.ask(station);
-        match read_line(alloc, &mut self.reader)? {
+        match read_line(alloc, &mut self.reader, &mut self.has_more)? {
             Some(typed) => {
                 self.typed.push(&typed);
                 Ok(Some(typed))
@@ -91,6 +99,11 @@ impl<R: BufRead + Drop, P: Write + Drop> Keyboard for TypedLines<R, P> {
                 Ok(None)
             }
         }
+    }
+
+    // Where there is a prompt each line is answered at once.
+    fn has_line(&self) -> bool {
+        self.prompt.is_none() && self.has_more
     }
 }
 
@@ -107,6 +120,20 @@ impl<'a, D: DiskInPlace + Drop> Numbered for Showing<'a, D> {
     ghost use Rattle.live_program.specs.Consoles.{numbers_of_shown};
 
     ghost numbered = { λ s. numbers_of_shown (shown_now D.meaning s.day.now s.station s.line.now) };
+}
+
+// An answer that waited, as it is shown of a day, for contracts.
+#[derive(Drop)]
+struct ShowingAfter<'a, D: DiskInPlace + Drop> {
+    day: &'a Day<D>,
+    answer: &'a WaitingAnswer,
+}
+
+impl<'a, D: DiskInPlace + Drop> Numbered for ShowingAfter<'a, D> {
+    ghost use Rattle.live_day.specs.Waiting.{shown_after};
+    ghost use Rattle.live_program.specs.Consoles.{numbers_of_shown};
+
+    ghost numbered = { λ s. numbers_of_shown (shown_after D.meaning s.day.now s.answer.now) };
 }
 
 /// Answers that are printed, each as a line of an answer file.
@@ -163,6 +190,63 @@ fn print_line<W: Write>(out: &mut W, line: &[u8]) -> io::Result<()>
     Ok(())
 }
 
+// Answers that waited are shown, for contracts.
+fn note_all<D: DiskInPlace + Drop>(shown: &mut NumberLists, day: &Day<D>, answers: &[WaitingAnswer])
+    ensures all { map shown_of_numbers shown.new ≡ map shown_of_numbers shown.old ++ all_shown_after D.meaning day.now answers.now }
+{
+    for answer in answers {
+        shown.push(&ShowingAfter { day, answer });
+    }
+}
+
+// What of answers waits to be printed by one write.
+type Page = ArrayVec<u8, PAGE_BYTES>;
+
+// Prints what waits.
+fn print_page<W: Write>(out: &mut W, page: &mut Page) -> io::Result<()>
+    ensures text { OnOk result (Appends (W.contents out.old) (W.contents out.new) page.old.items) }
+    ensures none { OnOk result (page.new.items ≡ []) }
+{
+    out.write_all(page.as_slice())?;
+    page.clear();
+    Ok(())
+}
+
+// Lets bytes wait after those that wait already, and prints what has no room.
+fn gather<W: Write>(out: &mut W, page: &mut Page, bytes: &[u8]) -> io::Result<()>
+    ensures text { (start : Option (List ℕ)) (text : List ℕ) → HasPrinted start (W.contents out.old) page.old.items text
+        → OnOk result (HasPrinted start (W.contents out.new) page.new.items (text ++ bytes.now)) }
+{
+    if let Ok(()) = page.try_extend_from_slice(bytes) {
+        return Ok(());
+    }
+    print_page(out, page)?;
+    if let Ok(()) = page.try_extend_from_slice(bytes) {
+        return Ok(());
+    }
+    out.write_all(bytes)
+}
+
+// Lets a line and LF wait.
+fn gather_line<W: Write>(out: &mut W, page: &mut Page, line: &[u8]) -> io::Result<()>
+    ensures text { (start : Option (List ℕ)) (text : List ℕ) → HasPrinted start (W.contents out.old) page.old.items text
+        → OnOk result (HasPrinted start (W.contents out.new) page.new.items (text ++ shown_text line.now)) }
+{
+    gather(out, page, line)?;
+    gather(out, page, &[LF])
+}
+
+// Prints the lines of answers, by as few writes as they take.
+fn print_all<W: Write>(out: &mut W, answers: &[WaitingAnswer]) -> io::Result<()>
+    ensures text { OnOk result (Appends (W.contents out.old) (W.contents out.new) (shown_texts answers.now)) }
+{
+    let mut page = Page::new();
+    for answer in answers {
+        gather_line(out, &mut page, answer.line.as_slice())?;
+    }
+    print_page(out, &mut page)
+}
+
 impl<D: DiskInPlace + Drop, W: Write + Drop> Screen<D> for PrintedAnswers<W> {
     ghost shown = { λ s. s.shown };
 
@@ -176,6 +260,21 @@ impl<D: DiskInPlace + Drop, W: Write + Drop> Screen<D> for PrintedAnswers<W> {
     {
         let printed = print_line(&mut self.out, line);
         self.shown.push(&Showing { day, station, line });
+        match printed {
+            Ok(()) => Ok(()),
+            Err(_) => Err(ScreenFault),
+        }
+    }
+
+    #[tactic(auto, using(crate::proofs::ConsoleLaws::front_of_all))]
+    fn show_all(&mut self, day: &Day<D>, answers: &[WaitingAnswer]) -> Result<(), ScreenFault>
+        ensures shown { OnOk result (self.new.shown ≡ self.old.shown ++ all_shown_after D.meaning day.now answers.now) }
+        ensures unshown { OnErr result (ShowsFront self.old.shown self.new.shown (all_shown_after D.meaning day.now answers.now)) }
+        // The writer has taken the lines, each with its LF.
+        ensures printed { OnOk result (Appends (W.contents self.old.out) (W.contents self.new.out) (shown_texts answers.now)) }
+    {
+        let printed = print_all(&mut self.out, answers);
+        note_all(&mut self.shown, day, answers);
         match printed {
             Ok(()) => Ok(()),
             Err(_) => Err(ScreenFault),

@@ -136,8 +136,17 @@ fn unshown(error: &io::Error) -> Result<PieceEnd, TypingFault>
     }
 }
 
-// Reads a piece of a line: up to its end, or to the end of what is there.
-fn read_piece<R: BufRead>(reader: &mut R, line: &mut PartLine) -> Result<PieceEnd, TypingFault>
+// Whether the bytes have a whole line.
+fn has_line(bytes: &[u8]) -> bool {
+    line_end(bytes).is_some()
+}
+
+// Reads a piece of a line: up to its end, or to the end of what is there. Says whether a further whole line is there.
+fn read_piece<R: BufRead>(
+    reader: &mut R,
+    line: &mut PartLine,
+    has_more: &mut bool,
+) -> Result<PieceEnd, TypingFault>
     ensures piece { IfOk result (λ end. (text : List ℕ) → IsLineKept text line.old.too_long line.old.bytes.items
         → ReadsPiece text end (R.remaining reader.old) (R.remaining reader.new) line.new.too_long line.new.bytes.items) }
 {
@@ -146,14 +155,16 @@ fn read_piece<R: BufRead>(reader: &mut R, line: &mut PartLine) -> Result<PieceEn
         Err(e) => return unshown(&e),
     };
     let (read, end) = line.add_shown(shown)?;
+    *has_more = has_line(&shown[read..]);
     reader.consume(read);
     Ok(end)
 }
 
-// Reads a line. `None` at the end of all that is typed.
+// Reads a line, and says whether a further whole one is there already. `None` at the end of all that is typed.
 pub(crate) fn read_line<R: BufRead>(
     alloc: Global,
     reader: &mut R,
+    has_more: &mut bool,
 ) -> Result<Option<Typed>, TypingFault>
     ensures text { IfOk result (λ next. TypesNext (R.remaining reader.old) next (R.remaining reader.new)) }
 {
@@ -162,7 +173,7 @@ pub(crate) fn read_line<R: BufRead>(
         too_long: false,
     };
     'pieces: for _ in 0..u64::MAX {
-        match read_piece(reader, &mut line)? {
+        match read_piece(reader, &mut line, has_more)? {
             PieceEnd::Open => {}
             PieceEnd::Line => return Ok(Some(line.ended())),
             PieceEnd::Input if line.is_empty() => return Ok(None),

@@ -1,4 +1,5 @@
 mod crashes;
 mod day;
 mod ends;
+mod groups;
 mod lines;

@@ -13,7 +13,7 @@ use live_program::{LOG_NAME, PrintedAnswers, TypedLines, close_day, open_tables}
 use memory_disk::MemoryDisk;
 use sample_files::TABLE;
 use std::alloc::{AllocError, Global};
-use std::io::Write;
+use std::io::{BufRead, Write};
 use std::test::Fail;
 
 /// The setup: a table of two records and two stations, whose scripts are not there.
@@ -108,11 +108,11 @@ pub(super) struct Answered {
     pub(super) day: Day<MemoryDisk>,
 }
 
-// Answers typed lines on a writer.
-fn answer_to<W: Write + Drop>(
+/// Answers the lines of a reader on a writer.
+pub(super) fn answer_to<R: BufRead + Drop, W: Write + Drop>(
     alloc: Global,
     day: &mut Day<MemoryDisk>,
-    typed: &[u8],
+    typed: R,
     out: W,
 ) -> Result<(), RunFault>
     requires takes { day.old.takes ≡ true }

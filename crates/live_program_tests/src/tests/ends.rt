@@ -269,7 +269,7 @@ fn a_day_whose_answers_nobody_reads_keeps_its_log(rt: HostRuntime) -> Result<(),
     let typed: &[u8] = b"USE T\nGO 2\n";
     let (ended, _) = call(&rt, &words_of("unshown"), typed, Broken)?;
     assert!(rt; count_of(ended)? == Err(Failure::Work(LiveFailure::Unshown)));
-    assert!(rt; had_log(&rt, "unshown", "+1 5 2 USE T OK\n-")?);
+    assert!(rt; had_log(&rt, "unshown", "+1 5 2 USE T OK\n+1 4 2 GO 2 OK\n-")?);
     Ok(())
 }
 

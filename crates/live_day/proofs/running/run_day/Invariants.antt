@@ -4,8 +4,8 @@ use Rattle.live_day.specs.Shows.{KeepsShown}
 use Rattle.live_day.specs.Typing.{HasTyped}
 use Rattle.live_day.proofs.running.run_day.Given as goal
 
-abbrev pub invariant-lines : goal.invariant-lines
-invariant-lines g l = record {
+abbrev pub invariant-groups : goal.invariant-groups
+invariant-groups g l = record {
   takes : l.day.takes ≡ true;
   counted : 1 ≤ l.station;
   inside : l.station ≤ l.day.history.opened.stations;

@@ -1,0 +1,11 @@
+use Rattle.live_day.specs.Days.{AnswersLine}
+use Rattle.live_day.proofs.SessionLaws.{answered_long, answered_text}
+use Rattle.live_day.proofs.day.Day.perform_typed.Goals as goal
+
+pub returns-in-Text-clause-answered : goal.returns-in-Text-clause-answered
+returns-in-Text-clause-answered g c =
+    answered_text (λ m answer. AnswersLine m c.args.station c.args.self.now.history c.perform_text.new.self.history answer) c.perform_text.result c.args.typed.now _ c.as_slice.result.now c.in-Text.is c.as_slice.ensures.value c.perform_text.ensures.answered
+
+pub returns-in-TooLong-clause-answered : goal.returns-in-TooLong-clause-answered
+returns-in-TooLong-clause-answered g c =
+    answered_long (λ m answer. AnswersLine m c.args.station c.args.self.now.history c.perform_meaning.new.self.history answer) c.perform_meaning.result c.args.typed.now c.in-TooLong.is c.perform_meaning.ensures.answered

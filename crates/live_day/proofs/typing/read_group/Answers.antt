@@ -1,0 +1,53 @@
+use Rattle.std.proofs.Common.{◌∙◌, arith}
+use Rattle.live_day.proofs.GroupLaws.{group_ends, group_goes_on, read_none, read_one, still_no_quit}
+use Rattle.live_day.proofs.typing.read_group.Goals as goal
+
+pub reading-init : goal.reading-init
+reading-init g c = record {
+  room = omega (arith, c.in-Ok.ensures.ok);
+  read = read_none (g.K.Keyboard.text_left c.args.keyboard.now) (g.K.Keyboard.typed c.args.keyboard.now) c.reserve.new.self.items (c.reserve.ensures.items ∙ c.new-lines.ensures.items);
+}
+
+pub returns-in-Some-clause-read : goal.returns-in-Some-clause-read
+returns-in-Some-clause-read g c =
+    let has = c.reading.invariant.read in
+    let end = c.in-Some.ensures.end in
+    group_ends (g.K.Keyboard.has_ended c.read_next.new.keyboard) (g.K.Keyboard.text_left c.args.keyboard.now) (g.K.Keyboard.text_left c.reading.keyboard) (g.K.Keyboard.text_left c.read_next.new.keyboard)
+    (g.K.Keyboard.typed c.args.keyboard.now) (g.K.Keyboard.typed c.reading.keyboard) (g.K.Keyboard.typed c.read_next.new.keyboard) c.reading.lines.items c.read_next.new.lines.items c.in-Some.then end.0 has.typed has.read end.1
+
+pub returns-in-Some-clause-no_quit : goal.returns-in-Some-clause-no_quit
+returns-in-Some-clause-no_quit g c = still_no_quit c.reading.lines.items c.read_next.new.lines.items c.in-Some.ensures.end.0 c.reading.invariant.read.no_quit
+
+pub returns-then-not-has_line-clause-read : goal.returns-then-not-has_line-clause-read
+returns-then-not-has_line-clause-read g c =
+    let one = c.read_next.ensures.line c.in_default-read_next.is in
+    let has = read_one (g.K.Keyboard.text_left c.args.keyboard.now) (g.K.Keyboard.text_left c.reading.keyboard) (g.K.Keyboard.text_left c.read_next.new.keyboard)
+    (g.K.Keyboard.typed c.args.keyboard.now) (g.K.Keyboard.typed c.reading.keyboard) (g.K.Keyboard.typed c.read_next.new.keyboard)
+    c.reading.lines.items c.read_next.new.lines.items one.0 c.reading.invariant.read (one.1) one.2 one.3 one.4 in
+    group_goes_on (g.K.Keyboard.has_ended c.read_next.new.keyboard) (g.K.Keyboard.text_left c.args.keyboard.now) (g.K.Keyboard.text_left c.read_next.new.keyboard)
+    (g.K.Keyboard.typed c.args.keyboard.now) (g.K.Keyboard.typed c.read_next.new.keyboard) c.read_next.new.lines.items c.unended.result.lines.items c.unended.result.then (c.unended.ensures.lines) c.unended.ensures.then has
+
+pub returns-in_default-reserve-clause-no_quit : goal.returns-in_default-reserve-clause-no_quit
+returns-in_default-reserve-clause-no_quit g c =
+    let one = c.read_next.ensures.line c.in_default-read_next.is in
+    let has = read_one (g.K.Keyboard.text_left c.args.keyboard.now) (g.K.Keyboard.text_left c.reading.keyboard) (g.K.Keyboard.text_left c.read_next.new.keyboard)
+    (g.K.Keyboard.typed c.args.keyboard.now) (g.K.Keyboard.typed c.reading.keyboard) (g.K.Keyboard.typed c.read_next.new.keyboard)
+    c.reading.lines.items c.read_next.new.lines.items one.0 c.reading.invariant.read (one.1) one.2 one.3 one.4 in
+    still_no_quit c.read_next.new.lines.items c.unended-in_default-reserve.result.lines.items (c.unended-in_default-reserve.ensures.lines ∙ c.reserve-in-reading.ensures.items) has.no_quit
+
+pub returns-in_default-reserve-clause-read : goal.returns-in_default-reserve-clause-read
+returns-in_default-reserve-clause-read g c =
+    let one = c.read_next.ensures.line c.in_default-read_next.is in
+    let has = read_one (g.K.Keyboard.text_left c.args.keyboard.now) (g.K.Keyboard.text_left c.reading.keyboard) (g.K.Keyboard.text_left c.read_next.new.keyboard)
+    (g.K.Keyboard.typed c.args.keyboard.now) (g.K.Keyboard.typed c.reading.keyboard) (g.K.Keyboard.typed c.read_next.new.keyboard)
+    c.reading.lines.items c.read_next.new.lines.items one.0 c.reading.invariant.read (one.1) one.2 one.3 one.4 in
+    group_goes_on (g.K.Keyboard.has_ended c.read_next.new.keyboard) (g.K.Keyboard.text_left c.args.keyboard.now) (g.K.Keyboard.text_left c.read_next.new.keyboard)
+    (g.K.Keyboard.typed c.args.keyboard.now) (g.K.Keyboard.typed c.read_next.new.keyboard) c.read_next.new.lines.items c.unended-in_default-reserve.result.lines.items c.unended-in_default-reserve.result.then (c.unended-in_default-reserve.ensures.lines ∙ c.reserve-in-reading.ensures.items) c.unended-in_default-reserve.ensures.then has
+
+pub reading-preserved : goal.reading-preserved
+reading-preserved g c =
+    let one = c.read_next.ensures.line c.in_default-read_next.is in
+    let has = read_one (g.K.Keyboard.text_left c.args.keyboard.now) (g.K.Keyboard.text_left c.reading.keyboard) (g.K.Keyboard.text_left c.read_next.new.keyboard)
+    (g.K.Keyboard.typed c.args.keyboard.now) (g.K.Keyboard.typed c.reading.keyboard) (g.K.Keyboard.typed c.read_next.new.keyboard)
+    c.reading.lines.items c.reserve-in-reading.new.self.items one.0 c.reading.invariant.read (c.reserve-in-reading.ensures.items ∙ one.1) one.2 one.3 one.4 in
+    record { room = omega (arith, c.in-Ok-reserve.ensures.ok); read = has }
