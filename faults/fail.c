@@ -2,7 +2,7 @@
    from 1 in the order in which they are made. FAULT_AT is the number of the call and FAULT_HOW what becomes of it: the number
    of an error, as 5 (EIO); `half`, a read or a write of half of the bytes that it would take; `after`, EIO though it was done; `kill`, the program
    ends before it; `killed`, after it; `wait`, it waits while the file that FAULT_WAIT names is there. With FAULT_ON set the error
-   is that of all later calls too, but for close. FAULT_LOG names the file that gets a line for each call: what it is, and of what.
+   is that of all later calls too, but for close. With FAULT_LINES set a read of standard input takes one line at most. FAULT_LOG names the file that gets a line for each call: what it is, and of what.
    FAULT_TRACE names the file that gets an entry for each call that has changed or opened something, after it was made: what it is,
    the descriptor or 0, the place in the file, how many bytes follow, a line feed, these bytes, and a line feed. They are
    what was written, or a path, or for a rename two paths with a line feed between them. */
@@ -21,7 +21,7 @@
 #include <unistd.h>
 
 static atomic_long made;
-static const char *at, *how, *on;
+static const char *at, *how, *on, *lines;
 static int log_file = -1, trace_file = -1;
 
 static int begun(const char *variable) {
@@ -30,7 +30,7 @@ static int begun(const char *variable) {
 }
 
 __attribute__((constructor)) static void begin(void) {
-    at = getenv("FAULT_AT"), how = getenv("FAULT_HOW"), on = getenv("FAULT_ON");
+    at = getenv("FAULT_AT"), how = getenv("FAULT_HOW"), on = getenv("FAULT_ON"), lines = getenv("FAULT_LINES");
     log_file = begun("FAULT_LOG"), trace_file = begun("FAULT_TRACE");
 }
 
@@ -75,6 +75,15 @@ static long within(long number, long file, long count) {
     return left > 0 && left < count ? left : count;
 }
 
+/* A read that takes nothing after the end of a line. */
+static long read_line(long file, char *bytes, long count) {
+    long taken = 0, one = 1;
+    while (taken < count && (one = syscall(SYS_read, file, bytes + taken, 1)) == 1)
+        if (bytes[taken++] == '\n')
+            break;
+    return one < 0 && taken == 0 ? one : taken;
+}
+
 /* Makes the call, or what is to become of it. The third argument of a read or a write is how many bytes. */
 static long call(const char *what, const char *name, long number, long a, long b, long c, long d, long e) {
     long n = atomic_fetch_add(&made, 1) + 1, first = at ? atol(at) : 0;
@@ -88,7 +97,7 @@ static long call(const char *what, const char *name, long number, long a, long b
         return errno = error, -1;
     if (due && is("half") && (number == SYS_read || number == SYS_write || number == SYS_pwrite64) && within(number, a, c) > 1)
         c = within(number, a, c) / 2;
-    long answer = syscall(number, a, b, c, d, e);
+    long answer = lines && number == SYS_read && a == 0 ? read_line(a, (char *)b, c) : syscall(number, a, b, c, d, e);
     if (trace_file >= 0 && answer >= 0 && number != SYS_read && number != SYS_getdents64 && number != SYS_statx)
         trace(what, name, number, a, b, d, answer);
     if (due && is("killed"))

@@ -26,6 +26,8 @@ TODAY = "19870315"
 # How many lines are typed in the days of which each call fails; in the day that is killed again and again, and how often that is.
 SWEPT, THOUSAND, KILLS = 30, 1000, 50
 MEGABYTE = 1_000_000
+# Lines that come one by one, each a group of the log: a variable of fail.c. Without it all that is typed at once is there together.
+ALONE = {"FAULT_LINES": 1}
 
 # ---- what the program says on standard error: at each start that has read the setup, which files stay as they are beside the new ones, and then these.
 KEPT = "".join(f"{path} stays as it is where new files go into its folder: the new {kind} is {name}\n" for path, kind, name in (
@@ -326,8 +328,8 @@ class Days:
             return "files not written" if "new files" in said or "cannot write" in said else "folder not ready", "old"
         return None
 
-    def went_on(self, folder, ended, wanted):
-        """Whether the next starts find what was shown, and come to the end of the day."""
+    def went_on(self, folder, ended, wanted, more):
+        """Whether the next starts find what was shown, and so many entries more at most, and come to the end of the day."""
         done = ended.begun + len(ended.shown)
         recovered = self.day(folder, b"", setup=NO_SETUP)
         files = dict(recovered.files)
@@ -336,35 +338,35 @@ class Days:
         if files == self.whole:
             return wanted in ("new", "either") and done == SWEPT, recovered
         entries = entries_of(files.pop(LOG, EMPTY_LOG))
-        if wanted == "new" or files != self.old or entries is None or entries != self.journal[: len(entries)] or not done <= len(entries) <= done + 1:
+        if wanted == "new" or files != self.old or entries is None or entries != self.journal[: len(entries)] or not done <= len(entries) <= done + more:
             return False, recovered
         rest = self.day(folder, self.text(len(entries)))
         holds = rest.status == 0 and rest.told == again(entries) and rest.shown == self.answers(len(entries)) and rest.files == self.whole
         return holds, rest
 
-    def tried(self, files, done, number, what, name, needed, how, told):
+    def tried(self, files, done, lines, number, what, name, needed, how, told):
         """A day of the swept lines after so many, in which a call fails, and the days after it."""
         on = {"FAULT_ON": 1} if how.startswith("on ") else {}
         folder = self.trial.folder(files)
-        ended = self.day(folder, self.text(done), FAULT_AT=number, FAULT_HOW=how.removeprefix("on "), **on)
+        ended = self.day(folder, self.text(done), FAULT_AT=number, FAULT_HOW=how.removeprefix("on "), **lines, **on)
         ended.begun = done
         held = self.held(ended, what, name, told, needed)
-        holds, last = self.went_on(folder, ended, held[1]) if held else (False, ended)
+        holds, last = self.went_on(folder, ended, held[1], 1 if lines else SWEPT) if held else (False, ended)
         shutil.rmtree(folder)
         return held[0] if holds else None, ended, last
 
-    def calls_of(self, files, done, setup="OFFICE.SET"):
+    def calls_of(self, files, done, lines, setup="OFFICE.SET"):
         """The calls of such a day without a fault, in order."""
         folder, log = self.trial.folder(files), self.trial.work / f"log{next(self.trial.numbers)}"
-        self.day(folder, self.text(done), setup=setup, FAULT_LOG=log)
+        self.day(folder, self.text(done), setup=setup, FAULT_LOG=log, **lines)
         calls = [line.partition(" ")[::2] for line in log.read_text().splitlines()]
         log.unlink()
         shutil.rmtree(folder)
         return calls
 
-    def sweep(self, title, files, done, ways):
+    def sweep(self, title, files, done, lines, ways):
         """Tries each call of such a day in each way, prints what came of it, and answers how many ended otherwise."""
-        calls = self.calls_of(files, done)
+        calls = self.calls_of(files, done, lines)
         self.began = again(self.journal[:done])
         tries = [
             (number, what, name, self.is_needed(what, name) or (what, name) == ("read", "0"), how, told)
@@ -373,7 +375,7 @@ class Days:
         ]
         print(f"{title}: {len(calls)} calls, {len(tries)} days", flush=True)
         counts, ends, bad = collections.Counter(), collections.defaultdict(collections.Counter), 0
-        work = self.trial.pool.map(lambda it: self.tried(files, done, *it), tries)
+        work = self.trial.pool.map(lambda it: self.tried(files, done, lines, *it), tries)
         for (number, what, name, _, _, told), (came, ended, last) in zip(tries, work):
             counts[told, what] += 1
             ends[told, what][came or "OTHERWISE"] += 1
@@ -386,14 +388,15 @@ class Days:
 
     def left_at(self, number):
         """The files that such a day leaves that is killed before a call."""
-        return self.day_of(self.old, self.text(0), FAULT_AT=number, FAULT_HOW="kill").files
+        return self.day_of(self.old, self.text(0), FAULT_AT=number, FAULT_HOW="kill", **ALONE).files
 
     def calls_part(self):
-        """Each call of a day; kills of the day after one that was killed, while a gate is shut and before the list has its name; and kills of a start
+        """Each call of a day, whose lines come one by one and all together; kills of the day after one that was killed, while a gate is shut and before the list has its name; and kills of a start
         over new files that had begun to take their places."""
         kills = [("kill", "killed before"), ("killed", "killed after")]
-        calls = self.calls_of(self.old, 0)
-        bad = self.sweep("days", self.old, 0, lambda what: self.ways[what] + kills)
+        calls = self.calls_of(self.old, 0, ALONE)
+        bad = self.sweep("days", self.old, 0, ALONE, lambda what: self.ways[what] + kills)
+        bad += self.sweep("days whose lines come together", self.old, 0, {}, lambda what: self.ways[what] + kills)
         numbers = lambda kind, which: [n for n, (what, name) in enumerate(calls, 1) if what == kind and which(name)]
         shown = numbers("write", lambda name: name == "1")
         opening = max(n for n in numbers("sync", lambda name: True) if n < shown[len(shown) // 2]) - 1
@@ -401,13 +404,13 @@ class Days:
         for title, number in (("before a gate is opened", opening), ("before the list has its name", listed)):
             files = self.left_at(number)
             entries = entries_of(files[LOG])
-            bad += self.sweep(f"the day after a kill {title}, which performs {len(entries)} entries again", files, len(entries), lambda what: kills)
+            bad += self.sweep(f"the day after a kill {title}, which performs {len(entries)} entries again", files, len(entries), ALONE, lambda what: kills)
         placing = numbers("rename", lambda name: os.path.basename(name) not in (LIST, LOG))[0]
         return bad + self.recoveries_killed(self.left_at(placing))
 
     def recoveries_killed(self, files):
         """Each kill of a start over new files that had begun to take their places, and a start after it: they are in place, with an empty log."""
-        calls, wrong = self.calls_of(files, 0, NO_SETUP), None
+        calls, wrong = self.calls_of(files, 0, {}, NO_SETUP), None
         tries = [(number, how) for number in range(1, len(calls) + 1)[:: self.trial.step] for how in ("kill", "killed")]
         for number, last in zip(tries, self.trial.pool.map(lambda it: self.recovery_killed(files, *it), tries)):
             wrong = wrong if last.recovered() and last.files == self.whole else wrong or f"{number}: {last}"
@@ -437,16 +440,17 @@ class Days:
         return lines + [chance.choice(kinds)() for _ in range(THOUSAND - len(lines))]
 
     def killed(self, folder, lines, chance):
-        """A day in which some lines are typed, and which is killed at any moment."""
-        lines = lines[:20]
+        """A day in which some lines are typed, the first ones one by one and the others together, and which is killed at any moment."""
+        printed, alone = b"", chance.randrange(len(lines) + 1)
         with self.opened(folder) as day:
-            with contextlib.suppress(BrokenPipeError):
-                day.stdin.write(b"".join(line + b"\n" for line in lines))
+            for line in lines[:alone]:
+                day.stdin.write(line + b"\n")
                 day.stdin.flush()
-            printed = b""
-            for _ in range(chance.randrange(len(lines) + 1)):
                 printed += day.stdout.readline()
-            time.sleep(chance.random() / 5000)
+            with contextlib.suppress(BrokenPipeError):
+                day.stdin.write(b"".join(line + b"\n" for line in lines[alone:]))
+                day.stdin.flush()
+            time.sleep(chance.random() / 1000)
             day.kill()
             day.wait()
             return Ended(day.returncode, printed + day.stdout.read(), day.stderr.read(), files_of(folder))
@@ -460,12 +464,12 @@ class Days:
         folder = self.trial.folder(files)
         shown, most, found = 0, 0, 0
         for _ in range(KILLS):
-            ended = self.killed(folder, lines[most:], chance)
+            ended = self.killed(folder, lines[most : most + 20], chance)
             answers = [entry.answer for entry in journal[most:]][: len(ended.shown)]
             shown = most + len(ended.shown)
             log = entries_of(ended.files.get(LOG, EMPTY_LOG))
             found += len(ended.shown)
-            if ended.status != -signal.SIGKILL or ended.shown != answers or log != journal[: len(log)] or not shown <= len(log) <= shown + 1:
+            if ended.status != -signal.SIGKILL or ended.shown != answers or log != journal[: len(log)] or not shown <= len(log) <= most + 20:
                 shutil.rmtree(folder)
                 return self.told(f"{THOUSAND} lines, killed {KILLS} times", False, ended)
             most = len(log)
@@ -546,7 +550,7 @@ class Days:
     # ---- ends that no single call makes
 
     def reader_gone(self):
-        """Nobody reads the answers any more: the entry of the last line is in the log, and the day does not go on."""
+        """Nobody reads the answers any more: the entries of the last lines, which come together, are in the log, and the day does not go on."""
         folder = self.trial.folder(self.old)
         with self.opened(folder) as day:
             day.stdin.write(b"USE STAFF\n")
@@ -554,13 +558,14 @@ class Days:
             first = day.stdout.readline()
             day.stdout.close()
             day.stdin.write(b"GO 2\nGO 3\n")
+            day.stdin.flush()
             day.stdin.close()
             told = day.stderr.read()
             status = day.wait(SECONDS)
         ended = Ended(status, first, told, files_of(folder))
         shutil.rmtree(folder)
         log = entries_of(ended.files.get(LOG, b""))
-        holds = (status, ended.told) == (4, UNPRINTED_ANSWERS) and len(log) == 2 and ended.files.keys() - {LOG} == self.old.keys()
+        holds = (status, ended.told) == (4, UNPRINTED_ANSWERS) and len(log) == 3 and ended.files.keys() - {LOG} == self.old.keys()
         return self.told("nobody reads the answers any more", holds, ended)
 
     def second_day(self):
@@ -596,7 +601,7 @@ class Days:
         folder = self.trial.folder(self.old)
         ended = self.day(folder, self.text(0), before=before)
         ended.begun = 0
-        holds, last = self.went_on(folder, ended, "old")
+        holds, last = self.went_on(folder, ended, "old", 0)
         shutil.rmtree(folder)
         said = ended.status == 4 and ended.told == own(office.unwritten("LEDGER.DBF"))
         return self.told("a limit on the size of files", said and holds, f"{ended}; then {last}")

@@ -21,9 +21,9 @@ LINES = [
 class DayTrace:
     """A day over a folder of a disk, call by call, and before each how many entries a crash has to leave at least, and at most."""
 
-    def __init__(self, disk, entries, shown, begun):
-        """So many answers were shown before it, and so many entries are performed again at its start, which says so."""
-        self.disks, self.told, self.counts = [disk], ["the begin"], [(shown, begun + 1)]
+    def __init__(self, disk, entries, shown, begun, more):
+        """So many answers were shown before it, and so many entries are performed again at its start, which says so. A group has so many at most."""
+        self.disks, self.told, self.counts = [disk], ["the begin"], [(shown, begun + more)]
         disk, ends = disk.copy(), 0
         for what, descriptor, place, said in entries:
             if what == "write" and descriptor in (1, 2):
@@ -31,7 +31,7 @@ class DayTrace:
                 # The count of the commands is shown after the answers.
                 answered = min(begun + ends, len(LINES))
                 if descriptor == 1 or b"performed again" in said:
-                    self.counts[-1] = answered, answered + 1
+                    self.counts[-1] = answered, answered + more
             elif disk.make(what, descriptor, place, said):
                 self.disks.append(disk.copy())
                 self.told.append(f"{what} {disk.told_of(what, descriptor, said)}")
@@ -92,18 +92,18 @@ class LiveDays:
             raise SystemExit("faults/states: OTHERWISE: the log of a day has not its answers")
         return entries
 
-    def trace(self, disk, done, shown):
+    def trace(self, disk, done, shown, lines):
         """The calls of a day of the lines after so many, over a disk, where so many were shown before."""
         files = disk.files()
-        key = frozenset(files.items()), done
+        key = frozenset(files.items()), done, bool(lines)
         if key not in self.traces:
             folder, file = self.starts.folder(files), self.starts.work / f"{os.getpid()}-day{next(self.numbers)}"
-            ended = self.day(folder, self.text(done), FAULT_TRACE=file)
+            ended = self.day(folder, self.text(done), FAULT_TRACE=file, **lines)
             self.traces[key] = list(entries_in(file.read_bytes())), ended
             shutil.rmtree(folder)
             file.unlink()
         entries, ended = self.traces[key]
-        made = DayTrace(disk, entries, shown, done)
+        made = DayTrace(disk, entries, shown, done, 1 if lines else len(LINES))
         if made.end != ended.files:
             raise SystemExit("faults/states: a trace of a day doesn't lead to the files that it has left: the library lacks a call")
         return made
@@ -141,15 +141,20 @@ class LiveDays:
                 yield (frozenset(files.items()), *counts, is_closed), (files, *counts, is_closed), f"{title}, a crash after {told}", words
 
     def days(self):
-        """The day, and after a kill of it at each moment a start that goes on with it: what the day had not synced is still pending."""
-        trace = self.trace(Disk(self.old), 0, 0)
-        yield from self.outcomes("the day", trace, 2)
+        """The day, whose lines come one by one and all together, and after a kill of it at each moment a start that goes on with it."""
+        yield from self.days_of("the day", live.ALONE)
+        yield from self.days_of("the day whose lines come together", {})
+
+    def days_of(self, title, lines):
+        """Such a day, and after a kill of it at each moment a start that goes on with it: what the day had not synced is still pending."""
+        trace = self.trace(Disk(self.old), 0, 0, lines)
+        yield from self.outcomes(title, trace, 2)
         for disk, told, counts in zip(trace.disks, trace.told, trace.counts):
             count = self.found(self.recovered(disk), *counts, False)
             if count is None:
                 raise SystemExit(f"faults/states: OTHERWISE: a start after a kill of a day after {told}")
             if count < len(LINES):
-                yield from self.outcomes(f"a day after a kill after {told}", self.trace(disk.copy(), count, counts[0]), 1)
+                yield from self.outcomes(f"a day after a kill of {title} after {told}", self.trace(disk.copy(), count, counts[0], lines), 1)
 
     def recovered(self, disk):
         """The files after a start without a setup."""
