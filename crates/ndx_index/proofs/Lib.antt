@@ -19,6 +19,7 @@ pub mod Texts
 pub mod RunLaws
 pub mod PageLaws
 pub mod KeyNumbers
+pub mod Alike
 pub mod EntryOrder
 pub mod BoundLaws
 pub mod Bisection

@@ -60,7 +60,7 @@ impl OrderedIndex {
     }
 
     /// The index of these pairs, put in order where they don't stand in it already. `AllocError` where there is no memory
-    /// for it, or more pairs than its pages can be numbered for.
+    /// for it, or more pairs than can be numbered.
     pub fn from_pairs(alloc: Global, pairs: PairList) -> Result<Self, AllocError>
         requires distinct { IsDistinct same pairs.pairs }
         ensures key_len { IfOk result (λ index. index.key_len ≡ pairs.key_len) }

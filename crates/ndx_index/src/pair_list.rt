@@ -8,6 +8,7 @@ ghost use Rattle.ndx_index.specs.Order.{AreInOrder};
 ghost use Rattle.ndx_index.specs.Renumbered.{renumbered, HaveNewNumbers};
 ghost use Rattle.ndx_index.specs.Slots.{slot_at};
 
+mod alike;
 pub(crate) mod part;
 mod parts;
 pub(crate) mod sorting;

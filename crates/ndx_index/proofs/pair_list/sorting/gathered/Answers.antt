@@ -10,10 +10,11 @@ loop-entry-preserved c =
     let es = c.args.entries.now in
     let i = c.loop-entry.entry-index in
     let lt : i < length es = omega (arith, c.loop-entry-test.true) in
-    let p : Pair = record { key = c.key.result.now; number = c.number.result } in
-    let its : Pair = pair_of_entry ps (get_or es i no_entry) in
-    let key : p ≡ record { key = its.key; number = c.number.result } = ap (λ (k : List ℕ). record { key = k; number = c.number.result }) c.key.ensures.key in
-    let number : record { key = its.key; number = c.number.result } ≡ its = ap (λ (n : ℕ). record { key = its.key; number = n }) c.number.ensures.number in
+    let e = get_or es i no_entry in
+    let its : Pair = pair_of_entry ps e in
+    let p : Pair = record { key = c.key.result.now; number = e.number } in
+    let key : p ≡ record { key = its.key; number = e.number } = ap (λ (k : List ℕ). record { key = k; number = e.number }) c.key.ensures.key in
+    let number : record { key = its.key; number = e.number } ≡ its = ap (λ (n : ℕ). record { key = its.key; number = n }) (c.requires.places i no_entry lt).1 in
     let own : p ≡ its = key ∙ number in record {
       pairs = c.push.ensures.pairs ∙ ap (λ (qs : List Pair). qs ++ p ∷ []) c.loop-entry.invariant.pairs
           ∙ ap (λ (q : Pair). map (pair_of_entry ps) (take i es) ++ q ∷ []) own ∙ sym (pairs-push ps es i no_entry lt);
