@@ -23,6 +23,8 @@ pub mod ReadBack
 pub mod MemoFrame
 pub mod MemoOwners
 pub mod MemoTotals
+pub mod FileTextLaws
+pub mod StoreLaws
 pub mod MemoUse
 pub mod MemoFilling
 pub mod MemoTexts
@@ -30,6 +32,7 @@ pub mod MemoHeld
 pub mod MemoPieces
 pub mod MemoPutting
 pub mod MemoMarking
+pub mod FileTextMarks
 pub mod MemoCounting
 pub mod MemoSweeping
 pub mod MemoDropping

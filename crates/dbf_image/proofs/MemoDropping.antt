@@ -8,7 +8,7 @@ use Rattle.dbf_image.specs.declared.memo_store.block.MemoBlock.{MemoBlock}
 use Rattle.dbf_image.specs.declared.memo_store.block.FreeList.{FreeList}
 use Rattle.dbf_image.specs.MemoChains.{block_at, blocks_owned, text_at, text_blocks, IsChain, is_kept, free_one, AreHeld, AreCounted}
 use Rattle.dbf_image.specs.MemoSteps.{Marks, Sweeps}
-use Rattle.dbf_image.specs.MemoStore.{stored_texts}
+use Rattle.dbf_image.specs.TextBlocks.{stored_texts}
 use Rattle.dbf_image.proofs.MemoFrame.{alike}
 use Rattle.dbf_image.proofs.MemoCounting.{chain_counted, counted_le}
 use Rattle.dbf_image.proofs.MemoOwners.{owned_same, owned_none}

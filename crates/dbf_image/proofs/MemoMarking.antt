@@ -12,11 +12,11 @@ use Rattle.dbf_image.proofs.MemoFilling.{set_same, set_other}
 pub twice : {a b c : MemoBlock} → Alike a b → Alike b c → Alike a c
 twice f g = record { piece = f.piece ∙ g.piece; owner = f.owner ∙ g.owner; count = f.count ∙ g.count; next = f.next ∙ g.next }
 
-or_false : (a b : Bool) → b ≡ false → (a || (b || false)) ≡ a
+pub or_false : (a b : Bool) → b ≡ false → (a || (b || false)) ≡ a
 or_false true b e = refl
 or_false false b e = ap (λ x. x || false) e
 
-or_true : (a b : Bool) → b ≡ true → (a || (b || false)) ≡ true
+pub or_true : (a b : Bool) → b ≡ true → (a || (b || false)) ≡ true
 or_true true b e = refl
 or_true false b e = ap (λ x. x || false) e
 

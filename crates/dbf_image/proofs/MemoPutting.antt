@@ -6,7 +6,7 @@ use Rattle.dbf_image.specs.declared.memo_store.block.MemoBlock.{MemoBlock}
 use Rattle.dbf_image.specs.declared.memo_store.block.FreeList.{FreeList}
 use Rattle.dbf_image.specs.MemoChains.{block_at, blocks_in, blocks_owned, text_at, text_blocks, text_from, IsChain, AreHeld, AreCounted, Grown}
 use Rattle.dbf_image.specs.MemoSteps.{Fills}
-use Rattle.dbf_image.specs.MemoStore.{stored_texts}
+use Rattle.dbf_image.specs.TextBlocks.{stored_texts}
 use Rattle.dbf_image.proofs.MemoFrame.{alike}
 use Rattle.dbf_image.proofs.MemoOwners.{grown_owned}
 use Rattle.dbf_image.proofs.MemoTexts.{text_is, none_is, get_texts, one_more, text_stays, chain_stays, grown_text, grown_texts, grown_held}

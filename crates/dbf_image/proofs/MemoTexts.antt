@@ -6,7 +6,7 @@ use Rattle.std.specs.Cmp.{nat_cmp_total, unsigned_tied}
 use Rattle.std.specs.FinMap.{find, get, insert, same_map, get-from_entries, get-insert, nat_cmp-IsAntisymmetric}
 use Rattle.dbf_image.specs.declared.memo_store.block.MemoBlock.{MemoBlock}
 use Rattle.dbf_image.specs.MemoChains.{no_block, block_at, text_from, text_at, IsChain, AreHeld, Alike, Grown}
-use Rattle.dbf_image.specs.MemoStore.{with_text_entry, entries_to, stored_texts}
+use Rattle.dbf_image.specs.TextBlocks.{with_text_entry, entries_to, stored_texts}
 use Rattle.dbf_image.proofs.MemoFrame.{framed, alike}
 
 not_none : is_some {T = List ℕ} None ≡ true → ⊥

@@ -1,5 +1,5 @@
 -- The free blocks and those of the texts are all blocks.
-use Rattle.std.proofs.Common.{◌≡◌, ◌≢◌, ℕ, zero, suc, ◌+◌, ◌*◌, ◌<◌, ◌≤◌, cond, List, [], ◌∷◌, length, Option, Some, None, is_some, nat_cmp, refl, ap, sym, ◌∙◌, ⊎_elim, true≢false, ne_eqb, arith}
+use Rattle.std.proofs.Common.{◌≡◌, ◌≢◌, ℕ, zero, suc, ◌+◌, ◌<◌, ◌≤◌, cond, List, [], ◌∷◌, length, Option, Some, None, is_some, nat_cmp, refl, ap, sym, ◌∙◌, ⊎_elim, true≢false, ne_eqb, arith}
 use Rattle.std.proofs.lemmas.Bool.{cases_eq}
 use Rattle.std.proofs.lemmas.List.Sums.{sum_by-cons}
 use Rattle.std.specs.List.{sum_by}
@@ -8,11 +8,11 @@ use Rattle.std.specs.Ordering.{is_eq}
 use Rattle.std.specs.declared.cmp.Ordering.TheVariants.{Less, Equal, Greater}
 use Rattle.std.specs.FinMap.{find, get, insert, put, entries, empty, from_entries, get-entries, get-from_entries, entries-insert, len-entries, len-empty}
 use Rattle.std.specs.FinMap.Entries.{by_order}
-use Rattle.dbf_image.specs.declared.format.TheConstants.{BLOCK}
 use Rattle.dbf_image.specs.declared.memo_store.block.MemoBlock.{MemoBlock}
-use Rattle.dbf_image.specs.declared.memo_store.MemoStore.TheInside.{Inside}
+use Rattle.dbf_image.specs.declared.memo_store.text_blocks.TextBlocks.TheInside.{Inside}
 use Rattle.dbf_image.specs.MemoChains.{block_at, blocks_in, blocks_owned, text_at, text_blocks, AreCounted}
-use Rattle.dbf_image.specs.MemoStore.{Texts, with_text_entry, entries_to, stored_texts, used_blocks, all_bytes, memos_view, IsMemoStore}
+use Rattle.dbf_image.specs.MemoStore.{Texts, used_blocks}
+use Rattle.dbf_image.specs.TextBlocks.{block_total, with_text_entry, entries_to, stored_texts, blocks_view, IsTextBlocks}
 use Rattle.dbf_image.proofs.MemoOwners.{owned_some, owned_to, owned_next, owned_first, owned_all}
 use Rattle.dbf_image.proofs.MemoTexts.{none_is, there}
 
@@ -73,6 +73,6 @@ owner_le bs j (suc n) c e = omega (arith, there bs n n (owner_there bs j n c e))
 pub all_blocks : (bs : List MemoBlock) → AreCounted bs → blocks_owned 0 bs + used_blocks (stored_texts bs) ≡ length bs
 all_blocks bs c = used_to (length bs) bs c ∙ owned_all (length bs) bs (λ j. owner_le bs j _ c refl)
 
--- the bytes of a store's blocks
-pub bytes_of_all : (x : Inside) → IsMemoStore x → all_bytes (memos_view x) ≡ BLOCK * (length x.blocks.items + x.ready)
-bytes_of_all x s = omega (arith, s.all_free, all_blocks x.blocks.items s.counted)
+-- with those that may still be pushed
+pub total_is : (x : Inside) → IsTextBlocks x → block_total (blocks_view x) ≡ length x.blocks.items + x.ready
+total_is x s = omega (arith, s.all_free, all_blocks x.blocks.items s.counted)

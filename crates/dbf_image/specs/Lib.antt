@@ -15,6 +15,9 @@ pub use Rattle.dbf_fields.specs.Schema
 pub mod MemoChains
 pub mod MemoSteps
 pub mod MemoStore
+pub mod TextBlocks
+pub mod FileTexts
+pub mod StoreView
 pub mod MemoNumbers
 pub mod Laws
 pub mod Packing

@@ -205,7 +205,7 @@ impl TableData {
         self.kept.set_cell(number, field, cell);
     }
 
-    /// Replaces the text of a record's memo. Records count from 1, fields from 0. The old text stays in its blocks
+    /// Replaces the text of a record's memo. Records count from 1, fields from 0. The old text stays where it is
     /// until the table is packed, so the cost is the new text's length.
     ///
     /// An `Err` says that there was no memory. It changes nothing.

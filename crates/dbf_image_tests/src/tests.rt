@@ -69,6 +69,10 @@ fn front(bytes: &[u8], length: usize) -> &[u8] {
 
 // The table of a copy of these bytes.
 fn read_copy(alloc: Global, dbf: &[u8], dbt: Option<&[u8]>) -> Result<TableData, ImageFault> {
+    let dbt = match dbt {
+        Some(bytes) => Some(Bytes::from_slice(alloc, bytes)?),
+        None => None,
+    };
     read_table(alloc, Bytes::from_slice(alloc, dbf)?, dbt)
 }
 

@@ -43,14 +43,10 @@ fn load_memos<S: Source>(
 }
 
 // The table of the bytes of its files.
-fn table_of(alloc: Global, dbf: Bytes, memos: &Option<Bytes>) -> Result<GrowingTable, BadTable>
-    ensures read { IfOk result (λ records. IsDbf dbf memos.now records.table) }
-    ensures refused { IfErr result (λ bad. IsTableRefusal bad dbf memos.now) }
+fn table_of(alloc: Global, dbf: Bytes, memos: Option<Bytes>) -> Result<GrowingTable, BadTable>
+    ensures read { IfOk result (λ records. IsDbf dbf memos records.table) }
+    ensures refused { IfErr result (λ bad. IsTableRefusal bad dbf memos) }
 {
-    let memos = match memos {
-        None => None,
-        Some(bytes) => Some(bytes.as_slice()),
-    };
     Ok(read_table_at(alloc, dbf, memos)?.into_growing())
 }
 
@@ -78,7 +74,7 @@ fn read_table<S: Source>(
         Err(why) => return Ok(Err(EntryFault::UnloadedMemos(why))),
     };
     let numbers = table_numbers(bytes.as_slice());
-    match table_of(alloc, bytes, &memos) {
+    match table_of(alloc, bytes, memos) {
         Ok(records) => Ok(Ok(EntryContent::Table(records))),
         Err(
             BadTable {

@@ -7,20 +7,9 @@ ghost use Rattle.table_reader.specs.TableFiles.{IsTableAt, IsTableCount, IsTable
 
 use crate::fault::TableReadFault;
 use crate::memos::load_memos;
-use byte_io::Bytes;
 use dbf_image::{TableData, read_table};
 use folders::{LoadFault, Source};
 use std::alloc::Global;
-
-// The bytes of a file of memos.
-fn bytes_of(memos: &Option<Bytes>) -> Option<&[u8]>
-    ensures value { option_copied result ≡ memos.now }
-{
-    match memos {
-        Some(bytes) => Some(bytes.as_slice()),
-        None => None,
-    }
-}
 
 /// Reads the table of a path, and its memos, which are those of a path that is given or else those beside the table.
 ///
@@ -46,6 +35,6 @@ pub fn load_table<F: Source>(
         Ok(memos) => memos,
         Err(why) => return Err(TableReadFault::Memos(why)),
     };
-    let table = read_table(alloc, dbf, bytes_of(&memos))?;
+    let table = read_table(alloc, dbf, memos)?;
     Ok(table)
 }

@@ -31,13 +31,3 @@ pub(crate) fn memos_of<F: Source>(
         Err(why) => Err(ShowFault::Memos(why)),
     }
 }
-
-/// The bytes of a file of memos.
-pub(crate) fn bytes_of(memos: &Option<Bytes>) -> Option<&[u8]>
-    ensures value { option_copied result ≡ memos.now }
-{
-    match memos {
-        Some(bytes) => Some(bytes.as_slice()),
-        None => None,
-    }
-}

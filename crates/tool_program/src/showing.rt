@@ -10,7 +10,7 @@ ghost use Rattle.table_reader.specs.TableFiles.{IsNoTable};
 ghost use Rattle.tool_program.specs.View.{view_text, IsBeforeText, IsNoOrder, IsShown};
 
 use crate::asked::{Options, View};
-use crate::loading::{bytes_of, memos_of};
+use crate::loading::memos_of;
 use crate::order::{OrderFault, read_order};
 use byte_io::ByteSink;
 use dbf_fields::Day;
@@ -183,7 +183,7 @@ pub fn show_file<F: Source, S: ByteSink>(
     let dbf = source.load(alloc, options.table.as_bytes())?;
     let date = header_date(dbf.as_slice());
     let memos = memos_of(alloc, source, options.table, dbf.as_slice(), options.memos)?;
-    let table = read_table(alloc, dbf, bytes_of(&memos))?;
+    let table = read_table(alloc, dbf, memos)?;
     let (table, order) = load_order(alloc, source, options.order, options.from, table)?;
     write_view(alloc, sink, &table, date, numbers_of(&order), options.view)?;
     Ok(())

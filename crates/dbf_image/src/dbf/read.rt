@@ -1,7 +1,6 @@
 //! Reading a table from the bytes of a DBF file.
 
 ghost use Rattle.std.specs.Prelude.{◌≡◌, ◌+◌, ◌*◌, ◌≤◌, ◌==◌, ◌||◌, true, nat_le, length, map, take, drop, Some, None, is_none, IfOk, IfErr, OnOk, MatchResult};
-ghost use Rattle.std.specs.Option.{option_copied};
 ghost use Rattle.dbf_fields.specs.BadField.{first_bad_field as first_bad_in};
 ghost use Rattle.dbf_fields.specs.Faults.{first_fault};
 ghost use Rattle.dbf_fields.specs.Field.{folded, widths};
@@ -155,10 +154,10 @@ fn records_of(dbf: Bytes, header: Header) -> Vec<u8>
 }
 
 // The table that the bytes tell, or the first test that fails.
-fn table_at(alloc: Global, dbf: Bytes, dbt: Option<&[u8]>) -> Result<TableData, BadTable>
-    ensures accepted { IfOk result (λ _. image_refusal dbf (option_copied dbt.entry) ≡ None) }
-    ensures value { IfOk result (λ table. table ≡ table_read dbf (option_copied dbt.entry)) }
-    ensures refused { IfErr result (λ bad. IsTableRefusal bad dbf (option_copied dbt.entry)) }
+fn table_at(alloc: Global, dbf: Bytes, dbt: Option<Bytes>) -> Result<TableData, BadTable>
+    ensures accepted { IfOk result (λ _. image_refusal dbf dbt ≡ None) }
+    ensures value { IfOk result (λ table. table ≡ table_read dbf dbt) }
+    ensures refused { IfErr result (λ bad. IsTableRefusal bad dbf dbt) }
     ensures early { IfErr result (λ bad. (first : ImageFault) → early_refusal dbf ≡ Some first → bad ≡ bad_in InHeader first) }
 {
     let file = dbf.as_slice();
@@ -188,20 +187,20 @@ fn table_at(alloc: Global, dbf: Bytes, dbt: Option<&[u8]>) -> Result<TableData, 
 /// with memos or without. What is read costs time and memory in proportion to the two files, also where
 /// many cells name one block.
 ///
-/// The bytes of the DBF file become those of the table, which has its records in them.
+/// The bytes of the two files become those of the table, which has its records and its memos in them.
 ///
 /// An `Err` is the fault of the first test that fails, with the part of the files that it is found in: see [`ImageFault`] and
 /// [`TablePart`]. `NoMemory` may stand in its place where memory was refused before that test, and so never in place of a fault
 /// of the header.
-pub fn read_table_at(alloc: Global, dbf: Bytes, dbt: Option<&[u8]>) -> Result<TableData, BadTable>
+pub fn read_table_at(alloc: Global, dbf: Bytes, dbt: Option<Bytes>) -> Result<TableData, BadTable>
     // What is read is the files' table.
-    ensures found { IfOk result (IsDbf dbf (option_copied dbt.entry)) }
+    ensures found { IfOk result (IsDbf dbf dbt) }
     // No test fails where a table is read.
-    ensures accepted { IfOk result (λ _. image_refusal dbf (option_copied dbt.entry) ≡ None) }
+    ensures accepted { IfOk result (λ _. image_refusal dbf dbt ≡ None) }
     // Files of a table are read, unless memory is refused.
-    ensures only { (table : Table) → IsDbf dbf (option_copied dbt.entry) table → MatchResult result (λ t. t ≡ table) (λ bad. bad.why ≡ ImageFault.NoMemory) }
+    ensures only { (table : Table) → IsDbf dbf dbt table → MatchResult result (λ t. t ≡ table) (λ bad. bad.why ≡ ImageFault.NoMemory) }
     // Which fault it is, and where.
-    ensures refused { IfErr result (λ bad. IsTableRefusal bad dbf (option_copied dbt.entry)) }
+    ensures refused { IfErr result (λ bad. IsTableRefusal bad dbf dbt) }
     // What is tested before memory is taken is answered as it is, and never as `NoMemory`.
     ensures early { IfErr result (λ bad. (first : ImageFault) → early_refusal dbf ≡ Some first → bad ≡ bad_in InHeader first) }
 {
@@ -215,19 +214,19 @@ pub fn read_table_at(alloc: Global, dbf: Bytes, dbt: Option<&[u8]>) -> Result<Ta
 /// ```text
 /// read_table(alloc, Bytes::from_slice(alloc, dbf)?, dbt)
 /// ```
-pub fn read_table(alloc: Global, dbf: Bytes, dbt: Option<&[u8]>) -> Result<TableData, ImageFault>
+pub fn read_table(alloc: Global, dbf: Bytes, dbt: Option<Bytes>) -> Result<TableData, ImageFault>
     // What is read is the files' table.
-    ensures found { IfOk result (IsDbf dbf (option_copied dbt.entry)) }
+    ensures found { IfOk result (IsDbf dbf dbt) }
     // No test fails where a table is read.
-    ensures accepted { IfOk result (λ _. image_refusal dbf (option_copied dbt.entry) ≡ None) }
+    ensures accepted { IfOk result (λ _. image_refusal dbf dbt ≡ None) }
     // Files of a table are read, unless memory is refused.
-    ensures only { (table : Table) → IsDbf dbf (option_copied dbt.entry) table → MatchResult result (λ t. t ≡ table) (λ fault. fault ≡ ImageFault.NoMemory) }
+    ensures only { (table : Table) → IsDbf dbf dbt table → MatchResult result (λ t. t ≡ table) (λ fault. fault ≡ ImageFault.NoMemory) }
     // Which fault it is.
-    ensures refused { IfErr result (λ fault. IsImageRefusal fault dbf (option_copied dbt.entry)) }
+    ensures refused { IfErr result (λ fault. IsImageRefusal fault dbf dbt) }
     // What is tested before memory is taken is answered as it is, and never as `NoMemory`.
     ensures early { IfErr result (λ fault. (first : ImageFault) → early_refusal dbf ≡ Some first → fault ≡ first) }
     // Two files are those of one table at most.
-    ensures one { (a b : Table) → IsDbf dbf (option_copied dbt.entry) a → IsDbf dbf (option_copied dbt.entry) b → a ≡ b }
+    ensures one { (a b : Table) → IsDbf dbf dbt a → IsDbf dbf dbt b → a ≡ b }
 {
     match read_table_at(alloc, dbf, dbt) {
         Ok(table) => Ok(table),

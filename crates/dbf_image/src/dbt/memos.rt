@@ -1,7 +1,6 @@
 //! The texts of a table's memos, read from their file.
 
 ghost use Rattle.std.specs.Prelude.{◌≡◌, ◌+◌, ◌*◌, ◌≤◌, ◌++◌, [], length, flat_map, Some, None, IfOk, IfErr, OnOk};
-ghost use Rattle.std.specs.Option.{option_copied};
 ghost use Rattle.dbf_fields.specs.Faults.{first_fault};
 ghost use Rattle.dbf_fields.specs.Field.{widths};
 ghost use Rattle.dbf_fields.specs.declared.format.TheConstants.{MEMO_WIDTH};
@@ -9,7 +8,7 @@ ghost use Rattle.dbf_fields.specs.Schema.{IsSchema};
 ghost use Rattle.dbf_image.specs.Table.{has_memos as some_memo};
 ghost use Rattle.dbf_image.specs.DbfText.{chunks, row_chunks, AreRecords};
 ghost use Rattle.dbf_image.specs.Memo.{memo_at};
-ghost use Rattle.dbf_image.specs.MemoNumbers.{KeepsMemos, cell_texts, cells_texts, row_texts, all_texts, HasTextsOf, IsReading};
+ghost use Rattle.dbf_image.specs.MemoNumbers.{KeepsMemos, cell_texts, cells_texts, row_texts, read_texts, all_texts, HasTextsOf, IsReading};
 ghost use Rattle.dbf_image.specs.Store.{text_of, IsMemo, IsStore};
 ghost use Rattle.dbf_image.specs.Reading.{text_tests, memo_tests, memo_text, cell_tests, IsRefusal};
 ghost use Rattle.dbf_image.specs.BadTable.{part_of_memo, tests_of, record_memos_tests, records_memos_tests, table_memos_tests, IsBad};
@@ -20,15 +19,16 @@ use crate::dbt::memo::{block_ends, memo_block, span_at};
 use crate::fault::ImageFault;
 use crate::format::BLOCK;
 use crate::memo_store::MemoStore;
-use crate::table::memo::keep_memo;
+use crate::memo_store::file_text::{FileText, push_file_text};
+use byte_io::Bytes;
 use dbf_fields::{Field, MEMO, Schema};
 use std::alloc::{AllocError, Global};
 
-/// What was read of a file of memos: the texts, each block's number in them (0 where it has not been read, or
+/// What was read of a file of memos: where the texts stand, each block's number in them (0 where it has not been read, or
 /// has no text), and the numbers of the memos in order of record and field.
 #[derive(Drop)]
 pub(crate) struct ReadMemos {
-    pub(crate) texts: MemoStore,
+    pub(crate) texts: Vec<FileText>,
     pub(crate) of_block: Vec<u32>,
     pub(crate) numbers: Vec<u32>,
 }
@@ -41,7 +41,7 @@ fn nothing_read(alloc: Global, dbt: &[u8]) -> Result<ReadMemos, AllocError>
     let mut of_block = Vec::new(alloc);
     of_block.resize(dbt.len() / BLOCK + 1, 0)?;
     Ok(ReadMemos {
-        texts: MemoStore::new(alloc),
+        texts: Vec::new(alloc),
         of_block,
         numbers: Vec::new(alloc),
     })
@@ -59,10 +59,10 @@ fn number_of_block(
     requires reading { IsReading dbt.now memos.old }
     ensures accepted { OnOk result (first_fault (text_tests dbt.now block) ≡ None) }
     ensures reading { OnOk result (IsReading dbt.now memos.new) }
-    ensures kept { OnOk result (KeepsMemos memos.old.texts.texts memos.new.texts.texts) }
+    ensures kept { OnOk result (KeepsMemos (read_texts dbt.now memos.old) (read_texts dbt.now memos.new)) }
     ensures same { OnOk result (memos.new.numbers ≡ memos.old.numbers) }
-    ensures memo { IfOk result (λ number. IsMemo memos.new.texts.texts number) }
-    ensures text { IfOk result (λ number. text_of memos.new.texts.texts number ≡ memo_at dbt.now block) }
+    ensures memo { IfOk result (λ number. IsMemo (read_texts dbt.now memos.new) number) }
+    ensures text { IfOk result (λ number. text_of (read_texts dbt.now memos.new) number ≡ memo_at dbt.now block) }
     ensures refused { IfErr result (λ fault. IsRefusal fault (text_tests dbt.now block)) }
 {
     let span = span_at(dbt, ends, block)?;
@@ -70,8 +70,7 @@ fn number_of_block(
     if known != 0 {
         return Ok(known);
     }
-    let text = &dbt[span.start..span.start + span.length];
-    let number = keep_memo(&mut memos.texts, text)?;
+    let number = push_file_text(&mut memos.texts, span)?;
     memos.of_block[block as usize] = number;
     Ok(number)
 }
@@ -89,10 +88,10 @@ fn number_of_cell(
     requires count_bounded { length cell.now ≤ MEMO_WIDTH }
     ensures accepted { OnOk result (first_fault (memo_tests dbt.now cell.now) ≡ None) }
     ensures reading { OnOk result (IsReading dbt.now memos.new) }
-    ensures kept { OnOk result (KeepsMemos memos.old.texts.texts memos.new.texts.texts) }
+    ensures kept { OnOk result (KeepsMemos (read_texts dbt.now memos.old) (read_texts dbt.now memos.new)) }
     ensures same { OnOk result (memos.new.numbers ≡ memos.old.numbers) }
-    ensures memo { IfOk result (λ number. IsMemo memos.new.texts.texts number) }
-    ensures text { IfOk result (λ number. text_of memos.new.texts.texts number ≡ memo_text dbt.now cell.now) }
+    ensures memo { IfOk result (λ number. IsMemo (read_texts dbt.now memos.new) number) }
+    ensures text { IfOk result (λ number. text_of (read_texts dbt.now memos.new) number ≡ memo_text dbt.now cell.now) }
     ensures refused { IfErr result (λ fault. IsRefusal fault (memo_tests dbt.now cell.now)) }
 {
     match memo_block(cell) {
@@ -130,7 +129,7 @@ fn read_cell(
     requires count_bounded { field.now.kind ≡ MEMO → length cell.now ≤ MEMO_WIDTH }
     ensures accepted { OnOk result (first_fault (tests_of (part_of_memo record_number field_number cell.now) (cell_tests dbt.now field.now cell.now)) ≡ None) }
     ensures reading { OnOk result (IsReading dbt.now memos.new) }
-    ensures texts { OnOk result (all_texts memos.new ≡ all_texts memos.old ++ cell_texts dbt.now field.now cell.now) }
+    ensures texts { OnOk result (all_texts dbt.now memos.new ≡ all_texts dbt.now memos.old ++ cell_texts dbt.now field.now cell.now) }
     ensures refused { IfErr result (λ bad. IsBad bad (tests_of (part_of_memo record_number field_number cell.now) (cell_tests dbt.now field.now cell.now))) }
 {
     if field.kind == MEMO {
@@ -162,7 +161,7 @@ fn read_cells(
     requires room { widths fields.now ≤ length bytes.now }
     ensures accepted { OnOk result (first_fault (record_memos_tests dbt.now record_number 1 fields.now bytes.now) ≡ None) }
     ensures reading { OnOk result (IsReading dbt.now memos.new) }
-    ensures texts { OnOk result (all_texts memos.new ≡ all_texts memos.old ++ cells_texts dbt.now fields.now bytes.now) }
+    ensures texts { OnOk result (all_texts dbt.now memos.new ≡ all_texts dbt.now memos.old ++ cells_texts dbt.now fields.now bytes.now) }
     ensures refused { IfErr result (λ bad. IsBad bad (record_memos_tests dbt.now record_number 1 fields.now bytes.now)) }
 {
     let mut rest = bytes;
@@ -188,7 +187,7 @@ fn read_all(
     requires room { count * size ≤ length bytes.now }
     ensures accepted { IfOk result (λ _. first_fault (records_memos_tests dbt.now 1 fields.now (chunks size count bytes.now)) ≡ None) }
     ensures reading { IfOk result (IsReading dbt.now) }
-    ensures texts { IfOk result (λ memos. all_texts memos ≡ flat_map (row_texts dbt.now fields.now) (chunks size count bytes.now)) }
+    ensures texts { IfOk result (λ memos. all_texts dbt.now memos ≡ flat_map (row_texts dbt.now fields.now) (chunks size count bytes.now)) }
     ensures refused { IfErr result (λ bad. IsBad bad (records_memos_tests dbt.now 1 fields.now (chunks size count bytes.now))) }
 {
     let ends = block_ends(alloc, dbt)?;
@@ -213,36 +212,44 @@ pub(crate) fn has_memos(fields: &[Field]) -> bool
 // The texts of all memos, and the number of each of them.
 fn memos_in(
     alloc: Global,
-    dbt: &[u8],
+    dbt: Bytes,
     schema: &Schema,
     count: u32,
     bytes: &[u8],
 ) -> Result<(MemoStore, Vec<u32>), BadTable>
     requires records { AreRecords schema.now count bytes.now }
-    ensures accepted { IfOk result (λ _. first_fault (records_memos_tests dbt.now 1 schema.now (row_chunks schema.now count bytes.now)) ≡ None) }
-    ensures value { IfOk result (λ memos. HasTextsOf (Some dbt.now) schema.now count bytes.now memos.0.texts memos.1.items) }
+    ensures accepted { IfOk result (λ _. first_fault (records_memos_tests dbt 1 schema.now (row_chunks schema.now count bytes.now)) ≡ None) }
+    ensures value { IfOk result (λ memos. HasTextsOf (Some dbt) schema.now count bytes.now memos.0.texts memos.1.items) }
     ensures kept { IfOk result (λ memos. IsStore schema.now count bytes.now memos.0.texts memos.1.items) }
-    ensures refused { IfErr result (λ bad. IsBad bad (records_memos_tests dbt.now 1 schema.now (row_chunks schema.now count bytes.now))) }
+    ensures refused { IfErr result (λ bad. IsBad bad (records_memos_tests dbt 1 schema.now (row_chunks schema.now count bytes.now))) }
 {
     let size = schema.record_length();
-    let memos = read_all(alloc, dbt, schema.fields(), size, count, bytes)?;
-    Ok((memos.texts, memos.numbers))
+    let ReadMemos { texts, numbers, .. } = read_all(
+        alloc,
+        dbt.as_slice(),
+        schema.fields(),
+        size,
+        count,
+        bytes,
+    )?;
+    let store = MemoStore::of_file(alloc, dbt.into_vec(), texts)?;
+    Ok((store, numbers))
 }
 
-/// The texts of all memos of a table's records, and the number of each of them in order of record and field. A
-/// block's text is kept once, also where many cells name the block.
+/// The texts of all memos of a table's records, and the number of each of them in order of record and field. The bytes of
+/// the file of memos become those of the store: a text is a part of them, also where many cells name its block.
 pub(crate) fn memos_at(
     alloc: Global,
-    dbt: Option<&[u8]>,
+    dbt: Option<Bytes>,
     schema: &Schema,
     count: u32,
     bytes: &[u8],
 ) -> Result<(MemoStore, Vec<u32>), BadTable>
     requires records { AreRecords schema.now count bytes.now }
-    ensures accepted { IfOk result (λ _. first_fault (table_memos_tests (option_copied dbt.entry) schema.now (row_chunks schema.now count bytes.now)) ≡ None) }
-    ensures value { IfOk result (λ memos. HasTextsOf (option_copied dbt.entry) schema.now count bytes.now memos.0.texts memos.1.items) }
+    ensures accepted { IfOk result (λ _. first_fault (table_memos_tests dbt schema.now (row_chunks schema.now count bytes.now)) ≡ None) }
+    ensures value { IfOk result (λ memos. HasTextsOf dbt schema.now count bytes.now memos.0.texts memos.1.items) }
     ensures kept { IfOk result (λ memos. IsStore schema.now count bytes.now memos.0.texts memos.1.items) }
-    ensures refused { IfErr result (λ bad. IsBad bad (table_memos_tests (option_copied dbt.entry) schema.now (row_chunks schema.now count bytes.now))) }
+    ensures refused { IfErr result (λ bad. IsBad bad (table_memos_tests dbt schema.now (row_chunks schema.now count bytes.now))) }
 {
     if !has_memos(schema.fields()) {
         return Ok((MemoStore::new(alloc), Vec::new(alloc)));

@@ -229,7 +229,7 @@ impl GrowingTable {
         self.records[start..end].copy_from_slice(cell);
     }
 
-    /// Replaces the text of a record's memo. Records count from 1, fields from 0. The old text stays in its blocks
+    /// Replaces the text of a record's memo. Records count from 1, fields from 0. The old text stays where it is
     /// until the table is packed, so the cost is the new text's length. It takes no memory.
     pub fn set_memo(&mut self, number: u32, field: usize, text: &[u8])
         requires number { 1 ≤ number }

@@ -1,6 +1,6 @@
 //! The memos of a table: numbers of texts, 0 for none.
 
-ghost use Rattle.std.specs.Prelude.{◌≡◌, ◌+◌, ◌≤◌, length, true, IfOk, OnOk};
+ghost use Rattle.std.specs.Prelude.{◌≡◌, ◌+◌, ◌≤◌, length, true, IfOk};
 ghost use Rattle.dbf_image.specs.MemoChains.{blocks_in};
 ghost use Rattle.dbf_image.specs.MemoNumbers.{KeepsMemos};
 ghost use Rattle.dbf_image.specs.MemoStore.{all_bytes, used_blocks};
@@ -50,15 +50,4 @@ pub(crate) fn put_memo(texts: &mut MemoStore, text: &[u8]) -> u32
         return 0;
     }
     texts.put(text)
-}
-
-/// Keeps a text, and answers its number, 0 where it is empty. An `Err` says that there was no memory.
-pub(crate) fn keep_memo(texts: &mut MemoStore, text: &[u8]) -> Result<u32, AllocError>
-    requires may { may_be_memo text.now ≡ true }
-    ensures memo { IfOk result (λ number. IsMemo texts.new.texts number) }
-    ensures value { IfOk result (λ number. text_of texts.new.texts number ≡ text.now) }
-    ensures others { OnOk result (KeepsMemos texts.old.texts texts.new.texts) }
-{
-    texts.reserve(text.len())?;
-    Ok(put_memo(texts, text))
 }

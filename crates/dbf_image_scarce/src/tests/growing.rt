@@ -10,6 +10,9 @@ use std::alloc::{AllocError, Global};
 use std::process::Abort;
 use std::test::Fail;
 
+// A memo of five blocks, for which the table has no room.
+const LATER: [u8; 2100] = [b'L'; 2100];
+
 // A call of the table.
 #[derive(Clone, Copy, Debug)]
 enum Called {
@@ -45,13 +48,14 @@ fn with_memo(alloc: Global) -> Result<Vec<u8>, AllocError> {
     Vec::from_slice(alloc, &dbf)
 }
 
-// The sample's memos and LATER after them.
+// The sample's memos and the other one after them.
 fn two_memos(alloc: Global) -> Result<Vec<u8>, AllocError> {
     let mut first = memo_file();
-    first[0] = 3;
+    first[0] = 7;
     let mut dbt = Vec::from_slice(alloc, &first)?;
-    dbt.extend_from_slice(b"LATER\x1a\x1a")?;
-    dbt.resize(1536, 0)?;
+    dbt.extend_from_slice(&LATER)?;
+    dbt.extend_from_slice(b"\x1a\x1a")?;
+    dbt.resize(3584, 0)?;
     Ok(dbt)
 }
 
@@ -102,7 +106,7 @@ fn answer_of(table: &mut TableData, called: Called) -> Option<Result<(), AllocEr
     match called {
         Called::AppendRecord => append(table, b"*CYD                 "),
         Called::AppendBlank => append_blank(table),
-        Called::SetMemo => set_memo(table, b"LATER"),
+        Called::SetMemo => set_memo(table, &LATER),
     }
 }
 

@@ -41,7 +41,10 @@ fn reading_attempt(alloc: Global, sample: &mut Sample) -> Attempt {
     let Ok(dbf) = Bytes::from_slice(alloc, &DBF) else {
         return Attempt::Refused;
     };
-    match read_table(alloc, dbf, Some(&sample.dbt)) {
+    let Ok(dbt) = Bytes::from_slice(alloc, &sample.dbt) else {
+        return Attempt::Refused;
+    };
+    match read_table(alloc, dbf, Some(dbt)) {
         Ok(table) => table_attempt(sample, Ok(table)),
         Err(fault) => Attempt::refused_if(fault == ImageFault::NoMemory),
     }

@@ -37,7 +37,8 @@ pub(super) fn memo_file() -> [u8; 1024] {
 /// The table of those files.
 pub(super) fn sample(alloc: Global) -> Result<TableData, Fail> {
     let dbf = Bytes::from_slice(alloc, &DBF)?;
-    let table = read_table(alloc, dbf, Some(&memo_file()))?;
+    let dbt = Bytes::from_slice(alloc, &memo_file())?;
+    let table = read_table(alloc, dbf, Some(dbt))?;
     Ok(table.copy(alloc)?)
 }
 

@@ -30,7 +30,7 @@ fn room_attempt(answer: Result<(), AllocError>) -> Attempt {
 fn attempt_of(table: &mut GrowingTable, called: Called) -> Attempt {
     room_attempt(match called {
         Called::ReserveRecord => table.reserve_record(),
-        Called::ReserveText => table.reserve_text(600),
+        Called::ReserveText => table.reserve_text(2100),
     })
 }
 

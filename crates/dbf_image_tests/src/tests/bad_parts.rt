@@ -44,7 +44,8 @@ const HELLO: &[u8; 10] = b"         1";
 // Why a table is refused whose memos' cells are these, in order of record and field, and where.
 fn refusal_of_memos(alloc: Global, cells: [&[u8; 10]; 4]) -> Result<Option<BadTable>, AllocError> {
     let dbf = Bytes::from_slice(alloc, &two_records(cells))?;
-    Ok(read_table_at(alloc, dbf, Some(&hello())).err())
+    let dbt = Bytes::from_slice(alloc, &hello())?;
+    Ok(read_table_at(alloc, dbf, Some(dbt)).err())
 }
 
 fn bad_memo(
@@ -111,7 +112,8 @@ fn refusal_with_byte(
     value: u8,
 ) -> Result<Option<BadTable>, AllocError> {
     let dbf = Bytes::from_slice(alloc, &with_byte(offset, value))?;
-    Ok(read_table_at(alloc, dbf, Some(&hello())).err())
+    let dbt = Bytes::from_slice(alloc, &hello())?;
+    Ok(read_table_at(alloc, dbf, Some(dbt)).err())
 }
 
 fn bad_field(field_number: usize, why: SchemaFault) -> Option<BadTable> {

@@ -189,3 +189,29 @@ fn cell_beside_a_memo_is_replaced(rt: HostRuntime) -> Result<(), Fail> {
     assert_cells(rt.alloc(), &rt, &table, &[(1, 0, b"BOB"), (1, 1, b"HELLO")]);
     Ok(())
 }
+
+// A table whose memo HELLO stands in its file, and with BYE in a second record.
+fn read_greeting(alloc: Global) -> Result<TableData, Fail> {
+    let mut table = read_copy(alloc, &one_memo(b"         1"), Some(&hello()))?;
+    add_blank(&mut table)?;
+    put_memo(&mut table, 2, 0, b"BYE")?;
+    Ok(table)
+}
+
+// The table packed.
+fn packed(table: TableData) -> TableData {
+    let mut growing = table.into_growing();
+    growing.pack();
+    TableData::from_growing(growing)
+}
+
+#[test]
+fn memo_in_the_file_stays_or_is_dropped(rt: HostRuntime) -> Result<(), Fail> {
+    let mut table = read_greeting(rt.alloc())?;
+    let stays = packed(table.copy(rt.alloc())?);
+    assert_cells(rt.alloc(), &rt, &stays, &[(1, 0, b"HELLO"), (2, 0, b"BYE")]);
+    put_memo(&mut table, 1, 0, b"")?;
+    let dropped = packed(table);
+    assert_cells(rt.alloc(), &rt, &dropped, &[(1, 0, b""), (2, 0, b"BYE")]);
+    Ok(())
+}

@@ -35,7 +35,7 @@ fn long_note(alloc: Global, length: usize) -> Result<TableSource, Fail> {
     let mut memos = with_zeros(alloc, b"", 512)?;
     memos.resize(length.saturating_add(512), b'm')?;
     let dbf = Bytes::from_slice(alloc, &NOTE)?;
-    let content = read_table(alloc, dbf, Some(memos.as_slice()))?;
+    let content = read_table(alloc, dbf, Some(Bytes::from_vec(memos)))?;
     Ok(named(alloc, b"T", content)?)
 }
 

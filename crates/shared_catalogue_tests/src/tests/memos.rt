@@ -75,7 +75,7 @@ fn memo_blocks(rt: HostRuntime) -> Result<(), Fail> {
 fn read_again(alloc: Global, table: &TableData) -> Result<TableData, Fail> {
     let dbf = dbf_of(alloc, table)?;
     let dbt = dbt_of(alloc, table)?;
-    Ok(read_table(alloc, Bytes::from_vec(dbf), Some(&dbt))?)
+    Ok(read_table(alloc, Bytes::from_vec(dbf), Some(Bytes::from_vec(dbt)))?)
 }
 
 // Whether a record's memo is the given number of bytes `x`.

@@ -8,8 +8,7 @@ ok_not_err r x e ok err = let clash : Ok x ≡ Err e = sym ok ∙ err in cc
 
 pub returns-clause-no_failure : goal.returns-clause-no_failure
 returns-clause-no_failure g c =
-    let is = rw c.bytes_of.ensures.value at c.in_ok-table.ensures.found in
-    none_failed _ _ _ _ is (λ some. c.in-Ok.ensures.had some ∙ c.in_ok-dbf.ensures.no_failure)
+    none_failed _ _ _ _ c.in_ok-table.ensures.found (λ some. c.in-Ok.ensures.had some ∙ c.in_ok-dbf.ensures.no_failure)
     (λ none. c.in-Ok.ensures.unwanted (rw c.as_slice.ensures.value none) ∙ c.in_ok-dbf.ensures.no_failure)
 
 -- a file that was loaded is one that no load refuses

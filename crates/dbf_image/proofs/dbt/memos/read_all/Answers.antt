@@ -3,9 +3,8 @@ use Rattle.std.proofs.Common.{◌≡◌, ℕ, ◌-◌, ◌+◌, ◌++◌, List, 
 use Rattle.std.specs.Prelude.{flat_map}
 use Rattle.dbf_fields.specs.Faults.{first_fault}
 use Rattle.dbf_image.specs.DbfText.{chunks}
-use Rattle.dbf_image.specs.MemoNumbers.{row_texts}
+use Rattle.dbf_image.specs.MemoNumbers.{row_texts, all_texts}
 use Rattle.dbf_image.specs.BadTable.{record_memos_tests, records_memos_tests}
-use Rattle.dbf_image.specs.Store.{texts_of}
 use Rattle.dbf_fields.proofs.FaultLaws.{first_then}
 use Rattle.dbf_image.proofs.Chunks.{chunks-more, room-next}
 use Rattle.dbf_image.proofs.MemoLoops.{group_stop, records-more}
@@ -31,7 +30,7 @@ loop-earlier-preserved c =
     let dbt = c.args.dbt.now in
     let fields = c.args.fields.now in
     let texts = row_texts c.args.dbt.now c.args.fields.now in
-    let before = texts_of c.loop-earlier.memos.texts.texts c.loop-earlier.memos.numbers.items in
+    let before = all_texts c.args.dbt.now c.loop-earlier.memos in
     let rest = c.loop-earlier.rest.now in
     let size = c.args.size in
     let n = c.args.count in

@@ -1,3 +1,4 @@
+use Rattle.dbf_image.specs.MemoNumbers.{read_texts}
 use Rattle.dbf_image.proofs.MemoReading.{texts_cell}
 use Rattle.dbf_image.proofs.PartLaws.{memo_refuses}
 use Rattle.dbf_image.proofs.dbt.memos.read_cell.Goals as goal
@@ -9,4 +10,4 @@ returns-in-Err-clause-refused c =
 pub returns-in_ok-push-in-Ok-clause-texts : goal.returns-in_ok-push-in-Ok-clause-texts
 returns-in_ok-push-in-Ok-clause-texts c =
     let added = rw c.in-Ok.ensures.same at c.in_ok-push-in-Ok.ensures.items in
-    texts_cell c.args.dbt.now c.args.field.now c.args.cell.now c.args.memos.now.texts.texts c.number_of_cell.new.memos.texts.texts c.args.memos.now.numbers.items _ c.in-Ok.number c.if-field-eq-MEMO.true c.in-Ok.ensures.kept c.requires.reading.each c.in-Ok.ensures.text added
+    texts_cell c.args.dbt.now c.args.field.now c.args.cell.now (read_texts c.args.dbt.now c.args.memos.now) (read_texts c.args.dbt.now c.number_of_cell.new.memos) c.args.memos.now.numbers.items _ c.in-Ok.number c.if-field-eq-MEMO.true c.in-Ok.ensures.kept c.requires.reading.each c.in-Ok.ensures.text added

@@ -1,71 +1,59 @@
-use Rattle.std.proofs.Common.{◌≡◌, ◌+◌, ◌*◌, List, length, ap, sym, subst, ◌∙◌, nat_eq, arith}
+use Rattle.std.proofs.Common.{◌≡◌, ◌*◌, List, nat_eq, refl, ap, sym, subst, ◌∙◌, arith}
 use Rattle.std.proofs.lemmas.List.{with_items_is}
-use Rattle.std.specs.Vec.{with_items}
 use Rattle.std.specs.List.{list_any}
 use Rattle.std.specs.FinMap as map
-use Rattle.dbf_image.specs.declared.memo_store.block.MemoBlock.{MemoBlock}
-use Rattle.dbf_image.specs.MemoChains.{blocks_owned, IsChain, AreHeld, AreCounted}
-use Rattle.dbf_image.specs.MemoSteps.{Marks, Sweeps}
+use Rattle.dbf_image.specs.declared.memo_store.file_text.FileText.{FileText}
+use Rattle.dbf_image.specs.declared.memo_store.file_text.TheConstants.{FILE_TEXTS}
 use Rattle.dbf_image.specs.declared.format.TheConstants.{BLOCK}
-use Rattle.dbf_image.specs.MemoStore.{Memos, all_bytes, blocks_of_all, used_blocks, stored_texts}
+use Rattle.dbf_image.specs.MemoStore.{Memos, all_bytes, blocks_of_all, used_blocks}
 use Rattle.dbf_image.specs.Store.{texts_of}
-use Rattle.dbf_image.proofs.MemoDropping.{marked_held, marked_counted, swept_held, swept_counted, swept_chain, swept_free, dropped, drop_keeps_free}
-use Rattle.dbf_image.proofs.MemoTexts.{get_texts}
-use Rattle.dbf_image.proofs.MemoTotals.{bytes_of_all}
+use Rattle.dbf_image.specs.FileTexts.{blocks_of_file, with_file_texts, KeepsTexts}
+use Rattle.dbf_image.proofs.FileTextLaws.{drop_beside}
+use Rattle.dbf_image.proofs.FileTextMarks.{keeps_fewer}
 use Rattle.dbf_image.proofs.MemoUse.{used_kept}
+use Rattle.dbf_image.proofs.StoreLaws.{bytes_of_store, dropped_store, zero_of_all}
 use Rattle.dbf_image.proofs.memo_store.MemoStore.drop_unused.Goals as goal
-
-marked : (c : goal.After-self-3-1) → Marks c.self.inside.blocks.items c.mark.new.blocks c.args.numbers.now
-marked c = subst (λ (l : List MemoBlock). Marks l c.mark.new.blocks c.args.numbers.now) c.deref_mut.ensures.value c.mark.ensures.marks
-
--- the blocks that the sweep is given
-given : (c : goal.After-self-3-1) → c.deref_mut-2.result.now ≡ c.mark.new.blocks
-given c = c.deref_mut-2.ensures.value ∙ with_items_is c.self.inside.blocks c.mark.new.blocks (c.mark.ensures.marks.same_length ∙ c.deref_mut.ensures.len)
-
-swept : (c : goal.After-self-3-1) → Sweeps (length c.mark.new.blocks) c.mark.new.blocks c.sweep-self-inside.new.blocks c.sweep-self-inside.result
-swept c = subst (λ (l : List MemoBlock). Sweeps (length l) l c.sweep-self-inside.new.blocks c.sweep-self-inside.result) (given c) c.sweep-self-inside.ensures.sweeps
-
--- the blocks after the call
-after : (c : goal.After-self-3-1) → (with_items (with_items c.self.inside.blocks c.mark.new.blocks) c.sweep-self-inside.new.blocks).items ≡ c.sweep-self-inside.new.blocks
-after c = with_items_is (with_items c.self.inside.blocks c.mark.new.blocks) c.sweep-self-inside.new.blocks (c.sweep-self-inside.ensures.sweeps.same_length ∙ c.deref_mut-2.ensures.len)
 
 pub invariant_of-self : goal.invariant_of-self
 invariant_of-self c =
-    let m = marked c in
-    let s = swept c in
-    let is = sym (after c) in
-    let long = ap (length {A = MemoBlock}) (after c) in
-    record {
-      free = subst (λ (l : List MemoBlock). IsChain 0 c.sweep-self-inside.result.count l c.sweep-self-inside.result.head) is (swept_chain _ _ _ s);
-      all_free = swept_free _ _ _ s ∙ ap (blocks_owned 0) is;
-      counted = subst (λ (l : List MemoBlock). AreCounted l) is (swept_counted _ _ _ (marked_held _ _ _ c.self.invariant.held m) (marked_counted _ _ _ c.self.invariant.held c.self.invariant.counted m) s);
-      held = subst (λ (l : List MemoBlock). AreHeld l) is (swept_held _ _ _ (marked_held _ _ _ c.self.invariant.held m) s);
-      count_bounded = omega (arith, long, s.count_bounded, s.same_length);
-      room = omega (arith, long, s.same_length, m.same_length, c.self.invariant.room);
-      numbers = omega (arith, long, s.same_length, m.same_length, c.self.invariant.numbers);
-    }
+    let x = c.self.inside in
+    let us = c.keep_file_texts.new.texts in
+    let keeps = subst (λ (l : List FileText). KeepsTexts l us c.args.numbers.now) c.deref_mut.ensures.value c.keep_file_texts.ensures.keeps in
+    let is = with_items_is x.texts us (c.keep_file_texts.ensures.keeps.same_length ∙ c.deref_mut.ensures.len) in
+    dropped_store x _ c.args.numbers.now c.self.invariant refl (subst (λ (l : List FileText). KeepsTexts x.texts.items l c.args.numbers.now) (sym is) keeps)
+    c.drop_unused.ensures.texts c.drop_unused.ensures.spare (c.blocks_of_file-self-inside.ensures.value ∙ ap blocks_of_file c.deref.ensures.value)
 
 pub returns-clause-texts : goal.returns-clause-texts
 returns-clause-texts c =
-    ap stored_texts (after c) ∙ dropped _ _ _ _ _ c.self.invariant.held (marked c) (swept c)
+    let x = c.self.inside in
+    let us = c.keep_file_texts.new.texts in
+    let keeps = subst (λ (l : List FileText). KeepsTexts l us c.args.numbers.now) c.deref_mut.ensures.value c.keep_file_texts.ensures.keeps in
+    let is = with_items_is x.texts us (c.keep_file_texts.ensures.keeps.same_length ∙ c.deref_mut.ensures.len) in
+    ap (λ (l : List FileText). with_file_texts x.file.items FILE_TEXTS l c.drop_unused.new.self.texts) is
+    ∙ drop_beside x.file.items x.texts.items us x.blocks.texts c.drop_unused.new.self.texts c.args.numbers.now c.self.invariant.below keeps c.drop_unused.ensures.texts
     ∙ ap (λ (v : Memos). map.retain_keys v.texts (λ q. list_any (nat_eq q) c.args.numbers.now)) c.self.view_is
 
 pub returns-clause-spare : goal.returns-clause-spare
 returns-clause-spare c =
-    let more = drop_keeps_free c.self.inside.free.count c.self.inside.free.head _ _ _ _ _ c.self.invariant.free (marked c) (swept c) in
-    omega (arith, more, ap (λ (v : Memos). v.spare) c.self.view_is)
+    let x = c.self.inside in
+    let us = c.keep_file_texts.new.texts in
+    let keeps = subst (λ (l : List FileText). KeepsTexts l us c.args.numbers.now) c.deref_mut.ensures.value c.keep_file_texts.ensures.keeps in
+    let is = with_items_is x.texts us (c.keep_file_texts.ensures.keeps.same_length ∙ c.deref_mut.ensures.len) in
+    let held : c.blocks_of_file-self-inside.result ≡ blocks_of_file us = c.blocks_of_file-self-inside.ensures.value ∙ ap blocks_of_file (c.deref.ensures.value ∙ is) in
+    let fewer = keeps_fewer x.texts.items us c.args.numbers.now keeps in
+    omega (arith, held, fewer, c.self.invariant.held, c.drop_unused.ensures.spare, ap (λ (v : Memos). v.spare) c.self.view_is)
 
 pub returns-clause-blocks : goal.returns-clause-blocks
 returns-clause-blocks c =
-    let long = ap (length {A = MemoBlock}) (after c) ∙ (swept c).same_length ∙ (marked c).same_length in
-    bytes_of_all _ (invariant_of-self c)
-    ∙ ap (λ n. BLOCK * (n + c.self.inside.ready)) long
-    ∙ sym (bytes_of_all c.self.inside c.self.invariant) ∙ ap all_bytes c.self.view_is
+    bytes_of_store _ (invariant_of-self c)
+    ∙ ap (λ n. BLOCK * n) c.drop_unused.ensures.blocks
+    ∙ sym (bytes_of_store c.self.inside c.self.invariant) ∙ ap all_bytes c.self.view_is
 
 pub returns-clause-used : goal.returns-clause-used
 returns-clause-used c =
+    let x = c.self.inside in
     let numbers = c.args.numbers.now in
-    let most = used_kept (stored_texts c.self.inside.blocks.items) numbers (get_texts c.self.inside.blocks.items 0) in
-    let is = ap used_blocks (ap stored_texts (after c) ∙ dropped _ _ _ _ _ c.self.invariant.held (marked c) (swept c)) in
+    let most = used_kept (with_file_texts x.file.items FILE_TEXTS x.texts.items x.blocks.texts) numbers (zero_of_all x.file.items x.texts.items x.blocks.texts c.self.invariant.no_zero) in
+    let is = ap used_blocks (returns-clause-texts c ∙ ap (λ (v : Memos). map.retain_keys v.texts (λ q. list_any (nat_eq q) numbers)) (sym c.self.view_is)) in
     let view = ap (λ (v : Memos). blocks_of_all (texts_of v.texts numbers)) c.self.view_is in
     omega (arith, most, is, view)

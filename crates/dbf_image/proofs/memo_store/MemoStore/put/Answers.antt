@@ -1,68 +1,50 @@
-use Rattle.std.proofs.Common.{◌≡◌, ◌+◌, ◌*◌, ◌<◌, ◌≤◌, List, length, ap, sym, subst, ◌∙◌, arith}
-use Rattle.std.proofs.lemmas.List.{with_items_is}
+use Rattle.std.proofs.Common.{◌*◌, ◌≤◌, ap, sym, subst, ◌∙◌, arith}
 use Rattle.std.specs.FinMap as map
-use Rattle.dbf_image.specs.declared.memo_store.block.MemoBlock.{MemoBlock}
-use Rattle.dbf_image.specs.MemoChains.{blocks_owned, IsChain, AreHeld, AreCounted}
-use Rattle.dbf_image.specs.MemoSteps.{Fills}
+use Rattle.dbf_image.specs.declared.memo_store.file_text.TheConstants.{FILE_TEXTS}
 use Rattle.dbf_image.specs.declared.format.TheConstants.{BLOCK}
-use Rattle.dbf_image.specs.MemoStore.{Memos, all_bytes, stored_texts}
-use Rattle.dbf_image.proofs.MemoOwners.{grown_free}
-use Rattle.dbf_image.proofs.MemoTotals.{bytes_of_all}
-use Rattle.dbf_image.proofs.MemoPutting.{Puts, put_grown}
+use Rattle.dbf_image.specs.MemoStore.{Memos, Texts, all_bytes, get_text, used_blocks}
+use Rattle.dbf_image.specs.FileTexts.{AreBelow, with_file_texts}
+use Rattle.dbf_image.proofs.FileTextLaws.{below_put, put_beside}
+use Rattle.dbf_image.proofs.MemoTotals.{used_insert}
+use Rattle.dbf_image.proofs.StoreLaws.{bytes_of_store, low_text, zero_put}
 use Rattle.dbf_image.proofs.memo_store.MemoStore.put.Goals as goal
 
-done : (c : goal.After-self-3-1) → Puts c.self.inside.blocks.items c.fill-self-inside.new.blocks (c.push_free-self-inside.result.head + 1) c.args.text.now
-done c =
-    let free = c.push_free-self-inside.result in
-    let pushed = c.push_free-self-inside.ensures in
-    let count = c.blocks_for-count.result in
-    let some : 0 < count = omega (arith, c.requires.some, c.blocks_for-count.ensures.enough) in
-    let room : 0 < free.count = omega (arith, some, pushed.count, c.saturating_sub-more.ensures) in
-    put_grown count c.self.inside.blocks.items c.push_free-self-inside.new.blocks.items c.fill-self-inside.new.blocks free c.fill-self-inside.result c.args.text.now c.self.invariant.held c.self.invariant.counted pushed.grown c.blocks_for-count.ensures.value some room pushed.chain
-    (subst (λ (l : List MemoBlock). Fills l c.fill-self-inside.new.blocks free c.fill-self-inside.result (free.head + 1) count c.args.text.now) c.deref_mut.ensures.value c.fill-self-inside.ensures.fills)
-
--- the blocks after the call
-after : (c : goal.After-self-3-1) → length c.fill-self-inside.new.blocks ≡ c.push_free-self-inside.new.blocks.len
-after c = c.fill-self-inside.ensures.fills.same_length ∙ c.deref_mut.ensures.len
-
-few_more : (c : goal.After-self-3-1) → c.saturating_sub-more.result ≤ c.self.inside.ready
-few_more c = omega (arith, c.saturating_sub-more.ensures, c.blocks_for-count.ensures.least, c.requires.room, ap (λ (v : Memos). v.spare) c.self.view_is)
-
-whole_length : (c : goal.After-self-3-1) → length c.self.inside.blocks.items + c.saturating_sub-more.result ≡ length c.fill-self-inside.new.blocks
-whole_length c = sym c.push_free-self-inside.ensures.longer ∙ sym c.push_free-self-inside.new.blocks.ok.0 ∙ sym (after c)
+pub put-requires-clause-room : goal.put-requires-clause-room
+put-requires-clause-room c = omega (arith, c.requires.room, c.self.invariant.room, ap (λ (v : Memos). v.spare) c.self.view_is)
 
 pub invariant_of-self : goal.invariant_of-self
 invariant_of-self c =
-    let e = c.fill-self-inside.ensures.fills in
-    let pushed = c.push_free-self-inside.ensures in
-    let v = c.push_free-self-inside.new.blocks in
-    let ys = c.fill-self-inside.new.blocks in
-    let is = sym (with_items_is v ys (after c)) in
-    let long = ap (length {A = MemoBlock}) is in
-    let inside = c.self.invariant in
-    let more = few_more c in
-    let whole = whole_length c in
+    let old = c.self.invariant in
+    let put = c.put.ensures in
+    let texts = c.self.inside.blocks.texts in
+    let spare : c.self.inside.held ≤ c.put.new.self.spare = omega (arith, c.requires.room, old.room, put.spare, ap (λ (v : Memos). v.spare) c.self.view_is) in
     record {
-      free = subst (λ (l : List MemoBlock). IsChain 0 c.fill-self-inside.result.count l c.fill-self-inside.result.head) is e.still_free;
-      all_free = omega (arith, e.left, e.taken, ap (blocks_owned 0) c.deref_mut.ensures.value, grown_free _ _ pushed.grown, pushed.longer, pushed.count, inside.all_free) ∙ ap (blocks_owned 0) is;
-      held = subst (λ (l : List MemoBlock). AreHeld l) is (done c).held;
-      counted = subst (λ (l : List MemoBlock). AreCounted l) is (done c).counted;
-      count_bounded = omega (arith, sym long, whole, e.left, pushed.count, inside.count_bounded);
-      room = omega (arith, sym long, whole, more, pushed.capacity, inside.room);
-      numbers = omega (arith, sym long, whole, more, inside.numbers);
+      inside = old.inside;
+      few = old.few;
+      below = subst (λ (t : Texts). AreBelow FILE_TEXTS t) (sym put.texts) (below_put FILE_TEXTS texts c.put.result c.args.text.now put.below old.below);
+      no_zero = ap (λ (t : Texts). get_text t 0) put.texts ∙ zero_put texts c.put.result c.args.text.now put.positive old.no_zero;
+      held = old.held;
+      held_bounded = old.held_bounded;
+      room = spare;
     }
 
 pub returns-clause-fresh : goal.returns-clause-fresh
-returns-clause-fresh c = ap (λ (v : Memos). map.get v.texts (c.push_free-self-inside.result.head + 1)) (sym c.self.view_is) ∙ (done c).fresh
+returns-clause-fresh c = low_text c.self.inside _ c.put.result c.self.view_is c.put.ensures.below ∙ c.put.ensures.fresh
 
 pub returns-clause-texts : goal.returns-clause-texts
 returns-clause-texts c =
-    ap stored_texts (with_items_is c.push_free-self-inside.new.blocks c.fill-self-inside.new.blocks (after c)) ∙ (done c).texts
-    ∙ ap (λ (v : Memos). map.insert v.texts (c.push_free-self-inside.result.head + 1) c.args.text.now) c.self.view_is
+    let x = c.self.inside in
+    ap (with_file_texts x.file.items FILE_TEXTS x.texts.items) c.put.ensures.texts
+    ∙ put_beside x.file.items FILE_TEXTS x.texts.items x.blocks.texts c.put.result c.args.text.now c.put.ensures.below c.self.invariant.below
+    ∙ ap (λ (v : Memos). map.insert v.texts c.put.result c.args.text.now) c.self.view_is
+
+pub returns-clause-spare : goal.returns-clause-spare
+returns-clause-spare c = omega (arith, c.requires.room, c.self.invariant.room, c.put.ensures.spare, ap (λ (v : Memos). v.spare) c.self.view_is)
 
 pub returns-clause-blocks : goal.returns-clause-blocks
 returns-clause-blocks c =
-    let long = ap (length {A = MemoBlock}) (with_items_is c.push_free-self-inside.new.blocks c.fill-self-inside.new.blocks (after c)) in
-    bytes_of_all _ (invariant_of-self c)
-    ∙ ap (λ n. BLOCK * n) (omega (arith, long, whole_length c, few_more c))
-    ∙ sym (bytes_of_all c.self.inside c.self.invariant) ∙ ap all_bytes c.self.view_is
+    let x = c.self.inside in
+    let more = ap used_blocks c.put.ensures.texts ∙ used_insert x.blocks.texts c.put.result c.args.text.now c.put.ensures.fresh in
+    bytes_of_store _ (invariant_of-self c)
+    ∙ ap (λ n. BLOCK * n) (omega (arith, more, c.put.ensures.spare))
+    ∙ sym (bytes_of_store x c.self.invariant) ∙ ap all_bytes c.self.view_is

@@ -1,14 +1,9 @@
-use Rattle.dbf_image.proofs.MemoHeld.{held_found, held_text}
+use Rattle.dbf_image.proofs.StoreLaws.{low_held, low_text}
 use Rattle.dbf_image.proofs.memo_store.MemoStore.put_text.Goals as goal
 
-pub put_pieces-requires-clause-positive : goal.put_pieces-requires-clause-positive
-put_pieces-requires-clause-positive g c = (held_found c.self.inside _ _ c.args.number c.self.view_is c.as_slice.ensures.value c.self.invariant c.requires.held).positive
+pub put_text-requires : goal.put_text-requires
+put_text-requires g c = record { held = low_held c.self.inside _ c.args.number c.self.view_is c.if-number-lt-FILE_TEXTS.true c.requires.held }
 
-pub put_pieces-requires-clause-there : goal.put_pieces-requires-clause-there
-put_pieces-requires-clause-there g c = (held_found c.self.inside _ _ c.args.number c.self.view_is c.as_slice.ensures.value c.self.invariant c.requires.held).within
-
-pub put_pieces-requires-clause-chain : goal.put_pieces-requires-clause-chain
-put_pieces-requires-clause-chain g c = (held_found c.self.inside _ _ c.args.number c.self.view_is c.as_slice.ensures.value c.self.invariant c.requires.held).chain
-
-pub returns : goal.returns
-returns g c = record { put = rw (← held_text c.self.inside _ _ c.args.number c.self.view_is c.as_slice.ensures.value c.self.invariant c.requires.held) c.put_pieces.ensures.put }
+pub returns-then-number-lt-FILE_TEXTS : goal.returns-then-number-lt-FILE_TEXTS
+returns-then-number-lt-FILE_TEXTS g c =
+    record { put = rw (low_text c.self.inside c.args.self.now c.args.number c.self.view_is c.if-number-lt-FILE_TEXTS.true) c.put_text.ensures.put }

@@ -1,17 +1,11 @@
-use Rattle.std.proofs.Common.{List, ℕ, Some, ap, sym, ◌∙◌}
-use Rattle.dbf_image.proofs.MemoHeld.{held_at, held_found}
+use Rattle.std.proofs.Common.{◌≡◌, List, ℕ, Option, Some, sym, subst}
+use Rattle.std.specs.Prelude.{IfOk}
+use Rattle.dbf_image.proofs.StoreLaws.{low_held, low_text}
 use Rattle.dbf_image.proofs.memo_store.MemoStore.text.Goals as goal
 
-pub gather-requires-clause-positive : goal.gather-requires-clause-positive
-gather-requires-clause-positive c = (held_found c.self.inside _ _ c.args.number c.self.view_is c.as_slice.ensures.value c.self.invariant c.requires.held).positive
+pub text-requires : goal.text-requires
+text-requires c = record { held = low_held c.self.inside _ c.args.number c.self.view_is c.if-number-lt-FILE_TEXTS.true c.requires.held }
 
-pub gather-requires-clause-there : goal.gather-requires-clause-there
-gather-requires-clause-there c = (held_found c.self.inside _ _ c.args.number c.self.view_is c.as_slice.ensures.value c.self.invariant c.requires.held).within
-
-pub gather-requires-clause-chain : goal.gather-requires-clause-chain
-gather-requires-clause-chain c = (held_found c.self.inside _ _ c.args.number c.self.view_is c.as_slice.ensures.value c.self.invariant c.requires.held).chain
-
-pub returns : goal.returns
-returns c =
-    let there = held_found c.self.inside _ _ c.args.number c.self.view_is c.as_slice.ensures.value c.self.invariant c.requires.held in
-    record { value = held_at c.self.inside _ _ c.args.number c.self.view_is c.as_slice.ensures.value ∙ there.is ∙ ap (λ (t : List ℕ). Some t) (sym (c.from_vec.ensures.value ∙ c.in_ok-text.ensures.value)) }
+pub returns-then-number-lt-FILE_TEXTS : goal.returns-then-number-lt-FILE_TEXTS
+returns-then-number-lt-FILE_TEXTS c =
+    record { value = subst (λ (o : Option (List ℕ)). IfOk c.text.result (λ text. o ≡ Some text)) (sym (low_text c.self.inside _ c.args.number c.self.view_is c.if-number-lt-FILE_TEXTS.true)) c.text.ensures.value }
