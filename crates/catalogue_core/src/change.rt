@@ -4,15 +4,9 @@ ghost use Rattle.std.specs.Prelude.{◌≡◌};
 
 use crate::answer::Answer;
 use crate::area::Area;
-use arrayvec::ArrayVec;
-use lock_table::MAX_RECORD_LOCKS;
 use table_core::Planned;
 
-/// Records of a table, listed in any order and as often as a command lists them: a list of fixed room, since carrying
-/// out a change takes no memory.
-pub(crate) type Records = ArrayVec<u32, MAX_RECORD_LOCKS>;
-
-/// A change of the state by a station.
+/// A change of the state by a station. Every command moves such a value about, so none of the variants is large.
 #[derive(Drop)]
 pub(crate) enum Change {
     /// None.
@@ -31,8 +25,8 @@ pub(crate) enum Change {
     Pack(Area, Planned),
     /// A record of the area's table is locked.
     RecordLock(Area, u32),
-    /// Records of the area's table are locked.
-    RecordLocks(Area, Records),
+    /// Records of the area's table are locked: these, in any order and as often as the command lists them.
+    RecordLocks(Area, Vec<u32>),
     /// The area's table is locked.
     FileLock(Area),
     /// The station's locks in the area's table are released.

@@ -90,7 +90,7 @@ fn plan_command(
         Command::UnlockAll => Ok(Plan::done(Change::UnlockAll)),
         Command::Show(field) => plan_show(alloc, state, station, field),
         Command::RecordLock => Ok(plan_record_lock(state, station)?),
-        Command::RecordLocks(numbers) => Ok(plan_record_locks(state, station, numbers)?),
+        Command::RecordLocks(numbers) => plan_record_locks(alloc, state, station, numbers),
         Command::FileLock => Ok(plan_file_lock(state, station)?),
         Command::Ask(question) => Ok(plan_ask(state, station, *question)?),
         Command::Bad => Err(Refusal::BadCommand.into()),

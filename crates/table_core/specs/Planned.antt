@@ -24,7 +24,7 @@ changed_by content (SetCell target cell) = with_value content target cell
 changed_by content (SetMemo target text) = with_value content target text
 changed_by content (SetMark number deleted) = with_deleted content number deleted
 changed_by content (Pack indexes) = with_table content (packed content.table)
-changed_by content (AddIndex index list) = with_index content (indexed index)
+changed_by content (AddIndex added) = with_index content (indexed added.value.index)
 
 abbrev pub moved_by : Content → Cursor → TableChange → Cursor
 moved_by content cursor AddBlank = at_record cursor (record_count content + 1)
@@ -32,7 +32,7 @@ moved_by content cursor (SetCell target cell) = cursor
 moved_by content cursor (SetMemo target text) = cursor
 moved_by content cursor (SetMark number deleted) = cursor
 moved_by content cursor (Pack indexes) = at_top (with_table content (packed content.table)) cursor
-moved_by content cursor (AddIndex index list) = (with_made_index content cursor (indexed index)).1
+moved_by content cursor (AddIndex added) = (with_made_index content cursor (indexed added.value.index)).1
 
 -- the table, and the cursor, after the plan is carried out
 abbrev pub changed : Content → Planned → Content
@@ -104,7 +104,7 @@ CanMake held (SetCell target cell) = CanSetCell held target (length cell)
 CanMake held (SetMemo target text) = CanSetMemo held target text
 CanMake held (SetMark number deleted) = IsRecordOf held.content.table number
 CanMake held (Pack indexes) = CanPack held indexes.items
-CanMake held (AddIndex index list) = CanAddIndex held index list.items (vec_capacity list)
+CanMake held (AddIndex added) = CanAddIndex held added.value.index added.value.list.items (vec_capacity added.value.list)
 
 -- planned for the table as it stands
 abbrev pub IsPlanned : Held → Planned → Type 0

@@ -12,13 +12,13 @@ ghost use Rattle.table_core.specs.Cursors.{IsCursor};
 
 use crate::answer::Answer;
 use crate::area::{Area, MAX_AREAS};
-use crate::change::{Change, Plan, Records};
+use crate::change::{Change, Plan};
 use crate::command::Question;
 use crate::numbers::Numbers;
 use crate::state::State;
 use byte_io::Bytes;
 use lock_table::MAX_RECORD_LOCKS;
-use std::alloc::Global;
+use std::alloc::{AllocError, Global};
 use table_core::{Cursor, Refusal, Table, TableFault};
 
 pub(crate) fn plan_select(state: &State, station: u32, number: u64) -> Result<Plan, Refusal>
@@ -87,24 +87,26 @@ pub(crate) fn plan_record_lock(state: &State, station: u32) -> Result<Plan, Refu
 
 /// The plan of locks on the records of a list, all or none.
 pub(crate) fn plan_record_locks(
+    alloc: Global,
     state: &State,
     station: u32,
     numbers: &Numbers,
-) -> Result<Plan, Refusal>
+) -> Result<Plan, TableFault>
     requires state { IsState (seen state.now) }
     requires station { HasStation (seen state.now) station }
-    ensures outcome { outcome_of (seen state.now) station result ≡ lock_records (seen state.now) station numbers.now }
+    ensures planned { IfOk result (λ plan. lock_records (seen state.now) station numbers.now ≡ Ok (planned (seen state.now) station plan)) }
     ensures can { IfOk result (λ plan. CanChange state.now station plan.change) }
+    ensures refused { IfErr result (λ fault. IsFaultOf fault (lock_records (seen state.now) station numbers.now)) }
 {
     let area = state.area(station).ok_or(Refusal::NoTableInUse)?;
     let numbers = numbers.as_slice();
     if numbers.len() > MAX_RECORD_LOCKS {
-        return Err(Refusal::TooManyLocks);
+        return Err(Refusal::TooManyLocks.into());
     }
     if !are_records(state.table(area.table).record_count(), numbers) {
-        return Err(Refusal::OutOfRange);
+        return Err(Refusal::OutOfRange.into());
     }
-    let records = records_of(numbers);
+    let records = records_of(alloc, numbers)?;
     if !state.is_free_records(station, area, records.as_slice()) {
         return Ok(Plan::answered(Answer::Truth(false)));
     }
@@ -179,17 +181,16 @@ fn are_records(count: u32, numbers: &[u64]) -> bool
     !numbers.is_empty() && all_records(count, numbers)
 }
 
-// The numbers of records, of which there are not more than may be locked.
-fn records_of(numbers: &[u64]) -> Records
-    requires count_bounded { length numbers.now ≤ MAX_RECORD_LOCKS }
+// The numbers of records, as the table of locks has them.
+fn records_of(alloc: Global, numbers: &[u64]) -> Result<Vec<u32>, AllocError>
     requires records { list_all (λ n. nat_lt n (2 ^ 32)) numbers.now ≡ true }
-    ensures value { result.items ≡ numbers.now }
+    ensures value { IfOk result (λ records. records.items ≡ numbers.now) }
 {
-    let mut records = Records::new();
+    let mut records = Vec::with_capacity(alloc, numbers.len())?;
     for number in numbers {
-        records.push(*number as u32);
+        records.push(*number as u32)?;
     }
-    records
+    Ok(records)
 }
 
 // The cursor with which a table is opened, before it goes to the top: in the order of the first index, where the

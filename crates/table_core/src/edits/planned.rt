@@ -12,7 +12,17 @@ pub(crate) struct Target {
     pub(crate) field: usize,
 }
 
-/// A change of a table's rows or of its indexes that takes no memory.
+/// An index that is added to a table after the others.
+#[derive(Drop)]
+pub(crate) struct AddedIndex {
+    /// The index of all records.
+    pub(crate) index: TableIndex,
+    /// An empty list with room for all indexes.
+    pub(crate) list: Vec<TableIndex>,
+}
+
+/// A change of a table's rows or of its indexes that takes no memory. Every command moves such a value about, so what is
+/// large and rare stands behind a `Box`.
 #[derive(Drop)]
 pub(crate) enum TableChange {
     /// A last record of blanks.
@@ -44,12 +54,7 @@ pub(crate) enum TableChange {
         indexes: Vec<TableIndex>,
     },
     /// An index is added after the others.
-    AddIndex {
-        /// The index of all records.
-        index: TableIndex,
-        /// An empty list with room for all indexes.
-        list: Vec<TableIndex>,
-    },
+    AddIndex(Box<AddedIndex>),
 }
 
 /// An edit that was tested, with all memory that it needs: [`Table::carry_out`](crate::Table::carry_out)

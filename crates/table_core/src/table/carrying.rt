@@ -8,8 +8,7 @@ ghost use Rattle.table_core.specs.Planned.{changed, cursor_after, CanAddIndex, I
 
 use crate::cursor::Cursor;
 use crate::edits::changes::{add_blank, set_cell};
-use crate::edits::planned::{Planned, TableChange, Target};
-use crate::indexes::TableIndex;
+use crate::edits::planned::{AddedIndex, Planned, TableChange, Target};
 use crate::indexes::all::add_in_list;
 use crate::table::Table;
 
@@ -43,19 +42,19 @@ impl Table {
                 self.indexes = indexes;
                 *cursor = self.at_top(cursor);
             }
-            TableChange::AddIndex { index, list } => {
-                self.put_index(index, list);
+            TableChange::AddIndex(added) => {
+                self.put_index(Box::into_inner(added));
                 *cursor = self.at_top(&cursor.in_order_of(self.index_count()));
             }
         }
     }
 
     // Puts an index after the others.
-    fn put_index(&mut self, index: TableIndex, list: Vec<TableIndex>)
-        requires index { CanAddIndex self.old index list.items (vec_capacity list) }
-        ensures content { self.new.content ≡ with_index self.old.content (indexed index) }
+    fn put_index(&mut self, added: AddedIndex)
+        requires index { CanAddIndex self.old added.index added.list.items (vec_capacity added.list) }
+        ensures content { self.new.content ≡ with_index self.old.content (indexed added.index) }
     {
-        add_in_list(&mut self.indexes, index, list);
+        add_in_list(&mut self.indexes, added.index, added.list);
     }
 
     // Replaces the text of a memo. No key depends on it, so the indexes follow as they are.

@@ -9,7 +9,7 @@ ghost use Rattle.table_core.specs.Planned.{carried_out, IsPlanned, MakesIndex};
 
 use crate::cursor::Cursor;
 use crate::edits::Edit;
-use crate::edits::planned::{Planned, TableChange};
+use crate::edits::planned::{AddedIndex, Planned, TableChange};
 use crate::fault::TableFault;
 use crate::indexes::TableIndex;
 use crate::indexes::all::reserve_all;
@@ -171,8 +171,9 @@ impl Table {
     {
         let list = Vec::with_capacity(alloc, self.indexes.len() + 1)?;
         let index = TableIndex::new(alloc, &self.records, name, expr)?;
+        let added = Box::new(alloc, AddedIndex { index, list })?;
         Ok(Planned {
-            change: TableChange::AddIndex { index, list },
+            change: TableChange::AddIndex(added),
         })
     }
 
