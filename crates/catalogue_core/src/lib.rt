@@ -33,6 +33,7 @@ pub use area::MAX_AREAS;
 pub use catalogue::{Catalogue, MAX_ENTRIES, Stop};
 pub use command::{Command, Question};
 pub use entry::Entry;
+pub use names::Names;
 pub use numbers::Numbers;
 pub use opening::{MAX_INDEXES, MAX_STATIONS, MAX_TABLES, OpenFault};
 pub use source::{IndexSource, TableSource};

@@ -10,7 +10,7 @@ use std::marker::Model;
 
 /// Names, no two of them equal, in the order in which they came.
 #[derive(Drop)]
-pub(crate) struct Names {
+pub struct Names {
     names: IndexSet<Vec<u8>>,
 }
 
@@ -24,7 +24,7 @@ impl Model for Names {
 
 impl Names {
     /// No names. Takes no memory.
-    pub(crate) fn new(alloc: Global) -> Names
+    pub fn new(alloc: Global) -> Names
         ensures value { result ≡ [] }
     {
         Names {
@@ -32,17 +32,31 @@ impl Names {
         }
     }
 
+    /// How many names there are.
+    pub fn count(&self) -> usize
+        ensures value { result ≡ length self.now }
+    {
+        self.names.len()
+    }
+
     /// The index of a name, from 0, where it is one of the names. Takes no memory.
-    pub(crate) fn index_of(&self, name: &Bytes) -> Option<usize>
+    pub fn index_of(&self, name: &Bytes) -> Option<usize>
         ensures value { result ≡ index_named self.now name.now }
         ensures inside { IfSome result (λ index. index < length self.now) }
     {
         self.names.get_index_of(name.as_slice())
     }
 
+    /// Whether a name is one of the names. Takes no memory.
+    pub fn includes(&self, name: &[u8]) -> bool
+        ensures value { result ≡ includes_name self.now name.now }
+    {
+        self.names.contains(name)
+    }
+
     /// Adds a name after the others, and answers whether it is new. An error where memory is refused, and then
     /// nothing has changed.
-    pub(crate) fn add(&mut self, alloc: Global, name: &Bytes) -> Result<bool, AllocError>
+    pub fn add(&mut self, alloc: Global, name: &Bytes) -> Result<bool, AllocError>
         ensures value { IfOk result (λ is_new. is_new ≡ not (includes_name self.old name.now)) }
         ensures ok { OnOk result (self.new ≡ with_name self.old name.now) }
         ensures err { OnErr result (self.new ≡ self.old) }

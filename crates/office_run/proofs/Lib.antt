@@ -1,4 +1,5 @@
 pub mod LoadLaws
+pub mod NamesLaws
 pub mod NotedLaws
 pub mod TablesFirst
 pub mod HandingLaws

@@ -4,9 +4,10 @@ use Rattle.std.specs.Prelude.{IfErr, IsErrAnd, IsOk, OnOk}
 use Rattle.std.proofs.lemmas.Bool.{false≢true}
 use Rattle.std.proofs.lemmas.List.{take_more}
 use Rattle.catalogue_core.specs.declared.source.IndexSource.{IndexSource}
+use Rattle.catalogue_core.specs.declared.source.TableSource.{TableSource}
 use Rattle.folders.specs.declared.named.NamedFile.{NamedFile}
 use Rattle.station_lines.specs.declared.setup.entry.SetupEntry.{SetupEntry}
-use Rattle.station_lines.specs.declared.setup.entry.SetupEntry.TheVariants.{Index}
+use Rattle.station_lines.specs.declared.setup.entry.SetupEntry.TheVariants.{Index, Table}
 use Rattle.setup_files.specs.declared.content.EntryContent.{EntryContent}
 use Rattle.setup_files.specs.declared.fault.EntryFault.{EntryFault}
 use Rattle.setup_files.specs.declared.fault.EntryFault.TheVariants.{Unloaded, UnloadedMemos, NoTable, NoIndex}
@@ -19,7 +20,7 @@ use Rattle.folders.specs.Files.{IsFileOf}
 use Rattle.station_lines.specs.declared.setup.fault.SetupFault.{SetupFault}
 use Rattle.station_lines.specs.declared.setup.fault.SetupFault.TheVariants.{Bad, NoMemory as NoMemoryToParse}
 use Rattle.station_lines.specs.Setup.{IsSetup}
-use Rattle.office_run.specs.Loading.{Read, nothing, file_fault, refusal_told, first_refused, HasIndex, IsEntryFault, IsFailure, IsIndexRead, Loads, LoadAll}
+use Rattle.office_run.specs.Loading.{Read, nothing, file_fault, refusal_told, first_refused, HasIndex, IsEntryFault, IsFailure, IsIndexRead, IsTableRead, Loads, LoadAll, read_as}
 use Rattle.office_run.specs.WholeRun.{setup_fault, IsReadFault}
 
 load_all_last : (files : Option (List NamedFile)) (entries : List SetupEntry) (entry : SetupEntry) (a b c : Read)
@@ -43,6 +44,13 @@ err_exit (Err y) P h p = subst P (sym h) p
 pub unsaid : (files : Option (List NamedFile)) (setup text : List ℕ) (fault : SetupFault) → IsFileOf files setup text → ((n : ℕ) → fault ≡ Bad n → IsSetup text (Err n)) → IsReadFault files setup (setup_fault fault)
 unsaid files setup text (Bad n) found bad = record { text = text; found = found; says = bad n refl }
 unsaid files setup text NoMemoryToParse found bad = tt
+
+-- a table is loaded where it is added to the others
+pub table_loads : {T E : Type 0} (r : Result T E) (files : Option (List NamedFile)) (name dbf : List ℕ) (dbt : Option (List ℕ)) (table : TableSource) (old new : Read)
+    → IsTableRead files name dbf dbt table → OnOk r (new.tables ≡ old.tables ++ table ∷ []) → new.scripts ≡ old.scripts → OnOk r (Loads files (Table name dbf dbt) old new)
+table_loads (Ok x) files name dbf dbt table old new own h e =
+    (table, own, ap (λ (ts : List TableSource). read_as ts new.scripts) h ∙ ap (λ (ss : List (List ℕ)). read_as (old.tables ++ table ∷ []) ss) e)
+table_loads (Err y) files name dbf dbt table old new own h e = tt
 
 -- an index is loaded where it is added to its table
 pub index_loads : {T E : Type 0} (r : Result T E) (files : Option (List NamedFile)) (table name ndx : List ℕ) (index : IndexSource) (old new : Read)

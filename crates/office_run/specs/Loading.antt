@@ -1,5 +1,5 @@
 -- What is read for a run: the files that the entries of a setup name.
-use Rattle.std.specs.Prelude.{◌≡◌, ◌≢◌, ◌⊎◌, ℕ, List, [], ◌∷◌, ◌++◌, Option, Some, None, Result, Ok, Err, IsSome, bytes_eq, slice_get, slice_set, take}
+use Rattle.std.specs.Prelude.{◌≡◌, ◌≢◌, ◌≤◌, ◌⊎◌, ℕ, List, [], ◌∷◌, ◌++◌, length, map, Option, Some, None, Result, Ok, Err, IsSome, bytes_eq, slice_get, slice_set, take}
 use Rattle.std.specs.List.{position}
 use Rattle.byte_io.specs.Sink.{Rises}
 use Rattle.catalogue_core.specs.declared.source.IndexSource.{IndexSource}
@@ -57,6 +57,11 @@ pub record HasOneMore (index : IndexSource) (old new : TableSource) : Type 0 whe
 -- where the first table of a name stands
 abbrev pub first_named : List ℕ → List TableSource → Option ℕ
 first_named name tables = position (λ t. bytes_eq name t.name) tables
+
+-- the names are those of the tables in their order, but where a name came twice: then there are fewer names than tables
+pub record AreNamesOf (names : List (List ℕ)) (tables : List TableSource) : Type 0 where
+  pub few : length names ≤ length tables
+  pub same : length names ≡ length tables → names ≡ map (λ t. t.name) tables
 
 -- the first table of the name has got one more index
 pub record HasIndex (name : List ℕ) (index : IndexSource) (old new : List TableSource) : Type 0 where

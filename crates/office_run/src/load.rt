@@ -1,6 +1,6 @@
 //! Reading what the entries of a setup name.
 
-ghost use Rattle.std.specs.Prelude.{◌≡◌, ◌≢◌, ◌⊎◌, ◌<◌, [], ℕ, List, Option, Some, length, MatchResult, IfOk, IfErr, IfSome, IsOk, IsSome, OnOk};
+ghost use Rattle.std.specs.Prelude.{◌≡◌, ◌≢◌, ◌⊎◌, ◌<◌, [], ◌∷◌, ◌++◌, ℕ, List, Option, Some, length, MatchResult, IfOk, IfErr, IfSome, IsOk, IsSome, OnOk};
 ghost use Rattle.station_lines.specs.Setup.{IndexesFollowTables};
 ghost use Rattle.folders.specs.declared.named.NamedFile.{NamedFile};
 ghost use Rattle.folders.specs.Files.{IsFileOf};
@@ -10,12 +10,12 @@ ghost use Rattle.setup_files.specs.Loads.{IsEntryLoad};
 ghost use Rattle.setup_files.specs.Noted.{paths_of, AreNoted};
 ghost use Rattle.office_run.specs.FileSums.{paths_in};
 ghost use Rattle.office_run.specs.Loading.{load_fault as fault_of_load, file_fault as fault_of_files, refusal_told, nothing, read_of, first_named};
-ghost use Rattle.office_run.specs.Loading.{HasIndex, CanLoad, Loads, LoadAll, IsFileFault, IsEntryFault, IsFailure, IsFaultIn};
+ghost use Rattle.office_run.specs.Loading.{AreNamesOf, HasIndex, CanLoad, Loads, LoadAll, IsFileFault, IsEntryFault, IsFailure, IsFaultIn};
 
 use crate::fault::{FileFault, ServeFault};
 use crate::loaded::Loaded;
 use byte_io::Bytes;
-use catalogue_core::{IndexSource, TableSource};
+use catalogue_core::{IndexSource, Names, TableSource};
 use dbf_image::{GrowingTable, TableData};
 use folders::Source;
 use journal_file::ReadSums;
@@ -83,11 +83,25 @@ pub(crate) fn load_file<S: Source>(
 }
 
 // Where the first table of a name stands.
-fn position_of(tables: &[TableSource], name: &Bytes) -> Option<usize>
+fn first_place(tables: &[TableSource], name: &Bytes) -> Option<usize>
     ensures value { result ≡ first_named name.now tables.now }
     ensures inside { IfSome result (λ position. position < length tables.now) }
 {
     tables.iter().position(|table| *name == table.name)
+}
+
+// The same, where these are the tables' names: in the same time however many tables there are, unless a name came twice,
+// which is refused at opening.
+fn position_of(names: &Names, tables: &[TableSource], name: &Bytes) -> Option<usize>
+    requires names { AreNamesOf names.now tables.now }
+    ensures value { result ≡ first_named name.now tables.now }
+    ensures inside { IfSome result (λ position. position < length tables.now) }
+{
+    if names.count() == tables.len() {
+        names.index_of(name)
+    } else {
+        first_place(tables, name)
+    }
 }
 
 // A table of this name, without indexes.
@@ -107,16 +121,35 @@ fn named_table(
     })
 }
 
+// Adds a table, and its name.
+fn add_table(
+    alloc: Global,
+    tables: &mut Vec<TableSource>,
+    names: &mut Names,
+    table: TableSource,
+) -> Result<(), AllocError>
+    requires names { AreNamesOf names.old tables.old.items }
+    ensures names { OnOk result (AreNamesOf names.new tables.new.items) }
+    ensures added { OnOk result (tables.new.items ≡ tables.old.items ++ table ∷ []) }
+{
+    names.add(alloc, &table.name)?;
+    tables.push(table)?;
+    Ok(())
+}
+
 // Adds an index to the first table of a name, which has been loaded.
 fn add_index(
     tables: &mut Vec<TableSource>,
+    names: &Names,
     table: &Bytes,
     index: IndexSource,
 ) -> Result<(), AllocError>
+    requires names { AreNamesOf names.now tables.old.items }
     requires loaded { IsSome (first_named table.now tables.old.items) }
+    ensures names { OnOk result (AreNamesOf names.now tables.new.items) }
     ensures added { OnOk result (HasIndex table.now index tables.old.items tables.new.items) }
 {
-    let Some(position) = position_of(tables, table) else {
+    let Some(position) = position_of(names, tables, table) else {
         unreachable!();
     };
     tables[position].indexes.push(index)?;
@@ -127,22 +160,25 @@ fn add_index(
 fn add_content(
     alloc: Global,
     loaded: &mut Loaded,
+    names: &mut Names,
     entry: &SetupEntry,
     content: EntryContent,
 ) -> Result<(), AllocError>
+    requires names { AreNamesOf names.old loaded.old.tables.items }
     requires ready { CanLoad loaded.old.tables.items entry.now }
     requires of_entry { (files : Option (List NamedFile)) × IsContentOf files entry.now content }
+    ensures names { OnOk result (AreNamesOf names.new loaded.new.tables.items) }
     ensures read { (files : Option (List NamedFile)) → IsContentOf files entry.now content
         → OnOk result (Loads files entry.now (read_of loaded.old) (read_of loaded.new)) }
 {
     match (entry, content) {
         (SetupEntry::Table { name, .. }, EntryContent::Table(records)) => {
-            loaded.tables.push(named_table(alloc, name, records)?)?;
-            Ok(())
+            let table = named_table(alloc, name, records)?;
+            add_table(alloc, &mut loaded.tables, names, table)
         }
         (SetupEntry::Index { table, name, .. }, EntryContent::Index(file)) => {
             let name = name.copy(alloc)?;
-            add_index(&mut loaded.tables, table, IndexSource { name, file })
+            add_index(&mut loaded.tables, names, table, IndexSource { name, file })
         }
         (SetupEntry::Station { .. }, EntryContent::Script(bytes)) => {
             loaded.scripts.push(bytes)?;
@@ -152,15 +188,19 @@ fn add_content(
     }
 }
 
-/// Adds what the files of an entry are, where they are not refused. The table of an index has been loaded.
+/// Adds what the files of an entry are, where they are not refused, and the name of its table to those of the tables. The table of an
+/// index has been loaded.
 pub(crate) fn add_read(
     alloc: Global,
     loaded: &mut Loaded,
+    names: &mut Names,
     entry: &SetupEntry,
     read: Result<EntryContent, EntryFault>,
 ) -> Result<(), ServeFault>
+    requires names { AreNamesOf names.old loaded.old.tables.items }
     requires ready { CanLoad loaded.old.tables.items entry.now }
     requires of_entry { (files : Option (List NamedFile)) × IsEntryRead files entry.now read }
+    ensures names { OnOk result (AreNamesOf names.new loaded.new.tables.items) }
     ensures read { (files : Option (List NamedFile)) → IsEntryRead files entry.now read
         → OnOk result (Loads files entry.now (read_of loaded.old) (read_of loaded.new)) }
     ensures fault { (files : Option (List NamedFile)) → IsEntryRead files entry.now read → IfErr result (IsEntryFault files entry.now) }
@@ -170,7 +210,7 @@ pub(crate) fn add_read(
         → MatchResult result (λ _. after ≡ before) (IsFailure files before after) }
 {
     match read {
-        Ok(content) => Ok(add_content(alloc, loaded, entry, content)?),
+        Ok(content) => Ok(add_content(alloc, loaded, names, entry, content)?),
         Err(fault) => Err(entry_fault(alloc, entry, fault)),
     }
 }
@@ -181,9 +221,12 @@ fn load_entry<S: Source>(
     source: &mut S,
     entry: &SetupEntry,
     loaded: &mut Loaded,
+    names: &mut Names,
     sums: &mut ReadSums,
 ) -> Result<(), ServeFault>
+    requires names { AreNamesOf names.old loaded.old.tables.items }
     requires ready { CanLoad loaded.old.tables.items entry.now }
+    ensures names { OnOk result (AreNamesOf names.new loaded.new.tables.items) }
     ensures noted { OnOk result (AreNoted (S.files source.old) (paths_of entry.now) sums.old sums.new) }
     ensures read { OnOk result (Loads (S.files source.old) entry.now (read_of loaded.old) (read_of loaded.new)) }
     ensures kept { S.files source.new ≡ S.files source.old }
@@ -192,7 +235,7 @@ fn load_entry<S: Source>(
     ensures failure { IfErr result (IsFailure (S.files source.old) (S.failures source.old) (S.failures source.new)) }
 {
     let read = read_entry(alloc, source, entry, sums)?;
-    add_read(alloc, loaded, entry, read)
+    add_read(alloc, loaded, names, entry, read)
 }
 
 /// Loads and reads what the entries of a setup name, entry by entry; each index stands after its table. The fault is
@@ -215,8 +258,9 @@ pub(crate) fn load_entries<S: Source>(
         tables: Vec::new(alloc),
         scripts: Vec::new(alloc),
     };
+    let mut names = Names::new(alloc);
     for entry in entries {
-        load_entry(alloc, source, entry, &mut loaded, sums)?;
+        load_entry(alloc, source, entry, &mut loaded, &mut names, sums)?;
     }
     Ok(loaded)
 }

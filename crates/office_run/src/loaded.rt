@@ -9,7 +9,7 @@ ghost use Rattle.office_run.specs.Loading.{first_refused, nothing, read_of, IsFa
 use crate::fault::ServeFault;
 use crate::load::add_read;
 use byte_io::Bytes;
-use catalogue_core::TableSource;
+use catalogue_core::{Names, TableSource};
 use setup_files::{EntryContent, EntryFault};
 use station_lines::SetupEntry;
 use std::alloc::Global;
@@ -46,9 +46,10 @@ impl Loaded {
             tables: Vec::new(alloc),
             scripts: Vec::new(alloc),
         };
+        let mut names = Names::new(alloc);
         let mut index = 0;
         for read in reads {
-            add_read(alloc, &mut loaded, &entries[index], read)?;
+            add_read(alloc, &mut loaded, &mut names, &entries[index], read)?;
             index += 1;
         }
         Ok(loaded)

@@ -1,10 +1,21 @@
 -- Days that are open, one after another.
-use Rattle.std.proofs.Common.{◌≡◌, ℕ, List, [], ◌∷◌, ◌++◌, Option, refl, ap, sym, subst, ◌∙◌, append_assoc}
+use Rattle.std.proofs.Common.{◌≡◌, ℕ, Bool, true, false, not, cond, List, [], ◌∷◌, ◌++◌, Option, refl, ap, sym, subst, ◌∙◌, append_assoc}
+use Rattle.std.proofs.lemmas.Bool.{false≢true}
 use Rattle.std.proofs.lemmas.List.{append-nil}
 use Rattle.folders.specs.declared.named.NamedFile.{NamedFile}
 use Rattle.station_lines.specs.declared.setup.entry.SetupEntry.{SetupEntry}
 use Rattle.setup_check.specs.declared.open_days.LogFinding.{LogFinding}
 use Rattle.setup_check.specs.OpenDays.{day_line, day_lines, log_paths, AreDaysTold, AreLogFindings, IsLogFinding}
+
+-- a path that is known is not added,
+pub known_path : (known : Bool) (paths : List (List ℕ)) (path : List ℕ) → false ≡ not known → cond known paths (paths ++ path ∷ []) ≡ paths
+known_path true paths path e = refl
+known_path false paths path e = absurd (false≢true e)
+
+-- and one that isn't is
+pub new_path : (known : Bool) (paths : List (List ℕ)) (path : List ℕ) → true ≡ not known → cond known paths (paths ++ path ∷ []) ≡ paths ++ path ∷ []
+new_path true paths path e = absurd (false≢true (sym e))
+new_path false paths path e = refl
 
 -- the findings of the logs of some paths were told
 pub record HasToldDays (files : Option (List NamedFile)) (before after : Option ℕ) (paths : List (List ℕ)) (text : List ℕ) : Type 0 where

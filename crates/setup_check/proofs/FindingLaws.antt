@@ -16,7 +16,7 @@ use Rattle.setup_files.proofs.ReadLaws.{read_at}
 use Rattle.dbf_image.specs.Growing.{Growing}
 use Rattle.setup_check.specs.declared.finding.Finding.{Finding}
 use Rattle.setup_check.specs.declared.finding.Finding.TheVariants.{Refused}
-use Rattle.setup_check.specs.Findings.{first_table, table_in, IsFinding, IsFoundOf, IsNamed, IsRefusedAt, IsTableOf, AreFindingsAfter, AreFoundOf}
+use Rattle.setup_check.specs.Findings.{first_table, table_in, IsFinding, IsBeside, IsFoundOf, IsNamed, IsRefusedAt, IsTableOf, AreFindingsAfter, AreFoundOf}
 use Rattle.station_lines.specs.declared.setup.entry.SetupEntry.TheVariants.{Table, Index, Station}
 use Rattle.station_lines.specs.Setup.{is_table_of}
 use Rattle.std.proofs.lemmas.Bool.{false≢true}
@@ -128,6 +128,17 @@ named_by files name entries reads findings i read None first at is h k =
     let d : SetupEntry = Station [] in
     let passes = position-Some (is_table_of name) entries i d first in
     subst (λ (o : Option ℕ). IsRefusedAt findings o) (sym first) (refused_at files name entries reads findings i read d h k passes.1 at is)
+
+-- the state of an index beside the table of its name
+beside_state : (files : Option (List NamedFile)) (before : List SetupEntry) (findings : List Finding) (name : List ℕ) (file : NdxFile) (table : Content) (state : IndexState)
+    → IsNamed files before name table → IsIndexState table file state → IsBeside files before findings name file state
+beside_state files before findings name file table HasNoTable named is = absurd is
+beside_state files before findings name file table state named is = (table, named, is)
+
+pub beside_named : {E : Type 0} (r : Result IndexState E) (files : Option (List NamedFile)) (before : List SetupEntry) (findings : List Finding) (name : List ℕ) (file : NdxFile) (table : Content)
+    → IsNamed files before name table → IfOk r (IsIndexState table file) → IfOk r (IsBeside files before findings name file)
+beside_named (Ok state) files before findings name file table named is = beside_state files before findings name file table state named is
+beside_named (Err e) files before findings name file table named is = tt
 
 -- the same of what is borrowed
 pub borrowed : {X : Type 0} (r : Option (Bor X)) (none : Type 0) (some : X → Type 0) → MatchOption (option_copied r) none some → MatchOption r none (λ x. some x.now)

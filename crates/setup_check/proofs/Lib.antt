@@ -4,3 +4,4 @@ pub mod WrongPairLaws
 pub mod ScriptTextLaws
 pub mod PairLaws
 pub mod DayLaws
+pub mod PlaceLaws

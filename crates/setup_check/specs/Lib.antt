@@ -1,6 +1,7 @@
 pub mod WrongPair
 pub mod Freshness
 pub mod Findings
+pub mod TablePlaces
 pub mod HeadNumbers
 pub mod Lines
 pub mod ScriptLines

@@ -1,7 +1,7 @@
 -- Days that are open beside the tables of a setup.
-use Rattle.std.specs.Prelude.{◌≡◌, ℕ, true, false, List, [], ◌∷◌, ◌++◌, codes, Option, Some, None, bytes_eq, if◌then◌else◌}
+use Rattle.std.specs.Prelude.{◌≡◌, ℕ, true, false, List, [], ◌∷◌, ◌++◌, codes, Option, Some, None}
 use Rattle.std.specs.Fmt.{decimal}
-use Rattle.std.specs.List.{list_any}
+use Rattle.catalogue_core.specs.Names.{with_name}
 use Rattle.folders.specs.declared.named.NamedFile.{NamedFile}
 use Rattle.folders.specs.Files.{IsFileOf}
 use Rattle.open_day.specs.OpenDay.{is_open_log, log_beside, IsEntryCount}
@@ -14,13 +14,9 @@ use Rattle.setup_check.specs.declared.open_days.LogFinding.TheVariants.{Closed, 
 
 -- ---- the logs of a setup
 
--- the paths, and one more unless it is among them
-abbrev pub with_path : List (List ℕ) → List ℕ → List (List ℕ)
-with_path paths path = if list_any (λ known. bytes_eq known path) paths then paths else paths ++ path ∷ []
-
--- the paths, and that of the log in the folder of an entry's table
+-- the paths, and that of the log in the folder of an entry's table, unless it is among them
 abbrev pub with_log : List (List ℕ) → SetupEntry → List (List ℕ)
-with_log paths (Table name dbf dbt) = with_path paths (log_beside dbf)
+with_log paths (Table name dbf dbt) = with_name paths (log_beside dbf)
 with_log paths entry = paths
 
 -- the paths, and those of the logs in the folders of the tables of entries

@@ -20,6 +20,7 @@ mod open_days;
 mod reasons;
 mod scripts;
 mod shown_line;
+mod table_places;
 mod wrong_pair;
 
 pub use finding::{Finding, IndexFinding, Looked, TableCounts};

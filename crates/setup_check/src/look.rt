@@ -3,15 +3,17 @@
 ghost use Rattle.std.specs.Prelude.{◌≡◌, ℕ, List, [], Option, MatchOption, length, IfOk, IsOk, option_copied};
 ghost use Rattle.std.specs.List.{list_all};
 ghost use Rattle.folders.specs.declared.named.NamedFile.{NamedFile};
-ghost use Rattle.station_lines.specs.Setup.{is_table_of as is_entry_of};
+ghost use Rattle.station_lines.specs.declared.setup.entry.SetupEntry.{SetupEntry as Entry};
 ghost use Rattle.setup_files.specs.EntryFiles.{AreEntriesRead, IsContentOf, IsEntryRead, IsIndexOfFile};
 ghost use Rattle.setup_files.specs.Loads.{AreEntryLoads};
 ghost use Rattle.setup_check.specs.declared.finding.Finding.{Finding as Found};
 ghost use Rattle.setup_check.specs.Findings.{first_table, table_in, is_fresh as is_fresh_state, is_good as is_good_one, IsCounts};
+ghost use Rattle.setup_check.specs.TablePlaces.{ArePlacesIn};
 ghost use Rattle.setup_check.specs.Findings.{AreFindings, AreFoundOf, IsBeside, IsFinding, IsFoundOf, IsIndexFinding, IsNamed, IsRefusedAt};
 
 use crate::finding::{Finding, IndexFinding, Looked, TableCounts};
 use crate::freshness::{IndexState, state_of};
+use crate::table_places::TablePlaces;
 use byte_io::Bytes;
 use dbf_image::GrowingTable;
 use folders::Source;
@@ -20,23 +22,6 @@ use ndx_index::NdxFile;
 use setup_files::{EntryContent, EntryFault, read_entry};
 use station_lines::SetupEntry;
 use std::alloc::{AllocError, Global};
-
-// Whether the entry is a table's of this name.
-fn is_table_of(entry: &SetupEntry, table: &Bytes) -> bool
-    ensures value { result ≡ is_entry_of table.now entry.now }
-{
-    match entry {
-        SetupEntry::Table { name, .. } => name == table,
-        _ => false,
-    }
-}
-
-// Where the first entry of a table of this name stands.
-fn position_of(entries: &[SetupEntry], table: &Bytes) -> Option<usize>
-    ensures value { result ≡ first_table table.now entries.now }
-{
-    entries.iter().position(|entry| is_table_of(entry, table))
-}
 
 // The table that was read, where a table was.
 fn table_of(read: &Result<EntryContent, EntryFault>) -> Option<&GrowingTable>
@@ -50,29 +35,31 @@ fn table_of(read: &Result<EntryContent, EntryFault>) -> Option<&GrowingTable>
 
 // The table that was read of the first entry of this name.
 fn table_named<'a>(
-    before: &[SetupEntry],
+    tables: &TablePlaces,
     reads: &'a [Result<EntryContent, EntryFault>],
     table: &Bytes,
 ) -> Option<&'a GrowingTable>
-    ensures named { (files : Option (List NamedFile)) (findings : List Found) → AreEntriesRead files before.now reads.now → AreFoundOf reads.now findings
-        → MatchOption result (IsRefusedAt findings (first_table table.now before.now)) (λ records. IsNamed files before.now table.now records.now.table) }
+    ensures named { (files : Option (List NamedFile)) (before : List Entry) (findings : List Found) → ArePlacesIn tables.now before
+        → AreEntriesRead files before reads.now → AreFoundOf reads.now findings
+        → MatchOption result (IsRefusedAt findings (first_table table.now before)) (λ records. IsNamed files before table.now records.now.table) }
 {
-    let position = position_of(before, table)?;
+    let position = tables.place(table)?;
     table_of(reads.get(position)?)
 }
 
 // What an index's file is beside the table of this name.
 fn beside_table(
     alloc: Global,
-    before: &[SetupEntry],
+    tables: &TablePlaces,
     reads: &[Result<EntryContent, EntryFault>],
     table: &Bytes,
     file: &NdxFile,
 ) -> Result<IndexState, AllocError>
-    ensures state { (files : Option (List NamedFile)) (findings : List Found) → AreEntriesRead files before.now reads.now → AreFoundOf reads.now findings
-        → IfOk result (IsBeside files before.now findings table.now file.now) }
+    ensures state { (files : Option (List NamedFile)) (before : List Entry) (findings : List Found) → ArePlacesIn tables.now before
+        → AreEntriesRead files before reads.now → AreFoundOf reads.now findings
+        → IfOk result (IsBeside files before findings table.now file.now) }
 {
-    match table_named(before, reads, table) {
+    match table_named(tables, reads, table) {
         Some(records) => state_of(alloc, records, file),
         None => Ok(IndexState::NoTable),
     }
@@ -81,16 +68,16 @@ fn beside_table(
 // What is found of an index's file beside the table of this name.
 fn look_at_index(
     alloc: Global,
-    before: &[SetupEntry],
+    tables: &TablePlaces,
     reads: &[Result<EntryContent, EntryFault>],
     table: &Bytes,
     file: &NdxFile,
 ) -> Result<IndexFinding, AllocError>
-    ensures finding { (files : Option (List NamedFile)) (findings : List Found) (ndx : List ℕ)
-        → AreEntriesRead files before.now reads.now → AreFoundOf reads.now findings → IsIndexOfFile files ndx file.now
-        → IfOk result (IsIndexFinding files before.now findings table.now ndx) }
+    ensures finding { (files : Option (List NamedFile)) (before : List Entry) (findings : List Found) (ndx : List ℕ) → ArePlacesIn tables.now before
+        → AreEntriesRead files before reads.now → AreFoundOf reads.now findings → IsIndexOfFile files ndx file.now
+        → IfOk result (IsIndexFinding files before findings table.now ndx) }
 {
-    let state = beside_table(alloc, before, reads, table, file)?;
+    let state = beside_table(alloc, tables, reads, table, file)?;
     Ok(IndexFinding {
         keys: file.pairs.len(),
         state,
@@ -113,25 +100,25 @@ fn counts_of(table: &GrowingTable) -> TableCounts
     }
 }
 
-// What is found at an entry whose files are this. What was read of the entries before it is told.
+// What is found at an entry whose files are this. It is told what was read of the entries before it, and where their tables stand.
 fn look_at_content(
     alloc: Global,
-    before: &[SetupEntry],
+    tables: &TablePlaces,
     reads: &[Result<EntryContent, EntryFault>],
     entry: &SetupEntry,
     content: &EntryContent,
 ) -> Result<Finding, AllocError>
     requires of_entry { (files : Option (List NamedFile)) × IsContentOf files entry.now content.now }
-    ensures finding { (files : Option (List NamedFile)) (findings : List Found)
-        → AreEntriesRead files before.now reads.now → AreFoundOf reads.now findings → IsContentOf files entry.now content.now
-        → IfOk result (IsFinding files before.now findings entry.now) }
+    ensures finding { (files : Option (List NamedFile)) (before : List Entry) (findings : List Found) → ArePlacesIn tables.now before
+        → AreEntriesRead files before reads.now → AreFoundOf reads.now findings → IsContentOf files entry.now content.now
+        → IfOk result (IsFinding files before findings entry.now) }
 {
     match (entry, content) {
         (SetupEntry::Table { .. }, EntryContent::Table(records)) => {
             Ok(Finding::Table(counts_of(records)))
         }
         (SetupEntry::Index { table, .. }, EntryContent::Index(file)) => {
-            let index = look_at_index(alloc, before, reads, table, file)?;
+            let index = look_at_index(alloc, tables, reads, table, file)?;
             Ok(Finding::Index(index))
         }
         (SetupEntry::Station { .. }, EntryContent::Script(_)) => Ok(Finding::Script),
@@ -142,19 +129,19 @@ fn look_at_content(
 // What is found at an entry of which this was read.
 fn look_at(
     alloc: Global,
-    before: &[SetupEntry],
+    tables: &TablePlaces,
     reads: &[Result<EntryContent, EntryFault>],
     entry: &SetupEntry,
     read: &Result<EntryContent, EntryFault>,
 ) -> Result<Finding, AllocError>
     requires of_entry { (files : Option (List NamedFile)) × IsEntryRead files entry.now read.now }
-    ensures finding { (files : Option (List NamedFile)) (findings : List Found)
-        → AreEntriesRead files before.now reads.now → AreFoundOf reads.now findings → IsEntryRead files entry.now read.now
-        → IfOk result (IsFinding files before.now findings entry.now) }
+    ensures finding { (files : Option (List NamedFile)) (before : List Entry) (findings : List Found) → ArePlacesIn tables.now before
+        → AreEntriesRead files before reads.now → AreFoundOf reads.now findings → IsEntryRead files entry.now read.now
+        → IfOk result (IsFinding files before findings entry.now) }
     ensures found { IfOk result (IsFoundOf read.now) }
 {
     match read {
-        Ok(content) => look_at_content(alloc, before, reads, entry, content),
+        Ok(content) => look_at_content(alloc, tables, reads, entry, content),
         Err(fault) => Ok(Finding::Refused(*fault)),
     }
 }
@@ -178,10 +165,12 @@ pub fn look_at_all<S: Source>(
 {
     let mut findings = Vec::new(alloc);
     let mut reads = Vec::new(alloc);
+    let mut tables = TablePlaces::new(alloc);
     for (index, entry) in entries.iter().enumerate() {
         let read = read_entry(alloc, source, entry, &mut ReadSums::unwanted(alloc))?;
-        findings.push(look_at(alloc, &entries[..index], &reads, entry, &read)?)?;
+        findings.push(look_at(alloc, &tables, &reads, entry, &read)?)?;
         reads.push(read)?;
+        tables.add(alloc, entry, index)?;
     }
     Ok(Looked { findings, reads })
 }

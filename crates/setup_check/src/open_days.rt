@@ -1,11 +1,12 @@
 //! Days that are open beside the tables of a setup, in words.
 
-ghost use Rattle.std.specs.Prelude.{◌≡◌, ◌++◌, bytes_eq, IfOk, OnOk};
-ghost use Rattle.std.specs.List.{list_any};
-ghost use Rattle.setup_check.specs.OpenDays.{day_line, log_paths as paths_of_logs, log_words, with_log, with_path, AreDaysTold, IsFoundOfLog, IsLogFinding};
+ghost use Rattle.std.specs.Prelude.{◌≡◌, ◌++◌, IfOk, OnOk};
+ghost use Rattle.catalogue_core.specs.Names.{with_name};
+ghost use Rattle.setup_check.specs.OpenDays.{day_line, log_paths as paths_of_logs, log_words, with_log, AreDaysTold, IsFoundOfLog, IsLogFinding};
 
 use crate::lines::numbers::append_words;
 use byte_io::Bytes;
+use catalogue_core::Names;
 use folders::{LoadFault, Source};
 use open_day::{count_entries, is_open, log_beside};
 use setup_files::LoadRefusal;
@@ -23,29 +24,40 @@ pub enum LogFinding {
     Unread(LoadRefusal),
 }
 
-fn has_path(paths: &[Bytes], path: &[u8]) -> bool
-    ensures value { result ≡ list_any (λ known. bytes_eq known path.now) paths.now }
+// Adds a path, unless it is one of these, which are known by name, too.
+fn add_path(
+    alloc: Global,
+    paths: &mut Vec<Bytes>,
+    known: &mut Names,
+    path: Bytes,
+) -> Result<(), AllocError>
+    requires known { known.old ≡ paths.old.items }
+    ensures known { OnOk result (known.new ≡ paths.new.items) }
+    ensures ok { OnOk result (paths.new.items ≡ with_name paths.old.items path) }
 {
-    paths.iter().any(|known| known.as_slice() == path)
-}
-
-// Adds a path, unless it is there.
-fn add_path(paths: &mut Vec<Bytes>, path: Vec<u8>) -> Result<(), AllocError>
-    ensures ok { OnOk result (paths.new.items ≡ with_path paths.old.items path.items) }
-{
-    if has_path(paths, &path) {
+    if !known.add(alloc, &path)? {
         return Ok(());
     }
-    paths.push(Bytes::from_vec(path))?;
+    paths.push(path)?;
     Ok(())
 }
 
 // Adds the path of the log in the folder of an entry's table.
-fn add_log(alloc: Global, paths: &mut Vec<Bytes>, entry: &SetupEntry) -> Result<(), AllocError>
+fn add_log(
+    alloc: Global,
+    paths: &mut Vec<Bytes>,
+    known: &mut Names,
+    entry: &SetupEntry,
+) -> Result<(), AllocError>
+    requires known { known.old ≡ paths.old.items }
+    ensures known { OnOk result (known.new ≡ paths.new.items) }
     ensures ok { OnOk result (paths.new.items ≡ with_log paths.old.items entry.now) }
 {
     match entry {
-        SetupEntry::Table { dbf, .. } => add_path(paths, log_beside(alloc, dbf.as_slice())?),
+        SetupEntry::Table { dbf, .. } => {
+            let path = Bytes::from_vec(log_beside(alloc, dbf.as_slice())?);
+            add_path(alloc, paths, known, path)
+        }
         _ => Ok(()),
     }
 }
@@ -55,8 +67,9 @@ fn log_paths(alloc: Global, entries: &[SetupEntry]) -> Result<Vec<Bytes>, AllocE
     ensures value { IfOk result (λ paths. paths.items ≡ paths_of_logs entries.now) }
 {
     let mut paths = Vec::new(alloc);
+    let mut known = Names::new(alloc);
     for entry in entries {
-        add_log(alloc, &mut paths, entry)?;
+        add_log(alloc, &mut paths, &mut known, entry)?;
     }
     Ok(paths)
 }

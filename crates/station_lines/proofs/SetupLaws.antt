@@ -1,3 +1,4 @@
 pub mod WordCutting
 pub mod LineLaws
 pub mod TextLaws
+pub mod TableLaws

@@ -1,13 +1,16 @@
 -- What the reader makes of a setup's line. What a line says is defined apart from this, in Setup.
-use Rattle.std.specs.Prelude.{ℕ, List, [], ◌∷◌, bytes_eq, codes, Option, Some, None, option_map, if◌then◌else◌}
+use Rattle.std.specs.Prelude.{◌≡◌, ◌≤◌, ℕ, List, [], ◌∷◌, length, bytes_eq, codes, Option, Some, None, option_map, if◌then◌else◌}
+use Rattle.std.specs.List.{list_any}
+use Rattle.catalogue_core.specs.Names.{includes_name, with_name}
 use Rattle.station_lines.specs.declared.setup.entry.SetupEntry.{SetupEntry}
 use Rattle.station_lines.specs.declared.setup.entry.SetupEntry.TheVariants as entry
 use Rattle.station_lines.specs.declared.setup.judged.Judged.{Judged}
 use Rattle.station_lines.specs.declared.setup.judged.Judged.TheVariants.{Skipped, Bad, Good}
 use Rattle.station_lines.specs.declared.setup.said.Said.{Said}
+use Rattle.station_lines.specs.declared.setup.said.TheConstants.{MAX_NAME_BYTES}
 use Rattle.station_lines.specs.declared.setup.said.Said.TheVariants.{Table, Index, Station}
 use Rattle.station_lines.specs.Script.Parts.{capitals}
-use Rattle.station_lines.specs.Setup.{short_name, IsSkipped, IsEntry}
+use Rattle.station_lines.specs.Setup.{short_name, is_table_of, IsSkipped, IsEntry}
 
 -- the entry that is said, its names in capitals
 abbrev pub entry_of : Said → SetupEntry
@@ -20,6 +23,20 @@ abbrev pub IsJudged : List ℕ → Judged → Type 0
 IsJudged line Skipped = IsSkipped line
 IsJudged line (Good said) = IsEntry line (entry_of said)
 IsJudged line Bad = (IsSkipped line → ⊥) × ((entry : SetupEntry) → IsEntry line entry → ⊥)
+
+-- the names are those of the entries' tables
+abbrev pub AreTablesOf : List (List ℕ) → List SetupEntry → Type 0
+AreTablesOf names entries = (table : List ℕ) → includes_name names table ≡ list_any (is_table_of table) entries
+
+-- the names with that of a table's entry
+abbrev pub with_table_name : List (List ℕ) → SetupEntry → List (List ℕ)
+with_table_name names (entry.Table name dbf dbt) = with_name names name
+with_table_name names other = names
+
+-- the table of an index has no more bytes than a name can have
+abbrev pub HasShortTable : Said → Type 0
+HasShortTable (Index table name ndx) = length table.now ≤ MAX_NAME_BYTES
+HasShortTable said = Unit {0}
 
 -- the word of a line that has one
 abbrev pub only_word : List (List ℕ) → Option (List ℕ)

@@ -6,6 +6,7 @@
 ghost use Rattle.std.specs.Prelude.{◌≡◌, ℕ, List, true, false, Result, Ok, Err, IfOk, IfErr, IsErrOf};
 ghost use Rattle.station_lines.specs.declared.setup.entry.SetupEntry.{SetupEntry as Entry};
 ghost use Rattle.station_lines.specs.Setup.{Adds, HasNextEntry, IndexesFollowTables, IsBadAfter, IsNext, IsSetup};
+ghost use Rattle.station_lines.specs.SetupReading.{AreTablesOf};
 
 mod bad_setup_line;
 mod entry;
@@ -13,20 +14,30 @@ mod fault;
 mod judged;
 mod line;
 mod said;
+mod tables;
 mod words;
 
 use crate::script::lines;
-use crate::setup::entry::may_follow;
 use crate::setup::judged::Judged;
 use crate::setup::line::judge;
+use crate::setup::tables::{add_table, may_follow_tables};
 pub use bad_setup_line::{BadSetupLine, setup_line_reason, why_bad_setup_line};
+use catalogue_core::Names;
 pub use entry::SetupEntry;
 pub use fault::SetupFault;
 use std::alloc::{AllocError, Global};
 pub use words::cut_plain_word;
 
-// Adds what a line says to what those before it said. The answer is whether it may stand there.
-fn add_line(alloc: Global, entries: &mut Vec<SetupEntry>, line: &[u8]) -> Result<bool, AllocError>
+// Adds what a line says to what those before it said, whose tables have these names. The answer is whether it may stand
+// there.
+fn add_line(
+    alloc: Global,
+    entries: &mut Vec<SetupEntry>,
+    names: &mut Names,
+    line: &[u8],
+) -> Result<bool, AllocError>
+    requires tables { AreTablesOf names.old entries.old.items }
+    ensures tables { result ≡ Ok true → AreTablesOf names.new entries.new.items }
     ensures added { result ≡ Ok true → Adds entries.old.items line.now entries.new.items }
     ensures bad { result ≡ Ok false → IsBadAfter entries.old.items line.now }
     ensures early { IfErr result (λ _. (entry : Entry) × IsNext entries.old.items line.now entry) }
@@ -35,10 +46,11 @@ fn add_line(alloc: Global, entries: &mut Vec<SetupEntry>, line: &[u8]) -> Result
         Judged::Skipped => Ok(true),
         Judged::Bad => Ok(false),
         Judged::Good(said) => {
-            if !may_follow(entries, said) {
+            if !may_follow_tables(names, said) {
                 return Ok(false);
             }
             let entry = said.to_entry(alloc)?;
+            add_table(alloc, names, &entry)?;
             entries.push(entry)?;
             Ok(true)
         }
@@ -55,11 +67,12 @@ pub fn parse_setup(alloc: Global, text: &[u8]) -> Result<Vec<SetupEntry>, SetupF
     ensures bad { (number : ℕ) → result ≡ Err (SetupFault.Bad number) → IsSetup text.now (Err number) }
 {
     let mut entries = Vec::new(alloc);
+    let mut names = Names::new(alloc);
     let mut number = 0;
     let mut cursor = lines(text);
     while let Some(line) = cursor.next_line() {
         number += 1;
-        if !add_line(alloc, &mut entries, line)? {
+        if !add_line(alloc, &mut entries, &mut names, line)? {
             return Err(SetupFault::Bad(number));
         }
     }

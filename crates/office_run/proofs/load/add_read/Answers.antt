@@ -10,6 +10,7 @@ returns-in-Err c =
     record {
       read = λ files h. tt;
       fault = λ files h. fault_told files entry why fault is (rw c.in-Err.is at h);
+      names = tt;
       whole = tt;
       first = λ ne. rw c.in-Err.is (refusal_first entry why fault is ne);
       loads = λ files before after h. failure_told files before after entry why fault is (rw c.in-Err.is at h);

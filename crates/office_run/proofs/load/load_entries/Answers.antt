@@ -24,6 +24,7 @@ pub loop-entry-preserved : goal.loop-entry-preserved
 loop-entry-preserved g c = record {
   read = loaded_more _ c.args.entries.now c.loop-entry.entry-index c.entry-item.result _ _ c.loop-entry-test.true c.entry-item.is c.loop-entry.invariant.read (rw c.loop-entry.invariant.kept at c.in_ok-load_entry.ensures.read);
   noted = noted_more _ _ c.args.entries.now c.loop-entry.entry-index c.entry-item.result _ _ _ c.loop-entry-test.true c.entry-item.is c.loop-entry.invariant.kept c.loop-entry.invariant.noted c.in_ok-load_entry.ensures.noted;
+  names = c.in_ok-load_entry.ensures.names;
   kept = c.in_ok-load_entry.ensures.kept ∙ c.loop-entry.invariant.kept;
   loads = c.in_ok-load_entry.ensures.loads ∙ c.loop-entry.invariant.loads;
 }
@@ -33,6 +34,7 @@ load_entry-requires g c =
     let i = c.loop-entry.entry-index in
     let entry = c.entry-item.result in
     record {
+      names = c.loop-entry.invariant.names;
       ready = can_load _ c.args.entries.now i entry (read_of c.loop-entry.loaded) c.requires.tables_first
           (slice_get-get_or c.args.entries.now i entry c.loop-entry-test.true ∙ ap (λ (e : SetupEntry). Some e) (sym c.entry-item.is)) c.loop-entry.invariant.read;
     }

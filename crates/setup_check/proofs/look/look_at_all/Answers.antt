@@ -1,5 +1,5 @@
-use Rattle.std.proofs.Common.{[], length, take, ap, ◌∙◌}
-use Rattle.std.proofs.lemmas.List.{take_all}
+use Rattle.std.proofs.Common.{◌≡◌, ◌≤◌, [], length, take, ap, sym, ◌∙◌, arith}
+use Rattle.std.proofs.lemmas.List.{length-take-le, take_all}
 use Rattle.setup_files.specs.EntryFiles.{AreEntriesRead}
 use Rattle.setup_files.proofs.ReadLaws.{reads_more, loads_more}
 use Rattle.setup_check.specs.Findings.{AreFoundOf}
@@ -21,14 +21,17 @@ loop-index-preserved g c =
     let taken = next_taken entries i entry c.loop-index-test.true c.index-entries-index.is in
     let passed : AreEntriesRead files (take i entries) c.deref.result.now = rw c.deref.ensures.value before.read in
     let refused : AreFoundOf c.deref.result.now findings = rw c.deref.ensures.value before.refused in
+    let within : i ≤ length entries = omega (arith, c.loop-index-test.true) in
+    let place : i ≡ length (take i entries) = sym (length-take-le i entries within) in
     let own = rw before.kept at c.in_ok-read.ensures.read in
     let loads = rw before.kept at c.in_ok-read.ensures.loads in
     record {
-      found = rw (taken, c.in_ok-push.ensures.items) (found_more files (take i entries) findings entry finding before.found (c.in_ok-look_at.ensures.finding files findings passed refused own));
+      found = rw (taken, c.in_ok-push.ensures.items) (found_more files (take i entries) findings entry finding before.found (c.in_ok-look_at.ensures.finding files (take i entries) findings before.tables passed refused own));
       read = rw (taken, c.in_ok-push-2.ensures.items) (reads_more files (take i entries) reads entry read before.read own);
       refused = rw (c.in_ok-push-2.ensures.items, c.in_ok-push.ensures.items) (found_of_more reads findings read finding before.refused c.in_ok-look_at.ensures.found);
       loads = rw (taken, c.in_ok-push-2.ensures.items)
           (loads_more files (failures c.args.source.now) (failures c.loop-index.source) (failures c.read_entry.new.source) (take i entries) reads entry read before.loads loads);
+      tables = rw taken (c.in_ok-add.ensures.added (take i entries) place before.tables);
       kept = c.read_entry.ensures.kept ∙ before.kept;
     }
 

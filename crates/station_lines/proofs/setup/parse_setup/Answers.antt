@@ -14,6 +14,7 @@ returns-in_err-add_line-clause-early c e =
 pub loop-line-preserved : goal.loop-line-preserved
 loop-line-preserved c = record {
   read = read_more _ _ _ _ _ _ _ c.loop-line.invariant.read c.in-Some.ensures.joined (c.in_ok-add_line.ensures.added (rw c.if-not-branch.false refl));
+  tables = c.in_ok-add_line.ensures.tables (rw c.if-not-branch.false refl);
   counted = omega (arith, c.loop-line.invariant.counted, c.in-Some.ensures.shorter);
 }
 

@@ -7,6 +7,7 @@ use Rattle.setup_files.specs.declared.fault.EntryFault.{EntryFault}
 use Rattle.setup_files.proofs.ReadLaws.{reads_each}
 use Rattle.office_run.specs.Loading.{read_of}
 use Rattle.office_run.proofs.LoadLaws.{err_exit, left_read, loaded_more, next_entry, next_refused}
+use Rattle.office_run.proofs.NamesLaws.{none_named}
 use Rattle.office_run.proofs.TablesFirst.{can_load}
 use Rattle.office_run.proofs.loaded.Loaded.from_reads.Goals as goal
 
@@ -18,6 +19,7 @@ loop-read-init c =
     record {
       left = λ files h. rw items h;
       read = λ files h. rw (c.new.ensures.items, c.new-2.ensures.items) refl;
+      names = rw (c.new.ensures.items, c.new-names.ensures.value) none_named;
       first = rw items refl;
       count = omega (arith, ap (λ (l : List (Result EntryContent EntryFault)). length l) items, each);
     }
@@ -65,6 +67,7 @@ loop-read-preserved c =
       read = λ files h.
           let next = left_read files (drop i entries) (drop (i + 1) entries) entry _ _ read here items (before.left files h) in
           loaded_more files entries i entry _ _ lt c.index-entries-index.is (before.read files h) (c.in_ok-add_read.ensures.read files next.0);
+      names = c.in_ok-add_read.ensures.names;
       first = before.first ∙ next_refused (drop i entries) (drop (i + 1) entries) entry _ _ read here items c.in_ok-add_read.ensures.whole;
       count = omega (arith, ap (λ (l : List (Result EntryContent EntryFault)). length l) items, before.count);
     }
