@@ -57,6 +57,10 @@ one_line_is line one is h = sym is ∙ h
 pub not_run : (line : List ℕ) (meaning : Line) → ((command : Command) → meaning ≡ Run command → ⊥) → ((other : Line) → Means line other → other ≡ meaning) → IsNoCommandLine line
 not_run line meaning none only command of_a_line is = none command (sym (only (Run command) (line_means line command of_a_line is)))
 
+-- a text that was appended to none
+pub made_anew : (cleared now text : List ℕ) → cleared ≡ [] → now ≡ cleared ++ text → now ≡ text
+made_anew cleared now text empty is = is ∙ ap (λ (xs : List ℕ). xs ++ text) empty
+
 -- what is not the same is another
 pub differ : (same : Bool) (a b : List ℕ) → (IsTrue same ↔ (a ≡ b)) → same ≡ false → a ≡ b → ⊥
 differ same a b is e h = false≢true (sym e ∙ is.1 h)

@@ -4,7 +4,7 @@ ghost use Rattle.std.specs.Prelude.{◌≡◌, ◌↔◌, ◌≤◌, Ok, None, I
 ghost use Rattle.audit.specs.Audits.{IsLineOfCommand, IsNoCommandLine, MeansACommand, BeginsWithCommand, BeginsWithNoCommand, BeginsWithReadable, IsOnlyFirst};
 
 use catalogue_core::Command;
-use station_lines::{Line, command_line, cut_entry, is_one_line, parse_line};
+use station_lines::{Line, append_command, cut_entry, is_one_line, parse_line};
 use std::alloc::{AllocError, Global};
 
 /// An entry that was read, and what stands after its line.
@@ -28,9 +28,13 @@ pub(crate) fn is_same(left: &[u8], right: &[u8]) -> bool
     left == right
 }
 
-// The command whose line this is: one that a line of a script means, so that no LF stands in the line. Memory is taken
-// only where the line means a command.
-fn command_of(alloc: Global, line: &[u8]) -> Result<Option<Command>, AllocError>
+// The command whose line this is: one that a line of a script means, so that no LF stands in the line. The command's line is made
+// anew in `written`, whatever that has. Memory is taken only where the line means a command.
+fn command_of(
+    alloc: Global,
+    line: &[u8],
+    written: &mut Vec<u8>,
+) -> Result<Option<Command>, AllocError>
     ensures found { IfOk result (λ found. IfSome found (IsLineOfCommand line.now)) }
     ensures none { result ≡ Ok None → IsNoCommandLine line.now }
     ensures early { OnErr result (MeansACommand line.now) }
@@ -41,7 +45,8 @@ fn command_of(alloc: Global, line: &[u8]) -> Result<Option<Command>, AllocError>
     let Line::Run(command) = parse_line(alloc, line)? else {
         return Ok(None);
     };
-    let written = command_line(alloc, &command)?;
+    written.clear();
+    append_command(written, &command)?;
     if !is_same(written.as_slice(), line) {
         return Ok(None);
     }
@@ -57,12 +62,14 @@ fn is_station(number: u64, stations: u32) -> bool
 
 /// The entry whose line is first in a journal's text: of one of so many stations, and with a command that a line of a
 /// script means. `None` where no such entry's line is first. An error where memory is refused, which is taken only for a line of one of
-/// the stations whose command's line means a command.
-pub(crate) fn read_entry(
+/// the stations whose command's line means a command. What `written` has before and after is of no account: its memory is used for
+/// the command's line.
+pub(crate) fn read_entry<'a>(
     alloc: Global,
     stations: u32,
-    text: &[u8],
-) -> Result<Option<ReadEntry<'_>>, AllocError>
+    text: &'a [u8],
+    written: &mut Vec<u8>,
+) -> Result<Option<ReadEntry<'a>>, AllocError>
     ensures found { IfOk result (λ found. IfSome found (λ e. BeginsWithCommand stations text.now e.station e.command e.answer.now e.rest.now)) }
     ensures only { IfOk result (λ found. IfSome found (λ e. IsOnlyFirst stations text.now e.station e.command e.answer.now e.rest.now)) }
     ensures none { result ≡ Ok None → BeginsWithNoCommand stations text.now }
@@ -75,7 +82,7 @@ pub(crate) fn read_entry(
         return Ok(None);
     }
     let station = cut.station as u32;
-    match command_of(alloc, cut.command)? {
+    match command_of(alloc, cut.command, written)? {
         None => Ok(None),
         Some(command) => Ok(Some(ReadEntry {
             station,

@@ -1,6 +1,6 @@
 //! Whether the journal's file will be too long to be read, before it is written.
 
-ghost use Rattle.std.specs.Prelude.{◌<◌, ◌↔◌, length, IfOk, IsTrue};
+ghost use Rattle.std.specs.Prelude.{◌<◌, ◌≤◌, ◌↔◌, length, IfOk, IsTrue};
 ghost use Rattle.folders.specs.declared.source.TheConstants.{MAX_FILE_BYTES};
 ghost use Rattle.station_lines.specs.JournalLines.{journal_text};
 ghost use Rattle.office_run.specs.JournalFile.{parts_text};
@@ -8,8 +8,25 @@ ghost use Rattle.office_run.specs.JournalFile.{parts_text};
 use crate::journal::JournalText;
 use catalogue_core::Entry;
 use folders::MAX_FILE_BYTES;
-use station_lines::EntryLine;
+use station_lines::{EntryLine, line_bound};
 use std::alloc::{AllocError, Global};
+
+// Whether the lines of the journal's entries have no more bytes than there is room even if each is as long as it may be. No line is
+// made.
+fn surely_fit(journal: &[Entry], room: usize) -> bool
+    requires limited { room ≤ MAX_FILE_BYTES }
+    ensures fit { IsTrue result → length (journal_text journal.now) ≤ room }
+{
+    let mut left = room;
+    for entry in journal {
+        let bytes = line_bound(entry);
+        if bytes > left {
+            return false;
+        }
+        left -= bytes;
+    }
+    true
+}
 
 // Whether the lines of the journal's entries have more bytes than there is room. One line at a time is in memory. An error where
 // memory is refused.
@@ -38,5 +55,9 @@ pub(crate) fn is_too_long(alloc: Global, text: &JournalText<'_>) -> Result<bool,
     if others > MAX_FILE_BYTES {
         return Ok(true);
     }
-    lines_exceed(alloc, text.entries, MAX_FILE_BYTES - others)
+    let room = MAX_FILE_BYTES - others;
+    if surely_fit(text.entries, room) {
+        return Ok(false);
+    }
+    lines_exceed(alloc, text.entries, room)
 }

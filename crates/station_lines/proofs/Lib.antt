@@ -1,3 +1,4 @@
+mod BoundLaws
 pub mod CommandLaws
 pub mod JournalLaws
 pub mod ScriptLaws

@@ -101,8 +101,9 @@ fn append_locks(line: &mut Vec<u8>, numbers: &Numbers) -> Result<(), AllocError>
     Ok(())
 }
 
-/// Appends the line of a command, as [`command_line`] makes it. Where memory is refused a front part of it may have been appended.
-pub(crate) fn append_command(line: &mut Vec<u8>, command: &Command) -> Result<(), AllocError>
+/// Appends the line of a command, as [`command_line`] makes it. An error where memory is refused: a front part of it may have been
+/// appended then.
+pub fn append_command(line: &mut Vec<u8>, command: &Command) -> Result<(), AllocError>
     ensures ok { OnOk result (line.new.items ≡ line.old.items ++ text_of_command command.now) }
 {
     match command {

@@ -13,14 +13,16 @@
 mod answer_lines;
 mod command_lines;
 mod journal_lines;
+mod line_bounds;
 mod script;
 mod setup;
 
 pub use answer_lines::{answer_line, append_answer, append_status, status_line};
-pub use command_lines::command_line;
+pub use command_lines::{append_command, command_line};
 pub use journal_lines::{
     CutEntry, EntryLine, cut_entry, cut_number, cut_part, entry_line, one_journal, plain_number,
 };
+pub use line_bounds::line_bound;
 pub use script::format::LF;
 pub use script::{
     BadLine, Line, LineCursor, count_in, is_one_line, lines, one_cutting, one_meaning, parse_line,

@@ -80,7 +80,7 @@ numeral_digits n =
       some = omega (arith, length-append (map (λ d. 48 + d) (digits_of 10 (n / 10))) ((48 + n % 10) ∷ []));
     }
 
-numeral_short : (k n : ℕ) → n < 10 ^ suc k → length (numeral n) ≤ suc k
+pub numeral_short : (k n : ℕ) → n < 10 ^ suc k → length (numeral n) ≤ suc k
 numeral_short k n small =
     let tenth : n / 10 < 10 ^ k = omega (arith, pow-suc 10 k) in
     let front : length (map (λ d. 48 + d) (digits_of 10 (n / 10))) ≡ length (digits_of 10 (n / 10)) = length-map (digits_of 10 (n / 10)) (λ d. 48 + d) in

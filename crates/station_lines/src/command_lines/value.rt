@@ -1,6 +1,6 @@
 //! The words of a command's texts, values and numbers. Where memory is refused a front part of a word may have been appended.
 
-ghost use Rattle.std.specs.Prelude.{◌≡◌, ◌++◌, ◌∷◌, [], ◌==◌, not, OnOk};
+ghost use Rattle.std.specs.Prelude.{◌≡◌, ◌<◌, ◌++◌, ◌∷◌, [], ◌==◌, not, OnOk};
 ghost use Rattle.std.specs.List.{list_all};
 ghost use Rattle.std.specs.Fmt.{decimal};
 ghost use Rattle.std.specs.Int.RustNames.{unsigned_abs};
@@ -22,10 +22,29 @@ pub(crate) fn append_both(line: &mut Vec<u8>, first: &[u8], second: &[u8]) -> Re
     line.extend_from_slice(second)
 }
 
+// Appends the digits of a number that has two of them at most.
+#[tactic(auto, using(crate::proofs::BoundLaws::one_put, crate::proofs::BoundLaws::two_put))]
+fn append_short_number(line: &mut Vec<u8>, number: u64) -> Result<(), AllocError>
+    requires short { number < 100 }
+    ensures ok { OnOk result (line.new.items ≡ line.old.items ++ decimal number) }
+{
+    if number < 10 {
+        line.push(ZERO_DIGIT + number as u8)?;
+        return Ok(());
+    }
+    line.push(ZERO_DIGIT + (number / 10) as u8)?;
+    line.push(ZERO_DIGIT + (number % 10) as u8)?;
+    Ok(())
+}
+
 /// Appends the decimal digits of a number.
 pub(crate) fn append_number(line: &mut Vec<u8>, number: u64) -> Result<(), AllocError>
     ensures ok { OnOk result (line.new.items ≡ line.old.items ++ decimal number) }
 {
+    // Nearly all numbers in a journal and in a status row are short.
+    if number < 100 {
+        return append_short_number(line, number);
+    }
     let mut buffer = Buffer::new();
     line.extend_from_slice(buffer.format(number).as_bytes())
 }

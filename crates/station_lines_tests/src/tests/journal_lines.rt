@@ -1,8 +1,8 @@
 //! Lines of a journal, as they are written by hand, and what is cut off them.
 
 use byte_io::Bytes;
-use catalogue_core::{Answer, Command, Refusal};
-use station_lines::{Line, cut_entry, entry_line, parse_line};
+use catalogue_core::{Answer, Command, Entry, Refusal};
+use station_lines::{Line, cut_entry, entry_line, line_bound, parse_line};
 use std::alloc::{AllocError, Global};
 use std::test::Fail;
 
@@ -173,6 +173,32 @@ fn first_miscut(alloc: Global, rest: &[u8]) -> Result<Option<usize>, AllocError>
         }
     }
     Ok(None)
+}
+
+// The index of the first entry whose bound is less than its line's length, or more than 300 bytes over it.
+fn first_far_bound(alloc: Global) -> Result<Option<usize>, AllocError> {
+    for i in 0..ENTRIES.len() {
+        let (station, line, said, wanted) = ENTRIES[i];
+        let Line::Run(command) = parse_line(alloc, line)? else {
+            return Ok(Some(i));
+        };
+        let answer = answer_of(alloc, said)?;
+        let bound = line_bound(&Entry {
+            station,
+            command,
+            answer,
+        });
+        if bound < wanted.len() || bound.saturating_sub(wanted.len()) > 300 {
+            return Ok(Some(i));
+        }
+    }
+    Ok(None)
+}
+
+#[test]
+fn bounds_are_near_the_lines(rt: HostRuntime) -> Result<(), Fail> {
+    assert_eq!(rt; first_far_bound(rt.alloc())?, None);
+    Ok(())
 }
 
 #[test]

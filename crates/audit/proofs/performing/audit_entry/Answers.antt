@@ -18,43 +18,43 @@ returns-in_default-clause-refuted c =
     let none = c.in_ok-entry.ensures.none (ap Ok c.in_default.is) in
     refuted_line c.args.catalogue.now c.args.text.now 0 (subst (λ (n : ℕ). BeginsWithNoCommand n c.args.text.now) c.station_count-stations.ensures.value none)
 
-pub returns-in_err-performed-clause-fault : goal.returns-in_err-performed-clause-fault
-returns-in_err-performed-clause-fault c =
+pub returns-in_err-perform_entry-clause-fault : goal.returns-in_err-perform_entry-clause-fault
+returns-in_err-perform_entry-clause-fault c =
     let e = c.in-Some.entry in
     let first = subst (λ (n : ℕ). BeginsWithCommand n c.args.text.now e.station e.command e.answer.now e.rest.now) c.station_count-stations.ensures.value (rw c.in-Some.is at c.in_ok-entry.ensures.found) in
-    err_exit _ _ c.from_residual-in_err-performed.ensures.1
-    (stop_at c.args.catalogue.now c.args.text.now e.rest.now e.station e.command e.answer.now c.in_err-performed.field-0.0 first c.in_err-performed.ensures.fault)
+    err_exit _ _ c.from_residual-in_err-perform_entry.ensures.1
+    (stop_at c.args.catalogue.now c.args.text.now e.rest.now e.station e.command e.answer.now c.in_err-perform_entry.field-0.0 first c.in_err-perform_entry.ensures.fault)
 
-pub returns-in_err-performed-clause-refuted : goal.returns-in_err-performed-clause-refuted
-returns-in_err-performed-clause-refuted c =
-    err_exit _ _ c.from_residual-in_err-performed.ensures.1 (stop_refutes c.args.catalogue.now c.args.text.now c.in_err-performed.field-0.0 c.in_err-performed.ensures.fault)
+pub returns-in_err-perform_entry-clause-refuted : goal.returns-in_err-perform_entry-clause-refuted
+returns-in_err-perform_entry-clause-refuted c =
+    err_exit _ _ c.from_residual-in_err-perform_entry.ensures.1 (stop_refutes c.args.catalogue.now c.args.text.now c.in_err-perform_entry.field-0.0 c.in_err-perform_entry.ensures.fault)
 
 pub returns-then-not-is_same-clause-fault : goal.returns-then-not-is_same-clause-fault
 returns-then-not-is_same-clause-fault c =
     let e = c.in-Some.entry in
     let first = subst (λ (n : ℕ). BeginsWithCommand n c.args.text.now e.station e.command e.answer.now e.rest.now) c.station_count-stations.ensures.value (rw c.in-Some.is at c.in_ok-entry.ensures.found) in
-    answer_at c.args.catalogue.now c.args.text.now e.rest.now _ e.station e.command e.answer.now c.in_ok-performed.performed c.answer_fault.result first c.in_ok-performed.ensures.answer
-    (λ same. differ c.is_same.result c.as_slice.result.now e.answer.now c.is_same.ensures.value c.if-not-is_same.true (c.as_slice.ensures.value ∙ same))
+    answer_at c.args.catalogue.now c.args.text.now e.rest.now _ e.station e.command e.answer.now c.as_slice-performed.result.now c.answer_fault.result first (c.as_slice-performed.ensures.value ∙ c.in_ok-perform_entry.ensures.answer)
+    (differ c.is_same.result c.as_slice-performed.result.now e.answer.now c.is_same.ensures.value c.if-not-is_same.true)
     (ap (λ (js : List Entry). length js + 1) c.journal.ensures.entries) c.answer_fault.ensures.said
 
 pub returns-then-not-is_same-clause-refuted : goal.returns-then-not-is_same-clause-refuted
 returns-then-not-is_same-clause-refuted c =
     let e = c.in-Some.entry in
     let only = subst (λ (n : ℕ). IsOnlyFirst n c.args.text.now e.station e.command e.answer.now e.rest.now) c.station_count-stations.ensures.value (rw c.in-Some.is at c.in_ok-entry.ensures.only) in
-    answer_refutes c.args.catalogue.now c.args.text.now e.rest.now _ e.station e.command e.answer.now c.in_ok-performed.performed c.answer_fault.result only c.in_ok-performed.ensures.answer
-    (λ same. differ c.is_same.result c.as_slice.result.now e.answer.now c.is_same.ensures.value c.if-not-is_same.true (c.as_slice.ensures.value ∙ same))
+    answer_refutes c.args.catalogue.now c.args.text.now e.rest.now _ e.station e.command e.answer.now c.as_slice-performed.result.now c.answer_fault.result only (c.as_slice-performed.ensures.value ∙ c.in_ok-perform_entry.ensures.answer)
+    (differ c.is_same.result c.as_slice-performed.result.now e.answer.now c.is_same.ensures.value c.if-not-is_same.true)
     c.answer_fault.ensures.said
 
 pub returns-clause-holds : goal.returns-clause-holds
 returns-clause-holds c =
     let e = c.in-Some.entry in
     let first = subst (λ (n : ℕ). BeginsWithCommand n c.args.text.now e.station e.command e.answer.now e.rest.now) c.station_count-stations.ensures.value (rw c.in-Some.is at c.in_ok-entry.ensures.found) in
-    holds_first c.args.catalogue.now c.perform_entry.new.catalogue c.args.text.now e.rest.now e.station e.command e.answer.now c.in_ok-performed.performed first c.in_ok-performed.ensures.answer
-    (sym c.as_slice.ensures.value ∙ c.is_same.ensures.value.0 c.if-not-is_same.false) c.in_ok-performed.ensures.entered
+    holds_first c.args.catalogue.now c.perform_entry.new.catalogue c.args.text.now e.rest.now e.station e.command e.answer.now c.as_slice-performed.result.now first (c.as_slice-performed.ensures.value ∙ c.in_ok-perform_entry.ensures.answer)
+    (c.is_same.ensures.value.0 c.if-not-is_same.false) c.in_ok-perform_entry.ensures.entered
 
 pub returns-clause-continues : goal.returns-clause-continues
 returns-clause-continues c =
     let e = c.in-Some.entry in
     let only = subst (λ (n : ℕ). IsOnlyFirst n c.args.text.now e.station e.command e.answer.now e.rest.now) c.station_count-stations.ensures.value (rw c.in-Some.is at c.in_ok-entry.ensures.only) in
-    continues_first c.args.catalogue.now c.perform_entry.new.catalogue c.args.text.now e.rest.now e.station e.command e.answer.now c.in_ok-performed.performed only c.in_ok-performed.ensures.answer
-    (sym c.as_slice.ensures.value ∙ c.is_same.ensures.value.0 c.if-not-is_same.false) c.in_ok-performed.ensures.entered
+    continues_first c.args.catalogue.now c.perform_entry.new.catalogue c.args.text.now e.rest.now e.station e.command e.answer.now c.as_slice-performed.result.now only (c.as_slice-performed.ensures.value ∙ c.in_ok-perform_entry.ensures.answer)
+    (c.is_same.ensures.value.0 c.if-not-is_same.false) c.in_ok-perform_entry.ensures.entered
