@@ -1,13 +1,12 @@
 -- A journal that has one entry more, and its log.
-use Rattle.std.proofs.Common.{◌≡◌, ◌<◌, ◌+◌, ℕ, List, [], ◌∷◌, ◌++◌, length, take, drop, ◌-◌, map, Option, Result, Ok, Err, IfOk, IfErr, refl, sym, ◌∙◌, ap, subst, arith, length-drop}
-use Rattle.std.proofs.lemmas.List.{append-nil, drop_at, map-append, take_all}
+use Rattle.std.proofs.Common.{◌≡◌, ℕ, List, [], ◌∷◌, length, take, drop, ◌-◌, map, Option, Result, Ok, Err, IfOk, refl, sym, ◌∙◌, ap, subst, arith, length-drop}
+use Rattle.std.proofs.lemmas.List.{append-nil, drop_at, take_all}
 use Rattle.catalogue_core.specs.declared.entry.Entry.{Entry}
 use Rattle.catalogue_core.specs.declared.command.Command.{Command}
 use Rattle.catalogue_core.specs.Replay.{History, entry, answer_of, with_entry}
 use Rattle.station_lines.specs.JournalLines.{line_parts}
-use Rattle.files_in_place.specs.Folder.{Name, Folder}
+use Rattle.files_in_place.specs.Folder.{Folder}
 use Rattle.files_in_place.specs.Disk.{DiskMeaning, IsSyncedDisk, LeavesOnly}
-use Rattle.live_log.specs.Gates.{LineParts}
 use Rattle.station_lines.specs.declared.script.line.Line.{Line}
 use Rattle.live_day.specs.declared.faults.LineFault.{LineFault}
 use Rattle.live_log.specs.Logs.{HasLog, IsLogPut, LogValue}
@@ -34,24 +33,6 @@ goes_entry h next station command is = record {
 pub since_more : (old new : History) (on : HasGoneOn old new) → entries_since old new ≡ on.more
 since_more old new on = ap (λ (es : List Entry). drop (length old.journal) es) on.journal ∙ drop_at old.journal on.more (length old.journal) refl
 
--- what stands after the journal is the entry
-pub since_entry : (h next : History) (station : ℕ) (command : Command) → next ≡ with_entry h station command → entries_since h next ≡ entry station command (answer_of h station command) ∷ []
-since_entry h next station command is =
-    ap (λ (n : History). drop (length h.journal) n.journal) is ∙ drop_at h.journal (entry station command (answer_of h station command) ∷ []) (length h.journal) refl
-
-pub some_since : (h next : History) (station : ℕ) (command : Command) → next ≡ with_entry h station command → 0 < length (entries_since h next)
-some_since h next station command is = omega (arith, ap length (since_entry h next station command is))
-
--- the journal's parts, and those of the entries since
-pub parts_since : (h next : History) (station : ℕ) (command : Command) → next ≡ with_entry h station command → parts_of h.journal ++ parts_of (entries_since h next) ≡ parts_of next.journal
-parts_since h next station command is =
-    ap (λ (es : List Entry). parts_of h.journal ++ parts_of es) (since_entry h next station command is)
-    ∙ sym (map-append line_parts h.journal (entry station command (answer_of h station command) ∷ [])) ∙ sym (ap (λ (n : History). parts_of n.journal) is)
-
-pub logged_since : (name : Name) (folder : Folder) (h next : History) (station : ℕ) (command : Command) → next ≡ with_entry h station command
-    → HasLog name (parts_of h.journal ++ parts_of (entries_since h next)) folder → HasLog name (parts_of next.journal) folder
-logged_since name folder h next station command is log = subst (λ (es : List LineParts). HasLog name es folder) (parts_since h next station command is) log
-
 module _ {D : Type 0} (m : DiskMeaning D) (old new : DayValue D) where
   -- what a crash leaves where nothing was put to the log
   pub any_none : new.log ≡ old.log → IsSyncedDisk m old.log.disk → HasLog old.log.name (parts_of old.history.journal) (m.seen old.log.disk)
@@ -61,24 +42,11 @@ module _ {D : Type 0} (m : DiskMeaning D) (old new : DayValue D) where
       subst (λ (l : LogValue D). LeavesOnly m old.log.disk l.disk P) (sym same)
       (nothing_put m old.log.name old.log.disk (parts_of old.history.journal) (parts_of (entries_since old.history new.history)) synced logged)
 
-  -- and where these entries were
-  pub any_some : (entries : List Entry) → entries ≡ entries_since old.history new.history
-      → LeavesOnly m old.log.disk new.log.disk (IsLogPut old.log.name (m.seen old.log.disk) (parts_of old.history.journal) (map line_parts entries))
-      → LeavesOnly m old.log.disk new.log.disk (IsLogPut old.log.name (m.seen old.log.disk) (parts_of old.history.journal) (parts_of (entries_since old.history new.history)))
-  any_some entries is leaves =
-      subst (λ (es : List Entry). LeavesOnly m old.log.disk new.log.disk (IsLogPut old.log.name (m.seen old.log.disk) (parts_of old.history.journal) (map line_parts es))) is leaves
-
 -- what an answer is by the one meaning of a line, it is by each
 pub by_one : (P : Line → Option (List ℕ) → Type 0) (Q : Line → Type 0) (m : Line) (r : Result (Option (List ℕ)) LineFault) → ((other : Line) → Q other → other ≡ m)
     → IfOk r (λ answer. P m answer) → IfOk r (λ answer. (other : Line) → Q other → P other answer)
 by_one P Q m (Ok answer) one is = λ other q. subst (λ (l : Line). P l answer) (sym (one other q)) is
 by_one P Q m (Err fault) one is = tt
-
--- likewise where there is none
-pub by_one_fault : (P : Line → Type 0) (Q : Line → Type 0) (R : LineFault → Type 0) (S : Type 0) (m : Line) (r : Result (Option (List ℕ)) LineFault) → ((other : Line) → Q other → other ≡ m)
-    → IfErr r (λ fault. R fault → S → P m) → IfErr r (λ fault. R fault → S → (other : Line) → Q other → P other)
-by_one_fault P Q R S m (Ok answer) one is = tt
-by_one_fault P Q R S m (Err fault) one is = λ r s other q. subst P (sym (one other q)) (is r s)
 
 -- what stands after the first journal, as it is cut off the second
 pub rest_is : (first second : List Entry) (h next : History) → first ≡ h.journal → second ≡ next.journal → take (length second - length first) (drop (length first) second) ≡ entries_since h next
@@ -93,14 +61,3 @@ module _ {D : Type 0} (m : DiskMeaning D) (h next : History) (l now : LogValue D
   put_moment disk leaves =
       subst (λ (es : List Entry). LeavesOnly m l.disk disk (IsLogPut l.name (m.seen l.disk) (parts_of h.journal) (map line_parts es))) is
       (subst (λ (x : LogValue D). LeavesOnly m x.disk disk (IsLogPut x.name (m.seen x.disk) (parts_of h.journal) (map line_parts entries))) same leaves)
-
-  -- the log once they are put
-  pub put_logged : (new : LogValue D) (station : ℕ) (command : Command) → next ≡ with_entry h station command → new.name ≡ now.name
-      → ((before : List LineParts) → HasLog now.name before (m.seen now.disk) → HasLog now.name (before ++ map line_parts entries) (m.seen new.disk))
-      → HasLog l.name (parts_of h.journal) (m.seen l.disk) → HasLog new.name (parts_of next.journal) (m.seen new.disk)
-  put_logged new station command entered name put logged =
-      let both : HasLog now.name (parts_of h.journal ++ map line_parts entries) (m.seen new.disk) =
-      put (parts_of h.journal) (subst (λ (x : LogValue D). HasLog x.name (parts_of h.journal) (m.seen x.disk)) (sym same) logged) in
-      let since : HasLog now.name (parts_of h.journal ++ parts_of (entries_since h next)) (m.seen new.disk) =
-      subst (λ (es : List Entry). HasLog now.name (parts_of h.journal ++ map line_parts es) (m.seen new.disk)) is both in
-      subst (λ (n : Name). HasLog n (parts_of next.journal) (m.seen new.disk)) (sym name) (logged_since now.name (m.seen new.disk) h next station command entered since)

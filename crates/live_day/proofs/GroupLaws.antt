@@ -1,20 +1,26 @@
 -- Lines that are there together are read, and obeyed one after another.
-use Rattle.std.proofs.Common.{◌≡◌, ◌≢◌, ◌⊎◌, inl, inr, ◌<◌, ◌+◌, ℕ, Bool, true, false, List, [], ◌∷◌, ◌++◌, length, take, drop, get_or, Option, Some, None, OnSome, refl, sym, ◌∙◌, ap, subst, append_assoc}
+use Rattle.std.proofs.Common.{◌≡◌, ◌≢◌, ◌⊎◌, inl, inr, ◌<◌, ◌≤◌, ◌+◌, ℕ, Bool, true, false, List, [], ◌∷◌, ◌++◌, length, take, drop, get_or, Option, Some, None, OnSome, refl, sym, ◌∙◌, ap, subst, arith, append_assoc}
+use Rattle.std.specs.Prelude.{MatchOption}
 use Rattle.std.specs.List.{AllByRecursion}
 use Rattle.std.specs.Io.KnownBytes.{IsAtEnd}
 use Rattle.std.proofs.lemmas.Bool.{false≢true}
 use Rattle.std.proofs.lemmas.List.{append-nil, take_more, take-append-drop}
+use Rattle.std.proofs.lemmas.Option.{get_or_from_slice_get, slice_get_read, slice_get_within}
 use Rattle.catalogue_core.specs.Replay.{History}
+use Rattle.live_day.specs.declared.group.Front.{Front}
 use Rattle.live_day.specs.declared.keyboard.Typed.{Typed}
 use Rattle.live_day.specs.declared.keyboard.Typed.TheVariants.{Text, TooLong}
+use Rattle.live_day.specs.declared.notice.Notice.{Notice}
+use Rattle.live_day.specs.declared.notice.Notice.TheVariants.{NoMemory, JournalFull, NoStation}
 use Rattle.live_day.specs.declared.typing.Then.{Then}
 use Rattle.live_day.specs.declared.typing.Then.TheVariants.{More, Over, Failed}
 use Rattle.live_day.specs.declared.waiting.WaitingAnswer.{WaitingAnswer}
 use Rattle.live_day.specs.declared.wish.Wish.{Wish}
-use Rattle.live_day.specs.declared.wish.Wish.TheVariants.{Quit, Perform}
-use Rattle.live_day.specs.Groups.{IsNoQuit, IsGroupTyped, WaitsToTell, all_told_by}
-use Rattle.live_day.specs.Sessions.{Told, TellsMore, IsObeyed, AreObeyed, HasObeyed, IsDayRun, IsEnd, IsWishTyped}
-use Rattle.live_day.specs.Shows.{ShownLine}
+use Rattle.live_day.specs.declared.wish.Wish.TheVariants.{Station, Quit, Perform}
+use Rattle.live_day.specs.Days.{DayValue}
+use Rattle.live_day.specs.Groups.{IsFrontObeyed, IsNextRefused, IsNoQuit, IsGroupTyped, IsRefused, WaitsToTell, all_told_by}
+use Rattle.live_day.specs.Sessions.{Told, TellsMore, IsLineRefused, IsObeyed, AreObeyed, HasObeyed, IsDayRun, IsEnd, IsWishTyped, notice_told}
+use Rattle.live_day.specs.Shows.{ShownLine, MayBeSaid}
 use Rattle.live_day.specs.Typing.{TypesKnown, TypesLines, TypesNext, IsAllTyped, HasTyped}
 use Rattle.live_day.specs.Wishes.{is_quit}
 use Rattle.live_day.proofs.SessionLaws.{obeyed_more, tells_both, tells_none}
@@ -49,6 +55,38 @@ all_right P (x ∷ xs) ys all = all_right P xs ys all.1
 pub all_after : {A : Type 0} (P : A → Type 0) (count : ℕ) (xs rest : List A) → rest ≡ drop count xs → AllByRecursion P xs → AllByRecursion P rest
 all_after P count xs rest is all =
     subst (λ l. AllByRecursion P l) (sym is) (all_right P (take count xs) (drop count xs) (subst (λ l. AllByRecursion P l) (sym (take-append-drop count xs)) all))
+
+-- nothing was performed of such a line
+said_of : (typed : Typed) (h : History) (n : Notice) → IsLineRefused typed h n → MayBeSaid h n
+said_of typed h NoMemory is = tt
+said_of typed h JournalFull is = is.0
+said_of typed h NoStation is = absurd is
+
+pub refused_line : (station : ℕ) (typed : Typed) (wish : Wish) (h : History) (n : Notice) → IsNoQuit typed → IsWishTyped typed wish → (wish ≡ Perform) ⊎ (wish ≡ Quit) → IsLineRefused typed h n
+    → IsRefused station typed h n
+refused_line station typed wish h n unlike is either refused = record {
+  said = said_of typed h n refused;
+  obeyed = record { wish = Perform; asked = performs_else typed wish unlike is either; made = (refl, inr (record { same = refl; why = n; refused = refused; told_is = refl })) };
+}
+
+pub seat_or_none : (wanted stations : ℕ) → ((1 ≤ wanted) × (wanted ≤ stations)) ⊎ ((wanted < 1) ⊎ (stations < wanted))
+seat_or_none wanted stations = grind arith
+
+-- no station has the number
+pub refused_station : (wanted station : ℕ) (typed : Typed) (h : History) → IsWishTyped typed (Station wanted) → (wanted < 1) ⊎ (h.opened.stations < wanted) → IsRefused station typed h NoStation
+refused_station wanted station typed h is none = record { said = tt; obeyed = record { wish = Station wanted; asked = is; made = (refl, inr (none, refl, refl)) } }
+
+-- the first lines were obeyed, and nothing was performed of the next
+pub front_refused : {D : Type 0} (station : ℕ) (lines : List Typed) (old : History) (day day_then : DayValue D) (front : Front) (answers : List WaitingAnswer) (line : Typed) (n : Notice)
+    → day_then ≡ day → front.answers.items ≡ answers → front.stopped ≡ Some n → front.count < length lines → line ≡ get_or lines front.count line
+    → AreObeyed (take front.count lines) station old front.station day.history (all_told_by answers) → IsRefused front.station line day.history n → IsFrontObeyed station lines old front day_then.history
+front_refused station lines old day day_then front answers line n same waits stopped inside is are refused =
+    subst (λ d. IsFrontObeyed station lines old front d.history) (sym same) (record {
+      within = omega (arith, inside);
+      obeyed = subst (λ (l : List WaitingAnswer). AreObeyed (take front.count lines) station old front.station day.history (all_told_by l)) (sym waits) are;
+      stopped = subst (λ (o : Option Notice). MatchOption o (front.count ≡ length lines) (IsNextRefused lines front day.history)) (sym stopped)
+          (record { typed = line; next = slice_get_read lines (length lines) front.count line refl inside is; refused = refused });
+    })
 
 -- ---- one group after another
 
@@ -86,6 +124,18 @@ pub obeyed_after : (lines : List Typed) (i : ℕ) (line : Typed) (station : ℕ)
 obeyed_after lines i line station old next mid told last new more inside is are one =
     subst (λ (l : List Typed). AreObeyed l station old last new (told ++ more)) (sym (one_more_of lines i line inside is))
     (obeyed_more (take i lines) line station old next mid told last new more are one)
+
+-- then the station is told so, and the line is obeyed
+pub obeyed_first : (station : ℕ) (lines : List Typed) (old : History) (front : Front) (now : History) (n : Notice) → front.count ≡ 0 → IsNextRefused lines front now n
+    → AreObeyed (take front.count lines) station old front.station now (all_told_by front.answers.items)
+    → AreObeyed (take 1 lines) station old front.station now (all_told_by front.answers.items ++ notice_told front.station n)
+obeyed_first station lines old front now n none next are =
+    let typed = next.typed in
+    let is : typed ≡ get_or lines front.count typed = sym (get_or_from_slice_get lines front.count typed typed next.next) in
+    let one : front.count + 1 ≡ 1 = omega (arith, none) in
+    subst (λ (k : ℕ). AreObeyed (take k lines) station old front.station now (all_told_by front.answers.items ++ notice_told front.station n)) one
+    (obeyed_after lines front.count typed station old front.station now (all_told_by front.answers.items) front.station now (notice_told front.station n)
+    (slice_get_within lines front.count typed next.next) is are next.refused.obeyed)
 
 -- The lines were obeyed up to these, one after another, and what they were answered was told.
 pub record HasObeyedTo (lines rest : List Typed) (station : ℕ) (old : History) (next : ℕ) (now : History) (shown shown_now : List ShownLine) : Type 0 where

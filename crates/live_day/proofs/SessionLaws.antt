@@ -1,5 +1,5 @@
 -- Lines that are typed, one after another.
-use Rattle.std.proofs.Common.{◌≡◌, ◌⊎◌, inl, ◌<◌, ◌≤◌, ℕ, List, [], ◌∷◌, ◌++◌, map, Option, Some, Result, Ok, Err, IfOk, IfSome, OnOk, refl, sym, ◌∙◌, ap, subst, arith, append_assoc}
+use Rattle.std.proofs.Common.{◌≡◌, ℕ, List, [], ◌∷◌, ◌++◌, map, Option, Result, Ok, Err, IfOk, refl, sym, ◌∙◌, ap, subst, append_assoc}
 use Rattle.std.proofs.lemmas.List.{append-nil, map-append}
 use Rattle.catalogue_core.specs.Replay.{History}
 use Rattle.live_day.specs.declared.keyboard.Typed.{Typed}
@@ -10,9 +10,9 @@ use Rattle.station_lines.specs.declared.script.line.Line.TheVariants.{Run}
 use Rattle.station_lines.specs.Script.Meaning.{Means}
 use Rattle.live_day.specs.declared.faults.LineFault.{LineFault}
 use Rattle.live_day.specs.declared.keyboard.Typed.TheVariants.{Text, TooLong}
-use Rattle.live_day.specs.Days.{DayValue, IsAnswerTold}
-use Rattle.live_day.specs.Shows.{ShownLine, MayBeTold, shown_now}
-use Rattle.live_day.specs.Sessions.{Told, told_in, one_told, answer_told, MeansTyped, TellsMore, IsObeyed, AreObeyed, HasObeyed}
+use Rattle.live_day.specs.Days.{DayValue}
+use Rattle.live_day.specs.Shows.{ShownLine, shown_now}
+use Rattle.live_day.specs.Sessions.{Told, told_in, one_told, MeansTyped, TellsMore, IsObeyed, AreObeyed, HasObeyed}
 
 pub tells_none : (shown : List ShownLine) → TellsMore shown shown []
 tells_none shown = record { lines = []; more = sym (append-nil shown); told_is = refl }
@@ -58,11 +58,6 @@ obeyed_none typed h shown = record { lines = []; read = sym (append-nil typed); 
 
 -- ---- at the exits of calls
 
--- what follows at Ok
-pub on_ok : {A E : Type 0} (r : Result A E) (X Y : Type 0) → (X → Y) → OnOk r X → OnOk r Y
-on_ok (Ok a) X Y by is = by is
-on_ok (Err e) X Y by is = tt
-
 -- a line that was typed is answered by its meaning
 pub answered_text : (P : Line → Option (List ℕ) → Type 0) (r : Result (Option (List ℕ)) LineFault) (typed : Typed) (line text : List ℕ) → typed ≡ Text line → text ≡ line
     → IfOk r (λ answer. (m : Line) → Means text m → P m answer) → IfOk r (λ answer. (m : Line) → MeansTyped typed m → P m answer)
@@ -74,16 +69,3 @@ pub answered_long : (P : Line → Option (List ℕ) → Type 0) (r : Result (Opt
     → IfOk r (λ answer. P (Run Bad) answer) → IfOk r (λ answer. (m : Line) → MeansTyped typed m → P m answer)
 answered_long P (Ok answer) typed is by = λ m means. let same : m ≡ Run Bad = subst (λ (t : Typed). MeansTyped t m) is means in subst (λ (l : Line). P l answer) (sym same) by
 answered_long P (Err fault) typed is by = tt
-
--- an answer may be told
-pub told_some : (h : History) (station : ℕ) (answer : Option (List ℕ)) (line text : List ℕ) → answer ≡ Some line → text ≡ line → IfSome answer (λ l. IsAnswerTold h station l) → MayBeTold h station text
-told_some h station answer line text is same told =
-    inl (subst (λ (l : List ℕ). IsAnswerTold h station l) (sym same) (subst (λ (o : Option (List ℕ)). IfSome o (λ l. IsAnswerTold h station l)) is told))
-
-pub tells_some : {D : Type 0} (m : DiskMeaning D) (day : DayValue D) (station : ℕ) (answer : Option (List ℕ)) (line text : List ℕ) (shown shown_then : List ShownLine) → answer ≡ Some line → text ≡ line
-    → shown_then ≡ shown ++ shown_now m day station text ∷ [] → TellsMore shown shown_then (answer_told station answer)
-tells_some m day station answer line text shown shown_then is same more =
-    subst (λ (o : Option (List ℕ)). TellsMore shown shown_then (answer_told station o)) (sym is) (tells_line m day station text line shown shown_then same more)
-
-pub seat_or_none : (wanted stations : ℕ) → ((1 ≤ wanted) × (wanted ≤ stations)) ⊎ ((wanted < 1) ⊎ (stations < wanted))
-seat_or_none wanted stations = grind arith

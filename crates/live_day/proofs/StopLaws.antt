@@ -1,26 +1,17 @@
 -- When a day takes no more lines, and what is said then.
 use Rattle.std.proofs.Common.{◌≡◌, sym, subst, Result, Ok, Err}
-use Rattle.std.specs.Prelude.{◌↔◌, Bool, true, false, IfErr, IsErrAnd}
+use Rattle.std.specs.Prelude.{◌↔◌, Bool, true, false, IsErrAnd}
 use Rattle.live_log.specs.declared.faults.LogFault.{LogFault}
 use Rattle.live_day.specs.declared.run_fault.RunFault.{RunFault}
-use Rattle.live_day.specs.declared.run_fault.RunFault.TheVariants.{Log, Screen}
+use Rattle.live_day.specs.declared.run_fault.RunFault.TheVariants.{Log}
 use Rattle.live_day.specs.declared.keyboard.TypingFault.{TypingFault}
 use Rattle.live_day.specs.declared.keyboard.TypingFault.TheVariants as of_typing
 use Rattle.live_day.specs.Faults.{IsOfLog, typing_fault_of}
 
--- it takes lines still, and nothing is said
-pub goes_on_ok : {T : Type 0} (t : T) (takes : Bool) → takes ≡ true → IsErrAnd {E = RunFault} (Ok t) IsOfLog ↔ (takes ≡ false)
-goes_on_ok t takes is = (λ of_log. absurd of_log, λ no. absurd cc)
-
--- or something of the screen or of the keyboard
+-- it takes lines still, and something is said of the screen or of the keyboard
 pub goes_on_err : {T : Type 0} (told : Result T RunFault) (why : RunFault) (takes : Bool) → takes ≡ true → IsErrAnd told (λ fault. fault ≡ why) → (IsOfLog why → ⊥) → IsErrAnd told IsOfLog ↔ (takes ≡ false)
 goes_on_err (Ok t) why takes is says other = absurd says
 goes_on_err (Err fault) why takes is says other = (λ of_log. absurd (other (subst IsOfLog says of_log)), λ no. absurd cc)
-
--- what a screen says
-pub goes_on_screen : {T : Type 0} (told : Result T RunFault) (takes : Bool) → takes ≡ true → IfErr told (λ fault. fault ≡ Screen) → IsErrAnd told IsOfLog ↔ (takes ≡ false)
-goes_on_screen (Ok t) takes is says = goes_on_ok t takes is
-goes_on_screen {T} (Err fault) takes is says = goes_on_err {T = T} (Err fault) Screen takes is says (λ never. never)
 
 -- what a keyboard says
 pub of_no_log : (why : TypingFault) → IsOfLog (typing_fault_of why) → ⊥

@@ -1,6 +1,8 @@
 -- A live day: tables as they were opened, what was performed since, and the log of it.
 use Rattle.std.specs.Prelude.{◌≡◌, ◌⊎◌, ◌<◌, ◌++◌, ℕ, List, length, drop, map, Bool, false, Option, Some, None}
 use Rattle.files_in_place.specs.Disk.{DiskMeaning}
+use Rattle.audit.specs.Audits.{IsCommand}
+use Rattle.catalogue_core.specs.declared.catalogue.TheConstants.{MAX_ENTRIES}
 use Rattle.catalogue_core.specs.declared.command.Command.{Command}
 use Rattle.catalogue_core.specs.declared.entry.Entry.{Entry}
 use Rattle.catalogue_core.specs.Replay.{History, answer_of, with_entry}
@@ -11,7 +13,7 @@ use Rattle.station_lines.specs.AnswerLines.{line_of, status_text}
 use Rattle.station_lines.specs.JournalLines.{line_parts}
 use Rattle.live_log.specs.Gates.{LineParts}
 use Rattle.live_day.specs.declared.faults.LineFault.{LineFault}
-use Rattle.live_day.specs.declared.faults.LineFault.TheVariants.{NoMemory, JournalFull, Ended}
+use Rattle.live_day.specs.declared.faults.LineFault.TheVariants.{NoMemory, JournalFull, Unanswered}
 use Rattle.live_log.specs.Logs.{LogValue, HasLog, IsLogPut}
 use Rattle.files_in_place.specs.Folder.{Folder}
 
@@ -36,10 +38,9 @@ AnswersLine (Run command) station old new answer = (new ≡ with_entry old stati
 AnswersLine Status station old new answer = (new ≡ old) × (answer ≡ Some (status_text (row old)))
 AnswersLine Blank station old new answer = (new ≡ old) × (answer ≡ None)
 
--- What a line that means this makes of a history where its answer isn't given back: a command's entry is the last.
-abbrev pub IsPerformed : Line → ℕ → History → History → Type 0
-IsPerformed (Run command) station old new = new ≡ with_entry old station command
-IsPerformed meaning station old new = ⊥
+-- the journal takes no more entries, and the line, which means so, would be one
+abbrev pub HasNoRoomFor : (Line → Type 0) → History → Type 0
+HasNoRoomFor means h = (length h.journal ≡ MAX_ENTRIES) × ((meaning : Line) → means meaning → IsCommand meaning)
 
 -- the one history goes on as the other
 pub record HasGoneOn (old new : History) : Type 0 where
@@ -62,7 +63,7 @@ IsAnswerTold h station line = IsLastAnswer h station line ⊎ (line ≡ status_t
 abbrev pub IsUnperformed : LineFault → Type 0
 IsUnperformed NoMemory = Unit {0}
 IsUnperformed JournalFull = Unit {0}
-IsUnperformed (Ended fault) = ⊥
+IsUnperformed Unanswered = ⊥
 
 module _ {D : Type 0} (m : DiskMeaning D) where
   -- a crash left the log of the journal as it was, with what was performed since or without it

@@ -8,10 +8,10 @@ use Rattle.station_lines.specs.Script.Meaning.{Means}
 use Rattle.live_day.specs.declared.keyboard.Typed.{Typed}
 use Rattle.live_day.specs.declared.keyboard.Typed.TheVariants.{Text, TooLong}
 use Rattle.live_day.specs.declared.notice.Notice.{Notice}
-use Rattle.live_day.specs.declared.notice.Notice.TheVariants.{NoStation}
+use Rattle.live_day.specs.declared.notice.Notice.TheVariants.{NoMemory, JournalFull, NoStation}
 use Rattle.live_day.specs.declared.wish.Wish.{Wish}
 use Rattle.live_day.specs.declared.wish.Wish.TheVariants.{Station, Quit, Perform}
-use Rattle.live_day.specs.Days.{AnswersLine}
+use Rattle.live_day.specs.Days.{AnswersLine, HasNoRoomFor}
 use Rattle.live_day.specs.Shows.{ShownLine, notice_text}
 use Rattle.live_day.specs.Wishes.{IsWishOf}
 
@@ -57,14 +57,22 @@ pub record IsLineAnswered (station : ℕ) (typed : Typed) (old new : History) (t
   pub by_meaning : (meaning : Line) → MeansTyped typed meaning → AnswersLine meaning station old new answer
   pub told_is : told ≡ answer_told station answer
 
+-- What is told of a line of which nothing was performed: want of memory; or that the journal is full, where it is and the line would be an
+-- entry.
+abbrev pub IsLineRefused : Typed → History → Notice → Type 0
+IsLineRefused typed h NoMemory = Unit {0}
+IsLineRefused typed h JournalFull = HasNoRoomFor (MeansTyped typed) h
+IsLineRefused typed h NoStation = ⊥
+
 -- nothing was performed, and that is told
-pub record IsNotPerformed (station : ℕ) (old new : History) (told : List Told) : Type 0 where
+pub record IsNotPerformed (station : ℕ) (typed : Typed) (old new : History) (told : List Told) : Type 0 where
   pub same : new ≡ old
   pub why : Notice
+  pub refused : IsLineRefused typed old why
   pub told_is : told ≡ notice_told station why
 
 abbrev pub IsLineDone : ℕ → Typed → History → History → List Told → Type 0
-IsLineDone station typed old new told = IsLineAnswered station typed old new told ⊎ IsNotPerformed station old new told
+IsLineDone station typed old new told = IsLineAnswered station typed old new told ⊎ IsNotPerformed station typed old new told
 
 -- the station of this number has the keyboard next, where there is one; else that there is none is told
 abbrev pub IsSeated : ℕ → ℕ → ℕ → ℕ → List Told → Type 0

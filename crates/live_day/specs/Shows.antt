@@ -3,6 +3,7 @@ use Rattle.std.specs.Prelude.{◌≡◌, ◌⊎◌, ◌≤◌, ℕ, List, ◌++�
 use Rattle.std.specs.List.{AllByRecursion}
 use Rattle.files_in_place.specs.Folder.{Name, Folder, SameBut}
 use Rattle.files_in_place.specs.Disk.{DiskMeaning, LeavesOnly}
+use Rattle.catalogue_core.specs.declared.catalogue.TheConstants.{MAX_ENTRIES}
 use Rattle.catalogue_core.specs.Replay.{History, history}
 use Rattle.live_log.specs.Gates.{LineParts, StandsFor}
 use Rattle.live_day.specs.declared.notice.Notice.{Notice}
@@ -22,9 +23,14 @@ notice_text notice.NoMemory = codes "NOT PERFORMED: OUT OF MEMORY"
 notice_text notice.JournalFull = codes "NOT PERFORMED: THE JOURNAL IS FULL"
 notice_text notice.NoStation = codes "NO SUCH STATION"
 
+-- what may be said where nothing was performed: that the journal is full, only where it is
+abbrev pub MayBeSaid : History → Notice → Type 0
+MayBeSaid h notice.JournalFull = length h.journal ≡ MAX_ENTRIES
+MayBeSaid h why = Unit {0}
+
 -- what may be told to a station: an answer or a row, or that nothing was performed
 abbrev pub MayBeTold : History → ℕ → List ℕ → Type 0
-MayBeTold h station line = IsAnswerTold h station line ⊎ ((n : Notice) × (line ≡ notice_text n))
+MayBeTold h station line = IsAnswerTold h station line ⊎ ((n : Notice) × MayBeSaid h n × (line ≡ notice_text n))
 
 -- the history as it was with the first so many entries
 abbrev pub at_count : History → ℕ → History

@@ -1,9 +1,11 @@
 //! The tables of a day, and the log of what was performed on them.
 
-ghost use Rattle.std.specs.Prelude.{◌≡◌, ◌≤◌, true, false, length, Some, Err, IfOk, IfErr, IfSome, OnOk, OnErr, IsErrOf};
+ghost use Rattle.std.specs.Prelude.{◌≡◌, ◌↔◌, ◌≤◌, true, false, length, Some, IfOk, IfErr, IfSome, OnOk, OnErr, IsErrOf};
 ghost use Rattle.std.specs.List.{AllByRecursion};
 ghost use Rattle.files_in_place.specs.Folder.{SameBut};
 ghost use Rattle.files_in_place.specs.Disk.{LeavesOnly, IsSyncedDisk, HasDiskCause};
+ghost use Rattle.audit.specs.Audits.{IsCommand};
+ghost use Rattle.catalogue_core.specs.declared.catalogue.TheConstants.{MAX_ENTRIES};
 ghost use Rattle.catalogue_core.specs.Replay.{answer_of, with_entry};
 ghost use Rattle.station_lines.specs.declared.script.line.Line.{Line as Meaning};
 ghost use Rattle.catalogue_core.specs.Status.{row};
@@ -11,8 +13,8 @@ ghost use Rattle.station_lines.specs.AnswerLines.{line_of, status_text};
 ghost use Rattle.station_lines.specs.Script.Meaning.{Means};
 ghost use Rattle.live_log.specs.declared.faults.LogFault.TheVariants.{Closed, Failed};
 ghost use Rattle.live_log.specs.Logs.{HasLog};
-ghost use Rattle.live_day.specs.Days.{parts_of, AnswersLine, HasPerformedSince, HasPutSince, HasGoneOn, IsAnswerTold, IsLogged, IsPerformed, IsUnperformed};
-ghost use Rattle.live_day.specs.Groups.{IsFrontObeyed};
+ghost use Rattle.live_day.specs.Days.{parts_of, AnswersLine, HasPerformedSince, HasPutSince, HasGoneOn, HasNoRoomFor, IsAnswerTold, IsLogged, IsUnperformed};
+ghost use Rattle.live_day.specs.Groups.{IsFrontObeyed, IsNoQuit};
 ghost use Rattle.live_day.specs.Sessions.{MeansTyped};
 ghost use Rattle.live_day.specs.Waiting.{IsWaiting};
 
@@ -72,19 +74,14 @@ impl<D: DiskInPlace + Drop> Day<D> {
     }
 
     // Performs a command, and makes the line of its answer.
-    #[tactic(auto, using(crate::proofs::DayLaws::goes_same, crate::proofs::DayLaws::goes_entry, crate::proofs::SinceLaws::since_same, crate::proofs::SinceLaws::since_entry_one))]
+    #[tactic(auto, using(crate::proofs::SinceLaws::since_same, crate::proofs::SinceLaws::since_entry_one))]
     fn perform(&mut self, station: u32, command: &Command) -> Result<Bytes, LineFault>
         requires counted { 1 ≤ station }
         requires inside { station ≤ self.old.history.opened.stations }
         ensures answer { IfOk result (λ answer. answer ≡ line_of (answer_of self.old.history station command.now)) }
         ensures entry { OnOk result (self.new.history ≡ with_entry self.old.history station command.now) }
-        ensures goes_on { HasGoneOn self.old.history self.new.history }
+        ensures full { IsErrOf result LineFault.JournalFull ↔ (length self.old.history.journal ≡ MAX_ENTRIES) }
         ensures unperformed { IfErr result (λ fault. IsUnperformed fault → self.new ≡ self.old) }
-        ensures performed { IfErr result (λ fault. ¬ (IsUnperformed fault) → self.new.history ≡ with_entry self.old.history station command.now) }
-        ensures ended { IfErr result (λ fault. ¬ (IsUnperformed fault) → fault ≡ LineFault.Ended LogFault.NoMemory) }
-        ensures no_disk { ¬ IsErrOf result (LineFault.Ended Failed) }
-        ensures takes { self.new.takes ≡ true → self.new ≡ self.old }
-        ensures log { self.new.log ≡ self.old.log }
         ensures since { HasPerformedSince self.old self.new }
         ensures closed { IfErr result (λ fault. ¬ (IsUnperformed fault) → self.new.takes ≡ false) }
     {
@@ -92,7 +89,7 @@ impl<D: DiskInPlace + Drop> Day<D> {
         self.takes = false;
         match answer_line(self.alloc, &answer) {
             Ok(line) => Ok(line),
-            Err(_) => Err(LineFault::Ended(LogFault::NoMemory)),
+            Err(_) => Err(LineFault::Unanswered),
         }
     }
 
@@ -115,9 +112,9 @@ impl<D: DiskInPlace + Drop> Day<D> {
         requires inside { station ≤ self.old.history.opened.stations }
         ensures answered { IfOk result (λ answer. AnswersLine meaning.now station self.old.history self.new.history answer) }
         ensures told { IfOk result (λ answer. IfSome answer (IsAnswerTold self.new.history station)) }
+        ensures full { IsErrOf result LineFault.JournalFull ↔ (IsCommand meaning.now × (length self.old.history.journal ≡ MAX_ENTRIES)) }
         ensures unperformed { IfErr result (λ fault. IsUnperformed fault → self.new ≡ self.old) }
         ensures ended { IfErr result (λ fault. ¬ (IsUnperformed fault) → self.new.takes ≡ false) }
-        ensures no_disk { ¬ IsErrOf result (LineFault.Ended Failed) }
         ensures since { HasPerformedSince self.old self.new }
     {
         match meaning {
@@ -135,9 +132,9 @@ impl<D: DiskInPlace + Drop> Day<D> {
         ensures answered { IfOk result (λ answer. (meaning : Meaning) → Means line.now meaning
             → AnswersLine meaning station self.old.history self.new.history answer) }
         ensures told { IfOk result (λ answer. IfSome answer (IsAnswerTold self.new.history station)) }
+        ensures full { IsErrOf result LineFault.JournalFull → HasNoRoomFor (Means line.now) self.old.history }
         ensures unperformed { IfErr result (λ fault. IsUnperformed fault → self.new ≡ self.old) }
         ensures ended { IfErr result (λ fault. ¬ (IsUnperformed fault) → self.new.takes ≡ false) }
-        ensures no_disk { ¬ IsErrOf result (LineFault.Ended Failed) }
         ensures since { HasPerformedSince self.old self.new }
     {
         match parse_line(self.alloc, line) {
@@ -157,9 +154,9 @@ impl<D: DiskInPlace + Drop> Day<D> {
         ensures answered { IfOk result (λ answer. (meaning : Meaning) → MeansTyped typed.now meaning
             → AnswersLine meaning station self.old.history self.new.history answer) }
         ensures told { IfOk result (λ answer. IfSome answer (IsAnswerTold self.new.history station)) }
+        ensures full { IsErrOf result LineFault.JournalFull → HasNoRoomFor (MeansTyped typed.now) self.old.history }
         ensures unperformed { IfErr result (λ fault. IsUnperformed fault → self.new ≡ self.old) }
         ensures ended { IfErr result (λ fault. ¬ (IsUnperformed fault) → self.new.takes ≡ false) }
-        ensures no_disk { ¬ IsErrOf result (LineFault.Ended Failed) }
         ensures since { HasPerformedSince self.old self.new }
     {
         match typed {
@@ -168,121 +165,9 @@ impl<D: DiskInPlace + Drop> Day<D> {
         }
     }
 
-    // Performs a command, and puts its entry to the log before its answer is given back.
-    #[tactic(auto, using(crate::proofs::DayLaws::goes_entry))]
-    fn command_answer(
-        &mut self,
-        station: u32,
-        command: &Command,
-    ) -> Result<Option<Bytes>, LineFault>
-        requires takes { self.old.takes ≡ true }
-        requires counted { 1 ≤ station }
-        requires inside { station ≤ self.old.history.opened.stations }
-        ensures answer { IfOk result (λ answer. answer ≡ Some (line_of (answer_of self.old.history station command.now))) }
-        ensures entry { OnOk result (self.new.history ≡ with_entry self.old.history station command.now) }
-        ensures takes { OnOk result (self.new.takes ≡ true) }
-        ensures logged { D.meaning.keeps_promises → OnOk result (IsLogged D.meaning self.new) }
-        ensures durable { D.meaning.keeps_promises → OnOk result (IsSyncedDisk D.meaning self.new.log.disk) }
-        ensures name { self.new.log.name ≡ self.old.log.name }
-        ensures goes_on { HasGoneOn self.old.history self.new.history }
-        ensures unperformed { IfErr result (λ fault. IsUnperformed fault → self.new ≡ self.old) }
-        ensures performed { IfErr result (λ fault. ¬ (IsUnperformed fault) → self.new.history ≡ with_entry self.old.history station command.now) }
-        ensures ended { IfErr result (λ fault. ¬ (IsUnperformed fault) → self.new.takes ≡ false) }
-        ensures others { SameBut self.old.log.name (D.meaning.seen self.old.log.disk) (D.meaning.seen self.new.log.disk) }
-        ensures any_moment { D.meaning.keeps_promises → LeavesOnly D.meaning self.old.log.disk self.new.log.disk
-            (HasPutSince D.meaning self.old self.new) }
-        ensures cause { HasDiskCause D.meaning self.old.log.disk self.new.log.disk (IsErrOf result (LineFault.Ended Failed)) }
-    {
-        // For contracts alone: all that is seen is on the disk.
-        let _ = self.log.name();
-        let performed = self.catalogue.journal().len();
-        let answer = self.perform(station, command)?;
-        self.log.put(&self.catalogue.journal()[performed..])?;
-        self.takes = true;
-        // For contracts alone: all that is seen is on the disk.
-        let _ = self.log.name();
-        Ok(Some(answer))
-    }
-
-    /// Performs what a line of a station means. At `Ok` its entry is on the disk, if it has one, and only then its answer is given back: the
-    /// line of a command's answer, of DISPLAY STATUS the status row, and nothing for a line without words.
-    ///
-    /// [`LineFault::NoMemory`] and [`LineFault::JournalFull`] where nothing was performed: the day goes on. [`LineFault::Ended`] where
-    /// something was that may not be in the log: then the day takes no more lines.
-    #[tactic(auto, using(live_log::proofs::Putting::nothing_put, crate::proofs::DayLaws::goes_same))]
-    pub fn answer(&mut self, station: u32, meaning: &Line) -> Result<Option<Bytes>, LineFault>
-        requires counted { 1 ≤ station }
-        requires inside { station ≤ self.old.history.opened.stations }
-        ensures answered { IfOk result (λ answer. AnswersLine meaning.now station self.old.history self.new.history answer) }
-        ensures told { IfOk result (λ answer. IfSome answer (IsAnswerTold self.new.history station)) }
-        ensures goes_on { HasGoneOn self.old.history self.new.history }
-        ensures takes { OnOk result (self.new.takes ≡ true) }
-        // The journal that is on the disk then has the entry.
-        ensures logged { D.meaning.keeps_promises → OnOk result (IsLogged D.meaning self.new) }
-        ensures durable { D.meaning.keeps_promises → OnOk result (IsSyncedDisk D.meaning self.new.log.disk) }
-        ensures name { self.new.log.name ≡ self.old.log.name }
-        ensures unperformed { IfErr result (λ fault. IsUnperformed fault → self.new ≡ self.old) }
-        ensures performed { IfErr result (λ fault. ¬ (IsUnperformed fault) → self.old.takes ≡ true
-            → IsPerformed meaning.now station self.old.history self.new.history) }
-        ensures ended { IfErr result (λ fault. ¬ (IsUnperformed fault) → self.new.takes ≡ false) }
-        ensures closed { self.old.takes ≡ false → (result ≡ Err (LineFault.Ended Closed)) × (self.new ≡ self.old) }
-        ensures others { SameBut self.old.log.name (D.meaning.seen self.old.log.disk) (D.meaning.seen self.new.log.disk) }
-        // A crash at any moment leaves the log of the journal as it was, with the line's entry or without it.
-        ensures any_moment { D.meaning.keeps_promises → self.old.takes ≡ true → LeavesOnly D.meaning self.old.log.disk self.new.log.disk
-            (HasPutSince D.meaning self.old self.new) }
-        ensures cause { HasDiskCause D.meaning self.old.log.disk self.new.log.disk (IsErrOf result (LineFault.Ended Failed)) }
-    {
-        if !self.takes {
-            return Err(LineFault::Ended(LogFault::Closed));
-        }
-        // For contracts alone: all that is seen is on the disk.
-        let _ = self.log.name();
-        match meaning {
-            Line::Blank => Ok(None),
-            Line::Status => self.status_answer(),
-            Line::Run(command) => self.command_answer(station, command),
-        }
-    }
-
-    /// Performs a line of a station, as a script's line without its ending: what it means, as [`Day::answer`] does.
-    #[tactic(auto, using(live_log::proofs::Putting::nothing_put, crate::proofs::DayLaws::goes_same))]
-    pub fn line(&mut self, station: u32, line: &[u8]) -> Result<Option<Bytes>, LineFault>
-        requires counted { 1 ≤ station }
-        requires inside { station ≤ self.old.history.opened.stations }
-        // A line has one meaning, and is answered by it.
-        ensures answered { IfOk result (λ answer. (meaning : Meaning) → Means line.now meaning
-            → AnswersLine meaning station self.old.history self.new.history answer) }
-        ensures told { IfOk result (λ answer. IfSome answer (IsAnswerTold self.new.history station)) }
-        ensures goes_on { HasGoneOn self.old.history self.new.history }
-        ensures takes { OnOk result (self.new.takes ≡ true) }
-        ensures logged { D.meaning.keeps_promises → OnOk result (IsLogged D.meaning self.new) }
-        ensures durable { D.meaning.keeps_promises → OnOk result (IsSyncedDisk D.meaning self.new.log.disk) }
-        ensures name { self.new.log.name ≡ self.old.log.name }
-        ensures unperformed { IfErr result (λ fault. IsUnperformed fault → self.new ≡ self.old) }
-        ensures performed { IfErr result (λ fault. ¬ (IsUnperformed fault) → self.old.takes ≡ true
-            → (meaning : Meaning) → Means line.now meaning → IsPerformed meaning station self.old.history self.new.history) }
-        ensures ended { IfErr result (λ fault. ¬ (IsUnperformed fault) → self.new.takes ≡ false) }
-        ensures closed { self.old.takes ≡ false → (result ≡ Err (LineFault.Ended Closed)) × (self.new ≡ self.old) }
-        ensures others { SameBut self.old.log.name (D.meaning.seen self.old.log.disk) (D.meaning.seen self.new.log.disk) }
-        // A crash at any moment leaves the log of the journal as it was, with the line's entry or without it.
-        ensures any_moment { D.meaning.keeps_promises → self.old.takes ≡ true → LeavesOnly D.meaning self.old.log.disk self.new.log.disk
-            (HasPutSince D.meaning self.old self.new) }
-        ensures cause { HasDiskCause D.meaning self.old.log.disk self.new.log.disk (IsErrOf result (LineFault.Ended Failed)) }
-    {
-        if !self.takes {
-            return Err(LineFault::Ended(LogFault::Closed));
-        }
-        // For contracts alone: all that is seen is on the disk.
-        let _ = self.log.name();
-        match parse_line(self.alloc, line) {
-            Ok(meaning) => self.answer(station, &meaning),
-            Err(_) => Err(LineFault::NoMemory),
-        }
-    }
-
-    /// Performs the first of these lines that are there together, beginning with those of a station, and puts the entries of all to the
-    /// log as one group. At `Ok` they are on the disk, and only then the answers are given back. Another line ends the group, or the
-    /// want of memory for a further answer: it may be obeyed after it.
+    /// Performs the first of these lines that are there together, or of one alone, beginning with those of a station, and puts the entries
+    /// of all to the log as one group. At `Ok` they are on the disk, and only then the answers are given back. A line of which nothing was
+    /// performed ends the group: want of memory, a full journal, a station that is not there.
     ///
     /// An error where something was performed that may not be in the log: then the day takes no more lines, and none of the group was
     /// answered.
@@ -290,6 +175,8 @@ impl<D: DiskInPlace + Drop> Day<D> {
         requires takes { self.old.takes ≡ true }
         requires counted { 1 ≤ station }
         requires inside { station ≤ self.old.history.opened.stations }
+        // QUIT is no line of a script: it ends the lines.
+        requires no_quit { AllByRecursion IsNoQuit lines.now }
         ensures obeyed { IfOk result (λ front. IsFrontObeyed station lines.now self.old.history front self.new.history) }
         ensures waiting { IfOk result (λ front. AllByRecursion (IsWaiting self.new.history) front.answers.items) }
         ensures counted { IfOk result (λ front. 1 ≤ front.station) }
@@ -301,6 +188,7 @@ impl<D: DiskInPlace + Drop> Day<D> {
         ensures durable { D.meaning.keeps_promises → OnOk result (IsSyncedDisk D.meaning self.new.log.disk) }
         ensures name { self.new.log.name ≡ self.old.log.name }
         ensures ended { OnErr result (self.new.takes ≡ false) }
+        ensures open { ¬ IsErrOf result Closed }
         ensures others { SameBut self.old.log.name (D.meaning.seen self.old.log.disk) (D.meaning.seen self.new.log.disk) }
         // A crash at any moment leaves the log of the journal as it was, with the entries of the group or without them.
         ensures any_moment { D.meaning.keeps_promises → LeavesOnly D.meaning self.old.log.disk self.new.log.disk

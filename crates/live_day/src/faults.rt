@@ -1,11 +1,10 @@
-//! Why a line was not answered.
+//! Why a line has no answer.
 
 use catalogue_core::Stop;
-use live_log::LogFault;
 use std::alloc::AllocError;
 use thiserror::Error;
 
-/// Why a line was not answered.
+/// Why a line has no answer.
 #[derive(Clone, Copy, Debug, PartialEq, Eq, Error)]
 pub enum LineFault {
     /// Memory was refused, and nothing was performed: the day goes on.
@@ -14,9 +13,9 @@ pub enum LineFault {
     /// The journal takes no more entries, and nothing was performed.
     #[error("the journal is full")]
     JournalFull,
-    /// The line was performed, and its entry may be in the log or not: the day takes no more lines. The next start finds which.
-    #[error("the log took no entry: {0}")]
-    Ended(LogFault),
+    /// The line was performed, and memory was refused for its answer: the day takes no more lines.
+    #[error("out of memory for the answer")]
+    Unanswered,
 }
 
 impl From<AllocError> for LineFault {
@@ -27,17 +26,6 @@ impl From<AllocError> for LineFault {
 
     fn from(_: AllocError) -> Self {
         LineFault::NoMemory
-    }
-}
-
-impl From<LogFault> for LineFault {
-    ghost use Rattle.std.specs.Prelude.{◌≡◌};
-    ghost use Rattle.live_day.specs.declared.faults.LineFault.TheVariants.{Ended};
-
-    ghost from_gives = { λ fault e. e ≡ Ended fault };
-
-    fn from(fault: LogFault) -> Self {
-        LineFault::Ended(fault)
     }
 }
 

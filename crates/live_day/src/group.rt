@@ -1,17 +1,18 @@
 //! Lines that are there together are performed one after another, before the entries of all are put to the log as one group.
 
-ghost use Rattle.std.specs.Prelude.{◌≡◌, ◌≤◌, true, false, List, Ok, None, IfOk, IfSome, OnOk, OnErr, IsErrOf};
+ghost use Rattle.std.specs.Prelude.{◌≡◌, ◌≤◌, false, List, Ok, None, IfErr, IfOk, IfSome, OnOk, OnErr, IsErrOf};
 ghost use Rattle.std.specs.List.{AllByRecursion};
-ghost use Rattle.live_log.specs.declared.faults.LogFault.TheVariants.{Failed};
+ghost use Rattle.live_log.specs.declared.faults.LogFault.TheVariants.{Closed, Failed};
 ghost use Rattle.live_day.specs.Days.{HasPerformedSince};
-ghost use Rattle.live_day.specs.Groups.{IsFrontObeyed, WaitsToTell};
-ghost use Rattle.live_day.specs.Sessions.{Told, IsLineDone, IsObeyed};
+ghost use Rattle.live_day.specs.Groups.{HasMade, IsFrontObeyed, IsNoQuit, WaitsToTell};
+ghost use Rattle.live_day.specs.Sessions.{Told, IsLineAnswered, IsLineRefused};
 ghost use Rattle.live_day.specs.Waiting.{IsWaiting};
 
 use crate::answering::wish_typed;
 use crate::day::Day;
 use crate::faults::LineFault;
 use crate::keyboard::Typed;
+use crate::notice::Notice;
 use crate::waiting::WaitingAnswer;
 use crate::wish::Wish;
 use disk_in_place::DiskInPlace;
@@ -27,28 +28,32 @@ pub struct Front {
     pub station: u32,
     /// The answers, in the lines' order.
     pub answers: Vec<WaitingAnswer>,
+    /// What the station is to be told of the next line, if there is one: nothing was performed of it.
+    pub stopped: Option<Notice>,
 }
 
-// Performs a typed line, and adds its answer to those that wait. `false` where nothing was performed.
+// Performs a typed line, and adds its answer to those that wait. Answers what its station is to be told where nothing was performed.
 fn perform_waiting<D: DiskInPlace + Drop>(
     day: &mut Day<D>,
     station: u32,
     typed: &Typed,
     answers: &mut Vec<WaitingAnswer>,
-) -> Result<bool, LogFault>
+) -> Result<Option<Notice>, LogFault>
     requires counted { 1 ≤ station }
     requires inside { station ≤ day.old.history.opened.stations }
     requires waiting { AllByRecursion (IsWaiting day.old.history) answers.old.items }
-    ensures done { result ≡ Ok true → (told : List Told) × WaitsToTell answers.old.items answers.new.items told
-        × IsLineDone station typed.now day.old.history day.new.history told }
-    ensures undone { result ≡ Ok false → (day.new ≡ day.old) × (answers.new.items ≡ answers.old.items) }
+    ensures answered { result ≡ Ok None → (told : List Told) × WaitsToTell answers.old.items answers.new.items told
+        × IsLineAnswered station typed.now day.old.history day.new.history told }
+    ensures refused { IfOk result (λ refused. IfSome refused (IsLineRefused typed.now day.old.history)) }
+    ensures undone { IfOk result (λ refused. IfSome refused (λ _. (day.new ≡ day.old) × (answers.new.items ≡ answers.old.items))) }
     ensures waiting { OnOk result (AllByRecursion (IsWaiting day.new.history) answers.new.items) }
     ensures since { HasPerformedSince day.old day.new }
     ensures ended { OnErr result (day.new.takes ≡ false) }
     ensures no_disk { ¬ IsErrOf result Failed }
+    ensures open { ¬ IsErrOf result Closed }
 {
     let Ok(()) = answers.reserve(1) else {
-        return Ok(false);
+        return Ok(Some(Notice::NoMemory));
     };
     match day.perform_typed(station, typed) {
         Ok(Some(line)) => {
@@ -57,55 +62,55 @@ fn perform_waiting<D: DiskInPlace + Drop>(
                 station,
                 line,
             });
-            Ok(true)
+            Ok(None)
         }
-        Ok(None) => Ok(true),
-        Err(LineFault::Ended(fault)) => Err(fault),
-        Err(_) => Ok(false),
+        Ok(None) => Ok(None),
+        Err(LineFault::NoMemory) => Ok(Some(Notice::NoMemory)),
+        Err(LineFault::JournalFull) => Ok(Some(Notice::JournalFull)),
+        Err(LineFault::Unanswered) => Err(LogFault::NoMemory),
     }
 }
 
-// Obeys a typed line, and adds its answer to those that wait. Answers which station has the keyboard then; `None` where nothing was done,
-// since the line asks for a word to its station at once: QUIT, a station that is not there, or one that can't be performed.
+// Obeys a typed line that is not QUIT, and adds its answer to those that wait. Answers which station has the keyboard then; or, where
+// nothing was performed, what the station is to be told.
 fn obey_waiting<D: DiskInPlace + Drop>(
     day: &mut Day<D>,
     station: u32,
     typed: &Typed,
     answers: &mut Vec<WaitingAnswer>,
-) -> Result<Option<u32>, LogFault>
+) -> Result<Result<u32, Notice>, LogFault>
     requires counted { 1 ≤ station }
     requires inside { station ≤ day.old.history.opened.stations }
+    requires no_quit { IsNoQuit typed.now }
     requires waiting { AllByRecursion (IsWaiting day.old.history) answers.old.items }
-    ensures obeyed { IfOk result (λ next. IfSome next (λ next. (told : List Told) × WaitsToTell answers.old.items answers.new.items told
-        × IsObeyed station typed.now day.old.history next day.new.history told)) }
-    ensures undone { result ≡ Ok None → (day.new ≡ day.old) × (answers.new.items ≡ answers.old.items) }
-    ensures counted { IfOk result (λ next. IfSome next (λ next. 1 ≤ next)) }
-    ensures inside { IfOk result (λ next. IfSome next (λ next. next ≤ day.new.history.opened.stations)) }
+    ensures made { IfOk result (HasMade station typed.now day.old.history day.new.history answers.old.items answers.new.items) }
+    ensures undone { IfOk result (λ made. IfErr made (λ _. (day.new ≡ day.old) × (answers.new.items ≡ answers.old.items))) }
+    ensures counted { IfOk result (λ made. IfOk made (λ next. 1 ≤ next)) }
+    ensures inside { IfOk result (λ made. IfOk made (λ next. next ≤ day.new.history.opened.stations)) }
     ensures waiting { OnOk result (AllByRecursion (IsWaiting day.new.history) answers.new.items) }
     ensures since { HasPerformedSince day.old day.new }
     ensures ended { OnErr result (day.new.takes ≡ false) }
     ensures no_disk { ¬ IsErrOf result Failed }
+    ensures open { ¬ IsErrOf result Closed }
 {
     match wish_typed(typed) {
-        Wish::Quit => Ok(None),
         Wish::Station(wanted) => {
-            if wanted >= 1 && wanted <= day.station_count() as u64 {
-                Ok(Some(wanted as u32))
+            let stations = day.station_count() as u64;
+            if wanted >= 1 && wanted <= stations {
+                Ok(Ok(wanted as u32))
             } else {
-                Ok(None)
+                Ok(Err(Notice::NoStation))
             }
         }
-        Wish::Perform => {
-            if perform_waiting(day, station, typed, answers)? {
-                Ok(Some(station))
-            } else {
-                Ok(None)
-            }
-        }
+        // QUIT never comes here: it ends the lines, and is none of them.
+        Wish::Perform | Wish::Quit => match perform_waiting(day, station, typed, answers)? {
+            None => Ok(Ok(station)),
+            Some(notice) => Ok(Err(notice)),
+        },
     }
 }
 
-// Obeys the first of these lines, as far as each can be obeyed without a word at once, and puts nothing to the log.
+// Obeys the first of these lines, up to one of which nothing is performed, and puts nothing to the log.
 pub(crate) fn perform_front<D: DiskInPlace + Drop>(
     alloc: Global,
     day: &mut Day<D>,
@@ -114,6 +119,7 @@ pub(crate) fn perform_front<D: DiskInPlace + Drop>(
 ) -> Result<Front, LogFault>
     requires counted { 1 ≤ station }
     requires inside { station ≤ day.old.history.opened.stations }
+    requires no_quit { AllByRecursion IsNoQuit lines.now }
     ensures obeyed { IfOk result (λ front. IsFrontObeyed station lines.now day.old.history front day.new.history) }
     ensures waiting { IfOk result (λ front. AllByRecursion (IsWaiting day.new.history) front.answers.items) }
     ensures counted { IfOk result (λ front. 1 ≤ front.station) }
@@ -121,24 +127,31 @@ pub(crate) fn perform_front<D: DiskInPlace + Drop>(
     ensures since { HasPerformedSince day.old day.new }
     ensures ended { OnErr result (day.new.takes ≡ false) }
     ensures no_disk { ¬ IsErrOf result Failed }
+    ensures open { ¬ IsErrOf result Closed }
 {
     let mut answers = Vec::new(alloc);
     let mut count = 0;
     let mut seated = station;
     'front: for line in lines {
-        let Some(next) = obey_waiting(day, seated, line, &mut answers)? else {
-            return Ok(Front {
-                count,
-                station: seated,
-                answers,
-            });
-        };
-        seated = next;
-        count += 1;
+        match obey_waiting(day, seated, line, &mut answers)? {
+            Ok(next) => {
+                seated = next;
+                count += 1;
+            }
+            Err(notice) => {
+                return Ok(Front {
+                    count,
+                    station: seated,
+                    answers,
+                    stopped: Some(notice),
+                });
+            }
+        }
     }
     Ok(Front {
         count,
         station: seated,
         answers,
+        stopped: None,
     })
 }

@@ -1,8 +1,8 @@
 //! A live day: lines are answered as they come, and nothing that was answered is lost.
 //!
-//! A [`Day`] has the tables, what was performed on them, and the log of it in a folder of a disk. [`Day::line`] performs a line of a
-//! station: before its answer is given back, its entry is on the disk. [`Day::lines`] does so with lines that are there together, whose
-//! entries are put as one group. [`perform_again`] performs what the log of an earlier life says.
+//! A [`Day`] has the tables, what was performed on them, and the log of it in a folder of a disk. [`Day::lines`] performs lines that are
+//! there together, or one alone: before their answers are given back, their entries are on the disk, put as one group.
+//! [`perform_again`] performs what the log of an earlier life says.
 //!
 //! Start with specs/Days.antt and `day.rt`.
 #![tactic(auto)]
@@ -25,7 +25,6 @@ mod wish;
 
 pub use again::perform_again;
 pub use day::Day;
-pub use faults::LineFault;
 pub use group::Front;
 pub use keyboard::{Keyboard, MAX_LINE_BYTES, Typed, TypingFault};
 pub use notice::Notice;

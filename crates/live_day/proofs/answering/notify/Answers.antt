@@ -5,13 +5,13 @@ use Rattle.live_day.proofs.ShowLaws.{shown_maybe, shown_one}
 use Rattle.live_day.proofs.answering.notify.Goals as goal
 
 pub show-requires-clause-told : goal.show-requires-clause-told
-show-requires-clause-told g c = inr (c.args.notice, c.notice_line.ensures.value)
+show-requires-clause-told g c = inr (c.args.notice, c.requires.said, c.notice_line.ensures.value)
 
 pub returns-in_err-show-clause-kept : goal.returns-in_err-show-clause-kept
 returns-in_err-show-clause-kept g c =
     shown_maybe g.D.Disk.meaning c.args.day.now c.args.station c.notice_line.result.now (g.S.Screen.shown c.args.screen.now) (g.S.Screen.shown c.show.new.self)
     (λ keeps. c.station_count.ensures.logged keeps c.requires.takes) (λ keeps. c.station_count.ensures.durable keeps c.requires.takes)
-    (inr (c.args.notice, c.notice_line.ensures.value)) c.in_err-show.ensures.unshown
+    (inr (c.args.notice, c.requires.said, c.notice_line.ensures.value)) c.in_err-show.ensures.unshown
 
 pub returns-clause-told : goal.returns-clause-told
 returns-clause-told g c =
@@ -22,4 +22,4 @@ pub returns-clause-kept : goal.returns-clause-kept
 returns-clause-kept g c =
     shown_one g.D.Disk.meaning c.args.day.now c.args.station c.notice_line.result.now (g.S.Screen.shown c.args.screen.now) (g.S.Screen.shown c.show.new.self)
     (λ keeps. c.station_count.ensures.logged keeps c.requires.takes) (λ keeps. c.station_count.ensures.durable keeps c.requires.takes)
-    (inr (c.args.notice, c.notice_line.ensures.value)) c.in_ok-show.ensures.shown
+    (inr (c.args.notice, c.requires.said, c.notice_line.ensures.value)) c.in_ok-show.ensures.shown

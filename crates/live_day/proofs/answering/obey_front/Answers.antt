@@ -1,7 +1,6 @@
 use Rattle.std.proofs.Common.{◌∙◌, ◌++◌, List, ap, subst, sym}
 use Rattle.std.specs.List.{AllByRecursion}
 use Rattle.live_day.specs.declared.waiting.WaitingAnswer.{WaitingAnswer}
-use Rattle.live_day.specs.Groups.{all_told_by}
 use Rattle.live_day.specs.Waiting.{IsWaiting, all_shown_after}
 use Rattle.live_day.proofs.ShowLaws.{after_put, shown_both, shown_none}
 use Rattle.live_day.proofs.StopLaws.{goes_on_err, stopped_log}
@@ -41,17 +40,13 @@ returns-clause-kept g c =
     (shown_none m c.args.day.now b x (after_put m c.args.day.now b c.lines.ensures.name c.lines.ensures.goes_on c.lines.ensures.others c.lines.ensures.any_moment))
     (shown_answers m b (λ keeps. c.in_ok-front.ensures.logged keeps) (λ keeps. c.in_ok-front.ensures.durable keeps) c.as_slice.result.now x z waiting c.in_ok-show_all.ensures.shown)
 
-pub returns-clause-obeyed : goal.returns-clause-obeyed
-returns-clause-obeyed g c =
+pub returns-clause-told : goal.returns-clause-told
+returns-clause-told g c =
     let m = g.D.Disk.meaning in
     let b = c.lines.new.self in
     let x = g.S.Screen.shown c.args.screen.now in
-    let items = c.in_ok-front.front.answers.items in (
-      all_told_by items,
-      tells_answers m b items x (g.S.Screen.shown c.show_all.new.self)
-          (c.in_ok-show_all.ensures.shown ∙ ap (λ (l : List WaitingAnswer). x ++ all_shown_after m b l) c.as_slice.ensures.value),
-      c.in_ok-front.ensures.obeyed.obeyed,
-    )
+    tells_answers m b c.in_ok-front.front.answers.items x (g.S.Screen.shown c.show_all.new.self)
+    (c.in_ok-show_all.ensures.shown ∙ ap (λ (l : List WaitingAnswer). x ++ all_shown_after m b l) c.as_slice.ensures.value)
 
 pub returns-in_err-front-clause-stopped : goal.returns-in_err-front-clause-stopped
 returns-in_err-front-clause-stopped g c = stopped_log c.from_residual.result _ c.lines.new.self.takes c.from_residual.ensures.1 c.in_err-front.ensures.ended
