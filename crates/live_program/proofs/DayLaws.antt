@@ -1,20 +1,18 @@
 -- The files of a day's end, as they are written, and in their places.
-use Rattle.std.proofs.Common.{◌≡◌, ◌≢◌, ◌∙◌, ℕ, List, [], ◌∷◌, ◌++◌, Option, Some, None, Result, Ok, Err, sym, ap, subst, refl, inl, inr}
-use Rattle.std.specs.Prelude.{IfSome, OnOk, IfErr}
+use Rattle.std.proofs.Common.{◌≡◌, ◌∙◌, ℕ, List, [], ◌++◌, Option, Some, None, ap, subst, refl, inl, inr}
 use Rattle.std.specs.List.{AllByRecursion}
 use Rattle.byte_io.specs.Sink.{grown}
 use Rattle.catalogue_core.specs.Replay.{History}
 use Rattle.dbf_fields.specs.declared.day.Day.{Day}
-use Rattle.files_in_place.specs.Disk.{DiskMeaning, LeavesOnly}
 use Rattle.files_in_place.specs.Folder.{Folder}
-use Rattle.files_in_place.specs.Recovery.{HasOldFiles, RecoversTo}
+use Rattle.files_in_place.specs.Recovery.{RecoversTo}
 use Rattle.folders.specs.declared.named.NamedFile.{NamedFile}
 use Rattle.folders.specs.Files.{files_in, listing, IsOfBytes}
 use Rattle.folders.specs.Placed.{with_files, IsOldOrPlaced, IsPlaced}
 use Rattle.folders.proofs.ListingLaws.{files_again}
 use Rattle.journal_file.specs.declared.sum.FileSum.{FileSum}
 use Rattle.office_run.specs.TablesWritten.{dated_files, AreTablesWritten}
-use Rattle.live_program.specs.Closings.{answer_files_of, empty_log_file, AreDayFiles, AreDayWritten, IsDayPlaced, IsOldOrDay}
+use Rattle.live_program.specs.Closings.{answer_files_of, empty_log_file, AreDayWritten, IsDayPlaced, IsOldOrDay}
 use Rattle.live_program.proofs.FileLaws.{all_then, listed_then}
 
 -- the tables' files, then those of the answers, then the empty log

@@ -1,7 +1,7 @@
 mod Commands
 mod ConsoleLaws
-mod DateLaws
 mod DayLaws
+mod FailureLaws
 mod FileLaws
 mod GreetingLaws
 mod LifeLaws

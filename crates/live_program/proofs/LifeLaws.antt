@@ -1,5 +1,5 @@
 -- What a crash in a life leaves, and what is in the folder at its end.
-use Rattle.std.proofs.Common.{◌≡◌, ◌≢◌, ◌⊎◌, ◌<◌, ◌≤◌, ◌∙◌, ℕ, zero, suc, List, [], ◌∷◌, ◌++◌, length, map, Option, None, Some, Result, Ok, Err, true, false, refl, sym, ap, subst, inl, inr, ⊎_elim, lit<, arith, append_assoc, length-append}
+use Rattle.std.proofs.Common.{◌≡◌, ◌≢◌, ◌⊎◌, ◌<◌, ◌≤◌, ◌∙◌, ℕ, zero, suc, List, [], ◌∷◌, ◌++◌, length, Option, None, Result, Ok, Err, true, false, refl, sym, ap, subst, inl, inr, ⊎_elim, lit<, arith, append_assoc, length-append}
 use Rattle.std.specs.Prelude.{if◌then◌else◌, IfErr, IfOk, IsErr, IsErrAnd, OnOk}
 use Rattle.std.specs.Str.{bytes_eq, IsAscii}
 use Rattle.std.proofs.lemmas.Str.{is_utf8-from_IsUtf8, IsUtf8-from_ascii}
@@ -7,11 +7,10 @@ use Rattle.std.specs.List.{AllByRecursion}
 use Rattle.std.proofs.lemmas.Bool.{cases_Bool}
 use Rattle.std.proofs.lemmas.List.{append-nil, length-map, map-append}
 use Rattle.std.proofs.lemmas.Slice.Eq.{bytes_eq-Decides}
-use Rattle.catalogue_core.specs.declared.entry.Entry.{Entry}
 use Rattle.catalogue_core.specs.Replay.{History}
 use Rattle.dbf_fields.specs.declared.day.Day.{Day}
 use Rattle.files_in_place.specs.Disk.{AfterStep, DiskMeaning, IsSyncedDisk, LeavesOnly}
-use Rattle.files_in_place.specs.Folder.{Folder, Name, SameBut, first_of, is_reserved, list_name, recovered, without_reserved}
+use Rattle.files_in_place.specs.Folder.{Folder, Name, SameBut, first_of, is_reserved, list_name, recovered}
 use Rattle.files_in_place.specs.Recovery.{HasOldFiles, IsClean, IsFinished, RecoversTo, SameFree, StillRecovers}
 use Rattle.files_in_place.proofs.Each.{each_by}
 use Rattle.files_in_place.proofs.Ending.{unlisted_finished, without_free, without_res}
@@ -26,7 +25,7 @@ use Rattle.station_lines.specs.JournalLines.{line_parts, HaveSmallNumbers}
 use Rattle.live_log.proofs.GateLaws.{after_shut}
 use Rattle.live_log.specs.Gates.{LineParts, log_of, or_empty_log, StandsFor}
 use Rattle.live_log.specs.Logs.{HasLog}
-use Rattle.live_log.specs.Placing.{HasPlaced, IsOldOrPlacedWith}
+use Rattle.live_log.specs.Placing.{IsOldOrPlacedWith}
 use Rattle.live_day.specs.Days.{DayValue, HasGoneOn, IsLogged, parts_of}
 use Rattle.live_day.specs.Sessions.{IsDayRun}
 use Rattle.live_day.specs.Shows.{HasFrontIn, IsKeptLine, KeepsShown, ShownLine}
@@ -41,7 +40,7 @@ use Rattle.program_frame.specs.declared.ending.Failure.{Failure}
 use Rattle.live_program.specs.Asked.{IsAskedIn, IsWhyNotRead}
 use Rattle.live_program.specs.Closings.{answer_files_of, empty_log_file, file_of_bytes, AreDayFiles, IsDayPlaced, IsOldOrDay}
 use Rattle.open_day.specs.OpenDay.{log_name}
-use Rattle.live_program.specs.Lives.{EndsDay, GoesOn, HasNotBegun, IsBegunLife, IsClosedDay, IsClosedNow, IsFound, IsLife, IsNeverLost, IsOpenOrClosed, IsLifeOver, IsOpenStill, IsUnbegunDay, IsUnlived}
+use Rattle.live_program.specs.Lives.{EndsDay, GoesOn, IsFound, IsLife, IsNeverLost, IsOpenOrClosed, IsLifeOver, IsOpenStill, IsUnbegunDay, IsUnlived}
 use Rattle.live_program.specs.declared.failure.LiveFailure.{LiveFailure}
 use Rattle.live_program.specs.declared.lived.Lived.{Lived}
 use Rattle.live_program.specs.declared.options.Options.{Options}

@@ -1,12 +1,11 @@
 -- The files of a day's end.
 use Rattle.std.specs.Prelude.{◌≡◌, ◌⊎◌, ℕ, zero, suc, ◌==◌, List, [], ◌∷◌, ◌++◌, flat_map, Option, None, if◌then◌else◌}
-use Rattle.std.specs.List.{AllByRecursion}
 use Rattle.byte_io.specs.Sink.{grown}
 use Rattle.dbf_fields.specs.declared.day.Day.{Day}
 use Rattle.files_in_place.specs.Folder.{Folder}
 use Rattle.files_in_place.specs.Recovery.{HasOldFiles, RecoversTo}
 use Rattle.folders.specs.declared.named.NamedFile.{NamedFile}
-use Rattle.folders.specs.Files.{files_in, listing, IsOfBytes}
+use Rattle.folders.specs.Files.{files_in, listing}
 use Rattle.folders.specs.Placed.{with_files}
 use Rattle.catalogue_core.specs.declared.entry.Entry.{Entry}
 use Rattle.catalogue_core.specs.Replay.{History}

@@ -2,6 +2,7 @@ pub mod Asked
 pub mod Closings
 pub mod Consoles
 pub mod Endings
+pub mod Failures
 pub mod Greetings
 pub mod Lives
 pub mod NumberLists

@@ -1,11 +1,12 @@
 //! The stations' answers, from the journal of a day.
 #![tactic(auto, using(byte_io::specs::Laws::Sinks::sinks))]
 
-ghost use Rattle.std.specs.Prelude.{◌≡◌, ◌++◌, OnOk, IfOk};
+ghost use Rattle.std.specs.Prelude.{◌≡◌, ◌++◌, OnOk, IfErr, IfOk};
 ghost use Rattle.std.specs.List.{AllByRecursion};
 ghost use Rattle.byte_io.specs.Sink.{grown};
-ghost use Rattle.folders.specs.Files.{listing, opening, IsOfBytes};
+ghost use Rattle.folders.specs.Files.{listing, IsOfBytes};
 ghost use Rattle.office_run.specs.Closing.{answer_name as name_of_answers};
+ghost use Rattle.live_program.specs.Failures.{IsFileUnwritten};
 ghost use Rattle.live_program.specs.Closings.{answer_files_of, answers_in, own_line, file_of_bytes};
 
 use byte_io::{Bytes, SinkFault, write_all};
@@ -64,6 +65,7 @@ pub(crate) fn write_file<F: Folder>(
     bytes: &[u8],
 ) -> Result<(), ServeFault>
     ensures wrote { OnOk result (F.written folder.new ≡ grown (F.written folder.old) (listing (file_of_bytes name bytes.now))) }
+    ensures fault { IfErr result IsFileUnwritten }
     ensures no_failure { OnOk result (F.failures folder.new ≡ F.failures folder.old) }
     ensures bytes { OnOk result (AllByRecursion IsOfBytes (file_of_bytes name bytes.now)) }
 {
@@ -82,6 +84,7 @@ fn write_station<F: Folder>(
 ) -> Result<(), ServeFault>
     ensures wrote { OnOk result (F.written folder.new
         ≡ grown (F.written folder.old) (listing (file_of_bytes (name_of_answers station) (answers_in station journal.now)))) }
+    ensures fault { IfErr result IsFileUnwritten }
     ensures no_failure { OnOk result (F.failures folder.new ≡ F.failures folder.old) }
     ensures bytes { OnOk result (AllByRecursion IsOfBytes (file_of_bytes (name_of_answers station) (answers_in station journal.now))) }
 {
@@ -97,6 +100,7 @@ pub(crate) fn write_answers<F: Folder>(
     folder: &mut F,
 ) -> Result<(), ServeFault>
     ensures wrote { OnOk result (F.written folder.new ≡ grown (F.written folder.old) (listing (answer_files_of stations journal.now))) }
+    ensures fault { IfErr result IsFileUnwritten }
     ensures no_failure { OnOk result (F.failures folder.new ≡ F.failures folder.old) }
     ensures bytes { OnOk result (AllByRecursion IsOfBytes (answer_files_of stations journal.now)) }
 {

@@ -1,12 +1,13 @@
 //! A day is closed: its files and an empty log take their places all together.
 #![tactic(auto, using(byte_io::specs::Laws::Sinks::sinks))]
 
-ghost use Rattle.std.specs.Prelude.{◌≡◌, Some, length, OnOk, IfOk, IsErrOf};
+ghost use Rattle.std.specs.Prelude.{◌≡◌, Some, length, OnOk, IfErr, IfOk};
 ghost use Rattle.files_in_place.specs.Disk.{LeavesOnly, IsSyncedDisk};
 ghost use Rattle.files_in_place.specs.Recovery.{IsClean};
 ghost use Rattle.live_program.specs.Closings.{AreDayWritten, IsDayPlaced, IsOldOrDay};
 ghost use Rattle.open_day.specs.OpenDay.{log_name};
 ghost use Rattle.live_program.specs.Endings.{no_memory, says_unwritten};
+ghost use Rattle.live_program.specs.Failures.{IsDayFailure, IsUnclosed};
 ghost use Rattle.program_frame.specs.Endings.{place_failure};
 ghost use Rattle.program_frame.specs.Jobs.{given_up};
 ghost use Rattle.program_frame.specs.PlaceFaults.{unplaced_files};
@@ -42,19 +43,16 @@ fn write_day<F: Folder>(
 ) -> Result<Lived, LiveFailure>
     ensures wrote { OnOk result (AreDayWritten catalogue.now today (F.written folder.old) (F.written folder.new)) }
     ensures count { IfOk result (λ lived. lived.count ≡ length catalogue.now.journal) }
+    ensures fault { IfErr result (IsDayFailure catalogue.now today) }
     ensures no_failure { OnOk result (F.failures folder.new ≡ F.failures folder.old) }
 {
+    let journal = catalogue.journal();
     let _ = write_tables(alloc, catalogue, today, folder)?;
-    write_answers(
-        alloc,
-        catalogue.journal(),
-        catalogue.station_count(),
-        folder,
-    )?;
+    write_answers(alloc, journal, catalogue.station_count(), folder)?;
     let log = empty_log(alloc)?;
     write_file(folder, log_file_name(alloc)?, log.as_slice())?;
     Ok(Lived {
-        count: catalogue.journal().len() as u64,
+        count: journal.len() as u64,
     })
 }
 
@@ -94,7 +92,7 @@ fn close_into<D: Disk + Drop, O: Origin<D>>(
     requires clean { D.meaning.keeps_promises → IsClean (D.meaning.seen disk) }
     requires origin { O.origin ≡ Some disk }
     ensures count { IfOk result.0 (λ lived. lived.count ≡ length catalogue.now.journal) }
-    ensures dated { ¬ IsErrOf result.0 Failure.BadDate }
+    ensures fault { IfErr result.0 (IsUnclosed catalogue.now today) }
     ensures placed { D.meaning.keeps_promises → OnOk result.0 (IsDayPlaced catalogue.now today (D.meaning.seen disk) (D.meaning.seen result.1)) }
     ensures any_moment { D.meaning.keeps_promises → LeavesOnly D.meaning disk result.1 (IsOldOrDay catalogue.now today (D.meaning.seen disk)) }
 {
@@ -124,7 +122,7 @@ pub fn close_day<D: Disk + Drop>(
     requires synced { D.meaning.keeps_promises → IsSyncedDisk D.meaning disk }
     requires clean { D.meaning.keeps_promises → IsClean (D.meaning.seen disk) }
     ensures count { IfOk result.0 (λ lived. lived.count ≡ length catalogue.now.journal) }
-    ensures dated { ¬ IsErrOf result.0 Failure.BadDate }
+    ensures fault { IfErr result.0 (IsUnclosed catalogue.now today) }
     ensures placed { D.meaning.keeps_promises → OnOk result.0 (IsDayPlaced catalogue.now today (D.meaning.seen disk) (D.meaning.seen result.1)) }
     // A crash at any moment leaves the old files and their log, or the new ones and the empty log.
     ensures any_moment { D.meaning.keeps_promises → LeavesOnly D.meaning disk result.1 (IsOldOrDay catalogue.now today (D.meaning.seen disk)) }

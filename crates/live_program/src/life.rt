@@ -1,6 +1,6 @@
 //! A life of the program: from the folder of its log to the day's end.
 
-ghost use Rattle.std.specs.Prelude.{◌≡◌, ◌≢◌, ◌≤◌, ℕ, [], true, false, length, IfErr, IfOk, IsErr, IsErrOf, OnOk};
+ghost use Rattle.std.specs.Prelude.{◌≡◌, ◌≢◌, ◌≤◌, [], true, false, length, Err, IfErr, IfOk, IsErr, OnOk};
 ghost use Rattle.files_in_place.specs.Disk.{IsSyncedDisk, LeavesOnly};
 ghost use Rattle.files_in_place.specs.Folder.{Name, is_reserved};
 ghost use Rattle.files_in_place.specs.Recovery.{IsClean, OthersAreWhole};
@@ -12,6 +12,9 @@ ghost use Rattle.live_day.specs.Typing.{HasTyped, IsAllTyped};
 ghost use Rattle.live_program.specs.Closings.{IsDayPlaced, IsOldOrDay};
 ghost use Rattle.open_day.specs.OpenDay.{log_name};
 ghost use Rattle.live_program.specs.Endings.{unplaced_log};
+ghost use Rattle.live_program.specs.Failures.{IsLifeFailure, IsLogUnplaced, IsToldOf, IsUnclosed, IsUnendedFrom, IsUnstarted};
+ghost use Rattle.live_program.specs.Openings.{AreTablesOpened};
+ghost use Rattle.live_program.specs.declared.failure.LiveFailure.{LiveFailure as Why};
 ghost use Rattle.live_program.specs.Lives.{EndsDay, IsFound, IsLife, IsUnbegunDay};
 
 use crate::closing::{close_day, log_file_name};
@@ -56,10 +59,12 @@ fn find_day<S: Source, D: DiskInPlace + Drop, E: Write>(
     ensures synced { D.meaning.keeps_promises → OnOk result (IsSyncedDisk D.meaning disk.new) }
     ensures clean { D.meaning.keeps_promises → OnOk result (IsClean (D.meaning.seen disk.new)) }
     ensures found { D.meaning.keeps_promises → IfOk result (λ found. IsFound (S.files source.old) options.now (D.meaning.seen disk.old) found.catalogue) }
+    ensures tables { IfOk result (λ found. AreTablesOpened (S.files source.old) options.now.setup.now options.now.reindex found.catalogue.opened) }
     ensures log { IfOk result (λ found. found.log ≡ log_of (parts_of found.catalogue.journal)) }
     ensures name { IfOk result (λ found. found.name ≡ log_name) }
     ensures small { IfOk result (λ found. HaveSmallNumbers (parts_of found.catalogue.journal)) }
     ensures stations { IfOk result (λ found. 1 ≤ found.catalogue.opened.stations) }
+    ensures fault { IfErr result (IsUnstarted (IsToldOf D.meaning (D.meaning.seen disk.old)) (S.files source.old) options.now) }
     ensures kept { S.files source.new ≡ S.files source.old }
     ensures seen { D.meaning.seen disk.new ≡ D.meaning.seen disk.old }
     ensures any_moment { LeavesOnly D.meaning disk.old disk.new (D.meaning.may_leave disk.old) }
@@ -89,8 +94,7 @@ fn unstarted(fault: SetFault) -> LiveFailure
 
 // A life that ended for this.
 fn failed<D: DiskInPlace + Drop>(why: LiveFailure, disk: D) -> InPlace<Lived, LiveFailure, D>
-    ensures ended { IsErr result.ended }
-    ensures dated { ¬ IsErrOf result.ended Failure.BadDate }
+    ensures ended { result.ended ≡ Err (Failure.Work why) }
     ensures disk { result.disk ≡ disk }
 {
     InPlace {
@@ -119,7 +123,7 @@ fn begin_found<D: DiskInPlace + Drop>(
     ensures any_moment { D.meaning.keeps_promises → IfOk result (λ day.
         LeavesOnly D.meaning disk day.log.disk (IsOldOrPlacedWith log_name (log_of (parts_of found.catalogue.journal)) [] (D.meaning.seen disk))) }
     ensures refused { IfErr result (λ unbegun. IsErr unbegun.ended) }
-    ensures dated { IfErr result (λ unbegun. ¬ IsErrOf unbegun.ended Failure.BadDate) }
+    ensures fault { IfErr result (λ unbegun. (fault : Why) × IsLogUnplaced fault × (unbegun.ended ≡ Err (Failure.Work fault))) }
     ensures moment_of_fault { D.meaning.keeps_promises → IfErr result (λ unbegun.
         LeavesOnly D.meaning disk unbegun.disk (IsOldOrPlacedWith log_name (log_of (parts_of found.catalogue.journal)) [] (D.meaning.seen disk))) }
 {
@@ -151,6 +155,7 @@ fn begin_day<S: Source, D: DiskInPlace + Drop, E: Write>(
     requires synced { D.meaning.keeps_promises → IsSyncedDisk D.meaning disk }
     requires clean { D.meaning.keeps_promises → IsClean (D.meaning.seen disk) }
     ensures found { D.meaning.keeps_promises → IfOk result (λ day. IsFound (S.files source.old) options.now (D.meaning.seen disk) day.history) }
+    ensures tables { IfOk result (λ day. AreTablesOpened (S.files source.old) options.now.setup.now options.now.reindex day.history.opened) }
     ensures name { IfOk result (λ day. day.log.name ≡ log_name) }
     ensures takes { IfOk result (λ day. day.takes ≡ true) }
     ensures stations { IfOk result (λ day. 1 ≤ day.history.opened.stations) }
@@ -160,7 +165,8 @@ fn begin_day<S: Source, D: DiskInPlace + Drop, E: Write>(
     ensures any_moment { D.meaning.keeps_promises → IfOk result (λ day.
         LeavesOnly D.meaning disk day.log.disk (IsOldOrPlacedWith log_name (log_of (parts_of day.history.journal)) [] (D.meaning.seen disk))) }
     ensures refused { IfErr result (λ unbegun. IsErr unbegun.ended) }
-    ensures dated { IfErr result (λ unbegun. ¬ IsErrOf unbegun.ended Failure.BadDate) }
+    ensures fault { IfErr result (λ unbegun. (fault : Why)
+        × IsUnstarted (IsToldOf D.meaning (D.meaning.seen disk)) (S.files source.old) options.now fault × (unbegun.ended ≡ Err (Failure.Work fault))) }
     ensures unbegun { D.meaning.keeps_promises → IfErr result (λ unbegun. IsUnbegunDay D.meaning (S.files source.old) options.now disk unbegun.disk) }
     ensures kept { S.files source.new ≡ S.files source.old }
 {
@@ -179,7 +185,7 @@ fn close<D: DiskInPlace + Drop>(
 ) -> InPlace<Lived, LiveFailure, D>
     requires takes { day.takes ≡ true }
     ensures count { IfOk result.ended (λ lived. lived.count ≡ length day.history.journal) }
-    ensures dated { ¬ IsErrOf result.ended Failure.BadDate }
+    ensures fault { IfErr result.ended (IsUnclosed day.history today) }
     ensures logged { D.meaning.keeps_promises → IsLogged D.meaning day }
     ensures placed { D.meaning.keeps_promises → OnOk result.ended (IsDayPlaced day.history today (D.meaning.seen day.log.disk) (D.meaning.seen result.disk)) }
     ensures any_moment { D.meaning.keeps_promises → LeavesOnly D.meaning day.log.disk result.disk (IsOldOrDay day.history today (D.meaning.seen day.log.disk)) }
@@ -191,8 +197,7 @@ fn close<D: DiskInPlace + Drop>(
 
 // The end of a day that was stopped: its log stands.
 fn stop<D: DiskInPlace + Drop>(why: LiveFailure, day: Day<D>) -> InPlace<Lived, LiveFailure, D>
-    ensures ended { IsErr result.ended }
-    ensures dated { ¬ IsErrOf result.ended Failure.BadDate }
+    ensures ended { result.ended ≡ Err (Failure.Work why) }
     ensures disk { result.disk ≡ day.log.disk }
 {
     let (_, log) = day.into_parts();
@@ -215,7 +220,7 @@ fn live_day<D: DiskInPlace + Drop, K: Keyboard, C: Screen<D>>(
         (K.typed keyboard.old) (K.typed keyboard.new) (λ left. ⊥) (D.meaning.seen day.log.disk) day.history today
         (C.shown screen.old) (C.shown screen.new) day.log.disk result.disk result.ended }
     ensures read { OnOk result.ended (HasTyped (K.text_left keyboard.old) (K.text_left keyboard.new) (K.typed keyboard.old) (K.typed keyboard.new)) }
-    ensures dated { ¬ IsErrOf result.ended Failure.BadDate }
+    ensures fault { IfErr result.ended (IsUnendedFrom day.history.opened today) }
 {
     let mut day = day;
     match run_day(alloc, &mut day, keyboard, screen) {
@@ -243,8 +248,8 @@ pub fn live_in_place<S: Source, D: DiskInPlace + Drop, K: Keyboard, C: Screen<D>
         (K.typed keyboard.old) (K.typed keyboard.new) (S.files source.old) options.now (C.shown screen.old) (C.shown screen.new) disk result.disk result.ended }
     // These lines are the first of the text, in order; what stands after them is left.
     ensures read { OnOk result.ended (HasTyped (K.text_left keyboard.old) (K.text_left keyboard.new) (K.typed keyboard.old) (K.typed keyboard.new)) }
-    // The date was read before.
-    ensures dated { ¬ IsErrOf result.ended Failure.BadDate }
+    // It is said why: which line of the setup is bad, which file is refused, which entry of the log does not hold.
+    ensures fault { IfErr result.ended (IsLifeFailure D.meaning (S.files source.old) options.now disk) }
     ensures kept { S.files source.new ≡ S.files source.old }
 {
     let disk = match begin_in_place::<Lived, LiveFailure, D>(alloc, disk) {

@@ -1,8 +1,8 @@
 //! Which files of a setup stay as they are, where the new ones have other names.
 
-ghost use Rattle.std.specs.Prelude.{◌≡◌, List, Ok, IfOk, OnOk};
+ghost use Rattle.std.specs.Prelude.{◌≡◌, List, Ok, IfErr, IfOk, OnOk};
 ghost use Rattle.std.specs.Io.KnownBytes.{Appends};
-ghost use Rattle.office_run.specs.WholeRun.{IsSaid};
+ghost use Rattle.office_run.specs.WholeRun.{IsReadFault, IsSaid};
 ghost use Rattle.setup_check.specs.KeptLines.{kept_lines};
 ghost use Rattle.station_lines.specs.declared.setup.entry.SetupEntry.{SetupEntry as Entry};
 
@@ -25,6 +25,7 @@ pub(crate) fn warn_of_kept_files<S: Source, E: Write>(
 ) -> Result<io::Result<()>, ServeFault>
     ensures text { IfOk result (λ printed. (entries : List Entry) × IsSaid (S.files source.old) setup.now (Ok entries)
         × OnOk printed (Appends (E.contents err.old) (E.contents err.new) (kept_lines entries))) }
+    ensures fault { IfErr result (IsReadFault (S.files source.old) setup.now) }
     ensures kept { S.files source.new ≡ S.files source.old }
 {
     let entries = read_setup(alloc, source, setup)?;

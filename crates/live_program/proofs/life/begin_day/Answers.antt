@@ -5,12 +5,16 @@ use Rattle.folders.proofs.SinceLaws.{leaves_as}
 use Rattle.live_day.specs.Days.{parts_of}
 use Rattle.live_log.specs.Gates.{log_of}
 use Rattle.live_program.specs.Lives.{IsFound}
+use Rattle.live_program.proofs.FailureLaws.{err_failed}
 use Rattle.live_program.proofs.LifeLaws.{begun_leaves, err_by, ok_both, ok_by, synced_left}
 use Rattle.live_program.proofs.life.begin_day.Goals as goal
 
 pub returns-in-Ok-clause-found : goal.returns-in-Ok-clause-found
 returns-in-Ok-clause-found g c promised =
     ok_by c.begin_found.result _ _ (λ day is. subst (λ (h : History). IsFound (g.S.Source.files c.args.source.now) c.args.options.now (g.D.Disk.meaning.seen c.args.disk) h) (sym is) (c.in-Ok.ensures.found promised)) c.begin_found.ensures.history
+
+pub returns-in-Ok-clause-tables : goal.returns-in-Ok-clause-tables
+returns-in-Ok-clause-tables g c = ok_by c.begin_found.result _ _ (λ day is. rw is c.in-Ok.ensures.tables) c.begin_found.ensures.history
 
 pub returns-in-Ok-clause-stations : goal.returns-in-Ok-clause-stations
 returns-in-Ok-clause-stations g c =
@@ -40,3 +44,12 @@ pub returns-in-Err-clause-unbegun : goal.returns-in-Err-clause-unbegun
 returns-in-Err-clause-unbegun g c promised =
     rw c.failed.ensures.disk (inl (leaves_as g.D.Disk.meaning c.args.disk c.find_day.new.disk (g.D.Disk.meaning.may_leave c.args.disk) _ c.find_day.ensures.any_moment
     (λ left may. synced_left g.D.Disk.meaning c.args.disk left (c.requires.synced promised) (c.requires.clean promised) may)))
+
+pub returns-in-Ok-clause-fault : goal.returns-in-Ok-clause-fault
+returns-in-Ok-clause-fault g c = err_by c.begin_found.result _ _ (λ unbegun why. (why.0, inr (inr why.1), why.2)) c.begin_found.ensures.fault
+
+pub returns-in-Err-clause-refused : goal.returns-in-Err-clause-refused
+returns-in-Err-clause-refused g c = err_failed c.failed.result.ended _ c.failed.ensures.ended
+
+pub returns-in-Err-clause-fault : goal.returns-in-Err-clause-fault
+returns-in-Err-clause-fault g c = (c.in-Err.why, c.in-Err.ensures.fault, c.failed.ensures.ended)

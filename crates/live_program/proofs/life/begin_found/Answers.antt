@@ -1,4 +1,5 @@
 use Rattle.std.proofs.Common.{◌∙◌, ap}
+use Rattle.live_program.proofs.FailureLaws.{err_failed}
 use Rattle.live_program.proofs.LifeLaws.{log_fits, placed_as}
 use Rattle.live_program.proofs.life.begin_found.Goals as goal
 
@@ -17,3 +18,9 @@ pub returns-clause-moment_of_fault : goal.returns-clause-moment_of_fault
 returns-clause-moment_of_fault g c promised =
     rw c.failed.ensures.disk
     (placed_as g.D.Disk.meaning c.args.disk c.new.result.disk _ _ _ _ c.new.ensures.disk c.requires.name (c.as_slice.ensures.value ∙ c.requires.log) (c.in-Err.ensures.moment_of_fault promised))
+
+pub returns-clause-refused : goal.returns-clause-refused
+returns-clause-refused g c = err_failed c.failed.result.ended _ c.failed.ensures.ended
+
+pub returns-clause-fault : goal.returns-clause-fault
+returns-clause-fault g c = (c.unstarted.result, (c.in-Err.stopped.fault, c.unstarted.ensures.value), c.failed.ensures.ended)

@@ -15,6 +15,9 @@ close_day-ended-requires-clause-clean g c promised =
 pub returns-clause-count : goal.returns-clause-count
 returns-clause-count g c = rw (← c.into_parts-catalogue.ensures.history) c.close_day-ended.ensures.count
 
+pub returns-clause-fault : goal.returns-clause-fault
+returns-clause-fault g c = rw (← c.into_parts-catalogue.ensures.history) c.close_day-ended.ensures.fault
+
 pub returns-clause-placed : goal.returns-clause-placed
 returns-clause-placed g c promised =
     let disk : c.into_disk.result ≡ c.args.day.log.disk = c.into_disk.ensures.disk ∙ ap (λ (log : LogValue g.row.D.Denot). log.disk) c.into_parts-catalogue.ensures.log in

@@ -1,4 +1,7 @@
+use Rattle.std.proofs.Common.{inr, inl, refl}
 use Rattle.live_log.proofs.Reading.{still_clean, still_synced}
+use Rattle.live_program.specs.Failures.{IsToldOf}
+use Rattle.live_program.proofs.FailureLaws.{refused_start, told_end_of, unopened_tables}
 use Rattle.live_program.proofs.life.find_day.Goals as goal
 
 pub returns-clause-synced : goal.returns-clause-synced
@@ -15,3 +18,39 @@ returns-clause-found g c promised = record {
   legal = c.in_ok-log.ensures.legal;
   of_stations = c.in_ok-log.ensures.of_stations;
 }
+
+pub returns-clause-tables : goal.returns-clause-tables
+returns-clause-tables g c = rw c.in_ok-log.ensures.opened (rw (c.in_ok-setup.ensures.value, c.as_bytes.ensures.value, c.warn_of_kept_files.ensures.kept) at c.in_ok-catalogue.ensures.opened)
+
+pub returns-in_err-setup-clause-fault : goal.returns-in_err-setup-clause-fault
+returns-in_err-setup-clause-fault g c =
+    told_end_of _ _ _ c.from_residual.ensures.1 (refused_start (IsToldOf g.D.Disk.meaning (g.D.Disk.meaning.seen c.args.disk.now)) (g.S.Source.files c.args.source.now) c.args.options.now)
+
+pub returns-in_err-name-clause-fault : goal.returns-in_err-name-clause-fault
+returns-in_err-name-clause-fault g c =
+    told_end_of _ _ _ c.from_residual-in_err-name.ensures.1 (refused_start (IsToldOf g.D.Disk.meaning (g.D.Disk.meaning.seen c.args.disk.now)) (g.S.Source.files c.args.source.now) c.args.options.now)
+
+pub returns-in_err-tell_again-clause-fault : goal.returns-in_err-tell_again-clause-fault
+returns-in_err-tell_again-clause-fault g c =
+    told_end_of _ _ _ c.from_residual-in_err-tell_again.ensures.1 (refused_start (IsToldOf g.D.Disk.meaning (g.D.Disk.meaning.seen c.args.disk.now)) (g.S.Source.files c.args.source.now) c.args.options.now)
+
+pub returns-in_err-warn_of_kept_files-clause-fault : goal.returns-in_err-warn_of_kept_files-clause-fault
+returns-in_err-warn_of_kept_files-clause-fault g c =
+    told_end_of _ _ _ c.from_residual-in_err-warn_of_kept_files.ensures.1 (unopened_tables (IsToldOf g.D.Disk.meaning (g.D.Disk.meaning.seen c.args.disk.now)) (g.S.Source.files c.args.source.now) c.args.options.now _
+    (rw (c.in_ok-setup.ensures.value, c.as_bytes.ensures.value) at c.in_err-warn_of_kept_files.ensures.fault))
+
+pub returns-in_err-catalogue-clause-fault : goal.returns-in_err-catalogue-clause-fault
+returns-in_err-catalogue-clause-fault g c =
+    told_end_of _ _ _ c.from_residual-in_err-catalogue.ensures.1
+    (inl (record { fault = c.in_err-catalogue.field-0.0; unopened = rw (c.in_ok-setup.ensures.value, c.as_bytes.ensures.value, c.warn_of_kept_files.ensures.kept) at c.in_err-catalogue.ensures.fault; why_is = refl }))
+
+pub returns-in_err-log-clause-fault : goal.returns-in_err-log-clause-fault
+returns-in_err-log-clause-fault g c =
+    told_end_of _ _ _ c.from_residual-in_err-log.ensures.1
+    (inr (inl (record {
+      opened = c.in_ok-catalogue.catalogue.opened;
+      tables = rw (c.in_ok-setup.ensures.value, c.as_bytes.ensures.value, c.warn_of_kept_files.ensures.kept) at c.in_ok-catalogue.ensures.opened;
+      fault = c.in_err-log.field-0.0;
+      told = c.in_err-log.ensures.refused;
+      why_is = refl;
+    })))

@@ -1,5 +1,6 @@
-use Rattle.live_program.proofs.DateLaws.{unbegun_dated}
-use Rattle.live_program.proofs.LifeLaws.{begun_life, ok_never, unbegun_life, unrecovered_life}
+use Rattle.std.proofs.Common.{inl, inr, refl}
+use Rattle.live_program.proofs.FailureLaws.{err_is, recovered_told, told_on}
+use Rattle.live_program.proofs.LifeLaws.{begun_life, err_by, ok_never, unbegun_life, unrecovered_life}
 use Rattle.live_program.proofs.life.live_in_place.Goals as goal
 
 pub returns-in-Err-clause-life : goal.returns-in-Err-clause-life
@@ -22,5 +23,15 @@ returns-in-Err-clause-read g c = ok_never c.in-Err.refused.ended _ c.in-Err.ensu
 pub returns-in-Err-begin_day-clause-read : goal.returns-in-Err-begin_day-clause-read
 returns-in-Err-begin_day-clause-read g c = ok_never c.in-Err-begin_day.unbegun.ended _ c.in-Err-begin_day.ensures.refused
 
-pub returns-in-Err-clause-dated : goal.returns-in-Err-clause-dated
-returns-in-Err-clause-dated g c = unbegun_dated c.in-Err.refused.ended c.in-Err.ensures.unbegun
+pub returns-in-Err-clause-fault : goal.returns-in-Err-clause-fault
+returns-in-Err-clause-fault g c = err_by c.in-Err.refused.ended _ _ (λ why is. inl is) c.in-Err.ensures.unbegun
+
+pub returns-in-Ok-begin_day-clause-fault : goal.returns-in-Ok-begin_day-clause-fault
+returns-in-Ok-begin_day-clause-fault g c =
+    err_by c.live_day.result.ended _ _ (λ why is. inr (inr (c.in-Ok-begin_day.day.history.opened, c.in-Ok-begin_day.ensures.tables, is))) c.live_day.ensures.fault
+
+pub returns-in-Err-begin_day-clause-fault : goal.returns-in-Err-begin_day-clause-fault
+returns-in-Err-begin_day-clause-fault g c =
+    let why = c.in-Err-begin_day.ensures.fault in
+    err_is c.in-Err-begin_day.unbegun.ended _ _ why.2
+    (inr (inl (why.0, told_on _ _ _ _ _ (λ opened fault told. recovered_told g.D.Disk.meaning c.args.disk c.in-Ok.disk opened fault c.in-Ok.ensures.recovered told) why.1, refl)))

@@ -1,4 +1,4 @@
-use Rattle.std.proofs.Common.{◌≡◌, ◌∷◌, length, List, arith, rules}
+use Rattle.std.proofs.Common.{◌≡◌, ◌∷◌, length, arith, rules}
 use Rattle.std.specs.Vec.Iter.{into_iter_items}
 use Rattle.live_program.proofs.OpeningLaws.{all_sorted, none_sorted, sorted_more}
 use Rattle.live_program.proofs.opening.table_entries.Goals as goal

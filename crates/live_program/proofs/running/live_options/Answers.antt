@@ -1,6 +1,9 @@
-use Rattle.std.proofs.Common.{inl, refl}
-use Rattle.live_program.proofs.DateLaws.{unopened_dated}
-use Rattle.live_program.proofs.LifeLaws.{life_over}
+use Rattle.std.proofs.Common.{inl, inr, refl}
+use Rattle.files_in_place.specs.declared.folder_lock.LockFault.TheVariants.{Failed}
+use Rattle.program_frame.specs.declared.folder.FolderFault.TheVariants.{Unopened}
+use Rattle.program_frame.specs.declared.folder.PlaceFault.TheVariants.{Folder}
+use Rattle.live_program.proofs.FailureLaws.{told_end_of}
+use Rattle.live_program.proofs.LifeLaws.{err_by, life_over}
 use Rattle.live_program.proofs.running.live_options.Goals as goal
 
 pub returns-in-Some-clause-life : goal.returns-in-Some-clause-life
@@ -10,5 +13,12 @@ returns-in-Some-clause-life g c =
 pub returns-in-None-clause-life : goal.returns-in-None-clause-life
 returns-in-None-clause-life g c = inl refl
 
-pub returns-in_err-disk-clause-dated : goal.returns-in_err-disk-clause-dated
-returns-in_err-disk-clause-dated g c = unopened_dated c.from_residual.result c.in_err-disk.field-0.0 c.from_residual.ensures.1
+pub returns-in_err-disk-clause-fault : goal.returns-in_err-disk-clause-fault
+returns-in_err-disk-clause-fault g c = told_end_of _ _ _ c.from_residual.ensures.1 (inl (c.in_err-disk.field-0.0, c.in_err-disk.ensures.fault, refl))
+
+pub returns-in-None-clause-fault : goal.returns-in-None-clause-fault
+returns-in-None-clause-fault g c = inl (Folder Unopened, (Failed, refl), refl)
+
+pub returns-in-Some-clause-fault : goal.returns-in-Some-clause-fault
+returns-in-Some-clause-fault g c =
+    err_by c.live_in_place.result.ended _ _ (λ why is. inr (c.in-Some.disk, rw c.in-Some.is at c.in_ok-disk.ensures.opened, is)) c.live_in_place.ensures.fault

@@ -1,5 +1,5 @@
-use Rattle.std.proofs.Common.{map}
-use Rattle.live_program.proofs.DateLaws.{failed_dated, unread_dated}
+use Rattle.std.proofs.Common.{inl, inr, map, refl}
+use Rattle.live_program.proofs.FailureLaws.{told_end_of}
 use Rattle.live_program.proofs.LifeLaws.{failed_unlived, unread_unlived}
 use Rattle.live_program.proofs.running.run_program.Goals as goal
 
@@ -19,9 +19,16 @@ returns-clause-lived g c = record {
   life = c.in_ok-live_options.ensures.life;
 }
 
-pub returns-in_err-options-clause-dated : goal.returns-in_err-options-clause-dated
-returns-in_err-options-clause-dated g c = unread_dated (map g.T.AsStr.text c.args.words.now) _ _ c.from_residual.ensures.1 c.in_err-options.ensures.fault
+pub returns-in_err-options-clause-fault : goal.returns-in_err-options-clause-fault
+returns-in_err-options-clause-fault g c = told_end_of _ _ _ c.from_residual.ensures.1 (inl c.in_err-options.ensures.fault)
 
-pub returns-in_err-live_options-clause-dated : goal.returns-in_err-live_options-clause-dated
-returns-in_err-live_options-clause-dated g c =
-    failed_dated (map g.T.AsStr.text c.args.words.now) _ _ c.from_residual-in_err-live_options.ensures.1 c.in_err-live_options.ensures.dated
+pub returns-in_err-live_options-clause-fault : goal.returns-in_err-live_options-clause-fault
+returns-in_err-live_options-clause-fault g c =
+    told_end_of _ _ _ c.from_residual-in_err-live_options.ensures.1
+    (inr (record {
+      options = c.in_ok-options.options;
+      asked = c.in_ok-options.ensures.asked;
+      why = c.in_err-live_options.field-0.0;
+      failed = c.in_err-live_options.ensures.fault;
+      end_is = refl;
+    }))

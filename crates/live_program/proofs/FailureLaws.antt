@@ -1,0 +1,78 @@
+-- Why a life failed, as its parts say it.
+use Rattle.std.proofs.Common.{◌≡◌, ◌∙◌, Bool, true, List, ℕ, Option, Some, Result, Ok, Err, refl, sym, ap, subst, inl, inr}
+use Rattle.std.specs.Prelude.{⊤, IfErr, IsErr, IsErrAnd, IsErrOf}
+use Rattle.catalogue_core.specs.Replay.{History, Opened}
+use Rattle.dbf_fields.specs.declared.day.Day.{Day}
+use Rattle.files_in_place.specs.declared.faults.SetFault.{SetFault}
+use Rattle.files_in_place.specs.declared.faults.SetFault.TheVariants as set
+use Rattle.files_in_place.specs.Disk.{DiskMeaning}
+use Rattle.files_in_place.specs.Folder.{recovered}
+use Rattle.folders.specs.declared.named.NamedFile.{NamedFile}
+use Rattle.office_run.specs.WholeRun.{IsReadFault}
+use Rattle.office_run.specs.declared.fault.ServeFault.{ServeFault}
+use Rattle.office_run.specs.declared.fault.ServeFault.TheVariants as serve
+use Rattle.program_frame.specs.Jobs.{given_up}
+use Rattle.program_frame.specs.declared.ending.Failure.TheVariants as failure
+use Rattle.live_day.specs.declared.run_fault.RunFault.{RunFault}
+use Rattle.live_day.specs.declared.run_fault.RunFault.TheVariants.{Log}
+use Rattle.live_day.specs.declared.start_fault.StartFault.{StartFault}
+use Rattle.live_log.specs.declared.faults.LogFault.TheVariants.{Closed}
+use Rattle.live_day.specs.Starts.{IsLogFault}
+use Rattle.live_log.specs.Gates.{or_empty_log}
+use Rattle.open_day.specs.OpenDay.{log_name}
+use Rattle.program_frame.specs.Placing.{IsRecovered}
+use Rattle.live_program.specs.Endings.{no_memory, run_failure}
+use Rattle.live_program.specs.Failures.{IsDayFailure, IsStopFailure, IsToldOf, IsUnstarted}
+use Rattle.live_program.specs.declared.failure.LiveFailure.{LiveFailure}
+use Rattle.live_program.specs.declared.failure.LiveFailure.TheVariants as live
+use Rattle.live_program.specs.declared.options.Options.{Options}
+use Rattle.live_program.proofs.OpeningLaws.{unread_tables}
+
+-- what holds of the fault holds of the result that is of it
+pub err_is : {T E : Type 0} (r : Result T E) (why : E) (P : E → Type 0) → r ≡ Err why → P why → IfErr r P
+err_is r why P is holds = subst (λ x. IfErr x P) (sym is) holds
+
+-- and it is an error
+pub err_failed : {T E : Type 0} (r : Result T E) (why : E) → r ≡ Err why → IsErr r
+err_failed (Ok t) why is = absurd cc
+err_failed (Err e) why is = refl
+
+-- what holds of the fault that `?` hands on
+pub told_end_of : {T E : Type 0} (r : Result T E) (why : E) (P : E → Type 0) → IsErrAnd r (λ e. e ≡ why) → P why → IfErr r P
+told_end_of (Ok t) why P is holds = absurd is
+told_end_of (Err e) why P is holds = subst P (sym is) holds
+
+-- a file that was not taken for want of memory
+pub given_up_day : (h : History) (today : Day) (b : Bool) (last : Option SetFault) (why : LiveFailure) → IsDayFailure h today why → IsDayFailure h today (given_up b no_memory last why)
+given_up_day h today true (Some set.NoMemory) why is = (serve.NoMemory, inl tt, refl)
+given_up_day h today b last why is = is
+
+pub given_up_as : (h : History) (today : Day) (b : Bool) (last : Option SetFault) (why told : LiveFailure) → told ≡ given_up b no_memory last why → IsDayFailure h today why → IsDayFailure h today told
+given_up_as h today b last why told is failure = subst (IsDayFailure h today) (sym is) (given_up_day h today b last why failure)
+
+-- the lines of a day were not all answered
+pub stop_failed : (r : Result ⊤ RunFault) (fault : RunFault) (why : LiveFailure) → r ≡ Err fault → (IsErrOf r (Log Closed) → ⊥) → why ≡ run_failure fault → IsStopFailure why
+stop_failed r fault why was never is = (fault, (λ e. never (was ∙ ap (λ (f : RunFault). Err f) e)), is)
+
+-- the tables are not opened
+pub unopened_tables : (told : Opened → StartFault → Type 0) (files : Option (List NamedFile)) (options : Options) (fault : ServeFault) → IsReadFault files options.setup.now fault
+    → IsUnstarted told files options (live.Serve fault)
+unopened_tables told files options fault unread = inl (record { fault = fault; unopened = unread_tables files options.setup.now options.reindex fault unread; why_is = refl })
+
+-- memory was refused
+pub refused_start : (told : Opened → StartFault → Type 0) (files : Option (List NamedFile)) (options : Options) → IsUnstarted told files options no_memory
+refused_start told files options = inl (record { fault = serve.NoMemory; unopened = tt; why_is = refl })
+
+-- of a log it is said the same where the folder was recovered
+pub recovered_told : {D : Type 0} (m : DiskMeaning D) (start now : D) (opened : Opened) (fault : StartFault) → (m.keeps_promises → IsRecovered m start now) → IsToldOf m (m.seen now) opened fault
+    → IsToldOf m (recovered (m.seen start)) opened fault
+recovered_told m start now opened fault recovered_to told promised =
+    subst (λ (o : Option (List ℕ)). IsLogFault opened (or_empty_log o) fault) ((recovered_to promised).same log_name) (told promised)
+
+-- of a day that was not begun, where this is said of each log of which that is
+pub told_on : (told told_then : Opened → StartFault → Type 0) (files : Option (List NamedFile)) (options : Options) (why : LiveFailure)
+    → ((opened : Opened) (fault : StartFault) → told opened fault → told_then opened fault) → IsUnstarted told files options why → IsUnstarted told_then files options why
+told_on told told_then files options why on (inl tables) = inl tables
+told_on told told_then files options why on (inr (inl log)) =
+    inr (inl (record { opened = log.opened; tables = log.tables; fault = log.fault; told = on log.opened log.fault log.told; why_is = log.why_is }))
+told_on told told_then files options why on (inr (inr unplaced)) = inr (inr unplaced)

@@ -1,0 +1,132 @@
+-- Why a life of the program failed.
+use Rattle.std.specs.Prelude.{◌≡◌, ◌≢◌, ◌⊎◌, List, ℕ, Option}
+use Rattle.catalogue_core.specs.Replay.{History, IsLegal, Opened}
+use Rattle.clap.specs.Words.{Text}
+use Rattle.dbf_fields.specs.declared.day.Day.{Day}
+use Rattle.files_in_place.specs.Disk.{DiskMeaning}
+use Rattle.files_in_place.specs.Folder.{Folder, recovered}
+use Rattle.files_in_place.specs.declared.faults.SetFault.{SetFault}
+use Rattle.folders.specs.declared.finish_fault.FinishFault.{FinishFault}
+use Rattle.folders.specs.declared.named.NamedFile.{NamedFile}
+use Rattle.live_day.specs.Starts.{IsLogFault}
+use Rattle.live_day.specs.declared.run_fault.RunFault.{RunFault}
+use Rattle.live_day.specs.declared.run_fault.RunFault.TheVariants.{Log}
+use Rattle.live_day.specs.declared.start_fault.StartFault.{StartFault}
+use Rattle.live_log.specs.Gates.{or_empty_log}
+use Rattle.live_log.specs.declared.faults.LogFault.TheVariants.{Closed}
+use Rattle.office_run.specs.TablesWritten.{IsTablesFault}
+use Rattle.office_run.specs.declared.close_fault.CloseFault.TheVariants.{Write}
+use Rattle.office_run.specs.declared.fault.ServeFault.{ServeFault}
+use Rattle.office_run.specs.declared.fault.ServeFault.TheVariants.{Close, NoMemory}
+use Rattle.open_day.specs.OpenDay.{log_name}
+use Rattle.program_frame.specs.Endings.{place_failure}
+use Rattle.program_frame.specs.Jobs.{IsUnbegun}
+use Rattle.program_frame.specs.PlaceFaults.{unplaced_files, IsOfLock}
+use Rattle.program_frame.specs.declared.ending.Ending.{Ending}
+use Rattle.program_frame.specs.declared.ending.Ending.TheVariants as ending
+use Rattle.program_frame.specs.declared.ending.Failure.{Failure}
+use Rattle.program_frame.specs.declared.ending.Failure.TheVariants as failure
+use Rattle.program_frame.specs.declared.folder.PlaceFault.{PlaceFault}
+use Rattle.live_program.specs.Asked.{IsAskedIn, IsWhyNotRead}
+use Rattle.live_program.specs.Endings.{no_memory, run_failure, start_failure, unplaced_log}
+use Rattle.live_program.specs.Openings.{AreTablesOpened, AreTablesUnopened}
+use Rattle.live_program.specs.declared.failure.LiveFailure.{LiveFailure}
+use Rattle.live_program.specs.declared.failure.LiveFailure.TheVariants as live
+use Rattle.live_program.specs.declared.options.Options.{Options}
+
+-- ---- a day that was not begun
+
+-- the tables of the setup are not opened
+pub record IsTablesFailure (files : Option (List NamedFile)) (options : Options) (why : LiveFailure) : Type 0 where
+  pub fault : ServeFault
+  pub unopened : AreTablesUnopened files options.setup.now options.reindex fault
+  pub why_is : why ≡ live.Serve fault
+
+-- they are, but what the log says is not performed once more on them, for a fault of which this says when it is told
+pub record IsLogFailure (is_told : Opened → StartFault → Type 0) (files : Option (List NamedFile)) (options : Options) (why : LiveFailure) : Type 0 where
+  pub opened : Opened
+  pub tables : AreTablesOpened files options.setup.now options.reindex opened
+  pub fault : StartFault
+  pub told : is_told opened fault
+  pub why_is : why ≡ start_failure fault
+
+-- it is, but the log of the same entries has not got its place
+abbrev pub IsLogUnplaced : LiveFailure → Type 0
+IsLogUnplaced why = (fault : SetFault) × (why ≡ unplaced_log fault)
+
+-- one of the three
+abbrev pub IsUnstarted : (Opened → StartFault → Type 0) → Option (List NamedFile) → Options → LiveFailure → Type 0
+IsUnstarted is_told files options why = IsTablesFailure files options why ⊎ IsLogFailure is_told files options why ⊎ IsLogUnplaced why
+
+-- where the disk keeps its promises, the folder's log does not hold on the opened tables, up to this fault
+abbrev pub IsToldOf : {D : Type 0} → DiskMeaning D → Folder → Opened → StartFault → Type 0
+IsToldOf m folder opened fault = m.keeps_promises → IsLogFault opened (or_empty_log (folder log_name)) fault
+
+-- ---- a day that was begun
+
+-- its lines were not all answered; never does an earlier group have failed
+abbrev pub IsStopFailure : LiveFailure → Type 0
+IsStopFailure why = (fault : RunFault) × (fault ≢ Log Closed) × (why ≡ run_failure fault)
+
+-- memory was refused, or the folder has not taken a file
+abbrev pub IsFileUnwritten : ServeFault → Type 0
+IsFileUnwritten NoMemory = Unit {0}
+IsFileUnwritten (Close (Write name)) = Unit {0}
+IsFileUnwritten fault = ⊥
+
+-- the tables can't be written as they stand at the end of a legal journal
+abbrev pub IsTableFault : History → Day → ServeFault → Type 0
+IsTableFault h today fault = IsLegal h.opened h.journal × IsTablesFault h today.year fault
+
+-- the files of its end are not written, or not all
+abbrev pub IsDayFailure : History → Day → LiveFailure → Type 0
+IsDayFailure h today why = (fault : ServeFault) × (IsFileUnwritten fault ⊎ IsTableFault h today fault) × (why ≡ live.Serve fault)
+
+-- they are, but have not got their places
+abbrev pub AreFilesUnplaced : Failure LiveFailure → Type 0
+AreFilesUnplaced why = (fault : FinishFault) × (why ≡ place_failure no_memory (unplaced_files fault))
+
+-- it was not closed
+abbrev pub IsUnclosed : History → Day → Failure LiveFailure → Type 0
+IsUnclosed h today why = ((fault : LiveFailure) × IsDayFailure h today fault × (why ≡ failure.Work fault)) ⊎ AreFilesUnplaced why
+
+-- it was stopped or not closed
+abbrev pub IsUnended : History → Day → Failure LiveFailure → Type 0
+IsUnended h today why = ((stop : LiveFailure) × IsStopFailure stop × (why ≡ failure.Work stop)) ⊎ IsUnclosed h today why
+
+-- ---- a life
+
+-- a day on these tables was begun, and this is why it has not come to its end
+abbrev pub IsUnendedFrom : Opened → Day → Failure LiveFailure → Type 0
+IsUnendedFrom opened today why = (last : History) × (last.opened ≡ opened) × IsUnended last today why
+
+-- a day on the setup's tables
+abbrev pub IsUnendedOn : Option (List NamedFile) → Options → Failure LiveFailure → Type 0
+IsUnendedOn files options why =
+    (opened : Opened) × AreTablesOpened files options.setup.now options.reindex opened × IsUnendedFrom opened options.today why
+
+-- a life over the folder of a disk failed: the folder was not recovered, the day was not begun, or has not come to its end
+abbrev pub IsLifeFailure : {D : Type 0} → DiskMeaning D → Option (List NamedFile) → Options → D → Failure LiveFailure → Type 0
+IsLifeFailure m files options disk why =
+    IsUnbegun no_memory why
+    ⊎ ((fault : LiveFailure) × IsUnstarted (IsToldOf m (recovered (m.seen disk))) files options fault × (why ≡ failure.Work fault))
+    ⊎ IsUnendedOn files options why
+
+-- or its folder was not opened
+abbrev pub IsOptionsFailure : {D : Type 0} → DiskMeaning D → (D → Type 0) → Option (List NamedFile) → Options → Failure LiveFailure → Type 0
+IsOptionsFailure {D} m is_opened files options why =
+    ((fault : PlaceFault) × IsOfLock fault × (why ≡ place_failure no_memory fault))
+    ⊎ ((disk : D) × is_opened disk × IsLifeFailure m files options disk why)
+
+-- the words of a command line ask for a life that failed
+pub record IsAskedFailure {D : Type 0} (m : DiskMeaning D) (opens : List ℕ → D → Type 0) (files : Option (List NamedFile)) (words : List Text)
+    (end : Ending (Failure LiveFailure)) : Type 0 where
+  pub options : Options
+  pub asked : IsAskedIn words options
+  pub why : Failure LiveFailure
+  pub failed : IsOptionsFailure m (opens options.out.now) files options why
+  pub end_is : end ≡ ending.Failed why
+
+-- why there was no life that came to its end: the words were not read, or ask for one that failed
+abbrev pub IsWhyUnlived : {D : Type 0} → DiskMeaning D → (List ℕ → D → Type 0) → Option (List NamedFile) → List Text → Ending (Failure LiveFailure) → Type 0
+IsWhyUnlived m opens files words end = IsWhyNotRead words end ⊎ IsAskedFailure m opens files words end
