@@ -1,5 +1,5 @@
 -- The files of a table that is made from a list of its fields.
-use Rattle.std.specs.Prelude.{◌≡◌, ◌⊎◌, ℕ, Bool, true, false, List, [], ◌∷◌, ◌++◌, codes, Option, Ok, Err, if◌then◌else◌}
+use Rattle.std.specs.Prelude.{◌≡◌, ◌⊎◌, ℕ, Bool, true, false, List, [], ◌∷◌, ◌++◌, codes, Option, Some, Ok, Err, if◌then◌else◌}
 use Rattle.byte_io.specs.Sink.{Rises}
 use Rattle.dbf_fields.specs.declared.day.Day.{Day}
 use Rattle.dbf_fields.specs.declared.field.Field.{Field}
@@ -12,7 +12,7 @@ use Rattle.field_list.specs.declared.fault.FieldListFault.TheVariants as fault
 use Rattle.folders.specs.declared.named.NamedFile.{NamedFile}
 use Rattle.folders.specs.declared.source.LoadFault.{LoadFault}
 use Rattle.folders.specs.declared.source.LoadFault.TheVariants.{CannotRead, NoMemory, Unrecovered}
-use Rattle.folders.specs.Files.{IsFileOf, IsTooLong, IsUnrecovered}
+use Rattle.folders.specs.Files.{load_refusal, IsFileOf, IsTooLong, IsUnrecovered}
 use Rattle.table_maker.specs.declared.files.FilesFault.{FilesFault}
 use Rattle.table_maker.specs.declared.files.FilesFault.TheVariants as files
 use Rattle.table_maker.specs.declared.fault.MakeFault.{MakeFault}
@@ -53,16 +53,26 @@ abbrev pub AreMadeFiles : Option (List NamedFile) → List ℕ → List ℕ → 
 AreMadeFiles files list stem in_capitals day made =
     (fields : List Field) × AreFieldsIn files list fields × (made ≡ made_files stem in_capitals day fields)
 
--- why it is not made, where this is the path of the list of fields
-abbrev pub IsWhyNotMade : Option (List NamedFile) → List ℕ → MakeFault → Type 0
-IsWhyNotMade files list (make.Load path Unrecovered) = (path.now ≡ list) × IsUnrecovered files list
-IsWhyNotMade files list (make.Load path CannotRead) = path.now ≡ list
-IsWhyNotMade files list (make.Load path NoMemory) = ⊥
-IsWhyNotMade files list (make.List path why) = (path.now ≡ list) × ((text : List ℕ) × IsFileOf files list text × IsFieldList text (Err why))
-IsWhyNotMade files list make.Write = Unit {0}
-IsWhyNotMade files list make.Exists = ⊥
-IsWhyNotMade files list make.Unread = ⊥
-IsWhyNotMade files list make.NoMemory = Unit {0}
+-- the fault is one of making it, where this is the path of the list of fields
+abbrev pub IsMakeJobFault : Option (List NamedFile) → List ℕ → MakeFault → Type 0
+IsMakeJobFault files list (make.Load path Unrecovered) = (path.now ≡ list) × IsUnrecovered files list
+IsMakeJobFault files list (make.Load path CannotRead) = path.now ≡ list
+IsMakeJobFault files list (make.Load path NoMemory) = ⊥
+IsMakeJobFault files list (make.List path why) = (path.now ≡ list) × ((text : List ℕ) × IsFileOf files list text × IsFieldList text (Err why))
+IsMakeJobFault files list make.Write = Unit {0}
+IsMakeJobFault files list make.Exists = ⊥
+IsMakeJobFault files list make.Unread = ⊥
+IsMakeJobFault files list make.NoMemory = Unit {0}
+
+-- the list of fields is not had for this
+abbrev pub IsOfList : LoadFault → MakeFault → Type 0
+IsOfList why (make.Load path said) = said ≡ why
+IsOfList why fault = ⊥
+
+-- Why it is not made. Where no load can give the list of fields that is the fault, whether there is memory or not.
+pub record IsWhyNotMade (files : Option (List NamedFile)) (list : List ℕ) (fault : MakeFault) : Type 0 where
+  pub early : (why : LoadFault) → load_refusal files list ≡ Some why → IsOfList why fault
+  pub why : IsMakeJobFault files list fault
 
 -- a load has failed since then, or the file is over the limit, where the fault says that it can't be read
 abbrev pub IsMakeFailure : Option (List NamedFile) → List ℕ → Option ℕ → Option ℕ → MakeFault → Type 0

@@ -1,6 +1,7 @@
 //! The work of making a table.
 
-ghost use Rattle.std.specs.Prelude.{◌≡◌, IfErr, IfOk, OnOk};
+ghost use Rattle.std.specs.Prelude.{◌≡◌, ◌≢◌, Some, IfErr, IfOk, OnOk};
+ghost use Rattle.folders.specs.Files.{load_refusal};
 ghost use Rattle.table_maker.specs.Making.{AreFieldsIn, IsMakeFailure, IsNoList, IsUnloaded, IsWhyNotMade};
 
 use crate::fault::MakeFault;
@@ -105,6 +106,7 @@ fn load_fields<'a, S: Source>(
     path: &'a str,
 ) -> Result<Schema, MakeFault<'a>>
     ensures listed { IfOk result (AreFieldsIn (S.files source.old) path.now) }
+    ensures readable { OnOk result ((why : LoadFault) → load_refusal (S.files source.old) path.now ≢ Some why) }
     ensures fault { IfErr result (IsWhyNotMade (S.files source.old) path.now) }
     ensures kept { S.files source.new ≡ S.files source.old }
     ensures loads { OnOk result (S.failures source.new ≡ S.failures source.old) }

@@ -9,6 +9,7 @@ use Rattle.tool_program.specs.declared.fault.ToolFault.{ToolFault}
 use Rattle.tool_program.specs.declared.fault.ToolFault.TheVariants as tool
 use Rattle.tool_program.specs.declared.asked.LoadOptions.{LoadOptions}
 use Rattle.tool_program.specs.declared.report.ToolReport.{ToolReport}
+use Rattle.tool_program.specs.Faults.{TellsUnreadFolder}
 use Rattle.tool_program.specs.TableLoaded.{told_of_load, IsBadLoad, IsWhyNoTableLoaded}
 
 -- ---- that a file is there
@@ -24,6 +25,26 @@ load_told_exists (OfWork load.Write) e = cc
 load_told_exists (OfWork (load.Csv path fault)) e = cc
 load_told_exists (OfWork (load.Old path fault)) e = cc
 load_told_exists (OfWork (load.Text path fault)) e = cc
+
+-- ---- that the folder can't be read
+
+-- it is told as such
+pub load_told_unread : (why : Failure LoadJobFault) → TellsUnreadFolder (told_of_load why) → why ≡ OfWork load.Unread
+load_told_unread BadDate e = e
+load_told_unread (OfFolder why) e = e
+load_told_unread (OfWork load.NoMemory) e = absurd e
+load_told_unread (OfWork load.Exists) e = e
+load_told_unread (OfWork load.Unread) e = e
+load_told_unread (OfWork load.Write) e = e
+load_told_unread (OfWork (load.Csv path fault)) e = e
+load_told_unread (OfWork (load.Old path fault)) e = e
+load_told_unread (OfWork (load.Text path fault)) e = e
+
+-- the options say no work, but not so
+pub bad_load_unread : (options : LoadOptions) (fault : ToolFault) → IsBadLoad options fault → TellsUnreadFolder fault → ⊥
+bad_load_unread options tool.BadOut bad e = e
+bad_load_unread options (tool.Load BadDate) bad e = cc
+bad_load_unread options fault bad e = bad
 
 -- ---- what is told of records that are not loaded
 

@@ -12,6 +12,7 @@ use Rattle.tool_program.specs.Options.{first_of_three, first_of_two}
 use Rattle.folders.specs.declared.named.NamedFile.{NamedFile}
 use Rattle.tool_program.specs.declared.report.ToolReport.{ToolReport}
 use Rattle.tool_program.specs.declared.report.ToolReport.TheVariants.{Good, Unread}
+use Rattle.tool_program.specs.Faults.{TellsUnreadFolder}
 use Rattle.tool_program.specs.TableMade.{told_of, IsBadMake, IsWhyNoTableMade}
 
 -- ---- one of three texts is missing
@@ -55,9 +56,24 @@ told_exists (OfWork make.Write) e = cc
 told_exists (OfWork (make.Load path fault)) e = cc
 told_exists (OfWork (make.List path fault)) e = cc
 
+-- ---- that the folder can't be read
+
+-- it is told as such
+pub told_unread : (why : Failure MakeFault) → TellsUnreadFolder (told_of why) → why ≡ OfWork make.Unread
+told_unread BadDate e = e
+told_unread (OfFolder why) e = e
+told_unread (OfWork make.NoMemory) e = absurd e
+told_unread (OfWork make.Exists) e = e
+told_unread (OfWork make.Unread) e = e
+told_unread (OfWork make.Write) e = e
+told_unread (OfWork (make.Load path fault)) e = e
+told_unread (OfWork (make.List path fault)) e = e
+
 -- the options say no work, but not so
-pub bad_exists : (options : MakeOptions) (fault : ToolFault) → IsBadMake options fault → fault ≡ tool.Make (OfWork make.Exists) → ⊥
-bad_exists options fault bad e = subst (IsBadMake options) e bad
+pub bad_unread : (options : MakeOptions) (fault : ToolFault) → IsBadMake options fault → TellsUnreadFolder fault → ⊥
+bad_unread options tool.BadOut bad e = e
+bad_unread options (tool.Make BadDate) bad e = cc
+bad_unread options fault bad e = bad
 
 -- ---- what is told of a table that is made, or not made
 

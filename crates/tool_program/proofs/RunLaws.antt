@@ -7,7 +7,10 @@ use Rattle.folders.specs.declared.source.LoadFault.TheVariants as load
 use Rattle.folders.specs.Files.{IsUnrecovered}
 use Rattle.tool_program.specs.declared.checking.CheckFault.{CheckFault}
 use Rattle.tool_program.specs.declared.checking.CheckFault.TheVariants as check
+use Rattle.program_frame.specs.declared.ending.Ending.{Ending}
+use Rattle.program_frame.specs.declared.ending.Ending.TheVariants as ended
 use Rattle.tool_program.specs.declared.fault.ToolFault.{ToolFault}
+use Rattle.tool_program.specs.declared.fault.ToolFault.TheVariants as tool
 use Rattle.tool_program.specs.declared.asked.Options.{Options}
 use Rattle.tool_program.specs.declared.order.OrderFault.{OrderFault}
 use Rattle.tool_program.specs.declared.report.ToolReport.{ToolReport}
@@ -15,7 +18,8 @@ use Rattle.tool_program.specs.declared.showing.ShowFault.{ShowFault}
 use Rattle.tool_program.specs.declared.showing.ShowFault.TheVariants as show
 use Rattle.tool_program.specs.Answers.{IsTrueOfTable}
 use Rattle.tool_program.specs.Check.{check_load_fault}
-use Rattle.tool_program.specs.Faults.{IsToolFaultOfSetup}
+use Rattle.tool_program.specs.Command.{IsWhyNotRead}
+use Rattle.tool_program.specs.Faults.{IsToolFaultOfSetup, TellsUnreadFolder}
 use Rattle.table_reader.specs.Memos.{IsMemosFault, IsNotHad}
 use Rattle.table_reader.specs.TableFiles.{IsNoTable}
 use Rattle.tool_program.specs.View.{IsNoOrder}
@@ -57,3 +61,18 @@ pub setup_load_told : (fault : CheckFault) (why : LoadFault) (path : List ℕ) (
     → IsErrAnd told (IsToolFaultOfSetup (check_load_fault why) path)
 setup_load_told fault why path closed (Ok report) e h k = absurd (not_sink why (sym e ∙ k.0))
 setup_load_told fault why path closed (Err ending) e h k = subst (λ (f : CheckFault). IsToolFaultOfSetup f path ending) e h
+
+-- ---- words that are not read
+
+neither : (words : List (List ℕ)) (fault : ToolFault) → IsWhyNotRead words (ended.Failed fault) → TellsUnreadFolder fault → ⊥
+neither words tool.BadRange why says = says
+neither words tool.NoMemory why says = says
+neither words fault why says = why
+
+-- are told otherwise than a folder that can't be read
+pub not_read_unread : (words : List (List ℕ)) (ending : Ending ToolFault) (told : ToolFault) → IsWhyNotRead words ending → TellsUnreadFolder told → ending ≡ ended.Failed told → ⊥
+not_read_unread words ended.NoText told why says is = why
+not_read_unread words (ended.CommandLine error) told why says is = cc
+not_read_unread words (ended.Failed fault) told why says is =
+    let same : fault ≡ told = cc in
+    neither words fault why (subst TellsUnreadFolder (sym same) says)

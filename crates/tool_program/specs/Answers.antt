@@ -1,5 +1,5 @@
 -- How a call of the program comes to its end: what it has written, and why it has not.
-use Rattle.std.specs.Prelude.{◌≡◌, ◌⊎◌, ℕ, true, false, List, Option, None, option_copied}
+use Rattle.std.specs.Prelude.{◌≡◌, ◌⊎◌, ℕ, true, false, List, Option, None, Some, Result, IsErrAnd, option_copied}
 use Rattle.program_frame.specs.declared.ending.Ending.{Ending}
 use Rattle.program_frame.specs.declared.ending.Ending.TheVariants.{Failed}
 use Rattle.folders.specs.declared.named.NamedFile.{NamedFile}
@@ -30,6 +30,7 @@ use Rattle.tool_program.specs.Faults.{path_at_fault, IsToolFaultOf, IsToolFaultO
 use Rattle.tool_program.specs.IndexTree.{IsTreeFault, IsTreeShown}
 use Rattle.table_reader.specs.Memos.{IsMemosFault, IsNotHad, IsWhyUnread}
 use Rattle.tool_program.specs.Pairing.{ArePaired, IsWhyUnpaired}
+use Rattle.table_maker.specs.Placing.{HasFailed}
 use Rattle.tool_program.specs.TableLoaded.{IsLoadPlacedBy, IsLoadTakenBy, IsWhyNoTableLoaded}
 use Rattle.tool_program.specs.TableMade.{IsPlacedBy, IsTakenBy, IsWhyNoTableMade}
 use Rattle.table_reader.specs.TableFiles.{IsNoTable}
@@ -135,6 +136,16 @@ IsLoadTakenIn {D} m opens asked = Unit {0}
 abbrev pub IsLoadTakenTo : {D : Type 0} → DiskMeaning D → (List ℕ → D → Type 0) → List (List ℕ) → Type 0
 IsLoadTakenTo {D} m opens words = (asked : Asked) × IsAskedIn words asked × IsLoadTakenIn m opens asked
 
+-- a call of the disk of the folder for a table that is asked for has failed, where a folder of a path is opened so
+abbrev pub HasFailedIn : {D : Type 0} → DiskMeaning D → (List ℕ → D → Type 0) → Asked → Type 0
+HasFailedIn {D} m opens (Make options) = HasFailed m (opens (folder_of_path options.out.now))
+HasFailedIn {D} m opens (Load options) = HasFailed m (opens (folder_of_path options.out.now))
+HasFailedIn {D} m opens asked = Unit {0}
+
+-- and of the folder for one that these words ask for
+abbrev pub HasFailedTo : {D : Type 0} → DiskMeaning D → (List ℕ → D → Type 0) → List (List ℕ) → Type 0
+HasFailedTo {D} m opens words = (asked : Asked) × IsAskedIn words asked × HasFailedIn m opens asked
+
 -- ---- why it was not
 
 -- why no load can give the file that is asked for, of two tables the old one, of a script with answers the script; of a list of fields and
@@ -157,6 +168,17 @@ IsToldUnloaded (Make options) why = λ fault. ⊥
 IsToldUnloaded (Load options) why = λ fault. ⊥
 IsToldUnloaded (Diff options) why = IsToolFaultOf (show.Load why) options.old_table.now
 IsToldUnloaded (Answers options) why = IsToolFaultOf (show.Load why) options.script.now
+
+-- and so does an ending
+abbrev pub IsEndedUnloaded : Asked → LoadFault → Ending ToolFault → Type 0
+IsEndedUnloaded asked why (Failed fault) = IsToldUnloaded asked why fault
+IsEndedUnloaded asked why ending = ⊥
+
+-- The words are not read, for this ending; or they are, and where no load gives the file that they ask for, the ending says why.
+abbrev pub IsToldFirst : List (List ℕ) → Option (List NamedFile) → Result ToolReport (Ending ToolFault) → Type 0
+IsToldFirst words files ended =
+    IsErrAnd ended (IsWhyNotRead words)
+    ⊎ ((asked : Asked) × IsAskedIn words asked × ((why : LoadFault) → asked_refusal files asked ≡ Some why → IsErrAnd ended (IsEndedUnloaded asked why)))
 
 -- what a fault of showing a table says is true of its files, between these counts of failed loads
 abbrev pub IsTrueOfTable : Option (List NamedFile) → Option ℕ → Option ℕ → Options → ShowFault → Type 0

@@ -23,7 +23,10 @@ use Rattle.tool_program.specs.declared.order.OrderFault.{OrderFault}
 use Rattle.tool_program.specs.declared.order.OrderFault.TheVariants as order
 use Rattle.tool_program.specs.declared.showing.ShowFault.{ShowFault}
 use Rattle.tool_program.specs.declared.showing.ShowFault.TheVariants as show
+use Rattle.program_frame.specs.declared.ending.Failure.TheVariants as failure
 use Rattle.program_frame.specs.Endings.{failure_status, failure_words}
+use Rattle.table_maker.specs.declared.fault.MakeFault.TheVariants as make
+use Rattle.table_maker.specs.declared.load_fault.LoadJobFault.TheVariants as load
 use Rattle.table_maker.specs.LoadFaults.{load_job_words, load_status}
 use Rattle.table_maker.specs.MakeFaults.{make_status, make_words}
 use Rattle.tool_program.specs.Reasons.{check_reason, key_reason, pair_reason, show_reason}
@@ -125,6 +128,12 @@ IsToolFaultOfAnswers (answers.Pairs why) path (tool.Pairs told said) = (told.now
 IsToolFaultOfAnswers (answers.Pairs why) path fault = ⊥
 IsToolFaultOfAnswers answers.NoMemory path fault = fault ≡ tool.NoMemory
 IsToolFaultOfAnswers answers.Sink path fault = fault ≡ tool.Output
+
+-- the fault says that the folder for a table can't be read
+abbrev pub TellsUnreadFolder : ToolFault → Type 0
+TellsUnreadFolder (tool.Make why) = why ≡ failure.Work make.Unread
+TellsUnreadFolder (tool.Load why) = why ≡ failure.Work load.Unread
+TellsUnreadFolder fault = ⊥
 
 -- ---- the exit status, and what is said
 

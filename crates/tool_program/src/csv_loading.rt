@@ -3,7 +3,9 @@
 ghost use Rattle.std.specs.Prelude.{◌≡◌, IfErr, IfOk, IsErrOf};
 ghost use Rattle.program_frame.specs.declared.ending.Failure.TheVariants.{Work as OfWork};
 ghost use Rattle.table_maker.specs.declared.load_fault.LoadJobFault.TheVariants.{Exists};
+ghost use Rattle.table_maker.specs.Placing.{HasFailed};
 ghost use Rattle.folders.specs.Paths.{folder_of_path};
+ghost use Rattle.tool_program.specs.Faults.{TellsUnreadFolder};
 ghost use Rattle.tool_program.specs.TableLoaded.{told_of_load, IsBadLoad, IsLoadJobOf, IsLoadPlacedBy, IsLoadTakenBy, IsWhyNoTableLoaded};
 
 use crate::asked::LoadOptions;
@@ -61,6 +63,7 @@ fn not_loaded(why: Failure<LoadJobFault<'_>>) -> ToolFault<'_>
 ///
 /// `BadOut` where the new table's name ends with neither `.DBF` nor `.dbf`, `NoMemory` where memory is refused; else `Load` says why they
 /// are not loaded. The new table has not been written then.
+#[tactic(auto, using(crate::proofs::LoadLaws::bad_load_unread))]
 pub(crate) fn load_records<'a, F: Source, Y: System>(
     alloc: Global,
     source: &mut F,
@@ -71,6 +74,8 @@ pub(crate) fn load_records<'a, F: Source, Y: System>(
     ensures made { IfOk result (λ _. IsLoadPlacedBy Y.Disk.meaning (Y.opens system.now (folder_of_path options.now.out.now)) (F.files source.old) options.now) }
     ensures taken { IsErrOf result (ToolFault.Load (OfWork Exists))
         → IsLoadTakenBy Y.Disk.meaning (Y.opens system.now (folder_of_path options.now.out.now)) options.now }
+    ensures unread { (told : ToolFault) → TellsUnreadFolder told → IsErrOf result told
+        → HasFailed Y.Disk.meaning (Y.opens system.now (folder_of_path options.now.out.now)) }
     ensures fault { IfErr result (IsWhyNoTableLoaded (F.files source.old) options.now) }
     ensures kept { F.files source.new ≡ F.files source.old }
 {

@@ -3,7 +3,9 @@
 ghost use Rattle.std.specs.Prelude.{◌≡◌, IfErr, IfOk, IsErrOf};
 ghost use Rattle.program_frame.specs.declared.ending.Failure.TheVariants.{Work as OfWork};
 ghost use Rattle.table_maker.specs.declared.fault.MakeFault.TheVariants.{Exists};
+ghost use Rattle.table_maker.specs.Placing.{HasFailed};
 ghost use Rattle.folders.specs.Paths.{folder_of_path};
+ghost use Rattle.tool_program.specs.Faults.{TellsUnreadFolder};
 ghost use Rattle.tool_program.specs.TableMade.{told_of, IsBadMake, IsJobOf, IsPlacedBy, IsTakenBy, IsWhyNoTableMade};
 
 use crate::asked::MakeOptions;
@@ -57,6 +59,7 @@ fn not_made(why: Failure<MakeFault<'_>>) -> ToolFault<'_>
 /// Makes the table of a command line, in the folder that its path is in.
 ///
 /// `BadOut` where its name ends with neither `.DBF` nor `.dbf`, `NoMemory` where memory is refused; else `Make` says why it is not made.
+#[tactic(auto, using(crate::proofs::MadeLaws::bad_unread))]
 pub(crate) fn make_table<'a, F: Source, Y: System>(
     alloc: Global,
     source: &mut F,
@@ -67,6 +70,8 @@ pub(crate) fn make_table<'a, F: Source, Y: System>(
     ensures made { IfOk result (λ _. IsPlacedBy Y.Disk.meaning (Y.opens system.now (folder_of_path options.now.out.now)) (F.files source.old) options.now) }
     ensures taken { IsErrOf result (ToolFault.Make (OfWork Exists))
         → IsTakenBy Y.Disk.meaning (Y.opens system.now (folder_of_path options.now.out.now)) options.now }
+    ensures unread { (told : ToolFault) → TellsUnreadFolder told → IsErrOf result told
+        → HasFailed Y.Disk.meaning (Y.opens system.now (folder_of_path options.now.out.now)) }
     ensures fault { IfErr result (IsWhyNoTableMade (F.files source.old) options.now) }
     ensures kept { F.files source.new ≡ F.files source.old }
 {

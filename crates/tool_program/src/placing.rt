@@ -4,7 +4,7 @@ ghost use Rattle.std.specs.Prelude.{◌≡◌, false, IfErr, IfOk, IfSome, IsErr
 ghost use Rattle.folders.specs.Paths.{folder_of_path};
 ghost use Rattle.program_frame.specs.Jobs.{ComesToItsEnd};
 ghost use Rattle.program_frame.specs.declared.ending.Failure.TheVariants.{Work as OfWork};
-ghost use Rattle.table_maker.specs.Placing.{HasMadeInto, IsFree, IsInTheWay, IsUnplacedInto};
+ghost use Rattle.table_maker.specs.Placing.{HasFailed, HasMadeInto, IsFree, IsInTheWay, IsUnplacedInto};
 
 use folders::{Source, folder_of};
 use program_frame::{Failure, FolderFault, System};
@@ -37,6 +37,8 @@ pub(crate) fn place_table<J: TableWork, F: Source, Y: System>(
     // That a file is there is told only where one of the table's two names has one.
     ensures exists { IsErrOf result (OfWork J.look.exists)
         → IsInTheWay Y.Disk.meaning (Y.opens system.now (folder_of_path out.now)) (IsFree (J.stem job.now) (J.in_capitals job.now)) }
+    // That the folder can't be read is told only where a call of its disk has failed.
+    ensures unread { IsErrOf result (OfWork J.look.unread) → HasFailed Y.Disk.meaning (Y.opens system.now (folder_of_path out.now)) }
     ensures fault { IfErr result (IsUnplacedInto J.look J.Fault.no_memory (J.fails job.now (F.files source.old))
         (ComesToItsEnd (J.writes job.now (F.files source.old))) replace) }
     ensures kept { F.files source.new ≡ F.files source.old }

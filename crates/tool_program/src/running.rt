@@ -11,8 +11,9 @@ ghost use Rattle.table_reader.specs.Memos.{IsNotHad};
 ghost use Rattle.tool_program.specs.Answers.{asked_refusal, IsAnswered, IsAnsweredTo, IsCheckedAs, IsShownAs, IsTreeShownAs, IsToldUnloaded};
 ghost use Rattle.tool_program.specs.Answers.{IsWhyUnanswered, IsWhyUnchecked, IsWhyUnshown, IsWhyNoTree, IsWhyNotDone};
 ghost use Rattle.tool_program.specs.Answers.{IsComparedAs, IsPairedAs, IsPlacedIn, IsPlacedTo, IsTakenIn, IsTakenTo, IsLoadTakenIn, IsLoadTakenTo};
+ghost use Rattle.tool_program.specs.Answers.{HasFailedIn, HasFailedTo, IsToldFirst};
 ghost use Rattle.tool_program.specs.Answers.{IsWhyNoAnswers, IsWhyNoDiff};
-ghost use Rattle.tool_program.specs.Faults.{IsToolFaultOf, IsToolFaultOfSetup};
+ghost use Rattle.tool_program.specs.Faults.{IsToolFaultOf, IsToolFaultOfSetup, TellsUnreadFolder};
 
 use crate::asked::{AnswersOptions, Asked, CheckOptions, DiffOptions, Options};
 use crate::checking::check_setup;
@@ -166,6 +167,8 @@ pub fn run_asked<'a, F: Source, S: ByteSink + MayClose, Y: System>(
     // That a file is there is told only where one of the table's two names has one.
     ensures taken { IsErrOf result (ToolFault.Make (OfWork Exists)) → IsTakenIn Y.Disk.meaning (Y.opens system.now) asked.now }
     ensures load_taken { IsErrOf result (ToolFault.Load (OfWork IsThere)) → IsLoadTakenIn Y.Disk.meaning (Y.opens system.now) asked.now }
+    // That the folder for it can't be read is told only where a call of its disk has failed.
+    ensures unread_folder { (told : ToolFault) → TellsUnreadFolder told → IsErrOf result told → HasFailedIn Y.Disk.meaning (Y.opens system.now) asked.now }
     // That nobody reads the output any more is said only where that is so, and that it failed only where it is not; and both only
     // after a failure.
     ensures unread { result ≡ Ok ToolReport.Unread → (S.closed sink.new ≡ true) × Rises (S.failures sink.old) (S.failures sink.new) }
@@ -209,10 +212,16 @@ pub fn run_words<'a, F: Source, S: ByteSink + MayClose, Y: System, T: AsStr>(
         → IsTakenTo Y.Disk.meaning (Y.opens system.now) (map T.text words.entry.now) }
     ensures load_taken { IsErrOf result (Ending.Failed (ToolFault.Load (OfWork IsThere)))
         → IsLoadTakenTo Y.Disk.meaning (Y.opens system.now) (map T.text words.entry.now) }
+    // That the folder for it can't be read is told only where a call of its disk has failed.
+    ensures unread_folder { (told : ToolFault) → TellsUnreadFolder told → IsErrOf result (Ending.Failed told)
+        → HasFailedTo Y.Disk.meaning (Y.opens system.now) (map T.text words.entry.now) }
     // That nobody reads the output any more is said only where that is so, and that it failed only where it is not; and both only
     // after a failure.
     ensures unread { result ≡ Ok ToolReport.Unread → (S.closed sink.new ≡ true) × Rises (S.failures sink.old) (S.failures sink.new) }
     ensures output { result ≡ Err (Ending.Failed ToolFault.Output) → (S.closed sink.new ≡ false) × Rises (S.failures sink.old) (S.failures sink.new) }
+    // Once the words are read: where no load can give the file that is to be shown or checked, or the old table, the answer is why, whether
+    // there is memory or not.
+    ensures early { IsToldFirst (map T.text words.entry.now) (F.files source.old) result }
     // Why it was not is what the words say, or a fault of what they ask for.
     ensures fault { IfErr result (IsWhyNotDone (map T.text words.entry.now) (F.files source.old) (F.failures source.old) (F.failures source.new)) }
     ensures kept { IsFront (S.written sink.old) (S.written sink.new) }

@@ -1,8 +1,9 @@
-use Rattle.std.proofs.Common.{◌≡◌, ◌∙◌, sym, ap, inr, Err}
+use Rattle.std.proofs.Common.{◌≡◌, ◌∙◌, sym, ap, inr, subst, Err}
 use Rattle.program_frame.specs.declared.ending.Failure.TheVariants.{Work as OfWork}
-use Rattle.table_maker.specs.declared.fault.MakeFault.TheVariants.{Exists}
+use Rattle.table_maker.specs.declared.fault.MakeFault.TheVariants.{Exists, Unread}
 use Rattle.tool_program.specs.declared.fault.ToolFault.TheVariants.{Make}
-use Rattle.tool_program.proofs.MadeLaws.{told_exists}
+use Rattle.tool_program.specs.Faults.{TellsUnreadFolder}
+use Rattle.tool_program.proofs.MadeLaws.{told_exists, told_unread}
 use Rattle.tool_program.proofs.making.make_table.Goals as goal
 
 pub returns-in-Ok-clause-made : goal.returns-in-Ok-clause-made
@@ -13,6 +14,12 @@ returns-in-Err-clause-taken g c told =
     let same : c.not_made.result ≡ Make (OfWork Exists) = cc in
     let why_is : c.in-Err.why ≡ OfWork Exists = told_exists c.in-Err.why (sym c.not_made.ensures.value ∙ same) in
     (c.in_ok-job.job, c.in_ok-job.ensures.job, c.in-Err.ensures.exists (ap Err why_is))
+
+pub returns-in-Err-clause-unread : goal.returns-in-Err-clause-unread
+returns-in-Err-clause-unread g c told says is =
+    let same : c.not_made.result ≡ told = cc in
+    let why_is : c.in-Err.why ≡ OfWork Unread = told_unread c.in-Err.why (subst TellsUnreadFolder (sym same ∙ c.not_made.ensures.value) says) in
+    c.in-Err.ensures.unread (ap Err why_is)
 
 pub returns-in-Err-clause-fault : goal.returns-in-Err-clause-fault
 returns-in-Err-clause-fault g c = inr (c.in_ok-job.job, c.in-Err.why, c.in_ok-job.ensures.job, c.not_made.ensures.value, c.in-Err.ensures.fault)
