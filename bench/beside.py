@@ -3,12 +3,13 @@
 
     python3 beside.py PROGRAM FOLDER
 
-The model is mark.c with mark_script.c, which cc builds; without cc, and without the program sqlite3, their columns stay empty. Each
-job is done five times, by turns with the others, and the least processor time of each counts, of the process and of the system for
-it. Where the model writes the same files, they are compared byte by byte. The commands of a script are SQLite's by statements.py. Memory is the
-greatest of a run by the size of the files that it reads, where GNU time is.
+The model is mark.c with mark_script.c and mark_memos.c, which cc builds; without cc, and without the program sqlite3, their columns
+stay empty. Each job is done five times, by turns with the others, and the least processor time of each counts, of the process and of
+the system for it. Where the model writes the same files, they are compared byte by byte. The commands of a script are SQLite's by
+statements.py. Memory is the greatest of a run by the size of the files that it reads, where GNU time is.
 """
 
+import itertools
 import os
 import shutil
 import sqlite3
@@ -20,11 +21,12 @@ from pathlib import Path
 RUNS = 5
 TIME = "/usr/bin/time"
 INDEXES = ["BYCODE", "BYNAME", "BYREST"]
+STATIONS, STATION_LINES = 16, 10_000
 
 
-def processor_seconds(words, folder):
+def processor_seconds(words, folder, given=subprocess.DEVNULL):
     """The processor time of a process that ends well."""
-    child = subprocess.Popen(words, cwd=folder, stdout=subprocess.DEVNULL)
+    child = subprocess.Popen(words, cwd=folder, stdin=given, stdout=subprocess.DEVNULL)
     _, status, used = os.wait4(child.pid, 0)
     child.returncode = os.waitstatus_to_exitcode(status)
     if child.returncode:
@@ -47,11 +49,19 @@ def records_of(path):
         yield row[0] == "*", row[1:13], row[13:37], float(row[37:47]), row[47:60]
 
 
-def make_base(path, rows, indexes):
+def notes_of(folder):
+    """The cells of all records of the table with memos, and the text of each."""
+    texts = (folder / "NOTES.DBT").read_bytes()[512:]
+    for number, row in enumerate(records_of(folder / "NOTES.DBF")):
+        block = texts[512 * number : 512 * number + 512]
+        yield *row, block[: block.index(b"\x1a")].decode("ascii")
+
+
+def make_base(path, rows, indexes, notes=""):
     path.unlink(missing_ok=True)
     base = sqlite3.connect(path)
-    base.execute("create table t (marked, code, name, amount, rest)")
-    base.executemany("insert into t values (?, ?, ?, ?, ?)", rows)
+    base.execute(f"create table t (marked, code, name, amount, rest{notes})")
+    base.executemany(f"insert into t values (?, ?, ?, ?, ?{', ?' if notes else ''})", rows)
     for name in indexes:
         base.execute(f"create index {name} on t ({name[2:].lower()})")
     base.commit()
@@ -64,24 +74,27 @@ class Bench:
         self.mark = folder / "mark" if shutil.which("cc") else None
         self.sqlite = shutil.which("sqlite3")
         if self.mark:
-            sources = [Path(__file__).resolve().parent / name for name in ("mark.c", "mark_script.c")]
+            sources = [Path(__file__).resolve().parent / name for name in ("mark.c", "mark_script.c", "mark_memos.c")]
             subprocess.run(["cc", "-O2", "-o", self.mark, *sources], check=True)
         if self.sqlite:
             rows = list(records_of(folder / "MARKED.DBF"))
             for count in (0, 1, 3):
                 make_base(folder / f"{count}.db", rows, INDEXES[:count])
+            make_base(folder / "notes.db", notes_of(folder), INDEXES[:1], ", note")
 
     def server(self, setup, *options):
         words = [self.program, "--setup", setup, "--out", str(fresh(self.out)), "--today", "19870315", *options]
         return processor_seconds(words, self.folder)
 
-    def model(self, indexes, *options, script=None):
+    def model(self, indexes, *options, script=None, table="T", memos=False):
         """The model's time, over files that the server has just written."""
         made = fresh(self.folder / "made")
         words = [str(self.mark), *options]
         if script:
             words += ["--script", script, str(made / "STATION1.TXT")]
-        words += ["T.DBF", str(made / "T.DBF")]
+        if memos:
+            words += ["--memos", f"{table}.DBT", str(made / f"{table}.DBT")]
+        words += [f"{table}.DBF", str(made / f"{table}.DBF")]
         for name in indexes:
             words += [f"{name}.NDX", str(made / f"{name}.NDX")]
         seconds = processor_seconds(words, self.folder)
@@ -90,19 +103,26 @@ class Bench:
                 sys.exit(f"{path.name}: the model's file is another")
         return seconds
 
-    def base(self, count, commands):
+    def base(self, name, commands):
         """The time of a command on a copy of a base."""
         copy = self.folder / "copy.db"
         (self.folder / "into.db").unlink(missing_ok=True)
-        shutil.copyfile(self.folder / f"{count}.db", copy)
+        shutil.copyfile(self.folder / f"{name}.db", copy)
         return processor_seconds([self.sqlite, str(copy), commands], self.folder)
 
-    def commands(self, count, script):
-        """The time of a script's commands on a copy of a base, by an interpreter that is started for them."""
+    def asked(self, lines):
+        """The time of SQLite's shell where each line asks for a number."""
+        given = self.folder / "asked.sql"
+        given.write_text("select 1;\n" * lines)
+        with open(given) as questions:
+            return processor_seconds([self.sqlite, ":memory:"], self.folder, questions)
+
+    def commands(self, count, *words):
+        """The time of the commands of scripts on a copy of a base, by an interpreter that is started for them."""
         copy = self.folder / "copy.db"
         shutil.copyfile(self.folder / f"{count}.db", copy)
         statements = Path(__file__).resolve().parent / "statements.py"
-        return processor_seconds([sys.executable, str(statements), str(copy), script], self.folder)
+        return processor_seconds([sys.executable, str(statements), str(copy), *words], self.folder)
 
     def memory(self, setup, *options):
         """The greatest memory of a run, in bytes."""
@@ -118,28 +138,32 @@ class Bench:
 
 
 def told(seconds, beside):
-    return f"{beside:8.3f} s {seconds / beside:5.1f}" if beside else " " * 16
+    return f"{beside:8.3f} s {seconds / beside:5.2f}" if beside else " " * 16
 
 
 def show(job, seconds, model, base):
-    print(f"  {job:40} {seconds:8.3f} s   {told(seconds, model)}   {told(seconds, base)}")
+    print(f"  {job:44} {seconds:8.3f} s   {told(seconds, model)}   {told(seconds, base)}")
 
 
 def show_memory(bench):
     print("\n  greatest memory, times the files that are read")
-    for kind, count in (("PLAIN", 0), ("INDEXED", 1), ("THREE", 3)):
-        files = [bench.folder / name for name in ["T.DBF", *(f"{it}.NDX" for it in INDEXES[:count])]]
-        size = sum(path.stat().st_size for path in files)
-        for options in ([], ["--reindex"]) if count else ([],):
-            memory = bench.memory(f"{kind}-EMPTY.SET", *options)
-            job = " ".join([f"read and write all, {count} indexes", *options])
-            print(f"  {job:40} {memory / 1e6:8.1f} MB {memory / size:5.1f}")
+    three = [f"{it}.NDX" for it in INDEXES]
+    for job, files, setup, *options in [
+        ("read and write all, no index", ["T.DBF"], "PLAIN-EMPTY.SET"),
+        ("the same, 1 index", ["T.DBF", *three[:1]], "INDEXED-EMPTY.SET"),
+        ("the same, 3 indexes", ["T.DBF", *three], "THREE-EMPTY.SET"),
+        ("the same with --reindex", ["T.DBF", *three], "THREE-EMPTY.SET", "--reindex"),
+        ("PACK, 3 indexes, a tenth marked", ["MARKED.DBF", *three], "MARKED-PACK.SET"),
+        ("memos, 1 index", ["NOTES.DBF", "NOTES.DBT", "ONNOTES.NDX"], "NOTES-EMPTY.SET"),
+    ]:
+        size = sum((bench.folder / name).stat().st_size for name in files)
+        memory = bench.memory(setup, *options)
+        print(f"  {job:40} {memory / 1e6:8.1f} MB {memory / size:6.2f}")
 
 
-def main():
-    bench = Bench(os.path.abspath(sys.argv[1]), Path(sys.argv[2]).resolve())
+def show_runs(bench):
+    """Whole runs without commands."""
     into = f"VACUUM INTO '{bench.folder / 'into.db'}'"
-    print("\n  job, processor time                          server         mark.c, ratio     sqlite3, ratio")
     for kind, count in (("PLAIN", 0), ("INDEXED", 1), ("THREE", 3)):
         jobs = [
             lambda: bench.server(f"{kind}-EMPTY.SET"),
@@ -148,26 +172,79 @@ def main():
         ]
         show(f"read and write all, {count} indexes", *bench.least(jobs))
     jobs = [
+        lambda: bench.server("NOTES-EMPTY.SET"),
+        bench.mark and (lambda: bench.model(["ONNOTES"], table="NOTES", memos=True)),
+        bench.sqlite and (lambda: bench.base("notes", into)),
+    ]
+    show("the same, a memo in each record, 1 index", *bench.least(jobs))
+
+
+def show_sorting(bench):
+    jobs = [
         lambda: bench.server("THREE-EMPTY.SET", "--reindex"),
         bench.mark and (lambda: bench.model(INDEXES, "--reindex")),
         bench.sqlite and (lambda: bench.base(3, "REINDEX")),
     ]
-    show("the same with --reindex, 3 indexes", *bench.least(jobs))
-    jobs = [
-        lambda: bench.server("INDEXED-MIXED.SET"),
-        bench.mark and (lambda: bench.model(INDEXES[:1], script="MIXED.PRG")),
-        bench.sqlite and (lambda: bench.commands(1, "MIXED.PRG")),
-    ]
-    show("MIXED.PRG, 1 index", *bench.least(jobs))
+    show("read and write all with --reindex, 3 indexes", *bench.least(jobs))
+    for name in INDEXES:
+        field = name.removeprefix("BY")
+        jobs = [
+            lambda: bench.server(f"PLAIN-ON{field}.SET"),
+            bench.mark and (lambda: bench.model([name], "--reindex")),
+            bench.sqlite and (lambda: bench.base(0, f"create index {name} on t ({field.lower()})")),
+        ]
+        show(f"INDEX ON {field}", *bench.least(jobs))
+
+
+def show_commands(bench):
+    for job, script in (("MIXED.PRG, 1 index", "MIXED"), ("100,000 such commands", "LONG")):
+        jobs = [
+            lambda: bench.server(f"INDEXED-{script}.SET"),
+            bench.mark and (lambda: bench.model(INDEXES[:1], script=f"{script}.PRG")),
+            bench.sqlite and (lambda: bench.commands(1, f"{script}.PRG")),
+        ]
+        show(job, *bench.least(jobs))
+    lines = (bench.folder / "ASKED.PRG").read_bytes().count(b"\n") - 1
+    jobs = [lambda: bench.server("PLAIN-ASKED.SET"), None, bench.sqlite and (lambda: bench.asked(lines))]
+    show(f"{lines:,} lines of ? RECNO()", *bench.least(jobs))
+    scripts = write_sixteen(bench.folder)
+    jobs = [lambda: bench.server("SIXTEEN.SET"), None, bench.sqlite and (lambda: bench.commands(0, "--each", *scripts))]
+    show("16 stations of 10,000 commands, no index", *bench.least(jobs))
+    for name in ("SIXTEEN.SET", *scripts):
+        (bench.folder / name).unlink()
+
+
+def show_packing(bench):
     pack = bench.sqlite and (lambda: bench.base(3, "delete from t where marked; VACUUM"))
     jobs = [lambda: bench.server("MARKED-EMPTY.SET"), lambda: bench.server("MARKED-PACK.SET"), pack]
     empty, packed, beside = bench.least(jobs)
-    show("PACK over that, 3 indexes, a tenth marked", packed - empty, None, beside)
+    show("PACK, 3 indexes, a tenth marked", packed, None, beside)
+    print(f"  that run by the one without PACK         {packed / empty:8.2f}")
+
+
+def write_sixteen(folder):
+    """A setup of sixteen stations, each with a script of its own on records that no other goes to: GO, ? RLOCK() and REPLACE in turn."""
+    scripts = [f"S{station}.PRG" for station in range(STATIONS)]
+    for station, script in enumerate(scripts):
+        numbers = range(station + 1, STATIONS * STATION_LINES, STATIONS)
+        lines = (line for number in numbers for line in (f"GO {number}", "? RLOCK()", f'REPLACE NAME WITH "VISITED {number}"'))
+        (folder / script).write_text("USE T\n" + "".join(f"{line}\n" for line in itertools.islice(lines, STATION_LINES)))
+    (folder / "SIXTEEN.SET").write_text("TABLE T T.DBF\n" + "".join(f"STATION {script}\n" for script in scripts))
+    return scripts
+
+
+def main():
+    bench = Bench(os.path.abspath(sys.argv[1]), Path(sys.argv[2]).resolve())
+    print("\n  job, processor time                          server         mark.c, ratio     sqlite3, ratio")
+    show_runs(bench)
+    show_sorting(bench)
+    show_commands(bench)
+    show_packing(bench)
     if os.path.exists(TIME):
         show_memory(bench)
     for name in ("new", "made"):
         shutil.rmtree(bench.folder / name, ignore_errors=True)
-    for name in ("0.db", "1.db", "3.db", "copy.db", "into.db", "mark"):
+    for name in ("0.db", "1.db", "3.db", "notes.db", "copy.db", "into.db", "asked.sql", "mark"):
         (bench.folder / name).unlink(missing_ok=True)
 
 

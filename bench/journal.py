@@ -1,11 +1,11 @@
 #!/usr/bin/env python3
-"""Measures what a run takes more that writes its journal, on a folder of make_tables.py.
+"""Measures what a run takes more that writes its journal, and an audit of it, on a folder of make_tables.py.
 
     python3 journal.py PROGRAM FOLDER
 
 A run with --journal sums each file that it reads and each that it writes. Beside the run without and with it the program sha256sum sums
-the same files. Each job is done five times, by turns with the others, and the least processor time of each counts, of the
-process and of the system for it. Memory is the greatest of a run, where GNU time is.
+the same files, and station_audit, where it lies beside PROGRAM, audits the journal. Each job is done five times, by turns with the others,
+and the least processor time of each counts, of the process and of the system for it. Memory is the greatest of a run, where GNU time is.
 """
 
 import os
@@ -31,27 +31,41 @@ def greatest_memory(words, folder):
     return int(done.stderr.split()[-1]) * 1024
 
 
+def audit_beside(program):
+    """The audit that lies beside the server, or where it is built."""
+    places = [os.path.join(os.path.dirname(program), at) for at in ("station_audit", "../../station_audit/out/station_audit")]
+    return next((path for path in places if os.access(path, os.X_OK)), None)
+
+
 def main():
     program, folder = os.path.abspath(sys.argv[1]), Path(sys.argv[2]).resolve()
-    out = folder / "new"
-    print("\n  a journal, processor time          without         with    sha256sum       bytes summed    memory")
-    for kind, count in (("PLAIN", 0), ("INDEXED", 1), ("THREE", 3)):
-        words = [program, "--setup", f"{kind}-EMPTY.SET", "--today", "19870315", "--out", str(out)]
+    out, audit = folder / "new", audit_beside(program)
+    print("\n  a journal, processor time                     without         with    sha256sum        audit       bytes summed    memory")
+    for job, setup in (
+        ("write all, 0 indexes", "PLAIN-EMPTY.SET"),
+        ("write all, 1 index", "INDEXED-EMPTY.SET"),
+        ("write all, 3 indexes", "THREE-EMPTY.SET"),
+        ("100,000 commands, 1 index", "INDEXED-LONG.SET"),
+    ):
+        words = [program, "--setup", setup, "--today", "19870315", "--out", str(out)]
         times, memory = [], []
         for _ in range(RUNS):
             fresh(out)
             plain = processor_seconds(words, folder)
             fresh(out)
             journalled = processor_seconds([*words, "--journal"], folder)
-            paths = files_told((out / "JOURNAL.TXT").read_text(), out)
-            times.append([plain, journalled, processor_seconds(["sha256sum", *paths], folder)])
+            journal = str(out / "JOURNAL.TXT")
+            paths = files_told(Path(journal).read_text(), out)
+            summed = processor_seconds(["sha256sum", *paths], folder)
+            audited = processor_seconds([audit, "--setup", setup, "--journal", journal], folder) if audit else 0
+            times.append([plain, journalled, summed, audited])
         if shutil.which(TIME):
             for options in ([], ["--journal"]):
                 fresh(out)
                 memory.append(f"{greatest_memory([*words, *options], folder) / 1e6:.0f} MB")
         least = "   ".join(f"{min(column):8.3f} s" for column in zip(*times))
-        summed = sum((folder / path).stat().st_size for path in paths)
-        print(f"  write all, {count} indexes{'':11} {least}   {summed:12,} bytes   {' and '.join(memory)}")
+        size = sum((folder / path).stat().st_size for path in paths)
+        print(f"  {job:38} {least}   {size:12,} bytes   {' and '.join(memory)}")
 
 
 main()

@@ -4,11 +4,13 @@
     python3 make_tables.py FOLDER RECORDS [LINES]
 
 T.DBF has RECORDS records of 60 bytes, BYCODE.NDX, BYNAME.NDX and BYREST.NDX are its indexes on CODE, NAME and REST, and the
-scripts have LINES commands (10,000 if left out) after their USE. MARKED.DBF is the same table with each tenth record marked as
-deleted. Written from the published layouts of dBASE III PLUS alone, and the same in every run. Codes and rests are scattered over
-the records, so that an index's order is not that of the records.
+scripts have LINES commands (10,000 if left out) after their USE, but LONG.PRG 100,000 and ASKED.PRG 1,000,000. MARKED.DBF is the
+same table with each tenth record marked as deleted. NOTES.DBF and NOTES.DBT are a table of its fields and a memo field, with at most
+100,000 records and a text of 100 to 399 bytes in each. Written from the published layouts of dBASE III PLUS alone, and the same in
+every run. Codes and rests are scattered over the records, so that an index's order is not that of the records.
 """
 
+import itertools
 import random
 import struct
 import sys
@@ -17,7 +19,10 @@ from pathlib import Path
 FIELDS = [("CODE", "C", 12, 0), ("NAME", "C", 24, 0), ("AMOUNT", "N", 10, 2), ("REST", "C", 13, 0)]
 STEP = 7919  # a prime that divides no number of records in use: record n has the code n * STEP mod RECORDS
 OTHER_STEP = 104729  # another such prime, for REST
-SCRIPTS = ["EMPTY", "MIXED", "BYNUMBER"]
+SCRIPTS = ["EMPTY", "MIXED", "BYNUMBER", "LONG"]
+LONG_LINES, ASKED_LINES = 100_000, 1_000_000
+MOST_NOTES = 100_000
+BLOCK = 512  # bytes of a memo file's block
 INDEXES = [("BYCODE", "CODE", 0), ("BYNAME", "NAME", 1), ("BYREST", "REST", 3)]
 
 
@@ -32,19 +37,32 @@ def cells(n, records):
     return [text.encode("ascii") for text in texts]
 
 
-def write_table(path, rows, marked=0):
-    """Each `marked`-th record is marked as deleted, if that is not 0."""
-    head = 32 + 32 * len(FIELDS) + 1
-    width = 1 + sum(field[2] for field in FIELDS)
-    assert width == 60
+def write_table(path, rows, marked=0, fields=FIELDS, version=3):
+    """Each `marked`-th record is marked as deleted, if that is not 0. A table with a memo field has the version 0x83."""
+    head = 32 + 32 * len(fields) + 1
+    width = 1 + sum(field[2] for field in fields)
     with open(path, "wb") as out:
-        out.write(struct.pack("<4BIHH20x", 3, 87, 3, 2, len(rows), head, width))
-        for name, kind, size, decimals in FIELDS:
+        out.write(struct.pack("<4BIHH20x", version, 87, 3, 2, len(rows), head, width))
+        for name, kind, size, decimals in fields:
             out.write(struct.pack("<11sc4xBB14x", name.encode(), kind.encode(), size, decimals))
         out.write(b"\r")
         for number, row in enumerate(rows, 1):
             out.write((b"*" if marked and number % marked == 0 else b" ") + b"".join(row))
         out.write(b"\x1a")
+
+
+def write_notes(folder, rows):
+    """A table with a memo field, and its memo file: each text in a block of its own, in the order of the records."""
+    chance = random.Random(3)
+    fields = [*FIELDS, ("NOTE", "M", 10, 0)]
+    write_table(folder / "NOTES.DBF", [[*row, b"%10d" % number] for number, row in enumerate(rows, 1)], fields=fields, version=0x83)
+    with open(folder / "NOTES.DBT", "wb") as out:
+        out.write(struct.pack("<I12xB", len(rows) + 1, 3).ljust(BLOCK, b"\0"))
+        for number in range(1, len(rows) + 1):
+            text = (f"memo {number} of the table, with words enough. ".encode() * 12)[: 100 + chance.randrange(300)]
+            out.write((text + b"\x1a\x1a").ljust(BLOCK, b"\0"))
+    write_index(folder / "ONNOTES.NDX", "CODE", [row[0] for row in rows])
+    (folder / "NOTES-EMPTY.SET").write_text("TABLE NOTES NOTES.DBF NOTES.DBT\nINDEX NOTES ONNOTES ONNOTES.NDX\nSTATION EMPTY.PRG\n")
 
 
 def write_index(path, field, keys):
@@ -135,6 +153,13 @@ def main():
     (folder / "PACK.PRG").write_text("USE T EXCLUSIVE\nPACK\n")
     write_script(folder / "MIXED.PRG", mixed(records), lines)
     write_script(folder / "BYNUMBER.PRG", by_number(records), lines)
+    write_script(folder / "LONG.PRG", mixed(records), LONG_LINES)
+    write_script(folder / "ASKED.PRG", itertools.repeat("? RECNO()"), ASKED_LINES)
+    write_setup(folder / "PLAIN-ASKED.SET", "T.DBF", [], "ASKED")
+    for name, field, _ in INDEXES:
+        (folder / f"ON{field}.PRG").write_text(f"USE T EXCLUSIVE\nINDEX ON {field} TO {name}\n")
+        write_setup(folder / f"PLAIN-ON{field}.SET", "T.DBF", [], f"ON{field}")
+    write_notes(folder, rows[:MOST_NOTES])
     for script in SCRIPTS:
         for kind, indexes in (("PLAIN", []), ("INDEXED", INDEXES[:1]), ("THREE", INDEXES)):
             write_setup(folder / f"{kind}-{script}.SET", "T.DBF", indexes, script)

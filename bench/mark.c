@@ -1,11 +1,13 @@
 /* A mark to measure by: reads a table and indexes on character fields, looks over both, and writes them anew, as the server
- * does where its scripts are empty. By hand, with no care for memos, damaged files' names or want of memory.
+ * does where its scripts are empty. By hand, with no care for damaged files' names or want of memory.
  *
- *     mark [--reindex | --script SCRIPT ANSWERS] OLD.DBF NEW.DBF [OLD.NDX NEW.NDX]...
+ *     mark [--reindex | --script SCRIPT ANSWERS | --memos OLD.DBT NEW.DBT] OLD.DBF NEW.DBF [OLD.NDX NEW.NDX]...
  *
  * What is checked: the headers, each page of an index read once and inside the file, each key the one of its record, each record
  * once, and the order of keys and record numbers. With --reindex only the headers of the indexes are read, and their pairs are
- * those of the table, sorted. With --script the commands of a script are performed before all is written (mark_script.c). What is written has the date 1987-03-15, so it is the server's, byte by byte.
+ * those of the table, sorted. With --script the commands of a script are performed before all is written (mark_script.c), and with
+ * --memos the texts of a memo field are written anew (mark_memos.c). What is written has the date 1987-03-15, so it is the server's,
+ * byte by byte.
  */
 
 #include "mark.h"
@@ -13,7 +15,7 @@
 #include <stdlib.h>
 #include <string.h>
 
-enum { PAGE = 512, FIELD = 32, MOST_LEVELS = 32, BUFFER = 65536 };
+enum { PAGE = 512, FIELD = 32, MOST_LEVELS = 32, BUFFER = 65536, WITH_MEMOS = 0x83 };
 
 void fail(const char *why)
 {
@@ -34,7 +36,7 @@ static unsigned u16(const unsigned char *at)
     return at[0] | at[1] << 8;
 }
 
-static uint32_t u32(const unsigned char *at)
+uint32_t u32(const unsigned char *at)
 {
     return at[0] | at[1] << 8 | at[2] << 16 | (uint32_t)at[3] << 24;
 }
@@ -45,7 +47,7 @@ static void put_u16(unsigned char *at, unsigned number)
     at[1] = number >> 8;
 }
 
-static void put_u32(unsigned char *at, uint32_t number)
+void put_u32(unsigned char *at, uint32_t number)
 {
     put_u16(at, number & 65535);
     put_u16(at + 2, number >> 16);
@@ -90,7 +92,7 @@ static struct table read_table(const char *path)
 {
     struct table table = { read_file(path), 0, 0, 0 };
     unsigned char *at = table.file.at;
-    if (table.file.length < 65 || at[0] != 3)
+    if (table.file.length < 65 || (at[0] != 3 && at[0] != WITH_MEMOS))
         fail("no table");
     table.records = u32(at + 4);
     table.header = u16(at + 8);
@@ -392,10 +394,11 @@ static void write_index(const struct table *table, const struct index *index, co
 int main(int words, char **word)
 {
     int makes = words > 1 && !strcmp(word[1], "--reindex"), runs = words > 3 && !strcmp(word[1], "--script");
-    char **path = word + 1 + makes + 3 * runs;
-    int paths = words - 1 - makes - 3 * runs;
+    int reads_memos = words > 3 && !strcmp(word[1], "--memos");
+    char **path = word + 1 + makes + 3 * (runs || reads_memos);
+    int paths = words - (int)(path - word);
     if (paths < 2 || paths % 2)
-        fail("usage: mark [--reindex | --script SCRIPT ANSWERS] OLD.DBF NEW.DBF [OLD.NDX NEW.NDX]...");
+        fail("usage: mark [--reindex | --script SCRIPT ANSWERS | --memos OLD.DBT NEW.DBT] OLD.DBF NEW.DBF [OLD.NDX NEW.NDX]...");
     struct table table = read_table(path[0]);
     unsigned count = paths / 2 - 1;
     struct index *indexes = room(count * sizeof *indexes);
@@ -403,6 +406,8 @@ int main(int words, char **word)
         indexes[i] = makes ? make_index(&table, path[2 + 2 * i]) : read_index(&table, path[2 + 2 * i]);
     if (runs)
         run_script(&table, indexes, count, word[2], word[3]);
+    if (reads_memos)
+        rewrite_memos(&table, word[2], word[3]);
     write_table(&table, path[1]);
     for (unsigned i = 0; i < count; i++)
         write_index(&table, &indexes[i], path[3 + 2 * i]);

@@ -36,6 +36,9 @@ void fail(const char *why);
 /* Memory, or the end of the program. */
 void *room(size_t bytes);
 
+uint32_t u32(const unsigned char *at);
+void put_u32(unsigned char *at, uint32_t number);
+
 struct bytes read_file(const char *path);
 FILE *new_file(const char *path);
 void put(FILE *file, const void *bytes, size_t length);
@@ -52,5 +55,8 @@ uint64_t front_of(const unsigned char *key, unsigned from, unsigned length);
 
 /* Performs the commands of a script on a table and its indexes, and writes the answers. */
 void run_script(struct table *table, struct index *indexes, unsigned count, const char *script, const char *answers);
+
+/* Writes the memo file anew, of a table whose last field is its one memo field, and the numbers of its blocks into the records. */
+void rewrite_memos(struct table *table, const char *old, const char *new);
 
 #endif

@@ -1,9 +1,11 @@
 #!/usr/bin/env python3
-"""Performs the commands of a script of make_tables.py on a SQLite base of beside.py, in one transaction.
+"""Performs the commands of scripts of make_tables.py and beside.py on a SQLite base of beside.py.
 
-    python3 statements.py BASE SCRIPT
+    python3 statements.py BASE [--each] SCRIPT..
 
-The cursor is kept here; each command is one prepared statement, and those that move by the order ask the index.
+The cursor is kept here; each command is one prepared statement, and those that move by the order ask the index. All commands of a script
+are one transaction; with --each every change is a transaction of its own, as where other stations look on, and none is synced. Questions
+for locks are passed over.
 """
 
 import sqlite3
@@ -24,11 +26,9 @@ def replace(base, at, rest):
     base.execute(f"update t set {field.lower()} = ? where rowid = ?", (cell, at))
 
 
-def main():
-    base = sqlite3.connect(sys.argv[1], isolation_level=None)
-    base.execute("begin")
+def perform(base, path):
     at = 1
-    for line in open(sys.argv[2]).read().splitlines()[1:]:
+    for line in open(path).read().splitlines()[1:]:
         word, _, rest = line.partition(" ")
         if line in MOVES:
             (at,) = base.execute(MOVES[line], (at,)).fetchone()
@@ -38,9 +38,22 @@ def main():
             at = base.execute(APPEND).lastrowid
         elif word == "GO":
             at = int(rest)
-        else:
+        elif word == "REPLACE":
             replace(base, at, rest)
-    base.execute("commit")
+
+
+def main():
+    path, *scripts = sys.argv[1:]
+    base = sqlite3.connect(path, isolation_level=None)
+    if scripts[0] == "--each":
+        base.execute("pragma synchronous = off")
+        for script in scripts[1:]:
+            perform(base, script)
+        return
+    for script in scripts:
+        base.execute("begin")
+        perform(base, script)
+        base.execute("commit")
 
 
 main()

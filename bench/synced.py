@@ -90,4 +90,5 @@ def main():
     into.unlink(missing_ok=True)
 
 
-main()
+if __name__ == "__main__":
+    main()

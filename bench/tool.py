@@ -1,5 +1,5 @@
 #!/usr/bin/env python3
-"""Measures table_tool's load and diff on a folder of make_tables.py, beside sqlite3's .import and the reading of the same tables.
+"""Measures table_tool's show, load and diff on a folder of make_tables.py, beside sqlite3's .import and the reading of the same tables.
 
     python3 tool.py TABLE_TOOL FOLDER
 
@@ -76,6 +76,9 @@ class Bench:
     def diff(self, other, *options):
         return self.run("diff", "T.DBF", other, *options, wanted=(1,))
 
+    def show(self, *options):
+        return self.run("show", "T.DBF", *options)
+
     def sort(self):
         return processor_seconds(["sort", "--parallel=1", "T.CSV"], self.folder)
 
@@ -83,6 +86,8 @@ class Bench:
 def main():
     bench = Bench(os.path.abspath(sys.argv[1]), Path(sys.argv[2]).resolve())
     print("\n  job, processor time                     table_tool   beside it")
+    order, plain = least([lambda: bench.show("--order", "BYCODE.NDX"), bench.show])
+    print(f"  show --order{order:36.3f} s   {plain:.3f} s, show")
     if bench.sqlite:
         load, imported = least([bench.load, bench.imported])
         print(f"  load of all records{load:29.3f} s   {imported:.3f} s, sqlite3's .import")

@@ -6,7 +6,9 @@
 The lines of a script come to station_prompt, which lies beside the server PROGRAM, through a pipe; the server runs the same
 script. Of both the same without lines is taken off, so that what is left is the lines'. First the processor time a line, with
 the system's syncs switched off by a library that is loaded before the C library, the least of five; without cc this is left
-out. Then the time by the clock of a line that is synced, beside the two writes and the two syncs alone, by hand.
+out. Then the time by the clock of a line that is synced, beside the two writes and the two syncs of its group alone, by hand:
+of lines that come one by one, each after the answer of the one before, and of lines that are there together. This is left out
+where FOLDER lies in memory, since nothing is synced there.
 """
 
 import os
@@ -18,10 +20,12 @@ import time
 from pathlib import Path
 
 from beside import fresh
+from no_syncs import built_in
 
 RUNS = 5
 SYNCED_LINES = 1000
-NO_SYNCS = "int fsync(int file) { return 0; }\nint fdatasync(int file) { return 0; }\n"
+# Lines that are there together are one group as far as they fill the buffer of the program's reader.
+READ_AT_ONCE = 8192
 
 
 def processor_seconds(words, folder, typed, preloaded):
@@ -41,15 +45,16 @@ def processor_seconds(words, folder, typed, preloaded):
 def without_syncs(server, prompt, folder, out, lines):
     """Prints the processor time a line, of the server and of the prompt, without syncs."""
     with tempfile.TemporaryDirectory() as made:
-        library = Path(made) / "no_syncs.so"
-        subprocess.run(["cc", "-shared", "-fPIC", "-x", "c", "-o", str(library), "-"], input=NO_SYNCS.encode(), check=True)
+        library = built_in(made)
+        if library is None:
+            return
         for kind, indexes in (("PLAIN", 0), ("INDEXED", 1), ("THREE", 3)):
             rest = ["--today", "19870315", "--out", str(out)]
             jobs = [
-                ([server, "--setup", f"{kind}-MIXED.SET", *rest], b""),
+                ([server, "--setup", f"{kind}-LONG.SET", *rest], b""),
                 ([server, "--setup", f"{kind}-EMPTY.SET", *rest], b""),
-                ([prompt, "--setup", f"{kind}-MIXED.SET", *rest], b"".join(lines)),
-                ([prompt, "--setup", f"{kind}-MIXED.SET", *rest], b""),
+                ([prompt, "--setup", f"{kind}-LONG.SET", *rest], b"".join(lines)),
+                ([prompt, "--setup", f"{kind}-LONG.SET", *rest], b""),
             ]
             times = []
             for _ in range(RUNS):
@@ -71,35 +76,76 @@ def seconds_of(words, folder, typed):
     return time.monotonic() - start
 
 
-def two_syncs_by_hand(path, lines):
-    """The time of a line that is written and synced, and then a byte before it."""
+def seconds_one_by_one(words, folder, lines):
+    """The time of lines by the clock, each typed after the answer of the one before. The first shows that the day has begun."""
+    os.sync()
+    child = subprocess.Popen(words, cwd=folder, stdin=subprocess.PIPE, stdout=subprocess.PIPE, stderr=subprocess.DEVNULL)
+    start = None
+    for line in lines:
+        child.stdin.write(line)
+        child.stdin.flush()
+        if not child.stdout.readline():
+            sys.exit(f"{words[0]}: no answer to {line!r}")
+        start = start or time.monotonic()
+    taken = time.monotonic() - start
+    child.stdin.close()
+    child.stdout.read()
+    if child.wait():
+        sys.exit(f"{words[0]}: status {child.returncode}")
+    return taken
+
+
+def seconds_by_hand(path, groups):
+    """The time of groups by the clock, each written and synced, and then a byte before it."""
     path.write_bytes(b"-")
     os.sync()
     start, at = time.monotonic(), 0
     handle = os.open(path, os.O_WRONLY)
-    for line in lines:
-        os.pwrite(handle, line + b"-", at + 1)
+    for group in groups:
+        os.pwrite(handle, group + b"-", at + 1)
         os.fdatasync(handle)
         os.pwrite(handle, b"+", at)
         os.fdatasync(handle)
-        at += len(line) + 1
+        at += len(group) + 1
     os.close(handle)
-    return (time.monotonic() - start) / len(lines)
+    return time.monotonic() - start
+
+
+def groups_of(lines):
+    """The lines as they are put to the log where they are there together."""
+    groups, group = [], b""
+    for line in lines:
+        if group and len(group) + len(line) > READ_AT_ONCE:
+            groups.append(group)
+            group = b""
+        group += line
+    return [*groups, group]
 
 
 def with_syncs(prompt, folder, out, lines):
-    """Prints the time of a synced line by the clock, and of its writes and syncs alone."""
+    """Prints the time of a synced line by the clock, and of its group's writes and syncs alone: of lines one by one, and together."""
     words = [prompt, "--setup", "INDEXED-MIXED.SET", "--today", "19870315", "--out", str(out)]
-    least = []
+    rows = []
     for _ in range(RUNS):
+        fresh(out)
+        one_by_one = seconds_one_by_one(words, folder, lines) / (len(lines) - 1)
         fresh(out)
         typed = seconds_of(words, folder, b"".join(lines))
         fresh(out)
         untyped = seconds_of(words, folder, b"")
         fresh(out)
-        least.append(((typed - untyped) / len(lines), two_syncs_by_hand(out / "BYHAND.LOG", lines)))
-    typed, by_hand = (min(column) * 1e6 for column in zip(*least))
-    print(f"  a line, 1 index, synced, by the clock  {typed:8.0f} us   {by_hand:8.0f} us by hand   {typed / by_hand:5.2f} times")
+        each = seconds_by_hand(out / "BYHAND.LOG", lines) / len(lines)
+        together = seconds_by_hand(out / "BYHAND.LOG", groups_of(lines)) / len(lines)
+        rows.append((one_by_one, each, (typed - untyped) / len(lines), together))
+    least = [min(column) * 1e6 for column in zip(*rows)]
+    for how, typed, by_hand in (("one by one", *least[:2]), ("together", *least[2:])):
+        print(f"  a line, 1 index, synced, {how:10}    {typed:8.1f} us   {by_hand:8.1f} us by hand   {typed / by_hand:5.2f} times")
+
+
+def is_in_memory(folder):
+    """Whether the file system of a folder is one in memory, which has nothing to sync."""
+    told = subprocess.run(["stat", "-f", "-c", "%T", str(folder)], capture_output=True, text=True)
+    return told.stdout.strip() in ("tmpfs", "ramfs")
 
 
 def main():
@@ -108,11 +154,13 @@ def main():
     if not os.access(prompt, os.X_OK):
         prompt = os.path.join(os.path.dirname(server), "../../station_prompt/out/station_prompt")
     out = folder / "new"
-    lines = (folder / "MIXED.PRG").read_bytes().splitlines(keepends=True)
+    lines = (folder / "LONG.PRG").read_bytes().splitlines(keepends=True)
     print("\n  typed lines                              server        prompt")
-    if shutil.which("cc"):
-        without_syncs(server, prompt, folder, out, lines)
-    with_syncs(prompt, folder, out, lines[:SYNCED_LINES])
+    without_syncs(server, prompt, folder, out, lines)
+    if is_in_memory(folder):
+        print("  a line, synced: left out, since the folder lies in memory")
+    else:
+        with_syncs(prompt, folder, out, lines[:SYNCED_LINES])
     shutil.rmtree(out)
 
 
