@@ -34,6 +34,13 @@ def processor_seconds(words, folder, given=subprocess.DEVNULL):
     return used.ru_utime + used.ru_stime
 
 
+def built_beside(program, name):
+    """Another program: beside the server, or where it is built; None where it is not."""
+    beside = os.path.dirname(program)
+    places = [os.path.join(beside, name), os.path.join(beside, f"../../{name}/out/{name}")]
+    return next((path for path in places if os.access(path, os.X_OK)), None)
+
+
 def fresh(folder):
     shutil.rmtree(folder, ignore_errors=True)
     folder.mkdir()

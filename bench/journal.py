@@ -14,7 +14,7 @@ import subprocess
 import sys
 from pathlib import Path
 
-from beside import TIME, fresh, processor_seconds
+from beside import TIME, built_beside, fresh, processor_seconds
 
 RUNS = 5
 
@@ -31,15 +31,9 @@ def greatest_memory(words, folder):
     return int(done.stderr.split()[-1]) * 1024
 
 
-def audit_beside(program):
-    """The audit that lies beside the server, or where it is built."""
-    places = [os.path.join(os.path.dirname(program), at) for at in ("station_audit", "../../station_audit/out/station_audit")]
-    return next((path for path in places if os.access(path, os.X_OK)), None)
-
-
 def main():
     program, folder = os.path.abspath(sys.argv[1]), Path(sys.argv[2]).resolve()
-    out, audit = folder / "new", audit_beside(program)
+    out, audit = folder / "new", built_beside(program, "station_audit")
     print("\n  a journal, processor time                     without         with    sha256sum        audit       bytes summed    memory")
     for job, setup in (
         ("write all, 0 indexes", "PLAIN-EMPTY.SET"),

@@ -13,22 +13,14 @@ import statistics
 import subprocess
 import sys
 import tempfile
-import time
 from pathlib import Path
 
 from beside import fresh
 from no_syncs import built_in
-from synced import copy_synced, sync_folder
+from synced import copy_synced, seconds, sync_folder
 
 RUNS = 20
 DEMO = Path(__file__).resolve().parent.parent / "demo"
-
-
-def seconds(work):
-    os.sync()
-    start = time.monotonic()
-    work()
-    return time.monotonic() - start
 
 
 def main():

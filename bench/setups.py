@@ -15,6 +15,8 @@ import subprocess
 import sys
 from pathlib import Path
 
+from beside import built_beside
+
 RUNS = 3
 COUNTS = (10, 100, 1000, 10000)
 DEMO = Path(__file__).resolve().parent.parent / "demo"
@@ -41,8 +43,7 @@ def seconds(words, folder):
 
 def main():
     program, folder = os.path.abspath(sys.argv[1]), Path(sys.argv[2]).resolve() / "setups"
-    places = [os.path.join(os.path.dirname(program), at) for at in ("table_tool", "../../table_tool/out/table_tool")]
-    tool = next((path for path in places if os.access(path, os.X_OK)), None)
+    tool = built_beside(program, "table_tool")
     print("\n  setups of many tables, processor time                server             check")
     last = {}
     for count in COUNTS:
