@@ -111,6 +111,12 @@ drop_put (suc s) a k (x ∷ xs) ys le =
     let e : suc s + a ≡ suc (s + a) = omega arith in
     rw e (drop_put s a k xs ys (omega arith))
 
+pub length-put : (a : ℕ) (xs ys : List ℕ) → a + length ys ≤ length xs → length (put_mid a (length ys) xs ys) ≡ length xs
+length-put a xs ys room =
+    let front : length (take a xs) ≡ a = length-take-le a xs (omega arith) in
+    let rest : List ℕ = drop (length ys) (drop a xs) in
+    omega (arith, front, length-append (take a xs) (ys ++ rest), length-append ys rest, length-drop (length ys) (drop a xs), length-drop a xs)
+
 take_front : (size : ℕ) (xs ys : List ℕ) → length ys ≤ size → size ≤ length xs → take size (ys ++ drop (length ys) xs) ≡ ys ++ drop (length ys) (take size xs)
 take_front size xs [] le room = refl
 take_front zero xs (y ∷ ys) le room = absurd (omega arith)
@@ -273,12 +279,7 @@ records_push fields n bytes row records long count_bounded =
 
 -- a records that is written over at one offset
 pub records_put : (fields : List Field) (n a : ℕ) (bytes ys : List ℕ) → AreRecords fields n bytes → a + length ys ≤ length bytes → AreRecords fields n (put_mid a (length ys) bytes ys)
-records_put fields n a bytes ys records room =
-    let front : length (take a bytes) ≡ a = length-take-le a bytes (omega arith) in
-    let rest : List ℕ = drop (length ys) (drop a bytes) in
-    let whole : length (put_mid a (length ys) bytes ys) ≡ length bytes =
-    omega (arith, front, length-append (take a bytes) (ys ++ rest), length-append ys rest, length-drop (length ys) (drop a bytes), length-drop a bytes) in
-    record { whole = whole ∙ records.whole; count_bounded = records.count_bounded }
+records_put fields n a bytes ys records room = record { whole = length-put a bytes ys room ∙ records.whole; count_bounded = records.count_bounded }
 
 -- ---- a flag that is replaced
 

@@ -9,6 +9,7 @@ pub mod Ends
 pub mod Edits
 pub mod MemoLists
 pub mod Packing
+pub mod BytesBehind
 pub mod CellOffsets
 pub mod Rows
 pub mod Numbers

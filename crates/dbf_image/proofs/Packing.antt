@@ -21,7 +21,7 @@ use Rattle.dbf_image.proofs.MemoLists.{all_append}
 use Rattle.dbf_image.proofs.Rows.{all_drop, all_take}
 use Rattle.dbf_image.proofs.Steps.{rows_more}
 
-times_le : (i n size : ℕ) → i ≤ n → i * size ≤ n * size
+pub times_le : (i n size : ℕ) → i ≤ n → i * size ≤ n * size
 times_le i n size le =
     let e : n ≡ i + (n - i) = omega arith in
     let wide : n * size ≡ (i + (n - i)) * size = ap (λ (m : ℕ). m * size) e in

@@ -21,4 +21,5 @@ pub mod StoreView
 pub mod MemoNumbers
 pub mod Laws
 pub mod Packing
+pub mod RecordList
 pub mod FaultWords

@@ -13,12 +13,14 @@ pub(crate) mod growing;
 pub(crate) mod memo;
 pub(crate) mod offsets;
 mod packing;
+pub(crate) mod records;
 pub(crate) mod reserved;
 pub(crate) mod store;
 
 use crate::format::{MAX_MEMO_BYTES, MAX_RECORDS, MEMO_END};
 use crate::memo_store::MemoStore;
 use crate::table::growing::GrowingTable;
+use crate::table::records::RecordBytes;
 use crate::table::store::Store;
 use byte_io::Bytes;
 use dbf_fields::{MEMO, Schema};
@@ -59,7 +61,7 @@ impl TableData {
     pub(crate) fn new(
         schema: Schema,
         count: u32,
-        records: Vec<u8>,
+        records: RecordBytes,
         texts: MemoStore,
         memos: Vec<u32>,
     ) -> TableData
@@ -90,7 +92,7 @@ impl TableData {
         TableData::new(
             schema,
             0,
-            Vec::new(alloc),
+            RecordBytes::new(alloc),
             MemoStore::new(alloc),
             Vec::new(alloc),
         )

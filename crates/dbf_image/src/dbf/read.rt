@@ -20,6 +20,7 @@ use crate::dbt::memos::memos_at;
 use crate::fault::ImageFault;
 use crate::format::{HEADER, MAX_RECORDS, VERSION, VERSION_WITH_MEMOS};
 use crate::table::TableData;
+use crate::table::records::RecordBytes;
 use byte_io::Bytes;
 use dbf_fields::{Field, Schema, SchemaFault, first_bad_field};
 use std::alloc::{AllocError, Global};
@@ -140,17 +141,13 @@ fn records_at(dbf: &[u8], header: Header) -> &[u8]
     records
 }
 
-// The bytes of all records, moved to the front of the file's own. It takes no memory.
-fn records_of(dbf: Bytes, header: Header) -> Vec<u8>
+// The bytes of all records, which stay where they are. It takes no memory.
+fn records_of(dbf: Bytes, header: Header) -> RecordBytes
     requires whole { header.header_length + header.record_count * header.record_length ≤ length dbf }
     ensures items { result.items ≡ take (header.record_count * header.record_length) (drop header.header_length dbf) }
 {
-    let start = usize::from(header.header_length);
     let size = u64::from(header.record_count) * u64::from(header.record_length);
-    let mut records = dbf.into_vec();
-    records.copy_within(start..start + size as usize, 0);
-    records.truncate(size as usize);
-    records
+    RecordBytes::of_file(dbf, usize::from(header.header_length), size as usize)
 }
 
 // The table that the bytes tell, or the first test that fails.

@@ -17,7 +17,8 @@ use crate::table::flag::flag_of;
 use crate::table::memo::{memo_text, put_memo};
 use crate::table::offsets::{cell_start, memo_count_of, memo_index, record_start};
 use crate::table::packing::keep_records;
-use crate::table::reserved::{extend_reserved, push_no_memos};
+use crate::table::records::RecordBytes;
+use crate::table::reserved::push_no_memos;
 use crate::table::store::Store;
 use byte_io::Bytes;
 use dbf_fields::{BLANK, MAX_RECORD_BYTES, Schema};
@@ -36,7 +37,7 @@ use std::marker::Model;
 pub struct GrowingTable {
     schema: Schema,
     count: u32,
-    records: Vec<u8>,
+    records: RecordBytes,
     texts: MemoStore,
     memos: Vec<u32>,
 }
@@ -53,7 +54,7 @@ impl Model for GrowingTable {
 
     ghost view = { λ t. record {
       table = record { schema = t.schema; rows = rows_of t.schema t.count t.records.items (texts_of t.texts.texts t.memos.items) };
-      record_room = nat_le (vec_len t.records + (1 + widths t.schema)) (vec_capacity t.records) && nat_le (vec_len t.memos + memo_count t.schema) (vec_capacity t.memos);
+      record_room = nat_le (1 + widths t.schema) t.records.room && nat_le (vec_len t.memos + memo_count t.schema) (vec_capacity t.memos);
       text_room = t.texts.spare;
       blocks_in_use = used_blocks t.texts.texts;
     } };
@@ -66,7 +67,7 @@ impl GrowingTable {
     pub(crate) fn new(
         schema: Schema,
         count: u32,
-        records: Vec<u8>,
+        records: RecordBytes,
         texts: MemoStore,
         memos: Vec<u32>,
     ) -> GrowingTable
@@ -199,7 +200,7 @@ impl GrowingTable {
         ensures value { self.new.table ≡ with_row self.old.table (row_with self.old.table.schema bytes.now []) }
     {
         push_no_memos(&mut self.memos, memo_count_of(self.schema.fields()));
-        extend_reserved(&mut self.records, bytes);
+        self.records.extend(bytes);
         self.count += 1;
     }
 
@@ -225,8 +226,7 @@ impl GrowingTable {
         ensures value { self.new.table ≡ with_cell self.old.table number field cell.now }
     {
         let start = cell_start(&self.schema, number, field);
-        let end = start + self.schema.width(field);
-        self.records[start..end].copy_from_slice(cell);
+        self.records.put(start, cell);
     }
 
     /// Replaces the text of a record's memo. Records count from 1, fields from 0. The old text stays where it is
@@ -253,7 +253,7 @@ impl GrowingTable {
         ensures value { self.new.table ≡ with_mark self.old.table number deleted }
     {
         let start = record_start(&self.schema, number);
-        self.records[start] = flag_of(deleted);
+        self.records.set(start, flag_of(deleted));
     }
 
     /// Takes out the records that are marked as deleted. The others keep their order, and the blocks of all texts that no
@@ -274,7 +274,7 @@ impl GrowingTable {
     pub(crate) fn copy(&self, alloc: Global) -> Result<GrowingTable, AllocError>
         ensures ok { IfOk result (λ copied. copied.table ≡ self.now.table) }
     {
-        let records = Vec::from_slice(alloc, self.records.as_slice())?;
+        let records = self.records.copy(alloc)?;
         let texts = self.texts.copy(alloc)?;
         let memos = Vec::from_slice(alloc, self.memos.as_slice())?;
         Ok(GrowingTable {

@@ -9,6 +9,7 @@ ghost use Rattle.dbf_image.specs.Store.{memo_count, IsMemo};
 
 use crate::format::DELETED;
 use crate::table::offsets::memo_count_of;
+use crate::table::records::RecordBytes;
 use dbf_fields::Schema;
 
 // Copies a part of `size` elements to another place in front of it. It takes no memory.
@@ -26,7 +27,7 @@ fn move_part<T: Copy>(list: &mut Vec<T>, size: usize, from: usize, to: usize)
 pub(crate) fn keep_records(
     schema: &Schema,
     count: u32,
-    records: &mut Vec<u8>,
+    records: &mut RecordBytes,
     memos: &mut Vec<u32>,
 ) -> u32
     requires whole { AreRecords schema.now count records.old.items }
@@ -40,8 +41,8 @@ pub(crate) fn keep_records(
     let memos_each = memo_count_of(schema.fields());
     let mut kept: usize = 0;
     for index in 0..count as usize {
-        if records[index * size] != DELETED {
-            move_part(records, size, index, kept);
+        if records.as_slice()[index * size] != DELETED {
+            records.move_part(size, index, kept);
             move_part(memos, memos_each, index, kept);
             kept += 1;
         }
