@@ -1,4 +1,4 @@
--- Pairs are put after all others of a tree, in a leaf of their own.
+-- A leaf comes after all others of a tree.
 use Rattle.std.proofs.Common.{Option, None, Some, Result, Ok, Err, IfOk, ◌≡◌, ℕ, suc, ◌+◌, ◌<◌, ◌≤◌, ◌^◌, List, [], ◌∷◌, ◌++◌, map, length, length-append, get_or, set, refl, ap, sym, ◌∙◌, subst, inl, inr, arith}
 use Rattle.std.specs.List.{AllByRecursion, insert}
 use Rattle.std.proofs.lemmas.Bool.{cases_eq, cases_lt}
@@ -8,15 +8,16 @@ use Rattle.ndx_index.specs.Order.{AreInOrder}
 use Rattle.ndx_index.specs.Slots.{no_pair, slot_at}
 use Rattle.ndx_index.specs.PageStore.{Page, page_in, no_page, with_pairs, with_links}
 use Rattle.ndx_index.specs.declared.pages.root.Root.{Root}
-use Rattle.ndx_index.specs.IndexTree.{pairs_under, pairs_of_levels, pairs_in, joined, total, here, uses, uses_of_levels, IsTree, IsTreeOfLevels, IsPlain, AllBefore, AllFrom, Parted}
-use Rattle.ndx_index.specs.TreeSteps.{CanAppend, Appends, AppendsUnder, AppendsBeside, AddsLink, IsOver}
+use Rattle.ndx_index.specs.IndexTree.{pairs_under, pairs_of_levels, joined, total, here, uses, uses_of_levels, IsTree, IsTreeOfLevels, AllBefore, AllFrom, Parted}
+use Rattle.ndx_index.specs.TreeSteps.{CanAppend, Appends, AppendsUnder, AppendsBeside, CanAppendIn, AppendsIn, AddsLink, IsOver}
 use Rattle.ndx_index.proofs.Order.{sorted_none}
-use Rattle.ndx_index.proofs.TreeFrame.{Framed, framed, here_itself}
+use Rattle.ndx_index.proofs.TreeFrame.{Framed, framed, here_itself, agrees_itself}
 use Rattle.ndx_index.proofs.FreeFrame.{uses_there, here_zero, here_few}
+use Rattle.ndx_index.proofs.TreeInsert.{total_one}
 use Rattle.ndx_index.proofs.TreeLists.{all_at, all_from, all_end, total_at, total_two, total_same, total-end, total_last, map_same, back_order, last_order, none_empty, order_end, insert_end, joined-end, grown, joined-grown, map_grown, keys_below, parted-grown, parted-end, first_after, none_before_first}
 
 -- ---- pages
-here_at : (p r : ℕ) → r ≡ p → here p r ≡ 1
+pub here_at : (p r : ℕ) → r ≡ p → here p r ≡ 1
 here_at p r e = subst (λ x. here p x ≡ 1) (sym e) (here_itself p)
 
 -- no tree has a page that isn't there
@@ -67,29 +68,43 @@ pub is_first : (ps : List Pair) (first : Pair) → 0 < length ps → first ≡ s
 is_first ps first some is = is ∙ get_or_default ps 0 no_pair first some
 
 -- the first of them does
-parts_new : (d : ℕ) (a : List Page) (p : ℕ) (ps : List Pair) (first : Pair) → IsFirst ps first → CanAppend d a p ps → PartsNew d a p ps first
-parts_new d a p ps first is can = record {
-  above = subst (λ k. AllBefore k (pairs_under d a p)) (sym is) (first_after (pairs_under d a p) ps first can.order can.some);
-  from = subst (λ k. AllFrom k ps) (sym is) (none_before_first ps first (back_order (pairs_under d a p) ps can.order) can.some);
-}
+parts_new : (d : ℕ) (a : List Page) (p q : ℕ) (first : Pair) → IsFirst (page_in a q).pairs first → CanAppend d a p q → PartsNew d a p (page_in a q).pairs first
+parts_new d a p q first is can =
+    let ps = (page_in a q).pairs in
+    record {
+      above = subst (λ k. AllBefore k (pairs_under d a p)) (sym is) (first_after (pairs_under d a p) ps first can.order can.leaf.1);
+      from = subst (λ k. AllFrom k ps) (sym is) (none_before_first ps first (back_order (pairs_under d a p) ps can.order) can.leaf.1);
+    }
+
+-- the leaf is not in the tree
+one_more : (d : ℕ) (a : List Page) (p q r : ℕ) → CanAppend d a p q → uses d a p r + here q r ≤ 1
+one_more d a p q r can = elim (cases_eq r q) [
+  | inl e ↦ omega (arith, subst (λ x. uses d a p x ≡ 0) (sym e) can.outside, here_few q r)
+  | inr ne ↦ omega (arith, can.apart r, here_zero q r ne)
+]
+
+not_leaf : (d : ℕ) (a : List Page) (p q : ℕ) → CanAppend d a p q → p ≡ q → ⊥
+not_leaf d a p q can e = omega (arith, agrees_itself d a p, subst (λ x. uses d a p x ≡ 0) (sym e) can.outside)
 
 -- ---- the last child
-pub can_append_below : (d : ℕ) (a : List Page) (p : ℕ) (ps : List Pair) (m : ℕ) → CanAppend (suc d) a p ps → suc m ≡ length (page_in a p).links → CanAppend d a (get_or (page_in a p).links m 0) ps
-can_append_below d a p ps m can n =
+pub can_append_below : (d : ℕ) (a : List Page) (p q m : ℕ) → CanAppend (suc d) a p q → suc m ≡ length (page_in a p).links → CanAppend d a (get_or (page_in a p).links m 0) q
+can_append_below d a p q m can n =
     let links = (page_in a p).links in
     let lt : m < length links = omega arith in
     record {
       tree = all_at (λ x. IsTree d a x) links m lt can.tree.3;
       apart = λ r. omega (arith, can.apart r, total_at (λ x. uses d a x r) links m lt);
-      some = can.some;
-      order = last_order (λ (x : ℕ). pairs_under d a x) links m ps n can.order;
+      leaf = can.leaf;
+      outside = omega (arith, can.outside, total_at (λ x. uses d a x q) links m lt);
+      order = last_order (λ (x : ℕ). pairs_under d a x) links m (page_in a q).pairs n can.order;
     }
 
--- the pairs went under the last child
-pub under_last : (d : ℕ) (a b : List Page) (p : ℕ) (ps : List Pair) (m : ℕ) → CanAppend (suc d) a p ps → suc m ≡ length (page_in a p).links → AppendsUnder d a b (get_or (page_in a p).links m 0) ps → AppendsUnder (suc d) a b p ps
-under_last d a b p ps m can n done =
+-- the leaf went under the last child
+pub under_last : (d : ℕ) (a b : List Page) (p q m : ℕ) → CanAppend (suc d) a p q → suc m ≡ length (page_in a p).links → AppendsUnder d a b (get_or (page_in a p).links m 0) q → AppendsUnder (suc d) a b p q
+under_last d a b p q m can n done =
+    let ps = (page_in a q).pairs in
     let first = get_or ps 0 no_pair in
-    let parts = parts_new (suc d) a p ps first (first_is ps can.some) can in
+    let parts = parts_new (suc d) a p q first (first_is ps can.leaf.1) can in
     let links = (page_in a p).links in
     let keys = (page_in a p).pairs in
     let last = get_or links m 0 in
@@ -108,13 +123,9 @@ under_last d a b p ps m can n done =
       | inl e ↦ subst (λ k. IsTree d b (get_or links k 0)) (sym e) done.tree
       | inr ne ↦ (other j (omega arith)).tree le (tree j lt)
     ] in
-    let use_each : (r : ℕ) → r < length a → (j : ℕ) → j < length links → uses d b (get_or links j 0) r ≡ uses d a (get_or links j 0) r = λ r old j lt. elim (cases_eq j m) [
-      | inl e ↦ subst (λ k. uses d b (get_or links k 0) r ≡ uses d a (get_or links k 0) r) (sym e) (done.uses_stay r old)
-      | inr ne ↦ (other j (omega arith)).uses_stay r
-    ] in
     let at_links : (r : ℕ) → uses (suc d) b p r ≡ here p r + total (λ x. uses d b x r) links = λ r. ap (λ (g : Page). here p r + total (λ x. uses d b x r) g.links) here_same in
-    let stays : (r : ℕ) → r < length a → uses (suc d) b p r ≡ uses (suc d) a p r = λ r old.
-    at_links r ∙ ap (λ k. here p r + k) (total_same (λ x. uses d a x r) (λ x. uses d b x r) links (use_each r old)) in
+    let stays : (r : ℕ) → r < length a → uses (suc d) b p r ≡ uses (suc d) a p r + here q r = λ r old.
+    omega (arith, at_links r, done.uses_stay r old, total_one (λ x. uses d a x r) (λ x. uses d b x r) links m lm (λ j lt ne. (other j (omega (arith, lt, ne, n))).uses_stay r)) in
     record {
       extends = record {
         longer = le;
@@ -131,7 +142,7 @@ under_last d a b p ps m can n done =
       );
       uses_stay = stays;
       apart = λ r. elim (cases_lt r (length a)) [
-        | inl old ↦ omega (arith, stays r old, can.apart r)
+        | inl old ↦ omega (arith, stays r old, one_more (suc d) a p q r can)
         | inr new ↦
             let others : (j : ℕ) → j < m → uses d b (get_or links j 0) r ≡ 0 = λ j lt. (other j lt).uses_stay r ∙ uses_past d a (get_or links j 0) r (tree j (omega arith)) new in
             omega (arith, at_links r, here_zero p r (λ e. omega (arith, e, new, can.tree.0)), total_last (λ x. uses d b x r) links m n others, done.apart r)
@@ -141,18 +152,19 @@ under_last d a b p ps m can n done =
           omega (arith, at_links r, here_zero p r (λ e. omega (arith, e, new, can.tree.0)), total_last (λ x. uses d b x r) links m n others, done.new_used r new lt);
     }
 
--- the pairs are under a new page q, which became p's last child
-under_more : (d : ℕ) (a b b1 : List Page) (p : ℕ) (ps : List Pair) (pair : Pair) (q : ℕ) → IsFirst ps pair → CanAppend (suc d) a p ps → AppendsBeside d a b ps q
-    → b1 ≡ set b p (record { pairs = (page_in b p).pairs ++ pair ∷ []; links = (page_in b p).links ++ q ∷ [] }) → AppendsUnder (suc d) a b1 p ps
-under_more d a b b1 p ps pair q is can done e =
-    let parts = parts_new (suc d) a p ps pair is can in
+-- the leaf is under a page s, which became p's last child
+under_more : (d : ℕ) (a b b1 : List Page) (p q : ℕ) (pair : Pair) (s : ℕ) → IsFirst (page_in a q).pairs pair → CanAppend (suc d) a p q → AppendsBeside d a b q s
+    → b1 ≡ set b p (record { pairs = (page_in b p).pairs ++ pair ∷ []; links = (page_in b p).links ++ s ∷ [] }) → AppendsUnder (suc d) a b1 p q
+under_more d a b b1 p q pair s is can done e =
+    let ps = (page_in a q).pairs in
+    let parts = parts_new (suc d) a p q pair is can in
     let links = (page_in a p).links in
     let keys = (page_in a p).pairs in
     let le : length a ≤ length b = done.longer in
     let was : page_in b p ≡ page_in a p = done.frame p can.tree.0 in
     let n : length b1 ≡ length b = ap length e ∙ length-set b p _ in
-    let more : Page = record { pairs = keys ++ pair ∷ []; links = links ++ q ∷ [] } in
-    let e1 : b1 ≡ set b p more = e ∙ ap (λ (g : Page). set b p (record { pairs = g.pairs ++ pair ∷ []; links = g.links ++ q ∷ [] })) was in
+    let more : Page = record { pairs = keys ++ pair ∷ []; links = links ++ s ∷ [] } in
+    let e1 : b1 ≡ set b p more = e ∙ ap (λ (g : Page). set b p (record { pairs = g.pairs ++ pair ∷ []; links = g.links ++ s ∷ [] })) was in
     let at : page_in b1 p ≡ more = ap (λ (xs : List Page). page_in xs p) e1 ∙ get_or-set_same b p more no_page (omega (arith, can.tree.0, le)) in
     let aside : (r : ℕ) → (r ≡ p → ⊥) → page_in b1 r ≡ page_in b r = λ r ne. ap (λ (xs : List Page). page_in xs r) e1 ∙ get_or-set_other b p r more no_page ne in
     let tree : (j : ℕ) → j < length links → IsTree d a (get_or links j 0) = λ j lt. all_at (λ x. IsTree d a x) links j lt can.tree.3 in
@@ -160,13 +172,14 @@ under_more d a b b1 p ps pair q is can done e =
     omega (arith, subst (λ x. 0 < uses d a (get_or links j 0) x) i h, can.apart p, here_itself p, total_at (λ x. uses d a x p) links j lt) in
     let other : (j : ℕ) → j < length links → Framed d a b1 (get_or links j 0) = λ j lt. framed d a b1 (get_or links j 0)
     (λ r h. aside r (below r j lt h) ∙ done.frame r (uses_there d a (get_or links j 0) r (tree j lt) h)) in
-    let new : Framed d b b1 q = framed d b b1 q (λ r h. aside r (λ i. omega (arith, subst (λ x. 0 < uses d b q x) i h, done.fresh p can.tree.0))) in
-    let maps : map (λ x. pairs_under d b1 x) (links ++ q ∷ []) ≡ map (λ x. pairs_under d a x) links ++ ps ∷ [] =
-    map-append (λ x. pairs_under d b1 x) links (q ∷ [])
+    let outside : here q p ≡ 0 = here_zero q p (not_leaf (suc d) a p q can) in
+    let new : Framed d b b1 s = framed d b b1 s (λ r h. aside r (λ i. omega (arith, subst (λ x. 0 < uses d b s x) i h, done.old_used p can.tree.0, outside))) in
+    let maps : map (λ x. pairs_under d b1 x) (links ++ s ∷ []) ≡ map (λ x. pairs_under d a x) links ++ ps ∷ [] =
+    map-append (λ x. pairs_under d b1 x) links (s ∷ [])
     ∙ (λ i. map_same (λ x. pairs_under d a x) (λ x. pairs_under d b1 x) links (λ j lt. (other j lt).pairs) i ++ (new.pairs ∙ done.pairs) i ∷ []) in
-    let sums : (r : ℕ) → uses (suc d) b1 p r ≡ uses (suc d) a p r + uses d b q r = λ r.
+    let sums : (r : ℕ) → uses (suc d) b1 p r ≡ uses (suc d) a p r + uses d b s r = λ r.
     ap (λ (g : Page). here p r + total (λ x. uses d b1 x r) g.links) at
-    ∙ omega (arith, total-end (λ x. uses d b1 x r) links q, total_same (λ x. uses d a x r) (λ x. uses d b1 x r) links (λ j lt. (other j lt).uses_stay r), new.uses_stay r) in
+    ∙ omega (arith, total-end (λ x. uses d b1 x r) links s, total_same (λ x. uses d a x r) (λ x. uses d b1 x r) links (λ j lt. (other j lt).uses_stay r), new.uses_stay r) in
     record {
       extends = record {
         longer = omega (arith, le, n);
@@ -181,123 +194,137 @@ under_more d a b b1 p ps pair q is can done e =
         subst (λ (g : Page). AreInOrder g.pairs) (sym at)
             (order_end keys pair can.tree.2 (keys_below pair (map (λ x. pairs_under d a x) links) keys can.tree.1 (none_empty d a links can.tree.3) parts.above)),
         subst (λ (g : Page). AllByRecursion (λ x. IsTree d b1 x) g.links) (sym at)
-            (all_end (λ x. IsTree d b1 x) links q (all_from (λ x. IsTree d b1 x) links (λ j lt. (other j lt).tree (omega (arith, le, n)) (tree j lt))) (new.tree (omega (arith, n)) done.tree)),
+            (all_end (λ x. IsTree d b1 x) links s (all_from (λ x. IsTree d b1 x) links (λ j lt. (other j lt).tree (omega (arith, le, n)) (tree j lt))) (new.tree (omega (arith, n)) done.tree)),
       );
-      uses_stay = λ r old. omega (arith, sums r, done.fresh r old);
+      uses_stay = λ r old. omega (arith, sums r, done.old_used r old);
       apart = λ r. elim (cases_lt r (length a)) [
-        | inl old ↦ omega (arith, sums r, done.fresh r old, can.apart r)
+        | inl old ↦ omega (arith, sums r, done.old_used r old, one_more (suc d) a p q r can)
         | inr past ↦ omega (arith, sums r, uses_past (suc d) a p r can.tree past, done.apart r)
       ];
       new_used = λ r new lt. omega (arith, sums r, uses_past (suc d) a p r can.tree new, done.new_used r new (omega (arith, lt, n)));
     }
 
--- the pairs are under a new page q, which has a new page above it
-beside_more : (d : ℕ) (a b b1 : List Page) (ps : List Pair) (q s : ℕ) → AppendsBeside d a b ps q → s ≡ length b → length b1 < 2 ^ 32
-    → b1 ≡ b ++ record { pairs = []; links = q ∷ [] } ∷ [] → AppendsBeside (suc d) a b1 ps s
-beside_more d a b b1 ps q s done top count_bounded e =
-    let one : Page = record { pairs = []; links = q ∷ [] } in
+-- the leaf is under a page s, which has a new page t above it
+beside_more : (d : ℕ) (a b b1 : List Page) (q s t : ℕ) → AppendsBeside d a b q s → t ≡ length b → length b1 < 2 ^ 32 → b1 ≡ b ++ record { pairs = []; links = s ∷ [] } ∷ [] → AppendsBeside (suc d) a b1 q t
+beside_more d a b b1 q s t done top count_bounded e =
+    let one : Page = record { pairs = []; links = s ∷ [] } in
     let n : length b1 ≡ length b + 1 = ap length e ∙ length-append b (one ∷ []) in
-    let at : page_in b1 s ≡ one = ap (λ (xs : List Page). page_in xs s) e ∙ get_or_at b one [] no_page s (sym top) in
+    let at : page_in b1 t ≡ one = ap (λ (xs : List Page). page_in xs t) e ∙ get_or_at b one [] no_page t (sym top) in
     let old : (r : ℕ) → r < length b → page_in b1 r ≡ page_in b r = λ r lt. ap (λ (xs : List Page). page_in xs r) e ∙ get_or_append_left b (one ∷ []) no_page r lt in
-    let new : Framed d b b1 q = framed d b b1 q (λ r h. old r (uses_there d b q r done.tree h)) in
-    let sums : (r : ℕ) → uses (suc d) b1 s r ≡ here s r + uses d b q r = λ r.
-    ap (λ (g : Page). here s r + total (λ x. uses d b1 x r) g.links) at ∙ omega (arith, new.uses_stay r) in
+    let new : Framed d b b1 s = framed d b b1 s (λ r h. old r (uses_there d b s r done.tree h)) in
+    let sums : (r : ℕ) → uses (suc d) b1 t r ≡ here t r + uses d b s r = λ r.
+    ap (λ (g : Page). here t r + total (λ x. uses d b1 x r) g.links) at ∙ omega (arith, new.uses_stay r) in
     record {
       longer = omega (arith, done.longer, n);
       count_bounded = λ h. count_bounded;
       frame = λ r lt. old r (omega (arith, lt, done.longer)) ∙ done.frame r lt;
-      pairs = ap (λ (g : Page). joined (map (λ x. pairs_under d b1 x) g.links)) at ∙ append-nil (pairs_under d b1 q) ∙ new.pairs ∙ done.pairs;
+      pairs = ap (λ (g : Page). joined (map (λ x. pairs_under d b1 x) g.links)) at ∙ append-nil (pairs_under d b1 s) ∙ new.pairs ∙ done.pairs;
       tree = (
         omega (arith, top, n),
         subst (λ (g : Page). Parted (map (λ x. pairs_under d b1 x) g.links) g.pairs) (sym at) tt,
         subst (λ (g : Page). AreInOrder g.pairs) (sym at) sorted_none,
         subst (λ (g : Page). AllByRecursion (λ x. IsTree d b1 x) g.links) (sym at) (new.tree (omega (arith, n)) done.tree, tt),
       );
-      fresh = λ r lt. omega (arith, sums r, here_zero s r (λ i. omega (arith, i, top, lt, done.longer)), done.fresh r lt);
+      old_used = λ r lt. omega (arith, sums r, here_zero t r (λ i. omega (arith, i, top, lt, done.longer)), done.old_used r lt);
       apart = λ r. elim (cases_lt r (length b)) [
-        | inl lt ↦ omega (arith, sums r, here_zero s r (λ i. omega (arith, i, top, lt)), done.apart r)
-        | inr past ↦ omega (arith, sums r, here_few s r, uses_past d b q r done.tree past)
+        | inl lt ↦ omega (arith, sums r, here_zero t r (λ i. omega (arith, i, top, lt)), done.apart r)
+        | inr past ↦ omega (arith, sums r, here_few t r, uses_past d b s r done.tree past)
       ];
       new_used = λ r new lt. elim (cases_lt r (length b)) [
-        | inl old ↦ omega (arith, sums r, here_zero s r (λ i. omega (arith, i, top, old)), done.new_used r new old)
-        | inr past ↦ omega (arith, sums r, here_at s r (omega (arith, past, lt, n, top)), uses_past d b q r done.tree past)
+        | inl old ↦ omega (arith, sums r, here_zero t r (λ i. omega (arith, i, top, old)), done.new_used r new old)
+        | inr past ↦ omega (arith, sums r, here_at t r (omega (arith, past, lt, n, top)), uses_past d b s r done.tree past)
       ];
     }
 
--- the pairs are under a new page q, which became a child
-pub child_more : (d : ℕ) (a b b1 : List Page) (p : ℕ) (ps : List Pair) (pair : Pair) (q : ℕ) → IsFirst ps pair → CanAppend (suc d) a p ps → AppendsBeside d a b ps q → (s : Option ℕ) → AddsLink b b1 p q pair s → Appends (suc d) a b1 p ps s
-child_more d a b b1 p ps pair q is can done None e = under_more d a b b1 p ps pair q is can done e
-child_more d a b b1 p ps pair q is can done (Some s) e = beside_more d a b b1 ps q s done e.0 e.1 e.2
+-- the leaf is under a page s, which became a child
+pub child_more : (d : ℕ) (a b b1 : List Page) (p q : ℕ) (pair : Pair) (s : ℕ) → IsFirst (page_in a q).pairs pair → CanAppend (suc d) a p q → AppendsBeside d a b q s → (t : Option ℕ) → AddsLink b b1 p s pair t → Appends (suc d) a b1 p q t
+child_more d a b b1 p q pair s is can done None e = under_more d a b b1 p q pair s is can done e
+child_more d a b b1 p q pair s is can done (Some t) e = beside_more d a b b1 q s t done e.0 e.1 e.2
+
+-- the leaf itself
+pub leaf_beside : (a : List Page) (p q : ℕ) → CanAppend 0 a p q → AppendsBeside 0 a a q q
+leaf_beside a p q can = record {
+  longer = omega arith;
+  count_bounded = λ h. h;
+  frame = λ r lt. refl;
+  pairs = refl;
+  tree = can.leaf;
+  old_used = λ r lt. refl;
+  apart = λ r. here_few q r;
+  new_used = λ r new lt. absurd (omega (arith, new, lt));
+}
 
 pub ok_weaker : {X E : Type 0} (P Q : X → Type 0) → ((x : X) → P x → Q x) → (r : Result X E) → IfOk r P → IfOk r Q
 ok_weaker P Q f (Ok x) h = f x h
 ok_weaker P Q f (Err e) h = tt
 
 -- ---- the top
-pub can_append_top : (d : ℕ) (a : List Page) (t : Root) (ps : List Pair) → t.levels ≡ suc d → IsPlain a t → AreInOrder (pairs_in a t ++ ps) → 0 < length ps → CanAppend d a t.page ps
-can_append_top d a t ps e plain order some = record {
-  tree = subst (λ n. IsTreeOfLevels n a t.page) e plain.tree;
-  apart = λ r. subst (λ n. uses_of_levels n a t.page r ≤ 1) e (plain.apart r);
-  some = some;
-  order = subst (λ n. AreInOrder (pairs_of_levels n a t.page ++ ps)) e order;
+pub can_append_top : (d : ℕ) (a : List Page) (t : Root) (q : ℕ) → t.levels ≡ suc d → CanAppendIn a t q → CanAppend d a t.page q
+can_append_top d a t q e can = record {
+  tree = subst (λ n. IsTreeOfLevels n a t.page) e can.tree;
+  apart = λ r. subst (λ n. uses_of_levels n a t.page r ≤ 1) e (can.apart r);
+  leaf = can.leaf;
+  outside = subst (λ n. uses_of_levels n a t.page q ≡ 0) e can.outside;
+  order = subst (λ n. AreInOrder (pairs_of_levels n a t.page ++ (page_in a q).pairs)) e can.order;
 }
 
--- the pairs are under it, and no new top is over it
-pub grown_under : (d : ℕ) (a b : List Page) (t : Root) (ps : List Pair) → t.levels ≡ suc d → IsPlain a t → AppendsUnder d a b t.page ps → IsPlain b t
-grown_under d a b t ps levels plain done =
-    let once : (r : ℕ) → r < length b → uses d b t.page r ≡ 1 = λ r lt. elim (cases_lt r (length a)) [
-      | inl old ↦ done.uses_stay r old ∙ subst (λ k. uses_of_levels k a t.page r ≡ 1) levels (plain.once r old)
-      | inr new ↦ done.new_used r new lt
-    ] in
-    record {
-      tree = subst (λ k. IsTreeOfLevels k b t.page) (sym levels) done.tree;
-      apart = λ r. subst (λ k. uses_of_levels k b t.page r ≤ 1) (sym levels) (done.apart r);
-      once = λ r lt. subst (λ k. uses_of_levels k b t.page r ≡ 1) (sym levels) (once r lt);
-      deep = omega (arith, plain.deep, done.extends.longer);
-      count_bounded = done.extends.count_bounded plain.count_bounded;
-    }
+-- trees by their levels
+abbrev Tops : List Page → List Page → ℕ → ℕ → ℕ → ℕ → ℕ → Type 0
+Tops a b n p m s q = AppendsIn a b (record { page = p; levels = n }) (record { page = s; levels = m }) q
 
-pub record AppendsIn (a b : List Page) (t u : Root) (ps : List Pair) : Type 0 where
-  pub tree : IsPlain b u
-  pub pairs : pairs_in b u ≡ pairs_in a t ++ ps
+-- the leaf is under it, and no new top is over it
+pub grown_under : (d : ℕ) (a b : List Page) (t : Root) (q : ℕ) → t.levels ≡ suc d → CanAppendIn a t q → AppendsUnder d a b t.page q → AppendsIn a b t t q
+grown_under d a b t q levels can done = subst (λ n. Tops a b n t.page n t.page q) (sym levels) (record {
+  longer = done.extends.longer;
+  count_bounded = done.extends.count_bounded can.count_bounded;
+  frame = done.extends.frame;
+  pairs = done.pairs;
+  tree = done.tree;
+  levels = omega arith;
+  uses_stay = done.uses_stay;
+  apart = done.apart;
+  new_used = done.new_used;
+  deep = omega (arith, levels, can.deep, done.extends.longer);
+})
 
--- the pairs are under a new page q, and a new top is over both
-pub over_both : (d : ℕ) (a b b1 : List Page) (t u : Root) (ps : List Pair) (pair : Pair) (q : ℕ) → IsFirst ps pair → t.levels ≡ suc d → IsPlain a t → CanAppend d a t.page ps
-    → AppendsBeside d a b ps q → IsOver b b1 t q pair u → AppendsIn a b1 t u ps
-over_both d a b b1 t u ps pair q is levels plain can done over =
-    let parts = parts_new d a t.page ps pair is can in
+-- the leaf is under a page s, and a new top is over both
+pub over_both : (d : ℕ) (a b b1 : List Page) (t u : Root) (q : ℕ) (pair : Pair) (s : ℕ) → IsFirst (page_in a q).pairs pair → t.levels ≡ suc d → CanAppendIn a t q
+    → AppendsBeside d a b q s → IsOver b b1 t s pair u → AppendsIn a b1 t u q
+over_both d a b b1 t u q pair s is levels all done over =
+    let can : CanAppend d a t.page q = can_append_top d a t q levels all in
+    let parts = parts_new d a t.page q pair is can in
+    let ps = (page_in a q).pairs in
     let p = t.page in
-    let s = u.page in
-    let top : Page = record { pairs = pair ∷ []; links = p ∷ q ∷ [] } in
+    let v = u.page in
+    let top : Page = record { pairs = pair ∷ []; links = p ∷ s ∷ [] } in
     let n : length b1 ≡ length b + 1 = ap length over.pages ∙ length-append b (top ∷ []) in
     let more : u.levels ≡ suc (suc d) = omega (arith, over.levels, levels) in
-    let at : page_in b1 s ≡ top = new_page b b1 top s over.pages over.page in
+    let at : page_in b1 v ≡ top = new_page b b1 top v over.pages over.page in
     let old : (r : ℕ) → r < length b → page_in b1 r ≡ page_in b r = λ r lt. ap (λ (xs : List Page). page_in xs r) over.pages ∙ get_or_append_left b (top ∷ []) no_page r lt in
     let first : Framed d a b1 p = framed d a b1 p (λ r h.
     let lt = uses_there d a p r can.tree h in
     old r (omega (arith, lt, done.longer)) ∙ done.frame r lt) in
-    let second : Framed d b b1 q = framed d b b1 q (λ r h. old r (uses_there d b q r done.tree h)) in
-    let alone : pairs_under d b1 q ≡ ps = second.pairs ∙ done.pairs in
-    let all : pairs_under (suc d) b1 s ≡ pairs_under d a p ++ ps =
+    let second : Framed d b b1 s = framed d b b1 s (λ r h. old r (uses_there d b s r done.tree h)) in
+    let alone : pairs_under d b1 s ≡ ps = second.pairs ∙ done.pairs in
+    let pairs : pairs_under (suc d) b1 v ≡ pairs_under d a p ++ ps =
     ap (λ (g : Page). joined (map (λ x. pairs_under d b1 x) g.links)) at ∙ (λ i. first.pairs i ++ append-nil (alone i) i) in
-    let sums : (r : ℕ) → uses (suc d) b1 s r ≡ here s r + (uses d a p r + uses d b q r) = λ r.
-    ap (λ (g : Page). here s r + total (λ x. uses d b1 x r) g.links) at ∙ omega (arith, first.uses_stay r, second.uses_stay r) in
-    let old_once : (r : ℕ) → r < length a → uses d a p r ≡ 1 = λ r lt. subst (λ k. uses_of_levels k a p r ≡ 1) levels (plain.once r lt) in
-    let apart : (r : ℕ) → uses (suc d) b1 s r ≤ 1 = λ r. elim (cases_lt r (length a)) [
-      | inl lt ↦ omega (arith, sums r, here_zero s r (λ i. omega (arith, i, over.page, lt, done.longer)), can.apart r, done.fresh r lt)
+    let sums : (r : ℕ) → uses (suc d) b1 v r ≡ here v r + (uses d a p r + uses d b s r) = λ r.
+    ap (λ (g : Page). here v r + total (λ x. uses d b1 x r) g.links) at ∙ omega (arith, first.uses_stay r, second.uses_stay r) in
+    let not_new : (r : ℕ) → r < length b → here v r ≡ 0 = λ r lt. here_zero v r (λ i. omega (arith, i, over.page, lt)) in
+    let stays : (r : ℕ) → r < length a → uses (suc d) b1 v r ≡ uses d a p r + here q r = λ r lt.
+    omega (arith, sums r, not_new r (omega (arith, lt, done.longer)), done.old_used r lt) in
+    let apart : (r : ℕ) → uses (suc d) b1 v r ≤ 1 = λ r. elim (cases_lt r (length a)) [
+      | inl lt ↦ omega (arith, stays r lt, one_more d a p q r can)
       | inr past ↦ elim (cases_lt r (length b)) [
-        | inl lt ↦ omega (arith, sums r, uses_past d a p r can.tree past, here_zero s r (λ i. omega (arith, i, over.page, lt)), done.apart r)
-        | inr new ↦ omega (arith, sums r, uses_past d a p r can.tree past, uses_past d b q r done.tree new, here_few s r)
+        | inl lt ↦ omega (arith, sums r, uses_past d a p r can.tree past, not_new r lt, done.apart r)
+        | inr new ↦ omega (arith, sums r, uses_past d a p r can.tree past, uses_past d b s r done.tree new, here_few v r)
       ]
     ] in
-    let once : (r : ℕ) → r < length b1 → uses (suc d) b1 s r ≡ 1 = λ r there. elim (cases_lt r (length a)) [
-      | inl lt ↦ omega (arith, sums r, here_zero s r (λ i. omega (arith, i, over.page, lt, done.longer)), old_once r lt, done.fresh r lt)
-      | inr past ↦ elim (cases_lt r (length b)) [
-        | inl lt ↦ omega (arith, sums r, uses_past d a p r can.tree past, here_zero s r (λ i. omega (arith, i, over.page, lt)), done.new_used r past lt)
-        | inr new ↦ omega (arith, sums r, uses_past d a p r can.tree past, uses_past d b q r done.tree new, here_at s r (omega (arith, new, there, n, over.page)))
-      ]
+    let new_used : (r : ℕ) → length a ≤ r → r < length b1 → uses (suc d) b1 v r ≡ 1 = λ r past there. elim (cases_lt r (length b)) [
+      | inl lt ↦ omega (arith, sums r, uses_past d a p r can.tree past, not_new r lt, done.new_used r past lt)
+      | inr new ↦ omega (arith, sums r, uses_past d a p r can.tree past, uses_past d b s r done.tree new, here_at v r (omega (arith, new, there, n, over.page)))
     ] in
-    let tree : IsTree (suc d) b1 s = (
+    let tree : IsTree (suc d) b1 v = (
       omega (arith, over.page, n),
       subst (λ (g : Page). Parted (map (λ x. pairs_under d b1 x) g.links) g.pairs) (sym at)
           (subst (λ qs. AllBefore pair qs) (sym first.pairs) parts.above, subst (λ qs. AllFrom pair qs) (sym alone) parts.from, tt),
@@ -305,13 +332,16 @@ over_both d a b b1 t u ps pair q is levels plain can done over =
       subst (λ (g : Page). AllByRecursion (λ x. IsTree d b1 x) g.links) (sym at)
           (first.tree (omega (arith, done.longer, n)) can.tree, (second.tree (omega (arith, n)) done.tree, tt)),
     ) in
-    record {
-      tree = record {
-        tree = subst (λ k. IsTreeOfLevels k b1 s) (sym more) tree;
-        apart = λ r. subst (λ k. uses_of_levels k b1 s r ≤ 1) (sym more) (apart r);
-        once = λ r lt. subst (λ k. uses_of_levels k b1 s r ≡ 1) (sym more) (once r lt);
-        deep = omega (arith, more, levels, plain.deep, done.longer, n);
-        count_bounded = over.count_bounded;
-      };
-      pairs = ap (λ k. pairs_of_levels k b1 s) more ∙ all ∙ ap (λ k. pairs_of_levels k a p ++ ps) (sym levels);
-    }
+    let tops : Tops a b1 (suc d) p (suc (suc d)) v q = record {
+      longer = omega (arith, done.longer, n);
+      count_bounded = over.count_bounded;
+      frame = λ r lt h. old r (omega (arith, lt, done.longer)) ∙ done.frame r lt;
+      pairs = pairs;
+      tree = tree;
+      levels = omega arith;
+      uses_stay = stays;
+      apart = apart;
+      new_used = new_used;
+      deep = omega (arith, levels, all.deep, done.longer, n);
+    } in
+    subst (λ k. Tops a b1 k p u.levels v q) (sym levels) (subst (λ k. Tops a b1 (suc d) p k v q) (sym more) tops)

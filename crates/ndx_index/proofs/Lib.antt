@@ -31,6 +31,8 @@ pub mod Halving
 pub mod TreeLists
 pub mod Searching
 pub mod Appending
+pub mod Leaves
+pub mod Filled
 pub mod Keeping
 pub mod Parting
 pub mod TreeInsert

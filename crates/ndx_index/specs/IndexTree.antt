@@ -11,6 +11,14 @@ abbrev pub joined : List (List Pair) → List Pair
 joined [] = []
 joined (ps ∷ pss) = ps ++ joined pss
 
+-- the pairs of pages, of one page after another
+abbrev pub pairs_of_pages : List Page → List Pair
+pairs_of_pages a = joined (map (λ (g : Page). g.pairs) a)
+
+-- each page has pairs
+abbrev pub HavePairs : List Page → Type 0
+HavePairs a = AllByRecursion (λ (g : Page). 0 < length g.pairs) a
+
 -- the pairs of the leaves under page p, which is this many levels above them
 abbrev pub pairs_under : ℕ → List Page → ℕ → List Pair
 pairs_under zero a p = (page_in a p).pairs

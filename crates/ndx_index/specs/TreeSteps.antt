@@ -142,13 +142,15 @@ pub record Empties (d : ℕ) (a b : List Page) (f g : FreeList) (p : ℕ) (pair 
   pub more : f.count ≤ g.count
   pub same_length : length b ≡ length a
 
--- ---- pairs are put after all others, in a leaf of their own
+-- ---- a leaf that is there already comes after all others
 
-pub record CanAppend (d : ℕ) (a : List Page) (p : ℕ) (ps : List Pair) : Type 0 where
+-- q is a leaf outside the tree under p, and its pairs follow those of the tree
+pub record CanAppend (d : ℕ) (a : List Page) (p q : ℕ) : Type 0 where
   pub tree : IsTree d a p
   pub apart : (r : ℕ) → uses d a p r ≤ 1
-  pub some : 0 < length ps
-  pub order : AreInOrder (pairs_under d a p ++ ps)
+  pub leaf : IsTree 0 a q
+  pub outside : uses d a p q ≡ 0
+  pub order : AreInOrder (pairs_under d a p ++ (page_in a q).pairs)
 
 -- the old pages but those under p stay, and new pages come after them
 pub record Extends (d : ℕ) (a b : List Page) (p : ℕ) : Type 0 where
@@ -156,30 +158,30 @@ pub record Extends (d : ℕ) (a b : List Page) (p : ℕ) : Type 0 where
   pub count_bounded : length a < 2 ^ 32 → length b < 2 ^ 32
   pub frame : (r : ℕ) → r < length a → uses d a p r ≡ 0 → page_in b r ≡ page_in a r
 
-pub record AppendsUnder (d : ℕ) (a b : List Page) (p : ℕ) (ps : List Pair) : Type 0 where
+pub record AppendsUnder (d : ℕ) (a b : List Page) (p q : ℕ) : Type 0 where
   pub extends : Extends d a b p
-  pub pairs : pairs_under d b p ≡ pairs_under d a p ++ ps
+  pub pairs : pairs_under d b p ≡ pairs_under d a p ++ (page_in a q).pairs
   pub tree : IsTree d b p
-  -- the tree has the pages that it had, and each new one once
-  pub uses_stay : (r : ℕ) → r < length a → uses d b p r ≡ uses d a p r
+  -- the tree has the pages that it had, the leaf, and each new one once
+  pub uses_stay : (r : ℕ) → r < length a → uses d b p r ≡ uses d a p r + here q r
   pub apart : (r : ℕ) → uses d b p r ≤ 1
   pub new_used : (r : ℕ) → length a ≤ r → r < length b → uses d b p r ≡ 1
 
--- no old page changes, and q's are the new ones
-pub record AppendsBeside (d : ℕ) (a b : List Page) (ps : List Pair) (q : ℕ) : Type 0 where
+-- no old page changes, and those under s are the leaf q and the new ones
+pub record AppendsBeside (d : ℕ) (a b : List Page) (q s : ℕ) : Type 0 where
   pub longer : length a ≤ length b
   pub count_bounded : length a < 2 ^ 32 → length b < 2 ^ 32
   pub frame : (r : ℕ) → r < length a → page_in b r ≡ page_in a r
-  pub pairs : pairs_under d b q ≡ ps
-  pub tree : IsTree d b q
-  pub fresh : (r : ℕ) → r < length a → uses d b q r ≡ 0
-  pub apart : (r : ℕ) → uses d b q r ≤ 1
-  pub new_used : (r : ℕ) → length a ≤ r → r < length b → uses d b q r ≡ 1
+  pub pairs : pairs_under d b s ≡ (page_in a q).pairs
+  pub tree : IsTree d b s
+  pub old_used : (r : ℕ) → r < length a → uses d b s r ≡ here q r
+  pub apart : (r : ℕ) → uses d b s r ≤ 1
+  pub new_used : (r : ℕ) → length a ≤ r → r < length b → uses d b s r ≡ 1
 
--- the pairs are under p, or alone under a new page
-abbrev pub Appends : ℕ → List Page → List Page → ℕ → List Pair → Option ℕ → Type 0
-Appends d a b p ps None = AppendsUnder d a b p ps
-Appends d a b p ps (Some q) = AppendsBeside d a b ps q
+-- the leaf q is under p, or alone under another page
+abbrev pub Appends : ℕ → List Page → List Page → ℕ → ℕ → Option ℕ → Type 0
+Appends d a b p q None = AppendsUnder d a b p q
+Appends d a b p q (Some s) = AppendsBeside d a b q s
 
 -- a link after the others of an inner page and a key before it, or alone on a new page
 abbrev pub AddsLink : List Page → List Page → ℕ → ℕ → Pair → Option ℕ → Type 0
@@ -194,6 +196,30 @@ pub record IsOver (a b : List Page) (t : Root) (q : ℕ) (k : Pair) (new : Root)
   pub pages : b ≡ a ++ record { pairs = k ∷ []; links = t.page ∷ q ∷ [] } ∷ []
 
 -- ---- steps of a tree by its top
+
+-- q is a leaf outside a tree, and its pairs follow those of the tree
+pub record CanAppendIn (a : List Page) (t : Root) (q : ℕ) : Type 0 where
+  pub tree : IsTreeIn a t
+  pub levels : 0 < t.levels
+  pub apart : (r : ℕ) → uses_in a t r ≤ 1
+  pub leaf : IsTree 0 a q
+  pub outside : uses_in a t q ≡ 0
+  pub order : AreInOrder (pairs_in a t ++ (page_in a q).pairs)
+  pub deep : t.levels ≤ length a
+  pub count_bounded : length a < 2 ^ 32
+
+-- the tree has the pages that it had, the leaf q, and each new one once
+pub record AppendsIn (a b : List Page) (t u : Root) (q : ℕ) : Type 0 where
+  pub longer : length a ≤ length b
+  pub count_bounded : length b < 2 ^ 32
+  pub frame : (r : ℕ) → r < length a → uses_in a t r ≡ 0 → page_in b r ≡ page_in a r
+  pub pairs : pairs_in b u ≡ pairs_in a t ++ (page_in a q).pairs
+  pub tree : IsTreeIn b u
+  pub levels : 0 < u.levels
+  pub uses_stay : (r : ℕ) → r < length a → uses_in b u r ≡ uses_in a t r + here q r
+  pub apart : (r : ℕ) → uses_in b u r ≤ 1
+  pub new_used : (r : ℕ) → length a ≤ r → r < length b → uses_in b u r ≡ 1
+  pub deep : u.levels ≤ length b
 
 -- a tree in order and a free list that share no page
 pub record IsTreeApart (a : List Page) (f : FreeList) (t : Root) : Type 0 where

@@ -12,7 +12,7 @@ use crate::pages::bound::Bound;
 use crate::pages::free::{FreeList, make_free};
 use crate::pages::insert::insert_in;
 use crate::pages::remove::remove_in;
-use crate::pages::root::{Root, append_all};
+use crate::pages::root::{Root, join_leaves};
 use crate::pages::search::{first_place, first_under, last_place, last_under, push_pairs};
 use crate::pages::store::PageStore;
 use crate::pair::Pair;
@@ -67,23 +67,25 @@ impl OrderedIndex {
         ensures pairs { IfOk result (λ index. index.pairs ≡ in_order pairs.pairs) }
     {
         if pairs.is_in_order() {
-            return OrderedIndex::from_sorted(alloc, &pairs);
+            return OrderedIndex::from_sorted(alloc, pairs);
         }
         let list = sorted(alloc, &pairs)?;
-        // The pairs as they came are let go before those of the pages are made.
+        // The pairs as they came are let go before the pages are made.
         drop(pairs);
-        OrderedIndex::from_sorted(alloc, &list)
+        OrderedIndex::from_sorted(alloc, list)
     }
 
-    /// The index of these pairs, which stand in order; its pages are filled from the left. `AllocError` where there is
-    /// no memory for it, or more pairs than its pages can be numbered for.
-    pub fn from_sorted(alloc: Global, pairs: &PairList) -> Result<Self, AllocError>
-        requires ordered { AreInOrder pairs.now.pairs }
-        ensures key_len { IfOk result (λ index. index.key_len ≡ pairs.now.key_len) }
-        ensures pairs { IfOk result (λ index. index.pairs ≡ pairs.now.pairs) }
+    /// The index of these pairs, which stand in order; they stay where they are, and its pages are filled from the left. `AllocError` where
+    /// there is no memory for it, or more pairs than its pages can be numbered for.
+    pub fn from_sorted(alloc: Global, pairs: PairList) -> Result<Self, AllocError>
+        requires ordered { AreInOrder pairs.pairs }
+        ensures key_len { IfOk result (λ index. index.key_len ≡ pairs.key_len) }
+        ensures pairs { IfOk result (λ index. index.pairs ≡ pairs.pairs) }
     {
-        let mut store = PageStore::new(alloc, pairs.key_len());
-        let root = append_all(&mut store, pairs.all())?;
+        // For contracts alone: all keys have one length.
+        let _ = pairs.key_len();
+        let mut store = PageStore::of_leaves(alloc, pairs.slots)?;
+        let root = join_leaves(&mut store)?;
         Ok(OrderedIndex {
             store,
             free: FreeList { head: 0, count: 0 },
@@ -204,7 +206,7 @@ impl OrderedIndex {
         let kept = old.renumbered(alloc, numbers)?;
         // The old pairs are let go before the pages are made.
         drop(old);
-        OrderedIndex::from_sorted(alloc, &kept)
+        OrderedIndex::from_sorted(alloc, kept)
     }
 
     // All pairs in order, copied into a list.

@@ -87,7 +87,7 @@ fn sorted_index(alloc: Global) -> Result<OrderedIndex, AllocError> {
     if !pairs.is_in_order() {
         return Ok(OrderedIndex::new(alloc, 3));
     }
-    OrderedIndex::from_sorted(alloc, &pairs)
+    OrderedIndex::from_sorted(alloc, pairs)
 }
 
 // The index of those pairs in another order.

@@ -1,39 +1,37 @@
-//! Pairs that are put after all others of a tree, so that its pages are filled from the left.
+//! A leaf comes after all others of a tree, so that its pages are filled from the left.
 
-ghost use Rattle.std.specs.Prelude.{◌≡◌, ◌+◌, ◌<◌, ◌≤◌, length, IfOk};
-ghost use Rattle.ndx_index.specs.ListParts.{listed};
+ghost use Rattle.std.specs.Prelude.{◌≡◌, ◌+◌, ◌<◌, length, IfOk};
 ghost use Rattle.ndx_index.specs.PageStore.{page_in};
 ghost use Rattle.ndx_index.specs.TreeSteps.{AddsLink, Appends, CanAppend};
 
 use crate::pages::pair_pages::PLACES;
 use crate::pages::store::PageStore;
 use crate::pair::Pair;
-use crate::pair_list::part::ListPart;
 use std::alloc::AllocError;
 
-/// Puts pairs after all others under a page, this many levels above the leaves; they get a leaf of their own. Where the
-/// pages at the right edge are full, the tree stays, and the answer is a new page of its level with that leaf alone under
-/// it. An `Err` says that there was no memory, or no number for a page.
+/// Puts a leaf after all others under a page, which is this many levels above the leaves. Where the pages at the right edge
+/// are full, the tree stays, and the answer is a page of its level with that leaf alone under it. An `Err` says that there
+/// was no memory, or no number for a page.
 pub(crate) fn append_under(
     store: &mut PageStore,
     level: usize,
     page: u32,
-    pairs: ListPart<'_>,
+    leaf: u32,
 ) -> Result<Option<u32>, AllocError>
-    requires can { CanAppend level store.old.pages page (listed pairs) }
-    requires count_bounded { length (listed pairs) ≤ PLACES }
-    requires key { pairs.key_len ≡ store.old.key_len }
-    ensures appended { IfOk result (λ beside. Appends level store.old.pages store.new.pages page (listed pairs.entry) beside) }
+    requires can { CanAppend level store.old.pages page leaf }
+    ensures appended { IfOk result (λ beside. Appends level store.old.pages store.new.pages page leaf beside) }
     ensures key_len { store.new.key_len ≡ store.old.key_len }
 {
     if level == 0 {
-        let leaf = store.add_leaf(pairs)?;
         return Ok(Some(leaf));
     }
     let last = store.link(page, store.link_count(page) - 1);
-    match append_under(store, level - 1, last, pairs)? {
+    match append_under(store, level - 1, last, leaf)? {
         None => Ok(None),
-        Some(beside) => add_child(store, page, beside, &pairs.get(0)),
+        Some(beside) => {
+            let first = store.pair(leaf, 0);
+            add_child(store, page, beside, &first)
+        }
     }
 }
 

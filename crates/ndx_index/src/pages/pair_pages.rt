@@ -1,15 +1,17 @@
 //! Pages of sixteen pairs.
 
-ghost use Rattle.std.specs.Prelude.{◌≡◌, ◌≢◌, ◌+◌, ◌*◌, ◌<◌, ◌≤◌, ◌++◌, ℕ, [], ◌∷◌, length, slice_set, OnOk, ◌^◌, false};
-ghost use Rattle.std.specs.List.{insert, remove};
+ghost use Rattle.std.specs.Prelude.{◌≡◌, ◌≢◌, ◌+◌, ◌*◌, ◌<◌, ◌≤◌, ◌++◌, ℕ, [], ◌∷◌, length, replicate, slice_set, IfOk, OnOk, ◌^◌, false};
+ghost use Rattle.std.specs.List.{insert, remove, AllByRecursion};
 ghost use Rattle.key_expr.specs.declared.format.TheConstants.{MAX_KEY_BYTES};
 ghost use Rattle.ndx_index.specs.Bounds.{passes};
 ghost use Rattle.ndx_index.specs.Order.{AreInOrder};
+ghost use Rattle.ndx_index.specs.IndexTree.{joined};
 ghost use Rattle.ndx_index.specs.ListParts.{listed};
 ghost use Rattle.ndx_index.specs.Slots.{slot_at, AllPassFrom};
 ghost use Rattle.ndx_index.specs.PairPages.{page_at, split_page};
 
 use crate::pages::bound::Bound;
+use crate::pages::runs::push_copies;
 use crate::pages::slots::PairSlots;
 use crate::pair::Pair;
 use crate::pair_list::part::ListPart;
@@ -54,6 +56,53 @@ impl PairPages {
             counts: Vec::new(alloc),
             spare: 0,
         }
+    }
+
+    /// Pages of these pairs, which stay where they are: each page is full but the last. `AllocError` where there is no memory for
+    /// the counts of the pages and the rest of the last, or no page number.
+    pub(crate) fn filled(alloc: Global, pairs: PairSlots) -> Result<Self, AllocError>
+        ensures key_len { IfOk result (λ made. made.key_len ≡ pairs.key_len) }
+        ensures pairs { IfOk result (λ made. joined made.pages ≡ pairs.pairs) }
+        ensures some { IfOk result (λ made. AllByRecursion (λ ps. 0 < length ps) made.pages) }
+    {
+        let full = pairs.len() / PLACES;
+        let rest = pairs.len() % PLACES;
+        if full >= MAX_PAGES {
+            return Err(AllocError);
+        }
+        let mut slots = pairs;
+        let mut counts = Vec::new(alloc);
+        counts.reserve(full + 1)?;
+        push_copies(&mut counts, full, PLACES as u8);
+        if rest == 0 {
+            return Ok(PairPages {
+                slots,
+                counts,
+                spare: 0,
+            });
+        }
+        slots.reserve(PLACES - rest)?;
+        slots.push_blank(PLACES - rest);
+        counts.push_reserved(rest as u8);
+        Ok(PairPages {
+            slots,
+            counts,
+            spare: 0,
+        })
+    }
+
+    /// So many empty pages, for keys of this length. `AllocError` where there is no memory or no page number for them.
+    pub(crate) fn empty(alloc: Global, key_len: usize, count: usize) -> Result<Self, AllocError>
+        requires short { key_len ≤ MAX_KEY_BYTES }
+        ensures key_len { IfOk result (λ made. made.key_len ≡ key_len) }
+        ensures pages { IfOk result (λ made. made.pages ≡ replicate count []) }
+    {
+        let mut pages = PairPages::new(alloc, key_len);
+        pages.reserve(count)?;
+        for page in 0..count {
+            pages.push_page();
+        }
+        Ok(pages)
     }
 
     /// The length of each key.
@@ -207,23 +256,8 @@ impl PairPages {
         ensures key_len { self.new.key_len ≡ self.old.key_len }
         ensures spare { self.new.spare + 1 ≡ self.old.spare }
     {
-        let none = ListPart::none(self.slots.key_len());
-        self.push_filled(none);
-    }
-
-    /// Puts a page of these pairs after the others. It takes the room that was reserved, and no memory.
-    pub(crate) fn push_filled(&mut self, pairs: ListPart<'_>)
-        requires room { 0 < self.old.spare }
-        requires count_bounded { length (listed pairs) ≤ PLACES }
-        requires key { pairs.key_len ≡ self.old.key_len }
-        ensures pages { self.new.pages ≡ self.old.pages ++ listed pairs.entry ∷ [] }
-        ensures key_len { self.new.key_len ≡ self.old.key_len }
-        ensures spare { self.new.spare + 1 ≡ self.old.spare }
-    {
-        let count = pairs.len();
-        self.slots.push_part(pairs);
-        self.slots.push_blank(PLACES - count);
-        self.counts.push_reserved(count as u8);
+        self.slots.push_blank(PLACES);
+        self.counts.push_reserved(0);
         self.spare -= 1;
     }
 

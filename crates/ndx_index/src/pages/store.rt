@@ -4,14 +4,16 @@ ghost use Rattle.std.specs.Prelude.{◌≡◌, ◌≢◌, ◌+◌, ◌<◌, ◌�
 ghost use Rattle.std.specs.List.{insert, remove};
 ghost use Rattle.key_expr.specs.declared.format.TheConstants.{MAX_KEY_BYTES};
 ghost use Rattle.ndx_index.specs.Bounds.{passes};
+ghost use Rattle.ndx_index.specs.IndexTree.{pairs_of_pages, HavePairs};
 ghost use Rattle.ndx_index.specs.Order.{before, AreInOrder};
 ghost use Rattle.ndx_index.specs.ListParts.{listed};
 ghost use Rattle.ndx_index.specs.Slots.{slot_at, AllPassFrom};
 ghost use Rattle.ndx_index.specs.declared.pages.pair_pages.TheConstants.{PLACES};
-ghost use Rattle.ndx_index.specs.PageStore.{page_in, no_page, with_pairs, with_pairs_at, with_links_at, pairs_split, links_split};
+ghost use Rattle.ndx_index.specs.PageStore.{page_in, no_page, with_pairs_at, with_links_at, pairs_split, links_split};
 
 use crate::pages::bound::Bound;
 use crate::pages::pair_pages::PairPages;
+use crate::pages::slots::PairSlots;
 use crate::pair::Pair;
 use crate::pair_list::part::ListPart;
 use key_expr::Key;
@@ -50,6 +52,21 @@ impl PageStore {
         }
     }
 
+    /// Leaves of these pairs, which stay where they are: each leaf is full but the last. `AllocError` where there is no memory for
+    /// the rest of the last and for links, or no number for a page.
+    pub(crate) fn of_leaves(alloc: Global, pairs: PairSlots) -> Result<Self, AllocError>
+        ensures key_len { IfOk result (λ store. store.key_len ≡ pairs.key_len) }
+        ensures pairs { IfOk result (λ store. pairs_of_pages store.pages ≡ pairs.pairs) }
+        ensures some { IfOk result (λ store. HavePairs store.pages) }
+    {
+        let pair_pages = PairPages::filled(alloc, pairs)?;
+        let link_pages = PairPages::empty(alloc, 0, pair_pages.page_count() as usize)?;
+        Ok(PageStore {
+            pair_pages,
+            link_pages,
+        })
+    }
+
     /// The length of each key.
     pub(crate) fn key_len(&self) -> usize
         ensures value { result ≡ self.now.key_len }
@@ -58,9 +75,10 @@ impl PageStore {
         self.pair_pages.key_len()
     }
 
-    /// How many pages there are.
+    /// How many pages there are, which four bytes can count.
     pub(crate) fn page_count(&self) -> u32
         ensures value { result ≡ length self.now.pages }
+        ensures count_bounded { length self.now.pages < 2 ^ 32 }
     {
         self.pair_pages.page_count()
     }
@@ -224,25 +242,10 @@ impl PageStore {
         ensures err { OnErr result (self.new.pages ≡ self.old.pages) }
         ensures key_len { self.new.key_len ≡ self.old.key_len }
     {
-        let none = ListPart::none(self.key_len());
-        self.add_leaf(none)
-    }
-
-    /// Puts a page of these pairs, without links, after the others, and answers its number. `AllocError` where there is
-    /// no memory or no number for it; the pages are the same then.
-    pub(crate) fn add_leaf(&mut self, pairs: ListPart<'_>) -> Result<u32, AllocError>
-        requires count_bounded { length (listed pairs) ≤ PLACES }
-        requires key { pairs.key_len ≡ self.old.key_len }
-        ensures pages { OnOk result (self.new.pages ≡ self.old.pages ++ with_pairs (listed pairs.entry) no_page ∷ []) }
-        ensures number { IfOk result (λ page. page ≡ length self.old.pages) }
-        ensures count_bounded { OnOk result (length self.new.pages < 2 ^ 32) }
-        ensures err { OnErr result (self.new.pages ≡ self.old.pages) }
-        ensures key_len { self.new.key_len ≡ self.old.key_len }
-    {
         self.pair_pages.reserve(1)?;
         self.link_pages.reserve(1)?;
         let page = self.pair_pages.page_count();
-        self.pair_pages.push_filled(pairs);
+        self.pair_pages.push_page();
         self.link_pages.push_page();
         Ok(page)
     }

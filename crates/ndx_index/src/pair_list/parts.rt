@@ -1,6 +1,6 @@
 //! What a part of a list of pairs tells.
 
-ghost use Rattle.std.specs.Prelude.{◌≡◌, ◌<◌, ◌≤◌, [], length, take, drop};
+ghost use Rattle.std.specs.Prelude.{◌≡◌, ◌<◌, ◌≤◌, length, take, drop};
 ghost use Rattle.key_expr.specs.declared.format.TheConstants.{MAX_KEY_BYTES};
 ghost use Rattle.ndx_index.specs.ListParts.{listed};
 ghost use Rattle.ndx_index.specs.Slots.{slot_at};
@@ -11,19 +11,6 @@ use crate::pair_list::part::ListPart;
 use key_expr::Key;
 
 impl<'a> ListPart<'a> {
-    /// No pairs, for keys of this length.
-    pub(crate) fn none(key_len: usize) -> ListPart<'a>
-        requires short { key_len ≤ MAX_KEY_BYTES }
-        ensures pairs { listed result ≡ [] }
-        ensures key_len { result.key_len ≡ key_len }
-    {
-        ListPart {
-            key_len,
-            keys: &[],
-            numbers: &[],
-        }
-    }
-
     /// How many pairs it has.
     pub(crate) fn len(self) -> usize
         ensures count { result ≡ length (listed self.entry) }

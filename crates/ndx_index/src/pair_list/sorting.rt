@@ -22,7 +22,7 @@ use std::cmp::Ordering;
 const FRONT_BYTES: usize = 8;
 
 // The most entries, since the place of each is a number of four bytes.
-const MAX_ENTRIES: usize = u32::MAX as usize;
+const MAX_PLACES: usize = u32::MAX as usize;
 
 /// A pair while a list is sorted: bytes of its key as one number, its record number, and its place in the list.
 #[derive(Clone, Copy)]
@@ -61,7 +61,7 @@ fn entries_of(alloc: Global, pairs: &PairList, start: usize) -> Result<Vec<SortE
     ensures bytes { IfOk result (λ _. HaveBytes start pairs.now.pairs) }
 {
     let count = pairs.len();
-    if count > MAX_ENTRIES {
+    if count > MAX_PLACES {
         return Err(AllocError);
     }
     let mut entries = Vec::new(alloc);
@@ -76,7 +76,7 @@ fn entries_of(alloc: Global, pairs: &PairList, start: usize) -> Result<Vec<SortE
 fn entry_at(pairs: &PairList, start: usize, place: usize) -> SortEntry
     requires inside { start ≤ pairs.now.key_len }
     requires place { place < length pairs.now.pairs }
-    requires numbered { place ≤ MAX_ENTRIES }
+    requires numbered { place ≤ MAX_PLACES }
     ensures entry { result ≡ entry_of_place start pairs.now.pairs place }
     ensures bytes { AreBytes (drop start (slot_at pairs.now.pairs place).key) }
 {

@@ -11,9 +11,12 @@ use std::test::Fail;
 // Room for a list of a thousand pairs while it grows, and none for pages of them with their links.
 const A_LIST: usize = 32 << 10;
 
-// Room for the 63 leaves of a thousand pairs and the 5 pages above them. The leaves would be 125 if they were filled by halves,
-// for which there is no room.
-const FULL_PAGES: usize = 64 << 10;
+// Less than the links of 63 leaves take: where a list of a thousand pairs is there already, no pages can be made of it.
+const NO_LINKS: usize = 2 << 10;
+
+// Room for the links of the 63 leaves that a list of a thousand pairs becomes, and for the 5 pages above them. The leaves would be
+// 125 if they were filled by halves, for which there is no room.
+const FULL_PAGES: usize = 32 << 10;
 
 // The pairs that the random edits put in would fill thousands of pages if none were used again, and there is no room for them.
 const USED_AGAIN: usize = 96 << 10;
@@ -47,12 +50,13 @@ fn thousand(alloc: Global) -> Result<PairList, Fail> {
 }
 
 // Whether an index is made of pairs that stand in order. It tells nothing of others.
-fn is_made(alloc: Global, pairs: &PairList) -> bool {
+fn is_made(alloc: Global, pairs: PairList) -> bool {
     pairs.is_in_order() && OrderedIndex::from_sorted(alloc, pairs).is_ok()
 }
 
-// Whether so many bytes can be left, and whether the index is made where they are.
-fn is_made_in(alloc: Global, pairs: &PairList, bytes: usize) -> Result<(bool, bool), AllocError> {
+// Whether so many bytes can be left, and whether the index of a list that is there is made where they are.
+fn is_made_in(alloc: Global, bytes: usize) -> Result<(bool, bool), Fail> {
+    let pairs = thousand(alloc)?;
     let mut hoard = hoard_for(alloc, bytes)?;
     let is_left = hoard.leave(bytes);
     Ok((is_left, is_made(alloc, pairs)))
@@ -61,12 +65,8 @@ fn is_made_in(alloc: Global, pairs: &PairList, bytes: usize) -> Result<(bool, bo
 #[test]
 fn new_index_fills_its_pages(rt: HostRuntime) -> Result<(), Fail> {
     let alloc = rt.alloc();
-    let pairs = thousand(alloc)?;
-    let ample = is_made(alloc, &pairs);
-    let scarce = [
-        is_made_in(alloc, &pairs, A_LIST)?,
-        is_made_in(alloc, &pairs, FULL_PAGES)?,
-    ];
+    let ample = is_made(alloc, thousand(alloc)?);
+    let scarce = [is_made_in(alloc, NO_LINKS)?, is_made_in(alloc, FULL_PAGES)?];
     assert_eq!(rt; (ample, scarce), (true, [(true, false), (true, true)]));
     Ok(())
 }

@@ -28,7 +28,7 @@ fn thousand(alloc: Global) -> Result<OrderedIndex, Fail> {
 
 // The same pairs in an index that is made of them at once.
 fn built_again(alloc: Global, index: &OrderedIndex) -> Result<OrderedIndex, Fail> {
-    Ok(OrderedIndex::from_sorted(alloc, &index.pairs(alloc)?)?)
+    Ok(OrderedIndex::from_sorted(alloc, index.pairs(alloc)?)?)
 }
 
 // Whether the pairs are those of so many records from number 1 on, each this far from the one before.

@@ -37,7 +37,7 @@ impl TableIndex {
         // For contracts alone: the expression keeps the rules on the table's fields.
         let _ = expr.text();
         if is_order_of(records, &expr, &pairs) {
-            return match OrderedIndex::from_sorted(alloc, &pairs) {
+            return match OrderedIndex::from_sorted(alloc, pairs) {
                 Ok(order) => Ok(Some(TableIndex { name, expr, order })),
                 Err(refused) => Err(refused),
             };
