@@ -1,11 +1,8 @@
 //! One index of a table.
 
 ghost use Rattle.std.specs.Prelude.{◌≡◌, ◌+◌, ◌≤◌, length, slice_get, IfOk, OnOk};
-ghost use Rattle.dbf_image.specs.Table.{row_at};
-ghost use Rattle.key_expr.specs.Keys.{key, key_length};
 ghost use Rattle.ndx_index.specs.Order.{AreInOrder};
 ghost use Rattle.ndx_index.specs.Places.{back_from};
-ghost use Rattle.table_order.specs.TableOrder.{pair_at};
 ghost use Rattle.table_core.specs.Indexes.{AtPlacesOf, Follows, FollowsAside, FollowsBut, HasRoom, indexed, seen_index};
 
 pub(crate) mod all;
@@ -16,9 +13,10 @@ use crate::edits::planned::Target;
 use crate::indexes::sort::sorted;
 use byte_io::Bytes;
 use dbf_image::GrowingTable;
-use key_expr::{Key, KeyExpr};
+use key_expr::KeyExpr;
 use ndx_index::{OrderedIndex, Pair};
 use std::alloc::{AllocError, Global};
+use table_order::pair_of;
 
 /// An index: its name, its key expression, and the pairs of the table's records in order.
 #[derive(Drop)]
@@ -149,27 +147,4 @@ impl TableIndex {
         }
         here
     }
-}
-
-/// The key of a record, from 1, by an expression that was read for the table's fields. It takes no memory.
-pub(crate) fn key_at(expr: &KeyExpr, records: &GrowingTable, number: u32) -> Key
-    requires one { 1 ≤ number }
-    requires inside { number ≤ length records.now.table.rows }
-    requires fields { expr.now.fields ≡ records.now.table.schema }
-    ensures value { result ≡ key (row_at records.now.table number).cells expr.now.expr }
-    ensures long { length result ≡ key_length expr.now.fields expr.now.expr }
-{
-    expr.key_of(records.record(number))
-}
-
-/// The pair of a record, from 1, by an expression that was read for the table's fields. It takes no memory.
-pub(crate) fn pair_of(expr: &KeyExpr, records: &GrowingTable, number: u32) -> Pair
-    requires one { 1 ≤ number }
-    requires inside { number ≤ length records.now.table.rows }
-    requires fields { expr.now.fields ≡ records.now.table.schema }
-    ensures value { result ≡ pair_at records.now.table number expr.now.expr }
-    ensures long { length result.key ≡ key_length expr.now.fields expr.now.expr }
-{
-    let key = key_at(expr, records, number);
-    Pair { key, number }
 }

@@ -1,59 +1,20 @@
 //! Records of two tables that are matched by their keys.
 
 ghost use Rattle.std.specs.Prelude.{◌≡◌, ◌≤◌, drop, length, IfOk};
-ghost use Rattle.dbf_image.specs.Table.{row_at};
-ghost use Rattle.key_expr.specs.Keys.{key as key_of_cells, key_length};
 ghost use Rattle.ndx_index.specs.Order.{AreInOrder};
-ghost use Rattle.table_order.specs.TableOrder.{order, pair_at, pairs_of};
+ghost use Rattle.table_order.specs.TableOrder.{order};
 ghost use Rattle.table_diff.specs.KeySteps.{first_match, lesser_match as lesser};
 ghost use Rattle.table_diff.specs.Matching.{all_matches, in_new, in_old, matches_by_key};
 
 use crate::matching::{Match, RecordNumbers};
 use dbf_image::GrowingTable;
-use key_expr::{Key, KeyExpr};
-use ndx_index::{OrderedIndex, Pair, PairList};
+use key_expr::KeyExpr;
+use ndx_index::{OrderedIndex, PairList};
 use std::alloc::{AllocError, Global};
 use std::cmp::Ordering;
+use table_order::record_pairs;
 
-// The key of a record.
-fn key_at(table: &GrowingTable, key: &KeyExpr, number: u32) -> Key
-    requires one { 1 ≤ number }
-    requires inside { number ≤ length table.now.table.rows }
-    requires fields { key.now.fields ≡ table.now.table.schema }
-    ensures value { result ≡ key_of_cells (row_at table.now.table number).cells key.now.expr }
-    ensures long { length result ≡ key_length key.now.fields key.now.expr }
-{
-    key.key_of(table.record(number))
-}
-
-// The key and the number of a record.
-fn pair_of(table: &GrowingTable, key: &KeyExpr, number: u32) -> Pair
-    requires one { 1 ≤ number }
-    requires inside { number ≤ length table.now.table.rows }
-    requires fields { key.now.fields ≡ table.now.table.schema }
-    ensures value { result ≡ pair_at table.now.table number key.now.expr }
-    ensures long { length result.key ≡ key_length key.now.fields key.now.expr }
-{
-    Pair {
-        key: key_at(table, key, number),
-        number,
-    }
-}
-
-// The keys and the numbers of all records, by their numbers.
-fn record_pairs(alloc: Global, table: &GrowingTable, key: &KeyExpr) -> Result<PairList, AllocError>
-    requires fields { key.now.fields ≡ table.now.table.schema }
-    ensures pairs { IfOk result (λ list. list.pairs ≡ pairs_of table.now.table key.now.expr) }
-{
-    let mut pairs = PairList::new(alloc, key.key_len());
-    pairs.reserve(table.record_count() as usize)?;
-    for index in 0..table.record_count() {
-        pairs.push(&pair_of(table, key, index + 1))?;
-    }
-    Ok(pairs)
-}
-
-// They in the order of the keys, and of the numbers where the keys are the same.
+// The pairs of all records, in the order of the keys, and of the numbers where the keys are the same.
 fn ordered_pairs(alloc: Global, table: &GrowingTable, key: &KeyExpr) -> Result<PairList, AllocError>
     requires fields { key.now.fields ≡ table.now.table.schema }
     ensures pairs { IfOk result (λ list. list.pairs ≡ order table.now.table key.now.expr) }

@@ -7,14 +7,15 @@ ghost use Rattle.table_core.specs.Indexes.{Follows, indexed};
 ghost use Rattle.dbf_image.specs.Table.{packed};
 ghost use Rattle.key_expr.specs.Keys.{key_length};
 ghost use Rattle.table_order.specs.Packing.{packed_numbers};
-ghost use Rattle.table_order.specs.TableOrder.{order, pairs_of};
+ghost use Rattle.table_order.specs.TableOrder.{order};
 
-use crate::indexes::{TableIndex, pair_of};
+use crate::indexes::TableIndex;
 use byte_io::Bytes;
 use dbf_image::GrowingTable;
 use key_expr::KeyExpr;
-use ndx_index::{OrderedIndex, PairList};
+use ndx_index::OrderedIndex;
 use std::alloc::{AllocError, Global};
+use table_order::record_pairs;
 
 /// The pairs of all records, in order. An `Err` says that there was no memory.
 pub(crate) fn sorted(
@@ -28,24 +29,6 @@ pub(crate) fn sorted(
 {
     let pairs = record_pairs(alloc, records, expr)?;
     OrderedIndex::from_pairs(alloc, pairs)
-}
-
-// The pairs of all records, in the order of their numbers. An `Err` says that there was no memory.
-fn record_pairs(
-    alloc: Global,
-    records: &GrowingTable,
-    expr: &KeyExpr,
-) -> Result<PairList, AllocError>
-    requires fields { expr.now.fields ≡ records.now.table.schema }
-    ensures pairs { IfOk result (λ list. list.pairs ≡ pairs_of records.now.table expr.now.expr) }
-    ensures key_len { IfOk result (λ list. list.key_len ≡ key_length expr.now.fields expr.now.expr) }
-{
-    let mut pairs = PairList::new(alloc, expr.key_len());
-    pairs.reserve(records.record_count() as usize)?;
-    for index in 0..records.record_count() {
-        pairs.push(&pair_of(expr, records, index + 1))?;
-    }
-    Ok(pairs)
 }
 
 // The new numbers of a table's records, without those that are marked as deleted; 0 for these. An `Err` says that there

@@ -7,9 +7,10 @@ ghost use Rattle.std.specs.Option.{option_map};
 ghost use Rattle.ndx_index.specs.Order.{first_with as first_with_text};
 ghost use Rattle.ndx_index.specs.Places.{place_in, back_from};
 
-use crate::indexes::{TableIndex, pair_of};
+use crate::indexes::TableIndex;
 use dbf_image::GrowingTable;
 use ndx_index::Pair;
+use table_order::pair_of;
 
 // The record of a pair.
 fn number_of(found: Option<Pair>) -> Option<u32>

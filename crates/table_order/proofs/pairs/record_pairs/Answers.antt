@@ -4,7 +4,7 @@ use Rattle.dbf_image.specs.Table.{blank_row}
 use Rattle.ndx_index.specs.declared.pair.Pair.{Pair}
 use Rattle.table_order.specs.TableOrder.{pairs_of}
 use Rattle.table_order.specs.Laws.RecordPairs.{get-pairs, length-pairs, pair}
-use Rattle.table_core.proofs.indexes.sort.record_pairs.Goals as goal
+use Rattle.table_order.proofs.pairs.record_pairs.Goals as goal
 
 pub loop-index-preserved : goal.loop-index-preserved
 loop-index-preserved c =

@@ -1,7 +1,7 @@
 use Rattle.std.proofs.Common.{◌≡◌, take}
 use Rattle.key_expr.specs.Keys.{key_length}
 use Rattle.table_order.specs.TableOrder.{pairs_of}
-use Rattle.table_core.proofs.indexes.sort.record_pairs.Given as goal
+use Rattle.table_order.proofs.pairs.record_pairs.Given as goal
 
 abbrev pub invariant-loop-index : goal.invariant-loop-index
 invariant-loop-index l = record {
