@@ -100,7 +100,7 @@ fn serve<R: Runtime + Files<File = File> + AllocGlobal + Threads + Wait + Sync, 
 }
 
 // Runs the audit on its words.
-fn audit<R: Runtime + Files<File = File> + AllocGlobal, O: Write, E: Write>(
+fn audit<R: Runtime + Files<File = File> + AllocGlobal + Threads, O: Write, E: Write>(
     rt: &R,
     out: &mut O,
     err: &mut E,
@@ -115,13 +115,12 @@ fn audit<R: Runtime + Files<File = File> + AllocGlobal, O: Write, E: Write>(
 }
 
 // Runs the program that shows and compares tables on its words; what is shown goes to the stream.
-fn use_tool<R: Runtime + Files<File = File> + AllocGlobal, S: Write + Drop, O: Write, E: Write>(
-    rt: &R,
-    stream: S,
-    out: &mut O,
-    err: &mut E,
-    words: &[String],
-) -> ExitCode {
+fn use_tool<
+    R: Runtime + Files<File = File> + AllocGlobal + Threads,
+    S: Write + Drop,
+    O: Write,
+    E: Write,
+>(rt: &R, stream: S, out: &mut O, err: &mut E, words: &[String]) -> ExitCode {
     let Ok(system) = rt.clone() else {
         return ExitCode::FAILURE;
     };

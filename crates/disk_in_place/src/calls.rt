@@ -8,6 +8,7 @@ use std::fs::{File, OpenFile, OpenOptions};
 use std::io;
 use std::os::unix::fs::FileExt;
 use std::rt::Files;
+use std::thread::Threads;
 
 /// The calls of the system that a [`SystemDiskInPlace`](crate::SystemDiskInPlace) makes beside those of a
 /// [`SystemDisk`](files_in_place::SystemDisk).
@@ -37,7 +38,7 @@ pub trait SystemCallsInPlace: SystemCalls {
 }
 
 /// The system itself. Of its answers contracts know nothing but what std says of them.
-impl<R: Files<File = File>> SystemCallsInPlace for R {
+impl<R: Files<File = File> + Threads> SystemCallsInPlace for R {
     ghost use Rattle.disk_in_place.specs.SystemInPlace.{nothing_told_in_place};
 
     ghost answers_in_place = { nothing_told_in_place };

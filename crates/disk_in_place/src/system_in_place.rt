@@ -1,9 +1,9 @@
 //! A folder of the system of which a file is written over where it is.
 
-ghost use Rattle.std.specs.Prelude.{◌≡◌, ◌++◌, ◌∷◌, ◌⊎◌, [], None, IfOk, IfNone, IfSome, IsSomeAnd, OnOk, IsErrOf, IsTrue, IsFalse};
+ghost use Rattle.std.specs.Prelude.{◌≡◌, ◌++◌, ◌∷◌, ◌⊎◌, [], All, None, IfOk, IfNone, IfSome, IsSomeAnd, OnOk, IsErrOf, IsTrue, IsFalse};
 ghost use Rattle.files_in_place.specs.declared.faults.DiskFault.TheVariants.{Failed};
 ghost use Rattle.files_in_place.specs.Disk.{HasCause};
-ghost use Rattle.files_in_place.specs.System.{CannotBegin, IsNoEntry, IsRefused, HasNoFile, HasFile, HasNoRegularFile, HasNoBytes, HasRead, HasReadNames, HasSynced, HasMade, HasSyncedFolder, HasAppended};
+ghost use Rattle.files_in_place.specs.System.{CannotBegin, IsNoEntry, OneIsNoEntry, IsRefused, HasNoFile, HasFile, HasNoRegularFile, HasNoBytes, HasRead, HasReadNames, HasSynced, HasMade, HasSyncedFolder, HasAppended};
 ghost use Rattle.disk_in_place.specs.SystemInPlace.{HasWrittenOver, HasSyncedOver};
 
 use crate::calls::SystemCallsInPlace;
@@ -189,6 +189,16 @@ impl<R: SystemCallsInPlace + Drop> Disk for SystemDiskInPlace<R> {
         ensures failed { IsErrOf result Failed → IsNoEntry name.now ⊎ IsRefused R.answers }
     {
         self.disk.sync_file(name)
+    }
+
+    fn sync_files(&mut self, names: &[Bytes]) -> Result<(), DiskFault>
+        ensures cause { HasCause self.old.failures self.new.failures (IsErrOf result Failed) }
+        ensures folder { self.new.path ≡ self.old.path }
+        ensures opened { self.new.opened ≡ self.old.opened }
+        ensures synced { OnOk result (All (λ name. HasSynced R.answers (self.old.path ++ name) ⊎ HasNoBytes R.answers (self.old.path ++ name)) names.now) }
+        ensures failed { IsErrOf result Failed → OneIsNoEntry names.now ⊎ IsRefused R.answers }
+    {
+        self.disk.sync_files(names)
     }
 
     fn rename(&mut self, from: &[u8], to: &[u8]) -> Result<(), DiskFault>

@@ -1,4 +1,6 @@
 pub mod NameLists
+mod Beside
+mod Opened
 pub mod Runs
 pub mod Meaning
 pub mod Each

@@ -102,3 +102,28 @@ module _ {D : Type 0} (m : DiskMeaning D) where
     crash = comes_by step more (m.may_leave old) (m.may_leave new) steps.crash by;
     moments = leaves_by old new (AfterStep step (m.may_leave old)) (AfterStep more (m.may_leave old)) steps.moments (λ c from. (from.0, from.1, by from.0 from.1 c from.2));
   }
+
+  -- no call
+  pub reads_none : (old : D) → OnlyReads m old old
+  reads_none old = record {
+    seen = refl;
+    whole = λ n is. is;
+    crash = λ c now. now;
+    time = record { later = omega arith; nothing_else = λ t c le left. inl left; keeps = λ t c le was. was };
+  }
+
+  -- Two calls that change no file. What a crash between them leaves might have been left before the first.
+  pub reads_both : (old mid new : D) → OnlyReads m old mid → OnlyReads m mid new → OnlyReads m old new
+  reads_both old mid new first second = record {
+    seen = second.seen ∙ first.seen;
+    whole = λ n is. second.whole n (first.whole n is);
+    crash = λ c now. first.crash c (second.crash c now);
+    time = record {
+      later = omega (arith, first.time.later, second.time.later);
+      nothing_else = λ t c le left. ⊎_elim
+          (λ was. ⊎_elim (λ before. inl before) (λ between. inl (m.counts_now old t c le (first.crash c between))) (first.time.nothing_else t c le was))
+          (λ now. inr now)
+          (second.time.nothing_else t c (omega (arith, le, first.time.later)) left);
+      keeps = λ t c le was. second.time.keeps t c (omega (arith, le, first.time.later)) (first.time.keeps t c le was);
+    };
+  }

@@ -81,7 +81,7 @@ module _ {D : Type 0} (m : DiskMeaning D) where
 
   -- one file more is begun
   pub staged_more : (names : List Name) (current : Option Name) (old new : D) (name lies : Name) → AreStaged m names current old
-      → lies ≡ temporary name → is_file_name name ≡ true → is_staged names name ≡ false → SameBut lies (m.seen old) (m.seen new) → m.seen new lies ≡ Some [] → ((n : Name) → n ≢ lies → m.is_whole new n) → m.is_new new lies → IsUncommitted (m.seen new) (m.may_leave new)
+      → lies ≡ temporary name → is_file_name name ≡ true → is_staged names name ≡ false → SameBut lies (m.seen old) (m.seen new) → m.seen new lies ≡ Some [] → ((n : Name) → n ≢ lies → m.is_whole old n → m.is_whole new n) → m.is_new new lies → IsUncommitted (m.seen new) (m.may_leave new)
       → AreStaged m (names ++ name ∷ []) (Some lies) new
   staged_more names current old new name lies staged is fit unstaged others empty whole fresh un =
       let P : Option (List ℕ) → Type 0 = λ o. IsSome o in
@@ -94,7 +94,9 @@ module _ {D : Type 0} (m : DiskMeaning D) where
           | inr same ↦ subst P (sym (ap (λ (name : Name). m.seen new (temporary name)) (sym same) ∙ ap (m.seen new) (sym is) ∙ empty)) refl
         ];
         no_other = λ n out. others (temporary n) (other_temporary lies name n is (unstaged_other names name n out)) ∙ staged.no_other n (unstaged_before names name n out);
-        whole = λ n other. whole n (λ same. other (ap (λ (name : Name). Some name) (sym same)));
+        whole = λ n none. whole n
+            (λ same. none (name, same ∙ is, self_staged names name))
+            (staged.whole n (λ among. none (among.0, among.1, still_staged names name among.0 among.2)));
         named = λ begun same. (name, sym (some_inj lies begun same) ∙ is, self_staged names name);
         fresh = λ begun same. subst (m.is_new new) (some_inj lies begun same) fresh;
         uncommitted = un;
@@ -116,9 +118,7 @@ module _ {D : Type 0} (m : DiskMeaning D) where
         no_other = λ n out. others (temporary n) (λ same.
             let met : n ≡ file.0 = temporary-inj n file.0 (same ∙ file.1) in
             both_ways (is_staged names n) out (ap (is_staged names) met ∙ file.2)) ∙ staged.no_other n out;
-        whole = λ n other.
-            let apart : n ≢ lies = λ same. other (is ∙ ap (λ (name : Name). Some name) (sym same)) in
-            whole n apart (staged.whole n other);
+        whole = λ n none. whole n (λ same. none (file.0, same ∙ file.1, file.2)) (staged.whole n none);
         named = staged.named;
         fresh = λ begun same. subst (m.is_new new) (some_inj lies begun (sym is ∙ same)) fresh;
         uncommitted = un;

@@ -1,15 +1,16 @@
 -- Folders of a set that has no list yet.
-use Rattle.std.proofs.Common.{◌≡◌, ◌≢◌, inl, inr, List, [], ◌∷◌, Bool, true, false, Option, None, Some, IsSome, ℕ, refl, sym, ◌∙◌, ap, subst, not, ◌&&◌}
+use Rattle.std.proofs.Common.{◌≡◌, ◌≢◌, ◌⊎◌, inl, inr, map, arith, List, [], ◌∷◌, Bool, true, false, Option, None, Some, IsSome, ℕ, refl, sym, ◌∙◌, ap, subst, not, ◌&&◌}
 use Rattle.std.proofs.lemmas.Bool.{cases_Bool, both_ways}
 use Rattle.std.proofs.lemmas.Slice.Eq.{bytes_eq-Decides}
-use Rattle.std.specs.List.{AllByRecursion}
+use Rattle.std.proofs.lemmas.List.Elements.{Contains-append_right}
+use Rattle.std.specs.List.{AllByRecursion, Contains}
 use Rattle.std.specs.Str.{bytes_eq}
 use Rattle.files_in_place.specs.Folder.{Name, Folder, SameBut, is_reserved, temporary, list_name, list_bytes}
 use Rattle.files_in_place.specs.Disk.{DiskMeaning, AfterStep, ComesBy, Shrinks, IsSynced, Elapses, OnlyReads, ChangesFile, Steps}
 use Rattle.files_in_place.specs.Recovery.{IsClean, IsFinished, SameFree, HasOldFiles, LosesReserved}
 use Rattle.files_in_place.specs.Staged.{is_staged, is_file_name, IsUncommitted, IsStagedAs, IsFreeFor, AreStaged, AreLeft, AreReady, RunsUncommitted}
 use Rattle.files_in_place.proofs.Runs.{started, goes_on, runs_on}
-use Rattle.files_in_place.proofs.Meaning.{free_other, temporary-inj, temporary_apart, lost_same}
+use Rattle.files_in_place.proofs.Meaning.{free_other, same_name, temporary-inj, temporary_apart, lost_same}
 use Rattle.files_in_place.proofs.Ending.{unlisted_finished, finished_without, without_same}
 
 both_true : (a b : Bool) → not a && b ≡ true → a ≡ false
@@ -40,6 +41,20 @@ pub reserved_unstaged : (names : List Name) (n : Name) → AllByRecursion (λ na
 reserved_unstaged names n fit res = elim (cases_Bool (is_staged names n)) [
   | inl staged ↦ absurd (both_ways (is_reserved n) (staged_free names n fit staged) res)
   | inr not ↦ not
+]
+
+-- a name is the temporary one of a name of the set, or of none
+pub staged_or_not : (names : List Name) (n : Name) → Contains (map temporary names) n ⊎ (¬ IsStagedAs names n)
+staged_or_not [] n = inr (λ is. both_ways false refl is.2)
+staged_or_not (name ∷ names) n = elim (same_name n (temporary name)) [
+  | inl same ↦ inl (0, omega arith, sym same)
+  | inr other ↦ elim (staged_or_not names n) [
+    | inl later ↦ inl (Contains-append_right (temporary name ∷ []) (map temporary names) n later)
+    | inr none ↦ inr (λ is. elim (cases_Bool (bytes_eq name is.0)) [
+      | inl same ↦ other (is.1 ∙ ap temporary (sym ((bytes_eq-Decides name is.0).0 same)))
+      | inr apart ↦ none (is.0, is.1, sym (rw apart refl) ∙ is.2)
+    ])
+  ]
 ]
 
 -- the temporary name of a file isn't the list's
@@ -152,9 +167,7 @@ module _ {D : Type 0} (m : DiskMeaning D) where
   -- where a set is being written, nothing of it counts
   pub staged_left : (names : List Name) (current : Option Name) (disk : D) → AreStaged m names current disk → AreLeft m disk
   staged_left names current disk staged = record {
-    whole = λ n free. staged.whole n (λ same.
-        let is = staged.named n same in
-        both_ways (is_reserved n) free (ap is_reserved is.1));
+    whole = λ n free. staged.whole n (λ is. both_ways (is_reserved n) free (ap is_reserved is.1));
     uncommitted = staged.uncommitted;
   }
 

@@ -76,13 +76,13 @@ abbrev pub IsFreeFor : List Name → Name → Type 0
 IsFreeFor names lies = (n : Name) × (lies ≡ temporary n) × (is_staged names n ≡ false) × (is_file_name n ≡ true)
 
 module _ {D : Type 0} (m : DiskMeaning D) where
-  -- The files of the set are there under their temporary names, all but the one that is being written are on the disk, and no
-  -- other reserved name has a file.
+  -- The files of the set are there under their temporary names, each other file is on the disk, and no other reserved name has a
+  -- file.
   pub record AreStaged (names : List Name) (current : Option Name) (disk : D) : Type 0 where
     pub fit : AllByRecursion (λ name. is_file_name name ≡ true) names
     pub there : (n : Name) → is_staged names n ≡ true → IsSome (m.seen disk (temporary n))
     pub no_other : (n : Name) → is_staged names n ≡ false → m.seen disk (temporary n) ≡ None
-    pub whole : (n : Name) → current ≢ Some n → m.is_whole disk n
+    pub whole : (n : Name) → ¬ IsStagedAs names n → m.is_whole disk n
     pub named : (lies : Name) → current ≡ Some lies → IsStagedAs names lies
     pub fresh : (lies : Name) → current ≡ Some lies → m.is_new disk lies
     pub uncommitted : IsUncommitted (m.seen disk) (m.may_leave disk)

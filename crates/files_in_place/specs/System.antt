@@ -60,6 +60,10 @@ pub record SystemAnswers (File Names : Type 0) : Type 1 where
 abbrev pub IsNoEntry : List ℕ → Type 0
 IsNoEntry name = (is_dots name ≡ true) ⊎ Contains name 47 ⊎ (is_utf8 name ≡ false)
 
+-- one of the names is that of no file of a folder
+abbrev pub OneIsNoEntry : List (List ℕ) → Type 0
+OneIsNoEntry names = (name : List ℕ) × Contains names name × IsNoEntry name
+
 module _ {File Names : Type 0} (said : SystemAnswers File Names) where
   -- a call was refused, and not for want of memory
   abbrev pub IsRefused : Type 0
@@ -96,6 +100,10 @@ module _ {File Names : Type 0} (said : SystemAnswers File Names) where
   -- a file of the path is on the disk
   abbrev pub HasSynced : List ℕ → Type 0
   HasSynced path = (f : File) × said.is_at f path × said.syncs f
+
+  -- one of these files was opened at the path, or the path has no bytes to bring to the disk
+  abbrev pub IsOpenAmong : List File → List ℕ → Type 0
+  IsOpenAmong files path = ((f : File) × said.is_at f path × Contains files f) ⊎ HasNoBytes path
 
   -- this is a file of the folder that was made under the name
   pub record IsMadeUnder (folder name : List ℕ) (file : File) : Type 0 where

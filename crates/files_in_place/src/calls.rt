@@ -1,17 +1,20 @@
 //! The calls of the system that a folder's files are kept by.
 
-ghost use Rattle.std.specs.Prelude.{◌≡◌, IfOk, IfErr, OnOk, IsErrOf};
+ghost use Rattle.std.specs.Prelude.{◌≡◌, All, IfOk, IfErr, OnOk, IsErrOf};
 ghost use Rattle.std.specs.declared.fs.TryLockError.TheVariants.{WouldBlock};
 ghost use Rattle.std.specs.Fs.{permissions_mode};
 ghost use Rattle.std.specs.Io.{ReadsAtMost};
 ghost use Rattle.std.specs.Io.KnownBytes.{Appends};
 ghost use Rattle.files_in_place.specs.System.{SystemAnswers, IsLockRefusal};
 
+use crate::side_by_side::side_by_side;
+use crate::system_calls::uninterrupted;
 use std::alloc::Global;
 use std::fs::{File, Metadata, OpenFile, OpenOptions, Permissions, TryLockError};
 use std::io::{Read, Write};
 use std::os::unix::fs::lchown;
 use std::rt::Files;
+use std::thread::Threads;
 use std::{fs, io};
 
 /// The calls of the system that a [`SystemDisk`](crate::SystemDisk) makes.
@@ -68,6 +71,11 @@ pub trait SystemCalls {
         ensures said { OnOk result (answers.syncs file.now) }
         ensures refused { IfErr result answers.refuses };
 
+    /// Brings all bytes of each of the files to the disk, side by side. A sync that a signal interrupts is made again.
+    fn sync_all(&self, files: &[Self::File]) -> io::Result<()>
+        ensures said { OnOk result (All answers.syncs files.now) }
+        ensures refused { IfErr result answers.refuses };
+
     /// Locks a folder (`flock`), without waiting.
     fn try_lock(&self, file: &Self::File) -> Result<(), TryLockError>
         ensures said { OnOk result (answers.locks file.now) }
@@ -111,7 +119,7 @@ pub trait SystemCalls {
 }
 
 /// The system itself. Of its answers contracts know nothing but what std says of them.
-impl<R: Files<File = File>> SystemCalls for R {
+impl<R: Files<File = File> + Threads> SystemCalls for R {
     ghost use Rattle.files_in_place.specs.System.{nothing_told};
 
     type File = File;
@@ -151,6 +159,14 @@ impl<R: Files<File = File>> SystemCalls for R {
 
     fn sync(&self, file: &File) -> io::Result<()> {
         file.sync_all()
+    }
+
+    fn sync_all(&self, files: &[File]) -> io::Result<()> {
+        side_by_side(
+            self,
+            files,
+            &|file: &File| uninterrupted(|| file.sync_all()),
+        )
     }
 
     fn try_lock(&self, file: &File) -> Result<(), TryLockError> {

@@ -1,6 +1,6 @@
 //! A folder of a disk: what reads show, and what a crash may leave.
 
-ghost use Rattle.std.specs.Prelude.{◌≡◌, ◌≢◌, ◌++◌, ◌↔◌, [], option_map, None, Some, IfOk, OnOk, IsErrOf, IsSome, IsTrue, Contains};
+ghost use Rattle.std.specs.Prelude.{◌≡◌, ◌≢◌, ◌++◌, ◌↔◌, [], option_map, None, Some, IfOk, OnOk, IsErrOf, IsSome, IsTrue, Contains, All};
 ghost use Rattle.files_in_place.specs.declared.faults.DiskFault.TheVariants.{Failed};
 ghost use Rattle.files_in_place.specs.Folder.{Name};
 ghost use Rattle.files_in_place.specs.Disk.{DiskMeaning, OnlyReads, ChangesFile, MovesFile, RemovesFile, HasMoved, IsDurable, Settles, HasDiskCause};
@@ -63,6 +63,19 @@ pub trait Disk {
         ensures durable { OnOk result (meaning.is_whole self.new name.now) }
         ensures only { OnlyReads meaning self.old self.new }
         ensures cause { HasDiskCause meaning self.old self.new (IsErrOf result Failed) };
+
+    /// At `Ok`, the bytes of each of the files are on the disk, as `sync_file` brings them there. In which order, or whether side by
+    /// side, is the disk's affair.
+    fn sync_files(&mut self, names: &[Bytes]) -> Result<(), DiskFault>
+        ensures durable { OnOk result (All (meaning.is_whole self.new) names.now) }
+        ensures only { OnlyReads meaning self.old self.new }
+        ensures cause { HasDiskCause meaning self.old self.new (IsErrOf result Failed) }
+    {
+        for name in names {
+            self.sync_file(name.as_slice())?;
+        }
+        Ok(())
+    }
 
     /// Gives a file another name, in the place of the file that had it (`rename`). The file is on the disk under its name.
     ///

@@ -13,7 +13,7 @@ use crate::clean::clean;
 use crate::commit::commit;
 use crate::disk::Disk;
 use crate::faults::SetFault;
-use crate::names::list_bytes;
+use crate::names::{list_bytes, temporary_names};
 use crate::new_name::{NewName, new_name};
 use crate::phase::Phase;
 use crate::stage::{begin_file, write_list};
@@ -83,7 +83,8 @@ impl<D: Disk + Drop> FileSet<D> {
         self.disk
     }
 
-    /// Begins an empty file, to which what is written from now on goes. The file before it is on the disk then.
+    /// Begins an empty file, to which what is written from now on goes. The set's files are on the disk no sooner than
+    /// [`FileSet::finish`] has brought them there.
     ///
     /// A refused name and want of memory change nothing. After a failure of the disk the set can only be abandoned.
     pub fn begin(&mut self, name: &[u8]) -> Result<(), SetFault>
@@ -151,7 +152,7 @@ impl<D: Disk + Drop> FileSet<D> {
         Ok(())
     }
 
-    /// Puts all files of the set in place, and removes what was temporary. Then the set is empty again.
+    /// Brings all files of the set to the disk, puts them in place, and removes what was temporary. Then the set is empty again.
     ///
     /// Want of memory before anything is written changes nothing. After another failure, [`FileSet::abandon`] removes the
     /// set if nothing of it was put in place yet; else the next start finishes what this call began, or removes it.
@@ -181,8 +182,15 @@ impl<D: Disk + Drop> FileSet<D> {
             return Err(SetFault::Closed);
         }
         let list = list_bytes(self.alloc, &self.names)?;
+        let temporaries = temporary_names(self.alloc, &self.names)?;
         self.phase = Phase::Failed;
-        write_list(&mut self.disk, &self.names, &self.current, &list)?;
+        write_list(
+            &mut self.disk,
+            &self.names,
+            &self.current,
+            &temporaries,
+            &list,
+        )?;
         self.phase = Phase::Ended;
         commit(self.alloc, &mut self.disk, &self.names)?;
         self.names = Vec::new(self.alloc);

@@ -25,10 +25,12 @@ mod phase;
 mod recovery;
 mod replaced;
 mod settle;
+mod side_by_side;
 mod stage;
 mod system_calls;
 mod system_disk;
 mod system_file;
+mod system_syncs;
 mod written;
 
 pub use calls::SystemCalls;

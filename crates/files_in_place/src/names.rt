@@ -1,6 +1,6 @@
 //! Names of files, and lists of them.
 
-ghost use Rattle.std.specs.Prelude.{◌≡◌, true, IfOk};
+ghost use Rattle.std.specs.Prelude.{◌≡◌, true, IfOk, map};
 ghost use Rattle.files_in_place.specs.Folder.{is_reserved, temporary, list_bytes, lines_of};
 ghost use Rattle.files_in_place.specs.Staged.{is_staged, is_name_byte, is_dots, is_file_name};
 ghost use Rattle.std.specs.List.{list_all, AllByRecursion};
@@ -92,6 +92,17 @@ pub(crate) fn temporary_name(alloc: Global, name: &[u8]) -> Result<Bytes, AllocE
     lies.extend_from_slice(b"~niqarthu~")?;
     lies.extend_from_slice(name)?;
     Ok(Bytes::from_vec(lies))
+}
+
+// The temporary name of each new file.
+pub(crate) fn temporary_names(alloc: Global, names: &[Bytes]) -> Result<Vec<Bytes>, AllocError>
+    ensures value { IfOk result (λ lies. lies.items ≡ map temporary names.now) }
+{
+    let mut lies = Vec::new(alloc);
+    for name in names {
+        lies.push(temporary_name(alloc, name.as_slice())?)?;
+    }
+    Ok(lies)
 }
 
 // A line for each name.

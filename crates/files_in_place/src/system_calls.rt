@@ -5,7 +5,7 @@ ghost use Rattle.std.specs.List.{Contains};
 ghost use Rattle.std.specs.Fs.{file_type, IsDir};
 ghost use Rattle.files_in_place.specs.declared.faults.DiskFault.TheVariants.{Failed};
 ghost use Rattle.files_in_place.specs.Staged.{is_dots};
-ghost use Rattle.files_in_place.specs.System.{IsNoEntry, IsRefused, LeadsToNoFolder, HasNothing, HasNoFile, HasFile, HasNoRegularFile, HasNoBytes, HasRead, HasReadNames, HasSynced};
+ghost use Rattle.files_in_place.specs.System.{IsNoEntry, IsRefused, LeadsToNoFolder, HasNothing, HasNoFile, HasFile, HasNoRegularFile, HasRead, HasReadNames};
 
 use crate::calls::SystemCalls;
 use crate::faults::DiskFault;
@@ -80,7 +80,7 @@ pub(crate) fn metadata_of<R: SystemCalls>(rt: &R, path: &str) -> Result<Option<M
 }
 
 // What a folder has under a name, if that is a file: a link is one, and a folder is none.
-fn file_of<R: SystemCalls>(rt: &R, path: &str) -> Result<Option<Metadata>, DiskFault>
+pub(crate) fn file_of<R: SystemCalls>(rt: &R, path: &str) -> Result<Option<Metadata>, DiskFault>
     ensures none { IfOk result (λ found. IfNone found (HasNoFile R.answers path.now)) }
     ensures found { IfOk result (λ found. IfSome found (λ m. R.answers.finds path.now (Ok m))) }
     ensures file { IfOk result (λ found. IfSome found (λ m. ¬ IsDir (file_type m))) }
@@ -128,35 +128,6 @@ pub(crate) fn read_file<R: SystemCalls>(
     let mut file = rt.open(path.as_str())?;
     let bytes = rt.read(alloc, &mut file)?;
     Ok(Some(Bytes::from_vec(bytes)))
-}
-
-// Brings all of an open file or folder to the disk.
-pub(crate) fn sync_open<R: SystemCalls>(rt: &R, file: &R::File) -> Result<(), DiskFault>
-    ensures synced { OnOk result (R.answers.syncs file.now) }
-    ensures failed { IsErrOf result Failed → IsRefused R.answers }
-{
-    uninterrupted(|| rt.sync(file))?;
-    Ok(())
-}
-
-// Brings the bytes of the file of the name to the disk, if there is one. What is no regular file has none, and is not opened: a
-// pipe would make it wait.
-pub(crate) fn sync_found<R: SystemCalls>(
-    rt: &R,
-    alloc: Global,
-    folder: &str,
-    name: &[u8],
-) -> Result<(), DiskFault>
-    ensures synced { OnOk result (HasSynced R.answers (folder.now ++ name.now) ⊎ HasNoBytes R.answers (folder.now ++ name.now)) }
-    ensures failed { IsErrOf result Failed → IsNoEntry name.now ⊎ IsRefused R.answers }
-{
-    let path = in_folder(alloc, folder, name)?;
-    match file_of(rt, path.as_str())? {
-        Some(found) if found.is_file() => {}
-        _ => return Ok(()),
-    }
-    let file = rt.open(path.as_str())?;
-    sync_open(rt, &file)
 }
 
 // Gives a file another name, in the place of what had it: a link is replaced, and not what it leads to.

@@ -1,25 +1,26 @@
 //! A folder of the system.
 
-ghost use Rattle.std.specs.Prelude.{◌≡◌, ◌++◌, ◌∷◌, ◌⊎◌, [], IfOk, OnOk, IfNone, IfSome, IsErrOf, IsTrue, IsFalse};
+ghost use Rattle.std.specs.Prelude.{◌≡◌, ◌++◌, ◌∷◌, ◌⊎◌, [], All, IfOk, OnOk, IfNone, IfSome, IsErrOf, IsTrue, IsFalse};
 ghost use Rattle.files_in_place.specs.declared.faults.DiskFault.TheVariants.{Failed};
 ghost use Rattle.files_in_place.specs.declared.folder_lock.LockFault.TheVariants as Lock;
 ghost use Rattle.files_in_place.specs.Disk.{HasCause};
-ghost use Rattle.files_in_place.specs.System.{CannotBegin, IsNoEntry, IsRefused, LeadsToNoFolder, HasNoFile, HasFile, HasNoRegularFile, HasNoBytes, HasRead, HasReadNames, HasSynced, HasMade, HasLocked, IsInUse, HasSyncedFolder, HasAppended};
+ghost use Rattle.files_in_place.specs.System.{CannotBegin, IsNoEntry, OneIsNoEntry, IsRefused, LeadsToNoFolder, HasNoFile, HasFile, HasNoRegularFile, HasNoBytes, HasRead, HasReadNames, HasSynced, HasMade, HasLocked, IsInUse, HasSyncedFolder, HasAppended};
 
 use crate::calls::SystemCalls;
 use crate::disk::Disk;
 use crate::faults::DiskFault;
 use crate::folder_lock::{LockFault, lock};
 use crate::system_calls::{
-    folder_names, has_file, open_folder, read_file, remove_file, rename_file, sync_found, sync_open,
+    folder_names, has_file, open_folder, read_file, remove_file, rename_file,
 };
 use crate::system_file::{SystemFile, append_to, is_current, sync_once};
+use crate::system_syncs::{sync_each, sync_found, sync_open};
 use byte_io::{Bytes, Failures};
 use std::alloc::Global;
 use std::marker::Model;
 
 /// A folder of the system, which exists, and which no other run has meanwhile. Its files are those whose names are UTF-8; a link is a file, and a folder is none.
-/// A file is made where its name has nothing, and takes bytes until it is synced; a rename replaces a link, and not what
+/// A file is made where its name has nothing, and takes bytes until it is synced or another one is made; a rename replaces a link, and not what
 /// it leads to. A call that a signal interrupts is made again, and a short write goes on.
 ///
 /// Each answer is one that the system has given: `Ok` where it said so of the file that the name means, a failure where it
@@ -167,6 +168,18 @@ impl<R: SystemCalls + Drop> Disk for SystemDisk<R> {
         } else {
             sync_found(&self.rt, self.alloc, self.path.as_str(), name)
         };
+        self.told(outcome)
+    }
+
+    // The file created last is closed, and takes no more bytes.
+    fn sync_files(&mut self, names: &[Bytes]) -> Result<(), DiskFault>
+        ensures cause { HasCause self.old.failures self.new.failures (IsErrOf result Failed) }
+        ensures folder { self.new.path ≡ self.old.path }
+        ensures synced { OnOk result (All (λ name. HasSynced R.answers (self.old.path ++ name) ⊎ HasNoBytes R.answers (self.old.path ++ name)) names.now) }
+        ensures failed { IsErrOf result Failed → OneIsNoEntry names.now ⊎ IsRefused R.answers }
+    {
+        self.current = None;
+        let outcome = sync_each(&self.rt, self.alloc, self.path.as_str(), names);
         self.told(outcome)
     }
 

@@ -7,7 +7,8 @@ ghost use Rattle.files_in_place.specs.System.{CannotBegin, HasOldMode, HasTaken,
 use crate::calls::SystemCalls;
 use crate::faults::DiskFault;
 use crate::replaced::find_replaced;
-use crate::system_calls::{in_folder, sync_open};
+use crate::system_calls::in_folder;
+use crate::system_syncs::sync_open;
 use byte_io::Bytes;
 use std::alloc::Global;
 

@@ -55,17 +55,35 @@ fn recover_again(
     Ok(())
 }
 
+// From how many ways of a crash on a second one is not tried after each of them.
+const MANY_WAYS: u64 = 32;
+
+// Whether recovery after a crash leaves the new files; it may leave the old ones. It crashes itself too, where that is asked for.
+fn finds_new(
+    rt: &impl Abort,
+    alloc: Global,
+    disk: &CrashDisk,
+    way: u64,
+    crashes: bool,
+) -> Result<bool, Fail> {
+    let mut first = disk.left(way, u64::MAX)?;
+    recover(alloc, &mut first)?;
+    let is_new = has_just(&first, &NEW);
+    assert!(rt; is_new || has_just(&first, &OLD));
+    if crashes {
+        recover_again(rt, alloc, disk, way, if is_new { &NEW } else { &OLD })?;
+    }
+    Ok(is_new)
+}
+
 // After a run that crashed: recovery in each way of the crash, and again. In how many ways the new files are found.
 fn recover_each(rt: &impl Abort, alloc: Global, disk: &CrashDisk) -> Result<u64, Fail> {
     let mut new = 0u64;
+    // An odd number, so that each choice is met.
+    let step = disk.ways() / MANY_WAYS * 2 + 1;
     for way in 0..disk.ways() {
-        let mut first = disk.left(way, u64::MAX)?;
-        recover(alloc, &mut first)?;
-        if has_just(&first, &NEW) {
+        if finds_new(rt, alloc, disk, way, way % step == 0)? {
             new = new.saturating_add(1);
-            recover_again(rt, alloc, disk, way, &NEW)?;
-        } else {
-            recover_again(rt, alloc, disk, way, &OLD)?;
         }
     }
     Ok(new)

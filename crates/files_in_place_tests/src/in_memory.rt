@@ -25,7 +25,7 @@ const WAYS: u64 = 4;
 const FIRST_OF_COMMIT: u64 = 12;
 
 // The first that `finish` makes, and how many there are in all.
-const FIRST_OF_FINISH: u64 = 8;
+const FIRST_OF_FINISH: u64 = 6;
 
 const CALLS_OF_RUN: u64 = 25;
 

@@ -1,31 +1,34 @@
 //! A folder of a system that refuses one call.
 
+use byte_io::Bytes;
 use files_in_place::{Disk, DiskFault, LockFault, SystemCalls, SystemDisk};
 use std::alloc::Global;
 use std::cell::Cell;
 use std::fs::{File, Metadata, Permissions, TryLockError};
 use std::io::ErrorKind;
+use std::rt::Files;
 use std::test::Fail;
+use std::thread::Threads;
 use std::{fs, io};
 
 // How many calls the work makes: to open the folder, and to use it.
 const CALLS_TO_OPEN: usize = 3;
 
-const CALLS_OF_WORK: usize = 22;
+const CALLS_OF_WORK: usize = 26;
 
 // The call in the work whose refusal is no failure: a new file keeps the group that the system gave it.
 const CALL_FOR_GROUP: usize = 11;
 
 // The system, but that it refuses one call, once.
 #[derive(Drop)]
-struct Refusing<'a> {
-    rt: &'a HostRuntime,
+struct Refusing<'a, R> {
+    rt: &'a R,
     kind: ErrorKind,
     // How many calls go before it.
     before: Cell<usize>,
 }
 
-impl Refusing<'_> {
+impl<R> Refusing<'_, R> {
     fn turn(&self) -> io::Result<()> {
         let before = self.before.get();
         self.before.set(before.wrapping_sub(1));
@@ -45,12 +48,12 @@ impl Refusing<'_> {
     }
 }
 
-impl<'a> SystemCalls for Refusing<'a> {
+impl<'a, R: SystemCalls> SystemCalls for Refusing<'a, R> {
     ghost use Rattle.files_in_place.specs.System.{nothing_told};
 
-    type File = File;
+    type File = R::File;
 
-    type Names = <HostRuntime as SystemCalls>::Names;
+    type Names = R::Names;
 
     ghost answers = { nothing_told };
 
@@ -64,44 +67,49 @@ impl<'a> SystemCalls for Refusing<'a> {
         self.rt.follow(path)
     }
 
-    fn open(&self, path: &str) -> io::Result<File> {
+    fn open(&self, path: &str) -> io::Result<R::File> {
         self.turn_in_std()?;
         self.rt.open(path)
     }
 
-    fn create(&self, path: &str) -> io::Result<File> {
+    fn create(&self, path: &str) -> io::Result<R::File> {
         self.turn_in_std()?;
         self.rt.create(path)
     }
 
-    fn append(&self, file: &mut File, bytes: &[u8]) -> io::Result<()> {
+    fn append(&self, file: &mut R::File, bytes: &[u8]) -> io::Result<()> {
         self.turn_in_std()?;
         self.rt.append(file, bytes)
     }
 
-    fn read(&self, alloc: Global, file: &mut File) -> io::Result<Vec<u8>> {
+    fn read(&self, alloc: Global, file: &mut R::File) -> io::Result<Vec<u8>> {
         self.turn_in_std()?;
         self.rt.read(alloc, file)
     }
 
-    fn sync(&self, file: &File) -> io::Result<()> {
+    fn sync(&self, file: &R::File) -> io::Result<()> {
         self.turn()?;
         self.rt.sync(file)
     }
 
-    fn try_lock(&self, file: &File) -> Result<(), TryLockError> {
+    fn sync_all(&self, files: &[R::File]) -> io::Result<()> {
+        self.turn_in_std()?;
+        self.rt.sync_all(files)
+    }
+
+    fn try_lock(&self, file: &R::File) -> Result<(), TryLockError> {
         match self.turn_in_std() {
             Ok(()) => self.rt.try_lock(file),
             Err(e) => Err(TryLockError::Error(e)),
         }
     }
 
-    fn metadata(&self, file: &File) -> io::Result<Metadata> {
+    fn metadata(&self, file: &R::File) -> io::Result<Metadata> {
         self.turn()?;
-        SystemCalls::metadata(self.rt, file)
+        self.rt.metadata(file)
     }
 
-    fn set_mode(&self, file: &File, mode: Permissions) -> io::Result<()> {
+    fn set_mode(&self, file: &R::File, mode: Permissions) -> io::Result<()> {
         self.turn()?;
         self.rt.set_mode(file, mode)
     }
@@ -113,7 +121,7 @@ impl<'a> SystemCalls for Refusing<'a> {
 
     fn rename(&self, from: &str, to: &str) -> io::Result<()> {
         self.turn()?;
-        SystemCalls::rename(self.rt, from, to)
+        self.rt.rename(from, to)
     }
 
     fn remove(&self, path: &str) -> io::Result<()> {
@@ -121,19 +129,26 @@ impl<'a> SystemCalls for Refusing<'a> {
         self.rt.remove(path)
     }
 
-    fn open_names(&self, path: &str) -> io::Result<<HostRuntime as SystemCalls>::Names> {
+    fn open_names(&self, path: &str) -> io::Result<R::Names> {
         self.turn()?;
         self.rt.open_names(path)
     }
 
-    fn read_names(
-        &self,
-        names: &mut <HostRuntime as SystemCalls>::Names,
-        bytes: &mut [u8],
-    ) -> io::Result<usize> {
+    fn read_names(&self, names: &mut R::Names, bytes: &mut [u8]) -> io::Result<usize> {
         self.turn()?;
         self.rt.read_names(names, bytes)
     }
+}
+
+// Syncs the file A and one that isn't there together.
+fn sync_two<R: SystemCalls + Drop>(
+    alloc: Global,
+    disk: &mut SystemDisk<R>,
+) -> Result<(), DiskFault> {
+    let mut names = Vec::new(alloc);
+    names.push(Bytes::from_slice(alloc, b"A")?)?;
+    names.push(Bytes::from_slice(alloc, b"B")?)?;
+    disk.sync_files(&names)
 }
 
 // Each call of a disk, on a folder that has the file A.
@@ -146,6 +161,7 @@ fn work<R: SystemCalls + Drop>(alloc: Global, disk: &mut SystemDisk<R>) -> Resul
     disk.append(lies, b"new a")?;
     disk.sync_file(lies)?;
     disk.rename(lies, b"A")?;
+    sync_two(alloc, disk)?;
     disk.list(alloc)?;
     disk.remove(b"A")?;
     disk.sync_folder()
@@ -161,7 +177,7 @@ fn answer_over<R: SystemCalls + Drop>(system: R, alloc: Global, folder: &str) ->
 }
 
 // A folder that has the file A, where the test runs.
-fn make_folder(rt: &HostRuntime, folder: &str) -> io::Result<()> {
+fn make_folder<R: Files + AllocGlobal>(rt: &R, folder: &str) -> io::Result<()> {
     if fs::exists(rt, folder)? {
         fs::remove_dir_all(rt, folder)?;
     }
@@ -171,8 +187,8 @@ fn make_folder(rt: &HostRuntime, folder: &str) -> io::Result<()> {
 }
 
 // What is answered where the call that has so many before it is refused.
-fn answer_where_refused(
-    rt: &HostRuntime,
+fn answer_where_refused<R: Files<File = File> + AllocGlobal + Threads>(
+    rt: &R,
     alloc: Global,
     folder: &str,
     before: usize,
@@ -188,8 +204,8 @@ fn answer_where_refused(
 }
 
 // Whether each call's refusal, and no other, is the answer.
-fn is_each_told(
-    rt: &HostRuntime,
+fn is_each_told<R: Files<File = File> + AllocGlobal + Threads>(
+    rt: &R,
     alloc: Global,
     kind: ErrorKind,
     told: Option<DiskFault>,

@@ -6,17 +6,19 @@ use crate::reserved_names::{
 };
 use files_in_place::{Disk, DiskFault, FileSet, LockFault, SetFault, SystemDisk, recover};
 use std::alloc::Global;
-use std::fs::Permissions;
+use std::fs::{File, Permissions};
 use std::os::unix::fs::{PermissionsExt, symlink};
+use std::rt::{Files, Runtime};
 use std::test::Fail;
+use std::thread::Threads;
 use std::{fs, io};
 
-fn path_in(rt: &HostRuntime, folder: &str, name: &str) -> io::Result<String> {
+fn path_in<R: Files + AllocGlobal>(rt: &R, folder: &str, name: &str) -> io::Result<String> {
     Ok(format!(in rt.alloc(); "{folder}/{name}")?)
 }
 
 // A folder with the files, where the test runs.
-fn make_folder(rt: &HostRuntime, folder: &str, files: &[TextFile]) -> io::Result<()> {
+fn make_folder<R: Files + AllocGlobal>(rt: &R, folder: &str, files: &[TextFile]) -> io::Result<()> {
     if fs::exists(rt, folder)? {
         fs::remove_dir_all(rt, folder)?;
     }
@@ -28,7 +30,7 @@ fn make_folder(rt: &HostRuntime, folder: &str, files: &[TextFile]) -> io::Result
     Ok(())
 }
 
-fn count_entries(rt: &HostRuntime, folder: &str) -> io::Result<usize> {
+fn count_entries<R: Runtime + Files>(rt: &R, folder: &str) -> io::Result<usize> {
     let mut count = 0usize;
     for entry in fs::read_dir(rt, folder)? {
         entry?;
@@ -38,7 +40,11 @@ fn count_entries(rt: &HostRuntime, folder: &str) -> io::Result<usize> {
 }
 
 // Whether the folder has the files, and no more.
-fn has_just(rt: &HostRuntime, folder: &str, files: &[TextFile]) -> io::Result<bool> {
+fn has_just<R: Runtime + Files + AllocGlobal>(
+    rt: &R,
+    folder: &str,
+    files: &[TextFile],
+) -> io::Result<bool> {
     for (name, text) in files {
         let path = path_in(rt, folder, name)?;
         if !fs::exists(rt, path.as_str())? {
@@ -51,15 +57,19 @@ fn has_just(rt: &HostRuntime, folder: &str, files: &[TextFile]) -> io::Result<bo
     Ok(count_entries(rt, folder)? == files.len())
 }
 
-fn open_disk(
-    rt: &HostRuntime,
+fn open_disk<R: Runtime + Files<File = File> + AllocGlobal + Threads>(
+    rt: &R,
     alloc: Global,
     folder: &str,
-) -> Result<SystemDisk<HostRuntime>, Fail> {
+) -> Result<SystemDisk<R>, Fail> {
     Ok(SystemDisk::open(rt.clone()?, alloc, folder)?)
 }
 
-fn recover_folder(rt: &HostRuntime, alloc: Global, folder: &str) -> Result<bool, Fail> {
+fn recover_folder<R: Runtime + Files<File = File> + AllocGlobal + Threads>(
+    rt: &R,
+    alloc: Global,
+    folder: &str,
+) -> Result<bool, Fail> {
     let mut disk = open_disk(rt, alloc, folder)?;
     Ok(recover(alloc, &mut disk).is_ok())
 }
@@ -115,7 +125,12 @@ const OLD: [TextFile; 2] = [("A", "old a"), ("C", "another")];
 const NEW: [TextFile; 3] = [("A", "new a"), ("B", "new b"), ("C", "another")];
 
 // Writes the two files, and puts them in place or abandons them.
-fn write_set(rt: &HostRuntime, alloc: Global, folder: &str, is_put: bool) -> Result<bool, Fail> {
+fn write_set<R: Runtime + Files<File = File> + AllocGlobal + Threads>(
+    rt: &R,
+    alloc: Global,
+    folder: &str,
+    is_put: bool,
+) -> Result<bool, Fail> {
     let mut set = FileSet::new(alloc, open_disk(rt, alloc, folder)?);
     write_two(&mut set)?;
     if is_put {
@@ -139,8 +154,59 @@ fn a_set_is_put_in_place_or_abandoned(rt: HostRuntime) -> Result<(), Fail> {
     Ok(())
 }
 
+// More files than are synced at a time.
+const MANY_FILES: usize = 40;
+
+// New files, each of which has its own name as its text.
+fn write_many<D: Disk + Drop>(alloc: Global, set: &mut FileSet<D>) -> Result<(), Fail> {
+    for number in 0..MANY_FILES {
+        let name = format!(in alloc; "F{number}")?;
+        set.begin(name.as_bytes())?;
+        set.write(name.as_bytes())?;
+    }
+    Ok(())
+}
+
+// How many of them the folder has.
+fn count_many<R: Files + AllocGlobal>(rt: &R, folder: &str) -> io::Result<usize> {
+    let mut count = 0usize;
+    for number in 0..MANY_FILES {
+        let name = format!(in rt.alloc(); "F{number}")?;
+        let path = path_in(rt, folder, name.as_str())?;
+        if fs::read_to_string(rt, path.as_str())?.as_str() == name.as_str() {
+            count = count.saturating_add(1);
+        }
+    }
+    Ok(count)
+}
+
+// How many of the files a set has put in place.
+fn put_many<R: Runtime + Files<File = File> + AllocGlobal + Threads>(
+    rt: &R,
+    alloc: Global,
+    folder: &str,
+) -> Result<usize, Fail> {
+    make_folder(rt, folder, &[])?;
+    let mut set = FileSet::new(alloc, open_disk(rt, alloc, folder)?);
+    write_many(alloc, &mut set)?;
+    set.finish()?;
+    count_many(rt, folder).map_err(Fail::from)
+}
+
+#[test]
+fn more_files_are_put_in_place_than_are_synced_at_a_time(rt: HostRuntime) -> Result<(), Fail> {
+    let folder = "folder_of_many_files";
+    assert!(rt; put_many(&rt, rt.alloc(), folder)? == MANY_FILES);
+    fs::remove_dir_all(&rt, folder)?;
+    Ok(())
+}
+
 // Whether the set's file is there and what the link led to is as it was.
-fn replaces_link(rt: &HostRuntime, alloc: Global, folder: &str) -> Result<bool, Fail> {
+fn replaces_link<R: Runtime + Files<File = File> + AllocGlobal + Threads>(
+    rt: &R,
+    alloc: Global,
+    folder: &str,
+) -> Result<bool, Fail> {
     let led_to = [("kept", "kept")];
     make_folder(rt, "led_to", &led_to)?;
     make_folder(rt, folder, &[("C", "another")])?;
@@ -162,7 +228,11 @@ fn a_link_is_replaced_and_not_followed(rt: HostRuntime) -> Result<(), Fail> {
 }
 
 // Whether a link without an end goes and a folder stays, both of reserved names.
-fn removes_link_only(rt: &HostRuntime, alloc: Global, folder: &str) -> Result<bool, Fail> {
+fn removes_link_only<R: Runtime + Files<File = File> + AllocGlobal + Threads>(
+    rt: &R,
+    alloc: Global,
+    folder: &str,
+) -> Result<bool, Fail> {
     make_folder(rt, folder, &[("A", "old a")])?;
     let inner = path_in(rt, folder, TEMPORARY_FOLDER)?;
     fs::create_dir(rt, inner.as_str())?;
@@ -183,7 +253,11 @@ fn reserved_names_are_removed_but_folders(rt: HostRuntime) -> Result<(), Fail> {
 }
 
 // Whether a list that is a link stops recovery, and nothing is touched.
-fn refuses_linked_list(rt: &HostRuntime, alloc: Global, folder: &str) -> Result<bool, Fail> {
+fn refuses_linked_list<R: Runtime + Files<File = File> + AllocGlobal + Threads>(
+    rt: &R,
+    alloc: Global,
+    folder: &str,
+) -> Result<bool, Fail> {
     let files = [("A", "old a"), ("list", "A\n"), (TEMPORARY_A, "new a")];
     make_folder(rt, folder, &files)?;
     let list = path_in(rt, folder, LIST)?;
@@ -203,7 +277,11 @@ fn a_list_that_is_a_link_is_a_failure(rt: HostRuntime) -> Result<(), Fail> {
 }
 
 // Whether a file of a folder's name isn't begun, and the old files are there after that.
-fn refuses_name_of_folder(rt: &HostRuntime, alloc: Global, folder: &str) -> Result<bool, Fail> {
+fn refuses_name_of_folder<R: Runtime + Files<File = File> + AllocGlobal + Threads>(
+    rt: &R,
+    alloc: Global,
+    folder: &str,
+) -> Result<bool, Fail> {
     make_folder(rt, folder, &[("A", "old a")])?;
     let inner = path_in(rt, folder, "B")?;
     fs::create_dir(rt, inner.as_str())?;
@@ -255,7 +333,11 @@ fn bytes_go_to_the_file_made_last_until_it_is_synced(rt: HostRuntime) -> Result<
 }
 
 // Whether a second disk is refused while the first is there, and given after it; and whether no file was made.
-fn is_locked_once(rt: &HostRuntime, alloc: Global, folder: &str) -> Result<bool, Fail> {
+fn is_locked_once<R: Runtime + Files<File = File> + AllocGlobal + Threads>(
+    rt: &R,
+    alloc: Global,
+    folder: &str,
+) -> Result<bool, Fail> {
     make_folder(rt, folder, &OLD)?;
     let first = open_disk(rt, alloc, folder)?;
     let second = SystemDisk::open(rt.clone()?, alloc, folder).err();
@@ -275,7 +357,12 @@ fn a_folder_is_locked_once(rt: HostRuntime) -> Result<(), Fail> {
 }
 
 // The mode of a file, and that of a new file which takes its place.
-fn mode_after(rt: &HostRuntime, alloc: Global, folder: &str, mode: u32) -> Result<u32, Fail> {
+fn mode_after<R: Runtime + Files<File = File> + AllocGlobal + Threads>(
+    rt: &R,
+    alloc: Global,
+    folder: &str,
+    mode: u32,
+) -> Result<u32, Fail> {
     make_folder(rt, folder, &OLD)?;
     let path = path_in(rt, folder, "A")?;
     fs::set_permissions(rt, path.as_str(), Permissions::from_mode(mode))?;

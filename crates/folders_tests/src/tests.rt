@@ -5,9 +5,11 @@ use folders::{
     MissingFolder, NamedFile, Source,
 };
 use std::alloc::{AllocError, Global};
-use std::fs;
+use std::fs::{self, File};
 use std::marker::Brand;
+use std::rt::{Files, Runtime};
 use std::test::Fail;
+use std::thread::Threads;
 
 mod transfer;
 mod unrecovered;
@@ -100,11 +102,11 @@ fn folder_fails_where_it_is_told_to(rt: HostRuntime) -> Result<(), Fail> {
 }
 
 // New files for a new folder, where the test runs.
-fn new_files(
-    rt: &HostRuntime,
+fn new_files<R: Runtime + Files<File = File> + Threads>(
+    rt: &R,
     alloc: Global,
     folder: &str,
-) -> Result<DiskFolder<SystemDisk<HostRuntime>, Brand>, Fail> {
+) -> Result<DiskFolder<SystemDisk<R>, Brand>, Fail> {
     if fs::exists(rt, folder)? {
         fs::remove_dir_all(rt, folder)?;
     }

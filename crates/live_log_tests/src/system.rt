@@ -12,6 +12,7 @@ use std::alloc::Global;
 use std::fs::{self, File};
 use std::rt::{Files, Runtime};
 use std::test::Fail;
+use std::thread::Threads;
 
 // The folder of the log.
 const FOLDER: &str = "live_log_tests.tmp";
@@ -29,7 +30,7 @@ fn make_folder<R: Runtime + Files<File = File> + AllocGlobal>(
 }
 
 // Opens a folder.
-fn open<R: Runtime + Files<File = File>>(
+fn open<R: Runtime + Files<File = File> + Threads>(
     rt: &R,
     alloc: Global,
     folder: &str,

@@ -10,6 +10,7 @@ use program_frame::PlaceFault;
 use std::alloc::Global;
 use std::fs::{self, File};
 use std::rt::{Files, Runtime};
+use std::thread::Threads;
 
 /// The system that a day runs on, as far as it opens the folder of its log.
 pub trait Places {
@@ -33,18 +34,18 @@ pub trait Places {
 
 /// The system itself.
 #[derive(Drop)]
-pub struct HostPlaces<'a, R: Runtime + Files<File = File>> {
+pub struct HostPlaces<'a, R: Runtime + Files<File = File> + Threads> {
     rt: &'a R,
 }
 
-impl<'a, R: Runtime + Files<File = File>> HostPlaces<'a, R> {
+impl<'a, R: Runtime + Files<File = File> + Threads> HostPlaces<'a, R> {
     /// The system of a runtime.
     pub fn new(rt: &'a R) -> HostPlaces<'a, R> {
         HostPlaces { rt }
     }
 }
 
-impl<'a, R: Runtime + Files<File = File>> Places for HostPlaces<'a, R> {
+impl<'a, R: Runtime + Files<File = File> + Threads> Places for HostPlaces<'a, R> {
     ghost use Rattle.std.specs.Prelude.{◌≡◌, ◌++◌, ◌∷◌, []};
 
     type Disk = SystemDiskInPlace<R>;

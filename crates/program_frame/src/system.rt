@@ -18,6 +18,7 @@ use std::alloc::Global;
 use std::fs::{self, File};
 use std::io::{self, ErrorKind, Write};
 use std::rt::{Files, Runtime};
+use std::thread::Threads;
 
 // How often a call that a signal interrupts is made.
 const MAX_TRIES: usize = 1000;
@@ -58,11 +59,11 @@ pub trait System {
 
 /// The system itself.
 #[derive(Drop)]
-pub struct Host<'a, R: Runtime + Files<File = File>> {
+pub struct Host<'a, R: Runtime + Files<File = File> + Threads> {
     rt: &'a R,
 }
 
-impl<'a, R: Runtime + Files<File = File>> Host<'a, R> {
+impl<'a, R: Runtime + Files<File = File> + Threads> Host<'a, R> {
     /// The system of a runtime.
     pub fn new(rt: &'a R) -> Host<'a, R> {
         Host { rt }
@@ -84,7 +85,7 @@ fn is_file_there<R: Files>(rt: &R, path: &str) -> io::Result<bool> {
     Err(io::Error::from(ErrorKind::Interrupted))
 }
 
-impl<'a, R: Runtime + Files<File = File>> System for Host<'a, R> {
+impl<'a, R: Runtime + Files<File = File> + Threads> System for Host<'a, R> {
     ghost use Rattle.std.specs.Prelude.{◌≡◌, ◌++◌, ◌∷◌, []};
 
     type Disk = SystemDisk<R>;

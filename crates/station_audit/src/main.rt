@@ -16,6 +16,7 @@ use std::fs::File;
 use std::io::Write;
 use std::process::ExitCode;
 use std::rt::{Files, Runtime};
+use std::thread::Threads;
 
 /// Runs the program. What it prints and its exit status are those of [`tell`]. A stream that takes no text changes
 /// nothing of them.
@@ -25,7 +26,7 @@ fn main(rt: HostRuntime) -> ExitCode {
 }
 
 // Runs the program on the words of its command line, over the system.
-fn run_words<R: Runtime + Files<File = File> + AllocGlobal, E: Write>(
+fn run_words<R: Runtime + Files<File = File> + AllocGlobal + Threads, E: Write>(
     rt: &R,
     err: &mut E,
 ) -> Result<Audited, Ending<Failure<AuditFailure>>> {

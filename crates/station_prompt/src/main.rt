@@ -17,6 +17,7 @@ use std::fs::File;
 use std::io::{BufReader, IsTerminal, Write};
 use std::process::ExitCode;
 use std::rt::{Files, Runtime};
+use std::thread::Threads;
 
 /// Runs the program. What it prints at its end and its exit status are those of [`tell`]. A stream that takes no text changes nothing
 /// of them. There is a prompt where lines come from a terminal and answers go to one.
@@ -29,7 +30,7 @@ fn main(rt: HostRuntime) -> ExitCode {
 
 // Runs the program on the words of its command line, over the system.
 fn run_words<
-    R: Runtime + Files<File = File> + AllocGlobal,
+    R: Runtime + Files<File = File> + AllocGlobal + Threads,
     P: Write + Drop,
     W: Write + Drop,
     E: Write,

@@ -15,6 +15,7 @@ use std::fs::File;
 use std::io::Write;
 use std::process::ExitCode;
 use std::rt::{Env, Files, Runtime};
+use std::thread::Threads;
 use tool_program::{StreamSink, ToolFault, ToolReport, run_words, tell_end};
 
 /// Runs the program. What it prints besides what is asked for, and its exit status, are those of [`tell_end`].
@@ -33,7 +34,7 @@ fn read_words<'a, R: Env + AllocGlobal>(rt: &R) -> Result<Vec<String>, Ending<To
 }
 
 // Does what the words ask for, over the files of the system and a stream.
-fn run_program<'a, R: Runtime + Files<File = File> + AllocGlobal, W: Write + Drop>(
+fn run_program<'a, R: Runtime + Files<File = File> + AllocGlobal + Threads, W: Write + Drop>(
     rt: &R,
     out: W,
     words: &'a [String],

@@ -9,9 +9,10 @@ use program_frame::{Ending, Failure, Host};
 use std::fs::{self, File};
 use std::rt::{Files, Runtime};
 use std::test::Fail;
+use std::thread::Threads;
 
 // Audits a journal of these lines, so many, as the words ask.
-fn audit_by<R: Runtime + Files<File = File> + AllocGlobal>(
+fn audit_by<R: Runtime + Files<File = File> + AllocGlobal + Threads>(
     rt: &R,
     lines: &[u8],
     count: u64,
@@ -30,7 +31,7 @@ fn audit_by<R: Runtime + Files<File = File> + AllocGlobal>(
 }
 
 // Audits a journal into a new folder of the system, in which an earlier run has left a file that is not to get its name.
-fn audit_here<R: Runtime + Files<File = File> + AllocGlobal>(
+fn audit_here<R: Runtime + Files<File = File> + AllocGlobal + Threads>(
     rt: &R,
     journal: &str,
     lines: &[u8],

@@ -14,6 +14,7 @@ use std::io::{self, BufRead, BufReader, Read, Write};
 use std::process::ExitCode;
 use std::rt::{Files, Runtime};
 use std::test::Fail;
+use std::thread::Threads;
 
 // How a call of the program ends.
 type Ended = Result<Lived, Ending<Failure<LiveFailure>>>;
@@ -123,12 +124,11 @@ fn words_of(folder: &str) -> [&str; 5] {
 }
 
 // Calls the program with these words, and what it said of the log.
-fn call<R: Runtime + Files<File = File> + AllocGlobal, B: BufRead + Drop, W: Write + Drop>(
-    rt: &R,
-    words: &[&str],
-    reader: B,
-    out: W,
-) -> Result<(Ended, Vec<u8>), Fail> {
+fn call<
+    R: Runtime + Files<File = File> + AllocGlobal + Threads,
+    B: BufRead + Drop,
+    W: Write + Drop,
+>(rt: &R, words: &[&str], reader: B, out: W) -> Result<(Ended, Vec<u8>), Fail> {
     let alloc = rt.alloc();
     let prompt: Option<Vec<u8>> = None;
     let mut said = Vec::new(alloc);
@@ -145,7 +145,7 @@ fn call<R: Runtime + Files<File = File> + AllocGlobal, B: BufRead + Drop, W: Wri
 }
 
 // Lives a day with these lines in a folder of the system.
-fn live_in<R: Runtime + Files<File = File> + AllocGlobal>(
+fn live_in<R: Runtime + Files<File = File> + AllocGlobal + Threads>(
     rt: &R,
     folder: &str,
     typed: &[u8],
@@ -193,7 +193,7 @@ fn a_day_goes_on_in_a_folder_of_the_system(rt: HostRuntime) -> Result<(), Fail> 
 }
 
 // Whether a day ends so on a log in a folder of the system that does not hold on the tables, and whether the log stays as it is.
-fn stays<R: Runtime + Files<File = File> + AllocGlobal>(
+fn stays<R: Runtime + Files<File = File> + AllocGlobal + Threads>(
     rt: &R,
     log: &str,
     failure: LiveFailure,
@@ -304,7 +304,7 @@ const BAD_WORDS: [&[&str]; 4] = [
 ];
 
 // The exit status of a call with these words.
-fn has_status<R: Runtime + Files<File = File> + AllocGlobal>(
+fn has_status<R: Runtime + Files<File = File> + AllocGlobal + Threads>(
     rt: &R,
     words: &[&str],
     status: u8,

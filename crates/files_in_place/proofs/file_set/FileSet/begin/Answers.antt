@@ -42,7 +42,7 @@ invariant_of-self-2 g c promised =
     let lies : c.as_slice.result.now ≡ temporary c.args.name.now = c.as_slice.ensures.value ∙ c.in_ok-begun.ensures.lies in
     let N = c.begin_file.new.disk in
     let more = staged_more m c.self.inside.names.items c.self.inside.current c.self.inside.disk N c.args.name.now c.as_slice.result.now staged
-    lies c.in_ok-begun.ensures.fits c.in_ok-begun.ensures.free c.begin_file.ensures.others (c.in_ok-begin_file.ensures.empty promised) (c.in_ok-begin_file.ensures.whole promised) c.in_ok-begin_file.ensures.new (c.begin_file.ensures.run promised).left.uncommitted in
+    lies c.in_ok-begun.ensures.fits c.in_ok-begun.ensures.free c.begin_file.ensures.others (c.in_ok-begin_file.ensures.empty promised) c.begin_file.ensures.whole c.in_ok-begin_file.ensures.new (c.begin_file.ensures.run promised).left.uncommitted in
     let listed : c.push_reserved.new.self.items ≡ c.self.inside.names.items ++ c.args.name.now ∷ [] = c.push_reserved.ensures.items ∙ ap (λ (l : List Name). l ++ c.in_ok-begun.begun.name ∷ []) c.new_name.ensures.names ∙ ap (λ (n : Name). c.self.inside.names.items ++ n ∷ []) c.in_ok-begun.ensures.name in
     let P : List Name → Type 0 = λ l. AreStaged m l (Some c.in_ok-begun.begun.lies) N in
     in_staging m _ _ _ (subst P (sym listed) (subst (λ (name : Name). AreStaged m (c.self.inside.names.items ++ c.args.name.now ∷ []) (Some name) N) c.as_slice.ensures.value more))

@@ -1,4 +1,4 @@
-use Rattle.std.proofs.Common.{◌≡◌, ◌≢◌, List, arith, refl, rules, subst, sym, ◌∙◌, ap}
+use Rattle.std.proofs.Common.{◌≡◌, ◌≢◌, List, map, arith, refl, rules, subst, sym, ◌∙◌, ap}
 use Rattle.byte_io.specs.Laws.Sinks.{on_err}
 use Rattle.files_in_place.specs.declared.phase.Phase.TheVariants.{Staging, Failed, Ended}
 use Rattle.files_in_place.specs.Folder.{Name, SameBut, temporary, list_name, list_bytes}
@@ -13,25 +13,37 @@ write_list-requires-clause-staged g c promised =
     let m = g.D.Disk.meaning in
     let phase : c.self.inside.phase ≡ Staging = search rules in
     let staged = (c.self.invariant promised).staged phase in
-    let names : c.deref-2.result.now ≡ c.self.inside.names.items = c.deref-2.ensures.value in
+    let names : c.deref-3.result.now ≡ c.self.inside.names.items = c.deref-3.ensures.value in
     subst (λ (l : List Name). AreStaged m l c.self.inside.current c.self.inside.disk) (sym names) staged
 
 pub write_list-requires-clause-list : goal.write_list-requires-clause-list
 write_list-requires-clause-list g c =
-    c.deref-3.ensures.value ∙ c.in_ok-list.ensures.value ∙ ap list_bytes (c.deref.ensures.value ∙ sym c.deref-2.ensures.value)
+    c.deref-5.ensures.value ∙ c.in_ok-list.ensures.value ∙ ap list_bytes (c.deref.ensures.value ∙ sym c.deref-3.ensures.value)
+
+pub write_list-requires-clause-temporaries : goal.write_list-requires-clause-temporaries
+write_list-requires-clause-temporaries g c =
+    c.deref-4.ensures.value ∙ c.in_ok-temporaries.ensures.value ∙ ap (map temporary) (c.deref-2.ensures.value ∙ sym c.deref-3.ensures.value)
 
 pub commit-requires : goal.commit-requires
 commit-requires g c =
     let m = g.D.Disk.meaning in
     record {
       ready = λ promised.
-          let names : c.deref-2.result.now ≡ c.self.inside.names.items = c.deref-2.ensures.value in
-          let listed : c.deref-4.result.now ≡ c.self.inside.names.items = c.deref-4.ensures.value in
+          let names : c.deref-3.result.now ≡ c.self.inside.names.items = c.deref-3.ensures.value in
+          let listed : c.deref-6.result.now ≡ c.self.inside.names.items = c.deref-6.ensures.value in
           subst (λ (l : List Name). AreReady m l c.write_list.new.disk) (names ∙ sym listed) (c.in_ok-write_list.ensures.ready promised);
     }
 
 pub returns-in_err-list-clause-any_moment : goal.returns-in_err-list-clause-any_moment
 returns-in_err-list-clause-any_moment g c promised staging =
+    let m = g.D.Disk.meaning in
+    let phase : c.self.inside.phase ≡ Staging = ap (λ (s : Set g.row.D.Denot). s.phase) c.self.view_is ∙ staging in
+    let put = put_none m c.self.inside.names.items c.self.inside.disk ((c.self.invariant promised).staged phase).uncommitted in
+    subst (λ (s : Set g.row.D.Denot). LeavesOnly m s.disk s.disk (IsOldOrNew s.names (m.seen s.disk))) c.self.view_is
+    (put_either m _ _ _ put)
+
+pub returns-in_err-temporaries-clause-any_moment : goal.returns-in_err-temporaries-clause-any_moment
+returns-in_err-temporaries-clause-any_moment g c promised staging =
     let m = g.D.Disk.meaning in
     let phase : c.self.inside.phase ≡ Staging = ap (λ (s : Set g.row.D.Denot). s.phase) c.self.view_is ∙ staging in
     let put = put_none m c.self.inside.names.items c.self.inside.disk ((c.self.invariant promised).staged phase).uncommitted in
@@ -48,6 +60,17 @@ returns-in_err-list-clause-undone g c promised staging =
     (run_none m c.self.inside.disk left) in
     let undone : c.args.self.now.phase ≢ Ended → RunsUncommitted m c.args.self.now.disk c.args.self.now.disk = λ _. run in
     on_err c.from_residual.result undone
+
+pub returns-in_err-temporaries-clause-undone : goal.returns-in_err-temporaries-clause-undone
+returns-in_err-temporaries-clause-undone g c promised staging =
+    let m = g.D.Disk.meaning in
+    let phase : c.self.inside.phase ≡ Staging = ap (λ (s : Set g.row.D.Denot). s.phase) c.self.view_is ∙ staging in
+    let left = (c.self.invariant promised).left (λ ended. let clash : Staging ≡ Ended = sym phase ∙ ended in absurd cc) in
+    let run : RunsUncommitted m c.args.self.now.disk c.args.self.now.disk =
+    subst (λ (s : Set g.row.D.Denot). RunsUncommitted m s.disk s.disk) c.self.view_is
+    (run_none m c.self.inside.disk left) in
+    let undone : c.args.self.now.phase ≢ Ended → RunsUncommitted m c.args.self.now.disk c.args.self.now.disk = λ _. run in
+    on_err c.from_residual-in_err-temporaries.result undone
 
 pub returns-in_err-write_list-clause-undone : goal.returns-in_err-write_list-clause-undone
 returns-in_err-write_list-clause-undone g c promised staging =
@@ -68,6 +91,12 @@ returns-in_err-list-clause-begun g c promised staging =
     let begun : c.args.self.now.phase ≡ Ended → HasBeenReady m c.args.self.now.names (m.moment c.args.self.now.disk) (m.seen c.args.self.now.disk) c.args.self.now.disk = λ ended. let clash : Staging ≡ Ended = sym staging ∙ ended in absurd cc in
     on_err c.from_residual.result begun
 
+pub returns-in_err-temporaries-clause-begun : goal.returns-in_err-temporaries-clause-begun
+returns-in_err-temporaries-clause-begun g c promised staging =
+    let m = g.D.Disk.meaning in
+    let begun : c.args.self.now.phase ≡ Ended → HasBeenReady m c.args.self.now.names (m.moment c.args.self.now.disk) (m.seen c.args.self.now.disk) c.args.self.now.disk = λ ended. let clash : Staging ≡ Ended = sym staging ∙ ended in absurd cc in
+    on_err c.from_residual-in_err-temporaries.result begun
+
 pub returns-in_err-write_list-clause-begun : goal.returns-in_err-write_list-clause-begun
 returns-in_err-write_list-clause-begun g c promised staging =
     let m = g.D.Disk.meaning in
@@ -77,7 +106,7 @@ returns-in_err-write_list-clause-begun g c promised staging =
 pub returns-in_err-commit-clause-begun : goal.returns-in_err-commit-clause-begun
 returns-in_err-commit-clause-begun g c promised staging =
     let m = g.D.Disk.meaning in
-    let names : c.deref-2.result.now ≡ c.self.inside.names.items = c.deref-2.ensures.value in
+    let names : c.deref-3.result.now ≡ c.self.inside.names.items = c.deref-3.ensures.value in
     let ready : AreReady m c.self.inside.names.items c.write_list.new.disk =
     subst (λ (l : List Name). AreReady m l c.write_list.new.disk) names (c.in_ok-write_list.ensures.ready promised) in
     let was : HasBeenReady m c.args.self.now.names (m.moment c.args.self.now.disk) (m.seen c.args.self.now.disk) c.commit.new.disk =
@@ -94,6 +123,14 @@ returns-in_err-commit-clause-begun g c promised staging =
 
 pub returns-in_err-list-clause-others : goal.returns-in_err-list-clause-others
 returns-in_err-list-clause-others g c promised staging =
+    let m = g.D.Disk.meaning in
+    let phase : c.self.inside.phase ≡ Staging = ap (λ (s : Set g.row.D.Denot). s.phase) c.self.view_is ∙ staging in
+    let put = put_none m c.self.inside.names.items c.self.inside.disk ((c.self.invariant promised).staged phase).uncommitted in
+    subst (λ (s : Set g.row.D.Denot). LeavesOnly m s.disk s.disk (SameUnstaged s.names (m.seen s.disk))) c.self.view_is
+    (put_others m _ _ _ put)
+
+pub returns-in_err-temporaries-clause-others : goal.returns-in_err-temporaries-clause-others
+returns-in_err-temporaries-clause-others g c promised staging =
     let m = g.D.Disk.meaning in
     let phase : c.self.inside.phase ≡ Staging = ap (λ (s : Set g.row.D.Denot). s.phase) c.self.view_is ∙ staging in
     let put = put_none m c.self.inside.names.items c.self.inside.disk ((c.self.invariant promised).staged phase).uncommitted in
@@ -118,7 +155,7 @@ pub returns-in_err-commit-clause-any_moment : goal.returns-in_err-commit-clause-
 returns-in_err-commit-clause-any_moment g c promised staging =
     let m = g.D.Disk.meaning in
     let phase : c.self.inside.phase ≡ Staging = search rules in
-    let put = put_all m c.self.inside.names.items c.deref-4.result.now c.self.inside.disk c.write_list.new.disk c.commit.new.disk c.deref-4.ensures.value ((c.self.invariant promised).staged phase).fit c.write_list.ensures.others (c.write_list.ensures.run promised) (c.commit.ensures.any_moment promised) in
+    let put = put_all m c.self.inside.names.items c.deref-6.result.now c.self.inside.disk c.write_list.new.disk c.commit.new.disk c.deref-6.ensures.value ((c.self.invariant promised).staged phase).fit c.write_list.ensures.others (c.write_list.ensures.run promised) (c.commit.ensures.any_moment promised) in
     subst (λ (s : Set g.row.D.Denot). LeavesOnly m s.disk c.commit.new.disk (IsOldOrNew s.names (m.seen s.disk))) c.self.view_is
     (put_either m _ _ _ put)
 
@@ -126,7 +163,7 @@ pub returns-in_err-commit-clause-others : goal.returns-in_err-commit-clause-othe
 returns-in_err-commit-clause-others g c promised staging =
     let m = g.D.Disk.meaning in
     let phase : c.self.inside.phase ≡ Staging = search rules in
-    let put = put_all m c.self.inside.names.items c.deref-4.result.now c.self.inside.disk c.write_list.new.disk c.commit.new.disk c.deref-4.ensures.value ((c.self.invariant promised).staged phase).fit c.write_list.ensures.others (c.write_list.ensures.run promised) (c.commit.ensures.any_moment promised) in
+    let put = put_all m c.self.inside.names.items c.deref-6.result.now c.self.inside.disk c.write_list.new.disk c.commit.new.disk c.deref-6.ensures.value ((c.self.invariant promised).staged phase).fit c.write_list.ensures.others (c.write_list.ensures.run promised) (c.commit.ensures.any_moment promised) in
     subst (λ (s : Set g.row.D.Denot). LeavesOnly m s.disk c.commit.new.disk (SameUnstaged s.names (m.seen s.disk))) c.self.view_is
     (put_others m _ _ _ put)
 
@@ -134,7 +171,7 @@ pub returns-clause-any_moment : goal.returns-clause-any_moment
 returns-clause-any_moment g c promised staging =
     let m = g.D.Disk.meaning in
     let phase : c.self.inside.phase ≡ Staging = search rules in
-    let put = put_all m c.self.inside.names.items c.deref-4.result.now c.self.inside.disk c.write_list.new.disk c.commit.new.disk c.deref-4.ensures.value ((c.self.invariant promised).staged phase).fit c.write_list.ensures.others (c.write_list.ensures.run promised) (c.commit.ensures.any_moment promised) in
+    let put = put_all m c.self.inside.names.items c.deref-6.result.now c.self.inside.disk c.write_list.new.disk c.commit.new.disk c.deref-6.ensures.value ((c.self.invariant promised).staged phase).fit c.write_list.ensures.others (c.write_list.ensures.run promised) (c.commit.ensures.any_moment promised) in
     subst (λ (s : Set g.row.D.Denot). LeavesOnly m s.disk c.commit.new.disk (IsOldOrNew s.names (m.seen s.disk))) c.self.view_is
     (put_either m _ _ _ put)
 
@@ -142,7 +179,7 @@ pub returns-clause-others : goal.returns-clause-others
 returns-clause-others g c promised staging =
     let m = g.D.Disk.meaning in
     let phase : c.self.inside.phase ≡ Staging = search rules in
-    let put = put_all m c.self.inside.names.items c.deref-4.result.now c.self.inside.disk c.write_list.new.disk c.commit.new.disk c.deref-4.ensures.value ((c.self.invariant promised).staged phase).fit c.write_list.ensures.others (c.write_list.ensures.run promised) (c.commit.ensures.any_moment promised) in
+    let put = put_all m c.self.inside.names.items c.deref-6.result.now c.self.inside.disk c.write_list.new.disk c.commit.new.disk c.deref-6.ensures.value ((c.self.invariant promised).staged phase).fit c.write_list.ensures.others (c.write_list.ensures.run promised) (c.commit.ensures.any_moment promised) in
     subst (λ (s : Set g.row.D.Denot). LeavesOnly m s.disk c.commit.new.disk (SameUnstaged s.names (m.seen s.disk))) c.self.view_is
     (put_others m _ _ _ put)
 
@@ -151,7 +188,7 @@ returns-clause-done g c promised =
     let m = g.D.Disk.meaning in
     let phase : c.self.inside.phase ≡ Staging = search rules in
     let staged = (c.self.invariant promised).staged phase in
-    let listed : c.deref-4.result.now ≡ c.self.inside.names.items = c.deref-4.ensures.value in
+    let listed : c.deref-6.result.now ≡ c.self.inside.names.items = c.deref-6.ensures.value in
     let others : SameBut (temporary list_name) (m.seen c.self.inside.disk) (m.seen c.write_list.new.disk) = c.write_list.ensures.others in
     let done : (n : Name) → m.seen c.commit.new.disk n ≡ with_staged c.self.inside.names.items (m.seen c.self.inside.disk) n = λ n. c.in_ok-commit.ensures.done promised n ∙ ap (λ (l : List Name). with_staged l (m.seen c.write_list.new.disk) n) listed ∙ with_staged_same c.self.inside.names.items (m.seen c.self.inside.disk) (m.seen c.write_list.new.disk) staged.fit others n in
     subst (λ (s : Set g.row.D.Denot). (n : Name) → m.seen c.commit.new.disk n ≡ with_staged s.names (m.seen s.disk) n) c.self.view_is done
@@ -171,7 +208,7 @@ invariant_of-self-2 g c promised =
     let m = g.D.Disk.meaning in
     let phase : c.self.inside.phase ≡ Staging = search rules in
     let staged = (c.self.invariant promised).staged phase in
-    let listed : c.deref-4.result.now ≡ c.self.inside.names.items = c.deref-4.ensures.value in
+    let listed : c.deref-6.result.now ≡ c.self.inside.names.items = c.deref-6.ensures.value in
     let others : SameBut (temporary list_name) (m.seen c.self.inside.disk) (m.seen c.write_list.new.disk) = c.write_list.ensures.others in
     let done : (n : Name) → m.seen c.commit.new.disk n ≡ with_staged c.self.inside.names.items (m.seen c.self.inside.disk) n = λ n. c.in_ok-commit.ensures.done promised n ∙ ap (λ (l : List Name). with_staged l (m.seen c.write_list.new.disk) n) listed ∙ with_staged_same c.self.inside.names.items (m.seen c.self.inside.disk) (m.seen c.write_list.new.disk) staged.fit others n in
     in_staging m _ _ _

@@ -1,0 +1,11 @@
+use Rattle.std.proofs.Common.{◌≡◌, ◌++◌, ◌⊎◌, ℕ, List, OnOk, subst, rules}
+use Rattle.std.specs.List.{All}
+use Rattle.files_in_place.specs.System.{HasSynced, HasNoBytes}
+use Rattle.disk_in_place.proofs.system_in_place.SystemDiskInPlaceDisk.sync_files.Goals as goal
+
+pub returns-clause-synced : goal.returns-clause-synced
+returns-clause-synced g c =
+    let said = g.R.SystemCalls.answers in
+    let folder : c.self.inside.disk.path ≡ c.args.self.now.path = search rules in
+    let P : List ℕ → Type 0 = λ path. OnOk c.sync_files.result (All (λ name. HasSynced said (path ++ name) ⊎ HasNoBytes said (path ++ name)) c.args.names.now) in
+    subst P folder c.sync_files.ensures.synced
