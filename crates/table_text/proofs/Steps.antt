@@ -1,12 +1,9 @@
 -- The steps of loops over the numbers of records.
-use Rattle.std.proofs.Common.{◌≡◌, ℕ, ◌+◌, ◌<◌, true, false, List, ◌∷◌, length, get_or, drop, max, refl, sym, ap, ◌∙◌}
+use Rattle.std.proofs.Common.{◌≡◌, ℕ, ◌+◌, ◌<◌, true, false, List, ◌∷◌, length, get_or, drop, refl, sym, ap, ◌∙◌}
 use Rattle.std.proofs.lemmas.List.{drop_more}
-use Rattle.std.specs.List.{filter, fold}
-use Rattle.dbf_fields.specs.declared.field.Field.{Field}
+use Rattle.std.specs.List.{filter}
 use Rattle.dbf_image.specs.Table.{Table}
-use Rattle.table_text.specs.declared.memo_form.MemoForm.{MemoForm}
 use Rattle.table_text.specs.declared.selection.Selection.{Selection}
-use Rattle.table_text.specs.Columns.{cell_shown}
 use Rattle.table_text.specs.Selection.{is_selected}
 
 -- the numbers that are left, where the first of them is looked at
@@ -29,7 +26,3 @@ pub selected-passed : (table : Table) (selection : Selection) (numbers : List �
     → selected_of table selection (drop i numbers) ≡ selected_of table selection (drop (i + 1) numbers)
 selected-passed table selection numbers i number lt is passed =
     ap (filter (is_selected table selection)) (left-next numbers i number lt is) ∙ (rw passed refl)
-
--- the widest of a width and what is shown in a column of these records
-abbrev pub widest : Table → MemoForm → ℕ → Field → ℕ → List ℕ → ℕ
-widest table memos index f width numbers = fold (λ widest number. max widest (length (cell_shown table memos number index f))) width numbers

@@ -1,6 +1,6 @@
 -- Which records of a table are shown.
-use Rattle.std.specs.Prelude.{ℕ, Bool, not, ◌&&◌, ◌||◌, ◌==◌, List, length, Option, Some, None}
-use Rattle.std.specs.List.{filter, list_any, range_with_len}
+use Rattle.std.specs.Prelude.{ℕ, Bool, not, ◌&&◌, ◌||◌, ◌==◌, ◌≤◌, List, length, drop, Option, Some, None}
+use Rattle.std.specs.List.{filter, list_any, range_with_len, AllByRecursion}
 use Rattle.std.specs.Int.{is_in_range}
 use Rattle.dbf_image.specs.Table.{Table, row_at}
 use Rattle.table_text.specs.declared.selection.Selection.{Selection}
@@ -26,6 +26,14 @@ numbers_in table (Some numbers) = numbers
 -- the numbers of the records that are shown: of the numbers in their order those that are selected
 abbrev pub selected : Table → Option (List ℕ) → Selection → List ℕ
 selected table order selection = filter (is_selected table selection) (numbers_in table order)
+
+-- the numbers of the records that are shown, from a place of their order on
+abbrev pub selected_from : Table → Option (List ℕ) → Selection → ℕ → List ℕ
+selected_from table order selection place = filter (is_selected table selection) (drop place (numbers_in table order))
+
+-- there is a record of each number
+abbrev pub AreNumbersOf : Table → List ℕ → Type 0
+AreNumbersOf table numbers = AllByRecursion (λ number. (1 ≤ number) × (number ≤ length table.rows)) numbers
 
 -- the number is one of these
 abbrev pub is_among : List ℕ → ℕ → Bool

@@ -5,7 +5,7 @@ ghost use Rattle.byte_io.specs.Output.{Puts};
 ghost use Rattle.byte_io.specs.Sink.{grown, IsFront, Rises};
 ghost use Rattle.table_text.specs.Lines.{line_in, lines_in, HasWidths};
 ghost use Rattle.table_text.specs.Output.{PutsFront};
-ghost use Rattle.table_text.specs.Selection.{selected};
+ghost use Rattle.table_text.specs.Selection.{numbers_in, selected, selected_from, AreNumbersOf};
 ghost use Rattle.table_text.specs.Records.{mark_of as mark_in};
 
 use crate::columns::{append_aligned, append_cells};
@@ -97,6 +97,57 @@ fn append_line(
     }
 }
 
+// How many records are looked at before their lines are made. Where an order scatters them over the table, reading the mark of one need
+// not wait for that of the one before.
+const RECORDS_AT_ONCE: usize = 64;
+
+// Adds the numbers of the records that are shown of those from one place of the order to before another.
+fn append_selected(
+    numbers: &mut Vec<u32>,
+    table: &TableData,
+    order: Option<&[u32]>,
+    selection: Selection,
+    first: usize,
+    end: usize,
+) -> Result<(), AllocError>
+    requires order { first ≤ end }
+    requires inside { end ≤ length (numbers_in table.now (option_copied order)) }
+    ensures selected { OnOk result (numbers.new.items ++ selected_from table.now (option_copied order.entry) selection end
+        ≡ numbers.old.items ++ selected_from table.now (option_copied order.entry) selection first) }
+    ensures records { OnOk result (AreNumbersOf table.now numbers.old.items → AreNumbersOf table.now numbers.new.items) }
+{
+    for place in first..end {
+        let number = number_at(table, order, place);
+        if selection.takes(table, number) {
+            numbers.push(number)?;
+        }
+    }
+    Ok(())
+}
+
+// The lines of some records. An `Err` says that there was no memory: those before were put. `text` is for one cell at a time.
+fn put_records<S: ByteSink>(
+    alloc: Global,
+    out: &mut SinkWriter<'_, S>,
+    text: &mut Vec<u8>,
+    table: &TableData,
+    numbers: &[u32],
+    format: &LineFormat,
+) -> Result<(), AllocError>
+    requires records { AreNumbersOf table.now numbers.now }
+    requires widths { HasWidths format.now table.now }
+    ensures put { OnOk result (Puts out.old (lines_in format.now table.now numbers.now) out.new) }
+    ensures front { PutsFront out.old (lines_in format.now table.now numbers.now) out.new }
+{
+    let mut line = Vec::new(alloc);
+    for number in numbers {
+        line.clear();
+        append_line(alloc, &mut line, text, table, *number, format)?;
+        out.put(line.as_slice());
+    }
+    Ok(())
+}
+
 // The lines of the records that are shown. An `Err` says that there was no memory: those before were put.
 fn put_lines<S: ByteSink>(
     alloc: Global,
@@ -110,15 +161,16 @@ fn put_lines<S: ByteSink>(
     ensures put { OnOk result (Puts out.old (lines_in format.now table.now (selected table.now (option_copied order.entry) selection)) out.new) }
     ensures front { PutsFront out.old (lines_in format.now table.now (selected table.now (option_copied order.entry) selection)) out.new }
 {
-    let mut line = Vec::new(alloc);
     let mut text = Vec::new(alloc);
-    for place in 0..number_count(table, order) {
-        let number = number_at(table, order, place);
-        if selection.takes(table, number) {
-            line.clear();
-            append_line(alloc, &mut line, &mut text, table, number, format)?;
-            out.put(line.as_slice());
-        }
+    let mut numbers = Vec::new(alloc);
+    let count = number_count(table, order);
+    let mut first = 0;
+    while first < count {
+        let end = first + RECORDS_AT_ONCE.min(count - first);
+        numbers.clear();
+        append_selected(&mut numbers, table, order, selection, first, end)?;
+        put_records(alloc, out, &mut text, table, numbers.as_slice(), format)?;
+        first = end;
     }
     Ok(())
 }
