@@ -4,7 +4,8 @@
 //! files, that of the journal too where it is asked for; [`serve`] is the same without the journal. Where a run does not come to
 //! its end, [`ServeFault`] says why. What a whole run is is defined in `specs/WholeRun.antt`, and what it has written in
 //! `specs/Served.antt`; start reading there. Reading is in `load.rt`. [`open_setup`] opens the tables alone, which are the same at
-//! each reading ([`one_opening`]), and [`write_tables`] writes those of a catalogue.
+//! each reading ([`one_opening`]), [`write_tables`] writes those of a catalogue with digests of the files, and [`put_tables`] writes them
+//! without.
 //!
 //! The stations: [`run_catalogue`] runs a script for each station of a catalogue, each in a thread of its own, joins all threads
 //! and settles: each station's answers are those of its entries in the journal. What the answers are is defined in
@@ -65,4 +66,4 @@ pub use run::{read_all, read_setup};
 pub use run_fault::RunFault;
 pub use run_files::RunFiles;
 pub use stations::{Outcome, run_stations};
-pub use writing::write_tables;
+pub use writing::{put_tables, write_tables};
