@@ -12,7 +12,7 @@ use crate::gates::{OPEN_GATE, SHUT_GATE};
 use catalogue_core::Entry;
 use disk_in_place::{DiskInPlace, write_synced};
 use files_in_place::DiskFault;
-use station_lines::entry_line;
+use station_lines::EntryLine;
 use std::alloc::{AllocError, Global};
 
 // The lines of entries, each after an open gate, and a shut gate.
@@ -22,10 +22,11 @@ pub(crate) fn group_bytes(alloc: Global, entries: &[Entry]) -> Result<Vec<u8>, A
     ensures small { OnOk result (HaveSmallNumbers (map line_parts entries.now)) }
 {
     let mut bytes = Vec::new(alloc);
+    let mut line = EntryLine::new(alloc);
     for entry in entries {
-        let line = entry_line(alloc, entry.station, &entry.command, &entry.answer)?;
+        let text = line.of(entry.station, &entry.command, &entry.answer)?;
         bytes.push(OPEN_GATE)?;
-        bytes.extend_from_slice(line.as_slice())?;
+        bytes.extend_from_slice(text)?;
     }
     bytes.push(SHUT_GATE)?;
     Ok(bytes)

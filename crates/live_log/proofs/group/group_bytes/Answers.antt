@@ -1,10 +1,8 @@
-use Rattle.std.proofs.Common.{◌≡◌, ◌<◌, ◌^◌, ◌++◌, [], List, ℕ, Some, length, ap, sym, subst, ◌∙◌, arith}
+use Rattle.std.proofs.Common.{◌≡◌, List, Some, ap, sym, subst, ◌∙◌, arith}
 use Rattle.std.specs.List.{slice_get}
 use Rattle.std.proofs.lemmas.List.{take_all}
 use Rattle.std.proofs.lemmas.Option.{slice_get-get_or}
 use Rattle.catalogue_core.specs.declared.entry.Entry.{Entry}
-use Rattle.station_lines.specs.JournalLines.{line_parts}
-use Rattle.station_lines.proofs.JournalLaws.{entry_small}
 use Rattle.live_log.specs.Gates.{HasPutEntries}
 use Rattle.live_log.proofs.GroupLaws.{puts_on, is_log_of}
 use Rattle.live_log.proofs.group.group_bytes.Goals as goal
@@ -14,11 +12,9 @@ loop-entry-preserved c =
     let entries = c.args.entries.now in
     let i = c.loop-entry.entry-index in
     let entry = c.entry-item.result in
-    let line = c.in_ok-line.line in
     let at : slice_get entries i ≡ Some entry = slice_get-get_or entries i entry c.loop-entry-test.true ∙ ap (λ (e : Entry). Some e) (sym c.entry-item.is) in
-    let long : length line < 2 ^ 64 = omega (arith, ap length c.as_slice.ensures.value) in
-    puts_on entries i entry line c.loop-entry.bytes.items c.push.new.self.items c.extend_from_slice.new.self.items at c.in_ok-line.ensures.value (entry_small line (line_parts entry) [] c.in_ok-line.ensures.value long (omega arith))
-    c.in_ok-push.ensures.items (c.in_ok-extend_from_slice.ensures.items ∙ ap (λ (l : List ℕ). c.push.new.self.items ++ l) c.as_slice.ensures.value) c.loop-entry.invariant
+    puts_on entries i entry c.in_ok-text.text.now c.loop-entry.bytes.items c.push.new.self.items c.extend_from_slice.new.self.items at
+    c.in_ok-text.ensures.value c.in_ok-text.ensures.small c.in_ok-push.ensures.items c.in_ok-extend_from_slice.ensures.items c.loop-entry.invariant
 
 pub returns-clause-bytes : goal.returns-clause-bytes
 returns-clause-bytes c =
