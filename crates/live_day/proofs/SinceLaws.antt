@@ -1,5 +1,5 @@
 -- A day that goes on, and puts nothing to the log yet.
-use Rattle.std.proofs.Common.{◌≡◌, ◌⊎◌, inl, inr, ◌<◌, ◌≤◌, ◌+◌, ◌-◌, ℕ, false, List, [], ◌∷◌, ◌++◌, length, map, sym, ◌∙◌, ap, subst, arith, append_assoc, length-append, length-drop}
+use Rattle.std.proofs.Common.{◌≡◌, ◌⊎◌, inl, inr, ◌<◌, ◌≤◌, ◌+◌, ◌-◌, ◌^◌, ℕ, false, List, [], ◌∷◌, ◌++◌, length, map, sym, ◌∙◌, ap, subst, arith, append_assoc, length-append, length-drop}
 use Rattle.std.proofs.lemmas.List.{map-append}
 use Rattle.catalogue_core.specs.declared.entry.Entry.{Entry}
 use Rattle.catalogue_core.specs.declared.command.Command.{Command}
@@ -7,7 +7,7 @@ use Rattle.catalogue_core.specs.Replay.{History, entry, answer_of, with_entry}
 use Rattle.station_lines.specs.JournalLines.{line_parts}
 use Rattle.files_in_place.specs.Folder.{Name}
 use Rattle.files_in_place.specs.Disk.{DiskMeaning}
-use Rattle.live_log.specs.Gates.{LineParts}
+use Rattle.live_log.specs.Gates.{LineParts, log_of}
 use Rattle.live_log.specs.Logs.{HasLog, LogValue}
 use Rattle.live_day.specs.Days.{DayValue, HasGoneOn, HasPerformedSince, parts_of, entries_since}
 use Rattle.live_day.proofs.DayLaws.{goes_same, goes_entry, since_more}
@@ -78,3 +78,13 @@ module _ {D : Type 0} (m : DiskMeaning D) (h next : History) (on : HasGoneOn h n
       subst (λ (es : List Entry). HasLog now.name (parts_of h.journal ++ map line_parts es) (m.seen new.disk)) is both in
       subst (λ (n : Name). HasLog n (parts_of next.journal) (m.seen new.disk)) (sym name)
       (subst (λ (es : List LineParts). HasLog now.name es (m.seen new.disk)) (parts_on h next on) since)
+
+  -- the log that would be too long with them
+  pub put_too_long : ((before : List LineParts) → HasLog now.name before (m.seen now.disk) → 2 ^ 64 ≤ length (log_of (before ++ map line_parts entries)))
+      → HasLog l.name (parts_of h.journal) (m.seen l.disk) → 2 ^ 64 ≤ length (log_of (parts_of next.journal))
+  put_too_long long logged =
+      let both : 2 ^ 64 ≤ length (log_of (parts_of h.journal ++ map line_parts entries)) =
+      long (parts_of h.journal) (subst (λ (x : LogValue D). HasLog x.name (parts_of h.journal) (m.seen x.disk)) (sym same) logged) in
+      let since : 2 ^ 64 ≤ length (log_of (parts_of h.journal ++ parts_of (entries_since h next))) =
+      subst (λ (es : List Entry). 2 ^ 64 ≤ length (log_of (parts_of h.journal ++ map line_parts es))) is both in
+      subst (λ (es : List LineParts). 2 ^ 64 ≤ length (log_of es)) (parts_on h next on) since

@@ -1,5 +1,5 @@
 -- The lines of a text, as they are typed.
-use Rattle.std.specs.Prelude.{◌≡◌, ◌≤◌, ◌<◌, ℕ, List, [], ◌∷◌, ◌++◌, length, ⊤, Option, Some, None, OnSome}
+use Rattle.std.specs.Prelude.{◌≡◌, ◌⊎◌, ◌≤◌, ◌<◌, ◌+◌, ◌^◌, ℕ, List, [], ◌∷◌, ◌++◌, length, ⊤, Option, Some, None, OnSome}
 use Rattle.std.specs.Io.KnownBytes.{IsAtEnd}
 use Rattle.station_lines.specs.Script.Lines.{BeginsWithLine}
 use Rattle.live_day.specs.declared.keyboard.Typed.{Typed}
@@ -44,3 +44,7 @@ pub record HasTyped (text rest : Option (List ℕ)) (typed typed_then : List Typ
 -- no more lines come, and of a text that was known nothing is left
 abbrev pub IsAllTyped : Type 0 → Option (List ℕ) → Option (List ℕ) → Type 0
 IsAllTyped ended text rest = ended × OnSome text (IsAtEnd rest)
+
+-- the lines can't be read: the keyboard has failed, or so many lines were typed that none is counted any more
+abbrev pub CanReadNoMore : Type 0 → List Typed → Type 0
+CanReadNoMore failed typed = failed ⊎ (2 ^ 64 ≤ length typed + 1)

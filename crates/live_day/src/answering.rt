@@ -1,9 +1,8 @@
 //! A typed line is obeyed: its answer is shown, where it is one of a script.
 
-ghost use Rattle.std.specs.Prelude.{◌≡◌, ◌↔◌, ◌≤◌, ◌<◌, List, length, take, true, false, IfOk, IfErr, IsErrAnd, IsErrOf, OnOk};
+ghost use Rattle.std.specs.Prelude.{◌≡◌, ◌↔◌, ◌≤◌, ◌<◌, List, length, take, true, false, IfOk, IfErr, IsErrAnd, OnErr, OnOk};
 ghost use Rattle.std.specs.List.{AllByRecursion};
-ghost use Rattle.live_log.specs.declared.faults.LogFault.TheVariants.{Closed};
-ghost use Rattle.live_day.specs.Faults.{IsOfLog};
+ghost use Rattle.live_day.specs.Faults.{IsDayFault, IsOfLog};
 ghost use Rattle.live_day.specs.Groups.{all_told_by, IsFrontObeyed, IsNoQuit};
 ghost use Rattle.live_day.specs.Sessions.{Told, AreObeyed, notice_told, IsWishTyped, TellsMore};
 ghost use Rattle.live_day.specs.Shows.{KeepsShown, MayBeSaid};
@@ -28,6 +27,7 @@ fn notify<D: DiskInPlace + Drop, S: Screen<D>>(
     requires said { MayBeSaid day.now.history notice }
     ensures told { OnOk result (TellsMore (S.shown screen.old) (S.shown screen.new) (notice_told station notice)) }
     ensures fault { IfErr result (λ fault. fault ≡ RunFault.Screen) }
+    ensures failed { OnErr result (S.has_failed screen.new) }
     ensures kept { KeepsShown D.meaning day.now day.now (S.shown screen.old) (S.shown screen.new) }
 {
     // For contracts alone: the journal is on the disk.
@@ -63,7 +63,7 @@ fn obey_front<D: DiskInPlace + Drop, S: Screen<D>>(
     ensures inside { IfOk result (λ front. front.station ≤ day.new.history.opened.stations) }
     ensures takes { OnOk result (day.new.takes ≡ true) }
     ensures stopped { IsErrAnd result IsOfLog ↔ (day.new.takes ≡ false) }
-    ensures open { ¬ IsErrOf result (RunFault.Log Closed) }
+    ensures fault { IfErr result (IsDayFault D.meaning (S.has_failed screen.new) ⊥ day.new.history) }
     ensures kept { KeepsShown D.meaning day.old day.new (S.shown screen.old) (S.shown screen.new) }
 {
     let front = day.lines(station, lines)?;
@@ -92,20 +92,18 @@ fn obey_some<D: DiskInPlace + Drop, S: Screen<D>>(
     ensures inside { IfOk result (λ done. done.1 ≤ day.new.history.opened.stations) }
     ensures takes { OnOk result (day.new.takes ≡ true) }
     ensures stopped { IsErrAnd result IsOfLog ↔ (day.new.takes ≡ false) }
-    ensures open { ¬ IsErrOf result (RunFault.Log Closed) }
+    ensures fault { IfErr result (IsDayFault D.meaning (S.has_failed screen.new) ⊥ day.new.history) }
     ensures kept { KeepsShown D.meaning day.old day.new (S.shown screen.old) (S.shown screen.new) }
 {
     let front = obey_front(day, screen, station, lines)?;
+    let Some(notice) = front.stopped else {
+        return Ok((front.count, front.station));
+    };
     if front.count > 0 {
         return Ok((front.count, front.station));
     }
-    match front.stopped {
-        Some(notice) => {
-            notify(day, screen, front.station, notice)?;
-            Ok((1, front.station))
-        }
-        None => Ok((0, front.station)),
-    }
+    notify(day, screen, front.station, notice)?;
+    Ok((1, front.station))
 }
 
 /// Obeys lines that are there together, none of them QUIT, and answers which station has the keyboard then.
@@ -125,7 +123,7 @@ pub(crate) fn obey_lines<D: DiskInPlace + Drop, S: Screen<D>>(
     ensures inside { IfOk result (λ next. next ≤ day.new.history.opened.stations) }
     ensures takes { OnOk result (day.new.takes ≡ true) }
     ensures stopped { IsErrAnd result IsOfLog ↔ (day.new.takes ≡ false) }
-    ensures open { ¬ IsErrOf result (RunFault.Log Closed) }
+    ensures fault { IfErr result (IsDayFault D.meaning (S.has_failed screen.new) ⊥ day.new.history) }
     ensures kept { KeepsShown D.meaning day.old day.new (S.shown screen.old) (S.shown screen.new) }
 {
     // For contracts alone: the journal is on the disk.

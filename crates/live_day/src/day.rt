@@ -11,9 +11,10 @@ ghost use Rattle.station_lines.specs.declared.script.line.Line.{Line as Meaning}
 ghost use Rattle.catalogue_core.specs.Status.{row};
 ghost use Rattle.station_lines.specs.AnswerLines.{line_of, status_text};
 ghost use Rattle.station_lines.specs.Script.Meaning.{Means};
-ghost use Rattle.live_log.specs.declared.faults.LogFault.TheVariants.{Closed, Failed};
+ghost use Rattle.live_log.specs.declared.faults.LogFault.TheVariants.{Failed};
 ghost use Rattle.live_log.specs.Logs.{HasLog};
 ghost use Rattle.live_day.specs.Days.{parts_of, AnswersLine, HasPerformedSince, HasPutSince, HasGoneOn, HasNoRoomFor, IsAnswerTold, IsLogged, IsUnperformed};
+ghost use Rattle.live_day.specs.Faults.{IsGroupFault};
 ghost use Rattle.live_day.specs.Groups.{IsFrontObeyed, IsNoQuit};
 ghost use Rattle.live_day.specs.Sessions.{MeansTyped};
 ghost use Rattle.live_day.specs.Waiting.{IsWaiting};
@@ -188,7 +189,8 @@ impl<D: DiskInPlace + Drop> Day<D> {
         ensures durable { D.meaning.keeps_promises → OnOk result (IsSyncedDisk D.meaning self.new.log.disk) }
         ensures name { self.new.log.name ≡ self.old.log.name }
         ensures ended { OnErr result (self.new.takes ≡ false) }
-        ensures open { ¬ IsErrOf result Closed }
+        // No earlier group has failed; and the log is called too long only where it is.
+        ensures fault { IfErr result (IsGroupFault D.meaning self.new.history) }
         ensures others { SameBut self.old.log.name (D.meaning.seen self.old.log.disk) (D.meaning.seen self.new.log.disk) }
         // A crash at any moment leaves the log of the journal as it was, with the entries of the group or without them.
         ensures any_moment { D.meaning.keeps_promises → LeavesOnly D.meaning self.old.log.disk self.new.log.disk

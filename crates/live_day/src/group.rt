@@ -1,8 +1,7 @@
 //! Lines that are there together are performed one after another, before the entries of all are put to the log as one group.
 
-ghost use Rattle.std.specs.Prelude.{◌≡◌, ◌≤◌, false, List, Ok, None, IfErr, IfOk, IfSome, OnOk, OnErr, IsErrOf};
+ghost use Rattle.std.specs.Prelude.{◌≡◌, ◌≤◌, false, List, Ok, None, IfErr, IfOk, IfSome, OnOk, OnErr};
 ghost use Rattle.std.specs.List.{AllByRecursion};
-ghost use Rattle.live_log.specs.declared.faults.LogFault.TheVariants.{Closed, Failed};
 ghost use Rattle.live_day.specs.Days.{HasPerformedSince};
 ghost use Rattle.live_day.specs.Groups.{HasMade, IsFrontObeyed, IsNoQuit, WaitsToTell};
 ghost use Rattle.live_day.specs.Sessions.{Told, IsLineAnswered, IsLineRefused};
@@ -49,8 +48,7 @@ fn perform_waiting<D: DiskInPlace + Drop>(
     ensures waiting { OnOk result (AllByRecursion (IsWaiting day.new.history) answers.new.items) }
     ensures since { HasPerformedSince day.old day.new }
     ensures ended { OnErr result (day.new.takes ≡ false) }
-    ensures no_disk { ¬ IsErrOf result Failed }
-    ensures open { ¬ IsErrOf result Closed }
+    ensures fault { IfErr result (λ fault. fault ≡ LogFault.NoMemory) }
 {
     let Ok(()) = answers.reserve(1) else {
         return Ok(Some(Notice::NoMemory));
@@ -90,8 +88,7 @@ fn obey_waiting<D: DiskInPlace + Drop>(
     ensures waiting { OnOk result (AllByRecursion (IsWaiting day.new.history) answers.new.items) }
     ensures since { HasPerformedSince day.old day.new }
     ensures ended { OnErr result (day.new.takes ≡ false) }
-    ensures no_disk { ¬ IsErrOf result Failed }
-    ensures open { ¬ IsErrOf result Closed }
+    ensures fault { IfErr result (λ fault. fault ≡ LogFault.NoMemory) }
 {
     match wish_typed(typed) {
         Wish::Station(wanted) => {
@@ -126,8 +123,7 @@ pub(crate) fn perform_front<D: DiskInPlace + Drop>(
     ensures inside { IfOk result (λ front. front.station ≤ day.new.history.opened.stations) }
     ensures since { HasPerformedSince day.old day.new }
     ensures ended { OnErr result (day.new.takes ≡ false) }
-    ensures no_disk { ¬ IsErrOf result Failed }
-    ensures open { ¬ IsErrOf result Closed }
+    ensures fault { IfErr result (λ fault. fault ≡ LogFault.NoMemory) }
 {
     let mut answers = Vec::new(alloc);
     let mut count = 0;

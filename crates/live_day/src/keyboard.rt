@@ -1,8 +1,9 @@
 //! Where the lines of a day come from.
 
-ghost use Rattle.std.specs.Prelude.{◌≡◌, ◌++◌, ◌∷◌, [], ℕ, List, Option, None, Ok, IfOk, IfSome, OnErr};
+ghost use Rattle.std.specs.Prelude.{◌≡◌, ◌++◌, ◌∷◌, [], ℕ, List, Option, None, Ok, IfOk, IfSome, IsErrOf, OnErr};
 ghost use Rattle.live_day.specs.Typing.{TypesNext};
 ghost use Rattle.live_day.specs.declared.keyboard.Typed.{Typed as TypedLine};
+ghost use Rattle.live_day.specs.declared.keyboard.TypingFault.TheVariants.{Failed};
 
 use byte_io::Bytes;
 use std::alloc::{AllocError, Global};
@@ -47,6 +48,9 @@ pub trait Keyboard {
     // no more lines come
     ghost has_ended: { Self → Type 0 };
 
+    // a line could not be read
+    ghost has_failed: { Self → Type 0 };
+
     // the text that is still to be read, where it is known
     ghost text_left: { Self → Option (List ℕ) };
 
@@ -55,6 +59,7 @@ pub trait Keyboard {
         ensures typed { IfOk result (λ next. IfSome next (λ line. typed self.new ≡ typed self.old ++ line ∷ [])) }
         ensures end { result ≡ Ok None → (typed self.new ≡ typed self.old) × has_ended self.new }
         ensures unread { OnErr result (typed self.new ≡ typed self.old) }
+        ensures failed { IsErrOf result Failed → has_failed self.new }
         // It is the first line of the text that is left, and that goes on after it; and none comes only where nothing is left.
         ensures text { IfOk result (λ next. TypesNext (text_left self.old) next (text_left self.new)) };
 

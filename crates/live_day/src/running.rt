@@ -1,11 +1,10 @@
 //! The lines of a day are answered as they come.
 
-ghost use Rattle.std.specs.Prelude.{◌≡◌, ◌↔◌, ◌≤◌, true, false, IsErrAnd, IsErrOf, OnOk};
-ghost use Rattle.live_log.specs.declared.faults.LogFault.TheVariants.{Closed};
-ghost use Rattle.live_day.specs.Faults.{IsOfLog};
+ghost use Rattle.std.specs.Prelude.{◌≡◌, ◌↔◌, ◌≤◌, true, false, IfErr, IsErrAnd, OnOk};
+ghost use Rattle.live_day.specs.Faults.{IsDayFault, IsOfLog};
 ghost use Rattle.live_day.specs.Sessions.{IsDayRun};
 ghost use Rattle.live_day.specs.Shows.{KeepsShown};
-ghost use Rattle.live_day.specs.Typing.{IsAllTyped, HasTyped};
+ghost use Rattle.live_day.specs.Typing.{IsAllTyped, CanReadNoMore, HasTyped};
 
 use crate::answering::obey_lines;
 use crate::day::Day;
@@ -37,8 +36,8 @@ pub fn run_day<D: DiskInPlace + Drop, S: Screen<D>, K: Keyboard>(
     ensures takes { OnOk result (day.new.takes ≡ true) }
     // The day takes no more lines where one was performed whose entry may not be in the log, and only then this is said.
     ensures stopped { IsErrAnd result IsOfLog ↔ (day.new.takes ≡ false) }
-    // No earlier group has failed.
-    ensures open { ¬ IsErrOf result (RunFault.Log Closed) }
+    // It is said why: the log is called too long only where it is, the screen or the keyboard to have failed only where it has.
+    ensures fault { IfErr result (IsDayFault D.meaning (S.has_failed screen.new) (CanReadNoMore (K.has_failed keyboard.new) (K.typed keyboard.new)) day.new.history) }
     // Nothing that was shown is lost, and a crash at any moment leaves a log of the journal's first entries.
     ensures kept { KeepsShown D.meaning day.old day.new (S.shown screen.old) (S.shown screen.new) }
 {

@@ -1,9 +1,10 @@
 //! The lines that are there together are read.
 
-ghost use Rattle.std.specs.Prelude.{◌≡◌, ◌<◌, ◌++◌, ◌∷◌, [], true, false, vec_capacity, vec_len, Some, None, IfSome};
+ghost use Rattle.std.specs.Prelude.{◌≡◌, ◌≢◌, ◌<◌, ◌++◌, ◌∷◌, [], length, true, false, vec_capacity, vec_len, Some, None, IfSome};
 ghost use Rattle.std.specs.List.{AllByRecursion};
 ghost use Rattle.live_day.specs.declared.keyboard.Typed.{Typed as TypedLine};
-ghost use Rattle.live_day.specs.declared.typing.Then.TheVariants.{More};
+ghost use Rattle.live_day.specs.declared.keyboard.TypingFault.TheVariants as of_typing;
+ghost use Rattle.live_day.specs.declared.typing.Then.TheVariants.{More, Failed};
 ghost use Rattle.live_day.specs.declared.wish.Wish.TheVariants.{Quit};
 ghost use Rattle.live_day.specs.Groups.{IsGroupTyped, IsNoQuit};
 ghost use Rattle.live_day.specs.Sessions.{IsWishTyped};
@@ -66,6 +67,8 @@ fn read_next<K: Keyboard>(
     requires room { vec_len lines.old < vec_capacity lines.old }
     ensures line { result ≡ None → (typed : TypedLine) × (lines.new.items ≡ lines.old.items ++ typed ∷ []) × IsNoQuit typed
         × (K.typed keyboard.new ≡ K.typed keyboard.old ++ typed ∷ []) × TypesNext (K.text_left keyboard.old) (Some typed) (K.text_left keyboard.new) }
+    ensures over { IfSome result (λ then. then ≢ More) }
+    ensures failed { result ≡ Some (Failed of_typing.Failed) → K.has_failed keyboard.new }
     ensures end { IfSome result (λ then. (lines.new.items ≡ lines.old.items)
         × IsGroupTyped (K.has_ended keyboard.new) (K.text_left keyboard.old) (K.text_left keyboard.new) (K.typed keyboard.old) (K.typed keyboard.new) [] then) }
 {
@@ -87,6 +90,8 @@ pub(crate) fn read_group<K: Keyboard>(alloc: Global, keyboard: &mut K, station: 
     ensures no_quit { AllByRecursion IsNoQuit result.lines.items }
     ensures read { IsGroupTyped (K.has_ended keyboard.new) (K.text_left keyboard.old) (K.text_left keyboard.new)
         (K.typed keyboard.old) (K.typed keyboard.new) result.lines.items result.then }
+    ensures some { result.then ≡ More → 0 < length result.lines.items }
+    ensures failed { result.then ≡ Failed of_typing.Failed → K.has_failed keyboard.new }
 {
     let mut lines = Vec::new(alloc);
     let Ok(()) = lines.reserve(1) else {

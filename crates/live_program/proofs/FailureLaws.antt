@@ -1,6 +1,8 @@
 -- Why a life failed, as its parts say it.
-use Rattle.std.proofs.Common.{◌≡◌, ◌∙◌, Bool, true, List, ℕ, Option, Some, Result, Ok, Err, refl, sym, ap, subst, inl, inr}
-use Rattle.std.specs.Prelude.{⊤, IfErr, IsErr, IsErrAnd, IsErrOf}
+use Rattle.std.proofs.Common.{◌≡◌, ◌∙◌, ◌∷◌, ◌++◌, Bool, true, List, ℕ, Option, Some, Result, Ok, Err, refl, sym, ap, arith, subst, inl, inr}
+use Rattle.std.specs.Prelude.{⊤, IfErr, IsErr, IsErrAnd}
+use Rattle.std.specs.List.{Contains}
+use Rattle.std.proofs.lemmas.List.Elements.{Contains-append_right}
 use Rattle.catalogue_core.specs.Replay.{History, Opened}
 use Rattle.dbf_fields.specs.declared.day.Day.{Day}
 use Rattle.files_in_place.specs.declared.faults.SetFault.{SetFault}
@@ -8,21 +10,21 @@ use Rattle.files_in_place.specs.declared.faults.SetFault.TheVariants as set
 use Rattle.files_in_place.specs.Disk.{DiskMeaning}
 use Rattle.files_in_place.specs.Folder.{recovered}
 use Rattle.folders.specs.declared.named.NamedFile.{NamedFile}
+use Rattle.office_run.specs.TablesWritten.{IsCutTables}
 use Rattle.office_run.specs.WholeRun.{IsReadFault}
+use Rattle.office_run.specs.declared.close_fault.CloseFault.TheVariants as close
 use Rattle.office_run.specs.declared.fault.ServeFault.{ServeFault}
 use Rattle.office_run.specs.declared.fault.ServeFault.TheVariants as serve
 use Rattle.program_frame.specs.Jobs.{given_up}
 use Rattle.program_frame.specs.declared.ending.Failure.TheVariants as failure
 use Rattle.live_day.specs.declared.run_fault.RunFault.{RunFault}
-use Rattle.live_day.specs.declared.run_fault.RunFault.TheVariants.{Log}
 use Rattle.live_day.specs.declared.start_fault.StartFault.{StartFault}
-use Rattle.live_log.specs.declared.faults.LogFault.TheVariants.{Closed}
 use Rattle.live_day.specs.Starts.{IsLogFault}
 use Rattle.live_log.specs.Gates.{or_empty_log}
 use Rattle.open_day.specs.OpenDay.{log_name}
 use Rattle.program_frame.specs.Placing.{IsRecovered}
 use Rattle.live_program.specs.Endings.{no_memory, run_failure}
-use Rattle.live_program.specs.Failures.{IsDayFailure, IsStopFailure, IsToldOf, IsUnstarted}
+use Rattle.live_program.specs.Failures.{IsDayFailure, IsFileUnwritten, IsStopFailure, IsTableNamed, IsToldOf, IsUnstarted}
 use Rattle.live_program.specs.declared.failure.LiveFailure.{LiveFailure}
 use Rattle.live_program.specs.declared.failure.LiveFailure.TheVariants as live
 use Rattle.live_program.specs.declared.options.Options.{Options}
@@ -51,8 +53,24 @@ pub given_up_as : (h : History) (today : Day) (b : Bool) (last : Option SetFault
 given_up_as h today b last why told is failure = subst (IsDayFailure h today) (sym is) (given_up_day h today b last why failure)
 
 -- the lines of a day were not all answered
-pub stop_failed : (r : Result ⊤ RunFault) (fault : RunFault) (why : LiveFailure) → r ≡ Err fault → (IsErrOf r (Log Closed) → ⊥) → why ≡ run_failure fault → IsStopFailure why
-stop_failed r fault why was never is = (fault, (λ e. never (was ∙ ap (λ (f : RunFault). Err f) e)), is)
+pub stop_failed : (is_told : RunFault → Type 0) (r : Result ⊤ RunFault) (fault : RunFault) (why : LiveFailure) → r ≡ Err fault → IfErr r is_told → why ≡ run_failure fault
+    → IsStopFailure is_told why
+stop_failed is_told r fault why was told is = (fault, subst (λ x. IfErr x is_told) was told, is)
+
+-- a file of a table or an index that was not taken
+pub table_named : (h : History) (today : Day) (old new : Option (List ℕ)) (fault : ServeFault) → IsCutTables h today old new fault → IsTableNamed h today fault
+table_named h today old new (serve.Close (close.Write name)) cut =
+    let at = cut.2 in
+    let file : NamedFile = record { name = name; bytes = at.bytes } in
+    let among : Contains (at.before ++ file ∷ at.others) file = Contains-append_right at.before (file ∷ at.others) file (0, omega arith, refl) in
+    (cut.0, cut.1, (at.bytes, subst (λ (files : List NamedFile). Contains files file) (sym at.order) among))
+table_named h today old new fault cut = tt
+
+-- a file of another name is one of these too
+pub unwritten_on : (is_such is_so : List ℕ → Type 0) (fault : ServeFault) → ((name : List ℕ) → is_such name → is_so name) → IsFileUnwritten is_such fault → IsFileUnwritten is_so fault
+unwritten_on is_such is_so serve.NoMemory on is = tt
+unwritten_on is_such is_so (serve.Close (close.Write name)) on is = on name is
+unwritten_on is_such is_so fault on is = absurd is
 
 -- the tables are not opened
 pub unopened_tables : (told : Opened → StartFault → Type 0) (files : Option (List NamedFile)) (options : Options) (fault : ServeFault) → IsReadFault files options.setup.now fault

@@ -16,11 +16,12 @@ abbrev pub typed_of_numbers : List ℕ → Typed
 typed_of_numbers [] = TooLong
 typed_of_numbers (n ∷ line) = Text line
 
--- What contracts see of typed lines: where they are read, what was typed, and whether no more come.
+-- What contracts see of typed lines: where they are read, what was typed, whether no more come, and whether one could not be read.
 pub record TypedValue (R : Type 0) : Type 0 where
   pub reader : R
   pub typed : List Typed
   pub ended : Bool
+  pub failed : Bool
 
 -- a line that was shown: the moment, the count, the station, and its bytes
 abbrev pub numbers_of_shown : ShownLine → List ℕ
@@ -30,10 +31,11 @@ abbrev pub shown_of_numbers : List ℕ → ShownLine
 shown_of_numbers (moment ∷ (count ∷ (station ∷ line))) = record { moment = moment; count = count; station = station; line = line }
 shown_of_numbers other = record { moment = 0; count = 0; station = 0; line = [] }
 
--- What contracts see of printed answers: the writer that they are printed by, and what was shown.
+-- What contracts see of printed answers: the writer that they are printed by, what was shown, and whether a line may not be.
 pub record PrintedValue (W : Type 0) : Type 0 where
   pub out : W
   pub shown : List ShownLine
+  pub failed : Bool
 
 -- a line as it is printed, its LF too
 abbrev pub shown_text : List ℕ → List ℕ

@@ -1,5 +1,6 @@
 -- Why a life of the program failed.
-use Rattle.std.specs.Prelude.{◌≡◌, ◌≢◌, ◌⊎◌, List, ℕ, Option}
+use Rattle.std.specs.Prelude.{◌≡◌, ◌⊎◌, ◌≤◌, List, ℕ, Option}
+use Rattle.std.specs.List.{Contains}
 use Rattle.catalogue_core.specs.Replay.{History, IsLegal, Opened}
 use Rattle.clap.specs.Words.{Text}
 use Rattle.dbf_fields.specs.declared.day.Day.{Day}
@@ -10,12 +11,13 @@ use Rattle.folders.specs.declared.finish_fault.FinishFault.{FinishFault}
 use Rattle.folders.specs.declared.named.NamedFile.{NamedFile}
 use Rattle.live_day.specs.Starts.{IsLogFault}
 use Rattle.live_day.specs.declared.run_fault.RunFault.{RunFault}
-use Rattle.live_day.specs.declared.run_fault.RunFault.TheVariants.{Log}
 use Rattle.live_day.specs.declared.start_fault.StartFault.{StartFault}
 use Rattle.live_log.specs.Gates.{or_empty_log}
-use Rattle.live_log.specs.declared.faults.LogFault.TheVariants.{Closed}
-use Rattle.office_run.specs.TablesWritten.{IsTablesFault}
+use Rattle.office_run.specs.Closing.{answer_name}
+use Rattle.office_run.specs.HandedOver.{AreHandedOver}
+use Rattle.office_run.specs.TablesWritten.{dated_files, IsTablesFault}
 use Rattle.office_run.specs.declared.close_fault.CloseFault.TheVariants.{Write}
+use Rattle.office_run.specs.declared.closed.ClosedTable.{ClosedTable}
 use Rattle.office_run.specs.declared.fault.ServeFault.{ServeFault}
 use Rattle.office_run.specs.declared.fault.ServeFault.TheVariants.{Close, NoMemory}
 use Rattle.open_day.specs.OpenDay.{log_name}
@@ -64,23 +66,41 @@ IsToldOf m folder opened fault = m.keeps_promises → IsLogFault opened (or_empt
 
 -- ---- a day that was begun
 
--- its lines were not all answered; never does an earlier group have failed
-abbrev pub IsStopFailure : LiveFailure → Type 0
-IsStopFailure why = (fault : RunFault) × (fault ≢ Log Closed) × (why ≡ run_failure fault)
+-- its lines were not all answered, for a fault of which this says when it is told
+abbrev pub IsStopFailure : (RunFault → Type 0) → LiveFailure → Type 0
+IsStopFailure is_told why = (fault : RunFault) × is_told fault × (why ≡ run_failure fault)
 
--- memory was refused, or the folder has not taken a file
-abbrev pub IsFileUnwritten : ServeFault → Type 0
-IsFileUnwritten NoMemory = Unit {0}
-IsFileUnwritten (Close (Write name)) = Unit {0}
-IsFileUnwritten fault = ⊥
+-- memory was refused, or the folder has not taken a file, whose name is such a one
+abbrev pub IsFileUnwritten : (List ℕ → Type 0) → ServeFault → Type 0
+IsFileUnwritten is_such NoMemory = Unit {0}
+IsFileUnwritten is_such (Close (Write name)) = is_such name
+IsFileUnwritten is_such fault = ⊥
+
+-- the name is that of the answers of one of so many stations
+abbrev pub IsAnswerName : ℕ → List ℕ → Type 0
+IsAnswerName stations name = (station : ℕ) × (1 ≤ station) × (station ≤ stations) × (name ≡ answer_name station)
+
+-- or that of the log
+abbrev pub IsNameBeside : ℕ → List ℕ → Type 0
+IsNameBeside stations name = IsAnswerName stations name ⊎ (name ≡ log_name)
+
+-- one of these files has the name
+abbrev pub IsNameAmong : List NamedFile → List ℕ → Type 0
+IsNameAmong files name = (bytes : List ℕ) × Contains files (record { name = name; bytes = bytes })
+
+-- a file that the folder has not taken is one of the tables and their indexes
+abbrev pub IsTableNamed : History → Day → ServeFault → Type 0
+IsTableNamed h today (Close (Write name)) = (tables : List ClosedTable) × AreHandedOver h tables × IsNameAmong (dated_files today tables) name
+IsTableNamed h today fault = Unit {0}
 
 -- the tables can't be written as they stand at the end of a legal journal
 abbrev pub IsTableFault : History → Day → ServeFault → Type 0
-IsTableFault h today fault = IsLegal h.opened h.journal × IsTablesFault h today.year fault
+IsTableFault h today fault = IsLegal h.opened h.journal × IsTablesFault h today.year fault × IsTableNamed h today fault
 
 -- the files of its end are not written, or not all
 abbrev pub IsDayFailure : History → Day → LiveFailure → Type 0
-IsDayFailure h today why = (fault : ServeFault) × (IsFileUnwritten fault ⊎ IsTableFault h today fault) × (why ≡ live.Serve fault)
+IsDayFailure h today why =
+    (fault : ServeFault) × (IsFileUnwritten (IsNameBeside h.opened.stations) fault ⊎ IsTableFault h today fault) × (why ≡ live.Serve fault)
 
 -- they are, but have not got their places
 abbrev pub AreFilesUnplaced : Failure LiveFailure → Type 0
@@ -91,42 +111,46 @@ abbrev pub IsUnclosed : History → Day → Failure LiveFailure → Type 0
 IsUnclosed h today why = ((fault : LiveFailure) × IsDayFailure h today fault × (why ≡ failure.Work fault)) ⊎ AreFilesUnplaced why
 
 -- it was stopped or not closed
-abbrev pub IsUnended : History → Day → Failure LiveFailure → Type 0
-IsUnended h today why = ((stop : LiveFailure) × IsStopFailure stop × (why ≡ failure.Work stop)) ⊎ IsUnclosed h today why
+abbrev pub IsUnended : (RunFault → Type 0) → History → Day → Failure LiveFailure → Type 0
+IsUnended is_told h today why = ((stop : LiveFailure) × IsStopFailure is_told stop × (why ≡ failure.Work stop)) ⊎ IsUnclosed h today why
 
 -- ---- a life
 
--- a day on these tables was begun, and this is why it has not come to its end
-abbrev pub IsUnendedFrom : Opened → Day → Failure LiveFailure → Type 0
-IsUnendedFrom opened today why = (last : History) × (last.opened ≡ opened) × IsUnended last today why
+-- A day on these tables was begun, and this is why it has not come to its end; where its lines were not all answered, this says when the
+-- fault is told at the journal's end.
+abbrev pub IsUnendedFrom : (History → RunFault → Type 0) → Opened → Day → Failure LiveFailure → Type 0
+IsUnendedFrom is_told opened today why = (last : History) × (last.opened ≡ opened) × IsUnended (is_told last) last today why
 
 -- a day on the setup's tables
-abbrev pub IsUnendedOn : Option (List NamedFile) → Options → Failure LiveFailure → Type 0
-IsUnendedOn files options why =
-    (opened : Opened) × AreTablesOpened files options.setup.now options.reindex opened × IsUnendedFrom opened options.today why
+abbrev pub IsUnendedOn : (History → RunFault → Type 0) → Option (List NamedFile) → Options → Failure LiveFailure → Type 0
+IsUnendedOn is_told files options why =
+    (opened : Opened) × AreTablesOpened files options.setup.now options.reindex opened × IsUnendedFrom is_told opened options.today why
 
 -- a life over the folder of a disk failed: the folder was not recovered, the day was not begun, or has not come to its end
-abbrev pub IsLifeFailure : {D : Type 0} → DiskMeaning D → Option (List NamedFile) → Options → D → Failure LiveFailure → Type 0
-IsLifeFailure m files options disk why =
+abbrev pub IsLifeFailure : {D : Type 0} → DiskMeaning D → (History → RunFault → Type 0) → Option (List NamedFile) → Options → D
+    → Failure LiveFailure → Type 0
+IsLifeFailure m is_told files options disk why =
     IsUnbegun no_memory why
     ⊎ ((fault : LiveFailure) × IsUnstarted (IsToldOf m (recovered (m.seen disk))) files options fault × (why ≡ failure.Work fault))
-    ⊎ IsUnendedOn files options why
+    ⊎ IsUnendedOn is_told files options why
 
 -- or its folder was not opened
-abbrev pub IsOptionsFailure : {D : Type 0} → DiskMeaning D → (D → Type 0) → Option (List NamedFile) → Options → Failure LiveFailure → Type 0
-IsOptionsFailure {D} m is_opened files options why =
+abbrev pub IsOptionsFailure : {D : Type 0} → DiskMeaning D → (D → Type 0) → (History → RunFault → Type 0) → Option (List NamedFile) → Options
+    → Failure LiveFailure → Type 0
+IsOptionsFailure {D} m is_opened is_told files options why =
     ((fault : PlaceFault) × IsOfLock fault × (why ≡ place_failure no_memory fault))
-    ⊎ ((disk : D) × is_opened disk × IsLifeFailure m files options disk why)
+    ⊎ ((disk : D) × is_opened disk × IsLifeFailure m is_told files options disk why)
 
 -- the words of a command line ask for a life that failed
-pub record IsAskedFailure {D : Type 0} (m : DiskMeaning D) (opens : List ℕ → D → Type 0) (files : Option (List NamedFile)) (words : List Text)
-    (end : Ending (Failure LiveFailure)) : Type 0 where
+pub record IsAskedFailure {D : Type 0} (m : DiskMeaning D) (opens : List ℕ → D → Type 0) (is_told : History → RunFault → Type 0)
+    (files : Option (List NamedFile)) (words : List Text) (end : Ending (Failure LiveFailure)) : Type 0 where
   pub options : Options
   pub asked : IsAskedIn words options
   pub why : Failure LiveFailure
-  pub failed : IsOptionsFailure m (opens options.out.now) files options why
+  pub failed : IsOptionsFailure m (opens options.out.now) is_told files options why
   pub end_is : end ≡ ending.Failed why
 
 -- why there was no life that came to its end: the words were not read, or ask for one that failed
-abbrev pub IsWhyUnlived : {D : Type 0} → DiskMeaning D → (List ℕ → D → Type 0) → Option (List NamedFile) → List Text → Ending (Failure LiveFailure) → Type 0
-IsWhyUnlived m opens files words end = IsWhyNotRead words end ⊎ IsAskedFailure m opens files words end
+abbrev pub IsWhyUnlived : {D : Type 0} → DiskMeaning D → (List ℕ → D → Type 0) → (History → RunFault → Type 0) → Option (List NamedFile) → List Text
+    → Ending (Failure LiveFailure) → Type 0
+IsWhyUnlived m opens is_told files words end = IsWhyNotRead words end ⊎ IsAskedFailure m opens is_told files words end

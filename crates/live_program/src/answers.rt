@@ -6,25 +6,24 @@ ghost use Rattle.std.specs.List.{AllByRecursion};
 ghost use Rattle.byte_io.specs.Sink.{grown};
 ghost use Rattle.folders.specs.Files.{listing, IsOfBytes};
 ghost use Rattle.office_run.specs.Closing.{answer_name as name_of_answers};
-ghost use Rattle.live_program.specs.Failures.{IsFileUnwritten};
+ghost use Rattle.live_program.specs.Failures.{IsAnswerName, IsFileUnwritten};
 ghost use Rattle.live_program.specs.Closings.{answer_files_of, answers_in, own_line, file_of_bytes};
 
 use byte_io::{Bytes, SinkFault, write_all};
 use catalogue_core::Entry;
 use folders::Folder;
 use office_run::{CloseFault, ServeFault};
-use station_lines::{LF, answer_line};
+use station_lines::{LF, append_answer};
 use std::alloc::{AllocError, Global};
 
 // Adds the line of an entry's answer, where the entry is the station's.
-fn add_own(alloc: Global, text: &mut Vec<u8>, entry: &Entry, station: u32) -> Result<(), AllocError>
+fn add_own(text: &mut Vec<u8>, entry: &Entry, station: u32) -> Result<(), AllocError>
     ensures added { OnOk result (text.new.items ≡ text.old.items ++ own_line station entry.now) }
 {
     if entry.station != station {
         return Ok(());
     }
-    let line = answer_line(alloc, &entry.answer)?;
-    text.extend_from_slice(line.as_slice())?;
+    append_answer(text, &entry.answer)?;
     text.push(LF)?;
     Ok(())
 }
@@ -35,7 +34,7 @@ fn answers_of(alloc: Global, journal: &[Entry], station: u32) -> Result<Bytes, A
 {
     let mut text = Vec::new(alloc);
     for entry in journal {
-        add_own(alloc, &mut text, entry, station)?;
+        add_own(&mut text, entry, station)?;
     }
     Ok(Bytes::from_vec(text))
 }
@@ -65,7 +64,7 @@ pub(crate) fn write_file<F: Folder>(
     bytes: &[u8],
 ) -> Result<(), ServeFault>
     ensures wrote { OnOk result (F.written folder.new ≡ grown (F.written folder.old) (listing (file_of_bytes name bytes.now))) }
-    ensures fault { IfErr result IsFileUnwritten }
+    ensures fault { IfErr result (IsFileUnwritten (λ unwritten. unwritten ≡ name)) }
     ensures no_failure { OnOk result (F.failures folder.new ≡ F.failures folder.old) }
     ensures bytes { OnOk result (AllByRecursion IsOfBytes (file_of_bytes name bytes.now)) }
 {
@@ -84,7 +83,7 @@ fn write_station<F: Folder>(
 ) -> Result<(), ServeFault>
     ensures wrote { OnOk result (F.written folder.new
         ≡ grown (F.written folder.old) (listing (file_of_bytes (name_of_answers station) (answers_in station journal.now)))) }
-    ensures fault { IfErr result IsFileUnwritten }
+    ensures fault { IfErr result (IsFileUnwritten (λ unwritten. unwritten ≡ name_of_answers station)) }
     ensures no_failure { OnOk result (F.failures folder.new ≡ F.failures folder.old) }
     ensures bytes { OnOk result (AllByRecursion IsOfBytes (file_of_bytes (name_of_answers station) (answers_in station journal.now))) }
 {
@@ -100,7 +99,7 @@ pub(crate) fn write_answers<F: Folder>(
     folder: &mut F,
 ) -> Result<(), ServeFault>
     ensures wrote { OnOk result (F.written folder.new ≡ grown (F.written folder.old) (listing (answer_files_of stations journal.now))) }
-    ensures fault { IfErr result IsFileUnwritten }
+    ensures fault { IfErr result (IsFileUnwritten (IsAnswerName stations)) }
     ensures no_failure { OnOk result (F.failures folder.new ≡ F.failures folder.old) }
     ensures bytes { OnOk result (AllByRecursion IsOfBytes (answer_files_of stations journal.now)) }
 {

@@ -21,7 +21,7 @@ use dbf_fields::Day;
 use files_in_place::{Disk, SetFault};
 use folders::{DiskFolder, FinishFault, Folder, Origin};
 use live_log::empty_log;
-use office_run::{CloseFault, ServeFault, write_tables};
+use office_run::{CloseFault, ServeFault, put_tables};
 use open_day::LOG_NAME;
 use program_frame::{Failure, FolderFault, PlaceFault, Reason};
 use std::alloc::{AllocError, Global};
@@ -47,7 +47,7 @@ fn write_day<F: Folder>(
     ensures no_failure { OnOk result (F.failures folder.new ≡ F.failures folder.old) }
 {
     let journal = catalogue.journal();
-    let _ = write_tables(alloc, catalogue, today, folder)?;
+    put_tables(alloc, catalogue, today, folder)?;
     write_answers(alloc, journal, catalogue.station_count(), folder)?;
     let log = empty_log(alloc)?;
     write_file(folder, log_file_name(alloc)?, log.as_slice())?;

@@ -1,6 +1,6 @@
 //! Lines that are typed, and answers that are printed.
 
-ghost use Rattle.std.specs.Prelude.{◌≡◌, ◌⊎◌, ◌<◌, ◌+◌, ◌++◌, ◌∷◌, [], ℕ, List, Option, false, length, map, OnErr, OnOk};
+ghost use Rattle.std.specs.Prelude.{◌≡◌, ◌⊎◌, ◌<◌, ◌+◌, ◌++◌, ◌∷◌, [], ℕ, List, Option, true, false, length, map, OnErr, OnOk};
 ghost use Rattle.std.specs.Io.KnownBytes.{Appends};
 ghost use Rattle.live_day.specs.Shows.{shown_now};
 ghost use Rattle.live_day.specs.Waiting.{all_shown_after, ShowsFront};
@@ -37,9 +37,10 @@ pub struct TypedLines<R: BufRead + Drop, P: Write + Drop> {
     prompt: Option<P>,
     // Whether a further whole line is in the reader's buffer.
     has_more: bool,
-    // What was typed, and whether it has ended, for contracts.
+    // What was typed, whether it has ended, and whether a line could not be read, for contracts.
     typed: NumberLists,
     ended: bool,
+    failed: bool,
 }
 
 impl<R: BufRead + Drop, P: Write + Drop> Model for TypedLines<R, P> {
@@ -48,7 +49,7 @@ impl<R: BufRead + Drop, P: Write + Drop> Model for TypedLines<R, P> {
 
     ghost Value = { What R };
 
-    ghost view = { λ k. record { reader = k.reader; typed = map typed_of_numbers k.typed; ended = k.ended } };
+    ghost view = { λ k. record { reader = k.reader; typed = map typed_of_numbers k.typed; ended = k.ended; failed = k.failed } };
 }
 
 impl<R: BufRead + Drop, P: Write + Drop> TypedLines<R, P> {
@@ -57,6 +58,7 @@ impl<R: BufRead + Drop, P: Write + Drop> TypedLines<R, P> {
         ensures reader { result.reader ≡ reader }
         ensures untyped { result.typed ≡ [] }
         ensures open { result.ended ≡ false }
+        ensures unfailed { result.failed ≡ false }
     {
         TypedLines {
             reader,
@@ -64,6 +66,7 @@ impl<R: BufRead + Drop, P: Write + Drop> TypedLines<R, P> {
             has_more: false,
             typed: NumberLists::empty(),
             ended: false,
+            failed: false,
         }
     }
 
@@ -84,20 +87,27 @@ impl<R: BufRead + Drop, P: Write + Drop> Keyboard for TypedLines<R, P> {
 
     ghost has_ended = { λ k. k.ended ≡ true };
 
+    ghost has_failed = { λ k. k.failed ≡ true };
+
     ghost text_left = { λ k. R.remaining k.reader };
 
     #[tactic(auto, using(crate::proofs::ConsoleLaws::typed_more))]
     fn next_line(&mut self, alloc: Global, station: u32) -> Result<Option<Typed>, TypingFault> {
         self.ask(station);
-        match read_line(alloc, &mut self.reader, &mut self.has_more)? {
-            Some(typed) => {
+        match read_line(alloc, &mut self.reader, &mut self.has_more) {
+            Ok(Some(typed)) => {
                 self.typed.push(&typed);
                 Ok(Some(typed))
             }
-            None => {
+            Ok(None) => {
                 self.ended = true;
                 Ok(None)
             }
+            Err(TypingFault::Failed) => {
+                self.failed = true;
+                Err(TypingFault::Failed)
+            }
+            Err(TypingFault::NoMemory) => Err(TypingFault::NoMemory),
         }
     }
 
@@ -140,8 +150,9 @@ impl<'a, D: DiskInPlace + Drop> Numbered for ShowingAfter<'a, D> {
 #[derive(Drop)]
 pub struct PrintedAnswers<W: Write + Drop> {
     out: W,
-    // What was shown, for contracts.
+    // What was shown, and whether a line may not be, for contracts.
     shown: NumberLists,
+    failed: bool,
 }
 
 impl<W: Write + Drop> Model for PrintedAnswers<W> {
@@ -150,7 +161,7 @@ impl<W: Write + Drop> Model for PrintedAnswers<W> {
 
     ghost Value = { What W };
 
-    ghost view = { λ s. record { out = s.out; shown = map shown_of_numbers s.shown } };
+    ghost view = { λ s. record { out = s.out; shown = map shown_of_numbers s.shown; failed = s.failed } };
 }
 
 impl<W: Write + Drop> PrintedAnswers<W> {
@@ -158,10 +169,12 @@ impl<W: Write + Drop> PrintedAnswers<W> {
     pub fn new(out: W) -> PrintedAnswers<W>
         ensures out { result.out ≡ out }
         ensures unshown { result.shown ≡ [] }
+        ensures unfailed { result.failed ≡ false }
     {
         PrintedAnswers {
             out,
             shown: NumberLists::empty(),
+            failed: false,
         }
     }
 }
@@ -248,13 +261,18 @@ fn print_all<W: Write>(out: &mut W, answers: &[WaitingAnswer]) -> io::Result<()>
 }
 
 impl<D: DiskInPlace + Drop, W: Write + Drop> Screen<D> for PrintedAnswers<W> {
+    ghost use Rattle.std.specs.Prelude.{◌≡◌, true};
+
     ghost shown = { λ s. s.shown };
+
+    ghost has_failed = { λ s. s.failed ≡ true };
 
     #[tactic(auto, using(crate::proofs::ConsoleLaws::shown_more))]
     fn show(&mut self, day: &Day<D>, station: u32, line: &[u8]) -> Result<(), ScreenFault>
         ensures shown { OnOk result (self.new.shown ≡ self.old.shown ++ shown_now D.meaning day.now station line.now ∷ []) }
         ensures unshown { OnErr result ((self.new.shown ≡ self.old.shown)
             ⊎ (self.new.shown ≡ self.old.shown ++ shown_now D.meaning day.now station line.now ∷ [])) }
+        ensures failed { OnErr result (self.new.failed ≡ true) }
         // The writer has taken the line and its LF.
         ensures printed { OnOk result (Appends (W.contents self.old.out) (W.contents self.new.out) (shown_text line.now)) }
     {
@@ -262,7 +280,10 @@ impl<D: DiskInPlace + Drop, W: Write + Drop> Screen<D> for PrintedAnswers<W> {
         self.shown.push(&Showing { day, station, line });
         match printed {
             Ok(()) => Ok(()),
-            Err(_) => Err(ScreenFault),
+            Err(_) => {
+                self.failed = true;
+                Err(ScreenFault)
+            }
         }
     }
 
@@ -270,6 +291,7 @@ impl<D: DiskInPlace + Drop, W: Write + Drop> Screen<D> for PrintedAnswers<W> {
     fn show_all(&mut self, day: &Day<D>, answers: &[WaitingAnswer]) -> Result<(), ScreenFault>
         ensures shown { OnOk result (self.new.shown ≡ self.old.shown ++ all_shown_after D.meaning day.now answers.now) }
         ensures unshown { OnErr result (ShowsFront self.old.shown self.new.shown (all_shown_after D.meaning day.now answers.now)) }
+        ensures failed { OnErr result (self.new.failed ≡ true) }
         // The writer has taken the lines, each with its LF.
         ensures printed { OnOk result (Appends (W.contents self.old.out) (W.contents self.new.out) (shown_texts answers.now)) }
     {
@@ -277,7 +299,10 @@ impl<D: DiskInPlace + Drop, W: Write + Drop> Screen<D> for PrintedAnswers<W> {
         note_all(&mut self.shown, day, answers);
         match printed {
             Ok(()) => Ok(()),
-            Err(_) => Err(ScreenFault),
+            Err(_) => {
+                self.failed = true;
+                Err(ScreenFault)
+            }
         }
     }
 }

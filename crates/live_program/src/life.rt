@@ -8,7 +8,8 @@ ghost use Rattle.station_lines.specs.JournalLines.{HaveSmallNumbers};
 ghost use Rattle.live_log.specs.Gates.{log_of};
 ghost use Rattle.live_log.specs.Placing.{IsOldOrPlacedWith};
 ghost use Rattle.live_day.specs.Days.{parts_of, IsLogged};
-ghost use Rattle.live_day.specs.Typing.{HasTyped, IsAllTyped};
+ghost use Rattle.live_day.specs.Faults.{IsDayFault};
+ghost use Rattle.live_day.specs.Typing.{CanReadNoMore, HasTyped, IsAllTyped};
 ghost use Rattle.live_program.specs.Closings.{IsDayPlaced, IsOldOrDay};
 ghost use Rattle.open_day.specs.OpenDay.{log_name};
 ghost use Rattle.live_program.specs.Endings.{unplaced_log};
@@ -220,7 +221,8 @@ fn live_day<D: DiskInPlace + Drop, K: Keyboard, C: Screen<D>>(
         (K.typed keyboard.old) (K.typed keyboard.new) (λ left. ⊥) (D.meaning.seen day.log.disk) day.history today
         (C.shown screen.old) (C.shown screen.new) day.log.disk result.disk result.ended }
     ensures read { OnOk result.ended (HasTyped (K.text_left keyboard.old) (K.text_left keyboard.new) (K.typed keyboard.old) (K.typed keyboard.new)) }
-    ensures fault { IfErr result.ended (IsUnendedFrom day.history.opened today) }
+    ensures fault { IfErr result.ended (IsUnendedFrom (IsDayFault D.meaning (C.has_failed screen.new)
+        (CanReadNoMore (K.has_failed keyboard.new) (K.typed keyboard.new))) day.history.opened today) }
 {
     let mut day = day;
     match run_day(alloc, &mut day, keyboard, screen) {
@@ -248,8 +250,9 @@ pub fn live_in_place<S: Source, D: DiskInPlace + Drop, K: Keyboard, C: Screen<D>
         (K.typed keyboard.old) (K.typed keyboard.new) (S.files source.old) options.now (C.shown screen.old) (C.shown screen.new) disk result.disk result.ended }
     // These lines are the first of the text, in order; what stands after them is left.
     ensures read { OnOk result.ended (HasTyped (K.text_left keyboard.old) (K.text_left keyboard.new) (K.typed keyboard.old) (K.typed keyboard.new)) }
-    // It is said why: which line of the setup is bad, which file is refused, which entry of the log does not hold.
-    ensures fault { IfErr result.ended (IsLifeFailure D.meaning (S.files source.old) options.now disk) }
+    // It is said why: which line of the setup is bad, which file is refused, which entry of the log does not hold, what of the day failed.
+    ensures fault { IfErr result.ended (IsLifeFailure D.meaning (IsDayFault D.meaning (C.has_failed screen.new)
+        (CanReadNoMore (K.has_failed keyboard.new) (K.typed keyboard.new))) (S.files source.old) options.now disk) }
     ensures kept { S.files source.new ≡ S.files source.old }
 {
     let disk = match begin_in_place::<Lived, LiveFailure, D>(alloc, disk) {

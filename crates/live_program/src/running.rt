@@ -1,7 +1,8 @@
 //! What the program does with the words of its command line.
 
 ghost use Rattle.std.specs.Prelude.{◌≡◌, Ok, IfErr, IfOk, OnOk, map};
-ghost use Rattle.live_day.specs.Typing.{HasTyped, IsAllTyped};
+ghost use Rattle.live_day.specs.Faults.{IsDayFault};
+ghost use Rattle.live_day.specs.Typing.{CanReadNoMore, HasTyped, IsAllTyped};
 ghost use Rattle.live_program.specs.Failures.{IsOptionsFailure, IsWhyUnlived};
 ghost use Rattle.live_program.specs.Lives.{IsAskedLife, IsLifeOver, IsUnlived};
 
@@ -34,7 +35,8 @@ fn live_options<Y: Places, S: Source, K: Keyboard, C: Screen<Y::Disk>, E: Write>
         (IsAllTyped (K.has_ended keyboard.new) (K.text_left keyboard.old) (K.text_left keyboard.new)) (K.typed keyboard.old) (K.typed keyboard.new)
         (S.files source.old) options.now (C.shown screen.old) (C.shown screen.new) result }
     ensures read { OnOk result (HasTyped (K.text_left keyboard.old) (K.text_left keyboard.new) (K.typed keyboard.old) (K.typed keyboard.new)) }
-    ensures fault { IfErr result (IsOptionsFailure Y.Disk.meaning (Y.opens places.now options.now.out.now) (S.files source.old) options.now) }
+    ensures fault { IfErr result (IsOptionsFailure Y.Disk.meaning (Y.opens places.now options.now.out.now) (IsDayFault Y.Disk.meaning (C.has_failed screen.new)
+        (CanReadNoMore (K.has_failed keyboard.new) (K.typed keyboard.new))) (S.files source.old) options.now) }
     ensures kept { S.files source.new ≡ S.files source.old }
 {
     match places.open(alloc, options.out)? {
@@ -63,7 +65,8 @@ pub fn run_program<Y: Places, S: Source, K: Keyboard, C: Screen<Y::Disk>, E: Wri
     // The lines that were obeyed are the first of the text, in order; what stands after them is left.
     ensures read { OnOk result (HasTyped (K.text_left keyboard.old) (K.text_left keyboard.new) (K.typed keyboard.old) (K.typed keyboard.new)) }
     // It is said why: the words are not taken, the date is bad, or what they ask for has failed for this.
-    ensures fault { IfErr result (IsWhyUnlived Y.Disk.meaning (Y.opens places.now) (S.files source.old) (map T.text words.entry.now)) }
+    ensures fault { IfErr result (IsWhyUnlived Y.Disk.meaning (Y.opens places.now) (IsDayFault Y.Disk.meaning (C.has_failed screen.new)
+        (CanReadNoMore (K.has_failed keyboard.new) (K.typed keyboard.new))) (S.files source.old) (map T.text words.entry.now)) }
     ensures kept { S.files source.new ≡ S.files source.old }
 {
     let options = read_options(alloc, words)?;

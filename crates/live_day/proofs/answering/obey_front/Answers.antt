@@ -3,7 +3,7 @@ use Rattle.std.specs.List.{AllByRecursion}
 use Rattle.live_day.specs.declared.waiting.WaitingAnswer.{WaitingAnswer}
 use Rattle.live_day.specs.Waiting.{IsWaiting, all_shown_after}
 use Rattle.live_day.proofs.ShowLaws.{after_put, shown_both, shown_none}
-use Rattle.live_day.proofs.StopLaws.{goes_on_err, stopped_log}
+use Rattle.live_day.proofs.StopLaws.{goes_on_err, stopped_log, told_err}
 use Rattle.live_day.proofs.WaitingLaws.{shown_answers, shown_front, tells_answers}
 use Rattle.live_day.proofs.answering.obey_front.Goals as goal
 
@@ -54,3 +54,10 @@ returns-in_err-front-clause-stopped g c = stopped_log c.from_residual.result _ c
 pub returns-in_err-show_all-clause-stopped : goal.returns-in_err-show_all-clause-stopped
 returns-in_err-show_all-clause-stopped g c =
     goes_on_err c.from_residual-in_err-show_all.result _ c.lines.new.self.takes c.in_ok-front.ensures.takes c.from_residual-in_err-show_all.ensures.1 (λ never. never)
+
+pub returns-in_err-front-clause-fault : goal.returns-in_err-front-clause-fault
+returns-in_err-front-clause-fault g c = told_err _ c.from_residual.result _ c.from_residual.ensures.1 c.in_err-front.ensures.fault
+
+pub returns-in_err-show_all-clause-fault : goal.returns-in_err-show_all-clause-fault
+returns-in_err-show_all-clause-fault g c =
+    told_err _ c.from_residual-in_err-show_all.result _ c.from_residual-in_err-show_all.ensures.1 c.in_err-show_all.ensures.failed

@@ -1,7 +1,7 @@
 use Rattle.live_day.specs.Groups.{IsNoQuit}
 use Rattle.live_day.proofs.GroupLaws.{all_after, to_more, to_none}
 use Rattle.live_day.proofs.ShowLaws.{after_none, shown_both, shown_none}
-use Rattle.live_day.proofs.StopLaws.{stopped_same}
+use Rattle.live_day.proofs.StopLaws.{stopped_same, told_err}
 use Rattle.live_day.proofs.answering.obey_lines.Goals as goal
 
 pub obeying-init : goal.obeying-init
@@ -39,3 +39,6 @@ returns-in_err-count-clause-kept g c =
 pub returns-in_err-count-clause-stopped : goal.returns-in_err-count-clause-stopped
 returns-in_err-count-clause-stopped g c =
     stopped_same c.from_residual.result _ c.obey_some.new.day.takes c.from_residual.ensures.1 c.in_err-count.ensures.stopped
+
+pub returns-in_err-count-clause-fault : goal.returns-in_err-count-clause-fault
+returns-in_err-count-clause-fault g c = told_err _ c.from_residual.result _ c.from_residual.ensures.1 c.in_err-count.ensures.fault

@@ -1,11 +1,13 @@
-use Rattle.std.proofs.Common.{List, ◌++◌, refl, subst, arith}
-use Rattle.live_day.specs.Faults.{IsOfLog}
+use Rattle.std.proofs.Common.{List, ◌∙◌, ◌++◌, ap, length, inl, inr, length-append, refl, subst, sym, arith}
+use Rattle.live_day.specs.Faults.{IsDayFault, IsOfLog}
+use Rattle.live_day.specs.declared.typing.Then.TheVariants.{Failed}
 use Rattle.live_day.specs.declared.keyboard.Typed.{Typed}
-use Rattle.live_day.specs.Typing.{IsAllTyped}
+use Rattle.live_day.specs.Typing.{CanReadNoMore, IsAllTyped}
+use Rattle.live_day.specs.declared.keyboard.TypingFault.{TypingFault}
 use Rattle.live_day.proofs.GroupLaws.{end_on, obeyed_group, run_over, typed_both}
 use Rattle.live_day.proofs.SessionLaws.{obeyed_none}
 use Rattle.live_day.proofs.ShowLaws.{after_none, shown_both, shown_none}
-use Rattle.live_day.proofs.StopLaws.{of_no_log, stopped_same}
+use Rattle.live_day.proofs.StopLaws.{of_no_log, stopped_same, told_unread, unread_fault}
 use Rattle.live_day.proofs.TypingLaws.{typed_none}
 use Rattle.live_day.proofs.running.run_day.Goals as goal
 
@@ -15,6 +17,7 @@ groups-init g c = record {
   counted = omega arith;
   inside = c.requires.some;
   obeyed = obeyed_none (g.K.Keyboard.typed c.args.keyboard.now) c.args.day.now.history (g.S.Screen.shown c.args.screen.now);
+  typed = omega arith;
   read = typed_none (g.K.Keyboard.text_left c.args.keyboard.now) (g.K.Keyboard.typed c.args.keyboard.now);
   kept = shown_none g.D.Disk.meaning c.args.day.now c.args.day.now (g.S.Screen.shown c.args.screen.now)
       (after_none g.D.Disk.meaning c.args.day.now (λ keeps. c.station_count.ensures.logged keeps c.requires.takes) (λ keeps. c.station_count.ensures.durable keeps c.requires.takes));
@@ -32,6 +35,7 @@ groups-preserved g c =
       obeyed = obeyed_group (g.K.Keyboard.typed c.args.keyboard.now) (g.K.Keyboard.typed c.groups.keyboard) (g.K.Keyboard.typed c.read_group-group.new.keyboard) c.read_group-group.result.lines.items c.args.day.now.history c.groups.day.history c.obey_lines.new.day.history
           (g.S.Screen.shown c.args.screen.now) (g.S.Screen.shown c.groups.screen) (g.S.Screen.shown c.obey_lines.new.screen) c.groups.station c.in_ok-station.station made.0 c.groups.invariant.obeyed group.0 made.1 are;
       read = typed_both (g.K.Keyboard.text_left c.args.keyboard.now) (g.K.Keyboard.text_left c.groups.keyboard) (g.K.Keyboard.text_left c.read_group-group.new.keyboard) _ _ _ c.groups.invariant.read group.1;
+      typed = omega (arith, ap length group.0, length-append (g.K.Keyboard.typed c.groups.keyboard) c.read_group-group.result.lines.items, c.read_group-group.ensures.some c.in-More.is, c.groups.invariant.typed);
       kept = shown_both g.D.Disk.meaning c.args.day.now c.groups.day c.obey_lines.new.day (g.S.Screen.shown c.args.screen.now) (g.S.Screen.shown c.groups.screen) (g.S.Screen.shown c.obey_lines.new.screen)
           c.groups.invariant.kept c.obey_lines.ensures.kept;
     }
@@ -79,3 +83,20 @@ pub returns-in-Failed-clause-stopped : goal.returns-in-Failed-clause-stopped
 returns-in-Failed-clause-stopped g c =
     let takes = c.in_ok-station.ensures.takes in
     (λ of_log. absurd (of_no_log c.in-Failed.fault (subst IsOfLog c.from.ensures of_log)), λ no. absurd cc)
+
+pub returns-in_err-station-clause-fault : goal.returns-in_err-station-clause-fault
+returns-in_err-station-clause-fault g c =
+    let unread = CanReadNoMore (g.K.Keyboard.has_failed c.read_group-group.new.keyboard) (g.K.Keyboard.typed c.read_group-group.new.keyboard) in
+    told_unread g.D.Disk.meaning (g.S.Screen.has_failed c.obey_lines.new.screen) unread c.obey_lines.new.day.history c.from_residual.result _ c.from_residual.ensures.1 c.in_err-station.ensures.fault
+
+pub returns-in-Failed-clause-fault : goal.returns-in-Failed-clause-fault
+returns-in-Failed-clause-fault g c =
+    let m = g.D.Disk.meaning in
+    let unshown = g.S.Screen.has_failed c.obey_lines.new.screen in
+    let unread = CanReadNoMore (g.K.Keyboard.has_failed c.read_group-group.new.keyboard) (g.K.Keyboard.typed c.read_group-group.new.keyboard) in
+    let h = c.obey_lines.new.day.history in
+    subst (IsDayFault m unshown unread h) (sym c.from.ensures)
+    (unread_fault m unshown unread h c.in-Failed.fault (λ is. inl (c.read_group-group.ensures.failed (c.in-Failed.is ∙ ap (λ (f : TypingFault). Failed f) is))))
+
+pub returns-clause-fault : goal.returns-clause-fault
+returns-clause-fault g c = inr (omega (arith, c.groups.invariant.typed, c.groups-test.false))

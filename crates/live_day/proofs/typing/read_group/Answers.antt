@@ -1,10 +1,12 @@
-use Rattle.std.proofs.Common.{◌∙◌, arith}
+use Rattle.std.proofs.Common.{◌∙◌, ◌∷◌, [], Some, ap, arith, length, length-append}
+use Rattle.live_day.specs.declared.typing.Then.{Then}
 use Rattle.live_day.proofs.GroupLaws.{group_ends, group_goes_on, read_none, read_one, still_no_quit}
 use Rattle.live_day.proofs.typing.read_group.Goals as goal
 
 pub reading-init : goal.reading-init
 reading-init g c = record {
   room = omega (arith, c.in-Ok.ensures.ok);
+  some = omega arith;
   read = read_none (g.K.Keyboard.text_left c.args.keyboard.now) (g.K.Keyboard.typed c.args.keyboard.now) c.reserve.new.self.items (c.reserve.ensures.items ∙ c.new-lines.ensures.items);
 }
 
@@ -50,4 +52,24 @@ reading-preserved g c =
     let has = read_one (g.K.Keyboard.text_left c.args.keyboard.now) (g.K.Keyboard.text_left c.reading.keyboard) (g.K.Keyboard.text_left c.read_next.new.keyboard)
     (g.K.Keyboard.typed c.args.keyboard.now) (g.K.Keyboard.typed c.reading.keyboard) (g.K.Keyboard.typed c.read_next.new.keyboard)
     c.reading.lines.items c.reserve-in-reading.new.self.items one.0 c.reading.invariant.read (c.reserve-in-reading.ensures.items ∙ one.1) one.2 one.3 one.4 in
-    record { room = omega (arith, c.in-Ok-reserve.ensures.ok); read = has }
+    record {
+      room = omega (arith, c.in-Ok-reserve.ensures.ok);
+      some = omega (arith, ap length (c.reserve-in-reading.ensures.items ∙ one.1), length-append c.reading.lines.items (one.0 ∷ []), c.reading.invariant.some);
+      read = has;
+    }
+
+pub returns-then-not-has_line-clause-some : goal.returns-then-not-has_line-clause-some
+returns-then-not-has_line-clause-some g c more =
+    let one = c.read_next.ensures.line c.in_default-read_next.is in
+    omega (arith, ap length (c.unended.ensures.lines ∙ one.1), length-append c.reading.lines.items (one.0 ∷ []))
+
+pub returns-in_default-reserve-clause-some : goal.returns-in_default-reserve-clause-some
+returns-in_default-reserve-clause-some g c more =
+    let one = c.read_next.ensures.line c.in_default-read_next.is in
+    omega (arith, ap length (c.unended-in_default-reserve.ensures.lines ∙ c.reserve-in-reading.ensures.items ∙ one.1), length-append c.reading.lines.items (one.0 ∷ []))
+
+pub returns-in-Some-clause-some : goal.returns-in-Some-clause-some
+returns-in-Some-clause-some g c more = absurd (c.in-Some.ensures.over more)
+
+pub returns-in-Some-clause-failed : goal.returns-in-Some-clause-failed
+returns-in-Some-clause-failed g c is = c.read_next.ensures.failed (c.in-Some.is ∙ ap (λ (t : Then). Some t) is)

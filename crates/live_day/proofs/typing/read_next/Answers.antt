@@ -1,6 +1,8 @@
-use Rattle.std.proofs.Common.{◌∙◌, ap, Option, Ok, refl}
+use Rattle.std.proofs.Common.{◌∙◌, ap, Option, Ok, Err, refl}
+use Rattle.live_day.specs.declared.keyboard.TypingFault.{TypingFault}
 use Rattle.live_day.specs.declared.keyboard.Typed.{Typed}
 use Rattle.live_day.proofs.GroupLaws.{over_ends, over_quits}
+use Rattle.live_day.proofs.StopLaws.{failed_is}
 use Rattle.live_day.proofs.typing.read_next.Goals as goal
 
 pub returns-in-Ok-None-clause-end : goal.returns-in-Ok-None-clause-end
@@ -20,3 +22,6 @@ returns-then-is_quit_typed-clause-end g c =
       over_quits (g.K.Keyboard.has_ended c.next_line.new.self) (g.K.Keyboard.text_left c.args.keyboard.now) (g.K.Keyboard.text_left c.next_line.new.self)
           (g.K.Keyboard.typed c.args.keyboard.now) (g.K.Keyboard.typed c.next_line.new.self) c.in-Ok-Some.typed read next (c.is_quit_typed.ensures.yes c.if-is_quit_typed.true),
     )
+
+pub returns-in-Err-clause-failed : goal.returns-in-Err-clause-failed
+returns-in-Err-clause-failed g c is = c.next_line.ensures.failed (c.in-Err.is ∙ ap (λ (f : TypingFault). Err f) (failed_is c.in-Err.fault _ is))

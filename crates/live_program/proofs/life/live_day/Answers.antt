@@ -1,4 +1,6 @@
 use Rattle.std.proofs.Common.{inl, inr, refl}
+use Rattle.live_day.specs.Faults.{IsDayFault}
+use Rattle.live_day.specs.Typing.{CanReadNoMore}
 use Rattle.live_program.specs.Failures.{IsUnclosed, IsUnendedFrom}
 use Rattle.live_program.proofs.FailureLaws.{err_failed, err_is, stop_failed}
 use Rattle.live_program.proofs.LifeLaws.{closed_day, day_ends, err_by, ok_always, ok_never, placed_day, stopped_day, stopped_ends}
@@ -21,7 +23,8 @@ returns-in-Ok g c = record {
       (closed_day m promised begun day today x y kept c.requires.name clean c.close.result.disk logged closing) _
       (placed_day m promised begun day today x y kept c.requires.name clean c.close.result.disk logged closing) (c.close.ensures.placed promised) c.close.ensures.count;
   read = ok_always c.close.result.ended _ c.in-Ok.ensures.read;
-  fault = err_by c.close.result.ended (IsUnclosed c.run_day.new.day.history c.args.today) (IsUnendedFrom c.args.day.history.opened c.args.today)
+  fault = err_by c.close.result.ended (IsUnclosed c.run_day.new.day.history c.args.today) (IsUnendedFrom (IsDayFault g.D.Disk.meaning (g.C.Screen.has_failed c.run_day.new.screen)
+      (CanReadNoMore (g.K.Keyboard.has_failed c.run_day.new.keyboard) (g.K.Keyboard.typed c.run_day.new.keyboard))) c.args.day.history.opened c.args.today)
       (λ why is. (c.run_day.new.day.history, c.run_day.ensures.kept.after.history.opened, inr is)) c.close.ensures.fault;
 }
 
@@ -34,6 +37,7 @@ returns-in-Err g c = record {
       let stopped = stopped_day m promised c.args.day c.run_day.new.day c.args.today x y c.run_day.ensures.kept c.requires.name (c.requires.clean promised) in
       stopped_ends m _ _ _ _ _ c.args.day.history c.run_day.new.day.history c.args.today x y c.args.day.log.disk c.stop.result.disk c.stop.result.ended (err_failed c.stop.result.ended _ c.stop.ensures.ended) (rw c.stop.ensures.disk stopped);
   read = ok_never c.stop.result.ended _ (err_failed c.stop.result.ended _ c.stop.ensures.ended);
-  fault = err_is c.stop.result.ended _ (IsUnendedFrom c.args.day.history.opened c.args.today) c.stop.ensures.ended
-      (c.run_day.new.day.history, c.run_day.ensures.kept.after.history.opened, inl (c.from.result, stop_failed c.run_day.result c.in-Err.fault c.from.result c.in-Err.is c.run_day.ensures.open c.from.ensures, refl));
+  fault = err_is c.stop.result.ended _ (IsUnendedFrom (IsDayFault g.D.Disk.meaning (g.C.Screen.has_failed c.run_day.new.screen)
+      (CanReadNoMore (g.K.Keyboard.has_failed c.run_day.new.keyboard) (g.K.Keyboard.typed c.run_day.new.keyboard))) c.args.day.history.opened c.args.today) c.stop.ensures.ended
+      (c.run_day.new.day.history, c.run_day.ensures.kept.after.history.opened, inl (c.from.result, stop_failed _ c.run_day.result c.in-Err.fault c.from.result c.in-Err.is c.run_day.ensures.fault c.from.ensures, refl));
 }
