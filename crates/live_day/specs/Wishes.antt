@@ -1,5 +1,5 @@
 -- The lines of the keyboard that are none of a script.
-use Rattle.std.specs.Prelude.{◌≡◌, Bool, true, false, ℕ, List, codes, drop, take}
+use Rattle.std.specs.Prelude.{◌≡◌, ◌<◌, ◌^◌, Bool, true, false, ℕ, List, codes, drop, take}
 use Rattle.std.specs.Str.{str_eq_ignore_ascii_case}
 use Rattle.std.specs.Fmt.{decimal}
 use Rattle.station_lines.specs.JournalLines.{IsNoNumber}
@@ -21,6 +21,6 @@ BeginsWithStation line number = (is_station_word (take STATION_WORD_BYTES line) 
 
 -- what a line asks for: STATION and a number, QUIT, and else nothing of the keyboard
 abbrev pub IsWishOf : List ℕ → Wish → Type 0
-IsWishOf line (Station n) = (is_quit line ≡ false) × BeginsWithStation line (decimal n)
+IsWishOf line (Station n) = (is_quit line ≡ false) × BeginsWithStation line (decimal n) × (n < 2 ^ 64)
 IsWishOf line Quit = is_quit line ≡ true
 IsWishOf line Perform = (is_quit line ≡ false) × ((number : List ℕ) → BeginsWithStation line number → IsNoNumber number)

@@ -35,4 +35,4 @@ pub use start_fault::StartFault;
 pub use starting::{Unstarted, start_day};
 pub use typing::MAX_GROUP_LINES;
 pub use waiting::WaitingAnswer;
-pub use wish::{Wish, wish_of};
+pub use wish::{STATION_WORD_BYTES, Wish, wish_of};

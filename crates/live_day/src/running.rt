@@ -37,7 +37,8 @@ pub fn run_day<D: DiskInPlace + Drop, S: Screen<D>, K: Keyboard>(
     // The day takes no more lines where one was performed whose entry may not be in the log, and only then this is said.
     ensures stopped { IsErrAnd result IsOfLog ↔ (day.new.takes ≡ false) }
     // It is said why: the log is called too long only where it is, the screen or the keyboard to have failed only where it has.
-    ensures fault { IfErr result (IsDayFault D.meaning (S.has_failed screen.new) (CanReadNoMore (K.has_failed keyboard.new) (K.typed keyboard.new)) day.new.history) }
+    ensures fault { IfErr result (IsDayFault D.meaning (S.has_failed screen.new)
+        (CanReadNoMore (K.has_failed keyboard.new) (K.typed keyboard.new)) day.new.history) }
     // Nothing that was shown is lost, and a crash at any moment leaves a log of the journal's first entries.
     ensures kept { KeepsShown D.meaning day.old day.new (S.shown screen.old) (S.shown screen.new) }
 {
