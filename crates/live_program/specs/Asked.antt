@@ -19,7 +19,7 @@ paths_app =
 
 -- the program and all its options
 abbrev pub prompt_app : App
-prompt_app = with_rule paths_app (flag_rule (codes "reindex"))
+prompt_app = with_rule (with_rule paths_app (flag_rule (codes "reindex"))) (flag_rule (codes "live"))
 
 -- the paths of the setup and of the folder are given, and a date
 pub record HasPaths (rows : List Row) : Type 0 where
@@ -33,6 +33,7 @@ pub record IsAskedBy (rows : List Row) (options : Options) : Type 0 where
   pub out : first_of (codes "out") rows ≡ Some options.out.now
   pub today : GivesDay rows options.today
   pub reindex : IsFlag rows (codes "reindex") options.reindex
+  pub live : IsFlag rows (codes "live") options.live
 
 -- what the words of a command line ask for, of which the first is the program's name
 abbrev pub IsAskedIn : List Text → Options → Type 0

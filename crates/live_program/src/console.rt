@@ -117,12 +117,15 @@ impl<R: BufRead + Drop, P: Write + Drop> Keyboard for TypedLines<R, P> {
     }
 }
 
-// What is shown of a day, for contracts.
+/// What is shown of a day, for contracts.
 #[derive(Drop)]
-struct Showing<'a, D: DiskInPlace + Drop> {
-    day: &'a Day<D>,
-    station: u32,
-    line: &'a [u8],
+pub struct Showing<'a, D: DiskInPlace + Drop> {
+    /// The day.
+    pub day: &'a Day<D>,
+    /// The station.
+    pub station: u32,
+    /// The line.
+    pub line: &'a [u8],
 }
 
 impl<'a, D: DiskInPlace + Drop> Numbered for Showing<'a, D> {
@@ -132,11 +135,13 @@ impl<'a, D: DiskInPlace + Drop> Numbered for Showing<'a, D> {
     ghost numbered = { λ s. numbers_of_shown (shown_now D.meaning s.day.now s.station s.line.now) };
 }
 
-// An answer that waited, as it is shown of a day, for contracts.
+/// An answer that waited, as it is shown of a day, for contracts.
 #[derive(Drop)]
-struct ShowingAfter<'a, D: DiskInPlace + Drop> {
-    day: &'a Day<D>,
-    answer: &'a WaitingAnswer,
+pub struct ShowingAfter<'a, D: DiskInPlace + Drop> {
+    /// The day.
+    pub day: &'a Day<D>,
+    /// The answer.
+    pub answer: &'a WaitingAnswer,
 }
 
 impl<'a, D: DiskInPlace + Drop> Numbered for ShowingAfter<'a, D> {
@@ -191,8 +196,8 @@ fn print_short<W: Write>(out: &mut W, line: &[u8]) -> io::Result<()>
     out.write_all(&text[..line.len() + 1])
 }
 
-// Prints a line and LF.
-fn print_line<W: Write>(out: &mut W, line: &[u8]) -> io::Result<()>
+/// Prints a line and LF.
+pub fn print_line<W: Write>(out: &mut W, line: &[u8]) -> io::Result<()>
     ensures text { OnOk result (Appends (W.contents out.old) (W.contents out.new) (shown_text line.now)) }
 {
     if line.len() < LINE_AT_ONCE {

@@ -24,13 +24,14 @@ mod running;
 mod warning;
 
 pub use closing::close_day;
-pub use console::{PrintedAnswers, TypedLines};
+pub use console::{PrintedAnswers, Showing, ShowingAfter, TypedLines, print_line};
 pub use failure::LiveFailure;
 pub use greeting::tell_again;
 pub use life::live_in_place;
 pub use lived::Lived;
+pub use number_lists::{NumberLists, Numbered};
 pub use open_day::LOG_NAME;
 pub use opening::open_tables;
-pub use options::{Options, command, options_of};
+pub use options::{Options, command, options_of, read_options};
 pub use places::{HostPlaces, Places};
 pub use running::{PROGRAM, run_program};

@@ -28,7 +28,7 @@ impl<'a, X: Numbered> Names<More<'a, X>> for Pushed {
 
 /// Lists of numbers, in the order in which they were pushed. It takes no memory.
 #[derive(Drop)]
-pub(crate) struct NumberLists {
+pub struct NumberLists {
     listed: Tag,
 }
 
@@ -42,8 +42,8 @@ impl Model for NumberLists {
 }
 
 impl NumberLists {
-    // None.
-    pub(crate) fn empty() -> NumberLists
+    /// None.
+    pub fn empty() -> NumberLists
         ensures value { result ≡ [] }
     {
         NumberLists {
@@ -51,8 +51,8 @@ impl NumberLists {
         }
     }
 
-    // The numbers of a value follow the others.
-    pub(crate) fn push<X: Numbered>(&mut self, pushed: &X)
+    /// The numbers of a value follow the others.
+    pub fn push<X: Numbered>(&mut self, pushed: &X)
         ensures value { self.new ≡ self.old ++ X.numbered pushed.now ∷ [] }
     {
         let listed = &self.listed;

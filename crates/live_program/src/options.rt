@@ -17,6 +17,10 @@ const STATUSES: &str =
     "Lines come from standard input, each as one line of a script. STATION n gives the keyboard to
 station n, QUIT or the end of input closes the day.
 
+With --live the path of each STATION line is a pipe (mkfifo) or a terminal where that station
+types; its answers go to that path with .OUT, which has to be there too. QUIT or the end of a
+station's input ends that station, and the end of all closes the day.
+
 Exit status:
   0  the day is closed, and all files are written
   1  the command line, the date or a line of the setup is bad
@@ -36,6 +40,8 @@ pub struct Options<'a> {
     pub today: Day,
     /// Whether the indexes are made anew from the records, in place of being read.
     pub reindex: bool,
+    /// Whether each station's lines come from a pipe or terminal of its own.
+    pub live: bool,
 }
 
 // The command line without its flag.
@@ -68,7 +74,13 @@ fn command_of_paths<'a>(alloc: Global) -> Result<Command<'a>, AllocError>
 pub fn command<'a>(alloc: Global) -> Result<Command<'a>, AllocError>
     ensures app { IfOk result (λ command. app_of command ≡ prompt_app) }
 {
-    command_of_paths(alloc)?.arg(flag(alloc, "reindex", "Make the indexes anew from the records"))
+    command_of_paths(alloc)?
+        .arg(flag(alloc, "reindex", "Make the indexes anew from the records"))?
+        .arg(flag(
+            alloc,
+            "live",
+            "Hear each station at its STATION line's path, and answer it at that path with .OUT",
+        ))
 }
 
 /// What a command line says that `clap` has read. `None` where the date is no calendar date of the years 1900
@@ -81,11 +93,13 @@ pub fn options_of<'a>(matches: &ArgMatches<'a>) -> Option<Options<'a>>
     let out = value_of(matches, "out")?;
     let today = date_of(value_of(matches, "today")?.as_bytes())?;
     let reindex = has_flag(matches, "reindex");
+    let live = has_flag(matches, "live");
     Some(Options {
         setup,
         out,
         today,
         reindex,
+        live,
     })
 }
 
