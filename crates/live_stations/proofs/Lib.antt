@@ -1,0 +1,11 @@
+mod DoneLaws
+mod HandedLaws
+mod HearingLaws
+mod ItemLaws
+mod MeetingLaws
+mod OwnLaws
+mod PairLaws
+mod PrinterLaws
+mod SetupLaws
+mod TellingLaws
+mod TypistLaws

@@ -1,0 +1,9 @@
+pub mod Done
+pub mod Handed
+pub mod Hearings
+pub mod Items
+pub mod Pairs
+pub mod Setups
+pub mod Stations
+pub mod Tellings
+pub mod Typists

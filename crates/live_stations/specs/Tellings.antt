@@ -1,0 +1,53 @@
+-- What is said of a station whose lines or answers were not all had.
+use Rattle.std.specs.Prelude.{Bool, true, false, ℕ, ◌+◌, List, [], ◌∷◌, ◌++◌, codes, Option, Some, None}
+use Rattle.std.specs.Fmt.{decimal}
+use Rattle.station_lines.specs.declared.script.format.TheConstants.{LF}
+use Rattle.live_day.specs.declared.keyboard.TypingFault.TheVariants as typing
+use Rattle.office_run.specs.declared.fault.ServeFault.TheVariants as serve
+use Rattle.office_run.specs.declared.run_fault.RunFault.TheVariants as run
+use Rattle.program_frame.specs.declared.ending.Ending.{Ending}
+use Rattle.program_frame.specs.declared.ending.Ending.TheVariants as ending
+use Rattle.program_frame.specs.declared.ending.Failure.{Failure}
+use Rattle.program_frame.specs.declared.ending.Failure.TheVariants as failure
+use Rattle.live_program.specs.declared.failure.LiveFailure.{LiveFailure}
+use Rattle.live_program.specs.declared.failure.LiveFailure.TheVariants as live
+use Rattle.live_stations.specs.declared.threads.ThreadFault.{ThreadFault}
+use Rattle.live_stations.specs.declared.threads.ThreadFault.TheVariants as thread
+use Rattle.live_stations.specs.declared.day.StationLeft.{StationLeft}
+use Rattle.live_stations.specs.declared.typist.LinesEnd.{LinesEnd}
+use Rattle.live_stations.specs.declared.typist.LinesEnd.TheVariants as ended
+
+-- a line on a station, its LF too
+abbrev pub station_said : ℕ → List ℕ → List ℕ
+station_said station words = codes "station_prompt: station " ++ (decimal station ++ (codes ": " ++ (words ++ LF ∷ [])))
+
+-- why no more lines of a station are read, where it did not end them
+abbrev pub end_words : LinesEnd → Option (List ℕ)
+end_words ended.Unopened = Some (codes "its path can't be opened")
+end_words ended.Unprinted = Some (codes "its answers can't be shown any more")
+end_words (ended.Unread typing.Failed) = Some (codes "its lines can't be read any more")
+end_words (ended.Unread typing.NoMemory) = Some (codes "memory was refused for a line, and no more are read")
+end_words end = None
+
+abbrev pub said_if_some : ℕ → Option (List ℕ) → List ℕ
+said_if_some station None = []
+said_if_some station (Some words) = station_said station words
+
+abbrev pub said_unless : Bool → ℕ → List ℕ → List ℕ
+said_unless true station words = []
+said_unless false station words = station_said station words
+
+-- what there is to say of a station
+abbrev pub station_text : ℕ → LinesEnd → Bool → List ℕ
+station_text station end all_printed =
+    said_if_some station (end_words end) ++ said_unless all_printed station (codes "not all its answers were shown")
+
+-- and of each from this one on
+abbrev pub stations_text : {K W : Type 0} → ℕ → List (StationLeft K W) → List ℕ
+stations_text n [] = []
+stations_text n (left ∷ stations) = station_text n left.end left.all_printed ++ stations_text (n + 1) stations
+
+-- why no day was lived where a station has no threads
+abbrev pub unlived : ThreadFault → Ending (Failure LiveFailure)
+unlived (thread.NoThread station) = ending.Failed (failure.Work (live.Serve (serve.Run (run.NoThread station))))
+unlived thread.NoMemory = ending.Failed (failure.Work (live.Serve serve.NoMemory))

@@ -1,0 +1,10 @@
+mod clerks;
+mod days;
+mod disks;
+mod failing;
+mod living;
+mod long_lines;
+mod many;
+mod paths;
+mod setups;
+mod telling;

@@ -1,0 +1,174 @@
+//! Days whose disk fails.
+
+ghost use Rattle.std.specs.Prelude.{◌≡◌, false};
+ghost use Rattle.files_in_place.specs.Folder.{Name, is_reserved};
+ghost use Rattle.memory_disk.specs.Outcomes.{IsWhole};
+
+use super::clerks::{ALL, Clerk, Then, Turn};
+use super::living::{Left, LeftDay, SETUP, live_at, source};
+use live_log::LogFault;
+use live_program::{LiveFailure, Places};
+use memory_disk::MemoryDisk;
+use program_frame::{Ending, Failure, PlaceFault};
+use std::alloc::Global;
+use std::fs::File;
+use std::rt::{Files, Runtime};
+use std::sync::Wait;
+use std::test::Fail;
+use std::thread::Threads;
+
+// A system with a folder in memory, whose disk does so many calls, and then all fail.
+#[derive(Drop)]
+struct FailingPlaces {
+    calls: u64,
+}
+
+// An empty folder of which only so many calls are done.
+fn empty_folder(alloc: Global, calls: u64) -> MemoryDisk
+    ensures whole { (n : Name) → is_reserved n ≡ false → IsWhole result.calls n }
+{
+    let mut disk = MemoryDisk::new(alloc);
+    disk.allow(calls);
+    disk
+}
+
+impl Places for FailingPlaces {
+    type Disk = MemoryDisk;
+
+    ghost opens = { λ _ _ _. Unit {0} };
+
+    fn open(&self, alloc: Global, _path: &str) -> Result<Option<MemoryDisk>, PlaceFault> {
+        Ok(Some(empty_folder(alloc, self.calls)))
+    }
+}
+
+// Two clerks, and what they are answered.
+const CLERKS: [Clerk<'static>; 2] = [
+    Clerk {
+        turns: &[Turn {
+            station: 1,
+            answers: 0,
+            text: b"USE T\nGO 2\n? RECNO()\n",
+        }],
+        then: Then::Ends,
+        waits: None,
+        room: Some(ALL),
+    },
+    Clerk {
+        turns: &[
+            Turn {
+                station: 2,
+                answers: 0,
+                text: b"USE T\n",
+            },
+            Turn {
+                station: 2,
+                answers: 0,
+                text: b"? RLOCK()\nDELETE\n",
+            },
+        ],
+        then: Then::Ends,
+        waits: None,
+        room: Some(ALL),
+    },
+];
+
+const ANSWERS: [&[u8]; 2] = [b"OK\nOK\n2\n", b"OK\n.T.\nOK\n"];
+
+// More calls of the disk than such a day makes.
+const CALLS: u64 = 100;
+
+// How a day ends.
+#[derive(Clone, Copy, PartialEq, Eq)]
+enum End {
+    // It was not begun.
+    Unbegun,
+    // A line was performed whose entry may not be in the log.
+    Log,
+    // Its files were not written.
+    Unclosed,
+    // It was closed.
+    Closed,
+}
+
+// How a day ended.
+fn end_of(day: &LeftDay) -> End {
+    match &day.ended {
+        Ok(_) => End::Closed,
+        Err(Ending::Failed(Failure::Work(LiveFailure::Log(LogFault::Failed)))) => End::Log,
+        Err(_) => {
+            if day.opens == 0 {
+                End::Unbegun
+            } else {
+                End::Unclosed
+            }
+        }
+    }
+}
+
+// What a station was shown, where it has a screen.
+fn shown_at(day: &LeftDay, station: usize) -> &[u8] {
+    match day.station(station) {
+        Some(
+            Left {
+                shown: Some(shown),
+                ..
+            },
+        ) => shown.as_slice(),
+        _ => b"",
+    }
+}
+
+// Whether so much was shown as belongs to such an end: the first of the answers, all of them where all lines were answered, not all where
+// the log has failed, and none where no day was begun.
+fn is_shown(day: &LeftDay, end: End) -> bool {
+    let mut are_all = true;
+    let mut are_none = true;
+    for (number, answers) in (1..).zip(ANSWERS) {
+        let shown = shown_at(day, number);
+        if !answers.starts_with(shown) {
+            return false;
+        }
+        are_all = are_all && shown.len() == answers.len();
+        are_none = are_none && shown.is_empty();
+    }
+    match end {
+        End::Unbegun => are_none,
+        End::Log => !are_all,
+        End::Unclosed | End::Closed => are_all,
+    }
+}
+
+// How a day ends whose disk does so many calls.
+fn ends_on<R: Runtime + Files<File = File> + AllocGlobal + Threads + Wait + Sync>(
+    rt: &R,
+    calls: u64,
+) -> Result<End, Fail> {
+    let source = source(rt.alloc(), SETUP, u64::MAX)?;
+    let day = live_at(rt, &FailingPlaces { calls }, source, "no_folder", &CLERKS)?;
+    let end = end_of(&day);
+    if !is_shown(&day, end) {
+        return Err("other answers".into());
+    }
+    Ok(end)
+}
+
+// How days end whose disks do ever more calls.
+fn ends_of<R: Runtime + Files<File = File> + AllocGlobal + Threads + Wait + Sync>(
+    rt: &R,
+) -> Result<Vec<End>, Fail> {
+    let mut ends = Vec::new(rt.alloc());
+    for calls in 0..CALLS {
+        ends.push(ends_on(rt, calls)?)?;
+    }
+    Ok(ends)
+}
+
+#[test]
+fn a_disk_that_fails_ends_the_day_and_its_threads(rt: HostRuntime) -> Result<(), Fail> {
+    let ends = ends_of(&rt)?;
+    for end in [End::Unbegun, End::Log, End::Unclosed, End::Closed] {
+        assert!(rt; ends.contains(&end));
+    }
+    Ok(())
+}

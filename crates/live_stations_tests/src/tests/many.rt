@@ -1,0 +1,142 @@
+//! Clerks who type very much, and read slowly.
+
+use super::clerks::{ALL, Clerk, Then, Turn};
+use super::living::{Left, LeftDay, live};
+use live_stations::LinesEnd;
+use std::alloc::{AllocError, Global};
+use std::fs::File;
+use std::rt::{Files, Runtime};
+use std::sync::Wait;
+use std::test::Fail;
+use std::thread::Threads;
+
+// Lines that each clerk types again and again after USE T, and their answers.
+const LINES: [&[u8]; 2] = [
+    b"GO 2\n? RECNO()\nGO 1\n? RECNO()\n? EOF()\n",
+    b"? RECNO()\nSKIP\n? EOF()\nGO 1\nnonsense\n",
+];
+
+const ANSWERS: [&[u8]; 2] = [
+    b"OK\n2\nOK\n1\n.F.\n",
+    b"1\nOK\n.F.\nOK\nREFUSED 19 BadCommand\n",
+];
+
+// How many lines these are.
+const BLOCK: u64 = 5;
+
+// How often two clerks type them, who read at once. The first types all at once, and the second waits for the answers of each five.
+const EVEN: [u64; 2] = [40, 40];
+
+// How often they do where the first reads nothing before the second has all answers: more than may wait for a station.
+const UNEVEN: [u64; 2] = [1_400, 40];
+
+// A text after another, so many times.
+fn repeated(alloc: Global, first: &[u8], block: &[u8], times: u64) -> Result<Vec<u8>, AllocError> {
+    let mut text = Vec::new(alloc);
+    text.extend_from_slice(first)?;
+    for _ in 0..times {
+        text.extend_from_slice(block)?;
+    }
+    Ok(text)
+}
+
+// The turns of a clerk who types the lines of a block once the block before is answered at the own station.
+fn turns_of<'a>(
+    alloc: Global,
+    station: usize,
+    block: &'a [u8],
+    times: u64,
+) -> Result<Vec<Turn<'a>>, AllocError> {
+    let mut turns = vec![in alloc;
+        Turn {
+            station,
+            answers: 0,
+            text: b"USE T\n",
+        },
+    ]?;
+    for done in 0..times {
+        turns.push(Turn {
+            station,
+            answers: answer_count(done),
+            text: block,
+        })?;
+    }
+    Ok(turns)
+}
+
+// How many answers a station has.
+fn answer_count(times: u64) -> u64 {
+    times.saturating_mul(BLOCK).saturating_add(1)
+}
+
+// Whether a station was answered all its lines.
+fn is_answered(
+    alloc: Global,
+    left: Option<&Left>,
+    answers: &[u8],
+    times: u64,
+) -> Result<bool, AllocError> {
+    let wanted = repeated(alloc, b"OK\n", answers, times)?;
+    Ok(match left {
+        Some(
+            Left {
+                shown: Some(shown),
+                end: LinesEnd::Ended,
+                all_printed: true,
+                file: Some(file),
+            },
+        ) => shown.as_slice() == wanted.as_slice() && file.as_slice() == wanted.as_slice(),
+        _ => false,
+    })
+}
+
+// Whether both stations were.
+fn are_answered(alloc: Global, day: &LeftDay, times: [u64; 2]) -> Result<bool, AllocError> {
+    let first = is_answered(alloc, day.station(1), ANSWERS[0], times[0])?;
+    let second = is_answered(alloc, day.station(2), ANSWERS[1], times[1])?;
+    let count = answer_count(times[0]).saturating_add(answer_count(times[1]));
+    Ok(first && second && day.count() == Some(count) && day.all_heard)
+}
+
+// Whether two clerks are answered all their lines, of whom the first reads once this was shown.
+fn ends_whole<R: Runtime + Files<File = File> + AllocGlobal + Threads + Wait + Sync>(
+    rt: &R,
+    times: [u64; 2],
+    waits: Option<(usize, u64)>,
+) -> Result<bool, Fail> {
+    let alloc = rt.alloc();
+    let first = repeated(alloc, b"USE T\n", LINES[0], times[0])?;
+    let second = turns_of(alloc, 2, LINES[1], times[1])?;
+    let clerks = [
+        Clerk {
+            turns: &[Turn {
+                station: 1,
+                answers: 0,
+                text: first.as_slice(),
+            }],
+            then: Then::Ends,
+            waits,
+            room: Some(ALL),
+        },
+        Clerk {
+            turns: second.as_slice(),
+            then: Then::Ends,
+            waits: None,
+            room: Some(ALL),
+        },
+    ];
+    let day = live(rt, "many", &clerks)?;
+    Ok(are_answered(alloc, &day, times)?)
+}
+
+#[test]
+fn two_clerks_with_very_many_lines_are_answered_all(rt: HostRuntime) -> Result<(), Fail> {
+    assert!(rt; ends_whole(&rt, EVEN, None)?);
+    Ok(())
+}
+
+#[test]
+fn nobody_waits_for_a_clerk_who_does_not_read(rt: HostRuntime) -> Result<(), Fail> {
+    assert!(rt; ends_whole(&rt, UNEVEN, Some((2, answer_count(UNEVEN[1]))))?);
+    Ok(())
+}
