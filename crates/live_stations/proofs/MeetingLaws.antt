@@ -1,5 +1,5 @@
 -- The ends of a station's rings meet again.
-use Rattle.std.proofs.Common.{◌≡◌, ◌∙◌, Bool, true, false, ◌&&◌, ℕ, zero, suc, ◌+◌, ◌<◌, ◌↔◌, List, [], ◌∷◌, ◌++◌, length, refl, sym, ap, subst, append_assoc, arith, length-append}
+use Rattle.std.proofs.Common.{◌≡◌, ◌∙◌, Bool, true, false, ◌&&◌, ℕ, zero, suc, ◌+◌, ◌<◌, ◌≤◌, ◌↔◌, List, [], ◌∷◌, ◌++◌, length, refl, sym, ap, subst, append_assoc, arith, length-append}
 use Rattle.std.specs.Prelude.{map, not, is_some, Option, Some, None, Result, Ok, Err, IfOk, IfErr, IsSome}
 use Rattle.std.proofs.lemmas.List.{length-map}
 use Rattle.clap.specs.Words.{Text}
@@ -27,7 +27,7 @@ use Rattle.live_stations.specs.Handed.{shown_to, AnswerRing, AreHandedFrom, IsHa
 use Rattle.live_stations.specs.Hearings.{ahead_lines, is_over_of, over_mark, AreHeardFrom, AreOver, IsHeard, IsHeardOf, IsOver}
 use Rattle.live_stations.specs.Items.{as_own, item_lines, lines_of, Item}
 use Rattle.live_stations.specs.Pairs.{AreFrom}
-use Rattle.live_stations.specs.Stations.{answers_in, lines_in, AreMeeting, AreMet, AreRings, AreUnused, HaveLeft, HavePrinted, HaveTyped, IsAnswerRing, IsHandedToPrinter, IsHeardOfTypist, IsLeft, IsLineRing, IsLivedBy}
+use Rattle.live_stations.specs.Stations.{answers_in, lines_in, AreMeeting, AreMet, AreOf, AreRings, AreUnused, HaveLeft, HavePrinted, HaveTyped, IsAnswerRing, IsHandedToPrinter, IsHeardOfTypist, IsLeft, IsLineRing, IsLivedBy}
 use Rattle.live_stations.specs.Typists.{lines_sent, typed_at, IsRest, IsTypistEnd}
 use Rattle.live_stations.proofs.PairLaws.{each_snoc, pair_all, pair_alone, pair_length, pair_of_map, pair_snoc, pair_through}
 
@@ -217,6 +217,35 @@ unused_from n (h ∷ hs) (a ∷ rs) (e ∷ es) lines answers =
 
 pub rings_unused : (hs : List Hearing) (rs : List AnswerRing) (es : List StationEnds) → AreRings 1 hs rs es → AreUnused es
 rings_unused hs rs es rings = unused_from 1 hs rs es rings.lines rings.answers
+
+of_from : (n count : ℕ) (hs : List Hearing) (es : List StationEnds) → AreFrom (λ k h e. IsLineRing k h e) n hs es → 1 ≤ n → n + length es ≤ suc count → AreOf count es
+of_from n count [] [] are first last = tt
+of_from n count [] (e ∷ es) are first last = absurd are
+of_from n count (h ∷ hs) [] are first last = absurd are
+of_from n count (h ∷ hs) (e ∷ es) are first last =
+    let station : e.station ≡ n = are.0.ends_of in
+    let low : 1 ≤ e.station = omega (arith, station, first) in
+    let high : e.station ≤ count = omega (arith, station, last) in
+    let next : 1 ≤ n + 1 = omega arith in
+    let others : (n + 1) + length es ≤ suc count = omega (arith, last) in
+    ((low, high), of_from (n + 1) count hs es are.1 next others)
+
+-- the rings are those of stations from 1 on
+pub rings_of : (hs : List Hearing) (rs : List AnswerRing) (es : List StationEnds) → AreRings 1 hs rs es → AreOf (length es) es
+rings_of hs rs es rings = of_from 1 (length es) hs es rings.lines (omega arith) (omega arith)
+
+of_one : (count : ℕ) (before : List StationEnds) (e : StationEnds) (rest : List StationEnds) → AreOf count (before ++ e ∷ rest) → (1 ≤ e.station) × (e.station ≤ count)
+of_one count [] e rest are = are.0
+of_one count (b ∷ before) e rest are = of_one count before e rest are.1
+
+-- a station's ends that come next are of one of so many stations
+pub station_of : (count : ℕ) (before : List StationEnds) (e : StationEnds) (rest others all : List StationEnds) → others ≡ e ∷ rest → before ++ others ≡ all → AreOf count all
+    → (1 ≤ e.station) × (e.station ≤ count)
+station_of count before e rest others all next all_are are =
+    of_one count before e rest (subst (AreOf count) (sym all_are ∙ ap (λ (l : List StationEnds). before ++ l) next) are)
+
+pub as_many : (hs : List Hearing) (rs : List AnswerRing) (es : List StationEnds) → AreRings 1 hs rs es → length hs ≡ length es
+as_many hs rs es rings = pair_length (λ k h e. IsLineRing k h e) 1 hs es rings.lines
 
 pub same_length : {A B C : Type 0} (f : A → C) (h : B → C) (xs : List A) (ys : List B) → map f xs ≡ map h ys → length xs ≡ length ys
 same_length f h xs ys same = sym (length-map xs f) ∙ ap length same ∙ length-map ys h

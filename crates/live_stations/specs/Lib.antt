@@ -2,6 +2,7 @@ pub mod Done
 pub mod Handed
 pub mod Hearings
 pub mod Items
+pub mod LiveSetups
 pub mod Pairs
 pub mod Setups
 pub mod Stations

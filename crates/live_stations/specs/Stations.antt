@@ -44,6 +44,10 @@ pub record IsUnused (e : StationEnds) : Type 0 where
 abbrev pub AreUnused : List StationEnds → Type 0
 AreUnused ends = AllByRecursion IsUnused ends
 
+-- each is of one of so many stations
+abbrev pub AreOf : ℕ → List StationEnds → Type 0
+AreOf count ends = AllByRecursion (λ e. (1 ≤ e.station) × (e.station ≤ count)) ends
+
 -- the threads that had these ends of rings have left these
 abbrev pub HaveTyped : {K : Type 0} → (K → List Typed) → List LineRing → List (Typist K) → Type 0
 HaveTyped typed first ends = AreFrom (λ n f e. IsTypistEnd typed f e) 1 first ends
@@ -76,6 +80,7 @@ HaveLeft typed contents items shown all_heard stations = EachFrom (IsLeft typed 
 pub record IsLineRing (station : ℕ) (h : Hearing) (e : StationEnds) : Type 0 where
   pub pair : IsPair e.lines h.lines
   pub station_is : h.station ≡ station
+  pub ends_of : e.station ≡ station
   pub unsent : sent e.lines ≡ []
   pub unheard : received h.lines ≡ []
   pub none_ahead : h.ahead ≡ None
@@ -130,9 +135,9 @@ IsWhyNotLived m opens files words unshown items ended =
     IfErr ended (IsWhyUnlived m opens (IsDayFault m (unshown ≡ true) (CanReadNoMore ⊥ (item_lines items))) files words)
 
 -- A day was lived, and what the threads of its stations have left of it.
-pub record IsScopeLeft {D K W : Type 0} (m : DiskMeaning D) (opens : List ℕ → D → Type 0) (files : Option (List NamedFile)) (words : List Text)
+pub record IsScopeLeft {D K W O E : Type 0} (m : DiskMeaning D) (opens : List ℕ → D → Type 0) (files : Option (List NamedFile)) (words : List Text)
     (typed : K → List Typed) (contents : W → Option (List ℕ)) (hearings : List Hearing) (answers : List AnswerRing) (stations : List StationEnds)
-    (left : ScopeLeft K W) : Type 0 where
+    (left : ScopeLeft K W O E) : Type 0 where
   pub items : List Item
   pub shown : List ShownLine
   pub unshown : Bool
@@ -147,8 +152,8 @@ pub record IsScopeLeft {D K W : Type 0} (m : DiskMeaning D) (opens : List ℕ �
 
 -- A day of several stations: it was lived of what they said, and each has left this. Only these are named, and what they say asks for nothing of
 -- the keyboard.
-pub record IsStationsDay {D K W : Type 0} (m : DiskMeaning D) (opens : List ℕ → D → Type 0) (files : Option (List NamedFile)) (words : List Text)
-    (typed : K → List Typed) (contents : W → Option (List ℕ)) (count : ℕ) (day : StationsDay K W) : Type 0 where
+pub record IsStationsDay {D K W O E : Type 0} (m : DiskMeaning D) (opens : List ℕ → D → Type 0) (files : Option (List NamedFile)) (words : List Text)
+    (typed : K → List Typed) (contents : W → Option (List ℕ)) (count : ℕ) (day : StationsDay K W O E) : Type 0 where
   pub items : List Item
   pub shown : List ShownLine
   pub unshown : Bool

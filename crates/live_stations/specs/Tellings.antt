@@ -1,5 +1,7 @@
--- What is said of a station whose lines or answers were not all had.
-use Rattle.std.specs.Prelude.{Bool, true, false, ℕ, ◌+◌, List, [], ◌∷◌, ◌++◌, codes, Option, Some, None}
+-- What is said of a station whose lines or answers were not all had, and of a day's end.
+use Rattle.std.specs.Prelude.{◌≡◌, ◌≤◌, Bool, true, false, ℕ, ◌+◌, List, [], ◌∷◌, ◌++◌, codes, Option, Some, None, Result, IfErr, IfOk, IfSome, IsErr, OnOk}
+use Rattle.std.specs.Io.KnownBytes.{Appends}
+use Rattle.std.specs.Process.{exit_status}
 use Rattle.std.specs.Fmt.{decimal}
 use Rattle.station_lines.specs.declared.script.format.TheConstants.{LF}
 use Rattle.live_day.specs.declared.keyboard.TypingFault.TheVariants as typing
@@ -11,6 +13,12 @@ use Rattle.program_frame.specs.declared.ending.Failure.{Failure}
 use Rattle.program_frame.specs.declared.ending.Failure.TheVariants as failure
 use Rattle.live_program.specs.declared.failure.LiveFailure.{LiveFailure}
 use Rattle.live_program.specs.declared.failure.LiveFailure.TheVariants as live
+use Rattle.live_program.specs.declared.lived.Lived.{Lived}
+use Rattle.live_program.specs.declared.running.TheConstants.{PROGRAM}
+use Rattle.live_program.specs.Endings.{count_line, no_memory, reason, status}
+use Rattle.program_frame.specs.declared.telling.Told.{Told}
+use Rattle.program_frame.specs.Endings.{ending_line, ending_status, failure_status, failure_words}
+use Rattle.program_frame.specs.Telling.{unprinted_line}
 use Rattle.live_stations.specs.declared.threads.ThreadFault.{ThreadFault}
 use Rattle.live_stations.specs.declared.threads.ThreadFault.TheVariants as thread
 use Rattle.live_stations.specs.declared.day.StationLeft.{StationLeft}
@@ -51,3 +59,19 @@ stations_text n (left ∷ stations) = station_text n left.end left.all_printed +
 abbrev pub unlived : ThreadFault → Ending (Failure LiveFailure)
 unlived (thread.NoThread station) = ending.Failed (failure.Work (live.Serve (serve.Run (run.NoThread station))))
 unlived thread.NoMemory = ending.Failed (failure.Work (live.Serve serve.NoMemory))
+
+-- why a day of so many stations has not begun: one of them has no threads, or memory was refused
+abbrev pub IsThreadFault : ℕ → ThreadFault → Type 0
+IsThreadFault count (thread.NoThread station) = (1 ≤ station) × (station ≤ count)
+IsThreadFault count thread.NoMemory = Unit {0}
+
+-- The end of a day was told: how many commands there were, on the one stream, or why it ended before its time, on the other, after what was said there before.
+pub record IsEndTold {O E : Type 0} (printed : O → Option (List ℕ)) (said : E → Option (List ℕ)) (old new : O) (err : E)
+    (ended : Result Lived (Ending (Failure LiveFailure))) (told : Told) : Type 0 where
+  pub before : Option (List ℕ)
+  pub done : IfOk ended (λ lived. exit_status told.status ≡ 0)
+  pub failed : IfErr ended (λ why. exit_status told.status ≡ ending_status (failure_status status) why)
+  pub text : IfOk ended (λ lived. OnOk told.out (Appends (printed old) (printed new) (count_line lived.count)))
+  pub line : IfErr ended (λ why. IfSome (ending_line (failure_words reason) (failure.Work no_memory) PROGRAM.now why) (λ line.
+      OnOk told.err (Appends before (said err) line)))
+  pub unprinted : IsErr told.out → OnOk told.err (Appends before (said err) (unprinted_line PROGRAM.now))

@@ -1,10 +1,11 @@
 //! A day of several stations, each with a keyboard and a screen of its own.
 
-ghost use Rattle.std.specs.Prelude.{◌≡◌, ◌≤◌, ℕ, Bool, true, List, [], length, map, vec_capacity, vec_len, IfOk};
+ghost use Rattle.std.specs.Prelude.{◌≡◌, ◌≤◌, ℕ, Bool, true, List, [], length, map, vec_capacity, vec_len, IfErr, IfOk};
 ghost use Rattle.rtrb.specs.Ring.{IsPair};
 ghost use Rattle.live_day.specs.Shows.{ShownLine};
 ghost use Rattle.live_stations.specs.Hearings.{IsOver};
 ghost use Rattle.live_stations.specs.Items.{Item};
+ghost use Rattle.live_stations.specs.Tellings.{IsEndTold, IsThreadFault};
 ghost use Rattle.live_stations.specs.Stations.{AreMeeting, AreMet, AreRings, HaveLeft, IsAnswerRing, IsHandedToPrinter, IsHeardOfTypist, IsLeft, IsLineRing, IsScopeLeft, IsStationsDay};
 
 use crate::handed_answers::HandedAnswers;
@@ -46,11 +47,15 @@ pub struct StationLeft<K: Drop, W: Drop> {
 
 /// What a day of several stations leaves.
 #[derive(Drop)]
-pub struct StationsDay<K: Drop, W: Drop> {
+pub struct StationsDay<K: Drop, W: Drop, O: Drop, E: Drop> {
     /// How it ended.
     pub ended: Result<Lived, Ending<Failure<LiveFailure>>>,
     /// What was told of that.
     pub told: Told,
+    /// Where this was told.
+    pub out: O,
+    /// Where warnings went, and why the day ended before its time.
+    pub err: E,
     /// Whether all lines that were sent were read.
     pub all_heard: bool,
     /// What each station leaves, in their order.
@@ -121,9 +126,11 @@ fn make_rings(alloc: Global, count: u32) -> Result<Ends, AllocError>
 
 // What a scope leaves.
 #[derive(Drop)]
-struct ScopeLeft<K: Keyboard + Drop, W: Write + Drop> {
+struct ScopeLeft<K: Keyboard + Drop, W: Write + Drop, O: Drop, E: Drop> {
     ended: Result<Lived, Ending<Failure<LiveFailure>>>,
     told: Told,
+    out: O,
+    err: E,
     all_heard: bool,
     hearings: Vec<Hearing>,
     answers: Vec<Producer<Bytes>>,
@@ -151,12 +158,14 @@ fn live_in_scope<
     terminals: &'s T,
     ends: Ends,
     asked: Asked<'_, Y, S, O, E, W>,
-) -> Result<ScopeLeft<T::Keyboard, T::Screen>, ThreadFault>
+) -> Result<ScopeLeft<T::Keyboard, T::Screen, O, E>, ThreadFault>
     requires rings { AreRings 1 ends.hearings.items ends.answers.items ends.stations.items }
     requires hearings { ends.hearings.items ≡ J.hearings }
     requires answers { ends.answers.items ≡ J.answers }
     ensures left { IfOk result (IsScopeLeft Y.Disk.meaning (Y.opens asked.entry.places.now) (S.files asked.entry.source) (map W.text asked.entry.words.now)
         T.Keyboard.typed T.Screen.contents ends.hearings.items ends.answers.items ends.stations.items) }
+    ensures told { IfOk result (λ left. IsEndTold O.contents E.contents asked.entry.out left.out left.err left.ended left.told) }
+    ensures fault { IfErr result (IsThreadFault (length ends.hearings.items)) }
 {
     let Ends {
         hearings,
@@ -198,6 +207,8 @@ fn live_in_scope<
     Ok(ScopeLeft {
         ended,
         told,
+        out,
+        err,
         all_heard: keyboard.has_ended(),
         hearings: keyboard.into_hearings(),
         answers: screen.into_rings(),
@@ -298,22 +309,26 @@ fn live_by_rings<
     terminals: &T,
     ends: Ends,
     asked: Asked<'_, Y, S, O, E, W>,
-) -> Result<ScopeLeft<T::Keyboard, T::Screen>, ThreadFault>
+) -> Result<ScopeLeft<T::Keyboard, T::Screen, O, E>, ThreadFault>
     requires rings { AreRings 1 ends.hearings.items ends.answers.items ends.stations.items }
     requires hearings { ends.hearings.items ≡ J.hearings }
     requires answers { ends.answers.items ≡ J.answers }
     ensures left { IfOk result (IsScopeLeft Y.Disk.meaning (Y.opens asked.entry.places.now) (S.files asked.entry.source) (map W.text asked.entry.words.now)
         T.Keyboard.typed T.Screen.contents ends.hearings.items ends.answers.items ends.stations.items) }
+    ensures told { IfOk result (λ left. IsEndTold O.contents E.contents asked.entry.out left.out left.err left.ended left.told) }
+    ensures fault { IfErr result (IsThreadFault (length ends.hearings.items)) }
 {
     thread::scope(
         thread::scope_env(),
         rt,
-        |scope| -> Result<ScopeLeft<T::Keyboard, T::Screen>, ThreadFault>
+        |scope| -> Result<ScopeLeft<T::Keyboard, T::Screen, O, E>, ThreadFault>
             requires rings { AreRings 1 ends.hearings.items ends.answers.items ends.stations.items }
             requires hearings { ends.hearings.items ≡ J.hearings }
             requires answers { ends.answers.items ≡ J.answers }
             ensures left { IfOk result (IsScopeLeft Y.Disk.meaning (Y.opens asked.entry.places.now) (S.files asked.entry.source) (map W.text asked.entry.words.now)
                 T.Keyboard.typed T.Screen.contents ends.hearings.items ends.answers.items ends.stations.items) }
+            ensures told { IfOk result (λ left. IsEndTold O.contents E.contents asked.entry.out left.out left.err left.ended left.told) }
+            ensures fault { IfErr result (IsThreadFault (length ends.hearings.items)) }
         {
             live_in_scope::<_, J, Y, S, T, O, E, R, W>(
                 scope, rt, alloc, office, terminals, ends, asked,
@@ -339,12 +354,14 @@ fn live_with<
     terminals: &T,
     ends: Ends,
     asked: Asked<'_, Y, S, O, E, W>,
-) -> Result<StationsDay<T::Keyboard, T::Screen>, ThreadFault>
+) -> Result<StationsDay<T::Keyboard, T::Screen, O, E>, ThreadFault>
     requires rings { AreRings 1 ends.hearings.items ends.answers.items ends.stations.items }
     requires hearings { ends.hearings.items ≡ J.hearings }
     requires answers { ends.answers.items ≡ J.answers }
     ensures day { IfOk result (IsStationsDay Y.Disk.meaning (Y.opens asked.entry.places.now) (S.files asked.entry.source) (map W.text asked.entry.words.now)
         T.Keyboard.typed T.Screen.contents (length ends.hearings.items)) }
+    ensures told { IfOk result (λ day. IsEndTold O.contents E.contents asked.entry.out day.out day.err day.ended day.told) }
+    ensures fault { IfErr result (IsThreadFault (length ends.hearings.items)) }
 {
     let mut room = Vec::new(alloc);
     room.reserve(ends.hearings.len())?;
@@ -352,6 +369,8 @@ fn live_with<
     Ok(StationsDay {
         ended: left.ended,
         told: left.told,
+        out: left.out,
+        err: left.err,
         all_heard: left.all_heard,
         stations: meet_all(
             left.hearings,
@@ -364,7 +383,7 @@ fn live_with<
 }
 
 /// Lives a day of so many stations as the words ask for, each with a keyboard and a screen of its own, which are opened once the day has begun.
-/// `NoThread` where a station has no threads, or there are 2^32 stations or more; `NoMemory` where memory is refused before the day begins.
+/// `NoThread` names a station that has no threads, or stands for the stations from 2^32 on; `NoMemory` where memory is refused before the day begins.
 pub fn live_stations<
     Y: Places,
     S: Source + Drop,
@@ -379,9 +398,11 @@ pub fn live_stations<
     terminals: &T,
     stations: usize,
     asked: Asked<'_, Y, S, O, E, W>,
-) -> Result<StationsDay<T::Keyboard, T::Screen>, ThreadFault>
+) -> Result<StationsDay<T::Keyboard, T::Screen, O, E>, ThreadFault>
     ensures day { IfOk result (IsStationsDay Y.Disk.meaning (Y.opens asked.entry.places.now) (S.files asked.entry.source) (map W.text asked.entry.words.now)
         T.Keyboard.typed T.Screen.contents stations) }
+    ensures told { IfOk result (λ day. IsEndTold O.contents E.contents asked.entry.out day.out day.err day.ended day.told) }
+    ensures fault { IfErr result (IsThreadFault stations) }
 {
     let Ok(count) = u32::try_from(stations) else {
         return Err(ThreadFault::NoThread(u32::MAX));

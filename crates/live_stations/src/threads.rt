@@ -1,10 +1,12 @@
 //! The threads of the stations: two each, one for what is typed and one for what is printed.
 
-ghost use Rattle.std.specs.Prelude.{◌≡◌, ◌+◌, ◌≤◌, [], map, vec_capacity, vec_len, IfOk};
+ghost use Rattle.std.specs.Prelude.{◌≡◌, ◌+◌, ◌≤◌, [], length, map, vec_capacity, vec_len, IfErr, IfOk};
 ghost use Rattle.rtrb.specs.Ring.{received, sent};
 ghost use Rattle.live_stations.specs.Handed.{IsPrinterEnd};
 ghost use Rattle.live_stations.specs.Typists.{IsTypistEnd};
-ghost use Rattle.live_stations.specs.Stations.{answers_in, lines_in, AreUnused, HavePrinted, HaveTyped, IsUnused};
+ghost use Rattle.live_stations.specs.Stations.{answers_in, lines_in, AreOf, AreUnused, HavePrinted, HaveTyped, IsUnused};
+ghost use Rattle.live_stations.specs.Tellings.{IsThreadFault};
+ghost use Rattle.live_stations.specs.declared.threads.ThreadFault.TheVariants.{NoThread};
 
 use crate::heard::Heard;
 use crate::office::{Office, Place};
@@ -109,6 +111,7 @@ fn start_typist<'s, E, T: Terminals + Sync, R: Threads + Wait + Sync>(
 ) -> Result<TypistThread<T::Keyboard>, ThreadFault>
     requires unsent { sent lines ≡ [] }
     ensures lines { IfOk result (λ thread. thread.promise.lines.value ≡ lines) }
+    ensures fault { IfErr result (λ fault. fault ≡ NoThread station) }
 {
     let promise = Types {
         lines: Snapshot::of(&lines),
@@ -138,6 +141,7 @@ fn start_printer<'s, E, T: Terminals + Sync, R: Threads + Wait + Sync>(
 ) -> Result<PrinterThread<T::Screen>, ThreadFault>
     requires untaken { received answers ≡ [] }
     ensures answers { IfOk result (λ thread. thread.promise.answers.value ≡ answers) }
+    ensures fault { IfErr result (λ fault. fault ≡ NoThread station) }
 {
     let promise = Prints {
         answers: Snapshot::of(&answers),
@@ -171,6 +175,8 @@ pub(crate) fn start_threads<'s, E, T: Terminals + Sync, R: Threads + Wait + Sync
     ends: Vec<StationEnds>,
 ) -> Result<StationThreads<T>, ThreadFault>
     requires unused { AreUnused ends.items }
+    requires stations { AreOf (length ends.items) ends.items }
+    ensures fault { IfErr result (IsThreadFault (length ends.items)) }
     ensures typists { IfOk result (λ threads. map (λ h. h.promise.lines.value) threads.typists.items ≡ map lines_in ends.items) }
     ensures printers { IfOk result (λ threads. map (λ h. h.promise.answers.value) threads.printers.items ≡ map answers_in ends.items) }
 {

@@ -1,6 +1,7 @@
 //! A source of which one file was read already.
 
-ghost use Rattle.std.specs.Prelude.{◌≡◌, IfOk};
+ghost use Rattle.std.specs.Prelude.{◌≡◌};
+ghost use Rattle.live_stations.specs.Setups.{IsLoaded};
 
 use byte_io::Bytes;
 use folders::{LoadFault, Source};
@@ -26,19 +27,16 @@ impl<S: Source + Drop> Model for WithSetup<S> {
 }
 
 impl<S: Source + Drop> WithSetup<S> {
-    /// Reads the setup of a path. It fails as the source does.
-    pub fn load(alloc: Global, source: S, path: &[u8]) -> Result<WithSetup<S>, LoadFault>
-        ensures files { IfOk result (λ kept. S.files kept ≡ S.files source) }
-        ensures failures { IfOk result (λ kept. S.failures kept ≡ S.failures source) }
+    // A source of which the setup of a path was read.
+    pub(crate) fn new(source: S, path: Bytes, setup: Bytes) -> WithSetup<S>
+        requires loaded { IsLoaded (S.files source) path setup }
+        ensures value { result ≡ source }
     {
-        let mut source = source;
-        let setup = source.load(alloc, path)?;
-        let path = Bytes::from_slice(alloc, path)?;
-        Ok(WithSetup {
+        WithSetup {
             source,
             path,
             setup,
-        })
+        }
     }
 }
 

@@ -29,64 +29,73 @@ use std::thread::Threads;
 fn main(rt: HostRuntime) -> ExitCode {
     let at_terminal = rt.stdin().is_terminal() && rt.stdout().is_terminal();
     let prompt = if at_terminal { Some(rt.stdout()) } else { None };
-    let live = match read_live(&rt) {
-        Ok(live) => live,
-        Err(ending) => return tell_failure(&mut rt.stdout(), &mut rt.stderr(), ending),
+    let (words, setup) = match read_words(&rt) {
+        Ok(read) => read,
+        Err(ending) => return tell_end(&mut rt.stdout(), &mut rt.stderr(), Err(ending)),
     };
-    if let Some(Live { words, setup }) = live {
-        let LiveSetup { source, paths } = setup;
-        let count = paths.len();
-        // Only here it is known that the system's runtime may be used by several threads.
-        let stations = StationPaths::new(&rt, paths);
-        let lived = run_live(
-            &rt,
-            words.as_slice(),
-            source,
-            &stations,
-            count,
-            rt.stdout(),
-            rt.stderr(),
-        );
-        return match lived {
-            Ok(day) => {
-                // An error stream that takes no text changes nothing.
-                let _ = tell_stations(&mut rt.stderr(), day.stations.as_slice());
-                day.told.status
-            }
-            Err(ending) => tell_failure(&mut rt.stdout(), &mut rt.stderr(), ending),
-        };
+    match setup {
+        LiveSetup::Live { source, paths } => {
+            let count = paths.len();
+            // Only here it is known that the system's runtime may be used by several threads.
+            let stations = StationPaths::new(&rt, paths);
+            let lived = run_live(
+                &rt,
+                words.as_slice(),
+                source,
+                &stations,
+                count,
+                rt.stdout(),
+                rt.stderr(),
+            );
+            tell_live(&mut rt.stdout(), &mut rt.stderr(), lived)
+        }
+        LiveSetup::NotLive { source } => {
+            let ended = run_words(
+                &rt,
+                words.as_slice(),
+                source,
+                prompt,
+                rt.stdout(),
+                &mut rt.stderr(),
+            );
+            tell_end(&mut rt.stdout(), &mut rt.stderr(), ended)
+        }
     }
-    let ended = run_words(&rt, prompt, rt.stdout(), &mut rt.stderr());
-    tell(&mut rt.stdout(), &mut rt.stderr(), PROGRAM, &ended).status
 }
 
-// Tells why nothing was done: the exit status.
-fn tell_failure<O: Write, E: Write>(
+// Tells how a day ended: the exit status.
+fn tell_end<O: Write, E: Write>(
     out: &mut O,
     err: &mut E,
-    ending: Ending<Failure<LiveFailure>>,
+    ended: Result<Lived, Ending<Failure<LiveFailure>>>,
 ) -> ExitCode {
-    let ended: Result<Lived, Ending<Failure<LiveFailure>>> = Err(ending);
     tell(out, err, PROGRAM, &ended).status
 }
 
-// The words of a command line that asks for live stations, and their setup.
-#[derive(Drop)]
-struct Live<R: Files + Drop> {
-    words: Vec<String>,
-    setup: LiveSetup<DiskSource<R>>,
+// Tells what there is to say of each station, or why there was no day of theirs: the exit status.
+fn tell_live<K: Drop, S: Drop, P: Drop, F: Drop, O: Write, E: Write>(
+    out: &mut O,
+    err: &mut E,
+    lived: Result<StationsDay<K, S, P, F>, Ending<Failure<LiveFailure>>>,
+) -> ExitCode {
+    match lived {
+        Ok(day) => {
+            // An error stream that takes no text changes nothing.
+            let _ = tell_stations(err, day.stations.as_slice());
+            day.told.status
+        }
+        Err(ending) => tell_end(out, err, Err(ending)),
+    }
 }
 
-// Reads the setup of live stations, where the words of the command line ask for them.
-fn read_live<R: Runtime + Files<File = File> + AllocGlobal>(
+// The words of the command line, and what they and the setup say of live stations.
+fn read_words<R: Runtime + Files<File = File> + AllocGlobal>(
     rt: &R,
-) -> Result<Option<Live<R>>, Ending<Failure<LiveFailure>>> {
+) -> Result<(Vec<String>, LiveSetup<DiskSource<R>>), Ending<Failure<LiveFailure>>> {
     let alloc = rt.alloc();
     let words: Vec<String> = env::args(rt)?.collect(alloc)?;
-    match live_setup(alloc, DiskSource::new(rt.clone()?), words.as_slice())? {
-        Some(setup) => Ok(Some(Live { words, setup })),
-        None => Ok(None),
-    }
+    let setup = live_setup(alloc, DiskSource::new(rt.clone()?), words.as_slice())?;
+    Ok((words, setup))
 }
 
 // Lives a day with live stations, and has its end told.
@@ -104,7 +113,7 @@ fn run_live<
     count: usize,
     out: O,
     err: E,
-) -> Result<StationsDay<T::Keyboard, T::Screen>, Ending<Failure<LiveFailure>>> {
+) -> Result<StationsDay<T::Keyboard, T::Screen, O, E>, Ending<Failure<LiveFailure>>> {
     let asked = Asked {
         places: &HostPlaces::new(rt),
         source,
@@ -115,16 +124,23 @@ fn run_live<
     Ok(live_stations(rt, rt.alloc(), stations, count, asked)?)
 }
 
-// Runs the program on the words of its command line, over the system.
+// Lives a day of one keyboard, over the system.
 fn run_words<
     R: Runtime + Files<File = File> + AllocGlobal + Threads,
+    S: Source + Drop,
     P: Write + Drop,
     W: Write + Drop,
     E: Write,
->(rt: &R, prompt: Option<P>, out: W, err: &mut E) -> Result<Lived, Ending<Failure<LiveFailure>>> {
+>(
+    rt: &R,
+    words: &[String],
+    source: S,
+    prompt: Option<P>,
+    out: W,
+    err: &mut E,
+) -> Result<Lived, Ending<Failure<LiveFailure>>> {
     let alloc = rt.alloc();
-    let words: Vec<String> = env::args(rt)?.collect(alloc)?;
-    let mut source = DiskSource::new(rt.clone()?);
+    let mut source = source;
     let mut keyboard = TypedLines::new(BufReader::new(alloc, rt.reader())?, prompt);
     let mut screen = PrintedAnswers::new(out);
     run_program(
@@ -134,6 +150,6 @@ fn run_words<
         &mut keyboard,
         &mut screen,
         err,
-        words.as_slice(),
+        words,
     )
 }

@@ -164,13 +164,11 @@ pub(super) fn live_at<
     let alloc = rt.alloc();
     let counts = counts_of(alloc, clerks.len())?;
     let terminals = Clerks::new(rt, clerks, counts.as_slice());
-    let mut out: Vec<u8> = Vec::new(alloc);
-    let mut err: Vec<u8> = Vec::new(alloc);
     let asked = Asked {
         places,
         source,
-        out: &mut out,
-        err: &mut err,
+        out: Vec::new(alloc),
+        err: Vec::new(alloc),
         words: &words_of(folder),
     };
     let Ok(day) = live_stations(rt, alloc, &terminals, clerks.len(), asked) else {
@@ -179,6 +177,8 @@ pub(super) fn live_at<
     let StationsDay {
         ended,
         told,
+        out,
+        err,
         all_heard,
         stations,
     } = day;

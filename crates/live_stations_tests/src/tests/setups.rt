@@ -5,7 +5,7 @@ use super::living::{Left, LeftDay, SETUP, live_at, make_folder, source};
 use byte_io::Bytes;
 use folders::{LoadFault, MemorySource, Source};
 use live_program::HostPlaces;
-use live_stations::{LinesEnd, LiveSetup, live_setup};
+use live_stations::{LinesEnd, LiveSetup, WithSetup, live_setup};
 use std::alloc::Global;
 use std::fs;
 use std::fs::File;
@@ -117,8 +117,8 @@ fn are_paths(found: &[Bytes], paths: &[&str]) -> bool {
 fn has_paths(alloc: Global, (words, setup, paths): &Case) -> Result<bool, Fail> {
     let found = live_setup(alloc, source(alloc, setup, u64::MAX)?, words)?;
     Ok(match (found, paths) {
-        (None, None) => true,
-        (Some(live), Some(paths)) => are_paths(live.paths.as_slice(), paths),
+        (LiveSetup::NotLive { .. }, None) => true,
+        (LiveSetup::Live { paths: found, .. }, Some(paths)) => are_paths(found.as_slice(), paths),
         _ => false,
     })
 }
@@ -133,17 +133,29 @@ fn the_stations_of_a_setup_are_live_where_the_words_ask_for_it(
     Ok(())
 }
 
-// Live stations of the setup, of whose source so many loads are done.
-fn live_after(alloc: Global, loads: u64) -> Result<LiveSetup<MemorySource>, Fail> {
+// The source of live stations of the setup, of which so many loads are done.
+fn live_after(alloc: Global, loads: u64) -> Result<WithSetup<MemorySource>, Fail> {
     match live_setup(alloc, source(alloc, SETUP, loads)?, LIVE)? {
-        Some(live) => Ok(live),
-        None => Err("no live stations".into()),
+        LiveSetup::Live { source, .. } => Ok(source),
+        LiveSetup::NotLive { .. } => Err("no live stations".into()),
     }
+}
+
+// Whether no station is live where no load of the source is done.
+fn is_not_live_unread(alloc: Global) -> Result<bool, Fail> {
+    let found = live_setup(alloc, source(alloc, SETUP, 0)?, LIVE)?;
+    Ok(matches!(found, LiveSetup::NotLive { .. }))
+}
+
+#[test]
+fn no_station_is_live_where_the_setup_cannot_be_read(rt: HostRuntime) -> Result<(), Fail> {
+    assert!(rt; is_not_live_unread(rt.alloc())?);
+    Ok(())
 }
 
 // Whether a setup that was read by the one load of its source is there again and again, and no other file is.
 fn is_kept(alloc: Global) -> Result<bool, Fail> {
-    let LiveSetup { mut source, .. } = live_after(alloc, 1)?;
+    let mut source = live_after(alloc, 1)?;
     for _ in 0..3 {
         match source.load(alloc, b"A.SET") {
             Ok(setup) => {
@@ -190,7 +202,7 @@ fn count_after<R: Runtime + Files<File = File> + AllocGlobal + Threads + Wait + 
     loads: u64,
 ) -> Result<Option<u64>, Fail> {
     make_folder(rt, "live_setup")?;
-    let LiveSetup { source, .. } = live_after(rt.alloc(), loads)?;
+    let source = live_after(rt.alloc(), loads)?;
     let day = live_in(rt, source, "live_setup")?;
     fs::remove_dir_all(rt, "live_setup")?;
     Ok(day.count())

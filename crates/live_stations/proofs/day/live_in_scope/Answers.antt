@@ -1,14 +1,19 @@
-use Rattle.std.proofs.Common.{◌≡◌, ◌∙◌, List, length, map, subst, sym, arith}
+use Rattle.std.proofs.Common.{◌≡◌, ◌∙◌, ℕ, List, length, map, subst, sym, arith}
 use Rattle.live_stations.specs.Handed.{AnswerEnd, AnswerRing, AreHandedFrom}
 use Rattle.live_stations.specs.Hearings.{AreHeardFrom}
 use Rattle.live_stations.specs.Stations.{answers_in, lines_in, HavePrinted, HaveTyped}
+use Rattle.live_stations.specs.Tellings.{IsThreadFault}
 use Rattle.live_stations.specs.Typists.{LineRing}
 use Rattle.live_stations.specs.declared.hearing.Hearing.{Hearing}
-use Rattle.live_stations.proofs.MeetingLaws.{lived_by, rings_unhanded, rings_unheard, rings_unused, same_length}
+use Rattle.live_stations.proofs.MeetingLaws.{as_many, lived_by, rings_of, rings_unhanded, rings_unheard, rings_unused, same_length}
+use Rattle.live_stations.proofs.TellingLaws.{end_told}
 use Rattle.live_stations.proofs.day.live_in_scope.Goals as goal
 
 pub start_threads-requires-clause-unused : goal.start_threads-requires-clause-unused
 start_threads-requires-clause-unused g c κs within = rings_unused c.args.ends.hearings.items c.args.ends.answers.items c.args.ends.stations.items c.requires.rings
+
+pub start_threads-requires-clause-stations : goal.start_threads-requires-clause-stations
+start_threads-requires-clause-stations g c κs within = rings_of c.args.ends.hearings.items c.args.ends.answers.items c.args.ends.stations.items c.requires.rings
 
 pub new-keyboard-requires-clause-unheard : goal.new-keyboard-requires-clause-unheard
 new-keyboard-requires-clause-unheard g c = rings_unheard c.args.ends.hearings.items c.args.ends.answers.items c.args.ends.stations.items c.requires.rings
@@ -25,6 +30,10 @@ pub join_printers-requires-clause-room : goal.join_printers-requires-clause-room
 join_printers-requires-clause-room g c =
     let many : length c.in-Ok.threads.printers.items ≡ length c.args.ends.stations.items = same_length (λ h. h.promise.answers.value) answers_in _ _ c.in-Ok.ensures.printers in
     omega (arith, many, c.len-2.ensures, c.in_ok-reserve-2.ensures.ok)
+
+pub returns-in-Err-clause-fault : goal.returns-in-Err-clause-fault
+returns-in-Err-clause-fault g c =
+    subst (λ (k : ℕ). IsThreadFault k c.in-Err.fault) (sym (as_many c.args.ends.hearings.items c.args.ends.answers.items c.args.ends.stations.items c.requires.rings)) c.in-Err.ensures.fault
 
 pub returns : goal.returns
 returns g c =
@@ -49,4 +58,8 @@ returns g c =
         typed_there = subst (λ (l : List LineRing). HaveTyped typed l c.join_typists.result.items) c.in-Ok.ensures.typists c.join_typists.ensures.typed;
         printed_there = subst (λ (l : List AnswerEnd). HavePrinted contents l c.join_printers.result.items) c.in-Ok.ensures.printers c.join_printers.ensures.printed;
       };
+      told =
+          end_told g.O.Write.contents g.E.Write.contents c.args.asked.out c.tell-told.new.out c.run_program-ended.new.err c.tell-told.new.err c.run_program-ended.result c.tell-told.result c.tell-told.ensures.done c.tell-told.ensures.failed
+          c.tell-told.ensures.text c.tell-told.ensures.line c.tell-told.ensures.unprinted;
+      fault = tt;
     }

@@ -47,4 +47,6 @@ returns g c =
         own = λ some.
             own_of_left g.T.Keyboard.Keyboard.typed g.T.Screen.Write.contents s.items s.shown left.all_heard (length ends.hearings.items) c.meet_all.result.items are_named some each many;
       };
+      told = c.in_ok-left.ensures.told;
+      fault = tt;
     }

@@ -1,15 +1,15 @@
-use Rattle.std.proofs.Common.{◌≡◌, true, rules}
-use Rattle.live_stations.proofs.SetupLaws.{said_again}
+use Rattle.std.proofs.Common.{rules, ◌≡◌, true, false, refl, inl, inr, map}
+use Rattle.live_program.specs.Asked.{IsAskedIn}
+use Rattle.live_stations.proofs.SetupLaws.{asked_live}
 use Rattle.live_stations.proofs.words.live_setup.Goals as goal
 
-pub returns-clause-live : goal.returns-clause-live
-returns-clause-live g c =
-    let asked : c.in-Ok.options.live ≡ true = search rules in
+pub returns-then-not-options : goal.returns-then-not-options
+returns-then-not-options g c = record { found = inl (refl, inr (c.in-Some.options, search rules, search rules)) }
+
+pub returns : goal.returns
+returns g c =
+    let asked : IsAskedIn (map g.T.AsStr.text c.args.words.now) c.in-Some.options = search rules in
+    let live : c.in-Some.options.live ≡ true = search rules in
     record {
-      options = c.in-Ok.options;
-      asked = c.in-Ok.ensures.asked;
-      live = asked;
-      entries = c.in-Ok-read_setup.entries.items;
-      said = said_again _ _ _ _ _ (search rules) (search rules) c.in-Ok-read_setup.ensures.said;
-      paths_are = c.in_ok-paths.ensures.paths;
+      found = asked_live g.S.Source.files g.S.Source.failures c.args.source (map g.T.AsStr.text c.args.words.now) c.in-Some.options c.load_live.result asked live c.load_live.ensures.found;
     }
