@@ -9,11 +9,13 @@ use Rattle.key_expr.specs.Expression.{Expression}
 use Rattle.key_expr.specs.Keys.{key_length}
 use Rattle.ndx_index.specs.declared.pair.Pair.{Pair}
 use Rattle.table_order.specs.Laws.RecordOrders.{length-order}
+use Rattle.dbf_image.specs.Table.{Table}
 use Rattle.table_core.specs.Content.{Content, Held, Indexed, pairs_by, key_length_by}
+use Rattle.table_core.specs.Parts.{handed_of}
 use Rattle.catalogue_core.specs.Replay.{History, names_of, state_of}
 use Rattle.catalogue_core.specs.State.{no_content}
 use Rattle.office_run.specs.ClosedIndex.{index_with}
-use Rattle.office_run.specs.HandedOver.{end_of, index_of, AreEndOf, IsIndexFor}
+use Rattle.office_run.specs.HandedOver.{closed_with, end_of, index_of, AreEndOf, IsIndexFor, WasReadFor}
 
 -- there are not more pairs than records
 pub few_pairs : (content : Content) (at : Option Indexed) → length (pairs_by content at) ≤ length content.table.rows
@@ -37,6 +39,15 @@ index_is content (Some x) name e pairs named is all =
 pub all_for : (fields : List Field) (xs : List Indexed) → ((k : ℕ) → k < length xs → IfSome (slice_get xs k) (IsIndexFor fields)) → AllByRecursion (IsIndexFor fields) xs
 all_for fields [] each = tt
 all_for fields (x ∷ xs) each = (each 0 (omega arith), all_for fields xs (λ k low. each (suc k) (omega arith)))
+
+-- all indexes that a table has handed over, as their files are written
+pub closed_all : (table : Table) (xs : List Indexed) → map closed_with (map (handed_of table) xs) ≡ map (index_of table) xs
+closed_all table [] = refl
+closed_all table (x ∷ xs) = ap (λ l. index_of table x ∷ l) (closed_all table xs)
+
+pub read_all : (fields : List Field) (table : Table) (xs : List Indexed) → AllByRecursion (WasReadFor fields) (map (handed_of table) xs) → AllByRecursion (IsIndexFor fields) xs
+read_all fields table [] each = tt
+read_all fields table (x ∷ xs) each = (each.0, read_all fields table xs each.1)
 
 -- an element of a list that has grown: an earlier one, and the last
 pub get_front : {A : Type 0} (xs ys : List A) (i : ℕ) (x : A) → slice_get xs i ≡ Some x → slice_get (xs ++ ys) i ≡ Some x

@@ -6,6 +6,7 @@ use Rattle.dbf_image.specs.Table.{Table, IsTable}
 use Rattle.key_expr.specs.Rules.{IsKeyText}
 use Rattle.table_order.specs.TableOrder.{order}
 use Rattle.table_core.specs.Content.{Content, Indexed}
+use Rattle.table_core.specs.Parts.{HandedIndex}
 use Rattle.catalogue_core.specs.Replay.{History, names_of, state_of}
 use Rattle.catalogue_core.specs.State.{table_at}
 use Rattle.office_run.specs.declared.closed.ClosedTable.{ClosedTable}
@@ -19,6 +20,14 @@ index_of table index = index_with index.name index.expr (order table index.expr.
 pub record IsIndexFor (fields : List Field) (index : Indexed) : Type 0 where
   pub fields_are : index.expr.fields ≡ fields
   pub read : IsKeyText fields index.expr.text index.expr.expr
+
+-- an index that a table has handed over, as its file is written
+abbrev pub closed_with : HandedIndex → IndexContent
+closed_with index = index_with index.name index.expr index.pairs
+
+-- its expression was read for these fields
+abbrev pub WasReadFor : List Field → HandedIndex → Type 0
+WasReadFor fields index = IsIndexFor fields (record { name = index.name; expr = index.expr })
 
 -- a table with its indexes at the end of a history
 abbrev pub end_of : History → ℕ → Content

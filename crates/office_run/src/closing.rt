@@ -6,15 +6,17 @@ ghost use Rattle.std.specs.Option.{option_map};
 ghost use Rattle.dbf_image.specs.Table.{IsTable};
 ghost use Rattle.table_core.specs.Content.{index_at};
 ghost use Rattle.catalogue_core.specs.Replay.{History, names_of};
-ghost use Rattle.office_run.specs.HandedOver.{index_of, IsIndexFor, AreEndOf, AreHandedOver};
+ghost use Rattle.table_core.specs.Parts.{handed, IsWhole};
+ghost use Rattle.office_run.specs.HandedOver.{closed_with, index_of, IsIndexFor, WasReadFor, AreEndOf, AreHandedOver};
 
 use crate::closed::ClosedTable;
 use crate::closed_index::ClosedIndex;
 use byte_io::Bytes;
 use catalogue_core::Entry;
+use dbf_image::TableData;
 use shared_catalogue::Closed;
 use std::alloc::{AllocError, Global};
-use table_core::Table;
+use table_core::{IndexParts, Table};
 
 // The index of a number, from 1, with its pairs copied out.
 fn closed_index(alloc: Global, table: &Table, number: usize) -> Result<ClosedIndex, AllocError>
@@ -46,7 +48,37 @@ pub(crate) fn closed_indexes(alloc: Global, table: &Table) -> Result<Vec<ClosedI
     Ok(indexes)
 }
 
-// A table under its name, with its indexes, for the writing of its files.
+// An index that a table has handed over, for the writing of its file.
+fn closed_of(content: &TableData, parts: IndexParts) -> ClosedIndex
+    requires whole { IsWhole content.now parts }
+    ensures value { result ≡ closed_with (handed parts) }
+    ensures read { WasReadFor content.now.schema (handed parts) }
+{
+    // For contracts alone: the expression was read for the table's fields.
+    let _ = parts.expr.text();
+    // A pair for each record, and so no more than a file can have.
+    prove!(parts.pairs.len() <= content.record_count() as usize);
+    ClosedIndex::new(parts.name, parts.expr, parts.pairs)
+}
+
+// All indexes that a table has handed over, in order.
+fn all_closed(
+    alloc: Global,
+    content: &TableData,
+    indexes: Vec<IndexParts>,
+) -> Result<Vec<ClosedIndex>, AllocError>
+    requires whole { AllByRecursion (IsWhole content.now) indexes.items }
+    ensures value { IfOk result (λ closed. closed.items ≡ map closed_with (map handed indexes.items)) }
+    ensures read { OnOk result (AllByRecursion (WasReadFor content.now.schema) (map handed indexes.items)) }
+{
+    let mut closed = Vec::new(alloc);
+    for parts in indexes {
+        closed.push(closed_of(content, parts))?;
+    }
+    Ok(closed)
+}
+
+// A table under its name, with its indexes, for the writing of its files. Its records are not copied.
 fn closed_table(alloc: Global, name: Bytes, table: Table) -> Result<ClosedTable, AllocError>
     ensures named { IfOk result (λ closed. closed.name ≡ name) }
     ensures content { IfOk result (λ closed. closed.content ≡ table.content.table) }
@@ -56,10 +88,11 @@ fn closed_table(alloc: Global, name: Bytes, table: Table) -> Result<ClosedTable,
 {
     // For contracts alone: what is true of every table.
     let _ = table.record_count();
-    let indexes = closed_indexes(alloc, &table)?;
+    let (content, parts) = table.into_parts(alloc)?;
+    let indexes = all_closed(alloc, &content, parts)?;
     Ok(ClosedTable {
         name,
-        content: table.into_data(),
+        content,
         indexes,
     })
 }
@@ -93,7 +126,8 @@ fn handed_over(
 }
 
 /// The tables of a closed catalogue with their indexes, and the entries of its journal where they are wanted, and else none. The
-/// tables' records and the entries are not copied, the pairs of indexes are. An error where memory is refused.
+/// tables' records and the entries are not copied; the pairs of indexes are, one index after another, each let go before the
+/// pairs of the next are copied. An error where memory is refused.
 pub(crate) fn closed_parts(
     alloc: Global,
     closed: Closed,

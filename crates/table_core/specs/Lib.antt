@@ -10,3 +10,4 @@ pub mod Shown
 pub mod Indexes
 pub mod Planned
 pub mod Laws
+pub mod Parts

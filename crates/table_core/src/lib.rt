@@ -14,6 +14,7 @@ mod edits;
 mod fault;
 mod indexes;
 mod moves;
+mod parts;
 mod refusal;
 mod table;
 
@@ -22,5 +23,6 @@ pub use edits::Edit;
 pub use edits::planned::Planned;
 pub use fault::TableFault;
 pub use indexes::kept::are_all_pairs;
+pub use parts::IndexParts;
 pub use refusal::Refusal;
 pub use table::Table;

@@ -234,7 +234,11 @@ fn pairs_of(alloc: Global, table: &Table, number: usize) -> Result<Vec<Pair>, Fa
     if number < 1 || number > table.index_count() {
         return Err("no such index".into());
     }
-    let pairs = table.index_pairs(alloc, number)?;
+    listed(alloc, &table.index_pairs(alloc, number)?)
+}
+
+// The pairs of a list, one by one.
+fn listed(alloc: Global, pairs: &PairList) -> Result<Vec<Pair>, Fail> {
     let mut all = Vec::new(alloc);
     for at in 0..pairs.len() {
         all.push(pairs.get(at))?;

@@ -1,11 +1,13 @@
 //! Indexes that are added to a table.
 
-ghost use Rattle.std.specs.Prelude.{◌≡◌, ◌↔◌, bytes_eq, [], IfOk, IfErr, IsTrue, IsPermutation, OnErr, OnOk};
-ghost use Rattle.std.specs.List.{list_any};
+ghost use Rattle.std.specs.Prelude.{◌≡◌, ◌↔◌, bytes_eq, [], map, IfOk, IfErr, IsTrue, IsPermutation, OnErr, OnOk};
+ghost use Rattle.std.specs.List.{list_any, AllByRecursion};
 ghost use Rattle.table_order.specs.TableOrder.{pairs_of};
+ghost use Rattle.table_core.specs.Parts.{handed, handed_of, IsWhole};
 ghost use Rattle.table_core.specs.Content.{has_index, with_index, with_index_if};
 
 use crate::indexes::TableIndex;
+use crate::parts::{IndexParts, all_parts};
 use crate::table::Table;
 use byte_io::Bytes;
 use dbf_image::TableData;
@@ -29,6 +31,18 @@ impl Table {
         ensures value { result ≡ self.content.table }
     {
         TableData::from_growing(self.records)
+    }
+
+    /// The table's fields and rows, and its indexes in order. The pairs of an index are copied out, and it is let go before
+    /// those of the next are copied. An `Err` says that there was no memory.
+    pub fn into_parts(self, alloc: Global) -> Result<(TableData, Vec<IndexParts>), AllocError>
+        ensures data { IfOk result (λ parts. parts.0 ≡ self.content.table) }
+        ensures indexes { IfOk result (λ parts. map handed parts.1.items ≡ map (handed_of self.content.table) self.content.indexes) }
+        ensures whole { IfOk result (λ parts. AllByRecursion (IsWhole self.content.table) parts.1.items) }
+    {
+        let Table { records, indexes } = self;
+        let parts = all_parts(alloc, &records, indexes)?;
+        Ok((TableData::from_growing(records), parts))
     }
 
     /// Whether one of the indexes has the name.

@@ -122,6 +122,39 @@ fn three_indexes_at_once(rt: HostRuntime) -> Result<(), Fail> {
     Ok(())
 }
 
+// Whether an index that was handed over is the one of this number by this expression, which is its name too: its pairs are
+// those worked out by sorting.
+fn is_handed_over(
+    alloc: Global,
+    data: &TableData,
+    parts: &IndexParts,
+    index: usize,
+    text: &[u8],
+) -> Result<bool, Fail> {
+    let named = parts.name.as_slice() == text && parts.expr.text() == text;
+    let pairs = listed(alloc, &parts.pairs)?;
+    Ok(named && pairs.as_slice() == sorted_by(alloc, data, index)?.as_slice())
+}
+
+#[test]
+fn indexes_are_handed_over_as_they_stand(rt: HostRuntime) -> Result<(), Fail> {
+    let alloc = rt.alloc();
+    let mut table = three(alloc)?;
+    assert_eq!(rt; first_stale_edit(alloc, &mut table)?, None);
+    let count = table.record_count();
+    assert!(rt; count > 3);
+    let (data, indexes) = table.into_parts(alloc)?;
+    assert_eq!(rt; data.record_count(), count);
+    let texts = [b"NAME".as_slice(), UPPER, SUM];
+    assert_eq!(rt; indexes.len(), texts.len());
+    for (before, parts) in indexes.iter().enumerate() {
+        if let Some(text) = texts.get(before) {
+            assert!(rt; is_handed_over(alloc, &data, parts, before + 1, text)?);
+        }
+    }
+    Ok(())
+}
+
 #[test]
 fn new_table_sorts_its_indexes(rt: HostRuntime) -> Result<(), Fail> {
     let alloc = rt.alloc();
