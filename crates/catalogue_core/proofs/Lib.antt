@@ -14,5 +14,6 @@ pub mod ReplayLaws
 pub mod Mapped
 pub mod RoomLaws
 pub mod OpeningLaws
+pub mod AnewLaws
 pub mod IndexLaws
 pub mod StatusLaws

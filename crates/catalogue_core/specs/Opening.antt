@@ -87,6 +87,10 @@ IndexOpening reindex earlier content source outcome =
     Then (Reading content.table.schema source.file.expr (BadExpression (next_table earlier) (next_index content))) (λ e.
     KeepingSource reindex content source e (IndexStale (next_table earlier) (next_index content)))) outcome
 
+-- what is asked of an index that is built anew: its name and the text of its key expression
+abbrev pub name_and_text : IndexSource → List ℕ × List ℕ
+name_and_text source = (source.name, source.file.expr)
+
 abbrev pub IndexesOpening : Bool → List NamedTable → Content → List IndexSource → Result Content OpenFault → Type 0
 IndexesOpening reindex earlier content [] outcome = outcome ≡ Ok content
 IndexesOpening reindex earlier content (s ∷ ss) outcome = Then (IndexOpening reindex earlier content s) (λ next. IndexesOpening reindex earlier next ss) outcome

@@ -4,7 +4,7 @@ ghost use Rattle.std.specs.Prelude.{◌≡◌, ◌+◌, bytes_eq, ◌<◌, ◌�
 ghost use Rattle.std.specs.List.{list_any};
 ghost use Rattle.dbf_fields.specs.Faults.{first_fault};
 ghost use Rattle.catalogue_core.specs.Names.{includes_name};
-ghost use Rattle.catalogue_core.specs.Opening.{count_tests, table_tests, without_indexes, IndexesOpening, IsNextOpened, NamesDiffer, TableOpening, TablesOpening};
+ghost use Rattle.catalogue_core.specs.Opening.{count_tests, name_and_text, table_tests, without_indexes, IndexesOpening, IsNextOpened, NamesDiffer, TableOpening, TablesOpening};
 ghost use Rattle.catalogue_core.specs.Tables.{named_table};
 
 mod index;
@@ -14,6 +14,7 @@ use crate::source::{IndexSource, TableSource};
 use byte_io::Bytes;
 use dbf_image::TableData;
 use key_expr::ExprFault;
+use ndx_index::PairList;
 use std::alloc::{AllocError, AllocFailed, Global};
 use table_core::Table;
 use thiserror::Error;
@@ -183,6 +184,44 @@ fn any_has_name(opened: &[OpenedTable], name: &Bytes) -> bool
 
 // The table with its indexes.
 fn open_indexes(
+    alloc: Global,
+    earlier: &[OpenedTable],
+    content: TableData,
+    indexes: Vec<IndexSource>,
+    reindex: bool,
+) -> Result<Table, OpenFault>
+    requires earlier { length earlier.now < MAX_TABLES }
+    requires count_bounded { length indexes.items ≤ MAX_INDEXES }
+    ensures opened { IfOk result (λ table. IndexesOpening reindex (map named_table earlier.now) (without_indexes content) indexes.items (Ok table.content)) }
+    ensures refused { IfErr result (λ fault. IndexesOpening reindex (map named_table earlier.now) (without_indexes content) indexes.items (Err fault)) }
+{
+    let mut indexes = indexes;
+    if reindex {
+        // The files' pairs are let go before the first index is made.
+        let_pairs_go(alloc, &mut indexes);
+    }
+    add_indexes(alloc, earlier, content, indexes, reindex)
+}
+
+// Lets the pairs of an index file go. It takes no memory.
+fn let_go(alloc: Global, index: &mut IndexSource)
+    ensures same { name_and_text index.new ≡ name_and_text index.old }
+{
+    index.file.pairs = PairList::new(alloc, index.file.pairs.key_len());
+}
+
+// Lets the pairs of index files go. It takes no memory.
+fn let_pairs_go(alloc: Global, indexes: &mut Vec<IndexSource>)
+    ensures same { map name_and_text indexes.new.items ≡ map name_and_text indexes.old.items }
+    ensures count { length indexes.new.items ≡ length indexes.old.items }
+{
+    for index in indexes.iter_mut() {
+        let_go(alloc, index);
+    }
+}
+
+// The table with indexes, one after another.
+fn add_indexes(
     alloc: Global,
     earlier: &[OpenedTable],
     content: TableData,

@@ -11,6 +11,7 @@ ghost use Rattle.ndx_index.specs.Renumbered.{renumbered, HaveNewNumbers};
 use crate::pages::bound::Bound;
 use crate::pages::free::{FreeList, make_free};
 use crate::pages::insert::insert_in;
+use crate::pages::pair_pages::PLACES;
 use crate::pages::remove::remove_in;
 use crate::pages::root::{Root, join_leaves};
 use crate::pages::search::{first_place, first_under, last_place, last_under, push_pairs};
@@ -217,6 +218,10 @@ impl OrderedIndex {
         ensures keys { HaveLength self.now.key_len self.now.pairs }
     {
         let mut pairs = PairList::new(alloc, self.store.key_len());
+        // At once, so that the list isn't copied as it grows.
+        pairs
+            .slots
+            .reserve(self.store.page_count() as usize * PLACES)?;
         if self.root.levels > 0 {
             push_pairs(
                 &self.store,

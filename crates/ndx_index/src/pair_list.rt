@@ -13,6 +13,7 @@ pub(crate) mod part;
 mod parts;
 pub(crate) mod sorting;
 
+use crate::pages::pair_pages::with_upper_pages;
 use crate::pages::slots::PairSlots;
 use crate::pair::Pair;
 use crate::pair_list::part::ListPart;
@@ -107,7 +108,7 @@ impl PairList {
     {
         let count = self.len();
         let mut slots = PairSlots::new(alloc, self.key_len());
-        slots.reserve(count)?;
+        slots.reserve(with_upper_pages(count))?;
         for at in 0..count {
             let number = numbers[self.number(at) as usize - 1];
             if number != 0 {
@@ -124,12 +125,13 @@ impl PairList {
         self.slots.into_numbers()
     }
 
-    /// Makes room for so many pairs after the others. `AllocError` where there is no memory for them. The pairs are the same.
+    /// Makes room for so many pairs after the others, and for the pages of an index that is made of them. `AllocError` where there
+    /// is no memory for them. The pairs are the same.
     pub fn reserve(&mut self, count: usize) -> Result<(), AllocError>
         ensures pairs { self.new.pairs ≡ self.old.pairs }
         ensures key_len { self.new.key_len ≡ self.old.key_len }
     {
-        self.slots.reserve(count)
+        self.slots.reserve(with_upper_pages(count))
     }
 
     /// Puts a pair after the others. `AllocError` where there is no memory for it; the pairs are the same then.

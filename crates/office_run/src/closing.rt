@@ -6,7 +6,7 @@ ghost use Rattle.std.specs.Option.{option_map};
 ghost use Rattle.dbf_image.specs.Table.{IsTable};
 ghost use Rattle.table_core.specs.Content.{index_at};
 ghost use Rattle.catalogue_core.specs.Replay.{History, names_of};
-ghost use Rattle.table_core.specs.Parts.{handed, IsWhole};
+ghost use Rattle.table_core.specs.Parts.{handed, FitsTable};
 ghost use Rattle.office_run.specs.HandedOver.{closed_with, index_of, IsIndexFor, WasReadFor, AreEndOf, AreHandedOver};
 
 use crate::closed::ClosedTable;
@@ -50,7 +50,7 @@ pub(crate) fn closed_indexes(alloc: Global, table: &Table) -> Result<Vec<ClosedI
 
 // An index that a table has handed over, for the writing of its file.
 fn closed_of(content: &TableData, parts: IndexParts) -> ClosedIndex
-    requires whole { IsWhole content.now parts }
+    requires fits { FitsTable content.now parts }
     ensures value { result ≡ closed_with (handed parts) }
     ensures read { WasReadFor content.now.schema (handed parts) }
 {
@@ -67,7 +67,7 @@ fn all_closed(
     content: &TableData,
     indexes: Vec<IndexParts>,
 ) -> Result<Vec<ClosedIndex>, AllocError>
-    requires whole { AllByRecursion (IsWhole content.now) indexes.items }
+    requires fits { AllByRecursion (FitsTable content.now) indexes.items }
     ensures value { IfOk result (λ closed. closed.items ≡ map closed_with (map handed indexes.items)) }
     ensures read { OnOk result (AllByRecursion (WasReadFor content.now.schema) (map handed indexes.items)) }
 {

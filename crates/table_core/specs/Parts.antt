@@ -23,8 +23,9 @@ handed parts = record { name = parts.name; expr = parts.expr; pairs = parts.pair
 abbrev pub handed_of : Table → Indexed → HandedIndex
 handed_of table index = record { name = index.name; expr = index.expr; pairs = order table index.expr.expr }
 
--- The pairs are all of a table's, in order, with keys of one length. The expression was read for the table's fields.
-pub record IsWhole (table : Table) (parts : IndexParts) : Type 0 where
+-- An index that was handed over fits a table: its expression was read for the table's fields, and it has as many pairs as the
+-- table has records, in order, with keys of one length.
+pub record FitsTable (table : Table) (parts : IndexParts) : Type 0 where
   pub fields : parts.expr.fields ≡ table.schema
   pub count : length parts.pairs.pairs ≡ length table.rows
   pub keys : HaveLength (key_length parts.expr.fields parts.expr.expr) parts.pairs.pairs

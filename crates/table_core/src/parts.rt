@@ -2,7 +2,7 @@
 
 ghost use Rattle.std.specs.Prelude.{◌≡◌, map, IfOk};
 ghost use Rattle.std.specs.List.{AllByRecursion};
-ghost use Rattle.table_core.specs.Parts.{handed, handed_of, IsWhole};
+ghost use Rattle.table_core.specs.Parts.{handed, handed_of, FitsTable};
 ghost use Rattle.table_core.specs.Indexes.{indexed, Follows};
 
 use crate::indexes::TableIndex;
@@ -32,7 +32,7 @@ fn parts_of(
 ) -> Result<IndexParts, AllocError>
     requires follows { Follows records.now.table index }
     ensures value { IfOk result (λ parts. handed parts ≡ handed_of records.now.table (indexed index)) }
-    ensures whole { IfOk result (IsWhole records.now.table) }
+    ensures fits { IfOk result (FitsTable records.now.table) }
 {
     let TableIndex { name, expr, order } = index;
     let pairs = order.pairs(alloc)?;
@@ -48,7 +48,7 @@ pub(crate) fn all_parts(
 ) -> Result<Vec<IndexParts>, AllocError>
     requires follow { AllByRecursion (Follows records.now.table) indexes.items }
     ensures value { IfOk result (λ parts. map handed parts.items ≡ map (handed_of records.now.table) (map indexed indexes.items)) }
-    ensures whole { IfOk result (λ parts. AllByRecursion (IsWhole records.now.table) parts.items) }
+    ensures fits { IfOk result (λ parts. AllByRecursion (FitsTable records.now.table) parts.items) }
 {
     let mut parts = Vec::new(alloc);
     for index in indexes {

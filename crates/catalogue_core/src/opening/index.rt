@@ -104,8 +104,6 @@ fn keep_index(
 {
     let IndexSource { name, file } = source;
     if reindex {
-        // The file's pairs are let go before those of the records are made.
-        drop(file);
         table.add_index(alloc, name, expr)?;
         return Ok(());
     }

@@ -25,6 +25,14 @@ pub(crate) const PLACES: usize = 16;
 /// The most pages, which are named by four bytes.
 pub(crate) const MAX_PAGES: usize = 0xffff_ffff;
 
+/// How much room is made for that many places, or pages, of leaves, so that those of the pages above them need no more: a page above
+/// the leaves has up to sixteen under it.
+pub(crate) fn with_upper_pages(count: usize) -> usize
+    ensures enough { count ≤ result }
+{
+    count.saturating_add(count / 8)
+}
+
 /// Pages of at most sixteen pairs, whose keys have one length. Contracts see the list of pages, each the list
 /// of its pairs, and how many pages can be put after them without taking memory.
 #[derive(Drop)]
@@ -98,7 +106,7 @@ impl PairPages {
         ensures pages { IfOk result (λ made. made.pages ≡ replicate count []) }
     {
         let mut pages = PairPages::new(alloc, key_len);
-        pages.reserve(count)?;
+        pages.reserve(with_upper_pages(count))?;
         for page in 0..count {
             pages.push_page();
         }

@@ -11,6 +11,7 @@ ghost use Rattle.ndx_index.specs.Slots.{slot_at};
 ghost use Rattle.ndx_index.specs.Sorting.{entry_cmp, front_cmp, place_cmp};
 ghost use Rattle.ndx_index.specs.Sorting.{front_number, entry_of_place, sort_entries, pair_of_entry, AreBytes, HaveBytes, BeginAlike, IsOfPlace};
 
+use crate::pages::pair_pages::with_upper_pages;
 use crate::pages::slots::PairSlots;
 use crate::pair_list::PairList;
 use crate::pair_list::alike::{common_start, end_alike};
@@ -179,7 +180,7 @@ fn gathered(alloc: Global, pairs: &PairList, entries: &[SortEntry]) -> Result<Pa
     ensures pairs { IfOk result (λ list. list.pairs ≡ map (pair_of_entry pairs.now.pairs) entries.now) }
 {
     let mut slots = PairSlots::new(alloc, pairs.key_len());
-    slots.reserve(entries.len())?;
+    slots.reserve(with_upper_pages(entries.len()))?;
     for entry in entries {
         slots.push(pairs.key(entry.place as usize), entry.number);
     }

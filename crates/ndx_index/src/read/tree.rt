@@ -70,6 +70,8 @@ pub(crate) fn read_tree(
 {
     let mut walk = PageWalk::new(alloc, bytes, layout, root)?;
     let mut slots = PairSlots::new(alloc, layout.key_len);
+    // At once, so that the list isn't copied as it grows.
+    slots.reserve(bytes.len() / layout.size)?;
     while let Some(seen) = walk.next_page()? {
         take_page(seen, &mut slots)?;
     }

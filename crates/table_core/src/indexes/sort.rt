@@ -37,6 +37,7 @@ fn new_numbers(alloc: Global, records: &GrowingTable) -> Result<Vec<u32>, AllocE
     ensures numbers { IfOk result (λ numbers. numbers.items ≡ packed_numbers 1 records.now.table.rows) }
 {
     let mut numbers = Vec::new(alloc);
+    numbers.reserve(records.record_count() as usize)?;
     let mut next = 1;
     for index in 0..records.record_count() {
         if records.is_deleted(index + 1) {

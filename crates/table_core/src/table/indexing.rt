@@ -3,7 +3,7 @@
 ghost use Rattle.std.specs.Prelude.{◌≡◌, ◌↔◌, bytes_eq, [], map, IfOk, IfErr, IsTrue, IsPermutation, OnErr, OnOk};
 ghost use Rattle.std.specs.List.{list_any, AllByRecursion};
 ghost use Rattle.table_order.specs.TableOrder.{pairs_of};
-ghost use Rattle.table_core.specs.Parts.{handed, handed_of, IsWhole};
+ghost use Rattle.table_core.specs.Parts.{handed, handed_of, FitsTable};
 ghost use Rattle.table_core.specs.Content.{has_index, with_index, with_index_if};
 
 use crate::indexes::TableIndex;
@@ -38,7 +38,7 @@ impl Table {
     pub fn into_parts(self, alloc: Global) -> Result<(TableData, Vec<IndexParts>), AllocError>
         ensures data { IfOk result (λ parts. parts.0 ≡ self.content.table) }
         ensures indexes { IfOk result (λ parts. map handed parts.1.items ≡ map (handed_of self.content.table) self.content.indexes) }
-        ensures whole { IfOk result (λ parts. AllByRecursion (IsWhole self.content.table) parts.1.items) }
+        ensures fits { IfOk result (λ parts. AllByRecursion (FitsTable self.content.table) parts.1.items) }
     {
         let Table { records, indexes } = self;
         let parts = all_parts(alloc, &records, indexes)?;

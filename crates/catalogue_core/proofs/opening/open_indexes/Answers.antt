@@ -1,13 +1,38 @@
-use Rattle.std.proofs.Common.{◌≡◌, List, ◌∷◌, map, Err, refl, sym, subst, inr, rules}
-use Rattle.std.specs.Vec.Iter.{into_iter_items}
+use Rattle.std.proofs.Common.{◌≡◌, List, map, true, false, Ok, Err}
+use Rattle.std.proofs.lemmas.Result.{IfErr-weaker, IfOk-weaker}
 use Rattle.catalogue_core.specs.declared.source.IndexSource.{IndexSource}
-use Rattle.catalogue_core.specs.Opening.{IndexesOpening}
+use Rattle.catalogue_core.specs.Opening.{name_and_text, without_indexes, IndexesOpening}
 use Rattle.catalogue_core.specs.Tables.{named_table}
+use Rattle.catalogue_core.proofs.AnewLaws.{opened_for}
 use Rattle.catalogue_core.proofs.opening.open_indexes.Goals as goal
+use Rattle.catalogue_core.proofs.opening.open_indexes.Goals.{then-reindex, else-reindex}
 
-pub returns-in-Err-clause-refused : goal.returns-in-Err-clause-refused
-returns-in-Err-clause-refused c =
-    let items : into_iter_items c.loop-index.index-iterator ≡ c.in-Some.index ∷ into_iter_items c.next.new.self = search rules in
-    c.loop-index.invariant.rest (Err c.in-Err.fault)
-    (subst (λ (l : List IndexSource). IndexesOpening c.args.reindex (map named_table c.args.earlier.now) c.loop-index.table.content l (Err c.in-Err.fault)) (sym items)
-    (inr (c.in-Err.fault, c.in-Err.ensures.refused, refl)))
+pub returns-clause-opened : goal.returns-clause-opened
+returns-clause-opened c =
+    let earlier = map named_table c.args.earlier.now in
+    let made : List IndexSource = c.if-reindex.indexes.items in
+    let anew : c.args.reindex ≡ true → map name_and_text made ≡ map name_and_text c.args.indexes.items = λ e. elim c.if-reindex.branch [
+      | then-reindex w ↦ (let same = w.let_pairs_go.ensures.same in let is = w.indexes-is in cc)
+      | else-reindex w ↦ absurd (let no = w.if-reindex.false in cc)
+    ] in
+    let kept : c.args.reindex ≡ false → made ≡ c.args.indexes.items = λ e. elim c.if-reindex.branch [
+      | then-reindex w ↦ absurd (let yes = w.if-reindex.true in cc)
+      | else-reindex w ↦ (let is = w.indexes-is in cc)
+    ] in
+    IfOk-weaker c.add_indexes.result _ (λ table. IndexesOpening c.args.reindex earlier (without_indexes c.args.content) c.args.indexes.items (Ok table.content))
+    (λ table opened. opened_for c.args.reindex earlier (without_indexes c.args.content) made c.args.indexes.items (Ok table.content) anew kept opened) c.add_indexes.ensures.opened
+
+pub returns-clause-refused : goal.returns-clause-refused
+returns-clause-refused c =
+    let earlier = map named_table c.args.earlier.now in
+    let made : List IndexSource = c.if-reindex.indexes.items in
+    let anew : c.args.reindex ≡ true → map name_and_text made ≡ map name_and_text c.args.indexes.items = λ e. elim c.if-reindex.branch [
+      | then-reindex w ↦ (let same = w.let_pairs_go.ensures.same in let is = w.indexes-is in cc)
+      | else-reindex w ↦ absurd (let no = w.if-reindex.false in cc)
+    ] in
+    let kept : c.args.reindex ≡ false → made ≡ c.args.indexes.items = λ e. elim c.if-reindex.branch [
+      | then-reindex w ↦ absurd (let yes = w.if-reindex.true in cc)
+      | else-reindex w ↦ (let is = w.indexes-is in cc)
+    ] in
+    IfErr-weaker c.add_indexes.result _ (λ fault. IndexesOpening c.args.reindex earlier (without_indexes c.args.content) c.args.indexes.items (Err fault))
+    (λ fault opened. opened_for c.args.reindex earlier (without_indexes c.args.content) made c.args.indexes.items (Err fault) anew kept opened) c.add_indexes.ensures.refused

@@ -1,4 +1,4 @@
-use Rattle.std.proofs.Common.{◌≡◌, ◌∙◌, ℕ, List, length, ap, subst, sym}
+use Rattle.std.proofs.Common.{◌∙◌, ℕ, List, length, ap, subst, sym}
 use Rattle.key_expr.specs.Keys.{key_length}
 use Rattle.ndx_index.specs.declared.pair.Pair.{Pair}
 use Rattle.ndx_index.specs.Index.{HaveLength}
@@ -6,8 +6,8 @@ use Rattle.ndx_index.specs.Order.{AreInOrder}
 use Rattle.table_order.specs.Laws.RecordOrders.{length-order}
 use Rattle.table_core.proofs.parts.parts_of.Goals as goal
 
-pub returns-clause-whole : goal.returns-clause-whole
-returns-clause-whole c =
+pub returns-clause-fits : goal.returns-clause-fits
+returns-clause-fits c =
     let table = c.args.records.now.table in
     let expr = c.args.index.expr in
     let copied = c.in_ok-pairs.ensures in

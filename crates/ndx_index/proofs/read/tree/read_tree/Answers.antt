@@ -7,8 +7,9 @@ use Rattle.ndx_index.proofs.read.tree.read_tree.Goals as goal
 
 pub loop-slots-init : goal.loop-slots-init
 loop-slots-init c = record {
-  state = state_init c.args.layout c.args.bytes.now c.args.root c.in_ok-walk.walk c.new-slots.result.pairs c.in_ok-walk.ensures.walk c.new-slots.ensures.pairs;
-  key_len = c.new-slots.ensures.key_len;
+  state = state_init c.args.layout c.args.bytes.now c.args.root c.in_ok-walk.walk c.reserve.new.self.pairs c.in_ok-walk.ensures.walk
+      (c.reserve.ensures.pairs ∙ c.new-slots.ensures.pairs);
+  key_len = c.reserve.ensures.key_len ∙ c.new-slots.ensures.key_len;
 }
 
 pub loop-slots-preserved : goal.loop-slots-preserved

@@ -6,7 +6,7 @@ use Rattle.catalogue_core.specs.declared.opening.TheConstants.{MAX_INDEXES}
 use Rattle.catalogue_core.specs.declared.opening.OpenFault.{OpenFault}
 use Rattle.catalogue_core.specs.Opening.{IndexesOpening, without_indexes}
 use Rattle.catalogue_core.specs.Tables.{named_table}
-use Rattle.catalogue_core.proofs.opening.open_indexes.Given as goal
+use Rattle.catalogue_core.proofs.opening.add_indexes.Given as goal
 
 abbrev pub invariant-loop-index : goal.invariant-loop-index
 invariant-loop-index l = record {
