@@ -15,14 +15,15 @@
 //! in hex, and the path, apart by blanks. The files that were read stand in the order in which the run read them, those that were
 //! written in the order of writing; JOURNAL.TXT itself is not among them. The lines of entries are those of `station_lines`.
 //!
-//! [`sum_of`] says of a file what its line tells. [`head_text`] and [`tail_text`] make the lines before and after the entries,
-//! and [`cut_journal`] cuts a whole text back into its parts, in one way; [`cut_read_sum`] and [`cut_wrote_sum`] cut off the line of a file. Start with
-//! specs/WholeText.antt.
+//! [`sum_of`] says of a file what its line tells, and [`SumSink`] of a file that is written into it. [`head_text`] and
+//! [`tail_text`] make the lines before and after the entries, and [`cut_journal`] cuts a whole text back into its parts, in one
+//! way; [`cut_read_sum`] and [`cut_wrote_sum`] cut off the line of a file. Start with specs/WholeText.antt.
 #![tactic(auto)]
 
 mod cutting;
 mod read_sums;
 mod sum;
+mod sum_sink;
 mod writing;
 
 pub use cutting::{
@@ -30,4 +31,5 @@ pub use cutting::{
 };
 pub use read_sums::ReadSums;
 pub use sum::{DIGEST_LEN, FileSum, sum_of};
+pub use sum_sink::SumSink;
 pub use writing::{head_text, tail_text};

@@ -24,16 +24,23 @@ pub struct FileSum {
     pub digest: [u8; DIGEST_LEN],
 }
 
+// A digest in hex, with small letters.
+pub(crate) fn digits_of(digest: &[u8; 32]) -> [u8; DIGEST_LEN]
+    ensures value { result ≡ encode_lower digest.now }
+{
+    let mut digits = [0; DIGEST_LEN];
+    let Ok(()) = encode_to_slice(digest, &mut digits) else {
+        unreachable!();
+    };
+    digits
+}
+
 // The SHA-256 of bytes in hex, with small letters.
 fn digest_of(bytes: &[u8]) -> [u8; DIGEST_LEN]
     ensures value { result ≡ encode_lower (sha256 bytes.now) }
 {
     let digest = Sha256::digest(bytes);
-    let mut digits = [0; DIGEST_LEN];
-    let Ok(()) = encode_to_slice(&digest, &mut digits) else {
-        unreachable!();
-    };
-    digits
+    digits_of(&digest)
 }
 
 /// What a journal says of the file of a path that has these bytes. An error where memory is refused, for the path.

@@ -1,1 +1,2 @@
+mod sums;
 mod whole_text;

@@ -3,7 +3,7 @@ use Rattle.std.proofs.Common.{◌≡◌, ℕ, ◌+◌, ◌<◌, List, [], ◌∷
 use Rattle.std.specs.List.{slice_get, AllByRecursion}
 use Rattle.std.specs.Prelude.{OnOk}
 use Rattle.std.proofs.lemmas.Grind.{flat_map-append}
-use Rattle.std.proofs.lemmas.List.{take_more, append-nil, map-append}
+use Rattle.std.proofs.lemmas.List.{take_more, append-nil, take-map}
 use Rattle.std.proofs.lemmas.Option.{get_or_from_slice_get, slice_get_within}
 use Rattle.journal_file.specs.declared.sum.FileSum.{FileSum}
 use Rattle.journal_file.specs.WholeText.{sum_of_file, with_sum, IsSum}
@@ -76,12 +76,13 @@ on_ok (Err e) p f = tt
 -- ---- what is written
 
 -- and the sum of one more file
-pub sums_more : (files : List NamedFile) (i : ℕ) (file : NamedFile) (sums next : List FileSum) (sum : FileSum) → slice_get files i ≡ Some file → sum ≡ sum_of_named file → next ≡ sums ++ sum ∷ []
+pub sums_more : (files : List NamedFile) (i : ℕ) (sums next : List FileSum) (sum : FileSum) → slice_get (map sum_of_named files) i ≡ Some sum → next ≡ sums ++ sum ∷ []
     → sums ≡ map sum_of_named (take i files) → next ≡ map sum_of_named (take (i + 1) files)
-sums_more files i file sums next sum at is added before =
-    let here : take (i + 1) files ≡ take i files ++ file ∷ [] =
-    take_more files i file (slice_get_within files i file at) ∙ ap (λ (f : NamedFile). take i files ++ f ∷ []) (get_or_from_slice_get files i file file at) in
-    added ∙ ((λ j. before j ++ is j ∷ []) ∙ sym (ap (map sum_of_named) here ∙ map-append sum_of_named (take i files) (file ∷ [])))
+sums_more files i sums next sum at added before =
+    let all : List FileSum = map sum_of_named files in
+    let here : take (i + 1) all ≡ take i all ++ sum ∷ [] =
+    take_more all i sum (slice_get_within all i sum at) ∙ ap (λ (s : FileSum). take i all ++ s ∷ []) (get_or_from_slice_get all i sum sum at) in
+    added ∙ ((λ j. before j ++ sum ∷ []) ∙ ((λ j. sym (take-map sum_of_named i files) j ++ sum ∷ []) ∙ (sym here ∙ take-map sum_of_named (i + 1) files)))
 
 -- lines can tell one more
 all_then : (sums : List FileSum) (sum : FileSum) → AllByRecursion IsSum sums → IsSum sum → AllByRecursion IsSum (sums ++ sum ∷ [])

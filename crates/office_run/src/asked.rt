@@ -126,10 +126,10 @@ fn write_asked<F: Folder>(
 /// begun in the folder; of a fault in writing see [`crate::close_files`].
 ///
 /// The journal says first which files were read, and last which were written, with their lengths and digests. Its entries are
-/// written one by one, so that their text is never whole in memory; each other file is made once more for its digest, before any
-/// is begun. Only `Close(Write(..))`, and `NoMemory` where the journal is asked for, may come when files are begun. Where the
-/// journal's file would have more than `folders::MAX_FILE_BYTES`, so that no audit could read it, the fault is
-/// `Close(Write(JOURNAL.TXT))`, and none is begun.
+/// written one by one; each other file is made once more for its digest, before any is begun. None of these texts is whole in memory.
+/// Only `Close(Write(..))`, and `NoMemory` where the journal is asked for, may come when files are begun. Where the journal's file
+/// would have more than `folders::MAX_FILE_BYTES`, so that no audit could read it, the fault is `Close(Write(JOURNAL.TXT))`, and
+/// none is begun.
 pub fn serve_asked<S: Source, F: Folder, G: Gate + Sync, R: Threads + Wait + Sync>(
     rt: &R,
     alloc: Global,

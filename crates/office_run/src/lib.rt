@@ -14,7 +14,7 @@
 //! so that a test can say which station is next.
 //!
 //! The files: handing the closed tables over to the writing is in `closing.rt`. [`close_files`] writes the files of a run into a
-//! folder; which they are is defined in `specs/Closing.antt`. [`RunFiles`] has each of them before it is written.
+//! folder; which they are is defined in `specs/Closing.antt`. [`RunFiles`] sums each of them before it is written.
 #![tactic(auto)]
 
 mod answer_law;

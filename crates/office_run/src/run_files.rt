@@ -1,25 +1,25 @@
 //! The files of a run, before they are written.
 
-ghost use Rattle.std.specs.Prelude.{◌≡◌, ◌≢◌, ◌↔◌, ◌<◌, ℕ, List, Err, Some, length, IfOk};
+ghost use Rattle.std.specs.Prelude.{◌≡◌, ◌≢◌, ◌↔◌, ◌<◌, ℕ, List, Err, Some, length, map, IfOk};
 ghost use Rattle.std.specs.List.{slice_get};
 ghost use Rattle.dbf_image.specs.Image.{IsOutside};
-ghost use Rattle.office_run.specs.Closing.{bytes_of, file_of, run_files, IsBlockedBy};
-ghost use Rattle.office_run.specs.Writable.{CanBeWritten};
+ghost use Rattle.journal_file.specs.WholeText.{IsSum};
+ghost use Rattle.office_run.specs.Closing.{file_of, run_files, IsBlockedBy};
+ghost use Rattle.office_run.specs.FileSums.{sum_of_named};
 
 use crate::close::{first_too_many, write_content};
 use crate::close_fault::CloseFault;
 use crate::closed::ClosedTable;
-use crate::content::Content;
 use crate::plan::plan_files;
 use crate::planned::Planned;
-use byte_io::{Bytes, MemorySink};
+use byte_io::Bytes;
 use dbf_fields::Day;
-use folders::NamedFile;
+use journal_file::{FileSum, SumSink};
 use std::alloc::{AllocError, Global};
 use std::marker::Model;
 
-/// The files of a run as they will be written, in their order. Each is made whole when it is asked for. Contracts see the
-/// list of the files.
+/// The files of a run as they will be written, in their order. None of them is whole in memory. Contracts see the list of the
+/// files.
 #[derive(Drop)]
 pub struct RunFiles<'a> {
     planned: Vec<Planned<'a>>,
@@ -68,33 +68,27 @@ impl<'a> RunFiles<'a> {
         self.planned.len()
     }
 
-    /// The file of an index, made whole. An error where memory is refused.
-    pub fn file(&self, alloc: Global, index: usize) -> Result<NamedFile, AllocError>
+    /// What a journal says of the file of an index. The file is summed as it is made, and is not kept. An error where memory is
+    /// refused, for the name, or where the file would have 2^64 bytes.
+    pub fn sum(&self, alloc: Global, index: usize) -> Result<FileSum, AllocError>
         requires inside { index < length self.now }
-        ensures value { IfOk result (λ file. slice_get self.now index ≡ Some file) }
+        ensures value { IfOk result (λ sum. slice_get (map sum_of_named self.now) index ≡ Some sum) }
+        // A line can tell it.
+        ensures small { IfOk result IsSum }
     {
-        whole_file(alloc, &self.planned[index])
+        sum_of_planned(alloc, &self.planned[index])
     }
 }
 
-// The bytes of a file.
+// What a journal says of a file that will be written.
 #[tactic(auto, unfolding(byte_io::specs::Sink::grown))]
-fn whole_content(alloc: Global, content: &Content<'_>) -> Result<Bytes, AllocError>
-    requires can { CanBeWritten content.now }
-    ensures value { IfOk result (λ bytes. bytes ≡ bytes_of content.now) }
+fn sum_of_planned(alloc: Global, planned: &Planned<'_>) -> Result<FileSum, AllocError>
+    ensures value { IfOk result (λ sum. sum ≡ sum_of_named (file_of planned.now)) }
+    ensures small { IfOk result IsSum }
 {
-    let mut sink = MemorySink::new(alloc);
-    match write_content(&mut sink, content) {
-        Ok(()) => Ok(Bytes::from_vec(sink.bytes)),
+    let mut sink = SumSink::new();
+    match write_content(&mut sink, &planned.content) {
+        Ok(()) => sink.sum(alloc, planned.name.as_slice()),
         Err(_) => Err(AllocError),
     }
-}
-
-// A file that will be written, as it is then.
-fn whole_file(alloc: Global, planned: &Planned<'_>) -> Result<NamedFile, AllocError>
-    ensures value { IfOk result (λ file. file ≡ file_of planned.now) }
-{
-    let name = planned.name.copy(alloc)?;
-    let bytes = whole_content(alloc, &planned.content)?;
-    Ok(NamedFile { name, bytes })
 }

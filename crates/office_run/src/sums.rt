@@ -13,8 +13,7 @@ use crate::fault::ServeFault;
 use crate::run_files::RunFiles;
 use byte_io::Bytes;
 use dbf_fields::Day;
-use folders::NamedFile;
-use journal_file::{FileSum, ReadSums, sum_of};
+use journal_file::{FileSum, ReadSums};
 use std::alloc::{AllocError, Global};
 
 /// For the files that a run reads: each is noted where the journal is asked for. No file was read yet. Takes no memory.
@@ -28,24 +27,14 @@ pub(crate) fn asked_sums(alloc: Global, journal: bool) -> ReadSums
     }
 }
 
-// What a journal says of a file.
-fn named_sum(alloc: Global, file: &NamedFile) -> Result<FileSum, AllocError>
-    ensures value { IfOk result (λ sum. sum ≡ sum_of_named file.now) }
-    ensures small { IfOk result IsSum }
-{
-    sum_of(alloc, file.name.as_slice(), file.bytes.as_slice())
-}
-
-// What a journal says of each file of a run, in their order. One file at a time is whole in memory. An error where memory is
-// refused.
+// What a journal says of each file of a run, in their order. An error where memory is refused.
 fn sums_of_files(alloc: Global, files: &RunFiles<'_>) -> Result<Vec<FileSum>, AllocError>
     ensures value { IfOk result (λ sums. sums.items ≡ map sum_of_named files.now) }
     ensures small { IfOk result (λ sums. AllByRecursion IsSum sums.items) }
 {
     let mut sums = Vec::new(alloc);
     for index in 0..files.count() {
-        let file = files.file(alloc, index)?;
-        sums.push(named_sum(alloc, &file)?)?;
+        sums.push(files.sum(alloc, index)?)?;
     }
     Ok(sums)
 }

@@ -2,6 +2,7 @@ use byte_io::Bytes;
 use dbf_fields::{CHARACTER, Field, MEMO, Schema, day_of};
 use dbf_image::TableData;
 use folders::MemoryFolder;
+use journal_file::sum_of;
 use key_expr::KeyExpr;
 use ndx_index::{MAX_PAIRS, OrderedIndex};
 use office_run::{CloseFault, ClosedIndex, ClosedTable, RunFiles, close_files};
@@ -173,18 +174,22 @@ fn folder_fails_at_each_call(rt: HostRuntime) -> Result<(), Fail> {
     Ok(())
 }
 
-// The place of the first planned file that is not the one wanted there.
+// The place of the first planned file of which a journal says something else than of the one wanted there.
 fn first_other_planned(
     alloc: Global,
     files: &RunFiles<'_>,
     wanted: &[(&[u8], Vec<u8>)],
 ) -> Result<Option<usize>, Fail> {
     for i in 0..files.count() {
-        let file = files.file(alloc, i)?;
+        let sum = files.sum(alloc, i)?;
         let Some((name, bytes)) = wanted.get(i) else {
             return Ok(Some(i));
         };
-        if file.name.as_slice() != *name || file.bytes.as_slice() != bytes.as_slice() {
+        let wanted = sum_of(alloc, name, bytes.as_slice())?;
+        if sum.path.as_slice() != wanted.path.as_slice()
+            || sum.length != wanted.length
+            || sum.digest != wanted.digest
+        {
             return Ok(Some(i));
         }
     }
@@ -192,7 +197,7 @@ fn first_other_planned(
 }
 
 #[test]
-fn files_are_told_before_they_are_written(rt: HostRuntime) -> Result<(), Fail> {
+fn files_are_summed_before_they_are_written(rt: HostRuntime) -> Result<(), Fail> {
     let alloc = rt.alloc();
     let wanted = wanted_files(alloc)?;
     let tables = tables_of(alloc)?;
