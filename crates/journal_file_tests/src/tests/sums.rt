@@ -19,7 +19,7 @@ fn are_summed(alloc: Global, parts: &[&[u8]], length: u64, digest: &[u8]) -> Res
     }
     let sum = sink.sum(alloc, b"STAFF.DBF")?;
     Ok(
-        sum.path.as_slice() == b"STAFF.DBF"
+        sum.path.as_slice() == b"STAFF.DBF".as_slice()
             && sum.length == length
             && sum.digest.as_slice() == digest,
     )
