@@ -11,12 +11,14 @@ use sha2::{Digest, Sha256};
 use std::alloc::{AllocError, Global};
 use std::marker::Model;
 
+// For contracts alone: what has been written and what is written now.
 #[derive(Drop)]
 struct More<'a> {
     written: &'a Tag,
     bytes: &'a [u8],
 }
 
+// For contracts alone: the bytes after those before them.
 struct Appended;
 
 impl<'a> Names<More<'a>> for Appended {
