@@ -1,4 +1,4 @@
-use crate::tests::{file, loads};
+use crate::tests::{file, loads, make_folder, why_unread};
 use byte_io::Failures;
 use folders::{DiskSource, LoadFault, MemorySource, Source, folder_of};
 use std::alloc::Global;
@@ -92,14 +92,21 @@ fn folders_of_paths(rt: HostRuntime) -> Result<(), Fail> {
 
 // A new folder with a folder in it, and a file in each.
 fn two_folders(rt: &HostRuntime) -> Result<(), Fail> {
-    if fs::exists(rt, "beside")? {
-        fs::remove_dir_all(rt, "beside")?;
-    }
-    fs::create_dir(rt, "beside")?;
+    make_folder(rt, "beside")?;
     fs::create_dir(rt, "beside/in")?;
     fs::write(rt, "beside/T.DBF", b"outer")?;
     fs::write(rt, "beside/in/T.DBF", b"inner")?;
     fs::write(rt, "beside/~niqarthu~T.DBF", b"new")?;
+    Ok(())
+}
+
+// Puts a list at this path, or takes it away.
+fn put_list(rt: &HostRuntime, list: &str, is_there: bool) -> Result<(), Fail> {
+    if is_there {
+        fs::write(rt, list, b"T.DBF\n")?;
+    } else if fs::exists(rt, list)? {
+        fs::remove_file(rt, list)?;
+    }
     Ok(())
 }
 
@@ -125,15 +132,23 @@ fn files_of_the_system_beside_a_list_are_not_read(rt: HostRuntime) -> Result<(),
         (false, b"beside/T.DBF", None),
     ];
     for (is_there, path, fault) in cases {
-        if is_there {
-            fs::write(&rt, list.as_str(), b"T.DBF\n")?;
-        } else if fs::exists(&rt, list.as_str())? {
-            fs::remove_file(&rt, list.as_str())?;
-        }
+        put_list(&rt, list.as_str(), is_there)?;
         assert_eq!(rt; refusal(alloc, &mut source, path), fault);
     }
     assert!(rt; loads(alloc, &mut source, b"beside/in/T.DBF", b"inner"));
     fs::remove_dir_all(&rt, "beside")?;
+    Ok(())
+}
+
+// A new folder with a file, and at the path of its list a link to nothing or a folder.
+fn listed(rt: &HostRuntime, list: &str, is_link: bool) -> Result<(), Fail> {
+    make_folder(rt, "listed")?;
+    fs::write(rt, "listed/T.DBF", b"bytes")?;
+    if is_link {
+        rt.symlink("nothing", list)?;
+    } else {
+        fs::create_dir(rt, list)?;
+    }
     Ok(())
 }
 
@@ -142,20 +157,10 @@ fn files_of_the_system_beside_a_list_are_not_read(rt: HostRuntime) -> Result<(),
 fn whatever_has_the_name_of_the_list_is_one(rt: HostRuntime) -> Result<(), Fail> {
     let alloc = rt.alloc();
     let list = format!(in alloc; "listed/{LIST}")?;
-    let mut source = DiskSource::new(rt.clone()?);
     for is_link in [false, true] {
-        if fs::exists(&rt, "listed")? {
-            fs::remove_dir_all(&rt, "listed")?;
-        }
-        fs::create_dir(&rt, "listed")?;
-        fs::write(&rt, "listed/T.DBF", b"bytes")?;
-        if is_link {
-            rt.symlink("nothing", list.as_str())?;
-        } else {
-            fs::create_dir(&rt, list.as_str())?;
-        }
-        let told = refusal(alloc, &mut source, b"listed/T.DBF");
-        assert_eq!(rt; told, Some(LoadFault::Unrecovered));
+        listed(&rt, list.as_str(), is_link)?;
+        let told = why_unread(&rt, alloc, b"listed/T.DBF")?;
+        assert!(rt; told == Some(LoadFault::Unrecovered));
     }
     fs::remove_dir_all(&rt, "listed")?;
     Ok(())
