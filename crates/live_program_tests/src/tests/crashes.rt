@@ -4,13 +4,16 @@ ghost use Rattle.std.specs.Prelude.{◌≡◌, false, IfOk, IfSome};
 ghost use Rattle.files_in_place.specs.Folder.{Name, is_reserved};
 ghost use Rattle.memory_disk.specs.Outcomes.{IsWhole};
 
-use super::day::{Answered, Unstarted, answer, close, has_file, live, start};
+use super::day::{
+    Answered, Unstarted, answer, answer_all, close, has_file, has_log, live, start, today,
+};
 use files_in_place::{Disk, recover};
-use live_day::{RunFault, StartFault};
+use live_day::{Day, RunFault, StartFault};
 use live_log::LogFault;
 use live_program::LOG_NAME;
 use memory_disk::MemoryDisk;
-use std::alloc::Global;
+use std::alloc::{AllocError, Global};
+use std::process::Abort;
 use std::test::Fail;
 
 // What is typed before the crash, and what it is answered.
@@ -47,6 +50,15 @@ fn empty_folder(alloc: Global, calls: u64) -> MemoryDisk
     disk
 }
 
+// The folder that a crash of a day leaves.
+fn left_by(day: Day<MemoryDisk>, choices: u64) -> Result<MemoryDisk, AllocError>
+    ensures whole { IfOk result (λ left. (n : Name) → is_reserved n ≡ false → IsWhole left.calls n) }
+{
+    let (_, log) = day.into_parts();
+    let left = log.into_disk().left(choices)?;
+    Ok(left)
+}
+
 // A day on an empty folder whose disk fails after so many calls, and then crashes: what was shown, and the folder that is left. `None`
 // where the day was not begun.
 fn crash(alloc: Global, calls: u64) -> Result<Option<(Vec<u8>, MemoryDisk)>, Fail>
@@ -56,12 +68,11 @@ fn crash(alloc: Global, calls: u64) -> Result<Option<(Vec<u8>, MemoryDisk)>, Fai
         return Ok(None);
     };
     let Answered { ended, shown, day } = answer(alloc, day, TYPED);
+    let left = left_by(day, choices_of(calls))?;
     let is_full = ended == Err(RunFault::Log(LogFault::Failed));
     if is_full == (shown.as_slice() == ANSWERS) {
         return Err("an answer is shown though the disk is full".into());
     }
-    let (_, log) = day.into_parts();
-    let left = log.into_disk().left(choices_of(calls))?;
     Ok(Some((shown, left)))
 }
 
@@ -71,8 +82,17 @@ fn is_kept(alloc: Global, shown: &[u8], left: MemoryDisk) -> Result<bool, Fail>
 {
     let lines = count_lines(shown) as u64;
     let (_, count, disk) = live(alloc, left, b"QUIT\n")?;
-    let mut disk = disk;
-    Ok(ANSWERS.starts_with(shown) && count >= lines && has_file(alloc, &mut disk, LOG_NAME, b"-")?)
+    let is_closed = has_log(alloc, disk, b"-")?;
+    Ok(ANSWERS.starts_with(shown) && count >= lines && is_closed)
+}
+
+// Asserts that what a day has shown is kept that crashes after so many calls: whether it was begun, and not all was shown.
+fn is_cut_short(rt: &impl Abort, alloc: Global, calls: u64) -> Result<bool, Fail> {
+    let Some((shown, left)) = crash(alloc, calls)? else {
+        return Ok(false);
+    };
+    assert!(rt; is_kept(alloc, shown.as_slice(), left)?);
+    Ok(shown.len() < ANSWERS.len())
 }
 
 #[test]
@@ -80,11 +100,8 @@ fn what_was_shown_is_performed_again(rt: HostRuntime) -> Result<(), Fail> {
     let alloc = rt.alloc();
     let mut crashed = 0u64;
     for calls in 0..CALLS {
-        if let Some((shown, left)) = crash(alloc, calls)? {
-            if shown.len() < ANSWERS.len() {
-                crashed = crashed.saturating_add(1);
-            }
-            assert!(rt; is_kept(alloc, shown.as_slice(), left)?);
+        if is_cut_short(&rt, alloc, calls)? {
+            crashed = crashed.saturating_add(1);
         }
     }
     assert!(rt; crashed > 0);
@@ -100,41 +117,40 @@ enum Left {
     Files,
 }
 
-// What a folder has after it is recovered: all the old files or all the new ones.
-fn what_is_left(alloc: Global, left: MemoryDisk) -> Result<Left, Fail>
-    requires whole { (n : Name) → is_reserved n ≡ false → IsWhole left.calls n }
-{
-    let mut disk = left;
-    let Ok(()) = recover(alloc, &mut disk) else {
-        return Err("the folder is not recovered".into());
-    };
+// What a recovered folder has: all the old files or all the new ones.
+fn what_is_there(alloc: Global, disk: &mut MemoryDisk) -> Result<Left, Fail> {
     let has_table = disk.has(b"T.DBF")?;
-    let has_answers = disk.has(b"STATION1.TXT")? && disk.has(b"STATION2.TXT")?;
-    let is_closed = has_file(alloc, &mut disk, LOG_NAME, b"-")?;
-    if has_file(alloc, &mut disk, LOG_NAME, LOGGED)? && !has_table && !disk.has(b"STATION1.TXT")? {
+    let has_first = disk.has(b"STATION1.TXT")?;
+    let has_second = disk.has(b"STATION2.TXT")?;
+    if has_file(alloc, disk, LOG_NAME, LOGGED)? && !has_table && !has_first {
         return Ok(Left::Log);
     }
-    if is_closed && has_table && has_answers {
+    if has_file(alloc, disk, LOG_NAME, b"-")? && has_table && has_first && has_second {
         return Ok(Left::Files);
     }
     Err("the files are mixed".into())
 }
 
+// What a folder has after it is recovered.
+fn what_is_recovered(alloc: Global, disk: &mut MemoryDisk) -> Result<Left, Fail> {
+    let Ok(()) = recover(alloc, disk) else {
+        return Err("the folder is not recovered".into());
+    };
+    what_is_there(alloc, disk)
+}
+
+// What a folder has after a crash of its disk.
+fn what_is_left(alloc: Global, disk: &MemoryDisk, choices: u64) -> Result<Left, Fail> {
+    let mut left = disk.left(choices)?;
+    what_is_recovered(alloc, &mut left)
+}
+
 // A day whose disk fails after so many calls of its closing, and then crashes: whether it was closed, and what is left.
 fn crash_closing(alloc: Global, calls: u64) -> Result<(bool, Left), Fail> {
-    let Ok(day) = start(alloc, empty_folder(alloc, u64::MAX)) else {
-        return Err("the day is not begun".into());
-    };
-    let Answered {
-        ended,
-        shown: _,
-        day,
-    } = answer(alloc, day, TYPED);
-    if ended.is_err() {
-        return Err("the lines are not answered".into());
-    }
-    let (count, disk) = close(alloc, day, calls)?;
-    let left = what_is_left(alloc, disk.left(choices_of(calls))?)?;
+    let date = today()?;
+    let (_, day) = answer_all(alloc, empty_folder(alloc, u64::MAX), TYPED)?;
+    let (count, disk) = close(alloc, day, date, calls);
+    let left = what_is_left(alloc, &disk, choices_of(calls))?;
     Ok((count.is_some(), left))
 }
 
@@ -162,14 +178,22 @@ const BAD_LOGS: [(&str, bool); 4] = [
     ("+3 5 2 USE T OK\n-", false),
 ];
 
+// Whether a day is not begun since its log is none, or since an entry does not hold.
+fn is_of_log(why: &Unstarted, is_none: bool) -> bool {
+    match why {
+        Unstarted::Log(StartFault::Changed) => is_none,
+        Unstarted::Log(StartFault::Audit(_)) => !is_none,
+        _ => false,
+    }
+}
+
 // Whether a day is not begun on a log: since it is none, or since an entry does not hold.
 fn is_refused(alloc: Global, (log, is_none): (&str, bool)) -> Result<bool, Fail> {
     let disk = MemoryDisk::new(alloc).with_file(LOG_NAME, log.as_bytes())?;
-    Ok(match start(alloc, disk) {
-        Err(Unstarted::Log(StartFault::Changed)) => is_none,
-        Err(Unstarted::Log(StartFault::Audit(_))) => !is_none,
-        _ => false,
-    })
+    match start(alloc, disk) {
+        Ok(_) => Ok(false),
+        Err(why) => Ok(is_of_log(&why, is_none)),
+    }
 }
 
 #[test]

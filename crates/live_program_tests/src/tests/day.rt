@@ -1,16 +1,20 @@
 //! The setup of the tests, and a day on it.
 
-ghost use Rattle.std.specs.Prelude.{◌≡◌, ◌≤◌, true, false, IfOk, OnOk};
+ghost use Rattle.std.specs.Prelude.{◌≡◌, ◌≤◌, [], true, false, IfOk, OnOk};
 ghost use Rattle.files_in_place.specs.Folder.{Name, is_reserved};
 ghost use Rattle.memory_disk.specs.Outcomes.{IsWhole};
 
 use byte_io::{Bytes, Failures};
+use catalogue_core::Catalogue;
 use dbf_fields::{Day as Date, day_of};
 use files_in_place::{Disk, FileSet, recover};
 use folders::{MemorySource, NamedFile};
 use live_day::{Day, RunFault, StartFault, perform_again, run_day, start_day};
-use live_program::{LOG_NAME, PrintedAnswers, TypedLines, close_day, open_tables};
+use live_program::{
+    LOG_NAME, LiveFailure, Lived, PrintedAnswers, TypedLines, close_day, open_tables,
+};
 use memory_disk::MemoryDisk;
+use program_frame::Failure;
 use sample_files::TABLE;
 use std::alloc::{AllocError, Global};
 use std::io::{BufRead, Write};
@@ -28,8 +32,10 @@ fn named(alloc: Global, name: &[u8], bytes: &[u8]) -> Result<NamedFile, AllocErr
 
 /// The files of the setup.
 pub(super) fn source(alloc: Global) -> Result<MemorySource, AllocError> {
-    let mut files = vec![in alloc; named(alloc, b"A.SET", SETUP)?]?;
-    files.push(named(alloc, b"t.dbf", &TABLE)?)?;
+    let files = vec![in alloc;
+        named(alloc, b"A.SET", SETUP)?,
+        named(alloc, b"t.dbf", &TABLE)?,
+    ]?;
     Ok(MemorySource {
         files,
         loads: u64::MAX,
@@ -37,8 +43,8 @@ pub(super) fn source(alloc: Global) -> Result<MemorySource, AllocError> {
     })
 }
 
-// The date of the files.
-fn today() -> Result<Date, Fail> {
+/// The date of the files.
+pub(super) fn today() -> Result<Date, Fail> {
     match day_of(1987, 3, 15) {
         Some(today) => Ok(today),
         None => Err("no date".into()),
@@ -71,6 +77,19 @@ impl From<AllocError> for Unstarted {
     }
 }
 
+// The tables of the setup.
+fn open_setup(alloc: Global) -> Result<Catalogue, Unstarted>
+    ensures empty { IfOk result (λ catalogue. catalogue.journal ≡ []) }
+    ensures stations { IfOk result (λ catalogue. 1 ≤ catalogue.opened.stations) }
+{
+    let setup = Bytes::from_slice(alloc, b"A.SET")?;
+    let mut files = source(alloc)?;
+    match open_tables(alloc, &setup, false, &mut files) {
+        Ok(catalogue) => Ok(catalogue),
+        Err(_) => Err(Unstarted::Unopened),
+    }
+}
+
 /// A day that starts on the log of a disk.
 pub(super) fn start(alloc: Global, disk: MemoryDisk) -> Result<Day<MemoryDisk>, Unstarted>
     requires whole { (n : Name) → is_reserved n ≡ false → IsWhole disk.calls n }
@@ -78,19 +97,16 @@ pub(super) fn start(alloc: Global, disk: MemoryDisk) -> Result<Day<MemoryDisk>, 
     ensures stations { IfOk result (λ day. 1 ≤ day.history.opened.stations) }
 {
     let mut disk = disk;
+    let name = Bytes::from_slice(alloc, LOG_NAME)?;
     let Ok(()) = recover(alloc, &mut disk) else {
         return Err(Unstarted::Unrecovered);
     };
-    let setup = Bytes::from_slice(alloc, b"A.SET")?;
-    let Ok(mut catalogue) = open_tables(alloc, &setup, false, &mut source(alloc)?) else {
-        return Err(Unstarted::Unopened);
-    };
+    let mut catalogue = open_setup(alloc)?;
     let log = match perform_again(alloc, &mut catalogue, &mut disk, LOG_NAME) {
         Ok(log) => log,
         Err(fault) => return Err(Unstarted::Log(fault)),
     };
     let set = FileSet::new(alloc, disk);
-    let name = Bytes::from_slice(alloc, LOG_NAME)?;
     match start_day(alloc, catalogue, set, name, log.as_slice()) {
         Ok(day) => Ok(day),
         Err(_) => Err(Unstarted::Unplaced),
@@ -137,22 +153,47 @@ pub(super) fn answer(alloc: Global, day: Day<MemoryDisk>, typed: &[u8]) -> Answe
     Answered { ended, shown, day }
 }
 
-/// Closes a day whose disk does so many calls more: how many commands were performed, where it is closed, and the disk then.
+/// A day on a disk whose typed lines are all answered, and what was shown.
+pub(super) fn answer_all(
+    alloc: Global,
+    disk: MemoryDisk,
+    typed: &[u8],
+) -> Result<(Vec<u8>, Day<MemoryDisk>), Fail>
+    requires whole { (n : Name) → is_reserved n ≡ false → IsWhole disk.calls n }
+    ensures takes { IfOk result (λ found. found.1.takes ≡ true) }
+{
+    let Ok(day) = start(alloc, disk) else {
+        return Err("the day is not begun".into());
+    };
+    let Answered { ended, shown, day } = answer(alloc, day, typed);
+    if ended.is_err() {
+        return Err("the lines are not answered".into());
+    }
+    Ok((shown, day))
+}
+
+// How many commands were performed in a day whose closing ends so, where it is closed.
+fn count_of(ended: &Result<Lived, Failure<LiveFailure>>) -> Option<u64> {
+    match ended {
+        Ok(lived) => Some(lived.count),
+        Err(_) => None,
+    }
+}
+
+/// Closes a day at a date, whose disk does so many calls more: how many commands were performed, where it is closed, and the disk then.
 pub(super) fn close(
     alloc: Global,
     day: Day<MemoryDisk>,
+    date: Date,
     calls: u64,
-) -> Result<(Option<u64>, MemoryDisk), Fail>
+) -> (Option<u64>, MemoryDisk)
     requires takes { day.takes ≡ true }
 {
     let (catalogue, log) = day.into_parts();
     let mut disk = log.into_disk();
     disk.allow(calls);
-    let (ended, disk) = close_day(alloc, &catalogue, today()?, disk);
-    match ended {
-        Ok(lived) => Ok((Some(lived.count), disk)),
-        Err(_) => Ok((None, disk)),
-    }
+    let (ended, disk) = close_day(alloc, &catalogue, date, disk);
+    (count_of(&ended), disk)
 }
 
 /// A whole day: what was shown, how many commands were performed, and the disk after its end.
@@ -163,14 +204,9 @@ pub(super) fn live(
 ) -> Result<(Vec<u8>, u64, MemoryDisk), Fail>
     requires whole { (n : Name) → is_reserved n ≡ false → IsWhole disk.calls n }
 {
-    let Ok(day) = start(alloc, disk) else {
-        return Err("the day is not begun".into());
-    };
-    let Answered { ended, shown, day } = answer(alloc, day, typed);
-    if ended.is_err() {
-        return Err("the lines are not answered".into());
-    }
-    match close(alloc, day, u64::MAX)? {
+    let date = today()?;
+    let (shown, day) = answer_all(alloc, disk, typed)?;
+    match close(alloc, day, date, u64::MAX) {
         (Some(count), disk) => Ok((shown, count, disk)),
         (None, _) => Err("the day is not closed".into()),
     }
@@ -187,4 +223,10 @@ pub(super) fn has_file(
         Some(found) => Ok(found.as_slice() == bytes),
         None => Ok(false),
     }
+}
+
+/// Whether a disk has this log.
+pub(super) fn has_log(alloc: Global, disk: MemoryDisk, log: &[u8]) -> Result<bool, Fail> {
+    let mut disk = disk;
+    has_file(alloc, &mut disk, LOG_NAME, log)
 }

@@ -87,29 +87,46 @@ fn end_of(number: usize) -> Ended {
     Err(Ending::Failed(failure_of(number)))
 }
 
+// Whether the end with this number is told so.
+fn is_end_told(alloc: Global, number: usize, told: (u8, &str, &str)) -> bool {
+    is_told(alloc, &end_of(number), told)
+}
+
 #[test]
 fn each_end_has_its_status_and_line(rt: HostRuntime) -> Result<(), Fail> {
     for number in 0..ENDS.len() {
-        assert!(rt; is_told(rt.alloc(), &end_of(number), ENDS[number]));
+        assert!(rt; is_end_told(rt.alloc(), number, ENDS[number]));
     }
     Ok(())
 }
 
-// A day in a folder of the system: how many commands were performed, what was shown, and what was said of the log.
+// A day in a folder of the system: how it ended, what was shown, and what was said of the log.
 #[derive(Drop)]
 struct LivedDay {
-    count: Result<u64, Failure<LiveFailure>>,
+    ended: Ended,
     shown: Vec<u8>,
     said: Vec<u8>,
 }
 
-// How a call of the program ends that had a command line.
-fn count_of(ended: Ended) -> Result<Result<u64, Failure<LiveFailure>>, Fail> {
+// Whether a call of the program has ended with so many commands.
+fn has_count(ended: &Ended, count: u64) -> bool {
     match ended {
-        Ok(lived) => Ok(Ok(lived.count)),
-        Err(Ending::Failed(failure)) => Ok(Err(failure)),
-        Err(_) => Err("there are no options".into()),
+        Ok(lived) => lived.count == count,
+        Err(_) => false,
     }
+}
+
+// Whether a call of the program has failed so.
+fn has_failed(ended: &Ended, failure: &Failure<LiveFailure>) -> bool {
+    match ended {
+        Err(Ending::Failed(found)) => *found == *failure,
+        _ => false,
+    }
+}
+
+// Whether a day has failed so, and nothing was shown.
+fn is_unbegun(day: &LivedDay, failure: &Failure<LiveFailure>) -> bool {
+    has_failed(&day.ended, failure) && day.shown.is_empty()
 }
 
 // The words of a command line for a folder.
@@ -130,12 +147,13 @@ fn call<
     W: Write + Drop,
 >(rt: &R, words: &[&str], reader: B, out: W) -> Result<(Ended, Vec<u8>), Fail> {
     let alloc = rt.alloc();
+    let mut files = source(alloc)?;
     let prompt: Option<Vec<u8>> = None;
     let mut said = Vec::new(alloc);
     let ended = run_program(
         alloc,
         &HostPlaces::new(rt),
-        &mut source(alloc)?,
+        &mut files,
         &mut TypedLines::new(reader, prompt),
         &mut PrintedAnswers::new(out),
         &mut said,
@@ -152,8 +170,7 @@ fn live_in<R: Runtime + Files<File = File> + AllocGlobal + Threads>(
 ) -> Result<LivedDay, Fail> {
     let mut shown = Vec::new(rt.alloc());
     let (ended, said) = call(rt, &words_of(folder), typed, &mut shown)?;
-    let count = count_of(ended)?;
-    Ok(LivedDay { count, shown, said })
+    Ok(LivedDay { ended, shown, said })
 }
 
 // Makes a folder of the system without files.
@@ -168,6 +185,19 @@ fn make_folder<R: Runtime + Files<File = File> + AllocGlobal>(
     Ok(())
 }
 
+// Whether the log of a folder of the system is this one. The folder is removed.
+fn had_log<R: Runtime + Files<File = File> + AllocGlobal>(
+    rt: &R,
+    folder: &str,
+    log: &str,
+) -> Result<bool, Fail> {
+    let alloc = rt.alloc();
+    let path = format!(in alloc; "{folder}/STATIONS.LOG")?;
+    let found = fs::read(rt, path.as_str())?;
+    fs::remove_dir_all(rt, folder)?;
+    Ok(found.as_slice() == log.as_bytes())
+}
+
 // What is said of a table whose new file has another name, and of a log of two entries that is performed again.
 const AGAIN: &[u8] =
     b"t.dbf stays as it is where new files go into its folder: the new table is T.DBF
@@ -175,6 +205,22 @@ station_prompt: 2 commands performed again
 station 1: USE T: OK
 station 2: USE T: OK
 ";
+
+// Whether a day has gone on with that log, as it shows and says.
+fn has_gone_on(day: &LivedDay) -> bool {
+    has_count(&day.ended, 4)
+        && day.shown.as_slice() == b"OK\n.F.\n".as_slice()
+        && day.said.as_slice() == AGAIN
+}
+
+// Lives a day in a folder of the system with that log, and whether it has gone on with it.
+fn goes_on<R: Runtime + Files<File = File> + AllocGlobal + Threads>(
+    rt: &R,
+    folder: &str,
+) -> Result<bool, Fail> {
+    let day = live_in(rt, folder, b"GO 2\n? EOF()\nQUIT\n")?;
+    Ok(has_gone_on(&day))
+}
 
 #[test]
 fn a_day_goes_on_in_a_folder_of_the_system(rt: HostRuntime) -> Result<(), Fail> {
@@ -184,49 +230,71 @@ fn a_day_goes_on_in_a_folder_of_the_system(rt: HostRuntime) -> Result<(), Fail> 
         "lived/STATIONS.LOG",
         b"+1 5 2 USE T OK\n+2 5 2 USE T OK\n-1 4 2 G",
     )?;
-    let day = live_in(&rt, "lived", b"GO 2\n? EOF()\nQUIT\n")?;
-    assert!(rt; day.count == Ok(4) && day.shown.as_slice() == b"OK\n.F.\n".as_slice());
-    assert!(rt; day.said.as_slice() == AGAIN && fs::exists(&rt, "lived/T.DBF")?);
-    assert!(rt; fs::read(&rt, "lived/STATIONS.LOG")?.as_slice() == b"-".as_slice());
-    fs::remove_dir_all(&rt, "lived")?;
+    assert!(rt; goes_on(&rt, "lived")?);
+    assert!(rt; fs::exists(&rt, "lived/T.DBF")?);
+    assert!(rt; had_log(&rt, "lived", "-")?);
     Ok(())
 }
 
-// Whether a day ends so on a log in a folder of the system that does not hold on the tables, and whether the log stays as it is.
+// Why no day begins on a text in the log's place: it is a log whose first entry does not hold, or it is no log.
+fn log_failure(is_log: bool) -> Failure<LiveFailure> {
+    if is_log {
+        return Failure::Work(LiveFailure::Entry(AuditFault::NoEntry(1)));
+    }
+    Failure::Work(LiveFailure::NoLog)
+}
+
+// Whether no day begins in a folder of the system, since the first entry of its log does not hold, or since it has no log.
+fn is_refused<R: Runtime + Files<File = File> + AllocGlobal + Threads>(
+    rt: &R,
+    folder: &str,
+    is_log: bool,
+) -> Result<bool, Fail> {
+    let day = live_in(rt, folder, b"GO 2\n")?;
+    Ok(is_unbegun(&day, &log_failure(is_log)))
+}
+
+// Whether no day begins on a log in a folder of the system that does not hold on the tables, and whether the log stays as it is.
 fn stays<R: Runtime + Files<File = File> + AllocGlobal + Threads>(
     rt: &R,
     log: &str,
-    failure: LiveFailure,
+    is_log: bool,
 ) -> Result<bool, Fail> {
     make_folder(rt, "refused")?;
     fs::write(rt, "refused/STATIONS.LOG", log.as_bytes())?;
-    let day = live_in(rt, "refused", b"GO 2\n")?;
-    let is_told = day.count == Err(Failure::Work(failure)) && day.shown.is_empty();
-    let left = fs::read(rt, "refused/STATIONS.LOG")?;
+    let is_told = is_refused(rt, "refused", is_log)?;
     let is_alone = !fs::exists(rt, "refused/T.DBF")?;
-    fs::remove_dir_all(rt, "refused")?;
-    Ok(is_told && is_alone && left.as_slice() == log.as_bytes())
+    let is_kept = had_log(rt, "refused", log)?;
+    Ok(is_told && is_alone && is_kept)
 }
+
+// What does not hold on the tables, and whether it is a log.
+const REFUSED: [(&str, bool); 3] = [
+    ("+1 5 2 USE T OK\n+", false),
+    ("Dear Anna,\n", false),
+    ("+3 5 2 USE T OK\n-", true),
+];
 
 #[test]
 fn a_log_that_does_not_hold_stays_as_it_is(rt: HostRuntime) -> Result<(), Fail> {
-    for log in ["+1 5 2 USE T OK\n+", "Dear Anna,\n"] {
-        assert!(rt; stays(&rt, log, LiveFailure::NoLog)?);
+    for (log, is_log) in REFUSED {
+        assert!(rt; stays(&rt, log, is_log)?);
     }
-    assert!(rt;
-        stays(
-            &rt,
-            "+3 5 2 USE T OK\n-",
-            LiveFailure::Entry(AuditFault::NoEntry(1))
-        )?
-    );
     Ok(())
+}
+
+// Whether no day begins in a folder of the system since it is not opened.
+fn is_unopened<R: Runtime + Files<File = File> + AllocGlobal + Threads>(
+    rt: &R,
+    folder: &str,
+) -> Result<bool, Fail> {
+    let day = live_in(rt, folder, b"USE T\n")?;
+    Ok(is_unbegun(&day, &Failure::Folder(FolderFault::Unopened)))
 }
 
 #[test]
 fn a_folder_that_is_not_there_is_told(rt: HostRuntime) -> Result<(), Fail> {
-    let day = live_in(&rt, "no_folder", b"USE T\n")?;
-    assert!(rt; day.count == Err(Failure::Folder(FolderFault::Unopened)) && day.shown.is_empty());
+    assert!(rt; is_unopened(&rt, "no_folder")?);
     Ok(())
 }
 
@@ -250,36 +318,39 @@ impl Read for Broken {
     }
 }
 
-// Whether the log of a folder of the system is this one. The folder is removed.
-fn had_log<R: Runtime + Files<File = File> + AllocGlobal>(
+// Whether a day in a folder of the system fails whose answers nobody reads.
+fn is_unshown<R: Runtime + Files<File = File> + AllocGlobal + Threads>(
     rt: &R,
     folder: &str,
-    log: &str,
 ) -> Result<bool, Fail> {
-    let alloc = rt.alloc();
-    let path = format!(in alloc; "{folder}/STATIONS.LOG")?;
-    let found = fs::read(rt, path.as_str())?;
-    fs::remove_dir_all(rt, folder)?;
-    Ok(found.as_slice() == log.as_bytes())
+    let typed: &[u8] = b"USE T\nGO 2\n";
+    let (ended, _) = call(rt, &words_of(folder), typed, Broken)?;
+    Ok(has_failed(&ended, &Failure::Work(LiveFailure::Unshown)))
 }
 
 #[test]
 fn a_day_whose_answers_nobody_reads_keeps_its_log(rt: HostRuntime) -> Result<(), Fail> {
     make_folder(&rt, "unshown")?;
-    let typed: &[u8] = b"USE T\nGO 2\n";
-    let (ended, _) = call(&rt, &words_of("unshown"), typed, Broken)?;
-    assert!(rt; count_of(ended)? == Err(Failure::Work(LiveFailure::Unshown)));
+    assert!(rt; is_unshown(&rt, "unshown")?);
     assert!(rt; had_log(&rt, "unshown", "+1 5 2 USE T OK\n+1 4 2 GO 2 OK\n-")?);
     Ok(())
+}
+
+// Whether a day in a folder of the system fails whose lines are not read.
+fn is_unread<R: Runtime + Files<File = File> + AllocGlobal + Threads>(
+    rt: &R,
+    folder: &str,
+) -> Result<bool, Fail> {
+    let reader = BufReader::new(rt.alloc(), Broken)?;
+    let shown: Vec<u8> = Vec::new(rt.alloc());
+    let (ended, _) = call(rt, &words_of(folder), reader, shown)?;
+    Ok(has_failed(&ended, &Failure::Work(LiveFailure::Unread)))
 }
 
 #[test]
 fn a_day_whose_lines_are_not_read_keeps_its_log(rt: HostRuntime) -> Result<(), Fail> {
     make_folder(&rt, "unread")?;
-    let reader = BufReader::new(rt.alloc(), Broken)?;
-    let shown: Vec<u8> = Vec::new(rt.alloc());
-    let (ended, _) = call(&rt, &words_of("unread"), reader, shown)?;
-    assert!(rt; count_of(ended)? == Err(Failure::Work(LiveFailure::Unread)));
+    assert!(rt; is_unread(&rt, "unread")?);
     assert!(rt; had_log(&rt, "unread", "-")?);
     Ok(())
 }
@@ -310,10 +381,10 @@ fn has_status<R: Runtime + Files<File = File> + AllocGlobal + Threads>(
     status: u8,
 ) -> Result<bool, Fail> {
     let typed: &[u8] = b"";
-    let mut out: Vec<u8> = Vec::new(rt.alloc());
-    let mut err: Vec<u8> = Vec::new(rt.alloc());
     let shown: Vec<u8> = Vec::new(rt.alloc());
     let (ended, _) = call(rt, words, typed, shown)?;
+    let mut out: Vec<u8> = Vec::new(rt.alloc());
+    let mut err: Vec<u8> = Vec::new(rt.alloc());
     Ok(tell(&mut out, &mut err, PROGRAM, &ended).status == ExitCode::from(status))
 }
 

@@ -4,10 +4,10 @@ ghost use Rattle.std.specs.Prelude.{◌≡◌, ◌≤◌, true, false, OnOk};
 ghost use Rattle.files_in_place.specs.Folder.{Name, is_reserved};
 ghost use Rattle.memory_disk.specs.Outcomes.{IsWhole};
 
-use super::day::{Answered, answer, answer_to, has_file, live, start};
+use super::day::{answer_to, has_log, live, start};
 use live_day::{Day, Keyboard, MAX_GROUP_LINES, RunFault};
 use live_log::LogFault;
-use live_program::{LOG_NAME, TypedLines};
+use live_program::TypedLines;
 use memory_disk::MemoryDisk;
 use std::alloc::{AllocError, Global};
 use std::io::{self, BufRead, BufReader, Write};
@@ -31,6 +31,18 @@ fn count_lines(text: &[u8]) -> u64 {
     text.iter().filter(|byte| **byte == b'\n').count() as u64
 }
 
+// How many answers are shown where the lines end so: all, or the first ones where the log has failed.
+fn count_answers(ended: Result<(), RunFault>, shown: &[u8]) -> Result<Option<u64>, Fail> {
+    let is_all = shown == ANSWERS;
+    if is_all != ended.is_ok() || !is_all && ended != Err(RunFault::Log(LogFault::Failed)) {
+        return Err("another end".into());
+    }
+    if !ANSWERS.starts_with(shown) {
+        return Err("another answer".into());
+    }
+    Ok(Some(count_lines(shown)))
+}
+
 // How many answers are shown of a day on an empty folder whose disk does only so many calls. `None` where it is not begun.
 fn count_shown<R: BufRead + Drop>(
     alloc: Global,
@@ -44,14 +56,7 @@ fn count_shown<R: BufRead + Drop>(
     };
     let mut shown: Vec<u8> = Vec::new(alloc);
     let ended = answer_to(alloc, &mut day, typed, &mut shown);
-    let is_all = shown.as_slice() == ANSWERS;
-    if is_all != ended.is_ok() || !is_all && ended != Err(RunFault::Log(LogFault::Failed)) {
-        return Err("another end".into());
-    }
-    if !ANSWERS.starts_with(shown.as_slice()) {
-        return Err("another answer".into());
-    }
-    Ok(Some(count_lines(shown.as_slice())))
+    count_answers(ended, shown.as_slice())
 }
 
 #[test]
@@ -106,15 +111,19 @@ impl Write for Narrow {
     }
 }
 
+// Whether the log of a day has all three lines.
+fn is_logged(alloc: Global, day: Day<MemoryDisk>) -> Result<bool, Fail> {
+    let (_, log) = day.into_parts();
+    has_log(alloc, log.into_disk(), LOGGED)
+}
+
 // How a day ends whose screen takes only so many bytes, and whether its log has all three lines.
 fn end_on(alloc: Global, room: usize) -> Result<(Result<(), RunFault>, bool), Fail> {
     let Ok(mut day) = start(alloc, MemoryDisk::new(alloc)) else {
         return Err("the day is not begun".into());
     };
     let ended = answer_to(alloc, &mut day, TYPED, Narrow { room });
-    let (_, log) = day.into_parts();
-    let mut disk = log.into_disk();
-    Ok((ended, has_file(alloc, &mut disk, LOG_NAME, LOGGED)?))
+    Ok((ended, is_logged(alloc, day)?))
 }
 
 #[test]
@@ -146,13 +155,18 @@ const COUNTS: [usize; 4] = [
     4 * MAX_GROUP_LINES,
 ];
 
+// How many commands are performed of a day with so many lines after the first, and how many answers are shown.
+fn count_both(alloc: Global, count: usize) -> Result<(u64, u64), Fail> {
+    let typed = many_lines(alloc, count)?;
+    let (shown, performed, _) = live(alloc, MemoryDisk::new(alloc), typed.as_slice())?;
+    Ok((performed, count_lines(shown.as_slice())))
+}
+
 #[test]
 fn lines_of_many_groups_are_answered_in_order(rt: HostRuntime) -> Result<(), Fail> {
-    let alloc = rt.alloc();
     for count in COUNTS {
-        let typed = many_lines(alloc, count)?;
-        let (shown, performed, _) = live(alloc, MemoryDisk::new(alloc), typed.as_slice())?;
-        assert!(rt; performed == count as u64 + 1 && count_lines(shown.as_slice()) == performed);
+        let (performed, shown) = count_both(rt.alloc(), count)?;
+        assert!(rt; performed == count as u64 + 1 && shown == performed);
     }
     Ok(())
 }
@@ -164,6 +178,11 @@ fn has_second(alloc: Global, typed: &[u8], prompt: Option<Vec<u8>>) -> bool {
     keyboard.has_line()
 }
 
+// Whether a further line is said to be there or not without a prompt, and with one not.
+fn has_second_alone(alloc: Global, typed: &[u8], is_there: bool) -> bool {
+    has_second(alloc, typed, None) == is_there && !has_second(alloc, typed, Some(Vec::new(alloc)))
+}
+
 #[test]
 fn a_further_line_is_there_without_a_prompt_alone(rt: HostRuntime) -> Result<(), Fail> {
     let alloc = rt.alloc();
@@ -173,8 +192,7 @@ fn a_further_line_is_there_without_a_prompt_alone(rt: HostRuntime) -> Result<(),
         ("A\n", false),
         ("", false),
     ] {
-        assert!(rt; has_second(alloc, typed.as_bytes(), None) == is_there);
-        assert!(rt; !has_second(alloc, typed.as_bytes(), Some(Vec::new(alloc))));
+        assert!(rt; has_second_alone(alloc, typed.as_bytes(), is_there));
     }
     Ok(())
 }

@@ -5,6 +5,7 @@ use live_day::MAX_LINE_BYTES;
 use memory_disk::MemoryDisk;
 use sample_files::WITH_CYD;
 use std::alloc::{AllocError, Global};
+use std::process::Abort;
 use std::test::Fail;
 
 // What is typed in a day, what is shown, and how many commands are performed.
@@ -62,22 +63,39 @@ const LONG: [usize; 4] = [
     1_000_000,
 ];
 
+// Whether a line of so many bytes is refused, and the next one answered.
+fn is_skipped(alloc: Global, bytes: usize) -> Result<bool, Fail> {
+    let typed = long_line(alloc, bytes)?;
+    let (shown, count, _) = live(alloc, MemoryDisk::new(alloc), typed.as_slice())?;
+    Ok(shown.as_slice() == b"REFUSED 19 BadCommand\nOK\n".as_slice() && count == 2)
+}
+
 #[test]
 fn a_line_that_is_too_long_is_refused_and_skipped(rt: HostRuntime) -> Result<(), Fail> {
-    let alloc = rt.alloc();
     for bytes in LONG {
-        let typed = long_line(alloc, bytes)?;
-        let (shown, count, _) = live(alloc, MemoryDisk::new(alloc), typed.as_slice())?;
-        assert!(rt; shown.as_slice() == b"REFUSED 19 BadCommand\nOK\n".as_slice() && count == 2);
+        assert!(rt; is_skipped(rt.alloc(), bytes)?);
+    }
+    Ok(())
+}
+
+// Asserts that files of a disk have these bytes.
+fn assert_files(
+    rt: &impl Abort,
+    alloc: Global,
+    disk: &mut MemoryDisk,
+    files: &[(&[u8], &[u8])],
+) -> Result<(), Fail> {
+    for (name, bytes) in files {
+        assert!(rt; has_file(alloc, disk, name, bytes)?);
     }
     Ok(())
 }
 
 // The files of the end of a day in which two stations used the table.
-const FILES: [(&str, &str); 3] = [
-    ("STATIONS.LOG", "-"),
-    ("STATION1.TXT", "OK\nOK\n"),
-    ("STATION2.TXT", "OK\n"),
+const FILES: [(&[u8], &[u8]); 3] = [
+    (b"STATIONS.LOG", b"-"),
+    (b"STATION1.TXT", b"OK\nOK\n"),
+    (b"STATION2.TXT", b"OK\n"),
 ];
 
 #[test]
@@ -86,10 +104,7 @@ fn a_closed_day_has_its_files_and_an_empty_log(rt: HostRuntime) -> Result<(), Fa
     let typed = b"USE T\nSTATION 2\nUSE T\nDISPLAY STATUS\nSTATION 1\nGO 2\n";
     let (_, _, disk) = live(alloc, MemoryDisk::new(alloc), typed)?;
     let mut disk = disk;
-    for (name, bytes) in FILES {
-        assert!(rt; has_file(alloc, &mut disk, name.as_bytes(), bytes.as_bytes())?);
-    }
-    Ok(())
+    assert_files(&rt, alloc, &mut disk, &FILES)
 }
 
 // What is typed of a record that is added, and its answers.
@@ -102,15 +117,22 @@ REPLACE NAME WITH \"CYD\"
 
 const ADDED_ANSWERS: &[u8] = b"OK\nOK\nOK\nOK\nCYD       \n";
 
+// Asserts what a day with that record has shown and how many commands it has, and the files of its end.
+fn assert_added(
+    rt: &impl Abort,
+    alloc: Global,
+    (shown, count): (&[u8], u64),
+    disk: &mut MemoryDisk,
+) -> Result<(), Fail> {
+    assert!(rt; shown == ADDED_ANSWERS && count == 5);
+    let files: [(&[u8], &[u8]); 2] = [(b"T.DBF", &WITH_CYD), (b"STATION1.TXT", ADDED_ANSWERS)];
+    assert_files(rt, alloc, disk, &files)
+}
+
 #[test]
 fn a_record_that_is_typed_is_in_the_new_table(rt: HostRuntime) -> Result<(), Fail> {
     let alloc = rt.alloc();
     let (shown, count, disk) = live(alloc, MemoryDisk::new(alloc), ADDED)?;
     let mut disk = disk;
-    assert!(rt; shown.as_slice() == ADDED_ANSWERS && count == 5);
-    let files: [(&[u8], &[u8]); 2] = [(b"T.DBF", &WITH_CYD), (b"STATION1.TXT", ADDED_ANSWERS)];
-    for (name, bytes) in files {
-        assert!(rt; has_file(alloc, &mut disk, name, bytes)?);
-    }
-    Ok(())
+    assert_added(&rt, alloc, (shown.as_slice(), count), &mut disk)
 }
