@@ -78,39 +78,15 @@ fn a_log_tells_how_many_entries_it_has(rt: HostRuntime) -> Result<(), Fail> {
     Ok(())
 }
 
+// Whether a log stands for nothing.
+fn says_nothing(alloc: Global, log: &[u8]) -> Result<bool, AllocError> {
+    Ok(read_log(alloc, log)?.is_none())
+}
+
 #[test]
 fn a_log_that_somebody_has_changed_stands_for_nothing(rt: HostRuntime) -> Result<(), Fail> {
     for log in CHANGED {
-        assert!(rt; read_log(rt.alloc(), log.as_bytes())?.is_none());
-    }
-    Ok(())
-}
-
-// The log of the first group, and after its shut gate the second group, cut after so many bytes.
-#[test]
-fn a_group_that_is_cut_anywhere_does_not_count(rt: HostRuntime) -> Result<(), Fail> {
-    let alloc = rt.alloc();
-    let mut staged = Vec::from_slice(alloc, BOTH.as_bytes())?;
-    let gate = FIRST.len() - 1;
-    staged[gate] = b'-';
-    for length in gate..BOTH.len() {
-        assert!(rt; says(alloc, &staged[..length], FIRST_JOURNAL, FIRST)?);
-    }
-    Ok(())
-}
-
-// The same, with each byte after the shut gate changed in turn.
-#[test]
-fn a_group_of_which_a_byte_is_changed_does_not_count(rt: HostRuntime) -> Result<(), Fail> {
-    let alloc = rt.alloc();
-    let mut staged = Vec::from_slice(alloc, BOTH.as_bytes())?;
-    let gate = FIRST.len() - 1;
-    staged[gate] = b'-';
-    for i in gate + 1..BOTH.len() {
-        let byte = staged[i];
-        staged[i] = byte ^ 1;
-        assert!(rt; says(alloc, &staged, FIRST_JOURNAL, FIRST)?);
-        staged[i] = byte;
+        assert!(rt; says_nothing(rt.alloc(), log.as_bytes())?);
     }
     Ok(())
 }
@@ -122,18 +98,57 @@ fn with_gate(alloc: Global, gate: u8) -> Result<Vec<u8>, AllocError> {
     Ok(log)
 }
 
+// Whether the first group alone counts in a log with the second one after a shut gate, which is cut after so many bytes.
+fn counts_first_of_cut(alloc: Global, length: usize) -> Result<bool, AllocError> {
+    let mut staged = with_gate(alloc, b'-')?;
+    staged.truncate(length);
+    says(alloc, &staged, FIRST_JOURNAL, FIRST)
+}
+
+#[test]
+fn a_group_that_is_cut_anywhere_does_not_count(rt: HostRuntime) -> Result<(), Fail> {
+    for length in FIRST.len() - 1..BOTH.len() {
+        assert!(rt; counts_first_of_cut(rt.alloc(), length)?);
+    }
+    Ok(())
+}
+
+// The same of that log with a byte of it changed.
+fn counts_first_of_changed(alloc: Global, place: usize) -> Result<bool, AllocError> {
+    let mut staged = with_gate(alloc, b'-')?;
+    if place >= staged.len() {
+        return Ok(false);
+    }
+    let byte = staged[place];
+    staged[place] = byte ^ 1;
+    says(alloc, &staged, FIRST_JOURNAL, FIRST)
+}
+
+// Each byte after the shut gate is changed in turn.
+#[test]
+fn a_group_of_which_a_byte_is_changed_does_not_count(rt: HostRuntime) -> Result<(), Fail> {
+    for place in FIRST.len()..BOTH.len() {
+        assert!(rt; counts_first_of_changed(rt.alloc(), place)?);
+    }
+    Ok(())
+}
+
+// Whether both groups count where this byte is the gate of the second and opens it, and else the first alone.
+fn counts_by_gate(alloc: Global, gate: u8) -> Result<bool, AllocError> {
+    let log = with_gate(alloc, gate)?;
+    let (journal, whole) = if gate == b'+' {
+        (BOTH_JOURNAL, BOTH)
+    } else {
+        (FIRST_JOURNAL, FIRST)
+    };
+    says(alloc, &log, journal, whole)
+}
+
 // The gate of a group that is on the disk, as each byte.
 #[test]
 fn a_whole_group_counts_where_its_gate_is_open(rt: HostRuntime) -> Result<(), Fail> {
-    let alloc = rt.alloc();
     for gate in 0..=255u8 {
-        let log = with_gate(alloc, gate)?;
-        let (journal, whole) = if gate == b'+' {
-            (BOTH_JOURNAL, BOTH)
-        } else {
-            (FIRST_JOURNAL, FIRST)
-        };
-        assert!(rt; says(alloc, &log, journal, whole)?);
+        assert!(rt; counts_by_gate(rt.alloc(), gate)?);
     }
     Ok(())
 }

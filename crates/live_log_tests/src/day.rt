@@ -21,21 +21,29 @@ pub(crate) const FIRST_JOURNAL: &str = "1 4 2 GO 2 OK\n2 7 4 ? NOTES a\n+b\n";
 /// The journal that the log of both groups stands for.
 pub(crate) const BOTH_JOURNAL: &str = "1 4 2 GO 2 OK\n2 7 4 ? NOTES a\n+b\n1 6 2 DELETE OK\n";
 
+// The entry of the first group whose answer is a text.
+fn shown_entry(alloc: Global) -> Result<Entry, AllocError> {
+    let shown = Bytes::from_slice(alloc, b"NOTES")?;
+    let text = Bytes::from_slice(alloc, b"a\n+b")?;
+    Ok(Entry {
+        station: 2,
+        command: Command::Show(shown),
+        answer: Answer::Text(text),
+    })
+}
+
 /// The entries of the first group.
 pub(crate) fn first_group(alloc: Global) -> Result<Vec<Entry>, AllocError>
     ensures some { IfOk result (λ entries. 0 < length entries.items) }
 {
+    let second = shown_entry(alloc)?;
     let mut entries = Vec::new(alloc);
     entries.push(Entry {
         station: 1,
         command: Command::Go(2),
         answer: Answer::Done,
     })?;
-    entries.push(Entry {
-        station: 2,
-        command: Command::Show(Bytes::from_slice(alloc, b"NOTES")?),
-        answer: Answer::Text(Bytes::from_slice(alloc, b"a\n+b")?),
-    })?;
+    entries.push(second)?;
     Ok(entries)
 }
 

@@ -2,8 +2,8 @@
 
 ghost use Rattle.files_in_place.specs.Recovery.{OthersAreWhole};
 
-use crate::crashes::put_second;
-use crate::day::{BOTH, NAME, first_group};
+use crate::crashes::put_both;
+use crate::day::{BOTH, NAME};
 use byte_io::Bytes;
 use disk_in_place::{DiskInPlace, SystemDiskInPlace};
 use files_in_place::{Disk, FileSet, SystemDisk, recover};
@@ -35,8 +35,9 @@ fn open<R: Runtime + Files<File = File> + Threads>(
     alloc: Global,
     folder: &str,
 ) -> Result<SystemDiskInPlace<R>, Fail> {
+    let handle = rt.clone()?;
     let disk = SystemDisk::open(rt.clone()?, alloc, folder)?;
-    Ok(SystemDiskInPlace::new(disk, rt.clone()?, alloc, folder)?)
+    Ok(SystemDiskInPlace::new(disk, handle, alloc, folder)?)
 }
 
 // A log without entries in the folder of a disk.
@@ -44,13 +45,13 @@ fn begin<D: DiskInPlace + Drop>(alloc: Global, disk: D) -> Result<Log<D>, Fail>
     requires on_disk { D.meaning.keeps_promises → OthersAreWhole (D.meaning.seen disk) (D.meaning.is_whole disk) }
 {
     let mut disk = disk;
-    recover(alloc, &mut disk)?;
+    let name = Bytes::from_slice(alloc, NAME)?;
     let Some(text) = read_log(alloc, b"-")? else {
         return Err(Fail::from("no log"));
     };
+    recover(alloc, &mut disk)?;
     let mut set = FileSet::new(alloc, disk);
     place_with(&mut set, NAME, text.whole.as_slice())?;
-    let name = Bytes::from_slice(alloc, NAME)?;
     Ok(Log::new(alloc, set.into_disk(), name, text.whole.as_slice()))
 }
 
@@ -61,15 +62,23 @@ fn finds_both<D: Disk + Drop>(alloc: Global, disk: D) -> Result<bool, Fail> {
     Ok(found.as_slice() == BOTH.as_bytes())
 }
 
+// Whether both groups are put to a new log in the folder of a disk, and are found there.
+fn are_put<D: DiskInPlace + Drop>(alloc: Global, disk: D) -> Result<bool, Fail>
+    requires on_disk { D.meaning.keeps_promises → OthersAreWhole (D.meaning.seen disk) (D.meaning.is_whole disk) }
+{
+    let log = begin(alloc, disk)?;
+    let (is_put, disk) = put_both(alloc, log)?;
+    let is_found = finds_both(alloc, disk)?;
+    Ok(is_put && is_found)
+}
+
 #[test]
 fn groups_are_put_on_a_real_disk(rt: HostRuntime) -> Result<(), Fail> {
     let alloc = rt.alloc();
     make_folder(&rt, FOLDER)?;
-    let mut log = begin(alloc, open(&rt, alloc, FOLDER)?)?;
-    log.put(&first_group(alloc)?)?;
-    let (is_put, disk) = put_second(log);
-    let is_found = finds_both(alloc, disk)?;
+    let disk = open(&rt, alloc, FOLDER)?;
+    let is_done = are_put(alloc, disk)?;
     fs::remove_dir_all(&rt, FOLDER)?;
-    assert!(rt; is_put && is_found);
+    assert!(rt; is_done);
     Ok(())
 }
