@@ -195,9 +195,16 @@ fn attempt_of(alloc: Global, sample: &mut Sample, called: Called) -> Attempt {
     }
 }
 
+// How a call ends with ample memory, and how often it is refused memory before it ends so again.
+fn swept(alloc: Global, called: Called) -> Result<(Attempt, usize), Fail> {
+    let ample = attempt_of(alloc, &mut make_sample(alloc)?, called);
+    let mut sample = make_sample(alloc)?;
+    let found = refusals(alloc, ENOUGH, || attempt_of(alloc, &mut sample, called))?;
+    Ok((ample, found.unwrap_or(0)))
+}
+
 #[test]
 fn each_request_is_refused_in_turn(rt: HostRuntime) -> Result<(), Fail> {
-    let alloc = rt.alloc();
     for called in [
         Called::ReadNdx,
         Called::ReadNdxAt,
@@ -206,14 +213,9 @@ fn each_request_is_refused_in_turn(rt: HostRuntime) -> Result<(), Fail> {
         Called::Pairs,
         Called::Reserve,
     ] {
-        let ample = attempt_of(alloc, &mut make_sample(alloc)?, called);
-        let mut sample = make_sample(alloc)?;
-        let found = refusals(alloc, ENOUGH, || attempt_of(alloc, &mut sample, called))?.unwrap_or(
-            0,
-        );
+        let (ample, found) = swept(rt.alloc(), called)?;
         println!(rt; "{called:?}: {found}")?;
-        assert_eq!(rt; ample, Attempt::Right);
-        assert!(rt; 0 < found);
+        assert!(rt; ample == Attempt::Right && 0 < found);
     }
     Ok(())
 }

@@ -129,17 +129,27 @@ fn attempt_of(sample: &mut Sample, called: Called) -> Attempt {
     }
 }
 
+// How a call ends with ample memory.
+fn ample(alloc: Global, called: Called) -> Result<Attempt, Fail> {
+    let mut sample = make_sample(alloc, called)?;
+    Ok(attempt_of(&mut sample, called))
+}
+
+// How often a call is refused memory before it ends right.
+fn swept(alloc: Global, called: Called) -> Result<usize, Fail> {
+    let mut sample = make_sample(alloc, called)?;
+    let found = refusals(alloc, ENOUGH, || attempt_of(&mut sample, called))?;
+    Ok(found.unwrap_or(0))
+}
+
 #[test]
 fn each_refused_change_leaves_the_table(rt: HostRuntime) -> Result<(), Fail> {
     let alloc = rt.alloc();
     for called in [Called::AppendRecord, Called::AppendBlank, Called::SetMemo] {
-        let mut first = make_sample(alloc, called)?;
-        let ample = attempt_of(&mut first, called);
-        let mut sample = make_sample(alloc, called)?;
-        let found = refusals(alloc, ENOUGH, || attempt_of(&mut sample, called))?.unwrap_or(0);
+        let ample = ample(alloc, called)?;
+        let found = swept(alloc, called)?;
         println!(rt; "{called:?}: {found}")?;
-        assert_eq!(rt; ample, Attempt::Right);
-        assert!(rt; 0 < found);
+        assert!(rt; ample == Attempt::Right && 0 < found);
     }
     Ok(())
 }

@@ -32,16 +32,31 @@ struct Sample {
     sink: MemorySink,
 }
 
-fn make_sample(alloc: Global) -> Result<Sample, Fail> {
-    let data = data(alloc)?;
-    let files = files_of(alloc, &data)?;
+// A sink with room for the files.
+fn roomy_sink(alloc: Global) -> Result<MemorySink, AllocError> {
     let mut sink = MemorySink::new(alloc);
     sink.bytes.reserve(8192)?;
+    Ok(sink)
+}
+
+// The files of the records.
+fn data_files(alloc: Global) -> Result<Vec<u8>, Fail> {
+    let data = data(alloc)?;
+    files_of(alloc, &data)
+}
+
+fn make_sample(alloc: Global) -> Result<Sample, Fail> {
+    let name = Bytes::from_slice(alloc, b"NAME")?;
+    let note = Bytes::from_slice(alloc, b"NOTE")?;
+    let files = data_files(alloc)?;
+    let sink = roomy_sink(alloc)?;
+    let data = data(alloc)?;
+    let table = sample(alloc)?;
     Ok(Sample {
         data,
-        table: sample(alloc)?,
-        name: Bytes::from_slice(alloc, b"NAME")?,
-        note: Bytes::from_slice(alloc, b"NOTE")?,
+        table,
+        name,
+        note,
         files,
         sink,
     })
@@ -116,9 +131,16 @@ fn attempt_of(alloc: Global, sample: &mut Sample, called: Called) -> Attempt {
     }
 }
 
+// How a call ends with ample memory, and how often it is refused memory before it ends so again.
+fn swept(alloc: Global, called: Called) -> Result<(Attempt, usize), Fail> {
+    let mut sample = make_sample(alloc)?;
+    let ample = attempt_of(alloc, &mut sample, called);
+    let found = refusals(alloc, ENOUGH, || attempt_of(alloc, &mut sample, called))?;
+    Ok((ample, found.unwrap_or(0)))
+}
+
 #[test]
 fn each_value_is_right_at_last(rt: HostRuntime) -> Result<(), Fail> {
-    let alloc = rt.alloc();
     for called in [
         Called::New,
         Called::ShowCell,
@@ -126,14 +148,9 @@ fn each_value_is_right_at_last(rt: HostRuntime) -> Result<(), Fail> {
         Called::Content,
         Called::IndexPairs,
     ] {
-        let mut sample = make_sample(alloc)?;
-        let ample = attempt_of(alloc, &mut sample, called);
-        let found = refusals(alloc, ENOUGH, || attempt_of(alloc, &mut sample, called))?.unwrap_or(
-            0,
-        );
+        let (ample, found) = swept(rt.alloc(), called)?;
         println!(rt; "{called:?}: {found}")?;
-        assert_eq!(rt; ample, Attempt::Right);
-        assert!(rt; 0 < found);
+        assert!(rt; ample == Attempt::Right && 0 < found);
     }
     Ok(())
 }
