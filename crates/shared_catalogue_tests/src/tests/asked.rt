@@ -6,6 +6,7 @@ use catalogue_core::{Answer, Catalogue, Command, Numbers, Question};
 use dbf_fields::{Literal, WholeNumber, day_of};
 use dbf_image::TableData;
 use std::alloc::Global;
+use std::process::Abort;
 use std::test::Fail;
 
 // A kind of command. The name or text that it takes first stands beside it in a table of cases.
@@ -107,7 +108,12 @@ fn use_table(name: Bytes, exclusive: bool) -> Command {
 }
 
 fn replace(alloc: Global, field: Bytes, value: Value) -> Result<Command, Fail> {
-    let value = match value {
+    let value = literal_of(alloc, value)?;
+    Ok(Command::Replace { field, value })
+}
+
+fn literal_of(alloc: Global, value: Value) -> Result<Literal, Fail> {
+    Ok(match value {
         Value::Text(text) => Literal::Text(Bytes::from_slice(alloc, text)?),
         Value::Number(digits, scale) => Literal::Number {
             digits: WholeNumber::new(digits),
@@ -117,16 +123,19 @@ fn replace(alloc: Global, field: Bytes, value: Value) -> Result<Command, Fail> {
         Value::Date(year, month, day) => Literal::Date(day_of(year, month, day).ok_or("a date")?),
         Value::BlankDate => Literal::BlankDate,
         Value::BadDate => Literal::BadDate,
-    };
-    Ok(Command::Replace { field, value })
+    })
 }
 
 fn memo(alloc: Global, field: Bytes, text: Text) -> Result<Command, Fail> {
-    let text = match text {
-        Text::Is(bytes) => Bytes::from_slice(alloc, bytes)?,
-        Text::Long(length) => long_text(alloc, length)?,
-    };
+    let text = text_of(alloc, text)?;
     Ok(Command::Memo { field, text })
+}
+
+fn text_of(alloc: Global, text: Text) -> Result<Bytes, Fail> {
+    match text {
+        Text::Is(bytes) => Ok(Bytes::from_slice(alloc, bytes)?),
+        Text::Long(length) => long_text(alloc, length),
+    }
 }
 
 // A command without a name or text.
@@ -211,17 +220,34 @@ pub(crate) fn performs(
 }
 
 // The same on a catalogue of two stations with the sample's tables T and U.
-pub(crate) fn first_unexpected(alloc: Global, cases: &[Case]) -> Result<Option<usize>, Fail> {
+fn first_unexpected(alloc: Global, cases: &[Case]) -> Result<Option<usize>, Fail> {
     first_other(alloc, &mut open_sample(alloc, 2)?, cases)
 }
 
 // The same on a catalogue of one station with a table T.
-pub(crate) fn first_unexpected_in(
+fn first_unexpected_in(
     alloc: Global,
     content: TableData,
     cases: &[Case],
 ) -> Result<Option<usize>, Fail> {
     first_other(alloc, &mut open_alone(alloc, content)?, cases)
+}
+
+// Asserts that the cases are answered as expected by two stations' catalogue of the sample's tables T and U.
+pub(crate) fn assert_answers(rt: &impl Abort, alloc: Global, cases: &[Case]) -> Result<(), Fail> {
+    assert_eq!(rt; first_unexpected(alloc, cases)?, None);
+    Ok(())
+}
+
+// Asserts that the cases are answered as expected by one station's catalogue of a table T.
+pub(crate) fn assert_answers_in(
+    rt: &impl Abort,
+    alloc: Global,
+    content: TableData,
+    cases: &[Case],
+) -> Result<(), Fail> {
+    assert_eq!(rt; first_unexpected_in(alloc, content, cases)?, None);
+    Ok(())
 }
 
 // The table T as it stands after the cases, each of which is answered as expected.
@@ -230,11 +256,19 @@ pub(crate) fn table_after(
     content: TableData,
     cases: &[Case],
 ) -> Result<TableData, Fail> {
-    let mut catalogue = open_alone(alloc, content)?;
-    if first_other(alloc, &mut catalogue, cases)?.is_some() {
-        return Err("another answer".into());
+    first_table_after(alloc, &mut open_alone(alloc, content)?, cases)
+}
+
+// The first table of a catalogue as it stands after the cases.
+fn first_table_after(
+    alloc: Global,
+    catalogue: &mut Catalogue,
+    cases: &[Case],
+) -> Result<TableData, Fail> {
+    match first_other(alloc, catalogue, cases)? {
+        None => first_table(alloc, catalogue),
+        Some(_) => Err("another answer".into()),
     }
-    first_table(alloc, &catalogue)
 }
 
 // A catalogue of one station with a table T.

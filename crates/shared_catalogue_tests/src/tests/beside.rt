@@ -6,6 +6,7 @@ use super::sample::{blank_table, named, open};
 use byte_io::Bytes;
 use catalogue_core::{Answer, Catalogue, Command};
 use dbf_fields::{CHARACTER, Field};
+use dbf_image::TableData;
 use shared_catalogue::{Lot, Naming, Seat, Shared};
 use std::alloc::Global;
 use std::marker::Brand;
@@ -42,6 +43,26 @@ fn is_done<J: Naming>(
 
 // Packs again and again until the other thread's looks are done, and tells whether they are. The marks are counted up when a PACK
 // begins and when it has ended.
+fn pack_often<J: Naming>(
+    alloc: Global,
+    rt: &impl Wait,
+    shared: &Shared<J>,
+    seat: &mut Seat<J>,
+    marks: &AtomicU64,
+) -> bool {
+    for _ in 0..PACKS {
+        if marks.fetch_add(1, Ordering::SeqCst) >= LOOKED {
+            return true;
+        }
+        if !is_done(alloc, rt, shared, seat, &Command::Pack) {
+            return false;
+        }
+        marks.fetch_add(1, Ordering::SeqCst);
+    }
+    false
+}
+
+// The same at a seat that is given up then.
 fn pack<J: Naming>(
     alloc: Global,
     rt: &impl Wait,
@@ -50,16 +71,7 @@ fn pack<J: Naming>(
     marks: &AtomicU64,
 ) -> bool {
     let mut seat = seat;
-    for _ in 0..PACKS {
-        if marks.fetch_add(1, Ordering::SeqCst) >= LOOKED {
-            return true;
-        }
-        if !is_done(alloc, rt, shared, &mut seat, &Command::Pack) {
-            return false;
-        }
-        marks.fetch_add(1, Ordering::SeqCst);
-    }
-    false
+    pack_often(alloc, rt, shared, &mut seat, marks)
 }
 
 // Whether many looks show the row of so many commands, or of the next one too.
@@ -74,13 +86,17 @@ fn show<J: Naming>(rt: &impl Wait, shared: &Shared<J>, seat: &mut Seat<J>, comma
 }
 
 // Looks while a PACK is performed, until that has not ended when the looks have. Tells whether that happened.
-fn look<J: Naming>(rt: &impl Wait, shared: &Shared<J>, seat: Seat<J>, marks: &AtomicU64) -> bool {
-    let mut seat = seat;
+fn look_often<J: Naming>(
+    rt: &impl Wait,
+    shared: &Shared<J>,
+    seat: &mut Seat<J>,
+    marks: &AtomicU64,
+) -> bool {
     for _ in 0..TURNS {
         let count = marks.load(Ordering::SeqCst);
         if count % 2 == 1 {
             // The PACKs before this one, and USE before them.
-            let is_shown = show(rt, shared, &mut seat, count / 2 + 1);
+            let is_shown = show(rt, shared, seat, count / 2 + 1);
             if marks.load(Ordering::SeqCst) == count {
                 marks.fetch_add(LOOKED, Ordering::SeqCst);
                 return is_shown;
@@ -88,6 +104,34 @@ fn look<J: Naming>(rt: &impl Wait, shared: &Shared<J>, seat: Seat<J>, marks: &At
         }
     }
     false
+}
+
+// The same at a seat that is given up then.
+fn look<J: Naming>(rt: &impl Wait, shared: &Shared<J>, seat: Seat<J>, marks: &AtomicU64) -> bool {
+    let mut seat = seat;
+    look_often(rt, shared, &mut seat, marks)
+}
+
+// Takes the table for a seat's station alone.
+fn use_exclusively<J: Naming>(
+    alloc: Global,
+    rt: &impl Wait,
+    shared: &Shared<J>,
+    seat: &mut Seat<J>,
+) -> Result<(), Fail> {
+    let name = Bytes::from_slice(alloc, b"T")?;
+    let exclusive = true;
+    if is_done(
+        alloc,
+        rt,
+        shared,
+        seat,
+        &Command::UseTable { name, exclusive },
+    ) {
+        Ok(())
+    } else {
+        Err("the table is not opened".into())
+    }
 }
 
 // What the two threads tell, for the ledger, the board and the opened tables of a name.
@@ -110,17 +154,7 @@ fn look_beside_as<J: Naming + Send + Sync, R: Threads + Wait + Sync>(
     let Some(mut packing) = seats.pop() else {
         return Err("there is one seat alone".into());
     };
-    let name = Bytes::from_slice(alloc, b"T")?;
-    let exclusive = true;
-    if !is_done(
-        alloc,
-        rt,
-        &shared,
-        &mut packing,
-        &Command::UseTable { name, exclusive },
-    ) {
-        return Err("the table is not opened".into());
-    }
+    use_exclusively(alloc, rt, &shared, &mut packing)?;
     let marks = AtomicU64::new(0);
     let ends = join(
         rt,
@@ -130,9 +164,18 @@ fn look_beside_as<J: Naming + Send + Sync, R: Threads + Wait + Sync>(
     Ok(ends)
 }
 
+// The table of blank records.
+fn blank_records(alloc: Global) -> Result<TableData, Fail> {
+    blank_table(
+        alloc,
+        &[Field::new(alloc, b"NAME", CHARACTER, 1, 0)?],
+        RECORDS,
+    )
+}
+
+// The same on the table of blank records, under a name of its own.
 fn look_beside<R: Threads + Wait + Sync>(rt: &R, alloc: Global) -> Result<(bool, bool), Fail> {
-    let fields = [Field::new(alloc, b"NAME", CHARACTER, 1, 0)?];
-    let table = named(alloc, b"T", blank_table(alloc, &fields, RECORDS)?)?;
+    let table = named(alloc, b"T", blank_records(alloc)?)?;
     let catalogue = open(alloc, vec![in alloc; table]?, 2)?;
     let lot = Lot::new(alloc, catalogue.station_count())?;
     look_beside_as::<Brand, R>(rt, alloc, lot, catalogue)

@@ -1,11 +1,12 @@
 //! What fields of each kind keep, and how they are shown.
 
-use super::asked::{Asked, Case, Expected, Value, first_unexpected_in, table_after};
+use super::asked::{Asked, Case, Expected, Value, assert_answers_in, table_after};
 use super::sample::{blank_table, cell_of};
 use byte_io::Bytes;
 use dbf_fields::{DATE, Field, LOGICAL, NUMBER};
 use dbf_image::{TableData, read_table};
 use std::alloc::Global;
+use std::process::Abort;
 use std::test::Fail;
 
 // A table of one blank record, with the fields AMT, BORN and PAID.
@@ -104,43 +105,47 @@ const TRUTHS: [Case; 5] = [
     (1, Asked::Show, b"PAID", Expected::Text(b".F.")),
 ];
 
+// Asserts that the cases are answered as expected on the blank record.
+fn assert_row_answers(rt: &impl Abort, alloc: Global, cases: &[Case]) -> Result<(), Fail> {
+    assert_answers_in(rt, alloc, blank_row(alloc)?, cases)
+}
+
 #[test]
 fn number_cells(rt: HostRuntime) -> Result<(), Fail> {
-    let alloc = rt.alloc();
-    assert_eq!(rt;
-        first_unexpected_in(alloc, blank_row(alloc)?, &NUMBERS)?,
-        None
-    );
-    Ok(())
+    assert_row_answers(&rt, rt.alloc(), &NUMBERS)
 }
 
 #[test]
 fn date_cells(rt: HostRuntime) -> Result<(), Fail> {
-    let alloc = rt.alloc();
-    assert_eq!(rt;
-        first_unexpected_in(alloc, blank_row(alloc)?, &DATES)?,
-        None
-    );
-    Ok(())
+    assert_row_answers(&rt, rt.alloc(), &DATES)
 }
 
 #[test]
 fn logical_cells(rt: HostRuntime) -> Result<(), Fail> {
-    let alloc = rt.alloc();
-    assert_eq!(rt;
-        first_unexpected_in(alloc, blank_row(alloc)?, &TRUTHS)?,
-        None
-    );
+    assert_row_answers(&rt, rt.alloc(), &TRUTHS)
+}
+
+// The table after so many of some cases.
+fn row_after(alloc: Global, cases: &[Case], count: usize) -> Result<TableData, Fail> {
+    let (first, _) = cases.split_at(count.min(cases.len()));
+    table_after(alloc, blank_row(alloc)?, first)
+}
+
+// Asserts that the date's cell is stored so.
+fn assert_date(rt: &impl Abort, table: &TableData, stored: &[u8]) {
+    assert_eq!(rt; cell_of(table, 1, 1), stored);
+}
+
+// Asserts that the date's cell is stored so after so many of its cases.
+fn assert_stored(rt: &impl Abort, alloc: Global, count: usize, stored: &[u8]) -> Result<(), Fail> {
+    assert_date(rt, &row_after(alloc, &DATES, count)?, stored);
     Ok(())
 }
 
 #[test]
 fn dates_are_stored_in_eight_digits(rt: HostRuntime) -> Result<(), Fail> {
-    let alloc = rt.alloc();
     for (count, stored) in STORED_DATES {
-        let (cases, _) = DATES.split_at(count.min(DATES.len()));
-        let table = table_after(alloc, blank_row(alloc)?, cases)?;
-        assert_eq!(rt; cell_of(&table, 1, 1), stored);
+        assert_stored(&rt, rt.alloc(), count, stored)?;
     }
     Ok(())
 }
@@ -170,14 +175,21 @@ const ODD_CELLS: [Case; 9] = [
     (1, Asked::Show, b"PAID", Expected::Text(b".F.")),
 ];
 
-#[test]
-fn odd_and_blank_cells_are_shown(rt: HostRuntime) -> Result<(), Fail> {
-    let alloc = rt.alloc();
+// The bytes of that file.
+fn odd_file(alloc: Global) -> Result<Bytes, Fail> {
     let mut bytes = Vec::new(alloc);
     for part in ODD_TABLE {
         bytes.extend_from_slice(part)?;
     }
-    let table = read_table(alloc, Bytes::from_vec(bytes), None)?;
-    assert_eq!(rt; first_unexpected_in(alloc, table, &ODD_CELLS)?, None);
-    Ok(())
+    Ok(Bytes::from_vec(bytes))
+}
+
+// The table that is read from it.
+fn odd_table(alloc: Global) -> Result<TableData, Fail> {
+    Ok(read_table(alloc, odd_file(alloc)?, None)?)
+}
+
+#[test]
+fn odd_and_blank_cells_are_shown(rt: HostRuntime) -> Result<(), Fail> {
+    assert_answers_in(&rt, rt.alloc(), odd_table(rt.alloc())?, &ODD_CELLS)
 }

@@ -2,15 +2,24 @@
 
 use super::asked::{Asked, Case, Expected, Value, first_other};
 use super::sample::{named, open, three_records};
-use catalogue_core::{Catalogue, Question};
+use catalogue_core::{Catalogue, Question, TableSource};
+use ndx_index::PairList;
 use std::alloc::Global;
+use std::process::Abort;
 use std::test::Fail;
+
+// A table of the records B, A, A under a name.
+fn letters(alloc: Global, name: &[u8]) -> Result<TableSource, Fail> {
+    named(alloc, name, three_records(alloc)?)
+}
 
 // The catalogue of the tables T and U, each with the records B, A, A, for two stations.
 fn opened(alloc: Global) -> Result<Catalogue, Fail> {
-    let first = named(alloc, b"T", three_records(alloc)?)?;
-    let second = named(alloc, b"U", three_records(alloc)?)?;
-    open(alloc, vec![in alloc; first, second]?, 2)
+    open(
+        alloc,
+        vec![in alloc; letters(alloc, b"T")?, letters(alloc, b"U")?]?,
+        2,
+    )
 }
 
 // The name, then the table, then its exclusive use are asked for.
@@ -91,23 +100,36 @@ fn has_index(catalogue: &Catalogue, number: usize, name: &[u8], text: &[u8]) -> 
 const PARTS: [&[Case]; 4] = [&BEFORE_THE_EXPRESSION, &MADE, &SEVEN, &OF_ALL_TABLES];
 
 // The first part with a case that is answered otherwise.
-fn first_other_part(alloc: Global, catalogue: &mut Catalogue) -> Result<Option<usize>, Fail> {
-    for i in 0..PARTS.len() {
-        if first_other(alloc, catalogue, PARTS[i])?.is_some() {
+fn first_other_part(
+    alloc: Global,
+    catalogue: &mut Catalogue,
+    parts: &[&[Case]],
+) -> Result<Option<usize>, Fail> {
+    for i in 0..parts.len() {
+        if first_other(alloc, catalogue, parts[i])?.is_some() {
             return Ok(Some(i));
         }
     }
     Ok(None)
 }
 
+// Asserts that the cases are answered as expected, and that the first table then has the first and the last of their indexes.
+fn assert_made(
+    rt: &impl Abort,
+    alloc: Global,
+    catalogue: &mut Catalogue,
+    parts: &[&[Case]],
+) -> Result<(), Fail> {
+    let other = first_other_part(alloc, catalogue, parts)?;
+    let has_first = has_index(catalogue, 1, b"X", b"upper( name )");
+    let has_last = has_index(catalogue, 7, b"A6", b"NAME");
+    assert_eq!(rt; (other, has_first, has_last), (None, true, true));
+    Ok(())
+}
+
 #[test]
 fn index_on(rt: HostRuntime) -> Result<(), Fail> {
-    let mut catalogue = opened(rt.alloc())?;
-    assert_eq!(rt; first_other_part(rt.alloc(), &mut catalogue)?, None);
-    assert!(rt;
-        has_index(&catalogue, 1, b"X", b"upper( name )") && has_index(&catalogue, 7, b"A6", b"NAME")
-    );
-    Ok(())
+    assert_made(&rt, rt.alloc(), &mut opened(rt.alloc())?, &PARTS)
 }
 
 // Seven indexes, by three orders: that of the letters' bytes, that of the letters in capitals, and that of both.
@@ -164,6 +186,19 @@ const STEPS: [Step; 5] = [
     (&PACKED, [&[2, 1, 3], &[2, 3, 1], &[2, 3, 1]]),
 ];
 
+// Whether the pairs are those of these records, in this order.
+fn are_numbers(pairs: &PairList, records: &[u32]) -> bool {
+    if pairs.len() != records.len() {
+        return false;
+    }
+    for i in 0..records.len() {
+        if pairs.get(i).number != records[i] {
+            return false;
+        }
+    }
+    true
+}
+
 // Whether the first table's index of a number, from 1, has these records in this order.
 fn is_order(
     alloc: Global,
@@ -178,16 +213,7 @@ fn is_order(
     if number < 1 || number > table.index_count() {
         return Ok(false);
     }
-    let pairs = table.index_pairs(alloc, number)?;
-    if pairs.len() != records.len() {
-        return Ok(false);
-    }
-    for i in 0..records.len() {
-        if pairs.get(i).number != records[i] {
-            return Ok(false);
-        }
-    }
-    Ok(true)
+    Ok(are_numbers(&table.index_pairs(alloc, number)?, records))
 }
 
 // Whether each of the seven indexes has the records in its order.
@@ -205,21 +231,34 @@ fn are_orders(
     Ok(true)
 }
 
+// Whether the cases of a step are answered as expected, and the indexes have its orders then.
+fn is_step_kept(alloc: Global, catalogue: &mut Catalogue, step: Step) -> Result<bool, Fail> {
+    let (cases, orders) = step;
+    let is_answered = first_other(alloc, catalogue, cases)?.is_none();
+    Ok(is_answered && are_orders(alloc, catalogue, orders)?)
+}
+
 // The first step after which a case is answered otherwise, or an index has another order.
-fn first_other_step(alloc: Global, catalogue: &mut Catalogue) -> Result<Option<usize>, Fail> {
-    for i in 0..STEPS.len() {
-        let (cases, orders) = STEPS[i];
-        let is_answered = first_other(alloc, catalogue, cases)?.is_none();
-        if !is_answered || !are_orders(alloc, catalogue, orders)? {
+fn first_other_step(
+    alloc: Global,
+    catalogue: &mut Catalogue,
+    steps: &[Step],
+) -> Result<Option<usize>, Fail> {
+    for i in 0..steps.len() {
+        if !is_step_kept(alloc, catalogue, steps[i])? {
             return Ok(Some(i));
         }
     }
     Ok(None)
 }
 
+// The same on the catalogue of the two tables.
+fn first_other_step_of_two(alloc: Global, steps: &[Step]) -> Result<Option<usize>, Fail> {
+    first_other_step(alloc, &mut opened(alloc)?, steps)
+}
+
 #[test]
 fn made_index_is_kept(rt: HostRuntime) -> Result<(), Fail> {
-    let mut catalogue = opened(rt.alloc())?;
-    assert_eq!(rt; first_other_step(rt.alloc(), &mut catalogue)?, None);
+    assert_eq!(rt; first_other_step_of_two(rt.alloc(), &STEPS)?, None);
     Ok(())
 }

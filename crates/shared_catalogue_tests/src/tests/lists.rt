@@ -7,6 +7,7 @@ use dbf_fields::{CHARACTER, Field};
 use dbf_image::TableData;
 use sample_files::{WITH_CYD, table};
 use std::alloc::Global;
+use std::process::Abort;
 use std::test::Fail;
 
 // On a table of three records.
@@ -106,35 +107,55 @@ fn has_row(catalogue: &Catalogue, row: [u64; 5]) -> bool {
     words.starts_with(&row) && words.iter().skip(5).all(|word| *word == 0)
 }
 
+// Whether station 1 can write a record, or is refused where it is the 51st.
+fn is_write_answered(alloc: Global, catalogue: &mut Catalogue, number: u64) -> Result<bool, Fail> {
+    let expected = if number == 51 {
+        Expected::Refused(5)
+    } else {
+        Expected::Ok
+    };
+    let is_there = is_answered(alloc, catalogue, (1, Asked::Go(number), b"", Expected::Ok))?;
+    let write = Asked::Replace(Value::Text(b"X"));
+    Ok(is_there && is_answered(alloc, catalogue, (1, write, b"NAME", expected))?)
+}
+
 // Whether station 1 can write each of the first 50 records, and not the 51st.
 fn writes_fifty(alloc: Global, catalogue: &mut Catalogue) -> Result<bool, Fail> {
     for number in 1..52 {
-        let expected = if number == 51 {
-            Expected::Refused(5)
-        } else {
-            Expected::Ok
-        };
-        let write = Asked::Replace(Value::Text(b"X"));
-        if !is_answered(alloc, catalogue, (1, Asked::Go(number), b"", Expected::Ok))?
-            || !is_answered(alloc, catalogue, (1, write, b"NAME", expected))?
-        {
+        if !is_write_answered(alloc, catalogue, number)? {
             return Ok(false);
         }
     }
     Ok(true)
 }
 
+// Whether station 1's locks on the records 1 to a number are answered as expected.
+fn are_locks_answered(
+    alloc: Global,
+    catalogue: &mut Catalogue,
+    last: u64,
+    expected: Expected,
+) -> Result<bool, Fail> {
+    performs(alloc, catalogue, 1, &locks_to(alloc, last)?, expected)
+}
+
+// Whether station 2's lock on a record that is named 51 times is refused.
+fn is_repeated_refused(alloc: Global, catalogue: &mut Catalogue) -> Result<bool, Fail> {
+    performs(
+        alloc,
+        catalogue,
+        2,
+        &repeated_lock(alloc)?,
+        Expected::Refused(20),
+    )
+}
+
 // Whether the commands of a step are answered as expected.
 fn is_step_answered(alloc: Global, catalogue: &mut Catalogue, step: Step) -> Result<bool, Fail> {
     match step {
         Step::Cases(cases) => Ok(first_other(alloc, catalogue, cases)?.is_none()),
-        Step::LocksTo(last, expected) => {
-            performs(alloc, catalogue, 1, &locks_to(alloc, last)?, expected)
-        }
-        Step::Repeated => {
-            let command = repeated_lock(alloc)?;
-            performs(alloc, catalogue, 2, &command, Expected::Refused(20))
-        }
+        Step::LocksTo(last, expected) => are_locks_answered(alloc, catalogue, last, expected),
+        Step::Repeated => is_repeated_refused(alloc, catalogue),
         Step::Writes => writes_fifty(alloc, catalogue),
     }
 }
@@ -153,16 +174,32 @@ fn first_other_step(
     Ok(None)
 }
 
-#[test]
-fn locks_over_a_list(rt: HostRuntime) -> Result<(), Fail> {
-    let mut catalogue = opened(rt.alloc(), table(rt.alloc(), &WITH_CYD)?)?;
-    assert_eq!(rt; first_other_step(rt.alloc(), &mut catalogue, &LISTS)?, None);
+// The same on the catalogue of a table.
+fn first_other_step_in(
+    alloc: Global,
+    content: TableData,
+    steps: &[(Step, [u64; 5])],
+) -> Result<Option<usize>, Fail> {
+    first_other_step(alloc, &mut opened(alloc, content)?, steps)
+}
+
+// Asserts that all steps are answered as expected on the catalogue of a table, with their rows.
+fn assert_steps(
+    rt: &impl Abort,
+    alloc: Global,
+    content: TableData,
+    steps: &[(Step, [u64; 5])],
+) -> Result<(), Fail> {
+    assert_eq!(rt; first_other_step_in(alloc, content, steps)?, None);
     Ok(())
 }
 
 #[test]
+fn locks_over_a_list(rt: HostRuntime) -> Result<(), Fail> {
+    assert_steps(&rt, rt.alloc(), table(rt.alloc(), &WITH_CYD)?, &LISTS)
+}
+
+#[test]
 fn fifty_locks_and_one_more(rt: HostRuntime) -> Result<(), Fail> {
-    let mut catalogue = opened(rt.alloc(), long_table(rt.alloc())?)?;
-    assert_eq!(rt; first_other_step(rt.alloc(), &mut catalogue, &FIFTY)?, None);
-    Ok(())
+    assert_steps(&rt, rt.alloc(), long_table(rt.alloc())?, &FIFTY)
 }

@@ -1,11 +1,12 @@
 //! Memos: what is kept, refused and written.
 
-use super::asked::{Asked, Case, Expected, Text, Value, first_unexpected_in, is_long, table_after};
+use super::asked::{Asked, Case, Expected, Text, Value, assert_answers_in, is_long, table_after};
 use super::sample::{blank_table, memo_of};
 use byte_io::{Bytes, MemorySink};
 use dbf_fields::{Field, MEMO, NUMBER, day_of};
 use dbf_image::{TableData, read_table, write_dbf, write_dbt};
 use std::alloc::Global;
+use std::process::Abort;
 use std::test::Fail;
 
 // A table of blank records with the field NOTE.
@@ -49,26 +50,49 @@ fn dbt_of(alloc: Global, table: &TableData) -> Result<Vec<u8>, Fail> {
     Ok(dbt.bytes)
 }
 
+// What stands in the file of the table, by its offset.
+const IN_DBF: [(usize, &[u8]); 4] = [
+    (0, b"\x83"),
+    (66, b"         1"),
+    (77, b"         2"),
+    (88, b"          "),
+];
+
+// The same of its memo file.
+const IN_DBT: [(usize, &[u8]); 3] = [
+    (0, b"\x04\0\0\0"),
+    (1021, b"x\x1a\x1ax"),
+    (1534, b"x\x1a\x1a\0"),
+];
+
+// Asserts that the bytes stand in a file at an offset.
+fn assert_part(rt: &impl Abort, file: &[u8], offset: usize, bytes: &[u8]) {
+    assert_eq!(rt; part(file, offset, offset.wrapping_add(bytes.len())), bytes);
+}
+
+// The same of all parts, at their offsets.
+fn assert_parts(rt: &impl Abort, file: &[u8], parts: &[(usize, &[u8])]) {
+    for (offset, bytes) in parts {
+        assert_part(rt, file, *offset, bytes);
+    }
+}
+
+// Asserts how long the memo file is, and what stands in it.
+fn assert_memo_file(rt: &impl Abort, dbt: &[u8]) {
+    assert!(rt; dbt.len() == 2048);
+    assert_parts(rt, dbt, &IN_DBT);
+}
+
+// Asserts what stands in both files of a table.
+fn assert_files(rt: &impl Abort, alloc: Global, table: &TableData) -> Result<(), Fail> {
+    assert_parts(rt, &dbf_of(alloc, table)?, &IN_DBF);
+    assert_memo_file(rt, &dbt_of(alloc, table)?);
+    Ok(())
+}
+
 #[test]
 fn memo_blocks(rt: HostRuntime) -> Result<(), Fail> {
-    let alloc = rt.alloc();
-    let table = noted(alloc)?;
-    let dbf = dbf_of(alloc, &table)?;
-    let dbt = dbt_of(alloc, &table)?;
-    assert_eq!(rt; dbt.len(), 2048);
-    let cases: [(&[u8], usize, &[u8]); 7] = [
-        (&dbf, 0, b"\x83"),
-        (&dbf, 66, b"         1"),
-        (&dbf, 77, b"         2"),
-        (&dbf, 88, b"          "),
-        (&dbt, 0, b"\x04\0\0\0"),
-        (&dbt, 1021, b"x\x1a\x1ax"),
-        (&dbt, 1534, b"x\x1a\x1a\0"),
-    ];
-    for (file, offset, bytes) in cases {
-        assert_eq!(rt; part(file, offset, offset.wrapping_add(bytes.len())), bytes);
-    }
-    Ok(())
+    assert_files(&rt, rt.alloc(), &noted(rt.alloc())?)
 }
 
 // The table that is read from the files that are written of a table.
@@ -89,13 +113,21 @@ fn has_long_memo(
     Ok(is_long(memo.as_slice(), length))
 }
 
-#[test]
-fn written_memos_are_read_again(rt: HostRuntime) -> Result<(), Fail> {
-    let again = read_again(rt.alloc(), &noted(rt.alloc())?)?;
+fn noted_again(alloc: Global) -> Result<TableData, Fail> {
+    read_again(alloc, &noted(alloc)?)
+}
+
+// Asserts that the records 1 to 3 have the memos that were kept.
+fn assert_memos(rt: &impl Abort, alloc: Global, table: &TableData) -> Result<(), Fail> {
     for (number, length) in [(1, 510), (2, 511), (3, 0)] {
-        assert!(rt; has_long_memo(rt.alloc(), &again, number, length)?);
+        assert!(rt; has_long_memo(alloc, table, number, length)?);
     }
     Ok(())
+}
+
+#[test]
+fn written_memos_are_read_again(rt: HostRuntime) -> Result<(), Fail> {
+    assert_memos(&rt, rt.alloc(), &noted_again(rt.alloc())?)
 }
 
 const LENGTHS: [Case; 7] = [
@@ -115,15 +147,19 @@ const LENGTHS: [Case; 7] = [
 
 #[test]
 fn memos_have_at_most_65_535_bytes(rt: HostRuntime) -> Result<(), Fail> {
-    let alloc = rt.alloc();
-    assert_eq!(rt;
-        first_unexpected_in(alloc, notes(alloc, 3)?, &LENGTHS)?,
-        None
-    );
-    Ok(())
+    assert_answers_in(&rt, rt.alloc(), notes(rt.alloc(), 3)?, &LENGTHS)
 }
 
-// MEMO of a table with the fields NOTE and AMT.
+// A table of one blank record with the fields NOTE and AMT.
+fn note_and_amount(alloc: Global) -> Result<TableData, Fail> {
+    let fields = [
+        Field::new(alloc, b"NOTE", MEMO, 10, 0)?,
+        Field::new(alloc, b"AMT", NUMBER, 6, 0)?,
+    ];
+    blank_table(alloc, &fields, 1)
+}
+
+// MEMO of that table.
 const REFUSED_MEMOS: [Case; 10] = [
     (
         1,
@@ -169,14 +205,12 @@ const REFUSED_MEMOS: [Case; 10] = [
 
 #[test]
 fn memo_refusals(rt: HostRuntime) -> Result<(), Fail> {
-    let alloc = rt.alloc();
-    let fields = [
-        Field::new(alloc, b"NOTE", MEMO, 10, 0)?,
-        Field::new(alloc, b"AMT", NUMBER, 6, 0)?,
-    ];
-    let table = blank_table(alloc, &fields, 1)?;
-    assert_eq!(rt; first_unexpected_in(alloc, table, &REFUSED_MEMOS)?, None);
-    Ok(())
+    assert_answers_in(
+        &rt,
+        rt.alloc(),
+        note_and_amount(rt.alloc())?,
+        &REFUSED_MEMOS,
+    )
 }
 
 const WITHOUT_RECORD: [Case; 2] = [
@@ -191,10 +225,5 @@ const WITHOUT_RECORD: [Case; 2] = [
 
 #[test]
 fn memo_needs_a_record(rt: HostRuntime) -> Result<(), Fail> {
-    let alloc = rt.alloc();
-    assert_eq!(rt;
-        first_unexpected_in(alloc, notes(alloc, 0)?, &WITHOUT_RECORD)?,
-        None
-    );
-    Ok(())
+    assert_answers_in(&rt, rt.alloc(), notes(rt.alloc(), 0)?, &WITHOUT_RECORD)
 }

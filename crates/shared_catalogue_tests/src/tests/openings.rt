@@ -11,6 +11,7 @@ use key_expr::{ExprFault, Key, MAX_KEY_BYTES};
 use ndx_index::{NdxFile, Pair, PairList};
 use sample_files::{EMPTY, table};
 use std::alloc::Global;
+use std::process::Abort;
 use std::test::Fail;
 
 // An index: its name, its expression, the length of its keys, and its pairs, each a letter and a record number.
@@ -48,22 +49,28 @@ fn list_of(alloc: Global, key_len: usize, letters: &'static [(u8, u32)]) -> Resu
         return Err("keys that are too long".into());
     }
     let mut pairs = PairList::new(alloc, key_len);
+    push_all(&mut pairs, letters)?;
+    Ok(pairs)
+}
+
+// Puts pairs of letters and numbers after those of a list.
+fn push_all(pairs: &mut PairList, letters: &'static [(u8, u32)]) -> Result<(), Fail> {
     for (letter, number) in letters {
-        let key = key_of(*letter, key_len);
+        let key = key_of(*letter, pairs.key_len());
         if key.as_bytes().len() != pairs.key_len() {
             return Err("a key of another length".into());
         }
         let number = *number;
         pairs.push(&Pair { key, number })?;
     }
-    Ok(pairs)
+    Ok(())
 }
 
 fn index_of(alloc: Global, index: Index) -> Result<IndexSource, Fail> {
     let (name, expr, key_len, letters) = index;
-    let pairs = list_of(alloc, key_len, letters)?;
     let name = Bytes::from_slice(alloc, name)?;
     let expr = Bytes::from_slice(alloc, expr)?;
+    let pairs = list_of(alloc, key_len, letters)?;
     let file = NdxFile {
         expr,
         key_len: pairs.key_len(),
@@ -72,14 +79,20 @@ fn index_of(alloc: Global, index: Index) -> Result<IndexSource, Fail> {
     Ok(IndexSource { name, file })
 }
 
-fn source_of(alloc: Global, source: Source) -> Result<TableSource, Fail> {
-    let (name, all) = source;
+fn indexes_of(alloc: Global, all: &'static [Index]) -> Result<Vec<IndexSource>, Fail> {
     let mut indexes = Vec::new(alloc);
     for index in all {
         indexes.push(index_of(alloc, *index)?)?;
     }
+    Ok(indexes)
+}
+
+fn source_of(alloc: Global, source: Source) -> Result<TableSource, Fail> {
+    let (name, all) = source;
+    let name = Bytes::from_slice(alloc, name)?;
+    let indexes = indexes_of(alloc, all)?;
     Ok(TableSource {
-        name: Bytes::from_slice(alloc, name)?,
+        name,
         content: three_records(alloc)?,
         indexes,
     })
@@ -93,21 +106,50 @@ fn sources_of(alloc: Global, all: &[Source]) -> Result<Vec<TableSource>, Fail> {
     Ok(sources)
 }
 
-// The fault of opening a table with an index on NAME of these pairs.
+// The fault of opening tables.
 fn fault_of(
+    alloc: Global,
+    sources: Vec<TableSource>,
+    stations: u32,
+    reindex: bool,
+) -> Option<OpenFault> {
+    Catalogue::open(alloc, sources, stations, reindex).err()
+}
+
+// An index on NAME of these pairs.
+fn index_on_name(
+    alloc: Global,
+    key_len: usize,
+    pairs: &'static [(u8, u32)],
+) -> Result<Vec<IndexSource>, Fail> {
+    Ok(vec![in alloc; index_of(alloc, (b"X", b"NAME", key_len, pairs))?]?)
+}
+
+// A table with these indexes.
+fn source_with(
+    alloc: Global,
+    content: TableData,
+    indexes: Vec<IndexSource>,
+) -> Result<TableSource, Fail> {
+    let name = Bytes::from_slice(alloc, b"T")?;
+    Ok(TableSource {
+        name,
+        content,
+        indexes,
+    })
+}
+
+// The fault of opening a table with an index on NAME of these pairs.
+fn fault_with_index(
     alloc: Global,
     content: TableData,
     key_len: usize,
     pairs: &'static [(u8, u32)],
     reindex: bool,
 ) -> Result<Option<OpenFault>, Fail> {
-    let index = index_of(alloc, (b"X", b"NAME", key_len, pairs))?;
-    let source = TableSource {
-        name: Bytes::from_slice(alloc, b"T")?,
-        content,
-        indexes: vec![in alloc; index]?,
-    };
-    Ok(Catalogue::open(alloc, vec![in alloc; source]?, 1, reindex).err())
+    let indexes = index_on_name(alloc, key_len, pairs)?;
+    let sources = vec![in alloc; source_with(alloc, content, indexes)?]?;
+    Ok(fault_of(alloc, sources, 1, reindex))
 }
 
 // The first case that is answered otherwise by two stations' catalogue of one table.
@@ -199,13 +241,18 @@ const OPENINGS: [Opened; 15] = [
     (&[(b"T", &[X, LONG])], 1, true, None),
 ];
 
+// Asserts that tables are opened, or not for this fault.
+fn assert_opening(rt: &impl Abort, alloc: Global, opened: Opened) -> Result<(), Fail> {
+    let (sources, stations, reindex, fault) = opened;
+    let found = fault_of(alloc, sources_of(alloc, sources)?, stations, reindex);
+    assert_eq!(rt; found, fault);
+    Ok(())
+}
+
 #[test]
 fn openings_are_refused_in_order(rt: HostRuntime) -> Result<(), Fail> {
-    let alloc = rt.alloc();
-    for (sources, stations, reindex, fault) in OPENINGS {
-        let sources = sources_of(alloc, sources)?;
-        let opened = Catalogue::open(alloc, sources, stations, reindex);
-        assert_eq!(rt; opened.err(), fault);
+    for opened in OPENINGS {
+        assert_opening(&rt, rt.alloc(), opened)?;
     }
     Ok(())
 }
@@ -230,57 +277,82 @@ fn reversed_equal_keys(rt: HostRuntime) -> Result<(), Fail> {
     Ok(())
 }
 
+// The catalogue of two stations whose index is made anew of the records.
+fn open_lacking(alloc: Global) -> Result<Catalogue, Fail> {
+    Ok(Catalogue::open(alloc, sources_of(alloc, &[LACKING])?, 2, true)?)
+}
+
+// The first case that it answers otherwise.
+fn first_other_of_lacking(alloc: Global) -> Result<Option<usize>, Fail> {
+    first_other(alloc, &mut open_lacking(alloc)?, &BY_NUMBER)
+}
+
 // The index lacks a pair: made anew of the records it is whole, and its order is that of all of them.
 #[test]
 fn index_without_a_pair_is_made_whole(rt: HostRuntime) -> Result<(), Fail> {
-    let alloc = rt.alloc();
-    let sources = sources_of(alloc, &[LACKING])?;
-    let mut catalogue = Catalogue::open(alloc, sources, 2, true)?;
-    assert_eq!(rt; first_other(alloc, &mut catalogue, &BY_NUMBER)?, None);
+    assert_eq!(rt; first_other_of_lacking(rt.alloc())?, None);
+    Ok(())
+}
+
+// The length of an index's keys, its pairs, and whether it is stale.
+type Stale = (usize, &'static [(u8, u32)], bool);
+
+const STALE: [Stale; 8] = [
+    (1, PAIRS, false),
+    (1, REVERSED, false),
+    // One pair is missing.
+    (1, &[(b'A', 2), (b'B', 1)], true),
+    // One pair twice, and one missing.
+    (1, &[(b'A', 2), (b'A', 2), (b'B', 1)], true),
+    // Record number 0.
+    (1, &[(b'A', 0), (b'A', 3), (b'B', 1)], true),
+    // Another key length.
+    (2, PAIRS, true),
+    // No pair.
+    (1, &[], true),
+    // The key of another record.
+    (1, &[(b'A', 2), (b'B', 3), (b'B', 1)], true),
+];
+
+// The fault of opening the table of three records with an index of these pairs.
+fn fault_of_three(
+    alloc: Global,
+    key_len: usize,
+    pairs: &'static [(u8, u32)],
+    reindex: bool,
+) -> Result<Option<OpenFault>, Fail> {
+    fault_with_index(alloc, three_records(alloc)?, key_len, pairs, reindex)
+}
+
+// Asserts that an index is stale or isn't, and that it never is where it is made anew.
+fn assert_stale(rt: &impl Abort, alloc: Global, case: Stale) -> Result<(), Fail> {
+    let (key_len, pairs, stale) = case;
+    let kept = fault_of_three(alloc, key_len, pairs, false)?;
+    let anew = fault_of_three(alloc, key_len, pairs, true)?;
+    let wanted = stale.then_some(OpenFault::IndexStale(1, 1));
+    assert_eq!(rt; (kept, anew), (wanted, None));
     Ok(())
 }
 
 #[test]
 fn stale_indexes(rt: HostRuntime) -> Result<(), Fail> {
-    let alloc = rt.alloc();
-    let cases: [(usize, &'static [(u8, u32)], bool); 8] = [
-        (1, PAIRS, false),
-        (1, REVERSED, false),
-        // One pair is missing.
-        (1, &[(b'A', 2), (b'B', 1)], true),
-        // One pair twice, and one missing.
-        (1, &[(b'A', 2), (b'A', 2), (b'B', 1)], true),
-        // Record number 0.
-        (1, &[(b'A', 0), (b'A', 3), (b'B', 1)], true),
-        // Another key length.
-        (2, PAIRS, true),
-        // No pair.
-        (1, &[], true),
-        // The key of another record.
-        (1, &[(b'A', 2), (b'B', 3), (b'B', 1)], true),
-    ];
-    for (key_len, pairs, stale) in cases {
-        let wanted = stale.then_some(OpenFault::IndexStale(1, 1));
-        assert_eq!(rt;
-            fault_of(alloc, three_records(alloc)?, key_len, pairs, false)?,
-            wanted
-        );
-        assert_eq!(rt;
-            fault_of(alloc, three_records(alloc)?, key_len, pairs, true)?,
-            None
-        );
+    for case in STALE {
+        assert_stale(&rt, rt.alloc(), case)?;
     }
     Ok(())
+}
+
+// The fault of opening the table without records with an index without pairs.
+fn fault_of_none(alloc: Global, key_len: usize, reindex: bool) -> Result<Option<OpenFault>, Fail> {
+    fault_with_index(alloc, table(alloc, &EMPTY)?, key_len, &[], reindex)
 }
 
 // Without records all indexes have the same pairs, but not the same length of keys.
 #[test]
 fn stale_indexes_of_no_record(rt: HostRuntime) -> Result<(), Fail> {
-    let alloc = rt.alloc();
     let stale = Some(OpenFault::IndexStale(1, 1));
     for (key_len, reindex, wanted) in [(9, false, stale), (9, true, None), (10, false, None)] {
-        let fault = fault_of(alloc, table(alloc, &EMPTY)?, key_len, &[], reindex)?;
-        assert_eq!(rt; fault, wanted);
+        assert_eq!(rt; fault_of_none(rt.alloc(), key_len, reindex)?, wanted);
     }
     Ok(())
 }

@@ -1,6 +1,6 @@
 //! One station's commands on the sample's table, and their journal.
 
-use super::asked::{Asked, Case, Expected, Value, command_of, first_other, first_unexpected};
+use super::asked::{Asked, Case, Expected, Value, assert_answers, command_of, first_other};
 use super::sample::open_sample;
 use catalogue_core::{Answer, Catalogue, Command};
 use std::alloc::Global;
@@ -50,15 +50,6 @@ const JOURNALLED: [Case; 2] = [
     (1, Asked::Use, b"T", Expected::Ok),
 ];
 
-// The catalogue that has performed JOURNALLED.
-fn journalled(alloc: Global) -> Result<Catalogue, Fail> {
-    let mut catalogue = open_sample(alloc, 1)?;
-    match first_other(alloc, &mut catalogue, &JOURNALLED)? {
-        None => Ok(catalogue),
-        Some(_) => Err("another answer".into()),
-    }
-}
-
 // Whether the journal's entry of an index, from 0, is station 1's and has this command and this answer.
 fn is_entry(catalogue: &Catalogue, index: usize, command: &Command, answer: &Answer) -> bool {
     match catalogue.journal().get(index) {
@@ -71,28 +62,38 @@ fn is_entry(catalogue: &Catalogue, index: usize, command: &Command, answer: &Ans
 
 #[test]
 fn shared_use_needs_a_lock(rt: HostRuntime) -> Result<(), Fail> {
-    assert_eq!(rt; first_unexpected(rt.alloc(), &SHARED_USE)?, None);
-    Ok(())
+    assert_answers(&rt, rt.alloc(), &SHARED_USE)
 }
 
 #[test]
 fn first_path_refusals(rt: HostRuntime) -> Result<(), Fail> {
-    assert_eq!(rt; first_unexpected(rt.alloc(), &FIRST_PATH)?, None);
-    Ok(())
+    assert_answers(&rt, rt.alloc(), &FIRST_PATH)
 }
 
-// The journal has JOURNALLED's two commands with their answers.
-fn assert_journalled(rt: &impl Abort, catalogue: &Catalogue, use_t: &Command) {
-    assert_eq!(rt; catalogue.journal().len(), 2);
+// Whether the entries of the indexes 0 and 1 have JOURNALLED's two commands with their answers.
+fn are_entries(alloc: Global, catalogue: &Catalogue) -> Result<[bool; 2], Fail> {
+    let use_t = command_of(alloc, Asked::Use, b"T")?;
     let refused = Answer::Refused(Refusal::NoTableInUse);
-    assert!(rt; is_entry(catalogue, 0, &Command::Go(1), &refused));
-    assert!(rt; is_entry(catalogue, 1, use_t, &Answer::Done));
+    let is_first = is_entry(catalogue, 0, &Command::Go(1), &refused);
+    Ok([is_first, is_entry(catalogue, 1, &use_t, &Answer::Done)])
+}
+
+// Performs JOURNALLED. Asserts that both are answered as expected, and that the journal has them and nothing else.
+fn assert_journalled(
+    rt: &impl Abort,
+    alloc: Global,
+    catalogue: &mut Catalogue,
+) -> Result<(), Fail> {
+    let other = first_other(alloc, catalogue, &JOURNALLED)?;
+    let are_entries = are_entries(alloc, catalogue)?;
+    assert_eq!(rt;
+        (other, catalogue.journal().len(), are_entries),
+        (None, 2, [true; 2])
+    );
+    Ok(())
 }
 
 #[test]
 fn journal_keeps_commands_and_answers(rt: HostRuntime) -> Result<(), Fail> {
-    let use_t = command_of(rt.alloc(), Asked::Use, b"T")?;
-    let catalogue = journalled(rt.alloc())?;
-    assert_journalled(&rt, &catalogue, &use_t);
-    Ok(())
+    assert_journalled(&rt, rt.alloc(), &mut open_sample(rt.alloc(), 1)?)
 }

@@ -43,12 +43,24 @@ const LISTS: [&[Asked]; 7] = [
     &[FIRST, FIRST],
 ];
 
+fn copy_of(alloc: Global, list: &[Asked]) -> Result<Receipts, AllocError> {
+    receipts_of(alloc, list)?.copy(alloc)
+}
+
+// Whether a copy of a list is equal to another list.
+fn is_copy_equal(alloc: Global, list: &[Asked], other: &[Asked]) -> Result<bool, AllocError> {
+    let copy = copy_of(alloc, list)?;
+    Ok(copy == receipts_of(alloc, other)?)
+}
+
 // The first two lists that are not equal to copies of each other exactly where they are the same list, by their indexes.
-fn first_unequal(alloc: Global) -> Result<Option<(usize, usize)>, AllocError> {
-    for i in 0..LISTS.len() {
-        let copy = receipts_of(alloc, LISTS[i])?.copy(alloc)?;
-        for k in 0..LISTS.len() {
-            if (copy == receipts_of(alloc, LISTS[k])?) != (i == k) {
+fn first_unequal(
+    alloc: Global,
+    lists: &[&'static [Asked]],
+) -> Result<Option<(usize, usize)>, AllocError> {
+    for i in 0..lists.len() {
+        for k in 0..lists.len() {
+            if is_copy_equal(alloc, lists[i], lists[k])? != (i == k) {
                 return Ok(Some((i, k)));
             }
         }
@@ -58,16 +70,24 @@ fn first_unequal(alloc: Global) -> Result<Option<(usize, usize)>, AllocError> {
 
 #[test]
 fn copies_of_receipts_are_equal_to_them_alone(rt: HostRuntime) -> Result<(), Fail> {
-    assert_eq!(rt; first_unequal(rt.alloc())?, None);
+    assert_eq!(rt; first_unequal(rt.alloc(), &LISTS)?, None);
     Ok(())
+}
+
+fn copy_of_first(alloc: Global) -> Result<Receipt, AllocError> {
+    receipt_of(alloc, FIRST)?.copy(alloc)
+}
+
+// Whether a copy of the first receipt is equal to another receipt.
+fn is_copy_of_first_equal(alloc: Global, other: Asked) -> Result<bool, AllocError> {
+    let copy = copy_of_first(alloc)?;
+    Ok(copy == receipt_of(alloc, other)?)
 }
 
 #[test]
 fn a_copy_of_a_receipt_is_equal_to_it(rt: HostRuntime) -> Result<(), Fail> {
-    let alloc = rt.alloc();
-    for (asked, is_equal) in [(FIRST, true), (SECOND, false), (OTHER, false)] {
-        let copy = receipt_of(alloc, FIRST)?.copy(alloc)?;
-        assert_eq!(rt; copy == receipt_of(alloc, asked)?, is_equal);
+    for (other, is_equal) in [(FIRST, true), (SECOND, false), (OTHER, false)] {
+        assert_eq!(rt; is_copy_of_first_equal(rt.alloc(), other)?, is_equal);
     }
     Ok(())
 }

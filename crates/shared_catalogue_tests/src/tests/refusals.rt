@@ -5,20 +5,26 @@ use super::asked::{Asked, Case, Expected, Text, Value, first_other};
 use super::sample::{blank_table, named, open};
 use catalogue_core::{Catalogue, Question, TableSource};
 use dbf_fields::{DATE, Field, MEMO, NUMBER};
+use dbf_image::TableData;
 use std::alloc::Global;
 use std::test::Fail;
 
 // The first case that is answered otherwise.
 type FirstOther = Result<Option<usize>, Fail>;
 
-// The table of a name, with the fields AMT, BORN and NOTE and the given number of blank records.
-fn table(alloc: Global, name: &[u8], count: u32) -> Result<TableSource, Fail> {
+// A table with the fields AMT, BORN and NOTE and the given number of blank records.
+fn blank_rows(alloc: Global, count: u32) -> Result<TableData, Fail> {
     let fields = [
         Field::new(alloc, b"AMT", NUMBER, 6, 2)?,
         Field::new(alloc, b"BORN", DATE, 8, 0)?,
         Field::new(alloc, b"NOTE", MEMO, 10, 0)?,
     ];
-    named(alloc, name, blank_table(alloc, &fields, count)?)
+    blank_table(alloc, &fields, count)
+}
+
+// The same under a name.
+fn table(alloc: Global, name: &[u8], count: u32) -> Result<TableSource, Fail> {
+    named(alloc, name, blank_rows(alloc, count)?)
 }
 
 // The catalogue of a table E without records and a table T of one, for two stations.
@@ -233,9 +239,13 @@ fn first_others(alloc: Global, catalogue: &mut Catalogue) -> Result<[Option<usiz
     ])
 }
 
+// The same on the catalogue of the tables E and T.
+fn first_others_of_two(alloc: Global) -> Result<[Option<usize>; 7], Fail> {
+    first_others(alloc, &mut open_two(alloc)?)
+}
+
 #[test]
 fn every_refusal_of_every_command(rt: HostRuntime) -> Result<(), Fail> {
-    let alloc = rt.alloc();
-    assert_eq!(rt; first_others(alloc, &mut open_two(alloc)?)?, [None; 7]);
+    assert_eq!(rt; first_others_of_two(rt.alloc())?, [None; 7]);
     Ok(())
 }

@@ -1,6 +1,6 @@
 //! Stations that share a catalogue: their calls under the lock, the status row, and settling.
 
-ghost use Rattle.std.specs.Prelude.{◌≡◌, []};
+ghost use Rattle.std.specs.Prelude.{◌≡◌, [], length};
 
 use super::asked::{Asked, Case, Expected, command_of, is_expected};
 use super::lists::LISTED;
@@ -78,29 +78,46 @@ fn keep(receipts: &mut [Receipts], station: u32, receipt: Receipt) -> Result<(),
     }
 }
 
-// Keeps the last receipt as it is to be handed.
-fn keep_last(
+// A receipt that says false.
+fn with_other_answer(receipt: Receipt) -> Receipt {
+    Receipt {
+        command: receipt.command,
+        answer: Answer::Truth(false),
+    }
+}
+
+// A receipt of another command.
+fn with_other_command(receipt: Receipt) -> Receipt {
+    Receipt {
+        command: Command::FileLock,
+        answer: receipt.answer,
+    }
+}
+
+// Puts a receipt to those of its station twice.
+fn keep_twice(
+    alloc: Global,
+    receipts: &mut [Receipts],
+    station: u32,
+    receipt: Receipt,
+) -> Result<(), Fail> {
+    keep(receipts, station, receipt.copy(alloc)?)?;
+    keep(receipts, station, receipt)
+}
+
+// Keeps a receipt as it is to be handed.
+fn keep_as(
     alloc: Global,
     receipts: &mut [Receipts],
     station: u32,
     receipt: Receipt,
     handed: Handed,
 ) -> Result<(), Fail> {
-    let Receipt { command, answer } = receipt.copy(alloc)?;
     match handed {
         Handed::Fewer => Ok(()),
-        Handed::OtherAnswer => {
-            let answer = Answer::Truth(false);
-            keep(receipts, station, Receipt { command, answer })
-        }
-        Handed::OtherCommand => {
-            let command = Command::FileLock;
-            keep(receipts, station, Receipt { command, answer })
-        }
-        Handed::Twice => {
-            keep(receipts, station, Receipt { command, answer })?;
-            keep(receipts, station, receipt)
-        }
+        Handed::OtherAnswer => keep(receipts, station, with_other_answer(receipt)),
+        Handed::OtherCommand => keep(receipts, station, with_other_command(receipt)),
+        Handed::Twice => keep_twice(alloc, receipts, station, receipt),
         Handed::Nothing | Handed::Kept | Handed::Exchanged => keep(receipts, station, receipt),
     }
 }
@@ -117,11 +134,12 @@ fn perform_all<J: Naming>(
 ) -> Result<(), Fail> {
     for i in 0..cases.len() {
         let receipt = perform(alloc, rt, shared, seats, cases[i])?;
-        if i == cases.len() - 1 {
-            keep_last(alloc, receipts, cases[i].0, receipt, handed)?;
+        let as_handed = if i == cases.len() - 1 {
+            handed
         } else {
-            keep(receipts, cases[i].0, receipt)?;
-        }
+            Handed::Kept
+        };
+        keep_as(alloc, receipts, cases[i].0, receipt, as_handed)?;
     }
     if handed == Handed::Exchanged {
         receipts.reverse();
@@ -143,11 +161,52 @@ fn rows_seen<J: Naming>(
     Ok(rows)
 }
 
+// Performs the cases for a number of stations. It answers the receipts as they are to be handed, and the rows that are seen.
+fn call_all<J: Naming>(
+    alloc: Global,
+    rt: &impl Wait,
+    shared: &Shared<J>,
+    seats: &mut [Seat<J>],
+    stations: u32,
+    cases: &[Case],
+    handed: Handed,
+) -> Result<(Vec<Receipts>, Vec<[u64; 23]>), Fail> {
+    let mut receipts = no_receipts(alloc, stations)?;
+    perform_all(alloc, rt, shared, seats, &mut receipts, cases, handed)?;
+    let rows = rows_seen(alloc, rt, shared, seats)?;
+    Ok((receipts, rows))
+}
+
+// Takes the first seat away where the catalogue is settled without it.
+fn leave_out_first<J: Naming>(seats: &mut Vec<Seat<J>>, without_first: bool) {
+    if without_first && !seats.is_empty() {
+        seats.remove(0);
+    }
+}
+
 // How many entries there are at the end, or why there is none.
 fn entries_of(settled: Result<Closed, SettleFault>) -> Result<u64, SettleFault> {
     match settled {
         Ok(closed) => Ok(closed.entry_count()),
         Err(fault) => Err(fault),
+    }
+}
+
+// Settles a catalogue with these receipts, or by its seats alone.
+fn settle_as<J: Naming, R: Wait>(
+    rt: &R,
+    shared: Shared<J>,
+    seats: Vec<Seat<J>>,
+    receipts: Vec<Receipts>,
+    handed: Handed,
+) -> Result<u64, SettleFault>
+    requires parts { J.parts ≡ J.opened.stations }
+    requires lists { length receipts.items ≡ J.opened.stations }
+{
+    if handed == Handed::Nothing {
+        entries_of(shared.settle_seats(rt, seats))
+    } else {
+        entries_of(shared.settle(rt, seats, receipts))
     }
 }
 
@@ -170,20 +229,12 @@ fn run_as<J: Naming, R: Wait>(
 {
     let stations = catalogue.station_count();
     let (shared, mut seats) = Shared::<J>::new(alloc, catalogue, lot)?;
-    let mut receipts = no_receipts(alloc, stations)?;
-    perform_all(alloc, rt, &shared, &mut seats, &mut receipts, cases, handed)?;
-    let rows = rows_seen(alloc, rt, &shared, &mut seats)?;
-    if without_first && !seats.is_empty() {
-        seats.remove(0);
-    }
+    let (receipts, rows) = call_all(alloc, rt, &shared, &mut seats, stations, cases, handed)?;
+    leave_out_first(&mut seats, without_first);
     if receipts.len() != stations as usize {
         return Err("a list of receipts is gone".into());
     }
-    let settled = if handed == Handed::Nothing {
-        entries_of(shared.settle_seats(rt, seats))
-    } else {
-        entries_of(shared.settle(rt, seats, receipts))
-    };
+    let settled = settle_as(rt, shared, seats, receipts, handed);
     Ok(Seen { rows, settled })
 }
 
@@ -252,21 +303,42 @@ const SETTLINGS: [(Handed, bool, Result<u64, SettleFault>); 11] = [
     (Handed::Exchanged, true, Err(SettleFault::SeatMissing(1))),
 ];
 
+// How the seven calls are settled, and whether both stations saw their row.
+fn settle_seven<R: Wait>(
+    alloc: Global,
+    rt: &R,
+    handed: Handed,
+    without_first: bool,
+) -> Result<(Result<u64, SettleFault>, bool), Fail> {
+    let seen = run(alloc, rt, 2, &TWO_STATIONS, handed, without_first)?;
+    Ok((seen.settled, have_seen(&seen.rows, 2, &AFTER_SEVEN)))
+}
+
 #[test]
 fn two_stations_one_record(rt: HostRuntime) -> Result<(), Fail> {
     for (handed, without_first, settled) in SETTLINGS {
-        let seen = run(rt.alloc(), &rt, 2, &TWO_STATIONS, handed, without_first)?;
-        assert_eq!(rt; seen.settled, settled);
-        assert_eq!(rt; have_seen(&seen.rows, 2, &AFTER_SEVEN), true);
+        let found = settle_seven(rt.alloc(), &rt, handed, without_first)?;
+        assert_eq!(rt; found, (settled, true));
     }
     Ok(())
+}
+
+// Whether so many stations see this row after these calls on the sample's tables.
+fn see_after_calls<R: Wait>(
+    alloc: Global,
+    rt: &R,
+    stations: u32,
+    cases: &[Case],
+    row: &[u64; 23],
+) -> Result<bool, Fail> {
+    let seen = run(alloc, rt, stations, cases, Handed::Kept, false)?;
+    Ok(have_seen(&seen.rows, stations as usize, row))
 }
 
 // Station 2 looks first, whose call was the seventh; the last call of station 1 was the sixth.
 #[test]
 fn status_after_seven_calls(rt: HostRuntime) -> Result<(), Fail> {
-    let seen = run(rt.alloc(), &rt, 2, &TWO_STATIONS, Handed::Kept, false)?;
-    assert_eq!(rt; have_seen(&seen.rows, 2, &AFTER_SEVEN), true);
+    assert!(rt; see_after_calls(rt.alloc(), &rt, 2, &TWO_STATIONS, &AFTER_SEVEN)?);
     Ok(())
 }
 
@@ -276,15 +348,13 @@ const FILE_LOCKED: [Case; 3] = [
     (1, Asked::FileLock, b"", Expected::Truth(true)),
 ];
 
+const AFTER_FILE_LOCKED: [u64; 23] = [
+    3, 1, 2, 1, 0, 0, 0, 0, 0, 0, 0, 0, 0, 0, 0, 0, 0, 0, 0, 0, 0, 0, 0,
+];
+
 #[test]
 fn status_row(rt: HostRuntime) -> Result<(), Fail> {
-    let seen = run(rt.alloc(), &rt, 1, &FILE_LOCKED, Handed::Kept, false)?;
-    let mut row = [0; 23];
-    row[0] = 3;
-    row[1] = 1;
-    row[2] = 2;
-    row[3] = 1;
-    assert_eq!(rt; have_seen(&seen.rows, 1, &row), true);
+    assert!(rt; see_after_calls(rt.alloc(), &rt, 1, &FILE_LOCKED, &AFTER_FILE_LOCKED)?);
     Ok(())
 }
 
@@ -321,14 +391,17 @@ fn see_after<R: Wait>(
     Ok(have_seen(&seen.rows, 2, row))
 }
 
+fn see_listed<R: Wait>(alloc: Global, rt: &R) -> Result<bool, Fail> {
+    see_after(alloc, rt, &LISTED, &AFTER_LISTED)
+}
+
+fn see_one_more<R: Wait>(alloc: Global, rt: &R) -> Result<bool, Fail> {
+    see_after(alloc, rt, &LISTED_AND_ONE, &AFTER_ONE_MORE)
+}
+
 #[test]
 fn locks_over_a_list_are_seen(rt: HostRuntime) -> Result<(), Fail> {
-    let cases: [(&[Case], &[u64; 23]); 2] = [
-        (&LISTED, &AFTER_LISTED),
-        (&LISTED_AND_ONE, &AFTER_ONE_MORE),
-    ];
-    for (asked, row) in cases {
-        assert_eq!(rt; see_after(rt.alloc(), &rt, asked, row)?, true);
-    }
+    let are_seen = [see_listed(rt.alloc(), &rt)?, see_one_more(rt.alloc(), &rt)?];
+    assert_eq!(rt; are_seen, [true; 2]);
     Ok(())
 }

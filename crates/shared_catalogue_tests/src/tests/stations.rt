@@ -1,9 +1,10 @@
 //! Stations that share tables. The answers are those of dBASE's rules on areas and locks.
 
-use super::asked::{Asked, Case, Expected, Value, first_other, first_unexpected};
+use super::asked::{Asked, Case, Expected, Value, assert_answers, first_other};
 use super::sample::open_sample;
 use catalogue_core::{Answer, Catalogue, Command, Question};
 use std::alloc::Global;
+use std::process::Abort;
 use std::test::Fail;
 
 pub const TWO_STATIONS: [Case; 7] = [
@@ -97,20 +98,17 @@ const PACKED: [Case; 11] = [
 
 #[test]
 fn two_stations_one_record(rt: HostRuntime) -> Result<(), Fail> {
-    assert_eq!(rt; first_unexpected(rt.alloc(), &TWO_STATIONS)?, None);
-    Ok(())
+    assert_answers(&rt, rt.alloc(), &TWO_STATIONS)
 }
 
 #[test]
 fn file_lock_bars_the_others(rt: HostRuntime) -> Result<(), Fail> {
-    assert_eq!(rt; first_unexpected(rt.alloc(), &FILE_LOCK)?, None);
-    Ok(())
+    assert_answers(&rt, rt.alloc(), &FILE_LOCK)
 }
 
 #[test]
 fn record_lock_replaces_table_lock(rt: HostRuntime) -> Result<(), Fail> {
-    assert_eq!(rt; first_unexpected(rt.alloc(), &RECORD_FOR_TABLE)?, None);
-    Ok(())
+    assert_answers(&rt, rt.alloc(), &RECORD_FOR_TABLE)
 }
 
 // The number of station 1's call that locks its record; `None` where it does not lock it.
@@ -122,30 +120,35 @@ fn number_of_lock(alloc: Global, catalogue: &mut Catalogue) -> Result<Option<u64
     Ok((answer == Answer::Truth(true)).then_some(number))
 }
 
-#[test]
-fn refused_use_keeps_the_table(rt: HostRuntime) -> Result<(), Fail> {
-    let mut catalogue = open_sample(rt.alloc(), 2)?;
-    let other = first_other(rt.alloc(), &mut catalogue, &REFUSED_USE)?;
+// Asserts that the cases are answered as expected, and that station 1's next call locks its record.
+fn assert_refused_use(
+    rt: &impl Abort,
+    alloc: Global,
+    catalogue: &mut Catalogue,
+) -> Result<(), Fail> {
+    let other = first_other(alloc, catalogue, &REFUSED_USE)?;
     // The tenth call, now that station 2 has closed the table and with it released its lock.
-    let number = number_of_lock(rt.alloc(), &mut catalogue)?;
+    let number = number_of_lock(alloc, catalogue)?;
     assert_eq!(rt; (other, number), (None, Some(10)));
     Ok(())
 }
 
 #[test]
+fn refused_use_keeps_the_table(rt: HostRuntime) -> Result<(), Fail> {
+    assert_refused_use(&rt, rt.alloc(), &mut open_sample(rt.alloc(), 2)?)
+}
+
+#[test]
 fn append_is_seen_at_the_end(rt: HostRuntime) -> Result<(), Fail> {
-    assert_eq!(rt; first_unexpected(rt.alloc(), &APPENDED)?, None);
-    Ok(())
+    assert_answers(&rt, rt.alloc(), &APPENDED)
 }
 
 #[test]
 fn area_refusals(rt: HostRuntime) -> Result<(), Fail> {
-    assert_eq!(rt; first_unexpected(rt.alloc(), &AREAS)?, None);
-    Ok(())
+    assert_answers(&rt, rt.alloc(), &AREAS)
 }
 
 #[test]
 fn pack_removes_the_marked_record(rt: HostRuntime) -> Result<(), Fail> {
-    assert_eq!(rt; first_unexpected(rt.alloc(), &PACKED)?, None);
-    Ok(())
+    assert_answers(&rt, rt.alloc(), &PACKED)
 }
