@@ -4,14 +4,28 @@ ghost use Rattle.std.specs.Prelude.{◌≡◌, []};
 
 use super::ENOUGH;
 use super::sample::{Case, cases, open, receipts_at, sample};
-use catalogue_core::{Catalogue, StatusRow, Stop};
+use catalogue_core::{Answer, Catalogue, StatusRow, Stop};
 use scarce::{Attempt, Hoard, refusals};
-use shared_catalogue::{Lot, Naming, Receipts, Seat, SettleFault, Shared};
+use shared_catalogue::{Closed, Lot, Naming, Receipts, Seat, SettleFault, Shared};
 use std::alloc::{AllocError, Global};
 use std::marker::Brand;
 use std::process::Abort;
 use std::sync::Wait;
 use std::test::Fail;
+
+// Whether this is the case's answer, and its entry the next after a row.
+fn is_next<J: Naming, R: Wait>(
+    rt: &R,
+    shared: &Shared<J>,
+    seat: &mut Seat<J>,
+    answer: &Answer,
+    case: &Case,
+    before: &StatusRow,
+) -> bool {
+    let row = shared.look(rt, seat);
+    let next = before.journal_length.saturating_add(1);
+    *answer == case.answer && row.journal_length == next
+}
 
 // How a command at a seat ends: as the next entry with the case's answer, or with the row as it was.
 fn attempt_of<J: Naming, R: Wait>(
@@ -23,11 +37,7 @@ fn attempt_of<J: Naming, R: Wait>(
     before: &StatusRow,
 ) -> Attempt {
     match shared.perform(alloc, rt, seat, &case.command) {
-        Ok(answer) => {
-            let row = shared.look(rt, seat);
-            let next = before.journal_length.saturating_add(1);
-            Attempt::right_if(answer == case.answer && row.journal_length == next)
-        }
+        Ok(answer) => Attempt::right_if(is_next(rt, shared, seat, &answer, case, before)),
         Err(Stop::NoMemory) => Attempt::refused_if(shared.look(rt, seat) == *before),
         Err(Stop::JournalFull) => Attempt::Wrong,
     }
@@ -89,15 +99,30 @@ struct Parts {
     hoard: Hoard,
 }
 
+// The receipts of both stations' cases.
+fn receipts_of_both(alloc: Global, cases: &[Case]) -> Result<Vec<Receipts>, AllocError> {
+    let first = receipts_at(alloc, cases, 0)?;
+    let second = receipts_at(alloc, cases, 1)?;
+    Ok(vec![in alloc; first, second]?)
+}
+
 fn make_parts(alloc: Global) -> Result<Parts, AllocError> {
+    let hoard = Hoard::new(alloc, 1, 64)?;
     let cases = cases(alloc)?;
-    let first = receipts_at(alloc, &cases, 0)?;
-    let second = receipts_at(alloc, &cases, 1)?;
+    let receipts = receipts_of_both(alloc, &cases)?;
     Ok(Parts {
         cases,
-        receipts: vec![in alloc; first, second]?,
-        hoard: Hoard::new(alloc, 1, 64)?,
+        receipts,
+        hoard,
     })
+}
+
+// How many entries are settled, or why none is.
+fn entries_of(settled: Result<Closed, SettleFault>) -> Result<u64, SettleFault> {
+    match settled {
+        Ok(closed) => Ok(closed.entry_count()),
+        Err(fault) => Err(fault),
+    }
 }
 
 // Performs the cases, and settles the catalogue with the receipts while no memory is left. `None` where there is no memory for it
@@ -107,7 +132,9 @@ fn run_as<J: Naming, R: Wait>(
     rt: &R,
     lot: Lot,
     catalogue: Catalogue,
-    made: Parts,
+    cases: &[Case],
+    receipts: Vec<Receipts>,
+    hoard: &mut Hoard,
     is_scarce: bool,
 ) -> Option<Found>
     requires empty { catalogue.journal ≡ [] }
@@ -117,22 +144,14 @@ fn run_as<J: Naming, R: Wait>(
     requires parts { lot.parts ≡ catalogue.opened.stations }
 {
     let stations = catalogue.station_count();
-    let Parts {
-        cases,
-        receipts,
-        mut hoard,
-    } = made;
     match Shared::<J>::new(alloc, catalogue, lot) {
         Ok((shared, mut seats)) => {
             if receipts.len() != stations as usize {
                 return None;
             }
-            let stops = stops_of_all(alloc, rt, &shared, &mut seats, &cases, is_scarce);
+            let stops = stops_of_all(alloc, rt, &shared, &mut seats, cases, is_scarce);
             let _ = hoard.leave(0);
-            let settled = match shared.settle(rt, seats, receipts) {
-                Ok(closed) => Ok(closed.entry_count()),
-                Err(fault) => Err(fault),
-            };
+            let settled = entries_of(shared.settle(rt, seats, receipts));
             Some(Found { stops, settled })
         }
         Err(AllocError) => None,
@@ -140,16 +159,32 @@ fn run_as<J: Naming, R: Wait>(
 }
 
 // The same on the sample's table, under a name of its own.
-fn run<R: Wait>(alloc: Global, rt: &R, is_scarce: bool) -> Result<Option<Found>, Fail> {
-    let parts = make_parts(alloc)?;
+fn run<R: Wait>(
+    alloc: Global,
+    rt: &R,
+    cases: &[Case],
+    receipts: Vec<Receipts>,
+    hoard: &mut Hoard,
+    is_scarce: bool,
+) -> Result<Option<Found>, Fail> {
     let catalogue = open(alloc, &sample(alloc)?)?;
     let lot = Lot::new(alloc, 2)?;
-    Ok(run_as::<Brand, R>(alloc, rt, lot, catalogue, parts, is_scarce))
+    Ok(run_as::<Brand, R>(alloc, rt, lot, catalogue, cases, receipts, hoard, is_scarce))
+}
+
+// The same of parts that are made for it.
+fn run_made<R: Wait>(alloc: Global, rt: &R, is_scarce: bool) -> Result<Option<Found>, Fail> {
+    let Parts {
+        cases,
+        receipts,
+        mut hoard,
+    } = make_parts(alloc)?;
+    run(alloc, rt, &cases, receipts, &mut hoard, is_scarce)
 }
 
 // How often all cases are stopped; `None` where seven entries are not settled.
 fn settled_stops<R: Wait>(alloc: Global, rt: &R, is_scarce: bool) -> Result<Option<usize>, Fail> {
-    match run(alloc, rt, is_scarce)? {
+    match run_made(alloc, rt, is_scarce)? {
         Some(
             Found {
                 stops,

@@ -14,13 +14,19 @@ use std::test::Fail;
 pub(super) fn sample(alloc: Global) -> Result<TableData, Fail> {
     let name = Field::new(alloc, b"NAME", CHARACTER, 3, 0)?;
     let mut data = TableData::empty(alloc, Schema::new(alloc, &[name])?);
+    append_two(&mut data)?;
+    Ok(data)
+}
+
+// Appends the records BOB and ADA.
+fn append_two(data: &mut TableData) -> Result<(), Fail> {
     for record in [b" BOB", b" ADA"] {
         if data.record_count() > 2 || data.schema().record_length() != 4 {
             return Err("no such table".into());
         }
         data.append_record(record)?;
     }
-    Ok(data)
+    Ok(())
 }
 
 // A copy of a table under the name T.
@@ -64,31 +70,52 @@ fn given(seat: usize, command: Command, answer: Answer) -> Case {
 
 // REPLACE of a field by EVE.
 fn replace(alloc: Global, field: &[u8]) -> Result<Command, AllocError> {
+    let field = Bytes::from_slice(alloc, field)?;
+    let text = Bytes::from_slice(alloc, b"EVE")?;
     Ok(Command::Replace {
-        field: Bytes::from_slice(alloc, field)?,
-        value: Literal::Text(Bytes::from_slice(alloc, b"EVE")?),
+        field,
+        value: Literal::Text(text),
     })
+}
+
+// The case that opens the table for the first station alone.
+fn used(alloc: Global) -> Result<Case, AllocError> {
+    let name = Bytes::from_slice(alloc, b"T")?;
+    let exclusive = true;
+    Ok(given(0, Command::UseTable { name, exclusive }, Answer::Done))
+}
+
+// The case that shows the field NAME.
+fn shown(alloc: Global) -> Result<Case, AllocError> {
+    let field = Bytes::from_slice(alloc, b"NAME")?;
+    let text = Bytes::from_slice(alloc, b"EVE")?;
+    Ok(given(0, Command::Show(field), Answer::Text(text)))
+}
+
+// How many cases there are.
+const CASES: usize = 7;
+
+// The case of a number, from 0.
+fn case_of(alloc: Global, number: usize) -> Result<Case, AllocError> {
+    let no_field = Refusal::NoSuchField;
+    match number {
+        0 => used(alloc),
+        1 => Ok(given(1, Command::Select(2), Answer::Done)),
+        2 => Ok(given(0, Command::AppendBlank, Answer::Done)),
+        3 => Ok(given(0, replace(alloc, b"NAME")?, Answer::Done)),
+        4 => Ok(given(0, replace(alloc, b"ZIP")?, Answer::Refused(no_field))),
+        5 => shown(alloc),
+        _ => Ok(given(0, Command::Pack, Answer::Done)),
+    }
 }
 
 // Commands of both stations, one after another: edits of the first, which has the table for itself, and a refusal.
 pub(super) fn cases(alloc: Global) -> Result<Vec<Case>, AllocError> {
-    let name = Bytes::from_slice(alloc, b"T")?;
-    let field = Bytes::from_slice(alloc, b"NAME")?;
-    let text = Bytes::from_slice(alloc, b"EVE")?;
-    let exclusive = Command::UseTable {
-        name,
-        exclusive: true,
-    };
-    let no_field = Answer::Refused(Refusal::NoSuchField);
-    Ok(vec![in alloc;
-        given(0, exclusive, Answer::Done),
-        given(1, Command::Select(2), Answer::Done),
-        given(0, Command::AppendBlank, Answer::Done),
-        given(0, replace(alloc, b"NAME")?, Answer::Done),
-        given(0, replace(alloc, b"ZIP")?, no_field),
-        given(0, Command::Show(field), Answer::Text(text)),
-        given(0, Command::Pack, Answer::Done),
-    ]?)
+    let mut all = Vec::new(alloc);
+    for number in 0..CASES {
+        all.push(case_of(alloc, number)?)?;
+    }
+    Ok(all)
 }
 
 // The receipt of a case.
