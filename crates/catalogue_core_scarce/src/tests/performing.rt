@@ -71,14 +71,20 @@ fn are_performed(alloc: Global, catalogue: &mut Catalogue, cases: &[Case]) -> bo
     true
 }
 
+// The same of cases that stand in several tables.
+fn are_all_performed(alloc: Global, catalogue: &mut Catalogue, cases: &[&[Case]]) -> bool {
+    for some in cases {
+        if !are_performed(alloc, catalogue, some) {
+            return false;
+        }
+    }
+    true
+}
+
 // The sample's catalogue after some cases.
 fn after(alloc: Global, cases: &[&[Case]]) -> Result<Catalogue, Fail> {
     let mut catalogue = open(alloc)?;
-    let mut are_right = true;
-    for some in cases {
-        are_right = are_performed(alloc, &mut catalogue, some) && are_right;
-    }
-    if are_right {
+    if are_all_performed(alloc, &mut catalogue, cases) {
         Ok(catalogue)
     } else {
         Err("another answer".into())
@@ -139,24 +145,63 @@ fn leave_same_files(alloc: Global, runs: Runs) -> Result<bool, Fail> {
     Ok(files == wanted)
 }
 
+// Whether cases that come after some others are answered as expected where memory is ample.
+fn are_answered(alloc: Global, before: &[&[Case]], cases: &[Case]) -> Result<bool, Fail> {
+    Ok(are_performed(alloc, &mut after(alloc, before)?, cases))
+}
+
+// How often cases are stopped that come after some others, and whether both catalogues leave the same files then.
+fn stops_after(
+    alloc: Global,
+    before: &[&[Case]],
+    cases: &[Case],
+) -> Result<(Option<usize>, bool), Fail> {
+    let mut runs = runs_after(alloc, before)?;
+    let found = stops_of_all(alloc, &mut runs, cases);
+    Ok((found, leave_same_files(alloc, runs)?))
+}
+
 // How often cases are stopped that come after some others. They leave the files then that they leave where memory is ample. It is
 // 0 where a case ends in any other way.
 fn swept(alloc: Global, before: &[&[Case]], cases: &[Case]) -> Result<usize, Fail> {
     // First with ample memory, so that the stack has grown.
-    if !are_performed(alloc, &mut after(alloc, before)?, cases) {
+    if !are_answered(alloc, before, cases)? {
         return Err("another answer".into());
     }
-    let mut runs = runs_after(alloc, before)?;
-    let found = stops_of_all(alloc, &mut runs, cases);
-    if !leave_same_files(alloc, runs)? {
+    let (found, are_same) = stops_after(alloc, before, cases)?;
+    if !are_same {
         return Err("other files".into());
     }
     Ok(found.unwrap_or(0))
 }
 
+fn stops_of_edits(alloc: Global) -> Result<usize, Fail> {
+    swept(alloc, &[&AREAS, &LOCKS], &EDITS)
+}
+
+fn stops_of_areas(alloc: Global) -> Result<usize, Fail> {
+    swept(alloc, &[], &AREAS)
+}
+
+fn stops_without_a_table(alloc: Global) -> Result<usize, Fail> {
+    swept(alloc, &[], &NO_TABLE)
+}
+
+fn stops_without_a_lock(alloc: Global) -> Result<usize, Fail> {
+    swept(alloc, &[&AREAS], &UNLOCKED)
+}
+
+fn stops_of_locks(alloc: Global) -> Result<usize, Fail> {
+    swept(alloc, &[&AREAS], &LOCKS)
+}
+
+fn stops_of_exclusive_use(alloc: Global) -> Result<usize, Fail> {
+    swept(alloc, &[&AREAS, &LOCKS, &EDITS], &EXCLUSIVE)
+}
+
 #[test]
 fn same_command_after_a_stop(rt: HostRuntime) -> Result<(), Fail> {
-    let found = swept(rt.alloc(), &[&AREAS, &LOCKS], &EDITS)?;
+    let found = stops_of_edits(rt.alloc())?;
     println!(rt; "{found} stops of edits")?;
     assert!(rt; 0 < found);
     Ok(())
@@ -164,7 +209,7 @@ fn same_command_after_a_stop(rt: HostRuntime) -> Result<(), Fail> {
 
 #[test]
 fn same_command_of_an_area_after_a_stop(rt: HostRuntime) -> Result<(), Fail> {
-    let found = swept(rt.alloc(), &[], &AREAS)?;
+    let found = stops_of_areas(rt.alloc())?;
     println!(rt; "{found} stops of commands of areas")?;
     assert!(rt; 0 < found);
     Ok(())
@@ -172,7 +217,7 @@ fn same_command_of_an_area_after_a_stop(rt: HostRuntime) -> Result<(), Fail> {
 
 #[test]
 fn same_refusal_without_a_table_after_a_stop(rt: HostRuntime) -> Result<(), Fail> {
-    let found = swept(rt.alloc(), &[], &NO_TABLE)?;
+    let found = stops_without_a_table(rt.alloc())?;
     println!(rt; "{found} stops of commands without a table")?;
     assert!(rt; 0 < found);
     Ok(())
@@ -180,7 +225,7 @@ fn same_refusal_without_a_table_after_a_stop(rt: HostRuntime) -> Result<(), Fail
 
 #[test]
 fn same_refusal_without_a_lock_after_a_stop(rt: HostRuntime) -> Result<(), Fail> {
-    let found = swept(rt.alloc(), &[&AREAS], &UNLOCKED)?;
+    let found = stops_without_a_lock(rt.alloc())?;
     println!(rt; "{found} stops of commands at the end, and of edits without a lock")?;
     assert!(rt; 0 < found);
     Ok(())
@@ -188,7 +233,7 @@ fn same_refusal_without_a_lock_after_a_stop(rt: HostRuntime) -> Result<(), Fail>
 
 #[test]
 fn same_lock_after_a_stop(rt: HostRuntime) -> Result<(), Fail> {
-    let found = swept(rt.alloc(), &[&AREAS], &LOCKS)?;
+    let found = stops_of_locks(rt.alloc())?;
     println!(rt; "{found} stops of locks and moves")?;
     assert!(rt; 0 < found);
     Ok(())
@@ -196,7 +241,7 @@ fn same_lock_after_a_stop(rt: HostRuntime) -> Result<(), Fail> {
 
 #[test]
 fn same_index_after_a_stop(rt: HostRuntime) -> Result<(), Fail> {
-    let found = swept(rt.alloc(), &[&AREAS, &LOCKS, &EDITS], &EXCLUSIVE)?;
+    let found = stops_of_exclusive_use(rt.alloc())?;
     println!(rt; "{found} stops of what wants the table exclusively")?;
     assert!(rt; 0 < found);
     Ok(())

@@ -99,11 +99,22 @@ fn write_files(sink: &mut MemorySink, data: &TableData) -> Result<(), Fail> {
     Ok(())
 }
 
+// The same of a table with its indexes.
+fn write_table(sink: &mut MemorySink, table: Table) -> Result<(), Fail> {
+    write_files(sink, &table.into_data())
+}
+
+// The same of all tables, one after another.
+fn write_all(sink: &mut MemorySink, catalogue: Catalogue) -> Result<(), Fail> {
+    for table in catalogue.into_tables() {
+        write_table(sink, table)?;
+    }
+    Ok(())
+}
+
 // The files of all tables, one after another.
 pub(super) fn files_of(alloc: Global, catalogue: Catalogue) -> Result<Vec<u8>, Fail> {
     let mut sink = MemorySink::new(alloc);
-    for table in catalogue.into_tables() {
-        write_files(&mut sink, &table.into_data())?;
-    }
+    write_all(&mut sink, catalogue)?;
     Ok(sink.bytes)
 }

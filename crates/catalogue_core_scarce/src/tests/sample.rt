@@ -6,7 +6,7 @@ use dbf_fields::{CHARACTER, DATE, Field, MEMO, NUMBER, Schema};
 use dbf_image::TableData;
 use key_expr::Key;
 use ndx_index::{NdxFile, Pair, PairList};
-use std::alloc::{AllocError, Global};
+use std::alloc::Global;
 use std::test::Fail;
 
 // The fields NAME, AMT, BORN and NOTE.
@@ -27,24 +27,29 @@ const RECORDS: [&[u8]; 3] = [
     b"*DAN         3.0019870101          ",
 ];
 
-// A table of these records.
-fn data(alloc: Global, records: &[&[u8]]) -> Result<TableData, Fail> {
-    let mut data = TableData::empty(alloc, schema(alloc)?);
+// Appends these records.
+fn append_all(data: &mut TableData, records: &[&[u8]]) -> Result<(), Fail> {
     for record in records {
         if data.record_count() > 2 || data.schema().record_length() != record.len() {
             return Err("no such table".into());
         }
         data.append_record(record)?;
     }
+    Ok(())
+}
+
+// A table of these records.
+fn data(alloc: Global, records: &[&[u8]]) -> Result<TableData, Fail> {
+    let mut data = TableData::empty(alloc, schema(alloc)?);
+    append_all(&mut data, records)?;
     Ok(data)
 }
 
 // The key of each of those records, by its name, and its number.
 const BY_NAME: [(&[u8; 10], u32); 3] = [(b"ADA       ", 2), (b"BOB       ", 1), (b"DAN       ", 3)];
 
-// The pairs of keys and numbers.
-fn pairs_of(alloc: Global, numbered: &[(&[u8; 10], u32)]) -> Result<PairList, Fail> {
-    let mut pairs = PairList::new(alloc, 10);
+// Puts the pairs of keys and numbers after those of a list.
+fn push_all(pairs: &mut PairList, numbered: &[(&[u8; 10], u32)]) -> Result<(), Fail> {
     for (bytes, number) in numbered {
         let key = Key::new(*bytes);
         let number = *number;
@@ -53,6 +58,13 @@ fn pairs_of(alloc: Global, numbered: &[(&[u8; 10], u32)]) -> Result<PairList, Fa
         }
         pairs.push(&Pair { key, number })?;
     }
+    Ok(())
+}
+
+// The pairs of keys and numbers.
+fn pairs_of(alloc: Global, numbered: &[(&[u8; 10], u32)]) -> Result<PairList, Fail> {
+    let mut pairs = PairList::new(alloc, 10);
+    push_all(&mut pairs, numbered)?;
     Ok(pairs)
 }
 
@@ -61,17 +73,24 @@ fn index(
     alloc: Global,
     name: &[u8],
     expr: &[u8],
-    pairs: PairList,
-) -> Result<IndexSource, AllocError> {
+    numbered: &[(&[u8; 10], u32)],
+) -> Result<IndexSource, Fail> {
+    let name = Bytes::from_slice(alloc, name)?;
+    let expr = Bytes::from_slice(alloc, expr)?;
+    let pairs = pairs_of(alloc, numbered)?;
     let file = NdxFile {
-        expr: Bytes::from_slice(alloc, expr)?,
+        expr,
         key_len: pairs.key_len(),
         pairs,
     };
-    Ok(IndexSource {
-        name: Bytes::from_slice(alloc, name)?,
-        file,
-    })
+    Ok(IndexSource { name, file })
+}
+
+// Two indexes of these pairs.
+fn two_indexes(alloc: Global, numbered: &[(&[u8; 10], u32)]) -> Result<Vec<IndexSource>, Fail> {
+    let by_name = index(alloc, b"BYNAME", b"NAME", numbered)?;
+    let by_upper = index(alloc, b"BYUPPER", b"UPPER(NAME)", numbered)?;
+    Ok(vec![in alloc; by_name, by_upper]?)
 }
 
 // The table EMPTY, without records and indexes.
@@ -85,17 +104,12 @@ fn empty(alloc: Global) -> Result<TableSource, Fail> {
 
 // The table STAFF, with two indexes of these pairs.
 fn staff(alloc: Global, numbered: &[(&[u8; 10], u32)]) -> Result<TableSource, Fail> {
-    let by_name = index(alloc, b"BYNAME", b"NAME", pairs_of(alloc, numbered)?)?;
-    let by_upper = index(
-        alloc,
-        b"BYUPPER",
-        b"UPPER(NAME)",
-        pairs_of(alloc, numbered)?,
-    )?;
+    let name = Bytes::from_slice(alloc, b"STAFF")?;
+    let indexes = two_indexes(alloc, numbered)?;
     Ok(TableSource {
-        name: Bytes::from_slice(alloc, b"STAFF")?,
+        name,
         content: data(alloc, &RECORDS)?,
-        indexes: vec![in alloc; by_name, by_upper]?,
+        indexes,
     })
 }
 
